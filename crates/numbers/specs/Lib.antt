@@ -1,0 +1,15 @@
+pub mod Near
+pub mod Root
+pub mod Parts
+pub mod Laws
+pub mod Order
+pub mod Ring
+pub mod RingExamples
+pub mod Cert
+pub mod CertExamples
+pub mod Floor
+pub mod NearLaws
+pub mod Shift
+pub mod RootLaws
+pub mod Code
+pub mod Examples

@@ -1,0 +1,85 @@
+// Rounding to the nearest, square roots and sizes, over 64-bit whole numbers.
+ghost use mathlib.Core.Path.{_≡_};
+ghost use Prim.Native.Nat.{_≤_, _<_};
+ghost use lib.IntN.{pos, natAbs, _+ℤ_, _*ℤ_};
+ghost use lib.Signed.{_≤ℤ_};
+ghost use Rattle.numbers.specs.Near.{near};
+ghost use Rattle.numbers.specs.Root.{root};
+
+// The whole number nearest to n / k, halves going up.
+pub fn near(n: i64, k: i64) -> i64
+    requires { ⌜ (natAbs n ≤ 4000000000000000000) × (natAbs k ≤ 10000000000000000) × (pos 1 ≤ℤ k) ⌝ }
+    ensures { λ r. ⌜ r ≡ near n k ⌝ }
+{
+    let a = 2 * n + k;
+    let b = 2 * k;
+    let q = a / b;
+    if a % b < 0 { q - 1 } else { q }
+}
+
+// The same where nothing is negative.
+pub fn near_unsigned(n: u64, k: u64) -> u64
+    requires { ⌜ (n ≤ 4000000000000000000) × (k ≤ 1000000000000000000) × (0 < k) ⌝ }
+    ensures { λ r. ⌜ pos r ≡ near (pos n) (pos k) ⌝ }
+{
+    let a = 2 * n + k;
+    let b = 2 * k;
+    a / b
+}
+
+// The same for an even k by one division of a number that is not negative: bias, which is half of k more than
+// shift times k, is added first, and shift is taken off after. With literals it compiles to one multiplication.
+fn near_shifted(n: i64, bias: i64, k: u64, shift: i64) -> i64
+    requires { ⌜ (natAbs n ≤ 1000000000000000000) × (natAbs bias ≤ 2000000000000000000) × (natAbs shift ≤ 1000000000000000000) × (0 < k) ⌝ }
+    requires { ⌜ pos 0 ≤ℤ (n +ℤ bias) ⌝ }
+    requires { ⌜ pos 2 *ℤ bias ≡ pos k +ℤ pos 2 *ℤ (pos k *ℤ shift) ⌝ }
+    ensures { λ r. ⌜ r ≡ near n (pos k) ⌝ }
+{
+    let u = (n + bias) as u64;
+    let q = u / k;
+    q as i64 - shift
+}
+
+// near over 10^8: a product of two numbers in units, in units again.
+pub fn near_unit(n: i64) -> i64
+    requires { ⌜ natAbs n ≤ 1000000000000000000 ⌝ }
+    ensures { λ r. ⌜ r ≡ near n (pos 100000000) ⌝ }
+{
+    near_shifted(n, 1_000_000_000_050_000_000, 100_000_000, 10_000_000_000)
+}
+
+// near over 3600: a number per hour times seconds.
+pub fn near_hour(n: i64) -> i64
+    requires { ⌜ natAbs n ≤ 36000000000000000 ⌝ }
+    ensures { λ r. ⌜ r ≡ near n (pos 3600) ⌝ }
+{
+    near_shifted(n, 36_000_000_000_001_800, 3600, 10_000_000_000_000)
+}
+
+// The largest whole number whose square is at most n: two bits of n a round, from its highest one.
+pub fn root(n: u64) -> u64
+    ensures { λ r. ⌜ r ≡ root n ⌝ }
+{
+    let mut i = (65 - u64::leading_zeros(n)) / 2;
+    let mut r: u64 = 0;
+    let mut rest: u64 = 0;
+    while 0 < i {
+        i -= 1;
+        rest = 4 * rest + (n >> (2 * i)) % 4;
+        let t = 4 * r + 1;
+        r = 2 * r;
+        if t <= rest {
+            rest -= t;
+            r += 1;
+        }
+    }
+    r
+}
+
+// The size of x: its distance from 0.
+pub fn abs(x: i64) -> i64
+    requires { ⌜ natAbs x ≤ 9223372036854775807 ⌝ }
+    ensures { λ r. ⌜ r ≡ pos (natAbs x) ⌝ }
+{
+    if x < 0 { -x } else { x }
+}
