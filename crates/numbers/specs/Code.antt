@@ -266,6 +266,10 @@ read-size z {n} m h t =
 pub read-result : (z : ℤ) → mag z < 2 ^ 63 → toZ w64 (ofZ w64 z) ≡ z
 read-result z h = toZ-ofZ w64 z (record { sfits = h })
 
+-- a test of two numbers as they are read from their bits
+pub read-ltZ : (x y : ℤ) {b : Bool} → mag x < 2 ^ 63 → mag y < 2 ^ 63 → ltZ (toZ w64 (ofZ w64 x)) (toZ w64 (ofZ w64 y)) ≡ b → ltZ x y ≡ b
+read-ltZ x y hx hy t = ap₂ ltZ (sym (read-result x hx)) (sym (read-result y hy)) ∙ t
+
 -- ---- a table: each entry is at most m from 0, by one computed test
 abbrev pub allWithin : List ℤ → ℕ → Bool
 allWithin [] m = true

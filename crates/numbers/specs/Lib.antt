@@ -12,4 +12,6 @@ pub mod NearLaws
 pub mod Shift
 pub mod RootLaws
 pub mod Code
+pub mod Limits
+pub mod LimitsLaws
 pub mod Examples

@@ -3,8 +3,10 @@ ghost use mathlib.Core.Path.{_≡_};
 ghost use Prim.Native.Nat.{_≤_, _<_};
 ghost use lib.IntN.{pos, natAbs, _+ℤ_, _*ℤ_};
 ghost use lib.Signed.{_≤ℤ_};
+ghost use lib.ListN.{length};
 ghost use Rattle.numbers.specs.Near.{near};
 ghost use Rattle.numbers.specs.Root.{root};
+ghost use Rattle.numbers.specs.Limits.{firstOutside};
 
 // The whole number nearest to n / k, halves going up.
 pub fn near(n: i64, k: i64) -> i64
@@ -82,4 +84,31 @@ pub fn abs(x: i64) -> i64
     ensures { λ r. ⌜ r ≡ pos (natAbs x) ⌝ }
 {
     if x < 0 { -x } else { x }
+}
+
+// Whether each of several numbers is in its range, or the place of the first that is not, counted from 0.
+pub enum Limits {
+    Within,
+    Outside(usize),
+}
+
+// The first of the values that is below its low or above its high.
+pub fn first_outside(values: &[i64], lows: &[i64], highs: &[i64]) -> Limits
+    requires { ⌜ (length (now lows) ≡ length (now values)) × (length (now highs) ≡ length (now values)) ⌝ }
+    ensures { λ r. ⌜ r ≡ firstOutside 0 (now (values .entry)) (now (lows .entry)) (now (highs .entry)) ⌝ }
+{
+    let mut i = 0;
+    while i < values.len() {
+        let x = values[i];
+        let low = lows[i];
+        let high = highs[i];
+        if x < low {
+            return Limits::Outside(i);
+        }
+        if high < x {
+            return Limits::Outside(i);
+        }
+        i += 1;
+    }
+    Limits::Within
 }

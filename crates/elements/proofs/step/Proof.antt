@@ -1,0 +1,51 @@
+-- `elements::step` meets its contract: `near_hour` gives near, and a step is at most three times p and a. Assumes nothing.
+use mathlib.Core.Path.{_≡_, _∙_, ap, ap₂, subst, sym}
+use mathlib.Core.List.{List, [], _∷_}
+use Prim.Native.Nat.{ℕ, _+_, _*_, _≤_}
+use native.Mathlib.Omega.{arith}
+use native.Mathlib.Nat.{le-refl}
+use lib.IntN.{ℤ, pos, natAbs, _+ℤ_, _*ℤ_}
+use Rattle.numbers.specs.Near.{near}
+use Rattle.numbers.specs.Code.{Code, arg, add, mul, Within, whole, ends, _▹_, fits, runs, within}
+use Rattle.elements.specs.Polynomial.{hour, step, Step}
+use Rattle.elements.specs.PolynomialLaws.{part-size, step-size}
+use Rattle.elements.proofs.step.Statement.{statement}
+use Rattle.elements.proofs.step.Tie as tie
+
+bounds : (c : tie.Start) → Within (whole (c .args .p) ∷ whole (c .args .t) ∷ []) (200000000 ∷ 10800 ∷ [])
+bounds c = c .pre .0 ▹ c .pre .2 ▹ ends
+
+abbrev product : Code
+product = mul (arg 0) (arg 1)
+
+-- what `near_hour` gave
+given : (c : tie.After-near-hour) → c .near-hour .result ≡ near (c .before .args .p *ℤ c .before .args .t) hour
+given c = c .near-hour .ensures ∙ ap (λ (z : ℤ). near z hour) (runs (bounds (c .before)) product tt)
+
+after : (c : tie.After-near-hour) → Within (whole (c .near-hour .result) ∷ whole (c .before .args .a) ∷ []) (600000000 ∷ 400000000 ∷ [])
+after c =
+    let a = c .before .args in
+    let h : natAbs (c .near-hour .result) ≤ 600000000 = omega (arith, ap natAbs (given c), part-size (a .t) (a .p) 200000000 (c .before .pre .2) (c .before .pre .0)) in
+    h ▹ c .before .pre .1 ▹ ends
+
+mul-near-hour : tie.Need-mul-near-hour
+mul-near-hour c = fits (bounds c) product tt
+
+near-hour-requires : tie.Need-near-hour-requires
+near-hour-requires c κs = within (bounds c) product 36000000000000000 tt
+
+add-result : tie.Need-add-result
+add-result c = fits (after c) (add (arg 0) (arg 1)) tt
+
+returns : tie.Need-returns
+unfolding step
+returns c =
+    let a = c .before .args in
+    let e = runs (after c) (add (arg 0) (arg 1)) tt ∙ ap (λ (z : ℤ). z +ℤ a .a) (given c) in
+    record {
+      value = e;
+      size = omega (arith, ap natAbs e, step-size (a .t) (a .p) (a .a) (natAbs (a .p)) (natAbs (a .a)) (c .before .pre .2) (le-refl (natAbs (a .p))) (le-refl (natAbs (a .a))));
+    }
+
+pub step-spec : {M : Type 1} → statement M
+step-spec = tie.close (tie.spec mul-near-hour near-hour-requires add-result returns)
