@@ -1,9 +1,11 @@
 // The Besselian elements of an eclipse: 22 whole numbers, their ranges, and a value at a second.
 ghost use mathlib.Core.Path.{_≡_};
-ghost use Prim.Native.Nat.{_≤_};
+ghost use Prim.Native.Nat.{_+_, _*_, _≤_};
 ghost use lib.IntN.{natAbs};
-ghost use Rattle.elements.specs.Elements.{fields, rangeOf};
-ghost use Rattle.elements.specs.Polynomial.{Step, Quadratic, Cubic};
+ghost use Rattle.numbers.specs.Value.{Value};
+ghost use Rattle.elements.specs.Elements.{fields, rangeOf, xAt, yAt, dAt, l1At, l2At, μAt};
+ghost use Rattle.elements.specs.Polynomial.{step, value2, value3};
+ghost use Rattle.elements.specs.Sizes.{Sized};
 
 // Twenty-two numbers, in document 01's order.
 #[repr(C)]
@@ -176,26 +178,76 @@ pub fn in_range(e: Elements) -> numbers::Limits
 // One step of a value at t seconds: p times t over an hour to the nearest, and the next lower coefficient.
 fn step(p: i64, a: i64, t: i64) -> i64
     requires { ⌜ (natAbs p ≤ 200000000) × (natAbs a ≤ 400000000) × (natAbs t ≤ 10800) ⌝ }
-    ensures { λ r. ⌜ Step t p a r ⌝ }
+    ensures { λ r. ⌜ Value (step t p a) (3 * natAbs p + natAbs a) r ⌝ }
 {
     numbers::near_hour(p * t) + a
 }
 
 // The value of c0 + c1 t + c2 t^2 at t seconds, coefficients per hour: from the highest, each step to the nearest unit.
-pub fn quadratic(c0: i64, c1: i64, c2: i64, t: i64) -> i64
+fn quadratic(c0: i64, c1: i64, c2: i64, t: i64) -> i64
     requires { ⌜ (natAbs c0 ≤ 360000000) × (natAbs c1 ≤ 20000000) × (natAbs c2 ≤ 10000) × (natAbs t ≤ 10800) ⌝ }
-    ensures { λ r. ⌜ Quadratic t c0 c1 c2 r ⌝ }
+    ensures { λ r. ⌜ Value (value2 t c0 c1 c2) 500000000 r ⌝ }
 {
     let a = step(c2, c1, t);
     step(a, c0, t)
 }
 
 // The same with a third power.
-pub fn cubic(c0: i64, c1: i64, c2: i64, c3: i64, t: i64) -> i64
+fn cubic(c0: i64, c1: i64, c2: i64, c3: i64, t: i64) -> i64
     requires { ⌜ (natAbs c0 ≤ 200000000) × (natAbs c1 ≤ 100000000) × (natAbs c2 ≤ 100000) × (natAbs c3 ≤ 10000) × (natAbs t ≤ 10800) ⌝ }
-    ensures { λ r. ⌜ Cubic t c0 c1 c2 c3 r ⌝ }
+    ensures { λ r. ⌜ Value (value3 t c0 c1 c2 c3) 600000000 r ⌝ }
 {
     let a = step(c3, c2, t);
     let b = step(a, c1, t);
     step(b, c0, t)
+}
+
+// Values at t seconds from the reference instant, of elements in their ranges.
+
+// x of the shadow axis at second t.
+pub fn x_at(e: Elements, t: i64) -> i64
+    requires { ⌜ (Sized e) × (natAbs t ≤ 10800) ⌝ }
+    ensures { λ r. ⌜ Value (xAt e t) 501170000 r ⌝ }
+{
+    cubic(e.x0, e.x1, e.x2, e.x3, t)
+}
+
+// y of the shadow axis at second t.
+pub fn y_at(e: Elements, t: i64) -> i64
+    requires { ⌜ (Sized e) × (natAbs t ≤ 10800) ⌝ }
+    ensures { λ r. ⌜ Value (yAt e t) 501170000 r ⌝ }
+{
+    cubic(e.y0, e.y1, e.y2, e.y3, t)
+}
+
+// The declination d at second t.
+pub fn d_at(e: Elements, t: i64) -> i64
+    requires { ⌜ (Sized e) × (natAbs t ≤ 10800) ⌝ }
+    ensures { λ r. ⌜ Value (dAt e t) 25100000 r ⌝ }
+{
+    quadratic(e.d0, e.d1, e.d2, t)
+}
+
+// l1 of the penumbral cone at second t.
+pub fn l1_at(e: Elements, t: i64) -> i64
+    requires { ⌜ (Sized e) × (natAbs t ≤ 10800) ⌝ }
+    ensures { λ r. ⌜ Value (l1At e t) 60390000 r ⌝ }
+{
+    quadratic(e.l10, e.l11, e.l12, t)
+}
+
+// l2 of the umbral cone at second t.
+pub fn l2_at(e: Elements, t: i64) -> i64
+    requires { ⌜ (Sized e) × (natAbs t ≤ 10800) ⌝ }
+    ensures { λ r. ⌜ Value (l2At e t) 5390000 r ⌝ }
+{
+    quadratic(e.l20, e.l21, e.l22, t)
+}
+
+// The hour angle μ at Greenwich at second t.
+pub fn mu_at(e: Elements, t: i64) -> i64
+    requires { ⌜ (Sized e) × (natAbs t ≤ 10800) ⌝ }
+    ensures { λ r. ⌜ Value (μAt e t) 406000000 r ⌝ }
+{
+    quadratic(e.mu0, e.mu1, e.mu2, t)
 }

@@ -12,6 +12,7 @@ pub mod NearLaws
 pub mod Shift
 pub mod RootLaws
 pub mod Code
+pub mod Value
 pub mod Limits
 pub mod LimitsLaws
 pub mod Examples

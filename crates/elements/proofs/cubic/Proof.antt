@@ -4,12 +4,13 @@ use Prim.Native.Nat.{ℕ, _+_, _*_, _≤_}
 use native.Mathlib.Omega.{arith}
 use lib.IntN.{ℤ, natAbs}
 use Rattle.numbers.specs.Code.{read-back, read-size}
-use Rattle.elements.specs.Polynomial.{step, value3, Step, Cubic}
+use Rattle.numbers.specs.Value.{Value}
+use Rattle.elements.specs.Polynomial.{step, value3}
 use Rattle.elements.proofs.cubic.Statement.{statement}
 use Rattle.elements.proofs.cubic.Tie as tie
 
 -- what each step gave
-first : (c : tie.After-step) → Step (c .before .args .t) (c .before .args .c3) (c .before .args .c2) (c .step .result)
+first : (c : tie.After-step) → Value (step (c .before .args .t) (c .before .args .c3) (c .before .args .c2)) (3 * natAbs (c .before .args .c3) + natAbs (c .before .args .c2)) (c .step .result)
 first c =
     let a = c .before .args in
     let p = c .before .pre in
@@ -18,7 +19,7 @@ first c =
 first-size : (c : tie.After-step) → natAbs (c .step .result) ≤ 130000
 first-size c = omega (arith, first c .size, c .before .pre .2, c .before .pre .3)
 
-second : (c : tie.After-step2) → Step (c .before .before .args .t) (c .before .step .result) (c .before .before .args .c1) (c .step2 .result)
+second : (c : tie.After-step2) → Value (step (c .before .before .args .t) (c .before .step .result) (c .before .before .args .c1)) (3 * natAbs (c .before .step .result) + natAbs (c .before .before .args .c1)) (c .step2 .result)
 second c =
     let a = c .before .before .args in
     let p = c .before .before .pre in
@@ -27,7 +28,7 @@ second c =
 second-size : (c : tie.After-step2) → natAbs (c .step2 .result) ≤ 100390000
 second-size c = omega (arith, second c .size, first-size (c .before), c .before .before .pre .1)
 
-third : (c : tie.After-step3) → Step (c .before .before .before .args .t) (c .before .step2 .result) (c .before .before .before .args .c0) (c .step3 .result)
+third : (c : tie.After-step3) → Value (step (c .before .before .before .args .t) (c .before .step2 .result) (c .before .before .before .args .c0)) (3 * natAbs (c .before .step2 .result) + natAbs (c .before .before .before .args .c0)) (c .step3 .result)
 third c =
     let a = c .before .before .before .args in
     let p = c .before .before .before .pre in

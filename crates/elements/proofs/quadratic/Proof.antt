@@ -4,12 +4,13 @@ use Prim.Native.Nat.{ℕ, _+_, _*_, _≤_}
 use native.Mathlib.Omega.{arith}
 use lib.IntN.{ℤ, natAbs}
 use Rattle.numbers.specs.Code.{read-back, read-size}
-use Rattle.elements.specs.Polynomial.{step, value2, Step, Quadratic}
+use Rattle.numbers.specs.Value.{Value}
+use Rattle.elements.specs.Polynomial.{step, value2}
 use Rattle.elements.proofs.quadratic.Statement.{statement}
 use Rattle.elements.proofs.quadratic.Tie as tie
 
 -- what each step gave
-first : (c : tie.After-step) → Step (c .before .args .t) (c .before .args .c2) (c .before .args .c1) (c .step .result)
+first : (c : tie.After-step) → Value (step (c .before .args .t) (c .before .args .c2) (c .before .args .c1)) (3 * natAbs (c .before .args .c2) + natAbs (c .before .args .c1)) (c .step .result)
 first c =
     let a = c .before .args in
     let p = c .before .pre in
@@ -18,7 +19,7 @@ first c =
 first-size : (c : tie.After-step) → natAbs (c .step .result) ≤ 20030000
 first-size c = omega (arith, first c .size, c .before .pre .1, c .before .pre .2)
 
-second : (c : tie.After-step2) → Step (c .before .before .args .t) (c .before .step .result) (c .before .before .args .c0) (c .step2 .result)
+second : (c : tie.After-step2) → Value (step (c .before .before .args .t) (c .before .step .result) (c .before .before .args .c0)) (3 * natAbs (c .before .step .result) + natAbs (c .before .before .args .c0)) (c .step2 .result)
 second c =
     let a = c .before .before .args in
     let p = c .before .before .pre in

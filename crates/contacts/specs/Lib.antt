@@ -1,0 +1,21 @@
+-- The rules, and what a step promises.
+pub mod Entries
+pub mod Step
+-- The rules in document 01's own words, and exact answers.
+pub mod CalledFor
+pub mod Exact
+-- Laws, each in a file with its statement first.
+pub mod CalledForLaws
+pub mod Ordered
+pub mod Alternate
+pub mod WellFormed
+pub mod Number
+pub mod ExactLaws
+pub mod Ends
+pub mod Changes
+pub mod Answers
+pub mod StepLaws
+-- What the laws are proved by.
+pub mod AllLaws
+pub mod BetweenLaws
+pub mod Induction

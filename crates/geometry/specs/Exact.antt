@@ -1,0 +1,104 @@
+-- The exact shadow at one second, the measure of demand 3. Each value is a numerator over a denominator that its comment names;
+-- u, v and L stand over one, D, so that fractions are cleared once, here.
+use mathlib.Core.Bool.{Bool, _&&_}
+use Prim.Native.Nat.{ℕ, _*_}
+use lib.IntN.{ℤ, pos, _+ℤ_, _-ℤ_, _*ℤ_}
+use lib.Signed.{ltZ, leZ, _≤ℤ_, _<ℤ_}
+use Rattle.elements.specs.Polynomial.{hour}
+use Rattle.geometry.specs.Shadow.{Moment, Cone, one, _², Phase, radius}
+
+-- the cube
+infix 90 _³
+abbrev pub _³ : ℤ → ℤ
+z ³ = z *ℤ z *ℤ z
+
+-- "x, y, l1, l2 without rounding as fractions over 3600³"
+unfoldable pub exact3 : (τ c0 c1 c2 c3 : ℤ) → ℤ
+exact3 τ c0 c1 c2 c3 = c0 *ℤ hour ³ +ℤ c1 *ℤ τ *ℤ hour ² +ℤ c2 *ℤ τ ² *ℤ hour +ℤ c3 *ℤ τ ³
+
+unfoldable pub exact2 : (τ c0 c1 c2 : ℤ) → ℤ
+exact2 τ c0 c1 c2 = exact3 τ c0 c1 c2 (pos 0)
+
+unfoldable pub exact-x : Moment → ℤ
+exact-x m = exact3 (m .τ) (m .x0) (m .x1) (m .x2) (m .x3)
+
+unfoldable pub exact-y : Moment → ℤ
+exact-y m = exact3 (m .τ) (m .y0) (m .y1) (m .y2) (m .y3)
+
+unfoldable pub exact-l : Moment → Cone → ℤ
+exact-l m k = exact2 (m .τ) (k .constant) (k .first) (k .second)
+
+-- "ξ, η, ζ and the cone terms from the same R, P, sines and cosines as fractions over powers of 10^8"
+-- over 10^8
+unfoldable pub exact-q : Moment → ℤ
+exact-q m = m .R *ℤ m .cos-H
+
+unfoldable pub exact-ξ : Moment → ℤ
+exact-ξ m = m .R *ℤ m .sin-H
+
+-- over 10^16
+unfoldable pub exact-η : Moment → ℤ
+exact-η m = m .P *ℤ m .cos-d *ℤ one -ℤ exact-q m *ℤ m .sin-d
+
+unfoldable pub exact-ζ : Moment → ℤ
+exact-ζ m = m .P *ℤ m .sin-d *ℤ one +ℤ exact-q m *ℤ m .cos-d
+
+-- over 10^24
+unfoldable pub exact-term : Moment → Cone → ℤ
+exact-term m k = exact-ζ m *ℤ k .tan-f
+
+-- D = 3600³ 10^24, and over it u = x-ξ, v = y-η, L = l less the cone's term
+abbrev pub D : ℕ
+D = 3600 * 3600 * 3600 * (100000000 * 100000000 * 100000000)
+
+unfoldable pub exact-u : Moment → ℤ
+exact-u m = exact-x m *ℤ one ³ -ℤ exact-ξ m *ℤ (hour ³ *ℤ one ²)
+
+unfoldable pub exact-v : Moment → ℤ
+exact-v m = exact-y m *ℤ one ³ -ℤ exact-η m *ℤ (hour ³ *ℤ one)
+
+unfoldable pub exact-L : Moment → Cone → ℤ
+exact-L m k = exact-l m k *ℤ one ³ -ℤ exact-term m k *ℤ hour ³
+
+-- "The exact distance is the one whose square is u²+v² from these": the square, over D²
+abbrev pub exact-M : Moment → ℤ
+exact-M m = exact-u m ² +ℤ exact-v m ²
+
+-- "the exact L is, from these too, L1 for the penumbra and the size of L2 for central"
+abbrev pub exact-radius : Phase → Moment → Cone → ℤ
+exact-radius φ m k = radius φ (exact-L m k)
+
+-- "distances compared by their squares (a distance is more than anything negative)": the distance whose square is s is
+-- at most b
+pub record AtMost (s b : ℤ) : Type 0 where
+  pub sign : pos 0 ≤ℤ b
+  pub square : s ≤ℤ (b ²)
+
+-- less than b
+pub record Less (s b : ℤ) : Type 0 where
+  pub sign : pos 0 ≤ℤ b
+  pub square : s <ℤ (b ²)
+
+-- at least b
+pub record AtLeast (s b : ℤ) : Type 0 where
+  pub square : pos 0 ≤ℤ b → (b ²) ≤ℤ s
+
+-- "a difference of at most n" from b
+pub record Within (s b n : ℤ) : Type 0 where
+  pub high : AtMost s (b +ℤ n)
+  pub low : AtLeast s (b -ℤ n)
+
+-- "Exactly inside: that distance is less than that L; exactly outside: any other."
+abbrev pub ExactlyInside : Phase → Moment → Cone → Type 0
+ExactlyInside φ m k = Less (exact-M m) (exact-radius φ m k)
+
+abbrev pub ExactlyOutside : Phase → Moment → Cone → Type 0
+ExactlyOutside φ m k = ExactlyInside φ m k → ⊥
+
+-- "The cone's edge is at that L, and within n units of it means a difference of at most n."
+abbrev pub WithinUnits : ℤ → Phase → Moment → Cone → Type 0
+WithinUnits n φ m k = Within (exact-M m) (exact-radius φ m k) (n *ℤ pos D)
+
+-- exactly inside, as a test: ExactLaws has that it is true just there
+unfoldable pub exactlyInside? : Phase → Moment → Cone → Bool
+exactlyInside? φ m k = leZ (pos 0) (exact-radius φ m k) && ltZ (exact-M m) (exact-radius φ m k ²)

@@ -1,0 +1,10 @@
+-- definitions, in document 01's order
+pub mod Table
+pub mod FirstQuadrant
+pub mod Sine
+-- what follows from them
+pub mod Computed
+pub mod TableLaws
+pub mod FirstQuadrantLaws
+pub mod SineLaws
+pub mod Examples

@@ -1,0 +1,285 @@
+-- What callers use of `reduced`, `sine` and `cosine`. Angles are in units of 10^-6 degree.
+--   sine-of, cosine-of               from the promises of `reduced` and of the functions: the result is the sine, or cosine, of the angle
+--   reduced-below, -same, -turn      from 0 up to 360 degrees, where it changes nothing, and one turn more makes no difference
+--   sine-first, sine-above           the rule: up to 90 degrees, and a quarter turn down; the same for the cosine
+--   sine-reduced, sine-turn          of the reduced angle, and of one turn more; the same for the cosine
+--   sine-size, cosine-size           at most 10^8 in size, at every angle
+--   sine-second, sine-opposite       180 degrees less the angle, and the other sign, up to 90 degrees; the same for the cosine
+--   sine-nonneg, sine-nonpos, cosine-nonneg   signs, up to 90 degrees
+--   sine-small                       up to 25.1 degrees
+--   square-sum                       the squares make nearly 10^16, up to 90 degrees
+use mathlib.Core.Path.{_≡_, refl, sym, _∙_, ap}
+use mathlib.Core.Bool.{cond}
+use mathlib.Core.Logic.{_⊎_, inl, inr, ⊎-elim}
+use Prim.Native.Nat.{ℕ, zero, suc, _+_, _*_, _-_, _/_, _%_, _≤_, _<_}
+use native.Mathlib.Omega.{arith}
+use native.Mathlib.Nat.{mul-le-mul, eq-or-lt-of-le, eq-zero-or-pos}
+use borrow.Author.Tests.{le-leb, lt-leb}
+use lib.Dec.{leb}
+use lib.IntN.{ℤ, pos, negsuc, negℤ, natAbs, _+ℤ_, negℤ-negℤ}
+use lib.Signed.{_≤ℤ_}
+use Rattle.numbers.specs.Parts.{same, sum}
+use Rattle.numbers.specs.Order.{natAbs-opposite, negℤ-mono, parts-≤}
+use Rattle.sine.specs.Table.{S}
+use Rattle.sine.specs.TableLaws.{entry-low, entry-squares, entry-squares-less}
+use Rattle.sine.specs.FirstQuadrant.{firstQuadrant}
+use Rattle.sine.specs.FirstQuadrantLaws.{first-natural, first-small, first-least, first-most, first-zero}
+use Rattle.sine.specs.Sine.{reduced, sineIn, cosineIn, sine, cosine, IsReduced, IsSine, IsCosine}
+
+-- ---- the angle
+
+either : (a b : ℕ) → (b < a) ⊎ (a ≤ b)
+either a b = ⊎-elim (λ (e : a - b ≡ 0). inr (omega arith)) (λ (l : 0 < a - b). inl (omega arith)) (eq-zero-or-pos (a - b))
+
+pub reduced-below : (z : ℤ) → reduced z < 360_000_000
+unfolding reduced
+reduced-below (pos n) = omega arith
+reduced-below (negsuc n) = omega arith
+
+-- an angle from 0 up to 360 degrees stays
+pub reduced-same : (a : ℕ) → a < 360_000_000 → reduced (pos a) ≡ a
+unfolding reduced
+reduced-same a h = omega arith
+
+-- one turn more makes no difference. -1 - n and a turn is 359,999,999 - n, or is below 0 too
+pub reduced-turn : (z : ℤ) → reduced (z +ℤ pos 360_000_000) ≡ reduced z
+unfolding reduced
+reduced-turn (pos n) = omega arith
+reduced-turn (negsuc n) = ⊎-elim below above (either n 359_999_999)
+  where
+    below : 359_999_999 < n → reduced (negsuc n +ℤ pos 360_000_000) ≡ 359_999_999 - n % 360_000_000
+    below l =
+        rw (same (negsuc n +ℤ pos 360_000_000) (negsuc (n - 360_000_000)) (omega (arith, sum (negsuc n) (pos 360_000_000) .is)))
+        (omega arith)
+
+    above : n ≤ 359_999_999 → reduced (negsuc n +ℤ pos 360_000_000) ≡ 359_999_999 - n % 360_000_000
+    above l =
+        rw (same (negsuc n +ℤ pos 360_000_000) (pos (359_999_999 - n)) (omega (arith, sum (negsuc n) (pos 360_000_000) .is)))
+        (omega arith)
+
+-- ---- quarter turns
+
+-- with n quarter turns to take off, one more makes no difference up to n + 1 of them
+mutual
+  unfolding sineIn
+
+  sine-more : (n a : ℕ) → a ≤ suc n * 90_000_000 → sineIn (suc n) a ≡ sineIn n a
+  sine-more zero a h = let g : a ≤ 90_000_000 = omega arith in rw (le-leb a 90_000_000 g)
+  sine-more (suc n) a h =
+      ap (λ (z : ℤ). cond (leb a 90_000_000) (firstQuadrant a) z) (cosine-more n (a - 90_000_000) (omega arith))
+
+  cosine-more : (n a : ℕ) → a ≤ suc n * 90_000_000 → cosineIn (suc n) a ≡ cosineIn n a
+  cosine-more zero a h = let g : a ≤ 90_000_000 = omega arith in rw (le-leb a 90_000_000 g)
+  cosine-more (suc n) a h =
+      ap (λ (z : ℤ). cond (leb a 90_000_000) (firstQuadrant (90_000_000 - a)) (negℤ z)) (sine-more n (a - 90_000_000) (omega arith))
+
+-- 360 degrees are 0 degrees
+turn-sine : sineIn 3 360_000_000 ≡ sineIn 3 0
+unfolding sineIn
+turn-sine = rw first-zero
+
+turn-cosine : cosineIn 3 360_000_000 ≡ cosineIn 3 0
+unfolding sineIn
+turn-cosine = negℤ-negℤ (firstQuadrant 90_000_000)
+
+module _ (a : ℕ) (within : a ≤ 360_000_000) where
+  sine-in : sine (pos a) ≡ sineIn 3 a
+  unfolding sine reduced
+  sine-in =
+      ⊎-elim (λ (e : a ≡ 360_000_000). rw e (sym turn-sine)) (λ (l : a < 360_000_000). ap (sineIn 3) (reduced-same a l))
+      (eq-or-lt-of-le within)
+
+  cosine-in : cosine (pos a) ≡ cosineIn 3 a
+  unfolding cosine reduced
+  cosine-in =
+      ⊎-elim (λ (e : a ≡ 360_000_000). rw e (sym turn-cosine)) (λ (l : a < 360_000_000). ap (cosineIn 3) (reduced-same a l))
+      (eq-or-lt-of-le within)
+
+module _ (a : ℕ) (within : a ≤ 90_000_000) where
+  pub sine-first : sine (pos a) ≡ firstQuadrant a
+  unfolding sineIn
+  sine-first = sine-in a (omega arith) ∙ rw (le-leb a 90_000_000 within)
+
+  pub cosine-first : cosine (pos a) ≡ firstQuadrant (90_000_000 - a)
+  unfolding sineIn
+  cosine-first = cosine-in a (omega arith) ∙ rw (le-leb a 90_000_000 within)
+
+module _ (a : ℕ) (above : 90_000_000 < a) (within : a ≤ 360_000_000) where
+  pub sine-above : sine (pos a) ≡ cosine (pos (a - 90_000_000))
+  unfolding sineIn
+  sine-above =
+      sine-in a within
+      ∙ rw (lt-leb a 90_000_000 above) (sym (cosine-in (a - 90_000_000) (omega arith) ∙ cosine-more 2 (a - 90_000_000) (omega arith)))
+
+  pub cosine-above : cosine (pos a) ≡ negℤ (sine (pos (a - 90_000_000)))
+  unfolding sineIn
+  cosine-above =
+      cosine-in a within
+      ∙ rw (lt-leb a 90_000_000 above) (ap negℤ (sym (sine-in (a - 90_000_000) (omega arith) ∙ sine-more 2 (a - 90_000_000) (omega arith))))
+
+-- of the reduced angle, and of one turn more
+pub sine-reduced : (z : ℤ) → sine (pos (reduced z)) ≡ sine z
+unfolding sine
+sine-reduced z = ap (sineIn 3) (reduced-same (reduced z) (reduced-below z))
+
+pub cosine-reduced : (z : ℤ) → cosine (pos (reduced z)) ≡ cosine z
+unfolding cosine
+cosine-reduced z = ap (cosineIn 3) (reduced-same (reduced z) (reduced-below z))
+
+pub sine-turn : (z : ℤ) → sine (z +ℤ pos 360_000_000) ≡ sine z
+unfolding sine
+sine-turn z = ap (sineIn 3) (reduced-turn z)
+
+pub cosine-turn : (z : ℤ) → cosine (z +ℤ pos 360_000_000) ≡ cosine z
+unfolding cosine
+cosine-turn z = ap (cosineIn 3) (reduced-turn z)
+
+-- from what `reduced` and then `sine` or `cosine` promise
+pub sine-of : {z r : ℤ} {a : ℕ} → IsReduced z a → IsSine (pos a) r → r ≡ sine z
+sine-of {z} d e = e .value ∙ ap (λ (a : ℕ). sine (pos a)) (d .value) ∙ sine-reduced z
+
+pub cosine-of : {z r : ℤ} {a : ℕ} → IsReduced z a → IsCosine (pos a) r → r ≡ cosine z
+cosine-of {z} d e = e .value ∙ ap (λ (a : ℕ). cosine (pos a)) (d .value) ∙ cosine-reduced z
+
+-- ---- the size: at most 10^8
+
+mutual
+  unfolding sineIn
+
+  sine-sized : (n a : ℕ) → a ≤ suc n * 90_000_000 → natAbs (sineIn n a) ≤ 100_000_000
+  sine-sized zero a h = first-small a (omega arith)
+  sine-sized (suc n) a h =
+      ⊎-elim (λ (l : 90_000_000 < a). rw (lt-leb a 90_000_000 l) (cosine-sized n (a - 90_000_000) (omega arith)))
+      (λ (l : a ≤ 90_000_000). rw (le-leb a 90_000_000 l) (first-small a l)) (either a 90_000_000)
+
+  cosine-sized : (n a : ℕ) → a ≤ suc n * 90_000_000 → natAbs (cosineIn n a) ≤ 100_000_000
+  cosine-sized zero a h = first-small (90_000_000 - a) (omega arith)
+  cosine-sized (suc n) a h =
+      ⊎-elim (λ (l : 90_000_000 < a). rw (lt-leb a 90_000_000 l, natAbs-opposite) (sine-sized n (a - 90_000_000) (omega arith)))
+      (λ (l : a ≤ 90_000_000). rw (le-leb a 90_000_000 l) (first-small (90_000_000 - a) (omega arith))) (either a 90_000_000)
+
+pub sine-size : (z : ℤ) → natAbs (sine z) ≤ 100_000_000
+unfolding sine
+sine-size z = sine-sized 3 (reduced z) (omega (arith, reduced-below z))
+
+pub cosine-size : (z : ℤ) → natAbs (cosine z) ≤ 100_000_000
+unfolding cosine
+cosine-size z = cosine-sized 3 (reduced z) (omega (arith, reduced-below z))
+
+-- ---- the other sign, up to 90 degrees
+
+module _ (m : ℕ) (within : m ≤ 90_000_000) where
+  module _ (l : m < 90_000_000) where
+    sine-over : sine (pos (180_000_000 - m)) ≡ sine (pos m)
+    sine-over =
+        sine-above (180_000_000 - m) (omega arith) (omega arith)
+        ∙ cosine-first (180_000_000 - m - 90_000_000) (omega arith)
+        ∙ ap firstQuadrant (omega arith)
+        ∙ sym (sine-first m within)
+
+    cosine-over : cosine (pos (180_000_000 - m)) ≡ negℤ (cosine (pos m))
+    cosine-over =
+        cosine-above (180_000_000 - m) (omega arith) (omega arith)
+        ∙ ap negℤ (sine-first (180_000_000 - m - 90_000_000) (omega arith) ∙ ap firstQuadrant (omega arith) ∙ sym (cosine-first m within))
+
+  cosine-right : cosine (pos 90_000_000) ≡ pos 0
+  cosine-right = cosine-first 90_000_000 (omega arith) ∙ first-zero
+
+  pub sine-second : sine (pos (180_000_000 - m)) ≡ sine (pos m)
+  sine-second = ⊎-elim (λ (e : m ≡ 90_000_000). rw e) sine-over (eq-or-lt-of-le within)
+
+  pub cosine-second : cosine (pos (180_000_000 - m)) ≡ negℤ (cosine (pos m))
+  cosine-second = ⊎-elim (λ (e : m ≡ 90_000_000). rw (e, cosine-right)) cosine-over (eq-or-lt-of-le within)
+
+-- -m is a turn less m
+module _ (n : ℕ) (within : suc n ≤ 90_000_000) where
+  turned : reduced (negsuc n) ≡ 360_000_000 - suc n
+  unfolding reduced
+  turned = omega arith
+
+  sine-below : sine (negsuc n) ≡ negℤ (sine (pos (suc n)))
+  sine-below =
+      sym (sine-reduced (negsuc n))
+      ∙ ap (λ (a : ℕ). sine (pos a)) turned
+      ∙ sine-above (360_000_000 - suc n) (omega arith) (omega arith)
+      ∙ cosine-above (360_000_000 - suc n - 90_000_000) (omega arith) (omega arith)
+      ∙ ap negℤ (ap (λ (a : ℕ). sine (pos a)) (omega arith) ∙ sine-second (suc n) within)
+
+  cosine-below : cosine (negsuc n) ≡ cosine (pos (suc n))
+  cosine-below =
+      sym (cosine-reduced (negsuc n))
+      ∙ ap (λ (a : ℕ). cosine (pos a)) turned
+      ∙ cosine-above (360_000_000 - suc n) (omega arith) (omega arith)
+      ∙ ap negℤ (sine-above (360_000_000 - suc n - 90_000_000) (omega arith) (omega arith)
+      ∙ ap (λ (a : ℕ). cosine (pos a)) (omega arith)
+      ∙ cosine-second (suc n) within)
+      ∙ negℤ-negℤ (cosine (pos (suc n)))
+
+pub sine-zero : sine (pos 0) ≡ pos 0
+sine-zero = sine-first 0 (omega arith) ∙ first-zero
+
+pub sine-opposite : (m : ℕ) → m ≤ 90_000_000 → sine (negℤ (pos m)) ≡ negℤ (sine (pos m))
+sine-opposite zero h = rw sine-zero
+sine-opposite (suc n) h = sine-below n h
+
+pub cosine-opposite : (m : ℕ) → m ≤ 90_000_000 → cosine (negℤ (pos m)) ≡ cosine (pos m)
+cosine-opposite zero h = refl
+cosine-opposite (suc n) h = cosine-below n h
+
+-- so the sizes are those of the angle's size
+pub sine-natAbs : (z : ℤ) → natAbs z ≤ 90_000_000 → natAbs (sine z) ≡ natAbs (sine (pos (natAbs z)))
+sine-natAbs (pos m) h = refl
+sine-natAbs (negsuc n) h = ap natAbs (sine-below n h) ∙ natAbs-opposite (sine (pos (suc n)))
+
+pub cosine-natAbs : (z : ℤ) → natAbs z ≤ 90_000_000 → cosine z ≡ cosine (pos (natAbs z))
+cosine-natAbs (pos m) h = refl
+cosine-natAbs (negsuc n) h = cosine-below n h
+
+-- ---- signs, up to 90 degrees
+
+first-nonneg : (a : ℕ) → a ≤ 90_000_000 → pos 0 ≤ℤ firstQuadrant a
+first-nonneg a h = rw (first-natural a h) (parts-≤ (omega arith))
+
+pub sine-nonneg : (m : ℕ) → m ≤ 90_000_000 → pos 0 ≤ℤ sine (pos m)
+sine-nonneg m h = rw (sine-first m h) (first-nonneg m h)
+
+pub sine-nonpos : (m : ℕ) → m ≤ 90_000_000 → sine (negℤ (pos m)) ≤ℤ pos 0
+sine-nonpos m h = rw (sine-opposite m h) (negℤ-mono (sine-nonneg m h))
+
+pub cosine-nonneg : (z : ℤ) → natAbs z ≤ 90_000_000 → pos 0 ≤ℤ cosine z
+cosine-nonneg z h = rw (cosine-natAbs z h, cosine-first (natAbs z) h) (first-nonneg (90_000_000 - natAbs z) (omega arith))
+
+-- ---- sizes, by the entries
+
+-- up to 25.1 degrees
+pub sine-small : (z : ℤ) → natAbs z ≤ 25_100_000 → natAbs (sine z) ≤ 43_000_000
+sine-small z h =
+    let m = natAbs z in
+    omega (
+      arith,
+      sine-natAbs z (omega arith),
+      ap natAbs (sine-first m (omega arith)),
+      first-most m (omega arith),
+      entry-low (m / 100_000) (omega arith),
+    )
+
+-- the squares make nearly 10^16, up to 90 degrees
+pub square-sum : (z : ℤ) → natAbs z ≤ 90_000_000 → 9_982_500_000_000_000 ≤ natAbs (sine z) * natAbs (sine z) + natAbs (cosine z) * natAbs (cosine z)
+square-sum z h =
+    rw (sine-natAbs z h, cosine-natAbs z h, sine-first (natAbs z) h, cosine-first (natAbs z) h) (squares (natAbs z) h)
+  where
+    squares : (a : ℕ) → a ≤ 90_000_000
+        → 9_982_500_000_000_000 ≤ natAbs (firstQuadrant a) * natAbs (firstQuadrant a) + natAbs (firstQuadrant (90_000_000 - a)) * natAbs (firstQuadrant (90_000_000 - a))
+    squares a h =
+        let k = a / 100_000 in
+        let j = (90_000_000 - a) / 100_000 in
+        let s = first-least a h in
+        let c = first-least (90_000_000 - a) (omega arith) in
+        let squares : S k * S k ≤ natAbs (firstQuadrant a) * natAbs (firstQuadrant a) = mul-le-mul s s in
+        let others : S j * S j ≤ natAbs (firstQuadrant (90_000_000 - a)) * natAbs (firstQuadrant (90_000_000 - a)) = mul-le-mul c c in
+        ⊎-elim (λ (e : j ≡ 900 - k). omega (arith, rw (← e) at (entry-squares k (omega arith))))
+        (λ (l : j < 900 - k). let e : j ≡ 899 - k = omega arith in omega (arith, rw (← e) at (entry-squares-less k (omega arith))))
+        (eq-or-lt-of-le opposite)
+      where
+        opposite : (90_000_000 - a) / 100_000 ≤ 900 - a / 100_000
+        opposite = omega arith

@@ -1,0 +1,94 @@
+// Sine and cosine. Angles are in units of 10^-6 degree, sines and cosines in units of 10^-8.
+mod entries;
+
+ghost use mathlib.Core.Path.{_≡_};
+ghost use Prim.Native.Nat.{_≤_, _<_};
+ghost use lib.IntN.{pos, natAbs};
+ghost use Rattle.sine.specs.Table.{Entry, Sines};
+ghost use Rattle.sine.specs.FirstQuadrant.{firstQuadrant};
+ghost use Rattle.sine.specs.Sine.{IsReduced, IsSine, IsCosine};
+
+const QUARTER: u64 = 90_000_000;
+
+// Table S, to be lent to whatever computes sines. Call it once a request: the array is made anew at each call.
+pub fn table() -> [u32; 901]
+    ensures { λ r. ⌜ Sines r ⌝ }
+{
+    entries::S
+}
+
+// Entry k of a lent table.
+pub fn entry(table: &[u32], k: usize) -> u32
+    requires { ⌜ (Sines (now table)) × (k < 901) ⌝ }
+    ensures { λ r. ⌜ Entry k r ⌝ }
+{
+    table[k]
+}
+
+fn wide(x: u32) -> u64
+    ensures { λ r. ⌜ r ≡ x ⌝ }
+{
+    x as u64
+}
+
+// The sine of an angle from 0 to 90 degrees: k tenths and b millionths over. s is S[k] and c is S[900-k].
+fn first_quadrant(table: &[u32], a: u64) -> i64
+    requires { ⌜ (Sines (now table)) × (a ≤ 90_000_000) ⌝ }
+    ensures { λ r. ⌜ r ≡ firstQuadrant a ⌝ }
+{
+    let tenths = a / 100_000;
+    let b = a % 100_000;
+    let k = tenths as usize;
+    let arc = b * 17_453_293;
+    let r = numbers::near_unsigned(arc, 10_000_000);
+    let square = r * r;
+    let w = numbers::near_unsigned(square, 200_000_000);
+    let s = wide(entry(table, k));
+    let c = wide(entry(table, 900 - k));
+    let gain = c * r;
+    let loss = s * w;
+    let step = numbers::near_unsigned(gain - loss, 100_000_000);
+    let sum = s + step;
+    if sum <= 100_000_000 {
+        sum as i64
+    } else {
+        100_000_000
+    }
+}
+
+// An angle of either sign, reduced to 0 up to 360 degrees.
+pub fn reduced(a: i64) -> u64
+    requires { ⌜ natAbs a ≤ 10_000_000_000 ⌝ }
+    ensures { λ r. ⌜ IsReduced a r ⌝ }
+{
+    let r = a % 360_000_000;
+    if r < 0 {
+        (r + 360_000_000) as u64
+    } else {
+        r as u64
+    }
+}
+
+// The sine of an angle from 0 to 360 degrees.
+pub fn sine(table: &[u32], a: u64) -> i64
+    requires { ⌜ (Sines (now table)) × (a ≤ 360_000_000) ⌝ }
+    ensures { λ r. ⌜ IsSine (pos a) r ⌝ }
+{
+    if a <= QUARTER {
+        first_quadrant(table, a)
+    } else {
+        cosine(table, a - QUARTER)
+    }
+}
+
+// The cosine of an angle from 0 to 360 degrees.
+pub fn cosine(table: &[u32], a: u64) -> i64
+    requires { ⌜ (Sines (now table)) × (a ≤ 360_000_000) ⌝ }
+    ensures { λ r. ⌜ IsCosine (pos a) r ⌝ }
+{
+    if a <= QUARTER {
+        first_quadrant(table, QUARTER - a)
+    } else {
+        -sine(table, a - QUARTER)
+    }
+}

@@ -1,0 +1,4 @@
+pub mod Station
+pub mod Place
+pub mod PlaceLaws
+pub mod Examples

@@ -1,0 +1,53 @@
+-- The station's place: R from the Earth's axis, P from the plane of the equator. Lengths and sines are in units of 10^-8.
+use mathlib.Core.Path.{_≡_}
+use Prim.Native.Nat.{ℕ, _≤_}
+use lib.IntN.{ℤ, pos, natAbs, _+ℤ_, _*ℤ_}
+use lib.Signed.{_≤ℤ_}
+use Rattle.numbers.specs.Near.{near}
+use Rattle.numbers.specs.Root.{root}
+use Rattle.sine.specs.Sine.{sine, cosine}
+use Rattle.station.specs.declared.Place.{Place}
+
+abbrev pub one : ℤ
+one = pos 100000000
+
+-- "Krasovsky's spheroid: radius 6,378,245 m and flattening 1:298.3, so E = 99,330,658": (1 - 1/298.3)^2
+abbrev pub radius : ℤ
+radius = pos 6378245
+
+abbrev pub E : ℤ
+E = pos 99330658
+
+-- "With s, c the sine and cosine of latitude: W = root(c² + near(s·E/10^8)·s)". What is under the root is not negative: PlaceLaws, under-low.
+unfoldable pub under : (s c : ℤ) → ℤ
+under s c = c *ℤ c +ℤ near (s *ℤ E) one *ℤ s
+
+unfoldable pub W : (s c : ℤ) → ℤ
+W s c = pos (root (natAbs (under s c)))
+
+-- "C = near(10^16/W)"
+unfoldable pub C : (s c : ℤ) → ℤ
+C s c = near (pos 10000000000000000) (W s c)
+
+-- "Z = near(C·E/10^8)"
+unfoldable pub Z : (s c : ℤ) → ℤ
+Z s c = near (C s c *ℤ E) one
+
+-- "h = near(height·10^8/6,378,245)"
+unfoldable pub h : (height : ℤ) → ℤ
+h height = near (height *ℤ one) radius
+
+-- "R = near((C+h)·c/10^8)"
+unfoldable pub R : (latitude height : ℤ) → ℤ
+R latitude height = near ((C (sine latitude) (cosine latitude) +ℤ h height) *ℤ cosine latitude) one
+
+-- "P = near((Z+h)·s/10^8)"
+unfoldable pub P : (latitude height : ℤ) → ℤ
+P latitude height = near ((Z (sine latitude) (cosine latitude) +ℤ h height) *ℤ sine latitude) one
+
+-- what the code gives: the value, and a size for those who compute on
+pub record IsPlace (latitude height : ℤ) (x : Place) : Type 0 where
+  pub r : x .r ≡ R latitude height
+  pub p : x .p ≡ P latitude height
+  pub r-size : natAbs (x .r) ≤ 101000000
+  pub p-size : natAbs (x .p) ≤ 101000000

@@ -1,0 +1,96 @@
+-- How large W, C, Z, h, R and P are.
+use mathlib.Core.Path.{_≡_, refl, sym, _∙_, ap, subst}
+use mathlib.Core.List.{List, [], _∷_}
+use Prim.Native.Nat.{ℕ, zero, suc, _+_, _*_, _≤_, _<_}
+use native.Mathlib.Omega.{arith}
+use native.Mathlib.Nat.{mul-le-mul, lt-of-not-le}
+use lib.IntN.{ℤ, pos, negsuc, negℤ, natAbs, _+ℤ_, _-ℤ_, _*ℤ_}
+use lib.Signed.{_≤ℤ_, _<ℤ_, leZ-yes}
+use Rattle.numbers.specs.Order.{zs, ≤-parts, ≤ℤ-trans, le-natAbs, neg-natAbs, natAbs-sum, natAbs-product, natAbs-product-le}
+use Rattle.numbers.specs.Ring.{num, _⊕_, _⊖_, _⊗_, opp, v0, v1, v2}
+use Rattle.numbers.specs.Cert.{leq, lit, sq, _⊞_, _⊠_, certify}
+use Rattle.numbers.specs.Near.{near}
+use Rattle.numbers.specs.NearLaws.{near-low, near-high, near-size}
+use Rattle.numbers.specs.Root.{root, IsRoot}
+use Rattle.numbers.specs.RootLaws.{root-is}
+use Rattle.station.specs.Place.{one, radius, E, under, W, C, Z, h}
+
+square-natAbs : (z : ℤ) → z *ℤ z ≡ pos (natAbs z * natAbs z)
+square-natAbs (pos n) = refl
+square-natAbs (negsuc n) = refl
+
+nonneg-natAbs : (z : ℤ) → pos 0 ≤ℤ z → z ≡ pos (natAbs z)
+nonneg-natAbs (pos n) l = refl
+nonneg-natAbs (negsuc n) l = absurd (l .le)
+
+-- s and c are a sine and a cosine: of size at most 1, the sum of their squares nearly 1
+module _ (s c : ℤ) (hs : natAbs s ≤ 100000000) (hc : natAbs c ≤ 100000000) (q : 9960000000000000 ≤ natAbs s * natAbs s + natAbs c * natAbs c) where
+  abbrev n : ℤ
+  n = near (s *ℤ E) one
+
+  pub n-size : natAbs n ≤ 100000000
+  n-size = near-size (s *ℤ E) one 100000000 (leZ-yes tt) (omega (arith, natAbs-product-le s E 100000000 99330658 hs (omega arith)))
+
+  under-size : natAbs (under s c) ≤ 20000000000000000
+  unfolding under
+  under-size =
+      omega (arith, natAbs-sum (c *ℤ c) (n *ℤ s), natAbs-product-le c c 100000000 100000000 hc hc, natAbs-product-le n s 100000000 100000000 n-size hs)
+
+  circle : pos 9960000000000000 ≤ℤ (s *ℤ s +ℤ c *ℤ c)
+  circle = rw (square-natAbs s, square-natAbs c) (omega (arith, zs))
+
+  -- with x = 2(10^8 n - s E), which is at most 10^8 in size:
+  -- 4·10^8 (c² + n s) = 4 E (s² + c²) + 4 (10^8 - E) c² + 2 x s, and 2 x s = (10^8 + x)(10^8 + s) + (10^8 - x)(10^8 - s) - 2·10^16
+  pub under-low : pos 9893000000000000 ≤ℤ under s c
+  unfolding under
+  under-low =
+      let x = num 2 ⊗ (num 100000000 ⊗ v2 ⊖ v0 ⊗ num 99330658) in
+      let up = num 100000000 in
+      certify 399999999 (s ∷ c ∷ n ∷ []) (num 9893000000000000) (v1 ⊗ v1 ⊕ v2 ⊗ v0)
+      (lit 397322632 ⊠ leq (num 9960000000000000) (v0 ⊗ v0 ⊕ v1 ⊗ v1) circle
+      ⊞ lit 2677368 ⊠ sq v1
+      ⊞ leq (opp up) x (near-high (s *ℤ E) one (leZ-yes tt)) ⊠ leq (opp up) v0 (neg-natAbs s hs)
+      ⊞ leq x up (near-low (s *ℤ E) one (leZ-yes tt)) ⊠ leq v0 up (le-natAbs s hs)
+      ⊞ lit 133394720000000000000) tt
+
+  pub under-nonneg : pos 0 ≤ℤ under s c
+  under-nonneg = ≤ℤ-trans (leZ-yes tt) under-low
+
+  under-natAbs : 9893000000000000 ≤ natAbs (under s c)
+  under-natAbs = omega (arith, ≤-parts (subst (λ (z : ℤ). pos 9893000000000000 ≤ℤ z) (nonneg-natAbs (under s c) under-nonneg) under-low))
+
+  abbrev w : ℕ
+  w = root (natAbs (under s c))
+
+  is-root : IsRoot (natAbs (under s c)) w
+  is-root = root-is (natAbs (under s c)) (omega (arith, under-size))
+
+  pub root-low : 99463000 ≤ w
+  root-low = omega (arith, lt-of-not-le {n = w} {m = 99462999} below)
+    where
+      below : w ≤ 99462999 → ⊥
+      below l = omega (arith, is-root .high, under-natAbs, mul-le-mul {n₁ = w + 1} {m₁ = w + 1} {n₂ = 99463000} {m₂ = 99463000} (omega arith) (omega arith))
+
+  pub root-high : w ≤ 141421357
+  root-high = omega (arith, lt-of-not-le {n = 141421358} {m = w} above)
+    where
+      above : 141421358 ≤ w → ⊥
+      above l = omega (arith, is-root .low, under-size, mul-le-mul {n₁ = 141421358} {m₁ = 141421358} {n₂ = w} {m₂ = w} l l)
+
+  pub C-size : natAbs (C s c) ≤ 100600000
+  unfolding C W
+  C-size = near-size (pos 10000000000000000) (pos w) 100600000 (omega (arith, zs, root-low)) (omega (arith, root-low))
+
+  pub Z-size : natAbs (Z s c) ≤ 100000000
+  unfolding Z
+  Z-size = near-size (C s c *ℤ E) one 100000000 (leZ-yes tt) (omega (arith, natAbs-product-le (C s c) E 100600000 99330658 C-size (omega arith)))
+
+pub h-size : (height : ℤ) → natAbs height ≤ 9000 → natAbs (h height) ≤ 141106
+unfolding h
+h-size height l = near-size (height *ℤ one) radius 141106 (leZ-yes tt) (omega (arith, natAbs-product-le height one 9000 100000000 l (omega arith)))
+
+-- a sum of two lengths times a sine or a cosine, in units
+pub scaled-size : (a b c : ℤ) (A B : ℕ) → natAbs a ≤ A → natAbs b ≤ B → natAbs c ≤ 100000000 → natAbs (near ((a +ℤ b) *ℤ c) one) ≤ A + B
+scaled-size a b c A B ha hb hc =
+    let s : natAbs (a +ℤ b) ≤ A + B = omega (arith, natAbs-sum a b) in
+    near-size ((a +ℤ b) *ℤ c) one (A + B) (leZ-yes tt) (natAbs-product-le (a +ℤ b) c (A + B) 100000000 s hc)

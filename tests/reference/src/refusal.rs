@@ -1,0 +1,65 @@
+//! The refusals of document 01, each with its number and its place.
+
+use std::fmt;
+
+/// Why nothing was done. What a case carries is its place.
+#[derive(Clone, Copy, PartialEq, Eq, Debug)]
+pub enum Refusal {
+    /// 1: the window is outside its range.
+    Window,
+    /// 2: an element is outside its range; the first such field, 0..21.
+    Element(usize),
+    /// 3: a station value is outside its range; the first such field, 0..3.
+    Station(usize),
+    /// 4: the room is too short; the length or count it needs.
+    Room(usize),
+    /// 5: a kind that is not in the table; the first byte of that record.
+    Kind(usize),
+    /// 6: the input ends inside a record or before the end record.
+    Cut(usize),
+    /// 7: a field breaks a reader's rule.
+    Field(usize),
+    /// 8: the order is broken.
+    Order(usize),
+    /// 9: bytes after the end record; the first of them.
+    After(usize),
+    /// 10: the program's input has another shape.
+    Shape,
+}
+
+impl Refusal {
+    pub fn number(self) -> u32 {
+        match self {
+            Refusal::Window => 1,
+            Refusal::Element(_) => 2,
+            Refusal::Station(_) => 3,
+            Refusal::Room(_) => 4,
+            Refusal::Kind(_) => 5,
+            Refusal::Cut(_) => 6,
+            Refusal::Field(_) => 7,
+            Refusal::Order(_) => 8,
+            Refusal::After(_) => 9,
+            Refusal::Shape => 10,
+        }
+    }
+
+    pub fn place(self) -> usize {
+        match self {
+            Refusal::Window | Refusal::Shape => 0,
+            Refusal::Element(place)
+            | Refusal::Station(place)
+            | Refusal::Room(place)
+            | Refusal::Kind(place)
+            | Refusal::Cut(place)
+            | Refusal::Field(place)
+            | Refusal::Order(place)
+            | Refusal::After(place) => place,
+        }
+    }
+}
+
+impl fmt::Display for Refusal {
+    fn fmt(&self, f: &mut fmt::Formatter) -> fmt::Result {
+        write!(f, "refused {} {}", self.number(), self.place())
+    }
+}

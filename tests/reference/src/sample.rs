@@ -1,0 +1,169 @@
+//! Requests to try: from the books, at random, at the limits, near the cone's edge, slow.
+
+use crate::elements::{Elements, Station, Window, ELEMENT_RANGES, FARTHEST, STATION_RANGES};
+use crate::random::Random;
+use crate::request::Request;
+use crate::shadow::{Phase, Shadow};
+use std::f64::consts::TAU;
+use std::ops::RangeInclusive;
+
+/// The request of document 01's hand-worked sheet.
+pub fn hand_worked() -> Request {
+    let mut fields = [0; 22];
+    fields[1] = 36_000_000;
+    fields[4] = 99_664_768;
+    fields[11] = 54_000_000;
+    fields[14] = -1_000_000;
+    fields[18] = 15_000_000;
+    fields[20] = 460_000;
+    fields[21] = 458_000;
+    Request {
+        elements: Elements::from_fields(fields),
+        station: Station { number: 7, latitude: 90_000_000, longitude: 0, height: 0 },
+        window: Window { first: -6000, last: 6000 },
+    }
+}
+
+/// The eclipse of 30 June 1954 as seen from Moscow, partial.
+pub fn moscow_1954() -> Request {
+    Request::from_bytes(include_bytes!("../tests/data/moscow1954_hourly.bin")).expect("a whole request")
+}
+
+/// The eclipse of 30 June 1954 as seen from Kiev, total.
+pub fn kiev_1954() -> Request {
+    Request::from_bytes(include_bytes!("../tests/data/kiev1954.bin")).expect("a whole request")
+}
+
+/// How a drawn field sits in its range.
+#[derive(Clone, Copy)]
+pub enum Manner {
+    /// Anywhere.
+    Anywhere,
+    /// Mostly at an end of the range or next to it, or at 0.
+    AtLimits,
+    /// As eclipses are: higher coefficients small.
+    Natural,
+}
+
+fn field(random: &mut Random, range: &RangeInclusive<i64>, manner: Manner) -> i64 {
+    let (least, most) = (*range.start(), *range.end());
+    let drawn = random.within(range);
+    match manner {
+        Manner::Anywhere => drawn,
+        Manner::AtLimits => match random.below(8) {
+            0 | 1 => least,
+            2 | 3 => most,
+            4 => least + 1,
+            5 => most - 1,
+            6 => 0.max(least),
+            _ => drawn,
+        },
+        Manner::Natural => (least + most) / 2 + (drawn - (least + most) / 2) / 10,
+    }
+}
+
+/// A request within its ranges. The window is one second.
+pub fn draw(random: &mut Random, manner: Manner) -> Request {
+    let mut fields = ELEMENT_RANGES.map(|range| field(random, &range, manner));
+    if let Manner::Natural = manner {
+        // The shadow's speed, the sizes of the cones and the time of day are anything usual.
+        fields[0] = random.within(&(-60_000_000..=60_000_000));
+        fields[1] = random.within(&(45_000_000..=60_000_000));
+        fields[4] = random.within(&(-100_000_000..=100_000_000));
+        fields[5] = random.within(&(-30_000_000..=30_000_000));
+        fields[8] = random.within(&(-23_500_000..=23_500_000));
+        fields[14] = random.within(&(-1_500_000..=2_000_000));
+        fields[17] = random.within(&ELEMENT_RANGES[17]);
+    }
+    let place_manner = if random.once_in(2) { Manner::AtLimits } else { Manner::Anywhere };
+    let [number, latitude, longitude, height] =
+        STATION_RANGES.map(|range| field(random, &range, place_manner));
+    let seconds = -FARTHEST..=FARTHEST;
+    let second_manner = if random.once_in(4) { Manner::AtLimits } else { Manner::Anywhere };
+    let second = field(random, &seconds, second_manner);
+    Request {
+        elements: Elements::from_fields(fields),
+        station: Station { number, latitude, longitude, height },
+        window: Window { first: second, last: second },
+    }
+}
+
+/// The shadow of a request within its ranges.
+pub fn shadow(request: &Request, second: i64) -> Shadow {
+    request.check().expect("within its ranges").shadow(second)
+}
+
+/// Change x or y so that its value at a second moves by `shift`: the constant, and where that meets its
+/// limit the hourly change. False, and nothing changed, where neither has room.
+fn move_by(coefficients: &mut [i64; 4], second: i64, shift: i64) -> bool {
+    let wanted = coefficients[0] + shift;
+    let constant = wanted.clamp(*ELEMENT_RANGES[0].start(), *ELEMENT_RANGES[0].end());
+    let rest = wanted - constant;
+    let hourly = match (rest, second) {
+        (0, _) => coefficients[1],
+        (_, 0) => return false,
+        _ => coefficients[1] + rest * 3600 / second,
+    };
+    let possible = ELEMENT_RANGES[1].contains(&hourly);
+    if possible {
+        coefficients[0] = constant;
+        coefficients[1] = hourly;
+    }
+    possible
+}
+
+/// Put the axis at a distance of L plus `beyond` from the station at a second, in the direction `angle`
+/// (radians). False where the elements have no room for it.
+pub fn put(request: &mut Request, second: i64, phase: Phase, beyond: i64, angle: f64) -> bool {
+    let now = shadow(request, second);
+    let distance = (now.l(phase) + beyond).max(0) as f64;
+    let (sine, cosine) = angle.sin_cos();
+    let (u, v) = ((distance * sine).round() as i64, (distance * cosine).round() as i64);
+    let mut moved = *request;
+    let done = move_by(&mut moved.elements.x, second, u - now.u)
+        && move_by(&mut moved.elements.y, second, v - now.v);
+    if done {
+        *request = moved;
+    }
+    done
+}
+
+/// Put the axis near the edge in any direction that the elements have room for, if there is one.
+pub fn put_near_edge(random: &mut Random, request: &mut Request, second: i64, phase: Phase) {
+    for _ in 0..12 {
+        let beyond = random.within(&(-40..=40));
+        let angle = random.below(1 << 20) as f64 / (1 << 20) as f64 * TAU;
+        if put(request, second, phase, beyond, angle) {
+            return;
+        }
+    }
+}
+
+/// Stop the axis over the station at a second, but for `u_rate` and `v_rate` units an hour.
+pub fn slow_down(request: &mut Request, second: i64, u_rate: i64, v_rate: i64) {
+    let (before, after) = ((second - 60).max(-FARTHEST), (second + 60).min(FARTHEST));
+    let (a, b) = (shadow(request, before), shadow(request, after));
+    let rate = |change: i64| change * 3600 / (after - before);
+    let range = &ELEMENT_RANGES[1];
+    let x1 = request.elements.x[1] - rate(b.u - a.u) + u_rate;
+    let y1 = request.elements.y[1] - rate(b.v - a.v) + v_rate;
+    request.elements.x[1] = x1.clamp(*range.start(), *range.end());
+    request.elements.y[1] = y1.clamp(*range.start(), *range.end());
+}
+
+/// Let the axis pass along the edge at a second: its way at right angles to the direction of the station,
+/// L plus `beyond` off. False where the elements have no room for it.
+pub fn put_along_edge(request: &mut Request, second: i64, phase: Phase, beyond: i64) -> bool {
+    let (before, after) = ((second - 60).max(-FARTHEST), (second + 60).min(FARTHEST));
+    let (a, b) = (shadow(request, before), shadow(request, after));
+    let angle = ((b.v - a.v) as f64).atan2(-(b.u - a.u) as f64);
+    put(request, second, phase, beyond, angle)
+}
+
+/// Make the central cone come to a point near the station at a second: L2 becomes `size`, if l2 has room.
+pub fn shrink_central(request: &mut Request, second: i64, size: i64) {
+    let constant = request.elements.l2[0] - shadow(request, second).l2 + size;
+    if ELEMENT_RANGES[14].contains(&constant) {
+        request.elements.l2[0] = constant;
+    }
+}

@@ -1,0 +1,54 @@
+#!/usr/bin/env python3
+"""What the program `sines` must print, computed from document 01's words alone, with exact fractions.
+
+    python3 tests/sines.py > crates/sines/stdout
+"""
+from fractions import Fraction
+from math import factorial, floor
+
+PI = Fraction("3.14159265358979323846")
+
+
+def near(x):
+    """The floor of x + 1/2: halves go up, also below zero."""
+    return floor(x + Fraction(1, 2))
+
+
+def series(x):
+    """The sine series, summed to the 21st power."""
+    return sum((-1) ** (n // 2) * x**n / factorial(n) for n in range(1, 22, 2))
+
+
+S = [near(10**8 * series(k * PI / 1800)) for k in range(901)]
+for k, entry in enumerate(S):
+    assert abs(entry - 10**8 * series(k * PI / 1800)) <= Fraction(1, 2)
+assert (S[0], S[300], S[900]) == (0, 50_000_000, 10**8)
+
+
+def first_quadrant(a):
+    k, b = divmod(a, 100_000)
+    r = near(Fraction(b * 17_453_293, 10**7))
+    w = near(Fraction(r * r, 2 * 10**8))
+    return min(S[k] + near(Fraction(S[900 - k] * r - S[k] * w, 10**8)), 10**8)
+
+
+def sine(a):
+    return first_quadrant(a) if a <= 90_000_000 else cosine(a - 90_000_000)
+
+
+def cosine(a):
+    return first_quadrant(90_000_000 - a) if a <= 90_000_000 else -sine(a - 90_000_000)
+
+
+def angle(i):
+    """The angles of the program."""
+    if i < 51:
+        return i // 3 * 45_000_000 + i % 3 - 360_000_001
+    if i < 351:
+        return i * 607 % 1801 * 100_000 + i % 3 - 90_000_001
+    return i * 12_345_678_901 % 20_000_000_001 - 10_000_000_000
+
+
+for i in range(1000):
+    a = angle(i) % 360_000_000
+    print(angle(i), sine(a), cosine(a))
