@@ -13,7 +13,7 @@ use lib.Signed.{_≤ℤ_, _<ℤ_, ltZ, leZ, mag, quotZ, remZ, nonNeg, yes-nonNeg
 use lib.ListN.{getD}
 use mir.Syntax.{w64}
 use mir.Val.{SFits, Fits, toZ, ofZ}
-use mir.ValLaws.{toZ-ofZ}
+use mir.ValLaws.{toZ-ofZ, toZ-pos}
 use Rattle.numbers.specs.Order.{natAbs-sum, natAbs-minus, natAbs-product, natAbs-quot, natAbs-opposite, fits64, fits64-natAbs, divisor, ltZ-true, ltZ-false, leZ-true, leZ-false}
 
 -- what a local holds: a whole number (a parameter, a field, an element, a call's result), or bits (a variable that a loop changes)
@@ -269,6 +269,13 @@ read-result z h = toZ-ofZ w64 z (record { sfits = h })
 -- a test of two numbers as they are read from their bits
 pub read-ltZ : (x y : ℤ) {b : Bool} → mag x < 2 ^ 63 → mag y < 2 ^ 63 → ltZ (toZ w64 (ofZ w64 x)) (toZ w64 (ofZ w64 y)) ≡ b → ltZ x y ≡ b
 read-ltZ x y hx hy t = ap₂ ltZ (sym (read-result x hx)) (sym (read-result y hy)) ∙ t
+
+-- a count that is cast to a signed number: the slot `raw i`
+pub count-is : (i : ℕ) {m : ℕ} → i ≤ m → T (leb m 9223372036854775807) → toZ w64 i ≡ pos i
+count-is i {m} h t = toZ-pos w64 i (omega (arith, leb→le m 9223372036854775807 t))
+
+pub count-size : (i : ℕ) {m : ℕ} → i ≤ m → T (leb m 9223372036854775807) → natAbs (toZ w64 i) ≤ m
+count-size i {m} h t = subst (λ (z : ℤ). natAbs z ≤ m) (sym (count-is i {m = m} h t)) h
 
 -- ---- a table: each entry is at most m from 0, by one computed test
 abbrev pub allWithin : List ℤ → ℕ → Bool

@@ -8,3 +8,4 @@ pub mod TableLaws
 pub mod FirstQuadrantLaws
 pub mod SineLaws
 pub mod Examples
+pub mod Rising

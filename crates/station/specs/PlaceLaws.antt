@@ -13,7 +13,9 @@ use Rattle.numbers.specs.Near.{near}
 use Rattle.numbers.specs.NearLaws.{near-low, near-high, near-size}
 use Rattle.numbers.specs.Root.{root, IsRoot}
 use Rattle.numbers.specs.RootLaws.{root-is}
-use Rattle.station.specs.Place.{one, radius, E, under, W, C, Z, h}
+use Rattle.sine.specs.Sine.{sine, cosine}
+use Rattle.sine.specs.SineLaws.{sine-size, cosine-size, square-sum}
+use Rattle.station.specs.Place.{one, radius, E, under, W, C, Z, h, R, P}
 
 square-natAbs : (z : ℤ) → z *ℤ z ≡ pos (natAbs z * natAbs z)
 square-natAbs (pos n) = refl
@@ -94,3 +96,26 @@ pub scaled-size : (a b c : ℤ) (A B : ℕ) → natAbs a ≤ A → natAbs b ≤ 
 scaled-size a b c A B ha hb hc =
     let s : natAbs (a +ℤ b) ≤ A + B = omega (arith, natAbs-sum a b) in
     near-size ((a +ℤ b) *ℤ c) one (A + B) (leZ-yes tt) (natAbs-product-le (a +ℤ b) c (A + B) 100000000 s hc)
+
+-- R and P of a latitude and a height in their ranges
+module _ (latitude height : ℤ) (hl : natAbs latitude ≤ 90000000) (hh : natAbs height ≤ 9000) where
+  abbrev s : ℤ
+  s = sine latitude
+
+  abbrev c : ℤ
+  c = cosine latitude
+
+  circle-of : 9960000000000000 ≤ natAbs s * natAbs s + natAbs c * natAbs c
+  circle-of = omega (arith, square-sum latitude hl)
+
+  pub R-size : natAbs (R latitude height) ≤ 101000000
+  unfolding R
+  R-size =
+      let n = C-size s c (sine-size latitude) (cosine-size latitude) circle-of in
+      omega (arith, scaled-size (C s c) (h height) c 100600000 141106 n (h-size height hh) (cosine-size latitude))
+
+  pub P-size : natAbs (P latitude height) ≤ 101000000
+  unfolding P
+  P-size =
+      let n = Z-size s c (sine-size latitude) (cosine-size latitude) circle-of in
+      omega (arith, scaled-size (Z s c) (h height) s 100000000 141106 n (h-size height hh) (sine-size latitude))

@@ -3,7 +3,7 @@ use mathlib.Core.Path.{_≡_}
 use mathlib.Core.List.{List, [], _∷_}
 use Prim.Native.Nat.{ℕ, _≤_}
 use lib.IntN.{ℤ, pos, negℤ, natAbs}
-use lib.Signed.{leZ-yes}
+use lib.Signed.{_≤ℤ_, leZ-yes}
 use Rattle.numbers.specs.declared.Limits.{Limits}
 use Rattle.numbers.specs.declared.Limits.the-variants.{Within}
 use Rattle.numbers.specs.Limits.{firstOutside}
@@ -27,6 +27,7 @@ rangeOf s = firstOutside 0 (fields s) lows highs
 
 -- what a station in its ranges gives to those who compute on
 pub record Sized (s : Station) : Type 0 where
+  pub number : (pos 1 ≤ℤ s .number) × (s .number ≤ℤ pos 999)
   pub latitude : natAbs (s .latitude) ≤ 90000000
   pub longitude : natAbs (s .longitude) ≤ 180000000
   pub height : natAbs (s .height) ≤ 9000
@@ -36,6 +37,7 @@ unfolding rangeOf lows highs
 sized s w =
     let i = within-inside 0 (fields s) lows highs w in
     record {
+      number = i .0;
       latitude = natAbs-le (s .latitude) (i .1 .0 .0) (i .1 .0 .1);
       longitude = natAbs-le (s .longitude) (i .1 .1 .0 .0) (i .1 .1 .0 .1);
       height = natAbs-le (s .height) (≤ℤ-trans (leZ-yes tt) (i .1 .1 .1 .0 .0)) (i .1 .1 .1 .0 .1);

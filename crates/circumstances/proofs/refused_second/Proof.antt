@@ -1,0 +1,21 @@
+-- `circumstances::refused_second` meets its contract, case by case. Assumes nothing.
+use mathlib.Core.Path.{sym, ap}
+use borrow.Author.Needs.{needs}
+use Rattle.circumstances.specs.OneSecond.{refusedSecond}
+use Rattle.circumstances.proofs.refused_second.Statement.{statement}
+use Rattle.circumstances.proofs.refused_second.Tie as tie
+
+enum-told : tie.Need-enum-told
+enum-told c = search needs
+
+enum-known-c : tie.Need-enum-known-c
+enum-known-c c = search needs
+
+returns : tie.Need-returns
+returns c = sym (ap refusedSecond (c .enum-told .given .1))
+
+returns-2 : tie.Need-returns-2
+returns-2 c = sym (ap refusedSecond (c .before .c .given .1))
+
+pub refused-second-spec : {M : Type 1} → statement M
+refused-second-spec = tie.close (tie.spec enum-told enum-known-c returns returns-2)

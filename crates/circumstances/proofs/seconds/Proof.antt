@@ -1,0 +1,35 @@
+-- `circumstances::seconds` meets its contract: the last second is not before the first, so the difference is a natural number. Assumes nothing.
+use mathlib.Core.Path.{_≡_, ap, _∙_}
+use mathlib.Core.List.{List, [], _∷_}
+use Prim.Native.Nat.{ℕ, suc, _+_, _≤_}
+use native.Mathlib.Omega.{arith}
+use native.Mathlib.Numerals.{add-one}
+use lib.IntN.{ℤ, natAbs, _-ℤ_}
+use Rattle.numbers.specs.Order.{minus-nonneg}
+use Rattle.numbers.specs.Code.{Code, arg, sub, run, Within, whole, ends, _▹_, fits, runs, within, unsigned}
+use Rattle.circumstances.specs.LimitsLaws.{window-sizes}
+use Rattle.circumstances.proofs.seconds.Statement.{statement}
+use Rattle.circumstances.proofs.seconds.Tie as tie
+
+bounds : (c : tie.After-struct-told) → Within (whole (c .before .before .args .w .last) ∷ whole (c .before .before .args .w .first) ∷ []) (10800 ∷ 10800 ∷ [])
+bounds c =
+    let s = window-sizes (c .before .before .args .w) (c .before .before .pre) in
+    s .1 ▹ s .0 ▹ ends
+
+abbrev difference : Code
+difference = sub (arg 0) (arg 1)
+
+sub-result : tie.Need-sub-result
+sub-result c = fits (bounds c) difference tt
+
+cast-result : tie.Need-cast-result
+cast-result c = unsigned (bounds c) difference tt (minus-nonneg (c .before .before .pre .ordered))
+
+add-result : tie.Need-add-result
+add-result c = record { fits = omega (arith, within (bounds c) difference 21600 tt) }
+
+returns : tie.Need-returns
+returns c = add-one (natAbs (run (whole (c .before .before .args .w .last) ∷ whole (c .before .before .args .w .first) ∷ []) difference)) ∙ ap (λ (z : ℤ). suc (natAbs z)) (runs (bounds c) difference tt)
+
+pub seconds-spec : {M : Type 1} → statement M
+seconds-spec = tie.close (tie.spec sub-result cast-result add-result returns)

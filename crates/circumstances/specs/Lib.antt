@@ -1,0 +1,14 @@
+pub mod Requests
+pub mod Seconds
+pub mod Sheet
+pub mod Demand3
+pub mod LimitsLaws
+pub mod SecondsLaws
+pub mod Demand3Laws
+pub mod SheetLaws
+pub mod Filled
+pub mod Sizes
+pub mod Stores
+pub mod Claims
+pub mod Marked
+pub mod OneSecond

@@ -1,0 +1,95 @@
+use Rattle.records.specs.RecordLaws.{by-byte, by-kind, by-body, byte-inv}
+use Rattle.records.specs.Records.{byteAt, bodyAt}
+use Rattle.records.specs.Entries.{kindFor, shapeOf, sizeOf}
+use Rattle.records.specs.declared.Body.the-variants as Body
+use Rattle.records.specs.declared.Byte.the-variants as Byte
+use Rattle.records.specs.declared.Named.the-variants as Named
+use lib.ListN.{length, getD}
+use Prim.Native.Nat.{ℕ, _+_, _≤_, _<_}
+use native.Mathlib.Omega.{arith}
+use mathlib.Core.Path.{_≡_, sym, ap, _∙_}
+use borrow.Author.Needs.{needs}
+use Rattle.records.proofs.record_at.Statement.{statement}
+use Rattle.records.proofs.record_at.Tie as tie
+
+byte-at-requires : tie.Need-byte-at-requires
+byte-at-requires c κs = search needs
+
+enum-known-code : tie.Need-enum-known-code
+enum-known-code c = search needs
+
+enum-told : tie.Need-enum-told
+enum-told c = search needs
+
+returns : tie.Need-returns
+returns c = by-byte _ _ _ (sym (c .before .before .byte-at .ensures) ∙ c .enum-told .given .1)
+
+kind-for-requires : tie.Need-kind-for-requires
+kind-for-requires c κs = search needs
+
+enum-known-kind : tie.Need-enum-known-kind
+enum-known-kind c = search needs
+
+enum-told-2 : tie.Need-enum-told-2
+enum-told-2 c = search needs
+
+is-byte : (c : tie.After-known-told) → byteAt (c .before .before .before .before .before .args .s .now) (c .before .before .before .before .before .args .at) ≡ Byte.Is (c .before .code .given .0 .0)
+is-byte c = sym (c .before .before .before .byte-at .ensures) ∙ c .before .code .given .1
+
+returns-2 : tie.Need-returns-2
+returns-2 c = by-kind _ _ _ _ (is-byte (c .before .before .before)) (sym (c .before .before .kind-for .ensures) ∙ c .enum-told2 .given .1)
+
+shape-of-requires : tie.Need-shape-of-requires
+shape-of-requires c κs = search needs
+
+is-kind : (c : tie.After-known-told2) → kindFor (c .before .before .before .before .before .code .given .0 .0) ≡ Named.Is (c .before .kind .given .0 .0)
+is-kind c = sym (c .before .before .before .kind-for .ensures) ∙ c .before .kind .given .1
+
+body-at-requires : tie.Need-body-at-requires
+body-at-requires c κs = byte-inv _ _ _ (is-byte (c .before .before .before .before .before)) .0
+
+enum-known-a : tie.Need-enum-known-a
+enum-known-a c = search needs
+
+enum-told-3 : tie.Need-enum-told-3
+enum-told-3 c = search needs
+
+body-is : (c : tie.After-body-at) → bodyAt (shapeOf (c .before .before .before .kind .given .0 .0)) (c .before .before .before .before .before .before .before .before .before .before .before .args .s .now) (c .before .before .before .before .before .before .before .before .before .before .before .args .at) ≡ c .body-at .result
+body-is c = rw (← c .before .shape-of .ensures) (sym (c .body-at .ensures))
+
+returns-3 : tie.Need-returns-3
+returns-3 c = by-body _ _ _ _ _ (is-byte (c .before .before .before .before .before .before .before .before)) (is-kind (c .before .before .before .before)) (body-is (c .before .before) ∙ c .enum-told3 .given .1)
+
+size-of-requires : tie.Need-size-of-requires
+size-of-requires c κs = search needs
+
+entry-for-requires : tie.Need-entry-for-requires
+entry-for-requires c κs = search needs
+
+add-t18 : tie.Need-add-t18
+add-t18 c = let b = byte-inv _ _ _ (is-byte (c .before .before .before .before .before .before .before .before .before .before .before)) in omega (arith, c .before .before .before .before .before .before .before .before .before .before .before .before .before .before .before .before .good .0 .1)
+
+returns-4 : tie.Need-returns-4
+returns-4 c = rw (c .entry-for .ensures, c .before .size-of .ensures .0, c .before .before .before .before .before .before .shape-of .ensures) (by-body _ _ _ _ _ (is-byte (c .before .before .before .before .before .before .before .before .before .before .before)) (is-kind (c .before .before .before .before .before .before .before)) (body-is (c .before .before .before .before .before) ∙ c .before .before .before .a .given .1))
+
+pub record-at-spec : {M : Type 1} → statement M
+record-at-spec =
+    tie.close
+    (tie.spec
+    byte-at-requires
+    enum-known-code
+    enum-told
+    returns
+    kind-for-requires
+    enum-known-kind
+    enum-told-2
+    returns-2
+    shape-of-requires
+    body-at-requires
+    enum-known-a
+    enum-told-3
+    returns-3
+    size-of-requires
+    entry-for-requires
+    add-t18
+    returns-4)

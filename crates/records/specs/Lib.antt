@@ -1,0 +1,8 @@
+pub mod Entries
+pub mod EntryLaws
+pub mod Refusals
+pub mod Rules
+pub mod RuleLaws
+pub mod Records
+pub mod RecordLaws
+pub mod RecordTrip

@@ -1,0 +1,304 @@
+// The shadow at one second: where the station is in it, and what is seen there.
+ghost use mathlib.Core.Path.{_≡_};
+ghost use Prim.Native.Nat.{_≤_};
+ghost use lib.IntN.{pos, natAbs, _-ℤ_, _*ℤ_};
+ghost use lib.Signed.{_≤ℤ_, _<ℤ_};
+ghost use Rattle.numbers.specs.Near.{near};
+ghost use Rattle.numbers.specs.Value.{Value};
+ghost use Rattle.sine.specs.Table.{S, Sines};
+ghost use Rattle.elements.specs.Sizes.{Sized};
+ghost use Rattle.geometry.specs.Moments.{Placed};
+ghost use Rattle.geometry.specs.Shadow.{one, state};
+ghost use Rattle.geometry.specs.Magnitude.{millionths, magnitude};
+ghost use Rattle.geometry.specs.Direction.{quarter, direction};
+ghost use Rattle.shadow.specs.Shadow.{Turned, Turning, Seated, IsShadow};
+ghost use Rattle.shadow.specs.State.{code, stateOf};
+ghost use Rattle.shadow.specs.Second.{Bounded, StatesOf, IsStates, IsSecond};
+
+// Sines and cosines of the hour angle H and of the declination d, 10^-8, each ±100,000,000.
+pub struct Turn {
+    // sin H
+    pub sh: i64,
+    // cos H
+    pub ch: i64,
+    // sin d
+    pub sd: i64,
+    // cos d
+    pub cd: i64,
+}
+
+// The station's coordinates on the shadow's axes, 10^-8 of the Earth's equatorial radius.
+pub struct Seat {
+    // ξ, to the east, ±101,000,000
+    pub xi: i64,
+    // η, to the north, ±150,000,000
+    pub eta: i64,
+    // ζ, toward the Moon, ±150,000,000
+    pub zeta: i64,
+}
+
+// The shadow at the station, 10^-8 of the Earth's equatorial radius.
+pub struct Shadow {
+    // u, the axis from the station, to the east, ±602,170,000
+    pub u: i64,
+    // v, the same to the north, ±651,170,000
+    pub v: i64,
+    // L1, the penumbra's radius at the station, 48,860,000 to 61,140,000
+    pub l1: i64,
+    // L2, that of the central cone, below zero where the eclipse is total, ±6,140,000
+    pub l2: i64,
+    // M = u² + v², 0 to 800,000,000,000,000,000
+    pub m: i64,
+}
+
+// The states of a second.
+pub struct States {
+    // of the penumbra: 0 outside, 1 inside, 2 unsure
+    pub penumbra: u8,
+    // of the central cone, likewise
+    pub central: u8,
+    // M, by which the closest second is found
+    pub m: i64,
+}
+
+// All that is said of a second.
+pub struct Second {
+    pub shadow: Shadow,
+    // 0 outside, 1 inside, 2 unsure
+    pub penumbra: u8,
+    // likewise
+    pub central: u8,
+    // millionths, 0 to 1,300,000
+    pub magnitude: u32,
+    // of the axis from the station, tenths of a degree, north through east: 0 to 3599, or 65,535 where u = v = 0
+    pub direction: u16,
+}
+
+// The sines and cosines of H and d.
+fn turned(table: &[u32], h: i64, d: i64) -> Turn
+    requires { ⌜ (Sines (now table)) × (natAbs h ≤ 10000000000) × (natAbs d ≤ 10000000000) ⌝ }
+    ensures { λ r. ⌜ Turned h d r ⌝ }
+{
+    let a = sine::reduced(h);
+    let b = sine::reduced(d);
+    let sh = sine::sine(table, a);
+    let ch = sine::cosine(table, a);
+    let sd = sine::sine(table, b);
+    let cd = sine::cosine(table, b);
+    Turn {
+        sh: sh,
+        ch: ch,
+        sd: sd,
+        cd: cd,
+    }
+}
+
+// ξ, η and ζ of a place.
+fn seated(place: station::Place, n: Turn) -> Seat
+    requires { ⌜ (Placed place) × (Turning n) ⌝ }
+    ensures { λ x. ⌜ Seated place n x ⌝ }
+{
+    let r = place.r;
+    let p = place.p;
+    let sh = n.sh;
+    let ch = n.ch;
+    let sd = n.sd;
+    let cd = n.cd;
+    let q = numbers::near_unit(r * ch);
+    let xi = numbers::near_unit(r * sh);
+    let eta = numbers::near_unit(p * cd - q * sd);
+    let zeta = numbers::near_unit(p * sd + q * cd);
+    Seat {
+        xi: xi,
+        eta: eta,
+        zeta: zeta,
+    }
+}
+
+// A cone's radius at height ζ: l less the cone's term.
+fn radius(l: i64, tan: i64, zeta: i64) -> i64
+    requires { ⌜ (natAbs l ≤ 500000000) × (natAbs tan ≤ 500000) × (natAbs zeta ≤ 410000000) ⌝ }
+    ensures { λ r. ⌜ Value (l -ℤ near (zeta *ℤ tan) one) 600000000 r ⌝ }
+{
+    l - numbers::near_unit(zeta * tan)
+}
+
+// u, v, L1, L2 and M of a place and a longitude (east positive) at second t.
+pub fn shadow_at(
+    table: &[u32],
+    e: elements::Elements,
+    place: station::Place,
+    longitude: i64,
+    t: i64,
+) -> Shadow
+    requires { ⌜ (Sines (now table)) × (Sized e) × (Placed place) × (natAbs longitude ≤ 180000000) × (natAbs t ≤ 10800) ⌝ }
+    ensures { λ r. ⌜ IsShadow e place longitude t r ⌝ }
+{
+    let h = elements::mu_at(e, t) + longitude;
+    let d = elements::d_at(e, t);
+    let n = turned(table, h, d);
+    let s = seated(place, n);
+    let u = elements::x_at(e, t) - s.xi;
+    let v = elements::y_at(e, t) - s.eta;
+    let l1 = radius(elements::l1_at(e, t), e.tanf1, s.zeta);
+    let l2 = radius(elements::l2_at(e, t), e.tanf2, s.zeta);
+    let m = u * u + v * v;
+    Shadow {
+        u: u,
+        v: v,
+        l1: l1,
+        l2: l2,
+        m: m,
+    }
+}
+
+// 0 outside, 1 inside, 2 unsure: where a distance whose square is m stands to a radius l, under a guard. No root is taken.
+pub fn state(guard: i64, l: i64, m: i64) -> u8
+    requires { ⌜ (natAbs guard ≤ 1000) × (natAbs l ≤ 600000000) × (natAbs m ≤ 1000000000000000000) ⌝ }
+    ensures { λ r. ⌜ r ≡ code (state guard l m) ⌝ }
+{
+    let inner = l - guard;
+    let outer = l + guard;
+    if guard < l {
+        if m < inner * inner {
+            return 1;
+        }
+    }
+    if outer * outer < m { 0 } else { 2 }
+}
+
+// n / d in millionths, rounded down, and 0 below 0.
+fn share(n: i64, d: i64) -> u32
+    requires { ⌜ (natAbs n ≤ 2000000000) × (natAbs d ≤ 2000000000) × (pos 0 <ℤ d) × (millionths n d ≤ 1300000) ⌝ }
+    ensures { λ r. ⌜ r ≡ millionths n d ⌝ }
+{
+    if n < 0 {
+        return 0;
+    }
+    let q = (1_000_000 * n) / d;
+    q as u32
+}
+
+// The magnitude in millionths, of L1, of L2 with its sign, of M and of the state of central.
+pub fn magnitude(l1: i64, l2: i64, m: i64, central: u8) -> u32
+    requires { ⌜ (natAbs l1 ≤ 600000000) × (natAbs l2 ≤ 600000000) × (natAbs m ≤ 1000000000000000000) × (pos 0 ≤ℤ m) ⌝ }
+    requires { ⌜ (pos 0 <ℤ l1) × ((pos 23 *ℤ pos (natAbs l2)) ≤ℤ (pos 3 *ℤ l1)) ⌝ }
+    ensures { λ r. ⌜ (r ≡ magnitude (stateOf central) l1 l2 m) × (r ≤ 1300000) ⌝ }
+{
+    let sum = l1 + l2;
+    if central == 1 {
+        return share(l1 - l2, sum);
+    }
+    let distance = numbers::root(m as u64);
+    share(l1 - distance as i64, sum)
+}
+
+fn wide(x: u32) -> u64
+    ensures { λ r. ⌜ r ≡ x ⌝ }
+{
+    x as u64
+}
+
+// The direction within a quarter, tenths of a degree, of an axis that lies u across and v along. As k grows the one side rises
+// and the other falls, so the largest k is found by halving: low reaches, and nothing from high to 899 does.
+fn quarter(table: &[u32], u: u64, v: u64) -> u16
+    requires { ⌜ (Sines (now table)) × (u ≤ 1000000000) × (v ≤ 1000000000) ⌝ }
+    ensures { λ r. ⌜ r ≡ quarter S (pos u) (pos v) ⌝ }
+{
+    let mut low = 0;
+    let mut high = 900;
+    while low + 1 < high {
+        let k = (low + high) / 2;
+        let rising = wide(sine::entry(table, k));
+        let falling = wide(sine::entry(table, 900 - k));
+        if v * rising <= u * falling {
+            low = k;
+        } else {
+            high = k;
+        }
+    }
+    low as u16
+}
+
+// The direction of the axis that lies u to the east and v to the north: tenths of a degree, north through east; 65,535 at the axis itself.
+pub fn direction(table: &[u32], u: i64, v: i64) -> u16
+    requires { ⌜ (Sines (now table)) × (natAbs u ≤ 1000000000) × (natAbs v ≤ 1000000000) ⌝ }
+    ensures { λ r. ⌜ r ≡ direction S u v ⌝ }
+{
+    let a = numbers::abs(u) as u64;
+    let b = numbers::abs(v) as u64;
+    if u < 0 {
+        if v < 0 {
+            return 1800 + quarter(table, a, b);
+        }
+        return 2700 + quarter(table, b, a);
+    }
+    if 0 < v {
+        return quarter(table, a, b);
+    }
+    if 0 < u {
+        return 900 + quarter(table, b, a);
+    }
+    if v < 0 {
+        return 1800 + quarter(table, a, b);
+    }
+    65_535
+}
+
+// The states of a shadow under a guard.
+fn states_of(guard: i64, s: Shadow) -> States
+    requires { ⌜ (natAbs guard ≤ 1000) × (Bounded s) ⌝ }
+    ensures { λ r. ⌜ StatesOf guard s r ⌝ }
+{
+    let l1 = s.l1;
+    let l2 = s.l2;
+    let m = s.m;
+    let penumbra = state(guard, l1, m);
+    let central = state(guard, numbers::abs(l2), m);
+    States {
+        penumbra: penumbra,
+        central: central,
+        m: m,
+    }
+}
+
+// The states of a second and its M, with no direction and no magnitude: what a loop over seconds asks.
+pub fn states_at(
+    table: &[u32],
+    e: elements::Elements,
+    place: station::Place,
+    longitude: i64,
+    t: i64,
+    guard: i64,
+) -> States
+    requires { ⌜ (Sines (now table)) × (Sized e) × (Placed place) × (natAbs longitude ≤ 180000000) × (natAbs t ≤ 10800) × (natAbs guard ≤ 1000) ⌝ }
+    ensures { λ r. ⌜ IsStates guard e place longitude t r ⌝ }
+{
+    let s = shadow_at(table, e, place, longitude, t);
+    states_of(guard, s)
+}
+
+// All of a second.
+pub fn second_at(
+    table: &[u32],
+    e: elements::Elements,
+    place: station::Place,
+    longitude: i64,
+    t: i64,
+    guard: i64,
+) -> Second
+    requires { ⌜ (Sines (now table)) × (Sized e) × (Placed place) × (natAbs longitude ≤ 180000000) × (natAbs t ≤ 10800) × (natAbs guard ≤ 1000) ⌝ }
+    ensures { λ r. ⌜ IsSecond guard e place longitude t r ⌝ }
+{
+    let s = shadow_at(table, e, place, longitude, t);
+    let w = states_of(guard, s);
+    let magnitude = magnitude(s.l1, s.l2, s.m, w.central);
+    let direction = direction(table, s.u, s.v);
+    Second {
+        shadow: s,
+        penumbra: w.penumbra,
+        central: w.central,
+        magnitude: magnitude,
+        direction: direction,
+    }
+}

@@ -1,0 +1,136 @@
+-- The round trip. A list of entries as numbers is accepted by the writer, and bytes are accepted by the reader:
+--   written-then-read    entries that are accepted, written and read back are the same entries, number for number;
+--   read-then-written    a sheet that reads well is written back to the same bytes;
+--   accepted-is-written  the reader accepts exactly what the writer writes for some entries;
+--   read-back            the bytes of well-formed entries are read back, whatever stands after them.
+-- The writer leaves `bytesOf es` at the buffer's start (`bufferAfter`), the reader `numbersOf es` at the room's (`roomAfter`).
+use Prim.Native.Nat.{ℕ, zero, suc, _+_, _-_, _*_, _≤_, _<_}
+use mathlib.Core.Path.{_≡_, refl, sym, ap, _∙_}
+use mathlib.Core.List.{List, [], _∷_, _++_, append-nil}
+use mathlib.Core.Logic.{_↔_}
+use mathlib.Core.Bool.{Bool, true, false, cond}
+use native.Mathlib.Omega.{arith}
+use native.Mathlib.Nat.{zero-add}
+use borrow.Author.Tests.{le-ltb, ltb-false}
+use lib.Dec.{ltb}
+use lib.ListN.{length, drop, length-append, drop-of-length-le}
+use Rattle.records.specs.declared.Entry.{Entry}
+use Rattle.records.specs.declared.Refusal.the-variants as R
+use Rattle.records.specs.Entries.{kindOf, shapeOf, size, bytes, bytesOf, numbersOf}
+use Rattle.records.specs.EntryLaws.{bytes-nil, length-bytes-cons, length-numbers, size-small}
+use Rattle.records.specs.Rules.{start}
+use Rattle.records.specs.RecordTrip.{Bytes, start-small}
+use Rattle.sheets.specs.Sheets.{Sheet, sheet, refused, walk, stored, alone, readSheet, readWhole}
+use Rattle.sheets.specs.SheetLaws.{read-start, walk-length, stored-steady, alone-same}
+use Rattle.sheets.specs.Handed.{handed, listSheet, listWhole}
+use Rattle.sheets.specs.HandedLaws.{list-start, list-length}
+use Rattle.sheets.specs.WellFormed.{WellFormed}
+use Rattle.sheets.specs.Trips.{read-from, read-inv, list-from, list-inv}
+
+-- the reader accepts some bytes as a sheet
+abbrev pub Reads : List ℕ → Type 0
+Reads s = (es : List Entry) × (n : ℕ) × (readWhole s ≡ sheet es n)
+
+-- some bytes are what the writer writes for some list of numbers
+abbrev pub IsWritten : List ℕ → Type 0
+IsWritten s = (l : List ℕ) × (es : List Entry) × (n : ℕ) × (listWhole l ≡ sheet es n) × (s ≡ bytesOf es)
+
+-- ---- well-formed entries are accepted
+
+-- an entry has a byte at least
+few : (es : List Entry) → length es ≤ length (bytesOf es)
+few [] = omega arith
+few (e ∷ es) = omega (arith, few es, length-bytes-cons e es, size-small (shapeOf (kindOf e)))
+
+pub read-back : (es : List Entry) → WellFormed start es → (rest : List ℕ) → readSheet (bytesOf es ++ rest) ≡ sheet es (length (bytesOf es))
+read-back es w rest =
+    read-start (bytesOf es ++ rest)
+    ∙ read-from es start w start-small [] rest 0 (suc (length (bytesOf es ++ rest) - 0)) (omega (arith, few es, length-append (bytesOf es) rest))
+    ∙ ap (sheet es) (zero-add (length (bytesOf es)))
+
+whole-sheet : (s : List ℕ) (es : List Entry) → readSheet s ≡ sheet es (length s) → readWhole s ≡ sheet es (length s)
+unfolding readWhole
+whole-sheet s es q = ap (alone (λ k n. ltb n (length s))) q ∙ rw (le-ltb (length s) (length s) (omega arith))
+
+pub read-whole-back : (es : List Entry) → WellFormed start es → readWhole (bytesOf es) ≡ sheet es (length (bytesOf es))
+read-whole-back es w =
+    whole-sheet (bytesOf es) es (ap readSheet (sym (append-nil (bytesOf es))) ∙ read-back es w [])
+
+whole-list : (l : List ℕ) (es : List Entry) (n : ℕ) → listSheet l ≡ sheet es n → length l ≤ length es * 4 → listWhole l ≡ sheet es n
+unfolding listWhole
+whole-list l es n q h = ap (alone (λ k n. ltb (k * 4) (length l))) q ∙ rw (le-ltb (length es * 4) (length l) h)
+
+pub list-back : (es : List Entry) → WellFormed start es → listWhole (numbersOf es) ≡ sheet es (length (bytesOf es))
+list-back es w =
+    whole-list (numbersOf es) es (length (bytesOf es))
+    (ap listSheet (sym (append-nil (numbersOf es))) ∙ list-start (numbersOf es ++ [])
+    ∙ list-from es start w [] [] 0 0 (suc (length (numbersOf es ++ []) - 0)) refl (omega (arith, length-append (numbersOf es) [], length-numbers es))
+    ∙ ap (sheet es) (zero-add (length (bytesOf es))))
+    (omega (arith, length-numbers es))
+
+-- ---- what is accepted is well formed
+
+whole-inv : (s : List ℕ) (es : List Entry) (n : ℕ) → readWhole s ≡ sheet es n → (readSheet s ≡ sheet es n) × (length s ≤ n)
+unfolding readWhole
+whole-inv s es n q =
+    let r = alone-same (λ k n. ltb n (length s)) (readSheet s) es n q in
+    (r, past (ltb n (length s)) refl (sym (ap (alone (λ k n. ltb n (length s))) r) ∙ q))
+  where
+    past : (b : Bool) → ltb n (length s) ≡ b → cond (ltb n (length s)) (refused (R.Trailing n)) (sheet es n) ≡ sheet es n → length s ≤ n
+    past false t u = ltb-false n (length s) t
+    past true t u =
+        let v : refused (R.Trailing n) ≡ sheet es n = sym (ap (λ b. cond b (refused (R.Trailing n)) (sheet es n)) t) ∙ u in
+        let z : _≡_ {A = ℕ} 0 1 = cc in
+        absurd (omega arith)
+
+pub reads-well : (s : List ℕ) (es : List Entry) (n : ℕ) → readWhole s ≡ sheet es n → WellFormed start es
+reads-well s es n q = read-inv s (suc (length s - 0)) start 0 0 es n (sym (read-start s) ∙ whole-inv s es n q .0) .0
+
+pub reads-bytes : (s : List ℕ) → Bytes s → (es : List Entry) (n : ℕ) → readWhole s ≡ sheet es n → s ≡ bytesOf es
+reads-bytes s b es n q =
+    let v = whole-inv s es n q in
+    read-inv s (suc (length s - 0)) start 0 0 es n (sym (read-start s) ∙ v .0) .1 b
+    ∙ ap (λ x. bytesOf es ++ x) (drop-of-length-le s (v .1)) ∙ append-nil (bytesOf es)
+
+pub reads-length : (s : List ℕ) (es : List Entry) (n : ℕ) → readSheet s ≡ sheet es n → n ≡ length (bytesOf es)
+reads-length s es n q =
+    walk-length (stored s) (stored-steady s) (suc (length s - 0)) start 0 0 es n (sym (read-start s) ∙ q) ∙ zero-add (length (bytesOf es))
+
+list-whole-inv : (l : List ℕ) (es : List Entry) (n : ℕ) → listWhole l ≡ sheet es n → (listSheet l ≡ sheet es n) × (length l ≤ length es * 4)
+unfolding listWhole
+list-whole-inv l es n q =
+    let r = alone-same (λ k n. ltb (k * 4) (length l)) (listSheet l) es n q in
+    (r, past (ltb (length es * 4) (length l)) refl (sym (ap (alone (λ k n. ltb (k * 4) (length l))) r) ∙ q))
+  where
+    past : (b : Bool) → ltb (length es * 4) (length l) ≡ b → cond (ltb (length es * 4) (length l)) (refused (R.Trailing n)) (sheet es n) ≡ sheet es n
+        → length l ≤ length es * 4
+    past false t u = ltb-false (length es * 4) (length l) t
+    past true t u =
+        let v : refused (R.Trailing n) ≡ sheet es n = sym (ap (λ b. cond b (refused (R.Trailing n)) (sheet es n)) t) ∙ u in
+        let z : _≡_ {A = ℕ} 0 1 = cc in
+        absurd (omega arith)
+
+pub list-well : (l : List ℕ) (es : List Entry) (n : ℕ) → listWhole l ≡ sheet es n → WellFormed start es × (l ≡ numbersOf es) × (n ≡ length (bytesOf es))
+list-well l es n q =
+    let v = list-whole-inv l es n q in
+    let r = list-inv l (suc (length l - 0)) start 0 0 es n (sym (list-start l) ∙ v .0) in
+    (r .0, r .1 ∙ ap (λ x. numbersOf es ++ x) (drop-of-length-le l {i = (0 + length es) * 4} (omega (arith, v .1))) ∙ append-nil (numbersOf es), list-length l es n (v .0))
+
+-- ---- the round trip
+
+pub written-then-read : (l : List ℕ) (es : List Entry) (n : ℕ) → listWhole l ≡ sheet es n
+    → (readWhole (bytesOf es) ≡ sheet es n) × (numbersOf es ≡ l)
+written-then-read l es n q =
+    let v = list-well l es n q in
+    (read-whole-back es (v .0) ∙ ap (sheet es) (sym (v .2)), sym (v .1))
+
+pub read-then-written : (s : List ℕ) → Bytes s → (es : List Entry) (n : ℕ) → readWhole s ≡ sheet es n
+    → (listWhole (numbersOf es) ≡ sheet es n) × (bytesOf es ≡ s)
+read-then-written s b es n q =
+    (list-back es (reads-well s es n q) ∙ ap (sheet es) (sym (reads-length s es n (whole-inv s es n q .0))), sym (reads-bytes s b es n q))
+
+pub accepted-is-written : (s : List ℕ) → Bytes s → Reads s ↔ IsWritten s
+accepted-is-written s b = (
+  (λ r. let t = read-then-written s b (r .0) (r .1) (r .2) in (numbersOf (r .0), r .0, r .1, t .0, sym (t .1))),
+  (λ w. let t = written-then-read (w .0) (w .1) (w .2) (w .3) in (w .1, w .2, ap readWhole (w .4) ∙ t .0)),
+)

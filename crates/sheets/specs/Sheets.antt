@@ -1,0 +1,84 @@
+-- A sheet: records one after the other, up to the end record.
+-- Assumes nothing: these are definitions.
+use Prim.Native.Nat.{ℕ, zero, suc, _+_, _*_, _/_}
+use mathlib.Core.List.{List, [], _∷_, _++_}
+use mathlib.Core.Bool.{Bool, true, false, cond}
+use lib.Dec.{leb, ltb}
+use lib.ListN.{length, getD, drop}
+use Rattle.records.specs.declared.Entry.{Entry}
+use Rattle.records.specs.declared.Progress.{Progress}
+use Rattle.records.specs.declared.Refusal.{Refusal}
+use Rattle.records.specs.declared.Refusal.the-variants as R
+use Rattle.records.specs.declared.Record.{Record}
+use Rattle.records.specs.declared.Record.the-variants.{Is, Refused}
+use Rattle.sheets.specs.declared.Extent.{Extent}
+use Rattle.sheets.specs.declared.Extent.the-variants as X
+use Rattle.records.specs.Entries.{isEnd, numbersOf}
+use Rattle.records.specs.Rules.{start, afterOf, judged}
+use Rattle.records.specs.Records.{recordAt}
+
+-- what a list of bytes, or of numbers, is as a sheet: its entries, head and end among them, and its length in bytes; or the refusal
+pub data Sheet : Type 0 where
+  sheet : List Entry → ℕ → Sheet
+  refused : Refusal → Sheet
+
+abbrev pub more : Entry → Sheet → Sheet
+more e (sheet es n) = sheet (e ∷ es) n
+more e (refused r) = refused r
+
+-- the end record ends the sheet; another is followed by what comes after it
+abbrev pub onward : Record → (Entry → ℕ → Sheet) → Sheet
+onward (Refused r) go = refused r
+onward (Is e next) go = cond (isEnd e) (sheet (e ∷ []) next) (more e (go e next))
+
+-- "Sheets: first faulty record": the records from the i-th on, which stands at byte `at`; `source` gives each, judged by what came before it.
+-- `fuel` bounds the records to come.
+unfoldable pub walk : (Progress → ℕ → ℕ → Record) → ℕ → Progress → ℕ → ℕ → Sheet
+walk source zero p i at = refused (R.Cut at)
+walk source (suc fuel) p i at = onward (source p i at) (λ e next. walk source fuel (afterOf p e) (i + 1) next)
+
+-- the record of some bytes at a place, judged
+unfoldable pub stored : List ℕ → Progress → ℕ → ℕ → Record
+stored s p i at = judged p at true (recordAt s at)
+
+-- the sheet that some bytes begin with, whatever stands after it. A record has a byte at least, so there are no more records than bytes.
+unfoldable pub readSheet : List ℕ → Sheet
+readSheet s = walk (stored s) (suc (length s)) start 0 0
+
+-- "bytes after the end record": 9 at the first of them; `over` says of the entries' number and the length whether anything follows
+abbrev pub alone : (ℕ → ℕ → Bool) → Sheet → Sheet
+alone over (refused r) = refused r
+alone over (sheet es n) = cond (over (length es) n) (refused (R.Trailing n)) (sheet es n)
+
+-- the sheet that some bytes are
+unfoldable pub readWhole : List ℕ → Sheet
+readWhole s = alone (λ k n. ltb n (length s)) (readSheet s)
+
+-- how many entries and how many bytes
+abbrev pub extentOf : Sheet → Extent
+extentOf (sheet es n) = X.Sheet (length es) n
+extentOf (refused r) = X.Refused r
+
+-- the same, after k entries
+abbrev pub extent : ℕ → Sheet → Extent
+extent k (sheet es n) = X.Sheet (k + length es) n
+extent k (refused r) = X.Refused r
+
+-- a record's refusal, passed on
+abbrev pub refusedOf : Record → Extent
+refusedOf (Refused r) = X.Refused r
+refusedOf (Is e n) = X.Refused (R.Cut n)
+
+-- "Where a reader is lent room for entries and there are more, it gives 4 with their number, after all others".
+-- A room of k numbers holds k / 4 entries.
+abbrev pub holds : List Entry → ℕ → Bool
+holds es k = leb (length es) (k / 4)
+
+abbrev pub readInto : ℕ → Sheet → Extent
+readInto k (refused r) = X.Refused r
+readInto k (sheet es n) = cond (holds es k) (X.Sheet (length es) n) (X.Refused (R.Room (length es)))
+
+-- "After any refusal the buffer holds its old bytes; after success the bytes past the sheet do": so too a room and its numbers
+abbrev pub roomAfter : Sheet → List ℕ → List ℕ
+roomAfter (refused r) room = room
+roomAfter (sheet es n) room = cond (holds es (length room)) (numbersOf es ++ drop (length (numbersOf es)) room) room
