@@ -12,6 +12,7 @@ use Rattle.numbers.specs.declared.Limits.{Limits}
 use Rattle.numbers.specs.declared.Limits.the-variants as L
 use Rattle.elements.specs.Elements as E
 use Rattle.station.specs.Station as S
+use Rattle.sheets.specs.Sheets.{sheet, readSheet}
 use Rattle.sheets.specs.RoundTrip.{read-back}
 use Rattle.circumstances.specs.declared.Request.{Request}
 use Rattle.circumstances.specs.declared.Refusal.{Refusal}
@@ -28,15 +29,18 @@ use Rattle.circumstances.specs.LimitsLaws.{InLimits, in-limits}
 use Rattle.circumstances.specs.SheetLaws.{kept-sheet}
 use Rattle.circumstances.specs.Demand3Laws.{each-second, changes-once, ends-exact, turns-alternate}
 
--- demand 3 of the sheet of a request within its limits, whatever stands after it in the buffer
-pub demand3 : (q : Request) → InLimits q → (rest : List ℕ) → Demand3 q (sheetBytes q ++ rest)
+-- the sheet of a request within its limits is well formed, and a reader finds its entries, whatever stands after it in the buffer
+pub reads-back : (q : Request) → InLimits q → (rest : List ℕ) → readSheet (sheetBytes q ++ rest) ≡ sheet (sheetOf q) (length (sheetBytes q))
 unfolding sheetBytes
+reads-back q i rest = read-back (sheetOf q) (kept-sheet q i) rest
+
+-- demand 3 of it
+pub demand3 : (q : Request) → InLimits q → (rest : List ℕ) → Demand3 q (length (sheetBytes q)) (sheetBytes q ++ rest)
 demand3 q i rest =
     record {
       seconds = each-second q i;
       found = sheetOf q;
-      size = length (sheetBytes q);
-      read = read-back (sheetOf q) (kept-sheet q i) rest;
+      read = reads-back q i rest;
       changes = changes-once q i;
       ends = ends-exact q i;
       alternate = turns-alternate q i;

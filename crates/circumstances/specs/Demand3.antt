@@ -125,20 +125,19 @@ Alternate φ t (End ∷ es) = Alternate φ t es
 
 -- ---- the claim
 
--- of a request and the bytes written for it; the entries are those that a reader finds there
-pub record Demand3 (q : Request) (written : List ℕ) : Type 0 where
+-- of a request and the buffer in which n bytes were written for it; the entries are those that a reader finds there
+pub record Demand3 (q : Request) (n : ℕ) (buffer : List ℕ) : Type 0 where
   pub seconds : EachSecond q
   pub found : List Entry
-  pub size : ℕ
-  pub read : readSheet written ≡ sheet found size
-  pub changes : (φ : Phase) (n : ℕ) → InWindow q (secondOf n) → InWindow q (secondOf n +ℤ pos 1) → Change φ q (secondOf n) → howMany φ n found ≡ 1
+  pub read : readSheet buffer ≡ sheet found n
+  pub changes : (φ : Phase) (k : ℕ) → InWindow q (secondOf k) → InWindow q (secondOf k +ℤ pos 1) → Change φ q (secondOf k) → howMany φ k found ≡ 1
   pub ends : All (ExactEnds q) found
   pub alternate : (φ : Phase) → Alternate φ neither found
 
 -- what a caller has after a call that gave r and left these bytes: "a request within the limits that is refused for room (4) has no sheet,
 -- and there only its seconds are claimed"
 abbrev pub Claimed : Request → Answer → List ℕ → Type 0
-Claimed q (A.Written n) buffer = Demand3 q buffer
+Claimed q (A.Written n) buffer = Demand3 q n buffer
 Claimed q (A.Refused (R.Room n)) buffer = EachSecond q
 Claimed q (A.Refused R.Window) buffer = Unit
 Claimed q (A.Refused (R.Element k)) buffer = Unit
