@@ -1,8 +1,8 @@
 -- A second of a request within its limits: its numbers are within the limits that the laws ask for.
-use mathlib.Core.Path.{_≡_}
+use mathlib.Core.Path.{_≡_, sym}
 use Prim.Native.Nat.{ℕ, _≤_}
 use native.Mathlib.Omega.{arith}
-use lib.IntN.{ℤ, pos, natAbs, _+ℤ_}
+use lib.IntN.{ℤ, pos, natAbs, _+ℤ_, +ℤ-assoc}
 use lib.Signed.{_≤ℤ_}
 use Rattle.numbers.specs.Order.{natAbs-sum}
 use Rattle.sine.specs.SineLaws.{sine-size, cosine-size, sine-small}
@@ -18,6 +18,11 @@ use Rattle.geometry.specs.Ranges.{AxisRanges, StationRanges, ConeRanges}
 pub record Placed (place : Place) : Type 0 where
   pub r : natAbs (place .r) ≤ 101000000
   pub p : natAbs (place .p) ≤ 101000000
+
+-- "longitude .. east positive": a step to the east adds to H
+pub H-east : (e : Elements) (longitude step τ : ℤ) → H e (longitude +ℤ step) τ ≡ H e longitude τ +ℤ step
+unfolding H
+H-east e longitude step τ = sym (+ℤ-assoc (μAt e τ) longitude step)
 
 module _ (e : Elements) (s : Sized e) (τ : ℤ) (h : natAbs τ ≤ 10800) where
   -- the declination stays within 25.1 degrees

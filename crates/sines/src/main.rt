@@ -45,19 +45,8 @@ fn print_row(table: &[u32], angle: i64)
     requires { ⌜ (Sines (now table)) × (natAbs angle ≤ 10_000_000_000) ⌝ }
 {
     let a = sine::reduced(angle);
-    print_signed(angle);
-    io::write_all(1, b" ");
-    print_signed(sine::sine(table, a));
-    io::write_all(1, b" ");
-    print_signed(sine::cosine(table, a));
-    io::write_all(1, b"\n");
-}
-
-fn print_signed(x: i64)
-    requires { ⌜ natAbs x ≤ 10_000_000_000 ⌝ }
-{
-    if x < 0 {
-        io::write_all(1, b"-");
-    }
-    io::print_decimal(1, numbers::abs(x) as u64);
+    printing::print_signed(angle);
+    printing::print_next(sine::sine(table, a));
+    printing::print_next(sine::cosine(table, a));
+    printing::end_line();
 }

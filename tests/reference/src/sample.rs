@@ -167,3 +167,65 @@ pub fn shrink_central(request: &mut Request, second: i64, size: i64) {
         request.elements.l2[0] = constant;
     }
 }
+
+/// A request within its ranges, for which rounding matters: near the cone's edge, along it, almost standing still, at
+/// the point of the central cone; with a window about that second, mostly short.
+pub fn difficult(random: &mut Random) -> Request {
+    let manner = match random.below(4) {
+        0 => Manner::Anywhere,
+        1 | 2 => Manner::AtLimits,
+        _ => Manner::Natural,
+    };
+    let mut request = draw(random, manner);
+    let second = request.window.first;
+    let phase = [Phase::Penumbra, Phase::Central][random.below(2) as usize];
+    let sort = random.below(20);
+    match sort {
+        // As drawn.
+        0 | 1 => {}
+        // Near the edge.
+        2..=9 => put_near_edge(random, &mut request, second, phase),
+        // Near the edge and slow.
+        10..=13 => {
+            let most = [0, 10_000, 1_000_000][random.below(3) as usize];
+            let (u_rate, v_rate) = (random.within(&(-most..=most)), random.within(&(-most..=most)));
+            slow_down(&mut request, second, u_rate, v_rate);
+            put_near_edge(random, &mut request, second, phase);
+        }
+        // Slow at a pole, where the station hardly turns.
+        14 => {
+            let latitude = random.within(&(89_999_000..=90_000_000));
+            request.station.latitude = if random.once_in(2) { latitude } else { -latitude };
+            slow_down(&mut request, second, 0, 0);
+            put_near_edge(random, &mut request, second, phase);
+        }
+        // Along the edge, fast or slow.
+        15..=17 => {
+            if random.once_in(2) {
+                let most = 20_000_000;
+                let (u_rate, v_rate) = (random.within(&(-most..=most)), random.within(&(-most..=most)));
+                slow_down(&mut request, second, u_rate, v_rate);
+            }
+            let beyond = random.within(&(-40..=40));
+            put_along_edge(&mut request, second, phase, beyond);
+        }
+        // Near the point of the central cone.
+        _ => {
+            shrink_central(&mut request, second, random.within(&(-40..=40)));
+            put_near_edge(random, &mut request, second, Phase::Central);
+        }
+    }
+    let slow = matches!(sort, 10..=17);
+    let width = match random.below(4000) {
+        0 => 2 * FARTHEST,
+        1..=20 => 300,
+        21..=200 if slow => 100,
+        201..=1500 => 12,
+        _ => 2,
+    };
+    request.window = Window {
+        first: (second - random.within(&(0..=width))).max(-FARTHEST),
+        last: (second + random.within(&(0..=width))).min(FARTHEST),
+    };
+    request
+}

@@ -3,10 +3,6 @@ use borrow.Author.Needs.{needs}
 use Prim.Native.Nat.{_≤_, _-_}
 use Rattle.sines.proofs.print_all.Statement.{statement}
 use Rattle.sines.proofs.print_all.Tie as tie
-use Rattle.sines.proofs.print_all.Reads as reads
-use Rattle.sines.proofs.print_all.Lts as lts
-use Rattle.sines.proofs.angle.Reads as angle-reads
-use Rattle.sines.proofs.print_row.Reads as print-row-reads
 
 abbrev Inv-loop : tie.InvT-loop
 Inv-loop table i₀ i = i ≤ 1000

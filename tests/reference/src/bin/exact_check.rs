@@ -16,7 +16,7 @@ use reference::exact::{units, Exact, D};
 use reference::numbers::root;
 use reference::random::Random;
 use reference::request::{Circumstances, Request};
-use reference::sample::{self, Manner};
+use reference::sample;
 use reference::shadow::{Phase, Shadow, State};
 use reference::sheet::{self, Role};
 use reference::wide::Wide;
@@ -77,7 +77,7 @@ fn main() {
     let start = Instant::now();
     let mut tally = Tally::new(seed);
     while tally.seconds < wanted {
-        let request = tally.draw();
+        let request = sample::difficult(&mut tally.random);
         tally.check_request(&request);
     }
     tally.print();
@@ -109,67 +109,6 @@ impl Tally {
     }
 
     /// A request of one of the sorts named above; its window lies about the second that was arranged.
-    fn draw(&mut self) -> Request {
-        let random = &mut self.random;
-        let manner = match random.below(4) {
-            0 => Manner::Anywhere,
-            1 | 2 => Manner::AtLimits,
-            _ => Manner::Natural,
-        };
-        let mut request = sample::draw(random, manner);
-        let second = request.window.first;
-        let phase = PHASES[random.below(2) as usize];
-        let sort = random.below(20);
-        match sort {
-            // As drawn.
-            0 | 1 => {}
-            // Near the edge.
-            2..=9 => sample::put_near_edge(random, &mut request, second, phase),
-            // Near the edge and slow.
-            10..=13 => {
-                let most = [0, 10_000, 1_000_000][random.below(3) as usize];
-                let (u_rate, v_rate) = (random.within(&(-most..=most)), random.within(&(-most..=most)));
-                sample::slow_down(&mut request, second, u_rate, v_rate);
-                sample::put_near_edge(random, &mut request, second, phase);
-            }
-            // Slow at a pole, where the station hardly turns.
-            14 => {
-                let latitude = random.within(&(89_999_000..=90_000_000));
-                request.station.latitude = if random.once_in(2) { latitude } else { -latitude };
-                sample::slow_down(&mut request, second, 0, 0);
-                sample::put_near_edge(random, &mut request, second, phase);
-            }
-            // Along the edge, fast or slow.
-            15..=17 => {
-                if random.once_in(2) {
-                    let most = 20_000_000;
-                    let (u_rate, v_rate) = (random.within(&(-most..=most)), random.within(&(-most..=most)));
-                    sample::slow_down(&mut request, second, u_rate, v_rate);
-                }
-                let beyond = random.within(&(-40..=40));
-                sample::put_along_edge(&mut request, second, phase, beyond);
-            }
-            // Near the point of the central cone.
-            _ => {
-                sample::shrink_central(&mut request, second, random.within(&(-40..=40)));
-                sample::put_near_edge(random, &mut request, second, Phase::Central);
-            }
-        }
-        let slow = matches!(sort, 10..=17);
-        let width = match random.below(4000) {
-            0 => 2 * FARTHEST,
-            1..=20 => 300,
-            21..=200 if slow => 100,
-            201..=1500 => 12,
-            _ => 2,
-        };
-        request.window = Window {
-            first: (second - random.within(&(0..=width))).max(-FARTHEST),
-            last: (second + random.within(&(0..=width))).min(FARTHEST),
-        };
-        request
-    }
-
     fn check_request(&mut self, request: &Request) {
         self.requests += 1;
         self.note_limits(request);

@@ -106,13 +106,13 @@ fn sines(random: &mut Random) -> Vec<String> {
     angles.into_iter().map(line_of).collect()
 }
 
-/// Poles, equator, limits of the height, each fifth degree, and others at random.
+/// Poles, equator, limits of the height, each degree, the book's example, and others at random.
 fn places(random: &mut Random) -> Vec<String> {
     let mut stations = Vec::new();
     for latitude in [-90_000_000, -89_999_999, -45_000_000, -1, 0, 1, 45_000_000, 89_999_999, 90_000_000] {
         stations.extend([-500, -499, -1, 0, 1, 166, 8_999, 9_000].map(|height| (latitude, height)));
     }
-    stations.extend((-18..=18).map(|fifth| (5_000_000 * fifth, 0)));
+    stations.extend((-90..=90).map(|degree| (1_000_000 * degree, 0)));
     stations.push((55_755_000, 166));
     for _ in 0..200 {
         stations.push((random.within(&(-90_000_000..=90_000_000)), random.within(&(-500..=9_000))));
