@@ -65,6 +65,41 @@ fn rust_seconds(r: &Request) -> u64 {
     sum
 }
 
+/// The reference's direction, by halving, in 64 bits.
+fn halved(u: i64, v: i64) -> u64 {
+    use reference::sine_table::S;
+    let (quarters, across, along) = match (u, v) {
+        (0, 0) => return 65_535,
+        (0.., 1..) => (0, u, v),
+        (1.., ..=0) => (1, -v, u),
+        (..=0, ..=-1) => (2, -u, -v),
+        _ => (3, v, -u),
+    };
+    let (mut low, mut high) = (0, 900);
+    while low + 1 < high {
+        let k = (low + high) / 2;
+        if along * S[k] <= across * S[900 - k] {
+            low = k;
+        } else {
+            high = k;
+        }
+    }
+    900 * quarters + low as u64
+}
+
+/// As `rust_seconds`, with that direction.
+#[inline(never)]
+fn rust_halved(r: &Request) -> u64 {
+    let place = reference::place::place(r.station.latitude, r.station.height);
+    let mut sum = 0;
+    for i in 0..N {
+        let shadow = at(r, place, FIRST + i as i64);
+        sum += shadow.magnitude() as u64 + halved(shadow.u, shadow.v);
+        sum += u64::from(number(shadow.state(Phase::Penumbra))) + u64::from(number(shadow.state(Phase::Central)));
+    }
+    sum
+}
+
 fn parts(r: &Request) -> (Elements, Station) {
     let e = &r.elements;
     let mut f = Vec::new();
@@ -98,7 +133,7 @@ fn main() {
         let (e, s) = parts(&r);
         let (mut pa, mut ca) = (vec![9u8; N], vec![9u8; N]);
         let (mut pb, mut cb) = (vec![9u8; N], vec![9u8; N]);
-        let mut best = [f64::MAX; 4];
+        let mut best = [f64::MAX; 5];
         for round in 0..rounds {
             let (t0, a) = time(|| rust_states(black_box(&r), &mut pa, &mut ca));
             let (t1, b) = time(|| unsafe { rattle_states(black_box(e), s, FIRST, pb.as_mut_ptr(), N, cb.as_mut_ptr(), N) });
@@ -108,14 +143,16 @@ fn main() {
             if round % 8 == 0 {
                 let (t2, a) = time(|| rust_seconds(black_box(&r)));
                 best[2] = best[2].min(t2);
-                assert!(a == unsafe { rattle_seconds(e, s, FIRST, N) });
+                assert!(a == unsafe { rattle_seconds(e, s, FIRST, N) } && a == rust_halved(&r));
             }
             let (t3, _) = time(|| unsafe { rattle_seconds(black_box(e), s, FIRST, N) });
             best[3] = best[3].min(t3);
+            let (t4, _) = time(|| rust_halved(black_box(&r)));
+            best[4] = best[4].min(t4);
         }
         println!(
-            "{name:12} states: rust {:6.1} rattle {:6.1} ratio {:.2}   seconds: rust {:7.1} rattle {:6.1} ratio {:.2}",
-            best[0], best[1], best[1] / best[0], best[2], best[3], best[3] / best[2]
+            "{name:12} states: rust {:6.1} rattle {:6.1} ratio {:.2}   seconds: rust {:7.1} rattle {:6.1} ratio {:.2}   rust, halving: {:6.1} ratio {:.2}",
+            best[0], best[1], best[1] / best[0], best[2], best[3], best[3] / best[2], best[4], best[3] / best[4]
         );
     }
 }

@@ -24,14 +24,8 @@ use Rattle.records.specs.declared.Refusal.the-variants as R
 use Rattle.records.specs.declared.Record.{Record}
 use Rattle.records.specs.declared.Record.the-variants.{Is, Refused}
 use Rattle.records.specs.Entries.{kindFor, shapeOf, sizeOf, entryFor, size}
-use Rattle.records.specs.EntryLaws.{size-for}
+use Rattle.records.specs.EntryLaws.{size-for, size-small}
 use Rattle.records.specs.Records.{twoAt, fourAt, byteAt, fieldsAt, bodyAt, ofBody, ofKind, ofByte, recordAt}
-
-pub size-pos : (h : Shape) → 0 < sizeOf h
-size-pos Nothing = omega arith
-size-pos TwoTwo = omega arith
-size-pos TwoTwoTwo = omega arith
-size-pos TwoFour = omega arith
 
 module _ (s : List ℕ) (at : ℕ) where
   pub byte-there : at < length s → byteAt s at ≡ Byte.Is (getD s at 0)
@@ -113,7 +107,7 @@ module _ (s : List ℕ) (at : ℕ) where
           ]
 
   pub record-bounds : (e : Entry) (n : ℕ) → recordAt s at ≡ Is e n → (at < n) × (n ≤ length s)
-  record-bounds e n q = let t = record-inv e n q in (omega (arith, size-pos (shapeOf (t .kind)), t .next), t .within)
+  record-bounds e n q = let t = record-inv e n q in (omega (arith, size-small (shapeOf (t .kind)), t .next), t .within)
 
   -- the fields of that record
   pub record-fields : (e : Entry) (n : ℕ) (t : RecordThere e n)

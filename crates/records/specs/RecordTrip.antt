@@ -27,11 +27,11 @@ use Rattle.records.specs.declared.Body.the-variants as Body
 use Rattle.records.specs.declared.Progress.{Progress}
 use Rattle.records.specs.declared.Record.the-variants.{Is, Refused}
 use Rattle.records.specs.Entries.{codeOf, kinds, among, kindFor, kindOf, shapeOf, sizeOf, entryFor, field1, field2, field3, code, size, two, four, body, bytes}
-use Rattle.records.specs.EntryLaws.{kind-for, size-for, length-bytes}
+use Rattle.records.specs.EntryLaws.{kind-for, size-for, size-small, length-bytes}
 use Rattle.records.specs.Rules.{start, inWindow, isDirection, spanHolds, fieldsHold, afterOf}
-use Rattle.records.specs.RuleLaws.{distinct}
+use Rattle.records.specs.TestLaws.{distinct, both}
 use Rattle.records.specs.Records.{twoAt, fourAt, fieldsAt, recordAt}
-use Rattle.records.specs.RecordLaws.{size-pos, by-body, byte-there, body-whole, RecordThere, record-inv, record-fields}
+use Rattle.records.specs.RecordLaws.{by-body, byte-there, body-whole, RecordThere, record-inv, record-fields}
 
 -- ---- kinds
 
@@ -84,10 +84,6 @@ FitsIn e = Fits (shapeOf (kindOf e)) (field1 e) (field2 e) (field3 e)
 -- a window that its head had accepted: seconds fit two bytes
 abbrev pub Small : Progress → Type 0
 Small p = p .last < 65536
-
-both : (a b : Bool) → (a && b) ≡ true → (a ≡ true) × (b ≡ true)
-both true b e = (refl, e)
-both false b e = absurd (distinct (sym e))
 
 direction-fits : (d : ℕ) → isDirection d ≡ true → d < 65536
 direction-fits d q = by (leb d 3599) refl
@@ -191,7 +187,7 @@ trip e f p rest =
     let h = shapeOf (kindOf e) in
     let l : length s ≡ length p + (size e + length rest) = length-append p (bytes e ++ rest) ∙ ap (λ n. length p + n) (length-append (bytes e) rest ∙ ap (λ n. n + length rest) (length-bytes e)) in
     sym (by-body s (length p) (code e) (kindOf e) (Body.Is (field1 e) (field2 e) (field3 e))
-    (byte-there s (length p) (omega (arith, length-bytes e, size-pos h)) ∙ ap (λ x. Byte.Is x) (getD-append-seam p (code e) (body h (field1 e) (field2 e) (field3 e) ++ rest) 0))
+    (byte-there s (length p) (omega (arith, length-bytes e, size-small h)) ∙ ap (λ x. Byte.Is x) (getD-append-seam p (code e) (body h (field1 e) (field2 e) (field3 e) ++ rest) 0))
     (kind-code (kindOf e))
     (body-whole s (length p) h (omega arith) ∙ fields-back h (field1 e) (field2 e) (field3 e) f (code e) p rest))
     ∙ ap (λ x. Is x (length p + size e)) (entry-of e)

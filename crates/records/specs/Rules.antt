@@ -8,10 +8,9 @@ use Rattle.records.specs.declared.Family.the-variants.{Penumbra, Central
 use Rattle.records.specs.declared.Entry.{Entry}
 use Rattle.records.specs.declared.Entry.the-variants.{Head, Enter, Leave, Graze, Open, Closest, End}
 use Rattle.records.specs.declared.Progress.{Progress}
-use Rattle.records.specs.declared.Refusal.{Refusal}
 use Rattle.records.specs.declared.Refusal.the-variants as R
-use Rattle.records.specs.declared.Record.{Record}
-use Rattle.records.specs.declared.Record.the-variants.{Is, Refused}
+use Rattle.records.specs.declared.Step.{Step}
+use Rattle.records.specs.declared.Step.the-variants.{Next, Broken}
 
 -- nothing has come: the head is due
 abbrev pub start : Progress
@@ -57,6 +56,10 @@ isDirection d = leb d 3599 || eqb d 65535
 abbrev pub spanHolds : Progress → ℕ → ℕ → Bool
 spanHolds p f t = inWindow p f && inWindow p t && ltb f t
 
+-- an open: "from ≤ to, and from is the first second or to the last"
+abbrev pub openHolds : Progress → ℕ → ℕ → Bool
+openHolds p f t = inWindow p f && inWindow p t && leb f t && (eqb f (p .first) || eqb t (p .last))
+
 -- "station 1..999; first ≤ last ≤ 21,600; every second inside the window; from < to (open: from ≤ to, and from is the first second
 -- or to the last); direction 0..3599 or 65,535; magnitude ≤ 1,300,000"
 abbrev pub fieldsHold : Progress → Entry → Bool
@@ -64,7 +67,7 @@ fieldsHold p (Head s f l) = leb 1 s && leb s 999 && leb f l && leb l 21600
 fieldsHold p (Enter m f t d) = spanHolds p f t && isDirection d
 fieldsHold p (Leave m f t d) = spanHolds p f t && isDirection d
 fieldsHold p (Graze m f t) = spanHolds p f t
-fieldsHold p (Open m f t) = inWindow p f && inWindow p t && leb f t && (eqb f (p .first) || eqb t (p .last))
+fieldsHold p (Open m f t) = openHolds p f t
 fieldsHold p (Closest s m) = inWindow p s && leb m 1300000
 fieldsHold p End = true
 
@@ -86,9 +89,10 @@ afterOf p (Open m f t) = gone p m t (turnKept p m)
 afterOf p (Closest s m) = record { due = 4; first = p .first; last = p .last; until = 0; turn = 0 }
 afterOf p End = record { due = 5; first = p .first; last = p .last; until = 0; turn = 0 }
 
--- "in it 5, 6, 8, 7": what was read or handed over at a place is judged by order and then by its fields.
--- `plain` is what else is asked of the numbers of a field; a record's bytes are always plain.
-abbrev pub judged : Progress → ℕ → Bool → Record → Record
-judged p at plain (Refused r) = Refused r
-judged p at plain (Is e next) =
-    cond (inOrder p e) (cond (plain && fieldsHold p e) (Is e next) (Refused (R.Field at))) (Refused (R.Order at))
+-- "in it .. 8, 7": the answer to both tests, of an entry whose record stands at `at`
+abbrev pub verdictOn : ℕ → Bool → Bool → Progress → Step
+verdictOn at ordered sound next = cond ordered (cond sound (Next next) (Broken (R.Field at))) (Broken (R.Order at))
+
+-- what the rules say of an entry. `plain` is what else is asked of its fields; a record's bytes are always plain
+unfoldable pub stepOf : Progress → ℕ → Bool → Entry → Step
+stepOf p at plain e = verdictOn at (inOrder p e) (plain && fieldsHold p e) (afterOf p e)

@@ -1,14 +1,14 @@
-// A sheet as bytes: records of a byte of kind and a body, read and written by the rules of document 01.
-// An entry handed over, or stored for a reader, is four numbers: the kind, then the kind's fields in their order, 0 for what it does not use.
+// One record of a sheet: the table of kinds, the rules of order and of fields, and the bytes, as document 01 has them.
+// A sheet of records is the crate `sheets`.
 ghost use mathlib.Core.Path.{_≡_};
-ghost use mathlib.Core.Bool.{Bool, true};
-ghost use Prim.Native.Nat.{ℕ, _+_, _*_, _≤_, _<_};
-ghost use lib.ListN.{length, getD};
+ghost use mathlib.Core.Bool.{_&&_};
+ghost use Prim.Native.Nat.{_+_, _≤_, _<_};
+ghost use lib.ListN.{length};
 ghost use lib.Seq.{sets};
-ghost use Rattle.records.specs.Entries.{baseOf, kindFor, shapeOf, sizeOf, entryFor, partsFor, isEnd, size, numbers, two, four, bytes};
+ghost use Rattle.records.specs.Entries.{baseOf, kindFor, shapeOf, sizeOf, entryFor, partsFor, isEnd, size, two, four, bytes};
 ghost use Rattle.records.specs.Refusals.{numberOf, placeOf};
 ghost use Rattle.records.specs.Records.{twoAt, fourAt, byteAt, bodyAt, recordAt};
-ghost use Rattle.records.specs.Rules.{placeIn, start, mayCome, familyInOrder, inOrder, inWindow, isDirection, spanHolds, fieldsHold, gone, turnKept, afterOf, judged};
+ghost use Rattle.records.specs.Rules.{placeIn, start, mayCome, familyInOrder, inWindow, isDirection, spanHolds, openHolds, gone, turnKept, verdictOn, stepOf};
 
 // The shadow whose contacts an entry tells.
 pub enum Family {
@@ -59,7 +59,8 @@ pub enum Entry {
     End,
 }
 
-// A row of the table of kinds.
+// A row of the table of kinds. A new kind is a row here, in `kinds`, `codeOf`, `shapeOf`, `entryFor`, `kindOf` and the fields,
+// and in the rules; a new family of enter, leave, graze and open is a row of `Family`, `baseOf` and `placeIn`.
 pub enum Kind {
     Head,
     Enter(Family),
@@ -120,6 +121,12 @@ pub enum Refusal {
 pub enum Record {
     Is(Entry, usize),
     Refused(Refusal),
+}
+
+// What the rules say of an entry: how far the sheet has come after it, or the refusal.
+pub enum Step {
+    Next(Progress),
+    Broken(Refusal),
 }
 
 // The byte at a place.
@@ -232,7 +239,7 @@ pub fn entry_for(kind: Kind, a: u32, b: u32, c: u32) -> Entry
     }
 }
 
-// The numbers of an entry.
+// The numbers of an entry, and its body's shape.
 pub fn parts_for(entry: Entry) -> Parts
     ensures { λ r. ⌜ r ≡ partsFor entry ⌝ }
 {
@@ -328,6 +335,15 @@ pub fn parts_for(entry: Entry) -> Parts
     }
 }
 
+// How many bytes an entry's record has.
+pub fn entry_size(entry: Entry) -> usize
+    ensures { λ r. ⌜ (r ≡ size entry) × (r ≤ 7) ⌝ }
+{
+    let parts = parts_for(entry);
+    let shape = parts.shape;
+    size_of(shape)
+}
+
 pub fn is_end(entry: Entry) -> bool
     ensures { λ r. ⌜ r ≡ isEnd entry ⌝ }
 {
@@ -411,45 +427,6 @@ fn family_in_order(p: Progress, family: Family, turn: u32, from: u32) -> bool
     may & (fresh | (later & !repeated))
 }
 
-fn in_order(p: Progress, entry: Entry) -> bool
-    ensures { λ r. ⌜ r ≡ inOrder p entry ⌝ }
-{
-    match entry {
-        Entry::Head {
-            station: _,
-            first: _,
-            last: _,
-        } => may_come(p.due, 0),
-        Entry::Enter {
-            family,
-            from,
-            to: _,
-            direction: _,
-        } => family_in_order(p, family, 1, from),
-        Entry::Leave {
-            family,
-            from,
-            to: _,
-            direction: _,
-        } => family_in_order(p, family, 2, from),
-        Entry::Graze {
-            family,
-            from,
-            to: _,
-        } => family_in_order(p, family, 0, from),
-        Entry::Open {
-            family,
-            from,
-            to: _,
-        } => family_in_order(p, family, 0, from),
-        Entry::Closest {
-            second: _,
-            magnitude: _,
-        } => may_come(p.due, 3),
-        Entry::End => may_come(p.due, 4),
-    }
-}
-
 fn in_window(p: Progress, x: u32) -> bool
     ensures { λ r. ⌜ r ≡ inWindow p x ⌝ }
 {
@@ -466,45 +443,6 @@ fn is_direction(d: u32) -> bool
     ensures { λ r. ⌜ r ≡ isDirection d ⌝ }
 {
     (d <= 3599) | (d == 65535)
-}
-
-fn fields_hold(p: Progress, entry: Entry) -> bool
-    ensures { λ r. ⌜ r ≡ fieldsHold p entry ⌝ }
-{
-    match entry {
-        Entry::Head {
-            station,
-            first,
-            last,
-        } => (1 <= station) & (station <= 999) & (first <= last) & (last <= 21600),
-        Entry::Enter {
-            family: _,
-            from,
-            to,
-            direction,
-        } => span_holds(p, from, to) & is_direction(direction),
-        Entry::Leave {
-            family: _,
-            from,
-            to,
-            direction,
-        } => span_holds(p, from, to) & is_direction(direction),
-        Entry::Graze {
-            family: _,
-            from,
-            to,
-        } => span_holds(p, from, to),
-        Entry::Open {
-            family: _,
-            from,
-            to,
-        } => {
-            let at_end = (from == p.first) | (to == p.last);
-            in_window(p, from) & in_window(p, to) & (from <= to) & at_end
-        }
-        Entry::Closest { second, magnitude } => in_window(p, second) & (magnitude <= 1300000),
-        Entry::End => true,
-    }
 }
 
 // A family's entry came, with that `to` and that turn.
@@ -529,80 +467,121 @@ fn turn_kept(p: Progress, family: Family) -> u32
     if place == p.due { p.turn } else { 0 }
 }
 
-// How far the sheet has come after an entry.
-pub fn after(p: Progress, entry: Entry) -> Progress
-    ensures { λ r. ⌜ r ≡ afterOf p entry ⌝ }
+// The answer to both tests, order (8) before fields (7).
+fn verdict(at: usize, ordered: bool, sound: bool, next: Progress) -> Step
+    ensures { λ r. ⌜ r ≡ verdictOn at ordered sound next ⌝ }
+{
+    if !ordered {
+        return Step::Broken(Refusal::Order(at));
+    }
+    if !sound {
+        return Step::Broken(Refusal::Field(at));
+    }
+    Step::Next(next)
+}
+
+// An entry of a family that has a turn (1 enter, 2 leave).
+fn turn_step(
+    p: Progress,
+    at: usize,
+    plain: bool,
+    family: Family,
+    turn: u32,
+    from: u32,
+    to: u32,
+    direction: u32,
+) -> Step
+    ensures { λ r. ⌜ r ≡ verdictOn at (familyInOrder p family turn from) (plain && (spanHolds p from to && isDirection direction)) (gone p family to turn) ⌝ }
+{
+    let ordered = family_in_order(p, family, turn, from);
+    let sound = span_holds(p, from, to) & is_direction(direction);
+    let next = passed(p, family, to, turn);
+    verdict(at, ordered, plain & sound, next)
+}
+
+// An entry of a family that is passed over, a graze or an open; `sound` says of its fields.
+fn spell_step(p: Progress, at: usize, sound: bool, family: Family, from: u32, to: u32) -> Step
+    ensures { λ r. ⌜ r ≡ verdictOn at (familyInOrder p family 0 from) sound (gone p family to (turnKept p family)) ⌝ }
+{
+    let ordered = family_in_order(p, family, 0, from);
+    let turn = turn_kept(p, family);
+    let next = passed(p, family, to, turn);
+    verdict(at, ordered, sound, next)
+}
+
+fn open_holds(p: Progress, from: u32, to: u32) -> bool
+    ensures { λ r. ⌜ r ≡ openHolds p from to ⌝ }
+{
+    let at_end = (from == p.first) | (to == p.last);
+    in_window(p, from) & in_window(p, to) & (from <= to) & at_end
+}
+
+// How far the sheet has come after an entry whose record stands at `at`, or the rule that it breaks.
+// `plain` is what else is asked of its fields.
+pub fn step_by(p: Progress, at: usize, plain: bool, entry: Entry) -> Step
+    ensures { λ r. ⌜ r ≡ stepOf p at plain entry ⌝ }
 {
     match entry {
         Entry::Head {
-            station: _,
+            station,
             first,
             last,
-        } => Progress {
-            due: 1,
-            first,
-            last,
-            until: 0,
-            turn: 0,
-        },
+        } => {
+            let ordered = may_come(p.due, 0);
+            let sound = (1 <= station) & (station <= 999) & (first <= last) & (last <= 21600);
+            let next = Progress {
+                due: 1,
+                first,
+                last,
+                until: 0,
+                turn: 0,
+            };
+            verdict(at, ordered, plain & sound, next)
+        }
         Entry::Enter {
             family,
-            from: _,
+            from,
             to,
-            direction: _,
-        } => passed(p, family, to, 1),
+            direction,
+        } => turn_step(p, at, plain, family, 1, from, to, direction),
         Entry::Leave {
             family,
-            from: _,
+            from,
             to,
-            direction: _,
-        } => passed(p, family, to, 2),
-        Entry::Graze {
-            family,
-            from: _,
-            to,
-        } => passed(p, family, to, turn_kept(p, family)),
-        Entry::Open {
-            family,
-            from: _,
-            to,
-        } => passed(p, family, to, turn_kept(p, family)),
-        Entry::Closest {
-            second: _,
-            magnitude: _,
-        } => Progress {
-            due: 4,
-            first: p.first,
-            last: p.last,
-            until: 0,
-            turn: 0,
-        },
-        Entry::End => Progress {
-            due: 5,
-            first: p.first,
-            last: p.last,
-            until: 0,
-            turn: 0,
-        },
+            direction,
+        } => turn_step(p, at, plain, family, 2, from, to, direction),
+        Entry::Graze { family, from, to } => {
+            let sound = span_holds(p, from, to);
+            spell_step(p, at, plain & sound, family, from, to)
+        }
+        Entry::Open { family, from, to } => {
+            let sound = open_holds(p, from, to);
+            spell_step(p, at, plain & sound, family, from, to)
+        }
+        Entry::Closest { second, magnitude } => {
+            let ordered = may_come(p.due, 3);
+            let sound = in_window(p, second) & (magnitude <= 1300000);
+            let next = Progress {
+                due: 4,
+                first: p.first,
+                last: p.last,
+                until: 0,
+                turn: 0,
+            };
+            verdict(at, ordered, plain & sound, next)
+        }
+        Entry::End => {
+            let ordered = may_come(p.due, 4);
+            let next = Progress {
+                due: 5,
+                first: p.first,
+                last: p.last,
+                until: 0,
+                turn: 0,
+            };
+            verdict(at, ordered, plain, next)
+        }
     }
-}
-
-// What was read or handed over at a place, judged by order (8) and then by its fields (7).
-pub fn judge(p: Progress, at: usize, plain: bool, got: Record) -> Record
-    ensures { λ r. ⌜ r ≡ judged p at plain got ⌝ }
-{
-    let Record::Is(entry, _) = got else {
-        return got;
-    };
-    let ordered = in_order(p, entry);
-    if !ordered {
-        return Record::Refused(Refusal::Order(at));
-    }
-    let sound = plain & fields_hold(p, entry);
-    if !sound {
-        return Record::Refused(Refusal::Field(at));
-    }
-    got
 }
 
 // ---- one record of a sheet
@@ -690,7 +669,8 @@ pub fn record_at(s: &[u8], at: usize) -> Record
     };
     let size = size_of(shape);
     let entry = entry_for(kind, a, b, c);
-    Record::Is(entry, at + size)
+    let next = at + size;
+    Record::Is(entry, next)
 }
 
 // ---- bytes
@@ -716,6 +696,7 @@ fn put_four(buf: &mut [u8], at: usize, v: u32)
 }
 
 // An entry's record at `at`, where there is room for it; the place after it.
+// It is for crates that write a sheet of their own, and has a `requires`, so it is none of the public promises.
 pub fn put(buf: &mut [u8], at: usize, entry: Entry) -> usize
     requires { ⌜ at + size entry ≤ length (now buf) ⌝ }
     ensures { λ r. ⌜ (r ≡ at + size entry) × (now (buf .exit) ≡ sets (now (buf .entry)) at (bytes entry)) ⌝ }

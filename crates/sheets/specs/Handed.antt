@@ -17,8 +17,8 @@ use Rattle.records.specs.declared.Record.the-variants.{Is, Refused}
 use Rattle.sheets.specs.declared.Extent.{Extent}
 use Rattle.sheets.specs.declared.Extent.the-variants as X
 use Rattle.records.specs.Entries.{kindFor, shapeOf, sizeOf, entryFor, field1, field2, field3, bytesOf}
-use Rattle.records.specs.Rules.{start, judged}
-use Rattle.sheets.specs.Sheets.{Sheet, sheet, refused, walk, alone}
+use Rattle.records.specs.Rules.{start}
+use Rattle.sheets.specs.Sheets.{Sheet, sheet, refused, walk, judged, alone}
 
 -- the i-th four numbers of a list; the last one to three are an entry cut short
 unfoldable pub fourAt : List ℕ → ℕ → Four

@@ -17,21 +17,19 @@ use Rattle.sheets.specs.declared.Four.the-variants as Four
 use Rattle.records.specs.declared.Progress.{Progress}
 use Rattle.records.specs.declared.Refusal.{Refusal}
 use Rattle.records.specs.declared.Refusal.the-variants as R
+use Rattle.records.specs.declared.Step.the-variants.{Next, Broken}
 use Rattle.sheets.specs.declared.Extent.{Extent}
 use Rattle.sheets.specs.declared.Extent.the-variants as X
 use Rattle.records.specs.declared.Record.{Record}
 use Rattle.records.specs.declared.Record.the-variants.{Is, Refused}
 use Rattle.records.specs.Entries.{kindFor, shapeOf, sizeOf, entryFor, size, bytesOf, field1, field2, field3}
 use Rattle.records.specs.EntryLaws.{size-for, size-small}
-use Rattle.records.specs.RuleLaws.{distinct, judged-inv, judged-is}
-use Rattle.records.specs.Rules.{start, inOrder, fieldsHold, judged}
-use Rattle.sheets.specs.Sheets.{sheet, walk, extentOf, extent}
-use Rattle.sheets.specs.SheetLaws.{extent-start, Steady, walk-length, aloneX, alone-extent, alone-same, extent-inv}
+use Rattle.records.specs.TestLaws.{both}
+use Rattle.records.specs.Rules.{start, inOrder, fieldsHold, afterOf, stepOf}
+use Rattle.sheets.specs.Sheets.{sheet, walk, judged, extentOf}
+use Rattle.sheets.specs.Passes.{extent}
+use Rattle.sheets.specs.SheetLaws.{judged-inv, judged-is, judged-broken, step-next, extent-start, Steady, walk-length, walk-enough, aloneX, alone-extent, alone-same, extent-inv}
 use Rattle.sheets.specs.Handed.{fourAt, ofNumbers, ofFour, entryAt, plainAt, plainIn, handed, listSheet, listWhole}
-
-both : (a b : Bool) → (a && b) ≡ true → (a ≡ true) × (b ≡ true)
-both true b e = (refl, e)
-both false b e = absurd (distinct (sym e))
 
 module _ (l : List ℕ) (i : ℕ) where
   pub four-there : i * 4 + 4 ≤ length l
@@ -108,10 +106,17 @@ module _ (l : List ℕ) (p : Progress) (i at : ℕ) where
   unfolding handed
   handed-refused r q = rw q
 
-  pub handed-by : (x : Record) (e : Entry) (n : ℕ) (b : Bool) → entryAt l i at ≡ Is e n → b ≡ plainAt l i e → x ≡ judged p at b (Is e n)
-      → x ≡ handed l p i at
+  pub handed-broken : (e : Entry) (n : ℕ) (b : Bool) (r : Refusal) → entryAt l i at ≡ Is e n → b ≡ plainAt l i e → stepOf p at b e ≡ Broken r
+      → handed l p i at ≡ Refused r
   unfolding handed
-  handed-by x e n b q v t = t ∙ rw (q, v)
+  handed-broken e n b r q v t = rw (q, ← v) (judged-broken p at b e n r t)
+
+  pub handed-next : (e : Entry) (n : ℕ) (b : Bool) (further : Progress) → entryAt l i at ≡ Is e n → b ≡ plainAt l i e → stepOf p at b e ≡ Next further
+      → (handed l p i at ≡ Is e n) × (further ≡ afterOf p e)
+  unfolding handed
+  handed-next e n b further q v t =
+      let x = step-next p at b e further t in
+      (rw (q, ← v) (judged-is p at b e n (x .0) (x .1)), x .2)
 
   pub handed-inv : (e : Entry) (n : ℕ) → handed l p i at ≡ Is e n
       → (entryAt l i at ≡ Is e n) × (inOrder p e ≡ true) × (fieldsHold p e ≡ true) × (plainAt l i e ≡ true)
@@ -157,3 +162,11 @@ list-same l k n q =
 pub list-length : (l : List ℕ) (es : List Entry) (n : ℕ) → listSheet l ≡ sheet es n → n ≡ length (bytesOf es)
 list-length l es n q =
     walk-length (handed l) (handed-steady l) (suc (length l - 0)) start 0 0 es n (sym (list-start l) ∙ q) ∙ omega arith
+
+-- the fuel of `listSheet` is never used up
+pub list-enough : (l : List ℕ) (fuel : ℕ) → length l ≤ fuel → walk (handed l) (suc fuel) start 0 0 ≡ listSheet l
+unfolding listSheet
+list-enough l fuel h =
+    walk-enough (handed l) (λ i at. length l - i)
+    (λ p i at e n q. let b = entry-bounds l i at e n (handed-inv l p i at e n q .0) in omega arith)
+    fuel (length l) start 0 0 (omega arith) (omega arith)

@@ -1,8 +1,10 @@
 pub mod Sheets
-pub mod SheetLaws
 pub mod Handed
-pub mod HandedLaws
-pub mod Passes
 pub mod WellFormed
-pub mod Trips
 pub mod RoundTrip
+pub mod HandWorked
+pub mod Passes
+pub mod SheetLaws
+pub mod HandedLaws
+pub mod WellFormedLaws
+pub mod TripLaws

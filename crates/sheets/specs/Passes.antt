@@ -1,8 +1,16 @@
--- What the second pass of a reader, and of a writer, leaves. Callers go by `roomAfter` and `bufferAfter`.
+-- What the parts of a reader, and of a writer, answer each other. Callers go by `extentOf`, `roomAfter` and `bufferAfter`.
+-- Assumes nothing: these are definitions.
 use Prim.Native.Nat.{ℕ, _+_, _*_, _≤_}
 use mathlib.Core.List.{List}
 use lib.ListN.{length}
 use lib.Seq.{sets}
+use Rattle.records.specs.declared.Refusal.the-variants as R
+use Rattle.records.specs.declared.Record.{Record}
+use Rattle.records.specs.declared.Record.the-variants.{Is, Refused}
+use Rattle.records.specs.declared.Step.{Step}
+use Rattle.records.specs.declared.Step.the-variants.{Next, Broken}
+use Rattle.sheets.specs.declared.Extent.{Extent}
+use Rattle.sheets.specs.declared.Extent.the-variants as X
 use Rattle.records.specs.Entries.{numbersOf, bytesOf}
 use Rattle.sheets.specs.Sheets.{Sheet, sheet, refused}
 
@@ -23,3 +31,18 @@ BufferFor (sheet es n) k = n ≤ k
 abbrev pub emitted : Sheet → List ℕ → List ℕ
 emitted (refused r) buf = buf
 emitted (sheet es n) buf = sets buf 0 (bytesOf es)
+
+-- how many entries and bytes, after k entries
+abbrev pub extent : ℕ → Sheet → Extent
+extent k (sheet es n) = X.Sheet (k + length es) n
+extent k (refused r) = X.Refused r
+
+-- a record's refusal, passed on
+abbrev pub refusedOf : Record → Extent
+refusedOf (Refused r) = X.Refused r
+refusedOf (Is e n) = X.Refused (R.Cut n)
+
+-- a broken rule's refusal, passed on
+abbrev pub brokenOf : Step → Extent
+brokenOf (Broken r) = X.Refused r
+brokenOf (Next p) = X.Refused (R.Order 0)

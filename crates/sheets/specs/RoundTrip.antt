@@ -2,30 +2,32 @@
 --   written-then-read    entries that are accepted, written and read back are the same entries, number for number;
 --   read-then-written    a sheet that reads well is written back to the same bytes;
 --   accepted-is-written  the reader accepts exactly what the writer writes for some entries;
---   read-back            the bytes of well-formed entries are read back, whatever stands after them.
+--   read-back            the bytes of well-formed entries are read back, whatever stands after them;
+--   through-buffer, through-room   the first two of the buffers and rooms that the functions leave.
 -- The writer leaves `bytesOf es` at the buffer's start (`bufferAfter`), the reader `numbersOf es` at the room's (`roomAfter`).
-use Prim.Native.Nat.{ℕ, zero, suc, _+_, _-_, _*_, _≤_, _<_}
+use Prim.Native.Nat.{ℕ, zero, suc, _+_, _-_, _*_, _/_, _≤_, _<_}
 use mathlib.Core.Path.{_≡_, refl, sym, ap, _∙_}
 use mathlib.Core.List.{List, [], _∷_, _++_, append-nil}
 use mathlib.Core.Logic.{_↔_}
 use mathlib.Core.Bool.{Bool, true, false, cond}
 use native.Mathlib.Omega.{arith}
 use native.Mathlib.Nat.{zero-add}
-use borrow.Author.Tests.{le-ltb, ltb-false}
+use borrow.Author.Tests.{le-ltb, le-leb, ltb-false}
 use lib.Dec.{ltb}
-use lib.ListN.{length, drop, length-append, drop-of-length-le}
+use lib.Seq.{take-at}
+use lib.ListN.{length, take, drop, length-append, drop-of-length-le}
 use Rattle.records.specs.declared.Entry.{Entry}
 use Rattle.records.specs.declared.Refusal.the-variants as R
 use Rattle.records.specs.Entries.{kindOf, shapeOf, size, bytes, bytesOf, numbersOf}
 use Rattle.records.specs.EntryLaws.{bytes-nil, length-bytes-cons, length-numbers, size-small}
 use Rattle.records.specs.Rules.{start}
 use Rattle.records.specs.RecordTrip.{Bytes, start-small}
-use Rattle.sheets.specs.Sheets.{Sheet, sheet, refused, walk, stored, alone, readSheet, readWhole}
+use Rattle.sheets.specs.Sheets.{Sheet, sheet, refused, walk, stored, alone, readSheet, readWhole, roomAfter}
 use Rattle.sheets.specs.SheetLaws.{read-start, walk-length, stored-steady, alone-same}
-use Rattle.sheets.specs.Handed.{handed, listSheet, listWhole}
+use Rattle.sheets.specs.Handed.{handed, listSheet, listWhole, bufferAfter}
 use Rattle.sheets.specs.HandedLaws.{list-start, list-length}
 use Rattle.sheets.specs.WellFormed.{WellFormed}
-use Rattle.sheets.specs.Trips.{read-from, read-inv, list-from, list-inv}
+use Rattle.sheets.specs.TripLaws.{read-from, read-inv, list-from, list-inv}
 
 -- the reader accepts some bytes as a sheet
 abbrev pub Reads : List ℕ → Type 0
@@ -134,3 +136,33 @@ accepted-is-written s b = (
   (λ r. let t = read-then-written s b (r .0) (r .1) (r .2) in (numbersOf (r .0), r .0, r .1, t .0, sym (t .1))),
   (λ w. let t = written-then-read (w .0) (w .1) (w .2) (w .3) in (w .1, w .2, ap readWhole (w .4) ∙ t .0)),
 )
+
+-- ---- the same of the buffer and the room that the functions leave
+
+-- entries written into a buffer and read from it into a room: the room's first numbers are the entries handed over, and the others are as they were
+pub through-buffer : (l buf room : List ℕ) (es : List Entry) (n : ℕ) → listWhole l ≡ sheet es n → n ≤ length buf → length es ≤ length room / 4
+    → roomAfter (readWhole (take n (bufferAfter (listWhole l) buf))) room ≡ l ++ drop (length l) room
+through-buffer l buf room es n q h k =
+    let v = list-well l es n q in
+    let t = written-then-read l es n q in
+    let b : bufferAfter (listWhole l) buf ≡ bytesOf es ++ drop n buf =
+    ap (λ w. bufferAfter w buf) q ∙ ap (λ b. cond b (bytesOf es ++ drop n buf) buf) (le-leb n (length buf) h) in
+    let s : take n (bufferAfter (listWhole l) buf) ≡ bytesOf es = ap (take n) b ∙ take-at (bytesOf es) (drop n buf) n (sym (v .2)) in
+    ap (λ x. roomAfter (readWhole x) room) s ∙ ap (λ w. roomAfter w room) (t .0)
+    ∙ ap (λ b. cond b (numbersOf es ++ drop (length (numbersOf es)) room) room) (le-leb (length es) (length room / 4) k)
+    ∙ ap (λ x. x ++ drop (length x) room) (t .1)
+
+-- a sheet read into a room and written from it into a buffer: the buffer's first bytes are the sheet, and the others are as they were
+pub through-room : (s room buf : List ℕ) → Bytes s → (es : List Entry) (n : ℕ) → readWhole s ≡ sheet es n → length es ≤ length room / 4 → n ≤ length buf
+    → bufferAfter (listWhole (take (length es * 4) (roomAfter (readWhole s) room))) buf ≡ s ++ drop (length s) buf
+through-room s room buf b es n q k h =
+    let t = read-then-written s b es n q in
+    let r : roomAfter (readWhole s) room ≡ numbersOf es ++ drop (length (numbersOf es)) room =
+    ap (λ w. roomAfter w room) q
+    ∙ ap (λ b. cond b (numbersOf es ++ drop (length (numbersOf es)) room) room) (le-leb (length es) (length room / 4) k) in
+    let l : take (length es * 4) (roomAfter (readWhole s) room) ≡ numbersOf es =
+    ap (take (length es * 4)) r ∙ take-at (numbersOf es) (drop (length (numbersOf es)) room) (length es * 4) (length-numbers es) in
+    let m : n ≡ length s = reads-length s es n (whole-inv s es n q .0) ∙ ap length (t .1) in
+    ap (λ x. bufferAfter (listWhole x) buf) l ∙ ap (λ w. bufferAfter w buf) (t .0)
+    ∙ ap (λ b. cond b (bytesOf es ++ drop n buf) buf) (le-leb n (length buf) h)
+    ∙ ap (λ x. x ++ drop n buf) (t .1) ∙ ap (λ k. s ++ drop k buf) m

@@ -13,15 +13,56 @@ use Rattle.records.specs.declared.Refusal.{Refusal}
 use Rattle.records.specs.declared.Refusal.the-variants as R
 use Rattle.records.specs.declared.Record.{Record}
 use Rattle.records.specs.declared.Record.the-variants.{Is, Refused}
+use Rattle.records.specs.declared.Step.{Step}
+use Rattle.records.specs.declared.Step.the-variants.{Next, Broken}
 use Rattle.sheets.specs.declared.Extent.{Extent}
 use Rattle.sheets.specs.declared.Extent.the-variants as X
 use Rattle.records.specs.Entries.{isEnd, size, bytesOf}
 use Rattle.records.specs.EntryLaws.{bytes-nil, length-bytes-cons}
-use Rattle.records.specs.Rules.{start, inOrder, fieldsHold, afterOf, judged}
-use Rattle.records.specs.RuleLaws.{distinct, judged-inv, judged-is}
+use Rattle.records.specs.Rules.{start, inOrder, fieldsHold, afterOf, verdictOn, stepOf}
+use Rattle.records.specs.TestLaws.{distinct}
 use Rattle.records.specs.Records.{recordAt}
 use Rattle.records.specs.RecordLaws.{record-bounds, record-size}
-use Rattle.sheets.specs.Sheets.{Sheet, sheet, refused, more, onward, walk, alone, stored, readSheet, readWhole, extentOf, extent, refusedOf}
+use Rattle.sheets.specs.Sheets.{Sheet, sheet, refused, more, onward, walk, alone, stored, readSheet, readWhole, extentOf, ofStep, judged}
+use Rattle.sheets.specs.Passes.{extent, refusedOf}
+
+-- what the rules say of an entry, taken apart
+module _ (p : Progress) (at : ℕ) (plain : Bool) (e : Entry) where
+  pub step-is : inOrder p e ≡ true → (plain && fieldsHold p e) ≡ true → stepOf p at plain e ≡ Next (afterOf p e)
+  unfolding stepOf
+  step-is o f = rw (o, f)
+
+  pub step-next : (q : Progress) → stepOf p at plain e ≡ Next q → (inOrder p e ≡ true) × ((plain && fieldsHold p e) ≡ true) × (q ≡ afterOf p e)
+  unfolding stepOf
+  step-next q t = by (inOrder p e) (plain && fieldsHold p e) t
+    where
+      by : (o f : Bool) → verdictOn at o f (afterOf p e) ≡ Next q → (o ≡ true) × (f ≡ true) × (q ≡ afterOf p e)
+      by true true t = (refl, refl, cc)
+      by true false t = let z : _≡_ {A = ℕ} 0 1 = cc in absurd (omega arith)
+      by false f t = let z : _≡_ {A = ℕ} 0 1 = cc in absurd (omega arith)
+
+  pub judged-broken : (n : ℕ) (r : Refusal) → stepOf p at plain e ≡ Broken r → judged p at plain (Is e n) ≡ Refused r
+  judged-broken n r q = ap (ofStep e n) q
+
+  pub judged-is : (n : ℕ) → inOrder p e ≡ true → (plain && fieldsHold p e) ≡ true → judged p at plain (Is e n) ≡ Is e n
+  judged-is n o f = ap (ofStep e n) (step-is o f)
+
+-- what was accepted kept the order, and its fields their rules
+pub judged-inv : (p : Progress) (at : ℕ) (plain : Bool) (r : Record) (e : Entry) (n : ℕ) → judged p at plain r ≡ Is e n
+    → (r ≡ Is e n) × (inOrder p e ≡ true) × ((plain && fieldsHold p e) ≡ true)
+judged-inv p at plain (Refused r) e n q = let z : _≡_ {A = ℕ} 0 1 = cc in absurd (omega arith)
+judged-inv p at plain (Is f m) e n q = by (stepOf p at plain f) refl
+  where
+    by : (x : Step) → stepOf p at plain f ≡ x → (Is f m ≡ Is e n) × (inOrder p e ≡ true) × ((plain && fieldsHold p e) ≡ true)
+    by (Broken r) t =
+        let w : Refused r ≡ Is e n = sym (ap (ofStep f m) t) ∙ q in
+        let z : _≡_ {A = ℕ} 0 1 = cc in
+        absurd (omega arith)
+    by (Next x) t =
+        let w : Is f m ≡ Is e n = sym (ap (ofStep f m) t) ∙ q in
+        let v : f ≡ e = cc in
+        let k = step-next p at plain f x t in
+        (w, ap (inOrder p) (sym v) ∙ k .0, ap (λ y. plain && fieldsHold p y) (sym v) ∙ k .1)
 
 module _ (source : Progress → ℕ → ℕ → Record) (fuel : ℕ) (p : Progress) (i at : ℕ) where
   pub walk-by : (r : Record) → source p i at ≡ r → walk source (suc fuel) p i at ≡ onward r (λ e next. walk source fuel (afterOf p e) (i + 1) next)
@@ -46,9 +87,20 @@ walk-turn source len p i at e n q b h =
     walk-more source (len - i) p i at e n q b ∙ ap (λ k. more e (walk source k (afterOf p e) (i + 1) n)) f
 
 module _ (s : List ℕ) (p : Progress) (i at : ℕ) where
-  pub stored-by : (r x : Record) → r ≡ recordAt s at → x ≡ judged p at true r → stored s p i at ≡ x
+  pub stored-refused : (r : Refusal) → recordAt s at ≡ Refused r → stored s p i at ≡ Refused r
   unfolding stored
-  stored-by r x q t = rw (← q) (sym t)
+  stored-refused r q = rw q
+
+  pub stored-broken : (e : Entry) (n : ℕ) (r : Refusal) → recordAt s at ≡ Is e n → stepOf p at true e ≡ Broken r → stored s p i at ≡ Refused r
+  unfolding stored
+  stored-broken e n r q t = rw q (judged-broken p at true e n r t)
+
+  pub stored-next : (e : Entry) (n : ℕ) (further : Progress) → recordAt s at ≡ Is e n → stepOf p at true e ≡ Next further
+      → (stored s p i at ≡ Is e n) × (further ≡ afterOf p e)
+  unfolding stored
+  stored-next e n further q t =
+      let x = step-next p at true e further t in
+      (rw q (judged-is p at true e n (x .0) (x .1)), x .2)
 
   pub stored-inv : (e : Entry) (n : ℕ) → stored s p i at ≡ Is e n → (recordAt s at ≡ Is e n) × (inOrder p e ≡ true) × (fieldsHold p e ≡ true)
   unfolding stored
@@ -196,3 +248,37 @@ unfolding readWhole
 whole-same s k n q =
     let x = extent-inv (readWhole s) k n q in
     x .1 ∙ sym (alone-same (λ k n. ltb n (length s)) (readSheet s) (x .0) n (x .1))
+
+-- ---- the fuel of `readSheet` is never used up: more of it changes nothing
+
+-- a source along which something falls with each record
+abbrev pub Falls : (Progress → ℕ → ℕ → Record) → (ℕ → ℕ → ℕ) → Type 0
+Falls source left = (p : Progress) (i at : ℕ) (e : Entry) (n : ℕ) → source p i at ≡ Is e n → left (i + 1) n < left i at
+
+-- two walks are the same where they are after the first record
+walk-same : (source : Progress → ℕ → ℕ → Record) (a b : ℕ) (p : Progress) (i at : ℕ)
+    → ((e : Entry) (n : ℕ) → source p i at ≡ Is e n → walk source a (afterOf p e) (i + 1) n ≡ walk source b (afterOf p e) (i + 1) n)
+    → walk source (suc a) p i at ≡ walk source (suc b) p i at
+walk-same source a b p i at go = by (source p i at) refl
+  where
+    ended : (e : Entry) (n : ℕ) → source p i at ≡ Is e n → (t : Bool) → isEnd e ≡ t → walk source (suc a) p i at ≡ walk source (suc b) p i at
+    ended e n q true t = walk-end source a p i at e n q t ∙ sym (walk-end source b p i at e n q t)
+    ended e n q false t = walk-more source a p i at e n q t ∙ ap (more e) (go e n q) ∙ sym (walk-more source b p i at e n q t)
+
+    by : (r : Record) → source p i at ≡ r → walk source (suc a) p i at ≡ walk source (suc b) p i at
+    by (Refused r) q = walk-refused source a p i at r q ∙ sym (walk-refused source b p i at r q)
+    by (Is e n) q = ended e n q (isEnd e) refl
+
+module _ (source : Progress → ℕ → ℕ → Record) (left : ℕ → ℕ → ℕ) (falls : Falls source left) where
+  pub walk-enough : (a b : ℕ) (p : Progress) (i at : ℕ) → left i at ≤ a → left i at ≤ b → walk source (suc a) p i at ≡ walk source (suc b) p i at
+  walk-enough zero b p i at h k = walk-same source zero b p i at (λ e n q. let f = falls p i at e n q in absurd (omega arith))
+  walk-enough (suc a) zero p i at h k = walk-same source (suc a) zero p i at (λ e n q. let f = falls p i at e n q in absurd (omega arith))
+  walk-enough (suc a) (suc b) p i at h k =
+      walk-same source (suc a) (suc b) p i at
+      (λ e n q. let f = falls p i at e n q in walk-enough a b (afterOf p e) (i + 1) n (omega arith) (omega arith))
+
+pub read-enough : (s : List ℕ) (fuel : ℕ) → length s ≤ fuel → walk (stored s) (suc fuel) start 0 0 ≡ readSheet s
+unfolding readSheet
+read-enough s fuel h =
+    walk-enough (stored s) (λ i at. length s - at) (λ p i at e n q. let b = stored-bounds s p i at e n q in omega arith)
+    fuel (length s) start 0 0 (omega arith) (omega arith)

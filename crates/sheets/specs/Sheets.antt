@@ -9,12 +9,14 @@ use Rattle.records.specs.declared.Entry.{Entry}
 use Rattle.records.specs.declared.Progress.{Progress}
 use Rattle.records.specs.declared.Refusal.{Refusal}
 use Rattle.records.specs.declared.Refusal.the-variants as R
+use Rattle.records.specs.declared.Step.{Step}
+use Rattle.records.specs.declared.Step.the-variants.{Next, Broken}
 use Rattle.records.specs.declared.Record.{Record}
 use Rattle.records.specs.declared.Record.the-variants.{Is, Refused}
 use Rattle.sheets.specs.declared.Extent.{Extent}
 use Rattle.sheets.specs.declared.Extent.the-variants as X
 use Rattle.records.specs.Entries.{isEnd, numbersOf}
-use Rattle.records.specs.Rules.{start, afterOf, judged}
+use Rattle.records.specs.Rules.{start, afterOf, stepOf}
 use Rattle.records.specs.Records.{recordAt}
 
 -- what a list of bytes, or of numbers, is as a sheet: its entries, head and end among them, and its length in bytes; or the refusal
@@ -37,6 +39,16 @@ unfoldable pub walk : (Progress → ℕ → ℕ → Record) → ℕ → Progress
 walk source zero p i at = refused (R.Cut at)
 walk source (suc fuel) p i at = onward (source p i at) (λ e next. walk source fuel (afterOf p e) (i + 1) next)
 
+-- "in it 5, 6, 8, 7": what was read or handed over at a place is refused (5, 6) or judged by the rules (8, 7).
+-- `plain` is what else is asked of its fields.
+abbrev pub ofStep : Entry → ℕ → Step → Record
+ofStep e next (Next p) = Is e next
+ofStep e next (Broken r) = Refused r
+
+abbrev pub judged : Progress → ℕ → Bool → Record → Record
+judged p at plain (Refused r) = Refused r
+judged p at plain (Is e next) = ofStep e next (stepOf p at plain e)
+
 -- the record of some bytes at a place, judged
 unfoldable pub stored : List ℕ → Progress → ℕ → ℕ → Record
 stored s p i at = judged p at true (recordAt s at)
@@ -58,16 +70,6 @@ readWhole s = alone (λ k n. ltb n (length s)) (readSheet s)
 abbrev pub extentOf : Sheet → Extent
 extentOf (sheet es n) = X.Sheet (length es) n
 extentOf (refused r) = X.Refused r
-
--- the same, after k entries
-abbrev pub extent : ℕ → Sheet → Extent
-extent k (sheet es n) = X.Sheet (k + length es) n
-extent k (refused r) = X.Refused r
-
--- a record's refusal, passed on
-abbrev pub refusedOf : Record → Extent
-refusedOf (Refused r) = X.Refused r
-refusedOf (Is e n) = X.Refused (R.Cut n)
 
 -- "Where a reader is lent room for entries and there are more, it gives 4 with their number, after all others".
 -- A room of k numbers holds k / 4 entries.

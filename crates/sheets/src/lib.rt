@@ -4,14 +4,15 @@ use records::Entry;
 use records::Named;
 use records::Record;
 use records::Refusal;
+use records::Step;
 ghost use mathlib.Core.Path.{_≡_};
-ghost use Prim.Native.Nat.{ℕ, _+_, _*_, _≤_, _<_};
+ghost use Prim.Native.Nat.{_+_, _*_, _≤_};
 ghost use lib.ListN.{length};
 ghost use lib.Seq.{sets};
 ghost use Rattle.records.specs.Entries.{numbers};
-ghost use Rattle.sheets.specs.Sheets.{refusedOf, extentOf, readSheet, readWhole, readInto, roomAfter};
-ghost use Rattle.sheets.specs.Handed.{fourAt, entryAt, plainAt, handed, listSheet, listWhole, writeInto, bufferAfter};
-ghost use Rattle.sheets.specs.Passes.{RoomFor, filled, BufferFor, emitted};
+ghost use Rattle.sheets.specs.Sheets.{extentOf, readSheet, readWhole, readInto, roomAfter};
+ghost use Rattle.sheets.specs.Handed.{fourAt, entryAt, plainAt, listSheet, listWhole, writeInto, bufferAfter};
+ghost use Rattle.sheets.specs.Passes.{refusedOf, brokenOf, RoomFor, filled, BufferFor, emitted};
 
 // How many entries a sheet has, head and end among them, and how many bytes.
 pub enum Extent {
@@ -37,6 +38,16 @@ fn refused(got: Record) -> Extent
     }
 }
 
+// A broken rule's refusal, passed on.
+fn broken(step: Step) -> Extent
+    ensures { λ r. ⌜ r ≡ brokenOf step ⌝ }
+{
+    match step {
+        Step::Next(_) => Extent::Refused(Refusal::Order(0)),
+        Step::Broken(refusal) => Extent::Refused(refusal),
+    }
+}
+
 // How many entries and bytes the sheet has that `s` begins with, whatever stands after it; or its refusal.
 pub fn measure(s: &[u8]) -> Extent
     ensures { λ r. ⌜ r ≡ extentOf (readSheet (now (s .entry))) ⌝ }
@@ -46,17 +57,21 @@ pub fn measure(s: &[u8]) -> Extent
     let mut n = 0;
     loop {
         let read = records::record_at(s, at);
-        let got = records::judge(p, at, true, read);
-        let Record::Is(entry, next) = got else {
-            return refused(got);
+        let Record::Is(entry, next) = read else {
+            return refused(read);
+        };
+        let step = records::step_by(p, at, true, entry);
+        let Step::Next(further) = step else {
+            return broken(step);
         };
         if records::is_end(entry) {
+            let count = n + 1;
             return Extent::Sheet {
-                entries: n + 1,
+                entries: count,
                 length: next,
             };
         }
-        p = records::after(p, entry);
+        p = further;
         at = next;
         n += 1;
     }
@@ -158,7 +173,8 @@ fn entry_at(l: &[u32], n: usize, at: usize) -> Record
     let shape = records::shape_of(kind);
     let size = records::size_of(shape);
     let entry = records::entry_for(kind, a, b, c);
-    Record::Is(entry, at + size)
+    let next = at + size;
+    Record::Is(entry, next)
 }
 
 // Whether the n-th entry's numbers are its fields: 0 where its kind uses none.
@@ -174,39 +190,32 @@ fn is_plain(l: &[u32], n: usize, entry: Entry) -> bool
     (fields.a == a) & (fields.b == b) & (fields.c == c)
 }
 
-// The n-th entry, judged by what came before it.
-fn handed_at(p: records::Progress, l: &[u32], n: usize, at: usize) -> Record
-    requires { ⌜ (n * 4 ≤ length (now l)) × (at ≤ n * 7) ⌝ }
-    ensures { λ r. ⌜ r ≡ handed (now (l .entry)) p n at ⌝ }
-{
-    let given = entry_at(l, n, at);
-    let Record::Is(entry, _) = given else {
-        return given;
-    };
-    let plain = is_plain(l, n, entry);
-    records::judge(p, at, plain, given)
-}
-
 // How many entries and bytes the sheet has that the list begins with; or its refusal.
 pub fn survey(l: &[u32]) -> Extent
     ensures { λ r. ⌜ r ≡ extentOf (listSheet (now (l .entry))) ⌝ }
 {
     let mut p = records::begun();
-    let mut at = 0;
+    let mut place = 0;
     let mut n = 0;
     loop {
-        let got = handed_at(p, l, n, at);
-        let Record::Is(entry, next) = got else {
-            return refused(got);
+        let given = entry_at(l, n, place);
+        let Record::Is(entry, next) = given else {
+            return refused(given);
+        };
+        let plain = is_plain(l, n, entry);
+        let step = records::step_by(p, place, plain, entry);
+        let Step::Next(further) = step else {
+            return broken(step);
         };
         if records::is_end(entry) {
+            let handed = n + 1;
             return Extent::Sheet {
-                entries: n + 1,
+                entries: handed,
                 length: next,
             };
         }
-        p = records::after(p, entry);
-        at = next;
+        p = further;
+        place = next;
         n += 1;
     }
 }

@@ -1,8 +1,8 @@
+-- `records::body_at` meets its contract. A body that the input does not hold is cut; of one that it holds each shape reads the numbers that `fieldsAt` names.
 use Rattle.records.specs.RecordLaws.{body-cut, body-whole, two-two, two-two-two, two-four}
 use Rattle.records.specs.Entries.{sizeOf}
-use lib.ListN.{length}
 use native.Mathlib.Omega.{arith}
-use mathlib.Core.Path.{_≡_, sym, ap, _∙_}
+use mathlib.Core.Path.{sym, ap}
 use borrow.Author.Needs.{needs}
 use Rattle.records.proofs.body_at.Statement.{statement}
 use Rattle.records.proofs.body_at.Tie as tie

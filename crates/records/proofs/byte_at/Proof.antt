@@ -1,3 +1,4 @@
+-- `records::byte_at` meets its contract. The test is the definition's: a byte below the length, and past it none.
 use Rattle.records.specs.RecordLaws.{byte-there, byte-past}
 use Rattle.records.specs.declared.Byte.the-variants as Byte
 use mathlib.Core.Path.{sym, ap, _∙_}

@@ -1,3 +1,4 @@
+-- `records::entry_for` meets its contract. Each arm makes the entry that `entryFor` names for its kind.
 use borrow.Author.Needs.{needs}
 use Rattle.records.proofs.entry_for.Statement.{statement}
 use Rattle.records.proofs.entry_for.Tie as tie

@@ -1,3 +1,4 @@
+-- `records::family_in_order` meets its contract. The test is the definition's, once the two answers are put in.
 use borrow.Author.Needs.{needs}
 use Rattle.records.proofs.family_in_order.Statement.{statement}
 use Rattle.records.proofs.family_in_order.Tie as tie

@@ -1,3 +1,4 @@
+-- `records::kind_for` meets its contract. In an arm the number is the literal, at which `kindFor` computes; in the last arm it is none of them.
 use Rattle.records.specs.EntryLaws.{no-kind}
 use Rattle.records.specs.Entries.{kindFor}
 use mathlib.Core.Path.{sym, ap}

@@ -1,3 +1,4 @@
+-- `records::parts_for` meets its contract. Each arm gives the numbers that `partsFor` has for its entry, a family's code from its first kind.
 use Rattle.records.specs.Entries.{partsFor}
 use borrow.Author.Needs.{needs}
 use Rattle.records.proofs.parts_for.Statement.{statement}

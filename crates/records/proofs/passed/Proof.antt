@@ -1,3 +1,4 @@
+-- `records::passed` meets its contract. The record is the definition's, with the family's place put in.
 use borrow.Author.Needs.{needs}
 use Rattle.records.proofs.passed.Statement.{statement}
 use Rattle.records.proofs.passed.Tie as tie

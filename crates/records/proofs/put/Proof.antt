@@ -1,11 +1,11 @@
-use Rattle.records.specs.Entries.{sizeOf, body, bytes}
+-- `records::put` meets its contract. The kind's byte and the numbers of its shape, one after the other, are the entry's bytes (`done`).
+use Rattle.records.specs.Entries.{sizeOf, body, bytes, kindOf, shapeOf, size}
 use Rattle.records.specs.declared.Shape.{Shape}
-use mathlib.Core.List.{List, [], _∷_}
+use mathlib.Core.List.{List, _∷_}
 use Prim.Native.Nat.{ℕ, _+_}
 use Rattle.records.specs.EntryLaws.{size-small, parts-size, parts-code, parts-bytes}
-use Rattle.records.specs.Entries.{kindOf, shapeOf, size}
 use lib.Seq.{sets}
-use lib.ListN.{length, length-set}
+use lib.ListN.{length-set}
 use native.Mathlib.Numerals.{add-one, add-three, add-five}
 use native.Mathlib.Omega.{arith}
 use mathlib.Core.Path.{_≡_, refl, sym, ap, _∙_}

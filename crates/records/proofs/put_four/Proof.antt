@@ -1,3 +1,4 @@
+-- `records::put_four` meets its contract. The upper two bytes and then the lower two.
 use native.Mathlib.Numerals.{add-two}
 use mathlib.Core.Path.{_∙_}
 use borrow.Author.Needs.{needs}

@@ -1,3 +1,4 @@
+-- `records::put_two` meets its contract. Two stores, at `at` and the next place, are `sets` of the two bytes.
 use lib.ListN.{length-set}
 use native.Mathlib.Numerals.{add-one}
 use native.Mathlib.Omega.{arith}

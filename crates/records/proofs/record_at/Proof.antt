@@ -1,13 +1,11 @@
+-- `records::record_at` meets its contract. Each sub-answer is its definition's value, so a refusal, and at the end the record, is what `recordAt` computes to.
 use Rattle.records.specs.RecordLaws.{by-byte, by-kind, by-body, byte-inv}
 use Rattle.records.specs.Records.{byteAt, bodyAt}
-use Rattle.records.specs.Entries.{kindFor, shapeOf, sizeOf}
-use Rattle.records.specs.declared.Body.the-variants as Body
+use Rattle.records.specs.Entries.{kindFor, shapeOf}
 use Rattle.records.specs.declared.Byte.the-variants as Byte
 use Rattle.records.specs.declared.Named.the-variants as Named
-use lib.ListN.{length, getD}
-use Prim.Native.Nat.{ℕ, _+_, _≤_, _<_}
 use native.Mathlib.Omega.{arith}
-use mathlib.Core.Path.{_≡_, sym, ap, _∙_}
+use mathlib.Core.Path.{_≡_, sym, _∙_}
 use borrow.Author.Needs.{needs}
 use Rattle.records.proofs.record_at.Statement.{statement}
 use Rattle.records.proofs.record_at.Tie as tie
@@ -66,8 +64,8 @@ size-of-requires c κs = search needs
 entry-for-requires : tie.Need-entry-for-requires
 entry-for-requires c κs = search needs
 
-add-t18 : tie.Need-add-t18
-add-t18 c = let b = byte-inv _ _ _ (is-byte (c .before .before .before .before .before .before .before .before .before .before .before)) in omega (arith, c .before .before .before .before .before .before .before .before .before .before .before .before .before .before .before .before .good .0 .1)
+add-next : tie.Need-add-next
+add-next c = let b = byte-inv _ _ _ (is-byte (c .before .before .before .before .before .before .before .before .before .before .before)) in omega (arith, c .before .before .before .before .before .before .before .before .before .before .before .before .before .before .before .before .good .0 .1)
 
 returns-4 : tie.Need-returns-4
 returns-4 c = rw (c .entry-for .ensures, c .before .size-of .ensures .0, c .before .before .before .before .before .before .shape-of .ensures) (by-body _ _ _ _ _ (is-byte (c .before .before .before .before .before .before .before .before .before .before .before)) (is-kind (c .before .before .before .before .before .before .before)) (body-is (c .before .before .before .before .before) ∙ c .before .before .before .a .given .1))
@@ -91,5 +89,5 @@ record-at-spec =
     returns-3
     size-of-requires
     entry-for-requires
-    add-t18
+    add-next
     returns-4)

@@ -1,3 +1,4 @@
+-- `records::span_holds` meets its contract. The test is the definition's, once both answers on the window are put in.
 use borrow.Author.Needs.{needs}
 use Rattle.records.proofs.span_holds.Statement.{statement}
 use Rattle.records.proofs.span_holds.Tie as tie

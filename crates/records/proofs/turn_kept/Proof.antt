@@ -1,5 +1,5 @@
+-- `records::turn_kept` meets its contract. The branch is the definition's `cond`.
 use borrow.Author.Tests.{eq-eqb, ne-eqb}
-use mathlib.Core.Path.{sym}
 use borrow.Author.Needs.{needs}
 use Rattle.records.proofs.turn_kept.Statement.{statement}
 use Rattle.records.proofs.turn_kept.Tie as tie

@@ -1,12 +1,13 @@
+-- `sheets::emit` meets its contract. What is still to be written, once written, gives what the pass is to leave (`Emitting`). The first pass accepted each entry.
 use Rattle.sheets.proofs.Passing.{Emitting, emit-start, emit-never, emit-bounds, emit-end, emit-more}
 use Rattle.records.specs.Entries.{size}
 use Rattle.sheets.specs.Handed.{entryAt}
-use Rattle.records.specs.declared.Record.the-variants.{Is, Refused}
+use Rattle.records.specs.declared.Record.the-variants.{Is}
 use lib.ListN.{length}
 use borrow.Author.Needs.{needs}
 use native.Mathlib.Omega.{arith}
-use mathlib.Core.Path.{_≡_, refl, sym, ap, _∙_}
-use Prim.Native.Nat.{ℕ, suc, _+_, _-_, _*_, _≤_, _<_}
+use mathlib.Core.Path.{_≡_, sym, _∙_}
+use Prim.Native.Nat.{_+_, _-_, _*_, _≤_}
 use Rattle.sheets.proofs.emit.Statement.{statement}
 use Rattle.sheets.proofs.emit.Tie as tie
 

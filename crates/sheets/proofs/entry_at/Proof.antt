@@ -1,10 +1,10 @@
-use Rattle.sheets.specs.HandedLaws.{by-four, by-name, four-inv}
+-- `sheets::entry_at` meets its contract. Each sub-answer is its definition's value, so the answer is what `entryAt` computes to.
+use Rattle.sheets.specs.HandedLaws.{by-four, by-name}
 use Rattle.sheets.specs.Handed.{fourAt}
 use Rattle.records.specs.Entries.{kindFor}
 use Rattle.sheets.specs.declared.Four.the-variants as Four
 use Rattle.records.specs.declared.Named.the-variants as Named
-use native.Mathlib.Omega.{arith}
-use mathlib.Core.Path.{_≡_, sym, ap, _∙_}
+use mathlib.Core.Path.{_≡_, sym, _∙_}
 use borrow.Author.Needs.{needs}
 use Rattle.sheets.proofs.entry_at.Statement.{statement}
 use Rattle.sheets.proofs.entry_at.Tie as tie
@@ -45,8 +45,8 @@ size-of-requires c κs = search needs
 entry-for-requires : tie.Need-entry-for-requires
 entry-for-requires c κs = search needs
 
-add-t16 : tie.Need-add-t16
-add-t16 c = search needs
+add-next : tie.Need-add-next
+add-next c = search needs
 
 is-kind : (c : tie.After-known-told2) → kindFor (c .before .before .before .before .before .code .given .0 .0) ≡ Named.Is (c .before .kind .given .0 .0)
 is-kind c = sym (c .before .before .before .kind-for .ensures) ∙ c .before .kind .given .1
@@ -69,5 +69,5 @@ entry-at-spec =
     shape-of-requires
     size-of-requires
     entry-for-requires
-    add-t16
+    add-next
     returns-3)

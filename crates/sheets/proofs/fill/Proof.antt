@@ -1,11 +1,12 @@
+-- `sheets::fill` meets its contract. What is still to be stored, once stored, gives what the pass is to leave (`Filling`). The first pass found a sheet, so each record is there.
 use Rattle.sheets.proofs.Passing.{Filling, fill-start, fill-never, fill-bounds, fill-end, fill-more}
 use Rattle.records.specs.Records.{recordAt}
-use Rattle.records.specs.declared.Record.the-variants.{Is, Refused}
+use Rattle.records.specs.declared.Record.the-variants.{Is}
 use lib.ListN.{length}
 use borrow.Author.Needs.{needs}
 use native.Mathlib.Omega.{arith}
-use mathlib.Core.Path.{_≡_, refl, sym, ap, _∙_}
-use Prim.Native.Nat.{ℕ, suc, _+_, _-_, _*_, _≤_, _<_}
+use mathlib.Core.Path.{_≡_, sym, _∙_}
+use Prim.Native.Nat.{_+_, _-_, _*_, _≤_, _<_}
 use Rattle.sheets.proofs.fill.Statement.{statement}
 use Rattle.sheets.proofs.fill.Tie as tie
 

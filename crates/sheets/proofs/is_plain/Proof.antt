@@ -1,3 +1,4 @@
+-- `sheets::is_plain` meets its contract. The entry's fields, compared with the numbers handed over.
 use Rattle.records.specs.Entries.{partsFor}
 use Rattle.sheets.specs.Handed.{plainAt}
 use borrow.Author.Needs.{needs}

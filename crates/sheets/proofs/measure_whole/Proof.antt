@@ -1,11 +1,11 @@
+-- `sheets::measure_whole` meets its contract. What follows the sheet is refused as `alone` does.
 use Rattle.sheets.specs.Sheets.{extentOf, readWhole}
 use Rattle.sheets.specs.declared.Extent.the-variants as X
 use lib.Dec.{ltb}
 use lib.ListN.{length}
-use Rattle.sheets.specs.SheetLaws.{aloneX}
-use Rattle.sheets.specs.SheetLaws.{whole-by}
+use Rattle.sheets.specs.SheetLaws.{aloneX, whole-by}
 use borrow.Author.Tests.{lt-ltb, le-ltb}
-use mathlib.Core.Path.{_≡_, sym, ap, _∙_}
+use mathlib.Core.Path.{_≡_, sym, _∙_}
 use borrow.Author.Needs.{needs}
 use Rattle.sheets.proofs.measure_whole.Statement.{statement}
 use Rattle.sheets.proofs.measure_whole.Tie as tie

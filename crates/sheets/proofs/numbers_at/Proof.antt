@@ -1,3 +1,4 @@
+-- `sheets::numbers_at` meets its contract. Four numbers that the list holds, or none.
 use Rattle.sheets.specs.HandedLaws.{four-there, four-cut}
 use native.Mathlib.Omega.{arith}
 use mathlib.Core.Path.{sym}

@@ -1,9 +1,9 @@
+-- `sheets::read` meets its contract. Three ways out: refused, too little room, and filled; each is `readInto` and `roomAfter` at what was found.
 use Rattle.sheets.proofs.Passing.{room-for, read-refused, read-short, read-full}
 use Rattle.sheets.specs.SheetLaws.{whole-same}
 use Rattle.sheets.specs.Sheets.{extentOf, readWhole}
 use Rattle.sheets.specs.Passes.{filled}
 use Rattle.sheets.specs.declared.Extent.the-variants as X
-use native.Mathlib.Omega.{arith}
 use mathlib.Core.Path.{_≡_, sym, ap, _∙_}
 use borrow.Author.Needs.{needs}
 use Rattle.sheets.proofs.read.Statement.{statement}

@@ -1,3 +1,4 @@
+-- `sheets::refused` meets its contract. Each arm is the definition's.
 use borrow.Author.Needs.{needs}
 use Rattle.sheets.proofs.refused.Statement.{statement}
 use Rattle.sheets.proofs.refused.Tie as tie

@@ -1,3 +1,4 @@
+-- `sheets::store` meets its contract. Four stores are `sets` of the entry's numbers.
 use Rattle.records.specs.Entries.{partsFor}
 use lib.ListN.{length-set}
 use native.Mathlib.Numerals.{add-one, add-two, add-three}

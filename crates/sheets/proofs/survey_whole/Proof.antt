@@ -1,3 +1,4 @@
+-- `sheets::survey_whole` meets its contract. What follows the end entry is refused as `alone` does; the list's length over four, rounded up, tells it.
 use Rattle.sheets.specs.HandedLaws.{list-by}
 use Rattle.sheets.specs.SheetLaws.{aloneX}
 use Rattle.sheets.specs.Handed.{listWhole}
@@ -8,7 +9,7 @@ use lib.ListN.{length}
 use borrow.Author.Tests.{lt-ltb, le-ltb}
 use Prim.Native.Nat.{_*_}
 use native.Mathlib.Omega.{arith}
-use mathlib.Core.Path.{_≡_, sym, ap, _∙_}
+use mathlib.Core.Path.{_≡_, sym, _∙_}
 use borrow.Author.Needs.{needs}
 use Rattle.sheets.proofs.survey_whole.Statement.{statement}
 use Rattle.sheets.proofs.survey_whole.Tie as tie

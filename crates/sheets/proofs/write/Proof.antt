@@ -1,10 +1,10 @@
+-- `sheets::write` meets its contract. Three ways out: refused, a short buffer, and written; each is `writeInto` and `bufferAfter` at what was found.
 use Rattle.sheets.proofs.Passing.{buffer-for, write-refused, write-short, write-full}
 use Rattle.sheets.specs.HandedLaws.{list-same, list-length}
 use Rattle.sheets.specs.Handed.{listWhole}
 use Rattle.sheets.specs.Sheets.{extentOf}
 use Rattle.sheets.specs.Passes.{emitted}
 use Rattle.sheets.specs.declared.Extent.the-variants as X
-use native.Mathlib.Omega.{arith}
 use mathlib.Core.Path.{_≡_, sym, ap, _∙_}
 use borrow.Author.Needs.{needs}
 use Rattle.sheets.proofs.write.Statement.{statement}

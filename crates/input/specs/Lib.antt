@@ -1,0 +1,4 @@
+pub mod Input
+pub mod InputLaws
+pub mod Sheet
+pub mod SheetLaws

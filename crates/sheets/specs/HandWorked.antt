@@ -1,0 +1,40 @@
+-- The hand-worked sheet of document 01, as entries: well formed, 43 bytes long, and read back from its bytes. It shows how the laws build a sheet up.
+use Prim.Native.Nat.{ℕ}
+use mathlib.Core.Path.{_≡_, refl}
+use mathlib.Core.List.{List, [], _∷_}
+use native.Mathlib.Omega.{arith}
+use lib.ListN.{length}
+use Rattle.records.specs.declared.Family.the-variants.{Penumbra, Central}
+use Rattle.records.specs.declared.Entry.{Entry}
+use Rattle.records.specs.declared.Entry.the-variants.{Head, Enter, Leave, Closest, End}
+use Rattle.records.specs.Entries.{bytesOf}
+use Rattle.records.specs.Rules.{start}
+use Rattle.sheets.specs.Sheets.{sheet, readWhole}
+use Rattle.sheets.specs.WellFormed.{WellFormed}
+use Rattle.sheets.specs.WellFormedLaws.{well-step, step-head, step-enter, step-leave, well-central, well-closest}
+use Rattle.sheets.specs.RoundTrip.{read-whole-back}
+
+-- "station 7 from -6000 to 6000", its enters and leaves, "closest 0 1037735"; each second plus 10,800
+pub listing : List Entry
+listing =
+    Head 7 4800 16800 ∷ Enter Penumbra 5399 5401 2700 ∷ Leave Penumbra 16199 16201 900
+    ∷ Enter Central 10699 10701 2700 ∷ Leave Central 10899 10901 900 ∷ Closest 10800 1037735 ∷ End ∷ []
+
+pub listing-well : WellFormed start listing
+unfolding listing
+listing-well =
+    well-step _ (step-head 7 4800 16800 (omega arith) (omega arith) (omega arith) (omega arith))
+    (well-step _ (step-enter Penumbra 4800 16800 0 0 5399 5401 (omega arith) (omega arith) (omega arith) 2700 (λ e. omega arith) (omega arith) refl)
+    (well-step _ (step-leave Penumbra 4800 16800 5401 1 16199 16201 (omega arith) (omega arith) (omega arith) 900 (λ e. omega arith) (omega arith) refl)
+    (well-central 4800 16800 16201 2 _
+    (well-step _ (step-enter Central 4800 16800 0 0 10699 10701 (omega arith) (omega arith) (omega arith) 2700 (λ e. omega arith) (omega arith) refl)
+    (well-step _ (step-leave Central 4800 16800 10701 1 10899 10901 (omega arith) (omega arith) (omega arith) 900 (λ e. omega arith) (omega arith) refl)
+    (well-closest Central 4800 16800 10901 2 10800 1037735 (omega arith) (omega arith) (omega arith)))))))
+
+-- "a buffer of 43 bytes succeeds"
+pub listing-length : length (bytesOf listing) ≡ 43
+unfolding listing bytesOf
+listing-length = refl
+
+pub listing-read : readWhole (bytesOf listing) ≡ sheet listing (length (bytesOf listing))
+listing-read = read-whole-back listing listing-well

@@ -1,0 +1,97 @@
+#!/usr/bin/env python3
+"""Makes crates/handed_entries/stdin and stdout: lists of entries, good and damaged, and what a writer has to answer.
+
+The answers come from document 01's rules, as in stored_sheets.py, whose table and rules of one record are used here.
+Run in the repository's root: python3 tests/handed_entries.py
+"""
+import os
+import struct
+import sys
+
+sys.path.insert(0, os.path.dirname(__file__))
+from stored_sheets import BARE, CENTRAL, GOOD, INSTANT, LISTING, MIXED, TABLE, encode, fields_hold, order_holds  # noqa: E402
+
+
+def judge(numbers):
+    """(number, place) of the refusal, or the records of the list."""
+    records, place = [], 0
+    while numbers:
+        if len(numbers) < 4:
+            return (6, place)
+        kind, fields, numbers = numbers[0], numbers[1:4], numbers[4:]
+        if kind not in TABLE:
+            return (5, place)
+        widths = TABLE[kind][2]
+        record = (kind, fields[:len(widths)])
+        if not order_holds(records, record):
+            return (8, place)
+        if any(fields[len(widths):]) or not fields_hold(records, record):
+            return (7, place)
+        records.append(record)
+        place += 1 + sum(widths)
+        if TABLE[kind][0] == "end":
+            return (9, place) if numbers else records
+    return (6, place)
+
+
+def answer(judged, room):
+    if isinstance(judged, tuple):
+        return "refused %d %d" % judged, b""
+    sheet = encode(judged)
+    if room < len(sheet):
+        return "refused 4 %d" % len(sheet), b""
+    return "sheet %d %d" % (len(judged), len(sheet)), sheet
+
+
+def lines(numbers):
+    judged = judge(numbers)
+    words, buffers = [], []
+    for room in (256, 20):
+        word, sheet = answer(judged, room)
+        words.append(word)
+        buffers.append("".join(" %02x" % b for b in sheet + bytes([170] * (room - len(sheet)))))
+    return ["written %s short %s" % tuple(words)] + buffers
+
+
+def listed(records):
+    out = []
+    for kind, fields in records:
+        out += ([kind] + fields + [0, 0, 0])[:4]
+    return out
+
+
+def lists():
+    for records in GOOD:
+        yield listed(records)
+    for records in (LISTING, CENTRAL, BARE):
+        good = listed(records)
+        for i in range(len(good)):  # each number changed in turn
+            for value in (0, 1, good[i] + 1, good[i] + 65536, 0xFFFFFFFF):
+                yield good[:i] + [value] + good[i + 1:]
+        for n in range(len(good)):  # each prefix
+            yield good[:n]
+        for i in range(len(records)):  # entries left out, doubled, swapped
+            yield listed(records[:i] + records[i + 1:])
+            yield listed(records[:i] + [records[i]] + records[i:])
+            if i + 1 < len(records):
+                yield listed(records[:i] + [records[i + 1], records[i]] + records[i + 2:])
+        for tail in ([0x7F], [0, 0], [1, 2, 3], listed(BARE)):  # numbers after the end entry
+            yield good + tail
+    for records in (MIXED, INSTANT):
+        for i in range(len(records)):
+            yield listed(records[:i] + records[i + 1:])
+
+
+if __name__ == "__main__":
+    every = list(lists())
+    stdin = b"".join(struct.pack(">H", len(l)) + b"".join(struct.pack(">I", x & 0xFFFFFFFF) for x in l) for l in every)
+    assert len(stdin) <= 65536, len(stdin)
+    every = [[x & 0xFFFFFFFF for x in l] for l in every]
+    open("crates/handed_entries/stdin", "wb").write(stdin)
+    open("crates/handed_entries/stdout", "w").write("".join(line + "\n" for l in every for line in lines(l)))
+    kinds = {}
+    for l in every:
+        word = lines(l)[0].split(" short")[0].split()
+        key = "sheet" if word[1] == "sheet" else "refused " + word[2]
+        kinds[key] = kinds.get(key, 0) + 1
+    print(len(every), "lists,", len(stdin), "bytes:", dict(sorted(kinds.items())))

@@ -1,0 +1,198 @@
+#!/usr/bin/env python3
+"""Makes crates/stored_sheets/stdin and stdout: stored sheets, good and damaged, and what a reader has to answer.
+
+The answers come from the rules as they stand in document 01, worked out here over lists of records; nothing is taken from the crates.
+Run in the repository's root: python3 tests/stored_sheets.py
+"""
+import struct
+
+# kind: (name, family, widths of the fields)
+TABLE = {
+    0x01: ("head", None, (2, 2, 2)),
+    0x30: ("closest", None, (2, 4)),
+    0x7F: ("end", None, ()),
+}
+for family, base in (("penumbra", 0x10), ("central", 0x20)):
+    TABLE[base + 0] = ("enter", family, (2, 2, 2))
+    TABLE[base + 1] = ("leave", family, (2, 2, 2))
+    TABLE[base + 2] = ("graze", family, (2, 2))
+    TABLE[base + 3] = ("open", family, (2, 2))
+SECTIONS = ["head", "penumbra", "central", "closest", "end"]
+
+
+class Refused(Exception):
+    def __init__(self, number, place):
+        self.answer = (number, place)
+
+
+def section(kind):
+    name, family, _ = TABLE[kind]
+    return family or name
+
+
+def order_holds(before, record):
+    """Whether a record may stand after those before it: families in order, head, closest and end exactly once."""
+    here = SECTIONS.index(section(record[0]))
+    seen = [SECTIONS.index(section(r[0])) for r in before]
+    if seen and here < max(seen):
+        return False
+    for once in (0, 3, 4):  # head, closest, end: all due ones must have come, none twice
+        if once < here and once not in seen:
+            return False
+        if once == here and once in seen:
+            return False
+    if section(record[0]) in ("penumbra", "central"):
+        mine = [r for r in before if section(r[0]) == section(record[0])]
+        if mine and record[1][0] < mine[-1][1][1]:
+            return False
+        turns = [TABLE[r[0]][0] for r in mine if TABLE[r[0]][0] in ("enter", "leave")]
+        if turns and turns[-1] == TABLE[record[0]][0]:
+            return False
+    return True
+
+
+def fields_hold(before, record):
+    name = TABLE[record[0]][0]
+    if name == "head":
+        station, first, last = record[1]
+        return 1 <= station <= 999 and first <= last <= 21600
+    if name == "end":
+        return True
+    _, first, last = before[0][1]
+    if name == "closest":
+        second, magnitude = record[1]
+        return first <= second <= last and magnitude <= 1300000
+    start, end = record[1][:2]
+    if not (first <= start <= last and first <= end <= last):
+        return False
+    if name == "open":
+        return start <= end and (start == first or end == last)
+    if not start < end:
+        return False
+    return name == "graze" or record[1][2] <= 3599 or record[1][2] == 65535
+
+
+def parse(data):
+    """The records of the sheet that data begins with, and its length."""
+    records, at = [], 0
+    while True:
+        if at >= len(data):
+            raise Refused(6, len(data))
+        kind = data[at]
+        if kind not in TABLE:
+            raise Refused(5, at)
+        widths = TABLE[kind][2]
+        if at + 1 + sum(widths) > len(data):
+            raise Refused(6, at)
+        fields, p = [], at + 1
+        for width in widths:
+            fields.append(int.from_bytes(data[p:p + width], "big"))
+            p += width
+        record = (kind, fields)
+        if not order_holds(records, record):
+            raise Refused(8, at)
+        if not fields_hold(records, record):
+            raise Refused(7, at)
+        records.append(record)
+        at = p
+        if kind == 0x7F:
+            return records, at
+
+
+def encode(records):
+    out = b""
+    for kind, fields in records:
+        out += bytes([kind])
+        for width, value in zip(TABLE[kind][2], fields):
+            out += value.to_bytes(width, "big")
+    return out
+
+
+def word(answer):
+    return "sheet %d %d" % answer[1:] if answer[0] else "refused %d %d" % answer[1:]
+
+
+def answers(data):
+    """The lines that the program prints for one stored sheet."""
+    try:
+        records, length = parse(data)
+        begins = (True, len(records), length)
+    except Refused as r:
+        records, begins = None, (False,) + r.answer
+    whole, short = begins, begins
+    if begins[0]:
+        if length < len(data):
+            whole = short = (False, 9, length)
+        elif len(records) > 3:  # room for three entries
+            short = (False, 4, len(records))
+    lines = ["begins %s is %s short %s" % (word(begins), word(whole), word(short))]
+    if whole[0]:
+        for kind, fields in records:
+            lines.append(" %d %d %d %d" % tuple([kind] + (fields + [0, 0, 0])[:3]))
+        assert encode(records) == data
+        lines.append(" written sheet %d %d same" % (len(records), length))
+    return lines
+
+
+# ---- the sheets
+
+HEAD, END = (0x01, [7, 4800, 16800]), (0x7F, [])
+CLOSEST = (0x30, [10800, 1037735])
+LISTING = [HEAD, (0x10, [5399, 5401, 2700]), (0x11, [16199, 16201, 900]), (0x20, [10699, 10701, 2700]), (0x21, [10899, 10901, 900]), CLOSEST, END]
+MIXED = [(0x01, [999, 0, 21600]), (0x13, [0, 40]), (0x11, [40, 42, 3599]), (0x12, [100, 200]), (0x10, [200, 201, 65535]), (0x12, [201, 203]),
+         (0x11, [203, 21599, 0]), (0x13, [21599, 21600]), (0x22, [0, 2]), (0x20, [2, 3, 1]), (0x23, [21599, 21600]), (0x30, [21600, 1300000]), END]
+BARE = [(0x01, [1, 5, 5]), (0x30, [5, 0]), END]
+INSTANT = [(0x01, [12, 16200, 16200]), (0x13, [16200, 16200]), (0x23, [16200, 16200]), (0x30, [16200, 0]), END]
+CENTRAL = [(0x01, [3, 10, 90]), (0x21, [10, 20, 5]), (0x20, [20, 30, 6]), (0x21, [31, 90, 7]), (0x30, [10, 1]), END]
+GOOD = [LISTING, MIXED, BARE, INSTANT, CENTRAL]
+
+
+def damaged():
+    for records in GOOD:
+        yield encode(records)
+    good = encode(LISTING)
+    for i in range(len(good)):  # each byte changed in turn
+        for flip in (0x01, 0x10, 0x80, 0xFF):
+            yield good[:i] + bytes([good[i] ^ flip]) + good[i + 1:]
+    for records in (LISTING, MIXED):  # each prefix
+        good = encode(records)
+        for n in range(len(good)):
+            yield good[:n]
+    for records in (LISTING, MIXED, CENTRAL):
+        for i in range(len(records)):  # records left out, doubled, swapped
+            yield encode(records[:i] + records[i + 1:])
+            yield encode(records[:i] + [records[i]] + records[i:])
+            if i + 1 < len(records):
+                yield encode(records[:i] + [records[i + 1], records[i]] + records[i + 2:])
+            yield encode([records[i]] + records[:i] + records[i + 1:])
+    for tail in (b"\x7f", b"\x00", b"\x01\x00\x07", encode(BARE)):  # bytes after the end
+        yield encode(BARE) + tail
+        yield encode(LISTING) + tail
+    for i, record in enumerate(MIXED):  # each field at and past its limits
+        for j in range(len(record[1])):
+            for value in (0, 1, 39, 40, 41, 200, 201, 202, 203, 999, 1000, 3599, 3600, 21598, 21599, 21600, 21601, 65534, 65535):
+                if value != record[1][j]:
+                    fields = list(record[1])
+                    fields[j] = value
+                    yield encode(MIXED[:i] + [(record[0], fields)] + MIXED[i + 1:])
+    for magnitude in (1299999, 1300001, 0xFFFFFFFF, 0x01000000):
+        yield encode(BARE[:1] + [(0x30, [5, magnitude])] + BARE[2:])
+
+
+def main():
+    frames = list(damaged())
+    stdin = b"".join(struct.pack(">H", len(d)) + d for d in frames)
+    assert len(stdin) <= 65536, len(stdin)
+    lines = [line for d in frames for line in answers(d)]
+    open("crates/stored_sheets/stdin", "wb").write(stdin)
+    open("crates/stored_sheets/stdout", "w").write("".join(l + "\n" for l in lines))
+    kinds = {}
+    for d in frames:
+        first = answers(d)[0].split(" is ")[1].split(" short")[0].split()
+        key = first[0] if first[0] == "sheet" else "refused " + first[1]
+        kinds[key] = kinds.get(key, 0) + 1
+    print(len(frames), "sheets,", len(stdin), "bytes:", dict(sorted(kinds.items())))
+
+
+if __name__ == "__main__":
+    main()
