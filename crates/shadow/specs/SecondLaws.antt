@@ -3,6 +3,7 @@
 --   u-at, v-at, M-at, L1-at, L2-at         how large its numbers are; bounded-shadow, L1-over, L2-narrow: as the code asks
 --   magnitude-most, direction-near         "It never exceeds 1,300,000"; at most 3599, or 65,535
 --   states-true                            for every guard from 13 on the states are true of the exact values
+--   sure-under-less                        what is sure under a guard is sure, with the same answer, under every smaller one
 --   states-of-second                       the states of a shadow that is the second's
 use mathlib.Core.Path.{_≡_, refl, _∙_, ap, ap₂}
 use mathlib.Core.Logic.{_⊎_}
@@ -16,10 +17,11 @@ use Rattle.sine.specs.Table.{S}
 use Rattle.elements.specs.declared.Elements.{Elements}
 use Rattle.elements.specs.Sizes.{Sized}
 use Rattle.station.specs.declared.Place.{Place}
-use Rattle.geometry.specs.Shadow.{Moment, moment, cone1, cone2, u, v, L, M, ζ, Phase, penumbra, central, radius, state}
+use Rattle.geometry.specs.Shadow.{Moment, moment, cone1, cone2, u, v, L, M, ζ, Phase, penumbra, central, radius, State, unsure, state}
 use Rattle.geometry.specs.Moments.{Placed, axis-ranges, station-ranges, cone1-ranges, cone2-ranges}
 use Rattle.geometry.specs.Sizes.{ζ-size, u-size, v-size, M-size, L-size, L1-positive}
-use Rattle.geometry.specs.States.{StatesMean, penumbra-means, central-means}
+use Rattle.geometry.specs.StateLaws.{guard-monotone}
+use Rattle.geometry.specs.States.{StatesMean, penumbra-sign, central-sign, penumbra-means, central-means}
 use Rattle.geometry.specs.Magnitude.{magnitude}
 use Rattle.geometry.specs.MagnitudeLaws.{magnitude-within}
 use Rattle.geometry.specs.Direction.{direction}
@@ -90,6 +92,16 @@ module _ (e : Elements) (z : Sized e) (p : Place) (i : Placed p) (longitude τ :
   pub states-true : (guard : ℤ) → pos 13 ≤ℤ guard → (φ : Phase) → StatesMean guard φ m (cone φ e)
   states-true guard g penumbra = penumbra-means m (axis-ranges e z τ h p longitude) (station-ranges e z τ h p longitude i) (cone1 e) (cone1-ranges e z) guard g (z .l10-low)
   states-true guard g central = central-means m (axis-ranges e z τ h p longitude) (station-ranges e z τ h p longitude i) (cone2 e) (cone2-ranges e z) guard g
+
+  -- "whatever second is sure under a guard is sure, with the same answer, under every smaller one"
+  pub sure-under-less : (f g : ℤ) → pos 0 ≤ℤ f → f ≤ℤ g → (φ : Phase) (w : State) → (w ≡ unsure → ⊥) → stateAt g e p longitude φ τ ≡ w
+      → stateAt f e p longitude φ τ ≡ w
+  unfolding stateAt
+  sure-under-less f g low small penumbra w sure is =
+      guard-monotone f g (radius penumbra (L m (cone1 e))) (M m) small low
+      (penumbra-sign m (axis-ranges e z τ h p longitude) (station-ranges e z τ h p longitude i) (cone1 e) (cone1-ranges e z) (z .l10-low) f low) w sure is
+  sure-under-less f g low small central w sure is =
+      guard-monotone f g (radius central (L m (cone2 e))) (M m) small low (central-sign (L m (cone2 e)) f low) w sure is
 
   pub bounded-shadow : {s : Shadow} → IsShadow e p longitude τ s → Bounded s
   bounded-shadow j =
