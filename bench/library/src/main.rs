@@ -1,0 +1,119 @@
+//! `bench ROUNDS`: the compiled library and document 01 in plain Rust, timed in turns in one process; the best of all rounds of each.
+
+use agreement::library;
+use reference::elements::Window;
+use reference::listing::sheet_of_input;
+use reference::random::Random;
+use reference::request::Request;
+use reference::sample::{self, Manner};
+use reference::sheet;
+use std::hint::black_box;
+use std::time::Instant;
+
+/// The shortest times in seconds of the two, each run `times` times on end in a round.
+fn best(rounds: usize, times: usize, mut ours: impl FnMut(), mut theirs: impl FnMut()) -> (f64, f64) {
+    let time = |run: &mut dyn FnMut()| {
+        let start = Instant::now();
+        for _ in 0..times {
+            run();
+        }
+        start.elapsed().as_secs_f64() / times as f64
+    };
+    let mut least = (f64::MAX, f64::MAX);
+    for _ in 0..rounds {
+        least.0 = least.0.min(time(&mut ours));
+        least.1 = least.1.min(time(&mut theirs));
+    }
+    least
+}
+
+fn sheets(rounds: usize) {
+    let mut random = Random::new(7);
+    let requests = [
+        ("hand-worked", sample::hand_worked()),
+        ("Kiev 1954", sample::kiev_1954()),
+        ("drawn", sample::draw(&mut random, Manner::Anywhere)),
+    ];
+    for (name, request) in requests {
+        for seconds in [600, 6_000, 21_601] {
+            let first = if seconds == 21_601 { -10_800 } else { -200 };
+            let window = Window { first, last: first + seconds - 1 };
+            let bytes = Request { window, ..request }.to_bytes().expect("numbers that have room");
+            let (mut a, mut b) = ([0; 4096], [0; 4096]);
+            let (ours, theirs) = best(
+                rounds,
+                (200_000 / seconds).max(1) as usize,
+                || _ = black_box(library::sheet(black_box(&bytes), &mut a)),
+                || _ = black_box(sheet_of_input(black_box(&bytes), &mut b)),
+            );
+            assert_eq!(a, b);
+            println!(
+                "sheet, {name:11} {seconds:6} s: library {:8.1} us, reference {:8.1} us, ratio {:.2}",
+                ours * 1e6,
+                theirs * 1e6,
+                ours / theirs
+            );
+        }
+    }
+}
+
+/// As many enters, leaves and grazes as a window of 21,601 seconds holds side by side, so many of each phase.
+fn long_list(of_each: u32) -> Vec<u32> {
+    let mut entries = vec![0x01, 999, 0, 21_600];
+    for base in [0x10, 0x20] {
+        for k in 0..of_each {
+            let (kind, direction) = [(0, 900), (2, 0), (1, 2700)][k as usize % 3];
+            entries.extend([base + kind, 2 * k, 2 * k + 2, direction]);
+        }
+    }
+    entries.extend([0x30, 10_800, 1_000_000, 0, 0x7F, 0, 0, 0]);
+    entries
+}
+
+fn records(rounds: usize, name: &str, entries: &[u32], times: usize) {
+    let mut bytes = vec![0; 7 * entries.len()];
+    let length = sheet::write(entries, &mut bytes).expect("entries that keep all rules");
+    bytes.truncate(length);
+    let (mut a, mut b) = (vec![0; entries.len()], vec![0; entries.len()]);
+    let (ours, theirs) = best(
+        rounds,
+        times,
+        || _ = black_box(library::read(black_box(&bytes), &mut a)),
+        || _ = black_box(sheet::read(black_box(&bytes), &mut b)),
+    );
+    assert!(a == entries && b == entries);
+    let speed = |seconds: f64| length as f64 / seconds / 1e6;
+    let line = |what: &str, ours: f64, theirs: f64| {
+        println!(
+            "{what}, {name:11} {length:6} bytes: library {:6.0} MB/s, reference {:6.0} MB/s, ratio of times {:.2}",
+            speed(ours),
+            speed(theirs),
+            ours / theirs
+        )
+    };
+    line("read ", ours, theirs);
+    let (mut a, mut b) = (vec![0; length], vec![0; length]);
+    let (ours, theirs) = best(
+        rounds,
+        times,
+        || _ = black_box(library::write(black_box(entries), &mut a)),
+        || _ = black_box(sheet::write(black_box(entries), &mut b)),
+    );
+    assert!(a == bytes && b == bytes);
+    line("write", ours, theirs);
+}
+
+fn main() {
+    let rounds = std::env::args().nth(1).map_or(100, |n| n.parse().expect("a number of rounds"));
+    sheets(rounds);
+    let mut hand = [0; 43];
+    sample::hand_worked().sheet(&mut hand).expect("room enough");
+    let short: Vec<u32> = sheet::records_of(&hand)
+        .expect("a well-formed sheet")
+        .iter()
+        .flat_map(|record| record.words())
+        .collect();
+    records(rounds, "hand-worked", &short, 2_000);
+    records(rounds, "medium", &long_list(30), 500);
+    records(rounds, "long", &long_list(3_000), 20);
+}

@@ -1,0 +1,25 @@
+-- `ukhtvaresh::ukhtvaresh_read` meets its contract: the answer of the crate below, as numbers. Assumes nothing.
+use mathlib.Core.Path.{_≡_, ap, _∙_}
+use borrow.Author.Needs.{needs}
+use Rattle.ukhtvaresh.specs.declared.Reply.{Reply}
+use Rattle.ukhtvaresh.specs.Replies.{readReply}
+use Rattle.ukhtvaresh.proofs.ukhtvaresh_read.Statement.{statement}
+use Rattle.ukhtvaresh.proofs.ukhtvaresh_read.Tie as tie
+
+read-requires : tie.Need-read-requires
+read-requires c κs = search needs
+
+read-reply-requires : tie.Need-read-reply-requires
+read-reply-requires c κs = search needs
+
+same-length : tie.Need-same-length
+same-length c = search needs
+
+returns : tie.Need-returns
+returns c =
+    let done = c .before .before .before .read in
+    let e = c .read-reply .ensures ∙ ap readReply (done .ensures .0) in
+    (ap (λ (x : Reply). x .number) e, (ap (λ (x : Reply). x .value) e, done .ensures .1))
+
+pub ukhtvaresh-read-spec : {M : Type 1} → statement M
+ukhtvaresh-read-spec = tie.close (tie.spec read-requires read-reply-requires same-length returns)

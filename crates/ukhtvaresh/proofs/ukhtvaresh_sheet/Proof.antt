@@ -1,0 +1,30 @@
+-- `ukhtvaresh::ukhtvaresh_sheet` meets its contract: the answer of the crate below, as numbers. Assumes nothing.
+use mathlib.Core.Path.{_≡_, subst, ap, _∙_}
+use borrow.Author.Needs.{needs}
+use Rattle.circumstances.specs.declared.Answer.{Answer}
+use Rattle.circumstances.specs.Demand3.{Claimed}
+use Rattle.input.specs.Input.{requestOf}
+use Rattle.ukhtvaresh.specs.declared.Reply.{Reply}
+use Rattle.ukhtvaresh.specs.Replies.{sheetReply}
+use Rattle.ukhtvaresh.proofs.ukhtvaresh_sheet.Statement.{statement}
+use Rattle.ukhtvaresh.proofs.ukhtvaresh_sheet.Tie as tie
+
+sheet-requires : tie.Need-sheet-requires
+sheet-requires c κs = search needs
+
+sheet-reply-requires : tie.Need-sheet-reply-requires
+sheet-reply-requires c κs = search needs
+
+same-length : tie.Need-same-length
+same-length c = search needs
+
+returns : tie.Need-returns
+returns c =
+    let start = c .before .before .before .before .before .before .before in
+    let done = c .before .before .before .sheet in
+    let e = c .sheet-reply .ensures ∙ ap sheetReply (done .ensures .0) in
+    (ap (λ (x : Reply). x .number) e, (ap (λ (x : Reply). x .value) e, (done .ensures .1 .0, subst (λ (x : Answer). Claimed (requestOf (start .args .request .now)) x (done .last .1 .0)) (done .ensures .0) (done .ensures .1 .1))))
+
+pub ukhtvaresh-sheet-spec : {M : Type 1} → statement M
+ukhtvaresh-sheet-spec =
+    tie.close (tie.spec sheet-requires sheet-reply-requires same-length returns)

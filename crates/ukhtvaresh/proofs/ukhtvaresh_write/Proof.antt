@@ -1,0 +1,26 @@
+-- `ukhtvaresh::ukhtvaresh_write` meets its contract: the answer of the crate below, as numbers. Assumes nothing.
+use mathlib.Core.Path.{_≡_, ap, _∙_}
+use borrow.Author.Needs.{needs}
+use Rattle.ukhtvaresh.specs.declared.Reply.{Reply}
+use Rattle.ukhtvaresh.specs.Replies.{writeReply}
+use Rattle.ukhtvaresh.proofs.ukhtvaresh_write.Statement.{statement}
+use Rattle.ukhtvaresh.proofs.ukhtvaresh_write.Tie as tie
+
+write-requires : tie.Need-write-requires
+write-requires c κs = search needs
+
+write-reply-requires : tie.Need-write-reply-requires
+write-reply-requires c κs = search needs
+
+same-length : tie.Need-same-length
+same-length c = search needs
+
+returns : tie.Need-returns
+returns c =
+    let done = c .before .before .before .write in
+    let e = c .write-reply .ensures ∙ ap writeReply (done .ensures .0) in
+    (ap (λ (x : Reply). x .number) e, (ap (λ (x : Reply). x .value) e, done .ensures .1))
+
+pub ukhtvaresh-write-spec : {M : Type 1} → statement M
+ukhtvaresh-write-spec =
+    tie.close (tie.spec write-requires write-reply-requires same-length returns)

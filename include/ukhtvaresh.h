@@ -1,0 +1,112 @@
+/* Ukhtvaresh: local circumstances of a solar eclipse in whole numbers.
+ *
+ * Lengths are in 10^-8 of the Earth's equatorial radius, angles in 10^-6 degree, times in whole seconds from the
+ * reference instant. East longitude is positive.
+ *
+ * Each function answers the number of the refusal, 0 for none. *value gets the length or the count on success, the
+ * refusal's place otherwise. Buffers are untouched on refusal; on success what lies past the result is.
+ * No function reads or writes outside the lengths it is given, and none keeps a pointer. A length of 0 is allowed,
+ * with any pointer that is not null. A buffer that is written, *value among them, must not overlap any other.
+ *
+ *   number                                           place
+ *    1  window outside its range                     0
+ *    2  an element outside its range                 first such field, 0 to 21
+ *    3  a station value outside its range            first: 0 number, 1 latitude, 2 longitude, 3 height
+ *    4  the buffer is too short                      the length it needs (bytes; entries for ukhtvaresh_read)
+ *    5  kind not in the table                        first byte of that record
+ *    6  the sheet ends inside a record or before     first byte of that record, or the input's length
+ *       the end record
+ *    7  a field breaks a reader's rule               first byte of that record
+ *    8  order broken                                 first byte of that record
+ *    9  bytes after the end record                   first of them
+ *   10  request not of its shape                     0
+ */
+#ifndef UKHTVARESH_H
+#define UKHTVARESH_H
+
+#include <stddef.h>
+#include <stdint.h>
+
+#ifdef __cplusplus
+extern "C" {
+#endif
+
+/* The length of a request in bytes. Numbers are big-endian:
+ *   kind 02, then 22 signed 4-byte elements: x0 x1 x2 x3, y0 y1 y2 y3, d0 d1 d2, l1 (constant, first, second),
+ *     l2 (the same), mu0 mu1 mu2, tan f1, tan f2; coefficients per hour; ranges
+ *     x, y      +-200,000,000  +-100,000,000  +-100,000  +-10,000
+ *     d         +-25,000,000   +-20,000       +-100
+ *     l1        50,000,000 to 60,000,000      +-100,000  +-10,000
+ *     l2        +-5,000,000    +-100,000      +-10,000
+ *     mu        0 to 359,999,999   14,900,000 to 15,100,000   +-100
+ *     tan f     400,000 to 500,000 (10^-8)
+ *   kind 03, then the station's number (unsigned, 2 bytes, 1 to 999), and signed, 4 bytes each, its geodetic latitude
+ *     (+-90,000,000), longitude (+-180,000,000, east positive) and height (-500 to 9,000 metres);
+ *   kind 04, then first and last second of the window (signed, 2 bytes each), -10,800 <= first <= last <= 10,800. */
+#define UKHTVARESH_REQUEST_LENGTH 109
+
+/* Kinds of entries. Enter, leave, graze and open are the paper's words. */
+enum {
+    UKHTVARESH_HEAD = 0x01,           /* station, first, last */
+    UKHTVARESH_ENTER_PENUMBRA = 0x10, /* from, to, direction */
+    UKHTVARESH_LEAVE_PENUMBRA = 0x11, /* from, to, direction */
+    UKHTVARESH_GRAZE_PENUMBRA = 0x12, /* from, to */
+    UKHTVARESH_OPEN_PENUMBRA = 0x13,  /* from, to */
+    UKHTVARESH_ENTER_CENTRAL = 0x20,
+    UKHTVARESH_LEAVE_CENTRAL = 0x21,
+    UKHTVARESH_GRAZE_CENTRAL = 0x22,
+    UKHTVARESH_OPEN_CENTRAL = 0x23,
+    UKHTVARESH_CLOSEST = 0x30, /* second, magnitude */
+    UKHTVARESH_END = 0x7F
+};
+
+/* An entry of a sheet: its kind and the kind's fields in their order, 0 for what the kind does not use.
+ * A second is stored plus 10,800, 0 to 21,600. Direction: tenths of a degree, north through east, 0 to 3599, or
+ * 65,535 for none. Magnitude: millionths, 0 to 1,300,000. Station: 1 to 999.
+ * An array of these is the memory that ukhtvaresh_read fills and ukhtvaresh_write takes, four numbers an entry. */
+typedef struct ukhtvaresh_entry {
+    uint32_t kind;
+    uint32_t fields[3];
+} ukhtvaresh_entry;
+
+/* The contact sheet of a request, at the start of `sheet`. *value: its length in bytes.
+ * Refusals, the first of them: 10, 1, 2, 3, 4. */
+uint64_t ukhtvaresh_sheet(const uint8_t *request, size_t request_len, uint8_t *sheet, size_t sheet_len,
+                          uint64_t *value);
+
+/* The numbers of one second, in `shadow`: see ukhtvaresh_second. */
+enum {
+    UKHTVARESH_U,         /* axis less station, to the east, +-602,170,000 */
+    UKHTVARESH_V,         /* the same to the north, +-651,170,000 */
+    UKHTVARESH_L1,        /* the penumbra's radius at the station, 48,860,000 to 61,140,000 */
+    UKHTVARESH_L2,        /* the central cone's, below zero where the eclipse is total, +-6,140,000 */
+    UKHTVARESH_PENUMBRA,  /* 0 outside, 1 inside, 2 unsure */
+    UKHTVARESH_CENTRAL,   /* likewise */
+    UKHTVARESH_MAGNITUDE, /* millionths, 0 to 1,300,000 */
+    UKHTVARESH_DIRECTION, /* tenths of a degree, north through east, 0 to 3599, or 65,535 for none */
+    UKHTVARESH_NUMBERS    /* how many: 8 */
+};
+
+/* The shadow at a second of a request, -10,800 to 10,800, also outside its window. *value: 8.
+ * Refusals: 10; 1 for the window or the second; 2; 3; 4 with place 8 where shadow_len is below 8.
+ * shadow_len counts numbers. */
+uint64_t ukhtvaresh_second(const uint8_t *request, size_t request_len, int64_t second, int64_t *shadow,
+                           size_t shadow_len, uint64_t *value);
+
+/* The entries of a sheet, head and end among them, at the start of `entries`. *value: how many entries.
+ * Refusals: the first faulty record's, in it 5, 6, 8, 7; 9; then 4 with the number of entries.
+ * entries_len counts numbers, four an entry. */
+uint64_t ukhtvaresh_read(const uint8_t *sheet, size_t sheet_len, uint32_t *entries, size_t entries_len,
+                         uint64_t *value);
+
+/* The sheet of entries, at the start of `sheet`. *value: its length in bytes.
+ * Refusals: the first faulty entry's, in it 5, 8, 7; 6 where the list stops before its end entry or inside an entry;
+ * 9; then 4. Places are those that the records have or would have in the sheet. entries_len counts numbers. */
+uint64_t ukhtvaresh_write(const uint32_t *entries, size_t entries_len, uint8_t *sheet, size_t sheet_len,
+                          uint64_t *value);
+
+#ifdef __cplusplus
+}
+#endif
+
+#endif

@@ -1,0 +1,4 @@
+//! The compiled library, and what to try it on.
+
+pub mod draws;
+pub mod library;

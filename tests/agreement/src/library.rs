@@ -1,0 +1,78 @@
+//! The library's four functions, as include/ukhtvaresh.h declares them.
+
+extern "C" {
+    fn ukhtvaresh_sheet(
+        request: *const u8,
+        request_len: usize,
+        sheet: *mut u8,
+        sheet_len: usize,
+        value: *mut u64,
+    ) -> u64;
+    fn ukhtvaresh_second(
+        request: *const u8,
+        request_len: usize,
+        second: i64,
+        shadow: *mut i64,
+        shadow_len: usize,
+        value: *mut u64,
+    ) -> u64;
+    fn ukhtvaresh_read(
+        sheet: *const u8,
+        sheet_len: usize,
+        entries: *mut u32,
+        entries_len: usize,
+        value: *mut u64,
+    ) -> u64;
+    fn ukhtvaresh_write(
+        entries: *const u32,
+        entries_len: usize,
+        sheet: *mut u8,
+        sheet_len: usize,
+        value: *mut u64,
+    ) -> u64;
+}
+
+/// The number of the refusal, 0 for none; the length, the count or the place.
+pub type Reply = (u64, u64);
+
+/// What `value` holds before a call.
+const UNSET: u64 = 0xDEAD_BEEF_DEAD_BEEF;
+
+pub fn sheet(request: &[u8], sheet: &mut [u8]) -> Reply {
+    let mut value = UNSET;
+    let number = unsafe {
+        ukhtvaresh_sheet(request.as_ptr(), request.len(), sheet.as_mut_ptr(), sheet.len(), &mut value)
+    };
+    (number, value)
+}
+
+pub fn second(request: &[u8], second: i64, shadow: &mut [i64]) -> Reply {
+    let mut value = UNSET;
+    let number = unsafe {
+        ukhtvaresh_second(
+            request.as_ptr(),
+            request.len(),
+            second,
+            shadow.as_mut_ptr(),
+            shadow.len(),
+            &mut value,
+        )
+    };
+    (number, value)
+}
+
+pub fn read(sheet: &[u8], entries: &mut [u32]) -> Reply {
+    let mut value = UNSET;
+    let number = unsafe {
+        ukhtvaresh_read(sheet.as_ptr(), sheet.len(), entries.as_mut_ptr(), entries.len(), &mut value)
+    };
+    (number, value)
+}
+
+pub fn write(entries: &[u32], sheet: &mut [u8]) -> Reply {
+    let mut value = UNSET;
+    let number = unsafe {
+        ukhtvaresh_write(entries.as_ptr(), entries.len(), sheet.as_mut_ptr(), sheet.len(), &mut value)
+    };
+    (number, value)
+}

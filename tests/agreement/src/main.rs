@@ -1,0 +1,234 @@
+//! `agreement REQUESTS SHEETS SEED`: the compiled library against document 01 in plain Rust.
+//!
+//! Compared for each call: the refusal's number, the value beside it, and the whole buffer with 64 numbers past its end.
+//!
+//! - a sheet for each request, within and outside the limits, near the edge, slow, along it, of other shapes; the room exact, one less,
+//!   none, plenty;
+//! - eight seconds of each request, within ±10,800 and outside;
+//! - sheets, whole and damaged, read; and entries, whole and damaged, written; what was read is written again, and the other way.
+//!
+//! Prints counts; the first difference stops it with all that gives it again.
+
+use agreement::draws;
+use agreement::library::{self, Reply};
+use reference::elements::FARTHEST;
+use reference::listing::sheet_of_input;
+use reference::random::Random;
+use reference::refusal::Refusal;
+use reference::request::Request;
+use reference::shadow::{Phase, State};
+use reference::sheet;
+use std::fmt::Debug;
+use std::time::Instant;
+
+const PAST: usize = 64;
+
+/// What a call left: the reply and the whole buffer, canaries too.
+type Left<T> = (Reply, Vec<T>);
+
+/// A buffer of `length` with canaries past its end, both from the same random numbers.
+fn buffer<T>(random: &mut Random, length: usize, number: impl Fn(u64) -> T) -> Vec<T> {
+    (0..length + PAST).map(|_| number(random.bits())).collect()
+}
+
+fn reply<T>(result: Result<T, Refusal>, value: impl Fn(T) -> u64) -> Reply {
+    match result {
+        Ok(x) => (0, value(x)),
+        Err(refusal) => (refusal.number().into(), refusal.place() as u64),
+    }
+}
+
+fn must_agree<T: PartialEq + Debug>(what: &str, given: &dyn Debug, ours: &Left<T>, theirs: &Left<T>) {
+    if ours == theirs {
+        return;
+    }
+    println!("DIFFERENCE in {what}");
+    println!("given {given:?}");
+    println!("library {:?}, reference {:?}", ours.0, theirs.0);
+    if let Some(at) = ours.1.iter().zip(&theirs.1).position(|(a, b)| a != b) {
+        println!("buffers differ from {at} on: library {:?}, reference {:?}", ours.1[at], theirs.1[at]);
+    }
+    std::process::exit(1);
+}
+
+/// Calls and replies by number, 0 to 10.
+struct Count {
+    name: &'static str,
+    replies: [u64; 11],
+}
+
+impl Count {
+    fn new(name: &'static str) -> Count {
+        Count { name, replies: [0; 11] }
+    }
+
+    fn add(&mut self, number: u64) {
+        self.replies[number as usize] += 1;
+    }
+
+    fn print(&self) {
+        let total: u64 = self.replies.iter().sum();
+        let parts = self.replies.iter().enumerate().filter(|(_, &n)| n > 0).map(|(k, n)| format!("{k}: {n}"));
+        println!("{:6} {total} calls, by number {}", self.name, parts.collect::<Vec<_>>().join(", "));
+    }
+}
+
+fn sheet_both(random: &mut Random, request: &[u8], room: usize) -> Left<u8> {
+    let old = buffer(random, room, |bits| bits as u8);
+    let mut ours = ((0, 0), old.clone());
+    ours.0 = library::sheet(request, &mut ours.1[..room]);
+    let mut theirs = ((0, 0), old);
+    theirs.0 = reply(sheet_of_input(request, &mut theirs.1[..room]), |length| length as u64);
+    must_agree("ukhtvaresh_sheet", &(request, room), &ours, &theirs);
+    ours
+}
+
+fn second_by_reference(request: &[u8], second: i64, shadow: &mut [i64]) -> Result<u64, Refusal> {
+    let request = Request::from_bytes(request)?;
+    if !(-FARTHEST..=FARTHEST).contains(&second) {
+        return Err(Refusal::Window);
+    }
+    let found = request.check()?.shadow(second);
+    let state = |phase| match found.state(phase) {
+        State::Outside => 0,
+        State::Inside => 1,
+        State::Unsure => 2,
+    };
+    let numbers = [
+        found.u,
+        found.v,
+        found.l1,
+        found.l2,
+        state(Phase::Penumbra),
+        state(Phase::Central),
+        found.magnitude(),
+        found.direction(),
+    ];
+    shadow.get_mut(..8).ok_or(Refusal::Room(8))?.copy_from_slice(&numbers);
+    Ok(8)
+}
+
+fn second_both(random: &mut Random, request: &[u8], second: i64, room: usize) -> Left<i64> {
+    let old = buffer(random, room, |bits| bits as i64);
+    let mut ours = ((0, 0), old.clone());
+    ours.0 = library::second(request, second, &mut ours.1[..room]);
+    let mut theirs = ((0, 0), old);
+    theirs.0 = reply(second_by_reference(request, second, &mut theirs.1[..room]), |count| count);
+    must_agree("ukhtvaresh_second", &(request, second, room), &ours, &theirs);
+    ours
+}
+
+fn read_both(random: &mut Random, sheet: &[u8], room: usize) -> Left<u32> {
+    let old = buffer(random, room, |bits| bits as u32);
+    let mut ours = ((0, 0), old.clone());
+    ours.0 = library::read(sheet, &mut ours.1[..room]);
+    let mut theirs = ((0, 0), old);
+    theirs.0 = reply(sheet::read(sheet, &mut theirs.1[..room]), |count| count as u64);
+    must_agree("ukhtvaresh_read", &(sheet, room), &ours, &theirs);
+    ours
+}
+
+fn write_both(random: &mut Random, entries: &[u32], room: usize) -> Left<u8> {
+    let old = buffer(random, room, |bits| bits as u8);
+    let mut ours = ((0, 0), old.clone());
+    ours.0 = library::write(entries, &mut ours.1[..room]);
+    let mut theirs = ((0, 0), old);
+    theirs.0 = reply(sheet::write(entries, &mut theirs.1[..room]), |length| length as u64);
+    must_agree("ukhtvaresh_write", &(entries, room), &ours, &theirs);
+    ours
+}
+
+/// The entries of a sheet that the library read with room enough, by the library.
+fn entries_of(random: &mut Random, sheet: &[u8]) -> Option<Vec<u32>> {
+    let ((number, count), mut entries) = read_both(random, sheet, 4 * sheet.len());
+    entries.truncate(4 * count as usize);
+    (number == 0).then_some(entries)
+}
+
+/// A sheet read and written again is the same. Its entries, if it has any.
+fn round_trip(random: &mut Random, sheet: &[u8]) -> Vec<u32> {
+    let entries = entries_of(random, sheet);
+    if let Some(entries) = &entries {
+        let ((number, length), bytes) = write_both(random, entries, sheet.len());
+        if number != 0 || bytes[..length as usize] != *sheet {
+            println!("DIFFERENCE: a sheet read and written again is another: {sheet:?}");
+            std::process::exit(1);
+        }
+    }
+    entries.unwrap_or_default()
+}
+
+fn request(random: &mut Random, sheets: &mut Count, seconds: &mut Count, kinds: &mut [u64; 128]) {
+    let request = draws::request(random);
+    let ((number, needed), written) = sheet_both(random, &request, 65_536);
+    sheets.add(number);
+    let needed = if number == 0 { needed as usize } else { 43 };
+    if number == 0 {
+        for entry in round_trip(random, &written[..needed]).chunks_exact(4) {
+            kinds[entry[0] as usize] += 1;
+        }
+    }
+    let room = draws::room(random, needed);
+    sheets.add(sheet_both(random, &request, room).0 .0);
+    for _ in 0..8 {
+        let second = if random.once_in(20) {
+            [-FARTHEST - 1, FARTHEST + 1, i64::MIN, i64::MAX, random.bits() as i64][random.below(5) as usize]
+        } else {
+            random.within(&(-FARTHEST..=FARTHEST))
+        };
+        let room = if random.once_in(8) { random.below(8) as usize } else { 8 + random.below(4) as usize };
+        seconds.add(second_both(random, &request, second, room).0 .0);
+    }
+}
+
+fn sheet(random: &mut Random, reads: &mut Count, writes: &mut Count) {
+    let mut entries = draws::entries(random);
+    let mut bytes = vec![0; 7 * entries.len()];
+    let length = sheet::write(&entries, &mut bytes).expect("entries that keep all rules");
+    bytes.truncate(length);
+
+    draws::damage(random, &mut bytes);
+    let room = match random.below(3) {
+        // rooms that are no whole number of entries too
+        0 => draws::room(random, entries.len()),
+        1 => 4 * draws::room(random, entries.len() / 4),
+        _ => 4 * bytes.len(),
+    };
+    reads.add(read_both(random, &bytes, room).0 .0);
+    round_trip(random, &bytes);
+
+    draws::damage_entries(random, &mut entries);
+    let room = if random.once_in(2) { draws::room(random, length) } else { 7 * entries.len() };
+    let ((number, written), sheet) = write_both(random, &entries, room);
+    writes.add(number);
+    if number == 0 && entries_of(random, &sheet[..written as usize]).as_ref() != Some(&entries) {
+        println!("DIFFERENCE: entries written and read again are others: {entries:?}");
+        std::process::exit(1);
+    }
+}
+
+fn main() {
+    let arguments: Vec<u64> = std::env::args().skip(1).map(|a| a.parse().expect("a number")).collect();
+    let [requests, sheets, seed] = arguments[..] else {
+        eprintln!("usage: agreement REQUESTS SHEETS SEED");
+        std::process::exit(2);
+    };
+    let start = Instant::now();
+    let mut random = Random::new(seed);
+    let mut counts = [Count::new("sheet"), Count::new("second"), Count::new("read"), Count::new("write")];
+    let mut kinds = [0; 128];
+    let [of_sheets, of_seconds, of_reads, of_writes] = &mut counts;
+    for _ in 0..requests {
+        request(&mut random, of_sheets, of_seconds, &mut kinds);
+    }
+    println!("{requests} requests agree, {:.1} s", start.elapsed().as_secs_f64());
+    let by_kind =
+        kinds.iter().enumerate().filter(|(_, &n)| n > 0).map(|(kind, n)| format!("{kind:02X}: {n}"));
+    println!("entries of their sheets, by kind {}", by_kind.collect::<Vec<_>>().join(", "));
+    for _ in 0..sheets {
+        sheet(&mut random, of_reads, of_writes);
+    }
+    println!("{sheets} sheets and lists of entries agree, {:.1} s", start.elapsed().as_secs_f64());
+    counts.iter().for_each(Count::print);
+    println!("no difference");
+}
