@@ -1,0 +1,431 @@
+"""Local circumstances of a solar eclipse in whole numbers, from a proved library.
+
+From the elements of an eclipse, a station and a window of seconds, `sheet` makes the station's contact sheet; `read`
+takes a sheet apart, `write` puts entries together as one, and `second` gives the shadow at one second. Each is a thin
+call of the proved function of the same name in libukhtvaresh.so, which the script `build` makes.
+
+Lengths are in 10^-8 of the Earth's equatorial radius, angles in 10^-6 degree, times in whole seconds from the
+reference instant. East longitude is positive. "Document 01" is the paper whose rules the library keeps.
+"""
+
+import ctypes
+import os
+import struct
+from dataclasses import astuple, dataclass
+from enum import Enum
+from pathlib import Path
+from typing import Callable, Iterable, List, Optional, Union
+
+REQUEST_LENGTH = 109  # bytes
+
+# ---- refusals
+
+_WORDS = {
+    1: "window outside its range",
+    2: "an element outside its range",
+    3: "a station value outside its range",
+    4: "sheet longer than the buffer",
+    5: "kind not in the table",
+    6: "input ends inside a record or before the end record",
+    7: "a field breaks a reader's rule",
+    8: "order broken",
+    9: "bytes after the end record",
+    10: "request not of its shape",
+}
+
+
+class Refused(Exception):
+    """Why a request, a sheet or a list of entries is refused: number and place of document 01's table, and words.
+
+    place: 2, 3 the first such field; 4 the length needed; 5 to 9 the record's first byte; else 0.
+    """
+
+    def __init__(self, number: int, place: int):
+        self.number = number
+        self.place = place
+        self.words = _WORDS[number]
+        super().__init__(number, place)
+
+    def __str__(self) -> str:
+        return f"refused {self.number} {self.place}: {self.words}"
+
+
+# ---- requests
+
+_REQUEST = struct.Struct(">B22iBH3iB2h")
+
+
+@dataclass(frozen=True)
+class Elements:
+    """The elements of an eclipse, in document 01's order. Coefficients are per hour."""
+
+    x0: int = 0  # ±200,000,000
+    x1: int = 0  # ±100,000,000
+    x2: int = 0  # ±100,000
+    x3: int = 0  # ±10,000
+    y0: int = 0  # y as x
+    y1: int = 0
+    y2: int = 0
+    y3: int = 0
+    d0: int = 0  # angle, ±25,000,000
+    d1: int = 0  # ±20,000
+    d2: int = 0  # ±100
+    l1_0: int = 0  # 50,000,000 to 60,000,000
+    l1_1: int = 0  # ±100,000
+    l1_2: int = 0  # ±10,000
+    l2_0: int = 0  # ±5,000,000; below zero is total
+    l2_1: int = 0  # ±100,000
+    l2_2: int = 0  # ±10,000
+    mu0: int = 0  # angle, 0 to 359,999,999
+    mu1: int = 0  # 14,900,000 to 15,100,000
+    mu2: int = 0  # ±100
+    tan_f1: int = 0  # 400,000 to 500,000, in 10^-8
+    tan_f2: int = 0  # likewise
+
+
+@dataclass(frozen=True)
+class Station:
+    """A station."""
+
+    number: int  # 1 to 999
+    latitude: int  # geodetic, 10^-6 degree, ±90,000,000
+    longitude: int  # 10^-6 degree, ±180,000,000, east positive
+    height: int  # metres, -500 to 9,000
+
+
+@dataclass(frozen=True)
+class Window:
+    """A window of seconds, both ends included: -10,800 <= first <= last <= 10,800."""
+
+    first: int
+    last: int
+
+
+@dataclass(frozen=True)
+class Request:
+    """What a sheet is asked for. Numbers outside document 01's ranges are the library's to refuse."""
+
+    elements: Elements
+    station: Station
+    window: Window
+
+    def to_bytes(self) -> bytes:
+        """The 109 bytes that the library takes; ValueError where a number does not fit its bytes."""
+        try:
+            return _REQUEST.pack(
+                2, *astuple(self.elements), 3, *astuple(self.station), 4, *astuple(self.window)
+            )
+        except struct.error as error:
+            raise ValueError(f"a number does not fit its bytes: {error}") from None
+
+    @staticmethod
+    def from_bytes(request: bytes) -> "Request":
+        """The request of 109 bytes; Refused(10, 0) where they are not of its shape."""
+        if len(request) != REQUEST_LENGTH:
+            raise Refused(10, 0)
+        numbers = _REQUEST.unpack(request)
+        if (numbers[0], numbers[23], numbers[28]) != (2, 3, 4):
+            raise Refused(10, 0)
+        return Request(Elements(*numbers[1:23]), Station(*numbers[24:28]), Window(*numbers[29:31]))
+
+
+# ---- entries of a sheet
+
+
+class Phase(Enum):
+    """The shadow that an entry is about."""
+
+    PENUMBRA = "penumbra"
+    CENTRAL = "central"
+
+    def __str__(self) -> str:
+        return self.value
+
+
+# Seconds count from the reference instant. A direction is in tenths of a degree, north through east, 0 to 3,599; None
+# where the axis goes through the station. `from_` is from, which Python keeps for itself. Enter, leave, graze and open
+# are document 01's words. str() of an entry is its line in a listing.
+
+
+@dataclass(frozen=True)
+class Head:
+    """The station's number and the window."""
+
+    station: int
+    first: int
+    last: int
+
+    def __str__(self) -> str:
+        return f"station {self.station} from {self.first} to {self.last}"
+
+
+@dataclass(frozen=True)
+class Enter:
+    """Outside at from, inside at to; direction at to."""
+
+    phase: Phase
+    from_: int
+    to: int
+    direction: Optional[int]
+
+    def __str__(self) -> str:
+        return f"enter {self.phase} {self.from_} {self.to} {_shown(self.direction)}"
+
+
+@dataclass(frozen=True)
+class Leave:
+    """Inside at from, outside at to; direction at from."""
+
+    phase: Phase
+    from_: int
+    to: int
+    direction: Optional[int]
+
+    def __str__(self) -> str:
+        return f"leave {self.phase} {self.from_} {self.to} {_shown(self.direction)}"
+
+
+@dataclass(frozen=True)
+class Graze:
+    """One state at from and to, with unsure seconds between them."""
+
+    phase: Phase
+    from_: int
+    to: int
+
+    def __str__(self) -> str:
+        return f"graze {self.phase} {self.from_} {self.to}"
+
+
+@dataclass(frozen=True)
+class Open:
+    """Unsure seconds at an end of the window, up to the nearest sure second."""
+
+    phase: Phase
+    from_: int
+    to: int
+
+    def __str__(self) -> str:
+        return f"open {self.phase} {self.from_} {self.to}"
+
+
+@dataclass(frozen=True)
+class Closest:
+    """The second at which the axis is closest to the station; magnitude in millionths."""
+
+    second: int
+    magnitude: int
+
+    def __str__(self) -> str:
+        return f"closest {self.second} {self.magnitude}"
+
+
+@dataclass(frozen=True)
+class End:
+    """The end of the sheet."""
+
+    def __str__(self) -> str:
+        return "end"
+
+
+Entry = Union[Head, Enter, Leave, Graze, Open, Closest, End]
+
+_SHIFT = 10_800  # a second is stored plus this
+_NONE = 65_535  # direction where there is none
+_BAD = 0xFFFF_FFFF  # breaks every rule; stands for a number that cannot be stored
+_BASE = {Phase.PENUMBRA: 0x10, Phase.CENTRAL: 0x20}
+_OF_PHASE = (Enter, Leave, Graze, Open)  # kinds from the phase's base on
+
+
+def _fit(number: int) -> int:
+    return number if 0 <= number <= _BAD else _BAD
+
+
+def _stored(second: int) -> int:
+    return _fit(second + _SHIFT)
+
+
+def _tenths(direction: Optional[int]) -> int:
+    if direction is None:
+        return _NONE
+    return direction if 0 <= direction < 3_600 else _BAD
+
+
+def _direction(tenths: int) -> Optional[int]:
+    return None if tenths == _NONE else tenths
+
+
+def _shown(direction: Optional[int]) -> int:
+    return _NONE if direction is None else direction
+
+
+def _numbers(entry: Entry) -> List[int]:
+    """The entry as the library has it: its kind and the kind's fields."""
+    if isinstance(entry, Head):
+        return [0x01, _fit(entry.station), _stored(entry.first), _stored(entry.last)]
+    if isinstance(entry, Closest):
+        return [0x30, _stored(entry.second), _fit(entry.magnitude), 0]
+    if isinstance(entry, End):
+        return [0x7F, 0, 0, 0]
+    direction = _tenths(entry.direction) if isinstance(entry, (Enter, Leave)) else 0
+    kind = _BASE[entry.phase] + _OF_PHASE.index(type(entry))
+    return [kind, _stored(entry.from_), _stored(entry.to), direction]
+
+
+def _entry(kind: int, a: int, b: int, c: int) -> Entry:
+    """The entry of numbers that the library gave."""
+    if kind == 0x01:
+        return Head(a, b - _SHIFT, c - _SHIFT)
+    if kind == 0x30:
+        return Closest(a - _SHIFT, b)
+    if kind == 0x7F:
+        return End()
+    phase = Phase.PENUMBRA if kind < 0x20 else Phase.CENTRAL
+    made = _OF_PHASE[kind - _BASE[phase]]
+    if made in (Enter, Leave):
+        return made(phase, a - _SHIFT, b - _SHIFT, _direction(c))
+    return made(phase, a - _SHIFT, b - _SHIFT)
+
+
+# ---- one second
+
+
+class State(Enum):
+    """The state of a station in a shadow at a second; unsure is too near the cone's edge to say."""
+
+    OUTSIDE = 0
+    INSIDE = 1
+    UNSURE = 2
+
+
+@dataclass(frozen=True)
+class Second:
+    """The shadow at one second."""
+
+    u: int  # axis less station, to the east
+    v: int  # the same to the north
+    l1: int  # radius of the penumbra at the station
+    l2: int  # of the central cone, below zero where the eclipse is total
+    penumbra: State
+    central: State
+    magnitude: int  # millionths, 0 to 1,300,000
+    direction: Optional[int]  # tenths of a degree, None where u and v are 0
+
+
+# ---- the library
+
+
+def _load() -> ctypes.CDLL:
+    default = Path(__file__).resolve().parent.parent / "target" / "staticlib"
+    shared = Path(os.environ.get("UKHTVARESH_LIB") or default).resolve() / "libukhtvaresh.so"
+    if not shared.is_file():
+        raise ImportError(
+            f"There is no {shared}. Run `rt staticlib ukhtvaresh` and then `python/build` at the repository's top."
+        )
+    library = ctypes.CDLL(str(shared))
+    data, length, room = ctypes.c_char_p, ctypes.c_size_t, ctypes.c_void_p
+    value = ctypes.POINTER(ctypes.c_uint64)
+    library.ukhtvaresh_sheet.argtypes = [data, length, room, length, value]
+    library.ukhtvaresh_second.argtypes = [data, length, ctypes.c_int64, room, length, value]
+    library.ukhtvaresh_read.argtypes = [data, length, room, length, value]
+    library.ukhtvaresh_write.argtypes = [room, length, room, length, value]
+    for name in ("sheet", "second", "read", "write"):
+        getattr(library, "ukhtvaresh_" + name).restype = ctypes.c_uint64
+    return library
+
+
+_library = _load()
+
+
+def _call(name: str, *arguments) -> int:
+    """The length or the count that the library's function gives, or its refusal."""
+    value = ctypes.c_uint64()
+    number = getattr(_library, "ukhtvaresh_" + name)(*arguments, ctypes.byref(value))
+    if number:
+        raise Refused(number, value.value)
+    return value.value
+
+
+def _lent(buffer):
+    """A writable buffer as memory and length. The library wants a pointer that is not null, also for none."""
+    length = memoryview(buffer).nbytes
+    if length == 0:
+        return (ctypes.c_uint8 * 1)(), 0
+    return (ctypes.c_uint8 * length).from_buffer(buffer), length
+
+
+def _whole(fill: Callable[[bytearray], int]) -> bytes:
+    """What `fill` writes, at its exact length. Few sheets pass 128 bytes; for those refusal 4 tells the length."""
+    buffer = bytearray(128)
+    try:
+        length = fill(buffer)
+    except Refused as refused:
+        if refused.number != 4:
+            raise
+        buffer = bytearray(refused.place)
+        length = fill(buffer)
+    return bytes(buffer[:length])
+
+
+def sheet_into(request: bytes, buffer) -> int:
+    """Puts the contact sheet of a request at the start of a writable buffer; gives its length in bytes.
+
+    The bytes past the sheet, and on refusal all bytes, keep what they held.
+    Refusals, the first of them: 10, 1, 2, 3, 4.
+    """
+    request = bytes(request)
+    return _call("sheet", request, len(request), *_lent(buffer))
+
+
+def sheet(request: bytes) -> bytes:
+    """The contact sheet of a request. Refusals, the first of them: 10, 1, 2, 3."""
+    return _whole(lambda buffer: sheet_into(request, buffer))
+
+
+def second(request: bytes, second: int) -> Second:
+    """The shadow at a second of a request, -10,800 to 10,800, also outside its window.
+
+    Refusals, the first of them: 10, 1 (for the window or the second), 2, 3.
+    """
+    request = bytes(request)
+    shadow = (ctypes.c_int64 * 8)()
+    second = max(-(2**63), min(second, 2**63 - 1))  # beyond, ctypes would take it modulo 2^64
+    _call("second", request, len(request), second, shadow, 8)
+    u, v, l1, l2, penumbra, central, magnitude, direction = shadow
+    return Second(u, v, l1, l2, State(penumbra), State(central), magnitude, _direction(direction))
+
+
+def read(sheet: bytes) -> List[Entry]:
+    """The entries of a sheet, head and end among them.
+
+    Refusals: the first faulty record's, in it 5, 6, 8, 7; then 9.
+    """
+    sheet = bytes(sheet)
+    # An entry is four numbers. Its record has five bytes or more, save the end's one, and the head's seven and the
+    # closest's seven make up for that: as many numbers as the sheet has bytes are always enough.
+    numbers = (ctypes.c_uint32 * (len(sheet) + 1))()
+    count = _call("read", sheet, len(sheet), numbers, len(sheet))
+    return [_entry(*numbers[4 * k : 4 * k + 4]) for k in range(count)]
+
+
+def write_into(entries: Iterable[Entry], buffer) -> int:
+    """Puts the sheet of entries at the start of a writable buffer; gives its length in bytes.
+
+    The bytes past the sheet, and on refusal all bytes, keep what they held. Refusals: the first faulty entry's, in it
+    8, 7; 6 where the list stops before its end; 9; then 4. Places are those that the records have or would have in
+    the sheet. A number that cannot be stored is refused as 7.
+    """
+    numbers = [number for entry in entries for number in _numbers(entry)]
+    handed = (ctypes.c_uint32 * (len(numbers) + 1))(*numbers)
+    return _call("write", handed, len(numbers), *_lent(buffer))
+
+
+def write(entries: Iterable[Entry]) -> bytes:
+    """The sheet of entries. Refusals as write_into, but 4."""
+    entries = list(entries)
+    return _whole(lambda buffer: write_into(entries, buffer))
+
+
+def listing(entries: Iterable[Entry]) -> str:
+    """The listing of a sheet's entries, as program `sheet` prints it: a line for each, the end left out."""
+    return "".join(f"{entry}\n" for entry in entries if not isinstance(entry, End))

@@ -1,0 +1,177 @@
+use std::fmt;
+
+/// The shadow that an entry is about.
+#[derive(Clone, Copy, Debug, PartialEq, Eq, Hash)]
+pub enum Phase {
+    /// The penumbra.
+    Penumbra,
+    /// The central cone, of a total or an annular eclipse.
+    Central,
+}
+
+/// An entry of a sheet. Enter, leave, graze and open are document 01's words.
+///
+/// Seconds count from the reference instant (a sheet stores them plus 10,800). A direction is in tenths of a degree,
+/// north through east, 0 to 3,599; `None` where the axis goes through the station.
+#[derive(Clone, Copy, Debug, PartialEq, Eq, Hash)]
+pub enum Entry {
+    /// The station's number, 1 to 999, and the window.
+    Head {
+        /// The station's number.
+        station: u16,
+        /// First second of the window.
+        first: i64,
+        /// Last second of the window.
+        last: i64,
+    },
+    /// Outside at `from`, inside at `to`.
+    Enter {
+        /// Penumbra or central.
+        phase: Phase,
+        /// The last sure second before.
+        from: i64,
+        /// The first sure second after.
+        to: i64,
+        /// Direction at `to`.
+        direction: Option<u16>,
+    },
+    /// Inside at `from`, outside at `to`.
+    Leave {
+        /// Penumbra or central.
+        phase: Phase,
+        /// The last sure second before.
+        from: i64,
+        /// The first sure second after.
+        to: i64,
+        /// Direction at `from`.
+        direction: Option<u16>,
+    },
+    /// One state at `from` and `to`, with unsure seconds between them.
+    Graze {
+        /// Penumbra or central.
+        phase: Phase,
+        /// The last sure second before.
+        from: i64,
+        /// The first sure second after.
+        to: i64,
+    },
+    /// Unsure seconds at an end of the window, up to the nearest sure second.
+    Open {
+        /// Penumbra or central.
+        phase: Phase,
+        /// First second.
+        from: i64,
+        /// Last second.
+        to: i64,
+    },
+    /// The second at which the axis is closest to the station.
+    Closest {
+        /// The second.
+        second: i64,
+        /// Its magnitude, millionths, 0 to 1,300,000.
+        magnitude: u32,
+    },
+    /// The end of the sheet.
+    End,
+}
+
+// A second is stored plus 10,800.
+const SHIFT: i64 = 10_800;
+// Direction where there is none.
+const NONE: u32 = 65_535;
+// Breaks every rule on a second or a direction; stands for one that cannot be stored.
+const BAD: u32 = u32::MAX;
+
+fn stored(second: i64) -> u32 {
+    second.checked_add(SHIFT).and_then(|second| u32::try_from(second).ok()).unwrap_or(BAD)
+}
+
+fn second(stored: u32) -> i64 {
+    i64::from(stored) - SHIFT
+}
+
+fn tenths(direction: Option<u16>) -> u32 {
+    match direction {
+        Some(tenths @ 0..=3_599) => u32::from(tenths),
+        Some(_) => BAD,
+        None => NONE,
+    }
+}
+
+pub(crate) fn direction(tenths: u32) -> Option<u16> {
+    (tenths < NONE).then_some(tenths as u16)
+}
+
+impl Phase {
+    // The kind of the phase's enter; leave, graze and open follow it.
+    fn kind(self) -> u32 {
+        match self {
+            Phase::Penumbra => 0x10,
+            Phase::Central => 0x20,
+        }
+    }
+}
+
+impl Entry {
+    // The entry as the library has it: its kind and the kind's fields.
+    pub(crate) fn numbers(self) -> [u32; 4] {
+        match self {
+            Entry::Head { station, first, last } => [0x01, u32::from(station), stored(first), stored(last)],
+            Entry::Enter { phase, from, to, direction } => {
+                [phase.kind(), stored(from), stored(to), tenths(direction)]
+            }
+            Entry::Leave { phase, from, to, direction } => {
+                [phase.kind() + 1, stored(from), stored(to), tenths(direction)]
+            }
+            Entry::Graze { phase, from, to } => [phase.kind() + 2, stored(from), stored(to), 0],
+            Entry::Open { phase, from, to } => [phase.kind() + 3, stored(from), stored(to), 0],
+            Entry::Closest { second, magnitude } => [0x30, stored(second), magnitude, 0],
+            Entry::End => [0x7F, 0, 0, 0],
+        }
+    }
+
+    // The entry of numbers that the library gave.
+    pub(crate) fn of(numbers: [u32; 4]) -> Entry {
+        let [kind, a, b, c] = numbers;
+        let phase = if kind < 0x20 { Phase::Penumbra } else { Phase::Central };
+        let (from, to) = (second(a), second(b));
+        match kind {
+            0x01 => Entry::Head { station: a as u16, first: second(b), last: second(c) },
+            0x10 | 0x20 => Entry::Enter { phase, from, to, direction: direction(c) },
+            0x11 | 0x21 => Entry::Leave { phase, from, to, direction: direction(c) },
+            0x12 | 0x22 => Entry::Graze { phase, from, to },
+            0x13 | 0x23 => Entry::Open { phase, from, to },
+            0x30 => Entry::Closest { second: second(a), magnitude: b },
+            0x7F => Entry::End,
+            _ => unreachable!("the library gives only kinds of the table"),
+        }
+    }
+}
+
+impl fmt::Display for Phase {
+    fn fmt(&self, f: &mut fmt::Formatter<'_>) -> fmt::Result {
+        f.write_str(match self {
+            Phase::Penumbra => "penumbra",
+            Phase::Central => "central",
+        })
+    }
+}
+
+/// The entry's line in a listing, as program `sheet` prints it; `end` for the end, which a listing leaves out.
+impl fmt::Display for Entry {
+    fn fmt(&self, f: &mut fmt::Formatter<'_>) -> fmt::Result {
+        match *self {
+            Entry::Head { station, first, last } => write!(f, "station {station} from {first} to {last}"),
+            Entry::Enter { phase, from, to, direction } => {
+                write!(f, "enter {phase} {from} {to} {}", direction.map_or(NONE, u32::from))
+            }
+            Entry::Leave { phase, from, to, direction } => {
+                write!(f, "leave {phase} {from} {to} {}", direction.map_or(NONE, u32::from))
+            }
+            Entry::Graze { phase, from, to } => write!(f, "graze {phase} {from} {to}"),
+            Entry::Open { phase, from, to } => write!(f, "open {phase} {from} {to}"),
+            Entry::Closest { second, magnitude } => write!(f, "closest {second} {magnitude}"),
+            Entry::End => f.write_str("end"),
+        }
+    }
+}

@@ -1,0 +1,91 @@
+// The library's four functions. All `unsafe` of this crate is here.
+//
+// Each function reads and writes only within the lengths it is given and keeps no pointer (include/ukhtvaresh.h).
+// It asks for pointers that are not null and for written memory that overlaps nothing else; a slice's pointer is
+// never null, also of an empty slice, and a mutable reference overlaps no other.
+
+use crate::Refusal;
+
+extern "C" {
+    fn ukhtvaresh_sheet(
+        request: *const u8,
+        request_len: usize,
+        sheet: *mut u8,
+        sheet_len: usize,
+        value: *mut u64,
+    ) -> u64;
+    fn ukhtvaresh_second(
+        request: *const u8,
+        request_len: usize,
+        second: i64,
+        shadow: *mut i64,
+        shadow_len: usize,
+        value: *mut u64,
+    ) -> u64;
+    fn ukhtvaresh_read(
+        sheet: *const u8,
+        sheet_len: usize,
+        entries: *mut u32,
+        entries_len: usize,
+        value: *mut u64,
+    ) -> u64;
+    fn ukhtvaresh_write(
+        entries: *const u32,
+        entries_len: usize,
+        sheet: *mut u8,
+        sheet_len: usize,
+        value: *mut u64,
+    ) -> u64;
+}
+
+// The answer of a call: the length or the count, or the refusal.
+fn answer(number: u64, value: u64) -> Result<usize, Refusal> {
+    match number {
+        0 => Ok(value as usize),
+        _ => Err(Refusal::of(number, value)),
+    }
+}
+
+pub fn sheet(request: &[u8], sheet: &mut [u8]) -> Result<usize, Refusal> {
+    let mut value = 0;
+    // SAFETY: pointers and lengths are those of live slices; `sheet` and `value` are borrowed mutably, so they
+    // overlap neither each other nor `request`.
+    let number = unsafe {
+        ukhtvaresh_sheet(request.as_ptr(), request.len(), sheet.as_mut_ptr(), sheet.len(), &mut value)
+    };
+    answer(number, value)
+}
+
+pub fn second(request: &[u8], second: i64, shadow: &mut [i64]) -> Result<usize, Refusal> {
+    let mut value = 0;
+    // SAFETY: as in `sheet`; the length of `shadow` counts its numbers, as the library does.
+    let number = unsafe {
+        ukhtvaresh_second(
+            request.as_ptr(),
+            request.len(),
+            second,
+            shadow.as_mut_ptr(),
+            shadow.len(),
+            &mut value,
+        )
+    };
+    answer(number, value)
+}
+
+pub fn read(sheet: &[u8], entries: &mut [u32]) -> Result<usize, Refusal> {
+    let mut value = 0;
+    // SAFETY: as in `sheet`; the length of `entries` counts its numbers, as the library does.
+    let number = unsafe {
+        ukhtvaresh_read(sheet.as_ptr(), sheet.len(), entries.as_mut_ptr(), entries.len(), &mut value)
+    };
+    answer(number, value)
+}
+
+pub fn write(entries: &[u32], sheet: &mut [u8]) -> Result<usize, Refusal> {
+    let mut value = 0;
+    // SAFETY: as in `sheet`; the length of `entries` counts its numbers, as the library does.
+    let number = unsafe {
+        ukhtvaresh_write(entries.as_ptr(), entries.len(), sheet.as_mut_ptr(), sheet.len(), &mut value)
+    };
+    answer(number, value)
+}

@@ -1,0 +1,177 @@
+//! Local circumstances of a solar eclipse in whole numbers, from a proved library.
+//!
+//! From the elements of an eclipse, a station and a window of seconds, [`sheet`] makes the station's contact sheet;
+//! [`read`] takes a sheet apart, [`write()`] puts entries together as one, and [`second`] gives the shadow at one
+//! second. Each is a thin call of the proved function of the same name in `libukhtvaresh.a`.
+//!
+//! Lengths are in 10^-8 of the Earth's equatorial radius, angles in 10^-6 degree, times in whole seconds from the
+//! reference instant. East longitude is positive. "Document 01" is the paper whose rules the library keeps.
+//!
+//! ```
+//! use ukhtvaresh::{read, sheet_vec, Elements, Entry, Phase, Request, Station, Window};
+//!
+//! // An axis that crosses the north pole at the reference instant.
+//! let request = Request {
+//!     elements: Elements {
+//!         x1: 36_000_000,
+//!         y0: 99_664_768,
+//!         l1_0: 54_000_000,
+//!         l2_0: -1_000_000,
+//!         mu1: 15_000_000,
+//!         tan_f1: 460_000,
+//!         tan_f2: 458_000,
+//!         ..Elements::default()
+//!     },
+//!     station: Station { number: 7, latitude: 90_000_000, longitude: 0, height: 0 },
+//!     window: Window { first: -6000, last: 6000 },
+//! };
+//! let sheet = sheet_vec(&request.to_bytes().expect("every number fits"))?;
+//! let entries = read(&sheet)?;
+//! assert_eq!(
+//!     entries[1],
+//!     Entry::Enter { phase: Phase::Penumbra, from: -5401, to: -5399, direction: Some(2700) }
+//! );
+//! for entry in &entries {
+//!     println!("{entry}"); // station 7 from -6000 to 6000, and so on
+//! }
+//! # Ok::<(), ukhtvaresh::Refusal>(())
+//! ```
+
+#![deny(unsafe_code)]
+#![warn(missing_docs)]
+
+mod entry;
+#[allow(unsafe_code)]
+mod ffi;
+mod refusal;
+mod request;
+
+pub use entry::{Entry, Phase};
+pub use refusal::Refusal;
+pub use request::{Elements, Request, Station, Window, REQUEST_LENGTH};
+
+/// The state of a station in a shadow at a second. Sure and unsure are document 01's words.
+#[derive(Clone, Copy, Debug, PartialEq, Eq, Hash)]
+pub enum State {
+    /// Surely outside.
+    Outside,
+    /// Surely inside.
+    Inside,
+    /// Too near the cone's edge to say.
+    Unsure,
+}
+
+/// The shadow at one second.
+#[derive(Clone, Copy, Debug, PartialEq, Eq, Hash)]
+pub struct Second {
+    /// Axis less station, to the east.
+    pub u: i64,
+    /// Axis less station, to the north.
+    pub v: i64,
+    /// Radius of the penumbra at the station.
+    pub l1: i64,
+    /// Radius of the central cone at the station, below zero where the eclipse is total.
+    pub l2: i64,
+    /// The station in the penumbra.
+    pub penumbra: State,
+    /// The station in the central cone.
+    pub central: State,
+    /// Magnitude, millionths, 0 to 1,300,000.
+    pub magnitude: u32,
+    /// Direction, tenths of a degree, north through east, 0 to 3,599; `None` where u and v are 0.
+    pub direction: Option<u16>,
+}
+
+/// The contact sheet of a request, at the start of `buffer`; gives its length in bytes.
+///
+/// The bytes past the sheet, and on refusal all bytes, keep what they held. Refusals, the first of them: 10, 1, 2, 3,
+/// 4.
+pub fn sheet(request: &[u8], buffer: &mut [u8]) -> Result<usize, Refusal> {
+    ffi::sheet(request, buffer)
+}
+
+/// The contact sheet of a request. Refusals as [`sheet`], but 4.
+pub fn sheet_vec(request: &[u8]) -> Result<Vec<u8>, Refusal> {
+    whole(|buffer| ffi::sheet(request, buffer))
+}
+
+/// The shadow at a second of a request, -10,800 to 10,800, also outside its window.
+///
+/// Refusals, the first of them: 10, 1 (for the window or the second), 2, 3.
+pub fn second(request: &[u8], second: i64) -> Result<Second, Refusal> {
+    let mut shadow = [0; 8];
+    ffi::second(request, second, &mut shadow)?;
+    let [u, v, l1, l2, penumbra, central, magnitude, direction] = shadow;
+    Ok(Second {
+        u,
+        v,
+        l1,
+        l2,
+        penumbra: state(penumbra),
+        central: state(central),
+        magnitude: magnitude as u32,
+        direction: entry::direction(direction as u32),
+    })
+}
+
+/// The entries of a sheet, head and end among them.
+///
+/// Refusals: the first faulty record's, in it 5, 6, 8, 7; then 9.
+pub fn read(sheet: &[u8]) -> Result<Vec<Entry>, Refusal> {
+    // An entry is four numbers. Its record has five bytes or more, save the end's one, and the head's seven and the
+    // closest's seven make up for that: as many numbers as the sheet has bytes are always enough.
+    let mut numbers = vec![0; sheet.len()];
+    let count = ffi::read(sheet, &mut numbers)?;
+    Ok(numbers
+        .chunks_exact(4)
+        .take(count)
+        .map(|entry| Entry::of([entry[0], entry[1], entry[2], entry[3]]))
+        .collect())
+}
+
+/// The sheet of entries, at the start of `buffer`; gives its length in bytes.
+///
+/// The bytes past the sheet, and on refusal all bytes, keep what they held. Refusals: the first faulty entry's, in it
+/// 8, 7; 6 where the list stops before its end; 9; then 4. Places are those that the records have or would have in the
+/// sheet. A second or a direction that cannot be stored is refused as 7.
+pub fn write(entries: &[Entry], buffer: &mut [u8]) -> Result<usize, Refusal> {
+    ffi::write(&numbers(entries), buffer)
+}
+
+/// The sheet of entries. Refusals as [`write()`], but 4.
+pub fn write_vec(entries: &[Entry]) -> Result<Vec<u8>, Refusal> {
+    let numbers = numbers(entries);
+    whole(|buffer| ffi::write(&numbers, buffer))
+}
+
+/// The listing of a sheet's entries, as program `sheet` prints it: a line for each, the end left out.
+pub fn listing(entries: &[Entry]) -> String {
+    entries.iter().filter(|entry| **entry != Entry::End).map(|entry| format!("{entry}\n")).collect()
+}
+
+fn numbers(entries: &[Entry]) -> Vec<u32> {
+    entries.iter().flat_map(|entry| entry.numbers()).collect()
+}
+
+fn state(number: i64) -> State {
+    match number {
+        0 => State::Outside,
+        1 => State::Inside,
+        _ => State::Unsure,
+    }
+}
+
+// What `fill` writes, at its exact length. A sheet seldom has more than six entries, 43 bytes; where it has, refusal 4
+// tells the length.
+fn whole(fill: impl Fn(&mut [u8]) -> Result<usize, Refusal>) -> Result<Vec<u8>, Refusal> {
+    let mut bytes = vec![0; 128];
+    let length = match fill(&mut bytes) {
+        Err(Refusal::Room { needed }) => {
+            bytes.resize(needed as usize, 0);
+            fill(&mut bytes)?
+        }
+        answer => answer?,
+    };
+    bytes.truncate(length);
+    Ok(bytes)
+}

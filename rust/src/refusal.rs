@@ -1,0 +1,122 @@
+use std::error::Error;
+use std::fmt;
+
+/// Why a request, a sheet or a list of entries is refused.
+///
+/// [`number`](Refusal::number) and [`place`](Refusal::place) are those of document 01's table of refusals.
+#[derive(Clone, Copy, Debug, PartialEq, Eq, Hash)]
+pub enum Refusal {
+    /// 1: the window, or the second asked for, is outside its range.
+    Window,
+    /// 2: an element is outside its range.
+    Element {
+        /// The first such field, 0 to 21, in the order of [`Elements`](crate::Elements).
+        field: u64,
+    },
+    /// 3: a station value is outside its range.
+    Station {
+        /// The first such value: 0 number, 1 latitude, 2 longitude, 3 height.
+        field: u64,
+    },
+    /// 4: the sheet is longer than the buffer.
+    Room {
+        /// The length the sheet needs.
+        needed: u64,
+    },
+    /// 5: a kind that is not in the table.
+    Kind {
+        /// First byte of that record.
+        at: u64,
+    },
+    /// 6: the input ends inside a record or before the end record.
+    Ends {
+        /// First byte of that record, or the input's length.
+        at: u64,
+    },
+    /// 7: a field breaks a reader's rule.
+    Field {
+        /// First byte of its record.
+        at: u64,
+    },
+    /// 8: order broken.
+    Order {
+        /// First byte of the record.
+        at: u64,
+    },
+    /// 9: bytes, or entries, after the end record.
+    After {
+        /// First byte of them.
+        at: u64,
+    },
+    /// 10: the request is not of its shape.
+    Shape,
+}
+
+impl Refusal {
+    /// The refusal's number, 1 to 10.
+    pub fn number(self) -> u64 {
+        match self {
+            Refusal::Window => 1,
+            Refusal::Element { .. } => 2,
+            Refusal::Station { .. } => 3,
+            Refusal::Room { .. } => 4,
+            Refusal::Kind { .. } => 5,
+            Refusal::Ends { .. } => 6,
+            Refusal::Field { .. } => 7,
+            Refusal::Order { .. } => 8,
+            Refusal::After { .. } => 9,
+            Refusal::Shape => 10,
+        }
+    }
+
+    /// The refusal's place: a field, a length or a byte, as the number says; 0 for 1 and 10.
+    pub fn place(self) -> u64 {
+        match self {
+            Refusal::Window | Refusal::Shape => 0,
+            Refusal::Element { field } | Refusal::Station { field } => field,
+            Refusal::Room { needed } => needed,
+            Refusal::Kind { at }
+            | Refusal::Ends { at }
+            | Refusal::Field { at }
+            | Refusal::Order { at }
+            | Refusal::After { at } => at,
+        }
+    }
+
+    // The refusal of a number and a place that the library gave.
+    pub(crate) fn of(number: u64, place: u64) -> Refusal {
+        match number {
+            1 => Refusal::Window,
+            2 => Refusal::Element { field: place },
+            3 => Refusal::Station { field: place },
+            4 => Refusal::Room { needed: place },
+            5 => Refusal::Kind { at: place },
+            6 => Refusal::Ends { at: place },
+            7 => Refusal::Field { at: place },
+            8 => Refusal::Order { at: place },
+            9 => Refusal::After { at: place },
+            10 => Refusal::Shape,
+            _ => unreachable!("the library gives only numbers of the table"),
+        }
+    }
+}
+
+impl fmt::Display for Refusal {
+    fn fmt(&self, f: &mut fmt::Formatter<'_>) -> fmt::Result {
+        let words = match self {
+            Refusal::Window => "window outside its range",
+            Refusal::Element { .. } => "an element outside its range",
+            Refusal::Station { .. } => "a station value outside its range",
+            Refusal::Room { .. } => "sheet longer than the buffer",
+            Refusal::Kind { .. } => "kind not in the table",
+            Refusal::Ends { .. } => "input ends inside a record or before the end record",
+            Refusal::Field { .. } => "a field breaks a reader's rule",
+            Refusal::Order { .. } => "order broken",
+            Refusal::After { .. } => "bytes after the end record",
+            Refusal::Shape => "request not of its shape",
+        };
+        write!(f, "refused {} {}: {words}", self.number(), self.place())
+    }
+}
+
+impl Error for Refusal {}

@@ -1,0 +1,407 @@
+//! Document 01's run cases through the crate: the hand-worked sheet, two real eclipses, every refusal, round trips.
+
+use std::fs;
+use std::path::Path;
+
+use ukhtvaresh::{
+    listing, read, second, sheet, sheet_vec, write, write_vec, Elements, Entry, Phase, Refusal, Request,
+    State, Station, Window, REQUEST_LENGTH,
+};
+use Phase::{Central, Penumbra};
+
+// The request of document 01's hand-worked sheet.
+fn hand_worked() -> Request {
+    Request {
+        elements: Elements {
+            x1: 36_000_000,
+            y0: 99_664_768,
+            l1_0: 54_000_000,
+            l2_0: -1_000_000,
+            mu1: 15_000_000,
+            tan_f1: 460_000,
+            tan_f2: 458_000,
+            ..Elements::default()
+        },
+        station: Station { number: 7, latitude: 90_000_000, longitude: 0, height: 0 },
+        window: Window { first: -6000, last: 6000 },
+    }
+}
+
+fn bytes(request: &Request) -> [u8; REQUEST_LENGTH] {
+    request.to_bytes().expect("every number fits its bytes")
+}
+
+// The hand-worked sheet's entries.
+fn entries() -> Vec<Entry> {
+    vec![
+        Entry::Head { station: 7, first: -6000, last: 6000 },
+        Entry::Enter { phase: Penumbra, from: -5401, to: -5399, direction: Some(2700) },
+        Entry::Leave { phase: Penumbra, from: 5399, to: 5401, direction: Some(900) },
+        Entry::Enter { phase: Central, from: -101, to: -99, direction: Some(2700) },
+        Entry::Leave { phase: Central, from: 99, to: 101, direction: Some(900) },
+        Entry::Closest { second: 0, magnitude: 1_037_735 },
+        Entry::End,
+    ]
+}
+
+const LISTING: &str = "\
+station 7 from -6000 to 6000
+enter penumbra -5401 -5399 2700
+leave penumbra 5399 5401 900
+enter central -101 -99 2700
+leave central 99 101 900
+closest 0 1037735
+";
+
+// The first byte of each record of the hand-worked sheet.
+const RECORDS: [u64; 7] = [0, 7, 14, 21, 28, 35, 42];
+
+fn entries_of(request: &Request) -> Vec<Entry> {
+    read(&sheet_vec(&bytes(request)).expect("a sheet")).expect("entries")
+}
+
+fn example(name: &str) -> Vec<u8> {
+    fs::read(Path::new(env!("CARGO_MANIFEST_DIR")).join("../examples").join(name)).expect(name)
+}
+
+// The refusal of a request, after a look that the buffer is as it was.
+fn refused(request: &[u8]) -> Refusal {
+    let mut buffer = [0xA5; 64];
+    let refusal = sheet(request, &mut buffer).expect_err("a refusal");
+    assert_eq!(buffer, [0xA5; 64]);
+    refusal
+}
+
+// ---- sheets
+
+#[test]
+fn hand_worked_sheet() {
+    assert_eq!(entries_of(&hand_worked()), entries());
+    assert_eq!(listing(&entries()), LISTING);
+}
+
+#[test]
+fn real_eclipses() {
+    for name in ["moscow1954", "kiev1954"] {
+        let request = example(&format!("{name}.bin"));
+        let found = read(&sheet_vec(&request).expect("a sheet")).expect("entries");
+        let expected = String::from_utf8(example(&format!("{name}.listing"))).expect("text");
+        assert_eq!(listing(&found), expected);
+    }
+}
+
+#[test]
+fn open_at_the_windows_end() {
+    for (last, to) in [(5400, 5400), (5402, 5401)] {
+        let mut request = hand_worked();
+        request.window = Window { first: 5400, last };
+        let open = Entry::Open { phase: Penumbra, from: 5400, to };
+        assert_eq!(entries_of(&request)[1], open);
+    }
+}
+
+#[test]
+fn buffer_of_43_bytes_and_of_42() {
+    let request = bytes(&hand_worked());
+    let mut buffer = [0xA5; 43];
+    assert_eq!(sheet(&request, &mut buffer), Ok(43));
+    assert_eq!(buffer[..], sheet_vec(&request).unwrap());
+    let mut buffer = [0xA5; 42];
+    assert_eq!(sheet(&request, &mut buffer), Err(Refusal::Room { needed: 43 }));
+    assert_eq!(buffer, [0xA5; 42]);
+    assert_eq!(sheet(&request, &mut []), Err(Refusal::Room { needed: 43 }));
+}
+
+#[test]
+fn bytes_past_the_sheet_are_kept() {
+    let request = bytes(&hand_worked());
+    let mut buffer = [0xA5; 64];
+    assert_eq!(sheet(&request, &mut buffer), Ok(43));
+    assert_eq!(buffer[43..], [0xA5; 21]);
+    let mut buffer = [0xA5; 64];
+    assert_eq!(write(&entries(), &mut buffer), Ok(43));
+    assert_eq!(buffer[43..], [0xA5; 21]);
+}
+
+// ---- requests refused
+
+#[test]
+fn window_refused() {
+    let mut request = hand_worked();
+    request.window.last = 10_800;
+    assert!(sheet_vec(&bytes(&request)).is_ok());
+    request.window.last = 10_801;
+    request.station.latitude = 90_000_001;
+    assert_eq!(refused(&bytes(&request)), Refusal::Window);
+    for (first, last) in [(-10_801, 0), (1, 0), (10_801, 10_801)] {
+        request.window = Window { first, last };
+        assert_eq!(refused(&bytes(&request)), Refusal::Window);
+    }
+}
+
+// The ranges of the 22 elements.
+const RANGES: [(i64, i64); 22] = [
+    (-200_000_000, 200_000_000),
+    (-100_000_000, 100_000_000),
+    (-100_000, 100_000),
+    (-10_000, 10_000),
+    (-200_000_000, 200_000_000),
+    (-100_000_000, 100_000_000),
+    (-100_000, 100_000),
+    (-10_000, 10_000),
+    (-25_000_000, 25_000_000),
+    (-20_000, 20_000),
+    (-100, 100),
+    (50_000_000, 60_000_000),
+    (-100_000, 100_000),
+    (-10_000, 10_000),
+    (-5_000_000, 5_000_000),
+    (-100_000, 100_000),
+    (-10_000, 10_000),
+    (0, 359_999_999),
+    (14_900_000, 15_100_000),
+    (-100, 100),
+    (400_000, 500_000),
+    (400_000, 500_000),
+];
+
+#[test]
+fn elements_refused() {
+    let mut short = hand_worked();
+    short.window = Window { first: 0, last: 10 };
+    for (field, (low, high)) in RANGES.into_iter().enumerate() {
+        let with = |number: i64| {
+            let mut numbers = short.elements.numbers();
+            numbers[field] = number;
+            let elements = Elements::from_numbers(numbers);
+            bytes(&Request { elements, ..short })
+        };
+        assert!(sheet_vec(&with(low)).is_ok() && sheet_vec(&with(high)).is_ok());
+        let field = field as u64;
+        assert_eq!(refused(&with(low - 1)), Refusal::Element { field });
+        assert_eq!(refused(&with(high + 1)), Refusal::Element { field });
+    }
+}
+
+#[test]
+fn stations_refused() {
+    let ranges = [(1, 999), (-90_000_000, 90_000_000), (-180_000_000, 180_000_000), (-500, 9_000)];
+    let mut request = hand_worked();
+    request.window = Window { first: 0, last: 10 };
+    for (field, (low, high)) in ranges.into_iter().enumerate() {
+        let with = |number: i64| {
+            let mut changed = request;
+            let station = &mut changed.station;
+            *[&mut station.number, &mut station.latitude, &mut station.longitude, &mut station.height]
+                [field] = number;
+            bytes(&changed)
+        };
+        assert!(sheet_vec(&with(low)).is_ok() && sheet_vec(&with(high)).is_ok());
+        let field = field as u64;
+        assert_eq!(refused(&with(low - 1)), Refusal::Station { field });
+        assert_eq!(refused(&with(high + 1)), Refusal::Station { field });
+    }
+}
+
+#[test]
+fn shapes_refused() {
+    let request = bytes(&hand_worked());
+    assert_eq!(refused(&[]), Refusal::Shape);
+    assert_eq!(refused(&request[..108]), Refusal::Shape);
+    assert_eq!(refused(&[&request[..], &[0]].concat()), Refusal::Shape);
+    for kind in [0, 89, 104] {
+        let mut request = request;
+        request[kind] = 5;
+        assert_eq!(refused(&request), Refusal::Shape);
+        assert_eq!(Request::from_bytes(&request), None);
+    }
+}
+
+// ---- one second
+
+#[test]
+fn seconds() {
+    let request = bytes(&hand_worked());
+    let middle = second(&request, 0).unwrap();
+    assert_eq!((middle.u, middle.v, middle.direction), (0, 0, None));
+    assert_eq!((middle.penumbra, middle.central), (State::Inside, State::Inside));
+    assert_eq!(middle.magnitude, 1_037_735);
+    assert!(middle.l2 < 0);
+    let unsure = second(&request, -5400).unwrap();
+    assert_eq!((unsure.penumbra, unsure.central), (State::Unsure, State::Outside));
+    assert_eq!((unsure.u, unsure.direction), (-54_000_000, Some(2700)));
+    // Outside the window, as far as it may reach.
+    let early = second(&request, -10_800).unwrap();
+    assert_eq!((early.penumbra, early.magnitude), (State::Outside, 0));
+    assert!(second(&request, 10_800).is_ok());
+}
+
+#[test]
+fn seconds_refused() {
+    let request = bytes(&hand_worked());
+    for far in [-10_801, 10_801, i64::MIN, i64::MAX] {
+        assert_eq!(second(&request, far), Err(Refusal::Window));
+    }
+    assert_eq!(second(&request[1..], 10_801), Err(Refusal::Shape));
+    let mut request = hand_worked();
+    request.station.height = 9_001;
+    assert_eq!(second(&bytes(&request), 0), Err(Refusal::Station { field: 3 }));
+    request.elements.tan_f2 = 0;
+    assert_eq!(second(&bytes(&request), 0), Err(Refusal::Element { field: 21 }));
+}
+
+// ---- sheets refused
+
+// The hand-worked sheet with some bytes changed.
+fn damaged(changes: &[(usize, u8)]) -> Vec<u8> {
+    let mut sheet = write_vec(&entries()).expect("a sheet");
+    for &(at, byte) in changes {
+        sheet[at] = byte;
+    }
+    sheet
+}
+
+#[test]
+fn kinds_refused() {
+    for at in RECORDS {
+        assert_eq!(read(&damaged(&[(at as usize, 0x14)])), Err(Refusal::Kind { at }));
+    }
+}
+
+#[test]
+fn short_sheets_refused() {
+    let sheet = damaged(&[]);
+    for length in 0..43 {
+        let at = RECORDS.into_iter().filter(|&at| at <= length).max();
+        let cut = read(&sheet[..length as usize]);
+        assert_eq!(cut, Err(Refusal::Ends { at: at.unwrap() }), "{length}");
+    }
+}
+
+#[test]
+fn fields_refused() {
+    // Station 0; a direction of 3,600; a magnitude of over 16 million.
+    for (at, changes) in [(0, vec![(1, 0), (2, 0)]), (7, vec![(12, 0x0E), (13, 0x10)]), (35, vec![(38, 1)])] {
+        assert_eq!(read(&damaged(&changes)), Err(Refusal::Field { at }));
+    }
+}
+
+#[test]
+fn order_refused() {
+    // An enter next to an enter; a second head; a closest that is missing.
+    for (at, changes) in [(14, (14, 0x10)), (7, (7, 0x01)), (35, (35, 0x7F))] {
+        assert_eq!(read(&damaged(&[changes])), Err(Refusal::Order { at }));
+    }
+}
+
+#[test]
+fn bytes_after_the_end_refused() {
+    let mut sheet = damaged(&[]);
+    sheet.push(0);
+    assert_eq!(read(&sheet), Err(Refusal::After { at: 43 }));
+}
+
+// ---- entries written
+
+#[test]
+fn round_trips() {
+    let sheet = sheet_vec(&bytes(&hand_worked())).unwrap();
+    assert_eq!(write_vec(&read(&sheet).unwrap()).unwrap(), sheet);
+    let mut all = entries();
+    all.splice(
+        3..3,
+        [
+            Entry::Graze { phase: Penumbra, from: 5401, to: 5500 },
+            Entry::Open { phase: Penumbra, from: 5900, to: 6000 },
+            Entry::Open { phase: Central, from: -6000, to: -5990 },
+        ],
+    );
+    all[7] = Entry::Leave { phase: Central, from: 99, to: 101, direction: None };
+    assert_eq!(read(&write_vec(&all).unwrap()).unwrap(), all);
+}
+
+#[test]
+fn long_sheets() {
+    let mut long = vec![entries()[0]];
+    long.extend((0..1000).map(|k| Entry::Graze { phase: Central, from: 2 * k, to: 2 * k + 2 }));
+    long.extend([entries()[5], Entry::End]);
+    let sheet = write_vec(&long).unwrap();
+    assert_eq!(sheet.len(), 15 + 5 * 1000);
+    assert_eq!(read(&sheet).unwrap(), long);
+}
+
+// The refusal of entries, after a look that the buffer is as it was.
+fn not_written(entries: &[Entry]) -> Refusal {
+    let mut buffer = [0xA5; 64];
+    let refusal = write(entries, &mut buffer).expect_err("a refusal");
+    assert_eq!(buffer, [0xA5; 64]);
+    refusal
+}
+
+#[test]
+fn entries_refused() {
+    let whole = entries();
+    for (count, at) in RECORDS.into_iter().enumerate() {
+        assert_eq!(not_written(&whole[..count]), Refusal::Ends { at });
+    }
+    let after = [&whole[..], &[Entry::End]].concat();
+    assert_eq!(not_written(&after), Refusal::After { at: 43 });
+    let swapped = [whole[0], whole[3], whole[1]];
+    assert_eq!(not_written(&swapped), Refusal::Order { at: 14 });
+    let mut buffer = [0xA5; 42];
+    assert_eq!(write(&whole, &mut buffer), Err(Refusal::Room { needed: 43 }));
+    assert_eq!(buffer, [0xA5; 42]);
+}
+
+#[test]
+fn entries_that_cannot_be_stored_refused() {
+    for second in [-10_801, 10_801, i64::MIN, i64::MAX, (1 << 32) - 10_800] {
+        let mut entries = entries();
+        entries[0] = Entry::Head { station: 7, first: -10_800, last: 10_800 };
+        entries[5] = Entry::Closest { second, magnitude: 0 };
+        assert_eq!(not_written(&entries), Refusal::Field { at: 35 });
+    }
+    for direction in [Some(3_600), Some(65_535)] {
+        let mut entries = entries();
+        entries[1] = Entry::Enter { phase: Penumbra, from: -5401, to: -5399, direction };
+        assert_eq!(not_written(&entries), Refusal::Field { at: 7 });
+    }
+}
+
+// ---- requests as bytes, refusals as words
+
+#[test]
+fn requests_as_bytes() {
+    for name in ["moscow1954.bin", "kiev1954.bin"] {
+        let stored = example(name);
+        let request = Request::from_bytes(&stored).expect("a request");
+        assert_eq!(bytes(&request)[..], stored);
+    }
+    let moscow = Request::from_bytes(&example("moscow1954.bin")).unwrap();
+    assert_eq!(
+        moscow.elements.numbers(),
+        [
+            -19869267, 55341229, -3333, -800, 65293771, -8866362, -19179, 183, 23193285, -2238, 0, 54000133,
+            12168, -1173, -588248, 12186, -1167, 359144993, 14999410, 0, 459878, 457587
+        ]
+    );
+    assert_eq!((moscow.station.number, moscow.station.height), (101, 166));
+    let mut request = hand_worked();
+    request.window.last = 32_768;
+    assert_eq!(request.to_bytes(), None);
+    request.window.last = 0;
+    request.station.number = -1;
+    assert_eq!(request.to_bytes(), None);
+    request.station.number = 7;
+    request.elements.x0 = 1 << 31;
+    assert_eq!(request.to_bytes(), None);
+}
+
+#[test]
+fn refusals_as_words() {
+    let refusal = Refusal::Room { needed: 43 };
+    assert_eq!((refusal.number(), refusal.place()), (4, 43));
+    assert_eq!(refusal.to_string(), "refused 4 43: sheet longer than the buffer");
+    let boxed: Box<dyn std::error::Error> = Box::new(Refusal::Shape);
+    assert_eq!(boxed.to_string(), "refused 10 0: request not of its shape");
+}
