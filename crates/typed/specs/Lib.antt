@@ -1,0 +1,9 @@
+pub mod Text
+pub mod TextLaws
+pub mod Numbers
+pub mod NumberLaws
+pub mod Fields
+pub mod FieldLaws
+pub mod Typed
+pub mod TypedLaws
+pub mod WalkLaws
