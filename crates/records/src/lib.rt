@@ -675,8 +675,9 @@ pub fn record_at(s: &[u8], at: usize) -> Record
 
 // ---- bytes
 
-// A number's lower two bytes at `at`.
-fn put_two(buf: &mut [u8], at: usize, v: u32)
+// A number's lower two bytes at `at`. `put_two` and `put_four` are for crates that write bytes of their own, and have a `requires`,
+// so, as `put`, they are none of the public promises.
+pub fn put_two(buf: &mut [u8], at: usize, v: u32)
     requires { ⌜ at + 2 ≤ length (now buf) ⌝ }
     ensures { λ r. ⌜ now (buf .exit) ≡ sets (now (buf .entry)) at (two v) ⌝ }
 {
@@ -687,7 +688,7 @@ fn put_two(buf: &mut [u8], at: usize, v: u32)
 }
 
 // A number's four bytes at `at`.
-fn put_four(buf: &mut [u8], at: usize, v: u32)
+pub fn put_four(buf: &mut [u8], at: usize, v: u32)
     requires { ⌜ at + 4 ≤ length (now buf) ⌝ }
     ensures { λ r. ⌜ now (buf .exit) ≡ sets (now (buf .entry)) at (four v) ⌝ }
 {
