@@ -8,10 +8,6 @@ use Rattle.numbers.specs.declared.Limits.{Limits}
 use Rattle.numbers.specs.declared.Limits.the-variants as L
 use Rattle.numbers.specs.Limits.{firstOutside}
 use Rattle.records.specs.Entries.{two, four}
-use Rattle.station.specs.declared.Station.{Station}
-use Rattle.circumstances.specs.declared.Window.{Window}
-use Rattle.circumstances.specs.declared.Request.{Request}
-use Rattle.input.specs.Input.{elementsBy}
 use Rattle.requests.specs.declared.Answer.{Answer}
 use Rattle.requests.specs.declared.Answer.the-variants.{Done, Unfit}
 
@@ -88,14 +84,3 @@ afterBy (L.Outside k) new old = old
 
 unfoldable pub bytesAfter : List ℤ → List ℕ → List ℕ
 bytesAfter n old = afterBy (fit n) (bytesOf n) old
-
--- ---- the request of the numbers
-
-unfoldable pub stationFrom : List ℤ → Station
-stationFrom n = record { number = number n 22; latitude = number n 23; longitude = number n 24; height = number n 25 }
-
-unfoldable pub windowFrom : List ℤ → Window
-windowFrom n = record { first = number n 26; last = number n 27 }
-
-unfoldable pub requestFrom : List ℤ → Request
-requestFrom n = record { elements = elementsBy (number n); station = stationFrom n; window = windowFrom n }

@@ -1,10 +1,11 @@
 -- A typed request: one `name value` a line, and the 28 numbers that the lines give.
 -- Assumes nothing: these are definitions.
-use Prim.Native.Nat.{ℕ, zero, suc, _+_, _≤_, _<_}
+use Prim.Native.Nat.{ℕ, zero, suc, _+_, _<_}
 use mathlib.Core.Bool.{Bool, true, false, cond}
 use mathlib.Core.List.{List, [], _∷_}
 use lib.Dec.{leb, eqb}
-use lib.IntN.{ℤ, pos, negℤ, natAbs}
+use lib.IntN.{ℤ, pos, negℤ}
+use lib.Signed.{_≤ℤ_}
 use lib.ListN.{length, getD, take, drop, set, replicate}
 use Rattle.typed.specs.declared.Class.the-variants as C
 use Rattle.typed.specs.declared.Units.{Units}
@@ -62,11 +63,15 @@ said l = drop (runOf C.Blank (content l)) (content l)
 unfoldable pub meaningOf : List ℕ → Line
 meaningOf l = cond (eqb (length (said l)) 0) L.Nothing (ofField (said l))
 
--- a line that gives a field gives one of the 28, and a number of at most 32 bits
+-- the bytes of field k hold the number
+abbrev pub InBytes : ℕ → ℤ → Type 0
+InBytes k z = (negℤ (pos (lowestOf k)) ≤ℤ z) × (z ≤ℤ pos (highestOf k))
+
+-- a line that gives a field gives one of the 28, and a number that its bytes hold
 abbrev pub InFields : Line → Type 0
 InFields L.Nothing = Unit {0}
 InFields (L.Faulty f) = Unit {0}
-InFields (L.Given k z) = (k < 28) × (natAbs z ≤ 4294967296)
+InFields (L.Given k z) = (k < 28) × InBytes k z
 
 -- a line is taken, but not where its name was given before: a field that was given is marked 1
 abbrev pub notedOf : Line → List ℕ → Noted

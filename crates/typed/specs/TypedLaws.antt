@@ -9,6 +9,8 @@ use borrow.Author.Tests.{lt-ltb, le-leb, lt-leb, eq-eqb, ne-eqb, ltb-true, leb-t
 use lib.Dec.{T, leb, ltb, eqb}
 use lib.IntN.{ℤ, pos, negℤ, natAbs}
 use lib.ListN.{length, getD, take, drop, set}
+use Rattle.numbers.specs.Parts.{opposite}
+use Rattle.numbers.specs.Order.{zs, natAbs-by}
 use Rattle.typed.specs.declared.Class.the-variants as C
 use Rattle.typed.specs.declared.Units.{Units}
 use Rattle.typed.specs.declared.Units.the-variants as U
@@ -26,7 +28,7 @@ use Rattle.typed.specs.Numbers.{isNumber, isWhole, amount, capped, units
 use Rattle.typed.specs.NumberLaws.{part, capped-below, capped-above}
 use Rattle.typed.specs.Fields.{Field, fields, names, placesOf, lowestOf, highestOf, findIn}
 use Rattle.typed.specs.FieldLaws.{found-at}
-use Rattle.typed.specs.Typed.{fitted, valueOf, valued, ofValue, ofFound, ofField, content, said, meaningOf, InFields, notedOf, givenAfter, numbersAfter, missing}
+use Rattle.typed.specs.Typed.{fitted, valueOf, valued, ofValue, ofFound, ofField, content, said, meaningOf, InBytes, InFields, notedOf, givenAfter, numbersAfter, missing}
 
 -- ---- what bytes hold
 
@@ -161,22 +163,23 @@ module _ (line : Line) (given : List ℕ) (ns : List ℤ) where
 
 -- a line that gives a field gives one of the 28, and a small number
 pub in-fields : (line : Line) (k : ℕ) (z : ℤ) → InFields line → line ≡ L.Given k z → (k < 28) × (natAbs z ≤ 4294967296)
-in-fields line k z i e = rw e at i
+in-fields line k z i e =
+    let t : (k < 28) × InBytes k z = rw e at i in
+    (t .0, natAbs-by z (omega (arith, zs, t .1 .1, highest-below k)) (omega (arith, zs, t .1 .0, opposite (pos (lowestOf k)) .is, lowest-below k)))
 
 module _ (k : ℕ) (l : k < 28) where
   fitted-in : (minus n : ℕ) → InFields (fitted k minus n)
   unfolding fitted
   fitted-in minus n = by (eqb minus 1) (leb n (lowestOf k)) (leb n (highestOf k)) refl refl
     where
-      neg-size : (n : ℕ) → natAbs (negℤ (pos n)) ≡ n
-      neg-size zero = refl
-      neg-size (suc n) = refl
-
       by : (a b c : Bool) → leb n (lowestOf k) ≡ b → leb n (highestOf k) ≡ c
           → InFields (cond a (cond b (L.Given k (negℤ (pos n))) (L.Faulty (Fault.Unfit k))) (cond c (L.Given k (pos n)) (L.Faulty (Fault.Unfit k))))
-      by true true c p q = (l, omega (arith, leb-true n (lowestOf k) p, lowest-below k, neg-size n))
+      by true true c p q =
+          let h = leb-true n (lowestOf k) p in
+          let o = opposite (pos n) .is in
+          (l, (omega (arith, zs, opposite (pos (lowestOf k)) .is), omega (arith, zs)))
       by true false c p q = tt
-      by false b true p q = (l, omega (arith, leb-true n (highestOf k) q, highest-below k))
+      by false b true p q = let h = leb-true n (highestOf k) q in (l, (omega (arith, zs, opposite (pos (lowestOf k)) .is), omega (arith, zs)))
       by false b false p q = tt
 
   either : (b : Bool) (x y : Line) → InFields x → InFields y → InFields (cond b x y)

@@ -18,9 +18,10 @@ use Rattle.records.specs.Records.{twoAt, fourAt}
 use Rattle.input.specs.declared.Input.the-variants as I
 use Rattle.input.specs.Input.{signed, shapeHolds, elementAt, elementsBy, elementsOf, stationOf, windowOf, requestOf, inputOf}
 use Rattle.input.specs.InputLaws.{signed-below, signed-above, elements-same, input-is}
 use Rattle.requests.specs.declared.Answer.the-variants.{Done}
-use Rattle.requests.specs.Requests.{number, lows, highs, fit, complement, inTwo, inFour, inFours, elementsBytes, stationBytes, windowBytes, bytesOf, putBy, putOf, bytesAfter, stationFrom, windowFrom, requestFrom}
-use Rattle.requests.specs.PutLaws.{complement-above, complement-small, between, element-between, size-four, size-number, size-first, size-last, length-elements, length-bytes, put-done}
+use Rattle.requests.specs.Requests.{number, lows, highs, fit, complement, inTwo, inFour, inFours, elementsBytes, stationBytes, windowBytes, bytesOf, putBy, putOf}
+use Rattle.request.specs.Typed.{stationFrom, windowFrom, requestFrom}
+use Rattle.requests.specs.PutLaws.{complement-above, complement-small, between, element-between, size-four, size-number, size-first, size-last, length-elements, length-bytes}
 
 -- ---- one number
 
@@ -143,7 +144,3 @@ unfolding requestOf requestFrom
 read-back n count e =
     let f = done-fits n e in
     input-is (bytesOf n) (shape n count f) ∙ rw (elements-back n count f, station-back n count f, window-back n count f)
-
--- and so is what `put` leaves, whatever the bytes were before
-pub put-read-back : (n : List ℤ) (old : List ℕ) → length n ≡ 28 → putOf n ≡ Done → inputOf (bytesAfter n old) ≡ I.Is (requestFrom n)
-put-read-back n old count e = rw (← put-done n old (done-fits n e) .1) (read-back n count e)

@@ -1,0 +1,111 @@
+// Reads a typed request from standard input, one `name value` a line, and writes its 109 bytes to standard output.
+// A fault is told on standard error with its line, and nothing is written.
+use libc::STDERR_FILENO;
+use libc::STDIN_FILENO;
+use libc::STDOUT_FILENO;
+use requests::Answer;
+use typed::Fault;
+use typed::Typed;
+ghost use mathlib.Core.Path.{_≡_};
+ghost use Rattle.typed.specs.Typed.{readingOf, answerOf};
+ghost use Rattle.request.specs.Typed.{bytesFrom, ReadAs};
+
+// The bytes of a typed request; or its fault, and the bytes as they were.
+fn encode(text: &[u8], out: &mut [u8; 109]) -> Typed
+    ensures answer { λ r. ⌜ r ≡ answerOf (readingOf (now (text .entry))) ⌝ }
+    ensures bytes { λ r. ⌜ now (out .exit) ≡ bytesFrom (readingOf (now (text .entry))) (now (out .entry)) ⌝ }
+    ensures read_as { λ r. ⌜ ReadAs (readingOf (now (text .entry))) (now (out .exit)) ⌝ }
+{
+    let mut numbers = [0i64; 28];
+    let answer = typed::numbers(text, &mut numbers);
+    if let Typed::Refused(_, _) = answer {
+        return answer;
+    }
+    let put = requests::put(&numbers, out);
+    answer
+}
+
+// ---- what is told
+
+fn tell(text: &[u8]) {
+    io::write_all(STDERR_FILENO, text);
+}
+
+fn tell_name(field: usize) {
+    match field {
+        0 => tell(b"x0"),
+        1 => tell(b"x1"),
+        2 => tell(b"x2"),
+        3 => tell(b"x3"),
+        4 => tell(b"y0"),
+        5 => tell(b"y1"),
+        6 => tell(b"y2"),
+        7 => tell(b"y3"),
+        8 => tell(b"d0"),
+        9 => tell(b"d1"),
+        10 => tell(b"d2"),
+        11 => tell(b"l10"),
+        12 => tell(b"l11"),
+        13 => tell(b"l12"),
+        14 => tell(b"l20"),
+        15 => tell(b"l21"),
+        16 => tell(b"l22"),
+        17 => tell(b"mu0"),
+        18 => tell(b"mu1"),
+        19 => tell(b"mu2"),
+        20 => tell(b"tan f1"),
+        21 => tell(b"tan f2"),
+        22 => tell(b"station"),
+        23 => tell(b"latitude"),
+        24 => tell(b"longitude"),
+        25 => tell(b"height"),
+        26 => tell(b"first"),
+        _ => tell(b"last"),
+    }
+}
+
+fn tell_of(field: usize, text: &[u8]) {
+    tell_name(field);
+    tell(text);
+}
+
+fn tell_fault(fault: Fault) {
+    match fault {
+        Fault::Unknown => tell(b"unknown name"),
+        Fault::NotNumber(field) => tell_of(field, b" is not a number"),
+        Fault::NotWhole(field) => tell_of(field, b" has too many decimals for a whole number of units"),
+        Fault::Unfit(field) => tell_of(field, b" is too large for its bytes"),
+        Fault::Twice(field) => tell_of(field, b" is given twice"),
+        Fault::Missing(field) => tell_of(field, b" is missing"),
+    }
+}
+
+fn tell_refused(line: usize, fault: Fault) {
+    tell(b"line ");
+    io::print_decimal(STDERR_FILENO, line as u64);
+    tell(b": ");
+    tell_fault(fault);
+    tell(b"\n");
+}
+
+fn answer(text: &[u8]) {
+    let mut bytes = [0u8; 109];
+    let answer = encode(text, &mut bytes);
+    match answer {
+        Typed::Numbers => {
+            io::write_all(STDOUT_FILENO, &bytes);
+        }
+        Typed::Refused(line, fault) => tell_refused(line, fault),
+    }
+}
+
+fn main() {
+    // a byte more than is taken, so that a longer text is seen
+    let mut text = [0u8; 65537];
+    let length = io::read_full(STDIN_FILENO, &mut text);
+    if 65536 < length {
+        tell(b"the text has more than 65,536 bytes\n");
+        return;
+    }
+    answer(&text[..length]);
+}
