@@ -22,7 +22,7 @@ use Rattle.circumstances.specs.declared.Checked.the-variants as C
 use Rattle.circumstances.specs.declared.Answer.{Answer}
 use Rattle.circumstances.specs.declared.Answer.the-variants as A
 use Rattle.circumstances.specs.Requests.{windowHolds, byStation, byElements, checked}
-use Rattle.circumstances.specs.Sheet.{sheetOf, sheetBytes, refusedBy, answerWithin, bufferWithin, answerBy, bufferBy, answerOf, bufferAfter}
+use Rattle.circumstances.specs.Sheet.{sheetOf, sheetBytes, answerWithin, bufferWithin, answerBy, bufferBy, answerOf, bufferAfter}
 use Rattle.circumstances.specs.Stores.{stores-start}
 use Rattle.circumstances.specs.Demand3.{Demand3, EachSecond, Claimed}
 use Rattle.circumstances.specs.LimitsLaws.{InLimits, in-limits}
@@ -85,7 +85,7 @@ module _ (q : Request) (old : List ℕ) where
       go true e = ap length (sym (stores-start (sheetBytes q) old (leb-true (length (sheetBytes q)) (length old) e))) ∙ length-sets old 0 (sheetBytes q)
       go false e = refl
 
-  pub refused-answer : (x : Refusal) → checked q ≡ C.Refused x → (refusedBy (checked q) ≡ answerOf q old) × (old ≡ bufferAfter q old)
+  pub refused-answer : (x : Refusal) → checked q ≡ C.Refused x → (A.Refused x ≡ answerOf q old) × (old ≡ bufferAfter q old)
   unfolding answerOf bufferAfter
   refused-answer x e = (rw e, rw e)
 

@@ -14,8 +14,8 @@ ghost use Rattle.contacts.specs.Entries.{entries, from, to};
 ghost use Rattle.records.specs.Entries.{bytesOf};
 ghost use Rattle.circumstances.specs.Requests.{windowHolds, checked};
 ghost use Rattle.circumstances.specs.Seconds.{placeOf, second, secondsOf, statesOf, closestOf, directionAt, magnitudeAt};
-ghost use Rattle.circumstances.specs.Sheet.{stored, entryOf, headOf, closestEntry, sheetBytes, refusedBy, answerWithin, bufferWithin, answerOf, bufferAfter};
-ghost use Rattle.circumstances.specs.OneSecond.{inSpan, refusedSecond, secondWithin, secondOf};
+ghost use Rattle.circumstances.specs.Sheet.{stored, entryOf, headOf, closestEntry, sheetBytes, answerWithin, bufferWithin, answerOf, bufferAfter};
+ghost use Rattle.circumstances.specs.OneSecond.{inSpan, secondWithin, secondOf};
 ghost use Rattle.circumstances.specs.Filled.{Filled, closestIn};
 ghost use Rattle.circumstances.specs.Sizes.{sizeOf, sizesOf};
 ghost use Rattle.circumstances.specs.Demand3.{phaseOf as phaseFor, Claimed};
@@ -94,16 +94,6 @@ pub fn check(q: Request) -> Checked
         return Checked::Refused(Refusal::Station(field));
     }
     Checked::Within
-}
-
-// A refusal, as it is passed on.
-fn refused(c: Checked) -> Answer
-    ensures { λ r. ⌜ r ≡ refusedBy c ⌝ }
-{
-    match c {
-        Checked::Within => Answer::Refused(Refusal::Shape),
-        Checked::Refused(r) => Answer::Refused(r),
-    }
 }
 
 // How many seconds the window has, first and last among them.
@@ -403,9 +393,9 @@ pub fn sheet(q: Request, buf: &mut [u8]) -> Answer
     ensures demand3 { λ r. ⌜ Claimed q r (now (buf .exit)) ⌝ }
 {
     let c = check(q);
-    let Checked::Within = c else {
-        return refused(c);
-    };
+    if let Checked::Refused(refusal) = c {
+        return Answer::Refused(refusal);
+    }
     let table = sine::table();
     sheet_within(&table, q, buf)
 }
@@ -416,15 +406,6 @@ fn in_span(t: i64) -> bool
     ensures { λ r. ⌜ r ≡ inSpan t ⌝ }
 {
     (-10_800 <= t) & (t <= 10_800)
-}
-
-fn refused_second(c: Checked) -> OneSecond
-    ensures { λ r. ⌜ r ≡ refusedSecond c ⌝ }
-{
-    match c {
-        Checked::Within => OneSecond::Refused(Refusal::Shape),
-        Checked::Refused(r) => OneSecond::Refused(r),
-    }
 }
 
 // One second of a request within its limits, with the sine table lent.
@@ -448,9 +429,9 @@ pub fn second(q: Request, t: i64) -> OneSecond
         return OneSecond::Refused(Refusal::Window);
     }
     let c = check(q);
-    let Checked::Within = c else {
-        return refused_second(c);
-    };
+    if let Checked::Refused(refusal) = c {
+        return OneSecond::Refused(refusal);
+    }
     let table = sine::table();
     second_within(&table, q, t)
 }
