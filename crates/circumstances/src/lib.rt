@@ -217,6 +217,30 @@ fn magnitude_at(table: &[u32], q: Request, place: station::Place, k: usize) -> u
     x.magnitude
 }
 
+// The earlier second of an entry of a phase, counted from the window's first.
+fn from_of(entry: contacts::Entry) -> usize
+    ensures { λ r. ⌜ r ≡ from entry ⌝ }
+{
+    match entry {
+        contacts::Entry::Enter { from, to: _ } => from,
+        contacts::Entry::Leave { from, to: _ } => from,
+        contacts::Entry::Graze { from, to: _ } => from,
+        contacts::Entry::Open { from, to: _ } => from,
+    }
+}
+
+// The later one.
+fn to_of(entry: contacts::Entry) -> usize
+    ensures { λ r. ⌜ r ≡ to entry ⌝ }
+{
+    match entry {
+        contacts::Entry::Enter { from: _, to } => to,
+        contacts::Entry::Leave { from: _, to } => to,
+        contacts::Entry::Graze { from: _, to } => to,
+        contacts::Entry::Open { from: _, to } => to,
+    }
+}
+
 // An entry of a phase, with its direction: at the later second of an enter, at the earlier of a leave.
 fn entry_for(
     table: &[u32],
@@ -229,11 +253,13 @@ fn entry_for(
     ensures { λ r. ⌜ r ≡ entryOf q (phaseFor family) entry ⌝ }
 {
     let w = q.window;
+    let earlier = from_of(entry);
+    let later = to_of(entry);
+    let from = stored_at(w, earlier);
+    let to = stored_at(w, later);
     match entry {
-        contacts::Entry::Enter { from, to } => {
-            let direction = direction_at(table, q, place, to);
-            let from = stored_at(w, from);
-            let to = stored_at(w, to);
+        contacts::Entry::Enter { from: _, to: _ } => {
+            let direction = direction_at(table, q, place, later);
             records::Entry::Enter {
                 family,
                 from,
@@ -241,10 +267,8 @@ fn entry_for(
                 direction,
             }
         }
-        contacts::Entry::Leave { from, to } => {
-            let direction = direction_at(table, q, place, from);
-            let from = stored_at(w, from);
-            let to = stored_at(w, to);
+        contacts::Entry::Leave { from: _, to: _ } => {
+            let direction = direction_at(table, q, place, earlier);
             records::Entry::Leave {
                 family,
                 from,
@@ -252,16 +276,8 @@ fn entry_for(
                 direction,
             }
         }
-        contacts::Entry::Graze { from, to } => {
-            let from = stored_at(w, from);
-            let to = stored_at(w, to);
-            records::Entry::Graze { family, from, to }
-        }
-        contacts::Entry::Open { from, to } => {
-            let from = stored_at(w, from);
-            let to = stored_at(w, to);
-            records::Entry::Open { family, from, to }
-        }
+        contacts::Entry::Graze { from: _, to: _ } => records::Entry::Graze { family, from, to },
+        contacts::Entry::Open { from: _, to: _ } => records::Entry::Open { family, from, to },
     }
 }
 
