@@ -93,6 +93,22 @@ module _ (q : Request) (old : List ℕ) where
   unfolding answerOf bufferAfter
   within-answer e = (rw e, rw e)
 
+  -- what was written fits the buffer
+  pub written-fits : (n : ℕ) → answerOf q old ≡ A.Written n → n ≤ length old
+  unfolding answerOf
+  written-fits n e = by-numbers (checked q) e
+    where
+      never : {B : Type 0} (r : Refusal) → A.Refused r ≡ A.Written n → B
+      never r e = let z : _≡_ {A = ℕ} 0 1 = cc in absurd (omega arith)
+
+      by-room : (b : Bool) → leb (length (sheetBytes q)) (length old) ≡ b → cond b (A.Written (length (sheetBytes q))) (A.Refused (R.Room (length (sheetBytes q)))) ≡ A.Written n → n ≤ length old
+      by-room true h e = let m : length (sheetBytes q) ≡ n = cc in omega (arith, leb-true (length (sheetBytes q)) (length old) h)
+      by-room false h e = never (R.Room (length (sheetBytes q))) e
+
+      by-numbers : (c : Checked) → answerBy c q old ≡ A.Written n → n ≤ length old
+      by-numbers (C.Refused r) e = never r e
+      by-numbers C.Within e = by-room (leb (length (sheetBytes q)) (length old)) refl e
+
   -- what was answered and left is what the rules say: so demand 3 is claimed of it
   pub claimed : (r : Answer) (new : List ℕ) → r ≡ answerOf q old → new ≡ bufferAfter q old → Claimed q r new
   claimed r new er en = rw (er, en) (claims q old)
