@@ -30,20 +30,6 @@ def changed(request, **fields):
     return request
 
 
-# the lengths of the records of a listing's lines, and of the end record, which has none
-SIZES = {"station": 7, "enter": 7, "leave": 7, "graze": 5, "open": 5, "closest": 7}
-END = 1
-
-
-def program(request):
-    """What `cases` prints for a request with the program's room, from the reference's listing."""
-    text = run("reference", "sheet", given=request)
-    if text.startswith("refused"):
-        return text
-    length = END + sum(SIZES[line.split()[0]] for line in text.splitlines())
-    return f"written {length}\n" + text
-
-
 def case(room, request):
     return number(min(room, PROGRAM_ROOM - 1), 2) + number(len(request), 1) + request.ljust(110, b"\0")
 
@@ -52,9 +38,8 @@ def answer(request, sheet):
     """What `cases` prints for a sheet in hexadecimal, or for its refusal."""
     if sheet.startswith("refused"):
         return sheet + "\n"
-    length = len(sheet) // 2
-    assert length < PROGRAM_ROOM
-    return f"written {length}\n" + listings[request]
+    assert len(sheet) // 2 < PROGRAM_ROOM
+    return listings[request]
 
 
 release, folder = sys.argv[1:]
@@ -84,7 +69,7 @@ more = [
 ]
 for request in more:
     given.append(case(PROGRAM_ROOM, request))
-    expected.append(program(request))
+    expected.append(run("reference", "sheet", given=request))
 
 open(f"{folder}/stdin", "wb").write(b"".join(given))
 open(f"{folder}/stdout", "w").write("".join(expected))

@@ -1,6 +1,5 @@
 // Reads cases from standard input, 113 bytes each: the room for a sheet, 2 bytes; the length of a request, 1 byte; and its bytes, of 110.
-// Prints for each `written`, the sheet's length and its listing; or the refusal.
-use circumstances::Answer;
+// Prints for each the listing of its sheet; or the refusal.
 use libc::STDIN_FILENO;
 ghost use Prim.Native.Nat.{_<_};
 
@@ -8,28 +7,6 @@ fn wide(x: u8) -> usize
     ensures { λ r. ⌜ r < 256 ⌝ }
 {
     x as usize
-}
-
-fn print_written(sheet: &[u8]) {
-    io::write_all(1, b"written ");
-    io::print_decimal(1, sheet.len() as u64);
-    printing::end_line();
-    listings::print_sheet(sheet);
-}
-
-fn print_refused(refusal: circumstances::Refusal) {
-    let number = input::number_of(refusal);
-    let place = input::place_of(refusal);
-    listings::print_refusal(number, place);
-}
-
-// Writes the sheet of a request into the room, and prints the answer.
-fn print_case(request: &[u8], room: &mut [u8]) {
-    let answer = input::sheet(request, room);
-    match answer {
-        Answer::Written(written) => print_written(&room[..written]),
-        Answer::Refused(refusal) => print_refused(refusal),
-    }
 }
 
 // Reads one case and prints its answer; or answers false where the input ends.
@@ -44,7 +21,7 @@ fn print_next_case() -> bool {
         return false;
     }
     let mut buf = io::large_buffer();
-    print_case(&case[3..end], &mut buf[..room]);
+    answers::print_sheet(&case[3..end], &mut buf[..room]);
     true
 }
 

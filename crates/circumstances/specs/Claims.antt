@@ -22,7 +22,7 @@ use Rattle.circumstances.specs.declared.Checked.the-variants as C
 use Rattle.circumstances.specs.declared.Answer.{Answer}
 use Rattle.circumstances.specs.declared.Answer.the-variants as A
 use Rattle.circumstances.specs.Requests.{windowHolds, byStation, byElements, checked}
-use Rattle.circumstances.specs.Sheet.{sheetOf, sheetBytes, refusedBy, answerWithin, bufferWithin, answerBy, bufferBy, answerOf, bufferAfter}
+use Rattle.circumstances.specs.Sheet.{sheetOf, sheetBytes, answerWithin, bufferWithin, answerBy, bufferBy, answerOf, bufferAfter}
 use Rattle.circumstances.specs.Stores.{stores-start}
 use Rattle.circumstances.specs.Demand3.{Demand3, EachSecond, Claimed}
 use Rattle.circumstances.specs.LimitsLaws.{InLimits, in-limits}
@@ -85,13 +85,29 @@ module _ (q : Request) (old : List ℕ) where
       go true e = ap length (sym (stores-start (sheetBytes q) old (leb-true (length (sheetBytes q)) (length old) e))) ∙ length-sets old 0 (sheetBytes q)
       go false e = refl
 
-  pub refused-answer : (x : Refusal) → checked q ≡ C.Refused x → (refusedBy (checked q) ≡ answerOf q old) × (old ≡ bufferAfter q old)
+  pub refused-answer : (x : Refusal) → checked q ≡ C.Refused x → (A.Refused x ≡ answerOf q old) × (old ≡ bufferAfter q old)
   unfolding answerOf bufferAfter
   refused-answer x e = (rw e, rw e)
 
   pub within-answer : checked q ≡ C.Within → (answerWithin q old ≡ answerOf q old) × (bufferWithin q old ≡ bufferAfter q old)
   unfolding answerOf bufferAfter
   within-answer e = (rw e, rw e)
+
+  -- what was written fits the buffer
+  pub written-fits : (n : ℕ) → answerOf q old ≡ A.Written n → n ≤ length old
+  unfolding answerOf
+  written-fits n e = by-numbers (checked q) e
+    where
+      never : {B : Type 0} (r : Refusal) → A.Refused r ≡ A.Written n → B
+      never r e = let z : _≡_ {A = ℕ} 0 1 = cc in absurd (omega arith)
+
+      by-room : (b : Bool) → leb (length (sheetBytes q)) (length old) ≡ b → cond b (A.Written (length (sheetBytes q))) (A.Refused (R.Room (length (sheetBytes q)))) ≡ A.Written n → n ≤ length old
+      by-room true h e = let m : length (sheetBytes q) ≡ n = cc in omega (arith, leb-true (length (sheetBytes q)) (length old) h)
+      by-room false h e = never (R.Room (length (sheetBytes q))) e
+
+      by-numbers : (c : Checked) → answerBy c q old ≡ A.Written n → n ≤ length old
+      by-numbers (C.Refused r) e = never r e
+      by-numbers C.Within e = by-room (leb (length (sheetBytes q)) (length old)) refl e
 
   -- what was answered and left is what the rules say: so demand 3 is claimed of it
   pub claimed : (r : Answer) (new : List ℕ) → r ≡ answerOf q old → new ≡ bufferAfter q old → Claimed q r new

@@ -1,5 +1,5 @@
 -- Demand 3 of the entries of a request within its limits.
---   each-second    every second is said rightly (geometry: the states' meaning)
+--   each-second    every second is said rightly (shadow: `states-true`)
 --   changes-once, ends-exact, turns-alternate   the laws of the walk over states (contacts), carried over to the entries of the sheet
 -- Why: second k of the window is the stored second n = first + 10,800 + k, so an entry of a phase says in the sheet what it says of the
 -- window's seconds; entries of the other phase, the head, the closest second and the end say nothing of this one.
@@ -17,8 +17,7 @@ use lib.Signed.{_≤ℤ_, leZ-yes}
 use Rattle.numbers.specs.Parts.{posP, negP, sum, opposite, same}
 use Rattle.numbers.specs.Order.{zs, ≤-parts, natAbs-by}
 use Rattle.geometry.specs.Shadow.{Phase, penumbra, central, inside, outside, unsure}
-use Rattle.geometry.specs.Moments.{axis-ranges, station-ranges, cone1-ranges, cone2-ranges}
-use Rattle.geometry.specs.States.{StatesMean, penumbra-means, central-means}
+use Rattle.geometry.specs.States.{StatesMean}
 use Rattle.contacts.specs.declared.Entry as Contact
 use Rattle.contacts.specs.declared.Entry.the-variants as K
 use Rattle.contacts.specs.Entries as CE
@@ -34,7 +33,7 @@ use Rattle.records.specs.declared.Entry.{Entry}
 use Rattle.records.specs.declared.Entry.the-variants.{Head, Enter, Leave, Graze, Open, Closest, End}
 use Rattle.circumstances.specs.declared.Request.{Request}
 use Rattle.shadow.specs.Second.{cone}
-use Rattle.shadow.specs.Second as Shadow
+use Rattle.shadow.specs.SecondLaws.{state-at, states-true}
 use Rattle.circumstances.specs.Seconds.{at, placeOf, guard, stateAt, second, secondsOf, statesOf}
 use Rattle.circumstances.specs.Sheet.{stored, familyOf, entryOf, phaseOf, headOf, closestEntry, sheetOf}
 use Rattle.circumstances.specs.Demand3 as D3
@@ -49,22 +48,14 @@ module _ (q : Request) (i : InLimits q) where
       natAbs-by τ (omega (arith, ≤-parts (w .1), ≤-parts (i .window .high))) (omega (arith, ≤-parts (w .0), ≤-parts (i .window .low), opposite (pos 10800) .is))
 
   means : (φ : Phase) (τ : ℤ) → natAbs τ ≤ 10800 → StatesMean guard φ (at q τ) (cone φ (q .elements))
-  means penumbra τ h =
-      let e = q .elements in
-      let p = placeOf (q .station) in
-      let l = q .station .longitude in
-      penumbra-means (at q τ) (axis-ranges e (i .elements) τ h p l) (station-ranges e (i .elements) τ h p l (placed q i)) (cone penumbra e) (cone1-ranges e (i .elements)) guard (leZ-yes tt) (i .elements .l10-low)
-  means central τ h =
-      let e = q .elements in
-      let p = placeOf (q .station) in
-      let l = q .station .longitude in
-      central-means (at q τ) (axis-ranges e (i .elements) τ h p l) (station-ranges e (i .elements) τ h p l (placed q i)) (cone central e) (cone2-ranges e (i .elements)) guard (leZ-yes tt)
+  means φ τ h = states-true (q .elements) (i .elements) (placeOf (q .station)) (placed q i) (q .station .longitude) τ h guard (leZ-yes tt) φ
 
   pub each-second : EachSecond q
-  unfolding stateAt Shadow.stateAt
+  unfolding stateAt
   each-second φ τ w =
       let m = means φ τ (window-size τ w) in
-      record { said-inside = m .inside-is; said-outside = m .outside-is; said-unsure = m .unsure-is }
+      let is = sym (state-at guard (q .elements) (placeOf (q .station)) (q .station .longitude) φ τ) in
+      record { said-inside = λ s. m .inside-is (is ∙ s); said-outside = λ s. m .outside-is (is ∙ s); said-unsure = λ s. m .unsure-is (is ∙ s) }
 
 -- ---- an entry of a phase, in the window and in the sheet
 leb-shift : (b f k : ℕ) → leb (b + f) (b + k) ≡ leb f k

@@ -55,11 +55,6 @@ secondBy C.Within q τ = secondWithin q τ
 unfoldable pub secondOf : Request → ℤ → OneSecond
 secondOf q τ = cond (inSpan τ) (secondBy (checked q) q τ) (O.Refused R.Window)
 
--- a refusal, passed on (a request within its limits has none, and gets the shape's)
-abbrev pub refusedSecond : Checked → OneSecond
-refusedSecond (C.Refused r) = O.Refused r
-refusedSecond C.Within = O.Refused R.Shape
-
 -- ---- laws
 -- what the code gives is that record
 pub second-is : (e : Elements) (p : Place) (longitude τ : ℤ) (x : Second) → Shadow.IsSecond guard e p longitude τ x → x ≡ secondAt e p longitude τ
@@ -95,5 +90,5 @@ module _ (q : Request) (τ : ℤ) where
   unfolding secondOf
   second-by e = rw e
 
-  pub refused-by : (r : Refusal) → checked q ≡ C.Refused r → refusedSecond (checked q) ≡ secondBy (checked q) q τ
+  pub refused-by : (r : Refusal) → checked q ≡ C.Refused r → O.Refused r ≡ secondBy (checked q) q τ
   refused-by r e = rw e

@@ -81,8 +81,3 @@ bufferBy C.Within q old = bufferWithin q old
 
 unfoldable pub bufferAfter : Request → List ℕ → List ℕ
 bufferAfter q old = bufferBy (checked q) q old
-
--- a refusal of the request's numbers, as an answer (a request within its limits has none, and gets the shape's)
-abbrev pub refusedBy : Checked → Answer
-refusedBy (C.Refused r) = A.Refused r
-refusedBy C.Within = A.Refused R.Shape

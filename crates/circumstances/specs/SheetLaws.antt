@@ -13,12 +13,7 @@ use lib.IntN.{ℤ, pos, negℤ, natAbs, _-ℤ_}
 use lib.Signed.{_≤ℤ_}
 use Rattle.numbers.specs.Parts.{posP, negP, sum}
 use Rattle.numbers.specs.Order.{zs, ≤-parts, natAbs-parts, natAbs-between}
-use Rattle.sine.specs.Table.{S}
-use Rattle.geometry.specs.Shadow.{Phase, penumbra, central, u, v, M, cone1, cone2}
-use Rattle.geometry.specs.Moments.{station-ranges, cone1-ranges, cone2-ranges}
-use Rattle.geometry.specs.Sizes.{ζ-size}
-use Rattle.geometry.specs.DirectionLaws.{direction-limit}
-use Rattle.geometry.specs.MagnitudeLaws.{magnitude-within}
+use Rattle.geometry.specs.Shadow.{Phase, penumbra, central, M}
 use Rattle.contacts.specs.declared.Entry as Contact
 use Rattle.contacts.specs.declared.Entry.the-variants as K
 use Rattle.contacts.specs.Entries as CE
@@ -34,7 +29,7 @@ use Rattle.records.specs.Rules.{start, isDirection}
 use Rattle.sheets.specs.WellFormed.{WellFormed, within}
 use Rattle.sheets.specs.WellFormedLaws.{well-step, step-head, step-enter, step-leave, step-graze, step-open, well-central, well-closest}
 use Rattle.circumstances.specs.declared.Request.{Request}
-use Rattle.shadow.specs.Second as Shadow
+use Rattle.shadow.specs.SecondLaws.{magnitude-most, direction-near}
 use Rattle.circumstances.specs.Seconds.{guard, at, placeOf, second, secondsOf, statesOf, closestTo, closestOf, directionAt, magnitudeAt}
 use Rattle.circumstances.specs.Sheet.{stored, familyOf, entryOf, phaseOf, headOf, closestEntry, sheetOf}
 use Rattle.circumstances.specs.LimitsLaws.{InLimits, placed, last-is, second-size}
@@ -83,8 +78,8 @@ module _ (q : Request) (i : InLimits q) where
       omega (arith, ap stored (last-is q i), stored-at q i b)
 
   direction-kept : (τ : ℤ) → isDirection (directionAt q τ) ≡ true
-  unfolding directionAt Shadow.directionAt
-  direction-kept τ = direction-holds (directionAt q τ) (direction-limit S (u (at q τ)) (v (at q τ)))
+  unfolding directionAt
+  direction-kept τ = direction-holds (directionAt q τ) (direction-near (q .elements) (placeOf (q .station)) (q .station .longitude) τ)
 
   -- "from is the first second or to the last"
   at-end : (f t x y : ℕ) → x ≡ first + f → y ≡ first + t → (f ≡ 0) ⊎ (t + 1 ≡ n) → (eqb x first || eqb y last) ≡ true
@@ -142,12 +137,8 @@ module _ (q : Request) (i : InLimits q) where
 
   -- "It never exceeds 1,300,000."
   pub magnitude-small : (τ : ℤ) → natAbs τ ≤ 10800 → magnitudeAt q τ ≤ 1300000
-  unfolding magnitudeAt Shadow.magnitudeAt
-  magnitude-small τ h =
-      let e = q .elements in
-      let p = placeOf (q .station) in
-      let l = q .station .longitude in
-      magnitude-within (at q τ) h (ζ-size (at q τ) (station-ranges e (i .elements) τ h p l (placed q i))) (cone1 e) (cone2 e) (cone1-ranges e (i .elements)) (i .elements .l10-low) (cone2-ranges e (i .elements)) (Shadow.stateAt guard e p l central τ) (M (at q τ))
+  unfolding magnitudeAt
+  magnitude-small τ h = magnitude-most (q .elements) (i .elements) (placeOf (q .station)) (placed q i) (q .station .longitude) τ h guard
 
   kept-closest : (until turn : ℕ) → WellFormed (within Central first last until turn) (closestEntry q ∷ End ∷ [])
   unfolding closestEntry

@@ -14,8 +14,8 @@ ghost use Rattle.contacts.specs.Entries.{entries, from, to};
 ghost use Rattle.records.specs.Entries.{bytesOf};
 ghost use Rattle.circumstances.specs.Requests.{windowHolds, checked};
 ghost use Rattle.circumstances.specs.Seconds.{placeOf, second, secondsOf, statesOf, closestOf, directionAt, magnitudeAt};
-ghost use Rattle.circumstances.specs.Sheet.{stored, entryOf, headOf, closestEntry, sheetBytes, refusedBy, answerWithin, bufferWithin, answerOf, bufferAfter};
-ghost use Rattle.circumstances.specs.OneSecond.{inSpan, refusedSecond, secondWithin, secondOf};
+ghost use Rattle.circumstances.specs.Sheet.{stored, entryOf, headOf, closestEntry, sheetBytes, answerWithin, bufferWithin, answerOf, bufferAfter};
+ghost use Rattle.circumstances.specs.OneSecond.{inSpan, secondWithin, secondOf};
 ghost use Rattle.circumstances.specs.Filled.{Filled, closestIn};
 ghost use Rattle.circumstances.specs.Sizes.{sizeOf, sizesOf};
 ghost use Rattle.circumstances.specs.Demand3.{phaseOf as phaseFor, Claimed};
@@ -94,16 +94,6 @@ pub fn check(q: Request) -> Checked
         return Checked::Refused(Refusal::Station(field));
     }
     Checked::Within
-}
-
-// A refusal, as it is passed on.
-fn refused(c: Checked) -> Answer
-    ensures { λ r. ⌜ r ≡ refusedBy c ⌝ }
-{
-    match c {
-        Checked::Within => Answer::Refused(Refusal::Shape),
-        Checked::Refused(r) => Answer::Refused(r),
-    }
 }
 
 // How many seconds the window has, first and last among them.
@@ -227,6 +217,30 @@ fn magnitude_at(table: &[u32], q: Request, place: station::Place, k: usize) -> u
     x.magnitude
 }
 
+// The earlier second of an entry of a phase, counted from the window's first.
+fn from_of(entry: contacts::Entry) -> usize
+    ensures { λ r. ⌜ r ≡ from entry ⌝ }
+{
+    match entry {
+        contacts::Entry::Enter { from, to: _ } => from,
+        contacts::Entry::Leave { from, to: _ } => from,
+        contacts::Entry::Graze { from, to: _ } => from,
+        contacts::Entry::Open { from, to: _ } => from,
+    }
+}
+
+// The later one.
+fn to_of(entry: contacts::Entry) -> usize
+    ensures { λ r. ⌜ r ≡ to entry ⌝ }
+{
+    match entry {
+        contacts::Entry::Enter { from: _, to } => to,
+        contacts::Entry::Leave { from: _, to } => to,
+        contacts::Entry::Graze { from: _, to } => to,
+        contacts::Entry::Open { from: _, to } => to,
+    }
+}
+
 // An entry of a phase, with its direction: at the later second of an enter, at the earlier of a leave.
 fn entry_for(
     table: &[u32],
@@ -239,11 +253,13 @@ fn entry_for(
     ensures { λ r. ⌜ r ≡ entryOf q (phaseFor family) entry ⌝ }
 {
     let w = q.window;
+    let earlier = from_of(entry);
+    let later = to_of(entry);
+    let from = stored_at(w, earlier);
+    let to = stored_at(w, later);
     match entry {
-        contacts::Entry::Enter { from, to } => {
-            let direction = direction_at(table, q, place, to);
-            let from = stored_at(w, from);
-            let to = stored_at(w, to);
+        contacts::Entry::Enter { from: _, to: _ } => {
+            let direction = direction_at(table, q, place, later);
             records::Entry::Enter {
                 family,
                 from,
@@ -251,10 +267,8 @@ fn entry_for(
                 direction,
             }
         }
-        contacts::Entry::Leave { from, to } => {
-            let direction = direction_at(table, q, place, from);
-            let from = stored_at(w, from);
-            let to = stored_at(w, to);
+        contacts::Entry::Leave { from: _, to: _ } => {
+            let direction = direction_at(table, q, place, earlier);
             records::Entry::Leave {
                 family,
                 from,
@@ -262,16 +276,8 @@ fn entry_for(
                 direction,
             }
         }
-        contacts::Entry::Graze { from, to } => {
-            let from = stored_at(w, from);
-            let to = stored_at(w, to);
-            records::Entry::Graze { family, from, to }
-        }
-        contacts::Entry::Open { from, to } => {
-            let from = stored_at(w, from);
-            let to = stored_at(w, to);
-            records::Entry::Open { family, from, to }
-        }
+        contacts::Entry::Graze { from: _, to: _ } => records::Entry::Graze { family, from, to },
+        contacts::Entry::Open { from: _, to: _ } => records::Entry::Open { family, from, to },
     }
 }
 
@@ -403,9 +409,9 @@ pub fn sheet(q: Request, buf: &mut [u8]) -> Answer
     ensures demand3 { λ r. ⌜ Claimed q r (now (buf .exit)) ⌝ }
 {
     let c = check(q);
-    let Checked::Within = c else {
-        return refused(c);
-    };
+    if let Checked::Refused(refusal) = c {
+        return Answer::Refused(refusal);
+    }
     let table = sine::table();
     sheet_within(&table, q, buf)
 }
@@ -416,15 +422,6 @@ fn in_span(t: i64) -> bool
     ensures { λ r. ⌜ r ≡ inSpan t ⌝ }
 {
     (-10_800 <= t) & (t <= 10_800)
-}
-
-fn refused_second(c: Checked) -> OneSecond
-    ensures { λ r. ⌜ r ≡ refusedSecond c ⌝ }
-{
-    match c {
-        Checked::Within => OneSecond::Refused(Refusal::Shape),
-        Checked::Refused(r) => OneSecond::Refused(r),
-    }
 }
 
 // One second of a request within its limits, with the sine table lent.
@@ -448,9 +445,9 @@ pub fn second(q: Request, t: i64) -> OneSecond
         return OneSecond::Refused(Refusal::Window);
     }
     let c = check(q);
-    let Checked::Within = c else {
-        return refused_second(c);
-    };
+    if let Checked::Refused(refusal) = c {
+        return OneSecond::Refused(refusal);
+    }
     let table = sine::table();
     second_within(&table, q, t)
 }

@@ -3,37 +3,8 @@
 // The buffers hold 170 before the call.
 use libc::STDIN_FILENO;
 use libc::STDOUT_FILENO;
-use sheets::Extent;
 ghost use Prim.Native.Nat.{_+_, _*_, _≤_, _<_};
 ghost use lib.ListN.{length};
-
-fn print(text: &[u8]) {
-    io::write_all(STDOUT_FILENO, text);
-}
-
-fn print_line() {
-    print(b"\n");
-}
-
-fn print_number(n: u64) {
-    print(b" ");
-    io::print_decimal(STDOUT_FILENO, n);
-}
-
-fn print_answer(answer: Extent) {
-    match answer {
-        Extent::Sheet { entries, length } => {
-            print(b" sheet");
-            print_number(entries as u64);
-            print_number(length as u64);
-        }
-        Extent::Refused(refusal) => {
-            print(b" refused");
-            print_number(records::number_of(refusal) as u64);
-            print_number(records::place_of(refusal) as u64);
-        }
-    }
-}
 
 fn wide(x: u8) -> u64 {
     x as u64
@@ -41,7 +12,7 @@ fn wide(x: u8) -> u64 {
 
 fn print_byte(bytes: &[u8], at: usize) {
     if at < bytes.len() {
-        print(b" ");
+        printing::print(b" ");
         io::print_hex(STDOUT_FILENO, wide(bytes[at]), 2);
     }
 }
@@ -52,17 +23,17 @@ fn print_bytes(bytes: &[u8]) {
         print_byte(bytes, at);
         at += 1;
     }
-    print_line();
+    printing::end_line();
 }
 
 fn print_list(list: &[u32]) {
     let mut space = [170u8; 256];
     let mut short = [170u8; 20];
-    print(b"written");
-    print_answer(sheets::write(list, &mut space));
-    print(b" short");
-    print_answer(sheets::write(list, &mut short));
-    print_line();
+    printing::print(b"written");
+    listings::print_extent(sheets::write(list, &mut space));
+    printing::print(b" short");
+    listings::print_extent(sheets::write(list, &mut short));
+    printing::end_line();
     print_bytes(&space);
     print_bytes(&short);
 }

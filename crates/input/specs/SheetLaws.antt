@@ -4,17 +4,13 @@ use mathlib.Core.Bool.{Bool, true, false, cond}
 use mathlib.Core.List.{List}
 use Prim.Native.Nat.{ℕ, _≤_}
 use native.Mathlib.Omega.{arith}
-use borrow.Author.Tests.{leb-true}
-use lib.Dec.{leb}
 use lib.ListN.{length}
 use Rattle.circumstances.specs.declared.Request.{Request}
 use Rattle.circumstances.specs.declared.Refusal.{Refusal}
 use Rattle.circumstances.specs.declared.Refusal.the-variants as R
-use Rattle.circumstances.specs.declared.Checked.{Checked}
-use Rattle.circumstances.specs.declared.Checked.the-variants as C
 use Rattle.circumstances.specs.declared.Answer.the-variants as A
-use Rattle.circumstances.specs.Requests.{checked}
-use Rattle.circumstances.specs.Sheet.{sheetBytes, answerBy, answerOf, bufferAfter}
+use Rattle.circumstances.specs.Sheet.{answerOf, bufferAfter}
+use Rattle.circumstances.specs.Claims as Claims
 use Rattle.input.specs.declared.Input.the-variants as I
 use Rattle.input.specs.Input.{shapeHolds, requestOf, inputOf}
 use Rattle.input.specs.InputLaws.{input-is, input-refused}
@@ -63,24 +59,10 @@ module _ (s old : List ℕ) where
   buffer-misshaped h = rw h
 
 -- ---- what was written fits
-never : {B : Type 0} (r : Refusal) (n : ℕ) → A.Refused r ≡ A.Written n → B
-never r n e = let z : _≡_ {A = ℕ} 0 1 = cc in absurd (omega arith)
-
 pub written-fits : (s old : List ℕ) (n : ℕ) → answerTo s old ≡ A.Written n → n ≤ length old
-unfolding answerTo answerOf
-written-fits s old n e = by-shape (shapeHolds s) e
+unfolding answerTo
+written-fits s old n e = by (shapeHolds s) e
   where
-    q : Request
-    q = requestOf s
-
-    by-room : (b : Bool) → leb (length (sheetBytes q)) (length old) ≡ b → cond b (A.Written (length (sheetBytes q))) (A.Refused (R.Room (length (sheetBytes q)))) ≡ A.Written n → n ≤ length old
-    by-room true h e = let m : length (sheetBytes q) ≡ n = cc in omega (arith, leb-true (length (sheetBytes q)) (length old) h)
-    by-room false h e = never (R.Room (length (sheetBytes q))) n e
-
-    by-numbers : (c : Checked) → answerBy c q old ≡ A.Written n → n ≤ length old
-    by-numbers (C.Refused r) e = never r n e
-    by-numbers C.Within e = by-room (leb (length (sheetBytes q)) (length old)) refl e
-
-    by-shape : (b : Bool) → cond b (answerBy (checked q) q old) (A.Refused R.Shape) ≡ A.Written n → n ≤ length old
-    by-shape true e = by-numbers (checked q) e
-    by-shape false e = never R.Shape n e
+    by : (b : Bool) → cond b (answerOf (requestOf s) old) (A.Refused R.Shape) ≡ A.Written n → n ≤ length old
+    by true e = Claims.written-fits (requestOf s) old n e
+    by false e = let z : _≡_ {A = ℕ} 0 1 = cc in absurd (omega arith)

@@ -3,7 +3,6 @@ ghost use mathlib.Core.Path.{_≡_};
 ghost use Prim.Native.Nat.{ℕ, _+_, _≤_, _<_};
 ghost use lib.IntN.{pos, natAbs};
 ghost use lib.ListN.{length, getD};
-ghost use Rattle.records.specs.Records.{twoAt, fourAt};
 ghost use Rattle.circumstances.specs.Requests.{numberOf, placeOf};
 ghost use Rattle.circumstances.specs.Demand3.{Claimed};
 ghost use Rattle.input.specs.Input.{signed, signed2, signed4, shapeHolds, elementAt, elementsBy, elementsOf, stationOf, windowOf, requestOf, inputOf};
@@ -16,32 +15,6 @@ pub enum Input {
 }
 
 // ---- one number
-
-fn wide(x: u8) -> u32
-    ensures { λ r. ⌜ (r ≡ x) × (r < 256) ⌝ }
-{
-    x as u32
-}
-
-// The unsigned number of two bytes at `at`.
-fn two_at(s: &[u8], at: usize) -> u32
-    requires { ⌜ at + 2 ≤ length (now s) ⌝ }
-    ensures { λ r. ⌜ (r ≡ twoAt (now (s .entry)) at) × (r < 65536) ⌝ }
-{
-    let high = wide(s[at]);
-    let low = wide(s[at + 1]);
-    high * 256 + low
-}
-
-// The unsigned number of four bytes at `at`.
-fn four_at(s: &[u8], at: usize) -> u32
-    requires { ⌜ at + 4 ≤ length (now s) ⌝ }
-    ensures { λ r. ⌜ r ≡ fourAt (now (s .entry)) at ⌝ }
-{
-    let high = two_at(s, at);
-    let low = two_at(s, at + 2);
-    high * 65536 + low
-}
 
 // A number in two's complement: from `half` on it stands for itself less twice that.
 fn signed(n: u32, half: u32) -> i64
@@ -59,7 +32,7 @@ fn signed2_at(s: &[u8], at: usize) -> i64
     requires { ⌜ at + 2 ≤ length (now s) ⌝ }
     ensures { λ r. ⌜ r ≡ signed2 (now (s .entry)) at ⌝ }
 {
-    let n = two_at(s, at);
+    let n = records::two_at(s, at);
     signed(n, 32_768)
 }
 
@@ -68,7 +41,7 @@ fn signed4_at(s: &[u8], at: usize) -> i64
     requires { ⌜ at + 4 ≤ length (now s) ⌝ }
     ensures { λ r. ⌜ (r ≡ signed4 (now (s .entry)) at) × (natAbs r ≤ 2147483648) ⌝ }
 {
-    let n = four_at(s, at);
+    let n = records::four_at(s, at);
     signed(n, 2_147_483_648)
 }
 
@@ -167,7 +140,7 @@ fn station_at(s: &[u8]) -> station::Station
     requires { ⌜ length (now s) ≡ 109 ⌝ }
     ensures { λ r. ⌜ r ≡ stationOf (now (s .entry)) ⌝ }
 {
-    let number = two_at(s, 90) as i64;
+    let number = records::two_at(s, 90) as i64;
     let latitude = signed4_at(s, 92);
     let longitude = signed4_at(s, 96);
     let height = signed4_at(s, 100);

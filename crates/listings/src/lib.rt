@@ -1,23 +1,14 @@
-// A stored sheet as text on standard output, as document 01 lists it: a line an entry, none for the end record.
+// A stored sheet as text on standard output, as document 01 lists it: a line an entry, none for the end record; and the answers of
+// readers and writers.
 //
 // No contract can say which bytes reach the outside, so a `print_` function promises that it is safe and ends, and asks for nothing.
 // What it prints is held to document 01's listing by the programs over it.
-use libc::STDOUT_FILENO;
 use records::Entry;
 use records::Family;
 use records::Record;
 use sheets::Extent;
 ghost use mathlib.Core.Path.{_≡_};
 ghost use lib.IntN.{pos, _-ℤ_};
-
-fn print(text: &[u8]) {
-    io::write_all(STDOUT_FILENO, text);
-}
-
-fn print_number(n: u64) {
-    print(b" ");
-    io::print_decimal(STDOUT_FILENO, n);
-}
 
 // "a second is stored plus 10,800": the second itself.
 fn second_of(stored: u32) -> i64
@@ -33,17 +24,17 @@ fn print_second(stored: u32) {
 
 fn print_family(family: Family) {
     match family {
-        Family::Penumbra => print(b" penumbra"),
-        Family::Central => print(b" central"),
+        Family::Penumbra => printing::print(b" penumbra"),
+        Family::Central => printing::print(b" central"),
     }
 }
 
 fn print_head(station: u32, first: u32, last: u32) {
-    print(b"station");
-    print_number(station as u64);
-    print(b" from");
+    printing::print(b"station");
+    printing::print_count(station as u64);
+    printing::print(b" from");
     print_second(first);
-    print(b" to");
+    printing::print(b" to");
     print_second(last);
     printing::end_line();
 }
@@ -57,24 +48,24 @@ fn print_span(family: Family, from: u32, to: u32) {
 
 // A graze or an open: "with no direction".
 fn print_unsure(word: &[u8], family: Family, from: u32, to: u32) {
-    print(word);
+    printing::print(word);
     print_span(family, from, to);
     printing::end_line();
 }
 
 // An enter or a leave: "each entry with from, to, direction".
 fn print_contact(word: &[u8], family: Family, from: u32, to: u32, direction: u32) {
-    print(word);
+    printing::print(word);
     print_span(family, from, to);
-    print_number(direction as u64);
+    printing::print_count(direction as u64);
     printing::end_line();
 }
 
 // "last the closest second with magnitude"
 fn print_closest(second: u32, magnitude: u32) {
-    print(b"closest");
+    printing::print(b"closest");
     print_second(second);
-    print_number(magnitude as u64);
+    printing::print_count(magnitude as u64);
     printing::end_line();
 }
 
@@ -119,12 +110,32 @@ fn print_entries(sheet: &[u8], entries: usize) {
     }
 }
 
-// "A refusal prints `refused`, number, place."
+// "A refusal prints `refused`, number, place.", without the end of the line.
 pub fn print_refusal(number: u32, place: usize) {
-    print(b"refused");
-    print_number(number as u64);
-    print_number(place as u64);
-    printing::end_line();
+    printing::print(b"refused");
+    printing::print_count(number as u64);
+    printing::print_count(place as u64);
+}
+
+fn print_refused(refusal: records::Refusal) {
+    let number = records::number_of(refusal);
+    let place = records::place_of(refusal);
+    print_refusal(number, place);
+}
+
+// What a reader or a writer answered, in a line that has begun: ` sheet`, the number of entries and of bytes; or the refusal.
+pub fn print_extent(extent: Extent) {
+    match extent {
+        Extent::Sheet { entries, length } => {
+            printing::print(b" sheet");
+            printing::print_count(entries as u64);
+            printing::print_count(length as u64);
+        }
+        Extent::Refused(refusal) => {
+            printing::print(b" ");
+            print_refused(refusal);
+        }
+    }
 }
 
 // The listing of the sheet that the bytes are; or their refusal, alone.
@@ -133,9 +144,8 @@ pub fn print_sheet(sheet: &[u8]) {
     match found {
         Extent::Sheet { entries, length: _ } => print_entries(sheet, entries),
         Extent::Refused(refusal) => {
-            let number = records::number_of(refusal);
-            let place = records::place_of(refusal);
-            print_refusal(number, place);
+            print_refused(refusal);
+            printing::end_line();
         }
     }
 }

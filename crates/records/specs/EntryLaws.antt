@@ -10,7 +10,6 @@ use lib.Dec.{eqb}
 use Rattle.records.specs.declared.Family.{Family}
 use Rattle.records.specs.declared.Family.the-variants.{Penumbra, Central}
 use Rattle.records.specs.declared.Entry.{Entry}
-use Rattle.records.specs.declared.Entry.the-variants as E
 use Rattle.records.specs.declared.Kind.{Kind}
 use Rattle.records.specs.declared.Kind.the-variants as K
 use Rattle.records.specs.declared.Shape.{Shape}

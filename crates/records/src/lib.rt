@@ -592,8 +592,9 @@ fn wide(x: u8) -> u32
     x as u32
 }
 
-// The number of two bytes at `at`.
-fn two_at(s: &[u8], at: usize) -> u32
+// The number of two bytes at `at`, the higher first.
+// It and `four_at` are for crates that read bytes of their own; they have a `requires`, so, as `put`, they are none of the public promises.
+pub fn two_at(s: &[u8], at: usize) -> u32
     requires { ⌜ at + 2 ≤ length (now s) ⌝ }
     ensures { λ r. ⌜ (r ≡ twoAt (now (s .entry)) at) × (r < 65536) ⌝ }
 {
@@ -603,7 +604,7 @@ fn two_at(s: &[u8], at: usize) -> u32
 }
 
 // The number of four bytes at `at`.
-fn four_at(s: &[u8], at: usize) -> u32
+pub fn four_at(s: &[u8], at: usize) -> u32
     requires { ⌜ at + 4 ≤ length (now s) ⌝ }
     ensures { λ r. ⌜ r ≡ fourAt (now (s .entry)) at ⌝ }
 {

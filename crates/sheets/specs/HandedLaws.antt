@@ -16,7 +16,6 @@ use Rattle.sheets.specs.declared.Four.{Four}
 use Rattle.sheets.specs.declared.Four.the-variants as Four
 use Rattle.records.specs.declared.Progress.{Progress}
 use Rattle.records.specs.declared.Refusal.{Refusal}
-use Rattle.records.specs.declared.Refusal.the-variants as R
 use Rattle.records.specs.declared.Step.the-variants.{Next, Broken}
 use Rattle.sheets.specs.declared.Extent.{Extent}
 use Rattle.sheets.specs.declared.Extent.the-variants as X

@@ -2,7 +2,6 @@
 // the sheet that the bytes begin with, the sheet that they are, and the same with room for three entries.
 // The entries of a good sheet follow, and whether they are written back to the same bytes.
 use libc::STDIN_FILENO;
-use libc::STDOUT_FILENO;
 use sheets::Extent;
 
 fn wide(x: u32) -> u64 {
@@ -14,37 +13,9 @@ fn length_of(high: u8, low: u8) -> usize {
     (high as usize) * 256 + (low as usize)
 }
 
-fn print(text: &[u8]) {
-    io::write_all(STDOUT_FILENO, text);
-}
-
-fn print_line() {
-    print(b"\n");
-}
-
-fn print_number(n: u64) {
-    print(b" ");
-    io::print_decimal(STDOUT_FILENO, n);
-}
-
-fn print_answer(answer: Extent) {
-    match answer {
-        Extent::Sheet { entries, length } => {
-            print(b" sheet");
-            print_number(entries as u64);
-            print_number(length as u64);
-        }
-        Extent::Refused(refusal) => {
-            print(b" refused");
-            print_number(records::number_of(refusal) as u64);
-            print_number(records::place_of(refusal) as u64);
-        }
-    }
-}
-
 fn print_field(room: &[u32], at: usize) {
     if at < room.len() {
-        print_number(wide(room[at]));
+        printing::print_count(wide(room[at]));
     }
 }
 
@@ -61,7 +32,7 @@ fn print_entries(room: &[u32], entries: usize) {
         print_field(room, at + 1);
         print_field(room, at + 2);
         print_field(room, at + 3);
-        print_line();
+        printing::end_line();
         n += 1;
     }
 }
@@ -75,30 +46,30 @@ fn print_written(room: &[u32], entries: usize, sheet: &[u8]) {
     let numbers = entries * 4;
     let mut space = io::buffer();
     let answer = sheets::write(&room[..numbers], &mut space);
-    print(b" written");
-    print_answer(answer);
+    printing::print(b" written");
+    listings::print_extent(answer);
     let Extent::Sheet { entries: _, length } = answer else {
         return;
     };
     if length <= 4096 {
         if check::same(&space[..length], sheet) {
-            print(b" same");
+            printing::print(b" same");
         }
     }
-    print_line();
+    printing::end_line();
 }
 
 fn print_sheet(sheet: &[u8]) {
     let mut room = [0u32; 256];
     let mut short = [0u32; 15];
-    print(b"begins");
-    print_answer(sheets::measure(sheet));
-    print(b" is");
+    printing::print(b"begins");
+    listings::print_extent(sheets::measure(sheet));
+    printing::print(b" is");
     let answer = sheets::read(sheet, &mut room);
-    print_answer(answer);
-    print(b" short");
-    print_answer(sheets::read(sheet, &mut short));
-    print_line();
+    listings::print_extent(answer);
+    printing::print(b" short");
+    listings::print_extent(sheets::read(sheet, &mut short));
+    printing::end_line();
     let Extent::Sheet { entries, length: _ } = answer else {
         return;
     };

@@ -48,23 +48,23 @@ returns-2 c = search needs
 large-buffer-requires : tie.Need-large-buffer-requires
 large-buffer-requires c κs = search needs
 
-sub-print-case : tie.Need-sub-print-case
-sub-print-case c = search needs
+sub-print-sheet : tie.Need-sub-print-sheet
+sub-print-sheet c = search needs
 
-part-print-case-start : tie.Need-part-print-case-start
-part-print-case-start c = search needs
+part-print-sheet-start : tie.Need-part-print-sheet-start
+part-print-sheet-start c = search needs
 
-part-print-case-end : tie.Need-part-print-case-end
-part-print-case-end c = search needs
+part-print-sheet-end : tie.Need-part-print-sheet-end
+part-print-sheet-end c = search needs
 
 array-borrow-prefix-buf : tie.Need-array-borrow-prefix-buf
 array-borrow-prefix-buf c = search needs
 
-slice-aggregate-print-case : tie.Need-slice-aggregate-print-case
-slice-aggregate-print-case c = sym (length-take-le _ _ (omega arith))
+slice-aggregate-print-sheet : tie.Need-slice-aggregate-print-sheet
+slice-aggregate-print-sheet c = sym (length-take-le _ _ (omega arith))
 
-print-case-requires : tie.Need-print-case-requires
-print-case-requires c κs = search needs
+print-sheet-requires : tie.Need-print-sheet-requires
+print-sheet-requires c κs = search needs
 
 returns-3 : tie.Need-returns-3
 returns-3 c = search needs
@@ -87,10 +87,10 @@ print-next-case-spec =
     add-end
     returns-2
     large-buffer-requires
-    sub-print-case
-    part-print-case-start
-    part-print-case-end
+    sub-print-sheet
+    part-print-sheet-start
+    part-print-sheet-end
     array-borrow-prefix-buf
-    slice-aggregate-print-case
-    print-case-requires
+    slice-aggregate-print-sheet
+    print-sheet-requires
     returns-3)

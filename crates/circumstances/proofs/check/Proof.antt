@@ -4,11 +4,6 @@ use borrow.Author.Needs.{needs}
 use Rattle.circumstances.specs.LimitsLaws.{not-true, not-false, checked-window, checked-element, checked-station, checked-within}
 use Rattle.circumstances.proofs.check.Statement.{statement}
 use Rattle.circumstances.proofs.check.Tie as tie
-use Rattle.circumstances.proofs.check.Reads as reads
-use Rattle.circumstances.proofs.check.Lts as lts
-use Rattle.circumstances.proofs.window_holds.Reads as window-holds-reads
-use Rattle.elements.proofs.in_range.Reads as in-range-reads
-use Rattle.station.proofs.in_range.Reads as in-range-reads′
 
 window-holds-requires : tie.Need-window-holds-requires
 window-holds-requires c κs = search needs

@@ -2,7 +2,6 @@
 use mathlib.Core.Path.{_≡_, sym, ap, ap₂, _∙_, subst}
 use Prim.Native.Nat.{ℕ, _≤_, _<_}
 use native.Mathlib.Omega.{arith}
-use Rattle.records.specs.declared.Entry.the-variants as E
 use Rattle.circumstances.specs.Seconds.{second, secondsOf, closestOf, magnitudeAt}
 use Rattle.circumstances.specs.Sheet.{stored, closestEntry}
 use Rattle.circumstances.specs.LimitsLaws.{InLimits, seconds-few}

@@ -1,20 +1,17 @@
 -- `circumstances::direction_at` meets its contract: the shadow at the second gives u and v, and these the direction. Assumes nothing.
-use mathlib.Core.Path.{_≡_, refl, sym, ap, ap₂, _∙_, subst}
-use Prim.Native.Nat.{ℕ, suc, _+_, _≤_, _<_}
+use mathlib.Core.Path.{sym, ap, ap₂, _∙_, subst}
+use Prim.Native.Nat.{_≤_}
 use native.Mathlib.Omega.{arith}
 use borrow.Author.Needs.{needs}
-use lib.Dec.{lit≤}
-use lib.IntN.{ℤ, pos, natAbs}
-use Rattle.numbers.specs.Code.{read-back, read-size, read-result}
+use lib.IntN.{ℤ, natAbs}
+use Rattle.numbers.specs.Code.{read-back, read-size}
 use Rattle.sine.specs.Table.{S}
-use Rattle.geometry.specs.Shadow.{moment, u, v}
-use Rattle.geometry.specs.Moments.{Placed, axis-ranges, station-ranges}
-use Rattle.geometry.specs.Sizes.{u-size, v-size}
+use Rattle.geometry.specs.Moments.{Placed}
 use Rattle.geometry.specs.Direction.{direction}
 use Rattle.shadow.specs.Shadow.{IsShadow}
-use Rattle.shadow.specs.Second as Shadow
-use Rattle.circumstances.specs.Seconds.{placeOf, second, secondsOf, directionAt}
-use Rattle.circumstances.specs.LimitsLaws.{InLimits, placed, seconds-few, second-size}
+use Rattle.shadow.specs.SecondLaws.{direction-at, u-at, v-at}
+use Rattle.circumstances.specs.Seconds.{placeOf, second, directionAt}
+use Rattle.circumstances.specs.LimitsLaws.{placed, seconds-few, second-size}
 use Rattle.circumstances.proofs.direction_at.Statement.{statement}
 use Rattle.circumstances.proofs.direction_at.Tie as tie
 
@@ -43,15 +40,13 @@ sizes : (c : tie.After-shadow-at) → (natAbs (c .shadow-at .result .u) ≤ 1000
 sizes c =
     let b = c .before .before .before .before .before .before .before in
     let q = b .args .q in
-    let e = b .pre .1 .elements in
     let τ = second q (b .args .k) in
     let h = second-size q (b .pre .1) (b .args .k) (b .pre .3) in
     let p = placeOf (q .station) in
     let l = q .station .longitude in
-    let m = moment (q .elements) p l τ in
-    let a = axis-ranges (q .elements) e τ h p l in
-    let s = station-ranges (q .elements) e τ h p l (placed q (b .pre .1)) in
-    (omega (arith, ap natAbs (shadow-is c .u), u-size m a s), omega (arith, ap natAbs (shadow-is c .v), v-size m a s))
+    let i = b .pre .1 in
+    let j = placed q i in
+    (omega (arith, ap natAbs (shadow-is c .u), u-at (q .elements) (i .elements) p j l τ h), omega (arith, ap natAbs (shadow-is c .v), v-at (q .elements) (i .elements) p j l τ h))
 
 second-at-requires : tie.Need-second-at-requires
 second-at-requires c κs = (c .before .before .before .before .pre .1 .window, few c)
@@ -70,11 +65,14 @@ cast-result : tie.Need-cast-result
 cast-result c = search needs
 
 returns : tie.Need-returns
-unfolding directionAt Shadow.directionAt
+unfolding directionAt
 returns c =
     let x = c .before .before .before in
+    let b = x .before .before .before .before .before .before .before in
+    let q = b .args .q in
     c .direction .ensures
     ∙ ap₂ (λ (y z : ℤ). direction S y z) (read-back (x .shadow-at .result .u) (sizes x .0) tt ∙ shadow-is x .u) (read-back (x .shadow-at .result .v) (sizes x .1) tt ∙ shadow-is x .v)
+    ∙ sym (direction-at (q .elements) (placeOf (q .station)) (q .station .longitude) (second q (b .args .k)))
 
 pub direction-at-spec : {M : Type 1} → statement M
 direction-at-spec = tie.close (tie.spec second-at-requires shadow-at-requires direction-requires cast-result returns)

@@ -1,16 +1,16 @@
--- `circumstances::entry_for` meets its contract: for each kind its seconds are stored, and an enter or a leave has its direction. Assumes nothing.
-use mathlib.Core.Path.{_≡_, refl, sym, ap, _∙_, subst}
+-- `circumstances::entry_for` meets its contract: its two seconds are stored, and an enter has the direction at its later one, a leave at its earlier. Assumes nothing.
+use mathlib.Core.Path.{_≡_, ap, _∙_}
 use Prim.Native.Nat.{ℕ, _≤_, _<_}
 use native.Mathlib.Omega.{arith}
 use borrow.Author.Needs.{needs}
 use Rattle.contacts.specs.declared.Entry as Contact
 use Rattle.contacts.specs.declared.Entry.the-variants as K
 use Rattle.contacts.specs.Entries.{from, to}
-use Rattle.records.specs.declared.Entry.{Entry}
+use Rattle.records.specs.declared.Family.{Family}
 use Rattle.records.specs.declared.Entry.the-variants as E
 use Rattle.circumstances.specs.declared.Request.{Request}
 use Rattle.circumstances.specs.Seconds.{second, secondsOf, directionAt}
-use Rattle.circumstances.specs.Sheet.{stored, familyOf, entryOf}
+use Rattle.circumstances.specs.Sheet.{stored, entryOf}
 use Rattle.circumstances.specs.Demand3 as D3
 use Rattle.circumstances.specs.Demand3Laws.{family-of}
 use Rattle.circumstances.specs.LimitsLaws.{InLimits, seconds-few}
@@ -18,152 +18,114 @@ use Rattle.circumstances.proofs.entry_for.Statement.{statement}
 use Rattle.circumstances.proofs.entry_for.Tie as tie
 
 -- a second of the window is one that `stored_at` takes
-few : (q : Request) → InLimits q → (k : ℕ) → k < secondsOf q → k ≤ 21600
-few q i k h = omega (arith, seconds-few q i)
+few : (q : Request) → InLimits q → (k n : ℕ) → n ≡ k → k < secondsOf q → n ≤ 21600
+few q i k n e h = omega (arith, seconds-few q i)
 
--- an entry's seconds lie in the window
-from-in : {e : Contact.Entry} (n : ℕ) (x : Contact.Entry) → e ≡ x → from e < n → from x < n
-from-in n x q h = subst (λ (y : Contact.Entry). from y < n) q h
+-- what was found at the second that a call named
+at-its-second : {A : Type 0} (f : ℕ → A) {x : A} {k n : ℕ} → x ≡ f n → n ≡ k → x ≡ f k
+at-its-second f e s = e ∙ ap f s
 
-to-in : {e : Contact.Entry} (n : ℕ) (x : Contact.Entry) → e ≡ x → to e < n → to x < n
-to-in n x q h = subst (λ (y : Contact.Entry). to y < n) q h
+-- ---- the entry, kind by kind
+module _ (q : Request) (m : Family) {e : Contact.Entry} {f t : ℕ} (f-is : f ≡ stored (second q (from e))) (t-is : t ≡ stored (second q (to e))) where
+  enter-is : {a b d : ℕ} → e ≡ K.Enter a b → d ≡ directionAt q (second q (to e)) → E.Enter m f t d ≡ entryOf q (D3.phaseOf m) e
+  enter-is k d-is = rw (f-is, t-is, d-is, k, family-of m)
 
--- ---- enter
-from-enter : (c : tie.After-known-told) → c .before .entry .given .0 .0 < secondsOf (c .before .before .before .before .before .args .q)
-from-enter c = from-in (secondsOf (c .before .before .before .before .before .args .q)) (K.Enter (c .before .entry .given .0 .0) (c .before .entry .given .0 .1 .0)) (c .before .entry .given .1) (c .before .before .before .before .before .pre .3)
+  leave-is : {a b d : ℕ} → e ≡ K.Leave a b → d ≡ directionAt q (second q (from e)) → E.Leave m f t d ≡ entryOf q (D3.phaseOf m) e
+  leave-is k d-is = rw (f-is, t-is, d-is, k, family-of m)
 
-to-enter : (c : tie.After-known-told) → c .before .entry .given .0 .1 .0 < secondsOf (c .before .before .before .before .before .args .q)
-to-enter c = to-in (secondsOf (c .before .before .before .before .before .args .q)) (K.Enter (c .before .entry .given .0 .0) (c .before .entry .given .0 .1 .0)) (c .before .entry .given .1) (c .before .before .before .before .before .pre .4)
+  graze-is : {a b : ℕ} → e ≡ K.Graze a b → E.Graze m f t ≡ entryOf q (D3.phaseOf m) e
+  graze-is k = rw (f-is, t-is, k, family-of m)
 
-enum-known-entry : tie.Need-enum-known-entry
-enum-known-entry c = search needs
+  open-is : {a b : ℕ} → e ≡ K.Open a b → E.Open m f t ≡ entryOf q (D3.phaseOf m) e
+  open-is k = rw (f-is, t-is, k, family-of m)
 
-direction-at-requires : tie.Need-direction-at-requires
-direction-at-requires c κs = let b = c .before .before .before .before .before in (b .pre .0, b .pre .1, b .pre .2, to-enter c)
+-- ---- its seconds, as they are stored
+from-is : (c : tie.After-stored-at2)
+    → c .before .stored-at .result ≡ stored (second (c .before .before .before .before .before .before .args .q) (from (c .before .before .before .before .before .before .args .entry)))
+from-is c =
+    let q = c .before .before .before .before .before .before .args .q in
+    at-its-second (λ (k : ℕ). stored (second q k)) (c .before .stored-at .ensures) (c .before .before .before .from-of .ensures)
+
+to-is : (c : tie.After-stored-at2)
+    → c .stored-at2 .result ≡ stored (second (c .before .before .before .before .before .before .args .q) (to (c .before .before .before .before .before .before .args .entry)))
+to-is c =
+    let q = c .before .before .before .before .before .before .args .q in
+    at-its-second (λ (k : ℕ). stored (second q k)) (c .stored-at2 .ensures) (c .before .before .to-of .ensures)
+
+from-of-requires : tie.Need-from-of-requires
+from-of-requires c κs = search needs
+
+to-of-requires : tie.Need-to-of-requires
+to-of-requires c κs = search needs
 
 stored-at-requires : tie.Need-stored-at-requires
 stored-at-requires c κs =
-    let b = c .before .before .before .before .before .before in
-    (b .pre .1 .window, few (b .args .q) (b .pre .1) (c .before .before .entry .given .0 .0) (from-enter (c .before)))
+    let b = c .before .before .before .before in
+    (b .pre .1 .window, few (b .args .q) (b .pre .1) (from (b .args .entry)) (c .before .from-of .result) (c .before .from-of .ensures) (b .pre .3))
 
 stored-at-requires-2 : tie.Need-stored-at-requires-2
 stored-at-requires-2 c κs =
-    let b = c .before .before .before .before .before .before .before in
-    (b .pre .1 .window, few (b .args .q) (b .pre .1) (c .before .before .before .entry .given .0 .1 .0) (to-enter (c .before .before)))
+    let b = c .before .before .before .before .before in
+    (b .pre .1 .window, few (b .args .q) (b .pre .1) (to (b .args .entry)) (c .before .to-of .result) (c .before .to-of .ensures) (b .pre .4))
+
+enum-told : tie.Need-enum-told
+enum-told c = search needs
+
+direction-at-requires : tie.Need-direction-at-requires
+direction-at-requires c κs = search needs
+
+enum-told-2 : tie.Need-enum-told-2
+enum-told-2 c = search needs
+
+direction-at-requires-2 : tie.Need-direction-at-requires-2
+direction-at-requires-2 c κs = search needs
+
+enum-told-3 : tie.Need-enum-told-3
+enum-told-3 c = search needs
+
+enum-told-4 : tie.Need-enum-told-4
+enum-told-4 c = search needs
 
 returns : tie.Need-returns
 returns c =
-    let a = c .before .before .before .before .before .before .before .before .args in
-    let g = c .before .before .before .before .entry .given in
-    let f = D3.phaseOf (a .family) in
-    let h : E.Enter (a .family) (c .before .stored-at .result) (c .stored-at2 .result) (c .before .before .direction-at .result) ≡ entryOf (a .q) f (K.Enter (g .0 .0) (g .0 .1 .0)) = rw (c .before .stored-at .ensures, c .stored-at2 .ensures, c .before .before .direction-at .ensures, family-of (a .family)) in
-    h ∙ sym (ap (entryOf (a .q) f) (g .1))
-
--- ---- leave
-from-leave : (c : tie.After-known-told2) → c .before .entry2 .given .0 .0 < secondsOf (c .before .before .before .before .before .args .q)
-from-leave c = from-in (secondsOf (c .before .before .before .before .before .args .q)) (K.Leave (c .before .entry2 .given .0 .0) (c .before .entry2 .given .0 .1 .0)) (c .before .entry2 .given .1) (c .before .before .before .before .before .pre .3)
-
-to-leave : (c : tie.After-known-told2) → c .before .entry2 .given .0 .1 .0 < secondsOf (c .before .before .before .before .before .args .q)
-to-leave c = to-in (secondsOf (c .before .before .before .before .before .args .q)) (K.Leave (c .before .entry2 .given .0 .0) (c .before .entry2 .given .0 .1 .0)) (c .before .entry2 .given .1) (c .before .before .before .before .before .pre .4)
-
-enum-known-entry-2 : tie.Need-enum-known-entry-2
-enum-known-entry-2 c = search needs
-
-direction-at-requires-2 : tie.Need-direction-at-requires-2
-direction-at-requires-2 c κs = let b = c .before .before .before .before .before in (b .pre .0, b .pre .1, b .pre .2, from-leave c)
-
-stored-at-requires-3 : tie.Need-stored-at-requires-3
-stored-at-requires-3 c κs =
-    let b = c .before .before .before .before .before .before in
-    (b .pre .1 .window, few (b .args .q) (b .pre .1) (c .before .before .entry2 .given .0 .0) (from-leave (c .before)))
-
-stored-at-requires-4 : tie.Need-stored-at-requires-4
-stored-at-requires-4 c κs =
-    let b = c .before .before .before .before .before .before .before in
-    (b .pre .1 .window, few (b .args .q) (b .pre .1) (c .before .before .before .entry2 .given .0 .1 .0) (to-leave (c .before .before)))
+    let stored-both = c .before .before .before in
+    let a = stored-both .before .before .before .before .before .before .args in
+    enter-is (a .q) (a .family) (from-is stored-both) (to-is stored-both) (c .before .enum-told .given .1)
+    (at-its-second (λ (k : ℕ). directionAt (a .q) (second (a .q) k)) (c .direction-at .ensures) (stored-both .before .before .to-of .ensures))
 
 returns-2 : tie.Need-returns-2
 returns-2 c =
-    let a = c .before .before .before .before .before .before .before .before .args in
-    let g = c .before .before .before .before .entry2 .given in
-    let f = D3.phaseOf (a .family) in
-    let h : E.Leave (a .family) (c .before .stored-at3 .result) (c .stored-at4 .result) (c .before .before .direction-at2 .result) ≡ entryOf (a .q) f (K.Leave (g .0 .0) (g .0 .1 .0)) = rw (c .before .stored-at3 .ensures, c .stored-at4 .ensures, c .before .before .direction-at2 .ensures, family-of (a .family)) in
-    h ∙ sym (ap (entryOf (a .q) f) (g .1))
-
--- ---- graze
-from-graze : (c : tie.After-known-told3) → c .before .entry3 .given .0 .0 < secondsOf (c .before .before .before .before .before .args .q)
-from-graze c = from-in (secondsOf (c .before .before .before .before .before .args .q)) (K.Graze (c .before .entry3 .given .0 .0) (c .before .entry3 .given .0 .1 .0)) (c .before .entry3 .given .1) (c .before .before .before .before .before .pre .3)
-
-to-graze : (c : tie.After-known-told3) → c .before .entry3 .given .0 .1 .0 < secondsOf (c .before .before .before .before .before .args .q)
-to-graze c = to-in (secondsOf (c .before .before .before .before .before .args .q)) (K.Graze (c .before .entry3 .given .0 .0) (c .before .entry3 .given .0 .1 .0)) (c .before .entry3 .given .1) (c .before .before .before .before .before .pre .4)
-
-enum-known-entry-3 : tie.Need-enum-known-entry-3
-enum-known-entry-3 c = search needs
-
-stored-at-requires-5 : tie.Need-stored-at-requires-5
-stored-at-requires-5 c κs =
-    let b = c .before .before .before .before .before in
-    (b .pre .1 .window, few (b .args .q) (b .pre .1) (c .before .entry3 .given .0 .0) (from-graze (c)))
-
-stored-at-requires-6 : tie.Need-stored-at-requires-6
-stored-at-requires-6 c κs =
-    let b = c .before .before .before .before .before .before in
-    (b .pre .1 .window, few (b .args .q) (b .pre .1) (c .before .before .entry3 .given .0 .1 .0) (to-graze (c .before)))
+    let stored-both = c .before .before .before in
+    let a = stored-both .before .before .before .before .before .before .args in
+    leave-is (a .q) (a .family) (from-is stored-both) (to-is stored-both) (c .before .enum-told2 .given .1)
+    (at-its-second (λ (k : ℕ). directionAt (a .q) (second (a .q) k)) (c .direction-at2 .ensures) (stored-both .before .before .before .from-of .ensures))
 
 returns-3 : tie.Need-returns-3
 returns-3 c =
-    let a = c .before .before .before .before .before .before .before .args in
-    let g = c .before .before .before .entry3 .given in
-    let f = D3.phaseOf (a .family) in
-    let h : E.Graze (a .family) (c .before .stored-at5 .result) (c .stored-at6 .result) ≡ entryOf (a .q) f (K.Graze (g .0 .0) (g .0 .1 .0)) = rw (c .before .stored-at5 .ensures, c .stored-at6 .ensures, family-of (a .family)) in
-    h ∙ sym (ap (entryOf (a .q) f) (g .1))
-
--- ---- open
-from-open : (c : tie.After-known-told4) → c .before .entry4 .given .0 .0 < secondsOf (c .before .before .before .before .before .args .q)
-from-open c = from-in (secondsOf (c .before .before .before .before .before .args .q)) (K.Open (c .before .entry4 .given .0 .0) (c .before .entry4 .given .0 .1 .0)) (c .before .entry4 .given .1) (c .before .before .before .before .before .pre .3)
-
-to-open : (c : tie.After-known-told4) → c .before .entry4 .given .0 .1 .0 < secondsOf (c .before .before .before .before .before .args .q)
-to-open c = to-in (secondsOf (c .before .before .before .before .before .args .q)) (K.Open (c .before .entry4 .given .0 .0) (c .before .entry4 .given .0 .1 .0)) (c .before .entry4 .given .1) (c .before .before .before .before .before .pre .4)
-
-enum-known-entry-4 : tie.Need-enum-known-entry-4
-enum-known-entry-4 c = search needs
-
-stored-at-requires-7 : tie.Need-stored-at-requires-7
-stored-at-requires-7 c κs =
-    let b = c .before .before .before .before .before in
-    (b .pre .1 .window, few (b .args .q) (b .pre .1) (c .before .entry4 .given .0 .0) (from-open (c)))
-
-stored-at-requires-8 : tie.Need-stored-at-requires-8
-stored-at-requires-8 c κs =
-    let b = c .before .before .before .before .before .before in
-    (b .pre .1 .window, few (b .args .q) (b .pre .1) (c .before .before .entry4 .given .0 .1 .0) (to-open (c .before)))
+    let stored-both = c .before .before in
+    let a = stored-both .before .before .before .before .before .before .args in
+    graze-is (a .q) (a .family) (from-is stored-both) (to-is stored-both) (c .enum-told3 .given .1)
 
 returns-4 : tie.Need-returns-4
 returns-4 c =
-    let a = c .before .before .before .before .before .before .before .args in
-    let g = c .before .before .before .entry4 .given in
-    let f = D3.phaseOf (a .family) in
-    let h : E.Open (a .family) (c .before .stored-at7 .result) (c .stored-at8 .result) ≡ entryOf (a .q) f (K.Open (g .0 .0) (g .0 .1 .0)) = rw (c .before .stored-at7 .ensures, c .stored-at8 .ensures, family-of (a .family)) in
-    h ∙ sym (ap (entryOf (a .q) f) (g .1))
+    let stored-both = c .before .before in
+    let a = stored-both .before .before .before .before .before .before .args in
+    open-is (a .q) (a .family) (from-is stored-both) (to-is stored-both) (c .enum-told4 .given .1)
 
 pub entry-for-spec : {M : Type 1} → statement M
 entry-for-spec =
     tie.close
     (tie.spec
-    enum-known-entry
-    direction-at-requires
+    from-of-requires
+    to-of-requires
     stored-at-requires
     stored-at-requires-2
-    enum-known-entry-2
+    enum-told
+    direction-at-requires
+    enum-told-2
     direction-at-requires-2
-    stored-at-requires-3
-    stored-at-requires-4
-    enum-known-entry-3
-    stored-at-requires-5
-    stored-at-requires-6
-    enum-known-entry-4
-    stored-at-requires-7
-    stored-at-requires-8
+    enum-told-3
+    enum-told-4
     returns
     returns-2
     returns-3

@@ -8,7 +8,6 @@ use lib.Signed.{_≤ℤ_, leZ-yes}
 use Rattle.numbers.specs.Parts.{sum, opposite}
 use Rattle.numbers.specs.Order.{zs, ≤ℤ-trans, natAbs-between}
 use Rattle.numbers.specs.Code.{Code, arg, lit, add, run, Within, whole, ends, _▹_, fits, runs, within, unsigned, read-back}
-use Rattle.records.specs.declared.Entry.the-variants as E
 use Rattle.circumstances.specs.declared.Request.{Request}
 use Rattle.circumstances.specs.Sheet.{stored, headOf}
 use Rattle.circumstances.specs.LimitsLaws.{InLimits, window-sizes}

@@ -9,7 +9,6 @@ use Rattle.numbers.specs.Code.{read-back, read-size, read-result}
 use Rattle.sine.specs.Table.{S}
 use Rattle.geometry.specs.Moments.{Placed}
 use Rattle.shadow.specs.Second.{IsSecond}
-use Rattle.shadow.specs.Second as Shadow
 use Rattle.circumstances.specs.Seconds.{guard, placeOf, second, secondsOf, magnitudeAt}
 use Rattle.circumstances.specs.LimitsLaws.{InLimits, placed, seconds-few, second-size}
 use Rattle.circumstances.proofs.magnitude_at.Statement.{statement}

@@ -8,7 +8,7 @@ use Rattle.numbers.specs.Code.{read-back, read-size}
 use Rattle.circumstances.specs.declared.Checked.the-variants as C
 use Rattle.circumstances.specs.Requests.{checked}
 use Rattle.circumstances.specs.LimitsLaws.{in-limits, not-true, not-false}
-use Rattle.circumstances.specs.OneSecond.{inSpan, secondBy, refusedSecond, refused-by, secondWithin, in-span, second-outside, second-by}
+use Rattle.circumstances.specs.OneSecond.{inSpan, secondBy, refused-by, secondWithin, in-span, second-outside, second-by}
 use Rattle.circumstances.proofs.second.Statement.{statement}
 use Rattle.circumstances.proofs.second.Tie as tie
 
@@ -31,23 +31,18 @@ returns c = sym (second-outside (c .before .before .args .q) (c .before .before 
 check-requires : tie.Need-check-requires
 check-requires c κs = search needs
 
-enum-told : tie.Need-enum-told
-enum-told c = search needs
-
-enum-told-2 : tie.Need-enum-told-2
-enum-told-2 c = search needs
-
-refused-second-requires : tie.Need-refused-second-requires
-refused-second-requires c κs = search needs
+enum-known-c : tie.Need-enum-known-c
+enum-known-c c = search needs
 
 returns-2 : tie.Need-returns-2
 returns-2 c =
     let b = c .before .before .before .before .before .before in
-    let k = c .before .before .before .check in
-    c .refused-second .ensures
-    ∙ ap refusedSecond (k .ensures)
-    ∙ refused-by (b .args .q) (b .args .t) (c .before .enum-told2 .given .0 .0) (sym (k .ensures) ∙ c .before .enum-told2 .given .1)
+    let known = c .before .c .given in
+    refused-by (b .args .q) (b .args .t) (known .0 .0) (sym (c .before .before .before .check .ensures) ∙ known .1)
     ∙ sym (second-by (b .args .q) (b .args .t) (spans (c .before .before .before .before)))
+
+enum-told : tie.Need-enum-told
+enum-told c = search needs
 
 table-requires : tie.Need-table-requires
 table-requires c κs = search needs
@@ -76,10 +71,9 @@ second-spec =
     in-span-requires
     returns
     check-requires
-    enum-told
-    enum-told-2
-    refused-second-requires
+    enum-known-c
     returns-2
+    enum-told
     table-requires
     slice-aggregate-second-within
     second-within-requires

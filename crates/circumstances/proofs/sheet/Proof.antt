@@ -5,7 +5,7 @@ use borrow.Author.Needs.{needs}
 use lib.ListN.{length}
 use Rattle.circumstances.specs.declared.Checked.the-variants as C
 use Rattle.circumstances.specs.Requests.{checked}
-use Rattle.circumstances.specs.Sheet.{refusedBy, answerOf, bufferAfter}
+use Rattle.circumstances.specs.Sheet.{answerOf, bufferAfter}
 use Rattle.circumstances.specs.LimitsLaws.{in-limits}
 use Rattle.circumstances.specs.Claims.{buffer-length, refused-answer, within-answer, claimed}
 use Rattle.circumstances.proofs.sheet.Statement.{statement}
@@ -17,24 +17,20 @@ within c = sym (c .before .before .check .ensures) ∙ c .enum-told .given .1
 check-requires : tie.Need-check-requires
 check-requires c κs = search needs
 
-enum-told : tie.Need-enum-told
-enum-told c = search needs
-
-enum-told-2 : tie.Need-enum-told-2
-enum-told-2 c = search needs
-
-refused-requires : tie.Need-refused-requires
-refused-requires c κs = search needs
+enum-known-c : tie.Need-enum-known-c
+enum-known-c c = search needs
 
 returns : tie.Need-returns
 returns c =
     let b = c .before .before .before .before .before in
     let q = b .args .q in
     let old = b .args .buf .now in
-    let k = c .before .before .before .check in
-    let a = refused-answer q old (c .before .enum-told2 .given .0 .0) (sym (k .ensures) ∙ c .before .enum-told2 .given .1) in
-    let e = c .refused .ensures ∙ ap refusedBy (k .ensures) ∙ a .0 in
-    (e, (a .1, claimed q old (c .refused .result) old e (a .1)))
+    let known = c .before .c .given in
+    let a = refused-answer q old (known .0 .0) (sym (c .before .before .before .check .ensures) ∙ known .1) in
+    (a .0, (a .1, claimed q old _ old (a .0) (a .1)))
+
+enum-told : tie.Need-enum-told
+enum-told c = search needs
 
 table-requires : tie.Need-table-requires
 table-requires c κs = search needs
@@ -64,10 +60,9 @@ sheet-spec =
     tie.close
     (tie.spec
     check-requires
-    enum-told
-    enum-told-2
-    refused-requires
+    enum-known-c
     returns
+    enum-told
     table-requires
     slice-aggregate-sheet-within
     sheet-within-requires

@@ -7,10 +7,6 @@ use Rattle.numbers.specs.Limits.{firstOutside}
 use Rattle.elements.specs.Elements.{lows, highs, rangeOf}
 use Rattle.elements.proofs.in_range.Statement.{statement}
 use Rattle.elements.proofs.in_range.Tie as tie
-use Rattle.elements.proofs.in_range.Reads as reads
-use Rattle.elements.proofs.in_range.Lts as lts
-use Rattle.elements.proofs.listed.Reads as listed-reads
-use Rattle.numbers.proofs.first_outside.Reads as first-outside-reads
 
 listed-requires : tie.Need-listed-requires
 listed-requires c κs = search needs

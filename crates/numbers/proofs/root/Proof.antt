@@ -6,8 +6,6 @@ use lib.Count.{leading-le}
 use Rattle.numbers.specs.RootLaws.{Done, start, one-more, no-more, finish}
 use Rattle.numbers.proofs.root.Statement.{statement}
 use Rattle.numbers.proofs.root.Tie as tie
-use Rattle.numbers.proofs.root.Reads as reads
-use Rattle.numbers.proofs.root.Lts as lts
 
 abbrev Inv-loop : tie.InvT-loop
 Inv-loop n i₀ r₀ rest₀ i r rest = Done n i r rest

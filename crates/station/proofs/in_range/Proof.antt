@@ -7,10 +7,6 @@ use Rattle.numbers.specs.Limits.{firstOutside}
 use Rattle.station.specs.Station.{lows, highs, rangeOf}
 use Rattle.station.proofs.in_range.Statement.{statement}
 use Rattle.station.proofs.in_range.Tie as tie
-use Rattle.station.proofs.in_range.Reads as reads
-use Rattle.station.proofs.in_range.Lts as lts
-use Rattle.station.proofs.listed.Reads as listed-reads
-use Rattle.numbers.proofs.first_outside.Reads as first-outside-reads
 
 listed-requires : tie.Need-listed-requires
 listed-requires c κs = search needs

@@ -42,8 +42,8 @@ add-print-field-3 c = omega arith
 print-field-requires-4 : tie.Need-print-field-requires-4 Inv-loop μ-loop
 print-field-requires-4 c κs = search needs
 
-print-line-requires : tie.Need-print-line-requires Inv-loop μ-loop
-print-line-requires c κs = search needs
+end-line-requires : tie.Need-end-line-requires Inv-loop μ-loop
+end-line-requires c κs = search needs
 
 add-n : tie.Need-add-n Inv-loop μ-loop
 add-n c = omega arith
@@ -73,7 +73,7 @@ print-entries-spec =
     print-field-requires-3
     add-print-field-3
     print-field-requires-4
-    print-line-requires
+    end-line-requires
     add-n
     loop-less
     loop-again

@@ -30,8 +30,8 @@ slice-aggregate-print c = search needs
 print-requires : tie.Need-print-requires
 print-requires c κs = search needs
 
-print-answer-requires : tie.Need-print-answer-requires
-print-answer-requires c κs = search needs
+print-extent-requires : tie.Need-print-extent-requires
+print-extent-requires c κs = search needs
 
 enum-known-answer : tie.Need-enum-known-answer
 enum-known-answer c = search needs
@@ -57,8 +57,8 @@ slice-aggregate-print-2 c = search needs
 print-requires-2 : tie.Need-print-requires-2
 print-requires-2 c κs = search needs
 
-print-line-requires : tie.Need-print-line-requires
-print-line-requires c κs = search needs
+end-line-requires : tie.Need-end-line-requires
+end-line-requires c κs = search needs
 
 returns-3 : tie.Need-returns-3
 returns-3 c = search needs
@@ -75,7 +75,7 @@ print-written-spec =
     write-requires
     slice-aggregate-print
     print-requires
-    print-answer-requires
+    print-extent-requires
     enum-known-answer
     enum-told
     returns-2
@@ -84,5 +84,5 @@ print-written-spec =
     same-requires
     slice-aggregate-print-2
     print-requires-2
-    print-line-requires
+    end-line-requires
     returns-3)

@@ -1,5 +1,5 @@
 //! `program_check SEED N PROGRAM`: draws N requests, has the compiled program `cases` answer all of them, and
-//! compares each answer with this implementation's: the length written and the listing, or the refusal.
+//! compares each answer with this implementation's: the listing, or the refusal.
 //!
 //! Requests lie within their ranges (for which rounding matters, or as eclipses are, with windows up to all of
 //! -10,800..10,800), just outside them, anywhere, and are no requests at all; the room is large, just enough,
@@ -38,7 +38,7 @@ impl Case {
         match sheet_of_input(&self.input, &mut buffer) {
             Ok(length) => {
                 let records = records_of(&buffer[..length]).expect("a sheet reads well");
-                format!("written {length}\n{}", listing(&records))
+                listing(&records)
             }
             Err(refusal) => format!("{refusal}\n"),
         }

@@ -1,11 +1,11 @@
--- `cases::print_case` meets its contract: what was written fits the room. Assumes nothing.
+-- `answers::print_sheet` meets its contract: what was written fits the room. Assumes nothing.
 use mathlib.Core.Path.{sym, _∙_}
 use native.Mathlib.Omega.{arith}
 use lib.Seq.{length-take-le}
 use Rattle.input.specs.SheetLaws.{written-fits}
 use borrow.Author.Needs.{needs}
-use Rattle.cases.proofs.print_case.Statement.{statement}
-use Rattle.cases.proofs.print_case.Tie as tie
+use Rattle.answers.proofs.print_sheet.Statement.{statement}
+use Rattle.answers.proofs.print_sheet.Tie as tie
 
 sheet-requires : tie.Need-sheet-requires
 sheet-requires c κs = search needs
@@ -13,18 +13,18 @@ sheet-requires c κs = search needs
 enum-known-answer : tie.Need-enum-known-answer
 enum-known-answer c = search needs
 
-slice-reshare-prefix-print-written : tie.Need-slice-reshare-prefix-print-written
-slice-reshare-prefix-print-written c =
+slice-reshare-prefix-print-sheet : tie.Need-slice-reshare-prefix-print-sheet
+slice-reshare-prefix-print-sheet c =
     let start = c .before .before .before .before .before .before .before .before .before in
     let done = c .before .before .before .before .before .sheet in
     let known = c .before .answer .given in
     omega (arith, written-fits (start .args .request .now) (start .args .room .now) (known .0 .0) (sym (done .ensures .0) ∙ known .1))
 
-slice-aggregate-print-written : tie.Need-slice-aggregate-print-written
-slice-aggregate-print-written c = sym (length-take-le _ _ (slice-reshare-prefix-print-written (c .before)))
+slice-aggregate-print-sheet : tie.Need-slice-aggregate-print-sheet
+slice-aggregate-print-sheet c = sym (length-take-le _ _ (slice-reshare-prefix-print-sheet (c .before)))
 
-print-written-requires : tie.Need-print-written-requires
-print-written-requires c κs = search needs
+print-sheet-requires : tie.Need-print-sheet-requires
+print-sheet-requires c κs = search needs
 
 enum-known-answer-2 : tie.Need-enum-known-answer-2
 enum-known-answer-2 c = search needs
@@ -44,15 +44,15 @@ same-length-2 c = search needs
 returns-2 : tie.Need-returns-2
 returns-2 c = search needs
 
-pub print-case-spec : {M : Type 1} → statement M
-print-case-spec =
+pub print-sheet-spec : {M : Type 1} → statement M
+print-sheet-spec =
     tie.close
     (tie.spec
     sheet-requires
     enum-known-answer
-    slice-reshare-prefix-print-written
-    slice-aggregate-print-written
-    print-written-requires
+    slice-reshare-prefix-print-sheet
+    slice-aggregate-print-sheet
+    print-sheet-requires
     enum-known-answer-2
     print-refused-requires
     same-length
