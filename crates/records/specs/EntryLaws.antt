@@ -16,7 +16,7 @@ use Rattle.records.specs.declared.Shape.{Shape}
 use Rattle.records.specs.declared.Shape.the-variants.{Nothing, TwoTwo, TwoTwoTwo, TwoFour}
 use Rattle.records.specs.declared.Parts.{Parts}
 use Rattle.records.specs.declared.Named.the-variants.{Is, Unknown}
-use Rattle.records.specs.Entries.{baseOf, codeOf, kindFor, kindOf, shapeOf, sizeOf, entryFor, code, size, body, bytes, numbers, partsFor, bytesOf, numbersOf}
+use Rattle.records.specs.Entries.{baseOf, codeOf, kindFor, kindOf, shapeOf, sizeOf, entryFor, code, size, isEnd, body, bytes, numbers, partsFor, bytesOf, numbersOf}
 
 pub no-kind : (x : ℕ) → (x ≡ 0x01 → ⊥) → (x ≡ 0x10 → ⊥) → (x ≡ 0x11 → ⊥) → (x ≡ 0x12 → ⊥) → (x ≡ 0x13 → ⊥)
     → (x ≡ 0x20 → ⊥) → (x ≡ 0x21 → ⊥) → (x ≡ 0x22 → ⊥) → (x ≡ 0x23 → ⊥) → (x ≡ 0x30 → ⊥) → (x ≡ 0x7f → ⊥) → kindFor x ≡ Unknown
@@ -59,6 +59,16 @@ kind-for K.End a b c = refl
 
 pub size-for : (k : Kind) (a b c : ℕ) → size (entryFor k a b c) ≡ sizeOf (shapeOf k)
 size-for k a b c = ap (λ k. sizeOf (shapeOf k)) (kind-for k a b c)
+
+-- whether an entry ends the sheet, its kind alone says
+pub end-for : (k : Kind) (a b c : ℕ) → isEnd (entryFor k a b c) ≡ isEnd (entryFor k 0 0 0)
+end-for K.Head a b c = refl
+end-for (K.Enter m) a b c = refl
+end-for (K.Leave m) a b c = refl
+end-for (K.Graze m) a b c = refl
+end-for (K.Open m) a b c = refl
+end-for K.Closest a b c = refl
+end-for K.End a b c = refl
 
 pub size-small : (h : Shape) → (0 < sizeOf h) × (sizeOf h ≤ 7)
 size-small Nothing = omega arith

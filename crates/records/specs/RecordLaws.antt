@@ -51,6 +51,13 @@ module _ (s : List ℕ) (at : ℕ) where
   unfolding bodyAt
   body-whole h l = rw (le-leb (at + sizeOf h) (length s) l)
 
+  pub body-inv : (h : Shape) (a b c : ℕ) → bodyAt h s at ≡ Body.Is a b c → (at + sizeOf h ≤ length s) × (fieldsAt h s (at + 1) ≡ Body.Is a b c)
+  body-inv h a b c e =
+      elim (decLe (at + sizeOf h) (length s)) [
+        | yes l ↦ (l, sym (body-whole h l) ∙ e)
+        | no l ↦ let t = body-cut h (omega arith) in let z : _≡_ {A = ℕ} 0 1 = cc in absurd (omega arith)
+      ]
+
   pub two-two : (a b : ℕ) → at + 5 ≤ length s → a ≡ twoAt s (at + 1) → b ≡ twoAt s (at + 3) → Body.Is a b 0 ≡ bodyAt TwoTwo s at
   two-two a b l p q = rw (p, q) (sym (body-whole TwoTwo l ∙ simp add-assoc))
 

@@ -26,12 +26,12 @@ use Rattle.records.specs.declared.Body.{Body}
 use Rattle.records.specs.declared.Body.the-variants as Body
 use Rattle.records.specs.declared.Progress.{Progress}
 use Rattle.records.specs.declared.Record.the-variants.{Is, Refused}
-use Rattle.records.specs.Entries.{codeOf, kinds, among, kindFor, kindOf, shapeOf, sizeOf, entryFor, field1, field2, field3, code, size, two, four, body, bytes}
+use Rattle.records.specs.Entries.{codeOf, kinds, among, kindFor, kindOf, shapeOf, sizeOf, entryFor, field1, field2, field3, code, size, two, four, body, bytes, numbers}
 use Rattle.records.specs.EntryLaws.{kind-for, size-for, size-small, length-bytes}
 use Rattle.records.specs.Rules.{start, inWindow, isDirection, spanHolds, fieldsHold, afterOf}
 use Rattle.records.specs.TestLaws.{distinct, both}
-use Rattle.records.specs.Records.{twoAt, fourAt, fieldsAt, recordAt}
-use Rattle.records.specs.RecordLaws.{by-body, byte-there, body-whole, RecordThere, record-inv, record-fields}
+use Rattle.records.specs.Records.{twoAt, fourAt, fieldsAt, bodyAt, recordAt}
+use Rattle.records.specs.RecordLaws.{by-body, byte-there, body-whole, body-inv, RecordThere, record-inv, record-fields}
 
 -- ---- kinds
 
@@ -69,6 +69,23 @@ entry-of (E.Graze m f t) = refl
 entry-of (E.Open m f t) = refl
 entry-of (E.Closest s m) = refl
 entry-of E.End = refl
+
+-- ---- the numbers of a record that was read
+
+-- what a kind does not use is read as 0
+numbers-for : (k : Kind) (s : List ℕ) (at a b c : ℕ) → fieldsAt (shapeOf k) s at ≡ Body.Is a b c → numbers (entryFor k a b c) ≡ codeOf k ∷ a ∷ b ∷ c ∷ []
+numbers-for K.Head s at a b c q = refl
+numbers-for (K.Enter m) s at a b c q = refl
+numbers-for (K.Leave m) s at a b c q = refl
+numbers-for (K.Graze m) s at a b c q = let z : c ≡ 0 = cc in rw z
+numbers-for (K.Open m) s at a b c q = let z : c ≡ 0 = cc in rw z
+numbers-for K.Closest s at a b c q = let z : c ≡ 0 = cc in rw z
+numbers-for K.End s at a b c q = let x : a ≡ 0 = cc in let y : b ≡ 0 = cc in let z : c ≡ 0 = cc in rw (x, y, z)
+
+pub numbers-read : (s : List ℕ) (at x : ℕ) (k : Kind) (a b c : ℕ) → kindFor x ≡ Named.Is k → bodyAt (shapeOf k) s at ≡ Body.Is a b c
+    → numbers (entryFor k a b c) ≡ x ∷ a ∷ b ∷ c ∷ []
+numbers-read s at x k a b c f g =
+    numbers-for k s (at + 1) a b c (body-inv s at (shapeOf k) a b c g .1) ∙ ap (λ y. y ∷ a ∷ b ∷ c ∷ []) (sym (kind-inv x k f))
 
 -- ---- fields that fit their bytes
 

@@ -1,11 +1,12 @@
 // One record of a sheet: the table of kinds, the rules of order and of fields, and the bytes, as document 01 has them.
 // A sheet of records is the crate `sheets`.
 ghost use mathlib.Core.Path.{_≡_};
-ghost use mathlib.Core.Bool.{_&&_};
+ghost use mathlib.Core.Bool.{true, _&&_};
 ghost use Prim.Native.Nat.{_+_, _≤_, _<_};
 ghost use lib.ListN.{length};
 ghost use lib.Seq.{sets};
 ghost use Rattle.records.specs.Entries.{baseOf, kindFor, shapeOf, sizeOf, entryFor, partsFor, isEnd, size, two, four, bytes};
+ghost use Rattle.records.specs.declared.Entry.the-variants as E;
 ghost use Rattle.records.specs.Refusals.{numberOf, placeOf};
 ghost use Rattle.records.specs.Records.{twoAt, fourAt, byteAt, bodyAt, recordAt};
 ghost use Rattle.records.specs.Rules.{placeIn, start, mayCome, familyInOrder, inWindow, isDirection, spanHolds, openHolds, gone, turnKept, verdictOn, stepOf};
@@ -383,6 +384,21 @@ pub fn is_end(entry: Entry) -> bool
     }
 }
 
+// Whether a record of that kind ends the sheet.
+pub fn ends(kind: Kind) -> bool
+    ensures { λ r. ⌜ r ≡ isEnd (entryFor kind 0 0 0) ⌝ }
+{
+    match kind {
+        Kind::Head => false,
+        Kind::Enter(_) => false,
+        Kind::Leave(_) => false,
+        Kind::Graze(_) => false,
+        Kind::Open(_) => false,
+        Kind::Closest => false,
+        Kind::End => true,
+    }
+}
+
 // ---- the rules
 
 // Nothing has been read.
@@ -516,6 +532,65 @@ fn open_holds(p: Progress, from: u32, to: u32) -> bool
     in_window(p, from) & in_window(p, to) & (from <= to) & at_end
 }
 
+// The steps of the other kinds, one function each.
+fn head_step(p: Progress, at: usize, plain: bool, station: u32, first: u32, last: u32) -> Step
+    ensures { λ r. ⌜ r ≡ stepOf p at plain (E.Head station first last) ⌝ }
+{
+    let ordered = may_come(p.due, 0);
+    let sound = (1 <= station) & (station <= 999) & (first <= last) & (last <= 21600);
+    let next = Progress {
+        due: 1,
+        first,
+        last,
+        until: 0,
+        turn: 0,
+    };
+    verdict(at, ordered, plain & sound, next)
+}
+
+fn graze_step(p: Progress, at: usize, plain: bool, family: Family, from: u32, to: u32) -> Step
+    ensures { λ r. ⌜ r ≡ stepOf p at plain (E.Graze family from to) ⌝ }
+{
+    let sound = span_holds(p, from, to);
+    spell_step(p, at, plain & sound, family, from, to)
+}
+
+fn open_step(p: Progress, at: usize, plain: bool, family: Family, from: u32, to: u32) -> Step
+    ensures { λ r. ⌜ r ≡ stepOf p at plain (E.Open family from to) ⌝ }
+{
+    let sound = open_holds(p, from, to);
+    spell_step(p, at, plain & sound, family, from, to)
+}
+
+fn closest_step(p: Progress, at: usize, plain: bool, second: u32, magnitude: u32) -> Step
+    ensures { λ r. ⌜ r ≡ stepOf p at plain (E.Closest second magnitude) ⌝ }
+{
+    let ordered = may_come(p.due, 3);
+    let sound = in_window(p, second) & (magnitude <= 1300000);
+    let next = Progress {
+        due: 4,
+        first: p.first,
+        last: p.last,
+        until: 0,
+        turn: 0,
+    };
+    verdict(at, ordered, plain & sound, next)
+}
+
+fn end_step(p: Progress, at: usize, plain: bool) -> Step
+    ensures { λ r. ⌜ r ≡ stepOf p at plain E.End ⌝ }
+{
+    let ordered = may_come(p.due, 4);
+    let next = Progress {
+        due: 5,
+        first: p.first,
+        last: p.last,
+        until: 0,
+        turn: 0,
+    };
+    verdict(at, ordered, plain, next)
+}
+
 // How far the sheet has come after an entry whose record stands at `at`, or the rule that it breaks.
 // `plain` is what else is asked of its fields.
 pub fn step_by(p: Progress, at: usize, plain: bool, entry: Entry) -> Step
@@ -526,18 +601,7 @@ pub fn step_by(p: Progress, at: usize, plain: bool, entry: Entry) -> Step
             station,
             first,
             last,
-        } => {
-            let ordered = may_come(p.due, 0);
-            let sound = (1 <= station) & (station <= 999) & (first <= last) & (last <= 21600);
-            let next = Progress {
-                due: 1,
-                first,
-                last,
-                until: 0,
-                turn: 0,
-            };
-            verdict(at, ordered, plain & sound, next)
-        }
+        } => head_step(p, at, plain, station, first, last),
         Entry::Enter {
             family,
             from,
@@ -550,37 +614,25 @@ pub fn step_by(p: Progress, at: usize, plain: bool, entry: Entry) -> Step
             to,
             direction,
         } => turn_step(p, at, plain, family, 2, from, to, direction),
-        Entry::Graze { family, from, to } => {
-            let sound = span_holds(p, from, to);
-            spell_step(p, at, plain & sound, family, from, to)
-        }
-        Entry::Open { family, from, to } => {
-            let sound = open_holds(p, from, to);
-            spell_step(p, at, plain & sound, family, from, to)
-        }
-        Entry::Closest { second, magnitude } => {
-            let ordered = may_come(p.due, 3);
-            let sound = in_window(p, second) & (magnitude <= 1300000);
-            let next = Progress {
-                due: 4,
-                first: p.first,
-                last: p.last,
-                until: 0,
-                turn: 0,
-            };
-            verdict(at, ordered, plain & sound, next)
-        }
-        Entry::End => {
-            let ordered = may_come(p.due, 4);
-            let next = Progress {
-                due: 5,
-                first: p.first,
-                last: p.last,
-                until: 0,
-                turn: 0,
-            };
-            verdict(at, ordered, plain, next)
-        }
+        Entry::Graze { family, from, to } => graze_step(p, at, plain, family, from, to),
+        Entry::Open { family, from, to } => open_step(p, at, plain, family, from, to),
+        Entry::Closest { second, magnitude } => closest_step(p, at, plain, second, magnitude),
+        Entry::End => end_step(p, at, plain),
+    }
+}
+
+// The same of a record, by its kind and its fields a, b, c: a reader makes no entries.
+pub fn step_for(p: Progress, at: usize, kind: Kind, a: u32, b: u32, c: u32) -> Step
+    ensures { λ r. ⌜ r ≡ stepOf p at true (entryFor kind a b c) ⌝ }
+{
+    match kind {
+        Kind::Head => head_step(p, at, true, a, b, c),
+        Kind::Enter(family) => turn_step(p, at, true, family, 1, a, b, c),
+        Kind::Leave(family) => turn_step(p, at, true, family, 2, a, b, c),
+        Kind::Graze(family) => graze_step(p, at, true, family, a, b),
+        Kind::Open(family) => open_step(p, at, true, family, a, b),
+        Kind::Closest => closest_step(p, at, true, a, b),
+        Kind::End => end_step(p, at, true),
     }
 }
 
@@ -613,7 +665,8 @@ pub fn four_at(s: &[u8], at: usize) -> u32
     high * 65536 + low
 }
 
-fn byte_at(s: &[u8], at: usize) -> Byte
+// The byte at `at`, if the input reaches so far.
+pub fn byte_at(s: &[u8], at: usize) -> Byte
     ensures { λ r. ⌜ r ≡ byteAt (now (s .entry)) at ⌝ }
 {
     if at < s.len() {
@@ -624,7 +677,8 @@ fn byte_at(s: &[u8], at: usize) -> Byte
 }
 
 // The body of the record at `at`, if the input does not end inside it.
-fn body_at(s: &[u8], at: usize, shape: Shape) -> Body
+// It is for crates that go along a sheet, and has a `requires`, so it is none of the public promises.
+pub fn body_at(s: &[u8], at: usize, shape: Shape) -> Body
     requires { ⌜ at < length (now s) ⌝ }
     ensures { λ r. ⌜ r ≡ bodyAt shape (now (s .entry)) at ⌝ }
 {

@@ -1,15 +1,17 @@
 // Sheets: records read and written one after the other, by the rules of document 01.
 // An entry handed over, or stored for a reader, is four numbers: the kind, then the kind's fields in their order, 0 for what it does not use.
+use records::Body;
+use records::Byte;
 use records::Entry;
 use records::Named;
 use records::Record;
 use records::Refusal;
 use records::Step;
 ghost use mathlib.Core.Path.{_≡_};
+ghost use mathlib.Core.List.{[], _∷_};
 ghost use Prim.Native.Nat.{_+_, _*_, _≤_};
 ghost use lib.ListN.{length};
 ghost use lib.Seq.{sets};
-ghost use Rattle.records.specs.Entries.{numbers};
 ghost use Rattle.sheets.specs.Sheets.{extentOf, readSheet, readWhole, readInto, roomAfter};
 ghost use Rattle.sheets.specs.Handed.{fourAt, entryAt, plainAt, listSheet, listWhole, writeInto, bufferAfter};
 ghost use Rattle.sheets.specs.Passes.{refusedOf, brokenOf, RoomFor, filled, BufferFor, emitted};
@@ -56,15 +58,22 @@ pub fn measure(s: &[u8]) -> Extent
     let mut at = 0;
     let mut n = 0;
     loop {
-        let read = records::record_at(s, at);
-        let Record::Is(entry, next) = read else {
-            return refused(read);
+        let Byte::Is(code) = records::byte_at(s, at) else {
+            return Extent::Refused(Refusal::Cut(s.len()));
         };
-        let step = records::step_by(p, at, true, entry);
+        let Named::Is(kind) = records::kind_for(code) else {
+            return Extent::Refused(Refusal::Kind(at));
+        };
+        let shape = records::shape_of(kind);
+        let Body::Is(a, b, c) = records::body_at(s, at, shape) else {
+            return Extent::Refused(Refusal::Cut(at));
+        };
+        let next = at + records::size_of(shape);
+        let step = records::step_for(p, at, kind, a, b, c);
         let Step::Next(further) = step else {
             return broken(step);
         };
-        if records::is_end(entry) {
+        if records::ends(kind) {
             let count = n + 1;
             return Extent::Sheet {
                 entries: count,
@@ -91,16 +100,15 @@ pub fn measure_whole(s: &[u8]) -> Extent
     found
 }
 
-// An entry's four numbers at `at`.
-fn store(room: &mut [u32], at: usize, entry: Entry)
+// Four numbers at `at`.
+fn store(room: &mut [u32], at: usize, code: u32, a: u32, b: u32, c: u32)
     requires { ⌜ at + 4 ≤ length (now room) ⌝ }
-    ensures { λ r. ⌜ now (room .exit) ≡ sets (now (room .entry)) at (numbers entry) ⌝ }
+    ensures { λ r. ⌜ now (room .exit) ≡ sets (now (room .entry)) at (code ∷ a ∷ b ∷ c ∷ []) ⌝ }
 {
-    let n = records::parts_for(entry);
-    room[at] = n.code;
-    room[at + 1] = n.a;
-    room[at + 2] = n.b;
-    room[at + 3] = n.c;
+    room[at] = code;
+    room[at + 1] = a;
+    room[at + 2] = b;
+    room[at + 3] = c;
 }
 
 // The entries of the sheet that `s` begins with, into a room that holds them.
@@ -111,15 +119,22 @@ fn fill(s: &[u8], room: &mut [u32])
     let mut at = 0;
     let mut n = 0;
     loop {
-        let Record::Is(entry, next) = records::record_at(s, at) else {
+        let Byte::Is(code) = records::byte_at(s, at) else {
+            return;
+        };
+        let Named::Is(kind) = records::kind_for(code) else {
+            return;
+        };
+        let shape = records::shape_of(kind);
+        let Body::Is(a, b, c) = records::body_at(s, at, shape) else {
             return;
         };
         let place = n * 4;
-        store(room, place, entry);
-        if records::is_end(entry) {
+        store(room, place, code, a, b, c);
+        if records::ends(kind) {
             return;
         }
-        at = next;
+        at += records::size_of(shape);
         n += 1;
     }
 }

@@ -1,14 +1,10 @@
--- `sheets::store` meets its contract. Four stores are `sets` of the entry's numbers.
-use Rattle.records.specs.Entries.{partsFor}
+-- `sheets::store` meets its contract. Four stores are `sets` of the four numbers.
 use lib.ListN.{length-set}
 use native.Mathlib.Numerals.{add-one, add-two, add-three}
 use native.Mathlib.Omega.{arith}
 use borrow.Author.Needs.{needs}
 use Rattle.sheets.proofs.store.Statement.{statement}
 use Rattle.sheets.proofs.store.Tie as tie
-
-parts-for-requires : tie.Need-parts-for-requires
-parts-for-requires c κs = search needs
 
 mul-room : tie.Need-mul-room
 mul-room c = search needs
@@ -47,14 +43,12 @@ same-length : tie.Need-same-length
 same-length c = search needs
 
 returns : tie.Need-returns
-unfolding partsFor
-returns c = rw (c .parts-for .ensures) (simp (add-one, add-two, add-three))
+returns c = simp (add-one, add-two, add-three)
 
 pub store-spec : {M : Type 1} → statement M
 store-spec =
     tie.close
     (tie.spec
-    parts-for-requires
     mul-room
     slice-write-room
     add-room
