@@ -1,0 +1,175 @@
+#!/usr/bin/env python3
+"""Holds the program `request` against a reading of typed requests that shares no code with it.
+
+    rt check request && python3 tests/request.py [TEXTS] [SEED]
+"""
+
+import random
+import re
+import struct
+import subprocess
+import sys
+from decimal import Decimal, localcontext
+from pathlib import Path
+
+PROGRAM = Path(__file__).resolve().parent.parent / "target/bin/request"
+
+SIGNED4 = (-(2**31), 2**31 - 1)
+SIGNED2 = (-(2**15), 2**15 - 1)
+UNSIGNED2 = (0, 2**16 - 1)
+
+# name, decimals of a unit, what its bytes hold
+FIELDS = (
+    [(name, 8, SIGNED4) for name in "x0 x1 x2 x3 y0 y1 y2 y3".split()]
+    + [(name, 6, SIGNED4) for name in "d0 d1 d2".split()]
+    + [(name, 8, SIGNED4) for name in "l10 l11 l12 l20 l21 l22".split()]
+    + [(name, 6, SIGNED4) for name in "mu0 mu1 mu2".split()]
+    + [("tan f1", 8, SIGNED4), ("tan f2", 8, SIGNED4)]
+    + [("station", 0, UNSIGNED2), ("latitude", 6, SIGNED4), ("longitude", 6, SIGNED4), ("height", 0, SIGNED4)]
+    + [("first", 0, SIGNED2), ("last", 0, SIGNED2)]
+)
+NUMBER = re.compile(rb"[+-]?([0-9]+\.?[0-9]*|\.[0-9]+)")
+
+
+def units(word, places, bounds):
+    """The number of units that a word is, or what is wrong with it."""
+    if not NUMBER.fullmatch(word):
+        return None, "is not a number"
+    with localcontext() as exact:
+        exact.prec = len(word) + 20
+        value = Decimal(word.decode()).scaleb(places)
+        if value != value.to_integral_value():
+            return None, "has too many decimals for a whole number of units"
+        value = int(value)
+    if not bounds[0] <= value <= bounds[1]:
+        return None, "is too large for its bytes"
+    return value, None
+
+
+def answer(text):
+    """What the program writes to its two outputs."""
+    if len(text) > 65536:
+        return b"", b"the text has more than 65,536 bytes\n"
+    lines = text.split(b"\n")
+    if lines[-1] == b"":
+        lines.pop()
+    given = {}
+    for count, line in enumerate(lines, 1):
+
+        def refused(message):
+            return b"", f"line {count}: {message}\n".encode()
+
+        said = line.split(b"#")[0].strip(b" \t\r")
+        if not said:
+            continue
+        for name, places, bounds in FIELDS:
+            rest = said[len(name) :]
+            if said.startswith(name.encode()) and (not rest or rest[0] in b" \t\r"):
+                break
+        else:
+            return refused("unknown name")
+        value, wrong = units(rest.strip(b" \t\r"), places, bounds)
+        if wrong:
+            return refused(f"{name} {wrong}")
+        if name in given:
+            return refused(f"{name} is given twice")
+        given[name] = value
+    for name, _, _ in FIELDS:
+        if name not in given:
+            return b"", f"line {len(lines) + 1}: {name} is missing\n".encode()
+    n = [given[name] for name, _, _ in FIELDS]
+    return struct.pack(">B22iBHiiiBhh", 2, *n[:22], 3, *n[22:26], 4, *n[26:]), b""
+
+
+def typed(draw, name, places, bounds):
+    """A line for a field: mostly a value that fits, often at an end of what does."""
+    low, high = bounds
+    value = draw.choice([draw.randint(low, high), draw.randint(-1000, 1000), low, high, 0])
+    if draw.random() < 0.01:
+        value = draw.choice([low - 1, high + 1, 10**12, -(10**30), 2**32, 2**63, 2**64])
+    if name == "station" and value < 0 and draw.random() < 0.9:
+        value = -value % 65536
+    sign = "-" if value < 0 else draw.choice(["", "", "", "+"])
+    digits = str(abs(value)).rjust(places + 1, "0")
+    whole, decimals = (digits[: len(digits) - places], digits[len(digits) - places :]) if places else (digits, "")
+    if draw.random() < 0.3:
+        decimals = decimals.rstrip("0")
+    decimals += "0" * draw.choice([0, 0, 0, 1, 30])
+    if draw.random() < 0.005:
+        decimals += draw.choice("123456789x")
+    point = "." if decimals or draw.random() < 0.05 else ""
+    if whole == "0" and decimals and draw.random() < 0.2:
+        whole = ""
+    whole = "0" * draw.choice([0, 0, 0, 1, 40]) + whole
+    space = draw.choice([" ", " ", "  ", "\t", " \t "])
+    before = draw.choice(["", "", "", " ", "\t"])
+    after = draw.choice(["", "", "", " ", "\r", " # a comment", "#", "\t#x0 1"])
+    return f"{before}{name}{space}{sign}{whole}{point}{decimals}{after}"
+
+
+def text(draw):
+    lines = [typed(draw, *field) for field in FIELDS]
+    if draw.random() < 0.5:
+        draw.shuffle(lines)
+    for extra in range(draw.choice([0, 0, 1, 5])):
+        lines.insert(draw.randint(0, len(lines)), draw.choice(["", "# a comment", "   ", "\t# x0 1", "#"]))
+    fault = draw.random()
+    if fault < 0.1:
+        lines.pop(draw.randrange(len(lines)))
+    elif fault < 0.2:
+        lines.insert(draw.randint(0, len(lines)), draw.choice(lines))
+    elif fault < 0.25:
+        lines.insert(draw.randint(0, len(lines)), draw.choice(["x4 0", "tanf1 0", "X0 1", "x0", "tan  f1 1", "latitude55", "last 1 2", "-", "="]))
+    made = bytearray("\n".join(lines).encode() + draw.choice([b"\n", b"\n", b"", b"\n\n"]))
+    if fault > 0.8:
+        for _ in range(draw.choice([1, 1, 2, 5])):
+            at = draw.randrange(len(made))
+            change = draw.random()
+            if change < 0.4:
+                made[at] = draw.choice(b" \t\n\r#+-.0123456789xyzdlmutanf\x00\xff")
+            elif change < 0.7:
+                del made[at]
+            else:
+                made.insert(at, draw.choice(b" \n#-.059x\x80"))
+    return bytes(made)
+
+
+def texts(count, seed):
+    draw = random.Random(seed)
+    plain = ["%s %s" % (name, 1) for name, _, _ in FIELDS]
+    yield b""
+    yield b"\n" * 65537
+    yield b"#" * 65536
+    for k in range(len(FIELDS)):
+        # each field missing, twice, no number, a fraction, too large
+        name, places, (low, high) = FIELDS[k]
+        yield "\n".join(plain[:k] + plain[k + 1 :]).encode()
+        yield "\n".join(plain + [plain[k]]).encode()
+        for value in ["", "-", ".", "1e3", "1,5", "1.2.3", "--1", "0." + "0" * places + "1", "0." + "0" * places + "0"]:
+            yield "\n".join(plain[:k] + [f"{name} {value}"] + plain[k + 1 :]).encode()
+        for value in [low - 1, low, high, high + 1, -0, 2**64 + 1]:
+            exact = Decimal(value).scaleb(-places)
+            yield "\n".join(plain[:k] + [f"{name} {exact:f}"] + plain[k + 1 :]).encode()
+    for _ in range(count):
+        yield text(draw)
+
+
+def main():
+    count = int(sys.argv[1]) if len(sys.argv) > 1 else 2000
+    seed = int(sys.argv[2]) if len(sys.argv) > 2 else 1954
+    kinds = {}
+    for tried, given in enumerate(texts(count, seed), 1):
+        ran = subprocess.run([PROGRAM], input=given, capture_output=True)
+        wanted = answer(given)
+        if (ran.stdout, ran.stderr) != wanted:
+            sys.exit(f"text {tried}: {given!r}\nwrote  {ran.stdout!r} {ran.stderr!r}\nwanted {wanted[0]!r} {wanted[1]!r}")
+        kind = re.sub(rb"line \d+: (tan f\d|[a-z0-9]+) (?=is|has)", b"", wanted[1]).decode().strip() or "109 bytes"
+        kind = re.sub(r"line \d+: ", "", kind)
+        kinds[kind] = kinds.get(kind, 0) + 1
+    print(f"{tried} texts, no difference")
+    for kind, number in sorted(kinds.items(), key=lambda pair: -pair[1]):
+        print(f"  {number:6} {kind}")
+
+
+if __name__ == "__main__":
+    main()
