@@ -65,7 +65,7 @@ fours-at (x ∷ xs) rest (suc k) h =
 
 -- ---- the request
 
-done-fits : (n : List ℤ) → putOf n ≡ Done → fit n ≡ L.Within
+pub done-fits : (n : List ℤ) → putOf n ≡ Done → fit n ≡ L.Within
 unfolding putOf
 done-fits n e = by (fit n) e
   where

@@ -12,10 +12,16 @@ use Rattle.numbers.specs.declared.Limits.{Limits}
 use Rattle.numbers.specs.declared.Limits.the-variants as Limit
 use Rattle.numbers.specs.Limits.{outside, firstOutside}
 use Rattle.requests.specs.declared.Answer.the-variants.{Done}
-use Rattle.requests.specs.Requests.{lows, highs, fit, putBy, putOf}
+use Rattle.requests.specs.Requests.{lows, highs, fit, bytesOf, putBy, putOf, bytesAfter}
+use Rattle.requests.specs.PutLaws.{put-done}
+use Rattle.input.specs.Input.{inputOf}
+use Rattle.typed.specs.declared.Fault.{Fault}
+use Rattle.typed.specs.declared.Typed.the-variants as T
 use Rattle.typed.specs.Fields.{Field, fields, lowestOf, highestOf}
-use Rattle.typed.specs.Typed.{numbers, InBytes, readingOf}
+use Rattle.typed.specs.Typed.{Reading, numbers, refused, readingOf, answerOf, numbersFrom}
 use Rattle.typed.specs.WalkLaws.{Fit, numbers-fit}
+use Rattle.request.specs.Typed.{bytesFrom, ReadAs}
+use Rattle.request.specs.ReadBack.{done-fits, read-back}
 
 -- both crates have the same bounds
 lows-are : lows ≡ map (λ (f : Field). negℤ (pos (f .lowest))) fields
@@ -52,3 +58,32 @@ unfolding putOf fit
 typed-done text ns e =
     let f = numbers-fit text ns e in
     ap putBy (rw (lows-are, highs-are) (all-inside 0 ns fields (λ k l. f .each k (omega (arith, f .count)))))
+
+after-done : (n : List ℤ) (old : List ℕ) → putOf n ≡ Done → bytesAfter n old ≡ bytesOf n
+after-done n old e = sym (put-done n old (done-fits n e) .1)
+
+-- ---- what `encode` promises of the bytes
+
+abbrev Promised : Reading → List ℕ → List ℕ → Type 0
+Promised x old new = (new ≡ bytesFrom x old) × ReadAs x new
+
+-- a refused text leaves them
+pub refused-kept : (text old : List ℕ) (i : ℕ) (f : Fault) → answerOf (readingOf text) ≡ T.Refused i f → Promised (readingOf text) old old
+refused-kept text old i f e = by (readingOf text) e
+  where
+    by : (x : Reading) → answerOf x ≡ T.Refused i f → Promised x old old
+    by (numbers ns) q = let z : _≡_ {A = ℕ} 0 1 = cc in absurd (omega arith)
+    by (refused j g) q = (refl, tt)
+
+-- any other has its numbers put
+pub numbers-put : (text : List ℕ) (lent ns : List ℤ) (old new : List ℕ) → answerOf (readingOf text) ≡ T.Numbers → ns ≡ numbersFrom (readingOf text) lent → new ≡ bytesAfter ns old
+    → Promised (readingOf text) old new
+numbers-put text lent ns old new e p q = by (readingOf text) refl e p
+  where
+    by : (x : Reading) → readingOf text ≡ x → answerOf x ≡ T.Numbers → ns ≡ numbersFrom x lent → Promised x old new
+    by (numbers ms) r a b =
+        let done = typed-done text ms r in
+        let fits = numbers-fit text ms r in
+        let bytes : new ≡ bytesOf ms = q ∙ ap (λ (l : List ℤ). bytesAfter l old) b ∙ after-done ms old done in
+        (bytes, ap inputOf bytes ∙ read-back ms (fits .count) done)
+    by (refused j g) r a b = let z : _≡_ {A = ℕ} 0 1 = cc in absurd (omega arith)
