@@ -29,6 +29,11 @@ pub unsafe fn mutate(
         return LLVMFuzzerMutate(data, size, most);
     }
     let input = std::slice::from_raw_parts_mut(data, most);
+    // The room too, and often just enough or one less: two bytes of many would seldom be met.
+    if random.once_in(4) {
+        input[0] = [0, 1, 0xFF, random.below(256) as u8][random.below(4) as usize];
+        input[1] = if random.once_in(2) { 0 } else { random.below(8) as u8 };
+    }
     let mut changed = input[head..size].to_vec();
     change(&mut random, &mut changed);
     changed.truncate(most - head);
