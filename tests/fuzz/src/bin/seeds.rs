@@ -1,0 +1,68 @@
+//! `seeds FOLDER`: what the fuzzer starts from, in FOLDER/read and FOLDER/sheet: the requests and sheets that the repository holds, and
+//! some drawn as tests/agreement draws them.
+
+use agreement::draws;
+use fuzz::{LEAVE_NUMBERS, LEAVE_SHAPE};
+use reference::random::Random;
+use reference::sheet;
+use std::fs;
+use std::path::{Path, PathBuf};
+
+const DRAWN: usize = 500;
+
+/// Exactly the room that is needed.
+const ROOM: [u8; 2] = [0, 0];
+
+fn stored(file: &str) -> Vec<u8> {
+    let path = Path::new(env!("CARGO_MANIFEST_DIR")).join("../..").join(file);
+    fs::read(&path).unwrap_or_else(|error| panic!("{}: {error}", path.display()))
+}
+
+/// Each sheet of program `stored_sheets` stands after its length in two bytes.
+fn stored_sheets() -> Vec<Vec<u8>> {
+    let all = stored("crates/stored_sheets/stdin");
+    let mut rest = &all[..];
+    let mut sheets = vec![stored("crates/listing/stdin")];
+    while let [high, low, more @ ..] = rest {
+        let (sheet, after) = more.split_at(usize::from(*high) << 8 | usize::from(*low));
+        sheets.push(sheet.to_vec());
+        rest = after;
+    }
+    sheets
+}
+
+/// Each case of program `cases` is a room in two bytes, the input's length in one, and the input in 110.
+fn stored_requests() -> Vec<Vec<u8>> {
+    let files = ["examples/moscow1954.bin", "examples/kiev1954.bin", "crates/sheet/stdin"];
+    let cases = stored("crates/cases/stdin");
+    let inputs = cases.chunks_exact(113).map(|case| case[3..3 + usize::from(case[2])].to_vec());
+    files.iter().map(|file| stored(file)).chain(inputs).collect()
+}
+
+fn drawn_sheet(random: &mut Random) -> Vec<u8> {
+    let entries = draws::entries(random);
+    let mut bytes = vec![0; 7 * entries.len()];
+    let length = sheet::write(&entries, &mut bytes).expect("entries that keep all rules");
+    bytes.truncate(length);
+    draws::damage(random, &mut bytes);
+    bytes
+}
+
+fn put(folder: &Path, head: &[u8], inputs: impl IntoIterator<Item = Vec<u8>>, from: &str) {
+    fs::create_dir_all(folder).expect("a folder for seeds");
+    for (number, input) in inputs.into_iter().enumerate() {
+        fs::write(folder.join(format!("{from}{number}")), [head, &input].concat())
+            .expect("a file for a seed");
+    }
+}
+
+fn main() {
+    let folder = PathBuf::from(std::env::args_os().nth(1).expect("usage: seeds FOLDER"));
+    let mut random = Random::new(1);
+    let (read, sheet) = (folder.join("read"), folder.join("sheet"));
+    put(&read, &ROOM, stored_sheets(), "stored");
+    put(&read, &ROOM, (0..DRAWN).map(|_| drawn_sheet(&mut random)), "drawn");
+    let head = [ROOM[0], ROOM[1], LEAVE_SHAPE | LEAVE_NUMBERS];
+    put(&sheet, &head, stored_requests(), "stored");
+    put(&sheet, &head, (0..DRAWN).map(|_| draws::request(&mut random)), "drawn");
+}

@@ -1,0 +1,182 @@
+//! Two targets for libFuzzer: an input goes to the compiled library and to the reference, and any difference aborts.
+//!
+//! Compared: the refusal's number, the value beside it, and the whole buffer with 64 numbers past its end. The library is there twice:
+//! the archive itself, and its guide, the same module compiled with counters on its edges, so that the fuzzer sees the library's own
+//! branches.
+
+pub mod changes;
+
+use agreement::library::{self, Reply};
+use reference::elements::{Elements, Station, Window, ELEMENT_RANGES, FARTHEST, STATION_RANGES};
+use reference::refusal::Refusal;
+use reference::request::{Request, REQUEST_LENGTH};
+use reference::sheet;
+use std::fmt::Debug;
+use std::ops::RangeInclusive;
+
+extern "C" {
+    // The guide's exports, as include/ukhtvaresh.h declares those of the archive.
+    fn guide_read(input: *const u8, length: usize, room: *mut u32, room_len: usize, value: *mut u64) -> u64;
+    fn guide_sheet(input: *const u8, length: usize, room: *mut u8, room_len: usize, value: *mut u64) -> u64;
+}
+
+type Export<T> = unsafe extern "C" fn(*const u8, usize, *mut T, usize, *mut u64) -> u64;
+
+fn guide<T>(export: Export<T>, input: &[u8], room: &mut [T]) -> Reply {
+    let mut value = 0;
+    let number = unsafe { export(input.as_ptr(), input.len(), room.as_mut_ptr(), room.len(), &mut value) };
+    (number, value)
+}
+
+/// Numbers past a buffer's end, which nobody may write.
+const PAST: usize = 64;
+
+/// What a call left: the reply, and the whole buffer with what lies past its end.
+#[derive(PartialEq)]
+struct Left<T> {
+    reply: Reply,
+    buffer: Vec<T>,
+}
+
+fn left<T>(room: usize, old: fn(usize) -> T, call: impl FnOnce(&mut [T]) -> Reply) -> Left<T> {
+    let mut buffer: Vec<T> = (0..room + PAST).map(old).collect();
+    let reply = call(&mut buffer[..room]);
+    Left { reply, buffer }
+}
+
+fn reply(result: Result<usize, Refusal>) -> Reply {
+    match result {
+        Ok(value) => (0, value as u64),
+        Err(refusal) => (refusal.number().into(), refusal.place() as u64),
+    }
+}
+
+fn differ(what: &str, given: &[u8]) -> ! {
+    let bytes: String = given.iter().map(|byte| format!("{byte:02x}")).collect();
+    eprintln!("DIFFERENCE in {what}\ngiven {bytes}");
+    std::process::abort()
+}
+
+fn must_agree<T: PartialEq + Debug>(what: &str, given: &[u8], room: usize, ours: &Left<T>, theirs: &Left<T>) {
+    if ours == theirs {
+        return;
+    }
+    eprintln!("room {room}, {what} {:?}, reference {:?}", ours.reply, theirs.reply);
+    if let Some(at) = ours.buffer.iter().zip(&theirs.buffer).position(|(a, b)| a != b) {
+        eprintln!("buffers from {at} on: {:?}, reference {:?}", ours.buffer[at], theirs.buffer[at]);
+    }
+    differ(what, given)
+}
+
+/// A sheet that reads well is written back to the same bytes.
+fn must_come_back(sheet: &[u8]) {
+    let mut entries = vec![0; 4 * sheet.len()];
+    let (number, count) = library::read(sheet, &mut entries);
+    let mut again = vec![0; sheet.len()];
+    let written = library::write(&entries[..4 * count as usize], &mut again);
+    if number != 0 || written != (0, sheet.len() as u64) || again != sheet {
+        differ("a sheet read and written again", sheet);
+    }
+}
+
+/// The room to lend where `needed` would do: from exactly that to far less and far more, by two bytes of the input.
+fn room(needed: usize, near: u8, far: u8) -> usize {
+    needed.saturating_add_signed((near as i8 as isize) << (far % 8))
+}
+
+/// Two bytes for the room, then the sheet.
+pub fn read(input: &[u8]) {
+    let &[near, far, ref stored @ ..] = input else { return };
+    let records = sheet::records_of(stored);
+    let room = room(records.as_ref().map_or(0, |records| 4 * records.len()), near, far);
+    let old = |at: usize| (at as u32).wrapping_mul(0x9E37_79B9) ^ 0xA5A5_5A5A;
+    let theirs = left(room, old, |room| reply(sheet::read(stored, room)));
+    let ours = left(room, old, |room| library::read(stored, room));
+    must_agree("ukhtvaresh_read", stored, room, &ours, &theirs);
+    let guided = left(room, old, |room| guide(guide_read, stored, room));
+    must_agree("ukhtvaresh_read with counters", stored, room, &guided, &theirs);
+    if records.is_ok() {
+        must_come_back(stored);
+    }
+}
+
+/// Bits of the byte before a request: what is left as it stands. The rest is mended, so that not every change ends in a refusal.
+pub const LEAVE_SHAPE: u8 = 0x01;
+pub const LEAVE_NUMBERS: u8 = 0x02;
+
+/// A short window's seconds, less one.
+const SHORT: i64 = 600;
+
+/// A number of the range, itself where it is one.
+fn into_range(number: i64, range: &RangeInclusive<i64>) -> i64 {
+    let count = range.end() - range.start() + 1;
+    range.start() + (number - range.start()).rem_euclid(count)
+}
+
+fn into_ranges<const N: usize>(numbers: [i64; N], ranges: &[RangeInclusive<i64>; N]) -> [i64; N] {
+    std::array::from_fn(|field| into_range(numbers[field], &ranges[field]))
+}
+
+pub(crate) fn within_limits(request: &Request) -> Request {
+    let [number, latitude, longitude, height] = into_ranges(request.station.fields(), &STATION_RANGES);
+    let seconds = -FARTHEST..=FARTHEST;
+    let [a, b] = [request.window.first, request.window.last].map(|second| into_range(second, &seconds));
+    Request {
+        elements: Elements::from_fields(into_ranges(request.elements.fields(), &ELEMENT_RANGES)),
+        station: Station { number, latitude, longitude, height },
+        window: Window { first: a.min(b), last: a.max(b) },
+    }
+}
+
+pub(crate) fn give_shape(bytes: &mut Vec<u8>) {
+    bytes.resize(REQUEST_LENGTH, 0);
+    (bytes[0], bytes[89], bytes[104]) = (2, 3, 4);
+}
+
+fn request(leave: u8, raw: &[u8]) -> Vec<u8> {
+    let mut bytes = raw.to_vec();
+    if leave & LEAVE_SHAPE == 0 {
+        give_shape(&mut bytes);
+    }
+    let Ok(mut request) = Request::from_bytes(&bytes) else { return bytes };
+    if leave & LEAVE_NUMBERS == 0 {
+        request = within_limits(&request);
+    }
+    // Long windows are slow, and the fuzzer would stay with them: one input in sixteen, any change draws anew.
+    let sum: u32 = raw.iter().copied().map(u32::from).sum();
+    if sum % 16 != u32::from(leave >> 4) {
+        request.window.last = request.window.last.min(request.window.first + SHORT);
+    }
+    request.to_bytes().expect("numbers no wider than they were").to_vec()
+}
+
+/// Two bytes for the room, one for what is left as it stands, then the request.
+pub fn sheet(input: &[u8]) {
+    let &[near, far, leave, ref raw @ ..] = input else { return };
+    let request = request(leave, raw);
+    // The sheet once, and only then the room, since the seconds of a window are most of the work.
+    let found = Request::from_bytes(&request).and_then(|request| request.check());
+    let found = found.map(|circumstances| sheet::bytes_of(&circumstances.records()));
+    let room = room(found.as_ref().map_or(0, Vec::len), near, far);
+    let old = |at: usize| (at as u8).wrapping_mul(167) ^ 0xA5;
+    let theirs = left(room, old, |room| reply(found.and_then(|bytes| sheet::copy_into(&bytes, room))));
+    let ours = left(room, old, |room| library::sheet(&request, room));
+    must_agree("ukhtvaresh_sheet", &request, room, &ours, &theirs);
+    let guided = left(room, old, |room| guide(guide_sheet, &request, room));
+    must_agree("ukhtvaresh_sheet with counters", &request, room, &guided, &theirs);
+    if let (0, length) = ours.reply {
+        must_come_back(&ours.buffer[..length as usize]);
+    }
+}
+
+/// The input that libFuzzer hands over.
+///
+/// # Safety
+/// `data` and `size` are a slice.
+pub unsafe fn input<'a>(data: *const u8, size: usize) -> &'a [u8] {
+    if size == 0 {
+        &[]
+    } else {
+        std::slice::from_raw_parts(data, size)
+    }
+}
