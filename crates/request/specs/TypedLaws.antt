@@ -53,11 +53,13 @@ all-inside i (x ∷ xs) (f ∷ fs) h =
     let t = h 0 (omega arith) in
     rw (inside-one x (negℤ (pos (f .lowest))) (pos (f .highest)) (t .0) (t .1)) (all-inside (suc i) xs fs (λ k l. h (suc k) (omega arith)))
 
-pub typed-done : (text : List ℕ) (ns : List ℤ) → readingOf text ≡ numbers ns → putOf ns ≡ Done
-unfolding putOf fit
-typed-done text ns e =
-    let f = numbers-fit text ns e in
-    ap putBy (rw (lows-are, highs-are) (all-inside 0 ns fields (λ k l. f .each k (omega (arith, f .count)))))
+typed-within : (ns : List ℤ) → Fit ns → fit ns ≡ Limit.Within
+unfolding fit
+typed-within ns f = rw (lows-are, highs-are) (all-inside 0 ns fields (λ k l. f .each k (omega (arith, f .count))))
+
+typed-done : (text : List ℕ) (ns : List ℤ) → readingOf text ≡ numbers ns → putOf ns ≡ Done
+unfolding putOf
+typed-done text ns e = rw (typed-within ns (numbers-fit text ns e))
 
 after-done : (n : List ℤ) (old : List ℕ) → putOf n ≡ Done → bytesAfter n old ≡ bytesOf n
 after-done n old e = sym (put-done n old (done-fits n e) .1)

@@ -3,7 +3,6 @@
 use libc::STDERR_FILENO;
 use libc::STDIN_FILENO;
 use libc::STDOUT_FILENO;
-use requests::Answer;
 use typed::Fault;
 use typed::Typed;
 ghost use mathlib.Core.Path.{_≡_};
@@ -21,7 +20,7 @@ fn encode(text: &[u8], out: &mut [u8; 109]) -> Typed
     if let Typed::Refused(_, _) = answer {
         return answer;
     }
-    let put = requests::put(&numbers, out);
+    requests::put(&numbers, out);
     answer
 }
 
@@ -73,7 +72,10 @@ fn tell_fault(fault: Fault) {
     match fault {
         Fault::Unknown => tell(b"unknown name"),
         Fault::NotNumber(field) => tell_of(field, b" is not a number"),
-        Fault::NotWhole(field) => tell_of(field, b" has too many decimals for a whole number of units"),
+        Fault::NotWhole(field) => tell_of(
+            field,
+            b" has too many decimals for a whole number of units",
+        ),
         Fault::Unfit(field) => tell_of(field, b" is too large for its bytes"),
         Fault::Twice(field) => tell_of(field, b" is given twice"),
         Fault::Missing(field) => tell_of(field, b" is missing"),
@@ -88,13 +90,16 @@ fn tell_refused(line: usize, fault: Fault) {
     tell(b"\n");
 }
 
+fn write(bytes: &[u8; 109]) {
+    io::write_all(STDOUT_FILENO, bytes);
+}
+
+// Writes the bytes of a typed request, or tells its fault.
 fn answer(text: &[u8]) {
     let mut bytes = [0u8; 109];
     let answer = encode(text, &mut bytes);
     match answer {
-        Typed::Numbers => {
-            io::write_all(STDOUT_FILENO, &bytes);
-        }
+        Typed::Numbers => write(&bytes),
         Typed::Refused(line, fault) => tell_refused(line, fault),
     }
 }
