@@ -70,6 +70,23 @@ fn long_list(of_each: u32) -> Vec<u32> {
     entries
 }
 
+/// The same with kinds in no pattern: a graze, or the next of enter and leave, by lot.
+fn drawn_list(of_each: u32) -> Vec<u32> {
+    let mut random = Random::new(7);
+    let mut entries = vec![0x01, 999, 0, 21_600];
+    for base in [0x10, 0x20] {
+        let mut turn = 1;
+        for k in 0..of_each {
+            let graze = random.once_in(2);
+            turn = if graze { turn } else { 1 - turn };
+            let (kind, direction) = if graze { (2, 0) } else { (turn, 900) };
+            entries.extend([base + kind, 2 * k, 2 * k + 2, direction]);
+        }
+    }
+    entries.extend([0x30, 10_800, 1_000_000, 0, 0x7F, 0, 0, 0]);
+    entries
+}
+
 fn records(rounds: usize, name: &str, entries: &[u32], times: usize) {
     let mut bytes = vec![0; 7 * entries.len()];
     let length = sheet::write(entries, &mut bytes).expect("entries that keep all rules");
@@ -116,4 +133,5 @@ fn main() {
     records(rounds, "hand-worked", &short, 2_000);
     records(rounds, "medium", &long_list(30), 500);
     records(rounds, "long", &long_list(3_000), 20);
+    records(rounds, "drawn", &drawn_list(3_000), 20);
 }
