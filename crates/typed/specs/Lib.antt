@@ -2,8 +2,10 @@ pub mod Text
 pub mod TextLaws
 pub mod Numbers
 pub mod NumberLaws
+pub mod Exact
 pub mod Fields
 pub mod FieldLaws
 pub mod Typed
 pub mod TypedLaws
 pub mod WalkLaws
+pub mod Examples

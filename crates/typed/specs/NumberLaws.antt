@@ -58,7 +58,7 @@ capped-on (suc k) n s =
     ∙ capped-on k (digitAfter n x) (drop 1 s)
 
 -- one digit more of the text
-appended-step : (k n : ℕ) (s : List ℕ) → appended n (suc k) s ≡ appended (digitAfter n (getD s 0 48)) k (drop 1 s)
+pub appended-step : (k n : ℕ) (s : List ℕ) → appended n (suc k) s ≡ appended (digitAfter n (getD s 0 48)) k (drop 1 s)
 unfolding appended
 appended-step k n s = refl
 
