@@ -1,5 +1,5 @@
 -- What every call has: demand 3 of a request, the answer that the rules give it and the buffer that they leave.
-use mathlib.Core.Path.{_≡_, refl, sym, subst, ap, _∙_}
+use mathlib.Core.Path.{_≡_, refl, sym, ap, _∙_}
 use mathlib.Core.Bool.{Bool, true, false, cond}
 use mathlib.Core.List.{List, _++_}
 use Prim.Native.Nat.{ℕ, _≤_, _<_}
@@ -24,7 +24,7 @@ use Rattle.circumstances.specs.declared.Answer.the-variants as A
 use Rattle.circumstances.specs.Requests.{windowHolds, byStation, byElements, checked}
 use Rattle.circumstances.specs.Sheet.{sheetOf, sheetBytes, answerWithin, bufferWithin, answerBy, bufferBy, answerOf, bufferAfter}
 use Rattle.circumstances.specs.Stores.{stores-start}
-use Rattle.circumstances.specs.Demand3.{Demand3, EachSecond, Claimed}
+use Rattle.circumstances.specs.Demand3.{Demand3, Claimed}
 use Rattle.circumstances.specs.LimitsLaws.{InLimits, in-limits}
 use Rattle.circumstances.specs.SheetLaws.{kept-sheet}
 use Rattle.circumstances.specs.Demand3Laws.{each-second, changes-once, ends-exact, turns-alternate}

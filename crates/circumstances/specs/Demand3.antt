@@ -16,7 +16,7 @@ use Rattle.records.specs.declared.Family.{Family}
 use Rattle.records.specs.declared.Family.the-variants.{Penumbra, Central}
 use Rattle.records.specs.declared.Entry.{Entry}
 use Rattle.records.specs.declared.Entry.the-variants.{Head, Enter, Leave, Graze, Open, Closest, End}
-use Rattle.sheets.specs.Sheets.{Sheet, sheet, readSheet}
+use Rattle.sheets.specs.Sheets.{sheet, readSheet}
 use Rattle.circumstances.specs.declared.Request.{Request}
 use Rattle.circumstances.specs.declared.Refusal.{Refusal}
 use Rattle.circumstances.specs.declared.Refusal.the-variants as R

@@ -6,17 +6,17 @@
 use mathlib.Core.Path.{_≡_, refl, sym, subst, ap, ap₂, _∙_}
 use mathlib.Core.Bool.{Bool, true, false, _&&_}
 use mathlib.Core.List.{List, [], _∷_, _++_, map}
-use mathlib.Core.Logic.{_⊎_, inl, inr, ⊎-elim}
-use Prim.Native.Nat.{ℕ, zero, suc, _+_, _-_, _≤_, _<_}
+use mathlib.Core.Logic.{_⊎_}
+use Prim.Native.Nat.{ℕ, _+_, _-_, _≤_, _<_}
 use native.Mathlib.Omega.{arith}
 use borrow.Author.Tests.{leb-true, leb-false, le-leb, lt-leb}
 use lib.Dec.{leb}
 use lib.IntN.{ℤ, pos, negℤ, natAbs, _+ℤ_, _-ℤ_}
-use lib.ListN.{length, getD}
+use lib.ListN.{length}
 use lib.Signed.{_≤ℤ_, leZ-yes}
 use Rattle.numbers.specs.Parts.{posP, negP, sum, opposite, same}
 use Rattle.numbers.specs.Order.{zs, ≤-parts, natAbs-by}
-use Rattle.geometry.specs.Shadow.{Phase, penumbra, central, inside, outside, unsure}
+use Rattle.geometry.specs.Shadow.{Phase, penumbra, central}
 use Rattle.geometry.specs.States.{StatesMean}
 use Rattle.contacts.specs.declared.Entry as Contact
 use Rattle.contacts.specs.declared.Entry.the-variants as K
@@ -30,7 +30,7 @@ use Rattle.contacts.specs.Alternate.{Turn, neither, entered, left}
 use Rattle.records.specs.declared.Family.{Family}
 use Rattle.records.specs.declared.Family.the-variants.{Penumbra, Central}
 use Rattle.records.specs.declared.Entry.{Entry}
-use Rattle.records.specs.declared.Entry.the-variants.{Head, Enter, Leave, Graze, Open, Closest, End}
+use Rattle.records.specs.declared.Entry.the-variants.{Enter, Leave, Graze, Open, End}
 use Rattle.circumstances.specs.declared.Request.{Request}
 use Rattle.shadow.specs.Second.{cone}
 use Rattle.shadow.specs.SecondLaws.{state-at, states-true}
@@ -38,7 +38,7 @@ use Rattle.circumstances.specs.Seconds.{at, placeOf, guard, stateAt, sec
 use Rattle.circumstances.specs.Sheet.{stored, familyOf, entryOf, phaseOf, headOf, closestEntry, sheetOf}
 use Rattle.circumstances.specs.Demand3 as D3
 use Rattle.circumstances.specs.Demand3.{ExactlyInside, ExactlyOutside, InWindow, SaidRightly, EachSecond, secondOf, isOf, span, liesIn, once, howMany, ExactEnds, All, Alternate}
-use Rattle.circumstances.specs.LimitsLaws.{InLimits, placed, last-is, second-low, second-high, second-size}
+use Rattle.circumstances.specs.LimitsLaws.{InLimits, placed, last-is, second-low, second-high}
 use Rattle.circumstances.specs.SecondsLaws.{states-length, states-at, code-inside, code-outside, second-stored, stored-is, stored-later}
 
 -- ---- every second

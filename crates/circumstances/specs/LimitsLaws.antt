@@ -1,14 +1,14 @@
 -- A request within its limits: what follows for its window, its elements and its station.
-use mathlib.Core.Path.{_≡_, refl, sym, subst, ap, _∙_}
+use mathlib.Core.Path.{_≡_, refl, sym, subst, ap}
 use mathlib.Core.Bool.{Bool, true, false, cond, _&&_, not}
-use Prim.Native.Nat.{ℕ, zero, suc, _+_, _≤_, _<_}
+use Prim.Native.Nat.{ℕ, _≤_, _<_}
 use native.Mathlib.Omega.{arith}
-use lib.IntN.{ℤ, pos, negsuc, negℤ, natAbs, _+ℤ_, _-ℤ_}
+use lib.IntN.{pos, negℤ, natAbs, _+ℤ_, _-ℤ_}
 use lib.Signed.{leZ, _≤ℤ_}
 use Rattle.numbers.specs.declared.Limits.{Limits}
 use Rattle.numbers.specs.declared.Limits.the-variants as L
 use Rattle.numbers.specs.Parts.{posP, negP, sum, opposite, same}
-use Rattle.numbers.specs.Order.{zs, ≤-parts, parts-≤, leZ-true, both-ways, natAbs-by, natAbs-parts, nonneg, minus-nonneg}
+use Rattle.numbers.specs.Order.{zs, ≤-parts, leZ-true, both-ways, natAbs-by, natAbs-parts, nonneg, minus-nonneg}
 use Rattle.elements.specs.Elements as E
 use Rattle.elements.specs.Sizes as ES
 use Rattle.station.specs.Station as S

@@ -1,7 +1,6 @@
 -- The rows that document 01 marks for proof of the rules themselves, under one theorem: each holds by computation of the definitions.
 use mathlib.Core.Path.{_≡_, refl}
-use mathlib.Core.List.{List, [], _∷_}
-use Prim.Native.Nat.{ℕ}
+use mathlib.Core.List.{[], _∷_}
 use lib.IntN.{ℤ, pos, negsuc}
 use Rattle.numbers.specs.Near.{near}
 use Rattle.numbers.specs.Root.{root}
@@ -15,15 +14,13 @@ use Rattle.elements.specs.Polynomial.{step, value2, value3}
 use Rattle.station.specs.declared.Station.{Station}
 use Rattle.station.specs.Place.{under, W, C, Z, h, R, P}
 use Rattle.station.specs.Examples.{pole-R, pole-P, equator-R, equator-P}
-use Rattle.geometry.specs.Shadow.{H, q, ξ, η, ζ, x, y, l, u, v, L, penumbra, central, state}
+use Rattle.geometry.specs.Shadow.{H, q, ξ, η, ζ, x, y, l, u, v, L, penumbra, state}
 use Rattle.geometry.specs.Direction.{direction}
 use Rattle.shadow.specs.Second as Shadow
 use Rattle.shadow.specs.Examples.{direction-of-1-1, direction-of-0-minus-5}
 use Rattle.contacts.specs.Entries.{someBetween}
-use Rattle.records.specs.declared.Entry.{Entry}
 use Rattle.records.specs.declared.Entry.the-variants.{Open}
 use Rattle.records.specs.declared.Family.the-variants.{Penumbra}
-use Rattle.circumstances.specs.declared.Window.{Window}
 use Rattle.circumstances.specs.declared.Request.{Request}
 use Rattle.circumstances.specs.Seconds.{stateAt, secondsOf, statesOf}
 use Rattle.circumstances.specs.Sheet.{stored, phaseOf}

@@ -1,10 +1,10 @@
 -- One second of a request: its shadow, states, magnitude and direction, or the refusal.
-use mathlib.Core.Path.{_≡_, refl, sym, ap, _∙_}
+use mathlib.Core.Path.{_≡_, refl}
 use mathlib.Core.Bool.{Bool, true, false, cond, _&&_}
-use Prim.Native.Nat.{ℕ, _≤_}
+use Prim.Native.Nat.{_≤_}
 use native.Mathlib.Omega.{arith}
 use lib.IntN.{ℤ, pos, negℤ, natAbs}
-use lib.Signed.{leZ, _≤ℤ_}
+use lib.Signed.{leZ}
 use Rattle.numbers.specs.Parts.{opposite}
 use Rattle.numbers.specs.Order.{≤-parts, leZ-true, both-ways, natAbs-by}
 use Rattle.elements.specs.declared.Elements.{Elements}

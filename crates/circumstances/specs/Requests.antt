@@ -1,7 +1,7 @@
 -- A request: its limits, and what it is refused for.
-use mathlib.Core.Bool.{Bool, true, false, cond, _&&_}
+use mathlib.Core.Bool.{Bool, cond, _&&_}
 use Prim.Native.Nat.{ℕ}
-use lib.IntN.{ℤ, pos, negℤ}
+use lib.IntN.{pos, negℤ}
 use lib.Signed.{leZ}
 use Rattle.numbers.specs.declared.Limits.{Limits}
 use Rattle.numbers.specs.declared.Limits.the-variants as L

@@ -3,22 +3,21 @@
 --   state-inside, state-outside   which byte says what
 --   closest-is      "the second of smallest M, the earliest of equals"
 --   stored-second, second-stored   a second is stored plus 10,800, and read back
-use mathlib.Core.Path.{_≡_, refl, sym, subst, ap, _∙_}
+use mathlib.Core.Path.{_≡_, refl, ap}
 use mathlib.Core.Bool.{Bool, true, false, cond}
-use mathlib.Core.List.{List, [], _∷_}
-use mathlib.Core.Logic.{_⊎_, inl, inr, ⊎-elim}
+use mathlib.Core.Logic.{⊎-elim}
 use Prim.Native.Nat.{ℕ, zero, suc, _+_, _≤_, _<_}
 use native.Mathlib.Omega.{arith}
 use native.Mathlib.Nat.{eq-or-lt-of-le}
-use lib.IntN.{ℤ, pos, negsuc, negℤ, natAbs, _+ℤ_, _-ℤ_}
+use lib.IntN.{ℤ, pos, negsuc, negℤ, _+ℤ_, _-ℤ_}
 use lib.ListN.{length, getD}
 use lib.Signed.{ltZ, _≤ℤ_, _<ℤ_}
 use Rattle.numbers.specs.Parts.{posP, negP, sum, opposite, same}
-use Rattle.numbers.specs.Order.{zs, ≤-parts, ltZ-true, ltZ-false, ≤ℤ-trans, <ℤ-≤, ≤ℤ-<ℤ-trans, nonneg}
-use Rattle.geometry.specs.Shadow.{M, Phase, State, inside, outside, unsure}
+use Rattle.numbers.specs.Order.{zs, ltZ-true, ltZ-false, ≤ℤ-trans, <ℤ-≤}
+use Rattle.geometry.specs.Shadow.{Phase, State, inside, outside, unsure}
 use Rattle.shadow.specs.State.{code}
 use Rattle.circumstances.specs.declared.Request.{Request}
-use Rattle.circumstances.specs.Seconds.{at, stateAt, second, secondsOf, listOf, statesOf, closestTo, closestOf}
+use Rattle.circumstances.specs.Seconds.{stateAt, second, secondsOf, listOf, statesOf, closestTo}
 use Rattle.circumstances.specs.Sheet.{stored}
 use Rattle.circumstances.specs.Demand3.{secondOf}
 

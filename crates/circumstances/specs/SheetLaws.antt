@@ -21,16 +21,15 @@ use Rattle.contacts.specs.Ordered.{Ordered, ordered}
 use Rattle.contacts.specs.Alternate.{Turn, neither, entered, left, alternate}
 use Rattle.contacts.specs.Alternate as CA
 use Rattle.contacts.specs.WellFormed as CW
-use Rattle.records.specs.declared.Family.{Family}
-use Rattle.records.specs.declared.Family.the-variants.{Penumbra, Central}
+use Rattle.records.specs.declared.Family.the-variants.{Central}
 use Rattle.records.specs.declared.Entry.{Entry}
-use Rattle.records.specs.declared.Entry.the-variants.{Head, Enter, Leave, Graze, Open, Closest, End}
+use Rattle.records.specs.declared.Entry.the-variants.{Enter, Leave, Graze, Open, End}
 use Rattle.records.specs.Rules.{start, isDirection}
 use Rattle.sheets.specs.WellFormed.{WellFormed, within}
 use Rattle.sheets.specs.WellFormedLaws.{well-step, step-head, step-enter, step-leave, step-graze, step-open, well-central, well-closest}
 use Rattle.circumstances.specs.declared.Request.{Request}
 use Rattle.shadow.specs.SecondLaws.{magnitude-most, direction-near}
-use Rattle.circumstances.specs.Seconds.{guard, at, placeOf, second, secondsOf, statesOf, closestTo, closestOf, directionAt, magnitudeAt}
+use Rattle.circumstances.specs.Seconds.{guard, at, placeOf, second, secondsOf, statesOf, closestOf, directionAt, magnitudeAt}
 use Rattle.circumstances.specs.Sheet.{stored, familyOf, entryOf, phaseOf, headOf, closestEntry, sheetOf}
 use Rattle.circumstances.specs.LimitsLaws.{InLimits, placed, last-is, second-size}
 use Rattle.circumstances.specs.SecondsLaws.{states-length, closest-is, stored-is}

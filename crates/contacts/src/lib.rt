@@ -3,7 +3,7 @@
 // `step` is an inner function, for the crates above: it names no phase, no shadow and no byte of a sheet.
 ghost use mathlib.Core.Path.{_≡_};
 ghost use mathlib.Core.List.{[], _∷_};
-ghost use Prim.Native.Nat.{ℕ, _+_, _≤_, _<_};
+ghost use Prim.Native.Nat.{_+_, _≤_, _<_};
 ghost use lib.ListN.{length};
 ghost use Rattle.contacts.specs.Entries.{between, side};
 ghost use Rattle.contacts.specs.Step.{Stepped};

@@ -1,8 +1,7 @@
 -- Sizes of a polynomial's value: within three hours a step is at most three times the higher coefficient, and the next lower.
-use mathlib.Core.Path.{_≡_}
 use Prim.Native.Nat.{ℕ, _+_, _*_, _≤_}
 use native.Mathlib.Omega.{arith}
-use lib.IntN.{ℤ, pos, natAbs, _+ℤ_, _*ℤ_}
+use lib.IntN.{ℤ, natAbs, _*ℤ_}
 use lib.Signed.{leZ-yes}
 use Rattle.numbers.specs.Order.{natAbs-sum, natAbs-product-le}
 use Rattle.numbers.specs.Near.{near}

@@ -1,11 +1,9 @@
 -- Elements in their ranges, as sizes: what the shadow's code and its errors lean on.
 use mathlib.Core.Path.{_≡_}
-use Prim.Native.Nat.{ℕ, _≤_}
-use lib.IntN.{ℤ, pos, negℤ, natAbs}
+use Prim.Native.Nat.{_≤_}
+use lib.IntN.{pos, natAbs}
 use lib.Signed.{_≤ℤ_, leZ-yes}
-use Rattle.numbers.specs.declared.Limits.{Limits}
 use Rattle.numbers.specs.declared.Limits.the-variants.{Within}
-use Rattle.numbers.specs.Limits.{Inside}
 use Rattle.numbers.specs.LimitsLaws.{within-inside}
 use Rattle.numbers.specs.Order.{≤ℤ-trans, natAbs-le, natAbs-between}
 use Rattle.elements.specs.declared.Elements.{Elements}

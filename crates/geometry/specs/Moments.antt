@@ -1,9 +1,8 @@
 -- A second of a request within its limits: its numbers are within the limits that the laws ask for.
 use mathlib.Core.Path.{_≡_, sym}
-use Prim.Native.Nat.{ℕ, _≤_}
+use Prim.Native.Nat.{_≤_}
 use native.Mathlib.Omega.{arith}
-use lib.IntN.{ℤ, pos, natAbs, _+ℤ_, +ℤ-assoc}
-use lib.Signed.{_≤ℤ_}
+use lib.IntN.{ℤ, natAbs, _+ℤ_, +ℤ-assoc}
 use Rattle.numbers.specs.Order.{natAbs-sum}
 use Rattle.sine.specs.SineLaws.{sine-size, cosine-size, sine-small}
 use Rattle.elements.specs.declared.Elements.{Elements}
@@ -11,7 +10,7 @@ use Rattle.elements.specs.Elements.{dAt, μAt}
 use Rattle.elements.specs.PolynomialLaws.{value2-size}
 use Rattle.elements.specs.Sizes.{Sized}
 use Rattle.station.specs.declared.Place.{Place}
-use Rattle.geometry.specs.Shadow.{Moment, Cone, H, moment, cone1, cone2}
+use Rattle.geometry.specs.Shadow.{H, moment, cone1, cone2}
 use Rattle.geometry.specs.Ranges.{AxisRanges, StationRanges, ConeRanges}
 
 -- a place on the spheroid, at any height in range

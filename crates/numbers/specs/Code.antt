@@ -3,18 +3,17 @@
 use mathlib.Core.Path.{_≡_, refl, sym, _∙_, ap, ap₂, subst}
 use mathlib.Core.Bool.{Bool, true, false, _&&_}
 use mathlib.Core.List.{List, [], _∷_}
-use Prim.Native.Nat.{ℕ, zero, suc, _+_, _*_, _/_, _%_, _^_, _≤_, _<_}
+use Prim.Native.Nat.{ℕ, zero, suc, _+_, _*_, _%_, _^_, _≤_, _<_}
 use native.Mathlib.Omega.{arith}
 use native.Mathlib.Nat.{mul-le-mul, div-le-self, mod-le}
-use borrow.Author.Tests.{eqb-true}
-use lib.Dec.{T, leb, leb→le, eqb}
-use lib.IntN.{ℤ, pos, negsuc, negℤ, natAbs, _+ℤ_, _-ℤ_, _*ℤ_}
+use lib.Dec.{T, leb, leb→le}
+use lib.IntN.{ℤ, pos, negsuc, natAbs, _+ℤ_, _-ℤ_, _*ℤ_}
 use lib.Signed.{_≤ℤ_, _<ℤ_, ltZ, leZ, mag, quotZ, remZ, nonNeg, yes-nonNeg}
 use lib.ListN.{getD}
 use mir.Syntax.{w64}
 use mir.Val.{SFits, Fits, toZ, ofZ}
 use mir.ValLaws.{toZ-ofZ, toZ-pos}
-use Rattle.numbers.specs.Order.{natAbs-sum, natAbs-minus, natAbs-product, natAbs-quot, natAbs-opposite, fits64, fits64-natAbs, divisor, ltZ-true, ltZ-false, leZ-true, leZ-false}
+use Rattle.numbers.specs.Order.{natAbs-sum, natAbs-minus, natAbs-product, natAbs-quot, natAbs-opposite, fits64, fits64-natAbs, ltZ-true, ltZ-false, leZ-true, leZ-false}
 
 -- what a local holds: a whole number (a parameter, a field, an element, a call's result), or bits (a variable that a loop changes)
 pub data Slot : Type 0 where

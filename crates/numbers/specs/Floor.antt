@@ -1,11 +1,11 @@
 -- Laws of rounding down: floorZ a b is the one q with b q ≤ a < b q + b, and how the machine's quotient and remainder,
 -- which are rounded toward zero, give it.
-use mathlib.Core.Path.{_≡_, refl, sym, _∙_, ap}
+use mathlib.Core.Path.{_≡_, sym, ap}
 use mathlib.Core.List.{List, [], _∷_}
-use Prim.Native.Nat.{ℕ, zero, suc, _+_, _*_, _/_, _%_, _≤_, _<_}
+use Prim.Native.Nat.{ℕ, suc, _*_, _/_, _%_}
 use native.Mathlib.Omega.{arith}
 use native.Mathlib.Nat.{div-add-mod, mod-lt}
-use lib.IntN.{ℤ, pos, negsuc, negℤ, natAbs, _+ℤ_, _-ℤ_, _*ℤ_}
+use lib.IntN.{ℤ, pos, negsuc, negℤ, _+ℤ_, _-ℤ_, _*ℤ_}
 use lib.Signed.{_≤ℤ_, _<ℤ_, quotZ, remZ, clashℤ}
 use Rattle.numbers.specs.Parts.{sum, product, opposite, same}
 use Rattle.numbers.specs.Order.{zs, <-parts, by-contra, <ℤ-≤, ≤ℤ-antisym}

@@ -1,12 +1,8 @@
 -- Ranges: the first of several numbers that is out of its own.
-use mathlib.Core.Path.{_≡_, refl, sym, ap, _∙_}
-use mathlib.Core.Bool.{Bool, true, false, cond, _||_}
+use mathlib.Core.Bool.{Bool, cond, _||_}
 use mathlib.Core.List.{List, [], _∷_}
-use Prim.Native.Nat.{ℕ, zero, suc, _+_, _<_}
-use native.Mathlib.Omega.{arith}
-use native.Mathlib.Numerals.{add-one}
-use lib.IntN.{ℤ, pos}
-use lib.ListN.{length, getD, drop}
+use Prim.Native.Nat.{ℕ, suc}
+use lib.IntN.{ℤ}
 use lib.Signed.{ltZ, _≤ℤ_}
 use Rattle.numbers.specs.declared.Limits.{Limits}
 use Rattle.numbers.specs.declared.Limits.the-variants.{Within, Outside}

@@ -1,5 +1,5 @@
 -- Rounding: the whole number nearest to a fraction.
-use Prim.Native.Nat.{ℕ, _/_}
+use Prim.Native.Nat.{_/_}
 use lib.IntN.{ℤ, pos, negsuc, natAbs, _+ℤ_, _*ℤ_}
 
 -- the floor of a / b, for b above 0: -1 - a is rounded down to -1 - floor(a / b)

@@ -5,16 +5,16 @@
 --   near-zero, near-mono   zero, and order
 --   near-pos               of what is not negative, by one division of naturals
 -- Example, the error of a product to the nearest unit: near-error (x *ℤ y) (pos 100000000) (leZ-yes tt).
-use mathlib.Core.Path.{_≡_, refl, sym, _∙_, ap, subst}
-use mathlib.Core.List.{List, [], _∷_}
-use Prim.Native.Nat.{ℕ, zero, suc, _+_, _*_, _/_, _≤_, _<_}
+use mathlib.Core.Path.{_≡_, refl, ap}
+use mathlib.Core.List.{[], _∷_}
+use Prim.Native.Nat.{ℕ, suc, _+_, _*_, _/_, _≤_, _<_}
 use native.Mathlib.Omega.{arith}
 use native.Mathlib.Nat.{lt-of-mul-lt-mul-left, mul-le-mul-left}
 use lib.IntN.{ℤ, pos, negsuc, negℤ, natAbs, _+ℤ_, _-ℤ_, _*ℤ_}
 use lib.Signed.{_≤ℤ_, _<ℤ_, clashℤ}
 use Rattle.numbers.specs.Parts.{product}
 use Rattle.numbers.specs.Order.{zs, ≤-parts, by-contra, natAbs-le, natAbs-sum, natAbs-product}
-use Rattle.numbers.specs.Ring.{Expr, num, _⊕_, _⊖_, _⊗_, opp, ring, v0, v1, v2, v3, v4, v5}
+use Rattle.numbers.specs.Ring.{num, _⊕_, _⊖_, _⊗_, opp, ring, v0, v1, v2, v3, v4}
 use Rattle.numbers.specs.Cert.{leq, less, lit, _⊞_, _⊠_, certify, certify-<, prove-≤}
 use Rattle.numbers.specs.Near.{near}
 use Rattle.numbers.specs.Floor.{Floor, floor-is, floor-unique}

@@ -5,7 +5,7 @@ use mathlib.Core.Path.{_≡_, refl, sym, _∙_, ap, subst}
 use mathlib.Core.Bool.{Bool, true, false, cond}
 use Prim.Native.Nat.{ℕ, zero, suc, _+_, _*_, _-_, _/_, _%_, _^_, _≤_, _<_}
 use native.Mathlib.Omega.{arith}
-use native.Mathlib.Nat.{div-add-mod, mod-lt, mul-le-mul, le-antisymm, lt-of-not-le, lt-of-mul-lt-mul-left, div-div-eq-div-mul, div-lt-iff-lt-mul, pow-suc, pow-le-pow-right, div-eq-of-lt, div-le-self, div-one, lt-of-lt-of-le}
+use native.Mathlib.Nat.{mod-lt, mul-le-mul, le-antisymm, lt-of-not-le, div-div-eq-div-mul, pow-suc, pow-le-pow-right, div-eq-of-lt, div-le-self, div-one, lt-of-lt-of-le}
 use borrow.Author.Tests.{leb-true, leb-false}
 use lib.Dec.{leb}
 use lib.Count.{leadingZeros, leading-length}

@@ -1,16 +1,16 @@
 -- `near` by one division of a number that is not negative: a multiple of k is added first and taken off after. Assumes nothing.
-use mathlib.Core.Path.{_≡_, refl, sym, _∙_, ap}
+use mathlib.Core.Path.{_≡_, refl, sym}
 use mathlib.Core.List.{List, [], _∷_}
-use Prim.Native.Nat.{ℕ, zero, suc, _+_, _*_, _/_, _≤_, _<_}
+use Prim.Native.Nat.{ℕ, _/_, _≤_, _<_}
 use native.Mathlib.Omega.{arith}
 use lib.IntN.{ℤ, pos, negsuc, natAbs, _+ℤ_, _-ℤ_, _*ℤ_}
 use lib.Signed.{_≤ℤ_, _<ℤ_, quotZ, remZ}
 use Rattle.numbers.specs.Parts.{sum}
 use Rattle.numbers.specs.Order.{zs, parts-≤, natAbs-parts}
-use Rattle.numbers.specs.Ring.{Expr, num, _⊕_, _⊖_, _⊗_, v0, v1, v2, v3, v4, v5}
+use Rattle.numbers.specs.Ring.{num, _⊕_, _⊖_, _⊗_, v0, v1, v2, v3, v4, v5}
 use Rattle.numbers.specs.Cert.{leq, less, equ, lit, _⊞_, _⊠_, certify, certify-<}
 use Rattle.numbers.specs.Near.{near}
-use Rattle.numbers.specs.Floor.{Floor, quot-rem, rem-small}
+use Rattle.numbers.specs.Floor.{quot-rem, rem-small}
 use Rattle.numbers.specs.NearLaws.{near-unique}
 
 rem-nonneg : (a b : ℤ) → pos 0 ≤ℤ a → pos 1 ≤ℤ b → pos 0 ≤ℤ remZ a b

@@ -1,12 +1,10 @@
 -- Laws of the table of kinds.
-use Prim.Native.Nat.{ℕ, zero, suc, _+_, _-_, _*_, _/_, _%_, _≤_, _<_}
+use Prim.Native.Nat.{ℕ, suc, _+_, _*_, _≤_, _<_}
 use mathlib.Core.Path.{_≡_, refl, sym, ap, _∙_}
 use mathlib.Core.List.{List, [], _∷_, _++_}
-use mathlib.Core.Bool.{Bool, true, false, cond}
 use native.Mathlib.Omega.{arith}
 use borrow.Author.Tests.{ne-eqb}
 use lib.ListN.{length, length-append}
-use lib.Dec.{eqb}
 use Rattle.records.specs.declared.Family.{Family}
 use Rattle.records.specs.declared.Family.the-variants.{Penumbra, Central}
 use Rattle.records.specs.declared.Entry.{Entry}
@@ -15,7 +13,7 @@ use Rattle.records.specs.declared.Kind.the-variants as K
 use Rattle.records.specs.declared.Shape.{Shape}
 use Rattle.records.specs.declared.Shape.the-variants.{Nothing, TwoTwo, TwoTwoTwo, TwoFour}
 use Rattle.records.specs.declared.Parts.{Parts}
-use Rattle.records.specs.declared.Named.the-variants.{Is, Unknown}
+use Rattle.records.specs.declared.Named.the-variants.{Unknown}
 use Rattle.records.specs.Entries.{baseOf, codeOf, kindFor, kindOf, shapeOf, sizeOf, entryFor, code, size, isEnd, body, bytes, numbers, partsFor, bytesOf, numbersOf}
 
 pub no-kind : (x : ℕ) → (x ≡ 0x01 → ⊥) → (x ≡ 0x10 → ⊥) → (x ≡ 0x11 → ⊥) → (x ≡ 0x12 → ⊥) → (x ≡ 0x13 → ⊥)

@@ -1,17 +1,15 @@
 -- Laws of one record: which answer is given when.
-use Prim.Native.Nat.{ℕ, zero, suc, _+_, _-_, _*_, _/_, _%_, _≤_, _<_}
+use Prim.Native.Nat.{ℕ, _+_, _≤_, _<_}
 use mathlib.Core.Path.{_≡_, refl, sym, ap, _∙_}
-use mathlib.Core.List.{List, [], _∷_, _++_}
-use mathlib.Core.Bool.{Bool, true, false, cond}
+use mathlib.Core.List.{List}
 use native.Mathlib.Omega.{arith}
 use native.Mathlib.Decide.{decLt, decLe}
 use native.Mathlib.Nat.{add-assoc}
 use borrow.Author.Tests.{le-leb, lt-leb, lt-ltb, le-ltb}
-use lib.Dec.{ltb, leb}
 use lib.ListN.{length, getD}
 use Rattle.records.specs.declared.Kind.{Kind}
 use Rattle.records.specs.declared.Shape.{Shape}
-use Rattle.records.specs.declared.Shape.the-variants.{Nothing, TwoTwo, TwoTwoTwo, TwoFour}
+use Rattle.records.specs.declared.Shape.the-variants.{TwoTwo, TwoTwoTwo, TwoFour}
 use Rattle.records.specs.declared.Named.{Named}
 use Rattle.records.specs.declared.Named.the-variants as Named
 use Rattle.records.specs.declared.Byte.{Byte}
@@ -21,7 +19,6 @@ use Rattle.records.specs.declared.Body.the-variants as Body
 use Rattle.records.specs.declared.Entry.{Entry}
 use Rattle.records.specs.declared.Refusal.{Refusal}
 use Rattle.records.specs.declared.Refusal.the-variants as R
-use Rattle.records.specs.declared.Record.{Record}
 use Rattle.records.specs.declared.Record.the-variants.{Is, Refused}
 use Rattle.records.specs.Entries.{kindFor, shapeOf, sizeOf, entryFor, size}
 use Rattle.records.specs.EntryLaws.{size-for, size-small}

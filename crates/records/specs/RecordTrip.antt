@@ -1,5 +1,5 @@
 -- One record, written and read back, and read and written back.
-use Prim.Native.Nat.{ℕ, zero, suc, _+_, _-_, _*_, _/_, _%_, _≤_, _<_}
+use Prim.Native.Nat.{ℕ, zero, suc, _+_, _*_, _/_, _%_, _≤_, _<_}
 use mathlib.Core.Path.{_≡_, refl, sym, ap, _∙_}
 use mathlib.Core.List.{List, [], _∷_, _++_}
 use mathlib.Core.Bool.{Bool, true, false, cond, _&&_, _||_}
@@ -7,11 +7,10 @@ use native.Mathlib.Omega.{arith}
 use native.Mathlib.Nat.{add-assoc}
 use native.Mathlib.Numerals.{add-one}
 use native.Mathlib.Decide.{ℕ-discrete}
-use borrow.Author.Tests.{leb-true, ltb-true, eqb-true, eq-eqb, ne-eqb}
+use borrow.Author.Tests.{leb-true, eqb-true, eq-eqb, ne-eqb}
 use lib.Dec.{leb, ltb, eqb}
 use lib.ListN.{length, getD, drop, take, length-append}
 use lib.Seq.{getD-append-add, getD-append-seam, drop-cons}
-use Rattle.records.specs.declared.Family.{Family}
 use Rattle.records.specs.declared.Family.the-variants.{Penumbra, Central}
 use Rattle.records.specs.declared.Entry.{Entry}
 use Rattle.records.specs.declared.Entry.the-variants as E
@@ -25,13 +24,13 @@ use Rattle.records.specs.declared.Byte.the-variants as Byte
 use Rattle.records.specs.declared.Body.{Body}
 use Rattle.records.specs.declared.Body.the-variants as Body
 use Rattle.records.specs.declared.Progress.{Progress}
-use Rattle.records.specs.declared.Record.the-variants.{Is, Refused}
+use Rattle.records.specs.declared.Record.the-variants.{Is}
 use Rattle.records.specs.Entries.{codeOf, kinds, among, kindFor, kindOf, shapeOf, sizeOf, entryFor, field1, field2, field3, code, size, two, four, body, bytes, numbers}
-use Rattle.records.specs.EntryLaws.{kind-for, size-for, size-small, length-bytes}
+use Rattle.records.specs.EntryLaws.{size-for, size-small, length-bytes}
 use Rattle.records.specs.Rules.{start, inWindow, isDirection, spanHolds, fieldsHold, afterOf}
-use Rattle.records.specs.TestLaws.{distinct, both}
+use Rattle.records.specs.TestLaws.{both}
 use Rattle.records.specs.Records.{twoAt, fourAt, fieldsAt, bodyAt, recordAt}
-use Rattle.records.specs.RecordLaws.{by-body, byte-there, body-whole, body-inv, RecordThere, record-inv, record-fields}
+use Rattle.records.specs.RecordLaws.{by-body, byte-there, body-whole, body-inv, record-inv, record-fields}
 
 -- ---- kinds
 

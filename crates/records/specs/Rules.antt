@@ -1,7 +1,7 @@
 -- The rules of order and of fields, over an entry and what came before it. Reader and writer both go by these.
 -- Assumes nothing: these are definitions.
 use Prim.Native.Nat.{ℕ}
-use mathlib.Core.Bool.{Bool, true, false, cond, _&&_, _||_, not}
+use mathlib.Core.Bool.{Bool, true, cond, _&&_, _||_, not}
 use lib.Dec.{leb, ltb, eqb}
 use Rattle.records.specs.declared.Family.{Family}
 use Rattle.records.specs.declared.Family.the-variants.{Penumbra, Central}

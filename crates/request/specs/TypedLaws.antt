@@ -1,23 +1,23 @@
 -- The numbers of a typed request fit their bytes, so they are put, and read back.
 use mathlib.Core.Path.{_≡_, refl, sym, ap, _∙_}
-use mathlib.Core.Bool.{Bool, true, false, cond, _||_}
+use mathlib.Core.Bool.{Bool, true, false}
 use mathlib.Core.List.{List, [], _∷_, map}
-use Prim.Native.Nat.{ℕ, zero, suc, _<_}
+use Prim.Native.Nat.{ℕ, suc, _<_}
 use native.Mathlib.Omega.{arith}
 use lib.IntN.{ℤ, pos, negℤ}
 use lib.ListN.{length, getD}
 use lib.Signed.{ltZ, _≤ℤ_}
-use Rattle.numbers.specs.Order.{zs, ltZ-true, both-ways}
+use Rattle.numbers.specs.Order.{zs, ltZ-true}
 use Rattle.numbers.specs.declared.Limits.{Limits}
 use Rattle.numbers.specs.declared.Limits.the-variants as Limit
 use Rattle.numbers.specs.Limits.{outside, firstOutside}
 use Rattle.requests.specs.declared.Answer.the-variants.{Done}
-use Rattle.requests.specs.Requests.{lows, highs, fit, bytesOf, putBy, putOf, bytesAfter}
+use Rattle.requests.specs.Requests.{lows, highs, fit, bytesOf, putOf, bytesAfter}
 use Rattle.requests.specs.PutLaws.{put-done}
 use Rattle.input.specs.Input.{inputOf}
 use Rattle.typed.specs.declared.Fault.{Fault}
 use Rattle.typed.specs.declared.Typed.the-variants as T
-use Rattle.typed.specs.Fields.{Field, fields, lowestOf, highestOf}
+use Rattle.typed.specs.Fields.{Field, fields}
 use Rattle.typed.specs.Typed.{Reading, numbers, refused, readingOf, answerOf, numbersFrom}
 use Rattle.typed.specs.WalkLaws.{Fit, numbers-fit}
 use Rattle.request.specs.Typed.{bytesFrom, ReadAs}

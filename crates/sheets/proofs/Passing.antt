@@ -1,20 +1,18 @@
 -- The second pass of a reader and of a writer: what is still to be stored, once stored, gives what the pass is to leave.
 -- The first pass found a sheet, so the walk from where the second pass stands is one too (`is`), and each record is there.
-use Prim.Native.Nat.{ℕ, zero, suc, _+_, _-_, _*_, _/_, _≤_, _<_}
+use Prim.Native.Nat.{ℕ, suc, _+_, _-_, _*_, _/_, _≤_, _<_}
 use mathlib.Core.Path.{_≡_, refl, sym, ap, _∙_}
 use mathlib.Core.List.{List, [], _∷_, _++_}
-use mathlib.Core.Bool.{Bool, true, false, cond}
+use mathlib.Core.Bool.{true, false}
 use native.Mathlib.Omega.{arith}
 use native.Mathlib.Nat.{add-zero, zero-add}
 use borrow.Author.Tests.{le-leb, lt-leb}
-use lib.Dec.{leb}
-use lib.ListN.{length, drop, set, take}
+use lib.ListN.{length, drop, set}
 use lib.Seq.{sets, sets-eq, length-sets}
 use Rattle.records.specs.declared.Entry.{Entry}
 use Rattle.records.specs.declared.Progress.{Progress}
 use Rattle.records.specs.declared.Refusal.{Refusal}
 use Rattle.records.specs.declared.Refusal.the-variants as R
-use Rattle.records.specs.declared.Record.{Record}
 use Rattle.records.specs.declared.Record.the-variants.{Is, Refused}
 use Rattle.sheets.specs.declared.Extent.{Extent}
 use Rattle.sheets.specs.declared.Extent.the-variants as X

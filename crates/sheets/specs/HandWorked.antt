@@ -1,5 +1,4 @@
 -- The hand-worked sheet of document 01, as entries: well formed, 43 bytes long, and read back from its bytes. It shows how the laws build a sheet up.
-use Prim.Native.Nat.{ℕ}
 use mathlib.Core.Path.{_≡_, refl}
 use mathlib.Core.List.{List, [], _∷_}
 use native.Mathlib.Omega.{arith}

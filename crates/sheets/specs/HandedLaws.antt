@@ -1,12 +1,12 @@
 -- Laws of the entries of a list: which answer is given when.
-use Prim.Native.Nat.{ℕ, zero, suc, _+_, _-_, _*_, _≤_, _<_}
+use Prim.Native.Nat.{ℕ, suc, _+_, _-_, _*_, _≤_, _<_}
 use mathlib.Core.Path.{_≡_, refl, sym, ap, _∙_}
-use mathlib.Core.List.{List, [], _∷_, _++_}
-use mathlib.Core.Bool.{Bool, true, false, cond, _&&_}
+use mathlib.Core.List.{List}
+use mathlib.Core.Bool.{Bool, true}
 use native.Mathlib.Omega.{arith}
-use native.Mathlib.Decide.{decLt, decLe}
+use native.Mathlib.Decide.{decLe}
 use borrow.Author.Tests.{le-leb, lt-leb, eqb-true}
-use lib.Dec.{leb, ltb, eqb}
+use lib.Dec.{ltb}
 use lib.ListN.{length, getD}
 use Rattle.records.specs.declared.Entry.{Entry}
 use Rattle.records.specs.declared.Kind.{Kind}
@@ -19,13 +19,12 @@ use Rattle.records.specs.declared.Refusal.{Refusal}
 use Rattle.records.specs.declared.Step.the-variants.{Next, Broken}
 use Rattle.sheets.specs.declared.Extent.{Extent}
 use Rattle.sheets.specs.declared.Extent.the-variants as X
-use Rattle.records.specs.declared.Record.{Record}
 use Rattle.records.specs.declared.Record.the-variants.{Is, Refused}
 use Rattle.records.specs.Entries.{kindFor, shapeOf, sizeOf, entryFor, size, bytesOf, field1, field2, field3}
 use Rattle.records.specs.EntryLaws.{size-for, size-small}
 use Rattle.records.specs.TestLaws.{both}
 use Rattle.records.specs.Rules.{start, inOrder, fieldsHold, afterOf, stepOf}
-use Rattle.sheets.specs.Sheets.{sheet, walk, judged, extentOf}
+use Rattle.sheets.specs.Sheets.{sheet, walk, extentOf}
 use Rattle.sheets.specs.Passes.{extent}
 use Rattle.sheets.specs.SheetLaws.{judged-inv, judged-is, judged-broken, step-next, extent-start, Steady, walk-length, walk-enough, aloneX, alone-extent, alone-same, extent-inv}
 use Rattle.sheets.specs.Handed.{fourAt, ofNumbers, ofFour, entryAt, plainAt, plainIn, handed, listSheet, listWhole}

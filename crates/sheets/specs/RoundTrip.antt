@@ -5,7 +5,7 @@
 --   read-back            the bytes of well-formed entries are read back, whatever stands after them;
 --   through-buffer, through-room   the first two of the buffers and rooms that the functions leave.
 -- The writer leaves `bytesOf es` at the buffer's start (`bufferAfter`), the reader `numbersOf es` at the room's (`roomAfter`).
-use Prim.Native.Nat.{ℕ, zero, suc, _+_, _-_, _*_, _/_, _≤_, _<_}
+use Prim.Native.Nat.{ℕ, suc, _+_, _-_, _*_, _/_, _≤_}
 use mathlib.Core.Path.{_≡_, refl, sym, ap, _∙_}
 use mathlib.Core.List.{List, [], _∷_, _++_, append-nil}
 use mathlib.Core.Logic.{_↔_}
@@ -18,13 +18,13 @@ use lib.Seq.{take-at}
 use lib.ListN.{length, take, drop, length-append, drop-of-length-le}
 use Rattle.records.specs.declared.Entry.{Entry}
 use Rattle.records.specs.declared.Refusal.the-variants as R
-use Rattle.records.specs.Entries.{kindOf, shapeOf, size, bytes, bytesOf, numbersOf}
-use Rattle.records.specs.EntryLaws.{bytes-nil, length-bytes-cons, length-numbers, size-small}
+use Rattle.records.specs.Entries.{kindOf, shapeOf, bytesOf, numbersOf}
+use Rattle.records.specs.EntryLaws.{length-bytes-cons, length-numbers, size-small}
 use Rattle.records.specs.Rules.{start}
 use Rattle.records.specs.RecordTrip.{Bytes, start-small}
-use Rattle.sheets.specs.Sheets.{Sheet, sheet, refused, walk, stored, alone, readSheet, readWhole, roomAfter}
+use Rattle.sheets.specs.Sheets.{sheet, refused, stored, alone, readSheet, readWhole, roomAfter}
 use Rattle.sheets.specs.SheetLaws.{read-start, walk-length, stored-steady, alone-same}
-use Rattle.sheets.specs.Handed.{handed, listSheet, listWhole, bufferAfter}
+use Rattle.sheets.specs.Handed.{listSheet, listWhole, bufferAfter}
 use Rattle.sheets.specs.HandedLaws.{list-start, list-length}
 use Rattle.sheets.specs.WellFormed.{WellFormed}
 use Rattle.sheets.specs.TripLaws.{read-from, read-inv, list-from, list-inv}

@@ -1,7 +1,7 @@
 -- Laws of a walk along records: how it goes on, by what the next record gives.
 use Prim.Native.Nat.{ℕ, zero, suc, _+_, _-_, _≤_, _<_}
 use mathlib.Core.Path.{_≡_, refl, sym, ap, _∙_}
-use mathlib.Core.List.{List, [], _∷_, _++_}
+use mathlib.Core.List.{List, [], _∷_}
 use mathlib.Core.Bool.{Bool, true, false, cond, _&&_}
 use native.Mathlib.Omega.{arith}
 use native.Mathlib.Nat.{zero-add}
@@ -24,7 +24,7 @@ use Rattle.records.specs.TestLaws.{distinct}
 use Rattle.records.specs.Records.{recordAt}
 use Rattle.records.specs.RecordLaws.{record-bounds, record-size}
 use Rattle.sheets.specs.Sheets.{Sheet, sheet, refused, more, onward, walk, alone, stored, readSheet, readWhole, extentOf, ofStep, judged}
-use Rattle.sheets.specs.Passes.{extent, refusedOf}
+use Rattle.sheets.specs.Passes.{extent}
 
 -- what the rules say of an entry, taken apart
 module _ (p : Progress) (at : ℕ) (plain : Bool) (e : Entry) where

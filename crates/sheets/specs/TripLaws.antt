@@ -1,29 +1,29 @@
 -- A well-formed list of entries is read back from its bytes and from its numbers; and what is read is well formed, and its bytes are those.
-use Prim.Native.Nat.{ℕ, zero, suc, _+_, _-_, _*_, _≤_, _<_}
+use Prim.Native.Nat.{ℕ, zero, suc, _+_, _*_, _≤_, _<_}
 use mathlib.Core.Path.{_≡_, refl, sym, ap, _∙_, subst}
 use mathlib.Core.List.{List, [], _∷_, _++_, append-assoc}
-use mathlib.Core.Bool.{Bool, true, false, cond, _&&_}
+use mathlib.Core.Bool.{true, false, cond}
 use native.Mathlib.Omega.{arith}
 use native.Mathlib.Nat.{add-assoc}
 use native.Mathlib.Numerals.{add-one}
 use borrow.Author.Tests.{eq-eqb}
-use lib.ListN.{length, getD, take, drop, length-append, take-append-drop}
+use lib.ListN.{length, getD, drop, length-append, take-append-drop}
 use lib.Seq.{getD-append-add, getD-append-seam, drop-cons, drop-drop}
 use Rattle.records.specs.declared.Entry.{Entry}
 use Rattle.records.specs.declared.Named.the-variants as Named
 use Rattle.records.specs.declared.Progress.{Progress}
-use Rattle.records.specs.declared.Record.the-variants.{Is, Refused}
-use Rattle.records.specs.Entries.{codeOf, kindOf, entryFor, field1, field2, field3, code, size, isEnd, bytes, numbers, bytesOf, numbersOf}
+use Rattle.records.specs.declared.Record.the-variants.{Is}
+use Rattle.records.specs.Entries.{codeOf, kindOf, field1, field2, field3, code, size, isEnd, bytes, numbers, bytesOf, numbersOf}
 use Rattle.records.specs.EntryLaws.{length-bytes, bytes-nil, bytes-cons, numbers-nil, numbers-cons, length-bytes-cons, kind-for}
 use Rattle.records.specs.Rules.{inOrder, fieldsHold, afterOf}
 use Rattle.records.specs.Records.{recordAt}
 use Rattle.records.specs.RecordLaws.{record-size}
-use Rattle.records.specs.RecordTrip.{kind-code, kind-inv, entry-of, FitsIn, Small, fields-fit, after-small, trip, Bytes, back}
+use Rattle.records.specs.RecordTrip.{kind-code, kind-inv, entry-of, Small, fields-fit, after-small, trip, Bytes, back}
 use Rattle.sheets.specs.declared.Four.the-variants as Four
-use Rattle.sheets.specs.Sheets.{Sheet, sheet, refused, more, walk, stored}
+use Rattle.sheets.specs.Sheets.{sheet, more, walk, stored}
 use Rattle.sheets.specs.SheetLaws.{walk-end, walk-more, walk-inv, walk-out, stored-inv, stored-is}
 use Rattle.sheets.specs.Handed.{fourAt, entryAt, plainAt, handed}
-use Rattle.sheets.specs.HandedLaws.{four-there, four-inv, by-name, EntryThere, entry-inv, plain-inv, entry-bounds, handed-inv, handed-is}
+use Rattle.sheets.specs.HandedLaws.{four-there, four-inv, by-name, entry-inv, plain-inv, handed-inv, handed-is}
 use Rattle.sheets.specs.WellFormed.{WellFormed}
 
 -- ---- from bytes

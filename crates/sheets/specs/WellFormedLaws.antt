@@ -1,11 +1,11 @@
 -- Laws by which a list of entries is shown well formed, piece by piece.
-use Prim.Native.Nat.{ℕ, zero, suc, _+_, _≤_, _<_}
-use mathlib.Core.Path.{_≡_, refl, sym, ap, _∙_}
+use Prim.Native.Nat.{ℕ, _≤_, _<_}
+use mathlib.Core.Path.{_≡_, refl, sym}
 use mathlib.Core.List.{List, [], _∷_, _++_}
-use mathlib.Core.Bool.{Bool, true, false, cond, _&&_, _||_, not}
+use mathlib.Core.Bool.{true, false, _||_}
 use native.Mathlib.Omega.{arith}
-use borrow.Author.Tests.{le-leb, lt-ltb, le-ltb, eq-eqb, ne-eqb}
-use lib.Dec.{leb, ltb, eqb}
+use borrow.Author.Tests.{le-leb, lt-ltb, ne-eqb}
+use lib.Dec.{eqb}
 use Rattle.records.specs.declared.Family.{Family}
 use Rattle.records.specs.declared.Family.the-variants.{Penumbra, Central}
 use Rattle.records.specs.declared.Entry.{Entry}
@@ -13,7 +13,7 @@ use Rattle.records.specs.declared.Entry.the-variants.{Head, Enter, Leave, Graze
 use Rattle.records.specs.declared.Progress.{Progress}
 use Rattle.records.specs.Entries.{isEnd}
 use Rattle.records.specs.TestLaws.{distinct}
-use Rattle.records.specs.Rules.{start, placeIn, mayCome, repeats, familyInOrder, inOrder, inWindow, isDirection, spanHolds, fieldsHold, afterOf}
+use Rattle.records.specs.Rules.{start, placeIn, mayCome, repeats, familyInOrder, inOrder, isDirection, spanHolds, fieldsHold, afterOf}
 use Rattle.sheets.specs.WellFormed.{WellFormed, Accepted, afterAll, within, Step}
 
 pub well-more : (p : Progress) (e : Entry) (es : List Entry) → inOrder p e ≡ true → fieldsHold p e ≡ true → isEnd e ≡ false

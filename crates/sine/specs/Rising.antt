@@ -2,11 +2,10 @@
 use mathlib.Core.Path.{_≡_, subst, sym}
 use mathlib.Core.Bool.{Bool}
 use mathlib.Core.Logic.{⊎-elim}
-use Prim.Native.Nat.{ℕ, zero, suc, _+_, _-_, _*_, _/_, _≤_, _<_}
+use Prim.Native.Nat.{ℕ, zero, suc, _≤_, _<_}
 use native.Mathlib.Omega.{arith}
 use native.Mathlib.Nat.{eq-or-lt-of-le, le-of-suc-le-suc, not-suc-le-zero}
 use lib.Dec.{T, ltb, ltb→lt}
-use lib.IntN.{pos, natAbs, _*ℤ_}
 use Rattle.numbers.specs.Near.{near}
 use Rattle.sine.specs.Table.{factorial, numerator, denominator, common, term, series, S}
 use Rattle.sine.specs.Computed.{upTo, at-upTo}

@@ -1,8 +1,7 @@
 -- The station's place: R from the Earth's axis, P from the plane of the equator. Lengths and sines are in units of 10^-8.
 use mathlib.Core.Path.{_≡_}
-use Prim.Native.Nat.{ℕ, _≤_}
+use Prim.Native.Nat.{_≤_}
 use lib.IntN.{ℤ, pos, natAbs, _+ℤ_, _*ℤ_}
-use lib.Signed.{_≤ℤ_}
 use Rattle.numbers.specs.Near.{near}
 use Rattle.numbers.specs.Root.{root}
 use Rattle.sine.specs.Sine.{sine, cosine}

@@ -1,7 +1,7 @@
 -- A station's numbers and their ranges.
 use mathlib.Core.Path.{_≡_}
 use mathlib.Core.List.{List, [], _∷_}
-use Prim.Native.Nat.{ℕ, _≤_}
+use Prim.Native.Nat.{_≤_}
 use lib.IntN.{ℤ, pos, negℤ, natAbs}
 use lib.Signed.{_≤ℤ_, leZ-yes}
 use Rattle.numbers.specs.declared.Limits.{Limits}

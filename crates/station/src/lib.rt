@@ -1,8 +1,7 @@
 // A timing station: its record, the ranges of its numbers, and its place on Krasovsky's spheroid.
 ghost use mathlib.Core.Path.{_≡_};
 ghost use Prim.Native.Nat.{_≤_, _+_, _*_};
-ghost use lib.IntN.{pos, natAbs};
-ghost use lib.Signed.{_≤ℤ_};
+ghost use lib.IntN.{natAbs};
 ghost use Rattle.numbers.specs.Value.{Value};
 ghost use Rattle.sine.specs.Table.{Sines};
 ghost use Rattle.station.specs.Station.{fields, rangeOf};

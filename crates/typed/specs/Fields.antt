@@ -1,6 +1,6 @@
 -- The fields of a typed request: their names, their units and their bytes.
 -- Assumes nothing: these are definitions.
-use Prim.Native.Nat.{ℕ, zero, suc, _+_}
+use Prim.Native.Nat.{ℕ, _+_}
 use Prim.Native.Char.{code}
 use Prim.Native.String.{String, [] as ε, _∷_ as _then_}
 use mathlib.Core.Bool.{Bool, true, false, cond, _&&_}

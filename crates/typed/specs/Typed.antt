@@ -1,7 +1,7 @@
 -- A typed request: one `name value` a line, and the 28 numbers that the lines give.
 -- Assumes nothing: these are definitions.
-use Prim.Native.Nat.{ℕ, zero, suc, _+_, _<_}
-use mathlib.Core.Bool.{Bool, true, false, cond}
+use Prim.Native.Nat.{ℕ, _+_, _<_}
+use mathlib.Core.Bool.{cond}
 use mathlib.Core.List.{List, [], _∷_}
 use lib.Dec.{leb, eqb}
 use lib.IntN.{ℤ, pos, negℤ}
@@ -21,7 +21,7 @@ use Rattle.typed.specs.declared.Noted.the-variants as N
 use Rattle.typed.specs.declared.Typed.{Typed}
 use Rattle.typed.specs.declared.Typed.the-variants as T
 use Rattle.typed.specs.Text.{runOf, allOf, startOf, linesOf}
-use Rattle.typed.specs.Numbers.{isNumber, isWhole, amount, unitsOf}
+use Rattle.typed.specs.Numbers.{isNumber, isWhole, amount}
 use Rattle.typed.specs.Fields.{names, placesOf, lowestOf, highestOf, findIn}
 
 -- "as long as they fit their bytes": n units, below zero where `minus` is 1

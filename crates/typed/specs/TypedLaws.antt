@@ -2,10 +2,10 @@
 use mathlib.Core.Path.{_≡_, refl, sym, ap, _∙_}
 use mathlib.Core.Bool.{Bool, true, false, cond, _&&_}
 use mathlib.Core.List.{List, [], _∷_, map}
-use Prim.Native.Nat.{ℕ, zero, suc, _+_, _-_, _≤_, _<_}
+use Prim.Native.Nat.{ℕ, zero, suc, _+_, _≤_, _<_}
 use native.Mathlib.Omega.{arith}
 use native.Mathlib.Decide.{decLt}
-use borrow.Author.Tests.{lt-ltb, le-leb, lt-leb, eq-eqb, ne-eqb, ltb-true, leb-true}
+use borrow.Author.Tests.{le-leb, lt-leb, eq-eqb, ne-eqb, ltb-true, leb-true}
 use lib.Dec.{T, leb, ltb, eqb}
 use lib.IntN.{ℤ, pos, negℤ, natAbs}
 use lib.ListN.{length, getD, take, drop, set}
@@ -28,7 +28,7 @@ use Rattle.typed.specs.Numbers.{isNumber, isWhole, amount, capped, units
 use Rattle.typed.specs.NumberLaws.{part, capped-below, capped-above}
 use Rattle.typed.specs.Fields.{Field, fields, names, placesOf, lowestOf, highestOf, findIn}
 use Rattle.typed.specs.FieldLaws.{found-at}
-use Rattle.typed.specs.Typed.{fitted, valueOf, valued, ofValue, ofFound, ofField, content, said, meaningOf, InBytes, InFields, notedOf, givenAfter, numbersAfter, missing}
+use Rattle.typed.specs.Typed.{fitted, valueOf, valued, ofValue, ofFound, ofField, said, meaningOf, InBytes, InFields, notedOf, givenAfter, numbersAfter, missing}
 
 -- ---- what bytes hold
 

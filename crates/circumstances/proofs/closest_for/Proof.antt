@@ -1,10 +1,9 @@
 -- `circumstances::closest_for` meets its contract: its second is stored, its magnitude computed again. Assumes nothing.
-use mathlib.Core.Path.{_≡_, sym, ap, ap₂, _∙_, subst}
-use Prim.Native.Nat.{ℕ, _≤_, _<_}
+use Prim.Native.Nat.{_<_}
 use native.Mathlib.Omega.{arith}
-use Rattle.circumstances.specs.Seconds.{second, secondsOf, closestOf, magnitudeAt}
-use Rattle.circumstances.specs.Sheet.{stored, closestEntry}
-use Rattle.circumstances.specs.LimitsLaws.{InLimits, seconds-few}
+use Rattle.circumstances.specs.Seconds.{secondsOf}
+use Rattle.circumstances.specs.Sheet.{closestEntry}
+use Rattle.circumstances.specs.LimitsLaws.{seconds-few}
 use Rattle.circumstances.specs.SheetLaws.{closest-within}
 use Rattle.circumstances.proofs.closest_for.Statement.{statement}
 use Rattle.circumstances.proofs.closest_for.Tie as tie

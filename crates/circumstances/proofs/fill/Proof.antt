@@ -1,25 +1,24 @@
 -- `circumstances::fill` meets its contract: with i seconds done, their bytes stand in both buffers, and the best is the closest of them. Assumes nothing.
-use mathlib.Core.Path.{_≡_, refl, sym, ap, ap₂, _∙_, subst}
+use mathlib.Core.Path.{_≡_, sym, ap, ap₂, _∙_, subst}
 use mathlib.Core.Bool.{true, false}
-use mathlib.Core.List.{List, [], _∷_}
+use mathlib.Core.List.{[], _∷_}
 use mathlib.Core.Logic.{⊎-elim}
-use Prim.Native.Nat.{ℕ, suc, _+_, _-_, _≤_, _<_}
+use Prim.Native.Nat.{ℕ, suc, _-_, _≤_, _<_}
 use native.Mathlib.Omega.{arith}
 use borrow.Author.Needs.{needs}
 use lib.Dec.{lit≤}
 use lib.IntN.{ℤ, pos, natAbs, _+ℤ_}
-use lib.ListN.{length}
 use lib.Signed.{ltZ, _≤ℤ_, _<ℤ_}
 use mir.Syntax.{w64}
 use mir.Val.{toZ, ofZ}
 use Rattle.numbers.specs.Parts.{sum}
-use Rattle.numbers.specs.Order.{zs, ≤-parts, natAbs-by, natAbs-parts, le-natAbs, fits64}
-use Rattle.numbers.specs.Code.{Code, arg, add, run, Within, whole, raw, ends, _▹_, fits, runs, within, read-back, read-size, count-is, count-size}
-use Rattle.geometry.specs.Shadow.{Phase, penumbra, central, moment, M}
+use Rattle.numbers.specs.Order.{zs, ≤-parts, natAbs-by, natAbs-parts, fits64}
+use Rattle.numbers.specs.Code.{Code, arg, add, run, Within, whole, raw, ends, _▹_, fits, runs, read-back, read-size, count-is, count-size}
+use Rattle.geometry.specs.Shadow.{penumbra, central, moment, M}
 use Rattle.geometry.specs.Moments.{axis-ranges, station-ranges}
 use Rattle.geometry.specs.Sizes.{M-size}
 use Rattle.shadow.specs.Second.{IsStates}
-use Rattle.circumstances.specs.Seconds.{guard, closestTo}
+use Rattle.circumstances.specs.Seconds.{guard}
 use Rattle.circumstances.specs.Filled.{byteAt, squareAt, closestIn, Filled, filled-none, filled-more, Least, least-start, least-new, least-same}
 use Rattle.circumstances.proofs.fill.Statement.{statement}
 use Rattle.circumstances.proofs.fill.Tie as tie

@@ -1,16 +1,14 @@
 -- `circumstances::magnitude_at` meets its contract: it is the magnitude of the whole second. Assumes nothing.
-use mathlib.Core.Path.{_≡_, refl, sym, ap, ap₂, _∙_, subst}
-use Prim.Native.Nat.{ℕ, suc, _+_, _≤_, _<_}
+use mathlib.Core.Path.{sym, ap, _∙_, subst}
+use Prim.Native.Nat.{_≤_}
 use native.Mathlib.Omega.{arith}
-use borrow.Author.Needs.{needs}
 use lib.Dec.{lit≤}
-use lib.IntN.{ℤ, pos, natAbs}
-use Rattle.numbers.specs.Code.{read-back, read-size, read-result}
-use Rattle.sine.specs.Table.{S}
+use lib.IntN.{natAbs}
+use Rattle.numbers.specs.Code.{read-back, read-size}
 use Rattle.geometry.specs.Moments.{Placed}
 use Rattle.shadow.specs.Second.{IsSecond}
-use Rattle.circumstances.specs.Seconds.{guard, placeOf, second, secondsOf, magnitudeAt}
-use Rattle.circumstances.specs.LimitsLaws.{InLimits, placed, seconds-few, second-size}
+use Rattle.circumstances.specs.Seconds.{guard, placeOf, second, magnitudeAt}
+use Rattle.circumstances.specs.LimitsLaws.{placed, seconds-few, second-size}
 use Rattle.circumstances.proofs.magnitude_at.Statement.{statement}
 use Rattle.circumstances.proofs.magnitude_at.Tie as tie
 

@@ -1,11 +1,10 @@
 -- `circumstances::second_at` meets its contract: a sum of small numbers. Assumes nothing.
-use mathlib.Core.Path.{_≡_, ap, _∙_}
-use mathlib.Core.List.{List, [], _∷_}
-use Prim.Native.Nat.{ℕ, _≤_}
+use mathlib.Core.Path.{ap, _∙_}
+use mathlib.Core.List.{[], _∷_}
 use native.Mathlib.Omega.{arith}
 use lib.IntN.{ℤ, pos, _+ℤ_}
 use Rattle.numbers.specs.Order.{fits64}
-use Rattle.numbers.specs.Code.{Code, arg, add, Within, whole, raw, ends, _▹_, fits, runs, count-is, count-size}
+use Rattle.numbers.specs.Code.{arg, add, Within, whole, raw, ends, _▹_, fits, runs, count-is, count-size}
 use Rattle.circumstances.specs.LimitsLaws.{window-sizes}
 use Rattle.circumstances.proofs.second_at.Statement.{statement}
 use Rattle.circumstances.proofs.second_at.Tie as tie

@@ -1,5 +1,5 @@
 -- `circumstances::second_within` meets its contract: the place is the station's, and the second is the whole second there. Assumes nothing.
-use mathlib.Core.Path.{_≡_, sym, ap, ap₂, _∙_, subst}
+use mathlib.Core.Path.{_≡_, sym, ap, ap₂, subst}
 use lib.Dec.{lit≤}
 use lib.IntN.{ℤ}
 use Rattle.numbers.specs.Code.{read-back, read-size}

@@ -1,10 +1,10 @@
 -- `circumstances::seconds` meets its contract: the last second is not before the first, so the difference is a natural number. Assumes nothing.
-use mathlib.Core.Path.{_≡_, ap, _∙_}
-use mathlib.Core.List.{List, [], _∷_}
-use Prim.Native.Nat.{ℕ, suc, _+_, _≤_}
+use mathlib.Core.Path.{ap, _∙_}
+use mathlib.Core.List.{[], _∷_}
+use Prim.Native.Nat.{suc}
 use native.Mathlib.Omega.{arith}
 use native.Mathlib.Numerals.{add-one}
-use lib.IntN.{ℤ, natAbs, _-ℤ_}
+use lib.IntN.{ℤ, natAbs}
 use Rattle.numbers.specs.Order.{minus-nonneg}
 use Rattle.numbers.specs.Code.{Code, arg, sub, run, Within, whole, ends, _▹_, fits, runs, within, unsigned}
 use Rattle.circumstances.specs.LimitsLaws.{window-sizes}

@@ -1,11 +1,10 @@
 -- `circumstances::sheet` meets its contract: a refusal of the check is passed on with the buffer as it was; within the limits `sheet_within` answers.
 -- Demand 3 then follows from the answer and the buffer alone (Claims). Assumes nothing.
-use mathlib.Core.Path.{_≡_, refl, sym, ap, _∙_}
+use mathlib.Core.Path.{_≡_, sym, ap, _∙_}
 use borrow.Author.Needs.{needs}
 use lib.ListN.{length}
 use Rattle.circumstances.specs.declared.Checked.the-variants as C
 use Rattle.circumstances.specs.Requests.{checked}
-use Rattle.circumstances.specs.Sheet.{answerOf, bufferAfter}
 use Rattle.circumstances.specs.LimitsLaws.{in-limits}
 use Rattle.circumstances.specs.Claims.{buffer-length, refused-answer, within-answer, claimed}
 use Rattle.circumstances.proofs.sheet.Statement.{statement}

@@ -1,7 +1,7 @@
 -- `circumstances::sheet_within` meets its contract: the place is the station's, the two arrays hold the states of the window's seconds, and `write` does the rest. Assumes nothing.
-use mathlib.Core.Path.{_≡_, refl, sym, ap, ap₂, _∙_, subst}
+use mathlib.Core.Path.{_≡_, sym, ap, ap₂, _∙_, subst}
 use mathlib.Core.List.{List}
-use Prim.Native.Nat.{ℕ, suc, _+_, _-_, _≤_, _<_}
+use Prim.Native.Nat.{ℕ, suc, _-_, _≤_, _<_}
 use native.Mathlib.Omega.{arith}
 use borrow.Author.Needs.{needs}
 use lib.IntN.{ℤ, pos, natAbs, _+ℤ_, _-ℤ_}
@@ -9,17 +9,14 @@ use lib.ListN.{length, take, replicate, length-replicate}
 use lib.Seq.{length-take-le}
 use lib.Signed.{_≤ℤ_}
 use Rattle.numbers.specs.Parts.{posP, negP, sum}
-use Rattle.numbers.specs.Order.{zs, ≤-parts}
+use Rattle.numbers.specs.Order.{zs}
 use Rattle.numbers.specs.Code.{read-back, read-size}
-use Rattle.elements.specs.declared.Elements.{Elements}
 use Rattle.station.specs.declared.Place.{Place}
-use Rattle.station.specs.Place.{R, P, IsPlace}
+use Rattle.station.specs.Place.{IsPlace}
 use Rattle.geometry.specs.Shadow.{Phase, penumbra, central, M}
 use Rattle.geometry.specs.Moments.{Placed}
-use Rattle.shadow.specs.State.{code}
 use Rattle.circumstances.specs.declared.Request.{Request}
-use Rattle.circumstances.specs.Seconds.{at, placeOf, second, secondsOf, listOf, stateAt, statesOf, closestTo, closestOf}
-use Rattle.circumstances.specs.Sheet.{bufferWithin}
+use Rattle.circumstances.specs.Seconds.{at, placeOf, secondsOf, listOf, stateAt, statesOf, closestTo, closestOf}
 use Rattle.circumstances.specs.LimitsLaws.{InLimits, placed, window-sizes, last-is, seconds-few}
 use Rattle.circumstances.specs.Filled.{byteAt, squareAt, closestIn, Filled, filled-list}
 use Rattle.circumstances.specs.Claims.{buffer-length}

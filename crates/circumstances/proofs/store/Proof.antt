@@ -1,10 +1,9 @@
 -- `circumstances::store` meets its contract: five pieces, each behind the one before it, are the sheet (Stores, sheet-stored). Assumes nothing.
-use mathlib.Core.Path.{_≡_, refl, sym, ap, ap₂, _∙_, subst}
-use mathlib.Core.List.{List, [], _∷_, map}
-use Prim.Native.Nat.{ℕ, _+_, _≤_}
+use mathlib.Core.Path.{_≡_, ap, _∙_}
+use mathlib.Core.List.{List, map}
+use Prim.Native.Nat.{ℕ, _+_}
 use native.Mathlib.Omega.{arith}
 use native.Mathlib.Nat.{zero-add}
-use borrow.Author.Needs.{needs}
 use lib.ListN.{length}
 use lib.Seq.{sets, length-sets}
 use Rattle.geometry.specs.Shadow.{Phase, penumbra, central}
@@ -12,9 +11,9 @@ use Rattle.contacts.specs.Entries.{entries}
 use Rattle.records.specs.declared.Entry.the-variants.{End}
 use Rattle.records.specs.Entries.{bytes, bytesOf, size}
 use Rattle.circumstances.specs.declared.Request.{Request}
-use Rattle.circumstances.specs.Seconds.{secondsOf, statesOf}
+use Rattle.circumstances.specs.Seconds.{statesOf}
 use Rattle.circumstances.specs.SecondsLaws.{states-length}
-use Rattle.circumstances.specs.Sheet.{entryOf, phaseOf, headOf, closestEntry, sheetBytes}
+use Rattle.circumstances.specs.Sheet.{entryOf, phaseOf, headOf, closestEntry}
 use Rattle.circumstances.specs.Sizes.{sizesOf}
 use Rattle.circumstances.specs.Stores.{sheet-length, sheet-stored, head-size, closest-size}
 use Rattle.circumstances.proofs.store.Statement.{statement}

@@ -1,11 +1,10 @@
 -- `circumstances::stored_at` meets its contract: the first second plus 10,800 is a natural number, and k seconds come on top. Assumes nothing.
-use mathlib.Core.Path.{_≡_, sym, ap, _∙_, subst}
-use mathlib.Core.List.{List, [], _∷_}
-use Prim.Native.Nat.{ℕ, _+_, _≤_}
+use mathlib.Core.Path.{_≡_, sym, ap, _∙_}
+use mathlib.Core.List.{[], _∷_}
 use native.Mathlib.Omega.{arith}
 use borrow.Author.Needs.{needs}
-use lib.IntN.{ℤ, pos, natAbs, _+ℤ_}
-use lib.Signed.{_≤ℤ_, yes-nonNeg}
+use lib.IntN.{pos, natAbs, _+ℤ_}
+use lib.Signed.{_≤ℤ_}
 use Rattle.numbers.specs.Parts.{sum, opposite}
 use Rattle.numbers.specs.Order.{zs}
 use Rattle.numbers.specs.Code.{Code, arg, lit, add, run, Within, whole, ends, _▹_, fits, runs, within, unsigned}

@@ -1,5 +1,4 @@
 -- `circumstances::window_holds` meets its contract: the three tests, on numbers read back from their bits. Assumes nothing.
-use mathlib.Core.Path.{_≡_}
 use Rattle.numbers.specs.Code.{read-result}
 use Rattle.circumstances.specs.Requests.{windowHolds}
 use Rattle.circumstances.proofs.window_holds.Statement.{statement}

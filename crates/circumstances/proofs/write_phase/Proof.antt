@@ -1,17 +1,15 @@
 -- `circumstances::write_phase` meets its contract: what is left at the cursor, stored from `at` on, gives the buffer that all entries give. Assumes nothing.
-use mathlib.Core.Path.{_≡_, refl, sym, ap, _∙_, subst}
-use mathlib.Core.List.{List, [], _∷_, map}
-use Prim.Native.Nat.{ℕ, _+_, _-_, _≤_, _<_}
+use mathlib.Core.Path.{_≡_, refl, sym, ap, _∙_}
+use mathlib.Core.List.{[], _∷_, map}
+use Prim.Native.Nat.{_+_, _-_, _≤_}
 use native.Mathlib.Omega.{arith}
 use borrow.Author.Needs.{needs}
 use lib.ListN.{length}
 use lib.Seq.{sets, length-sets}
-use Rattle.geometry.specs.Shadow.{Phase}
-use Rattle.contacts.specs.Entries.{entries, from, to}
+use Rattle.contacts.specs.Entries.{entries}
 use Rattle.contacts.specs.Step.{entriesFrom}
 use Rattle.contacts.specs.StepLaws.{all-at-start, Took, took, none-left}
 use Rattle.records.specs.Entries.{bytes, bytesOf, size}
-use Rattle.circumstances.specs.Seconds.{secondsOf}
 use Rattle.circumstances.specs.Sheet.{entryOf}
 use Rattle.circumstances.specs.Demand3 as D3
 use Rattle.circumstances.specs.Sizes.{sizeOf, sizesOf, sizes-nil, sizes-cons, size-in-sheet}

@@ -1,11 +1,9 @@
 -- `elements::l1_at` meets its contract: it is the polynomial of its fields. Assumes nothing.
 use mathlib.Core.Path.{_≡_, _∙_, ap}
-use Prim.Native.Nat.{ℕ, _≤_}
+use Prim.Native.Nat.{_≤_}
 use native.Mathlib.Omega.{arith}
-use lib.IntN.{ℤ, natAbs}
+use lib.IntN.{natAbs}
 use Rattle.numbers.specs.Code.{read-back, read-size}
-use Rattle.numbers.specs.Value.{Value}
-use Rattle.elements.specs.Polynomial.{value2}
 use Rattle.elements.specs.PolynomialLaws.{value2-size}
 use Rattle.elements.specs.Elements.{l1At}
 use Rattle.elements.proofs.l1_at.Statement.{statement}

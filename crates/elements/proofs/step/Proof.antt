@@ -1,13 +1,12 @@
 -- `elements::step` meets its contract: `near_hour` gives near, and a step is at most three times p and a. Assumes nothing.
-use mathlib.Core.Path.{_≡_, _∙_, ap, ap₂, subst, sym}
-use mathlib.Core.List.{List, [], _∷_}
-use Prim.Native.Nat.{ℕ, _+_, _*_, _≤_}
+use mathlib.Core.Path.{_≡_, _∙_, ap}
+use mathlib.Core.List.{[], _∷_}
+use Prim.Native.Nat.{_≤_}
 use native.Mathlib.Omega.{arith}
 use native.Mathlib.Nat.{le-refl}
-use lib.IntN.{ℤ, pos, natAbs, _+ℤ_, _*ℤ_}
+use lib.IntN.{ℤ, natAbs, _+ℤ_, _*ℤ_}
 use Rattle.numbers.specs.Near.{near}
 use Rattle.numbers.specs.Code.{Code, arg, add, mul, Within, whole, ends, _▹_, fits, runs, within}
-use Rattle.numbers.specs.Value.{Value}
 use Rattle.elements.specs.Polynomial.{hour, step}
 use Rattle.elements.specs.PolynomialLaws.{part-size, step-size}
 use Rattle.elements.proofs.step.Statement.{statement}

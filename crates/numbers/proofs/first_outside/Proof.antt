@@ -1,10 +1,8 @@
 -- `numbers::first_outside` meets its contract: what is found from place i on is what is found in all. Assumes nothing.
 use mathlib.Core.Path.{_≡_, refl, sym, _∙_}
-use mathlib.Core.List.{List}
-use Prim.Native.Nat.{ℕ, _-_, _≤_, _<_}
+use Prim.Native.Nat.{_-_, _≤_}
 use native.Mathlib.Omega.{arith}
 use borrow.Author.Needs.{needs}
-use lib.IntN.{ℤ}
 use lib.ListN.{length, drop}
 use Rattle.numbers.specs.Limits.{firstOutside}
 use Rattle.numbers.specs.LimitsLaws.{search-low, search-high, search-on, search-end}

@@ -1,16 +1,11 @@
 -- `numbers::near` meets its contract: the machine rounds (2n + k) / 2k toward zero, and a remainder below 0 says that the floor is one less. Assumes nothing.
-use mathlib.Core.Path.{_≡_, _∙_}
-use mathlib.Core.List.{List, [], _∷_}
-use Prim.Native.Nat.{ℕ}
-use native.Mathlib.Omega.{arith}
-use lib.IntN.{ℤ, pos, _+ℤ_, _*ℤ_}
-use lib.Signed.{_≤ℤ_, _<ℤ_}
-use Rattle.numbers.specs.Parts.{product}
-use Rattle.numbers.specs.Order.{zs}
+use mathlib.Core.Path.{_∙_}
+use mathlib.Core.List.{[], _∷_}
+use lib.IntN.{pos, _+ℤ_, _*ℤ_}
 use Rattle.numbers.specs.Near.{near}
 use Rattle.numbers.specs.Floor.{floor-same, floor-less}
 use Rattle.numbers.specs.NearLaws.{twice-pos}
-use Rattle.numbers.specs.Code.{Code, arg, lit, add, sub, mul, quo, rem, Within, whole, raw, ends, _▹_, fits, runs, above, taken-<, left-<}
+use Rattle.numbers.specs.Code.{Code, arg, lit, add, sub, mul, quo, rem, Within, whole, ends, _▹_, fits, runs, above, taken-<, left-<}
 use Rattle.numbers.proofs.near.Statement.{statement}
 use Rattle.numbers.proofs.near.Tie as tie
 use Rattle.numbers.proofs.near.Reads as reads

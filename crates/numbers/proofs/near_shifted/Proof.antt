@@ -1,13 +1,12 @@
 -- `numbers::near_shifted` meets its contract: what it divides is not negative, so the machine's quotient is the floor, and shift comes off again (Shift, near-shifted). Assumes nothing.
-use mathlib.Core.Path.{_≡_, refl, sym, ap, _∙_}
-use mathlib.Core.List.{List, [], _∷_}
-use Prim.Native.Nat.{ℕ, _/_, _≤_, _<_}
+use mathlib.Core.Path.{sym, ap, _∙_}
+use mathlib.Core.List.{[], _∷_}
+use Prim.Native.Nat.{ℕ, _/_, _≤_}
 use native.Mathlib.Omega.{arith}
 use native.Mathlib.Nat.{div-le-self}
 use lib.IntN.{ℤ, pos, natAbs, _+ℤ_, _-ℤ_}
-use lib.Signed.{_≤ℤ_}
 use Rattle.numbers.specs.Order.{fits64}
-use Rattle.numbers.specs.Code.{Code, arg, lit, add, sub, quo, run, Within, whole, ends, _▹_, fits, runs, within, unsigned}
+use Rattle.numbers.specs.Code.{Code, arg, add, sub, run, Within, whole, ends, _▹_, fits, runs, within, unsigned}
 use Rattle.numbers.specs.Shift.{near-shifted, quot-natAbs, above-none}
 use Rattle.numbers.proofs.near_shifted.Statement.{statement}
 use Rattle.numbers.proofs.near_shifted.Tie as tie

@@ -1,7 +1,5 @@
 -- `numbers::root` meets its contract: with i pairs of bits to come, r is the root of the bits taken in so far, and rest what is left of them above its square. Assumes nothing.
-use Prim.Native.Nat.{ℕ, _+_, _*_, _-_, _/_, _%_, _^_, _≤_, _<_}
 use native.Mathlib.Omega.{arith}
-use borrow.Author.Needs.{needs}
 use lib.Count.{leading-le}
 use Rattle.numbers.specs.RootLaws.{Done, start, one-more, no-more, finish}
 use Rattle.numbers.proofs.root.Statement.{statement}

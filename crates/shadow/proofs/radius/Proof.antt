@@ -1,7 +1,7 @@
 -- `shadow::radius` meets its contract: one product to the nearest, taken from l. Assumes nothing.
 use mathlib.Core.Path.{_≡_, ap, _∙_}
 use mathlib.Core.List.{[], _∷_}
-use Prim.Native.Nat.{_*_, _≤_}
+use Prim.Native.Nat.{_≤_}
 use native.Mathlib.Omega.{arith}
 use lib.IntN.{ℤ, natAbs, _-ℤ_, _*ℤ_}
 use lib.Signed.{leZ-yes}

@@ -1,7 +1,6 @@
 -- `shadow::share` meets its contract: below 0 there is nothing, and elsewhere the machine's quotient is the floor. Assumes nothing.
 use mathlib.Core.Path.{_≡_, refl, sym, ap, _∙_}
 use mathlib.Core.List.{[], _∷_}
-use Prim.Native.Nat.{_≤_}
 use native.Mathlib.Omega.{arith}
 use lib.IntN.{ℤ, pos, negsuc, natAbs, _*ℤ_}
 use lib.Signed.{_≤ℤ_, _<ℤ_, quotZ}

@@ -1,18 +1,18 @@
 -- `station::geocentric` meets its contract: each call gives its letter of document 01, and PlaceLaws gives the sizes. Assumes nothing.
-use mathlib.Core.Path.{_≡_, refl, sym, ap, ap₂, _∙_, subst}
-use mathlib.Core.List.{List, [], _∷_}
-use Prim.Native.Nat.{ℕ, _+_, _*_, _≤_, _<_}
+use mathlib.Core.Path.{_≡_, ap, _∙_}
+use mathlib.Core.List.{[], _∷_}
+use Prim.Native.Nat.{_+_, _*_, _≤_}
 use native.Mathlib.Omega.{arith}
 use lib.Dec.{lit≤}
 use lib.IntN.{ℤ, pos, natAbs, _+ℤ_, _*ℤ_}
-use lib.Signed.{_≤ℤ_, leZ-yes}
-use Rattle.numbers.specs.Code.{Code, arg, lit, add, mul, Within, whole, ends, _▹_, fits, runs, within, read-back, read-size, read-result}
+use lib.Signed.{leZ-yes}
+use Rattle.numbers.specs.Code.{Code, arg, lit, add, mul, Within, whole, ends, _▹_, fits, runs, within, read-back, read-size}
 use Rattle.numbers.specs.Near.{near}
 use Rattle.sine.specs.Sine.{sine, cosine, IsReduced}
 use Rattle.sine.specs.SineLaws.{sine-of, cosine-of, square-sum}
 use Rattle.numbers.specs.Value.{Value}
-use Rattle.station.specs.Place.{one, radius, E, C, Z, h, R, P, IsPlace}
-use Rattle.station.specs.PlaceLaws.{C-size, Z-size, h-size, scaled-size}
+use Rattle.station.specs.Place.{one, radius, E, C, Z, h, R, P}
+use Rattle.station.specs.PlaceLaws.{Z-size, h-size, scaled-size}
 use Rattle.station.proofs.geocentric.Statement.{statement}
 use Rattle.station.proofs.geocentric.Tie as tie
 

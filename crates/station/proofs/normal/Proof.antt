@@ -1,7 +1,7 @@
 -- `station::normal` meets its contract: each call gives its part of C, and the laws of PlaceLaws give their sizes; what is under the root is not negative. Assumes nothing.
-use mathlib.Core.Path.{_≡_, refl, sym, ap, _∙_, subst}
-use mathlib.Core.List.{List, [], _∷_}
-use Prim.Native.Nat.{ℕ, _≤_}
+use mathlib.Core.Path.{_≡_, sym, ap, _∙_, subst}
+use mathlib.Core.List.{[], _∷_}
+use Prim.Native.Nat.{_≤_}
 use native.Mathlib.Omega.{arith}
 use borrow.Author.Needs.{needs}
 use lib.Dec.{lit≤}
@@ -10,10 +10,9 @@ use lib.Signed.{_≤ℤ_}
 use mir.Syntax.{w64}
 use mir.Val.{toZ, ofZ}
 use Rattle.numbers.specs.Order.{zs, fits64}
-use Rattle.numbers.specs.Code.{Code, arg, lit, add, mul, Within, whole, ends, _▹_, fits, runs, within, unsigned, read-back, read-size, read-result}
+use Rattle.numbers.specs.Code.{Code, arg, lit, add, mul, Within, whole, ends, _▹_, fits, runs, within, unsigned, read-back, read-size}
 use Rattle.numbers.specs.Near.{near}
 use Rattle.numbers.specs.Root.{root}
-use Rattle.numbers.specs.Value.{Value}
 use Rattle.station.specs.Place.{one, E, under, W, C}
 use Rattle.station.specs.PlaceLaws.{n-size, under-nonneg, root-low, root-high, C-size}
 use Rattle.station.proofs.normal.Statement.{statement}

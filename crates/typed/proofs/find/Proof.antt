@@ -1,8 +1,6 @@
 -- `typed::find` meets its contract: the names passed are not said, so those left decide (`Finding`). The measure is how many bytes of the table are left. Assumes nothing.
 use mathlib.Core.Path.{_≡_, sym, ap, _∙_}
-use mathlib.Core.Bool.{Bool}
 use Prim.Native.Nat.{_+_, _-_, _≤_}
-use native.Mathlib.Omega.{arith}
 use borrow.Author.Needs.{needs}
 use lib.ListN.{length, drop}
 use Rattle.typed.specs.declared.Class.the-variants as C

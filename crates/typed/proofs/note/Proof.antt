@@ -1,6 +1,5 @@
 -- `typed::note` meets its contract: each arm is a case of the definitions. Assumes nothing.
 use Prim.Native.Nat.{_≤_, _<_}
-use mathlib.Core.Path.{_≡_, ap, _∙_}
 use lib.IntN.{natAbs}
 use Rattle.numbers.specs.Code.{read-back}
 use native.Mathlib.Omega.{arith}

@@ -1,7 +1,6 @@
 -- `typed::run` meets its contract: the bytes passed are of the class, and what is left decides how many more are (`Ran`). The measure is how many are left. Assumes nothing.
 use mathlib.Core.Path.{sym, _∙_}
 use Prim.Native.Nat.{_-_}
-use native.Mathlib.Omega.{arith}
 use borrow.Author.Needs.{needs}
 use borrow.Author.Tests.{not-true, not-false}
 use lib.ListN.{length}

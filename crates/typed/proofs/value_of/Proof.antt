@@ -3,7 +3,6 @@ use mathlib.Core.Path.{_≡_, sym, ap, _∙_}
 use Prim.Native.Nat.{ℕ}
 use Rattle.typed.specs.declared.Units.{Units}
 use Rattle.typed.specs.declared.Class.the-variants as C
-use Rattle.typed.specs.Text.{startOf}
 use Rattle.typed.specs.Numbers.{unitsOf}
 use Rattle.typed.specs.NumberLaws.{units-small}
 use Rattle.typed.specs.Fields.{placesOf}

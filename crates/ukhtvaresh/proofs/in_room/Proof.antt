@@ -1,5 +1,5 @@
 -- `ukhtvaresh::in_room` meets its contract, case by case. Assumes nothing.
-use mathlib.Core.Path.{_≡_, sym, _∙_}
+use mathlib.Core.Path.{sym}
 use borrow.Author.Needs.{needs}
 use Rattle.ukhtvaresh.specs.RepliesLaws.{second-short, second-whole}
 use Rattle.ukhtvaresh.proofs.in_room.Statement.{statement}

@@ -1,5 +1,5 @@
 -- `ukhtvaresh::ukhtvaresh_sheet` meets its contract: the answer of the crate below, as numbers. Assumes nothing.
-use mathlib.Core.Path.{_≡_, subst, ap, _∙_}
+use mathlib.Core.Path.{subst, ap, _∙_}
 use borrow.Author.Needs.{needs}
 use Rattle.circumstances.specs.declared.Answer.{Answer}
 use Rattle.circumstances.specs.Demand3.{Claimed}

@@ -1,5 +1,5 @@
 -- `ukhtvaresh::ukhtvaresh_write` meets its contract: the answer of the crate below, as numbers. Assumes nothing.
-use mathlib.Core.Path.{_≡_, ap, _∙_}
+use mathlib.Core.Path.{ap, _∙_}
 use borrow.Author.Needs.{needs}
 use Rattle.ukhtvaresh.specs.declared.Reply.{Reply}
 use Rattle.ukhtvaresh.specs.Replies.{writeReply}
