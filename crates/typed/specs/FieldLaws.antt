@@ -6,14 +6,13 @@ use Prim.Native.Nat.{ℕ, suc, _+_, _-_, _≤_, _<_}
 use native.Mathlib.Omega.{arith}
 use borrow.Author.Tests.{eq-eqb, ne-eqb}
 use lib.Dec.{eqb}
-use lib.ListN.{length, getD, take, drop, length-drop}
-use lib.Seq.{length-take-le}
+use lib.ListN.{length, getD, drop}
 use Rattle.typed.specs.declared.Class.the-variants as C
 use Rattle.typed.specs.declared.Found.{Found}
 use Rattle.typed.specs.declared.Found.the-variants as F
 use Rattle.typed.specs.Text.{isIn, runOf, linesOf}
 use Rattle.typed.specs.Fields.{letters, named, names, findIn}
-use Rattle.typed.specs.TextLaws.{from-here, from-end, run-le, lines-at, lines-end}
+use Rattle.typed.specs.TextLaws.{from-here, from-end, lineAt, line-within, line-length, line-next, lines-end}
 
 -- ---- one name
 
@@ -98,26 +97,11 @@ module _ (table said : List ℕ) where
   finding-none at k f h = sym (f .0 ∙ ap (λ (l : List (List ℕ)). findIn l k said) (lines-end table at h) ∙ find-none k said)
 
   module _ (at k n : ℕ) (f : Finding table said at k) (h : at < length table) (e : n ≡ runOf C.Line (drop at table)) where
-    abbrev name : List ℕ
-    name = take (at + n - at) (drop at table)
+    pub finding-hit : named (lineAt table at n h e) said ≡ true → F.At k n ≡ findIn (linesOf table) 0 said
+    finding-hit y = sym (f .0 ∙ ap (λ (l : List (List ℕ)). findIn l k said) (line-next table at n h e) ∙ find-hit (lineAt table at n h e) _ k said y ∙ ap (F.At k) (line-length table at n h e))
 
-    first : linesOf (drop at table) ≡ name ∷ linesOf (drop (at + n + 1) table)
-    first = lines-at table at h ∙ ap (λ (m : ℕ). take m (drop at table) ∷ linesOf (drop (at + m + 1) table)) (sym e) ∙ ap (λ (m : ℕ). take m (drop at table) ∷ linesOf (drop (at + n + 1) table)) back
-      where
-        back : n ≡ at + n - at
-        back = omega arith
-
-    pub within : at + n ≤ length table
-    within = omega (arith, run-le C.Line (drop at table), length-drop at table)
-
-    name-length : length name ≡ n
-    name-length = length-take-le (at + n - at) (drop at table) (omega (arith, within, length-drop at table)) ∙ omega arith
-
-    pub finding-hit : named name said ≡ true → F.At k n ≡ findIn (linesOf table) 0 said
-    finding-hit y = sym (f .0 ∙ ap (λ (l : List (List ℕ)). findIn l k said) first ∙ find-hit name _ k said y ∙ ap (F.At k) name-length)
-
-    pub finding-more : named name said ≡ false → Finding table said (at + n + 1) (k + 1)
-    finding-more y = (f .0 ∙ ap (λ (l : List (List ℕ)). findIn l k said) first ∙ find-miss name _ k said y, omega (arith, f .1), omega (arith, within))
+    pub finding-more : named (lineAt table at n h e) said ≡ false → Finding table said (at + n + 1) (k + 1)
+    finding-more y = (f .0 ∙ ap (λ (l : List (List ℕ)). findIn l k said) (line-next table at n h e) ∙ find-miss (lineAt table at n h e) _ k said y, omega (arith, f .1), omega (arith, line-within table at n h e))
 
 -- a name that was found is one of them, and no longer than what is said
 -- the table that the code looks in

@@ -6,7 +6,7 @@ use Prim.Native.Nat.{ℕ, zero, suc, _+_, _-_, _≤_, _<_}
 use native.Mathlib.Numerals.{add-one}
 use native.Mathlib.Omega.{arith}
 use lib.ListN.{length, getD, take, drop, length-drop, drop-of-length-le}
-use lib.Seq.{drop-cons, drop-drop, take-all}
+use lib.Seq.{drop-cons, drop-drop, take-all, length-take-le}
 use Rattle.typed.specs.declared.Class.{Class}
 use Rattle.typed.specs.declared.Class.the-variants as C
 use Rattle.typed.specs.Text.{isIn, runOf, startOf, before, linesOf}
@@ -113,7 +113,7 @@ line-first x [] = first-by x [] (rw (lines-nil, run-nil C.Line))
 line-first x (y ∷ t) = first-by x (y ∷ t) (rw (line-first y t))
 
 -- the line at a place of the text, and those after it
-pub lines-at : (s : List ℕ) (at : ℕ) → at < length s → linesOf (drop at s) ≡ take (runOf C.Line (drop at s)) (drop at s) ∷ linesOf (drop (at + runOf C.Line (drop at s) + 1) s)
+lines-at : (s : List ℕ) (at : ℕ) → at < length s → linesOf (drop at s) ≡ take (runOf C.Line (drop at s)) (drop at s) ∷ linesOf (drop (at + runOf C.Line (drop at s) + 1) s)
 lines-at s at h = by (drop at s) refl (from-here s at 0 h)
   where
     further : (n : ℕ) → at + suc n ≡ at + n + 1
@@ -125,6 +125,26 @@ lines-at s at h = by (drop at s) refl (from-here s at 0 h)
         line-first x t
         ∙ ap (λ (k : List ℕ). take (runOf C.Line (x ∷ t)) (x ∷ t) ∷ linesOf k)
         (ap (drop (suc (runOf C.Line (x ∷ t)))) (sym e) ∙ drop-drop (suc (runOf C.Line (x ∷ t))) at s ∙ ap (λ (k : ℕ). drop k s) (further (runOf C.Line (x ∷ t))))
+
+-- n bytes long: the line as a part of a slice has it
+module _ (s : List ℕ) (at n : ℕ) (h : at < length s) (e : n ≡ runOf C.Line (drop at s)) where
+  abbrev pub lineAt : List ℕ
+  lineAt = take (at + n - at) (drop at s)
+
+  pub line-within : at + n ≤ length s
+  line-within = omega (arith, run-le C.Line (drop at s), length-drop at s)
+
+  pub line-length : length lineAt ≡ n
+  line-length = length-take-le (at + n - at) (drop at s) (omega (arith, line-within, length-drop at s)) ∙ omega arith
+
+  pub line-next : linesOf (drop at s) ≡ lineAt ∷ linesOf (drop (at + n + 1) s)
+  line-next =
+      lines-at s at h
+      ∙ ap (λ (m : ℕ). take m (drop at s) ∷ linesOf (drop (at + m + 1) s)) (sym e)
+      ∙ ap (λ (m : ℕ). take m (drop at s) ∷ linesOf (drop (at + n + 1) s)) back
+    where
+      back : n ≡ at + n - at
+      back = omega arith
 
 pub lines-end : (s : List ℕ) (at : ℕ) → length s ≤ at → linesOf (drop at s) ≡ []
 lines-end s at h = rw (from-end s at h) lines-nil

@@ -7,7 +7,7 @@ use native.Mathlib.Omega.{arith}
 use native.Mathlib.Decide.{decLt}
 use lib.IntN.{ℤ, pos}
 use lib.Dec.{eqb}
-use lib.ListN.{length, getD, take, drop, set, replicate, length-drop, length-set, getD-replicate}
+use lib.ListN.{length, getD, drop, set, replicate, length-set, getD-replicate}
 use lib.Seq.{getD-set-same, getD-set-other}
 use Rattle.numbers.specs.Parts.{opposite}
 use Rattle.numbers.specs.Order.{zs}
@@ -20,7 +20,7 @@ use Rattle.typed.specs.declared.Noted.the-variants as N
 use Rattle.typed.specs.declared.Typed.{Typed}
 use Rattle.typed.specs.declared.Typed.the-variants as T
 use Rattle.typed.specs.Text.{runOf, linesOf}
-use Rattle.typed.specs.TextLaws.{run-le, lines-at, lines-end}
+use Rattle.typed.specs.TextLaws.{lineAt, line-within, line-next, lines-end}
 use Rattle.typed.specs.Fields.{lowestOf}
 use Rattle.typed.specs.TypedLaws.{meaning-in}
 use Rattle.typed.specs.Typed.{InBytes, InFields, meaningOf, notedOf, givenAfter, numbersAfter, missing, Reading, numbers, refused, onward, walk, readingOf, answerOf, numbersFrom}
@@ -66,22 +66,13 @@ module _ (text given : List ℕ) (ns : List ℤ) (at i : ℕ) (w : Walked text g
   module _ (n : ℕ) (h : at < length text) (e : n ≡ runOf C.Line (drop at text)) where
     -- the line that stands there
     abbrev pub line : List ℕ
-    line = take (at + n - at) (drop at text)
-
-    pub line-within : at + n ≤ length text
-    line-within = omega (arith, run-le C.Line (drop at text), length-drop at text)
-
-    first : linesOf (drop at text) ≡ line ∷ linesOf (drop (at + n + 1) text)
-    first = lines-at text at h ∙ ap (λ (m : ℕ). take m (drop at text) ∷ linesOf (drop (at + m + 1) text)) (sym e) ∙ ap (λ (m : ℕ). take m (drop at text) ∷ linesOf (drop (at + n + 1) text)) back
-      where
-        back : n ≡ at + n - at
-        back = omega arith
+    line = lineAt text at n h e
 
     abbrev rest : Reading
     rest = walk (linesOf (drop (at + n + 1) text)) (i + 1) (numbersAfter (meaningOf line) given ns) (givenAfter (meaningOf line) given)
 
     at-line : readingOf text ≡ onward (notedOf (meaningOf line) given) i rest
-    at-line = w .reading ∙ ap (λ (l : List (List ℕ)). walk l i ns given) first ∙ walk-line line (linesOf (drop (at + n + 1) text)) i ns given
+    at-line = w .reading ∙ ap (λ (l : List (List ℕ)). walk l i ns given) (line-next text at n h e) ∙ walk-line line (linesOf (drop (at + n + 1) text)) i ns given
 
     pub line-refused : (old : List ℤ) (f : Fault) → notedOf (meaningOf line) given ≡ N.Refused f → Answered old (T.Refused i f) old
     line-refused old f q = answered old (refused i f) (at-line ∙ ap (λ (m : Noted). onward m i rest) q)
@@ -92,7 +83,7 @@ module _ (text given : List ℕ) (ns : List ℤ) (at i : ℕ) (w : Walked text g
         record {
           reading = at-line ∙ ap (λ (m : Noted). onward m i rest) q ∙ rw (p, r);
           lines = omega (arith, w .lines);
-          place = omega (arith, line-within);
+          place = omega (arith, line-within text at n h e);
           marks = lm;
           fields = la;
         }

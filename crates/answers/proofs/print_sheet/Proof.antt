@@ -1,4 +1,4 @@
--- `answers::print_sheet` meets its contract: what was written fits the room. Assumes nothing.
+-- `answers::print_sheet` meets its contract: what was written fits the room, and printing leaves the room as the sheet left it. Assumes nothing.
 use mathlib.Core.Path.{sym, _∙_}
 use native.Mathlib.Omega.{arith}
 use lib.Seq.{length-take-le}
@@ -36,13 +36,13 @@ same-length : tie.Need-same-length
 same-length c = search needs
 
 returns : tie.Need-returns
-returns c = search needs
+returns c = c .before .before .before .before .before .before .before .sheet .ensures .1 .0
 
 same-length-2 : tie.Need-same-length-2
 same-length-2 c = search needs
 
 returns-2 : tie.Need-returns-2
-returns-2 c = search needs
+returns-2 c = c .before .before .before .before .before .before .sheet .ensures .1 .0
 
 pub print-sheet-spec : {M : Type 1} → statement M
 print-sheet-spec =

@@ -5,8 +5,8 @@ use borrow.Author.Needs.{needs}
 use lib.ListN.{length, drop}
 use Rattle.typed.specs.declared.Class.the-variants as C
 use Rattle.typed.specs.Text.{runOf}
-use Rattle.typed.specs.TextLaws.{rest-is}
-use Rattle.typed.specs.FieldLaws.{Finding, finding-start, finding-none, finding-hit, finding-more, within}
+use Rattle.typed.specs.TextLaws.{rest-is, line-within}
+use Rattle.typed.specs.FieldLaws.{Finding, finding-start, finding-none, finding-hit, finding-more}
 use Rattle.typed.proofs.find.Statement.{statement}
 use Rattle.typed.proofs.find.Tie as tie
 
@@ -25,7 +25,7 @@ module _ (c : tie.After-run Inv-loop μ-loop) where
   ran = c .run .ensures .0 ∙ ap (runOf C.Line) (rest-is (loop .before .before .before .before .args .names .now) (loop .before .loop .at))
 
   inside : loop .before .loop .at + c .run .result ≤ length (loop .before .before .before .before .args .names .now)
-  inside = within _ _ _ _ _ (loop .before .loop .inv) (loop .loop-test .taken) ran
+  inside = line-within _ _ _ (loop .loop-test .taken) ran
 
 loop-holds : tie.Need-loop-holds Inv-loop μ-loop
 loop-holds c = finding-start _ _

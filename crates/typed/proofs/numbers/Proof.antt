@@ -5,11 +5,11 @@ use borrow.Author.Needs.{needs}
 use lib.ListN.{length, drop}
 use Rattle.typed.specs.declared.Class.the-variants as C
 use Rattle.typed.specs.Text.{runOf}
-use Rattle.typed.specs.TextLaws.{rest-is}
+use Rattle.typed.specs.TextLaws.{rest-is, line-within}
 use Rattle.typed.specs.declared.Line.{Line}
 use Rattle.typed.specs.Typed.{meaningOf, InFields}
 use Rattle.typed.specs.TypedLaws.{Noting, meaning-in}
-use Rattle.typed.specs.WalkLaws.{Walked, walk-start, end-missing, end-all, line, line-within, line-refused, line-taken}
+use Rattle.typed.specs.WalkLaws.{Walked, walk-start, end-missing, end-all, line, line-refused, line-taken}
 use Rattle.typed.proofs.numbers.Statement.{statement}
 use Rattle.typed.proofs.numbers.Tie as tie
 
@@ -31,7 +31,7 @@ module _ (c : tie.After-run Inv-loop μ-loop) where
   ran = c .run .ensures .0 ∙ ap (runOf C.Line) (rest-is (loop .before .before .before .args .text .now) (loop .before .loop .at))
 
   inside : loop .before .loop .at + c .run .result ≤ length (loop .before .before .before .args .text .now)
-  inside = line-within _ _ _ _ _ walked _ (loop .loop-test .taken) ran
+  inside = line-within _ _ _ (loop .loop-test .taken) ran
 
 -- the line as it was noted
 module _ (c : tie.After-note Inv-loop μ-loop) where
