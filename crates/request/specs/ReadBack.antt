@@ -18,10 +18,10 @@ use Rattle.records.specs.Records.{twoAt, fourAt}
 use Rattle.input.specs.declared.Input.the-variants as I
 use Rattle.input.specs.Input.{signed, shapeHolds, elementAt, elementsBy, elementsOf, stationOf, windowOf, requestOf, inputOf}
 use Rattle.input.specs.InputLaws.{signed-below, signed-above, elements-same, input-is}
-use Rattle.requests.specs.declared.Answer.the-variants.{Done}
-use Rattle.requests.specs.Requests.{number, lows, highs, fit, complement, inTwo, inFour, inFours, elementsBytes, stationBytes, windowBytes, bytesOf, putBy, putOf}
+use Rattle.request_bytes.specs.declared.Answer.the-variants.{Done}
+use Rattle.request_bytes.specs.Requests.{number, lows, highs, fit, complement, inTwo, inFour, inFours, elementsBytes, stationBytes, windowBytes, bytesOf, putBy, putOf}
 use Rattle.request.specs.Typed.{stationFrom, windowFrom, requestFrom}
-use Rattle.requests.specs.PutLaws.{complement-above, complement-small, between, element-between, size-four, size-number, size-first, size-last, length-elements, length-bytes}
+use Rattle.request_bytes.specs.PutLaws.{complement-above, complement-small, between, element-between, size-four, size-number, size-first, size-last, length-elements, length-bytes}
 
 -- ---- one number
 

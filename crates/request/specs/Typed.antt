@@ -9,8 +9,8 @@ use Rattle.circumstances.specs.declared.Window.{Window}
 use Rattle.circumstances.specs.declared.Request.{Request}
 use Rattle.input.specs.declared.Input.the-variants as I
 use Rattle.input.specs.Input.{elementsBy, inputOf}
-use Rattle.requests.specs.Requests.{number, bytesOf}
-use Rattle.typed.specs.Typed.{Reading, numbers, refused}
+use Rattle.request_bytes.specs.Requests.{number, bytesOf}
+use Rattle.request_text.specs.Typed.{Reading, numbers, refused}
 
 -- the request of 28 numbers, in document 01's order
 unfoldable pub stationFrom : List ℤ → Station

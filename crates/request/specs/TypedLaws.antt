@@ -11,15 +11,15 @@ use Rattle.numbers.specs.Order.{zs, ltZ-true}
 use Rattle.numbers.specs.declared.Limits.{Limits}
 use Rattle.numbers.specs.declared.Limits.the-variants as Limit
 use Rattle.numbers.specs.Limits.{outside, firstOutside}
-use Rattle.requests.specs.declared.Answer.the-variants.{Done}
-use Rattle.requests.specs.Requests.{lows, highs, fit, bytesOf, putOf, bytesAfter}
-use Rattle.requests.specs.PutLaws.{put-done}
+use Rattle.request_bytes.specs.declared.Answer.the-variants.{Done}
+use Rattle.request_bytes.specs.Requests.{lows, highs, fit, bytesOf, putOf, bytesAfter}
+use Rattle.request_bytes.specs.PutLaws.{put-done}
 use Rattle.input.specs.Input.{inputOf}
-use Rattle.typed.specs.declared.Fault.{Fault}
-use Rattle.typed.specs.declared.Typed.the-variants as T
-use Rattle.typed.specs.Fields.{Field, fields}
-use Rattle.typed.specs.Typed.{Reading, numbers, refused, readingOf, answerOf, numbersFrom}
-use Rattle.typed.specs.WalkLaws.{Fit, numbers-fit}
+use Rattle.request_text.specs.declared.Fault.{Fault}
+use Rattle.request_text.specs.declared.Typed.the-variants as T
+use Rattle.request_text.specs.Fields.{Field, fields}
+use Rattle.request_text.specs.Typed.{Reading, numbers, refused, readingOf, answerOf, numbersFrom}
+use Rattle.request_text.specs.WalkLaws.{Fit, numbers-fit}
 use Rattle.request.specs.Typed.{bytesFrom, ReadAs}
 use Rattle.request.specs.ReadBack.{done-fits, read-back}
 

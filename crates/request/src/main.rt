@@ -3,10 +3,10 @@
 use libc::STDERR_FILENO;
 use libc::STDIN_FILENO;
 use libc::STDOUT_FILENO;
-use typed::Fault;
-use typed::Typed;
+use request_text::Fault;
+use request_text::Typed;
 ghost use mathlib.Core.Path.{_≡_};
-ghost use Rattle.typed.specs.Typed.{readingOf, answerOf};
+ghost use Rattle.request_text.specs.Typed.{readingOf, answerOf};
 ghost use Rattle.request.specs.Typed.{bytesFrom, ReadAs};
 
 // The bytes of a typed request; or its fault, and the bytes as they were.
@@ -16,11 +16,11 @@ fn encode(text: &[u8], out: &mut [u8; 109]) -> Typed
     ensures read_as { λ r. ⌜ ReadAs (readingOf (now (text .entry))) (now (out .exit)) ⌝ }
 {
     let mut numbers = [0i64; 28];
-    let answer = typed::numbers(text, &mut numbers);
+    let answer = request_text::numbers(text, &mut numbers);
     if let Typed::Refused(_, _) = answer {
         return answer;
     }
-    requests::put(&numbers, out);
+    request_bytes::put(&numbers, out);
     answer
 }
 

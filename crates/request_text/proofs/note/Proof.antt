@@ -1,0 +1,73 @@
+-- `request_text::note` meets its contract: each arm is a case of the definitions. Assumes nothing.
+use Prim.Native.Nat.{_≤_, _<_}
+use lib.IntN.{natAbs}
+use Rattle.numbers.specs.Code.{read-back}
+use native.Mathlib.Omega.{arith}
+use Rattle.request_text.specs.TypedLaws.{note-nothing, note-faulty, note-twice, note-given, in-fields}
+use borrow.Author.Needs.{needs}
+use Rattle.request_text.proofs.note.Statement.{statement}
+use Rattle.request_text.proofs.note.Tie as tie
+
+-- the field given is one of the 28
+field : (c : tie.After-known-told2) → (c .before .line2 .given .0 .0 < 28) × (natAbs (c .before .line2 .given .0 .1 .0) ≤ 4294967296)
+field c = in-fields _ _ _ (c .before .before .before .pre .1 .1) (c .before .line2 .given .1)
+
+enum-told : tie.Need-enum-told
+enum-told c = search needs
+
+enum-known-line : tie.Need-enum-known-line
+enum-known-line c = search needs
+
+enum-known-line-2 : tie.Need-enum-known-line-2
+enum-known-line-2 c = search needs
+
+slice-read-if1 : tie.Need-slice-read-if1
+slice-read-if1 c = let f = field (c .before) in omega arith
+
+returns : tie.Need-returns
+returns c = note-twice _ _ _ _ _ (c .before .before .before .line2 .given .1) (c .if1 .taken)
+
+slice-write-given : tie.Need-slice-write-given
+slice-write-given c = let f = field (c .before .before) in omega arith
+
+mul-value : tie.Need-mul-value
+mul-value c = let f = field (c .before .before) in record { fits = omega arith }
+
+slice-set-from-value : tie.Need-slice-set-from-value
+slice-set-from-value c = let f = field (c .before .before) in omega arith
+
+returns-2 : tie.Need-returns-2
+returns-2 c = note-nothing _ _ _ (c .enum-told .given .1)
+
+returns-3 : tie.Need-returns-3
+returns-3 c = note-faulty _ _ _ _ (c .before .line .given .1)
+
+same-length : tie.Need-same-length
+same-length c = search needs
+
+same-length-2 : tie.Need-same-length-2
+same-length-2 c = search needs
+
+returns-4 : tie.Need-returns-4
+returns-4 c =
+    let told = c .before .before in
+    let z = told .before .line2 .given .0 .1 .0 in
+    rw (read-back z (field told .1) tt) (note-given _ _ _ _ z (told .before .line2 .given .1) (c .if1 .left))
+
+pub note-spec : {M : Type 1} → statement M
+note-spec =
+    tie.close
+    (tie.spec
+    enum-told
+    enum-known-line
+    enum-known-line-2
+    slice-read-if1
+    returns
+    slice-write-given
+    mul-value
+    slice-set-from-value
+    returns-2
+    returns-3
+    same-length
+    same-length-2
+    returns-4)

@@ -1,0 +1,66 @@
+-- `request_text::value_of` meets its contract: what the units say (`value-by`). Assumes nothing.
+use mathlib.Core.Path.{_≡_, sym, ap, _∙_}
+use Prim.Native.Nat.{ℕ}
+use Rattle.request_text.specs.declared.Units.{Units}
+use Rattle.request_text.specs.declared.Class.the-variants as C
+use Rattle.request_text.specs.Numbers.{unitsOf}
+use Rattle.request_text.specs.NumberLaws.{units-small}
+use Rattle.request_text.specs.Fields.{placesOf}
+use Rattle.request_text.specs.Typed.{valueOf}
+use Rattle.request_text.specs.TypedLaws.{ofUnits, value-by}
+use borrow.Author.Needs.{needs}
+use Rattle.request_text.proofs.value_of.Statement.{statement}
+use Rattle.request_text.proofs.value_of.Tie as tie
+
+-- the units found decide
+told : (c : tie.After-units-in) (u : Units) → c .units-in .result ≡ u → ofUnits (c .before .before .before .before .args .field) (c .before .start .result) u ≡ valueOf (c .before .before .before .before .args .field) (c .before .before .before .before .args .word .now)
+told c u e =
+    ap (λ (x : Units). ofUnits (c .before .before .before .before .args .field) (c .before .start .result) x) (sym e ∙ c .units-in .ensures)
+    ∙ ap (λ (p : ℕ). ofUnits (c .before .before .before .before .args .field) (c .before .start .result) (unitsOf p (c .before .before .before .before .args .word .now))) (c .before .before .places-of .ensures)
+    ∙ ap (λ (m : ℕ). ofUnits (c .before .before .before .before .args .field) m (unitsOf (placesOf (c .before .before .before .before .args .field)) (c .before .before .before .before .args .word .now))) (c .before .start .ensures .0)
+    ∙ value-by _ _
+
+places-of-requires : tie.Need-places-of-requires
+places-of-requires c κs = search needs
+
+start-requires : tie.Need-start-requires
+start-requires c κs = search needs
+
+units-in-requires : tie.Need-units-in-requires
+units-in-requires c κs = search needs
+
+enum-known-found : tie.Need-enum-known-found
+enum-known-found c = search needs
+
+fit-requires : tie.Need-fit-requires
+fit-requires c κs = units-small _ _ _ (sym (c .before .before .before .units-in .ensures) ∙ c .before .found .given .1)
+
+enum-told : tie.Need-enum-told
+enum-told c = search needs
+
+enum-told-2 : tie.Need-enum-told-2
+enum-told-2 c = search needs
+
+returns : tie.Need-returns
+returns c = c .fit .ensures ∙ told (c .before .before .before .before) _ (c .before .before .found .given .1)
+
+returns-2 : tie.Need-returns-2
+returns-2 c = told (c .before .before) _ (c .enum-told .given .1)
+
+returns-3 : tie.Need-returns-3
+returns-3 c = told (c .before .before) _ (c .enum-told2 .given .1)
+
+pub value-of-spec : {M : Type 1} → statement M
+value-of-spec =
+    tie.close
+    (tie.spec
+    places-of-requires
+    start-requires
+    units-in-requires
+    enum-known-found
+    fit-requires
+    enum-told
+    enum-told-2
+    returns
+    returns-2
+    returns-3)
