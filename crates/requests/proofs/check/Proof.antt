@@ -1,9 +1,9 @@
--- `circumstances::check` meets its contract: the window, then the elements, then the station; the first that is out of range answers. Assumes nothing.
+-- `requests::check` meets its contract: the window, then the elements, then the station; the first that is out of range answers. Assumes nothing.
 use mathlib.Core.Path.{sym, _∙_}
 use borrow.Author.Needs.{needs}
-use Rattle.circumstances.specs.LimitsLaws.{not-true, not-false, checked-window, checked-element, checked-station, checked-within}
-use Rattle.circumstances.proofs.check.Statement.{statement}
-use Rattle.circumstances.proofs.check.Tie as tie
+use Rattle.requests.specs.RequestLaws.{not-true, not-false, checked-window, checked-element, checked-station, checked-within}
+use Rattle.requests.proofs.check.Statement.{statement}
+use Rattle.requests.proofs.check.Tie as tie
 
 window-holds-requires : tie.Need-window-holds-requires
 window-holds-requires c κs = search needs

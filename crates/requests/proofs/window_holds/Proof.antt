@@ -1,8 +1,8 @@
--- `circumstances::window_holds` meets its contract: the three tests, on numbers read back from their bits. Assumes nothing.
+-- `requests::window_holds` meets its contract: the three tests, on numbers read back from their bits. Assumes nothing.
 use Rattle.numbers.specs.Code.{read-result}
-use Rattle.circumstances.specs.Requests.{windowHolds}
-use Rattle.circumstances.proofs.window_holds.Statement.{statement}
-use Rattle.circumstances.proofs.window_holds.Tie as tie
+use Rattle.requests.specs.Windows.{windowHolds}
+use Rattle.requests.proofs.window_holds.Statement.{statement}
+use Rattle.requests.proofs.window_holds.Tie as tie
 
 returns : tie.Need-returns
 unfolding windowHolds

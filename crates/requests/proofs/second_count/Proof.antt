@@ -1,4 +1,4 @@
--- `circumstances::seconds` meets its contract: the last second is not before the first, so the difference is a natural number. Assumes nothing.
+-- `requests::second_count` meets its contract: the last second is not before the first, so the difference is a natural number. Assumes nothing.
 use mathlib.Core.Path.{ap, _∙_}
 use mathlib.Core.List.{[], _∷_}
 use Prim.Native.Nat.{suc}
@@ -7,9 +7,10 @@ use native.Mathlib.Numerals.{add-one}
 use lib.IntN.{ℤ, natAbs}
 use Rattle.numbers.specs.Order.{minus-nonneg}
 use Rattle.numbers.specs.Code.{Code, arg, sub, run, Within, whole, ends, _▹_, fits, runs, within, unsigned}
-use Rattle.circumstances.specs.LimitsLaws.{window-sizes}
-use Rattle.circumstances.proofs.seconds.Statement.{statement}
-use Rattle.circumstances.proofs.seconds.Tie as tie
+use Rattle.requests.specs.Windows.{secondCount}
+use Rattle.requests.specs.WindowLaws.{window-sizes}
+use Rattle.requests.proofs.second_count.Statement.{statement}
+use Rattle.requests.proofs.second_count.Tie as tie
 
 bounds : (c : tie.After-struct-told) → Within (whole (c .before .before .args .w .last) ∷ whole (c .before .before .args .w .first) ∷ []) (10800 ∷ 10800 ∷ [])
 bounds c =
@@ -29,7 +30,10 @@ add-result : tie.Need-add-result
 add-result c = record { fits = omega (arith, within (bounds c) difference 21600 tt) }
 
 returns : tie.Need-returns
-returns c = add-one (natAbs (run (whole (c .before .before .args .w .last) ∷ whole (c .before .before .args .w .first) ∷ []) difference)) ∙ ap (λ (z : ℤ). suc (natAbs z)) (runs (bounds c) difference tt)
+unfolding secondCount
+returns c =
+    let w = c .before .before .args .w in
+    add-one (natAbs (run (whole (w .last) ∷ whole (w .first) ∷ []) difference)) ∙ ap (λ (z : ℤ). suc (natAbs z)) (runs (bounds c) difference tt)
 
-pub seconds-spec : {M : Type 1} → statement M
-seconds-spec = tie.close (tie.spec sub-result cast-result add-result returns)
+pub second-count-spec : {M : Type 1} → statement M
+second-count-spec = tie.close (tie.spec sub-result cast-result add-result returns)

@@ -1,0 +1,5 @@
+pub mod Windows
+pub mod Refusals
+pub mod Requests
+pub mod WindowLaws
+pub mod RequestLaws
