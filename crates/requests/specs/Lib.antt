@@ -1,5 +1,4 @@
 pub mod Windows
-pub mod Refusals
 pub mod Requests
 pub mod WindowLaws
 pub mod RequestLaws

@@ -10,9 +10,9 @@ use Rattle.elements.specs.Elements as E
 use Rattle.elements.specs.Sizes as ES
 use Rattle.station.specs.Station as S
 use Rattle.requests.specs.declared.Request.{Request}
-use Rattle.requests.specs.declared.Refusal.the-variants as R
-use Rattle.requests.specs.declared.Checked.{Checked}
-use Rattle.requests.specs.declared.Checked.the-variants as C
+use Rattle.refusals.specs.declared.Checked.{Checked}
+use Rattle.refusals.specs.declared.Checked.the-variants as C
+use Rattle.refusals.specs.Refusals.{refusal}
 use Rattle.requests.specs.Windows.{windowHolds}
 use Rattle.requests.specs.WindowLaws.{WindowHolds, window-holds}
 use Rattle.requests.specs.Requests.{byStation, byElements, checked}
@@ -31,7 +31,7 @@ unfolding checked
 in-limits q e = go (windowHolds (q .window)) (E.rangeOf (q .elements)) (S.rangeOf (q .station)) refl refl refl e
   where
     go : (b : Bool) (x y : Limits) → windowHolds (q .window) ≡ b → E.rangeOf (q .elements) ≡ x → S.rangeOf (q .station) ≡ y
-        → cond b (byElements x (byStation y)) (C.Refused R.Window) ≡ C.Within → InLimits q
+        → cond b (byElements x (byStation y)) (C.Refused (refusal 1 0)) ≡ C.Within → InLimits q
     go true L.Within L.Within eb ex ey e =
         record { window = window-holds (q .window) eb; elements = ES.sized (q .elements) ex; station = S.sized (q .station) ey }
     go true L.Within (L.Outside k) eb ex ey e = absurd (subst isWithin (sym e) tt)
@@ -49,16 +49,16 @@ not-false false e = sym e
 
 -- ---- the four ways of a check
 module _ (q : Request) where
-  pub checked-window : windowHolds (q .window) ≡ false → checked q ≡ C.Refused R.Window
+  pub checked-window : windowHolds (q .window) ≡ false → checked q ≡ C.Refused (refusal 1 0)
   unfolding checked
   checked-window eb = rw eb
 
   module _ (eb : windowHolds (q .window) ≡ true) where
-    pub checked-element : {k : ℕ} → E.rangeOf (q .elements) ≡ L.Outside k → checked q ≡ C.Refused (R.Element k)
+    pub checked-element : {k : ℕ} → E.rangeOf (q .elements) ≡ L.Outside k → checked q ≡ C.Refused (refusal 2 k)
     unfolding checked
     checked-element ex = rw (eb, ex)
 
-    pub checked-station : {k : ℕ} → E.rangeOf (q .elements) ≡ L.Within → S.rangeOf (q .station) ≡ L.Outside k → checked q ≡ C.Refused (R.Station k)
+    pub checked-station : {k : ℕ} → E.rangeOf (q .elements) ≡ L.Within → S.rangeOf (q .station) ≡ L.Outside k → checked q ≡ C.Refused (refusal 3 k)
     unfolding checked
     checked-station ex ey = rw (eb, ex, ey)
 

@@ -5,19 +5,21 @@ use Rattle.numbers.specs.declared.Limits.the-variants as L
 use Rattle.elements.specs.Elements as E
 use Rattle.station.specs.Station as S
 use Rattle.requests.specs.declared.Request.{Request}
-use Rattle.requests.specs.declared.Refusal.the-variants as R
-use Rattle.requests.specs.declared.Checked.{Checked}
-use Rattle.requests.specs.declared.Checked.the-variants as C
+use Rattle.refusals.specs.declared.Checked.{Checked}
+use Rattle.refusals.specs.declared.Checked.the-variants as C
+use Rattle.refusals.specs.Refusals.{refusal}
 use Rattle.requests.specs.Windows.{windowHolds}
 
--- "Requests: 10, 1, 2, 3, 4": of these the numbers raise 1, the window; then 2, the elements; then 3, the station
+-- "Requests: 10, 1, 2, 3, 4". Of these the numbers raise "1 | window outside its range | 0",
+-- then "2 | an element outside its range | first such field, 0..21",
+-- then "3 | a station value outside its range | first: 0 number, 1 latitude, 2 longitude, 3 height"
 abbrev pub byStation : Limits → Checked
 byStation L.Within = C.Within
-byStation (L.Outside field) = C.Refused (R.Station field)
+byStation (L.Outside field) = C.Refused (refusal 3 field)
 
 abbrev pub byElements : Limits → Checked → Checked
 byElements L.Within next = next
-byElements (L.Outside field) next = C.Refused (R.Element field)
+byElements (L.Outside field) next = C.Refused (refusal 2 field)
 
 unfoldable pub checked : Request → Checked
-checked q = cond (windowHolds (q .window)) (byElements (E.rangeOf (q .elements)) (byStation (S.rangeOf (q .station)))) (C.Refused R.Window)
+checked q = cond (windowHolds (q .window)) (byElements (E.rangeOf (q .elements)) (byStation (S.rangeOf (q .station)))) (C.Refused (refusal 1 0))

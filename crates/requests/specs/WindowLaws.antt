@@ -3,16 +3,20 @@
 --   last-is, seconds-few                      the last second by its number; at most 21,601 of them
 --   second-low, second-high, second-size      the k-th second lies in the window, and so within 10,800
 --   next-second, not-last                     the second after the k-th
-use mathlib.Core.Path.{_≡_, refl, ap}
+--   each-length, each-at, each-is             a number for each second
+use mathlib.Core.Path.{_≡_, refl, sym, ap, _∙_}
 use mathlib.Core.Bool.{Bool, true, false, _&&_}
-use Prim.Native.Nat.{ℕ, _+_, _≤_, _<_}
+use mathlib.Core.List.{List}
+use Prim.Native.Nat.{ℕ, zero, suc, _+_, _≤_, _<_}
 use native.Mathlib.Omega.{arith}
 use lib.IntN.{ℤ, pos, negℤ, natAbs, _+ℤ_, _-ℤ_}
+use lib.ListN.{length, getD}
+use lib.Seq.{ext-getD}
 use lib.Signed.{leZ, _≤ℤ_}
 use Rattle.numbers.specs.Parts.{posP, negP, sum, opposite, same}
 use Rattle.numbers.specs.Order.{zs, ≤-parts, leZ-true, both-ways, natAbs-by, natAbs-parts, nonneg, minus-nonneg}
 use Rattle.requests.specs.declared.Window.{Window}
-use Rattle.requests.specs.Windows.{windowHolds, inSpan, InWindow, nthSecond, secondCount}
+use Rattle.requests.specs.Windows.{windowHolds, inSpan, InWindow, nthSecond, secondCount, listOf, eachSecond}
 
 pub record WindowHolds (w : Window) : Type 0 where
   pub low : negℤ (pos 10800) ≤ℤ w .first
@@ -127,3 +131,28 @@ module _ (w : Window) (h : WindowHolds w) where
         ap negP last-is,
         sum (w .first) (pos between) .is,
       )
+
+-- ---- a number for each second
+list-length : (f : ℕ → ℕ) (n : ℕ) → length (listOf f n) ≡ n
+list-length f zero = refl
+list-length f (suc n) = ap suc (list-length (λ k. f (suc k)) n)
+
+list-at : (f : ℕ → ℕ) (n k : ℕ) → k < n → getD (listOf f n) k 0 ≡ f k
+list-at f zero k h = absurd (omega arith)
+list-at f (suc n) zero h = refl
+list-at f (suc n) (suc k) h = list-at (λ j. f (suc j)) n k (omega arith)
+
+module _ (w : Window) (f : ℤ → ℕ) where
+  pub each-length : length (eachSecond w f) ≡ secondCount w
+  unfolding eachSecond
+  each-length = list-length (λ k. f (nthSecond w k)) (secondCount w)
+
+  pub each-at : (k : ℕ) → k < secondCount w → getD (eachSecond w f) k 0 ≡ f (nthSecond w k)
+  unfolding eachSecond
+  each-at k h = list-at (λ k. f (nthSecond w k)) (secondCount w) k h
+
+  -- the only list that has them
+  pub each-is : (l : List ℕ) → length l ≡ secondCount w → ((k : ℕ) → k < secondCount w → getD l k 0 ≡ f (nthSecond w k)) → l ≡ eachSecond w f
+  each-is l e h =
+      ext-getD 0 l (eachSecond w f) (e ∙ sym each-length)
+      (λ k b. let j : k < secondCount w = omega (arith, e) in h k j ∙ sym (each-at k j))

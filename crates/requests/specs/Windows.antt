@@ -1,6 +1,7 @@
 -- A window: its range, and its seconds, counted from 0. Definitions only.
 use mathlib.Core.Bool.{Bool, _&&_}
-use Prim.Native.Nat.{ℕ, suc}
+use mathlib.Core.List.{List, [], _∷_}
+use Prim.Native.Nat.{ℕ, zero, suc}
 use lib.IntN.{ℤ, pos, negℤ, natAbs, _+ℤ_, _-ℤ_}
 use lib.Signed.{leZ, _≤ℤ_}
 use Rattle.requests.specs.declared.Window.{Window}
@@ -24,3 +25,12 @@ nthSecond w k = w .first +ℤ pos k
 -- how many seconds it has, first and last among them
 unfoldable pub secondCount : Window → ℕ
 secondCount w = suc (natAbs (w .last -ℤ w .first))
+
+-- f 0, f 1, .. f (n - 1)
+abbrev pub listOf : (ℕ → ℕ) → ℕ → List ℕ
+listOf f zero = []
+listOf f (suc n) = f 0 ∷ listOf (λ k. f (suc k)) n
+
+-- a number for each second, from the first to the last
+unfoldable pub eachSecond : Window → (ℤ → ℕ) → List ℕ
+eachSecond w f = listOf (λ k. f (nthSecond w k)) (secondCount w)

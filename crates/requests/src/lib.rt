@@ -1,10 +1,11 @@
 // A request: the elements of an eclipse, a station and a window of seconds. Its limits, and the refusals 1, 2 and 3.
+use refusals::Checked;
+use refusals::Refusal;
 ghost use mathlib.Core.Path.{_≡_};
 ghost use Prim.Native.Nat.{_<_};
 ghost use lib.IntN.{pos, _+ℤ_};
 ghost use Rattle.requests.specs.Windows.{inSpan, windowHolds, secondCount, nthSecond};
 ghost use Rattle.requests.specs.Requests.{checked};
-ghost use Rattle.requests.specs.Refusals.{numberOf, placeOf};
 ghost use Rattle.requests.specs.WindowLaws.{WindowHolds};
 
 // First and last second of the window, from the reference instant: -10,800 ≤ first ≤ last ≤ 10,800.
@@ -18,44 +19,6 @@ pub struct Request {
     pub elements: elements::Elements,
     pub station: station::Station,
     pub window: Window,
-}
-
-// Why a request is refused. The numbers of document 01: 1, 2, 3.
-pub enum Refusal {
-    // the window is outside its range
-    Window,
-    // an element is outside its range: the first such field, 0 to 21
-    Element(usize),
-    // a station value is outside its range: 0 number, 1 latitude, 2 longitude, 3 height
-    Station(usize),
-}
-
-// What the numbers of a request give.
-pub enum Checked {
-    Within,
-    Refused(Refusal),
-}
-
-// Document 01's number of a refusal.
-pub fn number_of(refusal: Refusal) -> u32
-    ensures { λ r. ⌜ r ≡ numberOf refusal ⌝ }
-{
-    match refusal {
-        Refusal::Window => 1,
-        Refusal::Element(_) => 2,
-        Refusal::Station(_) => 3,
-    }
-}
-
-// Its place.
-pub fn place_of(refusal: Refusal) -> usize
-    ensures { λ r. ⌜ r ≡ placeOf refusal ⌝ }
-{
-    match refusal {
-        Refusal::Window => 0,
-        Refusal::Element(field) => field,
-        Refusal::Station(field) => field,
-    }
 }
 
 // Whether a window may have that second.
@@ -78,17 +41,26 @@ pub fn check(q: Request) -> Checked
     let w = q.window;
     let holds = window_holds(w);
     if !holds {
-        return Checked::Refused(Refusal::Window);
+        return Checked::Refused(Refusal {
+            number: 1,
+            place: 0,
+        });
     }
     let e = q.elements;
     let of_elements = elements::in_range(e);
     if let numbers::Limits::Outside(field) = of_elements {
-        return Checked::Refused(Refusal::Element(field));
+        return Checked::Refused(Refusal {
+            number: 2,
+            place: field,
+        });
     }
     let s = q.station;
     let of_station = station::in_range(s);
     if let numbers::Limits::Outside(field) = of_station {
-        return Checked::Refused(Refusal::Station(field));
+        return Checked::Refused(Refusal {
+            number: 3,
+            place: field,
+        });
     }
     Checked::Within
 }
