@@ -8,7 +8,7 @@ use Rattle.phases.specs.declared.Phase.{Phase}
 use Rattle.phases.specs.States.{code}
 use Rattle.requests.specs.Windows.{secondCount}
 use Rattle.requests.specs.WindowLaws.{low-second, each-length, each-at}
-use Rattle.records.specs.StoredSeconds.{stored, secondStored}
+use Rattle.records.specs.StoredSeconds.{stored, secondOf}
 use Rattle.records.specs.StoredSecondLaws.{stored-later, second-stored}
 use Rattle.courses.specs.Courses.{Course, second, statesOf}
 use Rattle.courses.specs.Sound.{Sound}
@@ -30,5 +30,5 @@ module _ (c : Course) (s : Sound c) where
   stored-at k = stored-later (c .window .first) k (s .window .low)
 
   -- and read back
-  pub second-at : (k : ℕ) → secondStored (first + k) ≡ second c k
-  second-at k = ap secondStored (sym (stored-at k)) ∙ second-stored (second c k) (low-second (c .window) (s .window) k)
+  pub second-at : (k : ℕ) → secondOf (first + k) ≡ second c k
+  second-at k = ap secondOf (sym (stored-at k)) ∙ second-stored (second c k) (low-second (c .window) (s .window) k)

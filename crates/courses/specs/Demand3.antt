@@ -22,7 +22,7 @@ use Rattle.contacts.specs.Exact.{Change, howMany, ExactEnds, neither, Alternate
 use Rattle.records.specs.declared.Kind.{Kind}
 use Rattle.records.specs.declared.Kind.the-variants as K
 use Rattle.records.specs.declared.Entry.{Entry}
-use Rattle.records.specs.StoredSeconds.{secondStored}
+use Rattle.records.specs.StoredSeconds.{secondOf}
 use Rattle.sheets.specs.Sheets.{sheet, readSheet}
 use Rattle.courses.specs.Courses.{Course, sheetOf}
 
@@ -57,7 +57,7 @@ module _ (c : Course) (x : ExactAnswers) where
 
   -- exactly inside at the second that is stored as k
   abbrev pub InsideAt : Phase → ℕ → Type 0
-  InsideAt φ k = x .Inside φ (secondStored k)
+  InsideAt φ k = x .Inside φ (secondOf k)
 
   -- of the buffer in which n bytes were written; the entries are those that a reader finds there
   pub record Demand3 (n : ℕ) (buffer : List ℕ) : Type 0 where
@@ -67,7 +67,7 @@ module _ (c : Course) (x : ExactAnswers) where
     -- "whose entries are those that document 01 makes from our program's answers"
     pub made : found ≡ sheetOf c
     -- "each change of the exact answer from one second of the window to the next lies in exactly one entry of the penumbra"
-    pub changes : (φ : Phase) → Listed φ (c .phases) → (k : ℕ) → InWindow (c .window) (secondStored k) → InWindow (c .window) (secondStored (k + 1))
+    pub changes : (φ : Phase) → Listed φ (c .phases) → (k : ℕ) → InWindow (c .window) (secondOf k) → InWindow (c .window) (secondOf (k + 1))
         → Change (InsideAt φ) k → howMany k (entriesIn φ found) ≡ 1
     -- "Each enter runs from a second exactly outside to one exactly inside, each leave the other way, so neither is given where no change is."
     pub ends : (φ : Phase) → Listed φ (c .phases) → All (ExactEnds (InsideAt φ)) (entriesIn φ found)

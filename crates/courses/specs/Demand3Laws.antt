@@ -29,7 +29,7 @@ use Rattle.contacts.specs.Alternate.{alternate}
 use Rattle.contacts.specs.Shifted.{shifted, how-many-shifted, alternate-shifted, ends-shifted}
 use Rattle.records.specs.declared.Entry.{Entry}
 use Rattle.records.specs.Entries.{end}
-use Rattle.records.specs.StoredSeconds.{stored, secondStored}
+use Rattle.records.specs.StoredSeconds.{stored, secondOf}
 use Rattle.records.specs.StoredSecondLaws.{stored-is}
 use Rattle.courses.specs.Courses.{Course, second, statesOf, entryOf, phaseEntries, entriesOf, headEntry, closestEntry, sheetOf}
 use Rattle.courses.specs.Demand3.{ExactAnswers, inKind, entriesIn, EachSecond, InsideAt}
@@ -118,7 +118,7 @@ module _ (c : Course) (s : Sound c) (x : ExactAnswers) (said : EachSecond c x) (
       (λ k h e. said-at k h .outside-is (code-outside (c .state φ (second c k)) (sym (byte-at k h) ∙ e)))
 
   -- the second stored as n is second n - first of the window
-  numbered : (n : ℕ) → InWindow (c .window) (secondStored n) → n ≡ first c s + (n - first c s)
+  numbered : (n : ℕ) → InWindow (c .window) (secondOf n) → n ≡ first c s + (n - first c s)
   numbered n w =
       let f = stored-is (c .window .first) (s .window .low) in
       omega (
@@ -131,7 +131,7 @@ module _ (c : Course) (s : Sound c) (x : ExactAnswers) (said : EachSecond c x) (
         sum (c .window .first) (pos 10800) .is,
       )
 
-  pub changes-once : (n : ℕ) → InWindow (c .window) (secondStored n) → InWindow (c .window) (secondStored (n + 1)) → Change (InsideAt c x φ) n
+  pub changes-once : (n : ℕ) → InWindow (c .window) (secondOf n) → InWindow (c .window) (secondOf (n + 1)) → Change (InsideAt c x φ) n
       → howMany n (entriesIn φ (sheetOf c)) ≡ 1
   changes-once n w v change =
       let k = n - first c s in
@@ -140,13 +140,13 @@ module _ (c : Course) (s : Sound c) (x : ExactAnswers) (said : EachSecond c x) (
       ∙ how-many-shifted (first c s) k (entries (statesOf c φ))
       ∙ each-change-in-one In (statesOf c φ) agrees k (before k (rw e at v)) (here k (rw e at change))
     where
-      next : (k : ℕ) → secondStored (first c s + k + 1) ≡ second c (k + 1)
-      next k = ap secondStored (more (first c s) k) ∙ second-at c s (k + 1)
+      next : (k : ℕ) → secondOf (first c s + k + 1) ≡ second c (k + 1)
+      next k = ap secondOf (more (first c s) k) ∙ second-at c s (k + 1)
         where
           more : (a k : ℕ) → a + k + 1 ≡ a + (k + 1)
           more a k = omega arith
 
-      before : (k : ℕ) → InWindow (c .window) (secondStored (first c s + k + 1)) → k + 1 < length (statesOf c φ)
+      before : (k : ℕ) → InWindow (c .window) (secondOf (first c s + k + 1)) → k + 1 < length (statesOf c φ)
       before k v =
           omega (
             arith,
@@ -159,7 +159,7 @@ module _ (c : Course) (s : Sound c) (x : ExactAnswers) (said : EachSecond c x) (
           (subst (λ (y : ℤ). (x .Inside φ y × InsideNot k) ⊎ ((x .Inside φ y → ⊥) × InsideNext k)) (second-at c s k) h)
         where
           InsideNext : ℕ → Type 0
-          InsideNext k = x .Inside φ (secondStored (first c s + k + 1))
+          InsideNext k = x .Inside φ (secondOf (first c s + k + 1))
 
           InsideNot : ℕ → Type 0
           InsideNot k = InsideNext k → ⊥
