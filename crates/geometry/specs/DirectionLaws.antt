@@ -1,6 +1,6 @@
 -- What callers use of the direction.
---   quarter-is, largest-unique     within a quarter it is the largest k in 0..899 that reaches, and the only one
---   largest-here, largest-down     a loop that goes down from 899; unsigned-here, unsigned-down where nothing is negative
+--   quarter-is, largest-unique     within a quarter it is the largest k in 0..899 that reaches, and the only one:
+--                                  so a search by halving that ends at such a k has found it
 --   direction-first .. direction-none   the five cases, each by its signs
 --   direction-limit                at most 3599, or 65,535
 --   direction-diagonal, direction-south   document 01's two examples
@@ -14,32 +14,10 @@ use lib.IntN.{ℤ, pos, negsuc, negℤ, _*ℤ_, *ℤ-zero}
 use lib.Signed.{ltZ, leZ, _≤ℤ_, _<ℤ_, leZ-yes, ltZ-yes, clashℤ}
 use Rattle.numbers.specs.Order.{zs, <ℤ-≤, leZ-true, leZ-false, *ℤ-nonneg}
 use Rattle.geometry.specs.Tests.{yes-≤, no-≤, yes-<, no-<, both, not-left, not-right}
-use Rattle.geometry.specs.Direction.{reaches, largest, quarter, direction}
-
--- k is the largest in 0..n with u·S[900-k] ≥ v·S[k]
-pub record Largest (S : ℕ → ℕ) (u v : ℤ) (n k : ℕ) : Type 0 where
-  pub small : k ≤ n
-  pub holds : (v *ℤ pos (S k)) ≤ℤ (u *ℤ pos (S (900 - k)))
-  pub above : (j : ℕ) → k < j → j ≤ n → (u *ℤ pos (S (900 - j))) <ℤ (v *ℤ pos (S j))
+use Rattle.geometry.specs.Direction.{Largest, reaches, largest, quarter, direction}
 
 -- ---- one quarter
 module _ (S : ℕ → ℕ) (u v : ℤ) where
-  pub largest-here : (k : ℕ) → (v *ℤ pos (S k)) ≤ℤ (u *ℤ pos (S (900 - k))) → largest S u v k ≡ k
-  unfolding largest
-  largest-here zero h = refl
-  largest-here (suc k) h = ap (λ (t : Bool). cond t (suc k) (largest S u v k)) (yes-≤ h)
-
-  down : (k : ℕ) → (u *ℤ pos (S (900 - suc k))) <ℤ (v *ℤ pos (S (suc k))) → largest S u v (suc k) ≡ largest S u v k
-  unfolding largest
-  down k h = ap (λ (t : Bool). cond t (suc k) (largest S u v k)) (no-≤ h)
-
-  pub largest-down : (k : ℕ) → 0 < k → (u *ℤ pos (S (900 - k))) <ℤ (v *ℤ pos (S k)) → largest S u v k ≡ largest S u v (k - 1)
-  largest-down zero p h = absurd (omega arith)
-  largest-down (suc k) p h = down k h ∙ ap (largest S u v) (less-one k)
-    where
-      less-one : (k : ℕ) → k ≡ suc k - 1
-      less-one k = omega arith
-
   pub largest-le : (n : ℕ) → largest S u v n ≤ n
   unfolding largest
   largest-le zero = omega arith
@@ -87,14 +65,6 @@ module _ (S : ℕ → ℕ) (u v : ℤ) where
     pub quarter-is : Largest S u v 899 (quarter S u v)
     unfolding quarter
     quarter-is = largest-is 899
-
--- the loop where nothing is negative
-module _ (S : ℕ → ℕ) (a b k : ℕ) where
-  pub unsigned-here : b * S k ≤ a * S (900 - k) → largest S (pos a) (pos b) k ≡ k
-  unsigned-here h = largest-here S (pos a) (pos b) k (omega (arith, zs))
-
-  pub unsigned-down : 0 < k → a * S (900 - k) < b * S k → largest S (pos a) (pos b) k ≡ largest S (pos a) (pos b) (k - 1)
-  unsigned-down p h = largest-down S (pos a) (pos b) k p (omega (arith, zs))
 
 -- ---- the five cases
 -- the first of four tests that is true decides

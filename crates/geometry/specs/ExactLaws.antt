@@ -10,8 +10,10 @@ use Rattle.numbers.specs.Order.{leZ-true, ltZ-true, both-ways}
 use Rattle.numbers.specs.Ring.{num, _⊗_, v0, v1, v2}
 use Rattle.numbers.specs.Cert.{leq, less, lit, _⊞_, _⊠_, certify, certify-<}
 use Rattle.geometry.specs.Tests.{is-false, yes-≤, yes-<, both, and-parts}
-use Rattle.geometry.specs.Shadow.{Moment, Cone, _², Phase}
-use Rattle.geometry.specs.Exact.{exact-M, exact-radius, Less, AtLeast, ExactlyInside, ExactlyOutside, exactlyInside?}
+use Rattle.phases.specs.declared.Phase.{Phase}
+use Rattle.elements.specs.declared.Cone.{Cone}
+use Rattle.geometry.specs.Shadow.{Moment, _²}
+use Rattle.geometry.specs.Exact.{exact-M, exact-edge, Less, AtLeast, ExactlyInside, ExactlyOutside, exactlyInside?}
 
 pub less-mono : (s b c : ℤ) → b ≤ℤ c → Less s b → Less s c
 less-mono s b c h l =
@@ -32,8 +34,8 @@ module _ (φ : Phase) (m : Moment) (k : Cone) where
   pub true-exactly : exactlyInside? φ m k ≡ true → ExactlyInside φ m k
   unfolding exactlyInside?
   true-exactly e =
-      let (h, i) = and-parts (leZ (pos 0) (exact-radius φ m k)) (ltZ (exact-M m) (exact-radius φ m k ²)) e in
-      record { sign = leZ-true (pos 0) (exact-radius φ m k) h; square = ltZ-true (exact-M m) (exact-radius φ m k ²) i }
+      let (h, i) = and-parts (leZ (pos 0) (exact-edge φ m k)) (ltZ (exact-M m) (exact-edge φ m k ²)) e in
+      record { sign = leZ-true (pos 0) (exact-edge φ m k) h; square = ltZ-true (exact-M m) (exact-edge φ m k ²) i }
 
   pub exactly-false : ExactlyOutside φ m k → exactlyInside? φ m k ≡ false
   exactly-false o = is-false (λ e. o (true-exactly e))

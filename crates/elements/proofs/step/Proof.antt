@@ -7,7 +7,8 @@ use native.Mathlib.Nat.{le-refl}
 use lib.IntN.{ℤ, natAbs, _+ℤ_, _*ℤ_}
 use Rattle.numbers.specs.Near.{near}
 use Rattle.numbers.specs.Code.{Code, arg, add, mul, Within, whole, ends, _▹_, fits, runs, within}
-use Rattle.elements.specs.Polynomial.{hour, step}
+use Rattle.numbers.specs.Units.{hour}
+use Rattle.elements.specs.Polynomial.{step}
 use Rattle.elements.specs.PolynomialLaws.{part-size, step-size}
 use Rattle.elements.proofs.step.Statement.{statement}
 use Rattle.elements.proofs.step.Tie as tie

@@ -1,17 +1,17 @@
--- `numbers::first_outside` meets its contract: what is found from place i on is what is found in all. Assumes nothing.
+-- `numbers::first_out_of_range` meets its contract: what is found from place i on is what is found in all. Assumes nothing.
 use mathlib.Core.Path.{_≡_, refl, sym, _∙_}
 use Prim.Native.Nat.{_-_, _≤_}
 use native.Mathlib.Omega.{arith}
 use borrow.Author.Needs.{needs}
 use lib.ListN.{length, drop}
-use Rattle.numbers.specs.Limits.{firstOutside}
+use Rattle.numbers.specs.Limits.{firstOutOfRange, rows}
 use Rattle.numbers.specs.LimitsLaws.{search-low, search-high, search-on, search-end}
-use Rattle.numbers.proofs.first_outside.Statement.{statement}
-use Rattle.numbers.proofs.first_outside.Tie as tie
+use Rattle.numbers.proofs.first_out_of_range.Statement.{statement}
+use Rattle.numbers.proofs.first_out_of_range.Tie as tie
 
 abbrev Inv-loop : tie.InvT-loop
 Inv-loop values lows highs i₀ i =
-    (i ≤ length values) × (firstOutside 0 values lows highs ≡ firstOutside i (drop i values) (drop i lows) (drop i highs))
+    (i ≤ length values) × (firstOutOfRange 0 (rows values lows highs) ≡ firstOutOfRange i (rows (drop i values) (drop i lows) (drop i highs)))
 
 abbrev μ-loop : tie.MeasureT-loop
 μ-loop values lows highs i₀ i = length values - i
@@ -80,8 +80,8 @@ returns-3 c =
     let a = at .before .args in
     sym (at .loop .inv .1 ∙ search-end (a .values .now) (a .lows .now) (a .highs .now) (at .loop .i) (omega arith))
 
-pub first-outside-spec : {M : Type 1} → statement M
-first-outside-spec =
+pub first-out-of-range-spec : {M : Type 1} → statement M
+first-out-of-range-spec =
     tie.close
     (tie.spec
     Inv-loop
