@@ -3,7 +3,7 @@
 -- proves of any states that agree with exact answers then holds of them.
 use mathlib.Core.Path.{_≡_, refl, sym, subst, ap, ap₂, _∙_}
 use mathlib.Core.Bool.{Bool, true, false}
-use mathlib.Core.List.{List, [], _∷_, _++_, map, append-nil}
+use mathlib.Core.List.{List, [], _∷_, _++_, map, append-nil, append-assoc}
 use mathlib.Core.Logic.{_⊎_}
 use Prim.Native.Nat.{ℕ, _+_, _-_, _≤_, _<_}
 use native.Mathlib.Omega.{arith}
@@ -13,9 +13,9 @@ use lib.Signed.{_≤ℤ_}
 use Rattle.numbers.specs.Parts.{posP, negP, sum, opposite}
 use Rattle.numbers.specs.Order.{≤-parts}
 use Rattle.phases.specs.declared.Phase.{Phase}
-use Rattle.phases.specs.Phases.{same, Listed, times}
-use Rattle.phases.specs.States.{SaidRightly}
-use Rattle.phases.specs.PhaseLaws.{same-own, code-inside, code-outside}
+use Rattle.phases.specs.Phases.{same, one-if, Listed, times}
+use Rattle.phases.specs.States.{SaidRightly, code}
+use Rattle.phases.specs.PhaseLaws.{same-is, code-inside, code-outside}
 use Rattle.requests.specs.Windows.{InWindow, secondCount}
 use Rattle.requests.specs.WindowLaws.{second-in, next-second, not-last}
 use Rattle.contacts.specs.declared.Entry as Contact
@@ -67,24 +67,29 @@ module _ (c : Course) (s : Sound c) (φ : Phase) where
   none-in : (φs : List Phase) → times φ φs ≡ 0 → entriesIn φ (entriesOf c φs) ≡ []
   unfolding phaseEntries
   none-in [] e = refl
-  none-in (ψ ∷ φs) e = go (same φ ψ) refl
+  none-in (ψ ∷ φs) e = go (same φ ψ) refl e (none-in φs)
     where
-      go : (b : Bool) → same φ ψ ≡ b → entriesIn φ (phaseEntries c ψ ++ entriesOf c φs) ≡ []
-      go true o = absurd (omega (arith, rw o at e))
-      go false o = in-append φ (phaseEntries c ψ) (entriesOf c φs) ∙ ap₂ _++_ (all-other ψ o (entries (statesOf c ψ))) (none-in φs (rw o at e))
+      go : (b : Bool) → same φ ψ ≡ b → one-if b + times φ φs ≡ 0 → (times φ φs ≡ 0 → entriesIn φ (entriesOf c φs) ≡ [])
+          → entriesIn φ (phaseEntries c ψ ++ entriesOf c φs) ≡ []
+      go true o e rest = absurd (omega arith)
+      go false o e rest = in-append φ (phaseEntries c ψ) (entriesOf c φs) ∙ ap₂ _++_ (all-other ψ o (entries (statesOf c ψ))) (rest (omega arith))
 
-  one-in : (φs : List Phase) → times φ φs ≡ 1 → entriesIn φ (entriesOf c φs) ≡ map (shifted (first c s)) (entries (statesOf c φ))
+  abbrev own : Phase → List Contact.Entry
+  own ψ = map (shifted (first c s)) (entries (statesOf c ψ))
+
+  one-in : (φs : List Phase) → times φ φs ≡ 1 → entriesIn φ (entriesOf c φs) ≡ own φ
   unfolding phaseEntries
   one-in [] e = absurd (omega arith)
-  one-in (ψ ∷ φs) e = go (same φ ψ) refl
+  one-in (ψ ∷ φs) e = go (same φ ψ) refl e (one-in φs)
     where
-      go : (b : Bool) → same φ ψ ≡ b → entriesIn φ (phaseEntries c ψ ++ entriesOf c φs) ≡ map (shifted (first c s)) (entries (statesOf c φ))
-      go true o =
+      go : (b : Bool) → same φ ψ ≡ b → one-if b + times φ φs ≡ 1 → (times φ φs ≡ 1 → entriesIn φ (entriesOf c φs) ≡ own φ)
+          → entriesIn φ (phaseEntries c ψ ++ entriesOf c φs) ≡ own φ
+      go true o e rest =
           in-append φ (phaseEntries c ψ) (entriesOf c φs)
-          ∙ ap₂ _++_ (all-own ψ o (entries (statesOf c ψ))) (none-in φs (omega (arith, rw o at e)))
-          ∙ append-nil (map (shifted (first c s)) (entries (statesOf c ψ)))
-          ∙ ap (λ (χ : Phase). map (shifted (first c s)) (entries (statesOf c χ))) (sym (same-is φ ψ o))
-      go false o = in-append φ (phaseEntries c ψ) (entriesOf c φs) ∙ ap₂ _++_ (all-other ψ o (entries (statesOf c ψ))) (one-in φs (rw o at e))
+          ∙ ap₂ _++_ (all-own ψ o (entries (statesOf c ψ))) (none-in φs (omega arith))
+          ∙ append-nil (own ψ)
+          ∙ ap own (sym (same-is φ ψ o))
+      go false o e rest = in-append φ (phaseEntries c ψ) (entriesOf c φs) ∙ ap₂ _++_ (all-other ψ o (entries (statesOf c ψ))) (rest (omega arith))
 
   pub entries-in-sheet : Listed φ (c .phases) → entriesIn φ (sheetOf c) ≡ map (shifted (first c s)) (entries (statesOf c φ))
   unfolding sheetOf headEntry closestEntry

@@ -14,12 +14,12 @@ use Rattle.requests.specs.Windows.{windowHolds}
 -- then "2 | an element outside its range | first such field, 0..21",
 -- then "3 | a station value outside its range | first: 0 number, 1 latitude, 2 longitude, 3 height"
 abbrev pub byStation : Limits → Checked
-byStation L.Within = C.Within
-byStation (L.Outside field) = C.Refused (refusal 3 field)
+byStation L.InRange = C.Within
+byStation (L.OutOfRange field) = C.Refused (refusal 3 field)
 
 abbrev pub byElements : Limits → Checked → Checked
-byElements L.Within next = next
-byElements (L.Outside field) next = C.Refused (refusal 2 field)
+byElements L.InRange next = next
+byElements (L.OutOfRange field) next = C.Refused (refusal 2 field)
 
 unfoldable pub checked : Request → Checked
 checked q = cond (windowHolds (q .window)) (byElements (E.rangeOf (q .elements)) (byStation (S.rangeOf (q .station)))) (C.Refused (refusal 1 0))

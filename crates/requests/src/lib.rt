@@ -48,7 +48,7 @@ pub fn check(q: Request) -> Checked
     }
     let e = q.elements;
     let of_elements = elements::in_range(e);
-    if let numbers::Limits::Outside(field) = of_elements {
+    if let numbers::Limits::OutOfRange(field) = of_elements {
         return Checked::Refused(Refusal {
             number: 2,
             place: field,
@@ -56,7 +56,7 @@ pub fn check(q: Request) -> Checked
     }
     let s = q.station;
     let of_station = station::in_range(s);
-    if let numbers::Limits::Outside(field) = of_station {
+    if let numbers::Limits::OutOfRange(field) = of_station {
         return Checked::Refused(Refusal {
             number: 3,
             place: field,

@@ -1,16 +1,25 @@
--- A part of a buffer filled place by place.
+-- The states of all seconds of a request, phase after phase in one buffer; and how a part of a buffer is filled place by place.
 use mathlib.Core.Path.{_≡_, refl, sym, ap, _∙_}
 use mathlib.Core.List.{List}
 use mathlib.Core.Logic.{⊎-elim}
-use Prim.Native.Nat.{ℕ, _+_, _≤_, _<_}
+use Prim.Native.Nat.{ℕ, _+_, _*_, _≤_, _<_}
 use lib.IntN.{ℤ}
 use native.Mathlib.Omega.{arith}
 use native.Mathlib.Nat.{eq-or-lt-of-le}
 use lib.ListN.{length, getD, set, take, drop, length-drop}
 use lib.Seq.{length-take-le, getD-take, getD-drop, getD-set-same, getD-set-other}
+use Rattle.phases.specs.declared.Phase.the-variants.{Penumbra}
+use Rattle.phases.specs.Phases.{eclipse}
 use Rattle.requests.specs.declared.Window.{Window}
+use Rattle.requests.specs.declared.Request.{Request}
 use Rattle.requests.specs.Windows.{nthSecond, secondCount, eachSecond}
 use Rattle.requests.specs.WindowLaws.{each-is}
+use Rattle.seconds.specs.Seconds.{statesOf}
+
+-- the k-th phase of an eclipse has the k-th stretch
+pub record AllStates (q : Request) (l : List ℕ) : Type 0 where
+  pub stretch : (k : ℕ) → k < length eclipse
+      → take (secondCount (q .window)) (drop (k * secondCount (q .window)) l) ≡ statesOf q (getD eclipse k Penumbra)
 
 -- from place `at` on stand f 0, f 1, .. f (n - 1)
 pub record Filled (f : ℕ → ℕ) (at n : ℕ) (l : List ℕ) : Type 0 where
