@@ -12,8 +12,8 @@ use Rattle.numbers.specs.Order.{zs}
 use Rattle.sine.specs.Table.{S}
 use Rattle.sine.specs.TableLaws.{entry-0}
 use Rattle.sine.specs.Rising.{S-rises}
-use Rattle.geometry.specs.Direction.{quarter}
-use Rattle.geometry.specs.DirectionLaws.{Largest, largest-unique, quarter-is}
+use Rattle.geometry.specs.Direction.{Largest, quarter}
+use Rattle.geometry.specs.DirectionLaws.{largest-unique, quarter-is}
 use Rattle.shadow.proofs.quarter.Statement.{statement}
 use Rattle.shadow.proofs.quarter.Tie as tie
 
