@@ -1,15 +1,16 @@
 // The shadow at one second: where the station is in it, and what is seen there.
+pub mod directions;
+
 ghost use mathlib.Core.Path.{_≡_};
 ghost use Prim.Native.Nat.{_≤_};
 ghost use lib.IntN.{pos, natAbs, _*ℤ_};
 ghost use lib.Signed.{_≤ℤ_, _<ℤ_};
 ghost use Rattle.numbers.specs.Value.{Value};
-ghost use Rattle.sine.specs.Table.{S, Sines};
+ghost use Rattle.sine.specs.Table.{Sines};
 ghost use Rattle.elements.specs.Sizes.{AxisSizes, ConeSizes, ElementSizes};
 ghost use Rattle.station.specs.Sizes.{PlaceSizes};
 ghost use Rattle.geometry.specs.Shadow.{state};
 ghost use Rattle.geometry.specs.Magnitude.{millionths, magnitude};
-ghost use Rattle.geometry.specs.Direction.{quarter, direction};
 ghost use Rattle.shadow.specs.Shadow.{IsOrientation, OrientationSizes, AreCoordinates, radiusAt, IsOffset, IsShadow};
 ghost use Rattle.shadow.specs.State.{code, stateOf};
 ghost use Rattle.shadow.specs.Second.{ShadowSizes, StatesOf, IsStates, IsSecond};
@@ -215,58 +216,6 @@ pub fn magnitude(l1: i64, l2: i64, m: i64, central: u8) -> u32
     share(l1 - distance as i64, sum)
 }
 
-fn wide(x: u32) -> u64
-    ensures { λ r. ⌜ r ≡ x ⌝ }
-{
-    x as u64
-}
-
-// The direction within a quarter, tenths of a degree, of an axis that lies u across and v along. As k grows the one side rises
-// and the other falls, so the largest k is found by halving: low reaches, and nothing from high to 899 does.
-fn quarter(table: &[u32], u: u64, v: u64) -> u16
-    requires { ⌜ (Sines (now table)) × (u ≤ 1000000000) × (v ≤ 1000000000) ⌝ }
-    ensures { λ r. ⌜ r ≡ quarter S (pos u) (pos v) ⌝ }
-{
-    let mut low = 0;
-    let mut high = 900;
-    while low + 1 < high {
-        let k = (low + high) / 2;
-        let rising = wide(sine::entry(table, k));
-        let falling = wide(sine::entry(table, 900 - k));
-        if v * rising <= u * falling {
-            low = k;
-        } else {
-            high = k;
-        }
-    }
-    low as u16
-}
-
-// The direction of the axis that lies u to the east and v to the north: tenths of a degree, north through east; 65,535 at the axis itself.
-pub fn direction(table: &[u32], u: i64, v: i64) -> u16
-    requires { ⌜ (Sines (now table)) × (natAbs u ≤ 1000000000) × (natAbs v ≤ 1000000000) ⌝ }
-    ensures { λ r. ⌜ r ≡ direction S u v ⌝ }
-{
-    let a = numbers::abs(u) as u64;
-    let b = numbers::abs(v) as u64;
-    if u < 0 {
-        if v < 0 {
-            return 1800 + quarter(table, a, b);
-        }
-        return 2700 + quarter(table, b, a);
-    }
-    if 0 < v {
-        return quarter(table, a, b);
-    }
-    if 0 < u {
-        return 900 + quarter(table, b, a);
-    }
-    if v < 0 {
-        return 1800 + quarter(table, a, b);
-    }
-    65_535
-}
-
 // The states of a shadow under a guard.
 fn states_of(guard: i64, s: Shadow) -> States
     requires { ⌜ (natAbs guard ≤ 1000) × (ShadowSizes s) ⌝ }
@@ -313,7 +262,7 @@ pub fn second_at(
     let s = shadow_at(table, e, place, t);
     let w = states_of(guard, s);
     let magnitude = magnitude(s.l1, s.l2, s.m, w.central);
-    let direction = direction(table, s.u, s.v);
+    let direction = directions::direction(table, s.u, s.v);
     Second {
         shadow: s,
         penumbra: w.penumbra,
