@@ -2,6 +2,7 @@
 use mathlib.Core.Path.{_≡_}
 use Prim.Native.Nat.{ℕ, _≤_}
 use native.Mathlib.Omega.{arith}
+use lib.Dec.{lit≤}
 use lib.IntN.{pos, natAbs}
 use lib.Signed.{_≤ℤ_}
 use Rattle.numbers.specs.declared.Limits.the-variants.{InRange}
@@ -49,6 +50,12 @@ pub record ElementSizes (e : Elements) : Type 0 where
 -- sizes that are wider
 pub wider : {A B C D E F : ℕ} {q : Quadratic} → QuadraticSizes A B C q → A ≤ D → B ≤ E → C ≤ F → QuadraticSizes D E F q
 wider h a b c = record { c0 = omega (arith, h .c0); c1 = omega (arith, h .c1); c2 = omega (arith, h .c2) }
+
+pub wider-axis : {D E : ℕ} {a : Axis} → AxisSizes D a → D ≤ E → AxisSizes E a
+wider-axis h l = record { x = h .x; y = h .y; d = wider (h .d) l (lit≤ tt) (lit≤ tt); mu = h .mu }
+
+pub wider-cone : {A B : ℕ} {k : Cone} → ConeSizes A k → A ≤ B → ConeSizes B k
+wider-cone h l = record { l = wider (h .l) l (lit≤ tt) (lit≤ tt); tanf = h .tanf }
 
 -- elements that are in their ranges have these sizes
 pub element-sizes : (e : Elements) → rangeOf e ≡ InRange → ElementSizes e

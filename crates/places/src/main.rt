@@ -1,8 +1,7 @@
 // Reads stations from standard input, 8 bytes each: latitude in 10^-6 degree and height in metres, signed, 4 bytes big-endian.
 // Prints for each a line: latitude, height, R and P; or `refused` after the two where one is outside its range.
-ghost use Prim.Native.Nat.{_≤_};
-ghost use lib.IntN.{natAbs};
 ghost use Rattle.sine.specs.Table.{Sines};
+ghost use Rattle.station.specs.Sizes.{StationSizes};
 
 // Four bytes as one number, the highest first.
 fn unsigned(a: u8, b: u8, c: u8, d: u8) -> u32 {
@@ -18,10 +17,10 @@ fn signed(x: u32) -> i64 {
     }
 }
 
-fn print_place(table: &[u32], latitude: i64, height: i64)
-    requires { ⌜ (Sines (now table)) × (natAbs latitude ≤ 90000000) × (natAbs height ≤ 9000) ⌝ }
+fn print_place(table: &[u32], s: station::Station)
+    requires { ⌜ (Sines (now table)) × (StationSizes s) ⌝ }
 {
-    let place = station::geocentric(table, latitude, height);
+    let place = station::geocentric(table, s);
     printing::print_next(place.r);
     printing::print_next(place.p);
 }
@@ -39,8 +38,8 @@ fn print_station(table: &[u32], latitude: i64, height: i64)
     };
     let range = station::in_range(record);
     match range {
-        numbers::Limits::Within => print_place(table, latitude, height),
-        numbers::Limits::Outside(_) => print_refused(),
+        numbers::Limits::InRange => print_place(table, record),
+        numbers::Limits::OutOfRange(_) => print_refused(),
     }
     printing::end_line();
 }

@@ -1,7 +1,7 @@
--- `places::print_station` is safe: where the record is within its ranges, latitude and height are what `geocentric` asks for.
+-- `places::print_station` is safe: where the record is within its ranges, it has the sizes that `geocentric` asks for.
 use mathlib.Core.Path.{sym, _∙_}
 use borrow.Author.Needs.{needs}
-use Rattle.station.specs.Station.{sized}
+use Rattle.station.specs.Sizes.{station-sizes}
 use Rattle.places.proofs.print_station.Statement.{statement}
 use Rattle.places.proofs.print_station.Tie as tie
 
@@ -19,8 +19,7 @@ enum-told c = search needs
 
 print-place-requires : tie.Need-print-place-requires
 print-place-requires c κs =
-    let s = sized _ (sym (c .before .before .in-range .ensures) ∙ c .enum-told .given .1) in
-    (c .before .before .before .before .before .before .pre, s .latitude, s .height)
+    (c .before .before .before .before .before .before .pre, station-sizes _ (sym (c .before .before .in-range .ensures) ∙ c .enum-told .given .1))
 
 enum-told-2 : tie.Need-enum-told-2
 enum-told-2 c = search needs

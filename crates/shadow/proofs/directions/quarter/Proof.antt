@@ -12,10 +12,10 @@ use Rattle.numbers.specs.Order.{zs}
 use Rattle.sine.specs.Table.{S}
 use Rattle.sine.specs.TableLaws.{entry-0}
 use Rattle.sine.specs.Rising.{S-rises}
-use Rattle.geometry.specs.Direction.{quarter}
-use Rattle.geometry.specs.DirectionLaws.{Largest, largest-unique, quarter-is}
-use Rattle.shadow.proofs.quarter.Statement.{statement}
-use Rattle.shadow.proofs.quarter.Tie as tie
+use Rattle.geometry.specs.Direction.{Largest, quarter}
+use Rattle.geometry.specs.DirectionLaws.{largest-unique, quarter-is}
+use Rattle.shadow.proofs.directions.quarter.Statement.{statement}
+use Rattle.shadow.proofs.directions.quarter.Tie as tie
 
 -- low reaches, and nothing from high to 899 does
 pub record Between (u v low high : ℕ) : Type 0 where

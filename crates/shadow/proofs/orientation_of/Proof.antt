@@ -1,4 +1,4 @@
--- `shadow::turned` meets its contract: each angle is reduced, then its sine and cosine are taken. Assumes nothing.
+-- `shadow::orientation_of` meets its contract: each angle is reduced, then its sine and cosine are taken. Assumes nothing.
 use mathlib.Core.Path.{_∙_}
 use Prim.Native.Nat.{ℕ, _≤_}
 use native.Mathlib.Omega.{arith}
@@ -6,8 +6,8 @@ use lib.IntN.{ℤ}
 use Rattle.numbers.specs.Code.{read-back, read-size}
 use Rattle.sine.specs.Sine.{IsReduced}
 use Rattle.sine.specs.SineLaws.{sine-of, cosine-of}
-use Rattle.shadow.proofs.turned.Statement.{statement}
-use Rattle.shadow.proofs.turned.Tie as tie
+use Rattle.shadow.proofs.orientation_of.Statement.{statement}
+use Rattle.shadow.proofs.orientation_of.Tie as tie
 
 -- the reduced angles
 h-is : (c : tie.After-reduced) → IsReduced (c .before .before .args .h) (c .reduced .result)
@@ -46,14 +46,14 @@ returns c =
     let sd = c .before .sine2 in
     let cd = c .cosine2 in
     record {
-      sh = read-back (sh .result) (sh .ensures .small) tt ∙ sine-of h (sh .ensures);
-      ch = read-back (ch .result) (ch .ensures .small) tt ∙ cosine-of h (ch .ensures);
-      sd = read-back (sd .result) (sd .ensures .small) tt ∙ sine-of d (sd .ensures);
-      cd = read-back (cd .result) (cd .ensures .small) tt ∙ cosine-of d (cd .ensures);
+      hsine = read-back (sh .result) (sh .ensures .small) tt ∙ sine-of h (sh .ensures);
+      hcosine = read-back (ch .result) (ch .ensures .small) tt ∙ cosine-of h (ch .ensures);
+      dsine = read-back (sd .result) (sd .ensures .small) tt ∙ sine-of d (sd .ensures);
+      dcosine = read-back (cd .result) (cd .ensures .small) tt ∙ cosine-of d (cd .ensures);
     }
 
-pub turned-spec : {M : Type 1} → statement M
-turned-spec =
+pub orientation-of-spec : {M : Type 1} → statement M
+orientation-of-spec =
     tie.close
     (tie.spec
     reduced-requires

@@ -14,8 +14,8 @@ use Rattle.numbers.specs.Code.{Code, arg, lit, Within, whole, ends, _▹_, unsi
 use Rattle.sine.specs.Table.{S}
 use Rattle.geometry.specs.Direction.{quarter, direction}
 use Rattle.geometry.specs.DirectionLaws.{quarter-le, direction-first, direction-second, direction-third, direction-fourth, direction-none}
-use Rattle.shadow.proofs.direction.Statement.{statement}
-use Rattle.shadow.proofs.direction.Tie as tie
+use Rattle.shadow.proofs.directions.direction.Statement.{statement}
+use Rattle.shadow.proofs.directions.direction.Tie as tie
 
 -- ---- sizes
 notbelow : (z : ℤ) → pos 0 ≤ℤ z → pos (natAbs z) ≡ z

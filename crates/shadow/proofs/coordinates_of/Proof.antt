@@ -1,4 +1,4 @@
--- `shadow::seated` meets its contract: each letter is one near of products of what it is handed. Assumes nothing.
+-- `shadow::coordinates_of` meets its contract: each letter is one near of products of what it is handed. Assumes nothing.
 use mathlib.Core.Path.{_≡_, sym, ap, _∙_, subst}
 use mathlib.Core.List.{[], _∷_}
 use Prim.Native.Nat.{ℕ, _*_, _≤_}
@@ -9,27 +9,30 @@ use lib.Signed.{leZ-yes}
 use mir.Syntax.{w64}
 use mir.Val.{toZ, ofZ}
 use Rattle.numbers.specs.Code.{Code, arg, add, sub, mul, Within, whole, ends, _▹_, fits, runs, within, sized, read-back}
+use Rattle.numbers.specs.Units.{one}
 use Rattle.numbers.specs.Near.{near}
 use Rattle.numbers.specs.NearLaws.{near-size}
 use Rattle.numbers.specs.Value.{Value}
-use Rattle.geometry.specs.Shadow.{one}
-use Rattle.shadow.proofs.seated.Statement.{statement}
-use Rattle.shadow.proofs.seated.Tie as tie
+use Rattle.shadow.proofs.coordinates_of.Statement.{statement}
+use Rattle.shadow.proofs.coordinates_of.Tie as tie
 
--- what is handed over: r, p, then the sines and cosines sh, ch, sd, cd
+abbrev start : tie.After-struct-told6 → tie.Start
+start c = c .before .before .before .before .before .before
+
+-- what is handed over: r, p, then sin H, cos H, sin d, cos d
 bounds : (c : tie.After-struct-told6)
     → Within
-    (whole (c .before .before .before .before .before .before .args .place .r)
-    ∷ whole (c .before .before .before .before .before .before .args .place .p)
-    ∷ whole (c .before .before .before .before .before .before .args .n .sh)
-    ∷ whole (c .before .before .before .before .before .before .args .n .ch)
-    ∷ whole (c .before .before .before .before .before .before .args .n .sd)
-    ∷ whole (c .before .before .before .before .before .before .args .n .cd)
+    (whole (start c .args .place .r)
+    ∷ whole (start c .args .place .p)
+    ∷ whole (start c .args .o .hsine)
+    ∷ whole (start c .args .o .hcosine)
+    ∷ whole (start c .args .o .dsine)
+    ∷ whole (start c .args .o .dcosine)
     ∷ [])
     (101000000 ∷ 101000000 ∷ 100000000 ∷ 100000000 ∷ 100000000 ∷ 100000000 ∷ [])
 bounds c =
-    let p = c .before .before .before .before .before .before .pre in
-    p .0 .r ▹ p .0 .p ▹ p .1 .sh ▹ p .1 .ch ▹ p .1 .sd ▹ p .1 .cd ▹ ends
+    let p = start c .pre in
+    p .0 .r ▹ p .0 .p ▹ p .1 .hsine ▹ p .1 .hcosine ▹ p .1 .dsine ▹ p .1 .dcosine ▹ ends
 
 -- near over 10^8 of what the machine computed
 unit : {n m r : ℤ} → r ≡ near n one → n ≡ m → r ≡ near m one
@@ -38,23 +41,23 @@ unit e f = e ∙ ap (λ (z : ℤ). near z one) f
 unit-size : {r : ℤ} (n : ℤ) (m : ℕ) → r ≡ near n one → natAbs n ≤ m * 100000000 → natAbs r ≤ m
 unit-size n m e h = omega (arith, ap natAbs e, near-size n one m (leZ-yes tt) h)
 
-q-is : (c : tie.After-near-unit) → c .near-unit .result ≡ near (c .before .before .before .before .before .before .before .args .place .r *ℤ c .before .before .before .before .before .before .before .args .n .ch) one
+q-is : (c : tie.After-near-unit) → c .near-unit .result ≡ near (start (c .before) .args .place .r *ℤ start (c .before) .args .o .hcosine) one
 q-is c = unit (c .near-unit .ensures) (runs (bounds (c .before)) (mul (arg 0) (arg 3)) tt)
 
 q-size : (c : tie.After-near-unit) → natAbs (c .near-unit .result) ≤ 101000000
 q-size c =
-    unit-size (c .before .before .before .before .before .before .before .args .place .r *ℤ c .before .before .before .before .before .before .before .args .n .ch) 101000000 (q-is c) (sized (bounds (c .before)) (mul (arg 0) (arg 3)))
+    unit-size (start (c .before) .args .place .r *ℤ start (c .before) .args .o .hcosine) 101000000 (q-is c) (sized (bounds (c .before)) (mul (arg 0) (arg 3)))
 
--- with q in front: q is 0, r 1, p 2, sh 3, ch 4, sd 5, cd 6
+-- with q in front: q is 0, r 1, p 2, sin H 3, cos H 4, sin d 5, cos d 6
 after : (c : tie.After-near-unit)
     → Within
     (whole (c .near-unit .result)
-    ∷ whole (c .before .before .before .before .before .before .before .args .place .r)
-    ∷ whole (c .before .before .before .before .before .before .before .args .place .p)
-    ∷ whole (c .before .before .before .before .before .before .before .args .n .sh)
-    ∷ whole (c .before .before .before .before .before .before .before .args .n .ch)
-    ∷ whole (c .before .before .before .before .before .before .before .args .n .sd)
-    ∷ whole (c .before .before .before .before .before .before .before .args .n .cd)
+    ∷ whole (start (c .before) .args .place .r)
+    ∷ whole (start (c .before) .args .place .p)
+    ∷ whole (start (c .before) .args .o .hsine)
+    ∷ whole (start (c .before) .args .o .hcosine)
+    ∷ whole (start (c .before) .args .o .dsine)
+    ∷ whole (start (c .before) .args .o .dcosine)
     ∷ [])
     (101000000 ∷ 101000000 ∷ 101000000 ∷ 100000000 ∷ 100000000 ∷ 100000000 ∷ 100000000 ∷ [])
 after c = q-size c ▹ bounds (c .before)
@@ -110,10 +113,10 @@ given {r} z m e h t = record { value = read-back r h t ∙ e; size = subst (λ (
 
 returns : tie.Need-returns
 returns c =
-    let a = c .before .before .before .before .before .before .before .before .before .before .args in
+    let a = start (c .before .before .before .before) .args in
     let r = a .place .r in
     let p = a .place .p in
-    let n = a .n in
+    let o = a .o in
     let w = after (c .before .before .before) in
     let q = c .before .before .before .near-unit .result in
     let e = q-is (c .before .before .before) in
@@ -121,15 +124,15 @@ returns c =
     let y = unit (c .before .near-unit3 .ensures) (runs w eta tt) in
     let z = unit (c .near-unit4 .ensures) (runs w zeta tt) in
     record {
-      xi = given (r *ℤ n .sh) 101000000 x (unit-size (r *ℤ n .sh) 101000000 x (sized w xi)) tt;
-      eta = subst (λ (k : ℤ). Value (near (p *ℤ n .cd -ℤ k *ℤ n .sd) one) 202000000 (toZ w64 (ofZ w64 (c .before .near-unit3 .result)))) e
-          (given (p *ℤ n .cd -ℤ q *ℤ n .sd) 202000000 y (unit-size (p *ℤ n .cd -ℤ q *ℤ n .sd) 202000000 y (sized w eta)) tt);
-      zeta = subst (λ (k : ℤ). Value (near (p *ℤ n .sd +ℤ k *ℤ n .cd) one) 202000000 (toZ w64 (ofZ w64 (c .near-unit4 .result)))) e
-          (given (p *ℤ n .sd +ℤ q *ℤ n .cd) 202000000 z (unit-size (p *ℤ n .sd +ℤ q *ℤ n .cd) 202000000 z (sized w zeta)) tt);
+      xi = given (r *ℤ o .hsine) 101000000 x (unit-size (r *ℤ o .hsine) 101000000 x (sized w xi)) tt;
+      eta = subst (λ (k : ℤ). Value (near (p *ℤ o .dcosine -ℤ k *ℤ o .dsine) one) 202000000 (toZ w64 (ofZ w64 (c .before .near-unit3 .result)))) e
+          (given (p *ℤ o .dcosine -ℤ q *ℤ o .dsine) 202000000 y (unit-size (p *ℤ o .dcosine -ℤ q *ℤ o .dsine) 202000000 y (sized w eta)) tt);
+      zeta = subst (λ (k : ℤ). Value (near (p *ℤ o .dsine +ℤ k *ℤ o .dcosine) one) 202000000 (toZ w64 (ofZ w64 (c .near-unit4 .result)))) e
+          (given (p *ℤ o .dsine +ℤ q *ℤ o .dcosine) 202000000 z (unit-size (p *ℤ o .dsine +ℤ q *ℤ o .dcosine) 202000000 z (sized w zeta)) tt);
     }
 
-pub seated-spec : {M : Type 1} → statement M
-seated-spec =
+pub coordinates-of-spec : {M : Type 1} → statement M
+coordinates-of-spec =
     tie.close
     (tie.spec
     mul-near-unit
