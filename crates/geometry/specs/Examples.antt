@@ -3,6 +3,7 @@ use mathlib.Core.Path.{_≡_, refl}
 use mathlib.Core.Bool.{true, false}
 use Prim.Native.Nat.{ℕ}
 use lib.IntN.{ℤ, pos, negsuc, _+ℤ_, _-ℤ_}
+use Rattle.phases.specs.States.{State, inside, outside, unsure}
 use Rattle.phases.specs.declared.Phase.{Phase}
 use Rattle.phases.specs.declared.Phase.the-variants.{Penumbra, Central}
 use Rattle.numbers.specs.Near.{near}
@@ -12,7 +13,7 @@ use Rattle.sine.specs.FirstQuadrant.{arc, sag, between, capped, firstQuadrant}
 use Rattle.sine.specs.Sine.{reduced, sineIn, sine, cosine}
 use Rattle.elements.specs.declared.Elements.{Elements}
 use Rattle.elements.specs.Polynomial.{step, quadraticAt, cubicAt}
-use Rattle.geometry.specs.Shadow.{Moment, moment, cone, _², H, q, ξ, η, ζ, u, v, L, M, edge, State, inside, outside, unsure, state}
+use Rattle.geometry.specs.Shadow.{Moment, moment, cone, _², H, q, ξ, η, ζ, u, v, L, M, edge, state}
 use Rattle.geometry.specs.Exact.{exact-quadratic, exact-cubic, exact-q, exact-ξ, exact-η, exact-ζ, exact-term, exact-u, exact-v, exact-L, exactlyInside?}
 use Rattle.geometry.specs.Direction.{largest, quarter, direction}
 use Rattle.geometry.specs.Magnitude.{magnitude}

@@ -2,10 +2,10 @@
 use mathlib.Core.Bool.{Bool, true, false, cond}
 use Prim.Native.Nat.{ℕ}
 use lib.IntN.{ℤ, pos, natAbs, _+ℤ_, _-ℤ_, _*ℤ_}
+use Rattle.phases.specs.States.{State, inside, outside, unsure}
 use Rattle.numbers.specs.Parts.{posP}
 use Rattle.numbers.specs.Near.{floorZ}
 use Rattle.numbers.specs.Root.{root}
-use Rattle.geometry.specs.Shadow.{State, inside, outside, unsure}
 
 -- "in millionths, rounded down: .. and 0 if that is negative": posP z is z, and 0 if z is negative
 abbrev pub millionths : (n d : ℤ) → ℕ

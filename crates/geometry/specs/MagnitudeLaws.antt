@@ -11,6 +11,7 @@ use native.Mathlib.Omega.{arith}
 use native.Mathlib.Nat.{le-refl}
 use lib.IntN.{ℤ, pos, negsuc, negℤ, natAbs, _+ℤ_, _-ℤ_, _*ℤ_}
 use lib.Signed.{_≤ℤ_, _<ℤ_, clashℤ}
+use Rattle.phases.specs.States.{State, inside, outside, unsure}
 use Rattle.numbers.specs.Parts.{posP, sum, product}
 use Rattle.numbers.specs.Order.{zs, by-contra, natAbs-parts, neg-natAbs}
 use Rattle.numbers.specs.Ring.{num, _⊕_, _⊖_, _⊗_, opp, v0, v1, v2, v3}
@@ -20,7 +21,7 @@ use Rattle.numbers.specs.Floor.{floor-is}
 use Rattle.numbers.specs.Root.{root}
 use Rattle.elements.specs.declared.Cone.{Cone}
 use Rattle.elements.specs.Sizes.{ConeSizes}
-use Rattle.geometry.specs.Shadow.{Moment, L, State, inside, outside, unsure}
+use Rattle.geometry.specs.Shadow.{Moment, L}
 use Rattle.geometry.specs.Magnitude.{millionths, isInside, magnitude}
 use Rattle.geometry.specs.Ranges.{MomentSizes}
 use Rattle.geometry.specs.Sizes.{L-size, L1-positive}

@@ -2,6 +2,7 @@
 use mathlib.Core.Bool.{_&&_, cond}
 use lib.IntN.{ℤ, pos, natAbs, _+ℤ_, _-ℤ_, _*ℤ_}
 use lib.Signed.{ltZ}
+use Rattle.phases.specs.States.{State, inside, outside, unsure}
 use Rattle.phases.specs.declared.Phase.{Phase}
 use Rattle.phases.specs.declared.Phase.the-variants.{Penumbra, Central}
 use Rattle.numbers.specs.Units.{one}
@@ -82,12 +83,6 @@ M m = u m ² +ℤ v m ²
 abbrev pub edge : Phase → ℤ → ℤ
 edge Penumbra L1 = L1
 edge Central L2 = pos (natAbs L2)
-
--- Of a station at a second in a phase. The three words, and a sure second for one that is inside or outside, are document 01's own.
-pub data State : Type 0 where
-  inside : State
-  outside : State
-  unsure : State
 
 -- "*inside* if L > 16 and M < (L-16)²; *outside* if M > (L+16)²; otherwise *unsure*", with the guard g for 16, r for L and s for M
 unfoldable pub state : (g r s : ℤ) → State

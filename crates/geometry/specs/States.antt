@@ -10,6 +10,7 @@ use Prim.Native.Nat.{ℕ, _≤_}
 use native.Mathlib.Omega.{arith}
 use lib.IntN.{ℤ, pos, negℤ, natAbs, _+ℤ_, _-ℤ_, _*ℤ_}
 use lib.Signed.{_≤ℤ_, _<ℤ_, clashℤ}
+use Rattle.phases.specs.States.{inside, outside, unsure, SaidRightly}
 use Rattle.numbers.specs.Parts.{sum}
 use Rattle.numbers.specs.Order.{zs, ≤ℤ-total, <ℤ-≤}
 use Rattle.numbers.specs.Ring.{num, _⊕_, _⊖_, _⊗_, opp, ring, v0, v1, v2, v3, v4}
@@ -18,7 +19,7 @@ use Rattle.phases.specs.declared.Phase.{Phase}
 use Rattle.phases.specs.declared.Phase.the-variants.{Penumbra, Central}
 use Rattle.elements.specs.declared.Cone.{Cone}
 use Rattle.elements.specs.Sizes.{ConeSizes}
-use Rattle.geometry.specs.Shadow.{Moment, _², L, M, edge, inside, outside, unsure, state}
+use Rattle.geometry.specs.Shadow.{Moment, _², L, M, edge, state}
 use Rattle.geometry.specs.Exact.{Less, AtLeast, DiffersAtMost, ExactlyInside, ExactlyOutside, WithinUnits}
 use Rattle.geometry.specs.ExactLaws.{less-mono, least-not-less}
 use Rattle.geometry.specs.Ranges.{MomentSizes}
@@ -27,10 +28,8 @@ use Rattle.geometry.specs.StateLaws.{state-says}
 use Rattle.geometry.specs.Thirteen.{Approximate, r-low, some-D, below, above, approximate}
 
 -- the meaning of the state at a second, in a phase, under the guard g
-pub record StatesMean (g : ℤ) (φ : Phase) (m : Moment) (k : Cone) : Type 0 where
-  pub inside-is : state g (edge φ (L m k)) (M m) ≡ inside → ExactlyInside φ m k
-  pub outside-is : state g (edge φ (L m k)) (M m) ≡ outside → ExactlyOutside φ m k
-  pub unsure-is : state g (edge φ (L m k)) (M m) ≡ unsure → WithinUnits (g +ℤ pos 13) φ m k
+abbrev pub StatesMean : (g : ℤ) (φ : Phase) (m : Moment) (k : Cone) → Type 0
+StatesMean g φ m k = SaidRightly (state g (edge φ (L m k)) (M m)) (ExactlyInside φ m k) (WithinUnits (g +ℤ pos 13) φ m k)
 
 -- ---- over any denominator, so for any shadow that is known so well
 module _ {D : ℕ} {u v r E N K : ℤ} (a : Approximate D u v r E N K) (g : ℤ) where

@@ -2,19 +2,19 @@
 use mathlib.Core.Path.{_≡_}
 use Prim.Native.Nat.{ℕ, _≤_}
 use lib.IntN.{ℤ, natAbs}
+use Rattle.phases.specs.States.{State, code}
 use Rattle.phases.specs.declared.Phase.{Phase}
 use Rattle.phases.specs.declared.Phase.the-variants.{Penumbra, Central}
 use Rattle.sine.specs.Table.{S}
 use Rattle.elements.specs.declared.Elements.{Elements}
 use Rattle.station.specs.declared.Place.{Place}
-use Rattle.geometry.specs.Shadow.{moment, cone, u, v, L, M, edge, State, state}
+use Rattle.geometry.specs.Shadow.{moment, cone, u, v, L, M, edge, state}
 use Rattle.geometry.specs.Magnitude.{magnitude}
 use Rattle.geometry.specs.Direction.{direction}
 use Rattle.shadow.specs.declared.Shadow.{Shadow}
 use Rattle.shadow.specs.declared.States.{States}
 use Rattle.shadow.specs.declared.Second.{Second}
 use Rattle.shadow.specs.Shadow.{IsShadow}
-use Rattle.shadow.specs.State.{code}
 
 -- "Penumbra, with L = L1 and M = u²+v² .. Central: the same with L the size of L2."
 unfoldable pub stateAt : (guard : ℤ) (e : Elements) (p : Place) → Phase → (τ : ℤ) → State

@@ -12,6 +12,7 @@ use Prim.Native.Nat.{_≤_}
 use native.Mathlib.Omega.{arith}
 use lib.IntN.{ℤ, pos, natAbs, _+ℤ_, _*ℤ_}
 use lib.Signed.{_≤ℤ_, _<ℤ_}
+use Rattle.phases.specs.States.{State, unsure, code}
 use Rattle.phases.specs.declared.Phase.{Phase}
 use Rattle.phases.specs.declared.Phase.the-variants.{Penumbra, Central}
 use Rattle.sine.specs.Table.{S}
@@ -19,7 +20,7 @@ use Rattle.elements.specs.declared.Elements.{Elements}
 use Rattle.elements.specs.Sizes.{ElementSizes}
 use Rattle.station.specs.declared.Place.{Place}
 use Rattle.station.specs.Sizes.{PlaceSizes}
-use Rattle.geometry.specs.Shadow.{Moment, moment, cone, u, v, L, M, edge, State, unsure, state}
+use Rattle.geometry.specs.Shadow.{Moment, moment, cone, u, v, L, M, edge, state}
 use Rattle.geometry.specs.Ranges.{MomentSizes}
 use Rattle.geometry.specs.Sizes.{u-size, v-size, M-size, L-size}
 use Rattle.geometry.specs.StateLaws.{guard-monotone}
@@ -31,7 +32,6 @@ use Rattle.geometry.specs.DirectionLaws.{direction-limit}
 use Rattle.shadow.specs.declared.Shadow.{Shadow}
 use Rattle.shadow.specs.Shadow.{IsShadow}
 use Rattle.shadow.specs.declared.States.{States}
-use Rattle.shadow.specs.State.{code}
 use Rattle.shadow.specs.Second.{stateAt, magnitudeAt, directionAt, ShadowSizes, StatesOf, IsStates}
 
 pub state-at : (guard : ℤ) (e : Elements) (p : Place) (φ : Phase) (τ : ℤ)

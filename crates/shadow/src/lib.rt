@@ -5,6 +5,7 @@ ghost use mathlib.Core.Path.{_≡_};
 ghost use Prim.Native.Nat.{_≤_};
 ghost use lib.IntN.{pos, natAbs, _*ℤ_};
 ghost use lib.Signed.{_≤ℤ_, _<ℤ_};
+ghost use Rattle.phases.specs.States.{code, stateOf};
 ghost use Rattle.numbers.specs.Value.{Value};
 ghost use Rattle.sine.specs.Table.{Sines};
 ghost use Rattle.elements.specs.Sizes.{AxisSizes, ConeSizes, ElementSizes};
@@ -12,7 +13,6 @@ ghost use Rattle.station.specs.Sizes.{PlaceSizes};
 ghost use Rattle.geometry.specs.Shadow.{state};
 ghost use Rattle.geometry.specs.Magnitude.{millionths, magnitude};
 ghost use Rattle.shadow.specs.Shadow.{IsOrientation, OrientationSizes, AreCoordinates, radiusAt, IsOffset, IsShadow};
-ghost use Rattle.shadow.specs.State.{code, stateOf};
 ghost use Rattle.shadow.specs.Second.{ShadowSizes, StatesOf, IsStates, IsSecond};
 
 // How the shadow's axis stands to the station's meridian: sines and cosines of H and d, 10^-8, each ±100,000,000.

@@ -7,13 +7,12 @@ use native.Mathlib.Nat.{mul-le-mul, lt-of-not-le}
 use lib.Dec.{T}
 use lib.IntN.{ℤ, pos, natAbs, _+ℤ_, _-ℤ_}
 use lib.Signed.{_<ℤ_}
+use Rattle.phases.specs.States.{State, inside, outside, stateOf}
 use Rattle.numbers.specs.Code.{Code, arg, add, sub, Within, whole, ends, _▹_, fits, runs, within, unsigned, read-back}
 use Rattle.numbers.specs.Root.{root}
 use Rattle.numbers.specs.RootLaws.{root-is}
-use Rattle.geometry.specs.Shadow.{State, inside, outside}
 use Rattle.geometry.specs.Magnitude.{millionths, isInside, magnitude}
 use Rattle.geometry.specs.MagnitudeLaws.{magnitude-inside, magnitude-else, magnitude-limit, sum-positive}
-use Rattle.shadow.specs.State.{stateOf}
 use Rattle.shadow.proofs.magnitude.Statement.{statement}
 use Rattle.shadow.proofs.magnitude.Tie as tie
 

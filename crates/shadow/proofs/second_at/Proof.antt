@@ -3,6 +3,7 @@
 use mathlib.Core.Path.{_≡_, sym, _∙_}
 use mir.Syntax.{w64}
 use mir.Val.{toZ, ofZ}
+use Rattle.phases.specs.PhaseLaws.{state-of-code}
 use Rattle.numbers.specs.Code.{read-back, read-size}
 use Rattle.phases.specs.declared.Phase.the-variants.{Central}
 use Rattle.geometry.specs.Shadow.{Moment, moment, u, v, L, M}
@@ -10,7 +11,6 @@ use Rattle.geometry.specs.Sizes.{M-nonneg}
 use Rattle.geometry.specs.Magnitude.{magnitude}
 use Rattle.geometry.specs.Direction.{direction}
 use Rattle.shadow.specs.Shadow.{IsShadow}
-use Rattle.shadow.specs.State.{state-of-code}
 use Rattle.shadow.specs.Second.{stateAt, ShadowSizes, IsStates}
 use Rattle.shadow.specs.SecondLaws.{magnitude-at, direction-at, L1-over, L2-within, shadow-sizes, states-of-second}
 use Rattle.shadow.proofs.second_at.Statement.{statement}
