@@ -187,7 +187,14 @@ fn write_phase(
 }
 
 // The entries of all phases from `start` on; the place after them.
-fn write_phases(table: &[u32], q: Request, place: Place, states: &[u8], buf: &mut [u8], start: usize) -> usize
+fn write_phases(
+    table: &[u32],
+    q: Request,
+    place: Place,
+    states: &[u8],
+    buf: &mut [u8],
+    start: usize,
+) -> usize
     requires { ⌜ (Sines (now table)) × (InLimits q) × (place ≡ placeOf (q .station)) ⌝ }
     requires { ⌜ (AllStates q (now states)) × (length eclipse * secondCount (q .window) ≤ length (now states)) ⌝ }
     requires { ⌜ start + length (bytesOf (entriesOf (courseOf q) eclipse)) ≤ length (now buf) ⌝ }
@@ -210,7 +217,14 @@ fn write_phases(table: &[u32], q: Request, place: Place, states: &[u8], buf: &mu
 }
 
 // The whole sheet at the buffer's start, which has room for it; its length.
-fn write_sheet(table: &[u32], q: Request, place: Place, closest: usize, states: &[u8], buf: &mut [u8]) -> usize
+fn write_sheet(
+    table: &[u32],
+    q: Request,
+    place: Place,
+    closest: usize,
+    states: &[u8],
+    buf: &mut [u8],
+) -> usize
     requires { ⌜ (Sines (now table)) × (InLimits q) × (place ≡ placeOf (q .station)) × (closest ≡ closestOf q) ⌝ }
     requires { ⌜ (AllStates q (now states)) × (length eclipse * secondCount (q .window) ≤ length (now states)) ⌝ }
     requires { ⌜ length (sheetBytes q) ≤ length (now buf) ⌝ }
@@ -227,7 +241,14 @@ fn write_sheet(table: &[u32], q: Request, place: Place, closest: usize, states: 
 }
 
 // The sheet of a request within its limits, from the states of its seconds: its length is known before the first byte.
-fn sheet_from(table: &[u32], q: Request, place: Place, closest: usize, states: &[u8], buf: &mut [u8]) -> Answer
+fn sheet_from(
+    table: &[u32],
+    q: Request,
+    place: Place,
+    closest: usize,
+    states: &[u8],
+    buf: &mut [u8],
+) -> Answer
     requires { ⌜ (Sines (now table)) × (InLimits q) × (place ≡ placeOf (q .station)) × (closest ≡ closestOf q) ⌝ }
     requires { ⌜ (AllStates q (now states)) × (length eclipse * secondCount (q .window) ≤ length (now states)) ⌝ }
     ensures { λ r. ⌜ r ≡ answerWithin q (now (buf .entry)) ⌝ }

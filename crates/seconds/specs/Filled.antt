@@ -2,24 +2,38 @@
 use mathlib.Core.Path.{_≡_, refl, sym, ap, _∙_}
 use mathlib.Core.List.{List}
 use mathlib.Core.Logic.{⊎-elim}
-use Prim.Native.Nat.{ℕ, _+_, _*_, _≤_, _<_}
+use Prim.Native.Nat.{ℕ, zero, suc, _+_, _*_, _≤_, _<_}
 use lib.IntN.{ℤ}
 use native.Mathlib.Omega.{arith}
-use native.Mathlib.Nat.{eq-or-lt-of-le}
+use native.Mathlib.Nat.{eq-or-lt-of-le, zero-mul, one-mul}
 use lib.ListN.{length, getD, set, take, drop, length-drop}
 use lib.Seq.{length-take-le, getD-take, getD-drop, getD-set-same, getD-set-other}
-use Rattle.phases.specs.declared.Phase.the-variants.{Penumbra}
+use Rattle.phases.specs.declared.Phase.{Phase}
+use Rattle.phases.specs.declared.Phase.the-variants.{Penumbra, Central}
+use Rattle.phases.specs.States.{code}
 use Rattle.phases.specs.Phases.{eclipse}
+use Rattle.elements.specs.declared.Elements.{Elements}
+use Rattle.station.specs.declared.Place.{Place}
+use Rattle.station.specs.Place.{placeOf}
+use Rattle.geometry.specs.Shadow.{moment, M}
+use Rattle.shadow.specs.Second as Shadow
 use Rattle.requests.specs.declared.Window.{Window}
 use Rattle.requests.specs.declared.Request.{Request}
 use Rattle.requests.specs.Windows.{nthSecond, secondCount, eachSecond}
 use Rattle.requests.specs.WindowLaws.{each-is}
-use Rattle.seconds.specs.Seconds.{statesOf}
+use Rattle.seconds.specs.Seconds.{guard, stateAt, statesOf}
 
 -- the k-th phase of an eclipse has the k-th stretch
 pub record AllStates (q : Request) (l : List ℕ) : Type 0 where
   pub stretch : (k : ℕ) → k < length eclipse
       → take (secondCount (q .window)) (drop (k * secondCount (q .window)) l) ≡ statesOf q (getD eclipse k Penumbra)
+
+-- a phase's byte at the k-th second, and M there
+unfoldable pub byteAt : Elements → Place → Window → Phase → ℕ → ℕ
+byteAt e p w φ k = code (Shadow.stateAt guard e p φ (nthSecond w k))
+
+unfoldable pub squareAt : Elements → Place → Window → ℕ → ℤ
+squareAt e p w k = M (moment e p (nthSecond w k))
 
 -- from place `at` on stand f 0, f 1, .. f (n - 1)
 pub record Filled (f : ℕ → ℕ) (at n : ℕ) (l : List ℕ) : Type 0 where
@@ -28,22 +42,22 @@ pub record Filled (f : ℕ → ℕ) (at n : ℕ) (l : List ℕ) : Type 0 where
 pub filled-none : (f : ℕ → ℕ) (at : ℕ) (l : List ℕ) → Filled f at 0 l
 filled-none f at l = record { stands = λ k h. absurd (omega arith) }
 
--- one more, and one set outside it
-pub filled-more : {f : ℕ → ℕ} {at n : ℕ} {l : List ℕ} (x : ℕ) → Filled f at n l → at + n < length l → x ≡ f n → Filled f at (n + 1) (set l (at + n) x)
-filled-more {f} {at} {n} {l} x d h is =
+-- one more, set at the place after them; and one set elsewhere
+pub filled-more : {f : ℕ → ℕ} {at n : ℕ} {l : List ℕ} (j x : ℕ) → Filled f at n l → j ≡ at + n → j < length l → x ≡ f n → Filled f at (n + 1) (set l j x)
+filled-more {f} {at} {n} {l} j x d e h is =
     record {
       stands = λ k b.
           ⊎-elim
-          (λ (z : k ≡ n). rw z (getD-set-same l (at + n) x 0 h ∙ is))
-          (λ (z : k < n). getD-set-other l (at + n) (at + k) x 0 (λ e. omega arith) ∙ d .stands k z)
+          (λ (z : k ≡ n). rw (z, sym e) (getD-set-same l j x 0 h ∙ is))
+          (λ (z : k < n). getD-set-other l j (at + k) x 0 (λ y. omega arith) ∙ d .stands k z)
           (eq-or-lt-of-le (less k b));
     }
   where
     less : (k : ℕ) → k < n + 1 → k ≤ n
     less k b = omega arith
 
-pub filled-beside : {f : ℕ → ℕ} {at n : ℕ} {l : List ℕ} (i x : ℕ) → Filled f at n l → ((k : ℕ) → k < n → at + k ≡ i → ⊥) → Filled f at n (set l i x)
-filled-beside {f} {at} {n} {l} i x d h = record { stands = λ k b. getD-set-other l i (at + k) x 0 (λ e. h k b (sym e)) ∙ d .stands k b }
+pub filled-beside : {f : ℕ → ℕ} {at n : ℕ} {l : List ℕ} (j x : ℕ) → Filled f at n l → ((k : ℕ) → k < n → at + k ≡ j → ⊥) → Filled f at n (set l j x)
+filled-beside {f} {at} {n} {l} j x d h = record { stands = λ k b. getD-set-other l j (at + k) x 0 (λ e. h k b e) ∙ d .stands k b }
 
 -- a number for each second of a window, as a part of the buffer
 pub filled-seconds : (w : Window) (f : ℤ → ℕ) (at : ℕ) (l : List ℕ) → at + secondCount w ≤ length l → Filled (λ k. f (nthSecond w k)) at (secondCount w) l
@@ -51,3 +65,24 @@ pub filled-seconds : (w : Window) (f : ℤ → ℕ) (at : ℕ) (l : List ℕ) �
 filled-seconds w f at l h d =
     each-is w f (take (secondCount w) (drop at l)) (length-take-le (secondCount w) (drop at l) (omega (arith, length-drop at l)))
     (λ k b. getD-take (secondCount w) (drop at l) k 0 b ∙ getD-drop at l k 0 ∙ d .stands k b)
+
+-- all phases of a request: the penumbra's states stand first, the central ones after them
+pub all-filled : (q : Request) (l : List ℕ) → length eclipse * secondCount (q .window) ≤ length l
+    → Filled (byteAt (q .elements) (placeOf (q .station)) (q .window) Penumbra) 0 (secondCount (q .window)) l
+    → Filled (byteAt (q .elements) (placeOf (q .station)) (q .window) Central) (secondCount (q .window)) (secondCount (q .window)) l
+    → AllStates q l
+unfolding byteAt stateAt
+all-filled q l h pen cen = record { stretch = go }
+  where
+    n : ℕ
+    n = secondCount (q .window)
+
+    part : (φ : Phase) (at : ℕ) → at + secondCount (q .window) ≤ length l
+        → Filled (λ k. code (Shadow.stateAt guard (q .elements) (placeOf (q .station)) φ (nthSecond (q .window) k))) at (secondCount (q .window)) l
+        → take (secondCount (q .window)) (drop at l) ≡ statesOf q φ
+    part φ at h f = filled-seconds (q .window) (λ τ. code (stateAt q φ τ)) at l h f
+
+    go : (k : ℕ) → k < length eclipse → take (secondCount (q .window)) (drop (k * secondCount (q .window)) l) ≡ statesOf q (getD eclipse k Penumbra)
+    go zero b = ap (λ (j : ℕ). take (secondCount (q .window)) (drop j l)) (zero-mul (secondCount (q .window))) ∙ part Penumbra 0 (omega arith) pen
+    go (suc zero) b = ap (λ (j : ℕ). take (secondCount (q .window)) (drop j l)) (one-mul (secondCount (q .window))) ∙ part Central (secondCount (q .window)) (omega arith) cen
+    go (suc (suc k)) b = absurd (omega arith)

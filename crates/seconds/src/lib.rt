@@ -12,7 +12,7 @@ ghost use Rattle.station.specs.Place.{placeOf};
 ghost use Rattle.requests.specs.Windows.{secondCount};
 ghost use Rattle.requests.specs.RequestLaws.{InLimits};
 ghost use Rattle.seconds.specs.Seconds.{closestOf, directionAt, magnitudeAt};
-ghost use Rattle.seconds.specs.OneSecond.{secondAnswer};
+ghost use Rattle.seconds.specs.OneSecond.{wholeSecond, secondAnswer};
 ghost use Rattle.seconds.specs.Exact.{AnswerMeans};
 ghost use Rattle.seconds.specs.Filled.{AllStates};
 
@@ -57,8 +57,7 @@ pub fn direction_at(table: &[u32], q: Request, place: station::Place, t: i64) ->
     ensures { λ r. ⌜ r ≡ directionAt q t ⌝ }
 {
     let e = q.elements;
-    let x = shadow::shadow_at(table, e, place, t);
-    let direction = shadow::direction(table, x.u, x.v);
+    let direction = shadow::direction_at(table, e, place, t);
     direction as u32
 }
 

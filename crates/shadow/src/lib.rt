@@ -13,7 +13,7 @@ ghost use Rattle.station.specs.Sizes.{PlaceSizes};
 ghost use Rattle.geometry.specs.Shadow.{state};
 ghost use Rattle.geometry.specs.Magnitude.{millionths, magnitude};
 ghost use Rattle.shadow.specs.Shadow.{IsOrientation, OrientationSizes, AreCoordinates, radiusAt, IsOffset, IsShadow};
-ghost use Rattle.shadow.specs.Second.{ShadowSizes, StatesOf, IsStates, IsSecond};
+ghost use Rattle.shadow.specs.Second.{ShadowSizes, StatesOf, IsStates, IsSecond, magnitudeAt, directionAt};
 
 // How the shadow's axis stands to the station's meridian: sines and cosines of H and d, 10^-8, each ±100,000,000.
 pub struct Orientation {
@@ -246,6 +246,31 @@ pub fn states_at(
 {
     let s = shadow_at(table, e, place, t);
     states_of(guard, s)
+}
+
+// The direction of the axis from the station at a second.
+pub fn direction_at(table: &[u32], e: elements::Elements, place: station::Place, t: i64) -> u16
+    requires { ⌜ (Sines (now table)) × (ElementSizes e) × (PlaceSizes place) × (natAbs t ≤ 10800) ⌝ }
+    ensures { λ r. ⌜ r ≡ directionAt e place t ⌝ }
+{
+    let s = shadow_at(table, e, place, t);
+    directions::direction(table, s.u, s.v)
+}
+
+// The magnitude at a second.
+pub fn magnitude_at(
+    table: &[u32],
+    e: elements::Elements,
+    place: station::Place,
+    t: i64,
+    guard: i64,
+) -> u32
+    requires { ⌜ (Sines (now table)) × (ElementSizes e) × (PlaceSizes place) × (natAbs t ≤ 10800) × (natAbs guard ≤ 1000) ⌝ }
+    ensures { λ r. ⌜ r ≡ magnitudeAt guard e place t ⌝ }
+{
+    let s = shadow_at(table, e, place, t);
+    let w = states_of(guard, s);
+    magnitude(s.l1, s.l2, s.m, w.central)
 }
 
 // All of a second.
