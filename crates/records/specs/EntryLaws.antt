@@ -1,15 +1,19 @@
 -- Laws of entries as bytes and as numbers.
 use Prim.Native.Nat.{ℕ, suc, _+_, _*_}
-use mathlib.Core.Path.{_≡_, refl, ap, _∙_}
+use mathlib.Core.Path.{_≡_, refl, sym, ap, _∙_}
 use mathlib.Core.List.{List, [], _∷_, _++_}
 use native.Mathlib.Omega.{arith}
-use lib.ListN.{length, length-append}
+use native.Mathlib.Nat.{add-zero}
+use native.Mathlib.Numerals.{add-one}
+use lib.ListN.{length, length-append, set}
+use lib.Seq.{sets}
 use Rattle.records.specs.declared.Width.{Width}
 use Rattle.records.specs.declared.Width.the-variants.{Absent, Two, Four}
+use Rattle.records.specs.declared.Widths.{Widths}
 use Rattle.records.specs.declared.Entry.{Entry}
-use Rattle.records.specs.Kinds.{widthsOf, bytesIn, sizeOf}
+use Rattle.records.specs.Kinds.{codeOf, widthsOf, bytesIn, sizeOf}
 use Rattle.records.specs.Numbers.{number}
-use Rattle.records.specs.Entries.{bytes, numbers, bytesOf, numbersOf}
+use Rattle.records.specs.Entries.{body, bytes, numbers, bytesOf, numbersOf}
 
 pub length-number : (w : Width) (v : ℕ) → length (number w v) ≡ bytesIn w
 length-number Absent v = refl
@@ -57,3 +61,32 @@ pub length-numbers : (es : List Entry) → length (numbersOf es) ≡ length es *
 unfolding numbersOf
 length-numbers [] = refl
 length-numbers (e ∷ es) = omega (arith, length-numbers es)
+
+-- ---- an entry put into a buffer
+
+pub sets-append : (x y l : List ℕ) (i : ℕ) → sets l i (x ++ y) ≡ sets (sets l i x) (i + length x) y
+sets-append [] y l i = rw add-zero
+sets-append (a ∷ x) y l i =
+    let e : i + suc (length x) ≡ suc i + length x = omega arith in
+    rw e (sets-append x y (set l i a) (suc i))
+
+-- a number, and what is put right behind it
+sets-number : (w : Width) (v : ℕ) (y l : List ℕ) (i j : ℕ) → j ≡ i + bytesIn w → sets (sets l i (number w v)) j y ≡ sets l i (number w v ++ y)
+sets-number w v y l i j q =
+    sym (sets-append (number w v) y l i ∙ ap (λ k. sets (sets l i (number w v)) k y) (let h = length-number w v in omega arith))
+
+-- the kind's byte and then each field behind the one before it
+module _ (e : Entry) (w : Widths) (is : w ≡ widthsOf (e .kind)) (l₀ l₁ l₂ l₃ l₄ : List ℕ) (at x at-b at-c at-d : ℕ) where
+  pub put-bytes : x ≡ codeOf (e .kind) → at-b ≡ at + 1 + bytesIn (w .a) → at-c ≡ at-b + bytesIn (w .b) → at-d ≡ at-c + bytesIn (w .c)
+      → l₁ ≡ sets (set l₀ at x) (at + 1) (number (w .a) (e .a)) → l₂ ≡ sets l₁ at-b (number (w .b) (e .b))
+      → l₃ ≡ sets l₂ at-c (number (w .c) (e .c)) → l₄ ≡ sets l₃ at-d (number (w .d) (e .d)) → l₄ ≡ sets l₀ at (bytes e)
+  put-bytes k b c d p q r t =
+      let d-bytes = number (w .d) (e .d) in
+      let c-bytes = number (w .c) (e .c) ++ d-bytes in
+      let b-bytes = number (w .b) (e .b) ++ c-bytes in
+      t ∙ ap (λ z. sets z at-d d-bytes) r
+      ∙ sets-number (w .c) (e .c) d-bytes l₂ at-c at-d d ∙ ap (λ z. sets z at-c c-bytes) q
+      ∙ sets-number (w .b) (e .b) c-bytes l₁ at-b at-c c ∙ ap (λ z. sets z at-b b-bytes) p
+      ∙ sets-number (w .a) (e .a) b-bytes (set l₀ at x) (at + 1) at-b b
+      ∙ ap (λ n. sets (set l₀ at x) n (body w e)) (add-one at)
+      ∙ ap (λ n. sets l₀ at (n ∷ body w e)) k ∙ ap (λ n. sets l₀ at (codeOf (e .kind) ∷ body n e)) is

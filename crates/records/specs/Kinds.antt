@@ -74,7 +74,7 @@ bytesIn Two = 2
 bytesIn Four = 4
 
 abbrev pub sizeOf : Kind → ℕ
-sizeOf k = let w = widthsOf k in 1 + bytesIn (w .a) + bytesIn (w .b) + bytesIn (w .c) + bytesIn (w .d)
+sizeOf k = let w = widthsOf k in 1 + (bytesIn (w .a) + (bytesIn (w .b) + (bytesIn (w .c) + bytesIn (w .d))))
 
 abbrev pub isEnd : Kind → Bool
 isEnd K.Head = false

@@ -5,7 +5,6 @@ pub mod bytes;
 pub mod entries;
 pub mod kinds;
 pub mod order;
-
 pub mod rules;
 pub mod seconds;
 
