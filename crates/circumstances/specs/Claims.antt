@@ -18,7 +18,7 @@ use Rattle.requests.specs.RequestLaws.{InLimits, in-limits, never-room}
 use Rattle.circumstances.specs.declared.Answer.{Answer}
 use Rattle.circumstances.specs.declared.Answer.the-variants as A
 use Rattle.circumstances.specs.Sheet.{sheetBytes, answerWithin, bufferWithin, answerBy, bufferBy, sheetAnswer, sheetBuffer}
-use Rattle.circumstances.specs.Stores.{stores-start}
+use Rattle.courses.specs.Stores.{stores-start}
 use Rattle.circumstances.specs.Demand3.{Claimed}
 use Rattle.circumstances.specs.CourseSound.{said, demand3}
 

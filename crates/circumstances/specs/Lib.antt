@@ -4,6 +4,4 @@ pub mod Demand3
 pub mod Marked
 -- laws, for callers and for the proofs
 pub mod CourseSound
-pub mod Lengths
-pub mod Stores
 pub mod Claims

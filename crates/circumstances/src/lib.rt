@@ -9,8 +9,9 @@ use station::Place;
 ghost use mathlib.Core.Path.{_≡_};
 ghost use mathlib.Core.List.{map};
 ghost use Prim.Native.Nat.{_+_, _*_, _≤_, _<_};
-ghost use lib.ListN.{length};
+ghost use lib.ListN.{length, getD};
 ghost use lib.Seq.{sets};
+ghost use Rattle.phases.specs.declared.Phase.the-variants.{Penumbra};
 ghost use Rattle.phases.specs.Phases.{eclipse};
 ghost use Rattle.sine.specs.Table.{Sines};
 ghost use Rattle.station.specs.Place.{placeOf};
@@ -20,7 +21,7 @@ ghost use Rattle.seconds.specs.Seconds.{statesOf, closestOf};
 ghost use Rattle.seconds.specs.Filled.{AllStates};
 ghost use Rattle.contacts.specs.Entries.{entries, from, to};
 ghost use Rattle.records.specs.Entries.{bytesOf};
-ghost use Rattle.courses.specs.Courses.{entryOf, entriesOf, headEntry, closestEntry};
+ghost use Rattle.courses.specs.Courses.{entryOf, phaseEntries, entriesOf, headEntry, closestEntry};
 ghost use Rattle.courses.specs.Lengths.{kindIn, bytesNeeded};
 ghost use Rattle.circumstances.specs.Sheet.{courseOf, sheetBytes, answerWithin, bufferWithin, sheetAnswer, sheetBuffer};
 ghost use Rattle.circumstances.specs.Demand3.{Claimed};
@@ -62,21 +63,29 @@ fn phase_length(phase: Phase, states: &[u8]) -> usize
     }
 }
 
+// How many bytes the entries of the k-th phase take, from the states of all phases.
+fn nth_phase_length(q: Request, states: &[u8], k: usize) -> usize
+    requires { ⌜ (InLimits q) × (AllStates q (now states)) × (length eclipse * secondCount (q .window) ≤ length (now states)) × (k < length eclipse) ⌝ }
+    ensures { λ r. ⌜ (r ≡ bytesNeeded (getD eclipse k Penumbra) (entries (statesOf q (getD eclipse k Penumbra)))) × (r ≤ 367217) ⌝ }
+{
+    let w = q.window;
+    let n = requests::second_count(w);
+    let phase = phases::eclipse_phase(k);
+    let begin = k * n;
+    let end = begin + n;
+    phase_length(phase, &states[begin..end])
+}
+
 // How many bytes the entries of all phases take.
 fn phases_length(q: Request, states: &[u8]) -> usize
     requires { ⌜ (InLimits q) × (AllStates q (now states)) × (length eclipse * secondCount (q .window) ≤ length (now states)) ⌝ }
     ensures { λ r. ⌜ (r ≡ length (bytesOf (entriesOf (courseOf q) eclipse))) × (r ≤ 734434) ⌝ }
 {
-    let w = q.window;
-    let n = requests::second_count(w);
     let count = phases::eclipse_count();
     let mut length: usize = 0;
     let mut k: usize = 0;
     while k < count {
-        let phase = phases::eclipse_phase(k);
-        let begin = k * n;
-        let end = begin + n;
-        length += phase_length(phase, &states[begin..end]);
+        length += nth_phase_length(q, states, k);
         k += 1;
     }
     length
@@ -186,31 +195,43 @@ fn write_phase(
     }
 }
 
-// The entries of all phases from `start` on; the place after them.
-fn write_phases(
+// The entries of the k-th phase from `start` on, from the states of all phases; the place after them.
+fn write_nth_phase(
     table: &[u32],
     q: Request,
     place: Place,
     states: &[u8],
+    k: usize,
     buf: &mut [u8],
     start: usize,
 ) -> usize
+    requires { ⌜ (Sines (now table)) × (InLimits q) × (place ≡ placeOf (q .station)) ⌝ }
+    requires { ⌜ (AllStates q (now states)) × (length eclipse * secondCount (q .window) ≤ length (now states)) × (k < length eclipse) ⌝ }
+    requires { ⌜ start + length (bytesOf (phaseEntries (courseOf q) (getD eclipse k Penumbra))) ≤ length (now buf) ⌝ }
+    ensures { λ r. ⌜ r ≡ start + length (bytesOf (phaseEntries (courseOf q) (getD eclipse k Penumbra))) ⌝ }
+    ensures { λ r. ⌜ now (buf .exit) ≡ sets (now (buf .entry)) start (bytesOf (phaseEntries (courseOf q) (getD eclipse k Penumbra))) ⌝ }
+{
+    let w = q.window;
+    let n = requests::second_count(w);
+    let phase = phases::eclipse_phase(k);
+    let begin = k * n;
+    let end = begin + n;
+    write_phase(table, q, place, phase, &states[begin..end], buf, start)
+}
+
+// The entries of all phases from `start` on; the place after them.
+fn write_phases(table: &[u32], q: Request, place: Place, states: &[u8], buf: &mut [u8], start: usize) -> usize
     requires { ⌜ (Sines (now table)) × (InLimits q) × (place ≡ placeOf (q .station)) ⌝ }
     requires { ⌜ (AllStates q (now states)) × (length eclipse * secondCount (q .window) ≤ length (now states)) ⌝ }
     requires { ⌜ start + length (bytesOf (entriesOf (courseOf q) eclipse)) ≤ length (now buf) ⌝ }
     ensures { λ r. ⌜ r ≡ start + length (bytesOf (entriesOf (courseOf q) eclipse)) ⌝ }
     ensures { λ r. ⌜ now (buf .exit) ≡ sets (now (buf .entry)) start (bytesOf (entriesOf (courseOf q) eclipse)) ⌝ }
 {
-    let w = q.window;
-    let n = requests::second_count(w);
     let count = phases::eclipse_count();
     let mut at = start;
     let mut k: usize = 0;
     while k < count {
-        let phase = phases::eclipse_phase(k);
-        let begin = k * n;
-        let end = begin + n;
-        at = write_phase(table, q, place, phase, &states[begin..end], buf, at);
+        at = write_nth_phase(table, q, place, states, k, buf, at);
         k += 1;
     }
     at

@@ -1,7 +1,7 @@
 -- How many bytes the entries of a phase take, and a whole sheet.
 use mathlib.Core.Path.{_≡_, refl, sym, ap, _∙_}
 use mathlib.Core.List.{List, [], _∷_, _++_, map, append-nil, append-assoc}
-use Prim.Native.Nat.{ℕ, _+_}
+use Prim.Native.Nat.{ℕ, _+_, _≤_}
 use native.Mathlib.Omega.{arith}
 use lib.ListN.{length, length-append}
 use Rattle.phases.specs.declared.Phase.{Phase}
@@ -69,10 +69,32 @@ module _ (c : Course) where
   entries-more (ψ ∷ φs) φ =
       ap (λ (es : List Entry). phaseEntries c ψ ++ es) (entries-more φs φ) ∙ sym (append-assoc (phaseEntries c ψ) (entriesOf c φs) (phaseEntries c φ))
 
+  pub more-bytes : (φs : List Phase) (φ : Phase)
+      → length (bytesOf (entriesOf c (φs ++ φ ∷ []))) ≡ length (bytesOf (entriesOf c φs)) + length (bytesOf (phaseEntries c φ))
+  more-bytes φs φ = ap (λ (es : List Entry). length (bytesOf es)) (entries-more φs φ) ∙ length-bytes-append (entriesOf c φs) (phaseEntries c φ)
+
   pub more-length : (φs : List Phase) (φ : Phase)
       → length (bytesOf (entriesOf c (φs ++ φ ∷ []))) ≡ length (bytesOf (entriesOf c φs)) + bytesNeeded φ (entries (statesOf c φ))
-  more-length φs φ =
-      omega (arith, ap (λ (es : List Entry). length (bytesOf es)) (entries-more φs φ), length-bytes-append (entriesOf c φs) (phaseEntries c φ), phase-length φ)
+  more-length φs φ = omega (arith, more-bytes φs φ, phase-length φ)
+
+  -- some phases take no more than they and others
+  pub some-bytes : (φs ψs : List Phase) → length (bytesOf (entriesOf c φs)) ≤ length (bytesOf (entriesOf c (φs ++ ψs)))
+  some-bytes [] ψs = omega (arith, ap length bytes-nil)
+  some-bytes (φ ∷ φs) ψs =
+      omega (
+        arith,
+        length-bytes-append (phaseEntries c φ) (entriesOf c φs),
+        length-bytes-append (phaseEntries c φ) (entriesOf c (φs ++ ψs)),
+        some-bytes φs ψs,
+      )
+
+  pub head-size : sizeOf (headEntry c .kind) ≡ sizeOf K.Head
+  unfolding headEntry
+  head-size = refl
+
+  pub closest-size : sizeOf (closestEntry c .kind) ≡ sizeOf K.Closest
+  unfolding closestEntry
+  closest-size = refl
 
   -- head, the phases, closest and end
   pub sheet-length : length (bytesOf (sheetOf c)) ≡ sizeOf K.Head + length (bytesOf (entriesOf c (c .phases))) + sizeOf K.Closest + sizeOf K.End

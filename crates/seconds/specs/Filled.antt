@@ -2,7 +2,7 @@
 use mathlib.Core.Path.{_≡_, refl, sym, ap, _∙_}
 use mathlib.Core.List.{List}
 use mathlib.Core.Logic.{⊎-elim}
-use Prim.Native.Nat.{ℕ, zero, suc, _+_, _*_, _≤_, _<_}
+use Prim.Native.Nat.{ℕ, zero, suc, _+_, _-_, _*_, _≤_, _<_}
 use lib.IntN.{ℤ}
 use native.Mathlib.Omega.{arith}
 use native.Mathlib.Nat.{eq-or-lt-of-le, zero-mul, one-mul}
@@ -86,3 +86,19 @@ all-filled q l h pen cen = record { stretch = go }
     go zero b = ap (λ (j : ℕ). take (secondCount (q .window)) (drop j l)) (zero-mul (secondCount (q .window))) ∙ part Penumbra 0 (omega arith) pen
     go (suc zero) b = ap (λ (j : ℕ). take (secondCount (q .window)) (drop j l)) (one-mul (secondCount (q .window))) ∙ part Central (secondCount (q .window)) (omega arith) cen
     go (suc (suc k)) b = absurd (omega arith)
+
+-- ---- the k-th stretch as a part of the buffer, from k n up to k n and n
+module _ (k n : ℕ) (h : k < length eclipse) where
+  pub stretch-small : k * n ≤ n
+  stretch-small = go k h
+    where
+      go : (k : ℕ) → k < length eclipse → k * n ≤ n
+      go zero b = omega (arith, zero-mul n)
+      go (suc zero) b = omega (arith, one-mul n)
+      go (suc (suc k)) b = absurd (omega arith)
+
+  pub stretch-is : (q : Request) (l : List ℕ) → AllStates q l → n ≡ secondCount (q .window)
+      → take (k * n + n - k * n) (drop (k * n) l) ≡ statesOf q (getD eclipse k Penumbra)
+  stretch-is q l a e =
+      let d : k * n + n - k * n ≡ n = omega arith in
+      rw (d, e) (a .stretch k h)

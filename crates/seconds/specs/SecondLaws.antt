@@ -1,4 +1,5 @@
 -- What callers use of the seconds of a request within its limits.
+--   states-length                                      a byte for each second
 --   direction-small, magnitude-small, closest-within   what a reader asks of them
 --   each-second                                        every second is said rightly
 --   means-answer                                       so is one that was answered
@@ -9,6 +10,7 @@ use mathlib.Core.Bool.{Bool, true, false, cond}
 use Prim.Native.Nat.{ℕ, suc, _≤_, _<_}
 use native.Mathlib.Omega.{arith}
 use lib.IntN.{ℤ, pos, natAbs, _-ℤ_}
+use lib.ListN.{length}
 use lib.Signed.{leZ-yes}
 use Rattle.phases.specs.declared.Phase.{Phase}
 use Rattle.phases.specs.declared.Phase.the-variants.{Penumbra, Central}
@@ -26,15 +28,18 @@ use Rattle.geometry.specs.Shadow.{M}
 use Rattle.shadow.specs.SecondLaws.{state-at, states-true, magnitude-most, direction-near}
 use Rattle.requests.specs.declared.Request.{Request}
 use Rattle.requests.specs.Windows.{inSpan, nthSecond, secondCount}
-use Rattle.requests.specs.WindowLaws.{in-span}
+use Rattle.requests.specs.WindowLaws.{in-span, each-length}
 use Rattle.requests.specs.Requests.{checked}
 use Rattle.requests.specs.RequestLaws.{InLimits, in-limits}
 use Rattle.seconds.specs.declared.OneSecond.{OneSecond}
 use Rattle.seconds.specs.declared.OneSecond.the-variants as O
-use Rattle.seconds.specs.Seconds.{guard, momentAt, stateAt, directionAt, magnitudeAt, closestOf}
+use Rattle.seconds.specs.Seconds.{guard, momentAt, stateAt, directionAt, magnitudeAt, statesOf, closestOf}
 use Rattle.seconds.specs.ClosestLaws.{closest-is}
 use Rattle.seconds.specs.OneSecond.{wholeSecond, secondBy, secondAnswer}
 use Rattle.seconds.specs.Exact.{ExactlyInside, WithinUnits, SecondMeans, AnswerMeans}
+
+pub states-length : (q : Request) (φ : Phase) → length (statesOf q φ) ≡ secondCount (q .window)
+states-length q φ = each-length (q .window) (λ τ. code (stateAt q φ τ))
 
 pub direction-small : (q : Request) (τ : ℤ) → (directionAt q τ ≤ 3599) ⊎ (directionAt q τ ≡ 65535)
 unfolding directionAt

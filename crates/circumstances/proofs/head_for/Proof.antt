@@ -1,0 +1,56 @@
+-- `circumstances::head_for` meets its contract: a number and two seconds within their ranges, as unsigned numbers. Assumes nothing.
+use mathlib.Core.Path.{_≡_, _∙_}
+use mathlib.Core.List.{[], _∷_}
+use Prim.Native.Nat.{ℕ, _≤_}
+use native.Mathlib.Omega.{arith}
+use borrow.Author.Needs.{needs}
+use lib.IntN.{ℤ, natAbs}
+use lib.Signed.{leZ-yes}
+use Rattle.numbers.specs.Order.{≤ℤ-trans, natAbs-between}
+use Rattle.numbers.specs.Code.{arg, Within, whole, ends, _▹_, within, unsigned, read-back, read-size}
+use Rattle.requests.specs.declared.Request.{Request}
+use Rattle.requests.specs.WindowLaws.{window-sizes}
+use Rattle.requests.specs.RequestLaws.{InLimits}
+use Rattle.courses.specs.Courses.{headEntry}
+use Rattle.circumstances.proofs.head_for.Statement.{statement}
+use Rattle.circumstances.proofs.head_for.Tie as tie
+
+number-size : (q : Request) → InLimits q → natAbs (q .station .number) ≤ 999
+number-size q i = natAbs-between (q .station .number) 1 (i .station .number .0) (i .station .number .1)
+
+cast-station : tie.Need-cast-station
+cast-station c =
+    let b = c .before .before .before .before in
+    let w : Within (whole (b .args .q .station .number) ∷ []) (999 ∷ []) = number-size (b .args .q) (b .pre) ▹ ends in
+    (unsigned w (arg 0) tt (≤ℤ-trans (leZ-yes tt) (b .pre .station .number .0)) .0, record { fits = omega (arith, within w (arg 0) 999 tt) })
+
+store-second-requires : tie.Need-store-second-requires
+store-second-requires c κs =
+    let b = c .before .before .before .before .before in
+    read-size (b .args .q .window .first) 10800 (window-sizes (b .args .q .window) (b .pre .window) .0) tt
+
+store-second-requires-2 : tie.Need-store-second-requires-2
+store-second-requires-2 c κs =
+    let b = c .before .before .before .before .before .before .before in
+    read-size (b .args .q .window .last) 10800 (window-sizes (b .args .q .window) (b .pre .window) .1) tt
+
+head-requires : tie.Need-head-requires
+head-requires c κs = search needs
+
+returns : tie.Need-returns
+unfolding headEntry
+returns c =
+    let b = c .before .before .before .before .before .before .before .before .before in
+    let q = b .args .q in
+    let s = window-sizes (q .window) (b .pre .window) in
+    c .head .ensures
+    ∙ rw (
+      read-back (q .station .number) (number-size q (b .pre)) tt,
+      c .before .before .before .store-second .ensures .0,
+      c .before .store-second2 .ensures .0,
+      read-back (q .window .first) (s .0) tt,
+      read-back (q .window .last) (s .1) tt,
+    )
+
+pub head-for-spec : {M : Type 1} → statement M
+head-for-spec = tie.close (tie.spec cast-station store-second-requires store-second-requires-2 head-requires returns)
