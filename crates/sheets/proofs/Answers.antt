@@ -14,7 +14,7 @@ use Rattle.records.specs.declared.Refusal.the-variants as R
 use Rattle.sheets.specs.declared.Extent.the-variants as X
 use Rattle.records.specs.Entries.{numbers, bytes, bytesOf, numbersOf}
 use Rattle.records.specs.EntryLaws.{bytes-nil, bytes-cons, numbers-nil, numbers-cons, length-numbers}
-use Rattle.records.specs.Rules.{start}
+use Rattle.rules.specs.Rules.{start}
 use Rattle.sheets.specs.Sheets.{Sheet, sheet, refused, storedAt, readSheet, extentOf, readInto, roomAfter, holds}
 use Rattle.sheets.specs.Handed.{handedAt, listSheet, writeInto, bufferAfterList}
 use Rattle.sheets.specs.SheetLaws.{read-start, list-start, extent-inv, extent-refused}

@@ -14,7 +14,7 @@ use Rattle.records.specs.declared.Record.{Record}
 use Rattle.records.specs.declared.Record.the-variants.{Is, Refused}
 use Rattle.records.specs.Kinds.{isEnd}
 use Rattle.records.specs.EntryLaws.{sets-append}
-use Rattle.records.specs.Rules.{afterOf}
+use Rattle.rules.specs.Rules.{afterOf}
 use Rattle.sheets.specs.Sheets.{sheet, sheetFrom}
 use Rattle.sheets.specs.GivenLaws.{Went, from-inv}
 

@@ -10,12 +10,12 @@ use Rattle.records.specs.declared.Progress.{Progress}
 use Rattle.records.specs.declared.Refusal.{Refusal}
 use Rattle.records.specs.declared.Record.{Record}
 use Rattle.records.specs.declared.Record.the-variants.{Is, Refused}
-use Rattle.records.specs.declared.Judgement.{Judgement}
-use Rattle.records.specs.declared.Judgement.the-variants.{Next, Broken}
+use Rattle.rules.specs.declared.Judgement.{Judgement}
+use Rattle.rules.specs.declared.Judgement.the-variants.{Next, Broken}
 use Rattle.sheets.specs.declared.Extent.the-variants as X
 use Rattle.records.specs.Kinds.{isEnd}
-use Rattle.records.specs.Rules.{inOrder, fieldsHold, afterOf, judgementOf}
-use Rattle.records.specs.RuleLaws.{next-inv}
+use Rattle.rules.specs.Rules.{inOrder, fieldsHold, afterOf, judgementOf}
+use Rattle.rules.specs.RuleLaws.{next-inv}
 use Rattle.records.specs.TestLaws.{distinct}
 use Rattle.sheets.specs.Sheets.{Sheet, sheet, refused, more, onward, sheetFrom, ofJudgement, judged}
 use Rattle.sheets.specs.Passes.{extent}

@@ -23,7 +23,7 @@ use Rattle.records.specs.KindLaws.{kind-code, kind-inv, size-small, plain-fourt
 use Rattle.records.specs.Entries.{numbers, numbersOf}
 use Rattle.records.specs.EntryLaws.{numbers-nil, numbers-cons}
 use Rattle.records.specs.TestLaws.{both}
-use Rattle.records.specs.Rules.{afterOf}
+use Rattle.rules.specs.Rules.{afterOf}
 use Rattle.sheets.specs.Handed.{numbered, ofNamed, handedAt}
 use Rattle.sheets.specs.StandLaws.{Stand, Steady}
 use Rattle.sheets.specs.WellFormed.{WellFormed}

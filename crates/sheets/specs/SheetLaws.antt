@@ -15,7 +15,7 @@ use Rattle.records.specs.declared.Refusal.the-variants as R
 use Rattle.records.specs.declared.Record.{Record}
 use Rattle.sheets.specs.declared.Extent.{Extent}
 use Rattle.sheets.specs.declared.Extent.the-variants as X
-use Rattle.records.specs.Rules.{start}
+use Rattle.rules.specs.Rules.{start}
 use Rattle.sheets.specs.Sheets.{Sheet, sheet, refused, sheetFrom, storedAt, alone, readSheet, readWhole, extentOf}
 use Rattle.sheets.specs.Handed.{handedAt, listSheet, listWhole}
 use Rattle.sheets.specs.Passes.{extent}

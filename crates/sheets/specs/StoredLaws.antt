@@ -16,8 +16,9 @@ use Rattle.records.specs.EntryLaws.{length-bytes, bytes-nil, bytes-cons, length
 use Rattle.records.specs.NumberLaws.{Bytes}
 use Rattle.records.specs.Records.{recordAt}
 use Rattle.records.specs.RecordLaws.{record-inv}
-use Rattle.records.specs.RecordTrip.{Small, fields-fit, after-small, trip, back}
-use Rattle.records.specs.Rules.{afterOf}
+use Rattle.records.specs.RecordTrip.{trip, back}
+use Rattle.rules.specs.FieldFits.{Small, fields-fit, after-small}
+use Rattle.rules.specs.Rules.{afterOf}
 use Rattle.sheets.specs.Sheets.{storedAt}
 use Rattle.sheets.specs.StandLaws.{Stand, Steady}
 use Rattle.sheets.specs.WellFormed.{WellFormed}

@@ -18,9 +18,9 @@ use Rattle.records.specs.declared.Progress.{Progress}
 use Rattle.records.specs.Kinds.{isEnd, plain}
 use Rattle.records.specs.Entries.{head, enter, leave, graze, opened, closest, end}
 use Rattle.records.specs.TestLaws.{distinct}
-use Rattle.records.specs.Order.{samePhase, phaseFollows, repeats}
+use Rattle.rules.specs.Order.{samePhase, phaseFollows, repeats}
 use Rattle.records.specs.FieldRules.{isDirection, spanHolds}
-use Rattle.records.specs.Rules.{start, reached, phaseInOrder, inOrder, fieldsHold, afterOf}
+use Rattle.rules.specs.Rules.{start, reached, phaseInOrder, inOrder, fieldsHold, afterOf}
 use Rattle.sheets.specs.WellFormed.{WellFormed, within, Step}
 
 pub well-step : {p q : Progress} {e : Entry} (es : List Entry) → Step p e q → WellFormed q es → WellFormed p (e ∷ es)

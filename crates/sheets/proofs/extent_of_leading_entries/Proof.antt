@@ -4,9 +4,9 @@ use Rattle.sheets.specs.Handed.{handedAt, listSheet}
 use Rattle.sheets.specs.SheetLaws.{list-start, extent-start}
 use Rattle.sheets.specs.HandedLaws.{handed-bounds}
 use Rattle.sheets.specs.Passes.{refusedOf, brokenOf}
-use Rattle.records.specs.Rules.{judgedAs, judgementOf}
+use Rattle.rules.specs.Rules.{judgedAs, judgementOf}
 use Rattle.records.specs.declared.Record.the-variants.{Is}
-use Rattle.records.specs.declared.Judgement.the-variants.{Next}
+use Rattle.rules.specs.declared.Judgement.the-variants.{Next}
 use lib.ListN.{length}
 use native.Mathlib.Omega.{arith}
 use Prim.Native.Nat.{suc, _+_, _-_, _*_, _≤_, _<_}

@@ -4,14 +4,14 @@ use Rattle.sheets.proofs.Counting.{Counting, count-refused, count-broke
 use Rattle.sheets.specs.Sheets.{storedAt, readSheet}
 use Rattle.sheets.specs.SheetLaws.{read-start, extent-start}
 use Rattle.sheets.specs.Passes.{brokenOf}
-use Rattle.records.specs.Rules.{judgedAs, judgementOf}
+use Rattle.rules.specs.Rules.{judgedAs, judgementOf}
 use Rattle.records.specs.RecordLaws.{by-byte, by-kind, by-body, byte-inv, body-inv, read-plain, record-bounds}
 use Rattle.records.specs.Records.{byteAt, bodyAt, recordAt}
 use Rattle.records.specs.Kinds.{kindFor, sizeOf, isEnd, plain}
 use Rattle.records.specs.declared.Entry.{Entry}
 use Rattle.records.specs.declared.Kind.{Kind}
 use Rattle.records.specs.declared.Record.the-variants.{Is}
-use Rattle.records.specs.declared.Judgement.the-variants.{Next}
+use Rattle.rules.specs.declared.Judgement.the-variants.{Next}
 use mathlib.Core.Bool.{true}
 use Rattle.records.specs.declared.Byte.the-variants as Byte
 use Rattle.records.specs.declared.Named.the-variants as Named
