@@ -85,11 +85,15 @@ pub fn extent_of_sheet(s: &[u8]) -> Extent
     ensures { λ r. ⌜ r ≡ extentOf (readWhole (now (s .entry))) ⌝ }
 {
     let found = extent_of_leading_sheet(s);
-    let Extent::Sheet { entries: _, length } = found else {
+    let Extent::Sheet {
+        entries: _,
+        length: end,
+    } = found
+    else {
         return found;
     };
-    if length < s.len() {
-        return Extent::Refused(Refusal::Trailing(length));
+    if end < s.len() {
+        return Extent::Refused(Refusal::Trailing(end));
     }
     found
 }
