@@ -3,29 +3,21 @@
 //
 // No contract can say which bytes reach the outside, so a `print_` function promises that it is safe and ends, and asks for nothing.
 // What it prints is held to document 01's listing by the programs over it.
+use phases::Phase;
 use records::Entry;
-use records::Family;
+use records::Kind;
 use records::Record;
 use sheets::Extent;
-ghost use mathlib.Core.Path.{_≡_};
-ghost use lib.IntN.{pos, _-ℤ_};
-
-// "a second is stored plus 10,800": the second itself.
-fn second_of(stored: u32) -> i64
-    ensures { λ r. ⌜ r ≡ pos stored -ℤ pos 10800 ⌝ }
-{
-    stored as i64 - 10_800
-}
 
 fn print_second(stored: u32) {
-    let second = second_of(stored);
+    let second = records::seconds::second_of(stored);
     printing::print_next(second);
 }
 
-fn print_family(family: Family) {
-    match family {
-        Family::Penumbra => printing::print(b" penumbra"),
-        Family::Central => printing::print(b" central"),
+fn print_phase(phase: Phase) {
+    match phase {
+        Phase::Penumbra => printing::print(b" penumbra"),
+        Phase::Central => printing::print(b" central"),
     }
 }
 
@@ -39,24 +31,24 @@ fn print_head(station: u32, first: u32, last: u32) {
     printing::end_line();
 }
 
-// What every entry of a family has: which, from and to.
-fn print_span(family: Family, from: u32, to: u32) {
-    print_family(family);
+// What every entry of a phase has: which, from and to.
+fn print_span(phase: Phase, from: u32, to: u32) {
+    print_phase(phase);
     print_second(from);
     print_second(to);
 }
 
 // A graze or an open: "with no direction".
-fn print_unsure(word: &[u8], family: Family, from: u32, to: u32) {
+fn print_unsure(word: &[u8], phase: Phase, from: u32, to: u32) {
     printing::print(word);
-    print_span(family, from, to);
+    print_span(phase, from, to);
     printing::end_line();
 }
 
 // An enter or a leave: "each entry with from, to, direction".
-fn print_contact(word: &[u8], family: Family, from: u32, to: u32, direction: u32) {
+fn print_contact(word: &[u8], phase: Phase, from: u32, to: u32, direction: u32) {
     printing::print(word);
-    print_span(family, from, to);
+    print_span(phase, from, to);
     printing::print_count(direction as u64);
     printing::end_line();
 }
@@ -71,28 +63,18 @@ fn print_closest(second: u32, magnitude: u32) {
 
 // The line of an entry.
 fn print_entry(entry: Entry) {
-    match entry {
-        Entry::Head {
-            station,
-            first,
-            last,
-        } => print_head(station, first, last),
-        Entry::Enter {
-            family,
-            from,
-            to,
-            direction,
-        } => print_contact(b"enter", family, from, to, direction),
-        Entry::Leave {
-            family,
-            from,
-            to,
-            direction,
-        } => print_contact(b"leave", family, from, to, direction),
-        Entry::Graze { family, from, to } => print_unsure(b"graze", family, from, to),
-        Entry::Open { family, from, to } => print_unsure(b"open", family, from, to),
-        Entry::Closest { second, magnitude } => print_closest(second, magnitude),
-        Entry::End => {}
+    let kind = entry.kind;
+    let a = entry.a;
+    let b = entry.b;
+    let c = entry.c;
+    match kind {
+        Kind::Head => print_head(a, b, c),
+        Kind::Enter(phase) => print_contact(b"enter", phase, a, b, c),
+        Kind::Leave(phase) => print_contact(b"leave", phase, a, b, c),
+        Kind::Graze(phase) => print_unsure(b"graze", phase, a, b),
+        Kind::Open(phase) => print_unsure(b"open", phase, a, b),
+        Kind::Closest => print_closest(a, b),
+        Kind::End => {}
     }
 }
 
@@ -101,7 +83,7 @@ fn print_entries(sheet: &[u8], entries: usize) {
     let mut at = 0;
     let mut left = entries;
     while 0 < left {
-        let Record::Is(entry, next) = records::record_at(sheet, at) else {
+        let Record::Is(entry, next) = records::bytes::record_at(sheet, at) else {
             return;
         };
         print_entry(entry);
@@ -140,7 +122,7 @@ pub fn print_extent(extent: Extent) {
 
 // The listing of the sheet that the bytes are; or their refusal, alone.
 pub fn print_sheet(sheet: &[u8]) {
-    let found = sheets::measure_whole(sheet);
+    let found = sheets::extent_of_sheet(sheet);
     match found {
         Extent::Sheet { entries, length: _ } => print_entries(sheet, entries),
         Extent::Refused(refusal) => {

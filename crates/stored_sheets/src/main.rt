@@ -63,7 +63,7 @@ fn print_sheet(sheet: &[u8]) {
     let mut room = [0u32; 256];
     let mut short = [0u32; 15];
     printing::print(b"begins");
-    listings::print_extent(sheets::measure(sheet));
+    listings::print_extent(sheets::extent_of_leading_sheet(sheet));
     printing::print(b" is");
     let answer = sheets::read(sheet, &mut room);
     listings::print_extent(answer);
