@@ -1,8 +1,8 @@
 -- Rows by computation: the definitions at numbers worked by hand.
 use mathlib.Core.Path.{_≡_, refl}
-use mathlib.Core.Bool.{true, false}
 use Prim.Native.Nat.{ℕ}
 use lib.IntN.{ℤ, pos, negsuc, _+ℤ_, _-ℤ_}
+use lib.Signed.{leZ-yes, ltZ-yes, clashℤ}
 use Rattle.phases.specs.declared.Phase.{Phase}
 use Rattle.phases.specs.declared.Phase.the-variants.{Penumbra, Central}
 use Rattle.numbers.specs.Near.{near}
@@ -13,7 +13,7 @@ use Rattle.sine.specs.Sine.{reduced, sineIn, sine, cosine}
 use Rattle.elements.specs.declared.Elements.{Elements}
 use Rattle.elements.specs.Polynomial.{step, quadraticAt, cubicAt}
 use Rattle.geometry.specs.Shadow.{Moment, moment, cone, _², H, q, ξ, η, ζ, u, v, L, M, edge, State, inside, outside, unsure, state}
-use Rattle.geometry.specs.Exact.{exact-quadratic, exact-cubic, exact-q, exact-ξ, exact-η, exact-ζ, exact-term, exact-u, exact-v, exact-L, exactlyInside?}
+use Rattle.geometry.specs.Exact.{exact-quadratic, exact-cubic, exact-q, exact-ξ, exact-η, exact-ζ, exact-term, exact-u, exact-v, exact-L, ExactlyInside, ExactlyOutside}
 use Rattle.geometry.specs.Direction.{largest, quarter, direction}
 use Rattle.geometry.specs.Magnitude.{magnitude}
 
@@ -86,13 +86,13 @@ unfolding state H L u v ξ η ζ q quadraticAt cubicAt step near factorial numer
 after-leave = refl
 
 -- at second 100 the exact distance is the exact L: exactly outside
-exactly-outside : exactlyInside? Central (at-pole (pos 100)) (worked .central) ≡ false
-unfolding exactlyInside? exact-u exact-v exact-L exact-ξ exact-η exact-ζ exact-q exact-term exact-quadratic exact-cubic H quadraticAt cubicAt step near factorial numerator denominator common term series S arc sag between capped firstQuadrant reduced sineIn sine cosine
-exactly-outside = refl
+exactly-outside : ExactlyOutside Central (at-pole (pos 100)) (worked .central)
+unfolding exact-u exact-v exact-L exact-ξ exact-η exact-ζ exact-q exact-term exact-quadratic exact-cubic H quadraticAt cubicAt step near factorial numerator denominator common term series S arc sag between capped firstQuadrant reduced sineIn sine cosine
+exactly-outside i = clashℤ (i .square) (leZ-yes tt)
 
-exactly-inside : exactlyInside? Central (at-pole (pos 99)) (worked .central) ≡ true
-unfolding exactlyInside? exact-u exact-v exact-L exact-ξ exact-η exact-ζ exact-q exact-term exact-quadratic exact-cubic H quadraticAt cubicAt step near factorial numerator denominator common term series S arc sag between capped firstQuadrant reduced sineIn sine cosine
-exactly-inside = refl
+exactly-inside : ExactlyInside Central (at-pole (pos 99)) (worked .central)
+unfolding exact-u exact-v exact-L exact-ξ exact-η exact-ζ exact-q exact-term exact-quadratic exact-cubic H quadraticAt cubicAt step near factorial numerator denominator common term series S arc sag between capped firstQuadrant reduced sineIn sine cosine
+exactly-inside = record { sign = leZ-yes tt; square = ltZ-yes tt }
 
 -- "closest 0 1037735": L2 with its sign; without it the total eclipse would read as annular, 963,636
 total : magnitude inside (L (at-pole (pos 0)) (worked .penumbra)) (L (at-pole (pos 0)) (worked .central)) (M (at-pole (pos 0))) ≡ 1037735

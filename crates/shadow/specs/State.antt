@@ -1,7 +1,6 @@
 -- The state of a second as a number: 0 outside, 1 inside, 2 unsure.
 use mathlib.Core.Path.{_≡_, refl}
-use Prim.Native.Nat.{ℕ, zero, suc, _≤_}
-use native.Mathlib.Omega.{arith}
+use Prim.Native.Nat.{ℕ, zero, suc}
 use Rattle.geometry.specs.Shadow.{State, inside, outside, unsure}
 
 abbrev pub code : State → ℕ
@@ -19,8 +18,3 @@ pub state-of-code : (w : State) → stateOf (code w) ≡ w
 state-of-code outside = refl
 state-of-code inside = refl
 state-of-code unsure = refl
-
-pub code-limit : (w : State) → code w ≤ 2
-code-limit outside = omega arith
-code-limit inside = omega arith
-code-limit unsure = omega arith
