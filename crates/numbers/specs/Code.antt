@@ -1,5 +1,7 @@
--- i64 arithmetic as the machine does it. A signed local holds bits, so what a need shows of a value that was computed is `toZ w64 (ofZ w64 x)`, nested once for each operation on the way.
--- `Code` is such a computation as data. Bounds on its slots give, by computation, a bound on each step; where each fits, `fits` answers the need, and `runs` says that the result is the exact one.
+-- i64 arithmetic as the machine does it. A signed local holds bits, so what a need shows of a value that was computed is `toZ w64 (ofZ w64 x)`, nested once
+-- for each operation on the way.
+-- `Code` is such a computation as data. Bounds on its slots give, by computation, a bound on each step; where each fits, `fits` answers the need, and `runs`
+-- says that the result is the exact one.
 use mathlib.Core.Path.{_≡_, refl, sym, _∙_, ap, ap₂, subst}
 use mathlib.Core.Bool.{Bool, true, false, _&&_}
 use mathlib.Core.List.{List, [], _∷_}

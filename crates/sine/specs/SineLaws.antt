@@ -228,7 +228,8 @@ square-sum z h =
     rw (sine-natAbs z h, cosine-natAbs z h, sine-first (natAbs z) h, cosine-first (natAbs z) h) (squares (natAbs z) h)
   where
     squares : (a : ℕ) → a ≤ 90_000_000
-        → 9_982_500_000_000_000 ≤ natAbs (firstQuadrant a) * natAbs (firstQuadrant a) + natAbs (firstQuadrant (90_000_000 - a)) * natAbs (firstQuadrant (90_000_000 - a))
+        → 9_982_500_000_000_000 ≤ natAbs (firstQuadrant a) * natAbs (firstQuadrant a) + natAbs (firstQuadrant (90_000_000 - a)) * natAbs
+        (firstQuadrant (90_000_000 - a))
     squares a h =
         let k = a / 100_000 in
         let j = (90_000_000 - a) / 100_000 in

@@ -12,8 +12,13 @@ use Rattle.numbers.proofs.near_unit.Tie as tie
 
 near-shifted-requires : tie.Need-near-shifted-requires
 near-shifted-requires c κs =
-    let small = read-size (c .args .n) 1000000000000000000 (c .pre) tt in
-    ((read-size (c .args .n) 1000000000000000000 (c .pre) tt, lit≤ tt, lit≤ tt, lit≤ tt), (not-below (toZ w64 (ofZ w64 (c .args .n))) 1000000000000000000 1000000000050000000 small (lit≤ tt), refl))
+    let small = read-size (c .args .n) 1000000000000000000 (c .pre) tt in (
+      (read-size (c .args .n) 1000000000000000000 (c .pre) tt, lit≤ tt, lit≤ tt, lit≤ tt),
+      (
+        not-below (toZ w64 (ofZ w64 (c .args .n))) 1000000000000000000 1000000000050000000 small (lit≤ tt),
+        refl,
+      ),
+    )
 
 returns : tie.Need-returns
 returns c =

@@ -72,7 +72,8 @@ module _ (c : tie.After-orientation-of) where
       }
 
 -- ---- ξ, η, ζ
-module _ (a : Axis) (p : Place) (τ : ℤ) {o : Orientation} {x : Coordinates} (t : IsOrientation (H (momentOf a p τ)) (dAt a τ) o) (k : AreCoordinates p o x) where
+module _ (a : Axis) (p : Place) (τ : ℤ) {o : Orientation} {x : Coordinates} (t : IsOrientation (H (momentOf a p τ)) (dAt a τ) o)
+    (k : AreCoordinates p o x) where
   xi-of : x .xi ≡ ξ (momentOf a p τ)
   unfolding ξ
   xi-of = k .xi .value ∙ rw (t .hsine)

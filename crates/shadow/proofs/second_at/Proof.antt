@@ -45,7 +45,8 @@ module _ (c : tie.After-shadow-at) where
   m-is = read-back (c .shadow-at .result .m) (sizes .m) tt ∙ seen c .m
 
 states : (c : tie.After-states-of)
-    → IsStates (c .before .before .before .args .guard) (c .before .before .before .args .e) (c .before .before .before .args .place) (c .before .before .before .args .t) (c .states-of .result)
+    → IsStates (c .before .before .before .args .guard) (c .before .before .before .args .e) (c .before .before .before .args .place)
+    (c .before .before .before .args .t) (c .states-of .result)
 states c =
     let a = c .before .before .before in
     states-of-second (seen (c .before)) (rw (read-back (a .args .guard) (a .pre .4) tt) at (c .states-of .ensures))
@@ -67,7 +68,12 @@ magnitude-requires c κs =
     let a = s .before .before in
     let over = L1-over (a .args .e) (a .pre .1) (a .args .place) (a .pre .2) (a .args .t) (a .pre .3) in
     let narrow = L2-within (a .args .e) (a .pre .1) (a .args .place) (a .pre .2) (a .args .t) (a .pre .3) in (
-      (read-size (r .l1) 600000000 (sizes s .l1) tt, read-size (r .l2) 600000000 (sizes s .l2) tt, read-size (r .m) 1000000000000000000 (sizes s .m) tt, rw (m-is s) (M-nonneg (m s))),
+      (
+        read-size (r .l1) 600000000 (sizes s .l1) tt,
+        read-size (r .l2) 600000000 (sizes s .l2) tt,
+        read-size (r .m) 1000000000000000000 (sizes s .m) tt,
+        rw (m-is s) (M-nonneg (m s)),
+      ),
       (rw (l1-is s) over, rw (l1-is s, l2-is s) narrow),
     )
 
@@ -87,7 +93,8 @@ returns c =
       shadow = seen s;
       penumbra = w .penumbra;
       central = w .central;
-      magnitude = (rw (l1-is s, l2-is s, m-is s, w .central, state-of-code (stateAt (a .guard) (a .e) (a .place) Central (a .t))) at (c .before .before .before .magnitude .ensures .0))
+      magnitude = (rw (l1-is s, l2-is s, m-is s, w .central, state-of-code (stateAt (a .guard) (a .e) (a .place) Central (a .t))) at
+          (c .before .before .before .magnitude .ensures .0))
           ∙ sym (magnitude-at (a .guard) (a .e) (a .place) (a .t));
       direction = (rw (u-is s, v-is s) at (c .direction .ensures)) ∙ sym (direction-at (a .e) (a .place) (a .t));
     }
