@@ -12,10 +12,10 @@ use Rattle.elements.specs.declared.Axis.{Axis}
 use Rattle.elements.specs.Sizes.{wider}
 use Rattle.elements.specs.Elements.{xAt, yAt, dAt, μAt}
 use Rattle.station.specs.declared.Place.{Place}
-use Rattle.geometry.specs.Shadow.{Moment, H, ξ, q, η, ζ, u, v, M}
+use Rattle.geometry.specs.Shadow.{Moment, momentOf, H, ξ, q, η, ζ, u, v, M}
 use Rattle.shadow.specs.declared.Orientation.{Orientation}
 use Rattle.shadow.specs.declared.Coordinates.{Coordinates}
-use Rattle.shadow.specs.Shadow.{IsOrientation, OrientationSizes, AreCoordinates, momentOf}
+use Rattle.shadow.specs.Shadow.{IsOrientation, OrientationSizes, AreCoordinates}
 use Rattle.shadow.proofs.offset_at.Statement.{statement}
 use Rattle.shadow.proofs.offset_at.Tie as tie
 
