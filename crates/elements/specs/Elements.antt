@@ -68,7 +68,7 @@ ranges e =
 unfoldable pub rangeOf : Elements → Limits
 rangeOf e = firstOutOfRange 0 (ranges e)
 
--- "A value at τ": of x, y, d and μ of an axis, and of l of a cone
+-- "A value at τ starts from the highest coefficient and repeats": of x, y, d and μ of an axis, and of l of a cone (Polynomial)
 abbrev pub xAt : Axis → (τ : ℤ) → ℤ
 xAt a τ = cubicAt (a .x) τ
 

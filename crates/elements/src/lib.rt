@@ -8,6 +8,7 @@ ghost use Rattle.elements.specs.Elements.{fields, cubicFrom, quadraticFr
 ghost use Rattle.elements.specs.Sizes.{CubicSizes, QuadraticSizes};
 
 // c0 + c1 t + c2 t^2 + c3 t^3 with t in hours: a length, 10^-8 of the Earth's equatorial radius.
+#[repr(C)]
 pub struct Cubic {
     // ±200,000,000
     pub c0: i64,
@@ -20,6 +21,7 @@ pub struct Cubic {
 }
 
 // c0 + c1 t + c2 t^2 with t in hours: a length, or an angle in 10^-6 degree. Whose it is says the ranges.
+#[repr(C)]
 pub struct Quadratic {
     pub c0: i64,
     pub c1: i64,
@@ -27,6 +29,7 @@ pub struct Quadratic {
 }
 
 // The axis of a shadow.
+#[repr(C)]
 pub struct Axis {
     // Where it meets the fundamental plane, to the east.
     pub x: Cubic,
@@ -39,6 +42,7 @@ pub struct Axis {
 }
 
 // A cone about the axis.
+#[repr(C)]
 pub struct Cone {
     // Its radius in the fundamental plane. Penumbra: 50,000,000 to 60,000,000; ±100,000; ±10,000.
     // Central: ±5,000,000; ±100,000; ±10,000; below zero where the eclipse is total.
@@ -47,6 +51,7 @@ pub struct Cone {
     pub tanf: i64,
 }
 
+#[repr(C)]
 pub struct Elements {
     pub axis: Axis,
     // l1 and tan f1

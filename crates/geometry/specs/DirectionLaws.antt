@@ -7,7 +7,7 @@
 use mathlib.Core.Path.{_≡_, refl, _∙_, ap}
 use mathlib.Core.Bool.{Bool, true, false, _&&_, cond}
 use mathlib.Core.Logic.{_⊎_, inl, inr, ⊎-elim}
-use Prim.Native.Nat.{ℕ, zero, suc, _+_, _*_, _-_, _≤_, _<_}
+use Prim.Native.Nat.{ℕ, zero, suc, _+_, _-_, _≤_, _<_}
 use native.Mathlib.Omega.{arith}
 use native.Mathlib.Nat.{le-antisymm, lt-of-not-le, eq-or-lt-of-le}
 use lib.IntN.{ℤ, pos, negsuc, negℤ, _*ℤ_, *ℤ-zero}
@@ -87,7 +87,8 @@ module _ (S : ℕ → ℕ) {u v : ℤ} where
 
   pub direction-fourth : u <ℤ pos 0 → pos 0 ≤ℤ v → direction S u v ≡ 2700 + quarter S v (negℤ u)
   unfolding direction
-  direction-fourth h k = rw (not-left (ltZ (pos 0) v) (no-≤ h), not-left (leZ v (pos 0)) (no-< (<ℤ-≤ h)), not-right (leZ u (pos 0)) (no-< k), both (yes-< h) (yes-≤ k))
+  direction-fourth h k =
+      rw (not-left (ltZ (pos 0) v) (no-≤ h), not-left (leZ v (pos 0)) (no-< (<ℤ-≤ h)), not-right (leZ u (pos 0)) (no-< k), both (yes-< h) (yes-≤ k))
 
 pub direction-none : (S : ℕ → ℕ) → direction S (pos 0) (pos 0) ≡ 65535
 unfolding direction
@@ -124,4 +125,5 @@ pub direction-south : (S : ℕ → ℕ) → Rising S → direction S (pos 0) (ne
 direction-south S h =
     let none : Largest S (pos 0) (pos 5) 899 0 =
     record { small = omega arith; holds = omega (arith, zs, h .none); above = λ j i k. omega (arith, zs, h .rises 0 j i (omega arith)) } in
-    direction-third S (leZ-yes tt) (ltZ-yes tt) ∙ ap (λ (k : ℕ). 1800 + k) (largest-unique S (pos 0) (pos 5) (quarter-is S (pos 0) (pos 5) (h .none) (leZ-yes tt)) none)
+    direction-third S (leZ-yes tt) (ltZ-yes tt) ∙ ap (λ (k : ℕ). 1800 + k)
+    (largest-unique S (pos 0) (pos 5) (quarter-is S (pos 0) (pos 5) (h .none) (leZ-yes tt)) none)

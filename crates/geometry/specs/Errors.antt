@@ -29,7 +29,8 @@ use Rattle.geometry.specs.Exact.{_³, D, exact-x, exact-y, exact-l, exac
 rounded-twice : (n a b q w : ℤ) → natAbs w ≤ 100000000 → 2 * natAbs (one *ℤ n -ℤ (a +ℤ q *ℤ w)) ≤ 100000000 → 2 * natAbs (one *ℤ q -ℤ b) ≤ 100000000
     → natAbs (one ² *ℤ n -ℤ (a *ℤ one +ℤ b *ℤ w)) ≤ 10000000000000000
 rounded-twice n a b q w hw hn hq =
-    let e = ring (n ∷ a ∷ b ∷ q ∷ w ∷ []) (num 10000000000000000 ⊗ v0 ⊖ (v1 ⊗ num 100000000 ⊕ v2 ⊗ v4)) (num 100000000 ⊗ (num 100000000 ⊗ v0 ⊖ (v1 ⊕ v3 ⊗ v4)) ⊕ v4 ⊗ (num 100000000 ⊗ v3 ⊖ v2)) tt in
+    let e = ring (n ∷ a ∷ b ∷ q ∷ w ∷ []) (num 10000000000000000 ⊗ v0 ⊖ (v1 ⊗ num 100000000 ⊕ v2 ⊗ v4))
+    (num 100000000 ⊗ (num 100000000 ⊗ v0 ⊖ (v1 ⊕ v3 ⊗ v4)) ⊕ v4 ⊗ (num 100000000 ⊗ v3 ⊖ v2)) tt in
     omega (
       arith,
       ap natAbs e,

@@ -1,9 +1,8 @@
 -- The exact shadow at one second, the measure of demand 3. Each value is a numerator over a denominator that its comment names;
 -- u, v and L stand over one, D, so that fractions are cleared once, here.
-use mathlib.Core.Bool.{Bool, _&&_}
 use Prim.Native.Nat.{ℕ, _*_}
 use lib.IntN.{ℤ, pos, _+ℤ_, _-ℤ_, _*ℤ_}
-use lib.Signed.{ltZ, leZ, _≤ℤ_, _<ℤ_}
+use lib.Signed.{_≤ℤ_, _<ℤ_}
 use Rattle.phases.specs.declared.Phase.{Phase}
 use Rattle.numbers.specs.Units.{one, hour}
 use Rattle.sine.specs.Sine.{sine, cosine}
@@ -103,7 +102,3 @@ ExactlyOutside φ m k = ExactlyInside φ m k → ⊥
 -- "The cone's edge is at that L, and within n units of it means a difference of at most n."
 abbrev pub WithinUnits : ℤ → Phase → Moment → Cone → Type 0
 WithinUnits n φ m k = DiffersAtMost (exact-M m) (exact-edge φ m k) (n *ℤ pos D)
-
--- exactly inside, as a test: ExactLaws has that it is true just there
-unfoldable pub exactlyInside? : Phase → Moment → Cone → Bool
-exactlyInside? φ m k = leZ (pos 0) (exact-edge φ m k) && ltZ (exact-M m) (exact-edge φ m k ²)

@@ -1,8 +1,8 @@
 -- Rows by computation: the definitions at numbers worked by hand.
 use mathlib.Core.Path.{_≡_, refl}
-use mathlib.Core.Bool.{true, false}
 use Prim.Native.Nat.{ℕ}
 use lib.IntN.{ℤ, pos, negsuc, _+ℤ_, _-ℤ_}
+use lib.Signed.{leZ-yes, ltZ-yes, clashℤ}
 use Rattle.phases.specs.States.{State, inside, outside, unsure}
 use Rattle.phases.specs.declared.Phase.{Phase}
 use Rattle.phases.specs.declared.Phase.the-variants.{Penumbra, Central}
@@ -14,7 +14,8 @@ use Rattle.sine.specs.Sine.{reduced, sineIn, sine, cosine}
 use Rattle.elements.specs.declared.Elements.{Elements}
 use Rattle.elements.specs.Polynomial.{step, quadraticAt, cubicAt}
 use Rattle.geometry.specs.Shadow.{Moment, moment, cone, _², H, q, ξ, η, ζ, u, v, L, M, edge, state}
-use Rattle.geometry.specs.Exact.{exact-quadratic, exact-cubic, exact-q, exact-ξ, exact-η, exact-ζ, exact-term, exact-u, exact-v, exact-L, exactlyInside?}
+use Rattle.geometry.specs.Exact.{exact-quadratic, exact-cubic, exact-q, exact-ξ, exact-η, exact-ζ, exact-term, exact-u, exact-v, exact-L}
+use Rattle.geometry.specs.Exact.{ExactlyInside, ExactlyOutside}
 use Rattle.geometry.specs.Direction.{largest, quarter, direction}
 use Rattle.geometry.specs.Magnitude.{magnitude}
 
@@ -39,7 +40,7 @@ inside-by-one : state (pos 16) r ((r -ℤ pos 16) ² -ℤ pos 1) ≡ inside
 unfolding state
 inside-by-one = refl
 
--- "inside if L > 16": a cone of 16 units has no inside
+-- "*inside* if L > 16": a cone of 16 units has no inside
 none-inside : state (pos 16) (pos 16) (pos 0) ≡ unsure
 unfolding state
 none-inside = refl
@@ -61,43 +62,53 @@ worked =
 abbrev at-pole : ℤ → Moment
 at-pole τ = moment worked (record { r = pos 0; p = pos 99664768; longitude = pos 0 }) τ
 
-abbrev stateOf : Phase → ℤ → State
-stateOf φ τ = state (pos 16) (edge φ (L (at-pole τ) (cone φ worked))) (M (at-pole τ))
+abbrev poleState : Phase → ℤ → State
+poleState φ τ = state (pos 16) (edge φ (L (at-pole τ) (cone φ worked))) (M (at-pole τ))
 
 -- "enter penumbra -5401 -5399", with one unsure second between
-before-enter : stateOf Penumbra (negsuc 5400) ≡ outside
-unfolding state H L u v ξ η ζ q quadraticAt cubicAt step near factorial numerator denominator common term series S arc sag between capped firstQuadrant reduced sineIn sine cosine
+before-enter : poleState Penumbra (negsuc 5400) ≡ outside
+unfolding state H L u v ξ η ζ q quadraticAt cubicAt step near factorial numerator denominator common term
+    series S arc sag between capped firstQuadrant reduced sineIn sine cosine
 before-enter = refl
 
-at-enter : stateOf Penumbra (negsuc 5399) ≡ unsure
-unfolding state H L u v ξ η ζ q quadraticAt cubicAt step near factorial numerator denominator common term series S arc sag between capped firstQuadrant reduced sineIn sine cosine
+at-enter : poleState Penumbra (negsuc 5399) ≡ unsure
+unfolding state H L u v ξ η ζ q quadraticAt cubicAt step near factorial numerator denominator common term
+    series S arc sag between capped firstQuadrant reduced sineIn sine cosine
 at-enter = refl
 
-after-enter : stateOf Penumbra (negsuc 5398) ≡ inside
-unfolding state H L u v ξ η ζ q quadraticAt cubicAt step near factorial numerator denominator common term series S arc sag between capped firstQuadrant reduced sineIn sine cosine
+after-enter : poleState Penumbra (negsuc 5398) ≡ inside
+unfolding state H L u v ξ η ζ q quadraticAt cubicAt step near factorial numerator denominator common term
+    series S arc sag between capped firstQuadrant reduced sineIn sine cosine
 after-enter = refl
 
 -- "leave central 99 101"
-before-leave : stateOf Central (pos 99) ≡ inside
-unfolding state H L u v ξ η ζ q quadraticAt cubicAt step near factorial numerator denominator common term series S arc sag between capped firstQuadrant reduced sineIn sine cosine
+before-leave : poleState Central (pos 99) ≡ inside
+unfolding state H L u v ξ η ζ q quadraticAt cubicAt step near factorial numerator denominator common term
+    series S arc sag between capped firstQuadrant reduced sineIn sine cosine
 before-leave = refl
 
-after-leave : stateOf Central (pos 101) ≡ outside
-unfolding state H L u v ξ η ζ q quadraticAt cubicAt step near factorial numerator denominator common term series S arc sag between capped firstQuadrant reduced sineIn sine cosine
+after-leave : poleState Central (pos 101) ≡ outside
+unfolding state H L u v ξ η ζ q quadraticAt cubicAt step near factorial numerator denominator common term
+    series S arc sag between capped firstQuadrant reduced sineIn sine cosine
 after-leave = refl
 
 -- at second 100 the exact distance is the exact L: exactly outside
-exactly-outside : exactlyInside? Central (at-pole (pos 100)) (worked .central) ≡ false
-unfolding exactlyInside? exact-u exact-v exact-L exact-ξ exact-η exact-ζ exact-q exact-term exact-quadratic exact-cubic H quadraticAt cubicAt step near factorial numerator denominator common term series S arc sag between capped firstQuadrant reduced sineIn sine cosine
-exactly-outside = refl
+exactly-outside : ExactlyOutside Central (at-pole (pos 100)) (worked .central)
+unfolding exact-u exact-v exact-L exact-ξ exact-η exact-ζ exact-q exact-term exact-quadratic exact-cubic H
+    quadraticAt cubicAt step near factorial numerator denominator common term series S arc sag between capped
+    firstQuadrant reduced sineIn sine cosine
+exactly-outside i = clashℤ (i .square) (leZ-yes tt)
 
-exactly-inside : exactlyInside? Central (at-pole (pos 99)) (worked .central) ≡ true
-unfolding exactlyInside? exact-u exact-v exact-L exact-ξ exact-η exact-ζ exact-q exact-term exact-quadratic exact-cubic H quadraticAt cubicAt step near factorial numerator denominator common term series S arc sag between capped firstQuadrant reduced sineIn sine cosine
-exactly-inside = refl
+exactly-inside : ExactlyInside Central (at-pole (pos 99)) (worked .central)
+unfolding exact-u exact-v exact-L exact-ξ exact-η exact-ζ exact-q exact-term exact-quadratic exact-cubic H
+    quadraticAt cubicAt step near factorial numerator denominator common term series S arc sag between capped
+    firstQuadrant reduced sineIn sine cosine
+exactly-inside = record { sign = leZ-yes tt; square = ltZ-yes tt }
 
 -- "closest 0 1037735": L2 with its sign; without it the total eclipse would read as annular, 963,636
 total : magnitude inside (L (at-pole (pos 0)) (worked .penumbra)) (L (at-pole (pos 0)) (worked .central)) (M (at-pole (pos 0))) ≡ 1037735
-unfolding root magnitude H L u v ξ η ζ q quadraticAt cubicAt step near factorial numerator denominator common term series S arc sag between capped firstQuadrant reduced sineIn sine cosine
+unfolding root magnitude H L u v ξ η ζ q quadraticAt cubicAt step near factorial numerator denominator common
+    term series S arc sag between capped firstQuadrant reduced sineIn sine cosine
 total = refl
 
 -- ---- the magnitude outside of central: partial, and 0 outside of the penumbra

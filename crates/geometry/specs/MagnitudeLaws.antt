@@ -6,7 +6,7 @@
 use mathlib.Core.Path.{_≡_, refl}
 use mathlib.Core.Bool.{Bool, true, false, cond}
 use mathlib.Core.List.{List, [], _∷_}
-use Prim.Native.Nat.{ℕ, _*_, _/_, _≤_}
+use Prim.Native.Nat.{ℕ, _≤_}
 use native.Mathlib.Omega.{arith}
 use native.Mathlib.Nat.{le-refl}
 use lib.IntN.{ℤ, pos, negsuc, negℤ, natAbs, _+ℤ_, _-ℤ_, _*ℤ_}
@@ -84,7 +84,8 @@ module _ (L1 L2 : ℤ) (above : pos 0 <ℤ L1) (small : (pos 23 *ℤ pos (natAbs
       go false =
           millionths-limit (L1 -ℤ r) (L1 +ℤ L2) sum-positive
           (certify 0 env (num 10 ⊗ (v0 ⊖ v3)) (num 13 ⊗ (v0 ⊕ v1))
-          (leq (num 23 ⊗ v2) (num 3 ⊗ v0) small ⊞ lit 13 ⊠ leq (opp v2) v1 low ⊞ lit 10 ⊠ (leq (num 0) v2 (omega (arith, zs)) ⊞ leq (num 0) v3 (omega (arith, zs)))) tt)
+          (leq (num 23 ⊗ v2) (num 3 ⊗ v0) small ⊞ lit 13 ⊠ leq (opp v2) v1 low ⊞ lit 10 ⊠
+          (leq (num 0) v2 (omega (arith, zs)) ⊞ leq (num 0) v3 (omega (arith, zs)))) tt)
 
 -- within the ranges: of a penumbra's cone and of the other
 module _ (m : Moment) (h : MomentSizes m) (k1 k2 : Cone) {c : ℕ} (h1 : ConeSizes c k1) (low : pos 50000000 ≤ℤ k1 .l .c0) (h2 : ConeSizes 5000000 k2) where

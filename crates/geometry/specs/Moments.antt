@@ -9,7 +9,7 @@ use Rattle.elements.specs.declared.Axis.{Axis}
 use Rattle.elements.specs.Elements.{μAt}
 use Rattle.elements.specs.PolynomialLaws.{quadratic-size}
 use Rattle.station.specs.declared.Place.{Place}
-use Rattle.geometry.specs.Shadow.{Moment, H, d}
+use Rattle.geometry.specs.Shadow.{Moment, momentOf, H, d}
 use Rattle.geometry.specs.Ranges.{MomentSizes}
 
 -- the place, a step farther to the east
@@ -17,7 +17,7 @@ abbrev pub eastOf : Place → (step : ℤ) → Place
 eastOf p step = record { r = p .r; p = p .p; longitude = p .longitude +ℤ step }
 
 -- "longitude .. **east positive**": a step to the east adds to H
-pub H-east : (a : Axis) (p : Place) (step τ : ℤ) → H (record { axis = a; place = eastOf p step; τ = τ }) ≡ H (record { axis = a; place = p; τ = τ }) +ℤ step
+pub H-east : (a : Axis) (p : Place) (step τ : ℤ) → H (momentOf a (eastOf p step) τ) ≡ H (momentOf a p τ) +ℤ step
 unfolding H
 H-east a p step τ = sym (+ℤ-assoc (μAt a τ) (p .longitude) step)
 

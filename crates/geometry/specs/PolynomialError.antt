@@ -23,7 +23,8 @@ step-error : (τ p c P : ℤ) (S E : ℕ) → natAbs τ ≤ 10800 → 2 * natAbs
 unfolding step
 step-error τ p c P S E h k =
     let n = near (p *ℤ τ) hour in
-    let e = ring (τ ∷ p ∷ c ∷ P ∷ pos S ∷ n ∷ []) (num 3600 ⊗ v4 ⊗ (v5 ⊕ v2) ⊖ (v3 ⊗ v0 ⊕ num 3600 ⊗ v4 ⊗ v2)) (v4 ⊗ (num 3600 ⊗ v5 ⊖ v1 ⊗ v0) ⊕ v0 ⊗ (v4 ⊗ v1 ⊖ v3)) tt in
+    let e = ring (τ ∷ p ∷ c ∷ P ∷ pos S ∷ n ∷ []) (num 3600 ⊗ v4 ⊗ (v5 ⊕ v2) ⊖ (v3 ⊗ v0 ⊕ num 3600 ⊗ v4 ⊗ v2))
+    (v4 ⊗ (num 3600 ⊗ v5 ⊖ v1 ⊗ v0) ⊕ v0 ⊗ (v4 ⊗ v1 ⊖ v3)) tt in
     omega (
       arith,
       ap natAbs e,

@@ -28,9 +28,12 @@ pub record Moment : Type 0 where
   -- seconds from the reference instant, ±10,800
   pub τ : ℤ
 
+abbrev pub momentOf : (a : Axis) (p : Place) (τ : ℤ) → Moment
+momentOf a p τ = record { axis = a; place = p; τ = τ }
+
 -- a second of an eclipse at a station
 abbrev pub moment : (e : Elements) (p : Place) (τ : ℤ) → Moment
-moment e p τ = record { axis = e .axis; place = p; τ = τ }
+moment e p τ = momentOf (e .axis) p τ
 
 -- the cone of a phase: l1 and tan f1, or l2 and tan f2
 abbrev pub cone : Phase → Elements → Cone

@@ -22,17 +22,17 @@ use Rattle.geometry.specs.Ranges.{MomentSizes}
 use Rattle.geometry.specs.Moments.{sine-d-size}
 
 module _ (m : Moment) (h : MomentSizes m) where
-  -- a length along the equator, turned by H
-  turned-size : (z : ℤ) → natAbs z ≤ 100000000 → natAbs (near (m .place .r *ℤ z) one) ≤ 101000000
-  turned-size z s = near-size (m .place .r *ℤ z) one 101000000 (leZ-yes tt) (natAbs-product-le (m .place .r) z 101000000 100000000 (h .place .r) s)
+  -- R times a sine or a cosine of H
+  R-part-size : (z : ℤ) → natAbs z ≤ 100000000 → natAbs (near (m .place .r *ℤ z) one) ≤ 101000000
+  R-part-size z s = near-size (m .place .r *ℤ z) one 101000000 (leZ-yes tt) (natAbs-product-le (m .place .r) z 101000000 100000000 (h .place .r) s)
 
   pub q-size : natAbs (q m) ≤ 101000000
   unfolding q
-  q-size = turned-size (cosine (H m)) (cosine-size (H m))
+  q-size = R-part-size (cosine (H m)) (cosine-size (H m))
 
   pub ξ-size : natAbs (ξ m) ≤ 101000000
   unfolding ξ
-  ξ-size = turned-size (sine (H m)) (sine-size (H m))
+  ξ-size = R-part-size (sine (H m)) (sine-size (H m))
 
   pub η-size : natAbs (η m) ≤ 150000000
   unfolding η

@@ -51,7 +51,8 @@ module _ {D : ℕ} {u v r E N K : ℤ} (a : Approximate D u v r E N K) (g : ℤ)
       record {
         square = λ z.
             certify 0 f (v3 ⊗ v3) v4
-            (less (B ⊗ B) v4 (above a g (<ℤ-≤ (s .1)) (certify 0 f (num 0) B (leq (num 0) v3 z ⊞ leq v3 B up) tt)) ⊞ lit 1 ⊞ leq v3 B up ⊠ leq v3 B up ⊞ lit 2 ⊠ leq (num 0) v3 z ⊠ leq v3 B up) tt;
+            (less (B ⊗ B) v4 (above a g (<ℤ-≤ (s .1)) (certify 0 f (num 0) B (leq (num 0) v3 z ⊞ leq v3 B up) tt)) ⊞ lit 1 ⊞ leq v3 B up ⊠ leq v3 B up
+            ⊞ lit 2 ⊠ leq (num 0) v3 z ⊠ leq v3 B up) tt;
       }
 
   pub unsure-near : pos 0 ≤ℤ (r +ℤ g) → state g r (u ² +ℤ v ²) ≡ unsure → DiffersAtMost (E ² +ℤ N ²) K ((g +ℤ pos 13) *ℤ pos D)
@@ -67,7 +68,8 @@ module _ {D : ℕ} {u v r E N K : ℤ} (a : Approximate D u v r E N K) (g : ℤ)
               ⊎-elim
               -- with r at most g the edge less g and 13 is negative
               (λ (k : r ≤ℤ g). clashℤ
-              (certify-< 999 f B (num 0) (leq (opp (num 2505 ⊗ v0)) (num 1000 ⊗ (v0 ⊗ v2 ⊖ v3)) (r-low a) ⊞ lit 1000 ⊠ (leq (num 1) v0 (some-D a) ⊞ lit 1) ⊠ leq v2 v1 k ⊞ lit 10495 ⊠ leq (num 1) v0 (some-D a) ⊞ lit 9495) tt) z)
+              (certify-< 999 f B (num 0) (leq (opp (num 2505 ⊗ v0)) (num 1000 ⊗ (v0 ⊗ v2 ⊖ v3)) (r-low a) ⊞ lit 1000 ⊠
+              (leq (num 1) v0 (some-D a) ⊞ lit 1) ⊠ leq v2 v1 k ⊞ lit 10495 ⊠ leq (num 1) v0 (some-D a) ⊞ lit 9495) tt) z)
               (λ (k : g <ℤ r). <ℤ-≤ (above-minus z (s .0 k)))
               (≤ℤ-total r g);
         };
@@ -76,7 +78,8 @@ module _ {D : ℕ} {u v r E N K : ℤ} (a : Approximate D u v r E N K) (g : ℤ)
       above-minus : pos 0 ≤ℤ (K -ℤ (g +ℤ pos 13) *ℤ pos D) → ((r -ℤ g) ²) ≤ℤ (u ² +ℤ v ²)
           → ((K -ℤ (g +ℤ pos 13) *ℤ pos D) ²) <ℤ (E ² +ℤ N ²)
       above-minus z k =
-          let e : K +ℤ (negℤ g -ℤ pos 13) *ℤ pos D ≡ K -ℤ (g +ℤ pos 13) *ℤ pos D = ring (pos D ∷ g ∷ K ∷ []) (v2 ⊕ (opp v1 ⊖ num 13) ⊗ v0) (v2 ⊖ (v1 ⊕ num 13) ⊗ v0) tt in
+          let e : K +ℤ (negℤ g -ℤ pos 13) *ℤ pos D ≡ K -ℤ (g +ℤ pos 13) *ℤ pos D = ring (pos D ∷ g ∷ K ∷ []) (v2 ⊕ (opp v1 ⊖ num 13) ⊗ v0)
+          (v2 ⊖ (v1 ⊕ num 13) ⊗ v0) tt in
           subst (λ (B : ℤ). (B ²) <ℤ (E ² +ℤ N ²)) e (above a (negℤ g) k (subst (λ (B : ℤ). pos 0 ≤ℤ B) (sym e) z))
 
 -- ---- of a second

@@ -51,7 +51,8 @@ reach D p q x y a ha hx hy h =
     triangle (pos 100 *ℤ p) (pos 100 *ℤ q) (pos 100 *ℤ x) (pos 100 *ℤ y) (pos 100 *ℤ a) (pos 1026 *ℤ pos D)
     (certify 0 e (num 0) (num 100 ⊗ v5) (lit 100 ⊠ leq (num 0) v5 ha) tt)
     (certify 0 e (num 0) (num 1026 ⊗ v0) (lit 1026 ⊠ leq (num 0) v0 hD) tt)
-    (certify 0 e (num 100 ⊗ v1 ⊗ (num 100 ⊗ v1) ⊕ num 100 ⊗ v2 ⊗ (num 100 ⊗ v2)) (num 100 ⊗ v5 ⊗ (num 100 ⊗ v5)) (lit 10000 ⊠ leq (v1 ⊗ v1 ⊕ v2 ⊗ v2) (v5 ⊗ v5) h) tt)
+    (certify 0 e (num 100 ⊗ v1 ⊗ (num 100 ⊗ v1) ⊕ num 100 ⊗ v2 ⊗ (num 100 ⊗ v2)) (num 100 ⊗ v5 ⊗ (num 100 ⊗ v5))
+    (lit 10000 ⊠ leq (v1 ⊗ v1 ⊕ v2 ⊗ v2) (v5 ⊗ v5) h) tt)
     (certify 0 e (c ⊗ c ⊕ d ⊗ d) (num 1026 ⊗ v0 ⊗ (num 1026 ⊗ v0))
     (lit 10000 ⊠ leq (r ⊗ r) (num 7 ⊗ v0 ⊗ (num 7 ⊗ v0)) (squares-of-size (p -ℤ x) (7 * D) hx)
     ⊞ lit 2500 ⊠ leq (s ⊗ s) (num 15 ⊗ v0 ⊗ (num 15 ⊗ v0)) (squares-of-size (pos 2 *ℤ (q -ℤ y)) (15 * D) twice) ⊞ lit 176 ⊠ sq v0) tt)
@@ -85,8 +86,10 @@ module _ {D : ℕ} {u v r E N K : ℤ} (a : Approximate D u v r E N K) where
       let Y = v5 ⊕ (v4 ⊕ num 13) ⊗ v0 in
       let hA : pos 0 ≤ℤ A = certify 0 e (num 0) (v0 ⊗ (v3 ⊕ v4)) ((leq (num 1) v0 some-D ⊞ lit 1) ⊠ leq (num 0) (v3 ⊕ v4) h) tt in
       let far = reach D (pos D *ℤ u) (pos D *ℤ v) E N A hA (a .u-error) (a .v-error)
-      (certify 0 e (v0 ⊗ v1 ⊗ (v0 ⊗ v1) ⊕ v0 ⊗ v2 ⊗ (v0 ⊗ v2)) (v0 ⊗ (v3 ⊕ v4) ⊗ (v0 ⊗ (v3 ⊕ v4))) (sq v0 ⊠ leq (v1 ⊗ v1 ⊕ v2 ⊗ v2) ((v3 ⊕ v4) ⊗ (v3 ⊕ v4)) m) tt) in
-      let hX : pos 0 ≤ℤ (pos 100 *ℤ A +ℤ pos 1026 *ℤ pos D) = certify 0 f (num 0) X (lit 100 ⊠ leq (num 0) (v0 ⊗ (v3 ⊕ v4)) hA ⊞ lit 1026 ⊠ (leq (num 1) v0 some-D ⊞ lit 1)) tt in
+      (certify 0 e (v0 ⊗ v1 ⊗ (v0 ⊗ v1) ⊕ v0 ⊗ v2 ⊗ (v0 ⊗ v2)) (v0 ⊗ (v3 ⊕ v4) ⊗ (v0 ⊗ (v3 ⊕ v4)))
+      (sq v0 ⊠ leq (v1 ⊗ v1 ⊕ v2 ⊗ v2) ((v3 ⊕ v4) ⊗ (v3 ⊕ v4)) m) tt) in
+      let hX : pos 0 ≤ℤ (pos 100 *ℤ A +ℤ pos 1026 *ℤ pos D) = certify 0 f (num 0) X
+      (lit 100 ⊠ leq (num 0) (v0 ⊗ (v3 ⊕ v4)) hA ⊞ lit 1026 ⊠ (leq (num 1) v0 some-D ⊞ lit 1)) tt in
       let less-100 : (pos 100 *ℤ A +ℤ pos 1026 *ℤ pos D) <ℤ (pos 100 *ℤ (K +ℤ (t +ℤ pos 13) *ℤ pos D)) =
       certify-< 9 f X (num 100 ⊗ Y) (leq (num 1000 ⊗ (v0 ⊗ v3 ⊖ v5)) (num 2505 ⊗ v0) r-high ⊞ lit 235 ⊠ leq (num 1) v0 some-D ⊞ lit 225) tt in
       record {
@@ -108,7 +111,8 @@ module _ {D : ℕ} {u v r E N K : ℤ} (a : Approximate D u v r E N K) where
       let W = num 100 ⊗ (v0 ⊗ (v3 ⊕ v4)) in
       by-contra-< (B ²) (E ² +ℤ N ²)
       (λ g.
-      let far = reach D E N (pos D *ℤ u) (pos D *ℤ v) B h (omega (arith, apart-sym E (pos D *ℤ u), a .u-error)) (omega (arith, apart-sym N (pos D *ℤ v), a .v-error)) g in
+      let far = reach D E N (pos D *ℤ u) (pos D *ℤ v) B h (omega (arith, apart-sym E (pos D *ℤ u), a .u-error))
+      (omega (arith, apart-sym N (pos D *ℤ v), a .v-error)) g in
       clashℤ
       (certify-< 9 f X W (leq (opp (num 2505 ⊗ v0)) (num 1000 ⊗ (v0 ⊗ v3 ⊖ v5)) r-low ⊞ lit 235 ⊠ leq (num 1) v0 some-D ⊞ lit 225) tt)
       (le-of-squares (pos 100 *ℤ (pos D *ℤ (r +ℤ t))) (pos 100 *ℤ B +ℤ pos 1026 *ℤ pos D)

@@ -11,7 +11,7 @@ use Rattle.elements.specs.declared.Cone.{Cone}
 use Rattle.elements.specs.declared.Elements.{Elements}
 use Rattle.elements.specs.Elements.{lAt}
 use Rattle.station.specs.declared.Place.{Place}
-use Rattle.geometry.specs.Shadow.{Moment, moment, u, v, ζ, L, M}
+use Rattle.geometry.specs.Shadow.{momentOf, moment, u, v, ζ, L, M}
 use Rattle.shadow.specs.declared.Orientation.{Orientation}
 use Rattle.shadow.specs.declared.Coordinates.{Coordinates}
 use Rattle.shadow.specs.declared.Offset.{Offset}
@@ -38,9 +38,6 @@ pub record AreCoordinates (p : Place) (o : Orientation) (x : Coordinates) : Type
   pub zeta : Value (near (p .p *ℤ o .dsine +ℤ near (p .r *ℤ o .hcosine) one *ℤ o .dcosine) one) 202000000 (x .zeta)
 
 -- the axis from the station: each letter is that of document 01's page (geometry, Shadow)
-abbrev pub momentOf : (a : Axis) (p : Place) (τ : ℤ) → Moment
-momentOf a p τ = record { axis = a; place = p; τ = τ }
-
 pub record IsOffset (a : Axis) (p : Place) (τ : ℤ) (r : Offset) : Type 0 where
   pub u : Value (u (momentOf a p τ)) 602170000 (r .u)
   pub v : Value (v (momentOf a p τ)) 703170000 (r .v)

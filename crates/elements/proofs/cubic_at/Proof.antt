@@ -23,7 +23,8 @@ first-size : (c : tie.After-step) → natAbs (c .step .result) ≤ 130000
 first-size c = omega (arith, first c .size, start c .pre .0 .c2, start c .pre .0 .c3)
 
 second : (c : tie.After-step2)
-    → let a = start (c .before) .args in Value (step (a .t) (c .before .step .result) (a .c .c1)) (3 * natAbs (c .before .step .result) + natAbs (a .c .c1)) (c .step2 .result)
+    → let a = start (c .before) .args in Value (step (a .t) (c .before .step .result) (a .c .c1)) (3 * natAbs (c .before .step .result) + natAbs (a .c .c1))
+    (c .step2 .result)
 second c =
     let a = start (c .before) .args in
     let p = start (c .before) .pre in
@@ -33,29 +34,43 @@ second-size : (c : tie.After-step2) → natAbs (c .step2 .result) ≤ 100390000
 second-size c = omega (arith, second c .size, first-size (c .before), start (c .before) .pre .0 .c1)
 
 third : (c : tie.After-step3)
-    → let a = start (c .before .before) .args in Value (step (a .t) (c .before .step2 .result) (a .c .c0)) (3 * natAbs (c .before .step2 .result) + natAbs (a .c .c0)) (c .step3 .result)
+    → let a = start (c .before .before) .args in Value (step (a .t) (c .before .step2 .result) (a .c .c0))
+    (3 * natAbs (c .before .step2 .result) + natAbs (a .c .c0)) (c .step3 .result)
 third c =
     let a = start (c .before .before) .args in
     let p = start (c .before .before) .pre in
-    rw (read-back (a .t) (p .1) tt, read-back (c .before .step2 .result) (second-size (c .before)) tt, read-back (a .c .c0) (p .0 .c0) tt) at (c .step3 .ensures)
+    rw (read-back (a .t) (p .1) tt, read-back (c .before .step2 .result) (second-size (c .before)) tt, read-back (a .c .c0) (p .0 .c0) tt) at
+    (c .step3 .ensures)
 
 third-size : (c : tie.After-step3) → natAbs (c .step3 .result) ≤ 501170000
 third-size c = omega (arith, third c .size, second-size (c .before), start (c .before .before) .pre .0 .c0)
 
 step-requires : tie.Need-step-requires
 step-requires c κs =
-    let s = c .before .before .before .before in
-    (read-size (s .args .c .c3) 200000000 (s .pre .0 .c3) tt, read-size (s .args .c .c2) 400000000 (s .pre .0 .c2) tt, read-size (s .args .t) 10800 (s .pre .1) tt)
+    let s = c .before .before .before .before in (
+      read-size (s .args .c .c3) 200000000 (s .pre .0 .c3) tt,
+      read-size (s .args .c .c2) 400000000 (s .pre .0 .c2) tt,
+      read-size (s .args .t) 10800
+          (s .pre .1) tt,
+    )
 
 step-requires-2 : tie.Need-step-requires-2
 step-requires-2 c κs =
-    let s = start c in
-    (read-size (c .step .result) 200000000 (first-size c) tt, read-size (s .args .c .c1) 400000000 (s .pre .0 .c1) tt, read-size (s .args .t) 10800 (s .pre .1) tt)
+    let s = start c in (
+      read-size (c .step .result) 200000000 (first-size c) tt,
+      read-size (s .args .c .c1) 400000000 (s .pre .0 .c1) tt,
+      read-size (s .args .t) 10800
+          (s .pre .1) tt,
+    )
 
 step-requires-3 : tie.Need-step-requires-3
 step-requires-3 c κs =
-    let s = start (c .before) in
-    (read-size (c .step2 .result) 200000000 (second-size c) tt, read-size (s .args .c .c0) 400000000 (s .pre .0 .c0) tt, read-size (s .args .t) 10800 (s .pre .1) tt)
+    let s = start (c .before) in (
+      read-size (c .step2 .result) 200000000 (second-size c) tt,
+      read-size (s .args .c .c0) 400000000 (s .pre .0 .c0) tt,
+      read-size (s .args .t) 10800
+          (s .pre .1) tt,
+    )
 
 returns : tie.Need-returns
 unfolding cubicAt

@@ -13,7 +13,8 @@ abbrev start : tie.After-step → tie.Start
 start c = c .before .before .before .before
 
 -- what each step gave
-first : (c : tie.After-step) → let q = start c .args .q in Value (step (start c .args .t) (q .c2) (q .c1)) (3 * natAbs (q .c2) + natAbs (q .c1)) (c .step .result)
+first : (c : tie.After-step) → let q = start c .args .q in Value (step (start c .args .t) (q .c2) (q .c1)) (3 * natAbs (q .c2) + natAbs (q .c1))
+    (c .step .result)
 first c =
     let a = start c .args in
     let p = start c .pre in
@@ -23,7 +24,8 @@ first-size : (c : tie.After-step) → natAbs (c .step .result) ≤ 20030000
 first-size c = omega (arith, first c .size, start c .pre .0 .c1, start c .pre .0 .c2)
 
 second : (c : tie.After-step2)
-    → let a = start (c .before) .args in Value (step (a .t) (c .before .step .result) (a .q .c0)) (3 * natAbs (c .before .step .result) + natAbs (a .q .c0)) (c .step2 .result)
+    → let a = start (c .before) .args in Value (step (a .t) (c .before .step .result) (a .q .c0)) (3 * natAbs (c .before .step .result) + natAbs (a .q .c0))
+    (c .step2 .result)
 second c =
     let a = start (c .before) .args in
     let p = start (c .before) .pre in
@@ -34,13 +36,21 @@ second-size c = omega (arith, second c .size, first-size (c .before), start (c .
 
 step-requires : tie.Need-step-requires
 step-requires c κs =
-    let s = c .before .before .before in
-    (read-size (s .args .q .c2) 200000000 (s .pre .0 .c2) tt, read-size (s .args .q .c1) 400000000 (s .pre .0 .c1) tt, read-size (s .args .t) 10800 (s .pre .1) tt)
+    let s = c .before .before .before in (
+      read-size (s .args .q .c2) 200000000 (s .pre .0 .c2) tt,
+      read-size (s .args .q .c1) 400000000 (s .pre .0 .c1) tt,
+      read-size (s .args .t) 10800
+          (s .pre .1) tt,
+    )
 
 step-requires-2 : tie.Need-step-requires-2
 step-requires-2 c κs =
-    let s = start c in
-    (read-size (c .step .result) 200000000 (first-size c) tt, read-size (s .args .q .c0) 400000000 (s .pre .0 .c0) tt, read-size (s .args .t) 10800 (s .pre .1) tt)
+    let s = start c in (
+      read-size (c .step .result) 200000000 (first-size c) tt,
+      read-size (s .args .q .c0) 400000000 (s .pre .0 .c0) tt,
+      read-size (s .args .t) 10800
+          (s .pre .1) tt,
+    )
 
 returns : tie.Need-returns
 unfolding quadraticAt

@@ -45,7 +45,8 @@ returns c =
     let i = at .loop .i in
     sym
     (at .loop .inv .1
-    ∙ search-low (a .values .now) (a .lows .now) (a .highs .now) i (omega arith) (omega arith) (omega arith) (q .before .before .x .given) (q .before .low .given) (c .if1 .taken))
+    ∙ search-low (a .values .now) (a .lows .now) (a .highs .now) i (omega arith) (omega arith) (omega arith) (q .before .before .x .given)
+    (q .before .low .given) (c .if1 .taken))
 
 returns-2 : tie.Need-returns-2 Inv-loop μ-loop
 returns-2 c =
@@ -55,7 +56,8 @@ returns-2 c =
     let i = at .loop .i in
     sym
     (at .loop .inv .1
-    ∙ search-high (a .values .now) (a .lows .now) (a .highs .now) i (omega arith) (omega arith) (omega arith) (q .before .before .x .given) (q .before .low .given) (c .before .if1 .left) (q .high .given) (c .if2 .taken))
+    ∙ search-high (a .values .now) (a .lows .now) (a .highs .now) i (omega arith) (omega arith) (omega arith) (q .before .before .x .given)
+    (q .before .low .given) (c .before .if1 .left) (q .high .given) (c .if2 .taken))
 
 add-i : tie.Need-add-i Inv-loop μ-loop
 add-i c = search needs
@@ -71,7 +73,8 @@ loop-again c =
     let i = at .loop .i in (
       omega arith,
       at .loop .inv .1
-          ∙ search-on (a .values .now) (a .lows .now) (a .highs .now) i (omega arith) (omega arith) (omega arith) (q .before .before .x .given) (q .before .low .given) (c .before .if1 .left) (q .high .given) (c .if2 .left),
+          ∙ search-on (a .values .now) (a .lows .now) (a .highs .now) i (omega arith) (omega arith) (omega arith) (q .before .before .x .given)
+          (q .before .low .given) (c .before .if1 .left) (q .high .given) (c .if2 .left),
     )
 
 returns-3 : tie.Need-returns-3 Inv-loop μ-loop

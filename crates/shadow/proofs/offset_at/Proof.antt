@@ -12,10 +12,10 @@ use Rattle.elements.specs.declared.Axis.{Axis}
 use Rattle.elements.specs.Sizes.{wider}
 use Rattle.elements.specs.Elements.{xAt, yAt, dAt, μAt}
 use Rattle.station.specs.declared.Place.{Place}
-use Rattle.geometry.specs.Shadow.{Moment, H, ξ, q, η, ζ, u, v, M}
+use Rattle.geometry.specs.Shadow.{Moment, momentOf, H, ξ, q, η, ζ, u, v, M}
 use Rattle.shadow.specs.declared.Orientation.{Orientation}
 use Rattle.shadow.specs.declared.Coordinates.{Coordinates}
-use Rattle.shadow.specs.Shadow.{IsOrientation, OrientationSizes, AreCoordinates, momentOf}
+use Rattle.shadow.specs.Shadow.{IsOrientation, OrientationSizes, AreCoordinates}
 use Rattle.shadow.proofs.offset_at.Statement.{statement}
 use Rattle.shadow.proofs.offset_at.Tie as tie
 
@@ -72,7 +72,8 @@ module _ (c : tie.After-orientation-of) where
       }
 
 -- ---- ξ, η, ζ
-module _ (a : Axis) (p : Place) (τ : ℤ) {o : Orientation} {x : Coordinates} (t : IsOrientation (H (momentOf a p τ)) (dAt a τ) o) (k : AreCoordinates p o x) where
+module _ (a : Axis) (p : Place) (τ : ℤ) {o : Orientation} {x : Coordinates} (t : IsOrientation (H (momentOf a p τ)) (dAt a τ) o)
+    (k : AreCoordinates p o x) where
   xi-of : x .xi ≡ ξ (momentOf a p τ)
   unfolding ξ
   xi-of = k .xi .value ∙ rw (t .hsine)

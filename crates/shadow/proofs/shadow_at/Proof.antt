@@ -50,8 +50,12 @@ radius-at-requires c κs =
 radius-at-requires-2 : tie.Need-radius-at-requires-2
 radius-at-requires-2 c κs =
     let o = found c in
-    let s = start o in
-    (wider-cone (s .pre .1 .central) (lit≤ tt), read-size (o .offset-at .result .zeta) 202000000 (offset o .zeta .size) tt, read-size (s .args .t) 10800 (s .pre .3) tt)
+    let s = start o in (
+      wider-cone (s .pre .1 .central) (lit≤ tt),
+      read-size (o .offset-at .result .zeta) 202000000 (offset o .zeta .size) tt,
+      read-size (s .args .t) 10800
+          (s .pre .3) tt,
+    )
 
 returns : tie.Need-returns
 returns c =

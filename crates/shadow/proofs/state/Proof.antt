@@ -41,7 +41,8 @@ returns : tie.Need-returns
 returns c =
     let a = c .before .before .args in
     let w = bounds (c .before .before) in
-    sym (ap code (state-edge (a .guard) (a .l) (a .m) inside (taken-< w (arg 0) (arg 1) tt (c .before .if1 .taken), taken-< w (arg 2) (mul inner inner) tt (c .if2 .taken))))
+    sym (ap code (state-edge (a .guard) (a .l) (a .m) inside
+    (taken-< w (arg 0) (arg 1) tt (c .before .if1 .taken), taken-< w (arg 2) (mul inner inner) tt (c .if2 .taken))))
 
 mul-if3 : tie.Need-mul-if3
 mul-if3 c = fits (bounds (c .before)) (mul outer outer) tt

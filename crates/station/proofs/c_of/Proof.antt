@@ -1,4 +1,5 @@
--- `station::c_of` meets its contract: each call gives its part of C, and the laws of PlaceLaws give their sizes; what is under the root is not negative. Assumes nothing.
+-- `station::c_of` meets its contract: each call gives its part of C, and the laws of PlaceLaws give their sizes; what is under the root is not negative.
+-- Assumes nothing.
 use mathlib.Core.Path.{_≡_, sym, ap, _∙_, subst}
 use mathlib.Core.List.{[], _∷_}
 use Prim.Native.Nat.{_≤_}
@@ -29,17 +30,20 @@ sE = mul (arg 0) (lit (pos 99330658))
 e-is : (c : tie.After-near-unit) → c .near-unit .result ≡ near (c .before .args .sine *ℤ E) one
 e-is c = c .near-unit .ensures ∙ ap (λ (z : ℤ). near z one) (runs (bounds (c .before)) sE tt)
 
-after : (c : tie.After-near-unit) → Within (whole (c .before .args .cosine) ∷ whole (c .near-unit .result) ∷ whole (c .before .args .sine) ∷ []) (100000000 ∷ 100000000 ∷ 100000000 ∷ [])
+after : (c : tie.After-near-unit) → Within (whole (c .before .args .cosine) ∷ whole (c .near-unit .result) ∷ whole (c .before .args .sine) ∷ [])
+    (100000000 ∷ 100000000 ∷ 100000000 ∷ [])
 after c =
     let b = c .before in
-    let h : natAbs (c .near-unit .result) ≤ 100000000 = omega (arith, ap natAbs (e-is c), n-size (b .args .sine) (b .args .cosine) (b .pre .0) (b .pre .1) (b .pre .2)) in
+    let h : natAbs (c .near-unit .result) ≤ 100000000 = omega
+    (arith, ap natAbs (e-is c), n-size (b .args .sine) (b .args .cosine) (b .pre .0) (b .pre .1) (b .pre .2)) in
     b .pre .1 ▹ h ▹ b .pre .0 ▹ ends
 
 abbrev U : Code
 U = add (mul (arg 0) (arg 0)) (mul (arg 1) (arg 2))
 
 -- what is under the root
-under-is : (c : tie.After-near-unit) → c .before .args .cosine *ℤ c .before .args .cosine +ℤ c .near-unit .result *ℤ c .before .args .sine ≡ under (c .before .args .sine) (c .before .args .cosine)
+under-is : (c : tie.After-near-unit) → c .before .args .cosine *ℤ c .before .args .cosine +ℤ c .near-unit .result *ℤ c .before .args .sine ≡ under
+    (c .before .args .sine) (c .before .args .cosine)
 unfolding under
 under-is c = ap (λ (z : ℤ). c .before .args .cosine *ℤ c .before .args .cosine +ℤ z *ℤ c .before .args .sine) (e-is c)
 
@@ -74,7 +78,8 @@ add-under c = fits (after c) U tt
 cast-root : tie.Need-cast-root
 cast-root c =
     let b = c .before in
-    unsigned (after c) U tt (subst (λ (z : ℤ). pos 0 ≤ℤ z) (sym (under-is c)) (under-nonneg (b .args .sine) (b .args .cosine) (b .pre .0) (b .pre .1) (b .pre .2)))
+    unsigned (after c) U tt (subst (λ (z : ℤ). pos 0 ≤ℤ z) (sym (under-is c))
+    (under-nonneg (b .args .sine) (b .args .cosine) (b .pre .0) (b .pre .1) (b .pre .2)))
 
 root-requires : tie.Need-root-requires
 root-requires c κs = search needs

@@ -103,7 +103,8 @@ axis : (c : tie.After-near-unit2)
 axis c = Z-small (c .before .before) ▹ h-small (c .before) ▹ at-sine (c .before .before .before) .sine .ensures .small ▹ ends
 
 R-is : (c : tie.After-near-unit2)
-    → c .near-unit2 .result ≡ near ((c .before .before .before .c-of .result +ℤ c .before .near .result) *ℤ c .before .before .before .before .cosine .result) one
+    → c .near-unit2 .result ≡ near
+    ((c .before .before .before .c-of .result +ℤ c .before .near .result) *ℤ c .before .before .before .before .cosine .result) one
 R-is c = c .near-unit2 .ensures ∙ ap (λ (z : ℤ). near z one) (runs (equator (c .before)) scaled tt)
 
 R-small : (c : tie.After-near-unit2) → natAbs (c .near-unit2 .result) ≤ 101000000
@@ -128,7 +129,8 @@ P-small c =
     omega (
       arith,
       ap natAbs (P-is c),
-      scaled-size (b .near-unit .result) (c .before .before .near .result) (s .result) 100000000 141106 (Z-small b) (h-small (c .before .before)) (s .ensures .small),
+      scaled-size (b .near-unit .result) (c .before .before .near .result) (s .result) 100000000 141106 (Z-small b) (h-small (c .before .before))
+          (s .ensures .small),
     )
 
 -- ---- the needs
@@ -203,7 +205,8 @@ module _ (c : tie.After-near-unit3) where
   p-back =
       let b = c .before .before .before .before in
       read-back (c .near-unit3 .result) (P-small c) tt ∙ P-is c
-      ∙ P-of (first .args .s .latitude) (first .args .s .height) (sine-is (at-sine b)) (cosine-is (b .before)) (h-is (c .before .before)) (Z-is (c .before .before .before))
+      ∙ P-of (first .args .s .latitude) (first .args .s .height) (sine-is (at-sine b)) (cosine-is (b .before)) (h-is (c .before .before))
+      (Z-is (c .before .before .before))
 
 returns : tie.Need-returns
 unfolding placeOf

@@ -62,7 +62,8 @@ none : (u v : ℤ) → u ≡ pos 0 → v ≡ pos 0 → 65535 ≡ direction S u v
 none u v e f = sym (ap₂ (direction S) e f ∙ direction-none S)
 
 -- ---- the places
-bounds : (c : tie.After-abs2) → Within (whole (c .before .before .before .args .u) ∷ whole (c .before .before .before .args .v) ∷ []) (1000000000 ∷ 1000000000 ∷ [])
+bounds : (c : tie.After-abs2) → Within (whole (c .before .before .before .args .u) ∷ whole (c .before .before .before .args .v) ∷ [])
+    (1000000000 ∷ 1000000000 ∷ [])
 bounds c = c .before .before .before .pre .1 ▹ c .before .before .before .pre .2 ▹ ends
 
 a-is : (c : tie.After-abs2) → natAbs (toZ w64 (ofZ w64 (c .before .abs .result))) ≡ natAbs (c .before .before .before .args .u)

@@ -42,7 +42,12 @@ product-fits h k = record { fits = omega (arith, mul-le-mul h k) }
 found : (u v low high : ℕ) → Between u v low high → high ≤ low + 1 → low ≡ quarter S (pos u) (pos v)
 found u v low high b h =
     let largest : Largest S (pos u) (pos v) 899 low =
-    record { small = omega (arith, b .apart, b .high-le); holds = omega (arith, zs, b .holds); above = λ j i k. omega (arith, zs, b .above j (omega (arith, b .apart)) k) } in
+    record {
+      small = omega (arith, b .apart, b .high-le);
+      holds = omega (arith, zs, b .holds);
+      above = λ j i k. omega
+          (arith, zs, b .above j (omega (arith, b .apart)) k);
+    } in
     sym (largest-unique S (pos u) (pos v) (quarter-is S (pos u) (pos v) entry-0 (omega (arith, zs))) largest)
 
 abbrev Inv-loop : tie.InvT-loop
@@ -88,7 +93,8 @@ wide-requires-2 c κs = tt
 
 mul-if1 : tie.Need-mul-if1 Inv-loop μ-loop
 mul-if1 c =
-    product-fits (c .before .before .before .before .before .before .before .pre .2) (omega (arith, c .before .before .wide .ensures, c .before .before .before .entry .ensures .small))
+    product-fits (c .before .before .before .before .before .before .before .pre .2)
+    (omega (arith, c .before .before .wide .ensures, c .before .before .before .entry .ensures .small))
 
 mul-if1-2 : tie.Need-mul-if1-2 Inv-loop μ-loop
 mul-if1-2 c =
