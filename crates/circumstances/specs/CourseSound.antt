@@ -2,7 +2,7 @@
 use mathlib.Core.List.{List, _++_}
 use Prim.Native.Nat.{ℕ, _≤_}
 use native.Mathlib.Omega.{arith}
-use mathlib.Core.Path.{_≡_}
+use mathlib.Core.Path.{_≡_, refl}
 use lib.IntN.{natAbs}
 use lib.ListN.{length}
 use Rattle.numbers.specs.Order.{≤-parts, natAbs-parts, natAbs-between}
@@ -12,7 +12,7 @@ use Rattle.requests.specs.WindowLaws.{in-window-size}
 use Rattle.requests.specs.RequestLaws.{InLimits}
 use Rattle.seconds.specs.SecondLaws.{direction-small, magnitude-small, closest-within, each-second}
 use Rattle.records.specs.Entries.{bytesOf}
-use Rattle.records.specs.Rules.{start}
+use Rattle.rules.specs.Rules.{start}
 use Rattle.sheets.specs.Sheets.{sheet, readSheet}
 use Rattle.sheets.specs.WellFormed.{WellFormed}
 use Rattle.sheets.specs.RoundTrip.{read-back}

@@ -220,7 +220,14 @@ fn write_nth_phase(
 }
 
 // The entries of all phases from `start` on; the place after them.
-fn write_phases(table: &[u32], q: Request, place: Place, states: &[u8], buf: &mut [u8], start: usize) -> usize
+fn write_phases(
+    table: &[u32],
+    q: Request,
+    place: Place,
+    states: &[u8],
+    buf: &mut [u8],
+    start: usize,
+) -> usize
     requires { ⌜ (Sines (now table)) × (InLimits q) × (place ≡ placeOf (q .station)) ⌝ }
     requires { ⌜ (AllStates q (now states)) × (length eclipse * secondCount (q .window) ≤ length (now states)) ⌝ }
     requires { ⌜ start + length (bytesOf (entriesOf (courseOf q) eclipse)) ≤ length (now buf) ⌝ }

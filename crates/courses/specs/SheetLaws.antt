@@ -29,9 +29,9 @@ use Rattle.records.specs.declared.Entry.{Entry}
 use Rattle.records.specs.declared.Crossing.{Crossing}
 use Rattle.records.specs.declared.Crossing.the-variants as C
 use Rattle.records.specs.Entries.{end}
-use Rattle.records.specs.Order.{repeats}
+use Rattle.rules.specs.Order.{repeats}
 use Rattle.records.specs.FieldRules.{isDirection}
-use Rattle.records.specs.Rules.{start}
+use Rattle.rules.specs.Rules.{start}
 use Rattle.records.specs.StoredSeconds.{stored}
 use Rattle.records.specs.StoredSecondLaws.{stored-is}
 use Rattle.sheets.specs.WellFormed.{WellFormed, within}
@@ -161,7 +161,7 @@ module _ (c : Course) (s : Sound c) where
   kept-phases φ (ψ ∷ φs) o =
       kept-entries φ ((phaseEntries c ψ ++ entriesOf c φs) ++ tail)
       (λ until t. well-later φ ψ f l until t (o .0) ((phaseEntries c ψ ++ entriesOf c φs) ++ tail)
-          (rw (append-assoc (phaseEntries c ψ) (entriesOf c φs) tail) (kept-phases ψ φs (o .1))))
+      (rw (append-assoc (phaseEntries c ψ) (entriesOf c φs) tail) (kept-phases ψ φs (o .1))))
 
   -- after the head
   kept-all : (φs : List Phase) → InOrder φs → (ψ : Phase) × WellFormed (within ψ f l 0 C.Neither) (entriesOf c φs ++ tail)

@@ -9,7 +9,7 @@ use Rattle.phases.specs.declared.Phase.{Phase}
 use Rattle.phases.specs.Phases.{Listed, times}
 use Rattle.requests.specs.Windows.{InWindow, secondCount}
 use Rattle.requests.specs.WindowLaws.{WindowHolds}
-use Rattle.records.specs.Order.{phaseFollows}
+use Rattle.rules.specs.Order.{phaseFollows}
 use Rattle.courses.specs.Courses.{Course}
 
 -- each phase stands before the next in the order of a sheet
