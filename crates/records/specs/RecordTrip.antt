@@ -70,7 +70,8 @@ trip e f p rest =
     let s = p ++ (bytes e ++ rest) in
     let k = e .kind in
     let in-body = body (widthsOf k) e ++ rest in
-    let l : length s ≡ length p + (sizeOf k + length rest) = length-append p (bytes e ++ rest) ∙ ap (λ n. length p + n) (length-append (bytes e) rest ∙ ap (λ n. n + length rest) (length-bytes e)) in
+    let l : length s ≡ length p + (sizeOf k + length rest) = length-append p (bytes e ++ rest) ∙ ap (λ n. length p + n)
+    (length-append (bytes e) rest ∙ ap (λ n. n + length rest) (length-bytes e)) in
     let fields : entryAt k s (length p + 1) ≡ e =
     body-back e f s (p ++ (codeOf k ∷ [])) rest (length p + 1) (sym (append-assoc p (codeOf k ∷ []) in-body)) (sym (length-append p (codeOf k ∷ []))) in
     sym (by-body s (length p) (codeOf k) k (Body.Is e)

@@ -152,7 +152,7 @@ pub fn place_of(refusal: Refusal) -> usize
 // ---- numbers of two and of four bytes
 // They are for crates that read and write bytes of their own; they have a `requires`, so they are none of the public promises.
 
-pub fn wide(x: u8) -> u32
+fn wide(x: u8) -> u32
     ensures { λ r. ⌜ (r ≡ x) × (r < 256) ⌝ }
 {
     x as u32

@@ -1,7 +1,7 @@
 -- What the rules say of an entry, taken apart.
 use Prim.Native.Nat.{ℕ}
 use mathlib.Core.Path.{_≡_, refl}
-use mathlib.Core.Bool.{Bool, true, false, _&&_}
+use mathlib.Core.Bool.{Bool, true, false}
 use native.Mathlib.Omega.{arith}
 use Rattle.records.specs.declared.Progress.{Progress}
 use Rattle.records.specs.declared.Entry.{Entry}

@@ -4,7 +4,6 @@ use mathlib.Core.Path.{_≡_, refl, sym, ap, _∙_}
 use mathlib.Core.List.{List, [], _∷_}
 use mathlib.Core.Bool.{Bool, true, false}
 use native.Mathlib.Omega.{arith}
-use lib.ListN.{length}
 use Rattle.records.specs.declared.Entry.{Entry}
 use Rattle.records.specs.declared.Progress.{Progress}
 use Rattle.records.specs.declared.Refusal.{Refusal}
@@ -21,7 +20,8 @@ use Rattle.sheets.specs.Sheets.{Sheet, sheet, refused, more, onward, she
 use Rattle.sheets.specs.Passes.{extent}
 
 module _ (given : ℕ → ℕ → Record) (fuel : ℕ) (p : Progress) (i at : ℕ) where
-  by-judged : (r : Record) → judged p at (given i at) ≡ r → sheetFrom given (suc fuel) p i at ≡ onward r (λ e next. sheetFrom given fuel (afterOf p e) (i + 1) next)
+  by-judged : (r : Record) → judged p at (given i at) ≡ r → sheetFrom given (suc fuel) p i at ≡ onward r
+      (λ e next. sheetFrom given fuel (afterOf p e) (i + 1) next)
   unfolding sheetFrom
   by-judged r q = rw q
 

@@ -83,4 +83,29 @@ unfolding judgedAs
 returns-7 c = rw (c .before .enum-told3 .given .1) (c .judge-end .ensures ∙ rw (and-true (c .before .before .before .args .plain)))
 
 pub judge-spec : {M : Type 1} → statement M
-judge-spec = tie.close (tie.spec enum-told judge-head-requires enum-known-kind judge-crossing-requires enum-known-kind-2 judge-crossing-requires-2 enum-known-kind-3 span-holds-requires judge-unsure-requires enum-known-kind-4 open-holds-requires judge-unsure-requires-2 enum-told-2 judge-closest-requires enum-told-3 judge-end-requires returns returns-2 returns-3 returns-4 returns-5 returns-6 returns-7)
+judge-spec =
+    tie.close
+    (tie.spec
+    enum-told
+    judge-head-requires
+    enum-known-kind
+    judge-crossing-requires
+    enum-known-kind-2
+    judge-crossing-requires-2
+    enum-known-kind-3
+    span-holds-requires
+    judge-unsure-requires
+    enum-known-kind-4
+    open-holds-requires
+    judge-unsure-requires-2
+    enum-told-2
+    judge-closest-requires
+    enum-told-3
+    judge-end-requires
+    returns
+    returns-2
+    returns-3
+    returns-4
+    returns-5
+    returns-6
+    returns-7)

@@ -20,7 +20,12 @@ verdict-requires : tie.Need-verdict-requires
 verdict-requires c κs = search needs
 
 returns : tie.Need-returns
-returns c = c .verdict .ensures ∙ rw (c .before .before .before .before .phase-in-order .ensures, c .before .before .before .span-holds .ensures, c .before .before .is-direction .ensures, c .before .passed-to .ensures)
+returns c = c .verdict .ensures ∙ rw (
+  c .before .before .before .before .phase-in-order .ensures,
+  c .before .before .before .span-holds .ensures,
+  c .before .before .is-direction .ensures,
+  c .before .passed-to .ensures,
+)
 
 pub judge-crossing-spec : {M : Type 1} → statement M
 judge-crossing-spec = tie.close (tie.spec phase-in-order-requires span-holds-requires is-direction-requires passed-to-requires verdict-requires returns)

@@ -17,7 +17,11 @@ verdict-requires : tie.Need-verdict-requires
 verdict-requires c κs = search needs
 
 returns : tie.Need-returns
-returns c = c .verdict .ensures ∙ rw (c .before .before .before .phase-in-order .ensures, c .before .passed-to .ensures, c .before .before .crossing-kept .ensures)
+returns c = c .verdict .ensures ∙ rw (
+  c .before .before .before .phase-in-order .ensures,
+  c .before .passed-to .ensures,
+  c .before .before .crossing-kept .ensures,
+)
 
 pub judge-unsure-spec : {M : Type 1} → statement M
 judge-unsure-spec = tie.close (tie.spec phase-in-order-requires crossing-kept-requires passed-to-requires verdict-requires returns)

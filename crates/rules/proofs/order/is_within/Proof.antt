@@ -1,5 +1,4 @@
 -- `rules::order::is_within` meets its contract. Each arm is the definition's.
-use mathlib.Core.Path.{_∙_}
 use borrow.Author.Needs.{needs}
 use Rattle.rules.proofs.order.is_within.Statement.{statement}
 use Rattle.rules.proofs.order.is_within.Tie as tie
@@ -38,4 +37,17 @@ returns-5 : tie.Need-returns-5
 returns-5 c = search needs
 
 pub is-within-spec : {M : Type 1} → statement M
-is-within-spec = tie.close (tie.spec enum-told enum-told-2 enum-known-last same-phase-requires enum-told-3 enum-told-4 returns returns-2 returns-3 returns-4 returns-5)
+is-within-spec =
+    tie.close
+    (tie.spec
+    enum-told
+    enum-told-2
+    enum-known-last
+    same-phase-requires
+    enum-told-3
+    enum-told-4
+    returns
+    returns-2
+    returns-3
+    returns-4
+    returns-5)

@@ -1,5 +1,4 @@
 -- `rules::order::phase_may_come` meets its contract. Each arm is the definition's.
-use mathlib.Core.Path.{_∙_}
 use borrow.Author.Needs.{needs}
 use Rattle.rules.proofs.order.phase_may_come.Statement.{statement}
 use Rattle.rules.proofs.order.phase_may_come.Tie as tie
@@ -38,4 +37,17 @@ returns-5 : tie.Need-returns-5
 returns-5 c = search needs
 
 pub phase-may-come-spec : {M : Type 1} → statement M
-phase-may-come-spec = tie.close (tie.spec enum-told enum-told-2 enum-known-last phase-follows-requires enum-told-3 enum-told-4 returns returns-2 returns-3 returns-4 returns-5)
+phase-may-come-spec =
+    tie.close
+    (tie.spec
+    enum-told
+    enum-told-2
+    enum-known-last
+    phase-follows-requires
+    enum-told-3
+    enum-told-4
+    returns
+    returns-2
+    returns-3
+    returns-4
+    returns-5)
