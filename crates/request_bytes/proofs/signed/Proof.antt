@@ -1,4 +1,4 @@
--- `input::signed` meets its contract: below half the number is itself; from half on the difference is taken, and both numbers have at most 32 bits. Assumes nothing.
+-- `request_bytes::signed` meets its contract: below half the number is itself; from half on the difference is taken, and both numbers have at most 32 bits. Assumes nothing.
 use mathlib.Core.Path.{sym, ap₂, _∙_}
 use mathlib.Core.List.{[], _∷_}
 use Prim.Native.Nat.{_≤_}
@@ -6,9 +6,9 @@ use native.Mathlib.Omega.{arith}
 use borrow.Author.Needs.{needs}
 use lib.IntN.{ℤ, pos, _-ℤ_, _*ℤ_}
 use Rattle.numbers.specs.Code.{Code, arg, lit, sub, mul, Within, raw, ends, _▹_, fits, runs, count-is, count-size}
-use Rattle.input.specs.InputLaws.{signed-below, signed-above}
-use Rattle.input.proofs.signed.Statement.{statement}
-use Rattle.input.proofs.signed.Tie as tie
+use Rattle.request_bytes.specs.NumberLaws.{signed-below, signed-above}
+use Rattle.request_bytes.proofs.signed.Statement.{statement}
+use Rattle.request_bytes.proofs.signed.Tie as tie
 
 module _ (c : tie.Else1) where
   n-size : c .before .args .n ≤ 4294967295
