@@ -1,22 +1,23 @@
 -- Laws of one number in its bytes: they are as many as its width says, and it is read back from them.
 use mathlib.Core.Path.{_≡_, refl, sym, ap, ap₂, _∙_}
-use mathlib.Core.Bool.{Bool, true, false, _&&_}
+use mathlib.Core.Bool.{true}
 use mathlib.Core.List.{List, [], _∷_, _++_}
 use Prim.Native.Nat.{ℕ, zero, suc, _+_, _-_, _*_, _/_, _%_, _≤_, _<_}
 use native.Mathlib.Omega.{arith}
 use native.Mathlib.Decide.{decLt}
 use borrow.Author.Tests.{lt-ltb, le-ltb}
 use lib.IntN.{ℤ, pos, negsuc, negℤ, natAbs, _+ℤ_, _-ℤ_}
-use lib.Signed.{leZ, _≤ℤ_, _<ℤ_}
+use lib.Signed.{_≤ℤ_, _<ℤ_}
 use lib.ListN.{length, getD, take, drop}
 use lib.Seq.{getD-drop}
 use Rattle.numbers.specs.Parts.{same, sum, opposite}
-use Rattle.numbers.specs.Order.{zs, natAbs-by, leZ-true, leZ-false}
+use Rattle.numbers.specs.Order.{zs}
 use Rattle.records.specs.Entries.{two, four}
 use Rattle.records.specs.Records.{twoAt, fourAt}
 use Rattle.request_fields.specs.declared.Width.{Width}
 use Rattle.request_fields.specs.declared.Width.the-variants as W
-use Rattle.request_fields.specs.Fields.{bytesIn, isSigned, wholeOf, lowestOf, highestOf, holds}
+use Rattle.request_fields.specs.Fields.{bytesIn, wholeOf, holds}
+use Rattle.request_fields.specs.WidthLaws.{Held, held, holding, held-size}
 use Rattle.request_bytes.specs.Layout.{complement, signed, bigEndian, valueAt, numberBytes, numberAt}
 
 -- ---- two's complement
@@ -53,38 +54,6 @@ signed-back half (negsuc a) l h =
     let w = pos (2 * half) in
     signed-above half (2 * half - suc a) (omega arith)
     ∙ same (pos (2 * half - suc a) -ℤ w) (negsuc a) (omega (arith, sum (pos (2 * half - suc a)) (negℤ w) .is, opposite w .is))
-
--- ---- what a width holds
-
-pub record Held (w : Width) (z : ℤ) : Type 0 where
-  pub low : negℤ (pos (lowestOf w)) ≤ℤ z
-  pub high : z ≤ℤ pos (highestOf w)
-
-pub held : (w : Width) (z : ℤ) → holds w z ≡ true → Held w z
-unfolding holds
-held w z e = by (leZ (negℤ (pos (lowestOf w))) z) (leZ z (pos (highestOf w))) refl refl e
-  where
-    by : (a b : Bool) → leZ (negℤ (pos (lowestOf w))) z ≡ a → leZ z (pos (highestOf w)) ≡ b → (a && b) ≡ true → Held w z
-    by true true p q t = record { low = leZ-true _ _ p; high = leZ-true _ _ q }
-    by true false p q t = let x : _≡_ {A = ℕ} 0 1 = cc in absurd (omega arith)
-    by false b p q t = let x : _≡_ {A = ℕ} 0 1 = cc in absurd (omega arith)
-
-pub holding : (w : Width) (z : ℤ) → Held w z → holds w z ≡ true
-unfolding holds
-holding w z h = rw (yes _ _ (h .low), yes _ _ (h .high))
-  where
-    yes : (a b : ℤ) → a ≤ℤ b → leZ a b ≡ true
-    yes a b l = by (leZ a b) refl
-      where
-        by : (t : Bool) → leZ a b ≡ t → t ≡ true
-        by true e = refl
-        by false e = let g = leZ-false a b e in absurd (omega (arith, zs))
-
--- it is less than as many as there are
-pub held-size : (w : Width) (z : ℤ) → Held w z → natAbs z < wholeOf w
-held-size W.Unsigned2 z h = let s : natAbs z ≤ 65535 = natAbs-by z (omega (arith, zs, h .high)) (omega (arith, zs, h .low)) in omega arith
-held-size W.Signed2 z h = let s : natAbs z ≤ 32768 = natAbs-by z (omega (arith, zs, h .high)) (omega (arith, zs, h .low)) in omega arith
-held-size W.Signed4 z h = let s : natAbs z ≤ 2147483648 = natAbs-by z (omega (arith, zs, h .high)) (omega (arith, zs, h .low)) in omega arith
 
 -- ---- its bytes
 

@@ -2,9 +2,10 @@
 use mathlib.Core.Path.{_≡_, refl, sym, ap, _∙_}
 use mathlib.Core.Bool.{true, false}
 use mathlib.Core.List.{List, [], _∷_, _++_, append-nil}
-use Prim.Native.Nat.{ℕ, suc, _+_, _≤_, _<_}
+use Prim.Native.Nat.{ℕ, zero, suc, _+_, _≤_, _<_}
 use native.Mathlib.Omega.{arith}
 use native.Mathlib.Nat.{add-zero}
+use native.Mathlib.Decide.{decLt}
 use lib.IntN.{ℤ, pos}
 use lib.ListN.{length, getD, drop, set, length-append, drop-of-length-le}
 use lib.Seq.{sets, sets-eq, length-sets}
@@ -122,3 +123,19 @@ module _ (ns : List ℤ) (r : Answer) (made old : List ℕ) (l : Laid ns r made)
   pub put-unfit : (k : ℕ) → r ≡ Unfit k → (r ≡ putOf ns) × (old ≡ bytesAfter ns old)
   unfolding bytesAfter
   put-unfit k e = let q : putOf ns ≡ Unfit k = sym (l .answer) ∙ e in (l .answer, rw q)
+
+-- numbers that their bytes hold are put
+pub all-put : (ns : List ℤ) → length ns ≡ count → ((k : ℕ) → k < count → holds (rowAt k .3) (getD ns k (pos 0)) ≡ true) → putOf ns ≡ Done
+unfolding putOf fitting
+all-put ns e h = ap (λ (l : List Piece). fitting l 0 ns) (sym rest-all) ∙ from count 0 (omega arith)
+  where
+    ends : (k : ℕ) → count ≤ k → fitting (rest k) k (drop k ns) ≡ Done
+    ends k l = ap (λ (x : List Piece). fitting x k (drop k ns)) (rest-end k l)
+
+    from : (others k : ℕ) → count ≤ k + others → fitting (rest k) k (drop k ns) ≡ Done
+    from zero k l = ends k (omega arith)
+    from (suc n) k l =
+        elim (decLt k count) [
+          | yes g ↦ fits-next ns k g (omega arith) ∙ rw (h k g) (from n (k + 1) (omega arith))
+          | no g ↦ ends k (omega arith)
+        ]

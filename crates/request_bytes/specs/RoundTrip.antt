@@ -1,17 +1,15 @@
 -- A request's numbers and its bytes: each is had back from the other.
-use mathlib.Core.Path.{_≡_, refl, ap, _∙_}
-use mathlib.Core.Bool.{true}
+use mathlib.Core.Path.{_≡_, refl}
 use mathlib.Core.List.{List, [], _∷_}
 use Prim.Native.Nat.{ℕ, zero, suc, _+_, _<_}
 use native.Mathlib.Omega.{arith}
 use lib.IntN.{ℤ, pos, natAbs}
 use lib.ListN.{length, getD}
-use Rattle.request_fields.specs.declared.Width.{Width}
-use Rattle.request_fields.specs.declared.Width.the-variants as W
-use Rattle.request_fields.specs.Fields.{wholeOf, holds, layout, count}
+use Rattle.request_fields.specs.Fields.{layout, count}
+use Rattle.request_fields.specs.WidthLaws.{held, held-size, whole-small}
 use Rattle.request_bytes.specs.declared.Answer.the-variants.{Done}
 use Rattle.request_bytes.specs.Layout.{Piece, kind, number, piecesOf, countIn, sizeOf, fitting, numbers}
-use Rattle.request_bytes.specs.NumberLaws.{Bytes, held, held-size}
+use Rattle.request_bytes.specs.NumberLaws.{Bytes}
 use Rattle.request_bytes.specs.LayoutLaws as Any
 use Rattle.request_bytes.specs.Request.{putOf, bytesOf, readingOf}
 
@@ -30,11 +28,6 @@ unfolding putOf bytesOf readingOf
 write-back s ns b e = let w = Any.write-back (piecesOf layout) 0 s ns b e in (w .count, w .fits, w .bytes)
 
 -- ---- numbers that fit are small
-
-whole-small : (w : Width) → wholeOf w < 4294967297
-whole-small W.Unsigned2 = omega arith
-whole-small W.Signed2 = omega arith
-whole-small W.Signed4 = omega arith
 
 fits-small : (l : List Piece) (k : ℕ) (ns : List ℤ) → length ns ≡ countIn l → fitting l k ns ≡ Done → (j : ℕ) → natAbs (getD ns j (pos 0)) < 4294967296
 unfolding fitting

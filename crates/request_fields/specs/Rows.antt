@@ -5,6 +5,7 @@ use Prim.Native.Char.{code}
 use Prim.Native.String.{String, [] as ε, _∷_ as _then_}
 use mathlib.Core.List.{List, [], _∷_, _++_, map}
 use lib.ListN.{length, getD, take, replicate}
+use Rattle.request_fields.specs.declared.Width.{Width}
 use Rattle.request_fields.specs.declared.Width.the-variants as W
 use Rattle.request_fields.specs.declared.Field.{Field}
 use Rattle.request_fields.specs.Fields.{Number, Record, layout}
@@ -42,3 +43,13 @@ none = record { 0 = []; 1 = 0; 2 = 0; 3 = W.Unsigned2; 4 = 0 }
 
 unfoldable pub rowAt : ℕ → Field
 rowAt k = getD rows k none
+
+-- a field's name, how many decimals one unit has, its bytes
+abbrev pub nameOf : Field → List ℕ
+nameOf f = take (f .1) (f .0)
+
+abbrev pub decimalsOf : ℕ → ℕ
+decimalsOf k = rowAt k .2
+
+abbrev pub widthOf : ℕ → Width
+widthOf k = rowAt k .3

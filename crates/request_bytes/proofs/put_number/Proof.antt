@@ -14,7 +14,7 @@ use mir.ValLaws.{toZ-ofZ}
 use Rattle.request_fields.specs.declared.Width.{Width}
 use Rattle.request_fields.specs.Fields.{bytesIn, wholeOf, holds}
 use Rattle.request_bytes.specs.Layout.{complement, bigEndian, numberBytes}
-use Rattle.request_bytes.specs.NumberLaws.{held, held-size}
+use Rattle.request_fields.specs.WidthLaws.{held, held-size}
 use Rattle.request_bytes.proofs.put_number.Statement.{statement}
 use Rattle.request_bytes.proofs.put_number.Tie as tie
 
