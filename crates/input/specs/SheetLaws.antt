@@ -23,7 +23,8 @@ Promised s old r new = (r ≡ answerTo s old) × ((new ≡ bufferFor s old) × C
 
 module _ (s old : List ℕ) where
   -- a request's own sheet
-  pub of-request : (q : Request) (r : Answer) (new : List ℕ) → inputOf s ≡ I.Is q → (r ≡ answerOf q old) × ((new ≡ bufferAfter q old) × Claimed q r new) → Promised s old r new
+  pub of-request : (q : Request) (r : Answer) (new : List ℕ) → inputOf s ≡ I.Is q → (r ≡ answerOf q old)
+      × ((new ≡ bufferAfter q old) × Claimed q r new) → Promised s old r new
   unfolding answerTo bufferFor
   of-request q r new e p = (
     p .0 ∙ ap (λ (i : Input). answerBy i old) (sym e),
@@ -33,7 +34,10 @@ module _ (s old : List ℕ) where
   -- a refused input
   pub of-refusal : (r : Refusal) → inputOf s ≡ I.Refused r → Promised s old (A.Refused r) old
   unfolding answerTo bufferFor
-  of-refusal r e = (ap (λ (i : Input). answerBy i old) (sym e), (ap (λ (i : Input). bufferBy i old) (sym e), subst (λ (x : Refusal). Claimed (requestOf s) (A.Refused x) old) (sym (shape-is s r e)) tt))
+  of-refusal r e = (
+    ap (λ (i : Input). answerBy i old) (sym e),
+    (ap (λ (i : Input). bufferBy i old) (sym e), subst (λ (x : Refusal). Claimed (requestOf s) (A.Refused x) old) (sym (shape-is s r e)) tt),
+  )
 
   -- ---- what was written fits
   pub written-fits : (n : ℕ) → answerTo s old ≡ A.Written n → n ≤ length old

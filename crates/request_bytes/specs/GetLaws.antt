@@ -47,7 +47,8 @@ part-within f s at z next e = by (kindStands (f .4) s at) e
     start : ℕ
     start = at + length (kindBytes (f .4))
 
-    from : (t : Bool) → leb (start + bytesIn (f .3)) (length s) ≡ t → cond t (P.Is (numberAt (f .3) s start) (start + bytesIn (f .3))) P.Misshaped ≡ P.Is z next → next ≤ length s
+    from : (t : Bool) → leb (start + bytesIn (f .3)) (length s) ≡ t → cond t (P.Is (numberAt (f .3) s start) (start + bytesIn (f .3))) P.Misshaped
+        ≡ P.Is z next → next ≤ length s
     from true q r = let n : start + bytesIn (f .3) ≡ next = cc in omega (arith, leb-true (start + bytesIn (f .3)) (length s) q)
     from false q r = let x : _≡_ {A = ℕ} 0 1 = cc in absurd (omega arith)
 
@@ -103,7 +104,8 @@ module _ (s : List ℕ) (found : List ℤ) (at k : ℕ) (g : Getting s found at 
     pub getting-more : (z : ℤ) (after : ℕ) → partOf (rowAt k) s at ≡ P.Is z after → Getting s (set found k z) after (k + 1)
     getting-more z after e =
         record {
-          reading = next (P.Is z after) e ∙ joined-before (take k found) z (readBy (rest (k + 1)) (drop after s)) ∙ ap (λ (l : List ℤ). joined l (readBy (rest (k + 1)) (drop after s))) one;
+          reading = next (P.Is z after) e ∙ joined-before (take k found) z (readBy (rest (k + 1)) (drop after s))
+              ∙ ap (λ (l : List ℤ). joined l (readBy (rest (k + 1)) (drop after s))) one;
           place = part-within (rowAt k) s at z after e;
           room = length-set found k z ∙ g .room;
           fields = omega arith;
@@ -118,7 +120,8 @@ module _ (s : List ℕ) (found : List ℤ) (at k : ℕ) (g : Getting s found at 
 
     pub getting-longer : (old : List ℤ) → (at ≡ length s → ⊥) → Answered s old G.Misshaped old
     unfolding readBy
-    getting-longer old n = answered s old misshaped (at-end ∙ ap (λ (l : List ℕ). joined (take k found) (readBy [] l)) (drop-cons s at 0 (omega (arith, g .place))))
+    getting-longer old n = answered s old misshaped
+        (at-end ∙ ap (λ (l : List ℕ). joined (take k found) (readBy [] l)) (drop-cons s at 0 (omega (arith, g .place))))
 
     pub getting-end : (old : List ℤ) → at ≡ length s → Answered s old G.Numbers found
     unfolding readBy

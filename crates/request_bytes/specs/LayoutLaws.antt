@@ -18,7 +18,8 @@ use Rattle.request_bytes.specs.NumberLaws.{Bytes, bytes-after, length-nu
 
 -- ---- numbers that fit
 
-pub fits-cases : (w : Width) (l : List Piece) (k : ℕ) (z : ℤ) (ns : List ℤ) → fitting (number w ∷ l) k (z ∷ ns) ≡ Done → (holds w z ≡ true) × (fitting l (k + 1) ns ≡ Done)
+pub fits-cases : (w : Width) (l : List Piece) (k : ℕ) (z : ℤ) (ns : List ℤ) → fitting (number w ∷ l) k (z ∷ ns) ≡ Done → (holds w z ≡ true)
+    × (fitting l (k + 1) ns ≡ Done)
 unfolding fitting
 fits-cases w l k z ns e = by (holds w z) e
   where
@@ -78,10 +79,12 @@ write-back [] k (x ∷ s) ns b e = let q : _≡_ {A = ℕ} 0 1 = cc in absurd (o
 write-back (kind c ∷ l) k [] ns b e = let q : _≡_ {A = ℕ} 0 1 = cc in absurd (omega arith)
 write-back (kind c ∷ l) k (x ∷ s) ns b e = by (eqb x c) refl e (λ q. write-back l k s ns (bytes-after 1 (x ∷ s) b) q)
   where
-    by : (t : Bool) → eqb x c ≡ t → cond t (readBy l s) misshaped ≡ numbers ns → (readBy l s ≡ numbers ns → Written l k s ns) → Written (kind c ∷ l) k (x ∷ s) ns
+    by : (t : Bool) → eqb x c ≡ t → cond t (readBy l s) misshaped ≡ numbers ns → (readBy l s ≡ numbers ns → Written l k s ns)
+        → Written (kind c ∷ l) k (x ∷ s) ns
     by true q r go = let w = go r in let y = eqb-true x c q in record { count = w .count; fits = w .fits; bytes = rw (w .bytes, y) }
     by false q r go = let z : _≡_ {A = ℕ} 0 1 = cc in absurd (omega arith)
-write-back (number w ∷ l) k s ns b e = by (leb (bytesIn w) (length s)) refl e (λ ms q. write-back l (k + 1) (drop (bytesIn w) s) ms (bytes-after (bytesIn w) s b) q)
+write-back (number w ∷ l) k s ns b e =
+    by (leb (bytesIn w) (length s)) refl e (λ ms q. write-back l (k + 1) (drop (bytesIn w) s) ms (bytes-after (bytesIn w) s b) q)
   where
     z : ℤ
     z = numberAt w s 0

@@ -134,7 +134,8 @@ unfolding complement
 signed-again half v h =
     elim (decLt v half) [
       | yes l ↦ rw (signed-below half v l) (record { low = omega (arith, zs, opposite (pos half) .is); high = omega (arith, zs); again = small })
-      | no l ↦ let g : half ≤ v = omega arith in rw (signed-above half v g ∙ below g) (record { low = omega (arith, zs, opposite (pos half) .is); high = omega (arith, zs); again = large g })
+      | no l ↦ let g : half ≤ v = omega arith in
+          rw (signed-above half v g ∙ below g) (record { low = omega (arith, zs, opposite (pos half) .is); high = omega (arith, zs); again = large g })
     ]
   where
     small : complement (2 * half) (pos v) ≡ v

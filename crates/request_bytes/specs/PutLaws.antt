@@ -94,7 +94,8 @@ module _ (ns : List ℤ) (made : List ℕ) (at k : ℕ) (e : length ns ≡ count
     putting-unfit t =
         record { answer = sym (p .fits ∙ fits-next ns k h (omega arith) ∙ rw t); bytes = λ q. let x : _≡_ {A = ℕ} 0 1 = cc in absurd (omega arith) }
 
-    pub putting-more : (new : List ℕ) (after : ℕ) → holds (rowAt k .3) z ≡ true → after ≡ at + length field → new ≡ sets made at field → Putting ns new after (k + 1)
+    pub putting-more : (new : List ℕ) (after : ℕ) → holds (rowAt k .3) z ≡ true → after ≡ at + length field → new ≡ sets made at field
+        → Putting ns new after (k + 1)
     putting-more new after t a b =
         rw (a, b)
         (record {

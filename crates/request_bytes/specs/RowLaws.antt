@@ -158,11 +158,13 @@ unfolding kindStands
 read-begun zero w l s at h = rw (add-zero at) (read-number w l s at h)
 read-begun (suc b) w l s at h =
     elim (decLt at (length s)) [
-      | yes g ↦ rw (lt-ltb at (length s) g, drop-cons s at 0 g, ← add-one at) (read-kind (suc b) (number w ∷ l) (getD s at 0) (drop (at + 1) s) ∙ by (eqb (getD s at 0) (suc b)) g)
+      | yes g ↦ rw (lt-ltb at (length s) g, drop-cons s at 0 g, ← add-one at)
+          (read-kind (suc b) (number w ∷ l) (getD s at 0) (drop (at + 1) s) ∙ by (eqb (getD s at 0) (suc b)) g)
       | no g ↦ let e : length s ≤ at = omega arith in rw (le-ltb at (length s) e, drop-of-length-le s {i = at} e) (read-nothing (suc b) (number w ∷ l))
     ]
   where
-    by : (t : Bool) → at < length s → cond t (readBy (number w ∷ l) (drop (at + 1) s)) misshaped ≡ onward l s (cond (true && t) (partFrom w s (at + 1)) P.Misshaped)
+    by : (t : Bool) → at < length s → cond t (readBy (number w ∷ l) (drop (at + 1) s)) misshaped
+        ≡ onward l s (cond (true && t) (partFrom w s (at + 1)) P.Misshaped)
     by true g = read-number w l s (at + 1) (omega arith)
     by false g = refl
 

@@ -143,13 +143,16 @@ module _ (k : ℕ) (l : k < count) where
   value-in : (w : List ℕ) → InFields (valueOf k w)
   unfolding valueOf
   value-in w =
-      either (isNumber w) (cond (isWhole (decimalsOf k) w) (fitted k (widthOf k) (startOf C.Minus w) (amount (decimalsOf k) w)) (L.Faulty (Fault.NotWhole k))) (L.Faulty (Fault.NotNumber k))
-      (either (isWhole (decimalsOf k) w) (fitted k (widthOf k) (startOf C.Minus w) (amount (decimalsOf k) w)) (L.Faulty (Fault.NotWhole k)) (fitted-held (startOf C.Minus w) (amount (decimalsOf k) w)) tt)
+      either (isNumber w) (cond (isWhole (decimalsOf k) w) (fitted k (widthOf k) (startOf C.Minus w) (amount (decimalsOf k) w))
+      (L.Faulty (Fault.NotWhole k))) (L.Faulty (Fault.NotNumber k))
+      (either (isWhole (decimalsOf k) w) (fitted k (widthOf k) (startOf C.Minus w) (amount (decimalsOf k) w)) (L.Faulty (Fault.NotWhole k))
+      (fitted-held (startOf C.Minus w) (amount (decimalsOf k) w)) tt)
       tt
 
   of-value-in : (s : List ℕ) → InFields (ofValue k s)
   unfolding ofValue
-  of-value-in s = either (allOf C.Blank (drop (runOf C.Word s) s)) (valueOf k (take (runOf C.Word s) s)) (L.Faulty (Fault.NotNumber k)) (value-in (take (runOf C.Word s) s)) tt
+  of-value-in s = either (allOf C.Blank (drop (runOf C.Word s) s)) (valueOf k (take (runOf C.Word s) s)) (L.Faulty (Fault.NotNumber k))
+      (value-in (take (runOf C.Word s) s)) tt
 
 of-name-in : (s : List ℕ) → InFields (ofName s)
 unfolding ofName

@@ -119,7 +119,8 @@ find-at : (ns : List (List ℕ)) (j : ℕ) (said : List ℕ) (k n : ℕ) → fin
 find-at [] j said k n e = let t = find-none j said in let z : _≡_ {A = ℕ} 0 1 = cc in absurd (omega arith)
 find-at (m ∷ ms) j said k n e = by (named m said) refl (λ q. find-at ms (j + 1) said k n q)
   where
-    by : (b : Bool) → named m said ≡ b → (findIn ms (j + 1) said ≡ F.At k n → (k < j + 1 + length ms) × (n ≤ length said)) → (k < j + suc (length ms)) × (n ≤ length said)
+    by : (b : Bool) → named m said ≡ b → (findIn ms (j + 1) said ≡ F.At k n → (k < j + 1 + length ms) × (n ≤ length said))
+        → (k < j + suc (length ms)) × (n ≤ length said)
     by true y go = let t = find-hit m ms j said y in let a : k ≡ j = cc in let b : n ≡ length m = cc in (omega arith, omega (arith, named-length m said y))
     by false y go = let t = go (sym (find-miss m ms j said y) ∙ e) in (omega (arith, t .0), t .1)
 

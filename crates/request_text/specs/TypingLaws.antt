@@ -75,7 +75,8 @@ unfolding readLines
 read-end i ns marks = refl
 
 pub read-line : (l : List ℕ) (ls : List (List ℕ)) (i : ℕ) (ns : List ℤ) (marks : List ℕ)
-    → readLines (l ∷ ls) i ns marks ≡ onward (notedOf (meaningOf l) marks) i (readLines ls (i + 1) (numbersAfter (meaningOf l) marks ns) (marksAfter (meaningOf l) marks))
+    → readLines (l ∷ ls) i ns marks
+    ≡ onward (notedOf (meaningOf l) marks) i (readLines ls (i + 1) (numbersAfter (meaningOf l) marks ns) (marksAfter (meaningOf l) marks))
 unfolding readLines
 read-line l ls i ns marks = refl
 
@@ -117,12 +118,14 @@ module _ (text marks : List ℕ) (ns : List ℤ) (at i : ℕ) (w : Walked text m
     rest = readLines (linesOf (drop (at + n + 1) text)) (i + 1) (numbersAfter (meaningOf line) marks ns) (marksAfter (meaningOf line) marks)
 
     at-line : typingOf text ≡ onward (notedOf (meaningOf line) marks) i rest
-    at-line = w .reading ∙ ap (λ (l : List (List ℕ)). readLines l i ns marks) (line-next text at n h e) ∙ read-line line (linesOf (drop (at + n + 1) text)) i ns marks
+    at-line = w .reading ∙ ap (λ (l : List (List ℕ)). readLines l i ns marks) (line-next text at n h e)
+        ∙ read-line line (linesOf (drop (at + n + 1) text)) i ns marks
 
     pub line-refused : (old : List ℤ) (f : Fault) → notedOf (meaningOf line) marks ≡ N.Refused f → Answered old (T.Refused i f) old
     line-refused old f q = answered old (refused i f) (at-line ∙ ap (λ (m : Noted). onward m i rest) q)
 
-    pub line-taken : (new : List ℕ) (after : List ℤ) → notedOf (meaningOf line) marks ≡ N.Taken → new ≡ marksAfter (meaningOf line) marks → after ≡ numbersAfter (meaningOf line) marks ns
+    pub line-taken : (new : List ℕ) (after : List ℤ) → notedOf (meaningOf line) marks ≡ N.Taken → new ≡ marksAfter (meaningOf line) marks → after
+        ≡ numbersAfter (meaningOf line) marks ns
         → length new ≡ count → length after ≡ count → Walked text new after (at + n + 1) (i + 1)
     line-taken new after q p r lm la =
         record {

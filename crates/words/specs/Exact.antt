@@ -46,7 +46,8 @@ zeros-after (x ∷ s) n e =
 -- the first digits of a text, where those after them are 0, are the whole text with the point moved
 moved : (places n : ℕ) (s : List ℕ) → allOf C.Zero (drop places s) ≡ true → appended n places s * 10 ^ length s ≡ appended n (length s) s * 10 ^ places
 moved zero n s e =
-    ap (λ (k : ℕ). k * 10 ^ length s) (appended-none n s) ∙ sym (zeros-after s n e) ∙ sym (ap (λ (k : ℕ). appended n (length s) s * k) (pow-zero 10) ∙ mul-one (appended n (length s) s))
+    ap (λ (k : ℕ). k * 10 ^ length s) (appended-none n s) ∙ sym (zeros-after s n e)
+    ∙ sym (ap (λ (k : ℕ). appended n (length s) s * k) (pow-zero 10) ∙ mul-one (appended n (length s) s))
 moved (suc p) n [] e =
     ap (λ (k : ℕ). k * 10 ^ 0) (appended-step p n []) ∙ moved p (digitAfter n 48) [] (rw (drop-nil p) e)
     ∙ ap (λ (k : ℕ). k * 10 ^ p) (appended-none (digitAfter n 48) [] ∙ ten)

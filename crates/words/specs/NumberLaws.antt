@@ -44,7 +44,8 @@ capped-digit : (n x : ℕ) → capped (digitAfter (capped n) x) ≡ capped (digi
 capped-digit n x =
     elim (decLt n 4294967296) [
       | yes l ↦ rw (capped-below n l)
-      | no l ↦ let g : 4294967296 ≤ n = omega arith in rw (capped-above n g) (capped-above (digitAfter 4294967296 x) (omega arith) ∙ sym (capped-above (digitAfter n x) (omega arith)))
+      | no l ↦ let g : 4294967296 ≤ n = omega arith in
+          rw (capped-above n g) (capped-above (digitAfter 4294967296 x) (omega arith) ∙ sym (capped-above (digitAfter n x) (omega arith)))
     ]
 
 -- so digits may be capped as they come
@@ -111,7 +112,8 @@ pub record Split (w : List ℕ) (sign digits point : ℕ) : Type 0 where
   pub whole : digits ≡ wholes w
   pub decs : part (part (part w sign) digits) point ≡ decimals w
 
-pub split : (w : List ℕ) (sign digits point : ℕ) → sign ≡ startOf C.Sign w → digits ≡ runOf C.Digit (part w sign) → point ≡ startOf C.Point (part (part w sign) digits)
+pub split : (w : List ℕ) (sign digits point : ℕ) → sign ≡ startOf C.Sign w → digits ≡ runOf C.Digit (part w sign) → point
+    ≡ startOf C.Point (part (part w sign) digits)
     → Split w sign digits point
 split w sign digits point e f g =
     let body : part w sign ≡ unsigned w = rest-is w sign ∙ ap (λ (i : ℕ). drop i w) e in

@@ -113,7 +113,8 @@ line-first x [] = first-by x [] (rw (lines-nil, run-nil C.Line))
 line-first x (y ∷ t) = first-by x (y ∷ t) (rw (line-first y t))
 
 -- the line at a place of the text, and those after it
-lines-at : (s : List ℕ) (at : ℕ) → at < length s → linesOf (drop at s) ≡ take (runOf C.Line (drop at s)) (drop at s) ∷ linesOf (drop (at + runOf C.Line (drop at s) + 1) s)
+lines-at : (s : List ℕ) (at : ℕ) → at < length s → linesOf (drop at s)
+    ≡ take (runOf C.Line (drop at s)) (drop at s) ∷ linesOf (drop (at + runOf C.Line (drop at s) + 1) s)
 lines-at s at h = by (drop at s) refl (from-here s at 0 h)
   where
     further : (n : ℕ) → at + suc n ≡ at + n + 1
@@ -124,7 +125,8 @@ lines-at s at h = by (drop at s) refl (from-here s at 0 h)
     by (x ∷ t) e q =
         line-first x t
         ∙ ap (λ (k : List ℕ). take (runOf C.Line (x ∷ t)) (x ∷ t) ∷ linesOf k)
-        (ap (drop (suc (runOf C.Line (x ∷ t)))) (sym e) ∙ drop-drop (suc (runOf C.Line (x ∷ t))) at s ∙ ap (λ (k : ℕ). drop k s) (further (runOf C.Line (x ∷ t))))
+        (ap (drop (suc (runOf C.Line (x ∷ t)))) (sym e) ∙ drop-drop (suc (runOf C.Line (x ∷ t))) at s
+        ∙ ap (λ (k : ℕ). drop k s) (further (runOf C.Line (x ∷ t))))
 
 -- n bytes long: the line as a part of a slice has it
 module _ (s : List ℕ) (at n : ℕ) (h : at < length s) (e : n ≡ runOf C.Line (drop at s)) where

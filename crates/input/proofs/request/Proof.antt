@@ -11,7 +11,8 @@ use Rattle.input.proofs.request.Tie as tie
 holds : (c : tie.After-enum-told) → Asked (c .before .before .before .before .before .args .input .now) (c .before .before .get .last .1 .0)
 holds c =
     let g = c .before .before in
-    asked (g .before .before .before .args .input .now) _ _ (λ i. let b = g .before .before .shared-slice-known .given i in omega arith) (sym (g .get .ensures .0) ∙ c .enum-told .given .1) (g .get .ensures .1)
+    asked (g .before .before .before .args .input .now) _ _ (λ i. let b = g .before .before .shared-slice-known .given i in omega arith)
+    (sym (g .get .ensures .0) ∙ c .enum-told .given .1) (g .get .ensures .1)
 
 get-requires : tie.Need-get-requires
 get-requires c κs = search needs

@@ -28,7 +28,8 @@ cast c z e =
     subst (λ (y : ℤ). T (nonNeg y) × Fits w32 (natAbs y)) (sym e)
     (tt, record { fits = omega (arith, complement-small (c .args .n) (c .args .whole) (c .pre .0)) })
 
-shifted-is : (c : tie.Then1) → run (whole (c .before .args .n) ∷ raw (c .before .args .whole) ∷ []) shifted ≡ pos (complement (c .before .args .whole) (c .before .args .n))
+shifted-is : (c : tie.Then1) → run (whole (c .before .args .n) ∷ raw (c .before .args .whole) ∷ []) shifted
+    ≡ pos (complement (c .before .args .whole) (c .before .args .n))
 shifted-is c =
     let s = c .before in
     runs (bounds s) shifted tt

@@ -1,4 +1,5 @@
--- `request_bytes::get` meets its contract: the numbers before number k are read, from the bytes before `at` (`Getting`). The measure is how many are left. Assumes nothing.
+-- `request_bytes::get` meets its contract: the numbers before number k are read, from the bytes before `at` (`Getting`). The measure is how many are
+-- left. Assumes nothing.
 use mathlib.Core.Path.{_≡_, sym, ap, subst, _∙_}
 use mathlib.Core.List.{List}
 use Prim.Native.Nat.{ℕ, _-_}
@@ -24,9 +25,11 @@ abbrev μ-loop : tie.MeasureT-loop
 
 -- what stands at the field's place
 found : (c : tie.After-part-at Inv-loop μ-loop) (p : Part) → c .part-at .result ≡ p
-    → partOf (rowAt (c .before .before .before .loop .k)) (c .before .before .before .before .before .args .bytes .now) (c .before .before .before .loop .at) ≡ p
+    → partOf (rowAt (c .before .before .before .loop .k)) (c .before .before .before .before .before .args .bytes .now)
+    (c .before .before .before .loop .at) ≡ p
 found c p e =
-    ap (λ (f : Field). partOf f (c .before .before .before .before .before .args .bytes .now) (c .before .before .before .loop .at)) (sym (c .before .field-at .ensures))
+    ap (λ (f : Field). partOf f (c .before .before .before .before .before .args .bytes .now) (c .before .before .before .loop .at))
+    (sym (c .before .field-at .ensures))
     ∙ sym (c .part-at .ensures) ∙ e
 
 loop-holds : tie.Need-loop-holds Inv-loop μ-loop

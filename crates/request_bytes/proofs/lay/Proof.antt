@@ -1,4 +1,5 @@
--- `request_bytes::lay` meets its contract: the numbers before number k are put, in the bytes before `at` (`Putting`). The measure is how many are left. Assumes nothing.
+-- `request_bytes::lay` meets its contract: the numbers before number k are put, in the bytes before `at` (`Putting`). The measure is how many are
+-- left. Assumes nothing.
 use mathlib.Core.Path.{_≡_, sym, ap, _∙_}
 use mathlib.Core.Bool.{Bool}
 use mathlib.Core.List.{List}

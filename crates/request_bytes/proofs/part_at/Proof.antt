@@ -13,10 +13,12 @@ use Rattle.request_bytes.specs.GetLaws.{part-other, part-short, part-is}
 use Rattle.request_bytes.proofs.part_at.Statement.{statement}
 use Rattle.request_bytes.proofs.part_at.Tie as tie
 
-stands : (c : tie.Else1) → kindStands (c .before .before .before .args .field .4) (c .before .before .before .args .s .now) (c .before .before .before .args .at) ≡ true
+stands : (c : tie.Else1) → kindStands (c .before .before .before .args .field .4) (c .before .before .before .args .s .now)
+    (c .before .before .before .args .at) ≡ true
 stands c = sym (c .before .kind-stands .ensures) ∙ not-false _ (c .if1 .left)
 
-sum-is : (c : tie.After-bytes-in) → c .before .after-kind .result + c .bytes-in .result ≡ c .before .after-kind .result + bytesIn (c .before .before .before .before .before .args .field .3)
+sum-is : (c : tie.After-bytes-in) → c .before .after-kind .result + c .bytes-in .result
+    ≡ c .before .after-kind .result + bytesIn (c .before .before .before .before .before .args .field .3)
 sum-is c = ap (λ (n : ℕ). c .before .after-kind .result + n) (c .bytes-in .ensures)
 
 kind-stands-requires : tie.Need-kind-stands-requires
@@ -51,7 +53,8 @@ returns-3 : tie.Need-returns-3
 returns-3 c =
     let b = c .before .before in
     let n = c .number-at in
-    part-is _ _ _ _ _ (stands (b .before .before)) (b .before .after-kind .ensures) (sum-is b) _ (c .before .if2 .left) (read-result (n .result) (n .ok) ∙ n .ensures)
+    part-is _ _ _ _ _ (stands (b .before .before)) (b .before .after-kind .ensures) (sum-is b) _ (c .before .if2 .left)
+    (read-result (n .result) (n .ok) ∙ n .ensures)
 
 pub part-at-spec : {M : Type 1} → statement M
 part-at-spec =

@@ -21,7 +21,8 @@ kind-room : (c : tie.Start) → c .args .at + length (kindBytes (c .args .field 
 kind-room c = omega (arith, room c)
 
 -- the place after the kind
-start-room : (c : tie.After-put-kind) → c .put-kind .result + bytesIn (c .before .before .before .args .field .3) ≤ length (c .before .before .before .args .out .now)
+start-room : (c : tie.After-put-kind)
+    → c .put-kind .result + bytesIn (c .before .before .before .args .field .3) ≤ length (c .before .before .before .args .out .now)
 start-room c = omega (arith, room (c .before .before .before), c .put-kind .ensures .0)
 
 put-kind-requires : tie.Need-put-kind-requires
@@ -48,7 +49,8 @@ returns c =
     let s = k .before .before .before in
     let n = c .before .before .before .put-number in (
       omega (arith, k .put-kind .ensures .0, c .bytes-in .ensures, field-length (s .args .field) (s .args .n)),
-      field-put (s .args .field) (s .args .n) _ _ _ _ _ (k .put-kind .ensures .0) (k .put-kind .ensures .1) (n .ensures ∙ rw (toZ-ofZ w64 (s .args .n) (s .fits .n))),
+      field-put (s .args .field) (s .args .n) _ _ _ _ _ (k .put-kind .ensures .0) (k .put-kind .ensures .1)
+          (n .ensures ∙ rw (toZ-ofZ w64 (s .args .n) (s .fits .n))),
     )
 
 pub put-field-spec : {M : Type 1} → statement M

@@ -28,7 +28,8 @@ module _ (c : tie.Start) (w : Width) (e : c .args .width ≡ w) where
   same = toZ-ofZ w64 (c .args .n) (c .fits .n)
 
   small : natAbs given < wholeOf w
-  small = subst (λ (z : ℤ). natAbs z < wholeOf w) (sym same) (held-size w (c .args .n) (held w (c .args .n) (subst (λ (v : Width). holds v (c .args .n) ≡ true) e (c .pre .1))))
+  small = subst (λ (z : ℤ). natAbs z < wholeOf w) (sym same)
+      (held-size w (c .args .n) (held w (c .args .n) (subst (λ (v : Width). holds v (c .args .n) ≡ true) e (c .pre .1))))
 
   room : c .args .at + bytesIn w ≤ length (c .args .out .now)
   room = subst (λ (v : Width). c .args .at + bytesIn v ≤ length (c .args .out .now)) e (c .pre .0)
@@ -71,7 +72,8 @@ same-length c = search needs
 returns : tie.Need-returns
 returns c =
     let called = c .before .before .before in
-    done (called .before .before .before .before .before) _ (called .before .before .enum-told .given .1) _ _ (called .complement .ensures) (c .before .before .put-two .ensures)
+    done (called .before .before .before .before .before) _ (called .before .before .enum-told .given .1) _ _ (called .complement .ensures)
+    (c .before .before .put-two .ensures)
 
 same-length-2 : tie.Need-same-length-2
 same-length-2 c = search needs
@@ -79,7 +81,8 @@ same-length-2 c = search needs
 returns-2 : tie.Need-returns-2
 returns-2 c =
     let called = c .before .before .before in
-    done (called .before .before .before .before .before) _ (called .before .before .enum-told2 .given .1) _ _ (called .complement2 .ensures) (c .before .before .put-two2 .ensures)
+    done (called .before .before .before .before .before) _ (called .before .before .enum-told2 .given .1) _ _ (called .complement2 .ensures)
+    (c .before .before .put-two2 .ensures)
 
 same-length-3 : tie.Need-same-length-3
 same-length-3 c = search needs
@@ -87,7 +90,8 @@ same-length-3 c = search needs
 returns-3 : tie.Need-returns-3
 returns-3 c =
     let called = c .before .before .before in
-    done (called .before .before .before .before .before) _ (called .before .before .enum-told3 .given .1) _ _ (called .complement3 .ensures) (c .before .before .put-four .ensures)
+    done (called .before .before .before .before .before) _ (called .before .before .enum-told3 .given .1) _ _ (called .complement3 .ensures)
+    (c .before .before .put-four .ensures)
 
 pub put-number-spec : {M : Type 1} → statement M
 put-number-spec =

@@ -36,7 +36,8 @@ module _ (c : tie.After-field-at Inv-loop μ-loop) where
 
 -- what was tested
 tested : (c : tie.After-is-named Inv-loop μ-loop) (b : Bool) → c .is-named .result ≡ b
-    → named (nameOf (rowAt (c .before .before .before .before .before .loop .k))) (c .before .before .before .before .before .before .before .args .said .now) ≡ b
+    → named (nameOf (rowAt (c .before .before .before .before .before .loop .k)))
+    (c .before .before .before .before .before .before .before .args .said .now) ≡ b
 tested c b e =
     let f = c .before .before .before in
     ap (λ (r : Field). named (nameOf r) (f .before .before .before .before .args .said .now)) (sym (is f)) ∙ sym (c .is-named .ensures) ∙ e

@@ -18,7 +18,8 @@ use Rattle.request_text.proofs.fit.Tie as tie
 same : (c : tie.After-with-sign) → toZ w64 (ofZ w64 (c .with-sign .result)) ≡ withSign (c .before .args .minus) (c .before .args .n)
 same c = read-result (c .with-sign .result) (c .with-sign .ok) ∙ c .with-sign .ensures
 
-tested : (c : tie.After-holds) (b : Bool) → c .holds .result ≡ b → holds (c .before .before .args .width) (withSign (c .before .before .args .minus) (c .before .before .args .n)) ≡ b
+tested : (c : tie.After-holds) (b : Bool) → c .holds .result ≡ b
+    → holds (c .before .before .args .width) (withSign (c .before .before .args .minus) (c .before .before .args .n)) ≡ b
 tested c b e = ap (holds (c .before .before .args .width)) (sym (same (c .before))) ∙ sym (c .holds .ensures) ∙ e
 
 with-sign-requires : tie.Need-with-sign-requires

@@ -31,7 +31,8 @@ of-name-requires : tie.Need-of-name-requires
 of-name-requires c κs = search needs
 
 returns-2 : tie.Need-returns-2
-returns-2 c = c .of-name .ensures ∙ meaning-some _ _ _ (c .before .before .before .before .before .run .ensures .0) (c .before .before .before .run2 .ensures .0) (c .before .if1 .left)
+returns-2 c = c .of-name .ensures
+    ∙ meaning-some _ _ _ (c .before .before .before .before .before .run .ensures .0) (c .before .before .before .run2 .ensures .0) (c .before .if1 .left)
 
 pub meaning-spec : {M : Type 1} → statement M
 meaning-spec =

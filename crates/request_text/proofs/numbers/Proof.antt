@@ -1,4 +1,5 @@
--- `request_text::numbers` meets its contract: the lines passed were taken, so the reading is that of those left (`Walked`). The measure is how many bytes are left. Assumes nothing.
+-- `request_text::numbers` meets its contract: the lines passed were taken, so the reading is that of those left (`Walked`). The measure is how many
+-- bytes are left. Assumes nothing.
 use mathlib.Core.Path.{_≡_, sym, ap, subst, _∙_}
 use Prim.Native.Nat.{_+_, _-_, _≤_}
 use borrow.Author.Needs.{needs}
@@ -25,7 +26,8 @@ module _ (c : tie.After-run Inv-loop μ-loop) where
   abbrev loop : tie.In-loop Inv-loop μ-loop
   loop = c .before .before
 
-  walked : Walked (loop .before .before .before .args .text .now) (loop .before .loop .marks) (loop .before .loop .found) (loop .before .loop .at) (loop .before .loop .line)
+  walked : Walked (loop .before .before .before .args .text .now) (loop .before .loop .marks) (loop .before .loop .found) (loop .before .loop .at)
+      (loop .before .loop .line)
   walked = loop .before .loop .inv
 
   ran : c .run .result ≡ runOf C.Line (drop (loop .before .loop .at) (loop .before .before .before .args .text .now))
@@ -39,8 +41,10 @@ module _ (c : tie.After-note Inv-loop μ-loop) where
   abbrev at-run : tie.After-run Inv-loop μ-loop
   at-run = c .before .before .before .before .before
 
-  noted : Noting (meaningOf (line _ _ _ _ _ (walked at-run) (at-run .run .result) (loop at-run .loop-test .taken) (ran at-run))) (loop at-run .before .loop .marks) (loop at-run .before .loop .found) (c .note .result) (c .note .last .1 .0) (c .note .last .1 .1 .0)
-  noted = subst (λ (l : Line). Noting l (loop at-run .before .loop .marks) (loop at-run .before .loop .found) (c .note .result) (c .note .last .1 .0) (c .note .last .1 .1 .0)) (c .before .before .before .meaning .ensures) (c .note .ensures)
+  noted : Noting (meaningOf (line _ _ _ _ _ (walked at-run) (at-run .run .result) (loop at-run .loop-test .taken) (ran at-run)))
+      (loop at-run .before .loop .marks) (loop at-run .before .loop .found) (c .note .result) (c .note .last .1 .0) (c .note .last .1 .1 .0)
+  noted = subst (λ (l : Line). Noting l (loop at-run .before .loop .marks) (loop at-run .before .loop .found) (c .note .result) (c .note .last .1 .0)
+      (c .note .last .1 .1 .0)) (c .before .before .before .meaning .ensures) (c .note .ensures)
 
 loop-holds : tie.Need-loop-holds Inv-loop μ-loop
 loop-holds c = typing-start _
@@ -99,7 +103,8 @@ add-at : tie.Need-add-at Inv-loop μ-loop
 add-at c = let i = inside (c .before .before .before .before .before .before .before .before .before) in search needs
 
 add-line : tie.Need-add-line Inv-loop μ-loop
-add-line c = let i = inside (c .before .before .before .before .before .before .before .before .before) in let w = walked (c .before .before .before .before .before .before .before .before .before) .lines in search needs
+add-line c = let i = inside (c .before .before .before .before .before .before .before .before .before) in
+    let w = walked (c .before .before .before .before .before .before .before .before .before) .lines in search needs
 
 loop-less : tie.Need-loop-less Inv-loop μ-loop
 loop-less c = let i = inside (c .before .before .before .before .before .before .before .before .before) in search needs
@@ -108,7 +113,8 @@ loop-again : tie.Need-loop-again Inv-loop μ-loop
 loop-again c =
     let n = c .before .before .before .before in
     let r = at-run n in
-    line-taken _ _ _ _ _ (walked r) _ (loop r .loop-test .taken) (ran r) _ _ (sym (noted n .0) ∙ c .enum-told .given .1) (noted n .1 .0) (noted n .1 .1) (n .note .kept .1 .0 ∙ walked r .marked) (n .note .kept .1 .1 .0 ∙ walked r .fields)
+    line-taken _ _ _ _ _ (walked r) _ (loop r .loop-test .taken) (ran r) _ _ (sym (noted n .0) ∙ c .enum-told .given .1) (noted n .1 .0)
+    (noted n .1 .1) (n .note .kept .1 .0 ∙ walked r .marked) (n .note .kept .1 .1 .0 ∙ walked r .fields)
 
 slice-aggregate-complete : tie.Need-slice-aggregate-complete Inv-loop μ-loop
 slice-aggregate-complete c = sym (c .before .before .loop .inv .marked)

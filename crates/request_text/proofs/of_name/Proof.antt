@@ -41,10 +41,13 @@ part-of-value-end : tie.Need-part-of-value-end
 part-of-value-end c = search needs
 
 of-value-requires : tie.Need-of-value-requires
-of-value-requires c κs = found-at _ _ _ (sym (c .before .before .before .before .before .before .find .ensures) ∙ c .before .before .before .before .field .given .1) .0
+of-value-requires c κs = found-at _ _ _
+    (sym (c .before .before .before .before .before .before .find .ensures) ∙ c .before .before .before .before .field .given .1) .0
 
 returns-2 : tie.Need-returns-2
-returns-2 c = c .of-value .ensures ∙ field-at _ _ _ _ (sym (c .before .before .before .before .before .before .before .find .ensures) ∙ c .before .before .before .before .before .field .given .1) (c .before .before .run .ensures .0)
+returns-2 c = c .of-value .ensures
+    ∙ field-at _ _ _ _ (sym (c .before .before .before .before .before .before .before .find .ensures)
+    ∙ c .before .before .before .before .before .field .given .1) (c .before .before .run .ensures .0)
 
 pub of-name-spec : {M : Type 1} → statement M
 of-name-spec =

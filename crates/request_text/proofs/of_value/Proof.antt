@@ -32,7 +32,9 @@ value-of-requires : tie.Need-value-of-requires
 value-of-requires c κs = search needs
 
 returns-2 : tie.Need-returns-2
-returns-2 c = c .value-of .ensures ∙ value-alone _ _ _ (c .before .before .before .before .before .run .ensures .0) (sym (c .before .before .before .all .ensures) ∙ not-false _ (c .before .before .if1 .left))
+returns-2 c = c .value-of .ensures
+    ∙ value-alone _ _ _ (c .before .before .before .before .before .run .ensures .0)
+    (sym (c .before .before .before .all .ensures) ∙ not-false _ (c .before .before .if1 .left))
 
 pub of-value-spec : {M : Type 1} → statement M
 of-value-spec =

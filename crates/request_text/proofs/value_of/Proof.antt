@@ -14,7 +14,9 @@ use Rattle.request_text.proofs.value_of.Statement.{statement}
 use Rattle.request_text.proofs.value_of.Tie as tie
 
 -- the units found decide
-told : (c : tie.After-units-in) (u : Units) → c .units-in .result ≡ u → ofUnits (c .before .before .before .before .args .field) (c .before .start .result) u ≡ valueOf (c .before .before .before .before .args .field) (c .before .before .before .before .args .word .now)
+told : (c : tie.After-units-in) (u : Units) → c .units-in .result ≡ u
+    → ofUnits (c .before .before .before .before .args .field) (c .before .start .result) u
+    ≡ valueOf (c .before .before .before .before .args .field) (c .before .before .before .before .args .word .now)
 told c u e =
     let a = c .before .before .before .before .args in
     ap (λ (x : Units). ofUnits (a .field) (c .before .start .result) x) (sym e ∙ c .units-in .ensures)
@@ -47,7 +49,8 @@ returns : tie.Need-returns
 returns c =
     let u = c .before .before .before .before in
     let a = u .before .before .before .before .args in
-    c .fit .ensures ∙ ap (λ (f : Field). fitted (a .field) (f .3) (u .before .start .result) (c .before .before .found .given .0 .0)) (u .before .before .field-at .ensures)
+    c .fit .ensures ∙ ap (λ (f : Field). fitted (a .field) (f .3) (u .before .start .result) (c .before .before .found .given .0 .0))
+    (u .before .before .field-at .ensures)
     ∙ told u _ (c .before .before .found .given .1)
 
 returns-2 : tie.Need-returns-2

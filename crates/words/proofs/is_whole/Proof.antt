@@ -24,7 +24,8 @@ all-requires : tie.Need-all-requires
 all-requires c κs = search needs
 
 returns-2 : tie.Need-returns-2
-returns-2 c = c .all .ensures ∙ ap (allOf C.Zero) (rest-is (c .before .before .before .before .args .decimals .now) (c .before .before .before .before .args .places))
+returns-2 c = c .all .ensures ∙ ap (allOf C.Zero)
+    (rest-is (c .before .before .before .before .args .decimals .now) (c .before .before .before .before .args .places))
 
 pub is-whole-spec : {M : Type 1} → statement M
 is-whole-spec =

@@ -1,4 +1,5 @@
--- `words::run` meets its contract: the bytes passed are of the class, and what is left decides how many more are (`Ran`). The measure is how many are left. Assumes nothing.
+-- `words::run` meets its contract: the bytes passed are of the class, and what is left decides how many more are (`Ran`). The measure is how many are
+-- left. Assumes nothing.
 use mathlib.Core.Path.{sym, _∙_}
 use Prim.Native.Nat.{_-_}
 use borrow.Author.Needs.{needs}

@@ -64,13 +64,16 @@ add-if2 : tie.Need-add-if2
 add-if2 c = search needs
 
 returns-2 : tie.Need-returns-2
-returns-2 c = split-empty _ _ _ _ _ (parted (c .before .before .before .before)) (sym (c .before .before .all .ensures) ∙ not-false _ (c .before .if1 .left)) (c .if2 .taken)
+returns-2 c = split-empty _ _ _ _ _ (parted (c .before .before .before .before))
+    (sym (c .before .before .all .ensures) ∙ not-false _ (c .before .if1 .left)) (c .if2 .taken)
 
 is-whole-requires : tie.Need-is-whole-requires
 is-whole-requires c κs = search needs
 
 returns-3 : tie.Need-returns-3
-returns-3 c = split-fraction _ _ _ _ _ (parted (c .before .before .before .before .before .before)) (sym (c .before .before .before .before .all .ensures) ∙ not-false _ (c .before .before .before .if1 .left)) (c .before .before .if2 .left) (sym (c .before .is-whole .ensures) ∙ not-true _ (c .if3 .taken))
+returns-3 c = split-fraction _ _ _ _ _ (parted (c .before .before .before .before .before .before))
+    (sym (c .before .before .before .before .all .ensures) ∙ not-false _ (c .before .before .before .if1 .left)) (c .before .before .if2 .left)
+    (sym (c .before .is-whole .ensures) ∙ not-true _ (c .if3 .taken))
 
 append-requires : tie.Need-append-requires
 append-requires c κs = search needs
@@ -79,7 +82,10 @@ append-requires-2 : tie.Need-append-requires-2
 append-requires-2 c κs = search needs
 
 returns-4 : tie.Need-returns-4
-returns-4 c = split-units _ _ _ _ _ (parted (c .before .before .before .before .before .before .before .before)) _ _ (sym (c .before .before .before .before .before .before .all .ensures) ∙ not-false _ (c .before .before .before .before .before .if1 .left)) (c .before .before .before .before .if2 .left) (sym (c .before .before .before .is-whole .ensures) ∙ not-false _ (c .before .before .if3 .left)) (c .before .append .ensures .0) (c .append2 .ensures .0)
+returns-4 c = split-units _ _ _ _ _ (parted (c .before .before .before .before .before .before .before .before)) _ _
+    (sym (c .before .before .before .before .before .before .all .ensures) ∙ not-false _ (c .before .before .before .before .before .if1 .left))
+    (c .before .before .before .before .if2 .left) (sym (c .before .before .before .is-whole .ensures) ∙ not-false _ (c .before .before .if3 .left))
+    (c .before .append .ensures .0) (c .append2 .ensures .0)
 
 pub units-in-spec : {M : Type 1} → statement M
 units-in-spec =

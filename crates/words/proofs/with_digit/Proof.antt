@@ -17,7 +17,8 @@ add-longer : tie.Need-add-longer
 add-longer c = search needs
 
 returns : tie.Need-returns
-returns c = let d = c .before .digit-of .ensures in let t = c .if1 .taken in (ap (λ (k : ℕ). 10 * c .before .before .args .n + k) d ∙ sym (capped-below _ (omega arith)), omega arith)
+returns c = let d = c .before .digit-of .ensures in let t = c .if1 .taken in
+    (ap (λ (k : ℕ). 10 * c .before .before .args .n + k) d ∙ sym (capped-below _ (omega arith)), omega arith)
 
 returns-2 : tie.Need-returns-2
 returns-2 c = let d = c .before .digit-of .ensures in let t = c .if1 .left in (sym (capped-above _ (omega arith)), omega arith)
