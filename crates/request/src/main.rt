@@ -33,36 +33,13 @@ fn tell(text: &[u8]) {
 }
 
 fn tell_name(field: usize) {
-    match field {
-        0 => tell(b"x0"),
-        1 => tell(b"x1"),
-        2 => tell(b"x2"),
-        3 => tell(b"x3"),
-        4 => tell(b"y0"),
-        5 => tell(b"y1"),
-        6 => tell(b"y2"),
-        7 => tell(b"y3"),
-        8 => tell(b"d0"),
-        9 => tell(b"d1"),
-        10 => tell(b"d2"),
-        11 => tell(b"l10"),
-        12 => tell(b"l11"),
-        13 => tell(b"l12"),
-        14 => tell(b"l20"),
-        15 => tell(b"l21"),
-        16 => tell(b"l22"),
-        17 => tell(b"mu0"),
-        18 => tell(b"mu1"),
-        19 => tell(b"mu2"),
-        20 => tell(b"tan f1"),
-        21 => tell(b"tan f2"),
-        22 => tell(b"station"),
-        23 => tell(b"latitude"),
-        24 => tell(b"longitude"),
-        25 => tell(b"height"),
-        26 => tell(b"first"),
-        _ => tell(b"last"),
+    if COUNT <= field {
+        return;
     }
+    let row = request_fields::field_at(field);
+    let name = row.0;
+    let letters = row.1;
+    tell(&name[..letters]);
 }
 
 fn tell_of(field: usize, text: &[u8]) {
