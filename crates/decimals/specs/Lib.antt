@@ -1,0 +1,4 @@
+pub mod Decimals
+pub mod DecimalLaws
+pub mod Puts
+pub mod PutLaws
