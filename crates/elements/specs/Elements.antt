@@ -5,6 +5,8 @@ use lib.IntN.{ℤ, pos}
 use lib.ListN.{getD}
 use Rattle.numbers.specs.declared.Limits.{Limits}
 use Rattle.numbers.specs.Limits.{Row, row, _±_, firstOutOfRange}
+use Rattle.refusals.specs.declared.Checked.{Checked}
+use Rattle.refusals.specs.Refusals.{ofLimits}
 use Rattle.elements.specs.declared.Cubic.{Cubic}
 use Rattle.elements.specs.declared.Quadratic.{Quadratic}
 use Rattle.elements.specs.declared.Axis.{Axis}
@@ -64,9 +66,13 @@ ranges e =
     ∷ row (e .penumbra .tanf) (pos 400000) (pos 500000) ∷ row (e .central .tanf) (pos 400000) (pos 500000)
     ∷ []
 
--- "an element outside its range | first such field, 0..21"
+-- "first such field, 0..21"
 unfoldable pub rangeOf : Elements → Limits
 rangeOf e = firstOutOfRange 0 (ranges e)
+
+-- "2 | an element outside its range | first such field, 0..21"
+abbrev pub elementsChecked : Elements → Checked
+elementsChecked e = ofLimits 2 (rangeOf e)
 
 -- "A value at τ starts from the highest coefficient and repeats": of x, y, d and μ of an axis, and of l of a cone (Polynomial)
 abbrev pub xAt : Axis → (τ : ℤ) → ℤ

@@ -2,9 +2,10 @@
 ghost use mathlib.Core.Path.{_≡_};
 ghost use Prim.Native.Nat.{_+_, _*_, _≤_, _<_};
 ghost use lib.IntN.{natAbs};
+ghost use lib.ListN.{length};
 ghost use Rattle.numbers.specs.Value.{Value};
 ghost use Rattle.elements.specs.Polynomial.{step, quadraticAt, cubicAt};
-ghost use Rattle.elements.specs.Elements.{fields, cubicFrom, quadraticFrom, elementsOf, rangeOf};
+ghost use Rattle.elements.specs.Elements.{fields, cubicFrom, quadraticFrom, elementsOf, rangeOf, elementsChecked};
 ghost use Rattle.elements.specs.Sizes.{CubicSizes, QuadraticSizes};
 
 // c0 + c1 t + c2 t^2 + c3 t^3 with t in hours: a length, 10^-8 of the Earth's equatorial radius.
@@ -151,8 +152,8 @@ pub fn listed(e: Elements) -> [i64; 22]
 }
 
 // The four coefficients from place `at` on of such a list.
-fn cubic_from(n: &[i64; 22], at: usize) -> Cubic
-    requires { ⌜ at < 19 ⌝ }
+fn cubic_from(n: &[i64], at: usize) -> Cubic
+    requires { ⌜ at + 4 ≤ length (now n) ⌝ }
     ensures { λ r. ⌜ r ≡ cubicFrom (now (n .entry)) at ⌝ }
 {
     let c0 = n[at];
@@ -163,8 +164,8 @@ fn cubic_from(n: &[i64; 22], at: usize) -> Cubic
 }
 
 // The three.
-fn quadratic_from(n: &[i64; 22], at: usize) -> Quadratic
-    requires { ⌜ at < 20 ⌝ }
+fn quadratic_from(n: &[i64], at: usize) -> Quadratic
+    requires { ⌜ at + 3 ≤ length (now n) ⌝ }
     ensures { λ r. ⌜ r ≡ quadraticFrom (now (n .entry)) at ⌝ }
 {
     let c0 = n[at];
@@ -173,8 +174,9 @@ fn quadratic_from(n: &[i64; 22], at: usize) -> Quadratic
     Quadratic { c0, c1, c2 }
 }
 
-// The elements from such a list: what `listed` undoes, and what undoes it.
-pub fn from_numbers(n: &[i64; 22]) -> Elements
+// The elements from such a list, whatever follows its 22 numbers: what `listed` undoes, and what undoes it.
+pub fn from_numbers(n: &[i64]) -> Elements
+    requires { ⌜ 22 ≤ length (now n) ⌝ }
     ensures { λ r. ⌜ r ≡ elementsOf (now (n .entry)) ⌝ }
 {
     let x = cubic_from(n, 0);
@@ -196,13 +198,21 @@ pub fn from_numbers(n: &[i64; 22]) -> Elements
 }
 
 // Whether every element is in its range, or the first that is not, 0 to 21.
-pub fn in_range(e: Elements) -> numbers::Limits
+fn in_range(e: Elements) -> numbers::Limits
     ensures { λ r. ⌜ r ≡ rangeOf e ⌝ }
 {
     let values = listed(e);
     let lows = LOWS;
     let highs = HIGHS;
     numbers::first_out_of_range(&values, &lows, &highs)
+}
+
+// Refusal 2 with the first element that is out of its range, 0 to 21.
+pub fn check(e: Elements) -> refusals::Checked
+    ensures { λ r. ⌜ r ≡ elementsChecked e ⌝ }
+{
+    let limits = in_range(e);
+    refusals::of_limits(2, limits)
 }
 
 // One step of a value at t seconds: p times t over an hour to the nearest, and the next lower coefficient.

@@ -1,4 +1,6 @@
 // Why something is refused, in document 01's numbers.
+ghost use mathlib.Core.Path.{_≡_};
+ghost use Rattle.refusals.specs.Refusals.{ofLimits};
 
 // A row of document 01's table of refusals.
 pub struct Refusal {
@@ -12,4 +14,14 @@ pub struct Refusal {
 pub enum Checked {
     Within,
     Refused(Refusal),
+}
+
+// Numbers against their ranges, refused under that number with the first that is out of range.
+pub fn of_limits(number: u32, limits: numbers::Limits) -> Checked
+    ensures { λ r. ⌜ r ≡ ofLimits number limits ⌝ }
+{
+    match limits {
+        numbers::Limits::InRange => Checked::Within,
+        numbers::Limits::OutOfRange(place) => Checked::Refused(Refusal { number, place }),
+    }
 }

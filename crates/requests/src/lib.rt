@@ -47,22 +47,12 @@ pub fn check(q: Request) -> Checked
         });
     }
     let e = q.elements;
-    let of_elements = elements::in_range(e);
-    if let numbers::Limits::OutOfRange(field) = of_elements {
-        return Checked::Refused(Refusal {
-            number: 2,
-            place: field,
-        });
+    let of_elements = elements::check(e);
+    if let Checked::Refused(refusal) = of_elements {
+        return Checked::Refused(refusal);
     }
     let s = q.station;
-    let of_station = station::in_range(s);
-    if let numbers::Limits::OutOfRange(field) = of_station {
-        return Checked::Refused(Refusal {
-            number: 3,
-            place: field,
-        });
-    }
-    Checked::Within
+    station::check(s)
 }
 
 // How many seconds the window has, first and last among them.

@@ -3,6 +3,8 @@ use mathlib.Core.List.{List, [], _∷_}
 use lib.IntN.{ℤ, pos, negℤ}
 use Rattle.numbers.specs.declared.Limits.{Limits}
 use Rattle.numbers.specs.Limits.{Row, row, _±_, firstOutOfRange}
+use Rattle.refusals.specs.declared.Checked.{Checked}
+use Rattle.refusals.specs.Refusals.{ofLimits}
 use Rattle.station.specs.declared.Station.{Station}
 
 -- "first: 0 number, 1 latitude, 2 longitude, 3 height"
@@ -18,6 +20,10 @@ ranges s =
     ∷ row (s .height) (negℤ (pos 500)) (pos 9000)
     ∷ []
 
--- "a station value outside its range"
+-- the first number that is out of its range
 unfoldable pub rangeOf : Station → Limits
 rangeOf s = firstOutOfRange 0 (ranges s)
+
+-- "3 | a station value outside its range | first: 0 number, 1 latitude, 2 longitude, 3 height"
+abbrev pub stationChecked : Station → Checked
+stationChecked s = ofLimits 3 (rangeOf s)

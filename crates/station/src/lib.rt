@@ -4,7 +4,7 @@ ghost use Prim.Native.Nat.{_≤_, _+_, _*_};
 ghost use lib.IntN.{natAbs};
 ghost use Rattle.numbers.specs.Value.{Value};
 ghost use Rattle.sine.specs.Table.{Sines};
-ghost use Rattle.station.specs.Station.{fields, rangeOf};
+ghost use Rattle.station.specs.Station.{fields, rangeOf, stationChecked};
 ghost use Rattle.station.specs.Sizes.{StationSizes};
 ghost use Rattle.station.specs.Place.{C, placeOf};
 
@@ -46,13 +46,21 @@ pub fn listed(s: Station) -> [i64; 4]
 }
 
 // Whether every number is in its range, or the first that is not: 0 number, 1 latitude, 2 longitude, 3 height.
-pub fn in_range(s: Station) -> numbers::Limits
+fn in_range(s: Station) -> numbers::Limits
     ensures { λ r. ⌜ r ≡ rangeOf s ⌝ }
 {
     let values = listed(s);
     let lows = LOWS;
     let highs = HIGHS;
     numbers::first_out_of_range(&values, &lows, &highs)
+}
+
+// Refusal 3 with the first number that is out of its range, as above.
+pub fn check(s: Station) -> refusals::Checked
+    ensures { λ r. ⌜ r ≡ stationChecked s ⌝ }
+{
+    let limits = in_range(s);
+    refusals::of_limits(3, limits)
 }
 
 // (1 - flattening)^2 of Krasovsky's spheroid, 10^-8.

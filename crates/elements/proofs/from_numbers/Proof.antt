@@ -25,11 +25,11 @@ quadratic-from-requires-3 c κs = search needs
 quadratic-from-requires-4 : tie.Need-quadratic-from-requires-4
 quadratic-from-requires-4 c κs = search needs
 
-element-copy-out-tanf1 : tie.Need-element-copy-out-tanf1
-element-copy-out-tanf1 c = search needs
+shared-slice-copy-out-tanf1 : tie.Need-shared-slice-copy-out-tanf1
+shared-slice-copy-out-tanf1 c = search needs
 
-element-copy-out-tanf2 : tie.Need-element-copy-out-tanf2
-element-copy-out-tanf2 c = search needs
+shared-slice-copy-out-tanf2 : tie.Need-shared-slice-copy-out-tanf2
+shared-slice-copy-out-tanf2 c = search needs
 
 returns : tie.Need-returns
 unfolding elementsOf
@@ -58,6 +58,6 @@ from-numbers-spec =
     quadratic-from-requires-2
     quadratic-from-requires-3
     quadratic-from-requires-4
-    element-copy-out-tanf1
-    element-copy-out-tanf2
+    shared-slice-copy-out-tanf1
+    shared-slice-copy-out-tanf2
     returns)

@@ -1,51 +1,47 @@
 -- `requests::check` meets its contract: the window, then the elements, then the station; the first that is out of range answers. Assumes nothing.
-use mathlib.Core.Path.{sym, _∙_}
+use mathlib.Core.Path.{_≡_, sym, _∙_}
+use mathlib.Core.Bool.{true}
 use borrow.Author.Needs.{needs}
-use Rattle.requests.specs.RequestLaws.{not-true, not-false, checked-window, checked-element, checked-station, checked-within}
+use Rattle.requests.specs.Windows.{windowHolds}
+use Rattle.requests.specs.RequestLaws.{not-true, not-false, checked-window, checked-element, checked-station}
 use Rattle.requests.proofs.check.Statement.{statement}
 use Rattle.requests.proofs.check.Tie as tie
+
+holds : (c : tie.Else1) → windowHolds (c .before .before .before .args .q .window) ≡ true
+holds c = sym (c .before .window-holds .ensures) ∙ not-false (c .before .window-holds .result) (c .if1 .left)
 
 window-holds-requires : tie.Need-window-holds-requires
 window-holds-requires c κs = search needs
 
 returns : tie.Need-returns
-returns c = sym (checked-window (c .before .before .before .args .q) (sym (c .before .window-holds .ensures) ∙ not-true (c .before .window-holds .result) (c .if1 .taken)))
+returns c =
+    let q = c .before .before .before .args .q in
+    sym (checked-window q (sym (c .before .window-holds .ensures) ∙ not-true (c .before .window-holds .result) (c .if1 .taken)))
 
-in-range-requires : tie.Need-in-range-requires
-in-range-requires c κs = search needs
+check-requires : tie.Need-check-requires
+check-requires c κs = search needs
 
 enum-known-of-elements : tie.Need-enum-known-of-elements
 enum-known-of-elements c = search needs
 
 returns-2 : tie.Need-returns-2
 returns-2 c =
-    sym
-    (checked-element (c .before .before .before .before .before .before .before .before .args .q) (sym (c .before .before .before .before .before .before .window-holds .ensures) ∙ not-false (c .before .before .before .before .before .before .window-holds .result) (c .before .before .before .before .before .if1 .left))
-    (sym (c .before .before .before .in-range .ensures) ∙ c .before .of-elements .given .1))
+    let e = c .before .before .before .before .before in
+    let q = e .before .before .before .args .q in
+    sym (checked-element q (holds e) (sym (c .before .before .before .check .ensures) ∙ c .before .of-elements .given .1))
 
 enum-told : tie.Need-enum-told
 enum-told c = search needs
 
-in-range-requires-2 : tie.Need-in-range-requires-2
-in-range-requires-2 c κs = search needs
-
-enum-known-of-station : tie.Need-enum-known-of-station
-enum-known-of-station c = search needs
+check-requires-2 : tie.Need-check-requires-2
+check-requires-2 c κs = search needs
 
 returns-3 : tie.Need-returns-3
 returns-3 c =
-    sym
-    (checked-station (c .before .before .before .before .before .before .before .before .before .before .before .before .args .q) (sym (c .before .before .before .before .before .before .before .before .before .before .window-holds .ensures) ∙ not-false (c .before .before .before .before .before .before .before .before .before .before .window-holds .result) (c .before .before .before .before .before .before .before .before .before .if1 .left))
-    (sym (c .before .before .before .before .before .before .before .in-range .ensures) ∙ c .before .before .before .before .before .enum-told .given .1) (sym (c .before .before .before .in-range2 .ensures) ∙ c .before .of-station .given .1))
-
-enum-told-2 : tie.Need-enum-told-2
-enum-told-2 c = search needs
-
-returns-4 : tie.Need-returns-4
-returns-4 c =
-    sym
-    (checked-within (c .before .before .before .before .before .before .before .before .before .before .before .args .q) (sym (c .before .before .before .before .before .before .before .before .before .window-holds .ensures) ∙ not-false (c .before .before .before .before .before .before .before .before .before .window-holds .result) (c .before .before .before .before .before .before .before .before .if1 .left))
-    (sym (c .before .before .before .before .before .before .in-range .ensures) ∙ c .before .before .before .before .enum-told .given .1) (sym (c .before .before .in-range2 .ensures) ∙ c .enum-told2 .given .1))
+    let t = c .before .before in
+    let e = t .before .before .before .before in
+    let q = e .before .before .before .args .q in
+    c .check2 .ensures ∙ sym (checked-station q (holds e) (sym (t .before .before .check .ensures) ∙ t .enum-told .given .1))
 
 pub check-spec : {M : Type 1} → statement M
 check-spec =
@@ -53,12 +49,9 @@ check-spec =
     (tie.spec
     window-holds-requires
     returns
-    in-range-requires
+    check-requires
     enum-known-of-elements
     returns-2
     enum-told
-    in-range-requires-2
-    enum-known-of-station
-    returns-3
-    enum-told-2
-    returns-4)
+    check-requires-2
+    returns-3)
