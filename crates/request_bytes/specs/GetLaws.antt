@@ -10,9 +10,8 @@ use lib.Dec.{leb}
 use lib.IntN.{ℤ, pos}
 use lib.ListN.{length, take, drop, set, replicate, length-set, drop-of-length-le}
 use lib.Seq.{drop-cons, take-suc-set, take-all}
-use Rattle.request_fields.specs.declared.Width.{Width}
 use Rattle.request_fields.specs.declared.Field.{Field}
-use Rattle.request_fields.specs.Fields.{bytesIn, layout, count}
+use Rattle.request_fields.specs.Fields.{bytesIn, count}
 use Rattle.request_fields.specs.Rows.{rowAt}
 use Rattle.request_bytes.specs.declared.Got.{Got}
 use Rattle.request_bytes.specs.declared.Got.the-variants as G

@@ -1,17 +1,16 @@
 -- Writing and reading by one layout undo each other: what is written is read back (`read-back`), and what is read is written back (`write-back`).
-use mathlib.Core.Path.{_≡_, refl, sym, ap, _∙_}
+use mathlib.Core.Path.{_≡_, refl, ap, _∙_}
 use mathlib.Core.Bool.{Bool, true, false, cond}
 use mathlib.Core.List.{List, [], _∷_, _++_}
-use Prim.Native.Nat.{ℕ, suc, _+_, _≤_, _<_}
+use Prim.Native.Nat.{ℕ, suc, _+_, _≤_}
 use native.Mathlib.Omega.{arith}
 use borrow.Author.Tests.{eq-eqb, le-leb, leb-true, eqb-true}
 use lib.Dec.{eqb, leb}
 use lib.IntN.{ℤ}
-use lib.ListN.{length, take, drop, length-append, take-append-drop}
+use lib.ListN.{length, drop, length-append, take-append-drop}
 use lib.Seq.{drop-at}
 use Rattle.request_fields.specs.declared.Width.{Width}
 use Rattle.request_fields.specs.Fields.{bytesIn, holds}
-use Rattle.request_bytes.specs.declared.Answer.{Answer}
 use Rattle.request_bytes.specs.declared.Answer.the-variants.{Done, Unfit}
 use Rattle.request_bytes.specs.Layout.{numberBytes, numberAt, Piece, kind, number, countIn, sizeOf, fitting, bytesBy, Reading, numbers, misshaped, before, readBy}
 use Rattle.request_bytes.specs.NumberLaws.{Bytes, bytes-after, length-number, number-back, number-again, number-held}

@@ -2,7 +2,7 @@
 use mathlib.Core.Path.{_≡_, refl, sym, ap, ap₂, _∙_}
 use mathlib.Core.Bool.{true}
 use mathlib.Core.List.{List, [], _∷_, _++_}
-use Prim.Native.Nat.{ℕ, zero, suc, _+_, _-_, _*_, _/_, _%_, _≤_, _<_}
+use Prim.Native.Nat.{ℕ, suc, _+_, _-_, _*_, _/_, _%_, _≤_, _<_}
 use native.Mathlib.Omega.{arith}
 use native.Mathlib.Decide.{decLt}
 use borrow.Author.Tests.{lt-ltb, le-ltb}
@@ -12,7 +12,7 @@ use lib.ListN.{length, getD, take, drop}
 use lib.Seq.{getD-drop}
 use Rattle.numbers.specs.Parts.{same, sum, opposite}
 use Rattle.numbers.specs.Order.{zs}
-use Rattle.records.specs.Entries.{two, four}
+use Rattle.records.specs.Entries.{two}
 use Rattle.records.specs.Records.{twoAt, fourAt}
 use Rattle.request_fields.specs.declared.Width.{Width}
 use Rattle.request_fields.specs.declared.Width.the-variants as W

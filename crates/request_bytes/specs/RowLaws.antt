@@ -2,7 +2,7 @@
 use mathlib.Core.Path.{_≡_, refl, sym, ap, _∙_}
 use mathlib.Core.Bool.{Bool, true, false, cond, _&&_}
 use mathlib.Core.List.{List, [], _∷_, _++_, append-assoc}
-use Prim.Native.Nat.{ℕ, zero, suc, _+_, _-_, _≤_, _<_}
+use Prim.Native.Nat.{ℕ, zero, suc, _+_, _≤_, _<_}
 use native.Mathlib.Omega.{arith}
 use native.Mathlib.Nat.{add-zero}
 use native.Mathlib.Numerals.{add-one}
@@ -17,8 +17,7 @@ use Rattle.request_fields.specs.declared.Width.the-variants as W
 use Rattle.request_fields.specs.Fields.{bytesIn, holds, layout, count}
 use Rattle.request_fields.specs.Rows.{rows, rowAt}
 use Rattle.request_fields.specs.RowLaws.{rows-next, rows-end}
-use Rattle.request_bytes.specs.declared.Answer.{Answer}
-use Rattle.request_bytes.specs.declared.Answer.the-variants.{Done, Unfit}
+use Rattle.request_bytes.specs.declared.Answer.the-variants.{Unfit}
 use Rattle.request_bytes.specs.declared.Part.{Part}
 use Rattle.request_bytes.specs.declared.Part.the-variants as P
 use Rattle.request_bytes.specs.Layout.{numberBytes, numberAt, Piece, kind, number, piecesOf, fitting, bytesBy, Reading, misshaped, before, readBy}

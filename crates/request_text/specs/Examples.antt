@@ -4,7 +4,6 @@ use mathlib.Core.List.{List, [], _∷_, map}
 use Prim.Native.String.{String}
 use lib.IntN.{pos, negℤ}
 use Rattle.request_text.specs.declared.Fault.the-variants as Fault
-use Rattle.request_text.specs.declared.Line.{Line}
 use Rattle.request_text.specs.declared.Line.the-variants as L
 use Rattle.request_fields.specs.Fields.{holds}
 use Rattle.request_fields.specs.Rows.{letters, rows, rowAt}

@@ -19,7 +19,7 @@ use Rattle.request_text.specs.declared.Noted.{Noted}
 use Rattle.request_text.specs.declared.Noted.the-variants as N
 use Rattle.request_text.specs.Lines.{meaningOf}
 use Rattle.request_text.specs.LineLaws.{meaning-in}
-use Rattle.request_text.specs.Typing.{InFields, notedOf, marksAfter, numbersAfter, missing, Typing, given, refused, onward, readLines, typingOf}
+use Rattle.request_text.specs.Typing.{InFields, notedOf, marksAfter, numbersAfter, missing, Typing, given, onward, readLines, typingOf}
 use Rattle.request_text.specs.TypingLaws.{read-end, read-line}
 
 -- ---- the numbers of a text fit their bytes

@@ -2,16 +2,16 @@
 use mathlib.Core.Path.{_≡_, refl, sym, ap, _∙_}
 use mathlib.Core.Bool.{Bool, true, false, cond}
 use mathlib.Core.List.{List}
-use Prim.Native.Nat.{ℕ, zero, suc, _≤_, _<_}
+use Prim.Native.Nat.{ℕ, _≤_, _<_}
 use native.Mathlib.Omega.{arith}
 use native.Mathlib.Decide.{decLt}
-use borrow.Author.Tests.{le-leb, eq-eqb, ne-eqb}
+use borrow.Author.Tests.{eq-eqb, ne-eqb}
 use lib.Dec.{eqb}
 use lib.IntN.{ℤ, pos, negℤ, natAbs}
 use lib.ListN.{length, take, drop}
 use Rattle.numbers.specs.Order.{natAbs-opposite}
 use Rattle.request_fields.specs.declared.Width.{Width}
-use Rattle.request_fields.specs.Fields.{holds, wholeOf, count}
+use Rattle.request_fields.specs.Fields.{holds, count}
 use Rattle.request_fields.specs.Rows.{decimalsOf, widthOf}
 use Rattle.request_fields.specs.WidthLaws.{held, held-size, whole-small, held-not}
 use Rattle.words.specs.declared.Class.the-variants as C

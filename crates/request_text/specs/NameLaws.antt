@@ -6,8 +6,7 @@ use Prim.Native.Nat.{ℕ, suc, _+_, _≤_, _<_}
 use native.Mathlib.Omega.{arith}
 use borrow.Author.Tests.{eq-eqb, ne-eqb}
 use lib.Dec.{eqb}
-use lib.ListN.{length, getD, take, drop}
-use lib.Seq.{length-take-le}
+use lib.ListN.{length, getD, drop}
 use Rattle.request_fields.specs.declared.Field.{Field}
 use Rattle.request_fields.specs.Fields.{count}
 use Rattle.request_fields.specs.Rows.{rows, rowAt, nameOf}
@@ -15,7 +14,6 @@ use Rattle.request_fields.specs.RowLaws.{rows-next, rows-end, names-are}
 use Rattle.words.specs.declared.Class.the-variants as C
 use Rattle.words.specs.Text.{isIn}
 use Rattle.words.specs.TextLaws.{from-here, from-end}
-use Rattle.request_text.specs.declared.Found.{Found}
 use Rattle.request_text.specs.declared.Found.the-variants as F
 use Rattle.request_text.specs.Names.{named, names, findIn}
 

@@ -4,7 +4,7 @@ use request_fields::Width;
 use words::Class;
 use words::Units;
 ghost use mathlib.Core.Path.{_≡_};
-ghost use Prim.Native.Nat.{_+_, _≤_, _<_};
+ghost use Prim.Native.Nat.{_≤_, _<_};
 ghost use lib.ListN.{length};
 ghost use Rattle.request_fields.specs.Fields.{count};
 ghost use Rattle.request_text.specs.Names.{named, findIn, names};

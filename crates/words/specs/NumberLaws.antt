@@ -10,7 +10,6 @@ use borrow.Author.Tests.{lt-ltb, le-ltb}
 use lib.ListN.{length, getD, take, drop}
 use lib.Seq.{getD-drop, drop-drop}
 use Rattle.words.specs.declared.Class.the-variants as C
-use Rattle.words.specs.declared.Units.{Units}
 use Rattle.words.specs.declared.Units.the-variants as U
 use Rattle.words.specs.Text.{runOf, allOf, startOf}
 use Rattle.words.specs.TextLaws.{rest-is, from-end, run-nil}

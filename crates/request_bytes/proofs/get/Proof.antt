@@ -1,12 +1,8 @@
 -- `request_bytes::get` meets its contract: the numbers before number k are read, from the bytes before `at` (`Getting`). The measure is how many are
 -- left. Assumes nothing.
-use mathlib.Core.Path.{_≡_, sym, ap, subst, _∙_}
-use mathlib.Core.List.{List}
-use Prim.Native.Nat.{ℕ, _-_}
-use native.Mathlib.Omega.{arith}
+use mathlib.Core.Path.{_≡_, sym, ap, _∙_}
+use Prim.Native.Nat.{_-_}
 use borrow.Author.Needs.{needs}
-use lib.IntN.{ℤ}
-use lib.ListN.{length}
 use Rattle.numbers.specs.Code.{read-result}
 use Rattle.request_fields.specs.Fields.{count}
 use Rattle.request_fields.specs.Rows.{rowAt}

@@ -1,13 +1,12 @@
 -- `request_bytes::put_field` meets its contract: the kind, then the number (`field-put`). Assumes nothing.
-use mathlib.Core.Path.{_≡_, sym, _∙_}
-use mathlib.Core.Bool.{true}
+use mathlib.Core.Path.{_∙_}
 use Prim.Native.Nat.{_+_, _≤_}
 use native.Mathlib.Omega.{arith}
 use borrow.Author.Needs.{needs}
 use lib.ListN.{length}
 use mir.Syntax.{w64}
 use mir.ValLaws.{toZ-ofZ}
-use Rattle.request_fields.specs.Fields.{bytesIn, holds}
+use Rattle.request_fields.specs.Fields.{bytesIn}
 use Rattle.request_bytes.specs.Rows.{kindBytes}
 use Rattle.request_bytes.specs.PutLaws.{field-length, field-put}
 use Rattle.request_bytes.proofs.put_field.Statement.{statement}

@@ -2,7 +2,6 @@
 use mathlib.Core.Path.{_≡_, sym, ap, _∙_}
 use Prim.Native.Nat.{ℕ}
 use Rattle.words.specs.declared.Units.{Units}
-use Rattle.words.specs.declared.Class.the-variants as C
 use Rattle.words.specs.Numbers.{unitsOf}
 use Rattle.words.specs.NumberLaws.{units-small}
 use Rattle.request_fields.specs.declared.Field.{Field}
