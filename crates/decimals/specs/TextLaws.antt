@@ -2,10 +2,10 @@
 use Prim.Native.Nat.{ℕ, suc, _+_, _≤_, _<_}
 use mathlib.Core.Path.{_≡_, refl, sym, ap, _∙_}
 use mathlib.Core.List.{List, [], _∷_, _++_}
-use mathlib.Core.Bool.{Bool, true, false, cond}
+use mathlib.Core.Bool.{Bool, true, false}
 use native.Mathlib.Omega.{arith}
-use native.Mathlib.Nat.{add-zero}
-use borrow.Author.Tests.{le-leb, lt-leb, leb-true, leb-false}
+use native.Mathlib.Nat.{add-zero, min-eq-left, min-eq-right}
+use borrow.Author.Tests.{leb-true, leb-false}
 use lib.Dec.{leb}
 use lib.ListN.{length, length-append, set}
 use lib.Seq.{sets, set-out, length-sets}
@@ -15,15 +15,11 @@ use Rattle.decimals.specs.Texts.{capped, Put}
 
 pub capped-low : (n : ℕ) → n < 18446744073709551616 → capped n ≡ n
 unfolding capped
-capped-low n h = rw (le-leb n 18446744073709551615 (omega arith))
+capped-low n h = min-eq-left (omega arith)
 
 pub capped-high : (n : ℕ) → 18446744073709551615 ≤ n → capped n ≡ 18446744073709551615
 unfolding capped
-capped-high n h = by (leb n 18446744073709551615) refl
-  where
-    by : (b : Bool) → leb n 18446744073709551615 ≡ b → cond b n 18446744073709551615 ≡ 18446744073709551615
-    by true b = omega (arith, leb-true n 18446744073709551615 b)
-    by false b = refl
+capped-high n h = min-eq-right h
 
 -- a number is below its cap's end, or it is capped
 pub data Capped (n : ℕ) : Type 0 where

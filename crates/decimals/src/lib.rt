@@ -4,11 +4,11 @@
 // and a room of no bytes measures them.
 ghost use mathlib.Core.Path.{_≡_};
 ghost use mathlib.Core.List.{[], _∷_};
-ghost use Prim.Native.Nat.{_+_, _<_};
+ghost use Prim.Native.Nat.{_<_, min};
 ghost use lib.IntN.{pos, natAbs};
-ghost use lib.ListN.{getD};
+ghost use lib.ListN.{length, getD};
 ghost use Rattle.decimals.specs.Decimals.{decimal, signed};
-ghost use Rattle.decimals.specs.Texts.{Put};
+ghost use Rattle.decimals.specs.Texts.{Put, Counts};
 ghost use Rattle.decimals.specs.Patterns.{piece, numberAfter, filled};
 
 // A byte.
@@ -23,6 +23,17 @@ pub fn put_byte(out: &mut [u8], at: usize, x: u8) -> usize
         return at + 1;
     }
     at
+}
+
+// The place `end`, or the end of the room where `end` lies past it. So `&out[..n]` is what was put.
+pub fn clipped(out: &[u8], end: usize) -> usize
+    ensures { λ r. ⌜ r ≡ min end (length (now (out .entry))) ⌝ }
+    ensures { λ r. ⌜ Counts r (now (out .entry)) ⌝ }
+{
+    if end < out.len() {
+        return end;
+    }
+    out.len()
 }
 
 // Bytes as they are.

@@ -1,14 +1,15 @@
--- A turn for each list.
+-- A turn for each list; the room keeps its length.
 use Prim.Native.Nat.{_-_, _≤_}
+use mathlib.Core.Path.{_≡_}
 use borrow.Author.Needs.{needs}
-use Rattle.walks.proofs.print_lists.Statement.{statement}
-use Rattle.walks.proofs.print_lists.Tie as tie
+use Rattle.walks.proofs.put_lists.Statement.{statement}
+use Rattle.walks.proofs.put_lists.Tie as tie
 
 abbrev Inv-loop : tie.InvT-loop
-Inv-loop length end number₀ number = number ≤ end
+Inv-loop out₀ start length end at₀ number₀ out at number = (number ≤ end) × (lib.ListN.length out ≡ lib.ListN.length out₀)
 
 abbrev μ-loop : tie.MeasureT-loop
-μ-loop length end number₀ number = end - number
+μ-loop out₀ start length end at₀ number₀ out at number = end - number
 
 lists-requires : tie.Need-lists-requires Inv-loop μ-loop
 lists-requires c κs = search needs
@@ -19,11 +20,11 @@ loop-holds c = search needs
 states-of-requires : tie.Need-states-of-requires Inv-loop μ-loop
 states-of-requires c κs = search needs
 
-slice-aggregate-print-line : tie.Need-slice-aggregate-print-line Inv-loop μ-loop
-slice-aggregate-print-line c = search needs
+slice-aggregate-put-line : tie.Need-slice-aggregate-put-line Inv-loop μ-loop
+slice-aggregate-put-line c = search needs
 
-print-line-requires : tie.Need-print-line-requires Inv-loop μ-loop
-print-line-requires c κs = search needs
+put-line-requires : tie.Need-put-line-requires Inv-loop μ-loop
+put-line-requires c κs = search needs
 
 add-number : tie.Need-add-number Inv-loop μ-loop
 add-number c = search needs
@@ -34,11 +35,14 @@ loop-less c = search needs
 loop-again : tie.Need-loop-again Inv-loop μ-loop
 loop-again c = search needs
 
+same-length : tie.Need-same-length Inv-loop μ-loop
+same-length c = search needs
+
 returns : tie.Need-returns Inv-loop μ-loop
 returns c = search needs
 
-pub print-lists-spec : {M : Type 1} → statement M
-print-lists-spec =
+pub put-lists-spec : {M : Type 1} → statement M
+put-lists-spec =
     tie.close
     (tie.spec
     Inv-loop
@@ -46,9 +50,10 @@ print-lists-spec =
     lists-requires
     loop-holds
     states-of-requires
-    slice-aggregate-print-line
-    print-line-requires
+    slice-aggregate-put-line
+    put-line-requires
     add-number
     loop-less
     loop-again
+    same-length
     returns)
