@@ -1,87 +1,42 @@
--- Laws of the table of kinds.
-use Prim.Native.Nat.{ℕ, suc, _+_, _*_, _≤_, _<_}
+-- Laws of entries as bytes and as numbers.
+use Prim.Native.Nat.{ℕ, suc, _+_, _*_}
 use mathlib.Core.Path.{_≡_, refl, sym, ap, _∙_}
 use mathlib.Core.List.{List, [], _∷_, _++_}
 use native.Mathlib.Omega.{arith}
-use borrow.Author.Tests.{ne-eqb}
-use lib.ListN.{length, length-append}
-use Rattle.records.specs.declared.Family.{Family}
-use Rattle.records.specs.declared.Family.the-variants.{Penumbra, Central}
+use native.Mathlib.Nat.{add-zero}
+use native.Mathlib.Numerals.{add-one}
+use lib.ListN.{length, length-append, set}
+use lib.Seq.{sets}
+use Rattle.records.specs.declared.Width.{Width}
+use Rattle.records.specs.declared.Width.the-variants.{Absent, Two, Four}
+use Rattle.records.specs.declared.Widths.{Widths}
 use Rattle.records.specs.declared.Entry.{Entry}
-use Rattle.records.specs.declared.Kind.{Kind}
-use Rattle.records.specs.declared.Kind.the-variants as K
-use Rattle.records.specs.declared.Shape.{Shape}
-use Rattle.records.specs.declared.Shape.the-variants.{Nothing, TwoTwo, TwoTwoTwo, TwoFour}
-use Rattle.records.specs.declared.Parts.{Parts}
-use Rattle.records.specs.declared.Named.the-variants.{Unknown}
-use Rattle.records.specs.Entries.{baseOf, codeOf, kindFor, kindOf, shapeOf, sizeOf, entryFor, code, size, isEnd, body, bytes, numbers, partsFor, bytesOf, numbersOf}
+use Rattle.records.specs.Kinds.{codeOf, widthsOf, bytesIn, sizeOf}
+use Rattle.records.specs.Numbers.{number}
+use Rattle.records.specs.Entries.{body, bytes, numbers, bytesOf, numbersOf}
 
-pub no-kind : (x : ℕ) → (x ≡ 0x01 → ⊥) → (x ≡ 0x10 → ⊥) → (x ≡ 0x11 → ⊥) → (x ≡ 0x12 → ⊥) → (x ≡ 0x13 → ⊥)
-    → (x ≡ 0x20 → ⊥) → (x ≡ 0x21 → ⊥) → (x ≡ 0x22 → ⊥) → (x ≡ 0x23 → ⊥) → (x ≡ 0x30 → ⊥) → (x ≡ 0x7f → ⊥) → kindFor x ≡ Unknown
-no-kind x a b c d e f g h i j k =
-    rw (
-      ne-eqb x 0x01 a,
-      ne-eqb x 0x10 b,
-      ne-eqb x 0x11 c,
-      ne-eqb x 0x12 d,
-      ne-eqb x 0x13 e,
-      ne-eqb x 0x20 f,
-      ne-eqb x 0x21 g,
-      ne-eqb x 0x22 h,
-      ne-eqb x 0x23 i,
-      ne-eqb x 0x30 j,
-      ne-eqb x 0x7f k,
+pub length-number : (w : Width) (v : ℕ) → length (number w v) ≡ bytesIn w
+length-number Absent v = refl
+length-number Two v = refl
+length-number Four v = refl
+
+pub length-bytes : (e : Entry) → length (bytes e) ≡ sizeOf (e .kind)
+length-bytes e =
+    let w = widthsOf (e .kind) in
+    let a = number (w .a) (e .a) in
+    let b = number (w .b) (e .b) in
+    let c = number (w .c) (e .c) in
+    let d = number (w .d) (e .d) in
+    omega (
+      arith,
+      length-append a (b ++ (c ++ d)),
+      length-append b (c ++ d),
+      length-append c d,
+      length-number (w .a) (e .a),
+      length-number (w .b) (e .b),
+      length-number (w .c) (e .c),
+      length-number (w .d) (e .d),
     )
-
-base-small : (m : Family) → baseOf m ≤ 32
-base-small Penumbra = omega arith
-base-small Central = omega arith
-
-pub code-small : (k : Kind) → codeOf k < 256
-code-small K.Head = omega arith
-code-small (K.Enter m) = omega (arith, base-small m)
-code-small (K.Leave m) = omega (arith, base-small m)
-code-small (K.Graze m) = omega (arith, base-small m)
-code-small (K.Open m) = omega (arith, base-small m)
-code-small K.Closest = omega arith
-code-small K.End = omega arith
-
-pub kind-for : (k : Kind) (a b c : ℕ) → kindOf (entryFor k a b c) ≡ k
-kind-for K.Head a b c = refl
-kind-for (K.Enter m) a b c = refl
-kind-for (K.Leave m) a b c = refl
-kind-for (K.Graze m) a b c = refl
-kind-for (K.Open m) a b c = refl
-kind-for K.Closest a b c = refl
-kind-for K.End a b c = refl
-
-pub size-for : (k : Kind) (a b c : ℕ) → size (entryFor k a b c) ≡ sizeOf (shapeOf k)
-size-for k a b c = ap (λ k. sizeOf (shapeOf k)) (kind-for k a b c)
-
--- whether an entry ends the sheet, its kind alone says
-pub end-for : (k : Kind) (a b c : ℕ) → isEnd (entryFor k a b c) ≡ isEnd (entryFor k 0 0 0)
-end-for K.Head a b c = refl
-end-for (K.Enter m) a b c = refl
-end-for (K.Leave m) a b c = refl
-end-for (K.Graze m) a b c = refl
-end-for (K.Open m) a b c = refl
-end-for K.Closest a b c = refl
-end-for K.End a b c = refl
-
-pub size-small : (h : Shape) → (0 < sizeOf h) × (sizeOf h ≤ 7)
-size-small Nothing = omega arith
-size-small TwoTwo = omega arith
-size-small TwoTwoTwo = omega arith
-size-small TwoFour = omega arith
-
-length-body : (h : Shape) (a b c : ℕ) → suc (length (body h a b c)) ≡ sizeOf h
-length-body Nothing a b c = refl
-length-body TwoTwo a b c = refl
-length-body TwoTwoTwo a b c = refl
-length-body TwoFour a b c = refl
-
-pub length-bytes : (e : Entry) → length (bytes e) ≡ size e
-length-bytes e = length-body (shapeOf (kindOf e)) _ _ _
 
 pub bytes-nil : bytesOf [] ≡ []
 unfolding bytesOf
@@ -99,7 +54,7 @@ pub numbers-cons : (e : Entry) (es : List Entry) → numbersOf (e ∷ es) ≡ nu
 unfolding numbersOf
 numbers-cons e es = refl
 
-pub length-bytes-cons : (e : Entry) (es : List Entry) → length (bytesOf (e ∷ es)) ≡ size e + length (bytesOf es)
+pub length-bytes-cons : (e : Entry) (es : List Entry) → length (bytesOf (e ∷ es)) ≡ sizeOf (e .kind) + length (bytesOf es)
 length-bytes-cons e es = ap length (bytes-cons e es) ∙ length-append (bytes e) (bytesOf es) ∙ ap (λ n. n + length (bytesOf es)) (length-bytes e)
 
 pub length-numbers : (es : List Entry) → length (numbersOf es) ≡ length es * 4
@@ -107,19 +62,31 @@ unfolding numbersOf
 length-numbers [] = refl
 length-numbers (e ∷ es) = omega (arith, length-numbers es)
 
--- the numbers of an entry whose body has the shape h
-module _ (e : Entry) (q : Parts) (h : Shape) (is : q ≡ partsFor e) (shaped : q .shape ≡ h) where
-  pub parts-shape : h ≡ shapeOf (kindOf e)
-  unfolding partsFor
-  parts-shape = sym shaped ∙ ap (λ x. x .shape) is
+-- ---- an entry put into a buffer
 
-  pub parts-size : size e ≡ sizeOf h
-  parts-size = ap sizeOf (sym parts-shape)
+pub sets-append : (x y l : List ℕ) (i : ℕ) → sets l i (x ++ y) ≡ sets (sets l i x) (i + length x) y
+sets-append [] y l i = rw add-zero
+sets-append (a ∷ x) y l i =
+    let e : i + suc (length x) ≡ suc i + length x = omega arith in
+    rw e (sets-append x y (set l i a) (suc i))
 
-  pub parts-code : q .code < 256
-  unfolding partsFor
-  parts-code = let z : q .code ≡ code e = ap (λ x. x .code) is in omega (arith, code-small (kindOf e))
+-- a number, and what is put right behind it
+sets-number : (w : Width) (v : ℕ) (y l : List ℕ) (i j : ℕ) → j ≡ i + bytesIn w → sets (sets l i (number w v)) j y ≡ sets l i (number w v ++ y)
+sets-number w v y l i j q =
+    sym (sets-append (number w v) y l i ∙ ap (λ k. sets (sets l i (number w v)) k y) (let h = length-number w v in omega arith))
 
-  pub parts-bytes : q .code ∷ body h (q .a) (q .b) (q .c) ≡ bytes e
-  unfolding partsFor
-  parts-bytes = rw (is, parts-shape)
+-- the kind's byte and then each field behind the one before it
+module _ (e : Entry) (w : Widths) (is : w ≡ widthsOf (e .kind)) (l₀ l₁ l₂ l₃ l₄ : List ℕ) (at x at-b at-c at-d : ℕ) where
+  pub put-bytes : x ≡ codeOf (e .kind) → at-b ≡ at + 1 + bytesIn (w .a) → at-c ≡ at-b + bytesIn (w .b) → at-d ≡ at-c + bytesIn (w .c)
+      → l₁ ≡ sets (set l₀ at x) (at + 1) (number (w .a) (e .a)) → l₂ ≡ sets l₁ at-b (number (w .b) (e .b))
+      → l₃ ≡ sets l₂ at-c (number (w .c) (e .c)) → l₄ ≡ sets l₃ at-d (number (w .d) (e .d)) → l₄ ≡ sets l₀ at (bytes e)
+  put-bytes k b c d p q r t =
+      let d-bytes = number (w .d) (e .d) in
+      let c-bytes = number (w .c) (e .c) ++ d-bytes in
+      let b-bytes = number (w .b) (e .b) ++ c-bytes in
+      t ∙ ap (λ z. sets z at-d d-bytes) r
+      ∙ sets-number (w .c) (e .c) d-bytes l₂ at-c at-d d ∙ ap (λ z. sets z at-c c-bytes) q
+      ∙ sets-number (w .b) (e .b) c-bytes l₁ at-b at-c c ∙ ap (λ z. sets z at-b b-bytes) p
+      ∙ sets-number (w .a) (e .a) b-bytes (set l₀ at x) (at + 1) at-b b
+      ∙ ap (λ n. sets (set l₀ at x) n (body w e)) (add-one at)
+      ∙ ap (λ n. sets l₀ at (n ∷ body w e)) k ∙ ap (λ n. sets l₀ at (codeOf (e .kind) ∷ body n e)) is

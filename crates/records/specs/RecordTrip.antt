@@ -1,101 +1,41 @@
 -- One record, written and read back, and read and written back.
-use Prim.Native.Nat.{ℕ, zero, suc, _+_, _*_, _/_, _%_, _≤_, _<_}
+use Prim.Native.Nat.{ℕ, _+_, _≤_, _<_}
 use mathlib.Core.Path.{_≡_, refl, sym, ap, _∙_}
-use mathlib.Core.List.{List, [], _∷_, _++_}
-use mathlib.Core.Bool.{Bool, true, false, cond, _&&_, _||_}
+use mathlib.Core.List.{List, [], _∷_, _++_, append-assoc}
+use mathlib.Core.Bool.{Bool, true, false, _&&_, _||_}
 use native.Mathlib.Omega.{arith}
-use native.Mathlib.Nat.{add-assoc}
-use native.Mathlib.Numerals.{add-one}
-use native.Mathlib.Decide.{ℕ-discrete}
-use borrow.Author.Tests.{leb-true, eqb-true, eq-eqb, ne-eqb}
+use borrow.Author.Tests.{leb-true, eqb-true}
 use lib.Dec.{leb, ltb, eqb}
 use lib.ListN.{length, getD, drop, take, length-append}
-use lib.Seq.{getD-append-add, getD-append-seam, drop-cons}
-use Rattle.records.specs.declared.Family.the-variants.{Penumbra, Central}
+use lib.Seq.{getD-append-seam, drop-cons, drop-drop, take-add}
 use Rattle.records.specs.declared.Entry.{Entry}
-use Rattle.records.specs.declared.Entry.the-variants as E
 use Rattle.records.specs.declared.Kind.{Kind}
 use Rattle.records.specs.declared.Kind.the-variants as K
-use Rattle.records.specs.declared.Shape.{Shape}
-use Rattle.records.specs.declared.Shape.the-variants.{Nothing, TwoTwo, TwoTwoTwo, TwoFour}
-use Rattle.records.specs.declared.Named.{Named}
-use Rattle.records.specs.declared.Named.the-variants as Named
+use Rattle.records.specs.declared.Width.{Width}
+use Rattle.records.specs.declared.Widths.{Widths}
 use Rattle.records.specs.declared.Byte.the-variants as Byte
-use Rattle.records.specs.declared.Body.{Body}
 use Rattle.records.specs.declared.Body.the-variants as Body
 use Rattle.records.specs.declared.Progress.{Progress}
 use Rattle.records.specs.declared.Record.the-variants.{Is}
-use Rattle.records.specs.Entries.{codeOf, kinds, among, kindFor, kindOf, shapeOf, sizeOf, entryFor, field1, field2, field3, code, size, two, four, body, bytes, numbers}
-use Rattle.records.specs.EntryLaws.{size-for, size-small, length-bytes}
-use Rattle.records.specs.Rules.{start, inWindow, isDirection, spanHolds, fieldsHold, afterOf}
+use Rattle.records.specs.Kinds.{codeOf, widthsOf, bytesIn, sizeOf, unused, plain, table}
+use Rattle.records.specs.KindLaws.{kind-code, kind-inv, size-small}
+use Rattle.records.specs.Numbers.{number, numberAt}
+use Rattle.records.specs.NumberLaws.{Fits, number-back, Bytes, number-there}
+use Rattle.records.specs.Entries.{body, bytes}
+use Rattle.records.specs.EntryLaws.{length-number, length-bytes}
+use Rattle.records.specs.FieldRules.{inWindow, isDirection, spanHolds}
+use Rattle.records.specs.Rules.{start, fieldsHold, afterOf}
 use Rattle.records.specs.TestLaws.{both}
-use Rattle.records.specs.Records.{twoAt, fourAt, fieldsAt, bodyAt, recordAt}
-use Rattle.records.specs.RecordLaws.{by-body, byte-there, body-whole, body-inv, record-inv, record-fields}
-
--- ---- kinds
-
-pub kind-code : (k : Kind) → kindFor (codeOf k) ≡ Named.Is k
-kind-code K.Head = refl
-kind-code (K.Enter Penumbra) = refl
-kind-code (K.Enter Central) = refl
-kind-code (K.Leave Penumbra) = refl
-kind-code (K.Leave Central) = refl
-kind-code (K.Graze Penumbra) = refl
-kind-code (K.Graze Central) = refl
-kind-code (K.Open Penumbra) = refl
-kind-code (K.Open Central) = refl
-kind-code K.Closest = refl
-kind-code K.End = refl
-
-among-inv : (ks : List Kind) (x : ℕ) (k : Kind) → among x ks ≡ Named.Is k → x ≡ codeOf k
-among-inv [] x k q = let z : _≡_ {A = ℕ} 0 1 = cc in absurd (omega arith)
-among-inv (j ∷ ks) x k q =
-    elim (ℕ-discrete x (codeOf j)) [
-      | yes e ↦ let t : Named.Is j ≡ Named.Is k = sym (ap (λ b. cond b (Named.Is j) (among x ks)) (eq-eqb x (codeOf j) e)) ∙ q in
-          let u : j ≡ k = cc in e ∙ ap codeOf u
-      | no n ↦ among-inv ks x k (sym (ap (λ b. cond b (Named.Is j) (among x ks)) (ne-eqb x (codeOf j) n)) ∙ q)
-    ]
-
-pub kind-inv : (x : ℕ) (k : Kind) → kindFor x ≡ Named.Is k → x ≡ codeOf k
-kind-inv x k q = among-inv kinds x k q
-
--- an entry is its kind and its fields
-pub entry-of : (e : Entry) → entryFor (kindOf e) (field1 e) (field2 e) (field3 e) ≡ e
-entry-of (E.Head s f l) = refl
-entry-of (E.Enter m f t d) = refl
-entry-of (E.Leave m f t d) = refl
-entry-of (E.Graze m f t) = refl
-entry-of (E.Open m f t) = refl
-entry-of (E.Closest s m) = refl
-entry-of E.End = refl
-
--- ---- the numbers of a record that was read
-
--- what a kind does not use is read as 0
-numbers-for : (k : Kind) (s : List ℕ) (at a b c : ℕ) → fieldsAt (shapeOf k) s at ≡ Body.Is a b c → numbers (entryFor k a b c) ≡ codeOf k ∷ a ∷ b ∷ c ∷ []
-numbers-for K.Head s at a b c q = refl
-numbers-for (K.Enter m) s at a b c q = refl
-numbers-for (K.Leave m) s at a b c q = refl
-numbers-for (K.Graze m) s at a b c q = let z : c ≡ 0 = cc in rw z
-numbers-for (K.Open m) s at a b c q = let z : c ≡ 0 = cc in rw z
-numbers-for K.Closest s at a b c q = let z : c ≡ 0 = cc in rw z
-numbers-for K.End s at a b c q = let x : a ≡ 0 = cc in let y : b ≡ 0 = cc in let z : c ≡ 0 = cc in rw (x, y, z)
-
-pub numbers-read : (s : List ℕ) (at x : ℕ) (k : Kind) (a b c : ℕ) → kindFor x ≡ Named.Is k → bodyAt (shapeOf k) s at ≡ Body.Is a b c
-    → numbers (entryFor k a b c) ≡ x ∷ a ∷ b ∷ c ∷ []
-numbers-read s at x k a b c f g =
-    numbers-for k s (at + 1) a b c (body-inv s at (shapeOf k) a b c g .1) ∙ ap (λ y. y ∷ a ∷ b ∷ c ∷ []) (sym (kind-inv x k f))
+use Rattle.records.specs.Records.{entryAt, recordAt}
+use Rattle.records.specs.RecordLaws.{by-body, byte-there, body-whole, record-inv}
 
 -- ---- fields that fit their bytes
 
-abbrev pub Fits : Shape → ℕ → ℕ → ℕ → Type 0
-Fits Nothing a b c = (a ≡ 0) × (b ≡ 0) × (c ≡ 0)
-Fits TwoTwo a b c = (a < 65536) × (b < 65536) × (c ≡ 0)
-Fits TwoTwoTwo a b c = (a < 65536) × (b < 65536) × (c < 65536)
-Fits TwoFour a b c = (a < 65536) × (b < 4294967296) × (c ≡ 0)
-
-abbrev pub FitsIn : Entry → Type 0
-FitsIn e = Fits (shapeOf (kindOf e)) (field1 e) (field2 e) (field3 e)
+pub record FitsIn (e : Entry) : Type 0 where
+  pub a : Fits (widthsOf (e .kind) .a) (e .a)
+  pub b : Fits (widthsOf (e .kind) .b) (e .b)
+  pub c : Fits (widthsOf (e .kind) .c) (e .c)
+  pub d : Fits (widthsOf (e .kind) .d) (e .d)
 
 -- a window that its head had accepted: seconds fit two bytes
 abbrev pub Small : Progress → Type 0
@@ -111,11 +51,11 @@ direction-fits d q = by (leb d 3599) refl
 window-fits : (p : Progress) (x : ℕ) → Small p → inWindow p x ≡ true → x < 65536
 window-fits p x h q = let b = leb-true x (p .last) (both (leb (p .first) x) (leb x (p .last)) q .1) in omega arith
 
+both-fit : (p : Progress) (f t : ℕ) → Small p → (inWindow p f && inWindow p t) ≡ true → (f < 65536) × (t < 65536)
+both-fit p f t h q = let y = both (inWindow p f) (inWindow p t) q in (window-fits p f h (y .0), window-fits p t h (y .1))
+
 span-fits : (p : Progress) (f t : ℕ) → Small p → spanHolds p f t ≡ true → (f < 65536) × (t < 65536)
-span-fits p f t h q =
-    let x = both (inWindow p f && inWindow p t) (ltb f t) q in
-    let y = both (inWindow p f) (inWindow p t) (x .0) in
-    (window-fits p f h (y .0), window-fits p t h (y .1))
+span-fits p f t h q = both-fit p f t h (both (inWindow p f && inWindow p t) (ltb f t) q .0)
 
 head-fits : (s f l : ℕ) → (leb 1 s && leb s 999 && leb f l && leb l 21600) ≡ true → (s < 65536) × (f < 65536) × (l < 65536)
 head-fits s f l q =
@@ -127,161 +67,154 @@ head-fits s f l q =
     let c = leb-true s 999 (z .1) in
     (omega arith, omega arith, omega arith)
 
+-- what the kind does not use is 0
+plain-inv : (e : Entry) → plain e ≡ true → let w = widthsOf (e .kind) in
+    (unused (w .a) (e .a) ≡ true) × (unused (w .b) (e .b) ≡ true) × (unused (w .c) (e .c) ≡ true) × (unused (w .d) (e .d) ≡ true)
+unfolding plain
+plain-inv e q =
+    let x = both _ _ q in
+    let y = both _ _ (x .0) in
+    let z = both _ _ (y .0) in
+    (z .0, z .1, y .1, x .1)
+
+zero : (x : ℕ) → eqb x 0 ≡ true → x ≡ 0
+zero x q = eqb-true x 0 q
+
 -- fields that keep their rules fit their bytes
+kind-fits : (p : Progress) (k : Kind) (a b c d : ℕ) → Small p → let e : Entry = record { kind = k; a = a; b = b; c = c; d = d } in
+    plain e ≡ true → table k .rule p e ≡ true → FitsIn e
+kind-fits p K.Head a b c d h n q =
+    let u = plain-inv _ n in let x = head-fits a b c q in
+    record { a = x .0; b = x .1; c = x .2; d = zero d (u .3) }
+kind-fits p (K.Enter φ) a b c d h n q =
+    let u = plain-inv _ n in let x = both (spanHolds p a b) (isDirection c) q in let y = span-fits p a b h (x .0) in
+    record { a = y .0; b = y .1; c = direction-fits c (x .1); d = zero d (u .3) }
+kind-fits p (K.Leave φ) a b c d h n q =
+    let u = plain-inv _ n in let x = both (spanHolds p a b) (isDirection c) q in let y = span-fits p a b h (x .0) in
+    record { a = y .0; b = y .1; c = direction-fits c (x .1); d = zero d (u .3) }
+kind-fits p (K.Graze φ) a b c d h n q =
+    let u = plain-inv _ n in let y = span-fits p a b h q in
+    record { a = y .0; b = y .1; c = zero c (u .2); d = zero d (u .3) }
+kind-fits p (K.Open φ) a b c d h n q =
+    let u = plain-inv _ n in
+    let x = both (inWindow p a && inWindow p b && leb a b) (eqb a (p .first) || eqb b (p .last)) q in
+    let y = both-fit p a b h (both (inWindow p a && inWindow p b) (leb a b) (x .0) .0) in
+    record { a = y .0; b = y .1; c = zero c (u .2); d = zero d (u .3) }
+kind-fits p K.Closest a b c d h n q =
+    let u = plain-inv _ n in
+    let x = both (inWindow p a) (leb b 1300000) q in
+    let m = leb-true b 1300000 (x .1) in
+    record { a = window-fits p a h (x .0); b = omega arith; c = zero c (u .2); d = zero d (u .3) }
+kind-fits p K.End a b c d h n q =
+    let u = plain-inv _ n in
+    record { a = zero a (u .0); b = zero b (u .1); c = zero c (u .2); d = zero d (u .3) }
+
 pub fields-fit : (p : Progress) (e : Entry) → Small p → fieldsHold p e ≡ true → FitsIn e
-fields-fit p (E.Head s f l) h q = head-fits s f l q
-fields-fit p (E.Enter m f t d) h q =
-    let x = both (spanHolds p f t) (isDirection d) q in
-    let y = span-fits p f t h (x .0) in
-    (y .0, y .1, direction-fits d (x .1))
-fields-fit p (E.Leave m f t d) h q =
-    let x = both (spanHolds p f t) (isDirection d) q in
-    let y = span-fits p f t h (x .0) in
-    (y .0, y .1, direction-fits d (x .1))
-fields-fit p (E.Graze m f t) h q = let y = span-fits p f t h q in (y .0, y .1, refl)
-fields-fit p (E.Open m f t) h q =
-    let x = both (inWindow p f && inWindow p t && leb f t) (eqb f (p .first) || eqb t (p .last)) q in
-    let y = both (inWindow p f && inWindow p t) (leb f t) (x .0) in
-    let z = both (inWindow p f) (inWindow p t) (y .0) in
-    (window-fits p f h (z .0), window-fits p t h (z .1), refl)
-fields-fit p (E.Closest s m) h q =
-    let x = both (inWindow p s) (leb m 1300000) q in
-    let b = leb-true m 1300000 (x .1) in
-    (window-fits p s h (x .0), omega arith, refl)
-fields-fit p E.End h q = (refl, refl, refl)
+fields-fit p e h q = let x = both (plain e) (table (e .kind) .rule p e) q in kind-fits p (e .kind) (e .a) (e .b) (e .c) (e .d) h (x .0) (x .1)
 
 pub start-small : Small start
 start-small = omega arith
 
+kind-small : (p : Progress) (k : Kind) (a b c d : ℕ) → Small p → let e : Entry = record { kind = k; a = a; b = b; c = c; d = d } in
+    table k .rule p e ≡ true → Small (afterOf p e)
+kind-small p K.Head a b c d h q = head-fits a b c q .2
+kind-small p (K.Enter φ) a b c d h q = h
+kind-small p (K.Leave φ) a b c d h q = h
+kind-small p (K.Graze φ) a b c d h q = h
+kind-small p (K.Open φ) a b c d h q = h
+kind-small p K.Closest a b c d h q = h
+kind-small p K.End a b c d h q = h
+
 pub after-small : (p : Progress) (e : Entry) → Small p → fieldsHold p e ≡ true → Small (afterOf p e)
-after-small p (E.Head s f l) h q = head-fits s f l q .2
-after-small p (E.Enter m f t d) h q = h
-after-small p (E.Leave m f t d) h q = h
-after-small p (E.Graze m f t) h q = h
-after-small p (E.Open m f t) h q = h
-after-small p (E.Closest s m) h q = h
-after-small p E.End h q = h
+after-small p e h q = kind-small p (e .kind) (e .a) (e .b) (e .c) (e .d) h (both (plain e) (table (e .kind) .rule p e) q .1)
 
 -- ---- what is written is read back
 
-two-back : (v : ℕ) → v < 65536 → v / 256 % 256 * 256 + v % 256 ≡ v
-two-back v h = omega arith
+-- a field of s behind p, and where the next one stands
+record Back (w : Width) (v : ℕ) (s p rest : List ℕ) (at : ℕ) : Type 0 where
+  is : numberAt w s at ≡ v
+  next : s ≡ (p ++ number w v) ++ rest
+  place : at + bytesIn w ≡ length (p ++ number w v)
 
-four-back : (v : ℕ) → v < 4294967296 → (v / 65536 / 256 % 256 * 256 + v / 65536 % 256) * 65536 + (v / 256 % 256 * 256 + v % 256) ≡ v
-four-back v h = omega arith
+field-back : (w : Width) (v : ℕ) → Fits w v → (s p rest : List ℕ) (at : ℕ) → s ≡ p ++ (number w v ++ rest) → at ≡ length p → Back w v s p rest at
+field-back w v f s p rest at q l =
+    record {
+      is = ap (λ x. numberAt w x at) q ∙ number-back w v f p rest at l;
+      next = q ∙ sym (append-assoc p (number w v) rest);
+      place = omega (arith, length-append p (number w v), length-number w v);
+    }
 
-two-shift : (p s : List ℕ) (i : ℕ) → twoAt (p ++ s) (length p + i) ≡ twoAt s i
-two-shift p s i = rw (getD-append-add p s i 0, add-assoc (length p) i 1, getD-append-add p s (i + 1) 0)
+same-entry : (e : Entry) (a b c d : ℕ) → a ≡ e .a → b ≡ e .b → c ≡ e .c → d ≡ e .d → record { kind = e .kind; a = a; b = b; c = c; d = d } ≡ e
+same-entry e a b c d i j k l = rw (i, j, k, l)
 
-four-shift : (p s : List ℕ) (i : ℕ) → fourAt (p ++ s) (length p + i) ≡ fourAt s i
-four-shift p s i = rw (two-shift p s i, add-assoc (length p) i 2, two-shift p s (i + 2))
+body-back : (e : Entry) → FitsIn e → (s p rest : List ℕ) (at : ℕ) → s ≡ p ++ (body (widthsOf (e .kind)) e ++ rest) → at ≡ length p → entryAt (e .kind) s at ≡ e
+body-back e f s p rest at q l =
+    let w = widthsOf (e .kind) in
+    let d = number (w .d) (e .d) in
+    let c = number (w .c) (e .c) ++ d in
+    let b = number (w .b) (e .b) ++ c in
+    let p-b = p ++ number (w .a) (e .a) in
+    let p-c = p-b ++ number (w .b) (e .b) in
+    let p-d = p-c ++ number (w .c) (e .c) in
+    let at-b = at + bytesIn (w .a) in
+    let at-c = at-b + bytesIn (w .b) in
+    let at-d = at-c + bytesIn (w .c) in
+    let x = field-back (w .a) (e .a) (f .a) s p (b ++ rest) at (q ∙ ap (λ z. p ++ z) (append-assoc (number (w .a) (e .a)) b rest)) l in
+    let y = field-back (w .b) (e .b) (f .b) s p-b (c ++ rest) at-b (x .next ∙ ap (λ z. p-b ++ z) (append-assoc (number (w .b) (e .b)) c rest)) (x .place) in
+    let z = field-back (w .c) (e .c) (f .c) s p-c (d ++ rest) at-c (y .next ∙ ap (λ z. p-c ++ z) (append-assoc (number (w .c) (e .c)) d rest)) (y .place) in
+    let u = field-back (w .d) (e .d) (f .d) s p-d rest at-d (z .next) (z .place) in
+    same-entry e (numberAt (w .a) s at) (numberAt (w .b) s at-b) (numberAt (w .c) s at-c) (numberAt (w .d) s at-d) (x .is) (y .is) (z .is) (u .is)
 
-is-body : (a b c x y z : ℕ) → a ≡ x → b ≡ y → c ≡ z → Body.Is a b c ≡ Body.Is x y z
-is-body a b c x y z p q r = cc
-
-fields-back : (h : Shape) (a b c : ℕ) → Fits h a b c → (k : ℕ) (p rest : List ℕ)
-    → fieldsAt h (p ++ (k ∷ body h a b c ++ rest)) (length p + 1) ≡ Body.Is a b c
-fields-back Nothing a b c f k p rest = is-body _ _ _ _ _ _ (sym (f .0)) (sym (f .1)) (sym (f .2))
-fields-back TwoTwo a b c f k p rest =
-    let s = k ∷ body TwoTwo a b c ++ rest in
-    is-body _ _ _ _ _ _ (two-shift p s 1 ∙ two-back a (f .0))
-    (rw (add-assoc (length p) 1 2) (two-shift p s 3 ∙ two-back b (f .1))) (sym (f .2))
-fields-back TwoTwoTwo a b c f k p rest =
-    let s = k ∷ body TwoTwoTwo a b c ++ rest in
-    is-body _ _ _ _ _ _ (two-shift p s 1 ∙ two-back a (f .0))
-    (rw (add-assoc (length p) 1 2) (two-shift p s 3 ∙ two-back b (f .1)))
-    (rw (add-assoc (length p) 1 4) (two-shift p s 5 ∙ two-back c (f .2)))
-fields-back TwoFour a b c f k p rest =
-    let s = k ∷ body TwoFour a b c ++ rest in
-    is-body _ _ _ _ _ _ (two-shift p s 1 ∙ two-back a (f .0))
-    (rw (add-assoc (length p) 1 2) (four-shift p s 3 ∙ four-back b (f .1))) (sym (f .2))
-
--- a record that stands after p is read back
-pub trip : (e : Entry) → FitsIn e → (p rest : List ℕ) → recordAt (p ++ (bytes e ++ rest)) (length p) ≡ Is e (length p + size e)
+-- a record that stands behind p is read back
+pub trip : (e : Entry) → FitsIn e → (p rest : List ℕ) → recordAt (p ++ (bytes e ++ rest)) (length p) ≡ Is e (length p + sizeOf (e .kind))
 trip e f p rest =
     let s = p ++ (bytes e ++ rest) in
-    let h = shapeOf (kindOf e) in
-    let l : length s ≡ length p + (size e + length rest) = length-append p (bytes e ++ rest) ∙ ap (λ n. length p + n) (length-append (bytes e) rest ∙ ap (λ n. n + length rest) (length-bytes e)) in
-    sym (by-body s (length p) (code e) (kindOf e) (Body.Is (field1 e) (field2 e) (field3 e))
-    (byte-there s (length p) (omega (arith, length-bytes e, size-small h)) ∙ ap (λ x. Byte.Is x) (getD-append-seam p (code e) (body h (field1 e) (field2 e) (field3 e) ++ rest) 0))
-    (kind-code (kindOf e))
-    (body-whole s (length p) h (omega arith) ∙ fields-back h (field1 e) (field2 e) (field3 e) f (code e) p rest))
-    ∙ ap (λ x. Is x (length p + size e)) (entry-of e)
+    let k = e .kind in
+    let in-body = body (widthsOf k) e ++ rest in
+    let l : length s ≡ length p + (sizeOf k + length rest) = length-append p (bytes e ++ rest) ∙ ap (λ n. length p + n) (length-append (bytes e) rest ∙ ap (λ n. n + length rest) (length-bytes e)) in
+    let fields : entryAt k s (length p + 1) ≡ e =
+    body-back e f s (p ++ (codeOf k ∷ [])) rest (length p + 1) (sym (append-assoc p (codeOf k ∷ []) in-body)) (sym (length-append p (codeOf k ∷ []))) in
+    sym (by-body s (length p) (codeOf k) k (Body.Is e)
+    (byte-there s (length p) (omega (arith, size-small k)) ∙ ap Byte.Is (getD-append-seam p (codeOf k) in-body 0))
+    (kind-code k)
+    (body-whole s (length p) k (omega arith) ∙ ap Body.Is fields))
 
 -- ---- what is read is written back
 
--- n elements from `at` on
-abbrev span : List ℕ → ℕ → ℕ → List ℕ
-span s at zero = []
-span s at (suc n) = getD s at 0 ∷ span s (at + 1) n
-
-take-span : (s : List ℕ) (at n : ℕ) → at + n ≤ length s → take n (drop at s) ≡ span s at n
-take-span s at zero h = refl
-take-span s at (suc n) h =
-    rw (drop-cons s at 0 (omega arith)) (ap (λ l. getD s at 0 ∷ l) (rw (← add-one at) (take-span s (at + 1) n (omega arith))))
-
--- a list of bytes
-abbrev pub Bytes : List ℕ → Type 0
-Bytes s = (i : ℕ) → getD s i 0 < 256
-
 module _ (s : List ℕ) (b : Bytes s) where
-  high : (i j : ℕ) → (getD s i 0 * 256 + getD s j 0) / 256 % 256 ≡ getD s i 0
-  high i j = omega (arith, b i, b j)
+  piece : (at m n : ℕ) → take (m + n) (drop at s) ≡ take m (drop at s) ++ take n (drop (at + m) s)
+  piece at m n = take-add m n (drop at s) ∙ ap (λ l. take m (drop at s) ++ take n l) (drop-drop m at s)
 
-  low : (i j : ℕ) → (getD s i 0 * 256 + getD s j 0) % 256 ≡ getD s j 0
-  low i j = omega (arith, b i, b j)
+  -- a field, and what stands behind it
+  field-there : (w : Width) (at n : ℕ) (rest : List ℕ) → at + (bytesIn w + n) ≤ length s → take n (drop (at + bytesIn w) s) ≡ rest
+      → take (bytesIn w + n) (drop at s) ≡ number w (numberAt w s at) ++ rest
+  field-there w at n rest h q =
+      piece at (bytesIn w) n ∙ ap (λ l. l ++ take n (drop (at + bytesIn w) s)) (number-there s b w at (omega arith))
+      ∙ ap (λ l. number w (numberAt w s at) ++ l) q
 
-  two-of : (i : ℕ) → two (twoAt s i) ≡ getD s i 0 ∷ getD s (i + 1) 0 ∷ []
-  two-of i = simp (high, low)
-
-  upper : (i : ℕ) → fourAt s i / 65536 ≡ twoAt s i
-  upper i = omega (arith, b (i + 2), b (i + 2 + 1))
-
-  lower-high : (i : ℕ) → fourAt s i / 256 % 256 ≡ getD s (i + 2) 0
-  lower-high i = omega (arith, b i, b (i + 1), b (i + 2), b (i + 2 + 1))
-
-  lower-low : (i : ℕ) → fourAt s i % 256 ≡ getD s (i + 2 + 1) 0
-  lower-low i = omega (arith, b i, b (i + 1), b (i + 2), b (i + 2 + 1))
-
-  four-of : (i : ℕ) → four (fourAt s i) ≡ getD s i 0 ∷ getD s (i + 1) 0 ∷ getD s (i + 2) 0 ∷ getD s (i + 2 + 1) 0 ∷ []
-  four-of i = rw (upper i, lower-high i, lower-low i, high i (i + 1), low i (i + 1))
-
-  bytes-at : (at : ℕ) (h : Shape) (a v c : ℕ) → fieldsAt h s (at + 1) ≡ Body.Is a v c → span s at (sizeOf h) ≡ getD s at 0 ∷ body h a v c
-  bytes-at at Nothing a v c q = refl
-  bytes-at at TwoTwo a v c q =
-      let x : a ≡ twoAt s (at + 1) = cc in
-      let y : v ≡ twoAt s (at + 1 + 2) = cc in
-      rw (x, y) (simp (add-assoc, high, low))
-  bytes-at at TwoTwoTwo a v c q =
-      let x : a ≡ twoAt s (at + 1) = cc in
-      let y : v ≡ twoAt s (at + 1 + 2) = cc in
-      let z : c ≡ twoAt s (at + 1 + 4) = cc in
-      rw (x, y, z) (simp (add-assoc, high, low))
-  bytes-at at TwoFour a v c q =
-      let x : a ≡ twoAt s (at + 1) = cc in
-      let y : v ≡ fourAt s (at + 1 + 2) = cc in
-      let g : List ℕ → List ℕ → List ℕ = λ l m. getD s at 0 ∷ l ++ m in
-      let t : span s at 7 ≡ g (getD s (at + 1) 0 ∷ getD s (at + 1 + 1) 0 ∷ [])
-      (getD s (at + 1 + 2) 0 ∷ getD s (at + 1 + 2 + 1) 0 ∷ getD s (at + 1 + 2 + 2) 0 ∷ getD s (at + 1 + 2 + 2 + 1) 0 ∷ []) = simp add-assoc in
-      rw (x, y) (t ∙ sym (ap (λ l. g l (four (fourAt s (at + 1 + 2)))) (two-of (at + 1)) ∙ ap (g (getD s (at + 1) 0 ∷ getD s (at + 1 + 1) 0 ∷ [])) (four-of (at + 1 + 2))))
-
-  bytes-for : (k : Kind) (a v c : ℕ) → bytes (entryFor k a v c) ≡ codeOf k ∷ body (shapeOf k) a v c
-  bytes-for K.Head a v c = refl
-  bytes-for (K.Enter m) a v c = refl
-  bytes-for (K.Leave m) a v c = refl
-  bytes-for (K.Graze m) a v c = refl
-  bytes-for (K.Open m) a v c = refl
-  bytes-for K.Closest a v c = refl
-  bytes-for K.End a v c = refl
+  body-there : (k : Kind) (at : ℕ) → at + sizeOf k ≤ length s → take (sizeOf k) (drop at s) ≡ getD s at 0 ∷ body (widthsOf k) (entryAt k s (at + 1))
+  body-there k at h =
+      let w = widthsOf k in
+      let at-b = at + 1 + bytesIn (w .a) in
+      let at-c = at-b + bytesIn (w .b) in
+      let at-d = at-c + bytesIn (w .c) in
+      let e = entryAt k s (at + 1) in
+      let last = number (w .d) (e .d) in
+      let third = number (w .c) (e .c) ++ last in
+      let second = number (w .b) (e .b) ++ third in
+      let d = number-there s b (w .d) at-d (omega arith) in
+      let c = field-there (w .c) at-c (bytesIn (w .d)) last (omega arith) d in
+      let y = field-there (w .b) at-b (bytesIn (w .c) + bytesIn (w .d)) third (omega arith) c in
+      let a = field-there (w .a) (at + 1) (bytesIn (w .b) + (bytesIn (w .c) + bytesIn (w .d))) second (omega arith) y in
+      piece at 1 (bytesIn (w .a) + (bytesIn (w .b) + (bytesIn (w .c) + bytesIn (w .d))))
+      ∙ ap (λ l. take 1 (drop at s) ++ l) a
+      ∙ ap (λ l. take 1 l ++ body w (entryAt k s (at + 1))) (drop-cons s at 0 (omega arith))
 
   -- a record that was read stands in the bytes as it is written
-  pub back : (at : ℕ) (e : Entry) (n : ℕ) → recordAt s at ≡ Is e n → take (size e) (drop at s) ≡ bytes e
+  pub back : (at : ℕ) (e : Entry) (n : ℕ) → recordAt s at ≡ Is e n → take (sizeOf (e .kind)) (drop at s) ≡ bytes e
   back at e n q =
       let t = record-inv s at e n q in
-      let f = record-fields s at e n t in
-      let k = t .kind in
-      let z : size e ≡ sizeOf (shapeOf k) = ap size (f .4) ∙ size-for k (f .0) (f .1) (f .2) in
-      ap (λ m. take m (drop at s)) z ∙ take-span s at (sizeOf (shapeOf k)) (omega (arith, t .next, t .within))
-      ∙ bytes-at at (shapeOf k) (f .0) (f .1) (f .2) (f .3)
-      ∙ ap (λ x. x ∷ body (shapeOf k) (f .0) (f .1) (f .2)) (kind-inv (getD s at 0) k (t .named))
-      ∙ sym (ap bytes (f .4) ∙ bytes-for k (f .0) (f .1) (f .2))
+      let k = e .kind in
+      body-there k at (omega (arith, t .next, t .within))
+      ∙ ap (λ x. x ∷ body (widthsOf k) (entryAt k s (at + 1))) (kind-inv (getD s at 0) k (t .named))
+      ∙ ap (λ x. codeOf k ∷ body (widthsOf k) x) (sym (t .is))

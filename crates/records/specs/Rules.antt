@@ -1,98 +1,87 @@
--- The rules of order and of fields, over an entry and what came before it. Reader and writer both go by these.
+-- What the rules say of an entry, by what came before it. Reader and writer both go by these.
 -- Assumes nothing: these are definitions.
 use Prim.Native.Nat.{ℕ}
-use mathlib.Core.Bool.{Bool, true, cond, _&&_, _||_, not}
-use lib.Dec.{leb, ltb, eqb}
-use Rattle.records.specs.declared.Family.{Family}
-use Rattle.records.specs.declared.Family.the-variants.{Penumbra, Central}
-use Rattle.records.specs.declared.Entry.{Entry}
-use Rattle.records.specs.declared.Entry.the-variants.{Head, Enter, Leave, Graze, Open, Closest, End}
+use mathlib.Core.Bool.{Bool, cond, _&&_, _||_, not}
+use lib.Dec.{leb}
+use Rattle.phases.specs.declared.Phase.{Phase}
+use Rattle.records.specs.declared.Kind.{Kind}
+use Rattle.records.specs.declared.Kind.the-variants as K
+use Rattle.records.specs.declared.Stage.{Stage}
+use Rattle.records.specs.declared.Stage.the-variants as S
+use Rattle.records.specs.declared.Crossing.{Crossing}
+use Rattle.records.specs.declared.Crossing.the-variants as C
 use Rattle.records.specs.declared.Progress.{Progress}
+use Rattle.records.specs.declared.Entry.{Entry}
 use Rattle.records.specs.declared.Refusal.the-variants as R
-use Rattle.records.specs.declared.Step.{Step}
-use Rattle.records.specs.declared.Step.the-variants.{Next, Broken}
+use Rattle.records.specs.declared.Judgement.{Judgement}
+use Rattle.records.specs.declared.Judgement.the-variants.{Next, Broken}
+use Rattle.records.specs.Kinds.{table, plain}
+use Rattle.records.specs.Order.{mayCome, isWithin, repeats}
 
--- nothing has come: the head is due
+-- ---- how far a sheet has come
+
+-- an entry of no phase came, in the window first to last
+abbrev pub reached : Stage → ℕ → ℕ → Progress
+reached stage first last = record { stage = stage; first = first; last = last; until = 0; crossing = C.Neither }
+
+-- nothing has come
 abbrev pub start : Progress
-start = record { due = 0; first = 0; last = 0; until = 0; turn = 0 }
+start = reached S.Start 0 0
 
--- "Order: head, penumbra by time, central by time, closest, end": places 0, 1, 2, 3, 4
-abbrev pub placeIn : Family → ℕ
-placeIn Penumbra = 1
-placeIn Central = 2
+-- an entry of a phase came, with that `to` and that crossing
+abbrev pub passed : Progress → Phase → ℕ → Crossing → Progress
+passed p φ to crossing = record { stage = S.Phase φ; first = p .first; last = p .last; until = to; crossing = crossing }
 
--- "head, closest and end exactly once"; "A record that stands where another is due breaks order":
--- what is due may come, and what stands after it where only families are left out
-abbrev pub mayCome : ℕ → ℕ → Bool
-mayCome due place = eqb place due || (ltb 0 due && ltb due place && ltb place 4)
+-- "grazes and opens passed over": the crossing that stands when one of the phase came
+abbrev pub crossingKept : Progress → Phase → Crossing
+crossingKept p φ = cond (isWithin (p .stage) φ) (p .crossing) C.Neither
 
--- "no enter next to an enter or leave next to a leave in that family, grazes and opens passed over": turns are 0 none, 1 enter, 2 leave
-abbrev pub repeats : ℕ → ℕ → Bool
-repeats last turn = ltb 0 turn && eqb turn last
-
--- "each from at least the previous to of its family", and no turn repeated; both only after an entry of the same family
-abbrev pub familyInOrder : Progress → Family → ℕ → ℕ → Bool
-familyInOrder p m turn from =
-    mayCome (p .due) (placeIn m) && (not (eqb (placeIn m) (p .due)) || (leb (p .until) from && not (repeats (p .turn) turn)))
-
-abbrev pub inOrder : Progress → Entry → Bool
-inOrder p (Head s f l) = mayCome (p .due) 0
-inOrder p (Enter m f t d) = familyInOrder p m 1 f
-inOrder p (Leave m f t d) = familyInOrder p m 2 f
-inOrder p (Graze m f t) = familyInOrder p m 0 f
-inOrder p (Open m f t) = familyInOrder p m 0 f
-inOrder p (Closest s m) = mayCome (p .due) 3
-inOrder p End = mayCome (p .due) 4
-
--- "every second inside the window"
-abbrev pub inWindow : Progress → ℕ → Bool
-inWindow p x = leb (p .first) x && leb x (p .last)
-
--- "direction 0..3599 or 65,535"
-abbrev pub isDirection : ℕ → Bool
-isDirection d = leb d 3599 || eqb d 65535
-
--- "from < to", both inside the window
-abbrev pub spanHolds : Progress → ℕ → ℕ → Bool
-spanHolds p f t = inWindow p f && inWindow p t && ltb f t
-
--- an open: "from ≤ to, and from is the first second or to the last"
-abbrev pub openHolds : Progress → ℕ → ℕ → Bool
-openHolds p f t = inWindow p f && inWindow p t && leb f t && (eqb f (p .first) || eqb t (p .last))
-
--- "station 1..999; first ≤ last ≤ 21,600; every second inside the window; from < to (open: from ≤ to, and from is the first second
--- or to the last); direction 0..3599 or 65,535; magnitude ≤ 1,300,000"
-abbrev pub fieldsHold : Progress → Entry → Bool
-fieldsHold p (Head s f l) = leb 1 s && leb s 999 && leb f l && leb l 21600
-fieldsHold p (Enter m f t d) = spanHolds p f t && isDirection d
-fieldsHold p (Leave m f t d) = spanHolds p f t && isDirection d
-fieldsHold p (Graze m f t) = spanHolds p f t
-fieldsHold p (Open m f t) = openHolds p f t
-fieldsHold p (Closest s m) = inWindow p s && leb m 1300000
-fieldsHold p End = true
-
--- a family's entry came, with that `to` and that turn
-abbrev pub gone : Progress → Family → ℕ → ℕ → Progress
-gone p m to turn = record { due = placeIn m; first = p .first; last = p .last; until = to; turn = turn }
-
--- the turn that stands when a graze or an open of the family came: grazes and opens are passed over
-abbrev pub turnKept : Progress → Family → ℕ
-turnKept p m = cond (eqb (placeIn m) (p .due)) (p .turn) 0
+abbrev pub afterKind : Progress → Entry → Kind → Progress
+afterKind p e K.Head = reached S.Head (e .b) (e .c)
+afterKind p e (K.Enter φ) = passed p φ (e .b) C.Enter
+afterKind p e (K.Leave φ) = passed p φ (e .b) C.Leave
+afterKind p e (K.Graze φ) = passed p φ (e .b) (crossingKept p φ)
+afterKind p e (K.Open φ) = passed p φ (e .b) (crossingKept p φ)
+afterKind p e K.Closest = reached S.Closest (p .first) (p .last)
+afterKind p e K.End = reached S.End (p .first) (p .last)
 
 -- how far the sheet has come after an entry
 abbrev pub afterOf : Progress → Entry → Progress
-afterOf p (Head s f l) = record { due = 1; first = f; last = l; until = 0; turn = 0 }
-afterOf p (Enter m f t d) = gone p m t 1
-afterOf p (Leave m f t d) = gone p m t 2
-afterOf p (Graze m f t) = gone p m t (turnKept p m)
-afterOf p (Open m f t) = gone p m t (turnKept p m)
-afterOf p (Closest s m) = record { due = 4; first = p .first; last = p .last; until = 0; turn = 0 }
-afterOf p End = record { due = 5; first = p .first; last = p .last; until = 0; turn = 0 }
+afterOf p e = afterKind p e (e .kind)
+
+-- ---- the two rules
+
+-- "each from at least the previous to of its family, and no enter next to an enter or leave next to a leave in that family, grazes and opens
+-- passed over": both only after an entry of the same phase
+abbrev pub phaseInOrder : Progress → Phase → Crossing → ℕ → Bool
+phaseInOrder p φ crossing from =
+    mayCome (p .stage) (S.Phase φ) && (not (isWithin (p .stage) φ) || (leb (p .until) from && not (repeats (p .crossing) crossing)))
+
+abbrev pub kindInOrder : Progress → Entry → Kind → Bool
+kindInOrder p e K.Head = mayCome (p .stage) S.Head
+kindInOrder p e (K.Enter φ) = phaseInOrder p φ C.Enter (e .a)
+kindInOrder p e (K.Leave φ) = phaseInOrder p φ C.Leave (e .a)
+kindInOrder p e (K.Graze φ) = phaseInOrder p φ C.Neither (e .a)
+kindInOrder p e (K.Open φ) = phaseInOrder p φ C.Neither (e .a)
+kindInOrder p e K.Closest = mayCome (p .stage) S.Closest
+kindInOrder p e K.End = mayCome (p .stage) S.End
+
+abbrev pub inOrder : Progress → Entry → Bool
+inOrder p e = kindInOrder p e (e .kind)
+
+-- "a field breaks a reader's rule": the rule of the table, and 0 where the kind uses none
+abbrev pub fieldsHold : Progress → Entry → Bool
+fieldsHold p e = plain e && table (e .kind) .rule p e
+
+-- ---- the answer
 
 -- "in it .. 8, 7": the answer to both tests, of an entry whose record stands at `at`
-abbrev pub verdictOn : ℕ → Bool → Bool → Progress → Step
+abbrev pub verdictOn : ℕ → Bool → Bool → Progress → Judgement
 verdictOn at ordered sound next = cond ordered (cond sound (Next next) (Broken (R.Field at))) (Broken (R.Order at))
 
--- what the rules say of an entry. `plain` is what else is asked of its fields; a record's bytes are always plain
-unfoldable pub stepOf : Progress → ℕ → Bool → Entry → Step
-stepOf p at plain e = verdictOn at (inOrder p e) (plain && fieldsHold p e) (afterOf p e)
+-- where it is known whether the entry is plain
+unfoldable pub judgedAs : Bool → Progress → ℕ → Entry → Judgement
+judgedAs isPlain p at e = verdictOn at (inOrder p e) (isPlain && table (e .kind) .rule p e) (afterOf p e)
+
+abbrev pub judgementOf : Progress → ℕ → Entry → Judgement
+judgementOf p at e = judgedAs (plain e) p at e

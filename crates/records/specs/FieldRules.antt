@@ -1,0 +1,32 @@
+-- The rules of an entry's fields, in the window of its sheet: "A reader also asks: station 1..999; first ≤ last ≤ 21,600; every second
+-- inside the window; from < to (open: from ≤ to, and from is the first second or to the last); direction 0..3599 or 65,535;
+-- magnitude ≤ 1,300,000."
+-- Assumes nothing: these are definitions.
+use Prim.Native.Nat.{ℕ}
+use mathlib.Core.Bool.{Bool, _&&_, _||_}
+use lib.Dec.{leb, ltb, eqb}
+use Rattle.records.specs.declared.Progress.{Progress}
+
+-- "station 1..999; first ≤ last ≤ 21,600"
+abbrev pub headHolds : ℕ → ℕ → ℕ → Bool
+headHolds station first last = leb 1 station && leb station 999 && leb first last && leb last 21600
+
+-- "every second inside the window"
+abbrev pub inWindow : Progress → ℕ → Bool
+inWindow p x = leb (p .first) x && leb x (p .last)
+
+-- "from < to", both inside the window
+abbrev pub spanHolds : Progress → ℕ → ℕ → Bool
+spanHolds p from to = inWindow p from && inWindow p to && ltb from to
+
+-- "open: from ≤ to, and from is the first second or to the last", both inside the window
+abbrev pub openHolds : Progress → ℕ → ℕ → Bool
+openHolds p from to = inWindow p from && inWindow p to && leb from to && (eqb from (p .first) || eqb to (p .last))
+
+-- "direction 0..3599 or 65,535"
+abbrev pub isDirection : ℕ → Bool
+isDirection direction = leb direction 3599 || eqb direction 65535
+
+-- "magnitude ≤ 1,300,000"
+abbrev pub closestHolds : Progress → ℕ → ℕ → Bool
+closestHolds p second magnitude = inWindow p second && leb magnitude 1300000

@@ -1,0 +1,70 @@
+-- Laws of the table of kinds.
+use Prim.Native.Nat.{ℕ, _≤_, _<_}
+use mathlib.Core.Path.{_≡_, refl, sym, ap, _∙_}
+use mathlib.Core.List.{List, [], _∷_}
+use mathlib.Core.Bool.{cond}
+use native.Mathlib.Omega.{arith}
+use native.Mathlib.Decide.{ℕ-discrete}
+use borrow.Author.Tests.{eq-eqb, ne-eqb}
+use Rattle.phases.specs.declared.Phase.the-variants.{Penumbra, Central}
+use Rattle.records.specs.declared.Kind.{Kind}
+use Rattle.records.specs.declared.Kind.the-variants as K
+use Rattle.records.specs.declared.Width.{Width}
+use Rattle.records.specs.declared.Width.the-variants.{Absent, Two, Four}
+use Rattle.records.specs.declared.Named.{Named}
+use Rattle.records.specs.declared.Named.the-variants.{Is, Unknown}
+use Rattle.records.specs.Kinds.{codeOf, kinds, among, kindFor, widthsOf, bytesIn, sizeOf}
+
+pub no-kind : (x : ℕ) → (x ≡ 0x01 → ⊥) → (x ≡ 0x10 → ⊥) → (x ≡ 0x11 → ⊥) → (x ≡ 0x12 → ⊥) → (x ≡ 0x13 → ⊥)
+    → (x ≡ 0x20 → ⊥) → (x ≡ 0x21 → ⊥) → (x ≡ 0x22 → ⊥) → (x ≡ 0x23 → ⊥) → (x ≡ 0x30 → ⊥) → (x ≡ 0x7f → ⊥) → kindFor x ≡ Unknown
+no-kind x a b c d e f g h i j k =
+    rw (
+      ne-eqb x 0x01 a,
+      ne-eqb x 0x10 b,
+      ne-eqb x 0x11 c,
+      ne-eqb x 0x12 d,
+      ne-eqb x 0x13 e,
+      ne-eqb x 0x20 f,
+      ne-eqb x 0x21 g,
+      ne-eqb x 0x22 h,
+      ne-eqb x 0x23 i,
+      ne-eqb x 0x30 j,
+      ne-eqb x 0x7f k,
+    )
+
+-- the byte of a kind names it
+pub kind-code : (k : Kind) → kindFor (codeOf k) ≡ Is k
+kind-code K.Head = refl
+kind-code (K.Enter Penumbra) = refl
+kind-code (K.Enter Central) = refl
+kind-code (K.Leave Penumbra) = refl
+kind-code (K.Leave Central) = refl
+kind-code (K.Graze Penumbra) = refl
+kind-code (K.Graze Central) = refl
+kind-code (K.Open Penumbra) = refl
+kind-code (K.Open Central) = refl
+kind-code K.Closest = refl
+kind-code K.End = refl
+
+among-inv : (ks : List Kind) (x : ℕ) (k : Kind) → among x ks ≡ Is k → x ≡ codeOf k
+among-inv [] x k q = let z : _≡_ {A = ℕ} 0 1 = cc in absurd (omega arith)
+among-inv (j ∷ ks) x k q =
+    elim (ℕ-discrete x (codeOf j)) [
+      | yes e ↦ let t : Is j ≡ Is k = sym (ap (λ b. cond b (Is j) (among x ks)) (eq-eqb x (codeOf j) e)) ∙ q in
+          let u : j ≡ k = cc in e ∙ ap codeOf u
+      | no n ↦ among-inv ks x k (sym (ap (λ b. cond b (Is j) (among x ks)) (ne-eqb x (codeOf j) n)) ∙ q)
+    ]
+
+-- a number that names a kind is its byte
+pub kind-inv : (x : ℕ) (k : Kind) → kindFor x ≡ Is k → x ≡ codeOf k
+kind-inv x k q = among-inv kinds x k q
+
+pub width-small : (w : Width) → bytesIn w ≤ 4
+width-small Absent = omega arith
+width-small Two = omega arith
+width-small Four = omega arith
+
+pub size-small : (k : Kind) → (0 < sizeOf k) × (sizeOf k ≤ 17)
+size-small k =
+    let w = widthsOf k in
+    omega (arith, width-small (w .a), width-small (w .b), width-small (w .c), width-small (w .d))
