@@ -10,7 +10,7 @@ use Rattle.decimals.specs.Decimals.{decimal}
 use Rattle.decimals.specs.Texts.{letters, Put}
 use Rattle.decimals.specs.TextLaws.{put-then}
 use Rattle.decimals.specs.Patterns.{filled}
-use Rattle.listings.specs.Lines.{lineFor, lineOf, refusalText}
+use Rattle.listings.specs.Lines.{lineFor, lineOf, refusalText, refusalLine}
 
 -- a pattern filled with the same numbers
 module _ (s old : List ℕ) (at : ℕ) (new : List ℕ) (r : ℕ) where
@@ -41,3 +41,8 @@ pub put-refused : (number place : ℕ) (old : List ℕ) (at : ℕ) (new : List �
     → Put old at (letters "refused " ++ decimal number ++ letters " " ++ decimal place) new r → Put old at (refusalText number place) new r
 unfolding refusalText
 put-refused number place old at new r p = p
+
+pub put-refusal-end : (number place : ℕ) (old mid new : List ℕ) (r q : ℕ) → length old < 18446744073709551616
+    → Put old 0 (refusalText number place) mid r → Put mid r (letters "\n") new q → Put old 0 (refusalLine number place) new q
+unfolding refusalLine
+put-refusal-end number place old mid new r q h p w = put-then old mid new 0 r q (refusalText number place) (letters "\n") h p w

@@ -5,7 +5,7 @@ use records::Entry;
 use records::Kind;
 ghost use mathlib.Core.List.{_++_};
 ghost use Rattle.decimals.specs.Texts.{letters, Put};
-ghost use Rattle.listings.specs.Lines.{nameOf, headLine, contactLine, unsureLine, closestLine, lineOf, refusalText};
+ghost use Rattle.listings.specs.Lines.{nameOf, headLine, contactLine, unsureLine, closestLine, lineOf, refusalText, refusalLine};
 
 fn put_phase(out: &mut [u8], at: usize, phase: Phase) -> usize
     ensures { λ r. ⌜ Put (now (out .entry)) at (letters (nameOf phase)) (now (out .exit)) r ⌝ }
@@ -97,4 +97,12 @@ pub fn put_refusal(out: &mut [u8], at: usize, number: u64, place: u64) -> usize
     let middle = decimals::put_number(out, first, number);
     let second = decimals::put_byte(out, middle, b' ');
     decimals::put_number(out, second, place)
+}
+
+// The same as a line of its own, at the room's start.
+pub fn put_refusal_line(out: &mut [u8], number: u64, place: u64) -> usize
+    ensures { λ r. ⌜ Put (now (out .entry)) 0 (refusalLine number place) (now (out .exit)) r ⌝ }
+{
+    let end = put_refusal(out, 0, number, place);
+    decimals::put_byte(out, end, b'\n')
 }
