@@ -2,18 +2,19 @@
 use Prim.Native.Nat.{ℕ, _≤_, _<_}
 use mathlib.Core.Path.{_≡_, refl, sym, ap, _∙_}
 use mathlib.Core.List.{List, [], _∷_}
-use mathlib.Core.Bool.{cond}
+use mathlib.Core.Bool.{true, cond}
 use native.Mathlib.Omega.{arith}
 use native.Mathlib.Decide.{ℕ-discrete}
-use borrow.Author.Tests.{eq-eqb, ne-eqb}
+use borrow.Author.Tests.{eq-eqb, ne-eqb, eqb-true}
 use Rattle.phases.specs.declared.Phase.the-variants.{Penumbra, Central}
 use Rattle.records.specs.declared.Kind.{Kind}
 use Rattle.records.specs.declared.Kind.the-variants as K
 use Rattle.records.specs.declared.Width.{Width}
 use Rattle.records.specs.declared.Width.the-variants.{Absent, Two, Four}
-use Rattle.records.specs.declared.Named.{Named}
+use Rattle.records.specs.declared.Entry.{Entry}
 use Rattle.records.specs.declared.Named.the-variants.{Is, Unknown}
-use Rattle.records.specs.Kinds.{codeOf, kinds, among, kindFor, widthsOf, bytesIn, sizeOf}
+use Rattle.records.specs.TestLaws.{both}
+use Rattle.records.specs.Kinds.{codeOf, kinds, among, kindFor, widthsOf, bytesIn, sizeOf, unused, plain}
 
 pub no-kind : (x : ℕ) → (x ≡ 0x01 → ⊥) → (x ≡ 0x10 → ⊥) → (x ≡ 0x11 → ⊥) → (x ≡ 0x12 → ⊥) → (x ≡ 0x13 → ⊥)
     → (x ≡ 0x20 → ⊥) → (x ≡ 0x21 → ⊥) → (x ≡ 0x22 → ⊥) → (x ≡ 0x23 → ⊥) → (x ≡ 0x30 → ⊥) → (x ≡ 0x7f → ⊥) → kindFor x ≡ Unknown
@@ -68,3 +69,26 @@ pub size-small : (k : Kind) → (0 < sizeOf k) × (sizeOf k ≤ 17)
 size-small k =
     let w = widthsOf k in
     omega (arith, width-small (w .a), width-small (w .b), width-small (w .c), width-small (w .d))
+
+-- what the kind does not use is 0
+pub plain-inv : (e : Entry) → plain e ≡ true → let w = widthsOf (e .kind) in
+    (unused (w .a) (e .a) ≡ true) × (unused (w .b) (e .b) ≡ true) × (unused (w .c) (e .c) ≡ true) × (unused (w .d) (e .d) ≡ true)
+unfolding plain
+plain-inv e q =
+    let x = both _ _ q in
+    let y = both _ _ (x .0) in
+    let z = both _ _ (y .0) in
+    (z .0, z .1, y .1, x .1)
+
+no-fourth : (k : Kind) → widthsOf k .d ≡ Absent
+no-fourth K.Head = refl
+no-fourth (K.Enter φ) = refl
+no-fourth (K.Leave φ) = refl
+no-fourth (K.Graze φ) = refl
+no-fourth (K.Open φ) = refl
+no-fourth K.Closest = refl
+no-fourth K.End = refl
+
+-- no kind has a fourth field, so that of a plain entry is 0
+pub plain-fourth : (e : Entry) → plain e ≡ true → e .d ≡ 0
+plain-fourth e q = eqb-true (e .d) 0 (ap (λ w. unused w (e .d)) (sym (no-fourth (e .kind))) ∙ plain-inv e q .3)

@@ -17,8 +17,8 @@ use Rattle.records.specs.declared.Byte.the-variants as Byte
 use Rattle.records.specs.declared.Body.the-variants as Body
 use Rattle.records.specs.declared.Progress.{Progress}
 use Rattle.records.specs.declared.Record.the-variants.{Is}
-use Rattle.records.specs.Kinds.{codeOf, widthsOf, bytesIn, sizeOf, unused, plain, table}
-use Rattle.records.specs.KindLaws.{kind-code, kind-inv, size-small}
+use Rattle.records.specs.Kinds.{codeOf, widthsOf, bytesIn, sizeOf, plain, table}
+use Rattle.records.specs.KindLaws.{kind-code, kind-inv, size-small, plain-inv}
 use Rattle.records.specs.Numbers.{number, numberAt}
 use Rattle.records.specs.NumberLaws.{Fits, number-back, Bytes, number-there}
 use Rattle.records.specs.Entries.{body, bytes}
@@ -66,16 +66,6 @@ head-fits s f l q =
     let b = leb-true f l (y .1) in
     let c = leb-true s 999 (z .1) in
     (omega arith, omega arith, omega arith)
-
--- what the kind does not use is 0
-plain-inv : (e : Entry) → plain e ≡ true → let w = widthsOf (e .kind) in
-    (unused (w .a) (e .a) ≡ true) × (unused (w .b) (e .b) ≡ true) × (unused (w .c) (e .c) ≡ true) × (unused (w .d) (e .d) ≡ true)
-unfolding plain
-plain-inv e q =
-    let x = both _ _ q in
-    let y = both _ _ (x .0) in
-    let z = both _ _ (y .0) in
-    (z .0, z .1, y .1, x .1)
 
 zero : (x : ℕ) → eqb x 0 ≡ true → x ≡ 0
 zero x q = eqb-true x 0 q

@@ -3,32 +3,33 @@ use mathlib.Core.Path.{_≡_, refl}
 use mathlib.Core.List.{List, [], _∷_}
 use native.Mathlib.Omega.{arith}
 use lib.ListN.{length}
-use Rattle.records.specs.declared.Family.the-variants.{Penumbra, Central}
+use Rattle.phases.specs.declared.Phase.the-variants.{Penumbra, Central}
+use Rattle.records.specs.declared.Crossing.the-variants as C
 use Rattle.records.specs.declared.Entry.{Entry}
-use Rattle.records.specs.declared.Entry.the-variants.{Head, Enter, Leave, Closest, End}
-use Rattle.records.specs.Entries.{bytesOf}
+use Rattle.records.specs.Entries.{head, enter, leave, closest, end, bytesOf}
 use Rattle.records.specs.Rules.{start}
 use Rattle.sheets.specs.Sheets.{sheet, readWhole}
 use Rattle.sheets.specs.WellFormed.{WellFormed}
-use Rattle.sheets.specs.WellFormedLaws.{well-step, step-head, step-enter, step-leave, well-central, well-closest}
+use Rattle.sheets.specs.WellFormedLaws.{well-step, step-head, step-enter, step-leave, well-first, well-later, well-closest}
 use Rattle.sheets.specs.RoundTrip.{read-whole-back}
 
 -- "station 7 from -6000 to 6000", its enters and leaves, "closest 0 1037735"; each second plus 10,800
 pub listing : List Entry
 listing =
-    Head 7 4800 16800 ∷ Enter Penumbra 5399 5401 2700 ∷ Leave Penumbra 16199 16201 900
-    ∷ Enter Central 10699 10701 2700 ∷ Leave Central 10899 10901 900 ∷ Closest 10800 1037735 ∷ End ∷ []
+    head 7 4800 16800 ∷ enter Penumbra 5399 5401 2700 ∷ leave Penumbra 16199 16201 900
+    ∷ enter Central 10699 10701 2700 ∷ leave Central 10899 10901 900 ∷ closest 10800 1037735 ∷ end ∷ []
 
 pub listing-well : WellFormed start listing
 unfolding listing
 listing-well =
     well-step _ (step-head 7 4800 16800 (omega arith) (omega arith) (omega arith) (omega arith))
-    (well-step _ (step-enter Penumbra 4800 16800 0 0 5399 5401 (omega arith) (omega arith) (omega arith) 2700 (λ e. omega arith) (omega arith) refl)
-    (well-step _ (step-leave Penumbra 4800 16800 5401 1 16199 16201 (omega arith) (omega arith) (omega arith) 900 (λ e. omega arith) (omega arith) refl)
-    (well-central 4800 16800 16201 2 _
-    (well-step _ (step-enter Central 4800 16800 0 0 10699 10701 (omega arith) (omega arith) (omega arith) 2700 (λ e. omega arith) (omega arith) refl)
-    (well-step _ (step-leave Central 4800 16800 10701 1 10899 10901 (omega arith) (omega arith) (omega arith) 900 (λ e. omega arith) (omega arith) refl)
-    (well-closest Central 4800 16800 10901 2 10800 1037735 (omega arith) (omega arith) (omega arith)))))))
+    (well-first Penumbra 4800 16800 _
+    (well-step _ (step-enter Penumbra 4800 16800 0 C.Neither 5399 5401 (omega arith) (omega arith) (omega arith) 2700 refl (omega arith) refl)
+    (well-step _ (step-leave Penumbra 4800 16800 5401 C.Enter 16199 16201 (omega arith) (omega arith) (omega arith) 900 refl (omega arith) refl)
+    (well-later Penumbra Central 4800 16800 16201 C.Leave refl _
+    (well-step _ (step-enter Central 4800 16800 0 C.Neither 10699 10701 (omega arith) (omega arith) (omega arith) 2700 refl (omega arith) refl)
+    (well-step _ (step-leave Central 4800 16800 10701 C.Enter 10899 10901 (omega arith) (omega arith) (omega arith) 900 refl (omega arith) refl)
+    (well-closest Central 4800 16800 10901 C.Leave 10800 1037735 (omega arith) (omega arith) (omega arith))))))))
 
 -- "a buffer of 43 bytes succeeds"
 pub listing-length : length (bytesOf listing) ≡ 43

@@ -5,6 +5,8 @@ pub mod RoundTrip
 pub mod HandWorked
 pub mod Passes
 pub mod SheetLaws
+pub mod GivenLaws
+pub mod StoredLaws
 pub mod HandedLaws
 pub mod WellFormedLaws
-pub mod TripLaws
+pub mod StandLaws

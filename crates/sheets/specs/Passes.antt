@@ -1,4 +1,4 @@
--- What the parts of a reader, and of a writer, answer each other. Callers go by `extentOf`, `roomAfter` and `bufferAfter`.
+-- What the parts of a reader, and of a writer, answer each other. Callers go by `extentOf`, `roomAfter` and `bufferAfterList`.
 -- Assumes nothing: these are definitions.
 use Prim.Native.Nat.{ℕ, _+_, _*_, _≤_}
 use mathlib.Core.List.{List}
@@ -7,8 +7,8 @@ use lib.Seq.{sets}
 use Rattle.records.specs.declared.Refusal.the-variants as R
 use Rattle.records.specs.declared.Record.{Record}
 use Rattle.records.specs.declared.Record.the-variants.{Is, Refused}
-use Rattle.records.specs.declared.Step.{Step}
-use Rattle.records.specs.declared.Step.the-variants.{Next, Broken}
+use Rattle.records.specs.declared.Judgement.{Judgement}
+use Rattle.records.specs.declared.Judgement.the-variants.{Next, Broken}
 use Rattle.sheets.specs.declared.Extent.{Extent}
 use Rattle.sheets.specs.declared.Extent.the-variants as X
 use Rattle.records.specs.Entries.{numbersOf, bytesOf}
@@ -43,6 +43,6 @@ refusedOf (Refused r) = X.Refused r
 refusedOf (Is e n) = X.Refused (R.Cut n)
 
 -- a broken rule's refusal, passed on
-abbrev pub brokenOf : Step → Extent
+abbrev pub brokenOf : Judgement → Extent
 brokenOf (Broken r) = X.Refused r
 brokenOf (Next p) = X.Refused (R.Order 0)

@@ -4,30 +4,31 @@
 --   accepted-is-written  the reader accepts exactly what the writer writes for some entries;
 --   read-back            the bytes of well-formed entries are read back, whatever stands after them;
 --   through-buffer, through-room   the first two of the buffers and rooms that the functions leave.
--- The writer leaves `bytesOf es` at the buffer's start (`bufferAfter`), the reader `numbersOf es` at the room's (`roomAfter`).
+-- The writer leaves `bytesOf es` at the buffer's start (`bufferAfterList`), the reader `numbersOf es` at the room's (`roomAfter`).
 use Prim.Native.Nat.{ℕ, suc, _+_, _-_, _*_, _/_, _≤_}
 use mathlib.Core.Path.{_≡_, refl, sym, ap, _∙_}
 use mathlib.Core.List.{List, [], _∷_, _++_, append-nil}
 use mathlib.Core.Logic.{_↔_}
-use mathlib.Core.Bool.{Bool, true, false, cond}
+use mathlib.Core.Bool.{cond}
 use native.Mathlib.Omega.{arith}
 use native.Mathlib.Nat.{zero-add}
-use borrow.Author.Tests.{le-ltb, le-leb, ltb-false}
-use lib.Dec.{ltb}
+use borrow.Author.Tests.{le-leb}
 use lib.Seq.{take-at}
 use lib.ListN.{length, take, drop, length-append, drop-of-length-le}
 use Rattle.records.specs.declared.Entry.{Entry}
-use Rattle.records.specs.declared.Refusal.the-variants as R
-use Rattle.records.specs.Entries.{kindOf, shapeOf, bytesOf, numbersOf}
-use Rattle.records.specs.EntryLaws.{length-bytes-cons, length-numbers, size-small}
+use Rattle.records.specs.Entries.{bytesOf, numbersOf}
+use Rattle.records.specs.KindLaws.{size-small}
+use Rattle.records.specs.EntryLaws.{length-bytes-cons, length-numbers}
 use Rattle.records.specs.Rules.{start}
-use Rattle.records.specs.RecordTrip.{Bytes, start-small}
-use Rattle.sheets.specs.Sheets.{sheet, refused, stored, alone, readSheet, readWhole, roomAfter}
-use Rattle.sheets.specs.SheetLaws.{read-start, walk-length, stored-steady, alone-same}
-use Rattle.sheets.specs.Handed.{listSheet, listWhole, bufferAfter}
-use Rattle.sheets.specs.HandedLaws.{list-start, list-length}
+use Rattle.records.specs.NumberLaws.{Bytes}
+use Rattle.records.specs.RecordTrip.{start-small}
+use Rattle.sheets.specs.Sheets.{sheet, storedAt, readSheet, readWhole, roomAfter}
+use Rattle.sheets.specs.Handed.{handedAt, listSheet, listWhole, bufferAfterList}
+use Rattle.sheets.specs.SheetLaws.{read-start, list-start, whole-inv, whole-is, list-inv, list-is}
+use Rattle.sheets.specs.StandLaws.{Stand, from-well, well-from}
+use Rattle.sheets.specs.StoredLaws.{stored-steady, bytes-stand, stand-bytes}
+use Rattle.sheets.specs.HandedLaws.{handed-steady, numbers-stand, stand-numbers}
 use Rattle.sheets.specs.WellFormed.{WellFormed}
-use Rattle.sheets.specs.TripLaws.{read-from, read-inv, list-from, list-inv}
 
 -- the reader accepts some bytes as a sheet
 abbrev pub Reads : List ℕ → Type 0
@@ -42,81 +43,63 @@ IsWritten s = (l : List ℕ) × (es : List Entry) × (n : ℕ) × (listWhole l �
 -- an entry has a byte at least
 few : (es : List Entry) → length es ≤ length (bytesOf es)
 few [] = omega arith
-few (e ∷ es) = omega (arith, few es, length-bytes-cons e es, size-small (shapeOf (kindOf e)))
+few (e ∷ es) = omega (arith, few es, length-bytes-cons e es, size-small (e .kind))
 
 pub read-back : (es : List Entry) → WellFormed start es → (rest : List ℕ) → readSheet (bytesOf es ++ rest) ≡ sheet es (length (bytesOf es))
 read-back es w rest =
-    read-start (bytesOf es ++ rest)
-    ∙ read-from es start w start-small [] rest 0 (suc (length (bytesOf es ++ rest) - 0)) (omega (arith, few es, length-append (bytesOf es) rest))
+    let s = bytesOf es ++ rest in
+    read-start s
+    ∙ from-well (storedAt s) es start w 0 0 (suc (length s - 0)) (bytes-stand es start w start-small [] rest 0)
+    (omega (arith, few es, length-append (bytesOf es) rest))
     ∙ ap (sheet es) (zero-add (length (bytesOf es)))
-
-whole-sheet : (s : List ℕ) (es : List Entry) → readSheet s ≡ sheet es (length s) → readWhole s ≡ sheet es (length s)
-unfolding readWhole
-whole-sheet s es q = ap (alone (λ k n. ltb n (length s))) q ∙ rw (le-ltb (length s) (length s) (omega arith))
 
 pub read-whole-back : (es : List Entry) → WellFormed start es → readWhole (bytesOf es) ≡ sheet es (length (bytesOf es))
 read-whole-back es w =
-    whole-sheet (bytesOf es) es (ap readSheet (sym (append-nil (bytesOf es))) ∙ read-back es w [])
-
-whole-list : (l : List ℕ) (es : List Entry) (n : ℕ) → listSheet l ≡ sheet es n → length l ≤ length es * 4 → listWhole l ≡ sheet es n
-unfolding listWhole
-whole-list l es n q h = ap (alone (λ k n. ltb (k * 4) (length l))) q ∙ rw (le-ltb (length es * 4) (length l) h)
+    whole-is (bytesOf es) es (length (bytesOf es)) (ap readSheet (sym (append-nil (bytesOf es))) ∙ read-back es w []) (omega arith)
 
 pub list-back : (es : List Entry) → WellFormed start es → listWhole (numbersOf es) ≡ sheet es (length (bytesOf es))
 list-back es w =
-    whole-list (numbersOf es) es (length (bytesOf es))
-    (ap listSheet (sym (append-nil (numbersOf es))) ∙ list-start (numbersOf es ++ [])
-    ∙ list-from es start w [] [] 0 0 (suc (length (numbersOf es ++ []) - 0)) refl (omega (arith, length-append (numbersOf es) [], length-numbers es))
+    let l = numbersOf es ++ [] in
+    list-is (numbersOf es) es (length (bytesOf es))
+    (ap listSheet (sym (append-nil (numbersOf es))) ∙ list-start l
+    ∙ from-well (handedAt l) es start w 0 0 (suc (length l - 0)) (numbers-stand es start w [] [] 0 0 refl)
+    (omega (arith, length-append (numbersOf es) [], length-numbers es))
     ∙ ap (sheet es) (zero-add (length (bytesOf es))))
     (omega (arith, length-numbers es))
 
 -- ---- what is accepted is well formed
 
-whole-inv : (s : List ℕ) (es : List Entry) (n : ℕ) → readWhole s ≡ sheet es n → (readSheet s ≡ sheet es n) × (length s ≤ n)
-unfolding readWhole
-whole-inv s es n q =
-    let r = alone-same (λ k n. ltb n (length s)) (readSheet s) es n q in
-    (r, past (ltb n (length s)) refl (sym (ap (alone (λ k n. ltb n (length s))) r) ∙ q))
-  where
-    past : (b : Bool) → ltb n (length s) ≡ b → cond (ltb n (length s)) (refused (R.Trailing n)) (sheet es n) ≡ sheet es n → length s ≤ n
-    past false t u = ltb-false n (length s) t
-    past true t u =
-        let v : refused (R.Trailing n) ≡ sheet es n = sym (ap (λ b. cond b (refused (R.Trailing n)) (sheet es n)) t) ∙ u in
-        let z : _≡_ {A = ℕ} 0 1 = cc in
-        absurd (omega arith)
+read-stands : (s : List ℕ) (es : List Entry) (n : ℕ) → readSheet s ≡ sheet es n
+    → WellFormed start es × Stand (storedAt s) 0 0 es × (n ≡ 0 + length (bytesOf es))
+read-stands s es n q = well-from (storedAt s) (stored-steady s) (suc (length s - 0)) start 0 0 es n (sym (read-start s) ∙ q)
 
 pub reads-well : (s : List ℕ) (es : List Entry) (n : ℕ) → readWhole s ≡ sheet es n → WellFormed start es
-reads-well s es n q = read-inv s (suc (length s - 0)) start 0 0 es n (sym (read-start s) ∙ whole-inv s es n q .0) .0
+reads-well s es n q = read-stands s es n (whole-inv s es n q .0) .0
+
+pub reads-length : (s : List ℕ) (es : List Entry) (n : ℕ) → readSheet s ≡ sheet es n → n ≡ length (bytesOf es)
+reads-length s es n q = read-stands s es n q .2 ∙ zero-add (length (bytesOf es))
 
 pub reads-bytes : (s : List ℕ) → Bytes s → (es : List Entry) (n : ℕ) → readWhole s ≡ sheet es n → s ≡ bytesOf es
 reads-bytes s b es n q =
     let v = whole-inv s es n q in
-    read-inv s (suc (length s - 0)) start 0 0 es n (sym (read-start s) ∙ v .0) .1 b
-    ∙ ap (λ x. bytesOf es ++ x) (drop-of-length-le s (v .1)) ∙ append-nil (bytesOf es)
-
-pub reads-length : (s : List ℕ) (es : List Entry) (n : ℕ) → readSheet s ≡ sheet es n → n ≡ length (bytesOf es)
-reads-length s es n q =
-    walk-length (stored s) (stored-steady s) (suc (length s - 0)) start 0 0 es n (sym (read-start s) ∙ q) ∙ zero-add (length (bytesOf es))
-
-list-whole-inv : (l : List ℕ) (es : List Entry) (n : ℕ) → listWhole l ≡ sheet es n → (listSheet l ≡ sheet es n) × (length l ≤ length es * 4)
-unfolding listWhole
-list-whole-inv l es n q =
-    let r = alone-same (λ k n. ltb (k * 4) (length l)) (listSheet l) es n q in
-    (r, past (ltb (length es * 4) (length l)) refl (sym (ap (alone (λ k n. ltb (k * 4) (length l))) r) ∙ q))
-  where
-    past : (b : Bool) → ltb (length es * 4) (length l) ≡ b → cond (ltb (length es * 4) (length l)) (refused (R.Trailing n)) (sheet es n) ≡ sheet es n
-        → length l ≤ length es * 4
-    past false t u = ltb-false (length es * 4) (length l) t
-    past true t u =
-        let v : refused (R.Trailing n) ≡ sheet es n = sym (ap (λ b. cond b (refused (R.Trailing n)) (sheet es n)) t) ∙ u in
-        let z : _≡_ {A = ℕ} 0 1 = cc in
-        absurd (omega arith)
+    let r = read-stands s es n (v .0) in
+    stand-bytes s b es 0 0 (r .1)
+    ∙ ap (λ x. bytesOf es ++ x) (drop-of-length-le s {i = 0 + length (bytesOf es)} (omega (arith, r .2, v .1))) ∙ append-nil (bytesOf es)
 
 pub list-well : (l : List ℕ) (es : List Entry) (n : ℕ) → listWhole l ≡ sheet es n → WellFormed start es × (l ≡ numbersOf es) × (n ≡ length (bytesOf es))
 list-well l es n q =
-    let v = list-whole-inv l es n q in
-    let r = list-inv l (suc (length l - 0)) start 0 0 es n (sym (list-start l) ∙ v .0) in
-    (r .0, r .1 ∙ ap (λ x. numbersOf es ++ x) (drop-of-length-le l {i = (0 + length es) * 4} (omega (arith, v .1))) ∙ append-nil (numbersOf es), list-length l es n (v .0))
+    let v = list-inv l es n q in
+    let r = well-from (handedAt l) (handed-steady l) (suc (length l - 0)) start 0 0 es n (sym (list-start l) ∙ v .0) in (
+      r .0,
+      stand-numbers l es 0 0 (r .1) ∙ ap (λ x. numbersOf es ++ x) (drop-of-length-le l {i = (0 + length es) * 4} (omega (arith, v .1)))
+          ∙ append-nil (numbersOf es),
+      r .2 ∙ zero-add (length (bytesOf es)),
+    )
+
+-- the sheet of a list is as long as the bytes of its entries
+pub list-length : (l : List ℕ) (es : List Entry) (n : ℕ) → listSheet l ≡ sheet es n → n ≡ length (bytesOf es)
+list-length l es n q =
+    well-from (handedAt l) (handed-steady l) (suc (length l - 0)) start 0 0 es n (sym (list-start l) ∙ q) .2 ∙ zero-add (length (bytesOf es))
 
 -- ---- the round trip
 
@@ -141,20 +124,20 @@ accepted-is-written s b = (
 
 -- entries written into a buffer and read from it into a room: the room's first numbers are the entries handed over, and the others are as they were
 pub through-buffer : (l buf room : List ℕ) (es : List Entry) (n : ℕ) → listWhole l ≡ sheet es n → n ≤ length buf → length es ≤ length room / 4
-    → roomAfter (readWhole (take n (bufferAfter (listWhole l) buf))) room ≡ l ++ drop (length l) room
+    → roomAfter (readWhole (take n (bufferAfterList (listWhole l) buf))) room ≡ l ++ drop (length l) room
 through-buffer l buf room es n q h k =
     let v = list-well l es n q in
     let t = written-then-read l es n q in
-    let b : bufferAfter (listWhole l) buf ≡ bytesOf es ++ drop n buf =
-    ap (λ w. bufferAfter w buf) q ∙ ap (λ b. cond b (bytesOf es ++ drop n buf) buf) (le-leb n (length buf) h) in
-    let s : take n (bufferAfter (listWhole l) buf) ≡ bytesOf es = ap (take n) b ∙ take-at (bytesOf es) (drop n buf) n (sym (v .2)) in
+    let b : bufferAfterList (listWhole l) buf ≡ bytesOf es ++ drop n buf =
+    ap (λ w. bufferAfterList w buf) q ∙ ap (λ b. cond b (bytesOf es ++ drop n buf) buf) (le-leb n (length buf) h) in
+    let s : take n (bufferAfterList (listWhole l) buf) ≡ bytesOf es = ap (take n) b ∙ take-at (bytesOf es) (drop n buf) n (sym (v .2)) in
     ap (λ x. roomAfter (readWhole x) room) s ∙ ap (λ w. roomAfter w room) (t .0)
     ∙ ap (λ b. cond b (numbersOf es ++ drop (length (numbersOf es)) room) room) (le-leb (length es) (length room / 4) k)
     ∙ ap (λ x. x ++ drop (length x) room) (t .1)
 
 -- a sheet read into a room and written from it into a buffer: the buffer's first bytes are the sheet, and the others are as they were
 pub through-room : (s room buf : List ℕ) → Bytes s → (es : List Entry) (n : ℕ) → readWhole s ≡ sheet es n → length es ≤ length room / 4 → n ≤ length buf
-    → bufferAfter (listWhole (take (length es * 4) (roomAfter (readWhole s) room))) buf ≡ s ++ drop (length s) buf
+    → bufferAfterList (listWhole (take (length es * 4) (roomAfter (readWhole s) room))) buf ≡ s ++ drop (length s) buf
 through-room s room buf b es n q k h =
     let t = read-then-written s b es n q in
     let r : roomAfter (readWhole s) room ≡ numbersOf es ++ drop (length (numbersOf es)) room =
@@ -163,6 +146,6 @@ through-room s room buf b es n q k h =
     let l : take (length es * 4) (roomAfter (readWhole s) room) ≡ numbersOf es =
     ap (take (length es * 4)) r ∙ take-at (numbersOf es) (drop (length (numbersOf es)) room) (length es * 4) (length-numbers es) in
     let m : n ≡ length s = reads-length s es n (whole-inv s es n q .0) ∙ ap length (t .1) in
-    ap (λ x. bufferAfter (listWhole x) buf) l ∙ ap (λ w. bufferAfter w buf) (t .0)
+    ap (λ x. bufferAfterList (listWhole x) buf) l ∙ ap (λ w. bufferAfterList w buf) (t .0)
     ∙ ap (λ b. cond b (bytesOf es ++ drop n buf) buf) (le-leb n (length buf) h)
     ∙ ap (λ x. x ++ drop n buf) (t .1) ∙ ap (λ k. s ++ drop k buf) m

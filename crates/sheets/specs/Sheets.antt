@@ -2,21 +2,22 @@
 -- Assumes nothing: these are definitions.
 use Prim.Native.Nat.{ℕ, zero, suc, _+_, _/_}
 use mathlib.Core.List.{List, [], _∷_, _++_}
-use mathlib.Core.Bool.{Bool, true, cond}
+use mathlib.Core.Bool.{Bool, cond}
 use lib.Dec.{leb, ltb}
 use lib.ListN.{length, drop}
 use Rattle.records.specs.declared.Entry.{Entry}
 use Rattle.records.specs.declared.Progress.{Progress}
 use Rattle.records.specs.declared.Refusal.{Refusal}
 use Rattle.records.specs.declared.Refusal.the-variants as R
-use Rattle.records.specs.declared.Step.{Step}
-use Rattle.records.specs.declared.Step.the-variants.{Next, Broken}
+use Rattle.records.specs.declared.Judgement.{Judgement}
+use Rattle.records.specs.declared.Judgement.the-variants.{Next, Broken}
 use Rattle.records.specs.declared.Record.{Record}
 use Rattle.records.specs.declared.Record.the-variants.{Is, Refused}
 use Rattle.sheets.specs.declared.Extent.{Extent}
 use Rattle.sheets.specs.declared.Extent.the-variants as X
-use Rattle.records.specs.Entries.{isEnd, numbersOf}
-use Rattle.records.specs.Rules.{start, afterOf, stepOf}
+use Rattle.records.specs.Kinds.{isEnd}
+use Rattle.records.specs.Entries.{numbersOf}
+use Rattle.records.specs.Rules.{start, afterOf, judgementOf}
 use Rattle.records.specs.Records.{recordAt}
 
 -- what a list of bytes, or of numbers, is as a sheet: its entries, head and end among them, and its length in bytes; or the refusal
@@ -28,34 +29,33 @@ abbrev pub more : Entry → Sheet → Sheet
 more e (sheet es n) = sheet (e ∷ es) n
 more e (refused r) = refused r
 
+-- "in it 5, 6, 8, 7": what was read or handed over at a place is refused (5, 6) or judged by the rules (8, 7)
+abbrev pub ofJudgement : Entry → ℕ → Judgement → Record
+ofJudgement e next (Next p) = Is e next
+ofJudgement e next (Broken r) = Refused r
+
+abbrev pub judged : Progress → ℕ → Record → Record
+judged p at (Refused r) = Refused r
+judged p at (Is e next) = ofJudgement e next (judgementOf p at e)
+
 -- the end record ends the sheet; another is followed by what comes after it
 abbrev pub onward : Record → (Entry → ℕ → Sheet) → Sheet
 onward (Refused r) go = refused r
-onward (Is e next) go = cond (isEnd e) (sheet (e ∷ []) next) (more e (go e next))
+onward (Is e next) go = cond (isEnd (e .kind)) (sheet (e ∷ []) next) (more e (go e next))
 
--- "Sheets: first faulty record": the records from the i-th on, which stands at byte `at`; `source` gives each, judged by what came before it.
--- `fuel` bounds the records to come.
-unfoldable pub walk : (Progress → ℕ → ℕ → Record) → ℕ → Progress → ℕ → ℕ → Sheet
-walk source zero p i at = refused (R.Cut at)
-walk source (suc fuel) p i at = onward (source p i at) (λ e next. walk source fuel (afterOf p e) (i + 1) next)
+-- "Sheets: first faulty record": the sheet from the i-th record on, which stands at byte `at`; `given` gives each, and it is judged by what
+-- came before it. `fuel` bounds the records to come.
+unfoldable pub sheetFrom : (ℕ → ℕ → Record) → ℕ → Progress → ℕ → ℕ → Sheet
+sheetFrom given zero p i at = refused (R.Cut at)
+sheetFrom given (suc fuel) p i at = onward (judged p at (given i at)) (λ e next. sheetFrom given fuel (afterOf p e) (i + 1) next)
 
--- "in it 5, 6, 8, 7": what was read or handed over at a place is refused (5, 6) or judged by the rules (8, 7).
--- `plain` is what else is asked of its fields.
-abbrev pub ofStep : Entry → ℕ → Step → Record
-ofStep e next (Next p) = Is e next
-ofStep e next (Broken r) = Refused r
-
-abbrev pub judged : Progress → ℕ → Bool → Record → Record
-judged p at plain (Refused r) = Refused r
-judged p at plain (Is e next) = ofStep e next (stepOf p at plain e)
-
--- the record of some bytes at a place, judged
-unfoldable pub stored : List ℕ → Progress → ℕ → ℕ → Record
-stored s p i at = judged p at true (recordAt s at)
+-- the i-th record of some bytes, which stands at byte `at`
+abbrev pub storedAt : List ℕ → ℕ → ℕ → Record
+storedAt s i at = recordAt s at
 
 -- the sheet that some bytes begin with, whatever stands after it. A record has a byte at least, so there are no more records than bytes.
 unfoldable pub readSheet : List ℕ → Sheet
-readSheet s = walk (stored s) (suc (length s)) start 0 0
+readSheet s = sheetFrom (storedAt s) (suc (length s)) start 0 0
 
 -- "bytes after the end record": 9 at the first of them; `over` says of the entries' number and the length whether anything follows
 abbrev pub alone : (ℕ → ℕ → Bool) → Sheet → Sheet

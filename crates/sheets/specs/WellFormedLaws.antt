@@ -1,105 +1,136 @@
--- Laws by which a list of entries is shown well formed, piece by piece.
+-- Laws by which a list of entries is shown well formed, piece by piece: a head, the entries of the phases in their order, closest and end.
 use Prim.Native.Nat.{ℕ, _≤_, _<_}
 use mathlib.Core.Path.{_≡_, refl, sym}
-use mathlib.Core.List.{List, [], _∷_, _++_}
-use mathlib.Core.Bool.{true, false, _||_}
+use mathlib.Core.List.{List, [], _∷_}
+use mathlib.Core.Bool.{true, false, cond, _||_}
 use native.Mathlib.Omega.{arith}
-use borrow.Author.Tests.{le-leb, lt-ltb, ne-eqb}
+use borrow.Author.Tests.{le-leb, lt-ltb}
 use lib.Dec.{eqb}
-use Rattle.records.specs.declared.Family.{Family}
-use Rattle.records.specs.declared.Family.the-variants.{Penumbra, Central}
+use Rattle.phases.specs.declared.Phase.{Phase}
+use Rattle.phases.specs.declared.Phase.the-variants.{Penumbra, Central}
+use Rattle.records.specs.declared.Kind.{Kind}
+use Rattle.records.specs.declared.Kind.the-variants as K
 use Rattle.records.specs.declared.Entry.{Entry}
-use Rattle.records.specs.declared.Entry.the-variants.{Head, Enter, Leave, Graze, Open, Closest, End}
+use Rattle.records.specs.declared.Stage.the-variants as S
+use Rattle.records.specs.declared.Crossing.{Crossing}
+use Rattle.records.specs.declared.Crossing.the-variants as C
 use Rattle.records.specs.declared.Progress.{Progress}
-use Rattle.records.specs.Entries.{isEnd}
+use Rattle.records.specs.Kinds.{isEnd, plain}
+use Rattle.records.specs.Entries.{head, enter, leave, graze, opened, closest, end}
 use Rattle.records.specs.TestLaws.{distinct}
-use Rattle.records.specs.Rules.{start, placeIn, mayCome, repeats, familyInOrder, inOrder, isDirection, spanHolds, fieldsHold, afterOf}
-use Rattle.sheets.specs.WellFormed.{WellFormed, Accepted, afterAll, within, Step}
-
-pub well-more : (p : Progress) (e : Entry) (es : List Entry) → inOrder p e ≡ true → fieldsHold p e ≡ true → isEnd e ≡ false
-    → WellFormed (afterOf p e) es → WellFormed p (e ∷ es)
-unfolding WellFormed
-well-more p e es o f b w = (o, f, rw b w)
-
-pub well-append : (p : Progress) (xs ys : List Entry) → Accepted p xs → WellFormed (afterAll p xs) ys → WellFormed p (xs ++ ys)
-unfolding Accepted
-well-append p [] ys a w = w
-well-append p (e ∷ xs) ys a w = well-more p e (xs ++ ys) (a .0) (a .1) (a .2) (well-append (afterOf p e) xs ys (a .3) w)
-
-pub accepted-append : (p : Progress) (xs ys : List Entry) → Accepted p xs → Accepted (afterAll p xs) ys → Accepted p (xs ++ ys)
-unfolding Accepted
-accepted-append p [] ys a b = b
-accepted-append p (e ∷ xs) ys a b = (a .0, a .1, a .2, accepted-append (afterOf p e) xs ys (a .3) b)
-
--- ---- building one up: a head, the penumbra's entries, the central family's, closest and end
+use Rattle.records.specs.Order.{samePhase, phaseFollows, repeats}
+use Rattle.records.specs.FieldRules.{isDirection, spanHolds}
+use Rattle.records.specs.Rules.{start, reached, phaseInOrder, inOrder, fieldsHold, afterOf}
+use Rattle.sheets.specs.WellFormed.{WellFormed, within, Step}
 
 pub well-step : {p q : Progress} {e : Entry} (es : List Entry) → Step p e q → WellFormed q es → WellFormed p (e ∷ es)
-well-step {p} {q} {e} es s w = well-more p e es (s .order) (s .fields) (s .goes-on) (rw (s .comes-to) w)
+unfolding WellFormed
+well-step es s w = (s .order, s .fields, rw (s .goes-on, s .comes-to) w)
 
-pub accepted-step : {p q : Progress} {e : Entry} (es : List Entry) → Step p e q → Accepted q es → Accepted p (e ∷ es)
-unfolding Accepted
-accepted-step es s a = (s .order, s .fields, s .goes-on, rw (s .comes-to) a)
-
--- the head opens the penumbra
-pub step-head : (s f l : ℕ) → 1 ≤ s → s ≤ 999 → f ≤ l → l ≤ 21600 → Step start (Head s f l) (within Penumbra f l 0 0)
+-- the head opens the sheet
+pub step-head : (s f l : ℕ) → 1 ≤ s → s ≤ 999 → f ≤ l → l ≤ 21600 → Step start (head s f l) (reached S.Head f l)
+unfolding plain
 step-head s f l a b c d =
     record { order = refl; fields = rw (le-leb 1 s a, le-leb s 999 b, le-leb f l c, le-leb l 21600 d); goes-on = refl; comes-to = refl }
 
-same-place : (m : Family) → eqb (placeIn m) (placeIn m) ≡ true
-same-place Penumbra = refl
-same-place Central = refl
+same-phase : (φ : Phase) → samePhase φ φ ≡ true
+same-phase Penumbra = refl
+same-phase Central = refl
 
-module _ (m : Family) (f l u t a b : ℕ) (time : u ≤ a) (low : f ≤ a) (high : b ≤ l) where
-  in-family : (turn : ℕ) → repeats t turn ≡ false → familyInOrder (within m f l u t) m turn a ≡ true
-  in-family turn r = rw (same-place m, le-leb u a time, r)
+own-phase : (φ : Phase) → phaseFollows φ φ ≡ true
+own-phase Penumbra = refl
+own-phase Central = refl
 
-  span : a < b → spanHolds (within m f l u t) a b ≡ true
+module _ (φ : Phase) (f l u : ℕ) (t : Crossing) (a b : ℕ) (time : u ≤ a) (low : f ≤ a) (high : b ≤ l) where
+  in-phase : (crossing : Crossing) → repeats t crossing ≡ false → phaseInOrder (within φ f l u t) φ crossing a ≡ true
+  in-phase crossing r = rw (own-phase φ, same-phase φ, le-leb u a time, r)
+
+  span : a < b → spanHolds (within φ f l u t) a b ≡ true
   span h =
       rw (le-leb f a low, le-leb a l (omega arith), le-leb f b (omega arith), le-leb b l high, lt-ltb a b h)
 
-  -- an enter, where the family's last turn is no enter
-  pub step-enter : (d : ℕ) → (1 ≡ t → ⊥) → a < b → isDirection d ≡ true → Step (within m f l u t) (Enter m a b d) (within m f l b 1)
+  -- an enter, where the phase's last crossing is no enter
+  pub step-enter : (d : ℕ) → repeats t C.Enter ≡ false → a < b → isDirection d ≡ true → Step (within φ f l u t) (enter φ a b d) (within φ f l b C.Enter)
+  unfolding plain
   step-enter d n h g =
-      record { order = in-family 1 (ne-eqb 1 t n); fields = rw (span h) g; goes-on = refl; comes-to = refl }
+      record { order = in-phase C.Enter n; fields = rw (span h) g; goes-on = refl; comes-to = refl }
 
-  -- a leave, where the family's last turn is no leave
-  pub step-leave : (d : ℕ) → (2 ≡ t → ⊥) → a < b → isDirection d ≡ true → Step (within m f l u t) (Leave m a b d) (within m f l b 2)
+  -- a leave, where the phase's last crossing is no leave
+  pub step-leave : (d : ℕ) → repeats t C.Leave ≡ false → a < b → isDirection d ≡ true → Step (within φ f l u t) (leave φ a b d) (within φ f l b C.Leave)
+  unfolding plain
   step-leave d n h g =
-      record { order = in-family 2 (ne-eqb 2 t n); fields = rw (span h) g; goes-on = refl; comes-to = refl }
+      record { order = in-phase C.Leave n; fields = rw (span h) g; goes-on = refl; comes-to = refl }
 
-  pub step-graze : a < b → Step (within m f l u t) (Graze m a b) (within m f l b t)
-  step-graze h = record { order = in-family 0 refl; fields = span h; goes-on = refl; comes-to = rw (same-place m) }
+  pub step-graze : a < b → Step (within φ f l u t) (graze φ a b) (within φ f l b t)
+  unfolding plain
+  step-graze h = record { order = in-phase C.Neither refl; fields = span h; goes-on = refl; comes-to = rw (same-phase φ) }
 
-  pub step-open : a ≤ b → (eqb a f || eqb b l) ≡ true → Step (within m f l u t) (Open m a b) (within m f l b t)
+  pub step-open : a ≤ b → (eqb a f || eqb b l) ≡ true → Step (within φ f l u t) (opened φ a b) (within φ f l b t)
+  unfolding plain
   step-open h g =
       record {
-        order = in-family 0 refl;
+        order = in-phase C.Neither refl;
         fields = rw (le-leb f a low, le-leb a l (omega arith), le-leb f b (omega arith), le-leb b l high, le-leb a b h) g;
         goes-on = refl;
-        comes-to = rw (same-place m);
+        comes-to = rw (same-phase φ);
       }
 
--- the central family may follow the penumbra, whatever came there
-pub well-central : (f l u t : ℕ) (es : List Entry) → WellFormed (within Central f l 0 0) es → WellFormed (within Penumbra f l u t) es
+-- ---- where a phase begins
+
+-- what may come where nothing of the phase ψ came yet may come at p too, if p stands in the same window before that phase
+abbrev Before : Progress → Phase → ℕ → ℕ → Type 0
+Before p ψ f l = (k : Kind) (a b c d : ℕ) → let e : Entry = record { kind = k; a = a; b = b; c = c; d = d } in
+    inOrder (within ψ f l 0 C.Neither) e ≡ true
+    → (inOrder p e ≡ true) × (fieldsHold p e ≡ fieldsHold (within ψ f l 0 C.Neither) e) × (afterOf p e ≡ afterOf (within ψ f l 0 C.Neither) e)
+
+well-before : (p : Progress) (ψ : Phase) (f l : ℕ) → Before p ψ f l → (es : List Entry) → WellFormed (within ψ f l 0 C.Neither) es → WellFormed p es
 unfolding WellFormed
-well-central f l u t [] w = w
-well-central f l u t (Head s a b ∷ es) w = absurd (distinct (sym (w .0)))
-well-central f l u t (Enter Penumbra a b d ∷ es) w = absurd (distinct (sym (w .0)))
-well-central f l u t (Enter Central a b d ∷ es) w = (refl, w .1, w .2)
-well-central f l u t (Leave Penumbra a b d ∷ es) w = absurd (distinct (sym (w .0)))
-well-central f l u t (Leave Central a b d ∷ es) w = (refl, w .1, w .2)
-well-central f l u t (Graze Penumbra a b ∷ es) w = absurd (distinct (sym (w .0)))
-well-central f l u t (Graze Central a b ∷ es) w = (refl, w .1, w .2)
-well-central f l u t (Open Penumbra a b ∷ es) w = absurd (distinct (sym (w .0)))
-well-central f l u t (Open Central a b ∷ es) w = (refl, w .1, w .2)
-well-central f l u t (Closest s g ∷ es) w = (refl, w .1, w .2)
-well-central f l u t (End ∷ es) w = absurd (distinct (sym (w .0)))
+well-before p ψ f l h [] w = w
+well-before p ψ f l h (e ∷ es) w =
+    let x = h (e .kind) (e .a) (e .b) (e .c) (e .d) (w .0) in
+    (x .0, rw (x .1) (w .1), rw (x .2) (w .2))
+
+-- a graze or an open keeps the crossing of its phase: there is none yet
+no-crossing : (ψ φ : Phase) → cond (samePhase ψ φ) C.Neither C.Neither ≡ C.Neither
+no-crossing Penumbra Penumbra = refl
+no-crossing Penumbra Central = refl
+no-crossing Central Penumbra = refl
+no-crossing Central Central = refl
+
+-- after the head any phase may begin
+pub well-first : (ψ : Phase) (f l : ℕ) (es : List Entry) → WellFormed (within ψ f l 0 C.Neither) es → WellFormed (reached S.Head f l) es
+well-first ψ f l es w = well-before (reached S.Head f l) ψ f l before es w
+  where
+    before : Before (reached S.Head f l) ψ f l
+    before K.Head a b c d o = absurd (distinct (sym o))
+    before (K.Enter φ) a b c d o = (refl, refl, refl)
+    before (K.Leave φ) a b c d o = (refl, refl, refl)
+    before (K.Graze φ) a b c d o = (refl, refl, rw (no-crossing ψ φ))
+    before (K.Open φ) a b c d o = (refl, refl, rw (no-crossing ψ φ))
+    before K.Closest a b c d o = (refl, refl, refl)
+    before K.End a b c d o = absurd (distinct (sym o))
+
+-- after a phase a later one may begin, whatever came there
+pub well-later : (φ ψ : Phase) (f l u : ℕ) (t : Crossing) → phaseFollows ψ φ ≡ false → (es : List Entry) → WellFormed (within ψ f l 0 C.Neither) es → WellFormed (within φ f l u t) es
+well-later Penumbra Penumbra f l u t n es w = absurd (distinct n)
+well-later Central Penumbra f l u t n es w = absurd (distinct n)
+well-later Central Central f l u t n es w = absurd (distinct n)
+well-later Penumbra Central f l u t n es w = well-before (within Penumbra f l u t) Central f l before es w
+  where
+    before : Before (within Penumbra f l u t) Central f l
+    before K.Head a b c d o = absurd (distinct (sym o))
+    before (K.Enter Penumbra) a b c d o = absurd (distinct (sym o))
+    before (K.Enter Central) a b c d o = (refl, refl, refl)
+    before (K.Leave Penumbra) a b c d o = absurd (distinct (sym o))
+    before (K.Leave Central) a b c d o = (refl, refl, refl)
+    before (K.Graze Penumbra) a b c d o = absurd (distinct (sym o))
+    before (K.Graze Central) a b c d o = (refl, refl, refl)
+    before (K.Open Penumbra) a b c d o = absurd (distinct (sym o))
+    before (K.Open Central) a b c d o = (refl, refl, refl)
+    before K.Closest a b c d o = (refl, refl, refl)
+    before K.End a b c d o = absurd (distinct (sym o))
 
 -- closest and end close it
-pub well-closest : (m : Family) (f l u t s g : ℕ) → f ≤ s → s ≤ l → g ≤ 1300000 → WellFormed (within m f l u t) (Closest s g ∷ End ∷ [])
-unfolding WellFormed
-well-closest m f l u t s g a b c = (after-family m, rw (le-leb f s a, le-leb s l b, le-leb g 1300000 c), (refl, refl, refl))
-  where
-    after-family : (m : Family) → mayCome (placeIn m) 3 ≡ true
-    after-family Penumbra = refl
-    after-family Central = refl
+pub well-closest : (φ : Phase) (f l u : ℕ) (t : Crossing) (s g : ℕ) → f ≤ s → s ≤ l → g ≤ 1300000 → WellFormed (within φ f l u t) (closest s g ∷ end ∷ [])
+unfolding WellFormed plain
+well-closest φ f l u t s g a b c = (refl, rw (le-leb f s a, le-leb s l b, le-leb g 1300000 c), (refl, refl, refl))

@@ -1,19 +1,20 @@
-// Sheets: records read and written one after the other, by the rules of document 01.
-// An entry handed over, or stored for a reader, is four numbers: the kind, then the kind's fields in their order, 0 for what it does not use.
+// Sheets: records one after the other, by the rules of document 01; read from bytes, and written from entries handed over.
+// An entry handed over, or given to a reader's caller, is four numbers: the kind, then the kind's fields in their order, 0 for what it
+// does not use.
 use records::Body;
 use records::Byte;
 use records::Entry;
+use records::Judgement;
 use records::Named;
 use records::Record;
 use records::Refusal;
-use records::Step;
 ghost use mathlib.Core.Path.{_≡_};
 ghost use mathlib.Core.List.{[], _∷_};
 ghost use Prim.Native.Nat.{_+_, _*_, _≤_};
 ghost use lib.ListN.{length};
 ghost use lib.Seq.{sets};
 ghost use Rattle.sheets.specs.Sheets.{extentOf, readSheet, readWhole, readInto, roomAfter};
-ghost use Rattle.sheets.specs.Handed.{fourAt, entryAt, plainAt, listSheet, listWhole, writeInto, bufferAfter};
+ghost use Rattle.sheets.specs.Handed.{handedAt, listSheet, listWhole, writeInto, bufferAfterList};
 ghost use Rattle.sheets.specs.Passes.{refusedOf, brokenOf, RoomFor, filled, BufferFor, emitted};
 
 // How many entries a sheet has, head and end among them, and how many bytes.
@@ -21,14 +22,6 @@ pub enum Extent {
     Sheet { entries: usize, length: usize },
     Refused(Refusal),
 }
-
-// Four numbers of a list: an entry's kind and fields.
-pub enum Four {
-    Is(u32, u32, u32, u32),
-    Cut,
-}
-
-// ---- a sheet
 
 // A record's refusal, passed on.
 fn refused(got: Record) -> Extent
@@ -41,39 +34,40 @@ fn refused(got: Record) -> Extent
 }
 
 // A broken rule's refusal, passed on.
-fn broken(step: Step) -> Extent
-    ensures { λ r. ⌜ r ≡ brokenOf step ⌝ }
+fn broken(judged: Judgement) -> Extent
+    ensures { λ r. ⌜ r ≡ brokenOf judged ⌝ }
 {
-    match step {
-        Step::Next(_) => Extent::Refused(Refusal::Order(0)),
-        Step::Broken(refusal) => Extent::Refused(refusal),
+    match judged {
+        Judgement::Next(_) => Extent::Refused(Refusal::Order(0)),
+        Judgement::Broken(refusal) => Extent::Refused(refusal),
     }
 }
 
+// ---- a sheet
+
 // How many entries and bytes the sheet has that `s` begins with, whatever stands after it; or its refusal.
-pub fn measure(s: &[u8]) -> Extent
+pub fn extent_of_leading_sheet(s: &[u8]) -> Extent
     ensures { λ r. ⌜ r ≡ extentOf (readSheet (now (s .entry))) ⌝ }
 {
-    let mut p = records::begun();
+    let mut p = records::rules::begun();
     let mut at = 0;
     let mut n = 0;
     loop {
-        let Byte::Is(code) = records::byte_at(s, at) else {
+        let Byte::Is(code) = records::bytes::byte_at(s, at) else {
             return Extent::Refused(Refusal::Cut(s.len()));
         };
-        let Named::Is(kind) = records::kind_for(code) else {
+        let Named::Is(kind) = records::kinds::kind_for(code) else {
             return Extent::Refused(Refusal::Kind(at));
         };
-        let shape = records::shape_of(kind);
-        let Body::Is(a, b, c) = records::body_at(s, at, shape) else {
+        let Body::Is(entry) = records::bytes::body_at(s, at, kind) else {
             return Extent::Refused(Refusal::Cut(at));
         };
-        let next = at + records::size_of(shape);
-        let step = records::step_for(p, at, kind, a, b, c);
-        let Step::Next(further) = step else {
-            return broken(step);
+        let judged = records::rules::judge(p, at, true, entry);
+        let Judgement::Next(further) = judged else {
+            return broken(judged);
         };
-        if records::ends(kind) {
+        let next = at + records::kinds::size_of(kind);
+        if records::kinds::is_end(kind) {
             let count = n + 1;
             return Extent::Sheet {
                 entries: count,
@@ -87,10 +81,10 @@ pub fn measure(s: &[u8]) -> Extent
 }
 
 // The same for a sheet that is all of `s`: 9 where bytes follow it.
-pub fn measure_whole(s: &[u8]) -> Extent
+pub fn extent_of_sheet(s: &[u8]) -> Extent
     ensures { λ r. ⌜ r ≡ extentOf (readWhole (now (s .entry))) ⌝ }
 {
-    let found = measure(s);
+    let found = extent_of_leading_sheet(s);
     let Extent::Sheet { entries: _, length } = found else {
         return found;
     };
@@ -100,41 +94,40 @@ pub fn measure_whole(s: &[u8]) -> Extent
     found
 }
 
-// Four numbers at `at`.
-fn store(room: &mut [u32], at: usize, code: u32, a: u32, b: u32, c: u32)
+// The four numbers of an entry at `at`.
+fn put_numbers(room: &mut [u32], at: usize, code: u32, entry: Entry)
     requires { ⌜ at + 4 ≤ length (now room) ⌝ }
-    ensures { λ r. ⌜ now (room .exit) ≡ sets (now (room .entry)) at (code ∷ a ∷ b ∷ c ∷ []) ⌝ }
+    ensures { λ r. ⌜ now (room .exit) ≡ sets (now (room .entry)) at (code ∷ entry .a ∷ entry .b ∷ entry .c ∷ []) ⌝ }
 {
     room[at] = code;
-    room[at + 1] = a;
-    room[at + 2] = b;
-    room[at + 3] = c;
+    room[at + 1] = entry.a;
+    room[at + 2] = entry.b;
+    room[at + 3] = entry.c;
 }
 
 // The entries of the sheet that `s` begins with, into a room that holds them.
-fn fill(s: &[u8], room: &mut [u32])
+fn read_entries(s: &[u8], room: &mut [u32])
     requires { ⌜ RoomFor (readSheet (now s)) (length (now room)) ⌝ }
     ensures { λ r. ⌜ now (room .exit) ≡ filled (readSheet (now (s .entry))) (now (room .entry)) ⌝ }
 {
     let mut at = 0;
     let mut n = 0;
     loop {
-        let Byte::Is(code) = records::byte_at(s, at) else {
+        let Byte::Is(code) = records::bytes::byte_at(s, at) else {
             return;
         };
-        let Named::Is(kind) = records::kind_for(code) else {
+        let Named::Is(kind) = records::kinds::kind_for(code) else {
             return;
         };
-        let shape = records::shape_of(kind);
-        let Body::Is(a, b, c) = records::body_at(s, at, shape) else {
+        let Body::Is(entry) = records::bytes::body_at(s, at, kind) else {
             return;
         };
         let place = n * 4;
-        store(room, place, code, a, b, c);
-        if records::ends(kind) {
+        put_numbers(room, place, code, entry);
+        if records::kinds::is_end(kind) {
             return;
         }
-        at += records::size_of(shape);
+        at += records::kinds::size_of(kind);
         n += 1;
     }
 }
@@ -144,85 +137,66 @@ pub fn read(s: &[u8], room: &mut [u32]) -> Extent
     ensures { λ r. ⌜ r ≡ readInto (length (now (room .entry))) (readWhole (now (s .entry))) ⌝ }
     ensures { λ r. ⌜ now (room .exit) ≡ roomAfter (readWhole (now (s .entry))) (now (room .entry)) ⌝ }
 {
-    let found = measure_whole(s);
+    let found = extent_of_sheet(s);
     let Extent::Sheet { entries, length: _ } = found else {
         return found;
     };
     if room.len() / 4 < entries {
         return Extent::Refused(Refusal::Room(entries));
     }
-    fill(s, room);
+    read_entries(s, room);
     found
 }
 
 // ---- entries handed over
 
-// The n-th four numbers.
-fn numbers_at(l: &[u32], n: usize) -> Four
-    requires { ⌜ n * 4 ≤ length (now l) ⌝ }
-    ensures { λ r. ⌜ r ≡ fourAt (now (l .entry)) n ⌝ }
+// The n-th entry of a list, whose record stands at `at`, and the place after it; or 5 or 6.
+fn handed_at(l: &[u32], n: usize, at: usize) -> Record
+    requires { ⌜ (n * 4 ≤ length (now l)) × (at ≤ n * 17) ⌝ }
+    ensures { λ r. ⌜ r ≡ handedAt (now (l .entry)) n at ⌝ }
 {
     let j = n * 4;
     let left = l.len() - j;
     if left < 4 {
-        return Four::Cut;
+        return Record::Refused(Refusal::Cut(at));
     }
     let code = l[j];
+    let Named::Is(kind) = records::kinds::kind_for(code) else {
+        return Record::Refused(Refusal::Kind(at));
+    };
     let a = l[j + 1];
     let b = l[j + 2];
     let c = l[j + 3];
-    Four::Is(code, a, b, c)
-}
-
-// The n-th entry, whose record stands at `at`, and the place after it; or 5 or 6.
-fn entry_at(l: &[u32], n: usize, at: usize) -> Record
-    requires { ⌜ (n * 4 ≤ length (now l)) × (at ≤ n * 7) ⌝ }
-    ensures { λ r. ⌜ r ≡ entryAt (now (l .entry)) n at ⌝ }
-{
-    let Four::Is(code, a, b, c) = numbers_at(l, n) else {
-        return Record::Refused(Refusal::Cut(at));
+    let next = at + records::kinds::size_of(kind);
+    let entry = Entry {
+        kind,
+        a,
+        b,
+        c,
+        d: 0,
     };
-    let Named::Is(kind) = records::kind_for(code) else {
-        return Record::Refused(Refusal::Kind(at));
-    };
-    let shape = records::shape_of(kind);
-    let size = records::size_of(shape);
-    let entry = records::entry_for(kind, a, b, c);
-    let next = at + size;
     Record::Is(entry, next)
 }
 
-// Whether the n-th entry's numbers are its fields: 0 where its kind uses none.
-fn is_plain(l: &[u32], n: usize, entry: Entry) -> bool
-    requires { ⌜ n * 4 + 4 ≤ length (now l) ⌝ }
-    ensures { λ r. ⌜ r ≡ plainAt (now (l .entry)) n entry ⌝ }
-{
-    let j = n * 4;
-    let fields = records::parts_for(entry);
-    let a = l[j + 1];
-    let b = l[j + 2];
-    let c = l[j + 3];
-    (fields.a == a) & (fields.b == b) & (fields.c == c)
-}
-
 // How many entries and bytes the sheet has that the list begins with; or its refusal.
-pub fn survey(l: &[u32]) -> Extent
+pub fn extent_of_leading_entries(l: &[u32]) -> Extent
     ensures { λ r. ⌜ r ≡ extentOf (listSheet (now (l .entry))) ⌝ }
 {
-    let mut p = records::begun();
+    let mut p = records::rules::begun();
     let mut place = 0;
     let mut n = 0;
     loop {
-        let given = entry_at(l, n, place);
+        let given = handed_at(l, n, place);
         let Record::Is(entry, next) = given else {
             return refused(given);
         };
-        let plain = is_plain(l, n, entry);
-        let step = records::step_by(p, place, plain, entry);
-        let Step::Next(further) = step else {
-            return broken(step);
+        let plain = records::kinds::is_plain(entry);
+        let judged = records::rules::judge(p, place, plain, entry);
+        let Judgement::Next(further) = judged else {
+            return broken(judged);
         };
-        if records::is_end(entry) {
+        let kind = entry.kind;
+        if records::kinds::is_end(kind) {
             let handed = n + 1;
             return Extent::Sheet {
                 entries: handed,
@@ -236,10 +210,10 @@ pub fn survey(l: &[u32]) -> Extent
 }
 
 // The same for a sheet that is all of the list: 9 where numbers follow it.
-pub fn survey_whole(l: &[u32]) -> Extent
+pub fn extent_of_entries(l: &[u32]) -> Extent
     ensures { λ r. ⌜ r ≡ extentOf (listWhole (now (l .entry))) ⌝ }
 {
-    let found = survey(l);
+    let found = extent_of_leading_entries(l);
     let Extent::Sheet { entries, length } = found else {
         return found;
     };
@@ -251,18 +225,19 @@ pub fn survey_whole(l: &[u32]) -> Extent
 }
 
 // The sheet of the entries that the list begins with, into a buffer that holds it.
-fn emit(l: &[u32], buf: &mut [u8])
+fn write_records(l: &[u32], buf: &mut [u8])
     requires { ⌜ BufferFor (listSheet (now l)) (length (now buf)) ⌝ }
     ensures { λ r. ⌜ now (buf .exit) ≡ emitted (listSheet (now (l .entry))) (now (buf .entry)) ⌝ }
 {
     let mut at = 0;
     let mut n = 0;
     loop {
-        let Record::Is(entry, _) = entry_at(l, n, at) else {
+        let Record::Is(entry, _) = handed_at(l, n, at) else {
             return;
         };
-        at = records::put(buf, at, entry);
-        if records::is_end(entry) {
+        at = records::bytes::put(buf, at, entry);
+        let kind = entry.kind;
+        if records::kinds::is_end(kind) {
             return;
         }
         n += 1;
@@ -272,15 +247,15 @@ fn emit(l: &[u32], buf: &mut [u8])
 // Writes the sheet of a list of entries at the buffer's start, and says how long it is; or the refusal, and the buffer as it was.
 pub fn write(l: &[u32], buf: &mut [u8]) -> Extent
     ensures { λ r. ⌜ r ≡ writeInto (length (now (buf .entry))) (listWhole (now (l .entry))) ⌝ }
-    ensures { λ r. ⌜ now (buf .exit) ≡ bufferAfter (listWhole (now (l .entry))) (now (buf .entry)) ⌝ }
+    ensures { λ r. ⌜ now (buf .exit) ≡ bufferAfterList (listWhole (now (l .entry))) (now (buf .entry)) ⌝ }
 {
-    let found = survey_whole(l);
+    let found = extent_of_entries(l);
     let Extent::Sheet { entries: _, length } = found else {
         return found;
     };
     if buf.len() < length {
         return Extent::Refused(Refusal::Room(length));
     }
-    emit(l, buf);
+    write_records(l, buf);
     found
 }

@@ -6,14 +6,14 @@ use Rattle.sheets.proofs.broken.Tie as tie
 enum-told : tie.Need-enum-told
 enum-told c = search needs
 
-enum-known-step : tie.Need-enum-known-step
-enum-known-step c = search needs
+enum-known-judged : tie.Need-enum-known-judged
+enum-known-judged c = search needs
 
 returns : tie.Need-returns
 returns c = rw (c .enum-told .given .1)
 
 returns-2 : tie.Need-returns-2
-returns-2 c = rw (c .before .step .given .1)
+returns-2 c = rw (c .before .judged .given .1)
 
 pub broken-spec : {M : Type 1} → statement M
-broken-spec = tie.close (tie.spec enum-told enum-known-step returns returns-2)
+broken-spec = tie.close (tie.spec enum-told enum-known-judged returns returns-2)

@@ -1,5 +1,5 @@
 -- `sheets::read` meets its contract. Three ways out: refused, too little room, and filled; each is `readInto` and `roomAfter` at what was found.
-use Rattle.sheets.proofs.Passing.{room-for, read-refused, read-short, read-full}
+use Rattle.sheets.proofs.Answers.{room-for, read-refused, read-short, read-full}
 use Rattle.sheets.specs.SheetLaws.{whole-same}
 use Rattle.sheets.specs.Sheets.{extentOf, readWhole}
 use Rattle.sheets.specs.Passes.{filled}
@@ -9,8 +9,8 @@ use borrow.Author.Needs.{needs}
 use Rattle.sheets.proofs.read.Statement.{statement}
 use Rattle.sheets.proofs.read.Tie as tie
 
-measure-whole-requires : tie.Need-measure-whole-requires
-measure-whole-requires c κs = search needs
+extent-of-sheet-requires : tie.Need-extent-of-sheet-requires
+extent-of-sheet-requires c κs = search needs
 
 enum-known-found : tie.Need-enum-known-found
 enum-known-found c = search needs
@@ -19,32 +19,32 @@ enum-told : tie.Need-enum-told
 enum-told c = search needs
 
 found-is : (c : tie.After-known-told) → X.Sheet (c .before .found .given .0 .0) (c .before .found .given .0 .1 .0) ≡ extentOf (readWhole (c .before .before .before .before .before .before .args .s .now))
-found-is c = sym (c .before .found .given .1) ∙ c .before .before .before .measure-whole .ensures
+found-is c = sym (c .before .found .given .1) ∙ c .before .before .before .extent-of-sheet .ensures
 
 returns : tie.Need-returns
-returns c = let told = c .enum-told .given .1 in let x = read-refused (readWhole (c .before .before .before .before .before .args .s .now)) (c .before .before .before .before .before .args .room .now) _ (sym told ∙ c .before .before .measure-whole .ensures) in (told ∙ x .0, x .1)
+returns c = let told = c .enum-told .given .1 in let x = read-refused (readWhole (c .before .before .before .before .before .args .s .now)) (c .before .before .before .before .before .args .room .now) _ (sym told ∙ c .before .before .extent-of-sheet .ensures) in (told ∙ x .0, x .1)
 
 returns-2 : tie.Need-returns-2
 returns-2 c = read-short (readWhole (c .before .before .before .before .before .before .before .args .s .now)) _ _ _ (found-is (c .before)) (c .if1 .taken)
 
-fill-requires : tie.Need-fill-requires
-fill-requires c κs = rw (← whole-same _ _ _ (found-is (c .before .before))) (room-for (readWhole (c .before .before .before .before .before .before .before .before .args .s .now)) _ _ _ (found-is (c .before .before)) (c .before .if1 .left))
+read-entries-requires : tie.Need-read-entries-requires
+read-entries-requires c κs = rw (← whole-same _ _ _ (found-is (c .before .before))) (room-for (readWhole (c .before .before .before .before .before .before .before .before .args .s .now)) _ _ _ (found-is (c .before .before)) (c .before .if1 .left))
 
 same-length : tie.Need-same-length
 same-length c = search needs
 
 returns-3 : tie.Need-returns-3
-returns-3 c = let q = found-is (c .before .before .before .before .before) in read-full (readWhole (c .before .before .before .before .before .before .before .before .before .before .before .args .s .now)) (c .before .before .before .before .before .before .before .before .before .before .before .args .room .now) _ _ _ q (c .before .before .before .before .if1 .left) (c .before .before .fill .ensures ∙ ap (λ w. filled w (c .before .before .before .before .before .before .before .before .before .before .before .args .room .now)) (sym (whole-same _ _ _ q)))
+returns-3 c = let q = found-is (c .before .before .before .before .before) in read-full (readWhole (c .before .before .before .before .before .before .before .before .before .before .before .args .s .now)) (c .before .before .before .before .before .before .before .before .before .before .before .args .room .now) _ _ _ q (c .before .before .before .before .if1 .left) (c .before .before .read-entries .ensures ∙ ap (λ w. filled w (c .before .before .before .before .before .before .before .before .before .before .before .args .room .now)) (sym (whole-same _ _ _ q)))
 
 pub read-spec : {M : Type 1} → statement M
 read-spec =
     tie.close
     (tie.spec
-    measure-whole-requires
+    extent-of-sheet-requires
     enum-known-found
     enum-told
     returns
     returns-2
-    fill-requires
+    read-entries-requires
     same-length
     returns-3)

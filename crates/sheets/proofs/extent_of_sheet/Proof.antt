@@ -1,4 +1,4 @@
--- `sheets::measure_whole` meets its contract. What follows the sheet is refused as `alone` does.
+-- `sheets::extent_of_sheet` meets its contract. What follows the sheet is refused as `alone` does.
 use Rattle.sheets.specs.Sheets.{extentOf, readWhole}
 use Rattle.sheets.specs.declared.Extent.the-variants as X
 use lib.Dec.{ltb}
@@ -7,11 +7,11 @@ use Rattle.sheets.specs.SheetLaws.{aloneX, whole-by}
 use borrow.Author.Tests.{lt-ltb, le-ltb}
 use mathlib.Core.Path.{_≡_, sym, _∙_}
 use borrow.Author.Needs.{needs}
-use Rattle.sheets.proofs.measure_whole.Statement.{statement}
-use Rattle.sheets.proofs.measure_whole.Tie as tie
+use Rattle.sheets.proofs.extent_of_sheet.Statement.{statement}
+use Rattle.sheets.proofs.extent_of_sheet.Tie as tie
 
-measure-requires : tie.Need-measure-requires
-measure-requires c κs = search needs
+extent-of-leading-sheet-requires : tie.Need-extent-of-leading-sheet-requires
+extent-of-leading-sheet-requires c κs = search needs
 
 enum-known-found : tie.Need-enum-known-found
 enum-known-found c = search needs
@@ -20,10 +20,10 @@ enum-told : tie.Need-enum-told
 enum-told c = search needs
 
 returns : tie.Need-returns
-returns c = c .enum-told .given .1 ∙ sym (whole-by _ _ (sym (c .enum-told .given .1) ∙ c .before .before .measure .ensures))
+returns c = c .enum-told .given .1 ∙ sym (whole-by _ _ (sym (c .enum-told .given .1) ∙ c .before .before .extent-of-leading-sheet .ensures))
 
 found-is : (c : tie.After-known-told) → extentOf (readWhole (c .before .before .before .before .before .args .s .now)) ≡ aloneX (λ k n. ltb n (length (c .before .before .before .before .before .args .s .now))) (X.Sheet (c .before .found .given .0 .0) (c .before .found .given .0 .1 .0))
-found-is c = whole-by _ _ (sym (c .before .found .given .1) ∙ c .before .before .before .measure .ensures)
+found-is c = whole-by _ _ (sym (c .before .found .given .1) ∙ c .before .before .before .extent-of-leading-sheet .ensures)
 
 returns-2 : tie.Need-returns-2
 returns-2 c = sym (found-is (c .before) ∙ rw (lt-ltb _ _ (c .if1 .taken)))
@@ -31,6 +31,6 @@ returns-2 c = sym (found-is (c .before) ∙ rw (lt-ltb _ _ (c .if1 .taken)))
 returns-3 : tie.Need-returns-3
 returns-3 c = sym (found-is (c .before) ∙ rw (le-ltb _ _ (c .if1 .left)))
 
-pub measure-whole-spec : {M : Type 1} → statement M
-measure-whole-spec =
-    tie.close (tie.spec measure-requires enum-known-found enum-told returns returns-2 returns-3)
+pub extent-of-sheet-spec : {M : Type 1} → statement M
+extent-of-sheet-spec =
+    tie.close (tie.spec extent-of-leading-sheet-requires enum-known-found enum-told returns returns-2 returns-3)

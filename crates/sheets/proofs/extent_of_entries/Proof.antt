@@ -1,5 +1,5 @@
--- `sheets::survey_whole` meets its contract. What follows the end entry is refused as `alone` does; the list's length over four, rounded up, tells it.
-use Rattle.sheets.specs.HandedLaws.{list-by}
+-- `sheets::extent_of_entries` meets its contract. What follows the end entry is refused as `alone` does; the list's length over four, rounded up, tells it.
+use Rattle.sheets.specs.SheetLaws.{list-by}
 use Rattle.sheets.specs.SheetLaws.{aloneX}
 use Rattle.sheets.specs.Handed.{listWhole}
 use Rattle.sheets.specs.Sheets.{extentOf}
@@ -11,11 +11,11 @@ use Prim.Native.Nat.{_*_}
 use native.Mathlib.Omega.{arith}
 use mathlib.Core.Path.{_≡_, sym, _∙_}
 use borrow.Author.Needs.{needs}
-use Rattle.sheets.proofs.survey_whole.Statement.{statement}
-use Rattle.sheets.proofs.survey_whole.Tie as tie
+use Rattle.sheets.proofs.extent_of_entries.Statement.{statement}
+use Rattle.sheets.proofs.extent_of_entries.Tie as tie
 
-survey-requires : tie.Need-survey-requires
-survey-requires c κs = search needs
+extent-of-leading-entries-requires : tie.Need-extent-of-leading-entries-requires
+extent-of-leading-entries-requires c κs = search needs
 
 enum-known-found : tie.Need-enum-known-found
 enum-known-found c = search needs
@@ -24,13 +24,13 @@ enum-told : tie.Need-enum-told
 enum-told c = search needs
 
 returns : tie.Need-returns
-returns c = c .enum-told .given .1 ∙ sym (list-by _ _ (sym (c .enum-told .given .1) ∙ c .before .before .survey .ensures))
+returns c = c .enum-told .given .1 ∙ sym (list-by _ _ (sym (c .enum-told .given .1) ∙ c .before .before .extent-of-leading-entries .ensures))
 
 add-held : tie.Need-add-held
 add-held c = search needs
 
 found-is : (c : tie.After-known-told) → extentOf (listWhole (c .before .before .before .before .before .args .l .now)) ≡ aloneX (λ k n. ltb (k * 4) (length (c .before .before .before .before .before .args .l .now))) (X.Sheet (c .before .found .given .0 .0) (c .before .found .given .0 .1 .0))
-found-is c = list-by _ _ (sym (c .before .found .given .1) ∙ c .before .before .before .survey .ensures)
+found-is c = list-by _ _ (sym (c .before .found .given .1) ∙ c .before .before .before .extent-of-leading-entries .ensures)
 
 returns-2 : tie.Need-returns-2
 returns-2 c = sym (found-is (c .before) ∙ rw (lt-ltb (c .before .before .found .given .0 .0 * 4) (length (c .before .before .before .before .before .before .args .l .now)) (omega arith)))
@@ -38,7 +38,7 @@ returns-2 c = sym (found-is (c .before) ∙ rw (lt-ltb (c .before .before .found
 returns-3 : tie.Need-returns-3
 returns-3 c = sym (found-is (c .before) ∙ rw (le-ltb (c .before .before .found .given .0 .0 * 4) (length (c .before .before .before .before .before .before .args .l .now)) (omega arith)))
 
-pub survey-whole-spec : {M : Type 1} → statement M
-survey-whole-spec =
+pub extent-of-entries-spec : {M : Type 1} → statement M
+extent-of-entries-spec =
     tie.close
-    (tie.spec survey-requires enum-known-found enum-told returns add-held returns-2 returns-3)
+    (tie.spec extent-of-leading-entries-requires enum-known-found enum-told returns add-held returns-2 returns-3)

@@ -1,10 +1,10 @@
--- `sheets::store` meets its contract. Four stores are `sets` of the four numbers.
+-- `sheets::put_numbers` meets its contract. Four stores are `sets` of the four numbers.
 use lib.ListN.{length-set}
 use native.Mathlib.Numerals.{add-one, add-two, add-three}
 use native.Mathlib.Omega.{arith}
 use borrow.Author.Needs.{needs}
-use Rattle.sheets.proofs.store.Statement.{statement}
-use Rattle.sheets.proofs.store.Tie as tie
+use Rattle.sheets.proofs.put_numbers.Statement.{statement}
+use Rattle.sheets.proofs.put_numbers.Tie as tie
 
 mul-room : tie.Need-mul-room
 mul-room c = search needs
@@ -45,20 +45,5 @@ same-length c = search needs
 returns : tie.Need-returns
 returns c = simp (add-one, add-two, add-three)
 
-pub store-spec : {M : Type 1} → statement M
-store-spec =
-    tie.close
-    (tie.spec
-    mul-room
-    slice-write-room
-    add-room
-    mul-room-2
-    slice-write-room-2
-    add-room-2
-    mul-room-3
-    slice-write-room-3
-    add-room-3
-    mul-room-4
-    slice-write-room-4
-    same-length
-    returns)
+pub put-numbers-spec : {M : Type 1} → statement M
+put-numbers-spec = tie.close (tie.spec mul-room slice-write-room add-room mul-room-2 slice-write-room-2 add-room-2 mul-room-3 slice-write-room-3 add-room-3 mul-room-4 slice-write-room-4 same-length returns)

@@ -1,0 +1,183 @@
+-- `sheets::extent_of_leading_sheet` meets its contract. Byte, kind and body together are the record that stands there (`there`), and its judgement is the rules' answer, so each turn of the loop is one of
+-- the sheet (`Counting`).
+use Rattle.sheets.proofs.Counting.{Counting, count-refused, count-broken, count-end, count-more}
+use Rattle.sheets.specs.Sheets.{storedAt, readSheet}
+use Rattle.sheets.specs.SheetLaws.{read-start, extent-start}
+use Rattle.sheets.specs.Passes.{brokenOf}
+use Rattle.records.specs.Rules.{judgedAs, judgementOf}
+use Rattle.records.specs.RecordLaws.{by-byte, by-kind, by-body, byte-inv, body-inv, read-plain, record-bounds}
+use Rattle.records.specs.Records.{byteAt, bodyAt, recordAt}
+use Rattle.records.specs.Kinds.{kindFor, sizeOf, isEnd, plain}
+use Rattle.records.specs.declared.Entry.{Entry}
+use Rattle.records.specs.declared.Kind.{Kind}
+use Rattle.records.specs.declared.Record.the-variants.{Is}
+use Rattle.records.specs.declared.Judgement.the-variants.{Next}
+use mathlib.Core.Bool.{true}
+use Rattle.records.specs.declared.Byte.the-variants as Byte
+use Rattle.records.specs.declared.Named.the-variants as Named
+use Rattle.records.specs.declared.Body.the-variants as Body
+use lib.ListN.{length}
+use mathlib.Core.List.{List}
+use native.Mathlib.Omega.{arith}
+use Prim.Native.Nat.{ℕ, suc, _+_, _-_, _≤_, _<_}
+use mathlib.Core.Path.{_≡_, sym, ap, _∙_}
+use borrow.Author.Needs.{needs}
+use Rattle.sheets.proofs.extent_of_leading_sheet.Statement.{statement}
+use Rattle.sheets.proofs.extent_of_leading_sheet.Tie as tie
+
+abbrev Inv-loop : tie.InvT-loop
+Inv-loop s p₀ at₀ n₀ p at n = (at ≤ length s) × (n ≤ at) × Counting (storedAt s) (length s) (readSheet s) p n at
+
+abbrev μ-loop : tie.MeasureT-loop
+μ-loop s p₀ at₀ n₀ p at n = length s - at
+
+-- places of the code: before the byte, the kind and the body of a record were read
+abbrev turn : tie.After-known-told Inv-loop μ-loop → tie.At-loop Inv-loop μ-loop
+turn c = c .before .before .before .before
+
+abbrev byted : tie.After-known-told2 Inv-loop μ-loop → tie.After-known-told Inv-loop μ-loop
+byted c = c .before .before .before .before
+
+abbrev named : tie.After-known-told3 Inv-loop μ-loop → tie.After-known-told2 Inv-loop μ-loop
+named c = c .before .before .before .before
+
+abbrev from : tie.After-known-told3 Inv-loop μ-loop → tie.At-loop Inv-loop μ-loop
+from c = turn (byted (named c))
+
+-- the input, the kind, the entry, and the place after it
+abbrev input : tie.At-loop Inv-loop μ-loop → List ℕ
+input c = c .before .before .before .args .s .now
+
+abbrev kind : tie.After-known-told2 Inv-loop μ-loop → Kind
+kind c = c .before .kind .given .0 .0
+
+abbrev entry : tie.After-known-told3 Inv-loop μ-loop → Entry
+entry c = c .before .entry .given .0 .0
+
+abbrev after : tie.After-known-told3 Inv-loop μ-loop → ℕ
+after c = from c .loop .at + sizeOf (kind (named c))
+
+begun-requires : tie.Need-begun-requires Inv-loop μ-loop
+begun-requires c κs = search needs
+
+loop-holds : tie.Need-loop-holds Inv-loop μ-loop
+loop-holds c = (omega arith, omega arith, record { is = rw (c .begun .ensures) (extent-start _ _ (read-start _)) })
+
+byte-at-requires : tie.Need-byte-at-requires Inv-loop μ-loop
+byte-at-requires c κs = search needs
+
+enum-known-code : tie.Need-enum-known-code Inv-loop μ-loop
+enum-known-code c = search needs
+
+enum-told : tie.Need-enum-told Inv-loop μ-loop
+enum-told c = search needs
+
+returns : tie.Need-returns Inv-loop μ-loop
+returns c = count-refused (c .before .before .before .loop .inv .2) _ (sym (by-byte _ _ _ (sym (c .before .before .byte-at .ensures) ∙ c .enum-told .given .1)))
+
+kind-for-requires : tie.Need-kind-for-requires Inv-loop μ-loop
+kind-for-requires c κs = search needs
+
+enum-known-kind : tie.Need-enum-known-kind Inv-loop μ-loop
+enum-known-kind c = search needs
+
+enum-told-2 : tie.Need-enum-told-2 Inv-loop μ-loop
+enum-told-2 c = search needs
+
+-- the record that stands there
+is-byte : (c : tie.After-known-told Inv-loop μ-loop) → byteAt (input (turn c)) (turn c .loop .at) ≡ Byte.Is (c .before .code .given .0 .0)
+is-byte c = sym (c .before .before .before .byte-at .ensures) ∙ c .before .code .given .1
+
+is-kind : (c : tie.After-known-told2 Inv-loop μ-loop) → kindFor (byted c .before .code .given .0 .0) ≡ Named.Is (kind c)
+is-kind c = sym (c .before .before .before .kind-for .ensures) ∙ c .before .kind .given .1
+
+is-body : (c : tie.After-known-told3 Inv-loop μ-loop) → bodyAt (kind (named c)) (input (from c)) (from c .loop .at) ≡ Body.Is (entry c)
+is-body c = sym (c .before .before .before .body-at .ensures) ∙ c .before .entry .given .1
+
+there : (c : tie.After-known-told3 Inv-loop μ-loop) → recordAt (input (from c)) (from c .loop .at) ≡ Is (entry c) (after c)
+there c = sym (by-body _ _ _ _ _ (is-byte (byted (named c))) (is-kind (named c)) (is-body c))
+
+same-kind : (c : tie.After-known-told3 Inv-loop μ-loop) → entry c .kind ≡ kind (named c)
+same-kind c = ap (λ e. e .kind) (body-inv _ _ _ _ (is-body c) .1)
+
+returns-2 : tie.Need-returns-2 Inv-loop μ-loop
+returns-2 c = count-refused (turn (c .before .before .before) .loop .inv .2) _ (sym (by-kind _ _ _ _ (is-byte (c .before .before .before)) (sym (c .before .before .kind-for .ensures) ∙ c .enum-told2 .given .1)))
+
+body-at-requires : tie.Need-body-at-requires Inv-loop μ-loop
+body-at-requires c κs = byte-inv _ _ _ (is-byte (byted c)) .0
+
+enum-known-entry : tie.Need-enum-known-entry Inv-loop μ-loop
+enum-known-entry c = search needs
+
+enum-told-3 : tie.Need-enum-told-3 Inv-loop μ-loop
+enum-told-3 c = search needs
+
+returns-3 : tie.Need-returns-3 Inv-loop μ-loop
+returns-3 c = count-refused (turn (byted (c .before .before .before)) .loop .inv .2) _ (sym (by-body _ _ _ _ _ (is-byte (byted (c .before .before .before))) (is-kind (c .before .before .before)) (sym (c .before .before .body-at .ensures) ∙ c .enum-told3 .given .1)))
+
+judge-requires : tie.Need-judge-requires Inv-loop μ-loop
+judge-requires c κs = search needs
+
+enum-known-judged : tie.Need-enum-known-judged Inv-loop μ-loop
+enum-known-judged c = search needs
+
+enum-told-4 : tie.Need-enum-told-4 Inv-loop μ-loop
+enum-told-4 c = search needs
+
+broken-requires : tie.Need-broken-requires Inv-loop μ-loop
+broken-requires c κs = search needs
+
+-- what is read is plain, so the rules' answer is the judgement
+judgement : (c : tie.After-judge Inv-loop μ-loop)
+    → judgementOf (from (c .before) .loop .p) (from (c .before) .loop .at) (entry (c .before)) ≡ c .judge .result
+judgement c =
+    let a = from (c .before) .loop in
+    let plain-entry : plain (entry (c .before)) ≡ true = ap plain (body-inv _ _ _ _ (is-body (c .before)) .1) ∙ read-plain _ _ _ in
+    ap (λ b. judgedAs b (a .p) (a .at) (entry (c .before))) plain-entry ∙ sym (c .judge .ensures)
+
+abbrev judged : tie.After-known-told4 Inv-loop μ-loop → tie.After-known-told3 Inv-loop μ-loop
+judged c = c .before .before .before .before
+
+took : (c : tie.After-known-told4 Inv-loop μ-loop)
+    → judgementOf (from (judged c) .loop .p) (from (judged c) .loop .at) (entry (judged c)) ≡ Next (c .before .judged .given .0 .0)
+took c = judgement (c .before .before .before) ∙ c .before .judged .given .1
+
+bounds : (c : tie.After-known-told3 Inv-loop μ-loop) → (from c .loop .at < after c) × (after c ≤ length (input (from c)))
+bounds c = record-bounds _ _ _ _ (there c)
+
+ended : (c : tie.After-is-end Inv-loop μ-loop) → isEnd (entry (judged (c .before .before)) .kind) ≡ c .is-end .result
+ended c = ap isEnd (same-kind (judged (c .before .before))) ∙ sym (c .is-end .ensures)
+
+returns-4 : tie.Need-returns-4 Inv-loop μ-loop
+returns-4 c = c .broken .ensures ∙ ap brokenOf (c .before .enum-told4 .given .1) ∙ count-broken (from (c .before .before .before .before) .loop .inv .2) _ _ (there (c .before .before .before .before)) _ (judgement (c .before .before .before) ∙ c .before .enum-told4 .given .1)
+
+size-of-requires : tie.Need-size-of-requires Inv-loop μ-loop
+size-of-requires c κs = search needs
+
+add-next : tie.Need-add-next Inv-loop μ-loop
+add-next c = let b = bounds (judged (c .before)) in let z = c .size-of .ensures .0 in omega (arith, from (judged (c .before)) .before .before .before .good .0 .1)
+
+is-end-requires : tie.Need-is-end-requires Inv-loop μ-loop
+is-end-requires c κs = search needs
+
+add-count : tie.Need-add-count Inv-loop μ-loop
+add-count c = let b = bounds (judged (c .before .before .before)) in omega (arith, from (judged (c .before .before .before)) .loop .inv .1, from (judged (c .before .before .before)) .before .before .before .good .0 .1)
+
+returns-5 : tie.Need-returns-5 Inv-loop μ-loop
+returns-5 c = rw (c .before .before .size-of .ensures .0) (count-end (from (judged (c .before .before .before)) .loop .inv .2) _ _ (there (judged (c .before .before .before))) _ (took (c .before .before .before)) (ended (c .before) ∙ c .if1 .taken))
+
+add-n : tie.Need-add-n Inv-loop μ-loop
+add-n c = let b = bounds (judged (c .before .before .before)) in omega (arith, from (judged (c .before .before .before)) .loop .inv .1, from (judged (c .before .before .before)) .before .before .before .good .0 .1)
+
+loop-less : tie.Need-loop-less Inv-loop μ-loop
+loop-less c = let b = bounds (judged (c .before .before .before)) in let z = c .before .before .size-of .ensures .0 in omega arith
+
+loop-again : tie.Need-loop-again Inv-loop μ-loop
+loop-again c = let b = bounds (judged (c .before .before .before)) in let z = c .before .before .size-of .ensures .0 in (
+  omega arith,
+  omega (arith, from (judged (c .before .before .before)) .loop .inv .1),
+  rw z (count-more (from (judged (c .before .before .before)) .loop .inv .2) _ _ (there (judged (c .before .before .before))) _ (took (c .before .before .before)) (ended (c .before) ∙ c .if1 .left) (omega (arith, from (judged (c .before .before .before)) .loop .inv .1))),
+)
+
+pub extent-of-leading-sheet-spec : {M : Type 1} → statement M
+extent-of-leading-sheet-spec = tie.close (tie.spec Inv-loop μ-loop begun-requires loop-holds byte-at-requires enum-known-code enum-told returns kind-for-requires enum-known-kind enum-told-2 returns-2 body-at-requires enum-known-entry enum-told-3 returns-3 judge-requires enum-known-judged enum-told-4 broken-requires returns-4 size-of-requires add-next is-end-requires add-count returns-5 add-n loop-less loop-again)
