@@ -1,16 +1,71 @@
 // The listing of a sheet as text, as document 01 has it: a line an entry.
 pub mod lines;
 
+use records::Record;
 use records::Refusal;
+use sheets::Extent;
 ghost use mathlib.Core.Path.{_≡_};
 ghost use lib.ListN.{length};
+ghost use Rattle.sheets.specs.Sheets.{readSheet};
 ghost use Rattle.listings.specs.Lines.{refusalLine};
 ghost use Rattle.listings.specs.Answers.{text, answered, roomWith};
+ghost use Rattle.listings.specs.Listings.{listingOf, told};
+ghost use Rattle.listings.specs.ListingLaws.{IsSheet, Laid};
 
 // How many bytes a text has that was written, or why none was.
 pub enum Text {
     Written(usize),
     Refused(Refusal),
+}
+
+// The lines of the sheet that `sheet` begins with, from the room's start on, as far as the room goes.
+fn put_lines(sheet: &[u8], out: &mut [u8]) -> usize
+    requires { ⌜ IsSheet (readSheet (now sheet)) ⌝ }
+    ensures { λ r. ⌜ Laid (readSheet (now (sheet .entry))) (now (out .entry)) (now (out .exit)) r ⌝ }
+{
+    let mut from = 0;
+    let mut at = 0;
+    loop {
+        let Record::Is(entry, next) = records::bytes::record_at(sheet, from) else {
+            return at;
+        };
+        at = lines::put_entry(out, at, entry);
+        let kind = entry.kind;
+        if records::kinds::is_end(kind) {
+            return at;
+        }
+        from = next;
+    }
+}
+
+// The lines of the sheet that `sheet` begins with, where the room holds them.
+fn lay(sheet: &[u8], out: &mut [u8]) -> Text
+    requires { ⌜ IsSheet (readSheet (now sheet)) ⌝ }
+    ensures { λ r. ⌜ r ≡ answered (length (now (out .entry))) (listingOf (readSheet (now (sheet .entry)))) ⌝ }
+    ensures { λ r. ⌜ now (out .exit) ≡ roomWith (listingOf (readSheet (now (sheet .entry)))) (now (out .entry)) ⌝ }
+{
+    let mut none = [0u8; 0];
+    let need = put_lines(sheet, &mut none);
+    if out.len() < need {
+        return Text::Refused(Refusal::Room(need));
+    }
+    put_lines(sheet, out);
+    Text::Written(need)
+}
+
+// The listing of the sheet that `sheet` is, at the room's start, and how long it is; or the refusal, and the room as it was.
+pub fn listing(sheet: &[u8], out: &mut [u8]) -> Text
+    ensures { λ r. ⌜ r ≡ answered (length (now (out .entry))) (told (now (sheet .entry))) ⌝ }
+    ensures { λ r. ⌜ now (out .exit) ≡ roomWith (told (now (sheet .entry))) (now (out .entry)) ⌝ }
+{
+    let found = sheets::extent_of_sheet(sheet);
+    match found {
+        Extent::Refused(refusal) => Text::Refused(refusal),
+        Extent::Sheet {
+            entries: _,
+            length: _,
+        } => lay(sheet, out),
+    }
 }
 
 // The line of a refusal, at the room's start, and how long it is; or 4, and the room as it was.
