@@ -14,6 +14,7 @@ use Rattle.records.specs.Kinds.{isEnd}
 use Rattle.records.specs.Rules.{start, afterOf}
 use Rattle.records.specs.Records.{recordAt}
 use Rattle.records.specs.RecordLaws.{record-bounds}
+use Rattle.records.specs.Refusals.{numberOf, placeOf}
 use Rattle.sheets.specs.declared.Extent.the-variants as X
 use Rattle.sheets.specs.Sheets.{Sheet, sheet, refused, sheetFrom, storedAt, readSheet, readWhole, extentOf}
 use Rattle.sheets.specs.SheetLaws.{read-start, extent-inv, extent-refused, whole-same}
@@ -22,10 +23,10 @@ use Rattle.decimals.specs.Texts.{Put}
 use Rattle.decimals.specs.TextLaws.{put-same, Putting, putting-start, putting-turn, putting-end}
 use Rattle.listings.specs.declared.Text.{Text}
 use Rattle.listings.specs.declared.Text.the-variants as T
-use Rattle.listings.specs.Lines.{lineOf, linesOf}
+use Rattle.listings.specs.Lines.{lineOf, linesOf, refusalLine}
 use Rattle.listings.specs.Answers.{Told, text, answered, roomWith}
 use Rattle.listings.specs.AnswerLaws.{text-short, text-full}
-use Rattle.listings.specs.Listings.{listingOf, told}
+use Rattle.listings.specs.Listings.{listingOf, told, printed}
 
 abbrev pub IsSheet : Sheet → Type 0
 IsSheet (refused r) = ⊥
@@ -166,3 +167,19 @@ pub whole-told : (s : List ℕ) (m n : ℕ) (old new : List ℕ) (r : Text) → 
     → (r ≡ answered (length old) (told s)) × (new ≡ roomWith (told s) old)
 unfolding told
 whole-told s m n old new r q a b = rw (whole-same s m n q) (a, b)
+
+-- ---- what is printed
+
+pub refused-printed : (s : List ℕ) (r : Refusal) (old new : List ℕ) (q : ℕ) → X.Refused r ≡ extentOf (readWhole s)
+    → Put old 0 (refusalLine (numberOf r) (placeOf r)) new q → Put old 0 (printed (told s)) new q
+unfolding told
+refused-printed s r old new q x p = rw (extent-refused (readWhole s) r x) p
+
+pub sheet-printed : (s : List ℕ) (m n : ℕ) (old new : List ℕ) (q : ℕ) → X.Sheet m n ≡ extentOf (readWhole s) → Laid (readSheet s) old new q
+    → Put old 0 (printed (told s)) new q
+unfolding told
+sheet-printed s m n old new q x p = rw (whole-same s m n x) (by (readSheet s) p)
+  where
+    by : (w : Sheet) → Laid w old new q → Put old 0 (printed (listingOf w)) new q
+    by (refused r) p = absurd p
+    by (sheet es k) p = p

@@ -7,9 +7,11 @@ use sheets::Extent;
 ghost use mathlib.Core.Path.{_≡_};
 ghost use lib.ListN.{length};
 ghost use Rattle.sheets.specs.Sheets.{readSheet};
+ghost use Rattle.records.specs.Refusals.{numberOf, placeOf};
+ghost use Rattle.decimals.specs.Texts.{Put};
 ghost use Rattle.listings.specs.Lines.{refusalLine};
 ghost use Rattle.listings.specs.Answers.{text, answered, roomWith};
-ghost use Rattle.listings.specs.Listings.{listingOf, told};
+ghost use Rattle.listings.specs.Listings.{listingOf, told, printed};
 ghost use Rattle.listings.specs.ListingLaws.{IsSheet, Laid};
 
 // How many bytes a text has that was written, or why none was.
@@ -65,6 +67,29 @@ pub fn listing(sheet: &[u8], out: &mut [u8]) -> Text
             entries: _,
             length: _,
         } => lay(sheet, out),
+    }
+}
+
+fn put_refused(refusal: Refusal, out: &mut [u8]) -> usize
+    ensures { λ r. ⌜ Put (now (out .entry)) 0 (refusalLine (numberOf refusal) (placeOf refusal)) (now (out .exit)) r ⌝ }
+{
+    let number = records::number_of(refusal) as u64;
+    let place = records::place_of(refusal) as u64;
+    lines::put_refusal_line(out, number, place)
+}
+
+// What program `listing` prints of some bytes: the listing of the sheet that they are, or the line of their refusal. From the room's start
+// on, as far as the room goes; and the place after it.
+pub fn put_listing(sheet: &[u8], out: &mut [u8]) -> usize
+    ensures { λ r. ⌜ Put (now (out .entry)) 0 (printed (told (now (sheet .entry)))) (now (out .exit)) r ⌝ }
+{
+    let found = sheets::extent_of_sheet(sheet);
+    match found {
+        Extent::Refused(refusal) => put_refused(refusal, out),
+        Extent::Sheet {
+            entries: _,
+            length: _,
+        } => put_lines(sheet, out),
     }
 }
 
