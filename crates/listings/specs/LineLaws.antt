@@ -6,11 +6,14 @@ use lib.IntN.{ℤ}
 use lib.ListN.{length}
 use Rattle.records.specs.declared.Kind.{Kind}
 use Rattle.records.specs.declared.Entry.{Entry}
-use Rattle.decimals.specs.Decimals.{decimal}
+use Rattle.records.specs.declared.Refusal.{Refusal}
+use Rattle.records.specs.Refusals.{numberOf, placeOf}
+use Rattle.sheets.specs.declared.Extent.{Extent}
+use Rattle.sheets.specs.declared.Extent.the-variants as X
 use Rattle.decimals.specs.Texts.{letters, Put}
 use Rattle.decimals.specs.TextLaws.{put-then}
 use Rattle.decimals.specs.Patterns.{filled}
-use Rattle.listings.specs.Lines.{lineFor, lineOf, refusalText, refusalLine}
+use Rattle.listings.specs.Lines.{lineFor, lineOf, two, refusalText, refusalLine, extentText}
 
 -- a pattern filled with the same numbers
 module _ (s old : List ℕ) (at : ℕ) (new : List ℕ) (r : ℕ) where
@@ -38,9 +41,19 @@ unfolding lineOf
 put-kind e k q old at new r p = rw q p
 
 pub put-refused : (number place : ℕ) (old : List ℕ) (at : ℕ) (new : List ℕ) (r : ℕ)
-    → Put old at (letters "refused " ++ decimal number ++ letters " " ++ decimal place) new r → Put old at (refusalText number place) new r
+    → Put old at (two (letters "refused ") number place) new r → Put old at (refusalText number place) new r
 unfolding refusalText
 put-refused number place old at new r p = p
+
+module _ (x : Extent) (old : List ℕ) (at : ℕ) (new : List ℕ) (r : ℕ) where
+  pub put-sheet : (entries n : ℕ) → x ≡ X.Sheet entries n → Put old at (two (letters "sheet ") entries n) new r → Put old at (extentText x) new r
+  unfolding extentText
+  put-sheet entries n q p = rw q p
+
+  pub put-refused-extent : (f : Refusal) (number place : ℕ) → x ≡ X.Refused f → number ≡ numberOf f → place ≡ placeOf f
+      → Put old at (refusalText number place) new r → Put old at (extentText x) new r
+  unfolding extentText
+  put-refused-extent f number place q n m p = rw (q, ← n, ← m) p
 
 pub put-refusal-end : (number place : ℕ) (old mid new : List ℕ) (r q : ℕ) → length old < 18446744073709551616
     → Put old 0 (refusalText number place) mid r → Put mid r (letters "\n") new q → Put old 0 (refusalLine number place) new q

@@ -10,6 +10,9 @@ use Rattle.records.specs.declared.Kind.{Kind}
 use Rattle.records.specs.declared.Kind.the-variants.{Head, Enter, Leave, Graze, Open, Closest, End}
 use Rattle.records.specs.declared.Entry.{Entry}
 use Rattle.records.specs.StoredSeconds.{secondOf}
+use Rattle.records.specs.Refusals.{numberOf, placeOf}
+use Rattle.sheets.specs.declared.Extent.{Extent}
+use Rattle.sheets.specs.declared.Extent.the-variants as X
 use Rattle.decimals.specs.Decimals.{decimal}
 use Rattle.decimals.specs.Texts.{letters}
 use Rattle.decimals.specs.Patterns.{filled}
@@ -52,9 +55,18 @@ unfoldable pub linesOf : List Entry → List ℕ
 linesOf [] = []
 linesOf (e ∷ es) = lineOf e ++ linesOf es
 
+-- a word and two numbers
+abbrev pub two : List ℕ → ℕ → ℕ → List ℕ
+two word x y = word ++ decimal x ++ letters " " ++ decimal y
+
 -- "A refusal prints `refused`, number, place."
 unfoldable pub refusalText : ℕ → ℕ → List ℕ
-refusalText number place = letters "refused " ++ decimal number ++ letters " " ++ decimal place
+refusalText number place = two (letters "refused ") number place
 
 unfoldable pub refusalLine : ℕ → ℕ → List ℕ
 refusalLine number place = refusalText number place ++ letters "\n"
+
+-- what a reader or a writer answers, in the programs that print it: how many entries and bytes, or the refusal
+unfoldable pub extentText : Extent → List ℕ
+extentText (X.Sheet entries n) = two (letters "sheet ") entries n
+extentText (X.Refused r) = refusalText (numberOf r) (placeOf r)

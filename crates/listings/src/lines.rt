@@ -3,9 +3,10 @@
 use phases::Phase;
 use records::Entry;
 use records::Kind;
+use sheets::Extent;
 ghost use mathlib.Core.List.{_++_};
 ghost use Rattle.decimals.specs.Texts.{letters, Put};
-ghost use Rattle.listings.specs.Lines.{nameOf, headLine, contactLine, unsureLine, closestLine, lineOf, refusalText, refusalLine};
+ghost use Rattle.listings.specs.Lines.{nameOf, headLine, contactLine, unsureLine, closestLine, lineOf, two, refusalText, refusalLine, extentText};
 
 fn put_phase(out: &mut [u8], at: usize, phase: Phase) -> usize
     ensures { λ r. ⌜ Put (now (out .entry)) at (letters (nameOf phase)) (now (out .exit)) r ⌝ }
@@ -89,14 +90,21 @@ pub fn put_entry(out: &mut [u8], at: usize, entry: Entry) -> usize
     }
 }
 
+// A word and two numbers.
+fn put_two(out: &mut [u8], at: usize, word: &[u8], x: u64, y: u64) -> usize
+    ensures { λ r. ⌜ Put (now (out .entry)) at (two (now (word .entry)) x y) (now (out .exit)) r ⌝ }
+{
+    let first = decimals::put_text(out, at, word);
+    let middle = decimals::put_number(out, first, x);
+    let second = decimals::put_byte(out, middle, b' ');
+    decimals::put_number(out, second, y)
+}
+
 // "A refusal prints `refused`, number, place.", without the end of its line.
 pub fn put_refusal(out: &mut [u8], at: usize, number: u64, place: u64) -> usize
     ensures { λ r. ⌜ Put (now (out .entry)) at (refusalText number place) (now (out .exit)) r ⌝ }
 {
-    let first = decimals::put_text(out, at, b"refused ");
-    let middle = decimals::put_number(out, first, number);
-    let second = decimals::put_byte(out, middle, b' ');
-    decimals::put_number(out, second, place)
+    put_two(out, at, b"refused ", number, place)
 }
 
 // The same as a line of its own, at the room's start.
@@ -105,4 +113,24 @@ pub fn put_refusal_line(out: &mut [u8], number: u64, place: u64) -> usize
 {
     let end = put_refusal(out, 0, number, place);
     decimals::put_byte(out, end, b'\n')
+}
+
+// What a reader or a writer answered: how many entries and bytes, or the refusal.
+pub fn put_extent(out: &mut [u8], at: usize, extent: Extent) -> usize
+    ensures { λ r. ⌜ Put (now (out .entry)) at (extentText extent) (now (out .exit)) r ⌝ }
+{
+    match extent {
+        Extent::Sheet { entries, length } => put_two(
+            out,
+            at,
+            b"sheet ",
+            entries as u64,
+            length as u64,
+        ),
+        Extent::Refused(refusal) => {
+            let number = records::number_of(refusal) as u64;
+            let place = records::place_of(refusal) as u64;
+            put_refusal(out, at, number, place)
+        }
+    }
 }

@@ -1,43 +1,21 @@
--- `listings::lines::put_refusal` meets its contract: the word, the number and the place, one after the other.
-use native.Mathlib.Omega.{arith}
-use Rattle.listings.specs.LineLaws.{four, put-refused}
+-- `listings::lines::put_refusal` meets its contract: the word, the number and the place.
+use Rattle.listings.specs.LineLaws.{put-refused}
 use borrow.Author.Needs.{needs}
 use Rattle.listings.proofs.lines.put_refusal.Statement.{statement}
 use Rattle.listings.proofs.lines.put_refusal.Tie as tie
 
-slice-aggregate-put-text : tie.Need-slice-aggregate-put-text
-slice-aggregate-put-text c = search needs
+slice-aggregate-put-two : tie.Need-slice-aggregate-put-two
+slice-aggregate-put-two c = search needs
 
-put-text-requires : tie.Need-put-text-requires
-put-text-requires c κs = search needs
-
-put-number-requires : tie.Need-put-number-requires
-put-number-requires c κs = search needs
-
-put-byte-requires : tie.Need-put-byte-requires
-put-byte-requires c κs = search needs
-
-put-number-requires-2 : tie.Need-put-number-requires-2
-put-number-requires-2 c κs = search needs
+put-two-requires : tie.Need-put-two-requires
+put-two-requires c κs = search needs
 
 same-length : tie.Need-same-length
 same-length c = search needs
 
 returns : tie.Need-returns
-returns c =
-    let middle = c .before .before .before .before .before .before in
-    put-refused _ _ _ _ _ _
-    (four _ _ _ _ _ _ _ _ _ _ _ _ _ _ (omega arith) (middle .before .before .before .before .before .before .before .before .put-text .ensures) (middle .before .before .before .before .put-number .ensures)
-    (middle .put-byte .ensures) (c .before .before .put-number2 .ensures))
+returns c = put-refused _ _ _ _ _ _ (c .before .before .put-two .ensures)
 
 pub put-refusal-spec : {M : Type 1} → statement M
 put-refusal-spec =
-    tie.close
-    (tie.spec
-    slice-aggregate-put-text
-    put-text-requires
-    put-number-requires
-    put-byte-requires
-    put-number-requires-2
-    same-length
-    returns)
+    tie.close (tie.spec slice-aggregate-put-two put-two-requires same-length returns)

@@ -16,7 +16,7 @@ same-length : tie.Need-same-length
 same-length c = search needs
 
 returns : tie.Need-returns
-returns c = 
+returns c =
     let done = c .before .before .before .listing in
     let e = c .listing-reply .ensures ∙ ap listingReply (done .ensures .0) in
     (ap (λ (x : Reply). x .number) e, (ap (λ (x : Reply). x .value) e, done .ensures .1))
