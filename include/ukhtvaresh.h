@@ -105,6 +105,11 @@ uint64_t ukhtvaresh_read(const uint8_t *sheet, size_t sheet_len, uint32_t *entri
 uint64_t ukhtvaresh_write(const uint32_t *entries, size_t entries_len, uint8_t *sheet, size_t sheet_len,
                           uint64_t *value);
 
+/* The listing of a sheet, at the start of `text`: a line for each entry but the end, each with its end of line, no
+ * null byte after the last. *value: its length in bytes.
+ * Refusals: those of ukhtvaresh_read, but for 4 the length that the text needs. */
+uint64_t ukhtvaresh_listing(const uint8_t *sheet, size_t sheet_len, uint8_t *text, size_t text_len, uint64_t *value);
+
 #ifdef __cplusplus
 }
 #endif

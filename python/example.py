@@ -6,6 +6,6 @@ import ukhtvaresh
 
 request = (Path(__file__).resolve().parent.parent / "examples" / "moscow1954.bin").read_bytes()
 try:
-    print(ukhtvaresh.listing(ukhtvaresh.read(ukhtvaresh.sheet(request))), end="")
+    print(ukhtvaresh.listing(ukhtvaresh.sheet(request)), end="")
 except ukhtvaresh.Refused as refused:
     print(refused)

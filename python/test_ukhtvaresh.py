@@ -118,12 +118,21 @@ class Case(unittest.TestCase):
 class Sheets(Case):
     def test_hand_worked_sheet(self):
         self.assertEqual(read(sheet(HAND_WORKED.to_bytes())), ENTRIES)
-        self.assertEqual(listing(ENTRIES), LISTING)
+        self.assertEqual(listing(write(ENTRIES)), LISTING)
 
     def test_real_eclipses(self):
         for name in ("moscow1954", "kiev1954"):
-            entries = read(sheet(example(name + ".bin")))
-            self.assertEqual(listing(entries), example(name + ".listing").decode())
+            found = listing(sheet(example(name + ".bin")))
+            self.assertEqual(found, example(name + ".listing").decode())
+
+    def test_listings_and_their_refusals(self):
+        stored = write(ENTRIES)
+        self.refuses(6, 42, listing, stored[:42])
+        self.refuses(9, 43, listing, stored + b"\0")
+        unsure = [Head(999, 5400, 5402), Open(PENUMBRA, 5400, 5401), Closest(5400, 0), End()]
+        self.assertEqual(
+            listing(write(unsure)), "station 999 from 5400 to 5402\nopen penumbra 5400 5401\nclosest 5400 0\n"
+        )
 
     def test_open_at_the_windows_end(self):
         for last, to in ((5400, 5400), (5402, 5401)):

@@ -1,8 +1,9 @@
 """Local circumstances of a solar eclipse in whole numbers, from a proved library.
 
 From the elements of an eclipse, a station and a window of seconds, `sheet` makes the station's contact sheet; `read`
-takes a sheet apart, `write` puts entries together as one, and `second` gives the shadow at one second. Each is a thin
-call of the proved function of the same name in libukhtvaresh.so, which the script `build` makes.
+takes a sheet apart, `write` puts entries together as one, `listing` gives a sheet as text, and `second` the shadow at
+one second. Each is a thin call of the proved function of the same name in libukhtvaresh.so, which the script `build`
+makes.
 
 Lengths are in 10^-8 of the Earth's equatorial radius, angles in 10^-6 degree, times in whole seconds from the
 reference instant. East longitude is positive. "Document 01" is the paper whose rules the library keeps.
@@ -138,13 +139,10 @@ class Phase(Enum):
     PENUMBRA = "penumbra"
     CENTRAL = "central"
 
-    def __str__(self) -> str:
-        return self.value
-
 
 # Seconds count from the reference instant. A direction is in tenths of a degree, north through east, 0 to 3,599; None
 # where the axis goes through the station. `from_` is from, which Python keeps for itself. Enter, leave, graze and open
-# are document 01's words. str() of an entry is its line in a listing.
+# are document 01's words.
 
 
 @dataclass(frozen=True)
@@ -154,9 +152,6 @@ class Head:
     station: int
     first: int
     last: int
-
-    def __str__(self) -> str:
-        return f"station {self.station} from {self.first} to {self.last}"
 
 
 @dataclass(frozen=True)
@@ -168,9 +163,6 @@ class Enter:
     to: int
     direction: Optional[int]
 
-    def __str__(self) -> str:
-        return f"enter {self.phase} {self.from_} {self.to} {_shown(self.direction)}"
-
 
 @dataclass(frozen=True)
 class Leave:
@@ -181,9 +173,6 @@ class Leave:
     to: int
     direction: Optional[int]
 
-    def __str__(self) -> str:
-        return f"leave {self.phase} {self.from_} {self.to} {_shown(self.direction)}"
-
 
 @dataclass(frozen=True)
 class Graze:
@@ -192,9 +181,6 @@ class Graze:
     phase: Phase
     from_: int
     to: int
-
-    def __str__(self) -> str:
-        return f"graze {self.phase} {self.from_} {self.to}"
 
 
 @dataclass(frozen=True)
@@ -205,9 +191,6 @@ class Open:
     from_: int
     to: int
 
-    def __str__(self) -> str:
-        return f"open {self.phase} {self.from_} {self.to}"
-
 
 @dataclass(frozen=True)
 class Closest:
@@ -216,16 +199,10 @@ class Closest:
     second: int
     magnitude: int
 
-    def __str__(self) -> str:
-        return f"closest {self.second} {self.magnitude}"
-
 
 @dataclass(frozen=True)
 class End:
     """The end of the sheet."""
-
-    def __str__(self) -> str:
-        return "end"
 
 
 Entry = Union[Head, Enter, Leave, Graze, Open, Closest, End]
@@ -253,10 +230,6 @@ def _tenths(direction: Optional[int]) -> int:
 
 def _direction(tenths: int) -> Optional[int]:
     return None if tenths == _NONE else tenths
-
-
-def _shown(direction: Optional[int]) -> int:
-    return _NONE if direction is None else direction
 
 
 def _numbers(entry: Entry) -> List[int]:
@@ -329,7 +302,8 @@ def _load() -> ctypes.CDLL:
     library.ukhtvaresh_second.argtypes = [data, length, ctypes.c_int64, room, length, value]
     library.ukhtvaresh_read.argtypes = [data, length, room, length, value]
     library.ukhtvaresh_write.argtypes = [room, length, room, length, value]
-    for name in ("sheet", "second", "read", "write"):
+    library.ukhtvaresh_listing.argtypes = [data, length, room, length, value]
+    for name in ("sheet", "second", "read", "write", "listing"):
         getattr(library, "ukhtvaresh_" + name).restype = ctypes.c_uint64
     return library
 
@@ -355,7 +329,7 @@ def _lent(buffer):
 
 
 def _whole(fill: Callable[[bytearray], int]) -> bytes:
-    """What `fill` writes, at its exact length. Few sheets pass 128 bytes; for those refusal 4 tells the length."""
+    """What `fill` writes, at its exact length. Few sheets pass 128 bytes; else refusal 4 tells the length."""
     buffer = bytearray(128)
     try:
         length = fill(buffer)
@@ -426,6 +400,7 @@ def write(entries: Iterable[Entry]) -> bytes:
     return _whole(lambda buffer: write_into(entries, buffer))
 
 
-def listing(entries: Iterable[Entry]) -> str:
-    """The listing of a sheet's entries, as program `sheet` prints it: a line for each, the end left out."""
-    return "".join(f"{entry}\n" for entry in entries if not isinstance(entry, End))
+def listing(sheet: bytes) -> str:
+    """The listing of a sheet, as program `listing` prints it: a line for each entry but the end. Refusals as read."""
+    sheet = bytes(sheet)
+    return _whole(lambda buffer: _call("listing", sheet, len(sheet), *_lent(buffer))).decode("ascii")

@@ -1,5 +1,3 @@
-use std::fmt;
-
 /// The shadow that an entry is about.
 #[derive(Clone, Copy, Debug, PartialEq, Eq, Hash)]
 pub enum Phase {
@@ -144,34 +142,6 @@ impl Entry {
             0x30 => Entry::Closest { second: second(a), magnitude: b },
             0x7F => Entry::End,
             _ => unreachable!("the library gives only kinds of the table"),
-        }
-    }
-}
-
-impl fmt::Display for Phase {
-    fn fmt(&self, f: &mut fmt::Formatter<'_>) -> fmt::Result {
-        f.write_str(match self {
-            Phase::Penumbra => "penumbra",
-            Phase::Central => "central",
-        })
-    }
-}
-
-/// The entry's line in a listing, as program `sheet` prints it; `end` for the end, which a listing leaves out.
-impl fmt::Display for Entry {
-    fn fmt(&self, f: &mut fmt::Formatter<'_>) -> fmt::Result {
-        match *self {
-            Entry::Head { station, first, last } => write!(f, "station {station} from {first} to {last}"),
-            Entry::Enter { phase, from, to, direction } => {
-                write!(f, "enter {phase} {from} {to} {}", direction.map_or(NONE, u32::from))
-            }
-            Entry::Leave { phase, from, to, direction } => {
-                write!(f, "leave {phase} {from} {to} {}", direction.map_or(NONE, u32::from))
-            }
-            Entry::Graze { phase, from, to } => write!(f, "graze {phase} {from} {to}"),
-            Entry::Open { phase, from, to } => write!(f, "open {phase} {from} {to}"),
-            Entry::Closest { second, magnitude } => write!(f, "closest {second} {magnitude}"),
-            Entry::End => f.write_str("end"),
         }
     }
 }

@@ -1,4 +1,4 @@
-// The library's four functions. All `unsafe` of this crate is here.
+// The library's five functions. All `unsafe` of this crate is here.
 //
 // Each function reads and writes only within the lengths it is given and keeps no pointer (include/ukhtvaresh.h).
 // It asks for pointers that are not null and for written memory that overlaps nothing else; a slice's pointer is
@@ -34,6 +34,13 @@ extern "C" {
         entries_len: usize,
         sheet: *mut u8,
         sheet_len: usize,
+        value: *mut u64,
+    ) -> u64;
+    fn ukhtvaresh_listing(
+        sheet: *const u8,
+        sheet_len: usize,
+        text: *mut u8,
+        text_len: usize,
         value: *mut u64,
     ) -> u64;
 }
@@ -87,5 +94,13 @@ pub fn write(entries: &[u32], sheet: &mut [u8]) -> Result<usize, Refusal> {
     let number = unsafe {
         ukhtvaresh_write(entries.as_ptr(), entries.len(), sheet.as_mut_ptr(), sheet.len(), &mut value)
     };
+    answer(number, value)
+}
+
+pub fn listing(sheet: &[u8], text: &mut [u8]) -> Result<usize, Refusal> {
+    let mut value = 0;
+    // SAFETY: as in `sheet`.
+    let number =
+        unsafe { ukhtvaresh_listing(sheet.as_ptr(), sheet.len(), text.as_mut_ptr(), text.len(), &mut value) };
     answer(number, value)
 }

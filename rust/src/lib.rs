@@ -1,14 +1,15 @@
 //! Local circumstances of a solar eclipse in whole numbers, from a proved library.
 //!
 //! From the elements of an eclipse, a station and a window of seconds, [`sheet`] makes the station's contact sheet;
-//! [`read`] takes a sheet apart, [`write()`] puts entries together as one, and [`second`] gives the shadow at one
-//! second. Each is a thin call of the proved function of the same name in `libukhtvaresh.a`.
+//! [`read`] takes a sheet apart, [`write()`] puts entries together as one, [`listing`] gives a sheet as text, and
+//! [`second`] the shadow at one second. Each is a thin call of the proved function of the same name in
+//! `libukhtvaresh.a`.
 //!
 //! Lengths are in 10^-8 of the Earth's equatorial radius, angles in 10^-6 degree, times in whole seconds from the
 //! reference instant. East longitude is positive. "Document 01" is the paper whose rules the library keeps.
 //!
 //! ```
-//! use ukhtvaresh::{read, sheet_vec, Elements, Entry, Phase, Request, Station, Window};
+//! use ukhtvaresh::{listing, read, sheet_vec, Elements, Entry, Phase, Request, Station, Window};
 //!
 //! // An axis that crosses the north pole at the reference instant.
 //! let request = Request {
@@ -31,9 +32,7 @@
 //!     entries[1],
 //!     Entry::Enter { phase: Phase::Penumbra, from: -5401, to: -5399, direction: Some(2700) }
 //! );
-//! for entry in &entries {
-//!     println!("{entry}"); // station 7 from -6000 to 6000, and so on
-//! }
+//! print!("{}", listing(&sheet)?); // station 7 from -6000 to 6000, and so on
 //! # Ok::<(), ukhtvaresh::Refusal>(())
 //! ```
 
@@ -144,9 +143,10 @@ pub fn write_vec(entries: &[Entry]) -> Result<Vec<u8>, Refusal> {
     whole(|buffer| ffi::write(&numbers, buffer))
 }
 
-/// The listing of a sheet's entries, as program `sheet` prints it: a line for each, the end left out.
-pub fn listing(entries: &[Entry]) -> String {
-    entries.iter().filter(|entry| **entry != Entry::End).map(|entry| format!("{entry}\n")).collect()
+/// The listing of a sheet, as program `listing` prints it: a line for each entry but the end. Refusals as [`read`].
+pub fn listing(sheet: &[u8]) -> Result<String, Refusal> {
+    let text = whole(|buffer| ffi::listing(sheet, buffer))?;
+    Ok(String::from_utf8(text).expect("words, digits, spaces and ends of lines"))
 }
 
 fn numbers(entries: &[Entry]) -> Vec<u32> {
@@ -161,8 +161,8 @@ fn state(number: i64) -> State {
     }
 }
 
-// What `fill` writes, at its exact length. A sheet seldom has more than six entries, 43 bytes; where it has, refusal 4
-// tells the length.
+// What `fill` writes, at its exact length. A sheet seldom has more than six entries, 43 bytes; where it has, and for a
+// listing, refusal 4 tells the length.
 fn whole(fill: impl Fn(&mut [u8]) -> Result<usize, Refusal>) -> Result<Vec<u8>, Refusal> {
     let mut bytes = vec![0; 128];
     let length = match fill(&mut bytes) {

@@ -77,16 +77,15 @@ fn refused(request: &[u8]) -> Refusal {
 #[test]
 fn hand_worked_sheet() {
     assert_eq!(entries_of(&hand_worked()), entries());
-    assert_eq!(listing(&entries()), LISTING);
+    assert_eq!(listing(&sheet_vec(&bytes(&hand_worked())).expect("a sheet")), Ok(LISTING.to_string()));
 }
 
 #[test]
 fn real_eclipses() {
     for name in ["moscow1954", "kiev1954"] {
         let request = example(&format!("{name}.bin"));
-        let found = read(&sheet_vec(&request).expect("a sheet")).expect("entries");
-        let expected = String::from_utf8(example(&format!("{name}.listing"))).expect("text");
-        assert_eq!(listing(&found), expected);
+        let found = listing(&sheet_vec(&request).expect("a sheet")).expect("a listing");
+        assert_eq!(found.as_bytes(), example(&format!("{name}.listing")));
     }
 }
 
@@ -121,6 +120,23 @@ fn bytes_past_the_sheet_are_kept() {
     let mut buffer = [0xA5; 64];
     assert_eq!(write(&entries(), &mut buffer), Ok(43));
     assert_eq!(buffer[43..], [0xA5; 21]);
+}
+
+#[test]
+fn listings_and_their_refusals() {
+    let stored = write_vec(&entries()).expect("a sheet");
+    assert_eq!(listing(&stored[..42]), Err(read(&stored[..42]).expect_err("a refusal")));
+    let mut after = stored.clone();
+    after.push(0);
+    assert_eq!(listing(&after), Err(read(&after).expect_err("a refusal")));
+    let unsure = [
+        Entry::Head { station: 999, first: 5400, last: 5402 },
+        Entry::Open { phase: Penumbra, from: 5400, to: 5401 },
+        Entry::Closest { second: 5400, magnitude: 0 },
+        Entry::End,
+    ];
+    let expected = "station 999 from 5400 to 5402\nopen penumbra 5400 5401\nclosest 5400 0\n";
+    assert_eq!(listing(&write_vec(&unsure).expect("a sheet")), Ok(expected.to_string()));
 }
 
 // ---- requests refused

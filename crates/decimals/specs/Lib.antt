@@ -1,4 +1,7 @@
 pub mod Decimals
 pub mod DecimalLaws
-pub mod Puts
-pub mod PutLaws
+pub mod Texts
+pub mod TextLaws
+pub mod Patterns
+pub mod PatternLaws
+pub mod Examples

@@ -3,39 +3,52 @@
 // The buffers hold 170 before the call.
 use libc::STDIN_FILENO;
 use libc::STDOUT_FILENO;
+use sheets::Extent;
 ghost use Prim.Native.Nat.{_+_, _*_, _≤_, _<_};
 ghost use lib.ListN.{length};
 
-fn wide(x: u8) -> u64 {
-    x as u64
+// A byte in hexadecimal after a space, two digits.
+fn put_hex(out: &mut [u8], at: usize, x: u8) -> usize {
+    let next = decimals::put_byte(out, at, b' ');
+    let low = decimals::put_byte(out, next, digit(x / 16));
+    decimals::put_byte(out, low, digit(x % 16))
 }
 
-fn print_byte(bytes: &[u8], at: usize) {
-    if at < bytes.len() {
-        printing::print(b" ");
-        io::print_hex(STDOUT_FILENO, wide(bytes[at]), 2);
+fn digit(x: u8) -> u8 {
+    if x < 10 {
+        return 48 + x;
     }
-}
-
-fn print_bytes(bytes: &[u8]) {
-    let mut at = 0;
-    while at < bytes.len() {
-        print_byte(bytes, at);
-        at += 1;
+    if x < 16 {
+        return 87 + x;
     }
-    printing::end_line();
+    b'?'
 }
 
-fn print_list(list: &[u32]) {
+// Bytes in hexadecimal, a line.
+fn put_bytes(out: &mut [u8], start: usize, bytes: &[u8]) -> usize {
+    let mut at = start;
+    let mut i = 0;
+    while i < bytes.len() {
+        at = put_hex(out, at, bytes[i]);
+        i += 1;
+    }
+    decimals::put_byte(out, at, b'\n')
+}
+
+// A word, then an answer.
+fn put_answer(out: &mut [u8], at: usize, word: &[u8], answer: Extent) -> usize {
+    let next = decimals::put_text(out, at, word);
+    listings::lines::put_extent(out, next, answer)
+}
+
+fn put_list(out: &mut [u8], start: usize, list: &[u32]) -> usize {
     let mut space = [170u8; 256];
     let mut short = [170u8; 20];
-    printing::print(b"written");
-    listings::print_extent(sheets::write(list, &mut space));
-    printing::print(b" short");
-    listings::print_extent(sheets::write(list, &mut short));
-    printing::end_line();
-    print_bytes(&space);
-    print_bytes(&short);
+    let middle = put_answer(out, start, b"written ", sheets::write(list, &mut space));
+    let end = put_answer(out, middle, b" short ", sheets::write(list, &mut short));
+    let line = decimals::put_byte(out, end, b'\n');
+    let next = put_bytes(out, line, &space);
+    put_bytes(out, next, &short)
 }
 
 fn number_of(a: u8, b: u8, c: u8, d: u8) -> u32 {
@@ -57,23 +70,30 @@ fn take(input: &[u8], from: usize, count: usize, list: &mut [u32])
 }
 
 // The list of `count` numbers that starts at `from`, where the input has it and the list holds it.
-fn print_taken(input: &[u8], from: usize, count: usize, list: &mut [u32]) {
+fn put_taken(
+    out: &mut [u8],
+    at: usize,
+    input: &[u8],
+    from: usize,
+    count: usize,
+    list: &mut [u32],
+) -> usize {
     if list.len() < count {
-        return;
+        return at;
     }
     if input.len() < from {
-        return;
+        return at;
     }
     if (input.len() - from) / 4 < count {
-        return;
+        return at;
     }
     take(input, from, count, list);
-    print_list(&list[..count]);
+    put_list(out, at, &list[..count])
 }
 
-fn print_list_at(input: &[u8], from: usize, count: usize) {
+fn put_list_at(out: &mut [u8], at: usize, input: &[u8], from: usize, count: usize) -> usize {
     let mut list = [0u32; 128];
-    print_taken(input, from, count, &mut list);
+    put_taken(out, at, input, from, count, &mut list)
 }
 
 fn length_of(high: u8, low: u8) -> usize
@@ -82,23 +102,28 @@ fn length_of(high: u8, low: u8) -> usize
     (high as usize) * 256 + (low as usize)
 }
 
-fn print_lists(input: &[u8]) {
+fn put_lists(out: &mut [u8], input: &[u8]) -> usize {
     let mut at = 0;
-    while at + 1 < input.len() {
-        let count = length_of(input[at], input[at + 1]);
-        let from = at + 2;
-        print_list_at(input, from, count);
+    let mut i = 0;
+    while i + 1 < input.len() {
+        let count = length_of(input[i], input[i + 1]);
+        let from = i + 2;
+        at = put_list_at(out, at, input, from, count);
         let left = input.len() - from;
         let size = count * 4;
         if left < size {
-            return;
+            return at;
         }
-        at = from + size;
+        i = from + size;
     }
+    at
 }
 
 fn main() {
     let mut input = io::large_buffer();
     let length = io::read_full(STDIN_FILENO, &mut input);
-    print_lists(&input[..length]);
+    let mut lines = [0u8; 524288];
+    let end = put_lists(&mut lines, &input[..length]);
+    let written = decimals::clipped(&lines, end);
+    io::write_all(STDOUT_FILENO, &lines[..written]);
 }

@@ -1,9 +1,14 @@
 // Reads a stored sheet from standard input, 65,536 bytes at most, and prints its listing; or its refusal.
 use libc::STDIN_FILENO;
+use libc::STDOUT_FILENO;
 
 fn main() {
     // a byte more than that, so that bytes after such a sheet are seen
     let mut sheet = [0u8; 65537];
     let length = io::read_full(STDIN_FILENO, &mut sheet);
-    listings::print_sheet(&sheet[..length]);
+    // 29 bytes of text at most for 5 bytes of a sheet, and the head and closest lines
+    let mut text = [0u8; 400000];
+    let end = listings::put_listing(&sheet[..length], &mut text);
+    let written = decimals::clipped(&text, end);
+    io::write_all(STDOUT_FILENO, &text[..written]);
 }

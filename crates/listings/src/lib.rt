@@ -1,133 +1,108 @@
-// A stored sheet as text on standard output, as document 01 lists it: a line an entry, none for the end record; and the answers of
-// readers and writers.
-//
-// No contract can say which bytes reach the outside, so a `print_` function promises that it is safe and ends, and asks for nothing.
-// What it prints is held to document 01's listing by the programs over it.
-use phases::Phase;
-use records::Entry;
-use records::Kind;
+// The listing of a sheet as text, as document 01 has it: a line an entry.
+pub mod lines;
+
 use records::Record;
+use records::Refusal;
 use sheets::Extent;
+ghost use mathlib.Core.Path.{_≡_};
+ghost use lib.ListN.{length};
+ghost use Rattle.sheets.specs.Sheets.{readSheet};
+ghost use Rattle.records.specs.Refusals.{numberOf, placeOf};
+ghost use Rattle.decimals.specs.Texts.{Put};
+ghost use Rattle.listings.specs.Lines.{refusalLine};
+ghost use Rattle.listings.specs.Answers.{text, answered, roomWith};
+ghost use Rattle.listings.specs.Listings.{listingOf, told, printed};
+ghost use Rattle.listings.specs.ListingLaws.{IsSheet, Laid};
 
-fn print_second(stored: u32) {
-    let second = records::seconds::second_of(stored);
-    printing::print_next(second);
+// How many bytes a text has that was written, or why none was.
+pub enum Text {
+    Written(usize),
+    Refused(Refusal),
 }
 
-fn print_phase(phase: Phase) {
-    match phase {
-        Phase::Penumbra => printing::print(b" penumbra"),
-        Phase::Central => printing::print(b" central"),
-    }
-}
-
-fn print_head(station: u32, first: u32, last: u32) {
-    printing::print(b"station");
-    printing::print_count(station as u64);
-    printing::print(b" from");
-    print_second(first);
-    printing::print(b" to");
-    print_second(last);
-    printing::end_line();
-}
-
-// What every entry of a phase has: which, from and to.
-fn print_span(phase: Phase, from: u32, to: u32) {
-    print_phase(phase);
-    print_second(from);
-    print_second(to);
-}
-
-// A graze or an open: "with no direction".
-fn print_unsure(word: &[u8], phase: Phase, from: u32, to: u32) {
-    printing::print(word);
-    print_span(phase, from, to);
-    printing::end_line();
-}
-
-// An enter or a leave: "each entry with from, to, direction".
-fn print_contact(word: &[u8], phase: Phase, from: u32, to: u32, direction: u32) {
-    printing::print(word);
-    print_span(phase, from, to);
-    printing::print_count(direction as u64);
-    printing::end_line();
-}
-
-// "last the closest second with magnitude"
-fn print_closest(second: u32, magnitude: u32) {
-    printing::print(b"closest");
-    print_second(second);
-    printing::print_count(magnitude as u64);
-    printing::end_line();
-}
-
-// The line of an entry.
-fn print_entry(entry: Entry) {
-    let kind = entry.kind;
-    let a = entry.a;
-    let b = entry.b;
-    let c = entry.c;
-    match kind {
-        Kind::Head => print_head(a, b, c),
-        Kind::Enter(phase) => print_contact(b"enter", phase, a, b, c),
-        Kind::Leave(phase) => print_contact(b"leave", phase, a, b, c),
-        Kind::Graze(phase) => print_unsure(b"graze", phase, a, b),
-        Kind::Open(phase) => print_unsure(b"open", phase, a, b),
-        Kind::Closest => print_closest(a, b),
-        Kind::End => {}
-    }
-}
-
-// The lines of the first entries of a sheet.
-fn print_entries(sheet: &[u8], entries: usize) {
+// The lines of the sheet that `sheet` begins with, from the room's start on, as far as the room goes.
+fn put_lines(sheet: &[u8], out: &mut [u8]) -> usize
+    requires { ⌜ IsSheet (readSheet (now sheet)) ⌝ }
+    ensures { λ r. ⌜ Laid (readSheet (now (sheet .entry))) (now (out .entry)) (now (out .exit)) r ⌝ }
+{
+    let mut from = 0;
     let mut at = 0;
-    let mut left = entries;
-    while 0 < left {
-        let Record::Is(entry, next) = records::bytes::record_at(sheet, at) else {
-            return;
+    loop {
+        let Record::Is(entry, next) = records::bytes::record_at(sheet, from) else {
+            return at;
         };
-        print_entry(entry);
-        at = next;
-        left -= 1;
+        at = lines::put_entry(out, at, entry);
+        let kind = entry.kind;
+        if records::kinds::is_end(kind) {
+            return at;
+        }
+        from = next;
     }
 }
 
-// "A refusal prints `refused`, number, place.", without the end of the line.
-pub fn print_refusal(number: u32, place: usize) {
-    printing::print(b"refused");
-    printing::print_count(number as u64);
-    printing::print_count(place as u64);
-}
-
-fn print_refused(refusal: records::Refusal) {
-    let number = records::number_of(refusal);
-    let place = records::place_of(refusal);
-    print_refusal(number, place);
-}
-
-// What a reader or a writer answered, in a line that has begun: ` sheet`, the number of entries and of bytes; or the refusal.
-pub fn print_extent(extent: Extent) {
-    match extent {
-        Extent::Sheet { entries, length } => {
-            printing::print(b" sheet");
-            printing::print_count(entries as u64);
-            printing::print_count(length as u64);
-        }
-        Extent::Refused(refusal) => {
-            printing::print(b" ");
-            print_refused(refusal);
-        }
+// The lines of the sheet that `sheet` begins with, where the room holds them.
+fn lay(sheet: &[u8], out: &mut [u8]) -> Text
+    requires { ⌜ IsSheet (readSheet (now sheet)) ⌝ }
+    ensures { λ r. ⌜ r ≡ answered (length (now (out .entry))) (listingOf (readSheet (now (sheet .entry)))) ⌝ }
+    ensures { λ r. ⌜ now (out .exit) ≡ roomWith (listingOf (readSheet (now (sheet .entry)))) (now (out .entry)) ⌝ }
+{
+    let mut none = [0u8; 0];
+    let need = put_lines(sheet, &mut none);
+    if out.len() < need {
+        return Text::Refused(Refusal::Room(need));
     }
+    put_lines(sheet, out);
+    Text::Written(need)
 }
 
-// The listing of the sheet that the bytes are; or their refusal, alone.
-pub fn print_sheet(sheet: &[u8]) {
+// The listing of the sheet that `sheet` is, at the room's start, and how long it is; or the refusal, and the room as it was.
+pub fn listing(sheet: &[u8], out: &mut [u8]) -> Text
+    ensures { λ r. ⌜ r ≡ answered (length (now (out .entry))) (told (now (sheet .entry))) ⌝ }
+    ensures { λ r. ⌜ now (out .exit) ≡ roomWith (told (now (sheet .entry))) (now (out .entry)) ⌝ }
+{
     let found = sheets::extent_of_sheet(sheet);
     match found {
-        Extent::Sheet { entries, length: _ } => print_entries(sheet, entries),
-        Extent::Refused(refusal) => {
-            print_refused(refusal);
-            printing::end_line();
-        }
+        Extent::Refused(refusal) => Text::Refused(refusal),
+        Extent::Sheet {
+            entries: _,
+            length: _,
+        } => lay(sheet, out),
     }
+}
+
+fn put_refused(refusal: Refusal, out: &mut [u8]) -> usize
+    ensures { λ r. ⌜ Put (now (out .entry)) 0 (refusalLine (numberOf refusal) (placeOf refusal)) (now (out .exit)) r ⌝ }
+{
+    let number = records::number_of(refusal) as u64;
+    let place = records::place_of(refusal) as u64;
+    lines::put_refusal_line(out, number, place)
+}
+
+// What program `listing` prints of some bytes: the listing of the sheet that they are, or the line of their refusal. From the room's start
+// on, as far as the room goes; and the place after it.
+pub fn put_listing(sheet: &[u8], out: &mut [u8]) -> usize
+    ensures { λ r. ⌜ Put (now (out .entry)) 0 (printed (told (now (sheet .entry)))) (now (out .exit)) r ⌝ }
+{
+    let found = sheets::extent_of_sheet(sheet);
+    match found {
+        Extent::Refused(refusal) => put_refused(refusal, out),
+        Extent::Sheet {
+            entries: _,
+            length: _,
+        } => put_lines(sheet, out),
+    }
+}
+
+// The line of a refusal, at the room's start, and how long it is; or 4, and the room as it was.
+pub fn refusal_line(number: u64, place: u64, out: &mut [u8]) -> Text
+    ensures { λ r. ⌜ r ≡ answered (length (now (out .entry))) (text (refusalLine number place)) ⌝ }
+    ensures { λ r. ⌜ now (out .exit) ≡ roomWith (text (refusalLine number place)) (now (out .entry)) ⌝ }
+{
+    let mut none = [0u8; 0];
+    let need = lines::put_refusal_line(&mut none, number, place);
+    if out.len() < need {
+        return Text::Refused(Refusal::Room(need));
+    }
+    lines::put_refusal_line(out, number, place);
+    Text::Written(need)
 }

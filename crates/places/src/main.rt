@@ -1,7 +1,11 @@
 // Reads stations from standard input, 8 bytes each: latitude in 10^-6 degree and height in metres, signed, 4 bytes big-endian.
 // Prints for each a line: latitude, height, R and P; or `refused` after the two where one is outside its range.
+use libc::STDIN_FILENO;
+use libc::STDOUT_FILENO;
+ghost use Prim.Native.Nat.{_+_, _≤_};
+ghost use lib.IntN.{natAbs};
+ghost use lib.ListN.{length};
 ghost use Rattle.sine.specs.Table.{Sines};
-ghost use Rattle.station.specs.Sizes.{StationSizes};
 
 // Four bytes as one number, the highest first.
 fn unsigned(a: u8, b: u8, c: u8, d: u8) -> u32 {
@@ -17,19 +21,31 @@ fn signed(x: u32) -> i64 {
     }
 }
 
-fn print_place(table: &[u32], s: station::Station)
-    requires { ⌜ (Sines (now table)) × (StationSizes s) ⌝ }
+// The number that the four bytes at i are.
+fn number_at(input: &[u8], i: usize) -> i64
+    requires { ⌜ i + 4 ≤ length (now input) ⌝ }
 {
-    let place = station::geocentric(table, s);
-    printing::print_next(place.r);
-    printing::print_next(place.p);
+    signed(unsigned(input[i], input[i + 1], input[i + 2], input[i + 3]))
 }
 
-fn print_station(table: &[u32], latitude: i64, height: i64)
+fn put_place(out: &mut [u8], at: usize, table: &[u32], latitude: i64, height: i64) -> usize
+    requires { ⌜ (Sines (now table)) × (natAbs latitude ≤ 90000000) × (natAbs height ≤ 9000) ⌝ }
+{
+    let place = station::geocentric(table, latitude, height);
+    let r = place.r;
+    let p = place.p;
+    let numbers = [latitude, height, r, p];
+    decimals::put_filled(out, at, b"# # # #\n", &numbers)
+}
+
+fn put_refused(out: &mut [u8], at: usize, latitude: i64, height: i64) -> usize {
+    let numbers = [latitude, height];
+    decimals::put_filled(out, at, b"# # refused\n", &numbers)
+}
+
+fn put_station(out: &mut [u8], at: usize, table: &[u32], latitude: i64, height: i64) -> usize
     requires { ⌜ Sines (now table) ⌝ }
 {
-    printing::print_signed(latitude);
-    printing::print_next(height);
     let record = station::Station {
         number: 1,
         latitude: latitude,
@@ -38,41 +54,32 @@ fn print_station(table: &[u32], latitude: i64, height: i64)
     };
     let range = station::in_range(record);
     match range {
-        numbers::Limits::InRange => print_place(table, record),
-        numbers::Limits::OutOfRange(_) => print_refused(),
+        numbers::Limits::Within => put_place(out, at, table, latitude, height),
+        numbers::Limits::Outside(_) => put_refused(out, at, latitude, height),
     }
-    printing::end_line();
 }
 
-fn print_refused() {
-    io::write_all(1, b" refused");
-}
-
-// Reads one station and prints its line, or answers false where the input ends.
-fn print_next_station(table: &[u32]) -> bool
+// A line for each station of the input.
+fn put_stations(out: &mut [u8], table: &[u32], input: &[u8]) -> usize
     requires { ⌜ Sines (now table) ⌝ }
 {
-    let mut record = [0u8; 8];
-    if io::read_full(0, &mut record) < 8 {
-        return false;
+    let mut at = 0;
+    let mut i = 0;
+    while 8 <= input.len() - i {
+        let latitude = number_at(input, i);
+        let height = number_at(input, i + 4);
+        at = put_station(out, at, table, latitude, height);
+        i += 8;
     }
-    let latitude = signed(unsigned(record[0], record[1], record[2], record[3]));
-    let height = signed(unsigned(record[4], record[5], record[6], record[7]));
-    print_station(table, latitude, height);
-    true
-}
-
-// Nothing says that an input ends, so the loop counts its turns down, from a number that no run uses up.
-fn print_all(table: &[u32])
-    requires { ⌜ Sines (now table) ⌝ }
-{
-    let mut turns = u64::MAX;
-    while turns > 0 && print_next_station(table) {
-        turns -= 1;
-    }
+    at
 }
 
 fn main() {
     let table = sine::table();
-    print_all(&table);
+    let mut input = io::large_buffer();
+    let length = io::read_full(STDIN_FILENO, &mut input);
+    let mut lines = [0u8; 65536];
+    let end = put_stations(&mut lines, &table, &input[..length]);
+    let written = decimals::clipped(&lines, end);
+    io::write_all(STDOUT_FILENO, &lines[..written]);
 }

@@ -1,20 +1,27 @@
 // Prints a thousand angles, each with its sine and cosine: borders of quadrants and octants, tenths of a degree, and angles spread over
 // all that can arise, each border and tenth with the angles beside it.
+use libc::STDOUT_FILENO;
 ghost use Prim.Native.Nat.{_+_, _≤_, _<_};
 ghost use lib.IntN.{natAbs};
 ghost use Rattle.sine.specs.Table.{Sines};
 
 fn main() {
     let table = sine::table();
-    print_all(&table);
+    let mut lines = [0u8; 65536];
+    let end = put_rows(&mut lines, &table);
+    let written = decimals::clipped(&lines, end);
+    io::write_all(STDOUT_FILENO, &lines[..written]);
 }
 
-fn print_all(table: &[u32])
+// A line for each angle.
+fn put_rows(out: &mut [u8], table: &[u32]) -> usize
     requires { ⌜ Sines (now table) ⌝ }
 {
+    let mut at = 0;
     for i in 0..1000 {
-        print_row(table, angle(i));
+        at = put_row(out, at, table, angle(i));
     }
+    at
 }
 
 // The angle of row i, in units of 10^-6 degree.
@@ -41,12 +48,13 @@ fn less(x: u64, y: u64) -> i64
     x as i64 - y as i64
 }
 
-fn print_row(table: &[u32], angle: i64)
+// The angle, its sine and its cosine.
+fn put_row(out: &mut [u8], at: usize, table: &[u32], angle: i64) -> usize
     requires { ⌜ (Sines (now table)) × (natAbs angle ≤ 10_000_000_000) ⌝ }
 {
     let a = sine::reduced(angle);
-    printing::print_signed(angle);
-    printing::print_next(sine::sine(table, a));
-    printing::print_next(sine::cosine(table, a));
-    printing::end_line();
+    let s = sine::sine(table, a);
+    let c = sine::cosine(table, a);
+    let numbers = [angle, s, c];
+    decimals::put_filled(out, at, b"# # #\n", &numbers)
 }

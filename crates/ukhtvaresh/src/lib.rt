@@ -1,5 +1,7 @@
-// The library for C and Rust: a request's sheet, one second of it, a sheet read, entries written.
+// The library for C and Rust: a request's sheet, one second of it, a sheet read, entries written; in the module `listing` a sheet as text.
 // Each function answers the number of the refusal, 0 for none, and puts the length, the count or the refusal's place into `value`.
+mod listing;
+
 ghost use mathlib.Core.Path.{_≡_};
 ghost use Prim.Native.Nat.{_≤_};
 ghost use lib.ListN.{length};

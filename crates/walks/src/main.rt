@@ -1,31 +1,33 @@
 // Prints the entries of every window of up to six seconds: a line for each list of states, first the states, then each entry
 // as e (enter), l (leave), g (graze) or o (open) with its two seconds.
+use libc::STDOUT_FILENO;
 
-fn print_entry(kind: u8, from: usize, to: usize) {
+fn put_span(out: &mut [u8], at: usize, kind: u8, from: usize, to: usize) -> usize {
     let head = [b' ', kind];
-    io::write_all(1, &head);
-    io::print_decimal(1, from as u64);
-    io::write_all(1, b"-");
-    io::print_decimal(1, to as u64);
+    let start = decimals::put_text(out, at, &head);
+    let middle = decimals::put_number(out, start, from as u64);
+    let next = decimals::put_byte(out, middle, b'-');
+    decimals::put_number(out, next, to as u64)
 }
 
-fn print_found(found: contacts::Entry) {
-    match found {
-        contacts::Entry::Enter { from, to } => print_entry(b'e', from, to),
-        contacts::Entry::Leave { from, to } => print_entry(b'l', from, to),
-        contacts::Entry::Graze { from, to } => print_entry(b'g', from, to),
-        contacts::Entry::Open { from, to } => print_entry(b'o', from, to),
+fn put_entry(out: &mut [u8], at: usize, entry: contacts::Entry) -> usize {
+    match entry {
+        contacts::Entry::Enter { from, to } => put_span(out, at, b'e', from, to),
+        contacts::Entry::Leave { from, to } => put_span(out, at, b'l', from, to),
+        contacts::Entry::Graze { from, to } => put_span(out, at, b'g', from, to),
+        contacts::Entry::Open { from, to } => put_span(out, at, b'o', from, to),
     }
 }
 
 // A step for each entry.
-fn print_entries(states: &[u8]) {
+fn put_entries(out: &mut [u8], start: usize, states: &[u8]) -> usize {
+    let mut at = start;
     let mut c = contacts::Cursor { at: 0 };
     loop {
         let contacts::Next::Found(found, after) = contacts::step(states, c) else {
-            return;
+            return at;
         };
-        print_found(found);
+        at = put_entry(out, at, found);
         c = after;
     }
 }
@@ -43,30 +45,31 @@ fn states_of(number: usize) -> [u8; 6] {
     states
 }
 
-fn print_state(state: u8) {
-    io::print_decimal(1, state as u64);
+fn put_state(out: &mut [u8], at: usize, state: u8) -> usize {
+    decimals::put_number(out, at, state as u64)
 }
 
 // The states as digits.
-fn print_states(states: &[u8]) {
+fn put_states(out: &mut [u8], start: usize, states: &[u8]) -> usize {
+    let mut at = start;
     let mut i = 0;
     while i < states.len() {
-        print_state(states[i]);
+        at = put_state(out, at, states[i]);
         i += 1;
     }
+    at
 }
 
-fn print_window(states: &[u8]) {
-    print_states(states);
-    print_entries(states);
-    io::write_all(1, b"\n");
+fn put_window(out: &mut [u8], start: usize, states: &[u8]) -> usize {
+    let middle = put_states(out, start, states);
+    let end = put_entries(out, middle, states);
+    decimals::put_byte(out, end, b'\n')
 }
 
 // The line of the window that the first `length` states make.
-fn print_line(states: &[u8], length: usize) {
-    if length <= states.len() {
-        print_window(&states[..length]);
-    }
+fn put_line(out: &mut [u8], at: usize, states: &[u8], length: usize) -> usize {
+    let end = decimals::clipped(states, length);
+    put_window(out, at, &states[..end])
 }
 
 // How many lists of `length` states there are.
@@ -82,20 +85,30 @@ fn lists(length: usize) -> usize {
     }
 }
 
-fn print_lists(length: usize) {
+fn put_lists(out: &mut [u8], start: usize, length: usize) -> usize {
     let end = lists(length);
+    let mut at = start;
     let mut number = 0;
     while number < end {
         let states = states_of(number);
-        print_line(&states, length);
+        at = put_line(out, at, &states, length);
         number += 1;
     }
+    at
+}
+
+// The lines of every length, up to six.
+fn put_all(out: &mut [u8]) -> usize {
+    let mut at = 0;
+    for length in 0..7 {
+        at = put_lists(out, at, length);
+    }
+    at
 }
 
 fn main() {
-    let mut length = 0;
-    while length <= 6 {
-        print_lists(length);
-        length += 1;
-    }
+    let mut lines = [0u8; 65536];
+    let end = put_all(&mut lines);
+    let written = decimals::clipped(&lines, end);
+    io::write_all(STDOUT_FILENO, &lines[..written]);
 }

@@ -1,7 +1,8 @@
--- `decimals::put_number`, which calls itself. The measure is the number, which falls to its tenth. What is put is the recursion of `decimal`.
+-- `decimals::put_number`, which calls itself. The measure is the number, which falls to its tenth and to its last digit. What is put is the recursion
+-- of `decimal`.
 use borrow.Author.Needs.{needs}
 use native.Mathlib.Omega.{arith}
-use Rattle.decimals.specs.PutLaws.{number-small, ends-small, number-more, ends-tenth, ends-last}
+use Rattle.decimals.specs.PatternLaws.{number-small, number-more}
 use Prim.Native.Nat.{ℕ, _<_}
 use borrow.Fn.Kinds.{In}
 use borrow.Fn.PlainCycle.{Measures, is, falls, and}
@@ -23,69 +24,45 @@ abbrev put-number-below : ℕ → In 1 put-number-kinds.ps
 put-number-below t =
     and 1 put-number-kinds.ps (falls 1 put-number-kinds.ps _<_ μ-put-number t) put-number.Pre
 
-put-number-cast-only : (t : ℕ) → put-number-lts.Need-cast-only (put-byte-reads.Asked, put-byte-reads.Learnt, put-number-below t, put-number.Post)
-    (put-number-at t) put-number.Post
-put-number-cast-only t c = search needs
+put-number-cast-digit : (t : ℕ) → put-number-lts.Need-cast-digit (put-byte-reads.Asked, put-byte-reads.Learnt, put-number-below t, put-number.Post) (put-number-at t) put-number.Post
+put-number-cast-digit t c = search needs
 
-put-number-add-only : (t : ℕ) → put-number-lts.Need-add-only (put-byte-reads.Asked, put-byte-reads.Learnt, put-number-below t, put-number.Post)
-    (put-number-at t) put-number.Post
-put-number-add-only t c = search needs
+put-number-add-digit : (t : ℕ) → put-number-lts.Need-add-digit (put-byte-reads.Asked, put-byte-reads.Learnt, put-number-below t, put-number.Post) (put-number-at t) put-number.Post
+put-number-add-digit t c = search needs
 
-put-number-put-byte-requires : (t : ℕ)
-    → put-number-lts.Need-put-byte-requires (put-byte-reads.Asked, put-byte-reads.Learnt, put-number-below t, put-number.Post)
-    (put-number-at t) put-number.Post
-put-number-put-byte-requires t c κs = ends-small _ (c .before .if1 .taken) _ (c .before .before .before .pre .1)
+put-number-put-byte-requires : (t : ℕ) → put-number-lts.Need-put-byte-requires (put-byte-reads.Asked, put-byte-reads.Learnt, put-number-below t, put-number.Post) (put-number-at t) put-number.Post
+put-number-put-byte-requires t c κs = tt
 
-put-number-same-length : (t : ℕ)
-    → put-number-lts.Need-same-length (put-byte-reads.Asked, put-byte-reads.Learnt, put-number-below t, put-number.Post) (put-number-at t) put-number.Post
+put-number-same-length : (t : ℕ) → put-number-lts.Need-same-length (put-byte-reads.Asked, put-byte-reads.Learnt, put-number-below t, put-number.Post) (put-number-at t) put-number.Post
 put-number-same-length t c = search needs
 
-put-number-returns : (t : ℕ) → put-number-lts.Need-returns (put-byte-reads.Asked, put-byte-reads.Learnt, put-number-below t, put-number.Post)
-    (put-number-at t) put-number.Post
+put-number-returns : (t : ℕ) → put-number-lts.Need-returns (put-byte-reads.Asked, put-byte-reads.Learnt, put-number-below t, put-number.Post) (put-number-at t) put-number.Post
 put-number-returns t c = number-small _ (c .before .before .before .before .if1 .taken) _ _ _ _ (c .before .before .put-byte .ensures)
 
-put-number-put-number-requires : (t : ℕ)
-    → put-number-lts.Need-put-number-requires (put-byte-reads.Asked, put-byte-reads.Learnt, put-number-below t, put-number.Post)
-    (put-number-at t) put-number.Post
-put-number-put-number-requires t c κs =
-    (omega (arith, c .before .before .before .pre .0), ends-tenth _ (c .before .if1 .left) _ (c .before .before .before .pre .1))
+put-number-put-number-requires : (t : ℕ) → put-number-lts.Need-put-number-requires (put-byte-reads.Asked, put-byte-reads.Learnt, put-number-below t, put-number.Post) (put-number-at t) put-number.Post
+put-number-put-number-requires t c κs = (omega (arith, c .before .before .before .pre .0), tt)
 
-put-number-cast-last : (t : ℕ) → put-number-lts.Need-cast-last (put-byte-reads.Asked, put-byte-reads.Learnt, put-number-below t, put-number.Post)
-    (put-number-at t) put-number.Post
-put-number-cast-last t c = search needs
+put-number-put-number-requires-2 : (t : ℕ) → put-number-lts.Need-put-number-requires-2 (put-byte-reads.Asked, put-byte-reads.Learnt, put-number-below t, put-number.Post) (put-number-at t) put-number.Post
+put-number-put-number-requires-2 t c κs = (omega (arith, c .before .before .before .before .before .before .before .pre .0), tt)
 
-put-number-add-last : (t : ℕ) → put-number-lts.Need-add-last (put-byte-reads.Asked, put-byte-reads.Learnt, put-number-below t, put-number.Post)
-    (put-number-at t) put-number.Post
-put-number-add-last t c = search needs
-
-put-number-put-byte-requires-2 : (t : ℕ)
-    → put-number-lts.Need-put-byte-requires-2 (put-byte-reads.Asked, put-byte-reads.Learnt, put-number-below t, put-number.Post)
-    (put-number-at t) put-number.Post
-put-number-put-byte-requires-2 t c κs =
-    ends-last _ (c .before .before .before .before .before .if1 .left) _ _ _ _ (c .before .before .before .put-number .ensures)
-    (c .before .before .before .before .before .before .before .pre .1)
-
-put-number-same-length-2 : (t : ℕ)
-    → put-number-lts.Need-same-length-2 (put-byte-reads.Asked, put-byte-reads.Learnt, put-number-below t, put-number.Post) (put-number-at t) put-number.Post
+put-number-same-length-2 : (t : ℕ) → put-number-lts.Need-same-length-2 (put-byte-reads.Asked, put-byte-reads.Learnt, put-number-below t, put-number.Post) (put-number-at t) put-number.Post
 put-number-same-length-2 t c = search needs
 
-put-number-returns-2 : (t : ℕ) → put-number-lts.Need-returns-2 (put-byte-reads.Asked, put-byte-reads.Learnt, put-number-below t, put-number.Post)
-    (put-number-at t) put-number.Post
-put-number-returns-2 t c = number-more _ (c .before .before .before .before .before .before .before .before .if1 .left) _ _ _ _ _ _
-    (c .before .before .before .before .before .before .put-number .ensures) (c .before .before .put-byte2 .ensures)
+put-number-returns-2 : (t : ℕ) → put-number-lts.Need-returns-2 (put-byte-reads.Asked, put-byte-reads.Learnt, put-number-below t, put-number.Post) (put-number-at t) put-number.Post
+put-number-returns-2 t c =
+    number-more _ (c .before .before .before .before .before .before .before .before .if1 .left) _ _ _ _ _ _ (omega arith)
+    (c .before .before .before .before .before .before .put-number .ensures) (c .before .before .put-number2 .ensures)
 
 pub +put-number-spec : {M : Type 1} → statement M
 +put-number-spec = close μ-put-number λ t. put-number-lts.spec (put-byte-reads.Asked, put-byte-reads.Learnt, put-number-below t, put-number.Post)
     (put-number-at t)
     put-number.Post
-    (put-number-cast-only t)
-    (put-number-add-only t)
+    (put-number-cast-digit t)
+    (put-number-add-digit t)
     (put-number-put-byte-requires t)
     (put-number-same-length t)
     (put-number-returns t)
     (put-number-put-number-requires t)
-    (put-number-cast-last t)
-    (put-number-add-last t)
-    (put-number-put-byte-requires-2 t)
+    (put-number-put-number-requires-2 t)
     (put-number-same-length-2 t)
     (put-number-returns-2 t)

@@ -1,27 +1,30 @@
--- `decimals::put_byte` meets its contract: a store past the end changes nothing.
-use Rattle.decimals.specs.Puts.{put-past}
+-- `decimals::put_byte` meets its contract: a store past the end changes nothing, and only the greatest place has none after it.
+use native.Mathlib.Omega.{arith}
+use Rattle.decimals.specs.TextLaws.{put-in, put-past, put-last}
 use borrow.Author.Needs.{needs}
 use Rattle.decimals.proofs.put_byte.Statement.{statement}
 use Rattle.decimals.proofs.put_byte.Tie as tie
 
-add-result : tie.Need-add-result
-add-result c = search needs
-
-returns : tie.Need-returns
-returns c = put-past _ _ _ (c .if1 .taken)
-
 slice-write-out : tie.Need-slice-write-out
 slice-write-out c = search needs
 
-add-result-2 : tie.Need-add-result-2
-add-result-2 c = search needs
+add-result : tie.Need-add-result
+add-result c = search needs
 
 same-length : tie.Need-same-length
 same-length c = search needs
 
+returns : tie.Need-returns
+returns c = put-in _ _ _ (omega arith) (omega arith)
+
+add-result-2 : tie.Need-add-result-2
+add-result-2 c = search needs
+
 returns-2 : tie.Need-returns-2
-returns-2 c = search needs
+returns-2 c = put-past _ _ _ (omega arith) (omega arith)
+
+returns-3 : tie.Need-returns-3
+returns-3 c = put-last _ _ _ (omega arith) (omega arith)
 
 pub put-byte-spec : {M : Type 1} → statement M
-put-byte-spec =
-    tie.close (tie.spec add-result returns slice-write-out add-result-2 same-length returns-2)
+put-byte-spec = tie.close (tie.spec slice-write-out add-result same-length returns add-result-2 returns-2 returns-3)

@@ -1,0 +1,67 @@
+-- `decimals::put_filled` meets its contract. What is left of the pattern, once put, gives what is to be left (`Filling`).
+use Prim.Native.Nat.{_-_}
+use mathlib.Core.Path.{_∙_}
+use Rattle.numbers.specs.Code.{read-result}
+use native.Mathlib.Omega.{arith}
+use lib.ListN.{length}
+use Rattle.decimals.specs.PatternLaws.{Filling, filling-start, filling-turn, filling-end}
+use borrow.Author.Needs.{needs}
+use Rattle.decimals.proofs.put_filled.Statement.{statement}
+use Rattle.decimals.proofs.put_filled.Tie as tie
+
+abbrev Inv-loop : tie.InvT-loop
+Inv-loop out₀ start pattern numbers at₀ k₀ i₀ out at k i = Filling out₀ start pattern numbers out at k i
+
+abbrev μ-loop : tie.MeasureT-loop
+μ-loop out₀ start pattern numbers at₀ k₀ i₀ out at k i = length pattern - i
+
+loop-holds : tie.Need-loop-holds Inv-loop μ-loop
+loop-holds c = filling-start _ _ _ _ (omega arith) (omega arith)
+
+shared-slice-read-x : tie.Need-shared-slice-read-x Inv-loop μ-loop
+shared-slice-read-x c = omega arith
+
+number-at-requires : tie.Need-number-at-requires Inv-loop μ-loop
+number-at-requires c κs = search needs
+
+put-piece-requires : tie.Need-put-piece-requires Inv-loop μ-loop
+put-piece-requires c κs = search needs
+
+number-after-requires : tie.Need-number-after-requires Inv-loop μ-loop
+number-after-requires c κs = omega arith
+
+add-i : tie.Need-add-i Inv-loop μ-loop
+add-i c = omega arith
+
+loop-less : tie.Need-loop-less Inv-loop μ-loop
+loop-less c = omega arith
+
+loop-again : tie.Need-loop-again Inv-loop μ-loop
+loop-again c =
+    let t = c .before .before .before .before .before in
+    filling-turn _ _ _ _ _ _ _ _ (t .before .before .before .loop .inv) (t .before .before .loop-test .taken) _
+    (read-result (t .number-at .result) (t .number-at .ok) ∙ t .number-at .ensures) _ _ _
+    (c .before .before .before .put-piece .ensures) (c .number-after .ensures)
+
+same-length : tie.Need-same-length Inv-loop μ-loop
+same-length c = c .before .loop .inv .putting .same
+
+returns : tie.Need-returns Inv-loop μ-loop
+returns c = filling-end _ _ _ _ _ _ _ _ (c .before .loop .inv) (c .loop-test .left)
+
+pub put-filled-spec : {M : Type 1} → statement M
+put-filled-spec =
+    tie.close
+    (tie.spec
+    Inv-loop
+    μ-loop
+    loop-holds
+    shared-slice-read-x
+    number-at-requires
+    put-piece-requires
+    number-after-requires
+    add-i
+    loop-less
+    loop-again
+    same-length
+    returns)

@@ -1,0 +1,16 @@
+-- Numbers and a line as text, computed.
+use mathlib.Core.Path.{_≡_, refl}
+use mathlib.Core.List.{[], _∷_}
+use lib.IntN.{pos, negsuc}
+use Rattle.decimals.specs.Decimals.{digitsOf, decimal, signed}
+use Rattle.decimals.specs.Texts.{letters}
+use Rattle.decimals.specs.Patterns.{piece, filled}
+
+pub numbers : decimal 0 ∷ decimal 10 ∷ decimal 1037735 ∷ decimal 18446744073709551615 ∷ signed (negsuc 5400) ∷ signed (pos 0) ∷ []
+    ≡ letters "0" ∷ letters "10" ∷ letters "1037735" ∷ letters "18446744073709551615" ∷ letters "-5401" ∷ letters "0" ∷ []
+unfolding signed decimal digitsOf
+numbers = refl
+
+pub line : filled (pos 12 ∷ negsuc 6 ∷ []) 0 (letters "from # to #\n") ≡ letters "from 12 to -7\n"
+unfolding filled piece signed decimal digitsOf
+line = refl

@@ -1,0 +1,41 @@
+-- `listings::lay` meets its contract: the lines are measured in a room of no bytes, and put where the room holds them.
+use native.Mathlib.Omega.{arith}
+use Rattle.sheets.specs.Sheets.{readSheet}
+use Rattle.listings.specs.ListingLaws.{sheet-short, sheet-full}
+use borrow.Author.Needs.{needs}
+use Rattle.listings.proofs.lay.Statement.{statement}
+use Rattle.listings.proofs.lay.Tie as tie
+
+slice-aggregate-put-lines : tie.Need-slice-aggregate-put-lines
+slice-aggregate-put-lines c = search needs
+
+put-lines-requires : tie.Need-put-lines-requires
+put-lines-requires c κs = search needs
+
+returns : tie.Need-returns
+returns c =
+    let a = c .before .before .before .before .before .before .args in
+    sheet-short (readSheet (a .sheet .now)) _ _ (a .out .now) _ (c .before .before .put-lines .ensures) (omega arith) (c .if1 .taken)
+
+put-lines-requires-2 : tie.Need-put-lines-requires-2
+put-lines-requires-2 c κs = search needs
+
+same-length : tie.Need-same-length
+same-length c = search needs
+
+returns-2 : tie.Need-returns-2
+returns-2 c =
+    let t = c .before .before .before .before in
+    let a = t .before .before .before .before .before .before .args in
+    sheet-full (readSheet (a .sheet .now)) _ _ (a .out .now) _ (t .before .before .put-lines .ensures) (omega arith) (t .if1 .left) _ _ (c .before .before .put-lines2 .ensures)
+
+pub lay-spec : {M : Type 1} → statement M
+lay-spec =
+    tie.close
+    (tie.spec
+    slice-aggregate-put-lines
+    put-lines-requires
+    returns
+    put-lines-requires-2
+    same-length
+    returns-2)

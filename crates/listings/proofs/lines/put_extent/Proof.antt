@@ -1,0 +1,61 @@
+-- `listings::lines::put_extent` meets its contract, case by case.
+use Rattle.listings.specs.LineLaws.{put-sheet, put-refused-extent}
+use borrow.Author.Needs.{needs}
+use Rattle.listings.proofs.lines.put_extent.Statement.{statement}
+use Rattle.listings.proofs.lines.put_extent.Tie as tie
+
+enum-known-extent : tie.Need-enum-known-extent
+enum-known-extent c = search needs
+
+slice-aggregate-put-two : tie.Need-slice-aggregate-put-two
+slice-aggregate-put-two c = search needs
+
+put-two-requires : tie.Need-put-two-requires
+put-two-requires c κs = search needs
+
+enum-known-extent-2 : tie.Need-enum-known-extent-2
+enum-known-extent-2 c = search needs
+
+number-of-requires : tie.Need-number-of-requires
+number-of-requires c κs = search needs
+
+cast-number : tie.Need-cast-number
+cast-number c = search needs
+
+place-of-requires : tie.Need-place-of-requires
+place-of-requires c κs = search needs
+
+put-refusal-requires : tie.Need-put-refusal-requires
+put-refusal-requires c κs = search needs
+
+same-length : tie.Need-same-length
+same-length c = search needs
+
+returns : tie.Need-returns
+returns c = put-sheet _ _ _ _ _ _ _ (c .before .before .before .before .before .before .extent .given .1) (c .before .before .put-two .ensures)
+
+same-length-2 : tie.Need-same-length-2
+same-length-2 c = search needs
+
+returns-2 : tie.Need-returns-2
+returns-2 c =
+    let p = c .before .before .before .before in
+    put-refused-extent _ _ _ _ _ _ _ _ (p .before .before .before .extent2 .given .1) (p .before .number-of .ensures) (p .place-of .ensures)
+    (c .before .before .put-refusal .ensures)
+
+pub put-extent-spec : {M : Type 1} → statement M
+put-extent-spec =
+    tie.close
+    (tie.spec
+    enum-known-extent
+    slice-aggregate-put-two
+    put-two-requires
+    enum-known-extent-2
+    number-of-requires
+    cast-number
+    place-of-requires
+    put-refusal-requires
+    same-length
+    returns
+    same-length-2
+    returns-2)

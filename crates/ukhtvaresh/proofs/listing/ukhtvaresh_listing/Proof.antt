@@ -1,0 +1,26 @@
+-- `ukhtvaresh::listing::ukhtvaresh_listing` meets its contract: the answer of the crate below, as numbers. Assumes nothing.
+use mathlib.Core.Path.{ap, _∙_}
+use Rattle.ukhtvaresh.specs.declared.Reply.{Reply}
+use Rattle.ukhtvaresh.specs.Listing.{listingReply}
+use borrow.Author.Needs.{needs}
+use Rattle.ukhtvaresh.proofs.listing.ukhtvaresh_listing.Statement.{statement}
+use Rattle.ukhtvaresh.proofs.listing.ukhtvaresh_listing.Tie as tie
+
+listing-requires : tie.Need-listing-requires
+listing-requires c κs = search needs
+
+listing-reply-requires : tie.Need-listing-reply-requires
+listing-reply-requires c κs = search needs
+
+same-length : tie.Need-same-length
+same-length c = search needs
+
+returns : tie.Need-returns
+returns c =
+    let done = c .before .before .before .listing in
+    let e = c .listing-reply .ensures ∙ ap listingReply (done .ensures .0) in
+    (ap (λ (x : Reply). x .number) e, (ap (λ (x : Reply). x .value) e, done .ensures .1))
+
+pub ukhtvaresh-listing-spec : {M : Type 1} → statement M
+ukhtvaresh-listing-spec =
+    tie.close (tie.spec listing-requires listing-reply-requires same-length returns)
