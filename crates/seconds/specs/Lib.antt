@@ -3,6 +3,7 @@ pub mod Seconds
 pub mod Closest
 pub mod OneSecond
 pub mod Exact
+pub mod Errors
 -- laws, for callers
 pub mod ClosestLaws
 pub mod Filled
