@@ -8,7 +8,6 @@ pub mod NumberLaws
 pub mod Records
 pub mod RecordLaws
 pub mod RecordTrip
-pub mod Refusals
 pub mod StoredSeconds
 pub mod StoredSecondLaws
 pub mod TestLaws

@@ -7,6 +7,7 @@ use native.Mathlib.Omega.{arith}
 use native.Mathlib.Decide.{decLt, decLe}
 use borrow.Author.Tests.{le-leb, lt-leb, lt-ltb, le-ltb}
 use lib.ListN.{length, getD}
+use Rattle.refusals.specs.declared.Refusal.{Refusal}
 use Rattle.records.specs.declared.Kind.{Kind}
 use Rattle.records.specs.declared.Width.{Width}
 use Rattle.records.specs.declared.Width.the-variants.{Absent, Two, Four}
@@ -17,7 +18,6 @@ use Rattle.records.specs.declared.Byte.the-variants as Byte
 use Rattle.records.specs.declared.Body.{Body}
 use Rattle.records.specs.declared.Body.the-variants as Body
 use Rattle.records.specs.declared.Entry.{Entry}
-use Rattle.records.specs.declared.Refusal.{Refusal}
 use Rattle.records.specs.declared.Record.the-variants.{Is, Refused}
 use Rattle.records.specs.Kinds.{kindFor, widthsOf, sizeOf, unused, plain}
 use Rattle.records.specs.KindLaws.{size-small}

@@ -5,6 +5,7 @@ use mathlib.Core.List.{List}
 use mathlib.Core.Bool.{cond}
 use lib.Dec.{leb, ltb}
 use lib.ListN.{length, getD}
+use Rattle.refusals.specs.Refusals.{refusal}
 use Rattle.records.specs.declared.Kind.{Kind}
 use Rattle.records.specs.declared.Entry.{Entry}
 use Rattle.records.specs.declared.Named.{Named}
@@ -13,7 +14,6 @@ use Rattle.records.specs.declared.Byte.{Byte}
 use Rattle.records.specs.declared.Byte.the-variants as Byte
 use Rattle.records.specs.declared.Body.{Body}
 use Rattle.records.specs.declared.Body.the-variants as Body
-use Rattle.records.specs.declared.Refusal.the-variants as R
 use Rattle.records.specs.declared.Record.{Record}
 use Rattle.records.specs.declared.Record.the-variants.{Is, Refused}
 use Rattle.records.specs.Kinds.{kindFor, widthsOf, bytesIn, sizeOf}
@@ -36,19 +36,19 @@ entryAt k s at =
 unfoldable pub bodyAt : Kind → List ℕ → ℕ → Body
 bodyAt k s at = cond (leb (at + sizeOf k) (length s)) (Body.Is (entryAt k s (at + 1))) Body.Cut
 
--- "input ends inside a record": 6 at its first byte
+-- "6 | input ends inside a record .. | first byte of that record"
 abbrev pub ofBody : Kind → ℕ → Body → Record
-ofBody k at Body.Cut = Refused (R.Cut at)
+ofBody k at Body.Cut = Refused (refusal 6 at)
 ofBody k at (Body.Is e) = Is e (at + sizeOf k)
 
--- "kind not in the table": 5 at the first byte of that record
+-- "5 | kind not in the table | first byte of that record"
 abbrev pub ofKind : List ℕ → ℕ → Named → Record
-ofKind s at Named.Unknown = Refused (R.Kind at)
+ofKind s at Named.Unknown = Refused (refusal 5 at)
 ofKind s at (Named.Is k) = ofBody k at (bodyAt k s at)
 
--- "input ends .. before the end record": 6 with the input's length
+-- "6 | input ends .. before the end record | .. the input's length"
 abbrev pub ofByte : List ℕ → ℕ → Byte → Record
-ofByte s at Byte.Past = Refused (R.Cut (length s))
+ofByte s at Byte.Past = Refused (refusal 6 (length s))
 ofByte s at (Byte.Is x) = ofKind s at (kindFor x)
 
 -- the record at a place, and the place after it, or 5 or 6

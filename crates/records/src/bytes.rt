@@ -5,9 +5,9 @@ use super::Entry;
 use super::Kind;
 use super::Named;
 use super::Record;
-use super::Refusal;
 use super::Width;
 use super::kinds;
+use refusals::Refusal;
 ghost use mathlib.Core.Path.{_≡_};
 ghost use Prim.Native.Nat.{_+_, _≤_, _<_};
 ghost use lib.ListN.{length};
@@ -74,13 +74,22 @@ pub fn record_at(s: &[u8], at: usize) -> Record
     ensures { λ r. ⌜ r ≡ recordAt (now (s .entry)) at ⌝ }
 {
     let Byte::Is(code) = byte_at(s, at) else {
-        return Record::Refused(Refusal::Cut(s.len()));
+        return Record::Refused(Refusal {
+            number: 6,
+            place: s.len(),
+        });
     };
     let Named::Is(kind) = kinds::kind_for(code) else {
-        return Record::Refused(Refusal::Kind(at));
+        return Record::Refused(Refusal {
+            number: 5,
+            place: at,
+        });
     };
     let Body::Is(entry) = body_at(s, at, kind) else {
-        return Record::Refused(Refusal::Cut(at));
+        return Record::Refused(Refusal {
+            number: 6,
+            place: at,
+        });
     };
     let next = at + kinds::size_of(kind);
     Record::Is(entry, next)

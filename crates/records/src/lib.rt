@@ -7,12 +7,12 @@ pub mod kinds;
 pub mod seconds;
 
 use phases::Phase;
+use refusals::Refusal;
 ghost use mathlib.Core.Path.{_≡_};
 ghost use Prim.Native.Nat.{_+_, _≤_, _<_};
 ghost use lib.ListN.{length};
 ghost use lib.Seq.{sets};
 ghost use Rattle.records.specs.Numbers.{two, four, twoAt, fourAt};
-ghost use Rattle.records.specs.Refusals.{numberOf, placeOf};
 
 // The kinds of the table. Enter, leave, graze, open and closest are document 01's words.
 // A new kind is a case here and a row of `table` and `kinds`, and in the code an arm of `kind_for`, `code_of`, `widths_of`, `is_end`
@@ -91,16 +91,6 @@ pub struct Progress {
     pub crossing: Crossing,
 }
 
-// Why a sheet, or a list of entries, is refused, each with its place. The numbers of document 01: 5, 6, 8, 7, 9, 4.
-pub enum Refusal {
-    Kind(usize),
-    Cut(usize),
-    Order(usize),
-    Field(usize),
-    Trailing(usize),
-    Room(usize),
-}
-
 // The byte at a place.
 pub enum Byte {
     Is(u32),
@@ -117,36 +107,6 @@ pub enum Body {
 pub enum Record {
     Is(Entry, usize),
     Refused(Refusal),
-}
-
-// ---- refusals
-
-// Document 01's number of a refusal.
-pub fn number_of(refusal: Refusal) -> u32
-    ensures { λ r. ⌜ r ≡ numberOf refusal ⌝ }
-{
-    match refusal {
-        Refusal::Kind(_) => 5,
-        Refusal::Cut(_) => 6,
-        Refusal::Order(_) => 8,
-        Refusal::Field(_) => 7,
-        Refusal::Trailing(_) => 9,
-        Refusal::Room(_) => 4,
-    }
-}
-
-// Its place.
-pub fn place_of(refusal: Refusal) -> usize
-    ensures { λ r. ⌜ r ≡ placeOf refusal ⌝ }
-{
-    match refusal {
-        Refusal::Kind(place) => place,
-        Refusal::Cut(place) => place,
-        Refusal::Order(place) => place,
-        Refusal::Field(place) => place,
-        Refusal::Trailing(place) => place,
-        Refusal::Room(place) => place,
-    }
 }
 
 // ---- numbers of two and of four bytes

@@ -4,6 +4,7 @@ use Prim.Native.Nat.{ℕ}
 use mathlib.Core.Bool.{Bool, cond, _&&_, _||_, not}
 use lib.Dec.{leb}
 use Rattle.phases.specs.declared.Phase.{Phase}
+use Rattle.refusals.specs.Refusals.{refusal}
 use Rattle.records.specs.declared.Kind.{Kind}
 use Rattle.records.specs.declared.Kind.the-variants as K
 use Rattle.records.specs.declared.Stage.{Stage}
@@ -12,7 +13,6 @@ use Rattle.records.specs.declared.Crossing.{Crossing}
 use Rattle.records.specs.declared.Crossing.the-variants as C
 use Rattle.records.specs.declared.Progress.{Progress}
 use Rattle.records.specs.declared.Entry.{Entry}
-use Rattle.records.specs.declared.Refusal.the-variants as R
 use Rattle.rules.specs.declared.Judgement.{Judgement}
 use Rattle.rules.specs.declared.Judgement.the-variants.{Next, Broken}
 use Rattle.records.specs.Kinds.{table, plain}
@@ -75,9 +75,10 @@ fieldsHold p e = plain e && table (e .kind) .rule p e
 
 -- ---- the answer
 
--- "in it .. 8, 7": the answer to both tests, of an entry whose record stands at `at`
+-- "in it .. 8, 7": the answer to both tests, of an entry whose record stands at `at`.
+-- "7 | a field breaks a reader's rule | as 5", "8 | order broken | as 5": "first byte of that record"
 abbrev pub verdictOn : ℕ → Bool → Bool → Progress → Judgement
-verdictOn at ordered sound next = cond ordered (cond sound (Next next) (Broken (R.Field at))) (Broken (R.Order at))
+verdictOn at ordered sound next = cond ordered (cond sound (Next next) (Broken (refusal 7 at))) (Broken (refusal 8 at))
 
 -- where it is known whether the entry is plain
 unfoldable pub judgedAs : Bool → Progress → ℕ → Entry → Judgement

@@ -6,8 +6,8 @@ use records::Crossing;
 use records::Entry;
 use records::Kind;
 use records::Progress;
-use records::Refusal;
 use records::Stage;
+use refusals::Refusal;
 ghost use mathlib.Core.Path.{_≡_};
 ghost use mathlib.Core.Bool.{_&&_};
 ghost use Rattle.records.specs.FieldRules.{inWindow, isDirection, headHolds, spanHolds, openHolds, closestHolds};
@@ -128,10 +128,16 @@ fn verdict(at: usize, ordered: bool, sound: bool, next: Progress) -> Judgement
     ensures { λ r. ⌜ r ≡ verdictOn at ordered sound next ⌝ }
 {
     if !ordered {
-        return Judgement::Broken(Refusal::Order(at));
+        return Judgement::Broken(Refusal {
+            number: 8,
+            place: at,
+        });
     }
     if !sound {
-        return Judgement::Broken(Refusal::Field(at));
+        return Judgement::Broken(Refusal {
+            number: 7,
+            place: at,
+        });
     }
     Judgement::Next(next)
 }

@@ -8,9 +8,9 @@ use native.Mathlib.Nat.{zero-add}
 use borrow.Author.Tests.{le-leb, lt-leb}
 use lib.ListN.{length, drop}
 use lib.Seq.{sets, sets-eq}
+use Rattle.refusals.specs.declared.Refusal.{Refusal}
+use Rattle.refusals.specs.Refusals.{refusal}
 use Rattle.records.specs.declared.Entry.{Entry}
-use Rattle.records.specs.declared.Refusal.{Refusal}
-use Rattle.records.specs.declared.Refusal.the-variants as R
 use Rattle.sheets.specs.declared.Extent.the-variants as X
 use Rattle.records.specs.Entries.{numbers, bytes, bytesOf, numbersOf}
 use Rattle.records.specs.EntryLaws.{bytes-nil, bytes-cons, numbers-nil, numbers-cons, length-numbers}
@@ -68,7 +68,7 @@ module _ (w : Sheet) where
   read-refused room r q = rw (extent-refused w r q) (refl, refl)
 
   pub read-short : (room : List ℕ) (m n : ℕ) → X.Sheet m n ≡ extentOf w → length room / 4 < m
-      → (X.Refused (R.Room m) ≡ readInto (length room) w) × (room ≡ roomAfter w room)
+      → (X.Refused (refusal 4 m) ≡ readInto (length room) w) × (room ≡ roomAfter w room)
   read-short room m n q h =
       let x = extent-inv w m n q in
       let t : holds (x .0) (length room) ≡ false = lt-leb (length (x .0)) (length room / 4) (let z : length (x .0) ≡ m = x .2 in omega arith) in
@@ -92,7 +92,7 @@ module _ (w : Sheet) where
   write-refused buf r q = rw (extent-refused w r q) (refl, refl)
 
   pub write-short : (buf : List ℕ) (m n : ℕ) → X.Sheet m n ≡ extentOf w → length buf < n
-      → (X.Refused (R.Room n) ≡ writeInto (length buf) w) × (buf ≡ bufferAfterList w buf)
+      → (X.Refused (refusal 4 n) ≡ writeInto (length buf) w) × (buf ≡ bufferAfterList w buf)
   write-short buf m n q h =
       let x = extent-inv w m n q in
       rw (x .1, lt-leb n (length buf) h) (refl, refl)

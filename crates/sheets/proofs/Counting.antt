@@ -3,9 +3,9 @@
 use Prim.Native.Nat.{ℕ, suc, _+_, _-_, _<_}
 use mathlib.Core.Path.{_≡_, sym, ap, _∙_}
 use mathlib.Core.Bool.{true, false}
+use Rattle.refusals.specs.declared.Refusal.{Refusal}
 use Rattle.records.specs.declared.Entry.{Entry}
 use Rattle.records.specs.declared.Progress.{Progress}
-use Rattle.records.specs.declared.Refusal.{Refusal}
 use Rattle.records.specs.declared.Record.{Record}
 use Rattle.records.specs.declared.Record.the-variants.{Is, Refused}
 use Rattle.rules.specs.declared.Judgement.the-variants.{Next, Broken}

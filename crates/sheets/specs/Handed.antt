@@ -5,11 +5,11 @@ use mathlib.Core.List.{List, _++_}
 use mathlib.Core.Bool.{cond}
 use lib.Dec.{leb, ltb}
 use lib.ListN.{length, getD, drop}
+use Rattle.refusals.specs.Refusals.{refusal}
 use Rattle.records.specs.declared.Kind.{Kind}
 use Rattle.records.specs.declared.Entry.{Entry}
 use Rattle.records.specs.declared.Named.{Named}
 use Rattle.records.specs.declared.Named.the-variants as Named
-use Rattle.records.specs.declared.Refusal.the-variants as R
 use Rattle.records.specs.declared.Record.{Record}
 use Rattle.records.specs.declared.Record.the-variants.{Is, Refused}
 use Rattle.sheets.specs.declared.Extent.{Extent}
@@ -23,15 +23,15 @@ use Rattle.sheets.specs.Sheets.{Sheet, sheet, refused, sheetFrom, alone}
 abbrev pub numbered : List ℕ → ℕ → Kind → Entry
 numbered l i k = record { kind = k; a = getD l (i * 4 + 1) 0; b = getD l (i * 4 + 2) 0; c = getD l (i * 4 + 3) 0; d = 0 }
 
--- "kind not in the table": 5; the place after the record is that of the bytes it would have
+-- "5 | kind not in the table | first byte of that record"; the place after the record is that of the bytes it would have
 abbrev pub ofNamed : List ℕ → ℕ → ℕ → Named → Record
-ofNamed l i at Named.Unknown = Refused (R.Kind at)
+ofNamed l i at Named.Unknown = Refused (refusal 5 at)
 ofNamed l i at (Named.Is k) = Is (numbered l i k) (at + sizeOf k)
 
 -- "6 (the list stops before its end entry) .. at the place their record has or would have": the i-th entry of a list, whose record stands at
 -- byte `at`; the last one to three numbers are an entry cut short
 unfoldable pub handedAt : List ℕ → ℕ → ℕ → Record
-handedAt l i at = cond (leb (i * 4 + 4) (length l)) (ofNamed l i at (kindFor (getD l (i * 4) 0))) (Refused (R.Cut at))
+handedAt l i at = cond (leb (i * 4 + 4) (length l)) (ofNamed l i at (kindFor (getD l (i * 4) 0))) (Refused (refusal 6 at))
 
 -- "Entries handed over to be written meet 5, 8, 7, 6": the sheet of the entries that a list begins with, up to the first end entry
 unfoldable pub listSheet : List ℕ → Sheet
@@ -41,10 +41,10 @@ listSheet l = sheetFrom (handedAt l) (suc (length l)) start 0 0
 unfoldable pub listWhole : List ℕ → Sheet
 listWhole l = alone (λ k n. ltb (k * 4) (length l)) (listSheet l)
 
--- "then 4": "sheet longer than the buffer", with "the length it needs"
+-- "then 4": "4 | sheet longer than the buffer | the length it needs"
 abbrev pub writeInto : ℕ → Sheet → Extent
 writeInto k (refused r) = X.Refused r
-writeInto k (sheet es n) = cond (leb n k) (X.Sheet (length es) n) (X.Refused (R.Room n))
+writeInto k (sheet es n) = cond (leb n k) (X.Sheet (length es) n) (X.Refused (refusal 4 n))
 
 -- "After any refusal the buffer holds its old bytes; after success the bytes past the sheet do"
 abbrev pub bufferAfterList : Sheet → List ℕ → List ℕ

@@ -10,12 +10,12 @@ use native.Mathlib.Numerals.{add-one}
 use borrow.Author.Tests.{le-leb, lt-leb}
 use lib.ListN.{length, getD, drop, length-append}
 use lib.Seq.{getD-append-add, getD-append-seam, drop-cons}
+use Rattle.refusals.specs.declared.Refusal.{Refusal}
+use Rattle.refusals.specs.Refusals.{refusal}
 use Rattle.records.specs.declared.Entry.{Entry}
 use Rattle.records.specs.declared.Named.{Named}
 use Rattle.records.specs.declared.Named.the-variants as Named
 use Rattle.records.specs.declared.Progress.{Progress}
-use Rattle.records.specs.declared.Refusal.{Refusal}
-use Rattle.records.specs.declared.Refusal.the-variants as R
 use Rattle.records.specs.declared.Record.the-variants.{Is, Refused}
 use Rattle.records.specs.Kinds.{codeOf, kindFor, sizeOf, isEnd, plain, table}
 use Rattle.records.specs.KindLaws.{kind-code, kind-inv, size-small, plain-fourth}
@@ -28,7 +28,7 @@ use Rattle.sheets.specs.StandLaws.{Stand, Steady}
 use Rattle.sheets.specs.WellFormed.{WellFormed}
 
 module _ (l : List ℕ) (i at : ℕ) where
-  pub handed-cut : length l < i * 4 + 4 → Refused (R.Cut at) ≡ handedAt l i at
+  pub handed-cut : length l < i * 4 + 4 → Refused (refusal 6 at) ≡ handedAt l i at
   unfolding handedAt
   handed-cut h = rw (lt-leb (i * 4 + 4) (length l) h)
 

@@ -4,7 +4,7 @@ use Prim.Native.Nat.{ℕ, _+_, _*_, _≤_}
 use mathlib.Core.List.{List}
 use lib.ListN.{length}
 use lib.Seq.{sets}
-use Rattle.records.specs.declared.Refusal.the-variants as R
+use Rattle.refusals.specs.Refusals.{refusal}
 use Rattle.records.specs.declared.Record.{Record}
 use Rattle.records.specs.declared.Record.the-variants.{Is, Refused}
 use Rattle.rules.specs.declared.Judgement.{Judgement}
@@ -40,9 +40,9 @@ extent k (refused r) = X.Refused r
 -- a record's refusal, passed on
 abbrev pub refusedOf : Record → Extent
 refusedOf (Refused r) = X.Refused r
-refusedOf (Is e n) = X.Refused (R.Cut n)
+refusedOf (Is e n) = X.Refused (refusal 6 n)
 
 -- a broken rule's refusal, passed on
 abbrev pub brokenOf : Judgement → Extent
 brokenOf (Broken r) = X.Refused r
-brokenOf (Next p) = X.Refused (R.Order 0)
+brokenOf (Next p) = X.Refused (refusal 8 0)

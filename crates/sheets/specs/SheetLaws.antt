@@ -8,9 +8,9 @@ use native.Mathlib.Nat.{zero-add}
 use borrow.Author.Tests.{le-ltb, ltb-false}
 use lib.Dec.{ltb}
 use lib.ListN.{length}
+use Rattle.refusals.specs.declared.Refusal.{Refusal}
+use Rattle.refusals.specs.Refusals.{refusal}
 use Rattle.records.specs.declared.Entry.{Entry}
-use Rattle.records.specs.declared.Refusal.{Refusal}
-use Rattle.records.specs.declared.Refusal.the-variants as R
 use Rattle.sheets.specs.declared.Extent.{Extent}
 use Rattle.sheets.specs.declared.Extent.the-variants as X
 use Rattle.rules.specs.Rules.{start}
@@ -46,14 +46,14 @@ extent-refused (sheet es m) r q = let z : _≡_ {A = ℕ} 0 1 = cc in absurd (om
 
 abbrev pub aloneX : (ℕ → ℕ → Bool) → Extent → Extent
 aloneX over (X.Refused r) = X.Refused r
-aloneX over (X.Sheet k n) = cond (over k n) (X.Refused (R.Trailing n)) (X.Sheet k n)
+aloneX over (X.Sheet k n) = cond (over k n) (X.Refused (refusal 9 n)) (X.Sheet k n)
 
 module _ (over : ℕ → ℕ → Bool) (w : Sheet) where
   pub alone-extent : (x : Extent) → x ≡ extentOf w → extentOf (alone over w) ≡ aloneX over x
   alone-extent x q = by w q
     where
       split : (es : List Entry) (n : ℕ) (b : Bool)
-          → extentOf (cond b (refused (R.Trailing n)) (sheet es n)) ≡ cond b (X.Refused (R.Trailing n)) (X.Sheet (length es) n)
+          → extentOf (cond b (refused (refusal 9 n)) (sheet es n)) ≡ cond b (X.Refused (refusal 9 n)) (X.Sheet (length es) n)
       split es n true = refl
       split es n false = refl
 
@@ -65,7 +65,7 @@ module _ (over : ℕ → ℕ → Bool) (w : Sheet) where
   pub alone-inv : (es : List Entry) (n : ℕ) → alone over w ≡ sheet es n → (w ≡ sheet es n) × (over (length es) n ≡ false)
   alone-inv es n q = by w refl q
     where
-      split : (ds : List Entry) (m : ℕ) (b : Bool) → over (length ds) m ≡ b → w ≡ sheet ds m → cond b (refused (R.Trailing m)) (sheet ds m) ≡ sheet es n
+      split : (ds : List Entry) (m : ℕ) (b : Bool) → over (length ds) m ≡ b → w ≡ sheet ds m → cond b (refused (refusal 9 m)) (sheet ds m) ≡ sheet es n
           → (w ≡ sheet es n) × (over (length es) n ≡ false)
       split ds m true o f t = let z : _≡_ {A = ℕ} 0 1 = cc in absurd (omega arith)
       split ds m false o f t = let i : ds ≡ es = cc in let j : m ≡ n = cc in (f ∙ t, rw (← i, ← j) o)

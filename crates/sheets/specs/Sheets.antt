@@ -5,10 +5,10 @@ use mathlib.Core.List.{List, [], _∷_, _++_}
 use mathlib.Core.Bool.{Bool, cond}
 use lib.Dec.{leb, ltb}
 use lib.ListN.{length, drop}
+use Rattle.refusals.specs.declared.Refusal.{Refusal}
+use Rattle.refusals.specs.Refusals.{refusal}
 use Rattle.records.specs.declared.Entry.{Entry}
 use Rattle.records.specs.declared.Progress.{Progress}
-use Rattle.records.specs.declared.Refusal.{Refusal}
-use Rattle.records.specs.declared.Refusal.the-variants as R
 use Rattle.rules.specs.declared.Judgement.{Judgement}
 use Rattle.rules.specs.declared.Judgement.the-variants.{Next, Broken}
 use Rattle.records.specs.declared.Record.{Record}
@@ -46,7 +46,7 @@ onward (Is e next) go = cond (isEnd (e .kind)) (sheet (e ∷ []) next) (more e (
 -- "Sheets: first faulty record": the sheet from the i-th record on, which stands at byte `at`; `given` gives each, and it is judged by what
 -- came before it. `fuel` bounds the records to come.
 unfoldable pub sheetFrom : (ℕ → ℕ → Record) → ℕ → Progress → ℕ → ℕ → Sheet
-sheetFrom given zero p i at = refused (R.Cut at)
+sheetFrom given zero p i at = refused (refusal 6 at)
 sheetFrom given (suc fuel) p i at = onward (judged p at (given i at)) (λ e next. sheetFrom given fuel (afterOf p e) (i + 1) next)
 
 -- the i-th record of some bytes, which stands at byte `at`
@@ -57,10 +57,10 @@ storedAt s i at = recordAt s at
 unfoldable pub readSheet : List ℕ → Sheet
 readSheet s = sheetFrom (storedAt s) (suc (length s)) start 0 0
 
--- "bytes after the end record": 9 at the first of them; `over` says of the entries' number and the length whether anything follows
+-- "9 | bytes after the end record | first of them": `over` says of the entries' number and the length whether anything follows
 abbrev pub alone : (ℕ → ℕ → Bool) → Sheet → Sheet
 alone over (refused r) = refused r
-alone over (sheet es n) = cond (over (length es) n) (refused (R.Trailing n)) (sheet es n)
+alone over (sheet es n) = cond (over (length es) n) (refused (refusal 9 n)) (sheet es n)
 
 -- the sheet that some bytes are
 unfoldable pub readWhole : List ℕ → Sheet
@@ -78,7 +78,7 @@ holds es k = leb (length es) (k / 4)
 
 abbrev pub readInto : ℕ → Sheet → Extent
 readInto k (refused r) = X.Refused r
-readInto k (sheet es n) = cond (holds es k) (X.Sheet (length es) n) (X.Refused (R.Room (length es)))
+readInto k (sheet es n) = cond (holds es k) (X.Sheet (length es) n) (X.Refused (refusal 4 (length es)))
 
 -- "After any refusal the buffer holds its old bytes; after success the bytes past the sheet do": so too a room and its numbers
 abbrev pub roomAfter : Sheet → List ℕ → List ℕ

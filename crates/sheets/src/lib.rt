@@ -6,7 +6,7 @@ use records::Byte;
 use records::Entry;
 use records::Named;
 use records::Record;
-use records::Refusal;
+use refusals::Refusal;
 use rules::Judgement;
 ghost use mathlib.Core.Path.{_≡_};
 ghost use mathlib.Core.List.{[], _∷_};
@@ -28,7 +28,10 @@ fn refused(got: Record) -> Extent
     ensures { λ r. ⌜ r ≡ refusedOf got ⌝ }
 {
     match got {
-        Record::Is(_, next) => Extent::Refused(Refusal::Cut(next)),
+        Record::Is(_, next) => Extent::Refused(Refusal {
+            number: 6,
+            place: next,
+        }),
         Record::Refused(refusal) => Extent::Refused(refusal),
     }
 }
@@ -38,7 +41,10 @@ fn broken(judged: Judgement) -> Extent
     ensures { λ r. ⌜ r ≡ brokenOf judged ⌝ }
 {
     match judged {
-        Judgement::Next(_) => Extent::Refused(Refusal::Order(0)),
+        Judgement::Next(_) => Extent::Refused(Refusal {
+            number: 8,
+            place: 0,
+        }),
         Judgement::Broken(refusal) => Extent::Refused(refusal),
     }
 }
@@ -54,13 +60,22 @@ pub fn extent_of_leading_sheet(s: &[u8]) -> Extent
     let mut n = 0;
     loop {
         let Byte::Is(code) = records::bytes::byte_at(s, at) else {
-            return Extent::Refused(Refusal::Cut(s.len()));
+            return Extent::Refused(Refusal {
+                number: 6,
+                place: s.len(),
+            });
         };
         let Named::Is(kind) = records::kinds::kind_for(code) else {
-            return Extent::Refused(Refusal::Kind(at));
+            return Extent::Refused(Refusal {
+                number: 5,
+                place: at,
+            });
         };
         let Body::Is(entry) = records::bytes::body_at(s, at, kind) else {
-            return Extent::Refused(Refusal::Cut(at));
+            return Extent::Refused(Refusal {
+                number: 6,
+                place: at,
+            });
         };
         let judged = rules::judge(p, at, true, entry);
         let Judgement::Next(further) = judged else {
@@ -93,7 +108,10 @@ pub fn extent_of_sheet(s: &[u8]) -> Extent
         return found;
     };
     if end < s.len() {
-        return Extent::Refused(Refusal::Trailing(end));
+        return Extent::Refused(Refusal {
+            number: 9,
+            place: end,
+        });
     }
     found
 }
@@ -146,7 +164,10 @@ pub fn read(s: &[u8], room: &mut [u32]) -> Extent
         return found;
     };
     if room.len() / 4 < entries {
-        return Extent::Refused(Refusal::Room(entries));
+        return Extent::Refused(Refusal {
+            number: 4,
+            place: entries,
+        });
     }
     read_entries(s, room);
     found
@@ -162,11 +183,17 @@ fn handed_at(l: &[u32], n: usize, at: usize) -> Record
     let j = n * 4;
     let left = l.len() - j;
     if left < 4 {
-        return Record::Refused(Refusal::Cut(at));
+        return Record::Refused(Refusal {
+            number: 6,
+            place: at,
+        });
     }
     let code = l[j];
     let Named::Is(kind) = records::kinds::kind_for(code) else {
-        return Record::Refused(Refusal::Kind(at));
+        return Record::Refused(Refusal {
+            number: 5,
+            place: at,
+        });
     };
     let a = l[j + 1];
     let b = l[j + 2];
@@ -223,7 +250,10 @@ pub fn extent_of_entries(l: &[u32]) -> Extent
     };
     let held = (l.len() + 3) / 4;
     if entries < held {
-        return Extent::Refused(Refusal::Trailing(length));
+        return Extent::Refused(Refusal {
+            number: 9,
+            place: length,
+        });
     }
     found
 }
@@ -258,7 +288,10 @@ pub fn write(l: &[u32], buf: &mut [u8]) -> Extent
         return found;
     };
     if buf.len() < length {
-        return Extent::Refused(Refusal::Room(length));
+        return Extent::Refused(Refusal {
+            number: 4,
+            place: length,
+        });
     }
     write_records(l, buf);
     found
