@@ -9,13 +9,13 @@ use borrow.Author.Tests.{le-leb, lt-leb, leb-true}
 use lib.Dec.{leb}
 use lib.ListN.{length, drop}
 use lib.Seq.{sets, sets-eq}
-use Rattle.records.specs.declared.Refusal.{Refusal}
-use Rattle.records.specs.declared.Refusal.the-variants as R
+use Rattle.refusals.specs.declared.Refusal.{Refusal}
+use Rattle.refusals.specs.Refusals.{refusal}
 use Rattle.decimals.specs.Texts.{capped, Put}
 use Rattle.decimals.specs.TextLaws.{Capped, low, high, is-capped}
 use Rattle.listings.specs.declared.Text.{Text}
 use Rattle.listings.specs.declared.Text.the-variants as T
-use Rattle.listings.specs.Answers.{Told, text, refusal, answered, roomWith}
+use Rattle.listings.specs.Answers.{Told, text, withheld, answered, roomWith}
 
 -- measured: the length, as far as 64 bits go
 module _ (t none after old : List ℕ) (need : ℕ) (m : Put none 0 t after need) (h : length old < 18446744073709551615) where
@@ -36,9 +36,9 @@ module _ (t none after old : List ℕ) (need : ℕ) (m : Put none 0 t after need
       by (low l e) = need-is ∙ e
       by (high l e) = absurd (omega (arith, need-is))
 
-  pub text-short : length old < need → (T.Refused (R.Room need) ≡ answered (length old) (text t)) × (old ≡ roomWith (text t) old)
+  pub text-short : length old < need → (T.Refused (refusal 4 need) ≡ answered (length old) (text t)) × (old ≡ roomWith (text t) old)
   unfolding answered roomWith
-  text-short g = rw (lt-leb (length t) (length old) (is-longer g)) (ap (λ k. T.Refused (R.Room k)) need-is, refl)
+  text-short g = rw (lt-leb (length t) (length old) (is-longer g)) (ap (λ k. T.Refused (refusal 4 k)) need-is, refl)
 
   pub text-full : need ≤ length old → (new : List ℕ) (r : ℕ) → Put old 0 t new r
       → (T.Written need ≡ answered (length old) (text t)) × (new ≡ roomWith (text t) old)
@@ -51,9 +51,9 @@ module _ (t none after old : List ℕ) (need : ℕ) (m : Put none 0 t after need
 -- what was written lies within the room of k bytes, also where its length is given as m
 pub written-within : (k m n : ℕ) (r : Text) (t : Told) → r ≡ answered k t → r ≡ T.Written n → m ≡ k → n ≤ m
 unfolding answered
-written-within k m n r (refusal x) a w l = let z : _≡_ {A = ℕ} 0 1 = cc in absurd (omega arith)
+written-within k m n r (withheld x) a w l = let z : _≡_ {A = ℕ} 0 1 = cc in absurd (omega arith)
 written-within k m n r (text t) a w l = by (leb (length t) k) refl (sym w ∙ a)
   where
-    by : (b : Bool) → leb (length t) k ≡ b → T.Written n ≡ cond b (T.Written (length t)) (T.Refused (R.Room (capped (length t)))) → n ≤ m
+    by : (b : Bool) → leb (length t) k ≡ b → T.Written n ≡ cond b (T.Written (length t)) (T.Refused (refusal 4 (capped (length t)))) → n ≤ m
     by true b e = let h : n ≡ length t = cc in omega (arith, leb-true (length t) k b)
     by false b e = let z : _≡_ {A = ℕ} 0 1 = cc in absurd (omega arith)

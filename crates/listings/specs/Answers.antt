@@ -5,8 +5,8 @@ use mathlib.Core.List.{List, _++_}
 use mathlib.Core.Bool.{cond}
 use lib.Dec.{leb}
 use lib.ListN.{length, drop}
-use Rattle.records.specs.declared.Refusal.{Refusal}
-use Rattle.records.specs.declared.Refusal.the-variants as R
+use Rattle.refusals.specs.declared.Refusal.{Refusal}
+use Rattle.refusals.specs.Refusals.{refusal}
 use Rattle.decimals.specs.Texts.{capped}
 use Rattle.listings.specs.declared.Text.{Text}
 use Rattle.listings.specs.declared.Text.the-variants.{Written, Refused}
@@ -14,14 +14,14 @@ use Rattle.listings.specs.declared.Text.the-variants.{Written, Refused}
 -- a text, or a refusal in its place
 pub data Told : Type 0 where
   text : List ℕ → Told
-  refusal : Refusal → Told
+  withheld : Refusal → Told
 
--- the refusal; or 4 with "the length it needs" where the room, of k bytes, is shorter than the text; or the text's length
+-- the refusal; or "4 | sheet longer than the buffer | the length it needs", said of a text and its room of k bytes; or the text's length
 unfoldable pub answered : ℕ → Told → Text
-answered k (refusal r) = Refused r
-answered k (text t) = cond (leb (length t) k) (Written (length t)) (Refused (R.Room (capped (length t))))
+answered k (withheld r) = Refused r
+answered k (text t) = cond (leb (length t) k) (Written (length t)) (Refused (refusal 4 (capped (length t))))
 
 -- "After any refusal the buffer holds its old bytes; after success the bytes past the sheet do": past the text
 unfoldable pub roomWith : Told → List ℕ → List ℕ
-roomWith (refusal r) room = room
+roomWith (withheld r) room = room
 roomWith (text t) room = cond (leb (length t) (length room)) (t ++ drop (length t) room) room

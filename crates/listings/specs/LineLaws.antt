@@ -4,10 +4,9 @@ use mathlib.Core.Path.{_≡_}
 use mathlib.Core.List.{List, [], _∷_, _++_}
 use lib.IntN.{ℤ}
 use lib.ListN.{length}
+use Rattle.refusals.specs.declared.Refusal.{Refusal}
 use Rattle.records.specs.declared.Kind.{Kind}
 use Rattle.records.specs.declared.Entry.{Entry}
-use Rattle.records.specs.declared.Refusal.{Refusal}
-use Rattle.records.specs.Refusals.{numberOf, placeOf}
 use Rattle.sheets.specs.declared.Extent.{Extent}
 use Rattle.sheets.specs.declared.Extent.the-variants as X
 use Rattle.decimals.specs.Texts.{letters, Put}
@@ -50,10 +49,9 @@ module _ (x : Extent) (old : List ℕ) (at : ℕ) (new : List ℕ) (r : ℕ) whe
   unfolding extentText
   put-sheet entries n q p = rw q p
 
-  pub put-refused-extent : (f : Refusal) (number place : ℕ) → x ≡ X.Refused f → number ≡ numberOf f → place ≡ placeOf f
-      → Put old at (refusalText number place) new r → Put old at (extentText x) new r
+  pub put-refused-extent : (f : Refusal) → x ≡ X.Refused f → Put old at (refusalText (f .number) (f .place)) new r → Put old at (extentText x) new r
   unfolding extentText
-  put-refused-extent f number place q n m p = rw (q, ← n, ← m) p
+  put-refused-extent f q p = rw q p
 
 pub put-refusal-end : (number place : ℕ) (old mid new : List ℕ) (r q : ℕ) → length old < 18446744073709551616
     → Put old 0 (refusalText number place) mid r → Put mid r (letters "\n") new q → Put old 0 (refusalLine number place) new q

@@ -10,7 +10,6 @@ use Rattle.records.specs.declared.Kind.{Kind}
 use Rattle.records.specs.declared.Kind.the-variants.{Head, Enter, Leave, Graze, Open, Closest, End}
 use Rattle.records.specs.declared.Entry.{Entry}
 use Rattle.records.specs.StoredSeconds.{secondOf}
-use Rattle.records.specs.Refusals.{numberOf, placeOf}
 use Rattle.sheets.specs.declared.Extent.{Extent}
 use Rattle.sheets.specs.declared.Extent.the-variants as X
 use Rattle.decimals.specs.Decimals.{decimal}
@@ -69,4 +68,4 @@ refusalLine number place = refusalText number place ++ letters "\n"
 -- what a reader or a writer answers, in the programs that print it: how many entries and bytes, or the refusal
 unfoldable pub extentText : Extent → List ℕ
 extentText (X.Sheet entries n) = two (letters "sheet ") entries n
-extentText (X.Refused r) = refusalText (numberOf r) (placeOf r)
+extentText (X.Refused r) = refusalText (r .number) (r .place)

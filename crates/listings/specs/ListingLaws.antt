@@ -5,16 +5,15 @@ use mathlib.Core.List.{List, [], _∷_, _++_}
 use mathlib.Core.Bool.{true, false}
 use native.Mathlib.Omega.{arith}
 use lib.ListN.{length}
+use Rattle.refusals.specs.declared.Refusal.{Refusal}
+use Rattle.refusals.specs.Refusals.{refusal}
 use Rattle.records.specs.declared.Entry.{Entry}
 use Rattle.records.specs.declared.Progress.{Progress}
-use Rattle.records.specs.declared.Refusal.{Refusal}
-use Rattle.records.specs.declared.Refusal.the-variants as R
 use Rattle.records.specs.declared.Record.the-variants.{Is, Refused}
 use Rattle.records.specs.Kinds.{isEnd}
 use Rattle.rules.specs.Rules.{start, afterOf}
 use Rattle.records.specs.Records.{recordAt}
 use Rattle.records.specs.RecordLaws.{record-bounds}
-use Rattle.records.specs.Refusals.{numberOf, placeOf}
 use Rattle.sheets.specs.declared.Extent.the-variants as X
 use Rattle.sheets.specs.Sheets.{Sheet, sheet, refused, sheetFrom, storedAt, readSheet, readWhole, extentOf}
 use Rattle.sheets.specs.SheetLaws.{read-start, extent-inv, extent-refused, whole-same}
@@ -136,10 +135,10 @@ module _ (s old out : List ℕ) (from at : ℕ) (f : Laying s old out from at) w
 -- ---- measured, then put
 
 module _ (w : Sheet) (none after old : List ℕ) (need : ℕ) (m : Laid w none after need) (h : length old < 18446744073709551615) where
-  pub sheet-short : length old < need → (T.Refused (R.Room need) ≡ answered (length old) (listingOf w)) × (old ≡ roomWith (listingOf w) old)
+  pub sheet-short : length old < need → (T.Refused (refusal 4 need) ≡ answered (length old) (listingOf w)) × (old ≡ roomWith (listingOf w) old)
   sheet-short g = by w m
     where
-      by : (v : Sheet) → Laid v none after need → (T.Refused (R.Room need) ≡ answered (length old) (listingOf v)) × (old ≡ roomWith (listingOf v) old)
+      by : (v : Sheet) → Laid v none after need → (T.Refused (refusal 4 need) ≡ answered (length old) (listingOf v)) × (old ≡ roomWith (listingOf v) old)
       by (refused r) q = absurd q
       by (sheet es n) q = text-short (linesOf es) none after old need q h g
 
@@ -171,7 +170,7 @@ whole-told s m n old new r q a b = rw (whole-same s m n q) (a, b)
 -- ---- what is printed
 
 pub refused-printed : (s : List ℕ) (r : Refusal) (old new : List ℕ) (q : ℕ) → X.Refused r ≡ extentOf (readWhole s)
-    → Put old 0 (refusalLine (numberOf r) (placeOf r)) new q → Put old 0 (printed (told s)) new q
+    → Put old 0 (refusalLine (r .number) (r .place)) new q → Put old 0 (printed (told s)) new q
 unfolding told
 refused-printed s r old new q x p = rw (extent-refused (readWhole s) r x) p
 

@@ -2,12 +2,11 @@
 pub mod lines;
 
 use records::Record;
-use records::Refusal;
+use refusals::Refusal;
 use sheets::Extent;
 ghost use mathlib.Core.Path.{_≡_};
 ghost use lib.ListN.{length};
 ghost use Rattle.sheets.specs.Sheets.{readSheet};
-ghost use Rattle.records.specs.Refusals.{numberOf, placeOf};
 ghost use Rattle.decimals.specs.Texts.{Put};
 ghost use Rattle.listings.specs.Lines.{refusalLine};
 ghost use Rattle.listings.specs.Answers.{text, answered, roomWith};
@@ -49,7 +48,10 @@ fn lay(sheet: &[u8], out: &mut [u8]) -> Text
     let mut none = [0u8; 0];
     let need = put_lines(sheet, &mut none);
     if out.len() < need {
-        return Text::Refused(Refusal::Room(need));
+        return Text::Refused(Refusal {
+            number: 4,
+            place: need,
+        });
     }
     put_lines(sheet, out);
     Text::Written(need)
@@ -70,11 +72,12 @@ pub fn listing(sheet: &[u8], out: &mut [u8]) -> Text
     }
 }
 
-fn put_refused(refusal: Refusal, out: &mut [u8]) -> usize
-    ensures { λ r. ⌜ Put (now (out .entry)) 0 (refusalLine (numberOf refusal) (placeOf refusal)) (now (out .exit)) r ⌝ }
+// The line of a refusal at the room's start, as far as the room goes; and the place after it.
+pub fn put_refused(refusal: Refusal, out: &mut [u8]) -> usize
+    ensures { λ r. ⌜ Put (now (out .entry)) 0 (refusalLine (refusal .number) (refusal .place)) (now (out .exit)) r ⌝ }
 {
-    let number = records::number_of(refusal) as u64;
-    let place = records::place_of(refusal) as u64;
+    let number = refusal.number as u64;
+    let place = refusal.place as u64;
     lines::put_refusal_line(out, number, place)
 }
 
@@ -101,7 +104,10 @@ pub fn refusal_line(number: u64, place: u64, out: &mut [u8]) -> Text
     let mut none = [0u8; 0];
     let need = lines::put_refusal_line(&mut none, number, place);
     if out.len() < need {
-        return Text::Refused(Refusal::Room(need));
+        return Text::Refused(Refusal {
+            number: 4,
+            place: need,
+        });
     }
     lines::put_refusal_line(out, number, place);
     Text::Written(need)

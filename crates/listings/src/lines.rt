@@ -128,8 +128,8 @@ pub fn put_extent(out: &mut [u8], at: usize, extent: Extent) -> usize
             length as u64,
         ),
         Extent::Refused(refusal) => {
-            let number = records::number_of(refusal) as u64;
-            let place = records::place_of(refusal) as u64;
+            let number = refusal.number as u64;
+            let place = refusal.place as u64;
             put_refusal(out, at, number, place)
         }
     }

@@ -16,14 +16,8 @@ put-two-requires c κs = search needs
 enum-known-extent-2 : tie.Need-enum-known-extent-2
 enum-known-extent-2 c = search needs
 
-number-of-requires : tie.Need-number-of-requires
-number-of-requires c κs = search needs
-
 cast-number : tie.Need-cast-number
 cast-number c = search needs
-
-place-of-requires : tie.Need-place-of-requires
-place-of-requires c κs = search needs
 
 put-refusal-requires : tie.Need-put-refusal-requires
 put-refusal-requires c κs = search needs
@@ -39,9 +33,7 @@ same-length-2 c = search needs
 
 returns-2 : tie.Need-returns-2
 returns-2 c =
-    let p = c .before .before .before .before in
-    put-refused-extent _ _ _ _ _ _ _ _ (p .before .before .before .extent2 .given .1) (p .before .number-of .ensures) (p .place-of .ensures)
-    (c .before .before .put-refusal .ensures)
+    put-refused-extent _ _ _ _ _ _ (c .before .before .before .before .before .before .extent2 .given .1) (c .before .before .put-refusal .ensures)
 
 pub put-extent-spec : {M : Type 1} → statement M
 put-extent-spec =
@@ -51,9 +43,7 @@ put-extent-spec =
     slice-aggregate-put-two
     put-two-requires
     enum-known-extent-2
-    number-of-requires
     cast-number
-    place-of-requires
     put-refusal-requires
     same-length
     returns
