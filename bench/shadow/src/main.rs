@@ -100,16 +100,18 @@ fn rust_halved(r: &Request) -> u64 {
     sum
 }
 
+/// The axis, then each cone, as the library's struct has them.
 fn parts(r: &Request) -> (Elements, Station) {
     let e = &r.elements;
     let mut f = Vec::new();
     f.extend(e.x);
     f.extend(e.y);
     f.extend(e.d);
-    f.extend(e.l1);
-    f.extend(e.l2);
     f.extend(e.mu);
-    f.extend([e.tan_f1, e.tan_f2]);
+    f.extend(e.l1);
+    f.push(e.tan_f1);
+    f.extend(e.l2);
+    f.push(e.tan_f2);
     let s = &r.station;
     (Elements(f.try_into().unwrap()), Station([s.number, s.latitude, s.longitude, s.height]))
 }

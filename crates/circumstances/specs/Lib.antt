@@ -1,14 +1,7 @@
-pub mod Requests
-pub mod Seconds
+-- what to believe: the sheet of a request, the answer and the buffer, demand 3 of them, document 01's marked rows
 pub mod Sheet
 pub mod Demand3
-pub mod LimitsLaws
-pub mod SecondsLaws
-pub mod Demand3Laws
-pub mod SheetLaws
-pub mod Filled
-pub mod Sizes
-pub mod Stores
-pub mod Claims
 pub mod Marked
-pub mod OneSecond
+-- laws, for callers and for the proofs
+pub mod CourseSound
+pub mod Claims

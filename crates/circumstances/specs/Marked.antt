@@ -10,47 +10,36 @@ use Rattle.sine.specs.FirstQuadrant.{arc, sag, between, capped, firstQuadrant}
 use Rattle.sine.specs.Sine.{reduced, sineIn, sine, cosine}
 use Rattle.sine.specs.Examples.{sine-of-30, sine-of-least, sine-capped, cosine-of-180}
 use Rattle.elements.specs.declared.Elements.{Elements}
-use Rattle.elements.specs.Polynomial.{step, value2, value3}
+use Rattle.elements.specs.Polynomial.{step, quadraticAt, cubicAt}
 use Rattle.station.specs.declared.Station.{Station}
-use Rattle.station.specs.Place.{under, W, C, Z, h, R, P}
+use Rattle.station.specs.Place.{under, W, C, Z, h, R, P, placeOf}
 use Rattle.station.specs.Examples.{pole-R, pole-P, equator-R, equator-P}
-use Rattle.geometry.specs.Shadow.{H, q, ξ, η, ζ, x, y, l, u, v, L, penumbra, state}
+use Rattle.geometry.specs.Shadow.{H, q, ξ, η, ζ, u, v, L, state}
 use Rattle.geometry.specs.Direction.{direction}
 use Rattle.shadow.specs.Second as Shadow
 use Rattle.shadow.specs.Examples.{direction-of-1-1, direction-of-0-minus-5}
 use Rattle.contacts.specs.Entries.{someBetween}
-use Rattle.records.specs.declared.Entry.the-variants.{Open}
-use Rattle.records.specs.declared.Family.the-variants.{Penumbra}
-use Rattle.circumstances.specs.declared.Request.{Request}
-use Rattle.circumstances.specs.Seconds.{stateAt, secondsOf, statesOf}
-use Rattle.circumstances.specs.Sheet.{stored, phaseOf}
+use Rattle.phases.specs.declared.Phase.the-variants.{Penumbra}
+use Rattle.requests.specs.declared.Request.{Request}
+use Rattle.requests.specs.Windows.{secondCount, eachSecond}
+use Rattle.seconds.specs.Seconds.{stateAt}
+use Rattle.records.specs.Entries.{opened}
+use Rattle.records.specs.StoredSeconds.{stored}
+use Rattle.courses.specs.Courses.{statesOf, phaseEntries}
+use Rattle.circumstances.specs.Sheet.{courseOf}
 
 -- "x1 = 36,000,000, y0 = 99,664,768, l1 = 54,000,000, l2 = -1,000,000, μ1 = 15,000,000, tan f1 = 460,000, tan f2 = 458,000, all other elements 0"
 abbrev elements : Elements
 elements =
     record {
-      x0 = pos 0;
-      x1 = pos 36000000;
-      x2 = pos 0;
-      x3 = pos 0;
-      y0 = pos 99664768;
-      y1 = pos 0;
-      y2 = pos 0;
-      y3 = pos 0;
-      d0 = pos 0;
-      d1 = pos 0;
-      d2 = pos 0;
-      l10 = pos 54000000;
-      l11 = pos 0;
-      l12 = pos 0;
-      l20 = negsuc 999999;
-      l21 = pos 0;
-      l22 = pos 0;
-      mu0 = pos 0;
-      mu1 = pos 15000000;
-      mu2 = pos 0;
-      tanf1 = pos 460000;
-      tanf2 = pos 458000;
+      axis = record {
+        x = record { c0 = pos 0; c1 = pos 36000000; c2 = pos 0; c3 = pos 0 };
+        y = record { c0 = pos 99664768; c1 = pos 0; c2 = pos 0; c3 = pos 0 };
+        d = record { c0 = pos 0; c1 = pos 0; c2 = pos 0 };
+        mu = record { c0 = pos 0; c1 = pos 15000000; c2 = pos 0 };
+      };
+      penumbra = record { l = record { c0 = pos 54000000; c1 = pos 0; c2 = pos 0 }; tanf = pos 460000 };
+      central = record { l = record { c0 = negsuc 999999; c1 = pos 0; c2 = pos 0 }; tanf = pos 458000 };
     }
 
 -- "station 7, latitude 90,000,000, longitude 0, height 0"
@@ -61,8 +50,9 @@ abbrev pub hand-worked : (first last : ℤ) → Request
 hand-worked first last = record { elements = elements; station = pole; window = record { first = first; last = last } }
 
 -- "window 5400..5400 gives open 5400 5400": the penumbra has that one entry, stored plus 10,800
-open-5400 : phaseOf (hand-worked (pos 5400) (pos 5400)) penumbra ≡ Open Penumbra 16200 16200 ∷ []
-unfolding near root factorial numerator denominator common term series S arc sag between capped firstQuadrant reduced sineIn sine cosine under W C Z h R P step value2 value3 H q ξ η ζ x y l u v L state Shadow.stateAt stateAt secondsOf statesOf stored phaseOf someBetween
+open-5400 : phaseEntries (courseOf (hand-worked (pos 5400) (pos 5400))) Penumbra ≡ opened Penumbra 16200 16200 ∷ []
+unfolding near root factorial numerator denominator common term series S arc sag between capped firstQuadrant reduced sineIn sine cosine under W C Z h R P placeOf
+    step quadraticAt cubicAt H q ξ η ζ u v L state Shadow.stateAt stateAt secondCount eachSecond statesOf stored phaseEntries someBetween
 open-5400 = refl
 
 pub record Marked : Type 0 where
@@ -84,7 +74,7 @@ pub record Marked : Type 0 where
   pub place-3 : R (pos 0) (pos 0) ≡ pos 100000000
   pub place-4 : P (pos 0) (pos 0) ≡ pos 0
   -- "with the elements above, window 5400..5400 gives open 5400 5400"
-  pub open-1 : phaseOf (hand-worked (pos 5400) (pos 5400)) penumbra ≡ Open Penumbra 16200 16200 ∷ []
+  pub open-1 : phaseEntries (courseOf (hand-worked (pos 5400) (pos 5400))) Penumbra ≡ opened Penumbra 16200 16200 ∷ []
 
 pub marked : Marked
 marked =

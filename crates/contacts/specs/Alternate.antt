@@ -1,29 +1,16 @@
 -- Enters and leaves alternate.
 use Prim.Native.Nat.{ℕ, _+_, _-_, _<_}
 use mathlib.Core.Path.{_≡_, refl}
-use mathlib.Core.List.{List, [], _∷_, _++_}
+use mathlib.Core.List.{List, _++_}
 use mathlib.Core.Bool.{Bool, true, false}
 use native.Mathlib.Omega.{arith}
 use lib.Dec.{ltb}
 use lib.ListN.{length}
 use Rattle.contacts.specs.declared.Entry.{Entry}
-use Rattle.contacts.specs.declared.Entry.the-variants.{Enter, Leave, Graze, Open}
+use Rattle.contacts.specs.declared.Entry.the-variants.{Graze, Open}
 use Rattle.contacts.specs.Entries.{State, sure, unsure, Last, none, last, stateAt, if-so, atSecond, passed, atEnd, entries, someBetween}
+use Rattle.contacts.specs.Exact.{Turn, neither, entered, left, Alternate}
 use Rattle.contacts.specs.Induction.{Known, along-walk}
-
--- the last enter or leave so far
-pub data Turn : Type 0 where
-  neither : Turn
-  entered : Turn
-  left : Turn
-
--- "no two of one kind follow each other by time, grazes and opens passed over", after the given turn
-abbrev pub Alternate : Turn → List Entry → Type 0
-Alternate t [] = Unit
-Alternate t (Enter from to ∷ es) = (t ≡ entered → ⊥) × Alternate entered es
-Alternate t (Leave from to ∷ es) = (t ≡ left → ⊥) × Alternate left es
-Alternate t (Graze from to ∷ es) = Alternate t es
-Alternate t (Open from to ∷ es) = Alternate t es
 
 abbrev pub EntriesAlternate : Type 0
 EntriesAlternate = (s : List ℕ) → Alternate neither (entries s)

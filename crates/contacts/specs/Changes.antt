@@ -13,23 +13,10 @@ use Rattle.contacts.specs.declared.Entry.{Entry}
 use Rattle.contacts.specs.declared.Entry.the-variants.{Enter, Leave, Graze, Open}
 use Rattle.contacts.specs.Entries.{State, sure, unsure, Last, none, last, stateAt, if-so, between, atSecond, passed, atEnd, entries, from, to, someBetween}
 use Rattle.contacts.specs.BetweenLaws.{between-some}
-use Rattle.contacts.specs.Exact.{Says, Agrees, Change}
+use Rattle.contacts.specs.Exact.{Says, Agrees, Change, once, howMany}
 use Rattle.contacts.specs.ExactLaws.{says}
 use Rattle.contacts.specs.Induction.{Known, along-walk}
 use Rattle.contacts.specs.Ordered.{Chain, start, chain-end, chain-second}
-
--- "It lies in an entry if both seconds are in from..to": the seconds k and k + 1
-abbrev pub liesIn : ℕ → Entry → Bool
-liesIn k e = leb (from e) k && leb (k + 1) (to e)
-
--- in how many entries of a list they lie
-abbrev pub once : Bool → ℕ
-once true = 1
-once false = 0
-
-abbrev pub howMany : ℕ → List Entry → ℕ
-howMany k [] = 0
-howMany k (e ∷ es) = once (liesIn k e) + howMany k es
 
 abbrev pub EachChangeInOne : Type 1
 EachChangeInOne = (Inside : ℕ → Type 0) (s : List ℕ) → Agrees Inside s → (k : ℕ) → k + 1 < length s → Change Inside k → howMany k (entries s) ≡ 1

@@ -9,15 +9,8 @@ use Rattle.contacts.specs.Entries.{sure, entries, All}
 use Rattle.contacts.specs.CalledFor.{CalledFor}
 use Rattle.contacts.specs.CalledForLaws.{each-called-for}
 use Rattle.contacts.specs.AllLaws.{all-map}
-use Rattle.contacts.specs.Exact.{Outside, Agrees}
+use Rattle.contacts.specs.Exact.{Agrees, ExactEnds}
 use Rattle.contacts.specs.ExactLaws.{says}
-
--- "A graze or open entry claims no change, though changes may lie in it."
-abbrev pub ExactEnds : (ℕ → Type 0) → Entry → Type 0
-ExactEnds Inside (Enter f t) = Outside Inside f × Inside t
-ExactEnds Inside (Leave f t) = Inside f × Outside Inside t
-ExactEnds Inside (Graze f t) = Unit
-ExactEnds Inside (Open f t) = Unit
 
 abbrev pub EachEndExact : Type 1
 EachEndExact = (Inside : ℕ → Type 0) (s : List ℕ) → Agrees Inside s → All (ExactEnds Inside) (entries s)

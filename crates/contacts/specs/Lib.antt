@@ -9,11 +9,10 @@ pub mod CalledForLaws
 pub mod Ordered
 pub mod Alternate
 pub mod WellFormed
-pub mod Number
 pub mod ExactLaws
 pub mod Ends
 pub mod Changes
-pub mod Answers
+pub mod Shifted
 pub mod StepLaws
 -- What the laws are proved by.
 pub mod AllLaws

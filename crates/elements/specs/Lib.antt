@@ -1,4 +1,5 @@
 pub mod Polynomial
 pub mod PolynomialLaws
 pub mod Elements
+pub mod ElementsLaws
 pub mod Sizes

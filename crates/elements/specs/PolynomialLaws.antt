@@ -4,9 +4,13 @@ use native.Mathlib.Omega.{arith}
 use lib.IntN.{ℤ, natAbs, _*ℤ_}
 use lib.Signed.{leZ-yes}
 use Rattle.numbers.specs.Order.{natAbs-sum, natAbs-product-le}
+use Rattle.numbers.specs.Units.{hour}
 use Rattle.numbers.specs.Near.{near}
 use Rattle.numbers.specs.NearLaws.{near-size}
-use Rattle.elements.specs.Polynomial.{hour, step, value2, value3}
+use Rattle.elements.specs.declared.Cubic.{Cubic}
+use Rattle.elements.specs.declared.Quadratic.{Quadratic}
+use Rattle.elements.specs.Polynomial.{step, quadraticAt, cubicAt}
+use Rattle.elements.specs.Sizes.{QuadraticSizes, CubicSizes}
 
 -- p per hour, for τ seconds
 pub part-size : (τ p : ℤ) (A : ℕ) → natAbs τ ≤ 10800 → natAbs p ≤ A → natAbs (near (p *ℤ τ) hour) ≤ 3 * A
@@ -16,16 +20,14 @@ pub step-size : (τ p a : ℤ) (A B : ℕ) → natAbs τ ≤ 10800 → natAbs p 
 unfolding step
 step-size τ p a A B ht hp ha = omega (arith, natAbs-sum (near (p *ℤ τ) hour) a, part-size τ p A ht hp)
 
-pub value2-size : (τ c0 c1 c2 : ℤ) (A B C : ℕ) → natAbs τ ≤ 10800 → natAbs c0 ≤ A → natAbs c1 ≤ B → natAbs c2 ≤ C
-    → natAbs (value2 τ c0 c1 c2) ≤ A + 3 * B + 9 * C
-unfolding value2
-value2-size τ c0 c1 c2 A B C ht h0 h1 h2 =
-    omega (arith, step-size τ (step τ c2 c1) c0 (3 * C + B) A ht (step-size τ c2 c1 C B ht h2 h1) h0)
+pub quadratic-size : (q : Quadratic) {A B C : ℕ} → QuadraticSizes A B C q → (τ : ℤ) → natAbs τ ≤ 10800 → natAbs (quadraticAt q τ) ≤ A + 3 * B + 9 * C
+unfolding quadraticAt
+quadratic-size q {A} {B} {C} h τ t =
+    omega (arith, step-size τ (step τ (q .c2) (q .c1)) (q .c0) (3 * C + B) A t (step-size τ (q .c2) (q .c1) C B t (h .c2) (h .c1)) (h .c0))
 
-pub value3-size : (τ c0 c1 c2 c3 : ℤ) (A B C E : ℕ) → natAbs τ ≤ 10800 → natAbs c0 ≤ A → natAbs c1 ≤ B → natAbs c2 ≤ C → natAbs c3 ≤ E
-    → natAbs (value3 τ c0 c1 c2 c3) ≤ A + 3 * B + 9 * C + 27 * E
-unfolding value3
-value3-size τ c0 c1 c2 c3 A B C E ht h0 h1 h2 h3 =
-    let s2 = step-size τ c3 c2 E C ht h3 h2 in
-    let s1 = step-size τ (step τ c3 c2) c1 (3 * E + C) B ht s2 h1 in
-    omega (arith, step-size τ (step τ (step τ c3 c2) c1) c0 (3 * (3 * E + C) + B) A ht s1 h0)
+pub cubic-size : (c : Cubic) → CubicSizes c → (τ : ℤ) → natAbs τ ≤ 10800 → natAbs (cubicAt c τ) ≤ 501170000
+unfolding cubicAt
+cubic-size c h τ t =
+    let s2 = step-size τ (c .c3) (c .c2) 10000 100000 t (h .c3) (h .c2) in
+    let s1 = step-size τ (step τ (c .c3) (c .c2)) (c .c1) 130000 100000000 t (omega (arith, s2)) (h .c1) in
+    omega (arith, step-size τ (step τ (step τ (c .c3) (c .c2)) (c .c1)) (c .c0) 100390000 200000000 t (omega (arith, s1)) (h .c0))

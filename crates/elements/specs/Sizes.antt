@@ -1,71 +1,114 @@
 -- Elements in their ranges, as sizes: what the shadow's code and its errors lean on.
 use mathlib.Core.Path.{_≡_}
-use Prim.Native.Nat.{_≤_}
+use Prim.Native.Nat.{ℕ, _≤_}
+use native.Mathlib.Omega.{arith}
+use lib.Dec.{lit≤}
 use lib.IntN.{pos, natAbs}
-use lib.Signed.{_≤ℤ_, leZ-yes}
-use Rattle.numbers.specs.declared.Limits.the-variants.{Within}
-use Rattle.numbers.specs.LimitsLaws.{within-inside}
-use Rattle.numbers.specs.Order.{≤ℤ-trans, natAbs-le, natAbs-between}
+use lib.Signed.{_≤ℤ_}
+use Rattle.numbers.specs.declared.Limits.the-variants.{InRange}
+use Rattle.numbers.specs.LimitsLaws.{each-in-range}
+use Rattle.numbers.specs.Order.{natAbs-le, natAbs-between}
+use Rattle.elements.specs.declared.Cubic.{Cubic}
+use Rattle.elements.specs.declared.Quadratic.{Quadratic}
+use Rattle.elements.specs.declared.Axis.{Axis}
+use Rattle.elements.specs.declared.Cone.{Cone}
 use Rattle.elements.specs.declared.Elements.{Elements}
-use Rattle.elements.specs.Elements.{fields, lows, highs, rangeOf}
+use Rattle.elements.specs.Elements.{ranges, rangeOf}
 
-pub record Sized (e : Elements) : Type 0 where
-  pub x0 : natAbs (e .x0) ≤ 200000000
-  pub x1 : natAbs (e .x1) ≤ 100000000
-  pub x2 : natAbs (e .x2) ≤ 100000
-  pub x3 : natAbs (e .x3) ≤ 10000
-  pub y0 : natAbs (e .y0) ≤ 200000000
-  pub y1 : natAbs (e .y1) ≤ 100000000
-  pub y2 : natAbs (e .y2) ≤ 100000
-  pub y3 : natAbs (e .y3) ≤ 10000
-  pub d0 : natAbs (e .d0) ≤ 25000000
-  pub d1 : natAbs (e .d1) ≤ 20000
-  pub d2 : natAbs (e .d2) ≤ 100
-  pub l10 : natAbs (e .l10) ≤ 60000000
-  pub l11 : natAbs (e .l11) ≤ 100000
-  pub l12 : natAbs (e .l12) ≤ 10000
-  pub l20 : natAbs (e .l20) ≤ 5000000
-  pub l21 : natAbs (e .l21) ≤ 100000
-  pub l22 : natAbs (e .l22) ≤ 10000
-  pub mu0 : natAbs (e .mu0) ≤ 359999999
-  pub mu1 : natAbs (e .mu1) ≤ 15100000
-  pub mu2 : natAbs (e .mu2) ≤ 100
-  pub tanf1 : natAbs (e .tanf1) ≤ 500000
-  pub tanf2 : natAbs (e .tanf2) ≤ 500000
-  -- the penumbra's radius is not near zero, and the tangents are not negative
-  pub l10-low : pos 50000000 ≤ℤ e .l10
-  pub tanf1-low : pos 0 ≤ℤ e .tanf1
-  pub tanf2-low : pos 0 ≤ℤ e .tanf2
+-- x and y
+pub record CubicSizes (c : Cubic) : Type 0 where
+  pub c0 : natAbs (c .c0) ≤ 200000000
+  pub c1 : natAbs (c .c1) ≤ 100000000
+  pub c2 : natAbs (c .c2) ≤ 100000
+  pub c3 : natAbs (c .c3) ≤ 10000
+
+-- d, l and μ, each with its own
+pub record QuadraticSizes (A B C : ℕ) (q : Quadratic) : Type 0 where
+  pub c0 : natAbs (q .c0) ≤ A
+  pub c1 : natAbs (q .c1) ≤ B
+  pub c2 : natAbs (q .c2) ≤ C
+
+-- an axis whose declination's constant is at most D
+pub record AxisSizes (D : ℕ) (a : Axis) : Type 0 where
+  pub x : CubicSizes (a .x)
+  pub y : CubicSizes (a .y)
+  pub d : QuadraticSizes D 20000 100 (a .d)
+  pub mu : QuadraticSizes 359999999 15100000 100 (a .mu)
+
+-- a cone whose radius's constant is at most A; a tangent of 0 makes it a cylinder
+pub record ConeSizes (A : ℕ) (k : Cone) : Type 0 where
+  pub l : QuadraticSizes A 100000 10000 (k .l)
+  pub tanf : natAbs (k .tanf) ≤ 500000
+
+pub record ElementSizes (e : Elements) : Type 0 where
+  pub axis : AxisSizes 25000000 (e .axis)
+  pub penumbra : ConeSizes 60000000 (e .penumbra)
+  pub central : ConeSizes 5000000 (e .central)
+  -- the penumbra's radius is not near zero
+  pub low : pos 50000000 ≤ℤ e .penumbra .l .c0
+
+-- sizes that are wider
+pub wider : {A B C D E F : ℕ} {q : Quadratic} → QuadraticSizes A B C q → A ≤ D → B ≤ E → C ≤ F → QuadraticSizes D E F q
+wider h a b c = record { c0 = omega (arith, h .c0); c1 = omega (arith, h .c1); c2 = omega (arith, h .c2) }
+
+pub wider-axis : {D E : ℕ} {a : Axis} → AxisSizes D a → D ≤ E → AxisSizes E a
+wider-axis h l = record { x = h .x; y = h .y; d = wider (h .d) l (lit≤ tt) (lit≤ tt); mu = h .mu }
+
+pub wider-cone : {A B : ℕ} {k : Cone} → ConeSizes A k → A ≤ B → ConeSizes B k
+wider-cone h l = record { l = wider (h .l) l (lit≤ tt) (lit≤ tt); tanf = h .tanf }
 
 -- elements that are in their ranges have these sizes
-pub sized : (e : Elements) → rangeOf e ≡ Within → Sized e
-unfolding rangeOf lows highs
-sized e w =
-    let i = within-inside 0 (fields e) lows highs w in
+pub element-sizes : (e : Elements) → rangeOf e ≡ InRange → ElementSizes e
+unfolding rangeOf ranges
+element-sizes e w =
+    let a = e .axis in
+    let x = each-in-range 0 (ranges e) w in
+    let y = x .1 .1 .1 .1 in
+    let d = y .1 .1 .1 .1 in
+    let l1 = d .1 .1 .1 in
+    let l2 = l1 .1 .1 .1 in
+    let mu = l2 .1 .1 .1 in
+    let tanf = mu .1 .1 .1 in
     record {
-      x0 = natAbs-le (e .x0) (i .0 .0) (i .0 .1);
-      x1 = natAbs-le (e .x1) (i .1 .0 .0) (i .1 .0 .1);
-      x2 = natAbs-le (e .x2) (i .1 .1 .0 .0) (i .1 .1 .0 .1);
-      x3 = natAbs-le (e .x3) (i .1 .1 .1 .0 .0) (i .1 .1 .1 .0 .1);
-      y0 = natAbs-le (e .y0) (i .1 .1 .1 .1 .0 .0) (i .1 .1 .1 .1 .0 .1);
-      y1 = natAbs-le (e .y1) (i .1 .1 .1 .1 .1 .0 .0) (i .1 .1 .1 .1 .1 .0 .1);
-      y2 = natAbs-le (e .y2) (i .1 .1 .1 .1 .1 .1 .0 .0) (i .1 .1 .1 .1 .1 .1 .0 .1);
-      y3 = natAbs-le (e .y3) (i .1 .1 .1 .1 .1 .1 .1 .0 .0) (i .1 .1 .1 .1 .1 .1 .1 .0 .1);
-      d0 = natAbs-le (e .d0) (i .1 .1 .1 .1 .1 .1 .1 .1 .0 .0) (i .1 .1 .1 .1 .1 .1 .1 .1 .0 .1);
-      d1 = natAbs-le (e .d1) (i .1 .1 .1 .1 .1 .1 .1 .1 .1 .0 .0) (i .1 .1 .1 .1 .1 .1 .1 .1 .1 .0 .1);
-      d2 = natAbs-le (e .d2) (i .1 .1 .1 .1 .1 .1 .1 .1 .1 .1 .0 .0) (i .1 .1 .1 .1 .1 .1 .1 .1 .1 .1 .0 .1);
-      l10 = natAbs-between (e .l10) 50000000 (i .1 .1 .1 .1 .1 .1 .1 .1 .1 .1 .1 .0 .0) (i .1 .1 .1 .1 .1 .1 .1 .1 .1 .1 .1 .0 .1);
-      l11 = natAbs-le (e .l11) (i .1 .1 .1 .1 .1 .1 .1 .1 .1 .1 .1 .1 .0 .0) (i .1 .1 .1 .1 .1 .1 .1 .1 .1 .1 .1 .1 .0 .1);
-      l12 = natAbs-le (e .l12) (i .1 .1 .1 .1 .1 .1 .1 .1 .1 .1 .1 .1 .1 .0 .0) (i .1 .1 .1 .1 .1 .1 .1 .1 .1 .1 .1 .1 .1 .0 .1);
-      l20 = natAbs-le (e .l20) (i .1 .1 .1 .1 .1 .1 .1 .1 .1 .1 .1 .1 .1 .1 .0 .0) (i .1 .1 .1 .1 .1 .1 .1 .1 .1 .1 .1 .1 .1 .1 .0 .1);
-      l21 = natAbs-le (e .l21) (i .1 .1 .1 .1 .1 .1 .1 .1 .1 .1 .1 .1 .1 .1 .1 .0 .0) (i .1 .1 .1 .1 .1 .1 .1 .1 .1 .1 .1 .1 .1 .1 .1 .0 .1);
-      l22 = natAbs-le (e .l22) (i .1 .1 .1 .1 .1 .1 .1 .1 .1 .1 .1 .1 .1 .1 .1 .1 .0 .0) (i .1 .1 .1 .1 .1 .1 .1 .1 .1 .1 .1 .1 .1 .1 .1 .1 .0 .1);
-      mu0 = natAbs-between (e .mu0) 0 (i .1 .1 .1 .1 .1 .1 .1 .1 .1 .1 .1 .1 .1 .1 .1 .1 .1 .0 .0) (i .1 .1 .1 .1 .1 .1 .1 .1 .1 .1 .1 .1 .1 .1 .1 .1 .1 .0 .1);
-      mu1 = natAbs-between (e .mu1) 14900000 (i .1 .1 .1 .1 .1 .1 .1 .1 .1 .1 .1 .1 .1 .1 .1 .1 .1 .1 .0 .0) (i .1 .1 .1 .1 .1 .1 .1 .1 .1 .1 .1 .1 .1 .1 .1 .1 .1 .1 .0 .1);
-      mu2 = natAbs-le (e .mu2) (i .1 .1 .1 .1 .1 .1 .1 .1 .1 .1 .1 .1 .1 .1 .1 .1 .1 .1 .1 .0 .0) (i .1 .1 .1 .1 .1 .1 .1 .1 .1 .1 .1 .1 .1 .1 .1 .1 .1 .1 .1 .0 .1);
-      tanf1 = natAbs-between (e .tanf1) 400000 (i .1 .1 .1 .1 .1 .1 .1 .1 .1 .1 .1 .1 .1 .1 .1 .1 .1 .1 .1 .1 .0 .0) (i .1 .1 .1 .1 .1 .1 .1 .1 .1 .1 .1 .1 .1 .1 .1 .1 .1 .1 .1 .1 .0 .1);
-      tanf2 = natAbs-between (e .tanf2) 400000 (i .1 .1 .1 .1 .1 .1 .1 .1 .1 .1 .1 .1 .1 .1 .1 .1 .1 .1 .1 .1 .1 .0 .0) (i .1 .1 .1 .1 .1 .1 .1 .1 .1 .1 .1 .1 .1 .1 .1 .1 .1 .1 .1 .1 .1 .0 .1);
-      l10-low = i .1 .1 .1 .1 .1 .1 .1 .1 .1 .1 .1 .0 .0;
-      tanf1-low = ≤ℤ-trans (leZ-yes tt) (i .1 .1 .1 .1 .1 .1 .1 .1 .1 .1 .1 .1 .1 .1 .1 .1 .1 .1 .1 .1 .0 .0);
-      tanf2-low = ≤ℤ-trans (leZ-yes tt) (i .1 .1 .1 .1 .1 .1 .1 .1 .1 .1 .1 .1 .1 .1 .1 .1 .1 .1 .1 .1 .1 .0 .0);
+      axis = record {
+        x = record {
+          c0 = natAbs-le (a .x .c0) (x .0 .0) (x .0 .1);
+          c1 = natAbs-le (a .x .c1) (x .1 .0 .0) (x .1 .0 .1);
+          c2 = natAbs-le (a .x .c2) (x .1 .1 .0 .0) (x .1 .1 .0 .1);
+          c3 = natAbs-le (a .x .c3) (x .1 .1 .1 .0 .0) (x .1 .1 .1 .0 .1);
+        };
+        y = record {
+          c0 = natAbs-le (a .y .c0) (y .0 .0) (y .0 .1);
+          c1 = natAbs-le (a .y .c1) (y .1 .0 .0) (y .1 .0 .1);
+          c2 = natAbs-le (a .y .c2) (y .1 .1 .0 .0) (y .1 .1 .0 .1);
+          c3 = natAbs-le (a .y .c3) (y .1 .1 .1 .0 .0) (y .1 .1 .1 .0 .1);
+        };
+        d = record {
+          c0 = natAbs-le (a .d .c0) (d .0 .0) (d .0 .1);
+          c1 = natAbs-le (a .d .c1) (d .1 .0 .0) (d .1 .0 .1);
+          c2 = natAbs-le (a .d .c2) (d .1 .1 .0 .0) (d .1 .1 .0 .1);
+        };
+        mu = record {
+          c0 = natAbs-between (a .mu .c0) 0 (mu .0 .0) (mu .0 .1);
+          c1 = natAbs-between (a .mu .c1) 14900000 (mu .1 .0 .0) (mu .1 .0 .1);
+          c2 = natAbs-le (a .mu .c2) (mu .1 .1 .0 .0) (mu .1 .1 .0 .1);
+        };
+      };
+      penumbra = record {
+        l = record {
+          c0 = natAbs-between (e .penumbra .l .c0) 50000000 (l1 .0 .0) (l1 .0 .1);
+          c1 = natAbs-le (e .penumbra .l .c1) (l1 .1 .0 .0) (l1 .1 .0 .1);
+          c2 = natAbs-le (e .penumbra .l .c2) (l1 .1 .1 .0 .0) (l1 .1 .1 .0 .1);
+        };
+        tanf = natAbs-between (e .penumbra .tanf) 400000 (tanf .0 .0) (tanf .0 .1);
+      };
+      central = record {
+        l = record {
+          c0 = natAbs-le (e .central .l .c0) (l2 .0 .0) (l2 .0 .1);
+          c1 = natAbs-le (e .central .l .c1) (l2 .1 .0 .0) (l2 .1 .0 .1);
+          c2 = natAbs-le (e .central .l .c2) (l2 .1 .1 .0 .0) (l2 .1 .1 .0 .1);
+        };
+        tanf = natAbs-between (e .central .tanf) 400000 (tanf .1 .0 .0) (tanf .1 .0 .1);
+      };
+      low = l1 .0 .0;
     }

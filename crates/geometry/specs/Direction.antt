@@ -1,14 +1,19 @@
 -- The direction of the shadow's axis from the station, over a table S of sines (entry k for k tenths of a degree, 0 to 900).
 use mathlib.Core.Bool.{Bool, _&&_, cond}
-use Prim.Native.Nat.{ℕ, zero, suc, _+_, _-_}
+use Prim.Native.Nat.{ℕ, zero, suc, _+_, _-_, _≤_, _<_}
 use lib.IntN.{ℤ, pos, negℤ, _*ℤ_}
-use lib.Signed.{ltZ, leZ}
+use lib.Signed.{ltZ, leZ, _≤ℤ_, _<ℤ_}
 
--- "u·S[900-k] ≥ v·S[k]"
+-- "the largest k in 0..899 with u·S[900-k] ≥ v·S[k]", for 899 any n: what is meant
+pub record Largest (S : ℕ → ℕ) (u v : ℤ) (n k : ℕ) : Type 0 where
+  pub small : k ≤ n
+  pub holds : (v *ℤ pos (S k)) ≤ℤ (u *ℤ pos (S (900 - k)))
+  pub above : (j : ℕ) → k < j → j ≤ n → (u *ℤ pos (S (900 - j))) <ℤ (v *ℤ pos (S j))
+
+-- that k, searched for from n down: DirectionLaws, largest-is and largest-unique. 0 has it, since S[0] is 0
 abbrev pub reaches : (S : ℕ → ℕ) (u v : ℤ) → ℕ → Bool
 reaches S u v k = leZ (v *ℤ pos (S k)) (u *ℤ pos (S (900 - k)))
 
--- the largest k in 0..n with that, from n down; 0 has it, since S[0] is 0 (DirectionLaws, quarter-is)
 unfoldable pub largest : (S : ℕ → ℕ) (u v : ℤ) → ℕ → ℕ
 largest S u v zero = 0
 largest S u v (suc k) = cond (reaches S u v (suc k)) (suc k) (largest S u v k)

@@ -1,45 +1,23 @@
 -- What callers use of the direction.
---   quarter-is, largest-unique     within a quarter it is the largest k in 0..899 that reaches, and the only one
---   largest-here, largest-down     a loop that goes down from 899; unsigned-here, unsigned-down where nothing is negative
+--   quarter-is, largest-unique     within a quarter it is the largest k in 0..899 that reaches, and the only one:
+--                                  so a search by halving that ends at such a k has found it
 --   direction-first .. direction-none   the five cases, each by its signs
 --   direction-limit                at most 3599, or 65,535
 --   direction-diagonal, direction-south   document 01's two examples
 use mathlib.Core.Path.{_≡_, refl, _∙_, ap}
 use mathlib.Core.Bool.{Bool, true, false, _&&_, cond}
 use mathlib.Core.Logic.{_⊎_, inl, inr, ⊎-elim}
-use Prim.Native.Nat.{ℕ, zero, suc, _+_, _*_, _-_, _≤_, _<_}
+use Prim.Native.Nat.{ℕ, zero, suc, _+_, _-_, _≤_, _<_}
 use native.Mathlib.Omega.{arith}
 use native.Mathlib.Nat.{le-antisymm, lt-of-not-le, eq-or-lt-of-le}
 use lib.IntN.{ℤ, pos, negsuc, negℤ, _*ℤ_, *ℤ-zero}
 use lib.Signed.{ltZ, leZ, _≤ℤ_, _<ℤ_, leZ-yes, ltZ-yes, clashℤ}
 use Rattle.numbers.specs.Order.{zs, <ℤ-≤, leZ-true, leZ-false, *ℤ-nonneg}
 use Rattle.geometry.specs.Tests.{yes-≤, no-≤, yes-<, no-<, both, not-left, not-right}
-use Rattle.geometry.specs.Direction.{reaches, largest, quarter, direction}
-
--- k is the largest in 0..n with u·S[900-k] ≥ v·S[k]
-pub record Largest (S : ℕ → ℕ) (u v : ℤ) (n k : ℕ) : Type 0 where
-  pub small : k ≤ n
-  pub holds : (v *ℤ pos (S k)) ≤ℤ (u *ℤ pos (S (900 - k)))
-  pub above : (j : ℕ) → k < j → j ≤ n → (u *ℤ pos (S (900 - j))) <ℤ (v *ℤ pos (S j))
+use Rattle.geometry.specs.Direction.{Largest, reaches, largest, quarter, direction}
 
 -- ---- one quarter
 module _ (S : ℕ → ℕ) (u v : ℤ) where
-  pub largest-here : (k : ℕ) → (v *ℤ pos (S k)) ≤ℤ (u *ℤ pos (S (900 - k))) → largest S u v k ≡ k
-  unfolding largest
-  largest-here zero h = refl
-  largest-here (suc k) h = ap (λ (t : Bool). cond t (suc k) (largest S u v k)) (yes-≤ h)
-
-  down : (k : ℕ) → (u *ℤ pos (S (900 - suc k))) <ℤ (v *ℤ pos (S (suc k))) → largest S u v (suc k) ≡ largest S u v k
-  unfolding largest
-  down k h = ap (λ (t : Bool). cond t (suc k) (largest S u v k)) (no-≤ h)
-
-  pub largest-down : (k : ℕ) → 0 < k → (u *ℤ pos (S (900 - k))) <ℤ (v *ℤ pos (S k)) → largest S u v k ≡ largest S u v (k - 1)
-  largest-down zero p h = absurd (omega arith)
-  largest-down (suc k) p h = down k h ∙ ap (largest S u v) (less-one k)
-    where
-      less-one : (k : ℕ) → k ≡ suc k - 1
-      less-one k = omega arith
-
   pub largest-le : (n : ℕ) → largest S u v n ≤ n
   unfolding largest
   largest-le zero = omega arith
@@ -88,14 +66,6 @@ module _ (S : ℕ → ℕ) (u v : ℤ) where
     unfolding quarter
     quarter-is = largest-is 899
 
--- the loop where nothing is negative
-module _ (S : ℕ → ℕ) (a b k : ℕ) where
-  pub unsigned-here : b * S k ≤ a * S (900 - k) → largest S (pos a) (pos b) k ≡ k
-  unsigned-here h = largest-here S (pos a) (pos b) k (omega (arith, zs))
-
-  pub unsigned-down : 0 < k → a * S (900 - k) < b * S k → largest S (pos a) (pos b) k ≡ largest S (pos a) (pos b) (k - 1)
-  unsigned-down p h = largest-down S (pos a) (pos b) k p (omega (arith, zs))
-
 -- ---- the five cases
 -- the first of four tests that is true decides
 abbrev first-of : (a b c d : Bool) (w x y z o : ℕ) → ℕ
@@ -117,7 +87,8 @@ module _ (S : ℕ → ℕ) {u v : ℤ} where
 
   pub direction-fourth : u <ℤ pos 0 → pos 0 ≤ℤ v → direction S u v ≡ 2700 + quarter S v (negℤ u)
   unfolding direction
-  direction-fourth h k = rw (not-left (ltZ (pos 0) v) (no-≤ h), not-left (leZ v (pos 0)) (no-< (<ℤ-≤ h)), not-right (leZ u (pos 0)) (no-< k), both (yes-< h) (yes-≤ k))
+  direction-fourth h k =
+      rw (not-left (ltZ (pos 0) v) (no-≤ h), not-left (leZ v (pos 0)) (no-< (<ℤ-≤ h)), not-right (leZ u (pos 0)) (no-< k), both (yes-< h) (yes-≤ k))
 
 pub direction-none : (S : ℕ → ℕ) → direction S (pos 0) (pos 0) ≡ 65535
 unfolding direction
@@ -154,4 +125,5 @@ pub direction-south : (S : ℕ → ℕ) → Rising S → direction S (pos 0) (ne
 direction-south S h =
     let none : Largest S (pos 0) (pos 5) 899 0 =
     record { small = omega arith; holds = omega (arith, zs, h .none); above = λ j i k. omega (arith, zs, h .rises 0 j i (omega arith)) } in
-    direction-third S (leZ-yes tt) (ltZ-yes tt) ∙ ap (λ (k : ℕ). 1800 + k) (largest-unique S (pos 0) (pos 5) (quarter-is S (pos 0) (pos 5) (h .none) (leZ-yes tt)) none)
+    direction-third S (leZ-yes tt) (ltZ-yes tt) ∙ ap (λ (k : ℕ). 1800 + k)
+    (largest-unique S (pos 0) (pos 5) (quarter-is S (pos 0) (pos 5) (h .none) (leZ-yes tt)) none)

@@ -16,16 +16,21 @@ use Rattle.numbers.specs.Order.{natAbs-sum, natAbs-minus, natAbs-opposite, natA
 use Rattle.numbers.specs.Ring.{num, _⊕_, _⊖_, _⊗_, opp, ring, v0, v1, v2, v3, v4, v5, v6, v7}
 use Rattle.numbers.specs.Near.{near}
 use Rattle.numbers.specs.NearLaws.{near-error}
-use Rattle.geometry.specs.PolynomialError.{value2-error, value3-error}
-use Rattle.geometry.specs.Shadow.{Moment, Cone, one, _², q, ξ, η, ζ, x, y, l, u, v, L}
+use Rattle.numbers.specs.Units.{one}
+use Rattle.sine.specs.Sine.{sine, cosine}
+use Rattle.sine.specs.SineLaws.{sine-size, cosine-size}
+use Rattle.elements.specs.declared.Cone.{Cone}
+use Rattle.elements.specs.Elements.{xAt, yAt, lAt}
+use Rattle.geometry.specs.PolynomialError.{quadratic-error, cubic-error}
+use Rattle.geometry.specs.Shadow.{Moment, _², H, d, q, ξ, η, ζ, u, v, L}
 use Rattle.geometry.specs.Exact.{_³, D, exact-x, exact-y, exact-l, exact-q, exact-ξ, exact-η, exact-ζ, exact-term, exact-u, exact-v, exact-L}
-use Rattle.geometry.specs.Ranges.{Bounded}
 
 -- n is a + q w and q is b, each over 10^8 to the nearest, and |w| ≤ 10^8: n is (10^8 a + b w) / 10^16 within a unit
 rounded-twice : (n a b q w : ℤ) → natAbs w ≤ 100000000 → 2 * natAbs (one *ℤ n -ℤ (a +ℤ q *ℤ w)) ≤ 100000000 → 2 * natAbs (one *ℤ q -ℤ b) ≤ 100000000
     → natAbs (one ² *ℤ n -ℤ (a *ℤ one +ℤ b *ℤ w)) ≤ 10000000000000000
 rounded-twice n a b q w hw hn hq =
-    let e = ring (n ∷ a ∷ b ∷ q ∷ w ∷ []) (num 10000000000000000 ⊗ v0 ⊖ (v1 ⊗ num 100000000 ⊕ v2 ⊗ v4)) (num 100000000 ⊗ (num 100000000 ⊗ v0 ⊖ (v1 ⊕ v3 ⊗ v4)) ⊕ v4 ⊗ (num 100000000 ⊗ v3 ⊖ v2)) tt in
+    let e = ring (n ∷ a ∷ b ∷ q ∷ w ∷ []) (num 10000000000000000 ⊗ v0 ⊖ (v1 ⊗ num 100000000 ⊕ v2 ⊗ v4))
+    (num 100000000 ⊗ (num 100000000 ⊗ v0 ⊖ (v1 ⊕ v3 ⊗ v4)) ⊕ v4 ⊗ (num 100000000 ⊗ v3 ⊖ v2)) tt in
     omega (
       arith,
       ap natAbs e,
@@ -52,77 +57,87 @@ difference-error a H b S z Z n N h =
       natAbs-product (pos b) (pos S *ℤ n -ℤ N),
     )
 
-module _ (m : Moment) (h : Bounded m) where
+-- of any axis and any place
+module _ (m : Moment) where
   -- within 1
   pub ζ-error : natAbs (one ² *ℤ ζ m -ℤ exact-ζ m) ≤ 10000000000000000
   unfolding ζ q exact-ζ exact-q
   ζ-error =
-      rounded-twice (ζ m) (m .P *ℤ m .sin-d) (exact-q m) (q m) (m .cos-d) (h .cos-d)
-      (near-error (m .P *ℤ m .sin-d +ℤ q m *ℤ m .cos-d) one (leZ-yes tt)) (near-error (exact-q m) one (leZ-yes tt))
+      rounded-twice (ζ m) (m .place .p *ℤ sine (d m)) (exact-q m) (q m) (cosine (d m)) (cosine-size (d m))
+      (near-error (m .place .p *ℤ sine (d m) +ℤ q m *ℤ cosine (d m)) one (leZ-yes tt)) (near-error (exact-q m) one (leZ-yes tt))
 
   -- within 1
   pub η-error : natAbs (one ² *ℤ η m -ℤ exact-η m) ≤ 10000000000000000
   unfolding η q exact-η exact-q
   η-error =
-      let a = m .P *ℤ m .cos-d in
+      let a = m .place .p *ℤ cosine (d m) in
       let b = exact-q m in
-      let e = a ∷ b ∷ q m ∷ m .sin-d ∷ η m ∷ [] in
-      let w : natAbs (negℤ (m .sin-d)) ≤ 100000000 = omega (arith, natAbs-opposite (m .sin-d), h .sin-d) in
-      let n : 2 * natAbs (one *ℤ η m -ℤ (a +ℤ q m *ℤ negℤ (m .sin-d))) ≤ 100000000 =
-      omega (arith, near-error (a -ℤ q m *ℤ m .sin-d) one (leZ-yes tt), ap natAbs (ring e (num 100000000 ⊗ v4 ⊖ (v0 ⊖ v2 ⊗ v3)) (num 100000000 ⊗ v4 ⊖ (v0 ⊕ v2 ⊗ opp v3)) tt)) in
+      let s = sine (d m) in
+      let e = a ∷ b ∷ q m ∷ s ∷ η m ∷ [] in
+      let w : natAbs (negℤ s) ≤ 100000000 = omega (arith, natAbs-opposite s, sine-size (d m)) in
+      let n : 2 * natAbs (one *ℤ η m -ℤ (a +ℤ q m *ℤ negℤ s)) ≤ 100000000 =
       omega (
         arith,
-        rounded-twice (η m) a b (q m) (negℤ (m .sin-d)) w n (near-error b one (leZ-yes tt)),
+        near-error (a -ℤ q m *ℤ s) one (leZ-yes tt),
+        ap natAbs (ring e (num 100000000 ⊗ v4 ⊖ (v0 ⊖ v2 ⊗ v3)) (num 100000000 ⊗ v4 ⊖ (v0 ⊕ v2 ⊗ opp v3)) tt),
+      ) in
+      omega (
+        arith,
+        rounded-twice (η m) a b (q m) (negℤ s) w n (near-error b one (leZ-yes tt)),
         ap natAbs (ring e (num 10000000000000000 ⊗ v4 ⊖ (v0 ⊗ num 100000000 ⊖ v1 ⊗ v3)) (num 10000000000000000 ⊗ v4 ⊖ (v0 ⊗ num 100000000 ⊕ v1 ⊗ opp v3)) tt),
       )
 
+module _ (m : Moment) (t : natAbs (m .τ) ≤ 10800) where
   -- within 7
   pub u-error : natAbs (pos D *ℤ u m -ℤ exact-u m) ≤ 7 * D
-  unfolding u exact-u x exact-x ξ exact-ξ
+  unfolding u exact-u ξ exact-ξ
   u-error =
       omega (
         arith,
-        difference-error 1000000000000000000000000 46656000000 466560000000000000000000000 100000000 (x m) (exact-x m) (ξ m) (exact-ξ m) refl,
-        value3-error (m .τ) (h .τ) (m .x0) (m .x1) (m .x2) (m .x3),
+        difference-error 1000000000000000000000000 46656000000 466560000000000000000000000 100000000 (xAt (m .axis) (m .τ)) (exact-x m) (ξ m) (exact-ξ m) refl,
+        cubic-error (m .τ) t (m .axis .x),
         near-error (exact-ξ m) one (leZ-yes tt),
       )
 
   -- within 7½
   pub v-error : 2 * natAbs (pos D *ℤ v m -ℤ exact-v m) ≤ 15 * D
-  unfolding v exact-v y exact-y
+  unfolding v exact-v
   v-error =
       omega (
         arith,
-        difference-error 1000000000000000000000000 46656000000 4665600000000000000 10000000000000000 (y m) (exact-y m) (η m) (exact-η m) refl,
-        value3-error (m .τ) (h .τ) (m .y0) (m .y1) (m .y2) (m .y3),
-        η-error,
+        difference-error 1000000000000000000000000 46656000000 4665600000000000000 10000000000000000 (yAt (m .axis) (m .τ)) (exact-y m) (η m) (exact-η m) refl,
+        cubic-error (m .τ) t (m .axis .y),
+        η-error m,
       )
 
-  module _ (k : Cone) (f : natAbs (k .tan-f) ≤ 500000) where
+  -- of a cone, or of a cylinder, whose tangent is 0
+  module _ (k : Cone) (f : natAbs (k .tanf) ≤ 500000) where
     -- the cone's term within 0.505
-    term-error : 1000 * natAbs (one ³ *ℤ near (ζ m *ℤ k .tan-f) one -ℤ exact-term m k) ≤ 505 * (100000000 * 100000000 * 100000000)
+    term-error : 1000 * natAbs (one ³ *ℤ near (ζ m *ℤ k .tanf) one -ℤ exact-term m k) ≤ 505 * (100000000 * 100000000 * 100000000)
     unfolding exact-term
     term-error =
-        let n = near (ζ m *ℤ k .tan-f) one in
-        let e = ring (n ∷ ζ m ∷ exact-ζ m ∷ k .tan-f ∷ []) (num 1000000000000000000000000 ⊗ v0 ⊖ v2 ⊗ v3) (num 10000000000000000 ⊗ (num 100000000 ⊗ v0 ⊖ v1 ⊗ v3) ⊕ v3 ⊗ (num 10000000000000000 ⊗ v1 ⊖ v2)) tt in
+        let n = near (ζ m *ℤ k .tanf) one in
+        let e = ring (n ∷ ζ m ∷ exact-ζ m ∷ k .tanf ∷ []) (num 1000000000000000000000000 ⊗ v0 ⊖ v2 ⊗ v3)
+        (num 10000000000000000 ⊗ (num 100000000 ⊗ v0 ⊖ v1 ⊗ v3) ⊕ v3 ⊗ (num 10000000000000000 ⊗ v1 ⊖ v2)) tt in
         omega (
           arith,
           ap natAbs e,
-          natAbs-sum (one ² *ℤ (one *ℤ n -ℤ ζ m *ℤ k .tan-f)) (k .tan-f *ℤ (one ² *ℤ ζ m -ℤ exact-ζ m)),
-          natAbs-product (one ²) (one *ℤ n -ℤ ζ m *ℤ k .tan-f),
-          natAbs-product (k .tan-f) (one ² *ℤ ζ m -ℤ exact-ζ m),
-          near-error (ζ m *ℤ k .tan-f) one (leZ-yes tt),
-          mul-le-mul f ζ-error,
+          natAbs-sum (one ² *ℤ (one *ℤ n -ℤ ζ m *ℤ k .tanf)) (k .tanf *ℤ (one ² *ℤ ζ m -ℤ exact-ζ m)),
+          natAbs-product (one ²) (one *ℤ n -ℤ ζ m *ℤ k .tanf),
+          natAbs-product (k .tanf) (one ² *ℤ ζ m -ℤ exact-ζ m),
+          near-error (ζ m *ℤ k .tanf) one (leZ-yes tt),
+          mul-le-mul f (ζ-error m),
         )
 
     -- within 2.505
     pub L-inner : 1000 * natAbs (pos D *ℤ L m k -ℤ exact-L m k) ≤ 2505 * D
-    unfolding L exact-L l exact-l
+    unfolding L exact-L
     L-inner =
+        let n = near (ζ m *ℤ k .tanf) one in
         omega (
           arith,
-          difference-error 1000000000000000000000000 46656000000 46656000000 1000000000000000000000000 (l m k) (exact-l m k) (near (ζ m *ℤ k .tan-f) one) (exact-term m k) refl,
-          value2-error (m .τ) (h .τ) (k .constant) (k .first) (k .second),
+          difference-error 1000000000000000000000000 46656000000 46656000000 1000000000000000000000000 (lAt k (m .τ)) (exact-l m k) n (exact-term m k) refl,
+          quadratic-error (m .τ) t (k .l),
           term-error,
         )
 

@@ -1,11 +1,15 @@
 -- The exact shadow at one second, the measure of demand 3. Each value is a numerator over a denominator that its comment names;
 -- u, v and L stand over one, D, so that fractions are cleared once, here.
-use mathlib.Core.Bool.{Bool, _&&_}
 use Prim.Native.Nat.{ℕ, _*_}
 use lib.IntN.{ℤ, pos, _+ℤ_, _-ℤ_, _*ℤ_}
-use lib.Signed.{ltZ, leZ, _≤ℤ_, _<ℤ_}
-use Rattle.elements.specs.Polynomial.{hour}
-use Rattle.geometry.specs.Shadow.{Moment, Cone, one, _², Phase, radius}
+use lib.Signed.{_≤ℤ_, _<ℤ_}
+use Rattle.phases.specs.declared.Phase.{Phase}
+use Rattle.numbers.specs.Units.{one, hour}
+use Rattle.sine.specs.Sine.{sine, cosine}
+use Rattle.elements.specs.declared.Cubic.{Cubic}
+use Rattle.elements.specs.declared.Quadratic.{Quadratic}
+use Rattle.elements.specs.declared.Cone.{Cone}
+use Rattle.geometry.specs.Shadow.{Moment, H, d, _², edge}
 
 -- the cube
 infix 90 _³
@@ -13,39 +17,39 @@ abbrev pub _³ : ℤ → ℤ
 z ³ = z *ℤ z *ℤ z
 
 -- "x, y, l1, l2 without rounding as fractions over 3600³"
-unfoldable pub exact3 : (τ c0 c1 c2 c3 : ℤ) → ℤ
-exact3 τ c0 c1 c2 c3 = c0 *ℤ hour ³ +ℤ c1 *ℤ τ *ℤ hour ² +ℤ c2 *ℤ τ ² *ℤ hour +ℤ c3 *ℤ τ ³
+unfoldable pub exact-cubic : Cubic → (τ : ℤ) → ℤ
+exact-cubic c τ = c .c0 *ℤ hour ³ +ℤ c .c1 *ℤ τ *ℤ hour ² +ℤ c .c2 *ℤ τ ² *ℤ hour +ℤ c .c3 *ℤ τ ³
 
-unfoldable pub exact2 : (τ c0 c1 c2 : ℤ) → ℤ
-exact2 τ c0 c1 c2 = exact3 τ c0 c1 c2 (pos 0)
+unfoldable pub exact-quadratic : Quadratic → (τ : ℤ) → ℤ
+exact-quadratic q τ = q .c0 *ℤ hour ³ +ℤ q .c1 *ℤ τ *ℤ hour ² +ℤ q .c2 *ℤ τ ² *ℤ hour
 
-unfoldable pub exact-x : Moment → ℤ
-exact-x m = exact3 (m .τ) (m .x0) (m .x1) (m .x2) (m .x3)
+abbrev pub exact-x : Moment → ℤ
+exact-x m = exact-cubic (m .axis .x) (m .τ)
 
-unfoldable pub exact-y : Moment → ℤ
-exact-y m = exact3 (m .τ) (m .y0) (m .y1) (m .y2) (m .y3)
+abbrev pub exact-y : Moment → ℤ
+exact-y m = exact-cubic (m .axis .y) (m .τ)
 
-unfoldable pub exact-l : Moment → Cone → ℤ
-exact-l m k = exact2 (m .τ) (k .constant) (k .first) (k .second)
+abbrev pub exact-l : Moment → Cone → ℤ
+exact-l m k = exact-quadratic (k .l) (m .τ)
 
 -- "ξ, η, ζ and the cone terms from the same R, P, sines and cosines as fractions over powers of 10^8"
 -- over 10^8
 unfoldable pub exact-q : Moment → ℤ
-exact-q m = m .R *ℤ m .cos-H
+exact-q m = m .place .r *ℤ cosine (H m)
 
 unfoldable pub exact-ξ : Moment → ℤ
-exact-ξ m = m .R *ℤ m .sin-H
+exact-ξ m = m .place .r *ℤ sine (H m)
 
 -- over 10^16
 unfoldable pub exact-η : Moment → ℤ
-exact-η m = m .P *ℤ m .cos-d *ℤ one -ℤ exact-q m *ℤ m .sin-d
+exact-η m = m .place .p *ℤ cosine (d m) *ℤ one -ℤ exact-q m *ℤ sine (d m)
 
 unfoldable pub exact-ζ : Moment → ℤ
-exact-ζ m = m .P *ℤ m .sin-d *ℤ one +ℤ exact-q m *ℤ m .cos-d
+exact-ζ m = m .place .p *ℤ sine (d m) *ℤ one +ℤ exact-q m *ℤ cosine (d m)
 
 -- over 10^24
 unfoldable pub exact-term : Moment → Cone → ℤ
-exact-term m k = exact-ζ m *ℤ k .tan-f
+exact-term m k = exact-ζ m *ℤ k .tanf
 
 -- D = 3600³ 10^24, and over it u = x-ξ, v = y-η, L = l less the cone's term
 abbrev pub D : ℕ
@@ -65,8 +69,8 @@ abbrev pub exact-M : Moment → ℤ
 exact-M m = exact-u m ² +ℤ exact-v m ²
 
 -- "the exact L is, from these too, L1 for the penumbra and the size of L2 for central"
-abbrev pub exact-radius : Phase → Moment → Cone → ℤ
-exact-radius φ m k = radius φ (exact-L m k)
+abbrev pub exact-edge : Phase → Moment → Cone → ℤ
+exact-edge φ m k = edge φ (exact-L m k)
 
 -- "distances compared by their squares (a distance is more than anything negative)": the distance whose square is s is
 -- at most b
@@ -83,22 +87,18 @@ pub record Less (s b : ℤ) : Type 0 where
 pub record AtLeast (s b : ℤ) : Type 0 where
   pub square : pos 0 ≤ℤ b → (b ²) ≤ℤ s
 
--- "a difference of at most n" from b
-pub record Within (s b n : ℤ) : Type 0 where
+-- differs from b by "a difference of at most n"
+pub record DiffersAtMost (s b n : ℤ) : Type 0 where
   pub high : AtMost s (b +ℤ n)
   pub low : AtLeast s (b -ℤ n)
 
 -- "Exactly inside: that distance is less than that L; exactly outside: any other."
 abbrev pub ExactlyInside : Phase → Moment → Cone → Type 0
-ExactlyInside φ m k = Less (exact-M m) (exact-radius φ m k)
+ExactlyInside φ m k = Less (exact-M m) (exact-edge φ m k)
 
 abbrev pub ExactlyOutside : Phase → Moment → Cone → Type 0
 ExactlyOutside φ m k = ExactlyInside φ m k → ⊥
 
 -- "The cone's edge is at that L, and within n units of it means a difference of at most n."
 abbrev pub WithinUnits : ℤ → Phase → Moment → Cone → Type 0
-WithinUnits n φ m k = Within (exact-M m) (exact-radius φ m k) (n *ℤ pos D)
-
--- exactly inside, as a test: ExactLaws has that it is true just there
-unfoldable pub exactlyInside? : Phase → Moment → Cone → Bool
-exactlyInside? φ m k = leZ (pos 0) (exact-radius φ m k) && ltZ (exact-M m) (exact-radius φ m k ²)
+WithinUnits n φ m k = DiffersAtMost (exact-M m) (exact-edge φ m k) (n *ℤ pos D)

@@ -1,13 +1,21 @@
 -- Rows by computation: the definitions at numbers worked by hand.
 use mathlib.Core.Path.{_≡_, refl}
-use mathlib.Core.Bool.{true, false}
 use Prim.Native.Nat.{ℕ}
 use lib.IntN.{ℤ, pos, negsuc, _+ℤ_, _-ℤ_}
+use lib.Signed.{leZ-yes, ltZ-yes, clashℤ}
+use Rattle.phases.specs.States.{State, inside, outside, unsure}
+use Rattle.phases.specs.declared.Phase.{Phase}
+use Rattle.phases.specs.declared.Phase.the-variants.{Penumbra, Central}
 use Rattle.numbers.specs.Near.{near}
 use Rattle.numbers.specs.Root.{root}
-use Rattle.elements.specs.Polynomial.{step, value2, value3}
-use Rattle.geometry.specs.Shadow.{Moment, Cone, _², q, ξ, η, ζ, x, y, l, u, v, L, M, penumbra, central, radius, inside, outside, unsure, state}
-use Rattle.geometry.specs.Exact.{exact2, exact3, exact-x, exact-y, exact-l, exact-q, exact-ξ, exact-η, exact-ζ, exact-term, exact-u, exact-v, exact-L, exactlyInside?}
+use Rattle.sine.specs.Table.{factorial, numerator, denominator, common, term, series, S}
+use Rattle.sine.specs.FirstQuadrant.{arc, sag, between, capped, firstQuadrant}
+use Rattle.sine.specs.Sine.{reduced, sineIn, sine, cosine}
+use Rattle.elements.specs.declared.Elements.{Elements}
+use Rattle.elements.specs.Polynomial.{step, quadraticAt, cubicAt}
+use Rattle.geometry.specs.Shadow.{Moment, moment, cone, _², H, q, ξ, η, ζ, u, v, L, M, edge, state}
+use Rattle.geometry.specs.Exact.{exact-quadratic, exact-cubic, exact-q, exact-ξ, exact-η, exact-ζ, exact-term, exact-u, exact-v, exact-L}
+use Rattle.geometry.specs.Exact.{ExactlyInside, ExactlyOutside}
 use Rattle.geometry.specs.Direction.{largest, quarter, direction}
 use Rattle.geometry.specs.Magnitude.{magnitude}
 
@@ -32,72 +40,75 @@ inside-by-one : state (pos 16) r ((r -ℤ pos 16) ² -ℤ pos 1) ≡ inside
 unfolding state
 inside-by-one = refl
 
--- "inside if L > 16": a cone of 16 units has no inside
+-- "*inside* if L > 16": a cone of 16 units has no inside
 none-inside : state (pos 16) (pos 16) (pos 0) ≡ unsure
 unfolding state
 none-inside = refl
 
 -- ---- the hand-worked sheet: at the pole, at some seconds
-abbrev at-pole : ℤ → Moment
-at-pole τ =
+abbrev worked : Elements
+worked =
     record {
-      τ = τ;
-      x0 = pos 0;
-      x1 = pos 36000000;
-      x2 = pos 0;
-      x3 = pos 0;
-      y0 = pos 99664768;
-      y1 = pos 0;
-      y2 = pos 0;
-      y3 = pos 0;
-      R = pos 0;
-      P = pos 99664768;
-      sin-H = pos 0;
-      cos-H = pos 100000000;
-      sin-d = pos 0;
-      cos-d = pos 100000000;
+      axis = record {
+        x = record { c0 = pos 0; c1 = pos 36000000; c2 = pos 0; c3 = pos 0 };
+        y = record { c0 = pos 99664768; c1 = pos 0; c2 = pos 0; c3 = pos 0 };
+        d = record { c0 = pos 0; c1 = pos 0; c2 = pos 0 };
+        mu = record { c0 = pos 0; c1 = pos 15000000; c2 = pos 0 };
+      };
+      penumbra = record { l = record { c0 = pos 54000000; c1 = pos 0; c2 = pos 0 }; tanf = pos 460000 };
+      central = record { l = record { c0 = negsuc 999999; c1 = pos 0; c2 = pos 0 }; tanf = pos 458000 };
     }
 
-abbrev cone1 : Cone
-cone1 = record { constant = pos 54000000; first = pos 0; second = pos 0; tan-f = pos 460000 }
+abbrev at-pole : ℤ → Moment
+at-pole τ = moment worked (record { r = pos 0; p = pos 99664768; longitude = pos 0 }) τ
 
-abbrev cone2 : Cone
-cone2 = record { constant = negsuc 999999; first = pos 0; second = pos 0; tan-f = pos 458000 }
+abbrev poleState : Phase → ℤ → State
+poleState φ τ = state (pos 16) (edge φ (L (at-pole τ) (cone φ worked))) (M (at-pole τ))
 
 -- "enter penumbra -5401 -5399", with one unsure second between
-before-enter : state (pos 16) (radius penumbra (L (at-pole (negsuc 5400)) cone1)) (M (at-pole (negsuc 5400))) ≡ outside
-unfolding state L l u v x y ξ η ζ q value2 value3 step near
+before-enter : poleState Penumbra (negsuc 5400) ≡ outside
+unfolding state H L u v ξ η ζ q quadraticAt cubicAt step near factorial numerator denominator common term
+    series S arc sag between capped firstQuadrant reduced sineIn sine cosine
 before-enter = refl
 
-at-enter : state (pos 16) (radius penumbra (L (at-pole (negsuc 5399)) cone1)) (M (at-pole (negsuc 5399))) ≡ unsure
-unfolding state L l u v x y ξ η ζ q value2 value3 step near
+at-enter : poleState Penumbra (negsuc 5399) ≡ unsure
+unfolding state H L u v ξ η ζ q quadraticAt cubicAt step near factorial numerator denominator common term
+    series S arc sag between capped firstQuadrant reduced sineIn sine cosine
 at-enter = refl
 
-after-enter : state (pos 16) (radius penumbra (L (at-pole (negsuc 5398)) cone1)) (M (at-pole (negsuc 5398))) ≡ inside
-unfolding state L l u v x y ξ η ζ q value2 value3 step near
+after-enter : poleState Penumbra (negsuc 5398) ≡ inside
+unfolding state H L u v ξ η ζ q quadraticAt cubicAt step near factorial numerator denominator common term
+    series S arc sag between capped firstQuadrant reduced sineIn sine cosine
 after-enter = refl
 
 -- "leave central 99 101"
-before-leave : state (pos 16) (radius central (L (at-pole (pos 99)) cone2)) (M (at-pole (pos 99))) ≡ inside
-unfolding state L l u v x y ξ η ζ q value2 value3 step near
+before-leave : poleState Central (pos 99) ≡ inside
+unfolding state H L u v ξ η ζ q quadraticAt cubicAt step near factorial numerator denominator common term
+    series S arc sag between capped firstQuadrant reduced sineIn sine cosine
 before-leave = refl
 
-after-leave : state (pos 16) (radius central (L (at-pole (pos 101)) cone2)) (M (at-pole (pos 101))) ≡ outside
-unfolding state L l u v x y ξ η ζ q value2 value3 step near
+after-leave : poleState Central (pos 101) ≡ outside
+unfolding state H L u v ξ η ζ q quadraticAt cubicAt step near factorial numerator denominator common term
+    series S arc sag between capped firstQuadrant reduced sineIn sine cosine
 after-leave = refl
 
 -- at second 100 the exact distance is the exact L: exactly outside
-exactly-outside : exactlyInside? central (at-pole (pos 100)) cone2 ≡ false
-unfolding exactlyInside? exact-u exact-v exact-L exact-x exact-y exact-l exact-ξ exact-η exact-ζ exact-q exact-term exact2 exact3
-exactly-outside = refl
+exactly-outside : ExactlyOutside Central (at-pole (pos 100)) (worked .central)
+unfolding exact-u exact-v exact-L exact-ξ exact-η exact-ζ exact-q exact-term exact-quadratic exact-cubic H
+    quadraticAt cubicAt step near factorial numerator denominator common term series S arc sag between capped
+    firstQuadrant reduced sineIn sine cosine
+exactly-outside i = clashℤ (i .square) (leZ-yes tt)
 
-exactly-inside : exactlyInside? central (at-pole (pos 99)) cone2 ≡ true
-unfolding exactlyInside? exact-u exact-v exact-L exact-x exact-y exact-l exact-ξ exact-η exact-ζ exact-q exact-term exact2 exact3
-exactly-inside = refl
+exactly-inside : ExactlyInside Central (at-pole (pos 99)) (worked .central)
+unfolding exact-u exact-v exact-L exact-ξ exact-η exact-ζ exact-q exact-term exact-quadratic exact-cubic H
+    quadraticAt cubicAt step near factorial numerator denominator common term series S arc sag between capped
+    firstQuadrant reduced sineIn sine cosine
+exactly-inside = record { sign = leZ-yes tt; square = ltZ-yes tt }
 
 -- "closest 0 1037735": L2 with its sign; without it the total eclipse would read as annular, 963,636
-total : magnitude inside (L (at-pole (pos 0)) cone1) (L (at-pole (pos 0)) cone2) (M (at-pole (pos 0))) ≡ 1037735
-unfolding magnitude L l u v x y ξ η ζ q value2 value3 step near root
+total : magnitude inside (L (at-pole (pos 0)) (worked .penumbra)) (L (at-pole (pos 0)) (worked .central)) (M (at-pole (pos 0))) ≡ 1037735
+unfolding root magnitude H L u v ξ η ζ q quadraticAt cubicAt step near factorial numerator denominator common
+    term series S arc sag between capped firstQuadrant reduced sineIn sine cosine
 total = refl
 
 -- ---- the magnitude outside of central: partial, and 0 outside of the penumbra

@@ -1,9 +1,8 @@
--- what to believe: document 01's rules as definitions, and the ranges
+-- what to believe: document 01's rules as definitions
 pub mod Shadow
 pub mod Exact
 pub mod Direction
 pub mod Magnitude
-pub mod Ranges
 -- the theorems on how far the shadow is from the exact one
 pub mod PolynomialError
 pub mod Errors
@@ -14,8 +13,9 @@ pub mod States
 pub mod Tests
 pub mod StateLaws
 pub mod ExactLaws
+pub mod Ranges
+pub mod Moments
 pub mod Sizes
 pub mod DirectionLaws
 pub mod MagnitudeLaws
 pub mod Examples
-pub mod Moments

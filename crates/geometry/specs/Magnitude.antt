@@ -2,10 +2,10 @@
 use mathlib.Core.Bool.{Bool, true, false, cond}
 use Prim.Native.Nat.{ℕ}
 use lib.IntN.{ℤ, pos, natAbs, _+ℤ_, _-ℤ_, _*ℤ_}
+use Rattle.phases.specs.States.{State, inside, outside, unsure}
 use Rattle.numbers.specs.Parts.{posP}
 use Rattle.numbers.specs.Near.{floorZ}
 use Rattle.numbers.specs.Root.{root}
-use Rattle.geometry.specs.Shadow.{State, inside, outside, unsure}
 
 -- "in millionths, rounded down: .. and 0 if that is negative": posP z is z, and 0 if z is negative
 abbrev pub millionths : (n d : ℤ) → ℕ
@@ -17,7 +17,7 @@ isInside outside = false
 isInside unsure = false
 
 -- "Magnitude in millionths, rounded down: (L1-L2)/(L1+L2) if central is inside; otherwise (L1-root(M))/(L1+L2), and 0 if that is negative.",
--- of the state of central, L1, L2 with its sign, and M. Within the ranges L1+L2 is above 0 (MagnitudeLaws, sum-within)
+-- of the state of central, L1, L2 with its sign, and M. Within the ranges L1+L2 is above 0 (MagnitudeLaws, sum-positive)
 unfoldable pub magnitude : State → (L1 L2 M : ℤ) → ℕ
 magnitude w L1 L2 M =
     cond (isInside w) (millionths (L1 -ℤ L2) (L1 +ℤ L2))

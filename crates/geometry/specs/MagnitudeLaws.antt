@@ -1,16 +1,17 @@
 -- What callers use of the magnitude.
---   millionths-pos, millionths-neg   by one division of naturals, and 0
+--   millionths-neg      0 below 0
 --   magnitude-inside, magnitude-else the two cases
 --   magnitude-limit     "It never exceeds 1,300,000", where 23 |L2| ≤ 3 L1: then neither L1 - L2 nor L1 is more than 1.3 (L1 + L2)
---   magnitude-within, sum-within   so within the ranges: L1 is at least 48,860,000 and L2 at most 6,140,000 in size
+--   magnitude-within    so within the ranges (L1-above, L2-narrow): L1 is at least 48,860,000 and L2 at most 6,140,000 in size
 use mathlib.Core.Path.{_≡_, refl}
 use mathlib.Core.Bool.{Bool, true, false, cond}
 use mathlib.Core.List.{List, [], _∷_}
-use Prim.Native.Nat.{ℕ, _*_, _/_, _≤_}
+use Prim.Native.Nat.{ℕ, _≤_}
 use native.Mathlib.Omega.{arith}
 use native.Mathlib.Nat.{le-refl}
 use lib.IntN.{ℤ, pos, negsuc, negℤ, natAbs, _+ℤ_, _-ℤ_, _*ℤ_}
 use lib.Signed.{_≤ℤ_, _<ℤ_, clashℤ}
+use Rattle.phases.specs.States.{State, inside, outside, unsure}
 use Rattle.numbers.specs.Parts.{posP, sum, product}
 use Rattle.numbers.specs.Order.{zs, by-contra, natAbs-parts, neg-natAbs}
 use Rattle.numbers.specs.Ring.{num, _⊕_, _⊖_, _⊗_, opp, v0, v1, v2, v3}
@@ -18,13 +19,12 @@ use Rattle.numbers.specs.Cert.{leq, less, lit, _⊞_, _⊠_, certify, certify-<
 use Rattle.numbers.specs.Near.{floorZ}
 use Rattle.numbers.specs.Floor.{floor-is}
 use Rattle.numbers.specs.Root.{root}
-use Rattle.geometry.specs.Shadow.{Moment, Cone, L, ζ, State, inside, outside, unsure}
+use Rattle.elements.specs.declared.Cone.{Cone}
+use Rattle.elements.specs.Sizes.{ConeSizes}
+use Rattle.geometry.specs.Shadow.{Moment, L}
 use Rattle.geometry.specs.Magnitude.{millionths, isInside, magnitude}
-use Rattle.geometry.specs.Ranges.{ConeRanges}
+use Rattle.geometry.specs.Ranges.{MomentSizes}
 use Rattle.geometry.specs.Sizes.{L-size, L1-positive}
-
-pub millionths-pos : (n d : ℕ) → millionths (pos n) (pos d) ≡ 1000000 * n / d
-millionths-pos n d = refl
 
 pub millionths-neg : (n d : ℤ) → n <ℤ pos 0 → millionths n d ≡ 0
 millionths-neg n d h = go (pos 1000000 *ℤ n) (omega (arith, zs, product (pos 1000000) n .is))
@@ -84,18 +84,16 @@ module _ (L1 L2 : ℤ) (above : pos 0 <ℤ L1) (small : (pos 23 *ℤ pos (natAbs
       go false =
           millionths-limit (L1 -ℤ r) (L1 +ℤ L2) sum-positive
           (certify 0 env (num 10 ⊗ (v0 ⊖ v3)) (num 13 ⊗ (v0 ⊕ v1))
-          (leq (num 23 ⊗ v2) (num 3 ⊗ v0) small ⊞ lit 13 ⊠ leq (opp v2) v1 low ⊞ lit 10 ⊠ (leq (num 0) v2 (omega (arith, zs)) ⊞ leq (num 0) v3 (omega (arith, zs)))) tt)
+          (leq (num 23 ⊗ v2) (num 3 ⊗ v0) small ⊞ lit 13 ⊠ leq (opp v2) v1 low ⊞ lit 10 ⊠
+          (leq (num 0) v2 (omega (arith, zs)) ⊞ leq (num 0) v3 (omega (arith, zs)))) tt)
 
--- within the ranges: of a penumbra's cone, of the other cone, and of ζ
-module _ (m : Moment) (t : natAbs (m .τ) ≤ 10800) (z : natAbs (ζ m) ≤ 150000000) (k1 k2 : Cone) {c : ℕ} (h1 : ConeRanges c k1) (low1 : pos 50000000 ≤ℤ k1 .constant) (h2 : ConeRanges 5000000 k2) where
-  positive : pos 0 <ℤ L m k1
-  positive = omega (arith, zs, L1-positive m t z k1 h1 low1)
+-- within the ranges: of a penumbra's cone and of the other
+module _ (m : Moment) (h : MomentSizes m) (k1 k2 : Cone) {c : ℕ} (h1 : ConeSizes c k1) (low : pos 50000000 ≤ℤ k1 .l .c0) (h2 : ConeSizes 5000000 k2) where
+  pub L1-above : pos 0 <ℤ L m k1
+  L1-above = omega (arith, zs, L1-positive m h k1 h1 low)
 
-  narrow : (pos 23 *ℤ pos (natAbs (L m k2))) ≤ℤ (pos 3 *ℤ L m k1)
-  narrow = omega (arith, zs, L1-positive m t z k1 h1 low1, L-size m t z k2 h2, product (pos 3) (L m k1) .is)
+  pub L2-narrow : (pos 23 *ℤ pos (natAbs (L m k2))) ≤ℤ (pos 3 *ℤ L m k1)
+  L2-narrow = omega (arith, zs, L1-positive m h k1 h1 low, L-size m h k2 h2, product (pos 3) (L m k1) .is)
 
   pub magnitude-within : (w : State) (M : ℤ) → magnitude w (L m k1) (L m k2) M ≤ 1300000
-  magnitude-within w M = magnitude-limit (L m k1) (L m k2) positive narrow w M
-
-  pub sum-within : pos 0 <ℤ (L m k1 +ℤ L m k2)
-  sum-within = sum-positive (L m k1) (L m k2) positive narrow
+  magnitude-within w M = magnitude-limit (L m k1) (L m k2) L1-above L2-narrow w M

@@ -7,10 +7,11 @@ use mathlib.Core.Bool.{Bool, true, false, _&&_, cond}
 use mathlib.Core.List.{List, [], _∷_}
 use lib.IntN.{ℤ, pos, _+ℤ_, _-ℤ_}
 use lib.Signed.{ltZ, _≤ℤ_, _<ℤ_, clashℤ}
+use Rattle.phases.specs.States.{State, inside, outside, unsure}
 use Rattle.numbers.specs.Order.{ltZ-true, ltZ-false, ≤ℤ-<ℤ-trans}
 use Rattle.numbers.specs.Ring.{num, _⊕_, _⊖_, _⊗_, v0, v1, v2, v3}
 use Rattle.numbers.specs.Cert.{leq, less, lit, _⊞_, _⊠_, certify, certify-<}
-use Rattle.geometry.specs.Shadow.{_², State, inside, outside, unsure, state}
+use Rattle.geometry.specs.Shadow.{_², state}
 
 abbrev pub Means : (g r s : ℤ) → State → Type 0
 Means g r s inside = (g <ℤ r) × (s <ℤ ((r -ℤ g) ²))

@@ -13,19 +13,21 @@ use Rattle.numbers.specs.Parts.{sum, opposite}
 use Rattle.numbers.specs.Order.{zs, ≤ℤ-total, <ℤ-≤, le-natAbs, neg-natAbs, natAbs-by, natAbs-sum, natAbs-product, natAbs-opposite}
 use Rattle.numbers.specs.Ring.{num, _⊕_, _⊖_, _⊗_, opp, ring, v0, v1, v2, v3, v4, v5}
 use Rattle.numbers.specs.Cert.{leq, less, lit, sq, _⊞_, _⊠_, certify, certify-<}
-use Rattle.geometry.specs.Shadow.{Moment, Cone, _², u, v, L, M, Phase, penumbra, central, radius}
-use Rattle.geometry.specs.Exact.{D, exact-u, exact-v, exact-L, exact-M, exact-radius, AtMost, Less, AtLeast}
-use Rattle.geometry.specs.Ranges.{Bounded}
+use Rattle.phases.specs.declared.Phase.{Phase}
+use Rattle.phases.specs.declared.Phase.the-variants.{Penumbra, Central}
+use Rattle.elements.specs.declared.Cone.{Cone}
+use Rattle.geometry.specs.Shadow.{Moment, _², u, v, L, M, edge}
+use Rattle.geometry.specs.Exact.{D, exact-u, exact-v, exact-L, exact-M, exact-edge, AtMost, Less, AtLeast}
 use Rattle.geometry.specs.Errors.{u-error, v-error, L-inner}
 use Rattle.geometry.specs.Triangle.{le-of-squares, squares-of-size, triangle}
 
 -- "the 13 below is said for every whole t with L+t not negative: where M is at most (L+t)², the exact distance is at most the exact L plus t+13,
 -- and where M is at least (L+t)², it is at least the exact L plus t-13". The second holds whatever the sign of L+t.
 pub record Thirteen (φ : Phase) (m : Moment) (k : Cone) : Type 0 where
-  pub at-most : (t : ℤ) → pos 0 ≤ℤ (radius φ (L m k) +ℤ t) → M m ≤ℤ ((radius φ (L m k) +ℤ t) ²)
-      → AtMost (exact-M m) (exact-radius φ m k +ℤ (t +ℤ pos 13) *ℤ pos D)
-  pub at-least : (t : ℤ) → ((radius φ (L m k) +ℤ t) ²) ≤ℤ M m
-      → AtLeast (exact-M m) (exact-radius φ m k +ℤ (t -ℤ pos 13) *ℤ pos D)
+  pub at-most : (t : ℤ) → pos 0 ≤ℤ (edge φ (L m k) +ℤ t) → M m ≤ℤ ((edge φ (L m k) +ℤ t) ²)
+      → AtMost (exact-M m) (exact-edge φ m k +ℤ (t +ℤ pos 13) *ℤ pos D)
+  pub at-least : (t : ℤ) → ((edge φ (L m k) +ℤ t) ²) ≤ℤ M m
+      → AtLeast (exact-M m) (exact-edge φ m k +ℤ (t -ℤ pos 13) *ℤ pos D)
 
 -- ---- over any denominator
 -- u, v and r are E, N and K over D, to 7, 7½ and 2.505 units
@@ -49,7 +51,8 @@ reach D p q x y a ha hx hy h =
     triangle (pos 100 *ℤ p) (pos 100 *ℤ q) (pos 100 *ℤ x) (pos 100 *ℤ y) (pos 100 *ℤ a) (pos 1026 *ℤ pos D)
     (certify 0 e (num 0) (num 100 ⊗ v5) (lit 100 ⊠ leq (num 0) v5 ha) tt)
     (certify 0 e (num 0) (num 1026 ⊗ v0) (lit 1026 ⊠ leq (num 0) v0 hD) tt)
-    (certify 0 e (num 100 ⊗ v1 ⊗ (num 100 ⊗ v1) ⊕ num 100 ⊗ v2 ⊗ (num 100 ⊗ v2)) (num 100 ⊗ v5 ⊗ (num 100 ⊗ v5)) (lit 10000 ⊠ leq (v1 ⊗ v1 ⊕ v2 ⊗ v2) (v5 ⊗ v5) h) tt)
+    (certify 0 e (num 100 ⊗ v1 ⊗ (num 100 ⊗ v1) ⊕ num 100 ⊗ v2 ⊗ (num 100 ⊗ v2)) (num 100 ⊗ v5 ⊗ (num 100 ⊗ v5))
+    (lit 10000 ⊠ leq (v1 ⊗ v1 ⊕ v2 ⊗ v2) (v5 ⊗ v5) h) tt)
     (certify 0 e (c ⊗ c ⊕ d ⊗ d) (num 1026 ⊗ v0 ⊗ (num 1026 ⊗ v0))
     (lit 10000 ⊠ leq (r ⊗ r) (num 7 ⊗ v0 ⊗ (num 7 ⊗ v0)) (squares-of-size (p -ℤ x) (7 * D) hx)
     ⊞ lit 2500 ⊠ leq (s ⊗ s) (num 15 ⊗ v0 ⊗ (num 15 ⊗ v0)) (squares-of-size (pos 2 *ℤ (q -ℤ y)) (15 * D) twice) ⊞ lit 176 ⊠ sq v0) tt)
@@ -83,8 +86,10 @@ module _ {D : ℕ} {u v r E N K : ℤ} (a : Approximate D u v r E N K) where
       let Y = v5 ⊕ (v4 ⊕ num 13) ⊗ v0 in
       let hA : pos 0 ≤ℤ A = certify 0 e (num 0) (v0 ⊗ (v3 ⊕ v4)) ((leq (num 1) v0 some-D ⊞ lit 1) ⊠ leq (num 0) (v3 ⊕ v4) h) tt in
       let far = reach D (pos D *ℤ u) (pos D *ℤ v) E N A hA (a .u-error) (a .v-error)
-      (certify 0 e (v0 ⊗ v1 ⊗ (v0 ⊗ v1) ⊕ v0 ⊗ v2 ⊗ (v0 ⊗ v2)) (v0 ⊗ (v3 ⊕ v4) ⊗ (v0 ⊗ (v3 ⊕ v4))) (sq v0 ⊠ leq (v1 ⊗ v1 ⊕ v2 ⊗ v2) ((v3 ⊕ v4) ⊗ (v3 ⊕ v4)) m) tt) in
-      let hX : pos 0 ≤ℤ (pos 100 *ℤ A +ℤ pos 1026 *ℤ pos D) = certify 0 f (num 0) X (lit 100 ⊠ leq (num 0) (v0 ⊗ (v3 ⊕ v4)) hA ⊞ lit 1026 ⊠ (leq (num 1) v0 some-D ⊞ lit 1)) tt in
+      (certify 0 e (v0 ⊗ v1 ⊗ (v0 ⊗ v1) ⊕ v0 ⊗ v2 ⊗ (v0 ⊗ v2)) (v0 ⊗ (v3 ⊕ v4) ⊗ (v0 ⊗ (v3 ⊕ v4)))
+      (sq v0 ⊠ leq (v1 ⊗ v1 ⊕ v2 ⊗ v2) ((v3 ⊕ v4) ⊗ (v3 ⊕ v4)) m) tt) in
+      let hX : pos 0 ≤ℤ (pos 100 *ℤ A +ℤ pos 1026 *ℤ pos D) = certify 0 f (num 0) X
+      (lit 100 ⊠ leq (num 0) (v0 ⊗ (v3 ⊕ v4)) hA ⊞ lit 1026 ⊠ (leq (num 1) v0 some-D ⊞ lit 1)) tt in
       let less-100 : (pos 100 *ℤ A +ℤ pos 1026 *ℤ pos D) <ℤ (pos 100 *ℤ (K +ℤ (t +ℤ pos 13) *ℤ pos D)) =
       certify-< 9 f X (num 100 ⊗ Y) (leq (num 1000 ⊗ (v0 ⊗ v3 ⊖ v5)) (num 2505 ⊗ v0) r-high ⊞ lit 235 ⊠ leq (num 1) v0 some-D ⊞ lit 225) tt in
       record {
@@ -106,7 +111,8 @@ module _ {D : ℕ} {u v r E N K : ℤ} (a : Approximate D u v r E N K) where
       let W = num 100 ⊗ (v0 ⊗ (v3 ⊕ v4)) in
       by-contra-< (B ²) (E ² +ℤ N ²)
       (λ g.
-      let far = reach D E N (pos D *ℤ u) (pos D *ℤ v) B h (omega (arith, apart-sym E (pos D *ℤ u), a .u-error)) (omega (arith, apart-sym N (pos D *ℤ v), a .v-error)) g in
+      let far = reach D E N (pos D *ℤ u) (pos D *ℤ v) B h (omega (arith, apart-sym E (pos D *ℤ u), a .u-error))
+      (omega (arith, apart-sym N (pos D *ℤ v), a .v-error)) g in
       clashℤ
       (certify-< 9 f X W (leq (opp (num 2505 ⊗ v0)) (num 1000 ⊗ (v0 ⊗ v3 ⊖ v5)) r-low ⊞ lit 235 ⊠ leq (num 1) v0 some-D ⊞ lit 225) tt)
       (le-of-squares (pos 100 *ℤ (pos D *ℤ (r +ℤ t))) (pos 100 *ℤ B +ℤ pos 1026 *ℤ pos D)
@@ -127,18 +133,18 @@ sizes-apart y z =
     let k : natAbs z ≤ natAbs (y -ℤ z) + natAbs y = omega (arith, natAbs-sum (z -ℤ y) y, ap natAbs (-ℤ-+ℤ-cancel z y), apart-sym z y) in
     natAbs-by (pos a -ℤ pos b) (omega (arith, p, n)) (omega (arith, p, n))
 
-radius-apart : (φ : Phase) (d : ℕ) (l K : ℤ) → natAbs (pos d *ℤ radius φ l -ℤ radius φ K) ≤ natAbs (pos d *ℤ l -ℤ K)
-radius-apart penumbra d l K = omega arith
-radius-apart central d l K = omega (arith, sizes-apart (pos d *ℤ l) K, ap (λ (n : ℕ). natAbs (pos n -ℤ pos (natAbs K))) (natAbs-product (pos d) l))
+edge-apart : (φ : Phase) (d : ℕ) (l K : ℤ) → natAbs (pos d *ℤ edge φ l -ℤ edge φ K) ≤ natAbs (pos d *ℤ l -ℤ K)
+edge-apart Penumbra d l K = omega arith
+edge-apart Central d l K = omega (arith, sizes-apart (pos d *ℤ l) K, ap (λ (n : ℕ). natAbs (pos n -ℤ pos (natAbs K))) (natAbs-product (pos d) l))
 
-module _ (m : Moment) (h : Bounded m) (k : Cone) (f : natAbs (k .tan-f) ≤ 500000) (φ : Phase) where
-  pub approximate : Approximate D (u m) (v m) (radius φ (L m k)) (exact-u m) (exact-v m) (exact-radius φ m k)
+module _ (m : Moment) (t : natAbs (m .τ) ≤ 10800) (k : Cone) (f : natAbs (k .tanf) ≤ 500000) (φ : Phase) where
+  pub approximate : Approximate D (u m) (v m) (edge φ (L m k)) (exact-u m) (exact-v m) (exact-edge φ m k)
   approximate =
       record {
         some = lit≤ tt;
-        u-error = u-error m h;
-        v-error = v-error m h;
-        r-error = omega (arith, radius-apart φ D (L m k) (exact-L m k), L-inner m h k f);
+        u-error = u-error m t;
+        v-error = v-error m t;
+        r-error = omega (arith, edge-apart φ D (L m k) (exact-L m k), L-inner m t k f);
       }
 
   pub thirteen : Thirteen φ m k

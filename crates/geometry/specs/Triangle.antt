@@ -12,7 +12,8 @@ use Rattle.geometry.specs.Shadow.{_²}
 pub le-of-squares : (x y : ℤ) → pos 0 ≤ℤ y → (x ²) ≤ℤ (y ²) → x ≤ℤ y
 le-of-squares x y h k =
     by-contra x y
-    (λ g. clashℤ (certify-< 0 (x ∷ y ∷ []) (v1 ⊗ v1) (v0 ⊗ v0) (sq (v0 ⊖ v1 ⊖ num 1) ⊞ lit 2 ⊠ leq (num 0) v1 h ⊠ (less v1 v0 g ⊞ lit 1) ⊞ lit 2 ⊠ less v1 v0 g) tt) k)
+    (λ g. clashℤ (certify-< 0 (x ∷ y ∷ []) (v1 ⊗ v1) (v0 ⊗ v0)
+    (sq (v0 ⊖ v1 ⊖ num 1) ⊞ lit 2 ⊠ leq (num 0) v1 h ⊠ (less v1 v0 g ⊞ lit 1) ⊞ lit 2 ⊠ less v1 v0 g) tt) k)
 
 -- |z| ≤ n gives z² ≤ n²
 pub squares-of-size : (z : ℤ) (n : ℕ) → natAbs z ≤ n → (z ²) ≤ℤ (pos n ²)
@@ -36,4 +37,5 @@ triangle p q x y a δ ha hδ h k =
     let c = v2 ⊖ v0 in
     let d = v3 ⊖ v1 in
     certify 0 e (v2 ⊗ v2 ⊕ v3 ⊗ v3) ((v4 ⊕ v5) ⊗ (v4 ⊕ v5))
-    (leq (v0 ⊗ v0 ⊕ v1 ⊗ v1) (v4 ⊗ v4) h ⊞ leq (c ⊗ c ⊕ d ⊗ d) (v5 ⊗ v5) k ⊞ lit 2 ⊠ leq (v0 ⊗ c ⊕ v1 ⊗ d) (v4 ⊗ v5) (cauchy p q (x -ℤ p) (y -ℤ q) a δ ha hδ h k)) tt
+    (leq (v0 ⊗ v0 ⊕ v1 ⊗ v1) (v4 ⊗ v4) h ⊞ leq (c ⊗ c ⊕ d ⊗ d) (v5 ⊗ v5) k ⊞ lit 2 ⊠ leq (v0 ⊗ c ⊕ v1 ⊗ d) (v4 ⊗ v5)
+    (cauchy p q (x -ℤ p) (y -ℤ q) a δ ha hδ h k)) tt

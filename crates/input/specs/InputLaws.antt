@@ -1,40 +1,22 @@
 -- Laws of the program's input.
-use mathlib.Core.Path.{_≡_, refl, sym, ap, subst}
-use mathlib.Core.Bool.{Bool, true, false, _&&_}
+use mathlib.Core.Path.{_≡_, refl, ap}
 use mathlib.Core.List.{List, [], _∷_}
-use Prim.Native.Nat.{ℕ, zero, suc, _*_, _≤_, _<_}
+use Prim.Native.Nat.{ℕ, zero, suc, _≤_, _<_}
 use native.Mathlib.Omega.{arith}
-use native.Mathlib.Decide.{decLt}
-use borrow.Author.Tests.{lt-ltb, le-ltb, eqb-true}
-use lib.Dec.{eqb}
-use lib.IntN.{ℤ, pos, negℤ, natAbs, _-ℤ_}
-use lib.ListN.{length, getD}
-use Rattle.numbers.specs.Parts.{sum, opposite}
-use Rattle.numbers.specs.Order.{both-ways, natAbs-by}
+use lib.IntN.{ℤ, natAbs}
+use lib.ListN.{length}
 use Rattle.elements.specs.Elements.{fields}
+use Rattle.circumstances.specs.declared.Request.{Request}
+use Rattle.circumstances.specs.declared.Refusal.{Refusal}
 use Rattle.circumstances.specs.declared.Refusal.the-variants as R
+use Rattle.request_fields.specs.Fields.{count}
+use Rattle.request_bytes.specs.declared.Got.the-variants as G
+use Rattle.request_bytes.specs.Layout.{Reading, numbers, misshaped}
+use Rattle.request_bytes.specs.NumberLaws.{Bytes}
+use Rattle.request_bytes.specs.Request.{readingOf, gotOf, numbersAfter}
+use Rattle.request_bytes.specs.RoundTrip.{write-back, numbers-small}
 use Rattle.input.specs.declared.Input.the-variants as I
-use Rattle.input.specs.Input.{signed, shapeHolds, elementAt, elementsBy, elementsOf, requestOf, inputOf}
-
-pub signed-below : (half n : ℕ) → n < half → signed half n ≡ pos n
-unfolding signed
-signed-below half n h = rw (lt-ltb n half h)
-
-pub signed-above : (half n : ℕ) → half ≤ n → signed half n ≡ pos n -ℤ pos (2 * half)
-unfolding signed
-signed-above half n h = rw (le-ltb n half h)
-
-pub signed-size : (half n : ℕ) → n < 2 * half → natAbs (signed half n) ≤ half
-signed-size half n h =
-    elim (decLt n half) [
-      | yes l ↦ omega (arith, ap natAbs (signed-below half n l))
-      | no l ↦ let g : half ≤ n = omega arith in subst (λ (z : ℤ). natAbs z ≤ half) (sym (signed-above half n g)) (less g)
-    ]
-  where
-    less : half ≤ n → natAbs (pos n -ℤ pos (2 * half)) ≤ half
-    less g =
-        let z = pos (2 * half) in
-        natAbs-by (pos n -ℤ z) (omega (arith, sum (pos n) (negℤ z) .is, opposite z .is)) (omega (arith, sum (pos n) (negℤ z) .is, opposite z .is))
+use Rattle.input.specs.Input.{number, elementsBy, requestFrom, inputBy, inputOf, requestOf}
 
 -- elements are the same where their numbers are
 pub elements-same : (f g : ℕ → ℤ) → ((k : ℕ) → k < 22 → f k ≡ g k) → elementsBy f ≡ elementsBy g
@@ -65,29 +47,66 @@ elements-same f g h =
       h 21 (omega arith),
     )
 
--- input of the shape has 109 bytes
-pub shape-length : (s : List ℕ) → shapeHolds s ≡ true → length s ≡ 109
-unfolding shapeHolds
-shape-length s e = by (eqb (length s) 109) (eqb (getD s 0 0) 2 && (eqb (getD s 89 0) 3 && eqb (getD s 104 0) 4)) refl e
+-- as many numbers as a request has, each of at most 32 bits
+pub record Small (ns : List ℤ) : Type 0 where
+  pub all : length ns ≡ count
+  pub each : (k : ℕ) → natAbs (number ns k) ≤ 4294967296
+
+-- ---- what bytes hold
+
+-- bytes of the shape
+pub record Asked (s : List ℕ) (ns : List ℤ) : Type 0 where
+  pub small : Small ns
+  pub input : inputOf s ≡ I.Is (requestFrom ns)
+
+pub asked : (s : List ℕ) (ns old : List ℤ) → Bytes s → gotOf (readingOf s) ≡ G.Numbers → ns ≡ numbersAfter (readingOf s) old → Asked s ns
+unfolding inputOf
+asked s ns old b e q = by (readingOf s) refl e q
   where
-    by : (b rest : Bool) → eqb (length s) 109 ≡ b → (b && rest) ≡ true → length s ≡ 109
-    by true rest q t = eqb-true (length s) 109 q
-    by false rest q t = absurd (both-ways t refl)
+    by : (r : Reading) → readingOf s ≡ r → gotOf r ≡ G.Numbers → ns ≡ numbersAfter r old → Asked s ns
+    by (numbers ms) p f g =
+        rw g
+        (record {
+          small = record { all = write-back s ms b p .0; each = λ k. let h = numbers-small s ms b p k in omega arith };
+          input = ap inputBy p;
+        })
+    by misshaped p f g = let z : _≡_ {A = ℕ} 0 1 = cc in absurd (omega arith)
 
-pub input-refused : (s : List ℕ) → shapeHolds s ≡ false → inputOf s ≡ I.Refused R.Shape
+-- any other
+pub input-refused : (s : List ℕ) → gotOf (readingOf s) ≡ G.Misshaped → I.Refused R.Shape ≡ inputOf s
 unfolding inputOf
-input-refused s e = rw e
+input-refused s e = by (readingOf s) e
+  where
+    by : (r : Reading) → gotOf r ≡ G.Misshaped → I.Refused R.Shape ≡ inputBy r
+    by (numbers ms) f = let z : _≡_ {A = ℕ} 0 1 = cc in absurd (omega arith)
+    by misshaped f = refl
 
-pub input-is : (s : List ℕ) → shapeHolds s ≡ true → inputOf s ≡ I.Is (requestOf s)
+-- the request that an input holds is the one that was asked for
+pub request-is : (s : List ℕ) (q : Request) → inputOf s ≡ I.Is q → q ≡ requestOf s
+unfolding inputOf requestOf
+request-is s q e = by (readingOf s) e
+  where
+    by : (r : Reading) → inputBy r ≡ I.Is q → q ≡ requestFrom (numbersAfter r [])
+    by (numbers ms) f = cc
+    by misshaped f = let z : _≡_ {A = ℕ} 0 1 = cc in absurd (omega arith)
+
+-- a refused input is not of the shape
+pub shape-is : (s : List ℕ) (r : Refusal) → inputOf s ≡ I.Refused r → r ≡ R.Shape
 unfolding inputOf
-input-is s e = rw e
+shape-is s r e = by (readingOf s) e
+  where
+    by : (x : Reading) → inputBy x ≡ I.Refused r → r ≡ R.Shape
+    by (numbers ms) f = let z : _≡_ {A = ℕ} 0 1 = cc in absurd (omega arith)
+    by misshaped f = cc
 
--- n numbers of the input, from number k on
-abbrev pub numbersFrom : List ℕ → ℕ → ℕ → List ℤ
-numbersFrom s k zero = []
-numbersFrom s k (suc n) = elementAt s k ∷ numbersFrom s (suc k) n
+-- ---- the elements' own order
 
--- number k of the input is field k of the elements: the one that refusal 2 with place k is about
-pub elements-are : (s : List ℕ) → fields (elementsOf s) ≡ numbersFrom s 0 22
-unfolding elementsOf elementsBy
-elements-are s = refl
+-- n numbers, from number k on
+abbrev pub numbersFrom : List ℤ → ℕ → ℕ → List ℤ
+numbersFrom ns k zero = []
+numbersFrom ns k (suc n) = number ns k ∷ numbersFrom ns (suc k) n
+
+-- number k of a request is field k of the elements: the one that refusal 2 with place k is about
+pub elements-are : (ns : List ℤ) → fields (requestFrom ns .elements) ≡ numbersFrom ns 0 22
+unfolding requestFrom elementsBy
+elements-are ns = refl

@@ -1,68 +1,49 @@
 -- Laws of the sheet of the program's input.
-use mathlib.Core.Path.{_≡_, refl}
-use mathlib.Core.Bool.{Bool, true, false, cond}
+use mathlib.Core.Path.{_≡_, sym, ap, subst, _∙_}
 use mathlib.Core.List.{List}
 use Prim.Native.Nat.{ℕ, _≤_}
 use native.Mathlib.Omega.{arith}
 use lib.ListN.{length}
 use Rattle.circumstances.specs.declared.Request.{Request}
 use Rattle.circumstances.specs.declared.Refusal.{Refusal}
-use Rattle.circumstances.specs.declared.Refusal.the-variants as R
+use Rattle.circumstances.specs.declared.Answer.{Answer}
 use Rattle.circumstances.specs.declared.Answer.the-variants as A
 use Rattle.circumstances.specs.Sheet.{answerOf, bufferAfter}
+use Rattle.circumstances.specs.Demand3.{Claimed}
 use Rattle.circumstances.specs.Claims as Claims
+use Rattle.input.specs.declared.Input.{Input}
 use Rattle.input.specs.declared.Input.the-variants as I
-use Rattle.input.specs.Input.{shapeHolds, requestOf, inputOf}
-use Rattle.input.specs.InputLaws.{input-is, input-refused}
-use Rattle.input.specs.Sheet.{answerTo, bufferFor}
+use Rattle.input.specs.Input.{inputOf, requestOf}
+use Rattle.input.specs.InputLaws.{request-is, shape-is}
+use Rattle.input.specs.Sheet.{answerBy, answerTo, bufferBy, bufferFor}
 
--- ---- input of the shape
-pub record Asked (s : List ℕ) (q : Request) : Type 0 where
-  pub shape : shapeHolds s ≡ true
-  pub request : q ≡ requestOf s
-
--- what an input that holds a request says of its bytes
-pub asked : (s : List ℕ) (q : Request) → inputOf s ≡ I.Is q → Asked s q
-asked s q e = by (shapeHolds s) refl
-  where
-    by : (b : Bool) → shapeHolds s ≡ b → Asked s q
-    by true h = let t = input-is s h in record { shape = h; request = cc }
-    by false h = let t = input-refused s h in let z : _≡_ {A = ℕ} 0 1 = cc in absurd (omega arith)
-
--- and a refused one
-pub record Misshaped (s : List ℕ) (r : Refusal) : Type 0 where
-  pub shape : shapeHolds s ≡ false
-  pub refusal : r ≡ R.Shape
-
-pub misshaped : (s : List ℕ) (r : Refusal) → inputOf s ≡ I.Refused r → Misshaped s r
-misshaped s r e = by (shapeHolds s) refl
-  where
-    by : (b : Bool) → shapeHolds s ≡ b → Misshaped s r
-    by true h = let t = input-is s h in let z : _≡_ {A = ℕ} 0 1 = cc in absurd (omega arith)
-    by false h = let t = input-refused s h in record { shape = h; refusal = cc }
+-- what is promised of an answer r and the bytes that are left
+abbrev pub Promised : List ℕ → List ℕ → Answer → List ℕ → Type 0
+Promised s old r new = (r ≡ answerTo s old) × ((new ≡ bufferFor s old) × Claimed (requestOf s) r new)
 
 module _ (s old : List ℕ) where
-  pub answer-asked : shapeHolds s ≡ true → answerTo s old ≡ answerOf (requestOf s) old
+  -- a request's own sheet
+  pub of-request : (q : Request) (r : Answer) (new : List ℕ) → inputOf s ≡ I.Is q → (r ≡ answerOf q old)
+      × ((new ≡ bufferAfter q old) × Claimed q r new) → Promised s old r new
+  unfolding answerTo bufferFor
+  of-request q r new e p = (
+    p .0 ∙ ap (λ (i : Input). answerBy i old) (sym e),
+    (p .1 .0 ∙ ap (λ (i : Input). bufferBy i old) (sym e), subst (λ (x : Request). Claimed x r new) (request-is s q e) (p .1 .1)),
+  )
+
+  -- a refused input
+  pub of-refusal : (r : Refusal) → inputOf s ≡ I.Refused r → Promised s old (A.Refused r) old
+  unfolding answerTo bufferFor
+  of-refusal r e = (
+    ap (λ (i : Input). answerBy i old) (sym e),
+    (ap (λ (i : Input). bufferBy i old) (sym e), subst (λ (x : Refusal). Claimed (requestOf s) (A.Refused x) old) (sym (shape-is s r e)) tt),
+  )
+
+  -- ---- what was written fits
+  pub written-fits : (n : ℕ) → answerTo s old ≡ A.Written n → n ≤ length old
   unfolding answerTo
-  answer-asked h = rw h
-
-  pub answer-misshaped : shapeHolds s ≡ false → answerTo s old ≡ A.Refused R.Shape
-  unfolding answerTo
-  answer-misshaped h = rw h
-
-  pub buffer-asked : shapeHolds s ≡ true → bufferFor s old ≡ bufferAfter (requestOf s) old
-  unfolding bufferFor
-  buffer-asked h = rw h
-
-  pub buffer-misshaped : shapeHolds s ≡ false → bufferFor s old ≡ old
-  unfolding bufferFor
-  buffer-misshaped h = rw h
-
--- ---- what was written fits
-pub written-fits : (s old : List ℕ) (n : ℕ) → answerTo s old ≡ A.Written n → n ≤ length old
-unfolding answerTo
-written-fits s old n e = by (shapeHolds s) e
-  where
-    by : (b : Bool) → cond b (answerOf (requestOf s) old) (A.Refused R.Shape) ≡ A.Written n → n ≤ length old
-    by true e = Claims.written-fits (requestOf s) old n e
-    by false e = let z : _≡_ {A = ℕ} 0 1 = cc in absurd (omega arith)
+  written-fits n e = by (inputOf s) e
+    where
+      by : (i : Input) → answerBy i old ≡ A.Written n → n ≤ length old
+      by (I.Is q) f = Claims.written-fits q old n f
+      by (I.Refused r) f = let z : _≡_ {A = ℕ} 0 1 = cc in absurd (omega arith)

@@ -1,11 +1,11 @@
-// The program's input: 109 bytes that hold a request.
+// The sheet of a request's bytes.
 ghost use mathlib.Core.Path.{_≡_};
-ghost use Prim.Native.Nat.{ℕ, _+_, _≤_, _<_};
-ghost use lib.IntN.{pos, natAbs};
-ghost use lib.ListN.{length, getD};
+ghost use lib.IntN.{pos};
+ghost use lib.ListN.{getD};
 ghost use Rattle.circumstances.specs.Requests.{numberOf, placeOf};
 ghost use Rattle.circumstances.specs.Demand3.{Claimed};
-ghost use Rattle.input.specs.Input.{signed, signed2, signed4, shapeHolds, elementAt, elementsBy, elementsOf, stationOf, windowOf, requestOf, inputOf};
+ghost use Rattle.input.specs.Input.{elementsBy, requestFrom, requestOf, inputOf};
+ghost use Rattle.input.specs.InputLaws.{Small};
 ghost use Rattle.input.specs.Sheet.{answerTo, bufferFor};
 
 // What the bytes hold, or the refusal of their shape.
@@ -14,70 +14,11 @@ pub enum Input {
     Refused(circumstances::Refusal),
 }
 
-// ---- one number
-
-// A number in two's complement: from `half` on it stands for itself less twice that.
-fn signed(n: u32, half: u32) -> i64
-    ensures { λ r. ⌜ r ≡ signed half n ⌝ }
-{
-    let whole = n as i64;
-    if n < half {
-        return whole;
-    }
-    whole - 2 * half as i64
-}
-
-// The signed number of two bytes at `at`.
-fn signed2_at(s: &[u8], at: usize) -> i64
-    requires { ⌜ at + 2 ≤ length (now s) ⌝ }
-    ensures { λ r. ⌜ r ≡ signed2 (now (s .entry)) at ⌝ }
-{
-    let n = records::two_at(s, at);
-    signed(n, 32_768)
-}
-
-// The signed number of four bytes at `at`.
-fn signed4_at(s: &[u8], at: usize) -> i64
-    requires { ⌜ at + 4 ≤ length (now s) ⌝ }
-    ensures { λ r. ⌜ (r ≡ signed4 (now (s .entry)) at) × (natAbs r ≤ 2147483648) ⌝ }
-{
-    let n = records::four_at(s, at);
-    signed(n, 2_147_483_648)
-}
-
-// ---- the parts of a request
-
-// Whether there are 109 bytes with each kind in its place.
-fn shape_holds(s: &[u8]) -> bool
-    ensures { λ r. ⌜ r ≡ shapeHolds (now (s .entry)) ⌝ }
-{
-    if s.len() != 109 {
-        return false;
-    }
-    let elements = s[0];
-    let station = s[89];
-    let window = s[104];
-    (elements == 2) & ((station == 3) & (window == 4))
-}
-
-// The 22 numbers after kind 02.
-fn numbers_at(s: &[u8]) -> [i64; 22]
-    requires { ⌜ length (now s) ≡ 109 ⌝ }
-    ensures { λ r. ⌜ ((k : ℕ) → k < 22 → (getD r k (pos 0) ≡ elementAt (now (s .entry)) k) × (natAbs (getD r k (pos 0)) ≤ 2147483648)) ⌝ }
-{
-    let mut n = [0i64; 22];
-    let mut k: usize = 0;
-    while k < 22 {
-        let at = 1 + 4 * k;
-        n[k] = signed4_at(s, at);
-        k += 1;
-    }
-    n
-}
+// ---- the request of its numbers
 
 // The elements, from their numbers in order.
 fn elements_from(n: &[i64]) -> elements::Elements
-    requires { ⌜ (length (now n) ≡ 22) × ((k : ℕ) → k < 22 → natAbs (getD (now n) k (pos 0)) ≤ 2147483648) ⌝ }
+    requires { ⌜ Small (now n) ⌝ }
     ensures { λ r. ⌜ r ≡ elementsBy (λ k. getD (now (n .entry)) k (pos 0)) ⌝ }
 {
     let x0 = n[0];
@@ -128,56 +69,45 @@ fn elements_from(n: &[i64]) -> elements::Elements
     }
 }
 
-fn elements_at(s: &[u8]) -> elements::Elements
-    requires { ⌜ length (now s) ≡ 109 ⌝ }
-    ensures { λ r. ⌜ r ≡ elementsOf (now (s .entry)) ⌝ }
+// The request of its numbers, in document 01's order.
+fn request_from(n: &[i64]) -> circumstances::Request
+    requires { ⌜ Small (now n) ⌝ }
+    ensures { λ r. ⌜ r ≡ requestFrom (now (n .entry)) ⌝ }
 {
-    let n = numbers_at(s);
-    elements_from(&n)
-}
-
-fn station_at(s: &[u8]) -> station::Station
-    requires { ⌜ length (now s) ≡ 109 ⌝ }
-    ensures { λ r. ⌜ r ≡ stationOf (now (s .entry)) ⌝ }
-{
-    let number = records::two_at(s, 90) as i64;
-    let latitude = signed4_at(s, 92);
-    let longitude = signed4_at(s, 96);
-    let height = signed4_at(s, 100);
-    station::Station {
+    let elements = elements_from(n);
+    let number = n[22];
+    let latitude = n[23];
+    let longitude = n[24];
+    let height = n[25];
+    let first = n[26];
+    let last = n[27];
+    let station = station::Station {
         number,
         latitude,
         longitude,
         height,
+    };
+    let window = circumstances::Window { first, last };
+    circumstances::Request {
+        elements,
+        station,
+        window,
     }
-}
-
-fn window_at(s: &[u8]) -> circumstances::Window
-    requires { ⌜ length (now s) ≡ 109 ⌝ }
-    ensures { λ r. ⌜ r ≡ windowOf (now (s .entry)) ⌝ }
-{
-    let first = signed2_at(s, 105);
-    let last = signed2_at(s, 107);
-    circumstances::Window { first, last }
 }
 
 // The request that the bytes hold, or refusal 10. Any bytes.
 pub fn request(input: &[u8]) -> Input
     ensures { λ r. ⌜ r ≡ inputOf (now (input .entry)) ⌝ }
 {
-    let holds = shape_holds(input);
-    if !holds {
-        return Input::Refused(circumstances::Refusal::Shape);
+    let mut numbers = [0i64; request_fields::COUNT];
+    let got = request_bytes::get(input, &mut numbers);
+    match got {
+        request_bytes::Got::Numbers => {
+            let q = request_from(&numbers);
+            Input::Is(q)
+        }
+        request_bytes::Got::Misshaped => Input::Refused(circumstances::Refusal::Shape),
     }
-    let elements = elements_at(input);
-    let station = station_at(input);
-    let window = window_at(input);
-    let q = circumstances::Request {
-        elements,
-        station,
-        window,
-    };
-    Input::Is(q)
 }
 
 // ---- refusals

@@ -1,5 +1,7 @@
--- i64 arithmetic as the machine does it. A signed local holds bits, so what a need shows of a value that was computed is `toZ w64 (ofZ w64 x)`, nested once for each operation on the way.
--- `Code` is such a computation as data. Bounds on its slots give, by computation, a bound on each step; where each fits, `fits` answers the need, and `runs` says that the result is the exact one.
+-- i64 arithmetic as the machine does it. A signed local holds bits, so what a need shows of a value that was computed is `toZ w64 (ofZ w64 x)`, nested once
+-- for each operation on the way.
+-- `Code` is such a computation as data. Bounds on its slots give, by computation, a bound on each step; where each fits, `fits` answers the need, and `runs`
+-- says that the result is the exact one.
 use mathlib.Core.Path.{_≡_, refl, sym, _∙_, ap, ap₂, subst}
 use mathlib.Core.Bool.{Bool, true, false, _&&_}
 use mathlib.Core.List.{List, [], _∷_}
@@ -8,12 +10,12 @@ use native.Mathlib.Omega.{arith}
 use native.Mathlib.Nat.{mul-le-mul, div-le-self, mod-le}
 use lib.Dec.{T, leb, leb→le}
 use lib.IntN.{ℤ, pos, negsuc, natAbs, _+ℤ_, _-ℤ_, _*ℤ_}
-use lib.Signed.{_≤ℤ_, _<ℤ_, ltZ, leZ, mag, quotZ, remZ, nonNeg, yes-nonNeg}
+use lib.Signed.{_≤ℤ_, _<ℤ_, ltZ, mag, quotZ, remZ, nonNeg, yes-nonNeg}
 use lib.ListN.{getD}
 use mir.Syntax.{w64}
 use mir.Val.{SFits, Fits, toZ, ofZ}
 use mir.ValLaws.{toZ-ofZ, toZ-pos}
-use Rattle.numbers.specs.Order.{natAbs-sum, natAbs-minus, natAbs-product, natAbs-quot, natAbs-opposite, fits64, fits64-natAbs, ltZ-true, ltZ-false, leZ-true, leZ-false}
+use Rattle.numbers.specs.Order.{natAbs-sum, natAbs-minus, natAbs-product, natAbs-quot, natAbs-opposite, fits64, fits64-natAbs, ltZ-true, ltZ-false}
 
 -- what a local holds: a whole number (a parameter, a field, an element, a call's result), or bits (a variable that a loop changes)
 pub data Slot : Type 0 where
@@ -228,25 +230,7 @@ module _ {env : List Slot} {bs : List ℕ} (w : Within env bs) where
       ltZ-false (value env a) (value env b)
       (sym (ap₂ ltZ (runs a (first (ok bs a) (ok bs b) t)) (runs b (second (ok bs a) (ok bs b) t))) ∙ h)
 
-  pub taken-≤ : (a b : Code) → T (ok bs a && ok bs b) → leZ (run env a) (run env b) ≡ true → value env a ≤ℤ value env b
-  taken-≤ a b t h =
-      leZ-true (value env a) (value env b)
-      (sym (ap₂ leZ (runs a (first (ok bs a) (ok bs b) t)) (runs b (second (ok bs a) (ok bs b) t))) ∙ h)
-
-  pub left-≤ : (a b : Code) → T (ok bs a && ok bs b) → leZ (run env a) (run env b) ≡ false → value env b <ℤ value env a
-  left-≤ a b t h =
-      leZ-false (value env a) (value env b)
-      (sym (ap₂ leZ (runs a (first (ok bs a) (ok bs b) t)) (runs b (second (ok bs a) (ok bs b) t))) ∙ h)
-
-  -- `==` compares the bits
-  pub taken-== : (a b : Code) → T (ok bs a && ok bs b) → bits env a ≡ bits env b → value env a ≡ value env b
-  taken-== a b t h =
-      sym (runs a (first (ok bs a) (ok bs b) t)) ∙ ap (λ (n : ℕ). toZ w64 n) h ∙ runs b (second (ok bs a) (ok bs b) t)
-
 -- ---- the same with no bound but that the value is one of its type, `c .fits .x`
-pub same-bits : {x y : ℤ} → SFits w64 x → SFits w64 y → ofZ w64 x ≡ ofZ w64 y → x ≡ y
-same-bits {x} {y} f g h = sym (toZ-ofZ w64 x f) ∙ ap (λ (n : ℕ). toZ w64 n) h ∙ toZ-ofZ w64 y g
-
 pub cast-unsigned : (x : ℤ) → SFits w64 x → pos 0 ≤ℤ x → T (nonNeg (toZ w64 (ofZ w64 x))) × Fits w64 (natAbs (toZ w64 (ofZ w64 x)))
 cast-unsigned x f h =
     subst (λ (z : ℤ). T (nonNeg z) × Fits w64 (natAbs z)) (sym (toZ-ofZ w64 x f)) (yes-nonNeg h, record { fits = omega (arith, fits64-natAbs f) })

@@ -55,11 +55,24 @@ quot-rem (negsuc a) (pos b) =
     let q = negℤ (pos (suc a / b)) in
     let r = negℤ (pos (suc a % b)) in
     same (pos b *ℤ q +ℤ r) (negsuc a)
-    (omega (arith, sum (pos b *ℤ q) r .is, product (pos b) q .is, div-add-mod (suc a) b, ap (λ (t : ℕ). b * t) (opposite (pos (suc a / b)) .is), opposite (pos (suc a % b)) .is))
+    (omega (
+      arith,
+      sum (pos b *ℤ q) r .is,
+      product (pos b) q .is,
+      div-add-mod (suc a) b,
+      ap (λ (t : ℕ). b * t) (opposite (pos (suc a / b)) .is),
+      opposite (pos (suc a % b)) .is,
+    ))
 quot-rem (negsuc a) (negsuc b) =
     let r = negℤ (pos (suc a % suc b)) in
     same (negsuc b *ℤ pos (suc a / suc b) +ℤ r) (negsuc a)
-    (omega (arith, sum (negsuc b *ℤ pos (suc a / suc b)) r .is, product (negsuc b) (pos (suc a / suc b)) .is, div-add-mod (suc a) (suc b), opposite (pos (suc a % suc b)) .is))
+    (omega (
+      arith,
+      sum (negsuc b *ℤ pos (suc a / suc b)) r .is,
+      product (negsuc b) (pos (suc a / suc b)) .is,
+      div-add-mod (suc a) (suc b),
+      opposite (pos (suc a % suc b)) .is,
+    ))
 
 pub rem-small : (a b : ℤ) → pos 0 <ℤ b → (negℤ b <ℤ remZ a b) × (remZ a b <ℤ b)
 rem-small (pos a) (pos b) h =

@@ -1,12 +1,11 @@
+pub mod Units
 pub mod Near
 pub mod Root
 pub mod Parts
 pub mod Laws
 pub mod Order
 pub mod Ring
-pub mod RingExamples
 pub mod Cert
-pub mod CertExamples
 pub mod Floor
 pub mod NearLaws
 pub mod Shift

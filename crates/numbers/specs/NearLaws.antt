@@ -1,21 +1,21 @@
 -- What callers use of `near`: they never see its definition. Each law asks that k is at least 1.
 --   near-is, near-unique   it is the one q with 2k q ≤ 2n + k < 2k q + 2k
 --   near-error             at most half of k away:      2 |k·near − n| ≤ k
---   near-size, near-le     its size:                    |n| ≤ m k gives |near n k| ≤ m
---   near-zero, near-mono   zero, and order
+--   near-size              its size:                    |n| ≤ m k gives |near n k| ≤ m
+--   near-zero              zero
 --   near-pos               of what is not negative, by one division of naturals
 -- Example, the error of a product to the nearest unit: near-error (x *ℤ y) (pos 100000000) (leZ-yes tt).
 use mathlib.Core.Path.{_≡_, refl, ap}
 use mathlib.Core.List.{[], _∷_}
 use Prim.Native.Nat.{ℕ, suc, _+_, _*_, _/_, _≤_, _<_}
 use native.Mathlib.Omega.{arith}
-use native.Mathlib.Nat.{lt-of-mul-lt-mul-left, mul-le-mul-left}
+use native.Mathlib.Nat.{lt-of-mul-lt-mul-left}
 use lib.IntN.{ℤ, pos, negsuc, negℤ, natAbs, _+ℤ_, _-ℤ_, _*ℤ_}
-use lib.Signed.{_≤ℤ_, _<ℤ_, clashℤ}
+use lib.Signed.{_≤ℤ_, _<ℤ_}
 use Rattle.numbers.specs.Parts.{product}
-use Rattle.numbers.specs.Order.{zs, ≤-parts, by-contra, natAbs-le, natAbs-sum, natAbs-product}
-use Rattle.numbers.specs.Ring.{num, _⊕_, _⊖_, _⊗_, opp, ring, v0, v1, v2, v3, v4}
-use Rattle.numbers.specs.Cert.{leq, less, lit, _⊞_, _⊠_, certify, certify-<, prove-≤}
+use Rattle.numbers.specs.Order.{zs, ≤-parts, natAbs-le, natAbs-sum, natAbs-product}
+use Rattle.numbers.specs.Ring.{num, _⊕_, _⊖_, _⊗_, opp, ring, v0, v1, v2}
+use Rattle.numbers.specs.Cert.{leq, less, lit, _⊞_, certify, certify-<, prove-≤}
 use Rattle.numbers.specs.Near.{near}
 use Rattle.numbers.specs.Floor.{Floor, floor-is, floor-unique}
 
@@ -71,13 +71,6 @@ near-size n k m h b =
         let l : k * q < k * suc m = omega arith in
         omega (arith, lt-of-mul-lt-mul-left k l)
 
-pub near-le : (n k : ℤ) → pos 1 ≤ℤ k → natAbs (near n k) ≤ natAbs n
-near-le n k h = near-size n k (natAbs n) h (grow (natAbs n) k h)
-  where
-    grow : (m : ℕ) (k : ℤ) → pos 1 ≤ℤ k → m ≤ m * natAbs k
-    grow m (pos k) h = omega (arith, mul-le-mul-left {m = 1} {n = k} m (omega (arith, ≤-parts h)))
-    grow m (negsuc k) h = absurd (h .le)
-
 pub near-zero : (k : ℤ) → pos 1 ≤ℤ k → near (pos 0) k ≡ pos 0
 near-zero k h =
     near-unique (pos 0) k (pos 0) h
@@ -85,14 +78,6 @@ near-zero k h =
       low = prove-≤ (k ∷ []) (num 2 ⊗ v0 ⊗ num 0) (num 2 ⊗ num 0 ⊕ v0) (omega (arith, zs));
       high = certify-< 0 (k ∷ []) (num 2 ⊗ num 0 ⊕ v0) (num 2 ⊗ v0 ⊗ num 0 ⊕ num 2 ⊗ v0) (leq (num 1) v0 h) tt;
     })
-
-pub near-mono : (n m k : ℤ) → pos 1 ≤ℤ k → n ≤ℤ m → near n k ≤ℤ near m k
-near-mono n m k h b =
-    -- otherwise 2k q ≤ 2n + k ≤ 2m + k < 2k r + 2k ≤ 2k q
-    by-contra (near n k) (near m k)
-    (λ g. clashℤ (near-is m k h .high)
-    (certify 0 (n ∷ m ∷ k ∷ near n k ∷ near m k ∷ []) (num 2 ⊗ v2 ⊗ v4 ⊕ num 2 ⊗ v2) (num 2 ⊗ v1 ⊕ v2)
-    (leq (num 2 ⊗ v2 ⊗ v3) (num 2 ⊗ v0 ⊕ v2) (near-is n k h .low) ⊞ lit 2 ⊠ leq v0 v1 b ⊞ lit 2 ⊠ (leq (num 1) v2 h ⊞ lit 1) ⊠ less v4 v3 g) tt))
 
 -- of numbers that are not negative
 pub near-pos : (n k : ℕ) → near (pos n) (pos k) ≡ pos ((2 * n + k) / (2 * k))

@@ -5,7 +5,8 @@ use mathlib.Core.Path.{_≡_, refl, sym, _∙_, ap, subst}
 use mathlib.Core.Bool.{Bool, true, false, cond}
 use Prim.Native.Nat.{ℕ, zero, suc, _+_, _*_, _-_, _/_, _%_, _^_, _≤_, _<_}
 use native.Mathlib.Omega.{arith}
-use native.Mathlib.Nat.{mod-lt, mul-le-mul, le-antisymm, lt-of-not-le, div-div-eq-div-mul, pow-suc, pow-le-pow-right, div-eq-of-lt, div-le-self, div-one, lt-of-lt-of-le}
+use native.Mathlib.Nat.{mod-lt, mul-le-mul, le-antisymm, lt-of-not-le, lt-of-lt-of-le}
+use native.Mathlib.Nat.{div-div-eq-div-mul, div-eq-of-lt, div-le-self, div-one, pow-suc, pow-le-pow-right}
 use borrow.Author.Tests.{leb-true, leb-false}
 use lib.Dec.{leb}
 use lib.Count.{leadingZeros, leading-length}

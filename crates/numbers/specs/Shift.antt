@@ -28,9 +28,11 @@ near-shifted n k b s h d p =
     near-unique n k (quotZ (n +ℤ b) k -ℤ s) h
     (record {
       low = certify 0 e (num 2 ⊗ v1 ⊗ (v4 ⊖ v3)) (num 2 ⊗ v0 ⊕ v1)
-          (lit 2 ⊠ leq (num 0) v5 (rem-nonneg (n +ℤ b) k p h) ⊞ lit 2 ⊠ equ (v1 ⊗ v4 ⊕ v5) (v0 ⊕ v2) (quot-rem (n +ℤ b) k) ⊞ equ (num 2 ⊗ v2) (v1 ⊕ num 2 ⊗ (v1 ⊗ v3)) d) tt;
+          (lit 2 ⊠ leq (num 0) v5 (rem-nonneg (n +ℤ b) k p h) ⊞ lit 2 ⊠ equ (v1 ⊗ v4 ⊕ v5) (v0 ⊕ v2) (quot-rem (n +ℤ b) k) ⊞ equ (num 2 ⊗ v2)
+          (v1 ⊕ num 2 ⊗ (v1 ⊗ v3)) d) tt;
       high = certify-< 0 e (num 2 ⊗ v0 ⊕ v1) (num 2 ⊗ v1 ⊗ (v4 ⊖ v3) ⊕ num 2 ⊗ v1)
-          (lit 2 ⊠ less v5 v1 (rem-small (n +ℤ b) k (above-zero h) .1) ⊞ lit 1 ⊞ lit 2 ⊠ equ (v0 ⊕ v2) (v1 ⊗ v4 ⊕ v5) (sym (quot-rem (n +ℤ b) k)) ⊞ equ (v1 ⊕ num 2 ⊗ (v1 ⊗ v3)) (num 2 ⊗ v2) (sym d)) tt;
+          (lit 2 ⊠ less v5 v1 (rem-small (n +ℤ b) k (above-zero h) .1) ⊞ lit 1 ⊞ lit 2 ⊠ equ (v0 ⊕ v2) (v1 ⊗ v4 ⊕ v5) (sym (quot-rem (n +ℤ b) k)) ⊞ equ
+          (v1 ⊕ num 2 ⊗ (v1 ⊗ v3)) (num 2 ⊗ v2) (sym d)) tt;
     })
   where
     e : List ℤ

@@ -4,9 +4,10 @@ ghost use Prim.Native.Nat.{_≤_, _<_};
 ghost use lib.IntN.{pos, natAbs, _+ℤ_, _*ℤ_};
 ghost use lib.Signed.{_≤ℤ_};
 ghost use lib.ListN.{length};
+ghost use Rattle.numbers.specs.Units.{one, hour};
 ghost use Rattle.numbers.specs.Near.{near};
 ghost use Rattle.numbers.specs.Root.{root};
-ghost use Rattle.numbers.specs.Limits.{firstOutside};
+ghost use Rattle.numbers.specs.Limits.{firstOutOfRange, rows};
 
 // The whole number nearest to n / k, halves going up.
 pub fn near(n: i64, k: i64) -> i64
@@ -45,7 +46,7 @@ fn near_shifted(n: i64, bias: i64, k: u64, shift: i64) -> i64
 // near over 10^8: a product of two numbers in units, in units again.
 pub fn near_unit(n: i64) -> i64
     requires { ⌜ natAbs n ≤ 1000000000000000000 ⌝ }
-    ensures { λ r. ⌜ r ≡ near n (pos 100000000) ⌝ }
+    ensures { λ r. ⌜ r ≡ near n one ⌝ }
 {
     near_shifted(n, 1_000_000_000_050_000_000, 100_000_000, 10_000_000_000)
 }
@@ -53,7 +54,7 @@ pub fn near_unit(n: i64) -> i64
 // near over 3600: a number per hour times seconds.
 pub fn near_hour(n: i64) -> i64
     requires { ⌜ natAbs n ≤ 36000000000000000 ⌝ }
-    ensures { λ r. ⌜ r ≡ near n (pos 3600) ⌝ }
+    ensures { λ r. ⌜ r ≡ near n hour ⌝ }
 {
     near_shifted(n, 36_000_000_000_001_800, 3600, 10_000_000_000_000)
 }
@@ -88,14 +89,14 @@ pub fn abs(x: i64) -> i64
 
 // Whether each of several numbers is in its range, or the place of the first that is not, counted from 0.
 pub enum Limits {
-    Within,
-    Outside(usize),
+    InRange,
+    OutOfRange(usize),
 }
 
 // The first of the values that is below its low or above its high.
-pub fn first_outside(values: &[i64], lows: &[i64], highs: &[i64]) -> Limits
+pub fn first_out_of_range(values: &[i64], lows: &[i64], highs: &[i64]) -> Limits
     requires { ⌜ (length (now lows) ≡ length (now values)) × (length (now highs) ≡ length (now values)) ⌝ }
-    ensures { λ r. ⌜ r ≡ firstOutside 0 (now (values .entry)) (now (lows .entry)) (now (highs .entry)) ⌝ }
+    ensures { λ r. ⌜ r ≡ firstOutOfRange 0 (rows (now (values .entry)) (now (lows .entry)) (now (highs .entry))) ⌝ }
 {
     let mut i = 0;
     while i < values.len() {
@@ -103,12 +104,12 @@ pub fn first_outside(values: &[i64], lows: &[i64], highs: &[i64]) -> Limits
         let low = lows[i];
         let high = highs[i];
         if x < low {
-            return Limits::Outside(i);
+            return Limits::OutOfRange(i);
         }
         if high < x {
-            return Limits::Outside(i);
+            return Limits::OutOfRange(i);
         }
         i += 1;
     }
-    Limits::Within
+    Limits::InRange
 }

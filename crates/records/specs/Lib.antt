@@ -5,13 +5,10 @@ pub mod KindLaws
 pub mod EntryLaws
 pub mod Numbers
 pub mod NumberLaws
-pub mod Order
 pub mod Records
 pub mod RecordLaws
 pub mod RecordTrip
 pub mod Refusals
-pub mod Rules
-pub mod RuleLaws
 pub mod StoredSeconds
 pub mod StoredSecondLaws
 pub mod TestLaws

@@ -10,7 +10,7 @@ use lib.Seq.{getD-append-add, drop-cons}
 use Rattle.records.specs.declared.Width.{Width}
 use Rattle.records.specs.declared.Width.the-variants.{Absent, Two, Four}
 use Rattle.records.specs.Kinds.{bytesIn}
-use Rattle.records.specs.Numbers.{two, four, twoAt, fourAt, number, numberAt}
+use Rattle.records.specs.Numbers.{twoAt, fourAt, number, numberAt}
 
 -- ---- what is written is read back
 

@@ -83,7 +83,8 @@ module _ (s : List ℕ) (at : ℕ) where
       never : (r : Refusal) → Refused r ≡ recordAt s at → RecordThere e n
       never r t = let z : _≡_ {A = ℕ} 0 1 = cc in absurd (omega arith)
 
-      whole : (k : Kind) → kindFor (getD s at 0) ≡ Named.Is k → at + sizeOf k ≤ length s → Is (entryAt k s (at + 1)) (at + sizeOf k) ≡ recordAt s at → RecordThere e n
+      whole : (k : Kind) → kindFor (getD s at 0) ≡ Named.Is k → at + sizeOf k ≤ length s → Is (entryAt k s (at + 1)) (at + sizeOf k) ≡ recordAt s at →
+          RecordThere e n
       whole k f l t =
           let i : entryAt k s (at + 1) ≡ e = cc in
           let j : k ≡ e .kind = ap (λ x. x .kind) i in

@@ -1,124 +1,33 @@
 -- One record, written and read back, and read and written back.
-use Prim.Native.Nat.{ℕ, _+_, _≤_, _<_}
-use mathlib.Core.Path.{_≡_, refl, sym, ap, _∙_}
+use Prim.Native.Nat.{ℕ, _+_, _≤_}
+use mathlib.Core.Path.{_≡_, sym, ap, _∙_}
 use mathlib.Core.List.{List, [], _∷_, _++_, append-assoc}
-use mathlib.Core.Bool.{Bool, true, false, _&&_, _||_}
 use native.Mathlib.Omega.{arith}
-use borrow.Author.Tests.{leb-true, eqb-true}
-use lib.Dec.{leb, ltb, eqb}
 use lib.ListN.{length, getD, drop, take, length-append}
 use lib.Seq.{getD-append-seam, drop-cons, drop-drop, take-add}
 use Rattle.records.specs.declared.Entry.{Entry}
 use Rattle.records.specs.declared.Kind.{Kind}
-use Rattle.records.specs.declared.Kind.the-variants as K
 use Rattle.records.specs.declared.Width.{Width}
-use Rattle.records.specs.declared.Widths.{Widths}
 use Rattle.records.specs.declared.Byte.the-variants as Byte
 use Rattle.records.specs.declared.Body.the-variants as Body
-use Rattle.records.specs.declared.Progress.{Progress}
 use Rattle.records.specs.declared.Record.the-variants.{Is}
-use Rattle.records.specs.Kinds.{codeOf, widthsOf, bytesIn, sizeOf, plain, table}
-use Rattle.records.specs.KindLaws.{kind-code, kind-inv, size-small, plain-inv}
+use Rattle.records.specs.Kinds.{codeOf, widthsOf, bytesIn, sizeOf}
+use Rattle.records.specs.KindLaws.{kind-code, kind-inv, size-small}
 use Rattle.records.specs.Numbers.{number, numberAt}
 use Rattle.records.specs.NumberLaws.{Fits, number-back, Bytes, number-there}
 use Rattle.records.specs.Entries.{body, bytes}
 use Rattle.records.specs.EntryLaws.{length-number, length-bytes}
-use Rattle.records.specs.FieldRules.{inWindow, isDirection, spanHolds}
-use Rattle.records.specs.Rules.{start, fieldsHold, afterOf}
-use Rattle.records.specs.TestLaws.{both}
 use Rattle.records.specs.Records.{entryAt, recordAt}
 use Rattle.records.specs.RecordLaws.{by-body, byte-there, body-whole, record-inv}
 
--- ---- fields that fit their bytes
+-- ---- what is written is read back
 
+-- fields that fit their bytes
 pub record FitsIn (e : Entry) : Type 0 where
   pub a : Fits (widthsOf (e .kind) .a) (e .a)
   pub b : Fits (widthsOf (e .kind) .b) (e .b)
   pub c : Fits (widthsOf (e .kind) .c) (e .c)
   pub d : Fits (widthsOf (e .kind) .d) (e .d)
-
--- a window that its head had accepted: seconds fit two bytes
-abbrev pub Small : Progress → Type 0
-Small p = p .last < 65536
-
-direction-fits : (d : ℕ) → isDirection d ≡ true → d < 65536
-direction-fits d q = by (leb d 3599) refl
-  where
-    by : (b : Bool) → leb d 3599 ≡ b → d < 65536
-    by true l = let h = leb-true d 3599 l in omega arith
-    by false l = let h = eqb-true d 65535 (sym (ap (λ b. b || eqb d 65535) l) ∙ q) in omega arith
-
-window-fits : (p : Progress) (x : ℕ) → Small p → inWindow p x ≡ true → x < 65536
-window-fits p x h q = let b = leb-true x (p .last) (both (leb (p .first) x) (leb x (p .last)) q .1) in omega arith
-
-both-fit : (p : Progress) (f t : ℕ) → Small p → (inWindow p f && inWindow p t) ≡ true → (f < 65536) × (t < 65536)
-both-fit p f t h q = let y = both (inWindow p f) (inWindow p t) q in (window-fits p f h (y .0), window-fits p t h (y .1))
-
-span-fits : (p : Progress) (f t : ℕ) → Small p → spanHolds p f t ≡ true → (f < 65536) × (t < 65536)
-span-fits p f t h q = both-fit p f t h (both (inWindow p f && inWindow p t) (ltb f t) q .0)
-
-head-fits : (s f l : ℕ) → (leb 1 s && leb s 999 && leb f l && leb l 21600) ≡ true → (s < 65536) × (f < 65536) × (l < 65536)
-head-fits s f l q =
-    let x = both (leb 1 s && leb s 999 && leb f l) (leb l 21600) q in
-    let y = both (leb 1 s && leb s 999) (leb f l) (x .0) in
-    let z = both (leb 1 s) (leb s 999) (y .0) in
-    let a = leb-true l 21600 (x .1) in
-    let b = leb-true f l (y .1) in
-    let c = leb-true s 999 (z .1) in
-    (omega arith, omega arith, omega arith)
-
-zero : (x : ℕ) → eqb x 0 ≡ true → x ≡ 0
-zero x q = eqb-true x 0 q
-
--- fields that keep their rules fit their bytes
-kind-fits : (p : Progress) (k : Kind) (a b c d : ℕ) → Small p → let e : Entry = record { kind = k; a = a; b = b; c = c; d = d } in
-    plain e ≡ true → table k .rule p e ≡ true → FitsIn e
-kind-fits p K.Head a b c d h n q =
-    let u = plain-inv _ n in let x = head-fits a b c q in
-    record { a = x .0; b = x .1; c = x .2; d = zero d (u .3) }
-kind-fits p (K.Enter φ) a b c d h n q =
-    let u = plain-inv _ n in let x = both (spanHolds p a b) (isDirection c) q in let y = span-fits p a b h (x .0) in
-    record { a = y .0; b = y .1; c = direction-fits c (x .1); d = zero d (u .3) }
-kind-fits p (K.Leave φ) a b c d h n q =
-    let u = plain-inv _ n in let x = both (spanHolds p a b) (isDirection c) q in let y = span-fits p a b h (x .0) in
-    record { a = y .0; b = y .1; c = direction-fits c (x .1); d = zero d (u .3) }
-kind-fits p (K.Graze φ) a b c d h n q =
-    let u = plain-inv _ n in let y = span-fits p a b h q in
-    record { a = y .0; b = y .1; c = zero c (u .2); d = zero d (u .3) }
-kind-fits p (K.Open φ) a b c d h n q =
-    let u = plain-inv _ n in
-    let x = both (inWindow p a && inWindow p b && leb a b) (eqb a (p .first) || eqb b (p .last)) q in
-    let y = both-fit p a b h (both (inWindow p a && inWindow p b) (leb a b) (x .0) .0) in
-    record { a = y .0; b = y .1; c = zero c (u .2); d = zero d (u .3) }
-kind-fits p K.Closest a b c d h n q =
-    let u = plain-inv _ n in
-    let x = both (inWindow p a) (leb b 1300000) q in
-    let m = leb-true b 1300000 (x .1) in
-    record { a = window-fits p a h (x .0); b = omega arith; c = zero c (u .2); d = zero d (u .3) }
-kind-fits p K.End a b c d h n q =
-    let u = plain-inv _ n in
-    record { a = zero a (u .0); b = zero b (u .1); c = zero c (u .2); d = zero d (u .3) }
-
-pub fields-fit : (p : Progress) (e : Entry) → Small p → fieldsHold p e ≡ true → FitsIn e
-fields-fit p e h q = let x = both (plain e) (table (e .kind) .rule p e) q in kind-fits p (e .kind) (e .a) (e .b) (e .c) (e .d) h (x .0) (x .1)
-
-pub start-small : Small start
-start-small = omega arith
-
-kind-small : (p : Progress) (k : Kind) (a b c d : ℕ) → Small p → let e : Entry = record { kind = k; a = a; b = b; c = c; d = d } in
-    table k .rule p e ≡ true → Small (afterOf p e)
-kind-small p K.Head a b c d h q = head-fits a b c q .2
-kind-small p (K.Enter φ) a b c d h q = h
-kind-small p (K.Leave φ) a b c d h q = h
-kind-small p (K.Graze φ) a b c d h q = h
-kind-small p (K.Open φ) a b c d h q = h
-kind-small p K.Closest a b c d h q = h
-kind-small p K.End a b c d h q = h
-
-pub after-small : (p : Progress) (e : Entry) → Small p → fieldsHold p e ≡ true → Small (afterOf p e)
-after-small p e h q = kind-small p (e .kind) (e .a) (e .b) (e .c) (e .d) h (both (plain e) (table (e .kind) .rule p e) q .1)
-
--- ---- what is written is read back
 
 -- a field of s behind p, and where the next one stands
 record Back (w : Width) (v : ℕ) (s p rest : List ℕ) (at : ℕ) : Type 0 where
@@ -161,7 +70,8 @@ trip e f p rest =
     let s = p ++ (bytes e ++ rest) in
     let k = e .kind in
     let in-body = body (widthsOf k) e ++ rest in
-    let l : length s ≡ length p + (sizeOf k + length rest) = length-append p (bytes e ++ rest) ∙ ap (λ n. length p + n) (length-append (bytes e) rest ∙ ap (λ n. n + length rest) (length-bytes e)) in
+    let l : length s ≡ length p + (sizeOf k + length rest) = length-append p (bytes e ++ rest) ∙ ap (λ n. length p + n)
+    (length-append (bytes e) rest ∙ ap (λ n. n + length rest) (length-bytes e)) in
     let fields : entryAt k s (length p + 1) ≡ e =
     body-back e f s (p ++ (codeOf k ∷ [])) rest (length p + 1) (sym (append-assoc p (codeOf k ∷ []) in-body)) (sym (length-append p (codeOf k ∷ []))) in
     sym (by-body s (length p) (codeOf k) k (Body.Is e)

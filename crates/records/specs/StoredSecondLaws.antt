@@ -21,7 +21,15 @@ stored-is τ h = natural (τ +ℤ pos 10800) (omega (arith, zs, sum τ (pos 1080
 pub second-stored : (τ : ℤ) → negℤ (pos 10800) ≤ℤ τ → secondOf (stored τ) ≡ τ
 second-stored τ h =
     same (pos (stored τ) -ℤ pos 10800) τ
-    (omega (arith, sum (pos (stored τ)) (negℤ (pos 10800)) .is, opposite (pos 10800) .is, ap posP (stored-is τ h), ap negP (stored-is τ h), sum τ (pos 10800) .is))
+    (omega (
+      arith,
+      sum (pos (stored τ)) (negℤ (pos 10800)) .is,
+      opposite (pos 10800) .is,
+      ap posP (stored-is τ h),
+      ap negP (stored-is τ h),
+      sum τ
+          (pos 10800) .is,
+    ))
 
 pub stored-later : (τ : ℤ) (k : ℕ) → negℤ (pos 10800) ≤ℤ τ → stored (τ +ℤ pos k) ≡ stored τ + k
 stored-later τ k h =

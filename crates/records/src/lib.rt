@@ -1,11 +1,9 @@
 // One record of a sheet, as document 01 has it: what an entry is, and the numbers of its bytes.
-// The modules: the table of kinds, the entries by name, the rules of order and of fields, the record of an entry, and stored seconds.
-// A sheet of records is the crate `sheets`.
+// The modules: the table of kinds, the entries by name, the record of an entry, and stored seconds.
+// The rules of order and of fields are the crate `rules`, a sheet of records the crate `sheets`.
 pub mod bytes;
 pub mod entries;
 pub mod kinds;
-pub mod order;
-pub mod rules;
 pub mod seconds;
 
 use phases::Phase;
@@ -18,7 +16,7 @@ ghost use Rattle.records.specs.Refusals.{numberOf, placeOf};
 
 // The kinds of the table. Enter, leave, graze, open and closest are document 01's words.
 // A new kind is a case here and a row of `table` and `kinds`, and in the code an arm of `kind_for`, `code_of`, `widths_of`, `is_end`
-// and `judge`.
+// and the crate `rules`.
 pub enum Kind {
     Head,
     Enter(Phase),
@@ -103,12 +101,6 @@ pub enum Refusal {
     Room(usize),
 }
 
-// What the rules say of an entry: how far the sheet has come after it, or the refusal.
-pub enum Judgement {
-    Next(Progress),
-    Broken(Refusal),
-}
-
 // The byte at a place.
 pub enum Byte {
     Is(u32),
@@ -160,7 +152,7 @@ pub fn place_of(refusal: Refusal) -> usize
 // ---- numbers of two and of four bytes
 // They are for crates that read and write bytes of their own; they have a `requires`, so they are none of the public promises.
 
-pub fn wide(x: u8) -> u32
+fn wide(x: u8) -> u32
     ensures { λ r. ⌜ (r ≡ x) × (r < 256) ⌝ }
 {
     x as u32

@@ -1,3 +1,2 @@
-pub mod Typed
-pub mod ReadBack
-pub mod TypedLaws
+pub mod Encoded
+pub mod EncodedLaws

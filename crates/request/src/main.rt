@@ -3,19 +3,21 @@
 use libc::STDERR_FILENO;
 use libc::STDIN_FILENO;
 use libc::STDOUT_FILENO;
+use request_fields::COUNT;
+use request_fields::LENGTH;
 use request_text::Fault;
 use request_text::Typed;
 ghost use mathlib.Core.Path.{_≡_};
-ghost use Rattle.request_text.specs.Typed.{readingOf, answerOf};
-ghost use Rattle.request.specs.Typed.{bytesFrom, ReadAs};
+ghost use Rattle.request_text.specs.Typing.{typingOf, answerOf};
+ghost use Rattle.request.specs.Encoded.{bytesFrom, ReadAs};
 
 // The bytes of a typed request; or its fault, and the bytes as they were.
-fn encode(text: &[u8], out: &mut [u8; 109]) -> Typed
-    ensures answer { λ r. ⌜ r ≡ answerOf (readingOf (now (text .entry))) ⌝ }
-    ensures bytes { λ r. ⌜ now (out .exit) ≡ bytesFrom (readingOf (now (text .entry))) (now (out .entry)) ⌝ }
-    ensures read_as { λ r. ⌜ ReadAs (readingOf (now (text .entry))) (now (out .exit)) ⌝ }
+fn encode(text: &[u8], out: &mut [u8; LENGTH]) -> Typed
+    ensures answer { λ r. ⌜ r ≡ answerOf (typingOf (now (text .entry))) ⌝ }
+    ensures bytes { λ r. ⌜ now (out .exit) ≡ bytesFrom (typingOf (now (text .entry))) (now (out .entry)) ⌝ }
+    ensures read_as { λ r. ⌜ ReadAs (typingOf (now (text .entry))) (now (out .exit)) ⌝ }
 {
-    let mut numbers = [0i64; 28];
+    let mut numbers = [0i64; COUNT];
     let answer = request_text::numbers(text, &mut numbers);
     if let Typed::Refused(_, _) = answer {
         return answer;
@@ -31,36 +33,13 @@ fn tell(text: &[u8]) {
 }
 
 fn tell_name(field: usize) {
-    match field {
-        0 => tell(b"x0"),
-        1 => tell(b"x1"),
-        2 => tell(b"x2"),
-        3 => tell(b"x3"),
-        4 => tell(b"y0"),
-        5 => tell(b"y1"),
-        6 => tell(b"y2"),
-        7 => tell(b"y3"),
-        8 => tell(b"d0"),
-        9 => tell(b"d1"),
-        10 => tell(b"d2"),
-        11 => tell(b"l10"),
-        12 => tell(b"l11"),
-        13 => tell(b"l12"),
-        14 => tell(b"l20"),
-        15 => tell(b"l21"),
-        16 => tell(b"l22"),
-        17 => tell(b"mu0"),
-        18 => tell(b"mu1"),
-        19 => tell(b"mu2"),
-        20 => tell(b"tan f1"),
-        21 => tell(b"tan f2"),
-        22 => tell(b"station"),
-        23 => tell(b"latitude"),
-        24 => tell(b"longitude"),
-        25 => tell(b"height"),
-        26 => tell(b"first"),
-        _ => tell(b"last"),
+    if COUNT <= field {
+        return;
     }
+    let row = request_fields::field_at(field);
+    let name = row.0;
+    let letters = row.1;
+    tell(&name[..letters]);
 }
 
 fn tell_of(field: usize, text: &[u8]) {
@@ -90,13 +69,13 @@ fn tell_refused(line: usize, fault: Fault) {
     tell(b"\n");
 }
 
-fn write(bytes: &[u8; 109]) {
+fn write(bytes: &[u8; LENGTH]) {
     io::write_all(STDOUT_FILENO, bytes);
 }
 
 // Writes the bytes of a typed request, or tells its fault.
 fn answer(text: &[u8]) {
-    let mut bytes = [0u8; 109];
+    let mut bytes = [0u8; LENGTH];
     let answer = encode(text, &mut bytes);
     match answer {
         Typed::Numbers => write(&bytes),

@@ -1,2 +1,9 @@
-pub mod Requests
+pub mod Layout
+pub mod NumberLaws
+pub mod LayoutLaws
+pub mod Request
+pub mod Rows
+pub mod RowLaws
 pub mod PutLaws
+pub mod GetLaws
+pub mod RoundTrip

@@ -1,85 +1,41 @@
-// The 109 bytes of a request, from its 28 numbers in document 01's order: the 22 elements; the station's number, latitude,
-// longitude and height; first and last second. `input` reads them back.
+// The bytes of a request: its numbers to bytes, and bytes to its numbers, by the table of `request_fields`.
+use request_fields::COUNT;
+use request_fields::Field;
+use request_fields::LENGTH;
+use request_fields::Width;
 ghost use mathlib.Core.Path.{_≡_};
+ghost use mathlib.Core.Bool.{true};
 ghost use Prim.Native.Nat.{_+_, _≤_, _<_};
 ghost use lib.IntN.{natAbs};
 ghost use lib.ListN.{length};
 ghost use lib.Seq.{sets};
-ghost use Rattle.request_bytes.specs.Requests.{fit, complement, inTwo, inFour, elementsBytes, stationBytes, windowBytes, bytesOf, putOf, bytesAfter};
-ghost use Rattle.request_bytes.specs.PutLaws.{Ready};
+ghost use Rattle.request_fields.specs.Fields.{bytesIn, holds, count};
+ghost use Rattle.request_bytes.specs.Layout.{complement, signed, numberBytes, numberAt};
+ghost use Rattle.request_bytes.specs.Request.{putOf, bytesAfter, readingOf, gotOf, numbersAfter};
+ghost use Rattle.request_bytes.specs.PutLaws.{size, Laid};
+ghost use Rattle.request_bytes.specs.Rows.{kindBytes, fieldBytes, kindStands, partOf};
 
-// Whether the numbers were put; or the first that does not fit its bytes, 0 to 27.
+// Whether the numbers were put; or the first that its bytes do not hold, counted from 0.
 pub enum Answer {
     Done,
     Unfit(usize),
 }
 
-// The lowest and the highest that the bytes of each number hold.
-const LOWS: [i64; 28] = [
-    -2_147_483_648,
-    -2_147_483_648,
-    -2_147_483_648,
-    -2_147_483_648,
-    -2_147_483_648,
-    -2_147_483_648,
-    -2_147_483_648,
-    -2_147_483_648,
-    -2_147_483_648,
-    -2_147_483_648,
-    -2_147_483_648,
-    -2_147_483_648,
-    -2_147_483_648,
-    -2_147_483_648,
-    -2_147_483_648,
-    -2_147_483_648,
-    -2_147_483_648,
-    -2_147_483_648,
-    -2_147_483_648,
-    -2_147_483_648,
-    -2_147_483_648,
-    -2_147_483_648,
-    0,
-    -2_147_483_648,
-    -2_147_483_648,
-    -2_147_483_648,
-    -32_768,
-    -32_768,
-];
+// Whether the bytes have the shape of a request's.
+pub enum Got {
+    Numbers,
+    Misshaped,
+}
 
-const HIGHS: [i64; 28] = [
-    2_147_483_647,
-    2_147_483_647,
-    2_147_483_647,
-    2_147_483_647,
-    2_147_483_647,
-    2_147_483_647,
-    2_147_483_647,
-    2_147_483_647,
-    2_147_483_647,
-    2_147_483_647,
-    2_147_483_647,
-    2_147_483_647,
-    2_147_483_647,
-    2_147_483_647,
-    2_147_483_647,
-    2_147_483_647,
-    2_147_483_647,
-    2_147_483_647,
-    2_147_483_647,
-    2_147_483_647,
-    2_147_483_647,
-    2_147_483_647,
-    65_535,
-    2_147_483_647,
-    2_147_483_647,
-    2_147_483_647,
-    32_767,
-    32_767,
-];
+// The number of a field, and the place after it.
+enum Part {
+    Is(i64, usize),
+    Misshaped,
+}
 
-// ---- one number
+// ---- one number to bytes
 
-// A number in two's complement: below zero it stands for itself and `whole`, as many as its bytes can hold.
+// A number in two's complement: below zero it stands for itself and `whole`, as many as its bytes tell apart.
 fn complement(n: i64, whole: u64) -> u32
     requires { ⌜ (natAbs n < whole) × (whole ≤ 4294967296) ⌝ }
     ensures { λ r. ⌜ r ≡ complement whole n ⌝ }
@@ -90,99 +46,163 @@ fn complement(n: i64, whole: u64) -> u32
     n as u32
 }
 
-// A number in the two bytes at `at`.
-fn put_in_two(out: &mut [u8], at: usize, n: i64)
-    requires { ⌜ (at + 2 ≤ length (now out)) × (natAbs n < 65536) ⌝ }
-    ensures { λ r. ⌜ now (out .exit) ≡ sets (now (out .entry)) at (inTwo n) ⌝ }
+// A number's bytes at `at`.
+fn put_number(out: &mut [u8], at: usize, width: Width, n: i64)
+    requires { ⌜ (at + bytesIn width ≤ length (now out)) × (holds width n ≡ true) ⌝ }
+    ensures { λ r. ⌜ now (out .exit) ≡ sets (now (out .entry)) at (numberBytes width n) ⌝ }
 {
-    let v = complement(n, 65_536);
-    records::put_two(out, at, v);
-}
-
-// A number in the four bytes at `at`.
-fn put_in_four(out: &mut [u8], at: usize, n: i64)
-    requires { ⌜ (at + 4 ≤ length (now out)) × (natAbs n < 4294967296) ⌝ }
-    ensures { λ r. ⌜ now (out .exit) ≡ sets (now (out .entry)) at (inFour n) ⌝ }
-{
-    let v = complement(n, 4_294_967_296);
-    records::put_four(out, at, v);
-}
-
-// ---- the parts of a request
-
-// Kind 02 and the elements, from byte 0.
-fn put_elements(n: &[i64], out: &mut [u8])
-    requires { ⌜ Ready (now n) (now out) ⌝ }
-    ensures { λ r. ⌜ now (out .exit) ≡ sets (now (out .entry)) 0 (elementsBytes (now (n .entry))) ⌝ }
-{
-    out[0] = 2;
-    let mut k: usize = 0;
-    while k < 22 {
-        let x = n[k];
-        let at = 1 + 4 * k;
-        put_in_four(out, at, x);
-        k += 1;
+    match width {
+        Width::Unsigned2 => records::put_two(out, at, complement(n, 65_536)),
+        Width::Signed2 => records::put_two(out, at, complement(n, 65_536)),
+        Width::Signed4 => records::put_four(out, at, complement(n, 4_294_967_296)),
     }
 }
 
-// Kind 03 and the station, from byte 89.
-fn put_station(n: &[i64], out: &mut [u8])
-    requires { ⌜ Ready (now n) (now out) ⌝ }
-    ensures { λ r. ⌜ now (out .exit) ≡ sets (now (out .entry)) 89 (stationBytes (now (n .entry))) ⌝ }
+// The kind at `at`, where there is one; the place after it.
+fn put_kind(out: &mut [u8], at: usize, kind: u8) -> usize
+    requires { ⌜ at + length (kindBytes kind) ≤ length (now out) ⌝ }
+    ensures { λ r. ⌜ (r ≡ at + length (kindBytes kind)) × (now (out .exit) ≡ sets (now (out .entry)) at (kindBytes kind)) ⌝ }
 {
-    let number = n[22];
-    let latitude = n[23];
-    let longitude = n[24];
-    let height = n[25];
-    out[89] = 3;
-    put_in_two(out, 90, number);
-    put_in_four(out, 92, latitude);
-    put_in_four(out, 96, longitude);
-    put_in_four(out, 100, height);
+    if kind == 0 {
+        return at;
+    }
+    out[at] = kind;
+    at + 1
 }
 
-// Kind 04 and the window, from byte 104.
-fn put_window(n: &[i64], out: &mut [u8])
-    requires { ⌜ Ready (now n) (now out) ⌝ }
-    ensures { λ r. ⌜ now (out .exit) ≡ sets (now (out .entry)) 104 (windowBytes (now (n .entry))) ⌝ }
+// A field's bytes at `at`; the place after them.
+fn put_field(out: &mut [u8], at: usize, field: Field, n: i64) -> usize
+    requires { ⌜ (at + length (fieldBytes field n) ≤ length (now out)) × (holds (field .3) n ≡ true) ⌝ }
+    ensures { λ r. ⌜ (r ≡ at + length (fieldBytes field n)) × (now (out .exit) ≡ sets (now (out .entry)) at (fieldBytes field n)) ⌝ }
 {
-    let first = n[26];
-    let last = n[27];
-    out[104] = 4;
-    put_in_two(out, 105, first);
-    put_in_two(out, 107, last);
+    let kind = field.4;
+    let width = field.3;
+    let start = put_kind(out, at, kind);
+    put_number(out, start, width, n);
+    start + request_fields::bytes_in(width)
 }
 
-fn put_all(n: &[i64], out: &mut [u8])
-    requires { ⌜ Ready (now n) (now out) ⌝ }
-    ensures { λ r. ⌜ now (out .exit) ≡ bytesOf (now (n .entry)) ⌝ }
+// The bytes of the numbers, as far as these fit.
+fn lay(numbers: &[i64], out: &mut [u8]) -> Answer
+    requires { ⌜ (length (now numbers) ≡ count) × (length (now out) ≡ size) ⌝ }
+    ensures { λ r. ⌜ Laid (now (numbers .entry)) r (now (out .exit)) ⌝ }
 {
-    put_elements(n, out);
-    put_station(n, out);
-    put_window(n, out);
-}
-
-// Whether every number fits its bytes, or the first that does not.
-fn fitting(n: &[i64]) -> numbers::Limits
-    requires { ⌜ length (now n) ≡ 28 ⌝ }
-    ensures { λ r. ⌜ r ≡ fit (now (n .entry)) ⌝ }
-{
-    let lows = LOWS;
-    let highs = HIGHS;
-    numbers::first_outside(n, &lows, &highs)
+    let mut at = 0;
+    let mut k = 0;
+    while k < COUNT {
+        let field = request_fields::field_at(k);
+        let width = field.3;
+        let n = numbers[k];
+        let fits = request_fields::holds(width, n);
+        if !fits {
+            return Answer::Unfit(k);
+        }
+        at = put_field(out, at, field, n);
+        k += 1;
+    }
+    Answer::Done
 }
 
 // The bytes of the numbers; or the first number that does not fit, and the bytes as they were. Any numbers.
-pub fn put(numbers: &[i64; 28], out: &mut [u8; 109]) -> Answer
-    ensures { λ r. ⌜ r ≡ putOf (now (numbers .entry)) ⌝ }
-    ensures { λ r. ⌜ now (out .exit) ≡ bytesAfter (now (numbers .entry)) (now (out .entry)) ⌝ }
+pub fn put(numbers: &[i64; COUNT], out: &mut [u8; LENGTH]) -> Answer
+    ensures answer { λ r. ⌜ r ≡ putOf (now (numbers .entry)) ⌝ }
+    ensures bytes { λ r. ⌜ now (out .exit) ≡ bytesAfter (now (numbers .entry)) (now (out .entry)) ⌝ }
 {
-    let fit = fitting(numbers);
-    match fit {
-        numbers::Limits::Within => {
-            put_all(numbers, out);
-            Answer::Done
-        }
-        numbers::Limits::Outside(k) => Answer::Unfit(k),
+    let mut made = [0u8; LENGTH];
+    let answer = lay(numbers, &mut made);
+    if let Answer::Done = answer {
+        *out = made;
     }
+    answer
+}
+
+// ---- one number from bytes
+
+// A number in two's complement: from `half` on it stands for itself less twice that.
+fn signed(n: u32, half: u32) -> i64
+    ensures { λ r. ⌜ r ≡ signed half n ⌝ }
+{
+    let whole = n as i64;
+    if n < half {
+        return whole;
+    }
+    whole - 2 * half as i64
+}
+
+// The number at `at`.
+fn number_at(s: &[u8], at: usize, width: Width) -> i64
+    requires { ⌜ at + bytesIn width ≤ length (now s) ⌝ }
+    ensures { λ r. ⌜ r ≡ numberAt width (now (s .entry)) at ⌝ }
+{
+    match width {
+        Width::Unsigned2 => records::two_at(s, at) as i64,
+        Width::Signed2 => signed(records::two_at(s, at), 32_768),
+        Width::Signed4 => signed(records::four_at(s, at), 2_147_483_648),
+    }
+}
+
+// Whether the kind, where there is one, stands at `at`.
+fn kind_stands(s: &[u8], at: usize, kind: u8) -> bool
+    ensures { λ r. ⌜ r ≡ kindStands kind (now (s .entry)) at ⌝ }
+{
+    if kind == 0 {
+        return true;
+    }
+    if s.len() <= at {
+        return false;
+    }
+    s[at] == kind
+}
+
+// The place after the kind, where there is one.
+fn after_kind(at: usize, kind: u8) -> usize
+    requires { ⌜ at < 9223372036854775808 ⌝ }
+    ensures { λ r. ⌜ r ≡ at + length (kindBytes kind) ⌝ }
+{
+    if kind == 0 { at } else { at + 1 }
+}
+
+// The field at `at`.
+fn part_at(s: &[u8], at: usize, field: Field) -> Part
+    requires { ⌜ at ≤ length (now s) ⌝ }
+    ensures { λ r. ⌜ r ≡ partOf field (now (s .entry)) at ⌝ }
+{
+    let kind = field.4;
+    let width = field.3;
+    let stands = kind_stands(s, at, kind);
+    if !stands {
+        return Part::Misshaped;
+    }
+    let start = after_kind(at, kind);
+    let next = start + request_fields::bytes_in(width);
+    if s.len() < next {
+        return Part::Misshaped;
+    }
+    let n = number_at(s, start, width);
+    Part::Is(n, next)
+}
+
+// The numbers of the bytes; or that these are not of the shape, and the numbers as they were. Any bytes.
+pub fn get(bytes: &[u8], out: &mut [i64; COUNT]) -> Got
+    ensures answer { λ r. ⌜ r ≡ gotOf (readingOf (now (bytes .entry))) ⌝ }
+    ensures numbers { λ r. ⌜ now (out .exit) ≡ numbersAfter (readingOf (now (bytes .entry))) (now (out .entry)) ⌝ }
+{
+    let mut found = [0i64; COUNT];
+    let mut at = 0;
+    let mut k = 0;
+    while k < COUNT {
+        let field = request_fields::field_at(k);
+        let part = part_at(bytes, at, field);
+        let Part::Is(n, next) = part else {
+            return Got::Misshaped;
+        };
+        found[k] = n;
+        at = next;
+        k += 1;
+    }
+    if at != bytes.len() {
+        return Got::Misshaped;
+    }
+    *out = found;
+    Got::Numbers
 }

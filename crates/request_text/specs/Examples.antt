@@ -4,12 +4,13 @@ use mathlib.Core.List.{List, [], _∷_, map}
 use Prim.Native.String.{String}
 use lib.IntN.{pos, negℤ}
 use Rattle.request_text.specs.declared.Fault.the-variants as Fault
-use Rattle.request_text.specs.declared.Line.{Line}
 use Rattle.request_text.specs.declared.Line.the-variants as L
-use Rattle.request_text.specs.Text.{runOf, linesOf}
-use Rattle.request_text.specs.Numbers.{appended, isNumber, isWhole, amount}
-use Rattle.request_text.specs.Fields.{letters, named, findIn}
-use Rattle.request_text.specs.Typed.{fitted, valueOf, ofValue, ofField, meaningOf}
+use Rattle.request_fields.specs.Fields.{holds}
+use Rattle.request_fields.specs.Rows.{letters, rows, rowAt}
+use Rattle.words.specs.Text.{runOf, linesOf}
+use Rattle.words.specs.Numbers.{appended, isNumber, isWhole, amount}
+use Rattle.request_text.specs.Names.{names, named, findIn}
+use Rattle.request_text.specs.Lines.{withSign, fitted, valueOf, ofValue, ofName, meaningOf}
 
 abbrev lines : List String
 lines =
@@ -20,5 +21,5 @@ pub meanings : map (λ (l : String). meaningOf (letters l)) lines
     ≡ L.Given 0 (negℤ (pos 19869267)) ∷ L.Given 23 (pos 55755000) ∷ L.Given 20 (pos 459878) ∷ L.Given 26 (negℤ (pos 3600)) ∷ L.Given 8 (pos 23193285)
     ∷ L.Nothing ∷ L.Nothing ∷ L.Faulty (Fault.NotWhole 4) ∷ L.Faulty (Fault.NotNumber 25) ∷ L.Faulty (Fault.Unfit 22) ∷ L.Faulty (Fault.Unfit 27)
     ∷ L.Faulty Fault.Unknown ∷ L.Faulty Fault.Unknown ∷ []
-unfolding runOf linesOf appended isNumber isWhole amount named findIn fitted valueOf ofValue ofField meaningOf
+unfolding holds rows rowAt runOf linesOf appended isNumber isWhole amount names named findIn withSign fitted valueOf ofValue ofName meaningOf
 meanings = refl

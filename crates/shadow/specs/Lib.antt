@@ -1,5 +1,4 @@
 pub mod Shadow
-pub mod State
 pub mod Second
 pub mod SecondLaws
 pub mod Examples

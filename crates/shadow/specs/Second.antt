@@ -2,41 +2,38 @@
 use mathlib.Core.Path.{_≡_}
 use Prim.Native.Nat.{ℕ, _≤_}
 use lib.IntN.{ℤ, natAbs}
+use Rattle.phases.specs.States.{State, code}
+use Rattle.phases.specs.declared.Phase.{Phase}
+use Rattle.phases.specs.declared.Phase.the-variants.{Penumbra, Central}
 use Rattle.sine.specs.Table.{S}
 use Rattle.elements.specs.declared.Elements.{Elements}
 use Rattle.station.specs.declared.Place.{Place}
-use Rattle.geometry.specs.Shadow.{Cone, moment, cone1, cone2, u, v, L, M, Phase, penumbra, central, radius, State, state}
+use Rattle.geometry.specs.Shadow.{moment, cone, u, v, L, M, edge, state}
 use Rattle.geometry.specs.Magnitude.{magnitude}
 use Rattle.geometry.specs.Direction.{direction}
 use Rattle.shadow.specs.declared.Shadow.{Shadow}
 use Rattle.shadow.specs.declared.States.{States}
 use Rattle.shadow.specs.declared.Second.{Second}
 use Rattle.shadow.specs.Shadow.{IsShadow}
-use Rattle.shadow.specs.State.{code}
-
--- the cone of each phase
-abbrev pub cone : Phase → Elements → Cone
-cone penumbra e = cone1 e
-cone central e = cone2 e
 
 -- "Penumbra, with L = L1 and M = u²+v² .. Central: the same with L the size of L2."
-unfoldable pub stateAt : (guard : ℤ) (e : Elements) (p : Place) (longitude : ℤ) → Phase → (τ : ℤ) → State
-stateAt guard e p longitude φ τ =
-    state guard (radius φ (L (moment e p longitude τ) (cone φ e))) (M (moment e p longitude τ))
+unfoldable pub stateAt : (guard : ℤ) (e : Elements) (p : Place) → Phase → (τ : ℤ) → State
+stateAt guard e p φ τ =
+    state guard (edge φ (L (moment e p τ) (cone φ e))) (M (moment e p τ))
 
 -- "(L1-L2)/(L1+L2) if central is inside; otherwise (L1-root(M))/(L1+L2), and 0 if that is negative"
-unfoldable pub magnitudeAt : (guard : ℤ) (e : Elements) (p : Place) (longitude τ : ℤ) → ℕ
-magnitudeAt guard e p longitude τ =
-    magnitude (stateAt guard e p longitude central τ) (L (moment e p longitude τ) (cone1 e)) (L (moment e p longitude τ) (cone2 e)) (M (moment e p longitude τ))
+unfoldable pub magnitudeAt : (guard : ℤ) (e : Elements) (p : Place) (τ : ℤ) → ℕ
+magnitudeAt guard e p τ =
+    magnitude (stateAt guard e p Central τ) (L (moment e p τ) (e .penumbra)) (L (moment e p τ) (e .central)) (M (moment e p τ))
 
 -- "Direction in tenths of a degree, north through east", of u and v
-unfoldable pub directionAt : (e : Elements) (p : Place) (longitude τ : ℤ) → ℕ
-directionAt e p longitude τ = direction S (u (moment e p longitude τ)) (v (moment e p longitude τ))
+unfoldable pub directionAt : (e : Elements) (p : Place) (τ : ℤ) → ℕ
+directionAt e p τ = direction S (u (moment e p τ)) (v (moment e p τ))
 
 -- ---- what the code gives
 
 -- a shadow within the sizes that the code of states, magnitude and direction takes
-pub record Bounded (s : Shadow) : Type 0 where
+pub record ShadowSizes (s : Shadow) : Type 0 where
   pub u : natAbs (s .u) ≤ 1000000000
   pub v : natAbs (s .v) ≤ 1000000000
   pub l1 : natAbs (s .l1) ≤ 600000000
@@ -45,20 +42,20 @@ pub record Bounded (s : Shadow) : Type 0 where
 
 -- the states of a shadow
 pub record StatesOf (guard : ℤ) (s : Shadow) (r : States) : Type 0 where
-  pub penumbra : r .penumbra ≡ code (state guard (radius penumbra (s .l1)) (s .m))
-  pub central : r .central ≡ code (state guard (radius central (s .l2)) (s .m))
+  pub penumbra : r .penumbra ≡ code (state guard (edge Penumbra (s .l1)) (s .m))
+  pub central : r .central ≡ code (state guard (edge Central (s .l2)) (s .m))
   pub m : r .m ≡ s .m
 
 -- the states of a second, with its M
-pub record IsStates (guard : ℤ) (e : Elements) (p : Place) (longitude τ : ℤ) (r : States) : Type 0 where
-  pub penumbra : r .penumbra ≡ code (stateAt guard e p longitude penumbra τ)
-  pub central : r .central ≡ code (stateAt guard e p longitude central τ)
-  pub m : r .m ≡ M (moment e p longitude τ)
+pub record IsStates (guard : ℤ) (e : Elements) (p : Place) (τ : ℤ) (r : States) : Type 0 where
+  pub penumbra : r .penumbra ≡ code (stateAt guard e p Penumbra τ)
+  pub central : r .central ≡ code (stateAt guard e p Central τ)
+  pub m : r .m ≡ M (moment e p τ)
 
 -- all of a second
-pub record IsSecond (guard : ℤ) (e : Elements) (p : Place) (longitude τ : ℤ) (r : Second) : Type 0 where
-  pub shadow : IsShadow e p longitude τ (r .shadow)
-  pub penumbra : r .penumbra ≡ code (stateAt guard e p longitude penumbra τ)
-  pub central : r .central ≡ code (stateAt guard e p longitude central τ)
-  pub magnitude : r .magnitude ≡ magnitudeAt guard e p longitude τ
-  pub direction : r .direction ≡ directionAt e p longitude τ
+pub record IsSecond (guard : ℤ) (e : Elements) (p : Place) (τ : ℤ) (r : Second) : Type 0 where
+  pub shadow : IsShadow e p τ (r .shadow)
+  pub penumbra : r .penumbra ≡ code (stateAt guard e p Penumbra τ)
+  pub central : r .central ≡ code (stateAt guard e p Central τ)
+  pub magnitude : r .magnitude ≡ magnitudeAt guard e p τ
+  pub direction : r .direction ≡ directionAt e p τ

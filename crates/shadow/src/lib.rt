@@ -1,43 +1,55 @@
 // The shadow at one second: where the station is in it, and what is seen there.
+pub mod directions;
+
 ghost use mathlib.Core.Path.{_≡_};
 ghost use Prim.Native.Nat.{_≤_};
-ghost use lib.IntN.{pos, natAbs, _-ℤ_, _*ℤ_};
+ghost use lib.IntN.{pos, natAbs, _*ℤ_};
 ghost use lib.Signed.{_≤ℤ_, _<ℤ_};
-ghost use Rattle.numbers.specs.Near.{near};
+ghost use Rattle.phases.specs.States.{code, stateOf};
 ghost use Rattle.numbers.specs.Value.{Value};
-ghost use Rattle.sine.specs.Table.{S, Sines};
-ghost use Rattle.elements.specs.Sizes.{Sized};
-ghost use Rattle.geometry.specs.Moments.{Placed};
-ghost use Rattle.geometry.specs.Shadow.{one, state};
+ghost use Rattle.sine.specs.Table.{Sines};
+ghost use Rattle.elements.specs.Sizes.{AxisSizes, ConeSizes, ElementSizes};
+ghost use Rattle.station.specs.Sizes.{PlaceSizes};
+ghost use Rattle.geometry.specs.Shadow.{state};
 ghost use Rattle.geometry.specs.Magnitude.{millionths, magnitude};
-ghost use Rattle.geometry.specs.Direction.{quarter, direction};
-ghost use Rattle.shadow.specs.Shadow.{Turned, Turning, Seated, IsShadow};
-ghost use Rattle.shadow.specs.State.{code, stateOf};
-ghost use Rattle.shadow.specs.Second.{Bounded, StatesOf, IsStates, IsSecond};
+ghost use Rattle.shadow.specs.Shadow.{IsOrientation, OrientationSizes, AreCoordinates, radiusAt, IsOffset, IsShadow};
+ghost use Rattle.shadow.specs.Second.{ShadowSizes, StatesOf, IsStates, IsSecond, magnitudeAt, directionAt};
 
-// Sines and cosines of the hour angle H and of the declination d, 10^-8, each ±100,000,000.
-pub struct Turn {
+// How the shadow's axis stands to the station's meridian: sines and cosines of H and d, 10^-8, each ±100,000,000.
+pub struct Orientation {
     // sin H
-    pub sh: i64,
+    pub hsine: i64,
     // cos H
-    pub ch: i64,
+    pub hcosine: i64,
     // sin d
-    pub sd: i64,
+    pub dsine: i64,
     // cos d
-    pub cd: i64,
+    pub dcosine: i64,
 }
 
-// The station's coordinates on the shadow's axes, 10^-8 of the Earth's equatorial radius.
-pub struct Seat {
+// The station's coordinates in the fundamental system, 10^-8 of the Earth's equatorial radius.
+pub struct Coordinates {
     // ξ, to the east, ±101,000,000
     pub xi: i64,
-    // η, to the north, ±150,000,000
+    // η, to the north, ±202,000,000
     pub eta: i64,
-    // ζ, toward the Moon, ±150,000,000
+    // ζ, toward the Moon, ±202,000,000
     pub zeta: i64,
 }
 
-// The shadow at the station, 10^-8 of the Earth's equatorial radius.
+// The shadow's axis from the station, the same unit.
+pub struct Offset {
+    // u, to the east, ±602,170,000
+    pub u: i64,
+    // v, to the north, ±703,170,000
+    pub v: i64,
+    // ζ of the station, ±202,000,000
+    pub zeta: i64,
+    // M = u² + v², 0 to 1,000,000,000,000,000,000
+    pub m: i64,
+}
+
+// The shadow at the station, the same unit.
 pub struct Shadow {
     // u, the axis from the station, to the east, ±602,170,000
     pub u: i64,
@@ -75,81 +87,92 @@ pub struct Second {
 }
 
 // The sines and cosines of H and d.
-fn turned(table: &[u32], h: i64, d: i64) -> Turn
+fn orientation_of(table: &[u32], h: i64, d: i64) -> Orientation
     requires { ⌜ (Sines (now table)) × (natAbs h ≤ 10000000000) × (natAbs d ≤ 10000000000) ⌝ }
-    ensures { λ r. ⌜ Turned h d r ⌝ }
+    ensures { λ r. ⌜ IsOrientation h d r ⌝ }
 {
     let a = sine::reduced(h);
     let b = sine::reduced(d);
-    let sh = sine::sine(table, a);
-    let ch = sine::cosine(table, a);
-    let sd = sine::sine(table, b);
-    let cd = sine::cosine(table, b);
-    Turn {
-        sh: sh,
-        ch: ch,
-        sd: sd,
-        cd: cd,
+    let hsine = sine::sine(table, a);
+    let hcosine = sine::cosine(table, a);
+    let dsine = sine::sine(table, b);
+    let dcosine = sine::cosine(table, b);
+    Orientation {
+        hsine,
+        hcosine,
+        dsine,
+        dcosine,
     }
 }
 
 // ξ, η and ζ of a place.
-fn seated(place: station::Place, n: Turn) -> Seat
-    requires { ⌜ (Placed place) × (Turning n) ⌝ }
-    ensures { λ x. ⌜ Seated place n x ⌝ }
+fn coordinates_of(place: station::Place, o: Orientation) -> Coordinates
+    requires { ⌜ (PlaceSizes place) × (OrientationSizes o) ⌝ }
+    ensures { λ x. ⌜ AreCoordinates place o x ⌝ }
 {
     let r = place.r;
     let p = place.p;
-    let sh = n.sh;
-    let ch = n.ch;
-    let sd = n.sd;
-    let cd = n.cd;
-    let q = numbers::near_unit(r * ch);
-    let xi = numbers::near_unit(r * sh);
-    let eta = numbers::near_unit(p * cd - q * sd);
-    let zeta = numbers::near_unit(p * sd + q * cd);
-    Seat {
-        xi: xi,
-        eta: eta,
-        zeta: zeta,
-    }
+    let hsine = o.hsine;
+    let hcosine = o.hcosine;
+    let dsine = o.dsine;
+    let dcosine = o.dcosine;
+    let q = numbers::near_unit(r * hcosine);
+    let xi = numbers::near_unit(r * hsine);
+    let eta = numbers::near_unit(p * dcosine - q * dsine);
+    let zeta = numbers::near_unit(p * dsine + q * dcosine);
+    Coordinates { xi, eta, zeta }
 }
 
-// A cone's radius at height ζ: l less the cone's term.
-fn radius(l: i64, tan: i64, zeta: i64) -> i64
-    requires { ⌜ (natAbs l ≤ 500000000) × (natAbs tan ≤ 500000) × (natAbs zeta ≤ 410000000) ⌝ }
-    ensures { λ r. ⌜ Value (l -ℤ near (zeta *ℤ tan) one) 600000000 r ⌝ }
+// u, v, ζ and M of any axis at second t.
+pub fn offset_at(table: &[u32], axis: elements::Axis, place: station::Place, t: i64) -> Offset
+    requires { ⌜ (Sines (now table)) × (AxisSizes 90000000 axis) × (PlaceSizes place) × (natAbs t ≤ 10800) ⌝ }
+    ensures { λ r. ⌜ IsOffset axis place t r ⌝ }
 {
-    l - numbers::near_unit(zeta * tan)
-}
-
-// u, v, L1, L2 and M of a place and a longitude (east positive) at second t.
-pub fn shadow_at(
-    table: &[u32],
-    e: elements::Elements,
-    place: station::Place,
-    longitude: i64,
-    t: i64,
-) -> Shadow
-    requires { ⌜ (Sines (now table)) × (Sized e) × (Placed place) × (natAbs longitude ≤ 180000000) × (natAbs t ≤ 10800) ⌝ }
-    ensures { λ r. ⌜ IsShadow e place longitude t r ⌝ }
-{
-    let h = elements::mu_at(e, t) + longitude;
-    let d = elements::d_at(e, t);
-    let n = turned(table, h, d);
-    let s = seated(place, n);
-    let u = elements::x_at(e, t) - s.xi;
-    let v = elements::y_at(e, t) - s.eta;
-    let l1 = radius(elements::l1_at(e, t), e.tanf1, s.zeta);
-    let l2 = radius(elements::l2_at(e, t), e.tanf2, s.zeta);
+    let mu = axis.mu;
+    let declination = axis.d;
+    let x = axis.x;
+    let y = axis.y;
+    let longitude = place.longitude;
+    let h = elements::quadratic_at(mu, t) + longitude;
+    let d = elements::quadratic_at(declination, t);
+    let o = orientation_of(table, h, d);
+    let c = coordinates_of(place, o);
+    let xi = c.xi;
+    let eta = c.eta;
+    let zeta = c.zeta;
+    let u = elements::cubic_at(x, t) - xi;
+    let v = elements::cubic_at(y, t) - eta;
     let m = u * u + v * v;
-    Shadow {
-        u: u,
-        v: v,
-        l1: l1,
-        l2: l2,
-        m: m,
-    }
+    Offset { u, v, zeta, m }
+}
+
+// L of a cone at second t, at height ζ: l less the cone's term.
+pub fn radius_at(cone: elements::Cone, zeta: i64, t: i64) -> i64
+    requires { ⌜ (ConeSizes 60000000 cone) × (natAbs zeta ≤ 202000000) × (natAbs t ≤ 10800) ⌝ }
+    ensures { λ r. ⌜ Value (radiusAt cone zeta t) 600000000 r ⌝ }
+{
+    let l = cone.l;
+    let tanf = cone.tanf;
+    let term = numbers::near_unit(zeta * tanf);
+    elements::quadratic_at(l, t) - term
+}
+
+// u, v, L1, L2 and M at a place, at second t.
+pub fn shadow_at(table: &[u32], e: elements::Elements, place: station::Place, t: i64) -> Shadow
+    requires { ⌜ (Sines (now table)) × (ElementSizes e) × (PlaceSizes place) × (natAbs t ≤ 10800) ⌝ }
+    ensures { λ r. ⌜ IsShadow e place t r ⌝ }
+{
+    let axis = e.axis;
+    let penumbra = e.penumbra;
+    let central = e.central;
+    let o = offset_at(table, axis, place, t);
+    let u = o.u;
+    let v = o.v;
+    let zeta = o.zeta;
+    let m = o.m;
+    let l1 = radius_at(penumbra, zeta, t);
+    let l2 = radius_at(central, zeta, t);
+    Shadow { u, v, l1, l2, m }
 }
 
 // 0 outside, 1 inside, 2 unsure: where a distance whose square is m stands to a radius l, under a guard. No root is taken.
@@ -193,61 +216,9 @@ pub fn magnitude(l1: i64, l2: i64, m: i64, central: u8) -> u32
     share(l1 - distance as i64, sum)
 }
 
-fn wide(x: u32) -> u64
-    ensures { λ r. ⌜ r ≡ x ⌝ }
-{
-    x as u64
-}
-
-// The direction within a quarter, tenths of a degree, of an axis that lies u across and v along. As k grows the one side rises
-// and the other falls, so the largest k is found by halving: low reaches, and nothing from high to 899 does.
-fn quarter(table: &[u32], u: u64, v: u64) -> u16
-    requires { ⌜ (Sines (now table)) × (u ≤ 1000000000) × (v ≤ 1000000000) ⌝ }
-    ensures { λ r. ⌜ r ≡ quarter S (pos u) (pos v) ⌝ }
-{
-    let mut low = 0;
-    let mut high = 900;
-    while low + 1 < high {
-        let k = (low + high) / 2;
-        let rising = wide(sine::entry(table, k));
-        let falling = wide(sine::entry(table, 900 - k));
-        if v * rising <= u * falling {
-            low = k;
-        } else {
-            high = k;
-        }
-    }
-    low as u16
-}
-
-// The direction of the axis that lies u to the east and v to the north: tenths of a degree, north through east; 65,535 at the axis itself.
-pub fn direction(table: &[u32], u: i64, v: i64) -> u16
-    requires { ⌜ (Sines (now table)) × (natAbs u ≤ 1000000000) × (natAbs v ≤ 1000000000) ⌝ }
-    ensures { λ r. ⌜ r ≡ direction S u v ⌝ }
-{
-    let a = numbers::abs(u) as u64;
-    let b = numbers::abs(v) as u64;
-    if u < 0 {
-        if v < 0 {
-            return 1800 + quarter(table, a, b);
-        }
-        return 2700 + quarter(table, b, a);
-    }
-    if 0 < v {
-        return quarter(table, a, b);
-    }
-    if 0 < u {
-        return 900 + quarter(table, b, a);
-    }
-    if v < 0 {
-        return 1800 + quarter(table, a, b);
-    }
-    65_535
-}
-
 // The states of a shadow under a guard.
 fn states_of(guard: i64, s: Shadow) -> States
-    requires { ⌜ (natAbs guard ≤ 1000) × (Bounded s) ⌝ }
+    requires { ⌜ (natAbs guard ≤ 1000) × (ShadowSizes s) ⌝ }
     ensures { λ r. ⌜ StatesOf guard s r ⌝ }
 {
     let l1 = s.l1;
@@ -256,9 +227,9 @@ fn states_of(guard: i64, s: Shadow) -> States
     let penumbra = state(guard, l1, m);
     let central = state(guard, numbers::abs(l2), m);
     States {
-        penumbra: penumbra,
-        central: central,
-        m: m,
+        penumbra,
+        central,
+        m,
     }
 }
 
@@ -267,15 +238,39 @@ pub fn states_at(
     table: &[u32],
     e: elements::Elements,
     place: station::Place,
-    longitude: i64,
     t: i64,
     guard: i64,
 ) -> States
-    requires { ⌜ (Sines (now table)) × (Sized e) × (Placed place) × (natAbs longitude ≤ 180000000) × (natAbs t ≤ 10800) × (natAbs guard ≤ 1000) ⌝ }
-    ensures { λ r. ⌜ IsStates guard e place longitude t r ⌝ }
+    requires { ⌜ (Sines (now table)) × (ElementSizes e) × (PlaceSizes place) × (natAbs t ≤ 10800) × (natAbs guard ≤ 1000) ⌝ }
+    ensures { λ r. ⌜ IsStates guard e place t r ⌝ }
 {
-    let s = shadow_at(table, e, place, longitude, t);
+    let s = shadow_at(table, e, place, t);
     states_of(guard, s)
+}
+
+// The direction of the axis from the station at a second.
+pub fn direction_at(table: &[u32], e: elements::Elements, place: station::Place, t: i64) -> u16
+    requires { ⌜ (Sines (now table)) × (ElementSizes e) × (PlaceSizes place) × (natAbs t ≤ 10800) ⌝ }
+    ensures { λ r. ⌜ r ≡ directionAt e place t ⌝ }
+{
+    let s = shadow_at(table, e, place, t);
+    directions::direction(table, s.u, s.v)
+}
+
+// The magnitude at a second.
+pub fn magnitude_at(
+    table: &[u32],
+    e: elements::Elements,
+    place: station::Place,
+    t: i64,
+    guard: i64,
+) -> u32
+    requires { ⌜ (Sines (now table)) × (ElementSizes e) × (PlaceSizes place) × (natAbs t ≤ 10800) × (natAbs guard ≤ 1000) ⌝ }
+    ensures { λ r. ⌜ r ≡ magnitudeAt guard e place t ⌝ }
+{
+    let s = shadow_at(table, e, place, t);
+    let w = states_of(guard, s);
+    magnitude(s.l1, s.l2, s.m, w.central)
 }
 
 // All of a second.
@@ -283,22 +278,21 @@ pub fn second_at(
     table: &[u32],
     e: elements::Elements,
     place: station::Place,
-    longitude: i64,
     t: i64,
     guard: i64,
 ) -> Second
-    requires { ⌜ (Sines (now table)) × (Sized e) × (Placed place) × (natAbs longitude ≤ 180000000) × (natAbs t ≤ 10800) × (natAbs guard ≤ 1000) ⌝ }
-    ensures { λ r. ⌜ IsSecond guard e place longitude t r ⌝ }
+    requires { ⌜ (Sines (now table)) × (ElementSizes e) × (PlaceSizes place) × (natAbs t ≤ 10800) × (natAbs guard ≤ 1000) ⌝ }
+    ensures { λ r. ⌜ IsSecond guard e place t r ⌝ }
 {
-    let s = shadow_at(table, e, place, longitude, t);
+    let s = shadow_at(table, e, place, t);
     let w = states_of(guard, s);
     let magnitude = magnitude(s.l1, s.l2, s.m, w.central);
-    let direction = direction(table, s.u, s.v);
+    let direction = directions::direction(table, s.u, s.v);
     Second {
         shadow: s,
         penumbra: w.penumbra,
         central: w.central,
-        magnitude: magnitude,
-        direction: direction,
+        magnitude,
+        direction,
     }
 }

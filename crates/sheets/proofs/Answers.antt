@@ -1,5 +1,5 @@
 -- What the two passes of a reader, and of a writer, answer and leave together.
-use Prim.Native.Nat.{ℕ, suc, _+_, _-_, _*_, _/_, _≤_, _<_}
+use Prim.Native.Nat.{ℕ, _/_, _≤_, _<_}
 use mathlib.Core.Path.{_≡_, refl, sym, ap, _∙_}
 use mathlib.Core.List.{List, _++_}
 use mathlib.Core.Bool.{true, false}
@@ -14,7 +14,7 @@ use Rattle.records.specs.declared.Refusal.the-variants as R
 use Rattle.sheets.specs.declared.Extent.the-variants as X
 use Rattle.records.specs.Entries.{numbers, bytes, bytesOf, numbersOf}
 use Rattle.records.specs.EntryLaws.{bytes-nil, bytes-cons, numbers-nil, numbers-cons, length-numbers}
-use Rattle.records.specs.Rules.{start}
+use Rattle.rules.specs.Rules.{start}
 use Rattle.sheets.specs.Sheets.{Sheet, sheet, refused, storedAt, readSheet, extentOf, readInto, roomAfter, holds}
 use Rattle.sheets.specs.Handed.{handedAt, listSheet, writeInto, bufferAfterList}
 use Rattle.sheets.specs.SheetLaws.{read-start, list-start, extent-inv, extent-refused}

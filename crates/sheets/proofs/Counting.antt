@@ -8,10 +8,10 @@ use Rattle.records.specs.declared.Progress.{Progress}
 use Rattle.records.specs.declared.Refusal.{Refusal}
 use Rattle.records.specs.declared.Record.{Record}
 use Rattle.records.specs.declared.Record.the-variants.{Is, Refused}
-use Rattle.records.specs.declared.Judgement.the-variants.{Next, Broken}
+use Rattle.rules.specs.declared.Judgement.the-variants.{Next, Broken}
 use Rattle.sheets.specs.declared.Extent.the-variants as X
 use Rattle.records.specs.Kinds.{isEnd}
-use Rattle.records.specs.Rules.{judgementOf}
+use Rattle.rules.specs.Rules.{judgementOf}
 use Rattle.sheets.specs.Sheets.{Sheet, sheetFrom, extentOf}
 use Rattle.sheets.specs.GivenLaws.{from-refused, from-broken, from-end, extent-turn}
 use Rattle.sheets.specs.Passes.{extent}

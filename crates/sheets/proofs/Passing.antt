@@ -1,7 +1,7 @@
 -- The second pass of a reader and of a writer, which puts the part of each entry, its numbers or its bytes, behind the one before it: what is still
 -- to be put, once put, gives what the pass is to leave (`target`). The first pass found a sheet, so each record is there.
 use Prim.Native.Nat.{ℕ, suc, _+_, _-_, _≤_, _<_}
-use mathlib.Core.Path.{_≡_, refl, sym, ap, _∙_}
+use mathlib.Core.Path.{_≡_, sym, ap, _∙_}
 use mathlib.Core.List.{List, [], _∷_, _++_}
 use mathlib.Core.Bool.{true, false}
 use native.Mathlib.Omega.{arith}
@@ -14,7 +14,7 @@ use Rattle.records.specs.declared.Record.{Record}
 use Rattle.records.specs.declared.Record.the-variants.{Is, Refused}
 use Rattle.records.specs.Kinds.{isEnd}
 use Rattle.records.specs.EntryLaws.{sets-append}
-use Rattle.records.specs.Rules.{afterOf}
+use Rattle.rules.specs.Rules.{afterOf}
 use Rattle.sheets.specs.Sheets.{sheet, sheetFrom}
 use Rattle.sheets.specs.GivenLaws.{Went, from-inv}
 

@@ -4,24 +4,24 @@ use mathlib.Core.Path.{_≡_, refl, sym, ap, _∙_}
 use mathlib.Core.List.{List, [], _∷_}
 use mathlib.Core.Bool.{Bool, true, false}
 use native.Mathlib.Omega.{arith}
-use lib.ListN.{length}
 use Rattle.records.specs.declared.Entry.{Entry}
 use Rattle.records.specs.declared.Progress.{Progress}
 use Rattle.records.specs.declared.Refusal.{Refusal}
 use Rattle.records.specs.declared.Record.{Record}
 use Rattle.records.specs.declared.Record.the-variants.{Is, Refused}
-use Rattle.records.specs.declared.Judgement.{Judgement}
-use Rattle.records.specs.declared.Judgement.the-variants.{Next, Broken}
+use Rattle.rules.specs.declared.Judgement.{Judgement}
+use Rattle.rules.specs.declared.Judgement.the-variants.{Next, Broken}
 use Rattle.sheets.specs.declared.Extent.the-variants as X
 use Rattle.records.specs.Kinds.{isEnd}
-use Rattle.records.specs.Rules.{inOrder, fieldsHold, afterOf, judgementOf}
-use Rattle.records.specs.RuleLaws.{next-inv}
+use Rattle.rules.specs.Rules.{inOrder, fieldsHold, afterOf, judgementOf}
+use Rattle.rules.specs.RuleLaws.{next-inv}
 use Rattle.records.specs.TestLaws.{distinct}
 use Rattle.sheets.specs.Sheets.{Sheet, sheet, refused, more, onward, sheetFrom, ofJudgement, judged}
 use Rattle.sheets.specs.Passes.{extent}
 
 module _ (given : ℕ → ℕ → Record) (fuel : ℕ) (p : Progress) (i at : ℕ) where
-  by-judged : (r : Record) → judged p at (given i at) ≡ r → sheetFrom given (suc fuel) p i at ≡ onward r (λ e next. sheetFrom given fuel (afterOf p e) (i + 1) next)
+  by-judged : (r : Record) → judged p at (given i at) ≡ r → sheetFrom given (suc fuel) p i at ≡ onward r
+      (λ e next. sheetFrom given fuel (afterOf p e) (i + 1) next)
   unfolding sheetFrom
   by-judged r q = rw q
 

@@ -7,7 +7,7 @@ use Rattle.phases.specs.declared.Phase.the-variants.{Penumbra, Central}
 use Rattle.records.specs.declared.Crossing.the-variants as C
 use Rattle.records.specs.declared.Entry.{Entry}
 use Rattle.records.specs.Entries.{head, enter, leave, closest, end, bytesOf}
-use Rattle.records.specs.Rules.{start}
+use Rattle.rules.specs.Rules.{start}
 use Rattle.sheets.specs.Sheets.{sheet, readWhole}
 use Rattle.sheets.specs.WellFormed.{WellFormed}
 use Rattle.sheets.specs.WellFormedLaws.{well-step, step-head, step-enter, step-leave, well-first, well-later, well-closest}

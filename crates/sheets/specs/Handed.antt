@@ -16,7 +16,7 @@ use Rattle.sheets.specs.declared.Extent.{Extent}
 use Rattle.sheets.specs.declared.Extent.the-variants as X
 use Rattle.records.specs.Kinds.{kindFor, sizeOf}
 use Rattle.records.specs.Entries.{bytesOf}
-use Rattle.records.specs.Rules.{start}
+use Rattle.rules.specs.Rules.{start}
 use Rattle.sheets.specs.Sheets.{Sheet, sheet, refused, sheetFrom, alone}
 
 -- the entry of that kind whose fields are the i-th four numbers of a list, after the first

@@ -2,15 +2,14 @@
 use Prim.Native.Nat.{ℕ, _+_, _*_, _≤_, _<_}
 use mathlib.Core.Path.{_≡_, refl, sym, ap, _∙_}
 use mathlib.Core.List.{List, [], _∷_, _++_, append-assoc}
-use mathlib.Core.Bool.{Bool, true, false, cond}
+use mathlib.Core.Bool.{true, false, cond}
 use native.Mathlib.Omega.{arith}
 use native.Mathlib.Decide.{decLe}
 use native.Mathlib.Nat.{add-zero, add-assoc}
 use native.Mathlib.Numerals.{add-one}
-use borrow.Author.Tests.{le-leb, lt-leb, eqb-true}
+use borrow.Author.Tests.{le-leb, lt-leb}
 use lib.ListN.{length, getD, drop, length-append}
 use lib.Seq.{getD-append-add, getD-append-seam, drop-cons}
-use Rattle.records.specs.declared.Kind.{Kind}
 use Rattle.records.specs.declared.Entry.{Entry}
 use Rattle.records.specs.declared.Named.{Named}
 use Rattle.records.specs.declared.Named.the-variants as Named
@@ -23,7 +22,7 @@ use Rattle.records.specs.KindLaws.{kind-code, kind-inv, size-small, plain-fourt
 use Rattle.records.specs.Entries.{numbers, numbersOf}
 use Rattle.records.specs.EntryLaws.{numbers-nil, numbers-cons}
 use Rattle.records.specs.TestLaws.{both}
-use Rattle.records.specs.Rules.{afterOf}
+use Rattle.rules.specs.Rules.{afterOf}
 use Rattle.sheets.specs.Handed.{numbered, ofNamed, handedAt}
 use Rattle.sheets.specs.StandLaws.{Stand, Steady}
 use Rattle.sheets.specs.WellFormed.{WellFormed}
@@ -63,7 +62,8 @@ module _ (l : List ℕ) (i at : ℕ) where
           let m : n ≡ at + sizeOf k = cc in
           record { within = h; named = f ∙ ap Named.Is x; is = sym j ∙ ap (numbered l i) x; next = m ∙ ap (λ y. at + sizeOf y) x }
 
-pub handed-bounds : (l : List ℕ) (i at : ℕ) (e : Entry) (n : ℕ) → handedAt l i at ≡ Is e n → (i * 4 + 4 ≤ length l) × (n ≡ at + sizeOf (e .kind)) × (n ≤ at + 17)
+pub handed-bounds : (l : List ℕ) (i at : ℕ) (e : Entry) (n : ℕ) → handedAt l i at ≡ Is e n → (i * 4 + 4 ≤ length l) × (n ≡ at + sizeOf (e .kind)) ×
+    (n ≤ at + 17)
 handed-bounds l i at e n q = let t = handed-inv l i at e n q in (t .within, t .next, omega (arith, t .next, size-small (e .kind)))
 
 pub handed-steady : (l : List ℕ) → Steady (handedAt l)
@@ -133,4 +133,5 @@ module _ (l : List ℕ) where
       let k : (i + 1 + length es) * 4 ≡ (i + length (e ∷ es)) * 4 = omega arith in
       entry-split i at e (at + sizeOf (e .kind)) (st .0)
       ∙ ap (λ x. numbers e ++ x) (stand-numbers es (i + 1) (at + sizeOf (e .kind)) (st .1) ∙ ap (λ n. numbersOf es ++ drop n l) k)
-      ∙ sym (ap (λ x. x ++ drop ((i + length (e ∷ es)) * 4) l) (numbers-cons e es) ∙ append-assoc (numbers e) (numbersOf es) (drop ((i + length (e ∷ es)) * 4) l))
+      ∙ sym (ap (λ x. x ++ drop ((i + length (e ∷ es)) * 4) l) (numbers-cons e es) ∙ append-assoc (numbers e) (numbersOf es)
+      (drop ((i + length (e ∷ es)) * 4) l))

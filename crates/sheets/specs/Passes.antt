@@ -7,8 +7,8 @@ use lib.Seq.{sets}
 use Rattle.records.specs.declared.Refusal.the-variants as R
 use Rattle.records.specs.declared.Record.{Record}
 use Rattle.records.specs.declared.Record.the-variants.{Is, Refused}
-use Rattle.records.specs.declared.Judgement.{Judgement}
-use Rattle.records.specs.declared.Judgement.the-variants.{Next, Broken}
+use Rattle.rules.specs.declared.Judgement.{Judgement}
+use Rattle.rules.specs.declared.Judgement.the-variants.{Next, Broken}
 use Rattle.sheets.specs.declared.Extent.{Extent}
 use Rattle.sheets.specs.declared.Extent.the-variants as X
 use Rattle.records.specs.Entries.{numbersOf, bytesOf}

@@ -19,9 +19,9 @@ use Rattle.records.specs.declared.Entry.{Entry}
 use Rattle.records.specs.Entries.{bytesOf, numbersOf}
 use Rattle.records.specs.KindLaws.{size-small}
 use Rattle.records.specs.EntryLaws.{length-bytes-cons, length-numbers}
-use Rattle.records.specs.Rules.{start}
+use Rattle.rules.specs.Rules.{start}
 use Rattle.records.specs.NumberLaws.{Bytes}
-use Rattle.records.specs.RecordTrip.{start-small}
+use Rattle.rules.specs.FieldFits.{start-small}
 use Rattle.sheets.specs.Sheets.{sheet, storedAt, readSheet, readWhole, roomAfter}
 use Rattle.sheets.specs.Handed.{handedAt, listSheet, listWhole, bufferAfterList}
 use Rattle.sheets.specs.SheetLaws.{read-start, list-start, whole-inv, whole-is, list-inv, list-is}

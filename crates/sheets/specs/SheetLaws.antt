@@ -1,5 +1,5 @@
 -- Laws of a sheet as a whole: its extent, and what may follow it.
-use Prim.Native.Nat.{ℕ, suc, _+_, _-_, _*_, _≤_}
+use Prim.Native.Nat.{ℕ, suc, _-_, _*_, _≤_}
 use mathlib.Core.Path.{_≡_, refl, sym, ap, _∙_}
 use mathlib.Core.List.{List}
 use mathlib.Core.Bool.{Bool, true, false, cond}
@@ -9,13 +9,11 @@ use borrow.Author.Tests.{le-ltb, ltb-false}
 use lib.Dec.{ltb}
 use lib.ListN.{length}
 use Rattle.records.specs.declared.Entry.{Entry}
-use Rattle.records.specs.declared.Progress.{Progress}
 use Rattle.records.specs.declared.Refusal.{Refusal}
 use Rattle.records.specs.declared.Refusal.the-variants as R
-use Rattle.records.specs.declared.Record.{Record}
 use Rattle.sheets.specs.declared.Extent.{Extent}
 use Rattle.sheets.specs.declared.Extent.the-variants as X
-use Rattle.records.specs.Rules.{start}
+use Rattle.rules.specs.Rules.{start}
 use Rattle.sheets.specs.Sheets.{Sheet, sheet, refused, sheetFrom, storedAt, alone, readSheet, readWhole, extentOf}
 use Rattle.sheets.specs.Handed.{handedAt, listSheet, listWhole}
 use Rattle.sheets.specs.Passes.{extent}

@@ -9,15 +9,15 @@ use Rattle.records.specs.declared.Entry.{Entry}
 use Rattle.records.specs.declared.Progress.{Progress}
 use Rattle.records.specs.declared.Refusal.{Refusal}
 use Rattle.records.specs.declared.Refusal.the-variants as R
-use Rattle.records.specs.declared.Judgement.{Judgement}
-use Rattle.records.specs.declared.Judgement.the-variants.{Next, Broken}
+use Rattle.rules.specs.declared.Judgement.{Judgement}
+use Rattle.rules.specs.declared.Judgement.the-variants.{Next, Broken}
 use Rattle.records.specs.declared.Record.{Record}
 use Rattle.records.specs.declared.Record.the-variants.{Is, Refused}
 use Rattle.sheets.specs.declared.Extent.{Extent}
 use Rattle.sheets.specs.declared.Extent.the-variants as X
 use Rattle.records.specs.Kinds.{isEnd}
 use Rattle.records.specs.Entries.{numbersOf}
-use Rattle.records.specs.Rules.{start, afterOf, judgementOf}
+use Rattle.rules.specs.Rules.{start, afterOf, judgementOf}
 use Rattle.records.specs.Records.{recordAt}
 
 -- what a list of bytes, or of numbers, is as a sheet: its entries, head and end among them, and its length in bytes; or the refusal

@@ -13,8 +13,8 @@ use Rattle.records.specs.declared.Record.the-variants.{Is}
 use Rattle.records.specs.Kinds.{isEnd, sizeOf}
 use Rattle.records.specs.Entries.{bytesOf}
 use Rattle.records.specs.EntryLaws.{bytes-nil, length-bytes-cons}
-use Rattle.records.specs.Rules.{afterOf}
-use Rattle.records.specs.RuleLaws.{judged-next}
+use Rattle.rules.specs.Rules.{afterOf}
+use Rattle.rules.specs.RuleLaws.{judged-next}
 use Rattle.sheets.specs.Sheets.{sheet, more, sheetFrom}
 use Rattle.sheets.specs.GivenLaws.{from-end, from-more, from-inv, from-nothing}
 use Rattle.sheets.specs.WellFormed.{WellFormed}

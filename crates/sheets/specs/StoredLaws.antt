@@ -1,10 +1,10 @@
 -- Entries that stand in bytes: those of their own bytes do, and the bytes of those that stand are theirs.
 use Prim.Native.Nat.{ℕ, _+_}
-use mathlib.Core.Path.{_≡_, refl, sym, ap, _∙_}
+use mathlib.Core.Path.{_≡_, sym, ap, _∙_}
 use mathlib.Core.List.{List, [], _∷_, _++_, append-assoc}
 use mathlib.Core.Bool.{true, false, cond}
 use native.Mathlib.Omega.{arith}
-use native.Mathlib.Nat.{add-zero, add-assoc}
+use native.Mathlib.Nat.{add-zero}
 use lib.ListN.{length, drop, length-append, take-append-drop}
 use lib.Seq.{drop-drop}
 use Rattle.records.specs.declared.Entry.{Entry}
@@ -16,8 +16,9 @@ use Rattle.records.specs.EntryLaws.{length-bytes, bytes-nil, bytes-cons, length
 use Rattle.records.specs.NumberLaws.{Bytes}
 use Rattle.records.specs.Records.{recordAt}
 use Rattle.records.specs.RecordLaws.{record-inv}
-use Rattle.records.specs.RecordTrip.{Small, fields-fit, after-small, trip, back}
-use Rattle.records.specs.Rules.{afterOf}
+use Rattle.records.specs.RecordTrip.{trip, back}
+use Rattle.rules.specs.FieldFits.{Small, fields-fit, after-small}
+use Rattle.rules.specs.Rules.{afterOf}
 use Rattle.sheets.specs.Sheets.{storedAt}
 use Rattle.sheets.specs.StandLaws.{Stand, Steady}
 use Rattle.sheets.specs.WellFormed.{WellFormed}
@@ -61,4 +62,5 @@ module _ (s : List ℕ) (b : Bytes s) where
       let k : at + sizeOf (e .kind) + length (bytesOf es) ≡ at + length (bytesOf (e ∷ es)) = omega arith in
       record-split at e (at + sizeOf (e .kind)) (st .0)
       ∙ ap (λ x. bytes e ++ x) (stand-bytes es (i + 1) (at + sizeOf (e .kind)) (st .1) ∙ ap (λ n. bytesOf es ++ drop n s) k)
-      ∙ sym (ap (λ x. x ++ drop (at + length (bytesOf (e ∷ es))) s) (bytes-cons e es) ∙ append-assoc (bytes e) (bytesOf es) (drop (at + length (bytesOf (e ∷ es))) s))
+      ∙ sym (ap (λ x. x ++ drop (at + length (bytesOf (e ∷ es))) s) (bytes-cons e es) ∙ append-assoc (bytes e) (bytesOf es)
+      (drop (at + length (bytesOf (e ∷ es))) s))

@@ -10,7 +10,7 @@ use Rattle.records.specs.declared.Stage.the-variants as S
 use Rattle.records.specs.declared.Crossing.{Crossing}
 use Rattle.records.specs.declared.Progress.{Progress}
 use Rattle.records.specs.Kinds.{isEnd}
-use Rattle.records.specs.Rules.{inOrder, fieldsHold, afterOf}
+use Rattle.rules.specs.Rules.{inOrder, fieldsHold, afterOf}
 
 -- each entry keeps the order and its fields the rules, by what came before it; the first end entry is the last
 unfoldable pub WellFormed : Progress → List Entry → Type 0

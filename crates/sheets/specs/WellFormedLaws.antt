@@ -15,12 +15,12 @@ use Rattle.records.specs.declared.Stage.the-variants as S
 use Rattle.records.specs.declared.Crossing.{Crossing}
 use Rattle.records.specs.declared.Crossing.the-variants as C
 use Rattle.records.specs.declared.Progress.{Progress}
-use Rattle.records.specs.Kinds.{isEnd, plain}
+use Rattle.records.specs.Kinds.{plain}
 use Rattle.records.specs.Entries.{head, enter, leave, graze, opened, closest, end}
 use Rattle.records.specs.TestLaws.{distinct}
-use Rattle.records.specs.Order.{samePhase, phaseFollows, repeats}
+use Rattle.rules.specs.Order.{samePhase, phaseFollows, repeats}
 use Rattle.records.specs.FieldRules.{isDirection, spanHolds}
-use Rattle.records.specs.Rules.{start, reached, phaseInOrder, inOrder, fieldsHold, afterOf}
+use Rattle.rules.specs.Rules.{start, reached, phaseInOrder, inOrder, fieldsHold, afterOf}
 use Rattle.sheets.specs.WellFormed.{WellFormed, within, Step}
 
 pub well-step : {p q : Progress} {e : Entry} (es : List Entry) → Step p e q → WellFormed q es → WellFormed p (e ∷ es)
@@ -111,7 +111,8 @@ well-first ψ f l es w = well-before (reached S.Head f l) ψ f l before es w
     before K.End a b c d o = absurd (distinct (sym o))
 
 -- after a phase a later one may begin, whatever came there
-pub well-later : (φ ψ : Phase) (f l u : ℕ) (t : Crossing) → phaseFollows ψ φ ≡ false → (es : List Entry) → WellFormed (within ψ f l 0 C.Neither) es → WellFormed (within φ f l u t) es
+pub well-later : (φ ψ : Phase) (f l u : ℕ) (t : Crossing) → phaseFollows ψ φ ≡ false → (es : List Entry) → WellFormed (within ψ f l 0 C.Neither) es →
+    WellFormed (within φ f l u t) es
 well-later Penumbra Penumbra f l u t n es w = absurd (distinct n)
 well-later Central Penumbra f l u t n es w = absurd (distinct n)
 well-later Central Central f l u t n es w = absurd (distinct n)

@@ -4,10 +4,10 @@
 use records::Body;
 use records::Byte;
 use records::Entry;
-use records::Judgement;
 use records::Named;
 use records::Record;
 use records::Refusal;
+use rules::Judgement;
 ghost use mathlib.Core.Path.{_≡_};
 ghost use mathlib.Core.List.{[], _∷_};
 ghost use Prim.Native.Nat.{_+_, _*_, _≤_};
@@ -49,7 +49,7 @@ fn broken(judged: Judgement) -> Extent
 pub fn extent_of_leading_sheet(s: &[u8]) -> Extent
     ensures { λ r. ⌜ r ≡ extentOf (readSheet (now (s .entry))) ⌝ }
 {
-    let mut p = records::rules::begun();
+    let mut p = rules::begun();
     let mut at = 0;
     let mut n = 0;
     loop {
@@ -62,7 +62,7 @@ pub fn extent_of_leading_sheet(s: &[u8]) -> Extent
         let Body::Is(entry) = records::bytes::body_at(s, at, kind) else {
             return Extent::Refused(Refusal::Cut(at));
         };
-        let judged = records::rules::judge(p, at, true, entry);
+        let judged = rules::judge(p, at, true, entry);
         let Judgement::Next(further) = judged else {
             return broken(judged);
         };
@@ -85,11 +85,15 @@ pub fn extent_of_sheet(s: &[u8]) -> Extent
     ensures { λ r. ⌜ r ≡ extentOf (readWhole (now (s .entry))) ⌝ }
 {
     let found = extent_of_leading_sheet(s);
-    let Extent::Sheet { entries: _, length } = found else {
+    let Extent::Sheet {
+        entries: _,
+        length: end,
+    } = found
+    else {
         return found;
     };
-    if length < s.len() {
-        return Extent::Refused(Refusal::Trailing(length));
+    if end < s.len() {
+        return Extent::Refused(Refusal::Trailing(end));
     }
     found
 }
@@ -182,7 +186,7 @@ fn handed_at(l: &[u32], n: usize, at: usize) -> Record
 pub fn extent_of_leading_entries(l: &[u32]) -> Extent
     ensures { λ r. ⌜ r ≡ extentOf (listSheet (now (l .entry))) ⌝ }
 {
-    let mut p = records::rules::begun();
+    let mut p = rules::begun();
     let mut place = 0;
     let mut n = 0;
     loop {
@@ -191,7 +195,7 @@ pub fn extent_of_leading_entries(l: &[u32]) -> Extent
             return refused(given);
         };
         let plain = records::kinds::is_plain(entry);
-        let judged = records::rules::judge(p, place, plain, entry);
+        let judged = rules::judge(p, place, plain, entry);
         let Judgement::Next(further) = judged else {
             return broken(judged);
         };

@@ -1,4 +1,4 @@
--- Table S rises from entry to entry, by one test that is computed over the definition.
+-- Table S rises from entry to entry, by one test that is computed over the nearest numbers.
 use mathlib.Core.Path.{_≡_, subst, sym}
 use mathlib.Core.Bool.{Bool}
 use mathlib.Core.Logic.{⊎-elim}
@@ -6,14 +6,14 @@ use Prim.Native.Nat.{ℕ, zero, suc, _≤_, _<_}
 use native.Mathlib.Omega.{arith}
 use native.Mathlib.Nat.{eq-or-lt-of-le, le-of-suc-le-suc, not-suc-le-zero}
 use lib.Dec.{T, ltb, ltb→lt}
-use Rattle.numbers.specs.Near.{near}
-use Rattle.sine.specs.Table.{factorial, numerator, denominator, common, term, series, S}
+use Rattle.sine.specs.Table.{S}
+use Rattle.sine.specs.TableLaws.{nearest, S-nearest}
 use Rattle.sine.specs.Computed.{upTo, at-upTo}
 
 -- entry k is less than the next
 unfoldable rise : ℕ → Bool
-unfolding near factorial numerator denominator common term series S
-rise k = ltb (S k) (S (suc k))
+unfolding nearest
+rise k = ltb (nearest k) (nearest (suc k))
 
 all-rise : T (upTo rise 900)
 unfolding rise
@@ -21,7 +21,8 @@ all-rise = tt
 
 next-rises : (k : ℕ) → k < 900 → S k < S (suc k)
 unfolding rise
-next-rises k h = ltb→lt (S k) (S (suc k)) (at-upTo rise 900 all-rise k h)
+next-rises k h =
+    rw (S-nearest k (omega arith), S-nearest (suc k) (omega arith)) (ltb→lt (nearest k) (nearest (suc k)) (at-upTo rise 900 all-rise k h))
 
 pub S-rises : (j k : ℕ) → j < k → k ≤ 900 → S j < S k
 S-rises j zero h l = absurd (not-suc-le-zero h)

@@ -1,29 +1,26 @@
 -- What callers use of `reduced`, `sine` and `cosine`. Angles are in units of 10^-6 degree.
 --   sine-of, cosine-of               from the promises of `reduced` and of the functions: the result is the sine, or cosine, of the angle
---   reduced-below, -same, -turn      from 0 up to 360 degrees, where it changes nothing, and one turn more makes no difference
+--   reduced-below, reduced-same      from 0 up to 360 degrees, where it changes nothing
 --   sine-first, sine-above           the rule: up to 90 degrees, and a quarter turn down; the same for the cosine
---   sine-reduced, sine-turn          of the reduced angle, and of one turn more; the same for the cosine
+--   sine-reduced                     of the reduced angle; the same for the cosine
 --   sine-size, cosine-size           at most 10^8 in size, at every angle
 --   sine-second, sine-opposite       180 degrees less the angle, and the other sign, up to 90 degrees; the same for the cosine
---   sine-nonneg, sine-nonpos, cosine-nonneg   signs, up to 90 degrees
 --   sine-small                       up to 25.1 degrees
 --   square-sum                       the squares make nearly 10^16, up to 90 degrees
 use mathlib.Core.Path.{_≡_, refl, sym, _∙_, ap}
 use mathlib.Core.Bool.{cond}
 use mathlib.Core.Logic.{_⊎_, inl, inr, ⊎-elim}
-use Prim.Native.Nat.{ℕ, zero, suc, _+_, _*_, _-_, _/_, _%_, _≤_, _<_}
+use Prim.Native.Nat.{ℕ, zero, suc, _+_, _*_, _-_, _/_, _≤_, _<_}
 use native.Mathlib.Omega.{arith}
 use native.Mathlib.Nat.{mul-le-mul, eq-or-lt-of-le, eq-zero-or-pos}
 use borrow.Author.Tests.{le-leb, lt-leb}
 use lib.Dec.{leb}
-use lib.IntN.{ℤ, pos, negsuc, negℤ, natAbs, _+ℤ_, negℤ-negℤ}
-use lib.Signed.{_≤ℤ_}
-use Rattle.numbers.specs.Parts.{same, sum}
-use Rattle.numbers.specs.Order.{natAbs-opposite, negℤ-mono, parts-≤}
+use lib.IntN.{ℤ, pos, negsuc, negℤ, natAbs, negℤ-negℤ}
+use Rattle.numbers.specs.Order.{natAbs-opposite}
 use Rattle.sine.specs.Table.{S}
 use Rattle.sine.specs.TableLaws.{entry-low, entry-squares, entry-squares-less}
 use Rattle.sine.specs.FirstQuadrant.{firstQuadrant}
-use Rattle.sine.specs.FirstQuadrantLaws.{first-natural, first-small, first-least, first-most, first-zero}
+use Rattle.sine.specs.FirstQuadrantLaws.{first-small, first-least, first-most, first-zero}
 use Rattle.sine.specs.Sine.{reduced, sineIn, cosineIn, sine, cosine, IsReduced, IsSine, IsCosine}
 
 -- ---- the angle
@@ -40,22 +37,6 @@ reduced-below (negsuc n) = omega arith
 pub reduced-same : (a : ℕ) → a < 360_000_000 → reduced (pos a) ≡ a
 unfolding reduced
 reduced-same a h = omega arith
-
--- one turn more makes no difference. -1 - n and a turn is 359,999,999 - n, or is below 0 too
-pub reduced-turn : (z : ℤ) → reduced (z +ℤ pos 360_000_000) ≡ reduced z
-unfolding reduced
-reduced-turn (pos n) = omega arith
-reduced-turn (negsuc n) = ⊎-elim below above (either n 359_999_999)
-  where
-    below : 359_999_999 < n → reduced (negsuc n +ℤ pos 360_000_000) ≡ 359_999_999 - n % 360_000_000
-    below l =
-        rw (same (negsuc n +ℤ pos 360_000_000) (negsuc (n - 360_000_000)) (omega (arith, sum (negsuc n) (pos 360_000_000) .is)))
-        (omega arith)
-
-    above : n ≤ 359_999_999 → reduced (negsuc n +ℤ pos 360_000_000) ≡ 359_999_999 - n % 360_000_000
-    above l =
-        rw (same (negsuc n +ℤ pos 360_000_000) (pos (359_999_999 - n)) (omega (arith, sum (negsuc n) (pos 360_000_000) .is)))
-        (omega arith)
 
 -- ---- quarter turns
 
@@ -125,14 +106,6 @@ sine-reduced z = ap (sineIn 3) (reduced-same (reduced z) (reduced-below z))
 pub cosine-reduced : (z : ℤ) → cosine (pos (reduced z)) ≡ cosine z
 unfolding cosine
 cosine-reduced z = ap (cosineIn 3) (reduced-same (reduced z) (reduced-below z))
-
-pub sine-turn : (z : ℤ) → sine (z +ℤ pos 360_000_000) ≡ sine z
-unfolding sine
-sine-turn z = ap (sineIn 3) (reduced-turn z)
-
-pub cosine-turn : (z : ℤ) → cosine (z +ℤ pos 360_000_000) ≡ cosine z
-unfolding cosine
-cosine-turn z = ap (cosineIn 3) (reduced-turn z)
 
 -- from what `reduced` and then `sine` or `cosine` promise
 pub sine-of : {z r : ℤ} {a : ℕ} → IsReduced z a → IsSine (pos a) r → r ≡ sine z
@@ -235,20 +208,6 @@ pub cosine-natAbs : (z : ℤ) → natAbs z ≤ 90_000_000 → cosine z ≡ cosin
 cosine-natAbs (pos m) h = refl
 cosine-natAbs (negsuc n) h = cosine-below n h
 
--- ---- signs, up to 90 degrees
-
-first-nonneg : (a : ℕ) → a ≤ 90_000_000 → pos 0 ≤ℤ firstQuadrant a
-first-nonneg a h = rw (first-natural a h) (parts-≤ (omega arith))
-
-pub sine-nonneg : (m : ℕ) → m ≤ 90_000_000 → pos 0 ≤ℤ sine (pos m)
-sine-nonneg m h = rw (sine-first m h) (first-nonneg m h)
-
-pub sine-nonpos : (m : ℕ) → m ≤ 90_000_000 → sine (negℤ (pos m)) ≤ℤ pos 0
-sine-nonpos m h = rw (sine-opposite m h) (negℤ-mono (sine-nonneg m h))
-
-pub cosine-nonneg : (z : ℤ) → natAbs z ≤ 90_000_000 → pos 0 ≤ℤ cosine z
-cosine-nonneg z h = rw (cosine-natAbs z h, cosine-first (natAbs z) h) (first-nonneg (90_000_000 - natAbs z) (omega arith))
-
 -- ---- sizes, by the entries
 
 -- up to 25.1 degrees
@@ -269,7 +228,8 @@ square-sum z h =
     rw (sine-natAbs z h, cosine-natAbs z h, sine-first (natAbs z) h, cosine-first (natAbs z) h) (squares (natAbs z) h)
   where
     squares : (a : ℕ) → a ≤ 90_000_000
-        → 9_982_500_000_000_000 ≤ natAbs (firstQuadrant a) * natAbs (firstQuadrant a) + natAbs (firstQuadrant (90_000_000 - a)) * natAbs (firstQuadrant (90_000_000 - a))
+        → 9_982_500_000_000_000 ≤ natAbs (firstQuadrant a) * natAbs (firstQuadrant a) + natAbs (firstQuadrant (90_000_000 - a)) * natAbs
+        (firstQuadrant (90_000_000 - a))
     squares a h =
         let k = a / 100_000 in
         let j = (90_000_000 - a) / 100_000 in

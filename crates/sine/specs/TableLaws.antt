@@ -1,10 +1,10 @@
 -- What callers use of table S. For each k from 0 to 900:
 --   entry-rule, entry-only   S k is within half a unit, and no other number is
---   entry-near               what S is the size of is not below 0
+--   nearest, S-nearest       S k as a number that is computed with no near
 --   entry-small, entry-least, entry-low   at most 10^8; from entry 1 on at least entry 1; up to entry 251 at most that
 --   entry-0, entry-300, entry-900         the entries that document 01 names
 --   entry-squares, entry-squares-less     the squares of two entries whose angles make 90 degrees, or a tenth less, make nearly 10^16
--- Why: a number that is less than half a unit away is the only one within half a unit (`inside`), and that test and the sizes are
+-- Why: a number that is less than half a unit away is the only one within half a unit (`closer`), and that test and the sizes are
 -- computed once over all k.
 use mathlib.Core.Path.{_≡_, sym, _∙_, ap}
 use mathlib.Core.Bool.{Bool, true, false, cond}
@@ -48,34 +48,34 @@ abbrev away : ℕ → ℕ → ℕ
 away k x = 2 * natAbs (pos common *ℤ pos x -ℤ pos 100_000_000 *ℤ series k)
 
 -- x is less than half a unit away
-unfoldable pub inside : ℕ → ℕ → Bool
+unfoldable closer : ℕ → ℕ → Bool
 unfolding factorial numerator denominator term series common
-inside k x = ltb (away k x) common
+closer k x = ltb (away k x) common
 
-module _ (k x : ℕ) (t : T (inside k x)) where
-  inside-less : away k x < common
-  unfolding inside
-  inside-less = ltb→lt (away k x) common t
+module _ (k x : ℕ) (t : T (closer k x)) where
+  closer-less : away k x < common
+  unfolding closer
+  closer-less = ltb→lt (away k x) common t
 
-  pub inside-rule : HalfUnit k x
-  inside-rule = record { half-unit = omega (arith, inside-less) }
+  closer-rule : HalfUnit k x
+  closer-rule = record { half-unit = omega (arith, closer-less) }
 
-  inside-near : near (pos 100_000_000 *ℤ series k) (pos common) ≡ pos x
-  inside-near =
+  closer-near : near (pos 100_000_000 *ℤ series k) (pos common) ≡ pos x
+  closer-near =
       let z = pos 100_000_000 *ℤ series k in
-      one-within common z (near z (pos common)) (pos x) (near-error z (pos common) common-positive) inside-less
+      one-within common z (near z (pos common)) (pos x) (near-error z (pos common) common-positive) closer-less
 
-  pub inside-value : x ≡ S k
+  closer-value : x ≡ S k
   unfolding S
-  inside-value = ap natAbs (sym inside-near)
+  closer-value = ap natAbs (sym closer-near)
 
-  pub inside-only : (y : ℕ) → HalfUnit k y → y ≡ x
-  inside-only y h = ap natAbs (one-within common (pos 100_000_000 *ℤ series k) (pos y) (pos x) (h .half-unit) inside-less)
+  closer-only : (y : ℕ) → HalfUnit k y → y ≡ x
+  closer-only y h = ap natAbs (one-within common (pos 100_000_000 *ℤ series k) (pos y) (pos x) (h .half-unit) closer-less)
 
 -- ---- all entries
 
 -- the number within half a unit, computed
-unfoldable nearest : ℕ → ℕ
+unfoldable pub nearest : ℕ → ℕ
 unfolding factorial numerator denominator term series common
 nearest k = (2 * natAbs (pos 100_000_000 *ℤ series k) + common) / (2 * common)
 
@@ -90,27 +90,27 @@ limit k = cond (leb k 251) 42_419_942 100_000_000
 unfoldable most : ℕ → ℕ → Bool
 most k x = leb x (limit k)
 
-unfoldable sized : ℕ → Bool
-unfolding inside least most nearest
-sized k = both (inside k (nearest k)) (both (least k (nearest k)) (most k (nearest k)))
+unfoldable tested : ℕ → Bool
+unfolding closer least most nearest
+tested k = both (closer k (nearest k)) (both (least k (nearest k)) (most k (nearest k)))
 
-all-sized : T (upTo sized 901)
-unfolding sized
-all-sized = tt
+all-tested : T (upTo tested 901)
+unfolding tested
+all-tested = tt
 
 module _ (k : ℕ) (h : k < 901) where
-  tests : T (both (inside k (nearest k)) (both (least k (nearest k)) (most k (nearest k))))
-  unfolding sized
-  tests = at-upTo sized 901 all-sized k h
+  tests : T (both (closer k (nearest k)) (both (least k (nearest k)) (most k (nearest k))))
+  unfolding tested
+  tests = at-upTo tested 901 all-tested k h
 
-  is-inside : T (inside k (nearest k))
-  is-inside = both-left (inside k (nearest k)) (both (least k (nearest k)) (most k (nearest k))) tests
+  is-closer : T (closer k (nearest k))
+  is-closer = both-left (closer k (nearest k)) (both (least k (nearest k)) (most k (nearest k))) tests
 
   ranges : T (both (least k (nearest k)) (most k (nearest k)))
-  ranges = both-right (inside k (nearest k)) (both (least k (nearest k)) (most k (nearest k))) tests
+  ranges = both-right (closer k (nearest k)) (both (least k (nearest k)) (most k (nearest k))) tests
 
-  S-nearest : S k ≡ nearest k
-  S-nearest = sym (inside-value k (nearest k) is-inside)
+  pub S-nearest : S k ≡ nearest k
+  S-nearest = sym (closer-value k (nearest k) is-closer)
 
   S-least : min k 1 * 174_533 ≤ S k
   unfolding least
@@ -121,13 +121,10 @@ module _ (k : ℕ) (h : k < 901) where
   S-most = rw S-nearest (leb→le (nearest k) (limit k) (both-right (least k (nearest k)) (most k (nearest k)) ranges))
 
   pub entry-rule : HalfUnit k (S k)
-  entry-rule = rw S-nearest (inside-rule k (nearest k) is-inside)
+  entry-rule = rw S-nearest (closer-rule k (nearest k) is-closer)
 
   pub entry-only : (y : ℕ) → HalfUnit k y → y ≡ S k
-  entry-only y r = rw S-nearest (inside-only k (nearest k) is-inside y r)
-
-  pub entry-near : near (pos 100_000_000 *ℤ series k) (pos common) ≡ pos (S k)
-  entry-near = rw S-nearest (inside-near k (nearest k) is-inside)
+  entry-only y r = rw S-nearest (closer-only k (nearest k) is-closer y r)
 
   pub entry-small : S k ≤ 100_000_000
   entry-small = omega (arith, S-most, within (leb k 251))
@@ -146,16 +143,16 @@ entry-low k h = rw (le-leb k 251 h) at (S-most k (omega arith))
 -- ---- "Entry 0 is 0, entry 300 is 50,000,000, entry 900 is 10^8."
 
 pub entry-0 : S 0 ≡ 0
-unfolding inside
-entry-0 = sym (inside-value 0 0 tt)
+unfolding closer
+entry-0 = sym (closer-value 0 0 tt)
 
 pub entry-300 : S 300 ≡ 50_000_000
-unfolding inside
-entry-300 = sym (inside-value 300 50_000_000 tt)
+unfolding closer
+entry-300 = sym (closer-value 300 50_000_000 tt)
 
 pub entry-900 : S 900 ≡ 100_000_000
-unfolding inside
-entry-900 = sym (inside-value 900 100_000_000 tt)
+unfolding closer
+entry-900 = sym (closer-value 900 100_000_000 tt)
 
 -- ---- the sum of two squares: of an entry and of the one that makes 90 degrees with it, or a tenth of a degree less
 

@@ -1,18 +1,15 @@
 -- The station's place: R from the Earth's axis, P from the plane of the equator. Lengths and sines are in units of 10^-8.
-use mathlib.Core.Path.{_≡_}
-use Prim.Native.Nat.{_≤_}
 use lib.IntN.{ℤ, pos, natAbs, _+ℤ_, _*ℤ_}
+use Rattle.numbers.specs.Units.{one}
 use Rattle.numbers.specs.Near.{near}
 use Rattle.numbers.specs.Root.{root}
 use Rattle.sine.specs.Sine.{sine, cosine}
+use Rattle.station.specs.declared.Station.{Station}
 use Rattle.station.specs.declared.Place.{Place}
 
-abbrev pub one : ℤ
-one = pos 100000000
-
--- "Krasovsky's spheroid: radius 6,378,245 m and flattening 1:298.3, so E = 99,330,658": (1 - 1/298.3)^2
-abbrev pub radius : ℤ
-radius = pos 6378245
+-- "Krasovsky's spheroid: radius 6,378,245 m and flattening 1:298.3 .., so E = 99,330,658.": (1 - 1/298.3)^2
+abbrev pub equatorialRadius : ℤ
+equatorialRadius = pos 6378245
 
 abbrev pub E : ℤ
 E = pos 99330658
@@ -34,7 +31,7 @@ Z s c = near (C s c *ℤ E) one
 
 -- "h = near(height·10^8/6,378,245)"
 unfoldable pub h : (height : ℤ) → ℤ
-h height = near (height *ℤ one) radius
+h height = near (height *ℤ one) equatorialRadius
 
 -- "R = near((C+h)·c/10^8)"
 unfoldable pub R : (latitude height : ℤ) → ℤ
@@ -44,9 +41,6 @@ R latitude height = near ((C (sine latitude) (cosine latitude) +ℤ h height) *�
 unfoldable pub P : (latitude height : ℤ) → ℤ
 P latitude height = near ((Z (sine latitude) (cosine latitude) +ℤ h height) *ℤ sine latitude) one
 
--- what the code gives: the value, and a size for those who compute on
-pub record IsPlace (latitude height : ℤ) (x : Place) : Type 0 where
-  pub r : x .r ≡ R latitude height
-  pub p : x .p ≡ P latitude height
-  pub r-size : natAbs (x .r) ≤ 101000000
-  pub p-size : natAbs (x .p) ≤ 101000000
+-- the place: R, P, and what "H is μ plus longitude" adds to μ (the Explanatory Supplement's ephemeris longitude, to the east)
+unfoldable pub placeOf : Station → Place
+placeOf s = record { r = R (s .latitude) (s .height); p = P (s .latitude) (s .height); longitude = s .longitude }

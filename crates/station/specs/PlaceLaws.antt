@@ -1,4 +1,4 @@
--- How large W, C, Z, h, R and P are.
+-- How large W, C, Z, h, R and P are; `place-sizes`: so every station in its ranges has its place within the sizes that the shadow asks.
 use mathlib.Core.Path.{_≡_, refl, subst}
 use mathlib.Core.List.{[], _∷_}
 use Prim.Native.Nat.{ℕ, _+_, _*_, _≤_}
@@ -9,13 +9,16 @@ use lib.Signed.{_≤ℤ_, leZ-yes}
 use Rattle.numbers.specs.Order.{zs, ≤-parts, ≤ℤ-trans, le-natAbs, neg-natAbs, natAbs-sum, natAbs-product-le}
 use Rattle.numbers.specs.Ring.{num, _⊕_, _⊖_, _⊗_, opp, v0, v1, v2}
 use Rattle.numbers.specs.Cert.{leq, lit, sq, _⊞_, _⊠_, certify}
+use Rattle.numbers.specs.Units.{one}
 use Rattle.numbers.specs.Near.{near}
 use Rattle.numbers.specs.NearLaws.{near-low, near-high, near-size}
 use Rattle.numbers.specs.Root.{root, IsRoot}
 use Rattle.numbers.specs.RootLaws.{root-is}
 use Rattle.sine.specs.Sine.{sine, cosine}
 use Rattle.sine.specs.SineLaws.{sine-size, cosine-size, square-sum}
-use Rattle.station.specs.Place.{one, radius, E, under, W, C, Z, h, R, P}
+use Rattle.station.specs.declared.Station.{Station}
+use Rattle.station.specs.Place.{equatorialRadius, E, under, W, C, Z, h, R, P, placeOf}
+use Rattle.station.specs.Sizes.{StationSizes, PlaceSizes}
 
 square-natAbs : (z : ℤ) → z *ℤ z ≡ pos (natAbs z * natAbs z)
 square-natAbs (pos n) = refl
@@ -89,7 +92,7 @@ module _ (s c : ℤ) (hs : natAbs s ≤ 100000000) (hc : natAbs c ≤ 100000000)
 
 pub h-size : (height : ℤ) → natAbs height ≤ 9000 → natAbs (h height) ≤ 141106
 unfolding h
-h-size height l = near-size (height *ℤ one) radius 141106 (leZ-yes tt) (omega (arith, natAbs-product-le height one 9000 100000000 l (omega arith)))
+h-size height l = near-size (height *ℤ one) equatorialRadius 141106 (leZ-yes tt) (omega (arith, natAbs-product-le height one 9000 100000000 l (omega arith)))
 
 -- a sum of two lengths times a sine or a cosine, in units
 pub scaled-size : (a b c : ℤ) (A B : ℕ) → natAbs a ≤ A → natAbs b ≤ B → natAbs c ≤ 100000000 → natAbs (near ((a +ℤ b) *ℤ c) one) ≤ A + B
@@ -119,3 +122,12 @@ module _ (latitude height : ℤ) (hl : natAbs latitude ≤ 90000000) (hh : natAb
   P-size =
       let n = Z-size s c (sine-size latitude) (cosine-size latitude) circle-of in
       omega (arith, scaled-size (Z s c) (h height) s 100000000 141106 n (h-size height hh) (sine-size latitude))
+
+pub place-sizes : (s : Station) → StationSizes s → PlaceSizes (placeOf s)
+unfolding placeOf
+place-sizes s z =
+    record {
+      r = R-size (s .latitude) (s .height) (z .latitude) (z .height);
+      p = P-size (s .latitude) (s .height) (z .latitude) (z .height);
+      longitude = omega (arith, z .longitude);
+    }

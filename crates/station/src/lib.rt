@@ -4,8 +4,9 @@ ghost use Prim.Native.Nat.{_≤_, _+_, _*_};
 ghost use lib.IntN.{natAbs};
 ghost use Rattle.numbers.specs.Value.{Value};
 ghost use Rattle.sine.specs.Table.{Sines};
-ghost use Rattle.station.specs.Station.{fields, rangeOf};
-ghost use Rattle.station.specs.Place.{C, IsPlace};
+ghost use Rattle.station.specs.Station.{fields, rangeOf, stationChecked};
+ghost use Rattle.station.specs.Sizes.{StationSizes};
+ghost use Rattle.station.specs.Place.{C, placeOf};
 
 #[repr(C)]
 pub struct Station {
@@ -19,12 +20,14 @@ pub struct Station {
     pub height: i64,
 }
 
-// The place in units of 10^-8 of the Earth's equatorial radius.
+// Where the station stands in the Earth, and the constant part of its hour angle.
 pub struct Place {
-    // Distance from the Earth's axis, ρ cos φ': R.
+    // R: distance from the Earth's axis, 10^-8 of the equatorial radius, ρ cos φ', ±101,000,000.
     pub r: i64,
-    // Distance from the plane of the equator, north positive, ρ sin φ': P.
+    // P: distance from the plane of the equator, north positive, the same unit, ρ sin φ', ±101,000,000.
     pub p: i64,
+    // What the hour angle has more than at Greenwich, 10^-6 degree, EAST positive, ±180,000,000.
+    pub longitude: i64,
 }
 
 const LOWS: [i64; 4] = [1, -90_000_000, -180_000_000, -500];
@@ -43,41 +46,56 @@ pub fn listed(s: Station) -> [i64; 4]
 }
 
 // Whether every number is in its range, or the first that is not: 0 number, 1 latitude, 2 longitude, 3 height.
-pub fn in_range(s: Station) -> numbers::Limits
+fn in_range(s: Station) -> numbers::Limits
     ensures { λ r. ⌜ r ≡ rangeOf s ⌝ }
 {
     let values = listed(s);
     let lows = LOWS;
     let highs = HIGHS;
-    numbers::first_outside(&values, &lows, &highs)
+    numbers::first_out_of_range(&values, &lows, &highs)
+}
+
+// Refusal 3 with the first number that is out of its range, as above.
+pub fn check(s: Station) -> refusals::Checked
+    ensures { λ r. ⌜ r ≡ stationChecked s ⌝ }
+{
+    let limits = in_range(s);
+    refusals::of_limits(3, limits)
 }
 
 // (1 - flattening)^2 of Krasovsky's spheroid, 10^-8.
 const E: i64 = 99_330_658;
 
-// C: the ellipsoid's normal as far as the axis, from the sine and cosine of the latitude.
-fn normal(s: i64, c: i64) -> i64
-    requires { ⌜ (natAbs s ≤ 100000000) × (natAbs c ≤ 100000000) × (9960000000000000 ≤ natAbs s * natAbs s + natAbs c * natAbs c) ⌝ }
-    ensures { λ r. ⌜ Value (C s c) 100600000 r ⌝ }
+// C of document 01, near(10^16/W), from the sine and cosine of the latitude.
+fn c_of(sine: i64, cosine: i64) -> i64
+    requires { ⌜ (natAbs sine ≤ 100000000) × (natAbs cosine ≤ 100000000) × (9960000000000000 ≤ natAbs sine * natAbs sine + natAbs cosine * natAbs cosine) ⌝ }
+    ensures { λ r. ⌜ Value (C sine cosine) 100600000 r ⌝ }
 {
-    let e = numbers::near_unit(s * E);
-    let under = c * c + e * s;
+    let e = numbers::near_unit(sine * E);
+    let under = cosine * cosine + e * sine;
     let w = numbers::root(under as u64);
     numbers::near(10_000_000_000_000_000, w as i64)
 }
 
-// The geocentric place of a station: R and P.
-pub fn geocentric(table: &[u32], latitude: i64, height: i64) -> Place
-    requires { ⌜ (Sines (now table)) × (natAbs latitude ≤ 90000000) × (natAbs height ≤ 9000) ⌝ }
-    ensures { λ r. ⌜ IsPlace latitude height r ⌝ }
+// The place of a station: R, P and the longitude that its hour angle counts.
+pub fn geocentric(table: &[u32], s: Station) -> Place
+    requires { ⌜ (Sines (now table)) × (StationSizes s) ⌝ }
+    ensures { λ r. ⌜ r ≡ placeOf s ⌝ }
 {
+    let latitude = s.latitude;
+    let height = s.height;
+    let longitude = s.longitude;
     let angle = sine::reduced(latitude);
-    let s = sine::sine(table, angle);
-    let c = sine::cosine(table, angle);
-    let along = normal(s, c);
-    let polar = numbers::near_unit(along * E);
+    let sine = sine::sine(table, angle);
+    let cosine = sine::cosine(table, angle);
+    let c = c_of(sine, cosine);
+    let z = numbers::near_unit(c * E);
     let h = numbers::near(height * 100_000_000, 6_378_245);
-    let r = numbers::near_unit((along + h) * c);
-    let p = numbers::near_unit((polar + h) * s);
-    Place { r: r, p: p }
+    let r = numbers::near_unit((c + h) * cosine);
+    let p = numbers::near_unit((z + h) * sine);
+    Place {
+        r: r,
+        p: p,
+        longitude: longitude,
+    }
 }

@@ -1,28 +1,46 @@
--- `circumstances::closest_for` meets its contract: its second is stored, its magnitude computed again. Assumes nothing.
-use Prim.Native.Nat.{_<_}
+-- `circumstances::closest_for` meets its contract: the closest second is one of the window's. Assumes nothing.
+use mathlib.Core.Path.{_≡_, ap, _∙_}
+use Prim.Native.Nat.{ℕ, _≤_, _<_}
 use native.Mathlib.Omega.{arith}
-use Rattle.circumstances.specs.Seconds.{secondsOf}
-use Rattle.circumstances.specs.Sheet.{closestEntry}
-use Rattle.circumstances.specs.LimitsLaws.{seconds-few}
-use Rattle.circumstances.specs.SheetLaws.{closest-within}
+use borrow.Author.Needs.{needs}
+use lib.IntN.{natAbs}
+use Rattle.numbers.specs.Code.{read-back, read-size}
+use Rattle.requests.specs.Windows.{nthSecond, secondCount}
+use Rattle.requests.specs.WindowLaws.{second-size}
+use Rattle.seconds.specs.SecondLaws.{closest-within}
+use Rattle.courses.specs.Courses.{closestEntry}
 use Rattle.circumstances.proofs.closest_for.Statement.{statement}
 use Rattle.circumstances.proofs.closest_for.Tie as tie
 
-in-window : (c : tie.After-w) → c .before .before .args .k < secondsOf (c .before .before .args .q)
-in-window c = let b = c .before .before in omega (arith, b .pre .3, closest-within (b .args .q) (b .pre .1))
+counted : (c : tie.After-w) → c .before .before .args .k < secondCount (c .before .before .args .q .window)
+counted c = let b = c .before .before in omega (arith, b .pre .3, closest-within (b .args .q) (b .pre .1))
 
-stored-at-requires : tie.Need-stored-at-requires
-stored-at-requires c κs = let b = c .before .before in (b .pre .1 .window, omega (arith, in-window c, seconds-few (b .args .q) (b .pre .1)))
+small : (c : tie.After-nth-second) → natAbs (c .nth-second .result) ≤ 10800
+small c =
+    let b = c .before .before .before in
+    omega (arith, ap natAbs (c .nth-second .ensures), second-size (b .args .q .window) (b .pre .1 .window) (b .args .k) (counted (c .before)))
+
+nth-second-requires : tie.Need-nth-second-requires
+nth-second-requires c κs = (c .before .before .pre .1 .window, counted c)
+
+store-second-requires : tie.Need-store-second-requires
+store-second-requires c κs = read-size (c .nth-second .result) 10800 (small c) tt
 
 magnitude-at-requires : tie.Need-magnitude-at-requires
-magnitude-at-requires c κs = let b = c .before .before .before in (b .pre .0, b .pre .1, b .pre .2, in-window (c .before))
+magnitude-at-requires c κs =
+    let b = c .before .before .before .before in
+    (b .pre .0, b .pre .1, b .pre .2, read-size (c .before .nth-second .result) 10800 (small (c .before)) tt)
+
+closest-requires : tie.Need-closest-requires
+closest-requires c κs = search needs
 
 returns : tie.Need-returns
 unfolding closestEntry
 returns c =
-    let b = c .before .before .before .before in
-    let k = b .pre .3 in
-    rw (c .before .stored-at .ensures, c .magnitude-at .ensures, k)
+    let b = c .before .before .before .before .before .before in
+    let n = c .before .before .before in
+    let t = read-back (n .nth-second .result) (small n) tt ∙ n .nth-second .ensures ∙ ap (nthSecond (b .args .q .window)) (b .pre .3) in
+    c .closest .ensures ∙ rw (c .before .before .store-second .ensures .0, c .before .magnitude-at .ensures, t)
 
 pub closest-for-spec : {M : Type 1} → statement M
-closest-for-spec = tie.close (tie.spec stored-at-requires magnitude-at-requires returns)
+closest-for-spec = tie.close (tie.spec nth-second-requires store-second-requires magnitude-at-requires closest-requires returns)

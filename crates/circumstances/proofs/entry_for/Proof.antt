@@ -1,131 +1,190 @@
--- `circumstances::entry_for` meets its contract: its two seconds are stored, and an enter has the direction at its later one, a leave at its earlier. Assumes nothing.
-use mathlib.Core.Path.{_≡_, ap, _∙_}
+-- `circumstances::entry_for` meets its contract: its two seconds are stored, and an enter has the direction at its later one, a leave at its
+-- earlier. Assumes nothing.
+use mathlib.Core.Path.{_≡_, sym, ap, _∙_}
 use Prim.Native.Nat.{ℕ, _≤_, _<_}
 use native.Mathlib.Omega.{arith}
 use borrow.Author.Needs.{needs}
+use lib.IntN.{ℤ, natAbs}
+use mir.Syntax.{w64}
+use mir.Val.{toZ, ofZ}
+use Rattle.numbers.specs.Code.{read-back, read-size}
+use Rattle.phases.specs.declared.Phase.{Phase}
+use Rattle.requests.specs.declared.Request.{Request}
+use Rattle.requests.specs.Windows.{nthSecond, secondCount}
+use Rattle.requests.specs.WindowLaws.{second-size}
+use Rattle.requests.specs.RequestLaws.{InLimits}
+use Rattle.seconds.specs.Seconds.{directionAt}
 use Rattle.contacts.specs.declared.Entry as Contact
 use Rattle.contacts.specs.declared.Entry.the-variants as K
 use Rattle.contacts.specs.Entries.{from, to}
-use Rattle.records.specs.declared.Family.{Family}
-use Rattle.records.specs.declared.Entry.the-variants as E
-use Rattle.circumstances.specs.declared.Request.{Request}
-use Rattle.circumstances.specs.Seconds.{second, secondsOf, directionAt}
-use Rattle.circumstances.specs.Sheet.{stored, entryOf}
-use Rattle.circumstances.specs.Demand3 as D3
-use Rattle.circumstances.specs.Demand3Laws.{family-of}
-use Rattle.circumstances.specs.LimitsLaws.{InLimits, seconds-few}
+use Rattle.records.specs.declared.Entry.{Entry}
+use Rattle.records.specs.Entries.{enter, leave, graze, opened}
+use Rattle.records.specs.StoredSeconds.{stored}
+use Rattle.courses.specs.Courses.{second, entryOf}
+use Rattle.circumstances.specs.Sheet.{courseOf}
 use Rattle.circumstances.proofs.entry_for.Statement.{statement}
 use Rattle.circumstances.proofs.entry_for.Tie as tie
 
--- a second of the window is one that `stored_at` takes
-few : (q : Request) → InLimits q → (k n : ℕ) → n ≡ k → k < secondsOf q → n ≤ 21600
-few q i k n e h = omega (arith, seconds-few q i)
+-- a second of the window that a call named by its number, as the next call reads it
+module _ (q : Request) (i : InLimits q) (k : ℕ) (h : k < secondCount (q .window)) {n : ℕ} {t : ℤ} (n-is : n ≡ k) (t-is : t ≡ nthSecond (q .window) n) where
+  named : t ≡ second (courseOf q) k
+  named = t-is ∙ ap (nthSecond (q .window)) n-is
 
--- what was found at the second that a call named
-at-its-second : {A : Type 0} (f : ℕ → A) {x : A} {k n : ℕ} → x ≡ f n → n ≡ k → x ≡ f k
-at-its-second f e s = e ∙ ap f s
+  small : natAbs t ≤ 10800
+  small = omega (arith, ap natAbs named, second-size (q .window) (i .window) k h)
+
+  read : toZ w64 (ofZ w64 t) ≡ second (courseOf q) k
+  read = read-back t small tt ∙ named
+
+-- ---- its two seconds
+module _ (c : tie.After-from-of) where
+  earlier-counted : c .from-of .result < secondCount (c .before .before .before .args .q .window)
+  earlier-counted = omega (arith, c .from-of .ensures, c .before .before .before .pre .3)
+
+earlier-small : (c : tie.After-nth-second) → natAbs (c .nth-second .result) ≤ 10800
+earlier-small c =
+    let b = c .before .before .before .before in
+    small (b .args .q) (b .pre .1) (from (b .args .entry)) (b .pre .3) (c .before .from-of .ensures) (c .nth-second .ensures)
+
+earlier-is : (c : tie.After-nth-second) → toZ w64 (ofZ w64 (c .nth-second .result)) ≡ second (courseOf (c .before .before .before .before .args .q)) (from (c .before .before .before .before .args .entry))
+earlier-is c =
+    let b = c .before .before .before .before in
+    read (b .args .q) (b .pre .1) (from (b .args .entry)) (b .pre .3) (c .before .from-of .ensures) (c .nth-second .ensures)
+
+later-small : (c : tie.After-nth-second2) → natAbs (c .nth-second2 .result) ≤ 10800
+later-small c =
+    let b = c .before .before .before .before .before .before in
+    small (b .args .q) (b .pre .1) (to (b .args .entry)) (b .pre .4) (c .before .to-of .ensures) (c .nth-second2 .ensures)
+
+later-is : (c : tie.After-nth-second2)
+    → toZ w64 (ofZ w64 (c .nth-second2 .result)) ≡ second (courseOf (c .before .before .before .before .before .before .args .q)) (to (c .before .before .before .before .before .before .args .entry))
+later-is c =
+    let b = c .before .before .before .before .before .before in
+    read (b .args .q) (b .pre .1) (to (b .args .entry)) (b .pre .4) (c .before .to-of .ensures) (c .nth-second2 .ensures)
+
+-- as they are stored
+from-is : (c : tie.After-store-second2)
+    → c .before .store-second .result ≡ stored (second (courseOf (c .before .before .before .before .before .before .before .before .args .q)) (from (c .before .before .before .before .before .before .before .before .args .entry)))
+from-is c = c .before .store-second .ensures .0 ∙ ap stored (earlier-is (c .before .before .before .before))
+
+to-is : (c : tie.After-store-second2)
+    → c .store-second2 .result ≡ stored (second (courseOf (c .before .before .before .before .before .before .before .before .args .q)) (to (c .before .before .before .before .before .before .before .before .args .entry)))
+to-is c = c .store-second2 .ensures .0 ∙ ap stored (later-is (c .before .before))
 
 -- ---- the entry, kind by kind
-module _ (q : Request) (m : Family) {e : Contact.Entry} {f t : ℕ} (f-is : f ≡ stored (second q (from e))) (t-is : t ≡ stored (second q (to e))) where
-  enter-is : {a b d : ℕ} → e ≡ K.Enter a b → d ≡ directionAt q (second q (to e)) → E.Enter m f t d ≡ entryOf q (D3.phaseOf m) e
-  enter-is k d-is = rw (f-is, t-is, d-is, k, family-of m)
+module _ (q : Request) (φ : Phase) {e : Contact.Entry} {f t : ℕ} (f-is : f ≡ stored (second (courseOf q) (from e))) (t-is : t ≡ stored (second (courseOf q) (to e))) where
+  enter-is : {a b d : ℕ} → e ≡ K.Enter a b → d ≡ directionAt q (second (courseOf q) (to e)) → enter φ f t d ≡ entryOf (courseOf q) φ e
+  enter-is k d-is = rw (f-is, t-is, d-is, k)
 
-  leave-is : {a b d : ℕ} → e ≡ K.Leave a b → d ≡ directionAt q (second q (from e)) → E.Leave m f t d ≡ entryOf q (D3.phaseOf m) e
-  leave-is k d-is = rw (f-is, t-is, d-is, k, family-of m)
+  leave-is : {a b d : ℕ} → e ≡ K.Leave a b → d ≡ directionAt q (second (courseOf q) (from e)) → leave φ f t d ≡ entryOf (courseOf q) φ e
+  leave-is k d-is = rw (f-is, t-is, d-is, k)
 
-  graze-is : {a b : ℕ} → e ≡ K.Graze a b → E.Graze m f t ≡ entryOf q (D3.phaseOf m) e
-  graze-is k = rw (f-is, t-is, k, family-of m)
+  graze-is : {a b : ℕ} → e ≡ K.Graze a b → graze φ f t ≡ entryOf (courseOf q) φ e
+  graze-is k = rw (f-is, t-is, k)
 
-  open-is : {a b : ℕ} → e ≡ K.Open a b → E.Open m f t ≡ entryOf q (D3.phaseOf m) e
-  open-is k = rw (f-is, t-is, k, family-of m)
-
--- ---- its seconds, as they are stored
-from-is : (c : tie.After-stored-at2)
-    → c .before .stored-at .result ≡ stored (second (c .before .before .before .before .before .before .args .q) (from (c .before .before .before .before .before .before .args .entry)))
-from-is c =
-    let q = c .before .before .before .before .before .before .args .q in
-    at-its-second (λ (k : ℕ). stored (second q k)) (c .before .stored-at .ensures) (c .before .before .before .from-of .ensures)
-
-to-is : (c : tie.After-stored-at2)
-    → c .stored-at2 .result ≡ stored (second (c .before .before .before .before .before .before .args .q) (to (c .before .before .before .before .before .before .args .entry)))
-to-is c =
-    let q = c .before .before .before .before .before .before .args .q in
-    at-its-second (λ (k : ℕ). stored (second q k)) (c .stored-at2 .ensures) (c .before .before .to-of .ensures)
+  open-is : {a b : ℕ} → e ≡ K.Open a b → opened φ f t ≡ entryOf (courseOf q) φ e
+  open-is k = rw (f-is, t-is, k)
 
 from-of-requires : tie.Need-from-of-requires
 from-of-requires c κs = search needs
 
+nth-second-requires : tie.Need-nth-second-requires
+nth-second-requires c κs = (c .before .before .before .pre .1 .window, earlier-counted c)
+
 to-of-requires : tie.Need-to-of-requires
 to-of-requires c κs = search needs
 
-stored-at-requires : tie.Need-stored-at-requires
-stored-at-requires c κs =
-    let b = c .before .before .before .before in
-    (b .pre .1 .window, few (b .args .q) (b .pre .1) (from (b .args .entry)) (c .before .from-of .result) (c .before .from-of .ensures) (b .pre .3))
+nth-second-requires-2 : tie.Need-nth-second-requires-2
+nth-second-requires-2 c κs = let b = c .before .before .before .before .before in (b .pre .1 .window, omega (arith, c .to-of .ensures, b .pre .4))
 
-stored-at-requires-2 : tie.Need-stored-at-requires-2
-stored-at-requires-2 c κs =
-    let b = c .before .before .before .before .before in
-    (b .pre .1 .window, few (b .args .q) (b .pre .1) (to (b .args .entry)) (c .before .to-of .result) (c .before .to-of .ensures) (b .pre .4))
+store-second-requires : tie.Need-store-second-requires
+store-second-requires c κs = read-size (c .before .before .nth-second .result) 10800 (earlier-small (c .before .before)) tt
+
+store-second-requires-2 : tie.Need-store-second-requires-2
+store-second-requires-2 c κs = read-size (c .before .nth-second2 .result) 10800 (later-small (c .before)) tt
 
 enum-told : tie.Need-enum-told
 enum-told c = search needs
 
 direction-at-requires : tie.Need-direction-at-requires
-direction-at-requires c κs = search needs
+direction-at-requires c κs =
+    let n = c .before .before .before .before in
+    let b = n .before .before .before .before .before .before in
+    (b .pre .0, b .pre .1, b .pre .2, read-size (n .nth-second2 .result) 10800 (later-small n) tt)
+
+enter-requires : tie.Need-enter-requires
+enter-requires c κs = search needs
 
 enum-told-2 : tie.Need-enum-told-2
 enum-told-2 c = search needs
 
 direction-at-requires-2 : tie.Need-direction-at-requires-2
-direction-at-requires-2 c κs = search needs
+direction-at-requires-2 c κs =
+    let n = c .before .before .before .before .before .before in
+    let b = n .before .before .before .before in
+    (b .pre .0, b .pre .1, b .pre .2, read-size (n .nth-second .result) 10800 (earlier-small n) tt)
+
+leave-requires : tie.Need-leave-requires
+leave-requires c κs = search needs
 
 enum-told-3 : tie.Need-enum-told-3
 enum-told-3 c = search needs
 
+graze-requires : tie.Need-graze-requires
+graze-requires c κs = search needs
+
 enum-told-4 : tie.Need-enum-told-4
 enum-told-4 c = search needs
 
+open-requires : tie.Need-open-requires
+open-requires c κs = search needs
+
 returns : tie.Need-returns
 returns c =
-    let stored-both = c .before .before .before in
-    let a = stored-both .before .before .before .before .before .before .args in
-    enter-is (a .q) (a .family) (from-is stored-both) (to-is stored-both) (c .before .enum-told .given .1)
-    (at-its-second (λ (k : ℕ). directionAt (a .q) (second (a .q) k)) (c .direction-at .ensures) (stored-both .before .before .to-of .ensures))
+    let s = c .before .before .before .before in
+    let a = s .before .before .before .before .before .before .before .before .args in
+    c .enter .ensures
+    ∙ enter-is (a .q) (a .phase) (from-is s) (to-is s) (c .before .before .enum-told .given .1) (c .before .direction-at .ensures ∙ ap (directionAt (a .q)) (later-is (s .before .before)))
 
 returns-2 : tie.Need-returns-2
 returns-2 c =
-    let stored-both = c .before .before .before in
-    let a = stored-both .before .before .before .before .before .before .args in
-    leave-is (a .q) (a .family) (from-is stored-both) (to-is stored-both) (c .before .enum-told2 .given .1)
-    (at-its-second (λ (k : ℕ). directionAt (a .q) (second (a .q) k)) (c .direction-at2 .ensures) (stored-both .before .before .before .from-of .ensures))
+    let s = c .before .before .before .before in
+    let a = s .before .before .before .before .before .before .before .before .args in
+    c .leave .ensures
+    ∙ leave-is (a .q) (a .phase) (from-is s) (to-is s) (c .before .before .enum-told2 .given .1) (c .before .direction-at2 .ensures ∙ ap (directionAt (a .q)) (earlier-is (s .before .before .before .before)))
 
 returns-3 : tie.Need-returns-3
 returns-3 c =
-    let stored-both = c .before .before in
-    let a = stored-both .before .before .before .before .before .before .args in
-    graze-is (a .q) (a .family) (from-is stored-both) (to-is stored-both) (c .enum-told3 .given .1)
+    let s = c .before .before .before in
+    let a = s .before .before .before .before .before .before .before .before .args in
+    c .graze .ensures ∙ graze-is (a .q) (a .phase) (from-is s) (to-is s) (c .before .enum-told3 .given .1)
 
 returns-4 : tie.Need-returns-4
 returns-4 c =
-    let stored-both = c .before .before in
-    let a = stored-both .before .before .before .before .before .before .args in
-    open-is (a .q) (a .family) (from-is stored-both) (to-is stored-both) (c .enum-told4 .given .1)
+    let s = c .before .before .before in
+    let a = s .before .before .before .before .before .before .before .before .args in
+    c .«open» .ensures ∙ open-is (a .q) (a .phase) (from-is s) (to-is s) (c .before .enum-told4 .given .1)
 
 pub entry-for-spec : {M : Type 1} → statement M
 entry-for-spec =
     tie.close
     (tie.spec
     from-of-requires
+    nth-second-requires
     to-of-requires
-    stored-at-requires
-    stored-at-requires-2
+    nth-second-requires-2
+    store-second-requires
+    store-second-requires-2
     enum-told
     direction-at-requires
+    enter-requires
     enum-told-2
     direction-at-requires-2
+    leave-requires
     enum-told-3
+    graze-requires
     enum-told-4
+    open-requires
     returns
     returns-2
     returns-3

@@ -1,11 +1,11 @@
--- `circumstances::sheet` meets its contract: a refusal of the check is passed on with the buffer as it was; within the limits `sheet_within` answers.
--- Demand 3 then follows from the answer and the buffer alone (Claims). Assumes nothing.
+-- `circumstances::sheet` meets its contract: a refusal of the check is passed on with the buffer as it was; within the limits `sheet_within`
+-- answers. Demand 3 then follows from the answer and the buffer alone (Claims). Assumes nothing.
 use mathlib.Core.Path.{_≡_, sym, ap, _∙_}
 use borrow.Author.Needs.{needs}
 use lib.ListN.{length}
-use Rattle.circumstances.specs.declared.Checked.the-variants as C
-use Rattle.circumstances.specs.Requests.{checked}
-use Rattle.circumstances.specs.LimitsLaws.{in-limits}
+use Rattle.refusals.specs.declared.Checked.the-variants as C
+use Rattle.requests.specs.Requests.{checked}
+use Rattle.requests.specs.RequestLaws.{in-limits}
 use Rattle.circumstances.specs.Claims.{buffer-length, refused-answer, within-answer, claimed}
 use Rattle.circumstances.proofs.sheet.Statement.{statement}
 use Rattle.circumstances.proofs.sheet.Tie as tie
@@ -38,10 +38,13 @@ slice-aggregate-sheet-within : tie.Need-slice-aggregate-sheet-within
 slice-aggregate-sheet-within c = search needs
 
 sheet-within-requires : tie.Need-sheet-within-requires
-sheet-within-requires c κs = (c .before .before .table .ensures, in-limits (c .before .before .before .before .before .before .before .args .q) (within (c .before .before .before)))
+sheet-within-requires c κs =
+    (c .before .before .table .ensures, in-limits (c .before .before .before .before .before .before .before .args .q) (within (c .before .before .before)))
 
 same-length : tie.Need-same-length
-same-length c = ap length (c .before .before .sheet-within .ensures .1) ∙ buffer-length (c .before .before .before .before .before .before .before .before .before .before .args .q) (c .before .before .before .before .before .before .before .before .before .before .args .buf .now)
+same-length c =
+    let b = c .before .before .before .before .before .before .before .before .before .before in
+    ap length (c .before .before .sheet-within .ensures .1) ∙ buffer-length (b .args .q) (b .args .buf .now)
 
 returns-2 : tie.Need-returns-2
 returns-2 c =

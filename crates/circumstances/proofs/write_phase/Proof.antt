@@ -1,4 +1,5 @@
--- `circumstances::write_phase` meets its contract: what is left at the cursor, stored from `at` on, gives the buffer that all entries give. Assumes nothing.
+-- `circumstances::write_phase` meets its contract: what is left at the cursor, stored from `at` on, gives the buffer that all entries give.
+-- Assumes nothing.
 use mathlib.Core.Path.{_≡_, refl, sym, ap, _∙_}
 use mathlib.Core.List.{[], _∷_, map}
 use Prim.Native.Nat.{_+_, _-_, _≤_}
@@ -9,46 +10,54 @@ use lib.Seq.{sets, length-sets}
 use Rattle.contacts.specs.Entries.{entries}
 use Rattle.contacts.specs.Step.{entriesFrom}
 use Rattle.contacts.specs.StepLaws.{all-at-start, Took, took, none-left}
-use Rattle.records.specs.Entries.{bytes, bytesOf, size}
-use Rattle.circumstances.specs.Sheet.{entryOf}
-use Rattle.circumstances.specs.Demand3 as D3
-use Rattle.circumstances.specs.Sizes.{sizeOf, sizesOf, sizes-nil, sizes-cons, size-in-sheet}
-use Rattle.circumstances.specs.Stores.{stores-entry, stores-none}
+use Rattle.records.specs.Kinds.{sizeOf}
+use Rattle.records.specs.Entries.{bytes, bytesOf}
+use Rattle.courses.specs.Courses.{entryOf}
+use Rattle.courses.specs.Lengths.{kindIn, bytesNeeded, needed-nil, needed-cons, kind-in}
+use Rattle.courses.specs.Stores.{stores-entry, stores-none}
+use Rattle.circumstances.specs.Sheet.{courseOf}
 use Rattle.circumstances.proofs.write_phase.Statement.{statement}
 use Rattle.circumstances.proofs.write_phase.Tie as tie
 
 abbrev Inv-loop : tie.InvT-loop
-Inv-loop table q place family states buf₀ start at₀ c₀ buf at c =
+Inv-loop table q place phase states buf₀ start at₀ c₀ buf at c =
     (c .at ≤ length states)
     × (length buf ≡ length buf₀)
-    × (at + sizesOf (entriesFrom states (c .at)) ≡ start + sizesOf (entries states))
-    × (sets buf at (bytesOf (map (entryOf q (D3.phaseOf family)) (entriesFrom states (c .at)))) ≡ sets buf₀ start (bytesOf (map (entryOf q (D3.phaseOf family)) (entries states))))
+    × (at + bytesNeeded phase (entriesFrom states (c .at)) ≡ start + bytesNeeded phase (entries states))
+    × (sets buf at (bytesOf (map (entryOf (courseOf q) phase) (entriesFrom states (c .at)))) ≡ sets buf₀ start (bytesOf (map (entryOf (courseOf q) phase) (entries states))))
 
 abbrev μ-loop : tie.MeasureT-loop
-μ-loop table q place family states buf₀ start at₀ c₀ buf at c = length states - c .at
+μ-loop table q place phase states buf₀ start at₀ c₀ buf at c = length states - c .at
 
 -- the step took the next entry
 onward : (c : tie.After-known-told Inv-loop μ-loop)
     → Took (c .before .before .before .before .before .before .before .before .args .states .now) (c .before .before .before .before .loop .c .at) (c .before .entry .given .0 .0) (c .before .entry .given .0 .1 .0)
 onward c = took _ _ _ _ _ (c .before .before .before .step .ensures) (c .before .entry .given .1)
 
-sizes : (c : tie.After-known-told Inv-loop μ-loop)
-    → sizesOf (entriesFrom (c .before .before .before .before .before .before .before .before .args .states .now) (c .before .before .before .before .loop .c .at)) ≡ sizeOf (c .before .entry .given .0 .0) + sizesOf (entriesFrom (c .before .before .before .before .before .before .before .before .args .states .now) (c .before .entry .given .0 .1 .0 .at))
-sizes c = ap sizesOf (onward c .rest) ∙ sizes-cons (c .before .entry .given .0 .0) (entriesFrom (c .before .before .before .before .before .before .before .before .args .states .now) (c .before .entry .given .0 .1 .0 .at))
-
--- the record has the entry's size
-size-is : (c : tie.After-entry-for Inv-loop μ-loop) → size (c .entry-for .result) ≡ sizeOf (c .before .before .entry .given .0 .0)
-size-is c =
+-- its record's size, and what is left then
+sizes : (c : tie.After-entry-for Inv-loop μ-loop)
+    → bytesNeeded (c .before .before .before .before .before .before .before .before .before .args .phase) (entriesFrom (c .before .before .before .before .before .before .before .before .before .args .states .now) (c .before .before .before .before .before .loop .c .at))
+    ≡ sizeOf (c .entry-for .result .kind) + bytesNeeded (c .before .before .before .before .before .before .before .before .before .args .phase) (entriesFrom (c .before .before .before .before .before .before .before .before .before .args .states .now) (c .before .before .entry .given .0 .1 .0 .at))
+sizes c =
     let a = c .before .before .before .before .before .before .before .before .before .args in
-    ap size (c .entry-for .ensures) ∙ size-in-sheet (a .q) (D3.phaseOf (a .family)) (c .before .before .entry .given .0 .0)
+    let k = c .before in
+    let e = k .before .entry .given .0 .0 in
+    let rest = entriesFrom (a .states .now) (k .before .entry .given .0 .1 .0 .at) in
+    omega (
+      arith,
+      ap (bytesNeeded (a .phase)) (onward k .rest),
+      needed-cons (a .phase) e rest,
+      ap (λ x. sizeOf (x .kind)) (c .entry-for .ensures),
+      ap sizeOf (kind-in (courseOf (a .q)) (a .phase) e),
+    )
 
 ended : (c : tie.After-enum-told Inv-loop μ-loop) → entriesFrom (c .before .before .before .before .before .before .before .args .states .now) (c .before .before .before .loop .c .at) ≡ []
 ended c = none-left _ _ _ (c .before .before .step .ensures) (c .enum-told .given .1)
 
 loop-holds : tie.Need-loop-holds Inv-loop μ-loop
 loop-holds c =
-    let s = c .before .before .before .args .states .now in
-    (omega arith, refl, omega (arith, ap sizesOf (all-at-start s)), rw (all-at-start s))
+    let a = c .before .before .before .args in
+    (omega arith, refl, omega (arith, ap (bytesNeeded (a .phase)) (all-at-start (a .states .now))), rw (all-at-start (a .states .now)))
 
 step-requires : tie.Need-step-requires Inv-loop μ-loop
 step-requires c κs = search needs
@@ -65,10 +74,9 @@ same-length c = c .before .before .before .loop .inv .1
 returns : tie.Need-returns Inv-loop μ-loop
 returns c =
     let a = c .before .before .before .before .before .before .before .args in
-    let l = c .before .before .before .loop in
-    let f = D3.phaseOf (a .family) in (
-      omega (arith, l .inv .2, ap sizesOf (ended c) ∙ sizes-nil),
-      sym (stores-none (l .buf) (l .at)) ∙ sym (ap (λ es. sets (l .buf) (l .at) (bytesOf (map (entryOf (a .q) f) es))) (ended c)) ∙ l .inv .3,
+    let l = c .before .before .before .loop in (
+      omega (arith, l .inv .2, ap (bytesNeeded (a .phase)) (ended c) ∙ needed-nil (a .phase)),
+      sym (stores-none (l .buf) (l .at)) ∙ sym (ap (λ es. sets (l .buf) (l .at) (bytesOf (map (entryOf (courseOf (a .q)) (a .phase)) es))) (ended c)) ∙ l .inv .3,
     )
 
 entry-for-requires : tie.Need-entry-for-requires Inv-loop μ-loop
@@ -81,7 +89,7 @@ entry-for-requires c κs =
 put-requires : tie.Need-put-requires Inv-loop μ-loop
 put-requires c κs =
     let l = c .before .before .before .before .before .before .loop in
-    omega (arith, size-is (c .before), sizes (c .before .before), l .inv .2, l .inv .1, c .before .before .before .before .before .before .before .before .before .before .pre .1 .1)
+    omega (arith, sizes (c .before), l .inv .2, l .inv .1, c .before .before .before .before .before .before .before .before .before .before .pre .1 .1)
 
 loop-less : tie.Need-loop-less Inv-loop μ-loop
 loop-less c = let o = onward (c .before .before .before .before .before) in omega (arith, o .further, o .within)
@@ -92,18 +100,16 @@ loop-again c =
     let l = c .before .before .before .before .before .before .before .before .before .loop in
     let k = c .before .before .before .before .before in
     let o = onward k in
-    let f = D3.phaseOf (a .family) in
     let p = c .before .before .put .ensures in
     let r = c .before .before .before .before .entry-for .result in
-    let rest = entriesFrom (a .states .now) (k .before .entry .given .0 .1 .0 .at) in
-    let e = k .before .entry .given .0 .0 in (
+    let rest = entriesFrom (a .states .now) (k .before .entry .given .0 .1 .0 .at) in (
       o .within,
       ap length (p .1) ∙ length-sets (l .buf) (l .at) (bytes r) ∙ l .inv .1,
-      omega (arith, p .0, size-is (c .before .before .before .before), sizes k, l .inv .2),
+      omega (arith, p .0, sizes (c .before .before .before .before), l .inv .2),
       rw (p .0, p .1)
-          (sym (stores-entry r (map (entryOf (a .q) f) rest) (l .buf) (l .at))
-          ∙ ap (λ x. sets (l .buf) (l .at) (bytesOf (x ∷ map (entryOf (a .q) f) rest))) (c .before .before .before .before .entry-for .ensures)
-          ∙ sym (ap (λ es. sets (l .buf) (l .at) (bytesOf (map (entryOf (a .q) f) es))) (o .rest))
+          (sym (stores-entry r (map (entryOf (courseOf (a .q)) (a .phase)) rest) (l .buf) (l .at))
+          ∙ ap (λ x. sets (l .buf) (l .at) (bytesOf (x ∷ map (entryOf (courseOf (a .q)) (a .phase)) rest))) (c .before .before .before .before .entry-for .ensures)
+          ∙ sym (ap (λ es. sets (l .buf) (l .at) (bytesOf (map (entryOf (courseOf (a .q)) (a .phase)) es))) (o .rest))
           ∙ l .inv .3),
     )
 

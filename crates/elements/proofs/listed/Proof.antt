@@ -1,4 +1,4 @@
--- `elements::listed` meets its contract: each field is read back from its bits. Assumes nothing.
+-- `elements::listed` meets its contract: each number is read back from its bits. Assumes nothing.
 use mathlib.Core.Path.{_≡_, refl, ap, _∙_}
 use mathlib.Core.List.{List, _∷_}
 use Prim.Native.Nat.{_<_, _^_}
@@ -15,31 +15,21 @@ cons-back z {xs} {ys} h e = ap (λ (y : ℤ). y ∷ xs) (read-result z h) ∙ ap
 
 returns : tie.Need-returns
 returns c =
-    let g = c .struct-told22 .given in
-    let e = c .before .before .before .before .before .before .before .before .before .before .before .before .before .before .before .before .before .before .before .before .before .before .args .e in
-    (cons-back (e .x0) (g .0 .1)
-    (cons-back (e .x1) (g .1 .0 .1)
-    (cons-back (e .x2) (g .1 .1 .0 .1)
-    (cons-back (e .x3) (g .1 .1 .1 .0 .1)
-    (cons-back (e .y0) (g .1 .1 .1 .1 .0 .1)
-    (cons-back (e .y1) (g .1 .1 .1 .1 .1 .0 .1)
-    (cons-back (e .y2) (g .1 .1 .1 .1 .1 .1 .0 .1)
-    (cons-back (e .y3) (g .1 .1 .1 .1 .1 .1 .1 .0 .1)
-    (cons-back (e .d0) (g .1 .1 .1 .1 .1 .1 .1 .1 .0 .1)
-    (cons-back (e .d1) (g .1 .1 .1 .1 .1 .1 .1 .1 .1 .0 .1)
-    (cons-back (e .d2) (g .1 .1 .1 .1 .1 .1 .1 .1 .1 .1 .0 .1)
-    (cons-back (e .l10) (g .1 .1 .1 .1 .1 .1 .1 .1 .1 .1 .1 .0 .1)
-    (cons-back (e .l11) (g .1 .1 .1 .1 .1 .1 .1 .1 .1 .1 .1 .1 .0 .1)
-    (cons-back (e .l12) (g .1 .1 .1 .1 .1 .1 .1 .1 .1 .1 .1 .1 .1 .0 .1)
-    (cons-back (e .l20) (g .1 .1 .1 .1 .1 .1 .1 .1 .1 .1 .1 .1 .1 .1 .0 .1)
-    (cons-back (e .l21) (g .1 .1 .1 .1 .1 .1 .1 .1 .1 .1 .1 .1 .1 .1 .1 .0 .1)
-    (cons-back (e .l22) (g .1 .1 .1 .1 .1 .1 .1 .1 .1 .1 .1 .1 .1 .1 .1 .1 .0 .1)
-    (cons-back (e .mu0) (g .1 .1 .1 .1 .1 .1 .1 .1 .1 .1 .1 .1 .1 .1 .1 .1 .1 .0 .1)
-    (cons-back (e .mu1) (g .1 .1 .1 .1 .1 .1 .1 .1 .1 .1 .1 .1 .1 .1 .1 .1 .1 .1 .0 .1)
-    (cons-back (e .mu2) (g .1 .1 .1 .1 .1 .1 .1 .1 .1 .1 .1 .1 .1 .1 .1 .1 .1 .1 .1 .0 .1)
-    (cons-back (e .tanf1) (g .1 .1 .1 .1 .1 .1 .1 .1 .1 .1 .1 .1 .1 .1 .1 .1 .1 .1 .1 .1 .0 .1)
-    (cons-back (e .tanf2) (g .1 .1 .1 .1 .1 .1 .1 .1 .1 .1 .1 .1 .1 .1 .1 .1 .1 .1 .1 .1 .1 .0 .1)
-    refl))))))))))))))))))))))
+    let x = c .before .before .before .before .before .before .before .struct-told .given in
+    let y = c .before .before .before .before .before .before .struct-told2 .given in
+    let d = c .before .before .before .before .before .struct-told3 .given in
+    let l1 = c .before .before .before .before .struct-told4 .given in
+    let l2 = c .before .before .before .struct-told5 .given in
+    let mu = c .before .before .struct-told6 .given in
+    let f1 = c .before .struct-told7 .given in
+    let f2 = c .struct-told8 .given in
+    cons-back _ (x .0 .1) (cons-back _ (x .1 .0 .1) (cons-back _ (x .1 .1 .0 .1) (cons-back _ (x .1 .1 .1 .0 .1)
+    (cons-back _ (y .0 .1) (cons-back _ (y .1 .0 .1) (cons-back _ (y .1 .1 .0 .1) (cons-back _ (y .1 .1 .1 .0 .1)
+    (cons-back _ (d .0 .1) (cons-back _ (d .1 .0 .1) (cons-back _ (d .1 .1 .0 .1)
+    (cons-back _ (l1 .0 .1) (cons-back _ (l1 .1 .0 .1) (cons-back _ (l1 .1 .1 .0 .1)
+    (cons-back _ (l2 .0 .1) (cons-back _ (l2 .1 .0 .1) (cons-back _ (l2 .1 .1 .0 .1)
+    (cons-back _ (mu .0 .1) (cons-back _ (mu .1 .0 .1) (cons-back _ (mu .1 .1 .0 .1)
+    (cons-back _ (f1 .1 .0 .1) (cons-back _ (f2 .1 .0 .1) refl)))))))))))))))))))))
 
 pub listed-spec : {M : Type 1} → statement M
 listed-spec = tie.close (tie.spec returns)

@@ -7,7 +7,8 @@ use native.Mathlib.Nat.{le-refl}
 use lib.IntN.{ℤ, natAbs, _+ℤ_, _*ℤ_}
 use Rattle.numbers.specs.Near.{near}
 use Rattle.numbers.specs.Code.{Code, arg, add, mul, Within, whole, ends, _▹_, fits, runs, within}
-use Rattle.elements.specs.Polynomial.{hour, step}
+use Rattle.numbers.specs.Units.{hour}
+use Rattle.elements.specs.Polynomial.{step}
 use Rattle.elements.specs.PolynomialLaws.{part-size, step-size}
 use Rattle.elements.proofs.step.Statement.{statement}
 use Rattle.elements.proofs.step.Tie as tie
@@ -25,7 +26,8 @@ given c = c .near-hour .ensures ∙ ap (λ (z : ℤ). near z hour) (runs (bounds
 after : (c : tie.After-near-hour) → Within (whole (c .near-hour .result) ∷ whole (c .before .args .a) ∷ []) (600000000 ∷ 400000000 ∷ [])
 after c =
     let a = c .before .args in
-    let h : natAbs (c .near-hour .result) ≤ 600000000 = omega (arith, ap natAbs (given c), part-size (a .t) (a .p) 200000000 (c .before .pre .2) (c .before .pre .0)) in
+    let h : natAbs (c .near-hour .result) ≤ 600000000 = omega
+    (arith, ap natAbs (given c), part-size (a .t) (a .p) 200000000 (c .before .pre .2) (c .before .pre .0)) in
     h ▹ c .before .pre .1 ▹ ends
 
 mul-near-hour : tie.Need-mul-near-hour
@@ -44,7 +46,12 @@ returns c =
     let e = runs (after c) (add (arg 0) (arg 1)) tt ∙ ap (λ (z : ℤ). z +ℤ a .a) (given c) in
     record {
       value = e;
-      size = omega (arith, ap natAbs e, step-size (a .t) (a .p) (a .a) (natAbs (a .p)) (natAbs (a .a)) (c .before .pre .2) (le-refl (natAbs (a .p))) (le-refl (natAbs (a .a))));
+      size = omega (
+        arith,
+        ap natAbs e,
+        step-size (a .t) (a .p) (a .a) (natAbs (a .p)) (natAbs (a .a)) (c .before .pre .2) (le-refl (natAbs (a .p)))
+            (le-refl (natAbs (a .a))),
+      );
     }
 
 pub step-spec : {M : Type 1} → statement M

@@ -81,7 +81,7 @@ unfolding elementsBy
 returns c =
     let s = c .before .before .before .before .before .before .before .before .before .before .before .before .before .before .before .before .before .before .before .before .before .before in
     let n = s .args .n .now in
-    elements-same (λ k. toZ w64 (ofZ w64 (getD n k (pos 0)))) (λ k. getD n k (pos 0)) (λ k h. read-back (getD n k (pos 0)) (s .pre .1 k h) tt)
+    elements-same (λ k. toZ w64 (ofZ w64 (getD n k (pos 0)))) (λ k. getD n k (pos 0)) (λ k h. read-back (getD n k (pos 0)) (s .pre .each k) tt)
 
 pub elements-from-spec : {M : Type 1} → statement M
 elements-from-spec =

@@ -1,52 +1,48 @@
--- `input::request` meets its contract: input of the shape has 109 bytes, so every part can be read; any other is refused. Assumes nothing.
-use mathlib.Core.Path.{_≡_, refl, sym, _∙_}
-use mathlib.Core.Bool.{Bool, true, false, not}
+-- `input::request` meets its contract: bytes of the shape have a request's numbers (`asked`); any other are refused. Assumes nothing.
+use mathlib.Core.Path.{sym, ap, _∙_}
+use native.Mathlib.Omega.{arith}
 use borrow.Author.Needs.{needs}
-use Rattle.input.specs.Input.{shapeHolds, requestOf}
-use Rattle.input.specs.InputLaws.{shape-length, input-refused, input-is}
+use Rattle.input.specs.declared.Input.the-variants as I
+use Rattle.input.specs.InputLaws.{Asked, asked, input-refused}
 use Rattle.input.proofs.request.Statement.{statement}
 use Rattle.input.proofs.request.Tie as tie
 
-not-true : (b : Bool) → not b ≡ true → b ≡ false
-not-true true e = sym e
-not-true false e = refl
+-- the numbers that the bytes have
+holds : (c : tie.After-enum-told) → Asked (c .before .before .before .before .before .args .input .now) (c .before .before .get .last .1 .0)
+holds c =
+    let g = c .before .before in
+    asked (g .before .before .before .args .input .now) _ _ (λ i. let b = g .before .before .shared-slice-known .given i in omega arith)
+    (sym (g .get .ensures .0) ∙ c .enum-told .given .1) (g .get .ensures .1)
 
-not-false : (b : Bool) → not b ≡ false → b ≡ true
-not-false true e = refl
-not-false false e = sym e
+get-requires : tie.Need-get-requires
+get-requires c κs = search needs
 
-holds : (c : tie.Else1) → shapeHolds (c .before .before .before .args .input .now) ≡ true
-holds c = sym (c .before .shape-holds .ensures) ∙ not-false (c .before .shape-holds .result) (c .if1 .left)
+enum-told : tie.Need-enum-told
+enum-told c = search needs
 
-shape-holds-requires : tie.Need-shape-holds-requires
-shape-holds-requires c κs = search needs
+slice-aggregate-request-from : tie.Need-slice-aggregate-request-from
+slice-aggregate-request-from c = sym (holds (c .before) .small .all)
+
+request-from-requires : tie.Need-request-from-requires
+request-from-requires c κs = holds (c .before) .small
+
+enum-told-2 : tie.Need-enum-told-2
+enum-told-2 c = search needs
 
 returns : tie.Need-returns
-returns c =
-    sym (input-refused (c .before .before .before .args .input .now) (sym (c .before .shape-holds .ensures) ∙ not-true (c .before .shape-holds .result) (c .if1 .taken)))
-
-elements-at-requires : tie.Need-elements-at-requires
-elements-at-requires c κs = shape-length (c .before .before .before .args .input .now) (holds c)
-
-station-at-requires : tie.Need-station-at-requires
-station-at-requires c κs = elements-at-requires (c .before) κs
-
-window-at-requires : tie.Need-window-at-requires
-window-at-requires c κs = elements-at-requires (c .before .before) κs
+returns c = ap I.Is (c .request-from .ensures) ∙ sym (holds (c .before .before) .input)
 
 returns-2 : tie.Need-returns-2
-unfolding requestOf
-returns-2 c =
-    rw (c .before .before .elements-at .ensures, c .before .station-at .ensures, c .window-at .ensures)
-    (sym (input-is (c .before .before .before .before .before .before .args .input .now) (holds (c .before .before .before))))
+returns-2 c = input-refused _ (sym (c .before .before .get .ensures .0) ∙ c .enum-told2 .given .1)
 
 pub request-spec : {M : Type 1} → statement M
 request-spec =
     tie.close
     (tie.spec
-    shape-holds-requires
+    get-requires
+    enum-told
+    slice-aggregate-request-from
+    request-from-requires
+    enum-told-2
     returns
-    elements-at-requires
-    station-at-requires
-    window-at-requires
     returns-2)

@@ -42,13 +42,15 @@ returns : tie.Need-returns
 unfolding near
 returns c =
     runs (bounds (c .before)) (sub (quo A B) (lit (pos 1))) tt
-    ∙ floor-less (pos 2 *ℤ c .before .args .n +ℤ c .before .args .k) (pos 2 *ℤ c .before .args .k) (twice-pos (c .before .pre .2)) (taken-< (bounds (c .before)) (rem A B) (lit (pos 0)) tt (c .if1 .taken))
+    ∙ floor-less (pos 2 *ℤ c .before .args .n +ℤ c .before .args .k) (pos 2 *ℤ c .before .args .k) (twice-pos (c .before .pre .2))
+    (taken-< (bounds (c .before)) (rem A B) (lit (pos 0)) tt (c .if1 .taken))
 
 returns-2 : tie.Need-returns-2
 unfolding near
 returns-2 c =
     runs (bounds (c .before)) (quo A B) tt
-    ∙ floor-same (pos 2 *ℤ c .before .args .n +ℤ c .before .args .k) (pos 2 *ℤ c .before .args .k) (twice-pos (c .before .pre .2)) (left-< (bounds (c .before)) (rem A B) (lit (pos 0)) tt (c .if1 .left))
+    ∙ floor-same (pos 2 *ℤ c .before .args .n +ℤ c .before .args .k) (pos 2 *ℤ c .before .args .k) (twice-pos (c .before .pre .2))
+    (left-< (bounds (c .before)) (rem A B) (lit (pos 0)) tt (c .if1 .left))
 
 pub near-spec : {M : Type 1} → statement M
 near-spec = tie.close (tie.spec mul-a add-a mul-b div-q rem-if1 sub-result returns returns-2)

@@ -1,4 +1,4 @@
--- `numbers::near_hour` meets its contract: it is `near_shifted` with literals that fit. Assumes nothing.
+-- `numbers::near_hour` meets its contract: it is `near_shifted` with literals that fit: twice the bias is k and twice k times the shift. Assumes nothing.
 use mathlib.Core.Path.{refl, ap, _∙_}
 use lib.Dec.{lit≤}
 use lib.IntN.{ℤ, pos}
@@ -12,8 +12,10 @@ use Rattle.numbers.proofs.near_hour.Tie as tie
 
 near-shifted-requires : tie.Need-near-shifted-requires
 near-shifted-requires c κs =
-    let small = read-size (c .args .n) 36000000000000000 (c .pre) tt in
-    ((read-size (c .args .n) 1000000000000000000 (c .pre) tt, lit≤ tt, lit≤ tt, lit≤ tt), (not-below (toZ w64 (ofZ w64 (c .args .n))) 36000000000000000 36000000000001800 small (lit≤ tt), refl))
+    let small = read-size (c .args .n) 36000000000000000 (c .pre) tt in (
+      (read-size (c .args .n) 1000000000000000000 (c .pre) tt, lit≤ tt, lit≤ tt, lit≤ tt),
+      (not-below (toZ w64 (ofZ w64 (c .args .n))) 36000000000000000 _ small (lit≤ tt), refl),
+    )
 
 returns : tie.Need-returns
 returns c =

@@ -1,4 +1,5 @@
--- `numbers::near_shifted` meets its contract: what it divides is not negative, so the machine's quotient is the floor, and shift comes off again (Shift, near-shifted). Assumes nothing.
+-- `numbers::near_shifted` meets its contract: what it divides is not negative, so the machine's quotient is the floor, and shift comes off again (Shift,
+-- near-shifted). Assumes nothing.
 use mathlib.Core.Path.{sym, ap, _∙_}
 use mathlib.Core.List.{[], _∷_}
 use Prim.Native.Nat.{ℕ, _/_, _≤_}

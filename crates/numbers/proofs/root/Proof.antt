@@ -1,4 +1,5 @@
--- `numbers::root` meets its contract: with i pairs of bits to come, r is the root of the bits taken in so far, and rest what is left of them above its square. Assumes nothing.
+-- `numbers::root` meets its contract: with i pairs of bits to come, r is the root of the bits taken in so far, and rest what is left of them above its
+-- square. Assumes nothing.
 use native.Mathlib.Omega.{arith}
 use lib.Count.{leading-le}
 use Rattle.numbers.specs.RootLaws.{Done, start, one-more, no-more, finish}
@@ -64,9 +65,11 @@ loop-again-2 c =
     no-more (b .before .args .n) (b .loop .i) (b .loop .r) (b .loop .rest) (omega arith) (omega arith) (b .loop .inv) (c .if1 .left)
 
 returns : tie.Need-returns Inv-loop μ-loop
-returns c = finish (c .before .before .args .n) (c .before .loop .i) (c .before .loop .r) (c .before .loop .rest) (omega arith) (omega arith) (c .before .loop .inv)
+returns c =
+    finish (c .before .before .args .n) (c .before .loop .i) (c .before .loop .r) (c .before .loop .rest) (omega arith) (omega arith) (c .before .loop .inv)
 
 pub root-spec : {M : Type 1} → statement M
 root-spec =
     tie.close
-    (tie.spec Inv-loop μ-loop sub-i loop-holds sub-i-2 mul-rest mul-rest-2 cast-rest shr-rest add-rest mul-t add-t mul-r add-r loop-less loop-again loop-less-2 loop-again-2 returns)
+    (tie.spec Inv-loop μ-loop sub-i loop-holds sub-i-2 mul-rest mul-rest-2 cast-rest shr-rest add-rest mul-t add-t mul-r add-r
+    loop-less loop-again loop-less-2 loop-again-2 returns)

@@ -1,6 +1,6 @@
 -- `request::encode` meets its contract: the numbers of a text that is not refused fit, so they are put, and are read back (`numbers-put`). Assumes nothing.
 use mathlib.Core.Path.{sym, _∙_}
-use Rattle.request.specs.TypedLaws.{refused-kept, numbers-put}
+use Rattle.request.specs.EncodedLaws.{refused-kept, numbers-put}
 use borrow.Author.Needs.{needs}
 use Rattle.request.proofs.encode.Statement.{statement}
 use Rattle.request.proofs.encode.Tie as tie

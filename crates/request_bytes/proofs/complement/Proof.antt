@@ -11,8 +11,8 @@ use lib.Signed.{nonNeg}
 use mir.Syntax.{w32, w64}
 use mir.Val.{Fits, toZ, ofZ}
 use Rattle.numbers.specs.Code.{Code, arg, lit, add, run, Within, whole, raw, ends, _▹_, fits, runs, taken-<, left-<, count-is, count-size}
-use Rattle.request_bytes.specs.Requests.{complement}
-use Rattle.request_bytes.specs.PutLaws.{complement-below, complement-above, complement-small}
+use Rattle.request_bytes.specs.Layout.{complement}
+use Rattle.request_bytes.specs.NumberLaws.{complement-below, complement-above, complement-small}
 use Rattle.request_bytes.proofs.complement.Statement.{statement}
 use Rattle.request_bytes.proofs.complement.Tie as tie
 
@@ -28,7 +28,8 @@ cast c z e =
     subst (λ (y : ℤ). T (nonNeg y) × Fits w32 (natAbs y)) (sym e)
     (tt, record { fits = omega (arith, complement-small (c .args .n) (c .args .whole) (c .pre .0)) })
 
-shifted-is : (c : tie.Then1) → run (whole (c .before .args .n) ∷ raw (c .before .args .whole) ∷ []) shifted ≡ pos (complement (c .before .args .whole) (c .before .args .n))
+shifted-is : (c : tie.Then1) → run (whole (c .before .args .n) ∷ raw (c .before .args .whole) ∷ []) shifted
+    ≡ pos (complement (c .before .args .whole) (c .before .args .n))
 shifted-is c =
     let s = c .before in
     runs (bounds s) shifted tt

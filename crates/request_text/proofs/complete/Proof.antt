@@ -3,15 +3,15 @@ use mathlib.Core.Path.{refl}
 use Prim.Native.Nat.{_-_}
 use borrow.Author.Needs.{needs}
 use lib.ListN.{length}
-use Rattle.request_text.specs.TypedLaws.{Given, given-not, given-more, given-all}
+use Rattle.request_text.specs.TypingLaws.{Given, given-not, given-more, given-all}
 use Rattle.request_text.proofs.complete.Statement.{statement}
 use Rattle.request_text.proofs.complete.Tie as tie
 
 abbrev Inv-loop : tie.InvT-loop
-Inv-loop given k₀ k = Given given k
+Inv-loop marks k₀ k = Given marks k
 
 abbrev μ-loop : tie.MeasureT-loop
-μ-loop given k₀ k = length given - k
+μ-loop marks k₀ k = length marks - k
 
 loop-holds : tie.Need-loop-holds Inv-loop μ-loop
 loop-holds c = refl

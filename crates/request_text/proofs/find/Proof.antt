@@ -1,83 +1,80 @@
--- `request_text::find` meets its contract: the names passed are not said, so those left decide (`Finding`). The measure is how many bytes of the table are left. Assumes nothing.
-use mathlib.Core.Path.{_≡_, sym, ap, _∙_}
-use Prim.Native.Nat.{_+_, _-_, _≤_}
+-- `request_text::find` meets its contract: the names before name k are not said (`Finding`). The measure is how many are left. Assumes nothing.
+use mathlib.Core.Path.{_≡_, sym, ap, subst, _∙_}
+use mathlib.Core.Bool.{Bool}
+use Prim.Native.Nat.{_-_, _≤_}
 use borrow.Author.Needs.{needs}
-use lib.ListN.{length, drop}
-use Rattle.request_text.specs.declared.Class.the-variants as C
-use Rattle.request_text.specs.Text.{runOf}
-use Rattle.request_text.specs.TextLaws.{rest-is, line-within}
-use Rattle.request_text.specs.FieldLaws.{Finding, finding-start, finding-none, finding-hit, finding-more}
+use lib.ListN.{length}
+use lib.Seq.{length-take-le}
+use Rattle.request_fields.specs.declared.Field.{Field}
+use Rattle.request_fields.specs.Fields.{count}
+use Rattle.request_fields.specs.Rows.{rowAt, nameOf}
+use Rattle.request_fields.specs.RowLaws.{name-room, name-length}
+use Rattle.request_text.specs.Names.{named}
+use Rattle.request_text.specs.NameLaws.{Finding, finding-start, finding-none, finding-hit, finding-more}
 use Rattle.request_text.proofs.find.Statement.{statement}
 use Rattle.request_text.proofs.find.Tie as tie
 
 abbrev Inv-loop : tie.InvT-loop
-Inv-loop said names at₀ field₀ at field = Finding names said at field
+Inv-loop said k₀ k = Finding said k
 
 abbrev μ-loop : tie.MeasureT-loop
-μ-loop said names at₀ field₀ at field = length names + 1 - at
+μ-loop said k₀ k = count - k
 
--- the length of the name at the table's place
-module _ (c : tie.After-run Inv-loop μ-loop) where
-  abbrev loop : tie.In-loop Inv-loop μ-loop
-  loop = c .before .before
+-- the field is field k
+module _ (c : tie.After-field-at Inv-loop μ-loop) where
+  abbrev field : Field
+  field = c .field-at .result
 
-  ran : c .run .result ≡ runOf C.Line (drop (loop .before .loop .at) (loop .before .before .before .before .args .names .now))
-  ran = c .run .ensures .0 ∙ ap (runOf C.Line) (rest-is (loop .before .before .before .before .args .names .now) (loop .before .loop .at))
+  is : field ≡ rowAt (c .before .before .loop .k)
+  is = c .field-at .ensures
 
-  inside : loop .before .loop .at + c .run .result ≤ length (loop .before .before .before .before .args .names .now)
-  inside = line-within _ _ _ (loop .loop-test .taken) ran
+  room : field .1 ≤ length (field .0)
+  room = subst (λ (f : Field). f .1 ≤ length (f .0)) (sym is) (name-room (c .before .before .loop .k))
+
+  name-is : length (nameOf (rowAt (c .before .before .loop .k))) ≡ field .1
+  name-is = name-length (c .before .before .loop .k) ∙ ap (λ (f : Field). f .1) (sym is)
+
+-- what was tested
+tested : (c : tie.After-is-named Inv-loop μ-loop) (b : Bool) → c .is-named .result ≡ b
+    → named (nameOf (rowAt (c .before .before .before .before .before .loop .k)))
+    (c .before .before .before .before .before .before .before .args .said .now) ≡ b
+tested c b e =
+    let f = c .before .before .before in
+    ap (λ (r : Field). named (nameOf r) (f .before .before .before .before .args .said .now)) (sym (is f)) ∙ sym (c .is-named .ensures) ∙ e
 
 loop-holds : tie.Need-loop-holds Inv-loop μ-loop
-loop-holds c = finding-start _ _
+loop-holds c = finding-start _
 
-sub-run : tie.Need-sub-run Inv-loop μ-loop
-sub-run c = search needs
+field-at-requires : tie.Need-field-at-requires Inv-loop μ-loop
+field-at-requires c κs = c .loop-test .taken
 
-part-run-start : tie.Need-part-run-start Inv-loop μ-loop
-part-run-start c = search needs
+array-share-prefix-name : tie.Need-array-share-prefix-name Inv-loop μ-loop
+array-share-prefix-name c = room (c .before)
 
-part-run-end : tie.Need-part-run-end Inv-loop μ-loop
-part-run-end c = search needs
-
-run-requires : tie.Need-run-requires Inv-loop μ-loop
-run-requires c κs = search needs
-
-add-end : tie.Need-add-end Inv-loop μ-loop
-add-end c = let i = inside c in search needs
-
-sub-is-named : tie.Need-sub-is-named Inv-loop μ-loop
-sub-is-named c = search needs
-
-part-is-named-start : tie.Need-part-is-named-start Inv-loop μ-loop
-part-is-named-start c = search needs
-
-part-is-named-end : tie.Need-part-is-named-end Inv-loop μ-loop
-part-is-named-end c = inside c
+slice-aggregate-is-named : tie.Need-slice-aggregate-is-named Inv-loop μ-loop
+slice-aggregate-is-named c = sym (length-take-le _ _ (room (c .before .before)))
 
 is-named-requires : tie.Need-is-named-requires Inv-loop μ-loop
 is-named-requires c κs = search needs
 
 returns : tie.Need-returns Inv-loop μ-loop
 returns c =
-    let r = c .before .before .before in
-    finding-hit _ _ _ _ _ (loop r .before .loop .inv) (loop r .loop-test .taken) (ran r) (sym (c .before .is-named .ensures) ∙ c .if1 .taken)
+    let f = c .before .before .before .before in
+    finding-hit _ _ (f .before .before .loop .inv) (f .before .loop-test .taken) _ (name-is f) (tested (c .before) _ (c .if1 .taken))
 
-add-at : tie.Need-add-at Inv-loop μ-loop
-add-at c = let i = inside (c .before .before .before) in search needs
-
-add-field : tie.Need-add-field Inv-loop μ-loop
-add-field c = let i = loop (c .before .before .before) .before .loop .inv in let j = inside (c .before .before .before) in search needs
+add-k : tie.Need-add-k Inv-loop μ-loop
+add-k c = search needs
 
 loop-less : tie.Need-loop-less Inv-loop μ-loop
-loop-less c = let i = inside (c .before .before .before) in search needs
+loop-less c = search needs
 
 loop-again : tie.Need-loop-again Inv-loop μ-loop
 loop-again c =
-    let r = c .before .before .before in
-    finding-more _ _ _ _ _ (loop r .before .loop .inv) (loop r .loop-test .taken) (ran r) (sym (c .before .is-named .ensures) ∙ c .if1 .left)
+    let f = c .before .before .before .before in
+    finding-more _ _ (f .before .before .loop .inv) (f .before .loop-test .taken) (tested (c .before) _ (c .if1 .left))
 
 returns-2 : tie.Need-returns-2 Inv-loop μ-loop
-returns-2 c = finding-none _ _ _ _ (c .before .loop .inv) (c .loop-test .left)
+returns-2 c = finding-none _ _ (c .before .loop .inv) (c .loop-test .left)
 
 pub find-spec : {M : Type 1} → statement M
 find-spec =
@@ -86,18 +83,12 @@ find-spec =
     Inv-loop
     μ-loop
     loop-holds
-    sub-run
-    part-run-start
-    part-run-end
-    run-requires
-    add-end
-    sub-is-named
-    part-is-named-start
-    part-is-named-end
+    field-at-requires
+    array-share-prefix-name
+    slice-aggregate-is-named
     is-named-requires
     returns
-    add-at
-    add-field
+    add-k
     loop-less
     loop-again
     returns-2)

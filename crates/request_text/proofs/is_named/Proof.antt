@@ -3,7 +3,7 @@ use Prim.Native.Nat.{_-_}
 use native.Mathlib.Omega.{arith}
 use borrow.Author.Needs.{needs}
 use lib.ListN.{length}
-use Rattle.request_text.specs.FieldLaws.{Named, named-start, named-short, named-other, named-more, named-whole, named-followed}
+use Rattle.request_text.specs.NameLaws.{Named, named-start, named-short, named-other, named-more, named-whole, named-followed}
 use Rattle.request_text.proofs.is_named.Statement.{statement}
 use Rattle.request_text.proofs.is_named.Tie as tie
 
@@ -26,7 +26,8 @@ shared-slice-read-if2-2 : tie.Need-shared-slice-read-if2-2 Inv-loop μ-loop
 shared-slice-read-if2-2 c = search needs
 
 returns-2 : tie.Need-returns-2 Inv-loop μ-loop
-returns-2 c = named-other _ _ _ (c .before .before .before .before .before .loop .inv) (c .before .before .before .before .loop-test .taken) (c .before .before .before .if1 .left) (c .if2 .taken)
+returns-2 c = named-other _ _ _ (c .before .before .before .before .before .loop .inv) (c .before .before .before .before .loop-test .taken)
+    (c .before .before .before .if1 .left) (c .if2 .taken)
 
 add-i : tie.Need-add-i Inv-loop μ-loop
 add-i c = search needs
@@ -35,7 +36,8 @@ loop-less : tie.Need-loop-less Inv-loop μ-loop
 loop-less c = search needs
 
 loop-again : tie.Need-loop-again Inv-loop μ-loop
-loop-again c = named-more _ _ _ (c .before .before .before .before .before .loop .inv) (c .before .before .before .before .loop-test .taken) (c .before .before .before .if1 .left) (c .if2 .left)
+loop-again c = named-more _ _ _ (c .before .before .before .before .before .loop .inv) (c .before .before .before .before .loop-test .taken)
+    (c .before .before .before .if1 .left) (c .if2 .left)
 
 returns-3 : tie.Need-returns-3 Inv-loop μ-loop
 returns-3 c = named-whole _ _ _ (c .before .before .loop .inv) (c .before .loop-test .left) (c .if3 .taken)
@@ -47,7 +49,8 @@ is-in-requires : tie.Need-is-in-requires Inv-loop μ-loop
 is-in-requires c κs = search needs
 
 returns-4 : tie.Need-returns-4 Inv-loop μ-loop
-returns-4 c = named-followed _ _ _ (c .before .before .before .before .loop .inv) _ (c .before .before .before .loop-test .left) (c .before .before .if3 .left) (c .is-in .ensures)
+returns-4 c = named-followed _ _ _ (c .before .before .before .before .loop .inv) _ (c .before .before .before .loop-test .left)
+    (c .before .before .if3 .left) (c .is-in .ensures)
 
 pub is-named-spec : {M : Type 1} → statement M
 is-named-spec =

@@ -1,7 +1,7 @@
 -- `request_text::meaning` meets its contract: a comment is cut off, then the blanks before what is said. Assumes nothing.
 use mathlib.Core.Path.{sym, _∙_}
 use lib.Seq.{length-take-le}
-use Rattle.request_text.specs.TypedLaws.{meaning-none, meaning-some}
+use Rattle.request_text.specs.LineLaws.{meaning-none, meaning-some}
 use borrow.Author.Needs.{needs}
 use Rattle.request_text.proofs.meaning.Statement.{statement}
 use Rattle.request_text.proofs.meaning.Tie as tie
@@ -27,11 +27,12 @@ part-said-end c = search needs
 returns : tie.Need-returns
 returns c = meaning-none _ _ _ (c .before .before .before .before .run .ensures .0) (c .before .before .run2 .ensures .0) (c .if1 .taken)
 
-of-field-requires : tie.Need-of-field-requires
-of-field-requires c κs = search needs
+of-name-requires : tie.Need-of-name-requires
+of-name-requires c κs = search needs
 
 returns-2 : tie.Need-returns-2
-returns-2 c = c .of-field .ensures ∙ meaning-some _ _ _ (c .before .before .before .before .before .run .ensures .0) (c .before .before .before .run2 .ensures .0) (c .before .if1 .left)
+returns-2 c = c .of-name .ensures
+    ∙ meaning-some _ _ _ (c .before .before .before .before .before .run .ensures .0) (c .before .before .before .run2 .ensures .0) (c .before .if1 .left)
 
 pub meaning-spec : {M : Type 1} → statement M
 meaning-spec =
@@ -44,5 +45,5 @@ meaning-spec =
     part-said-start
     part-said-end
     returns
-    of-field-requires
+    of-name-requires
     returns-2)

@@ -2,14 +2,16 @@
 use Prim.Native.Nat.{_≤_, _<_}
 use lib.IntN.{natAbs}
 use Rattle.numbers.specs.Code.{read-back}
+use Rattle.request_fields.specs.Fields.{count}
 use native.Mathlib.Omega.{arith}
-use Rattle.request_text.specs.TypedLaws.{note-nothing, note-faulty, note-twice, note-given, in-fields}
+use Rattle.request_text.specs.TypingLaws.{note-nothing, note-faulty, note-twice, note-given}
+use Rattle.request_text.specs.LineLaws.{in-fields}
 use borrow.Author.Needs.{needs}
 use Rattle.request_text.proofs.note.Statement.{statement}
 use Rattle.request_text.proofs.note.Tie as tie
 
--- the field given is one of the 28
-field : (c : tie.After-known-told2) → (c .before .line2 .given .0 .0 < 28) × (natAbs (c .before .line2 .given .0 .1 .0) ≤ 4294967296)
+-- the field given is one of the request's
+field : (c : tie.After-known-told2) → (c .before .line2 .given .0 .0 < count) × (natAbs (c .before .line2 .given .0 .1 .0) ≤ 4294967296)
 field c = in-fields _ _ _ (c .before .before .before .pre .1 .1) (c .before .line2 .given .1)
 
 enum-told : tie.Need-enum-told
@@ -27,8 +29,8 @@ slice-read-if1 c = let f = field (c .before) in omega arith
 returns : tie.Need-returns
 returns c = note-twice _ _ _ _ _ (c .before .before .before .line2 .given .1) (c .if1 .taken)
 
-slice-write-given : tie.Need-slice-write-given
-slice-write-given c = let f = field (c .before .before) in omega arith
+slice-write-marks : tie.Need-slice-write-marks
+slice-write-marks c = let f = field (c .before .before) in omega arith
 
 mul-value : tie.Need-mul-value
 mul-value c = let f = field (c .before .before) in record { fits = omega arith }
@@ -63,7 +65,7 @@ note-spec =
     enum-known-line-2
     slice-read-if1
     returns
-    slice-write-given
+    slice-write-marks
     mul-value
     slice-set-from-value
     returns-2

@@ -1,30 +1,33 @@
--- `request_text::numbers` meets its contract: the lines passed were taken, so the reading is that of those left (`Walked`). The measure is how many bytes are left. Assumes nothing.
+-- `request_text::numbers` meets its contract: the lines passed were taken, so the reading is that of those left (`Walked`). The measure is how many
+-- bytes are left. Assumes nothing.
 use mathlib.Core.Path.{_≡_, sym, ap, subst, _∙_}
 use Prim.Native.Nat.{_+_, _-_, _≤_}
 use borrow.Author.Needs.{needs}
 use lib.ListN.{length, drop}
-use Rattle.request_text.specs.declared.Class.the-variants as C
-use Rattle.request_text.specs.Text.{runOf}
-use Rattle.request_text.specs.TextLaws.{rest-is, line-within}
+use Rattle.words.specs.declared.Class.the-variants as C
+use Rattle.words.specs.Text.{runOf}
+use Rattle.words.specs.TextLaws.{rest-is, line-within}
 use Rattle.request_text.specs.declared.Line.{Line}
-use Rattle.request_text.specs.Typed.{meaningOf, InFields}
-use Rattle.request_text.specs.TypedLaws.{Noting, meaning-in}
-use Rattle.request_text.specs.WalkLaws.{Walked, walk-start, end-missing, end-all, line, line-refused, line-taken}
+use Rattle.request_text.specs.Lines.{meaningOf}
+use Rattle.request_text.specs.LineLaws.{meaning-in}
+use Rattle.request_text.specs.Typing.{InFields}
+use Rattle.request_text.specs.TypingLaws.{Noting, Walked, typing-start, end-missing, end-all, line, line-refused, line-taken}
 use Rattle.request_text.proofs.numbers.Statement.{statement}
 use Rattle.request_text.proofs.numbers.Tie as tie
 
 abbrev Inv-loop : tie.InvT-loop
-Inv-loop text out given₀ found₀ at₀ line₀ given found at line = Walked text given found at line
+Inv-loop text out marks₀ found₀ at₀ line₀ marks found at line = Walked text marks found at line
 
 abbrev μ-loop : tie.MeasureT-loop
-μ-loop text out given₀ found₀ at₀ line₀ given found at line = length text + 1 - at
+μ-loop text out marks₀ found₀ at₀ line₀ marks found at line = length text + 1 - at
 
 -- the line at the text's place
 module _ (c : tie.After-run Inv-loop μ-loop) where
   abbrev loop : tie.In-loop Inv-loop μ-loop
   loop = c .before .before
 
-  walked : Walked (loop .before .before .before .args .text .now) (loop .before .loop .given) (loop .before .loop .found) (loop .before .loop .at) (loop .before .loop .line)
+  walked : Walked (loop .before .before .before .args .text .now) (loop .before .loop .marks) (loop .before .loop .found) (loop .before .loop .at)
+      (loop .before .loop .line)
   walked = loop .before .loop .inv
 
   ran : c .run .result ≡ runOf C.Line (drop (loop .before .loop .at) (loop .before .before .before .args .text .now))
@@ -38,11 +41,13 @@ module _ (c : tie.After-note Inv-loop μ-loop) where
   abbrev at-run : tie.After-run Inv-loop μ-loop
   at-run = c .before .before .before .before .before
 
-  noted : Noting (meaningOf (line _ _ _ _ _ (walked at-run) (at-run .run .result) (loop at-run .loop-test .taken) (ran at-run))) (loop at-run .before .loop .given) (loop at-run .before .loop .found) (c .note .result) (c .note .last .1 .0) (c .note .last .1 .1 .0)
-  noted = subst (λ (l : Line). Noting l (loop at-run .before .loop .given) (loop at-run .before .loop .found) (c .note .result) (c .note .last .1 .0) (c .note .last .1 .1 .0)) (c .before .before .before .meaning .ensures) (c .note .ensures)
+  noted : Noting (meaningOf (line _ _ _ _ _ (walked at-run) (at-run .run .result) (loop at-run .loop-test .taken) (ran at-run)))
+      (loop at-run .before .loop .marks) (loop at-run .before .loop .found) (c .note .result) (c .note .last .1 .0) (c .note .last .1 .1 .0)
+  noted = subst (λ (l : Line). Noting l (loop at-run .before .loop .marks) (loop at-run .before .loop .found) (c .note .result) (c .note .last .1 .0)
+      (c .note .last .1 .1 .0)) (c .before .before .before .meaning .ensures) (c .note .ensures)
 
 loop-holds : tie.Need-loop-holds Inv-loop μ-loop
-loop-holds c = walk-start _
+loop-holds c = typing-start _
 
 sub-run : tie.Need-sub-run Inv-loop μ-loop
 sub-run c = search needs
@@ -72,7 +77,7 @@ meaning-requires : tie.Need-meaning-requires Inv-loop μ-loop
 meaning-requires c κs = search needs
 
 slice-aggregate-note : tie.Need-slice-aggregate-note Inv-loop μ-loop
-slice-aggregate-note c = sym (walked (c .before .before .before) .marks)
+slice-aggregate-note c = sym (walked (c .before .before .before) .marked)
 
 slice-aggregate-note-2 : tie.Need-slice-aggregate-note-2 Inv-loop μ-loop
 slice-aggregate-note-2 c = sym (walked (c .before .before .before .before) .fields)
@@ -80,7 +85,7 @@ slice-aggregate-note-2 c = sym (walked (c .before .before .before .before) .fiel
 note-requires : tie.Need-note-requires Inv-loop μ-loop
 note-requires c κs =
     let w = walked (c .before .before .before .before) in
-    (w .marks, (w .fields, subst InFields (sym (c .before .before .meaning .ensures)) (meaning-in _)))
+    (w .marked, (w .fields, subst InFields (sym (c .before .before .meaning .ensures)) (meaning-in _)))
 
 enum-known-noted : tie.Need-enum-known-noted Inv-loop μ-loop
 enum-known-noted c = search needs
@@ -98,7 +103,8 @@ add-at : tie.Need-add-at Inv-loop μ-loop
 add-at c = let i = inside (c .before .before .before .before .before .before .before .before .before) in search needs
 
 add-line : tie.Need-add-line Inv-loop μ-loop
-add-line c = let i = inside (c .before .before .before .before .before .before .before .before .before) in let w = walked (c .before .before .before .before .before .before .before .before .before) .lines in search needs
+add-line c = let i = inside (c .before .before .before .before .before .before .before .before .before) in
+    let w = walked (c .before .before .before .before .before .before .before .before .before) .lines in search needs
 
 loop-less : tie.Need-loop-less Inv-loop μ-loop
 loop-less c = let i = inside (c .before .before .before .before .before .before .before .before .before) in search needs
@@ -107,10 +113,11 @@ loop-again : tie.Need-loop-again Inv-loop μ-loop
 loop-again c =
     let n = c .before .before .before .before in
     let r = at-run n in
-    line-taken _ _ _ _ _ (walked r) _ (loop r .loop-test .taken) (ran r) _ _ (sym (noted n .0) ∙ c .enum-told .given .1) (noted n .1 .0) (noted n .1 .1) (n .note .kept .1 .0 ∙ walked r .marks) (n .note .kept .1 .1 .0 ∙ walked r .fields)
+    line-taken _ _ _ _ _ (walked r) _ (loop r .loop-test .taken) (ran r) _ _ (sym (noted n .0) ∙ c .enum-told .given .1) (noted n .1 .0)
+    (noted n .1 .1) (n .note .kept .1 .0 ∙ walked r .marked) (n .note .kept .1 .1 .0 ∙ walked r .fields)
 
 slice-aggregate-complete : tie.Need-slice-aggregate-complete Inv-loop μ-loop
-slice-aggregate-complete c = sym (c .before .before .loop .inv .marks)
+slice-aggregate-complete c = sym (c .before .before .loop .inv .marked)
 
 complete-requires : tie.Need-complete-requires Inv-loop μ-loop
 complete-requires c κs = search needs

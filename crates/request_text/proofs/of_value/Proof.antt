@@ -2,7 +2,7 @@
 use mathlib.Core.Path.{sym, _∙_}
 use lib.Seq.{length-take-le}
 use borrow.Author.Tests.{not-true, not-false}
-use Rattle.request_text.specs.TypedLaws.{value-crowded, value-alone}
+use Rattle.request_text.specs.LineLaws.{value-crowded, value-alone}
 use borrow.Author.Needs.{needs}
 use Rattle.request_text.proofs.of_value.Statement.{statement}
 use Rattle.request_text.proofs.of_value.Tie as tie
@@ -32,7 +32,9 @@ value-of-requires : tie.Need-value-of-requires
 value-of-requires c κs = search needs
 
 returns-2 : tie.Need-returns-2
-returns-2 c = c .value-of .ensures ∙ value-alone _ _ _ (c .before .before .before .before .before .run .ensures .0) (sym (c .before .before .before .all .ensures) ∙ not-false _ (c .before .before .if1 .left))
+returns-2 c = c .value-of .ensures
+    ∙ value-alone _ _ _ (c .before .before .before .before .before .run .ensures .0)
+    (sym (c .before .before .before .all .ensures) ∙ not-false _ (c .before .before .if1 .left))
 
 pub of-value-spec : {M : Type 1} → statement M
 of-value-spec =

@@ -1,27 +1,30 @@
 -- `request_text::value_of` meets its contract: what the units say (`value-by`). Assumes nothing.
 use mathlib.Core.Path.{_≡_, sym, ap, _∙_}
 use Prim.Native.Nat.{ℕ}
-use Rattle.request_text.specs.declared.Units.{Units}
-use Rattle.request_text.specs.declared.Class.the-variants as C
-use Rattle.request_text.specs.Numbers.{unitsOf}
-use Rattle.request_text.specs.NumberLaws.{units-small}
-use Rattle.request_text.specs.Fields.{placesOf}
-use Rattle.request_text.specs.Typed.{valueOf}
-use Rattle.request_text.specs.TypedLaws.{ofUnits, value-by}
+use Rattle.words.specs.declared.Units.{Units}
+use Rattle.words.specs.Numbers.{unitsOf}
+use Rattle.words.specs.NumberLaws.{units-small}
+use Rattle.request_fields.specs.declared.Field.{Field}
+use Rattle.request_fields.specs.Rows.{decimalsOf}
+use Rattle.request_text.specs.Lines.{fitted, valueOf}
+use Rattle.request_text.specs.LineLaws.{ofUnits, value-by}
 use borrow.Author.Needs.{needs}
 use Rattle.request_text.proofs.value_of.Statement.{statement}
 use Rattle.request_text.proofs.value_of.Tie as tie
 
 -- the units found decide
-told : (c : tie.After-units-in) (u : Units) → c .units-in .result ≡ u → ofUnits (c .before .before .before .before .args .field) (c .before .start .result) u ≡ valueOf (c .before .before .before .before .args .field) (c .before .before .before .before .args .word .now)
+told : (c : tie.After-units-in) (u : Units) → c .units-in .result ≡ u
+    → ofUnits (c .before .before .before .before .args .field) (c .before .start .result) u
+    ≡ valueOf (c .before .before .before .before .args .field) (c .before .before .before .before .args .word .now)
 told c u e =
-    ap (λ (x : Units). ofUnits (c .before .before .before .before .args .field) (c .before .start .result) x) (sym e ∙ c .units-in .ensures)
-    ∙ ap (λ (p : ℕ). ofUnits (c .before .before .before .before .args .field) (c .before .start .result) (unitsOf p (c .before .before .before .before .args .word .now))) (c .before .before .places-of .ensures)
-    ∙ ap (λ (m : ℕ). ofUnits (c .before .before .before .before .args .field) m (unitsOf (placesOf (c .before .before .before .before .args .field)) (c .before .before .before .before .args .word .now))) (c .before .start .ensures .0)
+    let a = c .before .before .before .before .args in
+    ap (λ (x : Units). ofUnits (a .field) (c .before .start .result) x) (sym e ∙ c .units-in .ensures)
+    ∙ ap (λ (f : Field). ofUnits (a .field) (c .before .start .result) (unitsOf (f .2) (a .word .now))) (c .before .before .field-at .ensures)
+    ∙ ap (λ (m : ℕ). ofUnits (a .field) m (unitsOf (decimalsOf (a .field)) (a .word .now))) (c .before .start .ensures .0)
     ∙ value-by _ _
 
-places-of-requires : tie.Need-places-of-requires
-places-of-requires c κs = search needs
+field-at-requires : tie.Need-field-at-requires
+field-at-requires c κs = search needs
 
 start-requires : tie.Need-start-requires
 start-requires c κs = search needs
@@ -42,7 +45,12 @@ enum-told-2 : tie.Need-enum-told-2
 enum-told-2 c = search needs
 
 returns : tie.Need-returns
-returns c = c .fit .ensures ∙ told (c .before .before .before .before) _ (c .before .before .found .given .1)
+returns c =
+    let u = c .before .before .before .before in
+    let a = u .before .before .before .before .args in
+    c .fit .ensures ∙ ap (λ (f : Field). fitted (a .field) (f .3) (u .before .start .result) (c .before .before .found .given .0 .0))
+    (u .before .before .field-at .ensures)
+    ∙ told u _ (c .before .before .found .given .1)
 
 returns-2 : tie.Need-returns-2
 returns-2 c = told (c .before .before) _ (c .enum-told .given .1)
@@ -54,7 +62,7 @@ pub value-of-spec : {M : Type 1} → statement M
 value-of-spec =
     tie.close
     (tie.spec
-    places-of-requires
+    field-at-requires
     start-requires
     units-in-requires
     enum-known-found

@@ -7,13 +7,12 @@ use native.Mathlib.Nat.{mul-le-mul, lt-of-not-le}
 use lib.Dec.{T}
 use lib.IntN.{ℤ, pos, natAbs, _+ℤ_, _-ℤ_}
 use lib.Signed.{_<ℤ_}
+use Rattle.phases.specs.States.{State, inside, outside, stateOf}
 use Rattle.numbers.specs.Code.{Code, arg, add, sub, Within, whole, ends, _▹_, fits, runs, within, unsigned, read-back}
 use Rattle.numbers.specs.Root.{root}
 use Rattle.numbers.specs.RootLaws.{root-is}
-use Rattle.geometry.specs.Shadow.{State, inside, outside}
 use Rattle.geometry.specs.Magnitude.{millionths, isInside, magnitude}
 use Rattle.geometry.specs.MagnitudeLaws.{magnitude-inside, magnitude-else, magnitude-limit, sum-positive}
-use Rattle.shadow.specs.State.{stateOf}
 use Rattle.shadow.proofs.magnitude.Statement.{statement}
 use Rattle.shadow.proofs.magnitude.Tie as tie
 
@@ -63,7 +62,8 @@ distance : (c : tie.After-root) → c .root .result ≡ root (natAbs (c .before 
 distance c = c .root .ensures ∙ ap (λ (z : ℤ). root (natAbs z)) (read-back (c .before .before .args .m) (c .before .before .pre .0 .2) tt)
 
 after : (c : tie.After-root)
-    → Within (whole (pos (c .root .result)) ∷ whole (c .before .before .args .l1) ∷ whole (c .before .before .args .l2) ∷ []) (1000000000 ∷ 600000000 ∷ 600000000 ∷ [])
+    → Within (whole (pos (c .root .result)) ∷ whole (c .before .before .args .l1) ∷ whole (c .before .before .args .l2) ∷ [])
+    (1000000000 ∷ 600000000 ∷ 600000000 ∷ [])
 after c =
     let p = c .before .before .pre .0 in
     let h : c .root .result ≤ 1000000000 = omega (arith, distance c, root-small (natAbs (c .before .before .args .m)) (p .2)) in
@@ -83,8 +83,13 @@ sub-share c = fits (bounds (c .before)) less tt
 
 share-requires : tie.Need-share-requires
 share-requires c κs =
-    let w = bounds (c .before) in
-    (within w less 2000000000 tt, within w both 2000000000 tt, rw (runs w both tt) (sum-above (c .before)), rw (runs w less tt, runs w both tt) (limit-inside (c .before)))
+    let w = bounds (c .before) in (
+      within w less 2000000000 tt,
+      within w both 2000000000 tt,
+      rw (runs w both tt) (sum-above (c .before)),
+      rw (runs w less tt, runs w both tt)
+          (limit-inside (c .before)),
+    )
 
 returns : tie.Need-returns
 returns c =

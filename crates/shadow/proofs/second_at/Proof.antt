@@ -1,94 +1,60 @@
--- `shadow::second_at` meets its contract: the shadow is the second's, so its states, magnitude and direction are too; the ranges give
--- what the magnitude asks. Assumes nothing.
-use mathlib.Core.Path.{_≡_, sym, _∙_}
-use mir.Syntax.{w64}
-use mir.Val.{toZ, ofZ}
+-- `shadow::second_at` meets its contract: the shadow is the second's, so its states, magnitude and direction are too. Assumes nothing.
+use mathlib.Core.Path.{_∙_}
 use Rattle.numbers.specs.Code.{read-back, read-size}
-use Rattle.geometry.specs.Shadow.{Moment, moment, cone1, cone2, u, v, L, M, central}
-use Rattle.geometry.specs.Sizes.{M-nonneg}
-use Rattle.geometry.specs.Magnitude.{magnitude}
-use Rattle.geometry.specs.Direction.{direction}
 use Rattle.shadow.specs.Shadow.{IsShadow}
-use Rattle.shadow.specs.State.{state-of-code}
-use Rattle.shadow.specs.Second.{stateAt, Bounded, IsStates}
-use Rattle.shadow.specs.SecondLaws.{magnitude-at, direction-at, L1-over, L2-narrow, bounded-shadow, states-of-second}
+use Rattle.shadow.specs.Second.{IsStates}
+use Rattle.shadow.specs.SecondLaws.{states-of-second}
+use Rattle.shadow.proofs.Letters.{sizes, magnitude-asks, magnitude-is, direction-asks, direction-is}
 use Rattle.shadow.proofs.second_at.Statement.{statement}
 use Rattle.shadow.proofs.second_at.Tie as tie
 
-seen : (c : tie.After-shadow-at) → IsShadow (c .before .before .args .e) (c .before .before .args .place) (c .before .before .args .longitude) (c .before .before .args .t) (c .shadow-at .result)
+seen : (c : tie.After-shadow-at) → IsShadow (c .before .before .args .e) (c .before .before .args .place) (c .before .before .args .t) (c .shadow-at .result)
 seen c =
     let a = c .before .before in
-    rw (read-back (a .args .longitude) (a .pre .3) tt, read-back (a .args .t) (a .pre .4) tt) at (c .shadow-at .ensures)
-
--- the letters of the second, as they are read back
-module _ (c : tie.After-shadow-at) where
-  abbrev m : Moment
-  m = moment (c .before .before .args .e) (c .before .before .args .place) (c .before .before .args .longitude) (c .before .before .args .t)
-
-  bounded : Bounded (c .shadow-at .result)
-  bounded = let a = c .before .before in bounded-shadow (a .args .e) (a .pre .1) (a .args .place) (a .pre .2) (a .args .longitude) (a .args .t) (a .pre .4) (seen c)
-
-  u-is : toZ w64 (ofZ w64 (c .shadow-at .result .u)) ≡ u m
-  u-is = read-back (c .shadow-at .result .u) (bounded .u) tt ∙ seen c .u
-
-  v-is : toZ w64 (ofZ w64 (c .shadow-at .result .v)) ≡ v m
-  v-is = read-back (c .shadow-at .result .v) (bounded .v) tt ∙ seen c .v
-
-  l1-is : toZ w64 (ofZ w64 (c .shadow-at .result .l1)) ≡ L m (cone1 (c .before .before .args .e))
-  l1-is = read-back (c .shadow-at .result .l1) (bounded .l1) tt ∙ seen c .l1
-
-  l2-is : toZ w64 (ofZ w64 (c .shadow-at .result .l2)) ≡ L m (cone2 (c .before .before .args .e))
-  l2-is = read-back (c .shadow-at .result .l2) (bounded .l2) tt ∙ seen c .l2
-
-  m-is : toZ w64 (ofZ w64 (c .shadow-at .result .m)) ≡ M m
-  m-is = read-back (c .shadow-at .result .m) (bounded .m) tt ∙ seen c .m
+    rw (read-back (a .args .t) (a .pre .3) tt) at (c .shadow-at .ensures)
 
 states : (c : tie.After-states-of)
-    → IsStates (c .before .before .before .args .guard) (c .before .before .before .args .e) (c .before .before .before .args .place) (c .before .before .before .args .longitude) (c .before .before .before .args .t) (c .states-of .result)
+    → IsStates (c .before .before .before .args .guard) (c .before .before .before .args .e) (c .before .before .before .args .place) (c .before .before .before .args .t) (c .states-of .result)
 states c =
     let a = c .before .before .before in
-    states-of-second (seen (c .before)) (rw (read-back (a .args .guard) (a .pre .5) tt) at (c .states-of .ensures))
+    states-of-second (seen (c .before)) (rw (read-back (a .args .guard) (a .pre .4) tt) at (c .states-of .ensures))
 
 shadow-at-requires : tie.Need-shadow-at-requires
 shadow-at-requires c κs =
     let a = c .before in
-    (a .pre .0, a .pre .1, a .pre .2, read-size (a .args .longitude) 180000000 (a .pre .3) tt, read-size (a .args .t) 10800 (a .pre .4) tt)
+    (a .pre .0, a .pre .1, a .pre .2, read-size (a .args .t) 10800 (a .pre .3) tt)
 
 states-of-requires : tie.Need-states-of-requires
 states-of-requires c κs =
     let a = c .before .before in
-    (read-size (a .args .guard) 1000 (a .pre .5) tt, bounded c)
+    (read-size (a .args .guard) 1000 (a .pre .4) tt, sizes (a .args .e) (a .pre .1) (a .args .place) (a .pre .2) (a .args .t) (a .pre .3) (c .shadow-at .result) (seen c))
 
 magnitude-requires : tie.Need-magnitude-requires
 magnitude-requires c κs =
     let s = c .before .before .before .before in
-    let r = s .shadow-at .result in
     let a = s .before .before in
-    let over = L1-over (a .args .e) (a .pre .1) (a .args .place) (a .pre .2) (a .args .longitude) (a .args .t) (a .pre .4) in
-    let narrow = L2-narrow (a .args .e) (a .pre .1) (a .args .place) (a .pre .2) (a .args .longitude) (a .args .t) (a .pre .4) in (
-      (read-size (r .l1) 600000000 (bounded s .l1) tt, read-size (r .l2) 600000000 (bounded s .l2) tt, read-size (r .m) 1000000000000000000 (bounded s .m) tt, rw (m-is s) (M-nonneg (m s))),
-      (rw (l1-is s) over, rw (l1-is s, l2-is s) narrow),
-    )
+    magnitude-asks (a .args .e) (a .pre .1) (a .args .place) (a .pre .2) (a .args .t) (a .pre .3) (s .shadow-at .result) (seen s)
 
 direction-requires : tie.Need-direction-requires
 direction-requires c κs =
     let s = c .before .before .before .before .before .before .before in
-    let r = s .shadow-at .result in
-    (s .before .before .pre .0, read-size (r .u) 1000000000 (bounded s .u) tt, read-size (r .v) 1000000000 (bounded s .v) tt)
+    let a = s .before .before in
+    let d = direction-asks (a .args .e) (a .pre .1) (a .args .place) (a .pre .2) (a .args .t) (a .pre .3) (s .shadow-at .result) (seen s) in
+    (a .pre .0, d .0, d .1)
 
 returns : tie.Need-returns
 returns c =
     let j = c .before .before .before .before .before .before .before in
     let s = j .before in
-    let a = s .before .before .args in
-    let w = states j in
+    let a = s .before .before in
+    let x = s .shadow-at .result in
     record {
       shadow = seen s;
-      penumbra = w .penumbra;
-      central = w .central;
-      magnitude = (rw (l1-is s, l2-is s, m-is s, w .central, state-of-code (stateAt (a .guard) (a .e) (a .place) (a .longitude) central (a .t))) at (c .before .before .before .magnitude .ensures .0))
-          ∙ sym (magnitude-at (a .guard) (a .e) (a .place) (a .longitude) (a .t));
-      direction = (rw (u-is s, v-is s) at (c .direction .ensures)) ∙ sym (direction-at (a .e) (a .place) (a .longitude) (a .t));
+      penumbra = states j .penumbra;
+      central = states j .central;
+      magnitude = c .before .before .before .magnitude .ensures .0
+          ∙ magnitude-is (a .args .e) (a .pre .1) (a .args .place) (a .pre .2) (a .args .t) (a .pre .3) x (seen s) (a .args .guard) (j .states-of .result) (states j);
+      direction = c .direction .ensures ∙ direction-is (a .args .e) (a .pre .1) (a .args .place) (a .pre .2) (a .args .t) (a .pre .3) x (seen s);
     }
 
 pub second-at-spec : {M : Type 1} → statement M

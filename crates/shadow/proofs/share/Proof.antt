@@ -39,8 +39,13 @@ div-q c = (above (bounds (c .before)) (arg 1) tt (c .before .pre .2), fits (boun
 
 cast-result : tie.Need-cast-result
 cast-result c =
-    let w = bounds (c .before) in
-    (unsigned w quotient tt (rw (quotient-is c) (omega (arith, zs))) .0, record { fits = omega (arith, ap natAbs (runs w quotient tt ∙ quotient-is c), c .before .pre .3) })
+    let w = bounds (c .before) in (
+      unsigned w quotient tt (rw (quotient-is c) (omega (arith, zs))) .0,
+      record {
+        fits = omega
+            (arith, ap natAbs (runs w quotient tt ∙ quotient-is c), c .before .pre .3);
+      },
+    )
 
 returns-2 : tie.Need-returns-2
 returns-2 c = ap natAbs (runs (bounds (c .before)) quotient tt ∙ quotient-is c)

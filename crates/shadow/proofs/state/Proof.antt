@@ -5,10 +5,10 @@ use mathlib.Core.List.{[], _∷_}
 use mathlib.Core.Logic.{⊎-elim}
 use lib.IntN.{_-ℤ_}
 use lib.Signed.{_≤ℤ_, _<ℤ_, clashℤ}
+use Rattle.phases.specs.States.{inside, outside, unsure, code}
 use Rattle.numbers.specs.Code.{Code, arg, add, sub, mul, Within, whole, ends, _▹_, fits, taken-<, left-<}
-use Rattle.geometry.specs.Shadow.{_², inside, outside, unsure}
+use Rattle.geometry.specs.Shadow.{_²}
 use Rattle.geometry.specs.StateLaws.{state-edge}
-use Rattle.shadow.specs.State.{code}
 use Rattle.shadow.proofs.state.Statement.{statement}
 use Rattle.shadow.proofs.state.Tie as tie
 
@@ -41,7 +41,8 @@ returns : tie.Need-returns
 returns c =
     let a = c .before .before .args in
     let w = bounds (c .before .before) in
-    sym (ap code (state-edge (a .guard) (a .l) (a .m) inside (taken-< w (arg 0) (arg 1) tt (c .before .if1 .taken), taken-< w (arg 2) (mul inner inner) tt (c .if2 .taken))))
+    sym (ap code (state-edge (a .guard) (a .l) (a .m) inside
+    (taken-< w (arg 0) (arg 1) tt (c .before .if1 .taken), taken-< w (arg 2) (mul inner inner) tt (c .if2 .taken))))
 
 mul-if3 : tie.Need-mul-if3
 mul-if3 c = fits (bounds (c .before)) (mul outer outer) tt

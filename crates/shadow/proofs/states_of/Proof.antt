@@ -18,16 +18,24 @@ size-le c = omega (arith, ap natAbs (size-is c), c .before .before .before .befo
 
 state-requires : tie.Need-state-requires
 state-requires c κs =
-    let a = c .before .before .before in
-    (read-size (a .args .guard) 1000 (a .pre .0) tt, read-size (a .args .s .l1) 600000000 (a .pre .1 .l1) tt, read-size (a .args .s .m) 1000000000000000000 (a .pre .1 .m) tt)
+    let a = c .before .before .before in (
+      read-size (a .args .guard) 1000 (a .pre .0) tt,
+      read-size (a .args .s .l1) 600000000 (a .pre .1 .l1) tt,
+      read-size (a .args .s .m) 1000000000000000000
+          (a .pre .1 .m) tt,
+    )
 
 abs-requires : tie.Need-abs-requires
 abs-requires c κs = let a = c .before .before .before .before in read-size (a .args .s .l2) 9223372036854775807 (a .pre .1 .l2) tt
 
 state-requires-2 : tie.Need-state-requires-2
 state-requires-2 c κs =
-    let a = c .before .before .before .before .before in
-    (read-size (a .args .guard) 1000 (a .pre .0) tt, read-size (c .abs .result) 600000000 (size-le c) tt, read-size (a .args .s .m) 1000000000000000000 (a .pre .1 .m) tt)
+    let a = c .before .before .before .before .before in (
+      read-size (a .args .guard) 1000 (a .pre .0) tt,
+      read-size (c .abs .result) 600000000 (size-le c) tt,
+      read-size (a .args .s .m) 1000000000000000000
+          (a .pre .1 .m) tt,
+    )
 
 returns : tie.Need-returns
 returns c =

@@ -4,14 +4,14 @@ use Rattle.sheets.proofs.Counting.{Counting, count-refused, count-broke
 use Rattle.sheets.specs.Sheets.{storedAt, readSheet}
 use Rattle.sheets.specs.SheetLaws.{read-start, extent-start}
 use Rattle.sheets.specs.Passes.{brokenOf}
-use Rattle.records.specs.Rules.{judgedAs, judgementOf}
+use Rattle.rules.specs.Rules.{judgedAs, judgementOf}
 use Rattle.records.specs.RecordLaws.{by-byte, by-kind, by-body, byte-inv, body-inv, read-plain, record-bounds}
 use Rattle.records.specs.Records.{byteAt, bodyAt, recordAt}
 use Rattle.records.specs.Kinds.{kindFor, sizeOf, isEnd, plain}
 use Rattle.records.specs.declared.Entry.{Entry}
 use Rattle.records.specs.declared.Kind.{Kind}
 use Rattle.records.specs.declared.Record.the-variants.{Is}
-use Rattle.records.specs.declared.Judgement.the-variants.{Next}
+use Rattle.rules.specs.declared.Judgement.the-variants.{Next}
 use mathlib.Core.Bool.{true}
 use Rattle.records.specs.declared.Byte.the-variants as Byte
 use Rattle.records.specs.declared.Named.the-variants as Named
@@ -19,7 +19,7 @@ use Rattle.records.specs.declared.Body.the-variants as Body
 use lib.ListN.{length}
 use mathlib.Core.List.{List}
 use native.Mathlib.Omega.{arith}
-use Prim.Native.Nat.{ℕ, suc, _+_, _-_, _≤_, _<_}
+use Prim.Native.Nat.{ℕ, _+_, _-_, _≤_, _<_}
 use mathlib.Core.Path.{_≡_, sym, ap, _∙_}
 use borrow.Author.Needs.{needs}
 use Rattle.sheets.proofs.extent_of_leading_sheet.Statement.{statement}
@@ -101,7 +101,8 @@ same-kind : (c : tie.After-known-told3 Inv-loop μ-loop) → entry c .kind ≡ k
 same-kind c = ap (λ e. e .kind) (body-inv _ _ _ _ (is-body c) .1)
 
 returns-2 : tie.Need-returns-2 Inv-loop μ-loop
-returns-2 c = count-refused (turn (c .before .before .before) .loop .inv .2) _ (sym (by-kind _ _ _ _ (is-byte (c .before .before .before)) (sym (c .before .before .kind-for .ensures) ∙ c .enum-told2 .given .1)))
+returns-2 c = count-refused (turn (c .before .before .before) .loop .inv .2) _
+    (sym (by-kind _ _ _ _ (is-byte (c .before .before .before)) (sym (c .before .before .kind-for .ensures) ∙ c .enum-told2 .given .1)))
 
 body-at-requires : tie.Need-body-at-requires Inv-loop μ-loop
 body-at-requires c κs = byte-inv _ _ _ (is-byte (byted c)) .0
@@ -113,7 +114,9 @@ enum-told-3 : tie.Need-enum-told-3 Inv-loop μ-loop
 enum-told-3 c = search needs
 
 returns-3 : tie.Need-returns-3 Inv-loop μ-loop
-returns-3 c = count-refused (turn (byted (c .before .before .before)) .loop .inv .2) _ (sym (by-body _ _ _ _ _ (is-byte (byted (c .before .before .before))) (is-kind (c .before .before .before)) (sym (c .before .before .body-at .ensures) ∙ c .enum-told3 .given .1)))
+returns-3 c = count-refused (turn (byted (c .before .before .before)) .loop .inv .2) _
+    (sym (by-body _ _ _ _ _ (is-byte (byted (c .before .before .before))) (is-kind (c .before .before .before))
+    (sym (c .before .before .body-at .ensures) ∙ c .enum-told3 .given .1)))
 
 judge-requires : tie.Need-judge-requires Inv-loop μ-loop
 judge-requires c κs = search needs
@@ -149,25 +152,32 @@ ended : (c : tie.After-is-end Inv-loop μ-loop) → isEnd (entry (judged (c .bef
 ended c = ap isEnd (same-kind (judged (c .before .before))) ∙ sym (c .is-end .ensures)
 
 returns-4 : tie.Need-returns-4 Inv-loop μ-loop
-returns-4 c = c .broken .ensures ∙ ap brokenOf (c .before .enum-told4 .given .1) ∙ count-broken (from (c .before .before .before .before) .loop .inv .2) _ _ (there (c .before .before .before .before)) _ (judgement (c .before .before .before) ∙ c .before .enum-told4 .given .1)
+returns-4 c = c .broken .ensures ∙ ap brokenOf (c .before .enum-told4 .given .1) ∙ count-broken
+    (from (c .before .before .before .before) .loop .inv .2) _ _ (there (c .before .before .before .before)) _
+    (judgement (c .before .before .before) ∙ c .before .enum-told4 .given .1)
 
 size-of-requires : tie.Need-size-of-requires Inv-loop μ-loop
 size-of-requires c κs = search needs
 
 add-next : tie.Need-add-next Inv-loop μ-loop
-add-next c = let b = bounds (judged (c .before)) in let z = c .size-of .ensures .0 in omega (arith, from (judged (c .before)) .before .before .before .good .0 .1)
+add-next c = let b = bounds (judged (c .before)) in let z = c .size-of .ensures .0 in
+    omega (arith, from (judged (c .before)) .before .before .before .good .0 .1)
 
 is-end-requires : tie.Need-is-end-requires Inv-loop μ-loop
 is-end-requires c κs = search needs
 
 add-count : tie.Need-add-count Inv-loop μ-loop
-add-count c = let b = bounds (judged (c .before .before .before)) in omega (arith, from (judged (c .before .before .before)) .loop .inv .1, from (judged (c .before .before .before)) .before .before .before .good .0 .1)
+add-count c = let b = bounds (judged (c .before .before .before)) in
+    omega (arith, from (judged (c .before .before .before)) .loop .inv .1, from (judged (c .before .before .before)) .before .before .before .good .0 .1)
 
 returns-5 : tie.Need-returns-5 Inv-loop μ-loop
-returns-5 c = rw (c .before .before .size-of .ensures .0) (count-end (from (judged (c .before .before .before)) .loop .inv .2) _ _ (there (judged (c .before .before .before))) _ (took (c .before .before .before)) (ended (c .before) ∙ c .if1 .taken))
+returns-5 c = rw (c .before .before .size-of .ensures .0)
+    (count-end (from (judged (c .before .before .before)) .loop .inv .2) _ _ (there (judged (c .before .before .before))) _
+    (took (c .before .before .before)) (ended (c .before) ∙ c .if1 .taken))
 
 add-n : tie.Need-add-n Inv-loop μ-loop
-add-n c = let b = bounds (judged (c .before .before .before)) in omega (arith, from (judged (c .before .before .before)) .loop .inv .1, from (judged (c .before .before .before)) .before .before .before .good .0 .1)
+add-n c = let b = bounds (judged (c .before .before .before)) in
+    omega (arith, from (judged (c .before .before .before)) .loop .inv .1, from (judged (c .before .before .before)) .before .before .before .good .0 .1)
 
 loop-less : tie.Need-loop-less Inv-loop μ-loop
 loop-less c = let b = bounds (judged (c .before .before .before)) in let z = c .before .before .size-of .ensures .0 in omega arith
@@ -176,8 +186,40 @@ loop-again : tie.Need-loop-again Inv-loop μ-loop
 loop-again c = let b = bounds (judged (c .before .before .before)) in let z = c .before .before .size-of .ensures .0 in (
   omega arith,
   omega (arith, from (judged (c .before .before .before)) .loop .inv .1),
-  rw z (count-more (from (judged (c .before .before .before)) .loop .inv .2) _ _ (there (judged (c .before .before .before))) _ (took (c .before .before .before)) (ended (c .before) ∙ c .if1 .left) (omega (arith, from (judged (c .before .before .before)) .loop .inv .1))),
+  rw z (count-more (from (judged (c .before .before .before)) .loop .inv .2) _ _ (there (judged (c .before .before .before))) _
+      (took (c .before .before .before)) (ended (c .before) ∙ c .if1 .left) (omega (arith, from (judged (c .before .before .before)) .loop .inv .1))),
 )
 
 pub extent-of-leading-sheet-spec : {M : Type 1} → statement M
-extent-of-leading-sheet-spec = tie.close (tie.spec Inv-loop μ-loop begun-requires loop-holds byte-at-requires enum-known-code enum-told returns kind-for-requires enum-known-kind enum-told-2 returns-2 body-at-requires enum-known-entry enum-told-3 returns-3 judge-requires enum-known-judged enum-told-4 broken-requires returns-4 size-of-requires add-next is-end-requires add-count returns-5 add-n loop-less loop-again)
+extent-of-leading-sheet-spec =
+    tie.close
+    (tie.spec
+    Inv-loop
+    μ-loop
+    begun-requires
+    loop-holds
+    byte-at-requires
+    enum-known-code
+    enum-told
+    returns
+    kind-for-requires
+    enum-known-kind
+    enum-told-2
+    returns-2
+    body-at-requires
+    enum-known-entry
+    enum-told-3
+    returns-3
+    judge-requires
+    enum-known-judged
+    enum-told-4
+    broken-requires
+    returns-4
+    size-of-requires
+    add-next
+    is-end-requires
+    add-count
+    returns-5
+    add-n
+    loop-less
+    loop-again)

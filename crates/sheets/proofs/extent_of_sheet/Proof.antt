@@ -22,7 +22,9 @@ enum-told c = search needs
 returns : tie.Need-returns
 returns c = c .enum-told .given .1 ∙ sym (whole-by _ _ (sym (c .enum-told .given .1) ∙ c .before .before .extent-of-leading-sheet .ensures))
 
-found-is : (c : tie.After-known-told) → extentOf (readWhole (c .before .before .before .before .before .args .s .now)) ≡ aloneX (λ k n. ltb n (length (c .before .before .before .before .before .args .s .now))) (X.Sheet (c .before .found .given .0 .0) (c .before .found .given .0 .1 .0))
+found-is : (c : tie.After-known-told) → extentOf (readWhole (c .before .before .before .before .before .args .s .now)) ≡ aloneX
+    (λ k n. ltb n (length (c .before .before .before .before .before .args .s .now)))
+    (X.Sheet (c .before .found .given .0 .0) (c .before .found .given .0 .1 .0))
 found-is c = whole-by _ _ (sym (c .before .found .given .1) ∙ c .before .before .before .extent-of-leading-sheet .ensures)
 
 returns-2 : tie.Need-returns-2

@@ -67,7 +67,32 @@ add-next : tie.Need-add-next
 add-next c = search needs
 
 returns-3 : tie.Need-returns-3
-returns-3 c = rw (c .size-of .ensures .0) (handed-named _ _ _ _ (omega arith) (sym (c .before .before .before .before .before .before .before .kind-for .ensures) ∙ c .before .before .before .before .before .kind .given .1))
+returns-3 c = rw (c .size-of .ensures .0)
+    (handed-named _ _ _ _ (omega arith) (sym (c .before .before .before .before .before .before .before .kind-for .ensures) ∙
+    c .before .before .before .before .before .kind .given .1))
 
 pub handed-at-spec : {M : Type 1} → statement M
-handed-at-spec = tie.close (tie.spec mul-j sub-left returns mul-code shared-slice-read-code kind-for-requires enum-known-kind enum-told returns-2 add-a mul-a shared-slice-read-a add-b mul-b shared-slice-read-b add-c mul-c shared-slice-read-c size-of-requires add-next returns-3)
+handed-at-spec =
+    tie.close
+    (tie.spec
+    mul-j
+    sub-left
+    returns
+    mul-code
+    shared-slice-read-code
+    kind-for-requires
+    enum-known-kind
+    enum-told
+    returns-2
+    add-a
+    mul-a
+    shared-slice-read-a
+    add-b
+    mul-b
+    shared-slice-read-b
+    add-c
+    mul-c
+    shared-slice-read-c
+    size-of-requires
+    add-next
+    returns-3)

@@ -46,4 +46,19 @@ returns : tie.Need-returns
 returns c = simp (add-one, add-two, add-three)
 
 pub put-numbers-spec : {M : Type 1} → statement M
-put-numbers-spec = tie.close (tie.spec mul-room slice-write-room add-room mul-room-2 slice-write-room-2 add-room-2 mul-room-3 slice-write-room-3 add-room-3 mul-room-4 slice-write-room-4 same-length returns)
+put-numbers-spec =
+    tie.close
+    (tie.spec
+    mul-room
+    slice-write-room
+    add-room
+    mul-room-2
+    slice-write-room-2
+    add-room-2
+    mul-room-3
+    slice-write-room-3
+    add-room-3
+    mul-room-4
+    slice-write-room-4
+    same-length
+    returns)

@@ -75,7 +75,8 @@ same-length : tie.Need-same-length Inv-loop μ-loop
 same-length c = c .before .before .before .loop .inv .2
 
 returns : tie.Need-returns Inv-loop μ-loop
-returns c = absurd (pass-never of-numbers (c .before .before .before .loop .inv .3) _ (sym (by-byte _ _ _ (sym (c .before .before .byte-at .ensures) ∙ c .enum-told .given .1))))
+returns c = absurd (pass-never of-numbers (c .before .before .before .loop .inv .3) _
+    (sym (by-byte _ _ _ (sym (c .before .before .byte-at .ensures) ∙ c .enum-told .given .1))))
 
 kind-for-requires : tie.Need-kind-for-requires Inv-loop μ-loop
 kind-for-requires c κs = search needs
@@ -106,7 +107,8 @@ same-kind : (c : tie.After-known-told3 Inv-loop μ-loop) → entry c .kind ≡ k
 same-kind c = ap (λ e. e .kind) (body-inv _ _ _ _ (is-body c) .1)
 
 returns-2 : tie.Need-returns-2 Inv-loop μ-loop
-returns-2 c = absurd (pass-never of-numbers (turn (c .before .before .before) .loop .inv .3) _ (sym (by-kind _ _ _ _ (is-byte (c .before .before .before)) (sym (c .before .before .kind-for .ensures) ∙ c .enum-told2 .given .1))))
+returns-2 c = absurd (pass-never of-numbers (turn (c .before .before .before) .loop .inv .3) _
+    (sym (by-kind _ _ _ _ (is-byte (c .before .before .before)) (sym (c .before .before .kind-for .ensures) ∙ c .enum-told2 .given .1))))
 
 body-at-requires : tie.Need-body-at-requires Inv-loop μ-loop
 body-at-requires c κs = byte-inv _ _ _ (is-byte (byted c)) .0
@@ -121,7 +123,9 @@ same-length-3 : tie.Need-same-length-3 Inv-loop μ-loop
 same-length-3 c = turn (byted (c .before .before .before)) .loop .inv .2
 
 returns-3 : tie.Need-returns-3 Inv-loop μ-loop
-returns-3 c = absurd (pass-never of-numbers (turn (byted (c .before .before .before)) .loop .inv .3) _ (sym (by-body _ _ _ _ _ (is-byte (byted (c .before .before .before))) (is-kind (c .before .before .before)) (sym (c .before .before .body-at .ensures) ∙ c .enum-told3 .given .1))))
+returns-3 c = absurd (pass-never of-numbers (turn (byted (c .before .before .before)) .loop .inv .3) _
+    (sym (by-body _ _ _ _ _ (is-byte (byted (c .before .before .before))) (is-kind (c .before .before .before))
+    (sym (c .before .before .body-at .ensures) ∙ c .enum-told3 .given .1))))
 
 bounds : (c : tie.After-known-told3 Inv-loop μ-loop)
     → (from c .loop .at < after c) × (after c ≤ length (input (from c))) × (from c .loop .n * 4 + 4 ≤ length (from c .loop .room))
@@ -153,7 +157,10 @@ same-length-4 : tie.Need-same-length-4 Inv-loop μ-loop
 same-length-4 c = c .before .before .before .before .put-numbers .kept .0 ∙ from (c .before .before .before .before .before .before) .loop .inv .2
 
 returns-4 : tie.Need-returns-4 Inv-loop μ-loop
-returns-4 c = c .before .before .before .before .put-numbers .ensures ∙ ap (put-room (c .before .before .before .before .before .before)) (code-is (c .before .before .before .before .before .before)) ∙ pass-end of-numbers (from (c .before .before .before .before .before .before) .loop .inv .3) _ _ (there (c .before .before .before .before .before .before)) (ended (c .before) ∙ c .if1 .taken)
+returns-4 c = c .before .before .before .before .put-numbers .ensures ∙ ap (put-room (c .before .before .before .before .before .before))
+    (code-is (c .before .before .before .before .before .before)) ∙ pass-end of-numbers
+    (from (c .before .before .before .before .before .before) .loop .inv .3) _ _ (there (c .before .before .before .before .before .before))
+    (ended (c .before) ∙ c .if1 .taken)
 
 size-of-requires : tie.Need-size-of-requires Inv-loop μ-loop
 size-of-requires c κs = search needs
@@ -162,7 +169,8 @@ add-at : tie.Need-add-at Inv-loop μ-loop
 add-at c = let b = bounds (c .before .before .before .before .before .before .before) in let z = c .size-of .ensures .0 in omega arith
 
 add-n : tie.Need-add-n Inv-loop μ-loop
-add-n c = let b = bounds (c .before .before .before .before .before .before .before) in omega (arith, from (c .before .before .before .before .before .before .before) .loop .inv .0)
+add-n c = let b = bounds (c .before .before .before .before .before .before .before) in
+    omega (arith, from (c .before .before .before .before .before .before .before) .loop .inv .0)
 
 loop-less : tie.Need-loop-less Inv-loop μ-loop
 loop-less c = let b = bounds (c .before .before .before .before .before .before .before) in let z = c .size-of .ensures .0 in omega arith
@@ -172,12 +180,50 @@ loop-again c =
     let b = bounds (c .before .before .before .before .before .before .before) in
     let z = c .size-of .ensures .0 in
     let i = from (c .before .before .before .before .before .before .before) .loop .inv in
-    let k : from (c .before .before .before .before .before .before .before) .loop .n * 4 + 4 ≡ (from (c .before .before .before .before .before .before .before) .loop .n + 1) * 4 = omega arith in (
+    let k : from (c .before .before .before .before .before .before .before) .loop .n * 4 + 4 ≡
+    (from (c .before .before .before .before .before .before .before) .loop .n + 1) * 4 = omega arith in (
       omega (arith, i .0),
       omega arith,
       c .before .before .before .before .before .put-numbers .kept .0 ∙ i .2,
-      rw (z, c .before .before .before .before .before .put-numbers .ensures ∙ ap (put-room (c .before .before .before .before .before .before .before)) (code-is (c .before .before .before .before .before .before .before)), ← k) (pass-more of-numbers (i .3) _ _ (there (c .before .before .before .before .before .before .before)) (ended (c .before .before) ∙ c .before .if1 .left) (omega (arith, i .0))),
+      rw (
+        z,
+        c .before .before .before .before .before .put-numbers .ensures ∙ ap
+            (put-room (c .before .before .before .before .before .before .before)) (code-is (c .before .before .before .before .before .before .before)),
+        ←
+            k,
+      ) (pass-more of-numbers (i .3) _ _ (there (c .before .before .before .before .before .before .before))
+          (ended (c .before .before) ∙ c .before .if1 .left) (omega (arith, i .0))),
     )
 
 pub read-entries-spec : {M : Type 1} → statement M
-read-entries-spec = tie.close (tie.spec Inv-loop μ-loop loop-holds byte-at-requires enum-known-code enum-told same-length returns kind-for-requires enum-known-kind enum-told-2 same-length-2 returns-2 body-at-requires enum-known-entry enum-told-3 same-length-3 returns-3 mul-place put-numbers-requires is-end-requires same-length-4 returns-4 size-of-requires add-at add-n loop-less loop-again)
+read-entries-spec =
+    tie.close
+    (tie.spec
+    Inv-loop
+    μ-loop
+    loop-holds
+    byte-at-requires
+    enum-known-code
+    enum-told
+    same-length
+    returns
+    kind-for-requires
+    enum-known-kind
+    enum-told-2
+    same-length-2
+    returns-2
+    body-at-requires
+    enum-known-entry
+    enum-told-3
+    same-length-3
+    returns-3
+    mul-place
+    put-numbers-requires
+    is-end-requires
+    same-length-4
+    returns-4
+    size-of-requires
+    add-at
+    add-n
+    loop-less
+    loop-again)

@@ -43,11 +43,13 @@ returns : tie.Need-returns Inv-loop μ-loop
 returns c = absurd (pass-never of-bytes (c .before .before .before .loop .inv .3) _ (sym (c .before .before .handed-at .ensures) ∙ c .enum-told .given .1))
 
 there : (c : tie.After-known-told Inv-loop μ-loop)
-    → handedAt (c .before .before .before .before .before .before .before .args .l .now) (c .before .before .before .before .loop .n) (c .before .before .before .before .loop .at) ≡ Is (c .before .entry .given .0 .0) (c .before .entry .given .0 .1 .0)
+    → handedAt (c .before .before .before .before .before .before .before .args .l .now) (c .before .before .before .before .loop .n)
+    (c .before .before .before .before .loop .at) ≡ Is (c .before .entry .given .0 .0) (c .before .entry .given .0 .1 .0)
 there c = sym (c .before .before .before .handed-at .ensures) ∙ c .before .entry .given .1
 
 bounds : (c : tie.After-known-told Inv-loop μ-loop) → let e = c .before .entry .given .0 .0 in let a = c .before .before .before .before .loop in
-    (a .n * 4 + 4 ≤ length (c .before .before .before .before .before .before .before .args .l .now)) × (sizeOf (e .kind) ≤ 17) × (a .at + sizeOf (e .kind) ≤ length (a .buf)) × (c .before .entry .given .0 .1 .0 ≡ a .at + sizeOf (e .kind))
+    (a .n * 4 + 4 ≤ length (c .before .before .before .before .before .before .before .args .l .now)) × (sizeOf (e .kind) ≤ 17) ×
+    (a .at + sizeOf (e .kind) ≤ length (a .buf)) × (c .before .entry .given .0 .1 .0 ≡ a .at + sizeOf (e .kind))
 bounds c =
     let b = handed-bounds _ _ _ _ _ (there c) in
     let f = pass-fits of-bytes (c .before .before .before .before .loop .inv .3) _ _ (there c) in
@@ -60,10 +62,13 @@ is-end-requires : tie.Need-is-end-requires Inv-loop μ-loop
 is-end-requires c κs = search needs
 
 same-length-2 : tie.Need-same-length-2 Inv-loop μ-loop
-same-length-2 c = c .before .before .before .before .put .kept .0 ∙ c .before .before .before .before .before .before .before .before .before .before .loop .inv .2
+same-length-2 c = c .before .before .before .before .put .kept .0 ∙
+    c .before .before .before .before .before .before .before .before .before .before .loop .inv .2
 
 returns-2 : tie.Need-returns-2 Inv-loop μ-loop
-returns-2 c = c .before .before .before .before .put .ensures .1 ∙ pass-end of-bytes (c .before .before .before .before .before .before .before .before .before .before .loop .inv .3) _ _ (there (c .before .before .before .before .before .before)) (sym (c .before .is-end .ensures) ∙ c .if1 .taken)
+returns-2 c = c .before .before .before .before .put .ensures .1 ∙ pass-end of-bytes
+    (c .before .before .before .before .before .before .before .before .before .before .loop .inv .3) _ _
+    (there (c .before .before .before .before .before .before)) (sym (c .before .is-end .ensures) ∙ c .if1 .taken)
 
 add-n : tie.Need-add-n Inv-loop μ-loop
 add-n c = let b = bounds (c .before .before .before .before .before .before) in omega arith
@@ -75,12 +80,31 @@ loop-again : tie.Need-loop-again Inv-loop μ-loop
 loop-again c =
     let b = bounds (c .before .before .before .before .before .before) in
     let put-at = c .before .before .before .before .put .ensures .0 in
-    let more = pass-more of-bytes (c .before .before .before .before .before .before .before .before .before .before .loop .inv .3) _ _ (there (c .before .before .before .before .before .before)) (sym (c .before .is-end .ensures) ∙ c .if1 .left) (omega arith) in (
+    let more = pass-more of-bytes (c .before .before .before .before .before .before .before .before .before .before .loop .inv .3) _ _
+    (there (c .before .before .before .before .before .before)) (sym (c .before .is-end .ensures) ∙ c .if1 .left) (omega arith) in (
       omega arith,
       omega arith,
       c .before .before .before .before .put .kept .0 ∙ c .before .before .before .before .before .before .before .before .before .before .loop .inv .2,
-      rw (c .before .before .before .before .put .ensures .1, put-at) (rw (length-bytes (c .before .before .before .before .before .before .before .entry .given .0 .0), b .3) at more),
+      rw (c .before .before .before .before .put .ensures .1, put-at)
+          (rw (length-bytes (c .before .before .before .before .before .before .before .entry .given .0 .0), b .3) at more),
     )
 
 pub write-records-spec : {M : Type 1} → statement M
-write-records-spec = tie.close (tie.spec Inv-loop μ-loop loop-holds handed-at-requires enum-known-entry enum-told same-length returns put-requires is-end-requires same-length-2 returns-2 add-n loop-less loop-again)
+write-records-spec =
+    tie.close
+    (tie.spec
+    Inv-loop
+    μ-loop
+    loop-holds
+    handed-at-requires
+    enum-known-entry
+    enum-told
+    same-length
+    returns
+    put-requires
+    is-end-requires
+    same-length-2
+    returns-2
+    add-n
+    loop-less
+    loop-again)

@@ -46,7 +46,8 @@ step-fits c =
     let p = parts (c .before) in
     omega (arith, s-small (within (c .before)) p, step-small (within (c .before)) p (c .near-unsigned3 .ensures))
 
-sum-is : (c : tie.After-near-unsigned3) → firstQuadrant (start (c .before) .args .a) ≡ pos (min (c .before .before .before .wide .result + c .near-unsigned3 .result) 100_000_000)
+sum-is : (c : tie.After-near-unsigned3) → firstQuadrant (start (c .before) .args .a) ≡ pos
+    (min (c .before .before .before .wide .result + c .near-unsigned3 .result) 100_000_000)
 sum-is c = first-is (within (c .before)) (parts (c .before)) (c .near-unsigned3 .ensures)
 
 mul-arc : tie.Need-mul-arc

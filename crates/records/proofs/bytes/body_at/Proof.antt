@@ -1,8 +1,7 @@
 -- `records::bytes::body_at` meets its contract. A body that the input does not hold is cut; of one that it holds each field is read behind the one before it, as `entryAt` has them.
 use Rattle.records.specs.RecordLaws.{body-cut, body-whole}
-use Rattle.records.specs.declared.Body.the-variants as Body
 use native.Mathlib.Omega.{arith}
-use mathlib.Core.Path.{sym, ap, _∙_}
+use mathlib.Core.Path.{sym}
 use Rattle.records.specs.Kinds.{bytesIn}
 use lib.ListN.{length}
 use Prim.Native.Nat.{_+_, _≤_}
@@ -63,8 +62,35 @@ number-at-requires-4 c κs = let h = fits (c .before .before .before .before .be
 returns-2 : tie.Need-returns-2
 returns-2 c =
     let z = c .before .before .before .before .before .before .before .before .before .size-of .ensures .0 in
-    rw (c .before .before .before .number-at .ensures, c .before .before .number-at2 .ensures, c .before .number-at3 .ensures, c .number-at4 .ensures, c .before .before .before .before .before .before .bytes-in .ensures .0, c .before .before .before .before .before .bytes-in2 .ensures .0, c .before .before .before .before .bytes-in3 .ensures .0, c .before .before .before .before .before .before .before .widths-of .ensures)
+    rw (
+      c .before .before .before .number-at .ensures,
+      c .before .before .number-at2 .ensures,
+      c .before .number-at3 .ensures,
+      c .number-at4 .ensures,
+      c .before .before .before .before .before .before .bytes-in .ensures .0,
+      c .before .before .before .before .before .bytes-in2 .ensures .0,
+      c .before .before .before .before .bytes-in3 .ensures .0,
+      c .before .before .before .before .before .before .before .widths-of .ensures,
+    )
     (sym (body-whole _ _ _ (omega arith)))
 
 pub body-at-spec : {M : Type 1} → statement M
-body-at-spec = tie.close (tie.spec sub-left size-of-requires returns widths-of-requires add-at-a bytes-in-requires add-at-b bytes-in-requires-2 add-at-c bytes-in-requires-3 add-at-d number-at-requires number-at-requires-2 number-at-requires-3 number-at-requires-4 returns-2)
+body-at-spec =
+    tie.close
+    (tie.spec
+    sub-left
+    size-of-requires
+    returns
+    widths-of-requires
+    add-at-a
+    bytes-in-requires
+    add-at-b
+    bytes-in-requires-2
+    add-at-c
+    bytes-in-requires-3
+    add-at-d
+    number-at-requires
+    number-at-requires-2
+    number-at-requires-3
+    number-at-requires-4
+    returns-2)

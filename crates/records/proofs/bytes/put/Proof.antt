@@ -1,11 +1,10 @@
 -- `records::bytes::put` meets its contract. The kind's byte and the four numbers, each behind the one before it, are the entry's bytes (`put-bytes`).
 use Rattle.records.specs.EntryLaws.{put-bytes}
-use Rattle.records.specs.KindLaws.{size-small}
 use Rattle.records.specs.Kinds.{bytesIn}
 use lib.ListN.{length, length-set}
 use native.Mathlib.Omega.{arith}
 use Prim.Native.Nat.{_+_, _≤_}
-use mathlib.Core.Path.{refl, sym, _∙_}
+use mathlib.Core.Path.{_∙_}
 use borrow.Author.Needs.{needs}
 use Rattle.records.proofs.bytes.put.Statement.{statement}
 use Rattle.records.proofs.bytes.put.Tie as tie
@@ -34,16 +33,24 @@ put-number-requires : tie.Need-put-number-requires
 put-number-requires c κs = let h = room (c .before .before) in simp length-set (omega arith)
 
 put-number-requires-2 : tie.Need-put-number-requires-2
-put-number-requires-2 c κs = let h = room (c .before .before .before .before .before .before) in let k = simp length-set at (c .before .before .before .put-number .kept .0) in omega arith
+put-number-requires-2 c κs = let h = room (c .before .before .before .before .before .before) in
+    let k = simp length-set at (c .before .before .before .put-number .kept .0) in omega arith
 
 put-number-requires-3 : tie.Need-put-number-requires-3
-put-number-requires-3 c κs = let h = room (c .before .before .before .before .before .before .before .before .before .before) in let k = simp length-set at (c .before .before .before .before .before .before .before .put-number .kept .0) in omega (arith, c .before .before .before .put-number2 .kept .0)
+put-number-requires-3 c κs = let h = room (c .before .before .before .before .before .before .before .before .before .before) in
+    let k = simp length-set at (c .before .before .before .before .before .before .before .put-number .kept .0) in
+    omega (arith, c .before .before .before .put-number2 .kept .0)
 
 put-number-requires-4 : tie.Need-put-number-requires-4
-put-number-requires-4 c κs = let h = room (c .before .before .before .before .before .before .before .before .before .before .before .before .before .before) in let k = simp length-set at (c .before .before .before .before .before .before .before .before .before .before .before .put-number .kept .0) in omega (arith, c .before .before .before .before .before .before .before .put-number2 .kept .0, c .before .before .before .put-number3 .kept .0)
+put-number-requires-4 c κs = let h = room
+    (c .before .before .before .before .before .before .before .before .before .before .before .before .before .before) in let k = simp length-set at
+    (c .before .before .before .before .before .before .before .before .before .before .before .put-number .kept .0) in omega
+    (arith, c .before .before .before .before .before .before .before .put-number2 .kept .0, c .before .before .before .put-number3 .kept .0)
 
 same-length : tie.Need-same-length
-same-length c = simp length-set at (c .before .before .put-number4 .kept .0 ∙ c .before .before .before .before .before .before .put-number3 .kept .0 ∙ c .before .before .before .before .before .before .before .before .before .before .put-number2 .kept .0 ∙ c .before .before .before .before .before .before .before .before .before .before .before .before .before .before .put-number .kept .0)
+same-length c = simp length-set at (c .before .before .put-number4 .kept .0 ∙ c .before .before .before .before .before .before .put-number3 .kept .0
+    ∙ c .before .before .before .before .before .before .before .before .before .before .put-number2 .kept .0 ∙
+    c .before .before .before .before .before .before .before .before .before .before .before .before .before .before .put-number .kept .0)
 
 returns : tie.Need-returns
 returns c =
@@ -54,9 +61,23 @@ returns c =
     let third = c .before .before .before .before .before .before .put-number3 .ensures in
     let fourth = c .before .before .put-number4 .ensures in (
       rw (← w) (omega arith),
-      put-bytes (a .entry) _ w (a .buf .now) _ _ _ _ (a .at) _ _ _ _ (c .before .before .before .before .before .before .before .before .before .before .before .before .before .before .before .before .code-of .ensures .0)
+      put-bytes (a .entry) _ w (a .buf .now) _ _ _ _ (a .at) _ _ _ _
+          (c .before .before .before .before .before .before .before .before .before .before .before .before .before .before .before .before .code-of .ensures .0)
           (first .0) (second .0) (third .0) (first .1) (second .1) (third .1) (fourth .1),
     )
 
 pub put-spec : {M : Type 1} → statement M
-put-spec = tie.close (tie.spec widths-of-requires code-of-requires cast-buf slice-write-buf add-put-number put-number-requires put-number-requires-2 put-number-requires-3 put-number-requires-4 same-length returns)
+put-spec =
+    tie.close
+    (tie.spec
+    widths-of-requires
+    code-of-requires
+    cast-buf
+    slice-write-buf
+    add-put-number
+    put-number-requires
+    put-number-requires-2
+    put-number-requires-3
+    put-number-requires-4
+    same-length
+    returns)

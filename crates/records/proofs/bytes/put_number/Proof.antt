@@ -43,4 +43,18 @@ returns-3 : tie.Need-returns-3
 returns-3 c = rw (c .before .before .before .before .enum-told3 .given .1) (refl, c .before .before .put-four .ensures)
 
 pub put-number-spec : {M : Type 1} → statement M
-put-number-spec = tie.close (tie.spec enum-told enum-told-2 put-two-requires add-result enum-told-3 put-four-requires add-result-2 returns same-length returns-2 same-length-2 returns-3)
+put-number-spec =
+    tie.close
+    (tie.spec
+    enum-told
+    enum-told-2
+    put-two-requires
+    add-result
+    enum-told-3
+    put-four-requires
+    add-result-2
+    returns
+    same-length
+    returns-2
+    same-length-2
+    returns-3)

@@ -32,13 +32,17 @@ enum-known-kind c = search needs
 enum-told-2 : tie.Need-enum-told-2
 enum-told-2 c = search needs
 
-is-byte : (c : tie.After-known-told) → byteAt (c .before .before .before .before .before .args .s .now) (c .before .before .before .before .before .args .at) ≡ Byte.Is (c .before .code .given .0 .0)
+is-byte : (c : tie.After-known-told) → byteAt (c .before .before .before .before .before .args .s .now)
+    (c .before .before .before .before .before .args .at) ≡ Byte.Is (c .before .code .given .0 .0)
 is-byte c = sym (c .before .before .before .byte-at .ensures) ∙ c .before .code .given .1
 
 is-kind : (c : tie.After-known-told2) → kindFor (c .before .before .before .before .before .code .given .0 .0) ≡ Named.Is (c .before .kind .given .0 .0)
 is-kind c = sym (c .before .before .before .kind-for .ensures) ∙ c .before .kind .given .1
 
-is-body : (c : tie.After-known-told3) → bodyAt (c .before .before .before .before .before .kind .given .0 .0) (c .before .before .before .before .before .before .before .before .before .before .before .before .before .args .s .now) (c .before .before .before .before .before .before .before .before .before .before .before .before .before .args .at) ≡ Body.Is (c .before .entry .given .0 .0)
+is-body : (c : tie.After-known-told3) → bodyAt (c .before .before .before .before .before .kind .given .0 .0)
+    (c .before .before .before .before .before .before .before .before .before .before .before .before .before .args .s .now)
+    (c .before .before .before .before .before .before .before .before .before .before .before .before .before .args .at) ≡ Body.Is
+    (c .before .entry .given .0 .0)
 is-body c = sym (c .before .before .before .body-at .ensures) ∙ c .before .entry .given .1
 
 returns-2 : tie.Need-returns-2
@@ -54,7 +58,8 @@ enum-told-3 : tie.Need-enum-told-3
 enum-told-3 c = search needs
 
 returns-3 : tie.Need-returns-3
-returns-3 c = by-body _ _ _ _ _ (is-byte (c .before .before .before .before .before .before .before)) (is-kind (c .before .before .before)) (sym (c .before .before .body-at .ensures) ∙ c .enum-told3 .given .1)
+returns-3 c = by-body _ _ _ _ _ (is-byte (c .before .before .before .before .before .before .before)) (is-kind (c .before .before .before))
+    (sym (c .before .before .body-at .ensures) ∙ c .enum-told3 .given .1)
 
 size-of-requires : tie.Need-size-of-requires
 size-of-requires c κs = search needs
@@ -63,7 +68,26 @@ add-next : tie.Need-add-next
 add-next c = let h = body-inv _ _ _ _ (is-body (c .before)) .0 in let z = c .size-of .ensures .0 in omega arith
 
 returns-4 : tie.Need-returns-4
-returns-4 c = rw (c .size-of .ensures .0) (by-body _ _ _ _ _ (is-byte (c .before .before .before .before .before .before .before .before .before)) (is-kind (c .before .before .before .before .before)) (is-body (c .before)))
+returns-4 c = rw (c .size-of .ensures .0)
+    (by-body _ _ _ _ _ (is-byte (c .before .before .before .before .before .before .before .before .before))
+    (is-kind (c .before .before .before .before .before)) (is-body (c .before)))
 
 pub record-at-spec : {M : Type 1} → statement M
-record-at-spec = tie.close (tie.spec byte-at-requires enum-known-code enum-told returns kind-for-requires enum-known-kind enum-told-2 returns-2 body-at-requires enum-known-entry enum-told-3 returns-3 size-of-requires add-next returns-4)
+record-at-spec =
+    tie.close
+    (tie.spec
+    byte-at-requires
+    enum-known-code
+    enum-told
+    returns
+    kind-for-requires
+    enum-known-kind
+    enum-told-2
+    returns-2
+    body-at-requires
+    enum-known-entry
+    enum-told-3
+    returns-3
+    size-of-requires
+    add-next
+    returns-4)

@@ -1,7 +1,5 @@
 -- `records::kinds::code_of` meets its contract. Each arm is the table's; a phase's code comes from its first kind.
-use Rattle.records.specs.Kinds.{codeOf}
 use native.Mathlib.Omega.{arith}
-use mathlib.Core.Path.{_∙_, ap, sym}
 use borrow.Author.Needs.{needs}
 use Rattle.records.proofs.kinds.code_of.Statement.{statement}
 use Rattle.records.proofs.kinds.code_of.Tie as tie
@@ -70,4 +68,27 @@ returns-7 : tie.Need-returns-7
 returns-7 c = search needs
 
 pub code-of-spec : {M : Type 1} → statement M
-code-of-spec = tie.close (tie.spec enum-told enum-known-kind base-of-requires enum-known-kind-2 base-of-requires-2 add-result enum-known-kind-3 base-of-requires-3 add-result-2 enum-known-kind-4 base-of-requires-4 add-result-3 enum-told-2 enum-told-3 returns returns-2 returns-3 returns-4 returns-5 returns-6 returns-7)
+code-of-spec =
+    tie.close
+    (tie.spec
+    enum-told
+    enum-known-kind
+    base-of-requires
+    enum-known-kind-2
+    base-of-requires-2
+    add-result
+    enum-known-kind-3
+    base-of-requires-3
+    add-result-2
+    enum-known-kind-4
+    base-of-requires-4
+    add-result-3
+    enum-told-2
+    enum-told-3
+    returns
+    returns-2
+    returns-3
+    returns-4
+    returns-5
+    returns-6
+    returns-7)

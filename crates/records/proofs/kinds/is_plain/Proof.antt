@@ -21,7 +21,13 @@ is-unused-requires-4 c κs = search needs
 
 returns : tie.Need-returns
 unfolding plain
-returns c = rw (c .before .before .before .is-unused .ensures, c .before .before .is-unused2 .ensures, c .before .is-unused3 .ensures, c .is-unused4 .ensures, c .before .before .before .before .widths-of .ensures)
+returns c = rw (
+  c .before .before .before .is-unused .ensures,
+  c .before .before .is-unused2 .ensures,
+  c .before .is-unused3 .ensures,
+  c .is-unused4 .ensures,
+  c .before .before .before .before .widths-of .ensures,
+)
 
 pub is-plain-spec : {M : Type 1} → statement M
 is-plain-spec = tie.close (tie.spec widths-of-requires is-unused-requires is-unused-requires-2 is-unused-requires-3 is-unused-requires-4 returns)

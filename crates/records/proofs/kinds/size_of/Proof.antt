@@ -1,7 +1,5 @@
 -- `records::kinds::size_of` meets its contract. The size is the sum of the widths.
-use mathlib.Core.Path.{sym, ap}
 use native.Mathlib.Omega.{arith}
-use Rattle.records.specs.Kinds.{sizeOf}
 use borrow.Author.Needs.{needs}
 use Rattle.records.proofs.kinds.size_of.Statement.{statement}
 use Rattle.records.proofs.kinds.size_of.Tie as tie
@@ -37,4 +35,16 @@ returns : tie.Need-returns
 returns c = rw (← c .before .before .before .before .widths-of .ensures) (omega arith)
 
 pub size-of-spec : {M : Type 1} → statement M
-size-of-spec = tie.close (tie.spec widths-of-requires bytes-in-requires add-result bytes-in-requires-2 add-result-2 bytes-in-requires-3 add-result-3 bytes-in-requires-4 add-result-4 returns)
+size-of-spec =
+    tie.close
+    (tie.spec
+    widths-of-requires
+    bytes-in-requires
+    add-result
+    bytes-in-requires-2
+    add-result-2
+    bytes-in-requires-3
+    add-result-3
+    bytes-in-requires-4
+    add-result-4
+    returns)

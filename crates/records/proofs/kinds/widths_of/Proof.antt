@@ -1,5 +1,4 @@
 -- `records::kinds::widths_of` meets its contract. Each arm is the table's row.
-use mathlib.Core.Path.{_∙_}
 use borrow.Author.Needs.{needs}
 use Rattle.records.proofs.kinds.widths_of.Statement.{statement}
 use Rattle.records.proofs.kinds.widths_of.Tie as tie
@@ -68,4 +67,27 @@ returns-7 : tie.Need-returns-7
 returns-7 c = rw (c .before .enum-told7 .given .1) (c .widths7 .ensures)
 
 pub widths-of-spec : {M : Type 1} → statement M
-widths-of-spec = tie.close (tie.spec enum-told widths-requires enum-told-2 widths-requires-2 enum-told-3 widths-requires-3 enum-told-4 widths-requires-4 enum-told-5 widths-requires-5 enum-told-6 widths-requires-6 enum-told-7 widths-requires-7 returns returns-2 returns-3 returns-4 returns-5 returns-6 returns-7)
+widths-of-spec =
+    tie.close
+    (tie.spec
+    enum-told
+    widths-requires
+    enum-told-2
+    widths-requires-2
+    enum-told-3
+    widths-requires-3
+    enum-told-4
+    widths-requires-4
+    enum-told-5
+    widths-requires-5
+    enum-told-6
+    widths-requires-6
+    enum-told-7
+    widths-requires-7
+    returns
+    returns-2
+    returns-3
+    returns-4
+    returns-5
+    returns-6
+    returns-7)

@@ -1,0 +1,66 @@
+-- A course: what is said of a station at each second of a window, in each of its phases; and its sheet. Definitions only.
+use mathlib.Core.List.{List, [], _∷_, _++_, map}
+use Prim.Native.Nat.{ℕ}
+use lib.IntN.{ℤ}
+use Rattle.phases.specs.declared.Phase.{Phase}
+use Rattle.phases.specs.States.{State, code}
+use Rattle.requests.specs.declared.Window.{Window}
+use Rattle.requests.specs.Windows.{nthSecond, eachSecond}
+use Rattle.contacts.specs.declared.Entry as Contact
+use Rattle.contacts.specs.declared.Entry.the-variants as C
+use Rattle.contacts.specs.Entries.{entries}
+use Rattle.records.specs.declared.Entry.{Entry}
+use Rattle.records.specs.Entries.{head, enter, leave, graze, opened, closest, end}
+use Rattle.records.specs.StoredSeconds.{stored}
+
+pub record Course : Type 0 where
+  -- the station's number, 1 to 999
+  pub station : ℕ
+  pub window : Window
+  -- the phases, in the order of the sheet
+  pub phases : List Phase
+  -- what is said of a phase at second τ
+  pub state : Phase → ℤ → State
+  -- the direction at second τ
+  pub direction : ℤ → ℕ
+  -- "*Closest* is the second of smallest M, the earliest of equals", counted from the window's first
+  pub closest : ℕ
+  -- the magnitude at second τ
+  pub magnitude : ℤ → ℕ
+
+module _ (c : Course) where
+  -- the k-th second of the window
+  abbrev pub second : ℕ → ℤ
+  second k = nthSecond (c .window) k
+
+  -- the states of a phase, a byte a second: 0 outside, 1 inside, 2 unsure
+  unfoldable pub statesOf : Phase → List ℕ
+  statesOf φ = eachSecond (c .window) (λ τ. code (c .state φ τ))
+
+  -- "*enter*, from the earlier to the later, direction at the later; .. *leave*, from, to, direction at the earlier; .. *graze*, from, to":
+  -- an entry of a phase, whose seconds are counted from the window's first, as it stands in the sheet
+  abbrev pub entryOf : Phase → Contact.Entry → Entry
+  entryOf φ (C.Enter f t) = enter φ (stored (second f)) (stored (second t)) (c .direction (second t))
+  entryOf φ (C.Leave f t) = leave φ (stored (second f)) (stored (second t)) (c .direction (second f))
+  entryOf φ (C.Graze f t) = graze φ (stored (second f)) (stored (second t))
+  entryOf φ (C.Open f t) = opened φ (stored (second f)) (stored (second t))
+
+  -- the entries of a phase, by time
+  unfoldable pub phaseEntries : Phase → List Entry
+  phaseEntries φ = map (entryOf φ) (entries (statesOf φ))
+
+  -- those of some phases, one after the other
+  abbrev pub entriesOf : List Phase → List Entry
+  entriesOf [] = []
+  entriesOf (φ ∷ φs) = phaseEntries φ ++ entriesOf φs
+
+  unfoldable pub headEntry : Entry
+  headEntry = head (c .station) (stored (c .window .first)) (stored (c .window .last))
+
+  -- "*Closest* .. with its magnitude"
+  unfoldable pub closestEntry : Entry
+  closestEntry = closest (stored (second (c .closest))) (c .magnitude (second (c .closest)))
+
+  -- "Order: head, penumbra by time, central by time, closest, end"
+  unfoldable pub sheetOf : List Entry
+  sheetOf = headEntry ∷ (entriesOf (c .phases) ++ closestEntry ∷ end ∷ [])

@@ -1,0 +1,28 @@
+-- A course whose sheet keeps a reader's rules: its numbers are in their ranges, and each phase comes once, in the order of the sheet.
+use mathlib.Core.Path.{_≡_}
+use mathlib.Core.List.{List, [], _∷_}
+use mathlib.Core.Bool.{false}
+use mathlib.Core.Logic.{_⊎_}
+use Prim.Native.Nat.{ℕ, _≤_, _<_}
+use lib.IntN.{ℤ}
+use Rattle.phases.specs.declared.Phase.{Phase}
+use Rattle.phases.specs.Phases.{Listed, times}
+use Rattle.requests.specs.Windows.{InWindow, secondCount}
+use Rattle.requests.specs.WindowLaws.{WindowHolds}
+use Rattle.rules.specs.Order.{phaseFollows}
+use Rattle.courses.specs.Courses.{Course}
+
+-- each phase stands before the next in the order of a sheet
+abbrev pub InOrder : List Phase → Type 0
+InOrder [] = Unit
+InOrder (φ ∷ []) = Unit
+InOrder (φ ∷ ψ ∷ ψs) = (phaseFollows ψ φ ≡ false) × InOrder (ψ ∷ ψs)
+
+pub record Sound (c : Course) : Type 0 where
+  pub station : (1 ≤ c .station) × (c .station ≤ 999)
+  pub window : WindowHolds (c .window)
+  pub once : (φ : Phase) → Listed φ (c .phases) → times φ (c .phases) ≡ 1
+  pub order : InOrder (c .phases)
+  pub direction : (τ : ℤ) → (c .direction τ ≤ 3599) ⊎ (c .direction τ ≡ 65535)
+  pub closest : c .closest < secondCount (c .window)
+  pub magnitude : (τ : ℤ) → InWindow (c .window) τ → c .magnitude τ ≤ 1300000

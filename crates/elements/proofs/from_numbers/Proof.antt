@@ -1,0 +1,63 @@
+-- `elements::from_numbers` meets its contract: each part is read from its places, and the tangents from theirs. Assumes nothing.
+use borrow.Author.Needs.{needs}
+use lib.IntN.{pos}
+use lib.ListN.{getD}
+use Rattle.numbers.specs.Code.{read-result}
+use Rattle.elements.specs.Elements.{elementsOf}
+use Rattle.elements.proofs.from_numbers.Statement.{statement}
+use Rattle.elements.proofs.from_numbers.Tie as tie
+
+cubic-from-requires : tie.Need-cubic-from-requires
+cubic-from-requires c κs = search needs
+
+cubic-from-requires-2 : tie.Need-cubic-from-requires-2
+cubic-from-requires-2 c κs = search needs
+
+quadratic-from-requires : tie.Need-quadratic-from-requires
+quadratic-from-requires c κs = search needs
+
+quadratic-from-requires-2 : tie.Need-quadratic-from-requires-2
+quadratic-from-requires-2 c κs = search needs
+
+quadratic-from-requires-3 : tie.Need-quadratic-from-requires-3
+quadratic-from-requires-3 c κs = search needs
+
+quadratic-from-requires-4 : tie.Need-quadratic-from-requires-4
+quadratic-from-requires-4 c κs = search needs
+
+shared-slice-copy-out-tanf1 : tie.Need-shared-slice-copy-out-tanf1
+shared-slice-copy-out-tanf1 c = search needs
+
+shared-slice-copy-out-tanf2 : tie.Need-shared-slice-copy-out-tanf2
+shared-slice-copy-out-tanf2 c = search needs
+
+returns : tie.Need-returns
+unfolding elementsOf
+returns c =
+    let m = c .before .before in
+    let y = m .before .before .before .before in
+    let n = y .before .before .args .n .now in
+    rw (
+      y .before .cubic-from .ensures,
+      y .cubic-from2 .ensures,
+      m .before .before .before .quadratic-from .ensures,
+      m .before .before .quadratic-from2 .ensures,
+      m .before .quadratic-from3 .ensures,
+      m .quadratic-from4 .ensures,
+      read-result (getD n 20 (pos 0)) (c .before .tanf1 .given),
+      read-result (getD n 21 (pos 0)) (c .tanf2 .given),
+    )
+
+pub from-numbers-spec : {M : Type 1} → statement M
+from-numbers-spec =
+    tie.close
+    (tie.spec
+    cubic-from-requires
+    cubic-from-requires-2
+    quadratic-from-requires
+    quadratic-from-requires-2
+    quadratic-from-requires-3
+    quadratic-from-requires-4
+    shared-slice-copy-out-tanf1
+    shared-slice-copy-out-tanf2
+    returns)

@@ -1,0 +1,35 @@
+-- What callers use of checks.
+use mathlib.Core.Path.{_≡_, refl, sym, subst, ap}
+use Prim.Native.Nat.{ℕ}
+use native.Mathlib.Omega.{arith}
+use Rattle.numbers.specs.declared.Limits.{Limits}
+use Rattle.numbers.specs.declared.Limits.the-variants.{InRange, OutOfRange}
+use Rattle.refusals.specs.declared.Refusal.{Refusal}
+use Rattle.refusals.specs.declared.Checked.{Checked}
+use Rattle.refusals.specs.declared.Checked.the-variants.{Within, Refused}
+use Rattle.refusals.specs.Refusals.{ofLimits, andThen}
+
+abbrev isWithin : Checked → Type 0
+isWithin Within = Unit
+isWithin (Refused r) = ⊥
+
+pub not-within : {r : Refusal} → Refused r ≡ Within → ⊥
+not-within e = subst isWithin (sym e) tt
+
+-- nothing is refused: every number is in its range
+pub of-limits-within : (number : ℕ) (l : Limits) → ofLimits number l ≡ Within → l ≡ InRange
+of-limits-within number InRange e = refl
+of-limits-within number (OutOfRange k) e = absurd (not-within e)
+
+-- nothing is refused by both
+pub both-within : (c d : Checked) → andThen c d ≡ Within → (c ≡ Within) × (d ≡ Within)
+both-within Within d e = (refl, e)
+both-within (Refused r) d e = absurd (not-within e)
+
+-- the number that a check can give
+abbrev pub numberIn : Checked → ℕ
+numberIn Within = 0
+numberIn (Refused r) = r .number
+
+pub refused-number : {c : Checked} {r : Refusal} → c ≡ Refused r → r .number ≡ numberIn c
+refused-number {c} {r} e = sym (ap numberIn e)

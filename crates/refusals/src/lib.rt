@@ -1,0 +1,27 @@
+// Why something is refused, in document 01's numbers.
+ghost use mathlib.Core.Path.{_≡_};
+ghost use Rattle.refusals.specs.Refusals.{ofLimits};
+
+// A row of document 01's table of refusals.
+pub struct Refusal {
+    // its number there: 1 to 10
+    pub number: u32,
+    // its place, by that row: a field, a byte, a length
+    pub place: usize,
+}
+
+// Whether some numbers are within their limits.
+pub enum Checked {
+    Within,
+    Refused(Refusal),
+}
+
+// Numbers against their ranges, refused under that number with the first that is out of range.
+pub fn of_limits(number: u32, limits: numbers::Limits) -> Checked
+    ensures { λ r. ⌜ r ≡ ofLimits number limits ⌝ }
+{
+    match limits {
+        numbers::Limits::InRange => Checked::Within,
+        numbers::Limits::OutOfRange(place) => Checked::Refused(Refusal { number, place }),
+    }
+}

@@ -1,0 +1,19 @@
+-- `request_bytes::after_kind` meets its contract: no kind has no bytes, any other is one. Assumes nothing.
+use mathlib.Core.Path.{refl}
+use native.Mathlib.Omega.{arith}
+use borrow.Author.Needs.{needs}
+use Rattle.request_bytes.specs.RowLaws.{kind-none, kind-some}
+use Rattle.request_bytes.proofs.after_kind.Statement.{statement}
+use Rattle.request_bytes.proofs.after_kind.Tie as tie
+
+add-result : tie.Need-add-result
+add-result c = search needs
+
+returns : tie.Need-returns
+returns c = rw (kind-none _ (c .if1 .taken)) (omega arith)
+
+returns-2 : tie.Need-returns-2
+returns-2 c = rw (kind-some _ (c .if1 .left)) refl
+
+pub after-kind-spec : {M : Type 1} → statement M
+after-kind-spec = tie.close (tie.spec add-result returns returns-2)

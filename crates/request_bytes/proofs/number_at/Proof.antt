@@ -1,0 +1,80 @@
+-- `request_bytes::number_at` meets its contract: in each arm the value of its bytes, read as the width says. Assumes nothing.
+use mathlib.Core.Path.{_≡_, ap, subst, _∙_}
+use Prim.Native.Nat.{_+_, _≤_}
+use native.Mathlib.Omega.{arith}
+use borrow.Author.Needs.{needs}
+use lib.IntN.{pos}
+use lib.ListN.{length}
+use Rattle.numbers.specs.Code.{read-result, count-is}
+use Rattle.request_fields.specs.declared.Width.{Width}
+use Rattle.request_fields.specs.Fields.{bytesIn}
+use Rattle.request_bytes.specs.Layout.{signed, numberAt}
+use Rattle.request_bytes.proofs.number_at.Statement.{statement}
+use Rattle.request_bytes.proofs.number_at.Tie as tie
+
+-- where the width is w, its bytes are there
+room : (c : tie.Start) (w : Width) → c .args .width ≡ w → c .args .at + bytesIn w ≤ length (c .args .s .now)
+room c w e = subst (λ (v : Width). c .args .at + bytesIn v ≤ length (c .args .s .now)) e (c .pre)
+
+enum-told : tie.Need-enum-told
+enum-told c = search needs
+
+two-at-requires : tie.Need-two-at-requires
+two-at-requires c κs = room (c .before .before .before) _ (c .enum-told .given .1)
+
+cast-result : tie.Need-cast-result
+cast-result c = search needs
+
+enum-told-2 : tie.Need-enum-told-2
+enum-told-2 c = search needs
+
+two-at-requires-2 : tie.Need-two-at-requires-2
+two-at-requires-2 c κs = room (c .before .before .before) _ (c .enum-told2 .given .1)
+
+signed-requires : tie.Need-signed-requires
+signed-requires c κs = search needs
+
+enum-told-3 : tie.Need-enum-told-3
+enum-told-3 c = search needs
+
+four-at-requires : tie.Need-four-at-requires
+four-at-requires c κs = room (c .before .before .before) _ (c .enum-told3 .given .1)
+
+signed-requires-2 : tie.Need-signed-requires-2
+signed-requires-2 c κs = search needs
+
+returns : tie.Need-returns
+unfolding numberAt
+returns c =
+    let n = c .two-at in
+    let small : n .result ≤ 65535 = omega (arith, n .ensures .1) in
+    count-is (n .result) small tt ∙ rw (c .before .enum-told .given .1) (ap pos (n .ensures .0))
+
+returns-2 : tie.Need-returns-2
+unfolding numberAt
+returns-2 c =
+    let z = c .signed in
+    read-result (z .result) (z .ok) ∙ z .ensures ∙ rw (c .before .before .enum-told2 .given .1) (ap (signed 32768) (c .before .two-at2 .ensures .0))
+
+returns-3 : tie.Need-returns-3
+unfolding numberAt
+returns-3 c =
+    let z = c .signed2 in
+    read-result (z .result) (z .ok) ∙ z .ensures ∙ rw (c .before .before .enum-told3 .given .1) (ap (signed 2147483648) (c .before .four-at .ensures))
+
+pub number-at-spec : {M : Type 1} → statement M
+number-at-spec =
+    tie.close
+    (tie.spec
+    enum-told
+    two-at-requires
+    cast-result
+    enum-told-2
+    two-at-requires-2
+    signed-requires
+    enum-told-3
+    four-at-requires
+    signed-requires-2
+    returns
+    returns-2
+    returns-3)

@@ -1,0 +1,130 @@
+-- Laws of the numbers read one after the other (`Getting`).
+use mathlib.Core.Path.{_≡_, refl, sym, ap, _∙_}
+use mathlib.Core.Bool.{Bool, true, false, cond}
+use mathlib.Core.List.{List, [], _∷_, _++_, append-assoc, append-nil}
+use Prim.Native.Nat.{ℕ, _+_, _≤_, _<_}
+use native.Mathlib.Omega.{arith}
+use native.Mathlib.Numerals.{add-one}
+use borrow.Author.Tests.{le-leb, lt-leb, leb-true}
+use lib.Dec.{leb}
+use lib.IntN.{ℤ, pos}
+use lib.ListN.{length, take, drop, set, replicate, length-set, drop-of-length-le}
+use lib.Seq.{drop-cons, take-suc-set, take-all}
+use Rattle.request_fields.specs.declared.Field.{Field}
+use Rattle.request_fields.specs.Fields.{bytesIn, count}
+use Rattle.request_fields.specs.Rows.{rowAt}
+use Rattle.request_bytes.specs.declared.Got.{Got}
+use Rattle.request_bytes.specs.declared.Got.the-variants as G
+use Rattle.request_bytes.specs.declared.Part.{Part}
+use Rattle.request_bytes.specs.declared.Part.the-variants as P
+use Rattle.request_bytes.specs.Layout.{numberAt, Piece, Reading, numbers, misshaped, before, readBy}
+use Rattle.request_bytes.specs.Request.{readingOf, gotOf, numbersAfter}
+use Rattle.request_bytes.specs.Rows.{rest, kindBytes, kindStands, partFrom, partOf}
+use Rattle.request_bytes.specs.RowLaws.{rest-all, rest-end, onward, read-next}
+
+-- ---- one field
+
+module _ (f : Field) (s : List ℕ) (at : ℕ) where
+  pub part-other : kindStands (f .4) s at ≡ false → P.Misshaped ≡ partOf f s at
+  unfolding partOf
+  part-other e = rw e
+
+  module _ (start next : ℕ) (k : kindStands (f .4) s at ≡ true) (e : start ≡ at + length (kindBytes (f .4))) (n : next ≡ start + bytesIn (f .3)) where
+    pub part-short : length s < next → P.Misshaped ≡ partOf f s at
+    unfolding partOf
+    part-short h = rw (k, ← e, ← n, lt-leb next (length s) h)
+
+    pub part-is : (z : ℤ) → next ≤ length s → z ≡ numberAt (f .3) s start → P.Is z next ≡ partOf f s at
+    unfolding partOf
+    part-is z h q = rw (k, ← e, ← n, le-leb next (length s) h, q)
+
+-- the place after a field is in the bytes
+pub part-within : (f : Field) (s : List ℕ) (at : ℕ) (z : ℤ) (next : ℕ) → partOf f s at ≡ P.Is z next → next ≤ length s
+unfolding partOf
+part-within f s at z next e = by (kindStands (f .4) s at) e
+  where
+    start : ℕ
+    start = at + length (kindBytes (f .4))
+
+    from : (t : Bool) → leb (start + bytesIn (f .3)) (length s) ≡ t → cond t (P.Is (numberAt (f .3) s start) (start + bytesIn (f .3))) P.Misshaped
+        ≡ P.Is z next → next ≤ length s
+    from true q r = let n : start + bytesIn (f .3) ≡ next = cc in omega (arith, leb-true (start + bytesIn (f .3)) (length s) q)
+    from false q r = let x : _≡_ {A = ℕ} 0 1 = cc in absurd (omega arith)
+
+    by : (t : Bool) → cond t (partFrom (f .3) s start) P.Misshaped ≡ P.Is z next → next ≤ length s
+    by true r = from (leb (start + bytesIn (f .3)) (length s)) refl r
+    by false r = let x : _≡_ {A = ℕ} 0 1 = cc in absurd (omega arith)
+
+-- ---- the numbers before number k are read, from the bytes before `at`
+
+abbrev joined : List ℤ → Reading → Reading
+joined xs (numbers ys) = numbers (xs ++ ys)
+joined xs misshaped = misshaped
+
+joined-before : (xs : List ℤ) (z : ℤ) (r : Reading) → joined xs (before z r) ≡ joined (xs ++ (z ∷ [])) r
+joined-before xs z (numbers ys) = ap numbers (sym (append-assoc xs (z ∷ []) ys))
+joined-before xs z misshaped = refl
+
+joined-none : (r : Reading) → r ≡ joined [] r
+joined-none (numbers ys) = refl
+joined-none misshaped = refl
+
+pub record Getting (s : List ℕ) (found : List ℤ) (at k : ℕ) : Type 0 where
+  pub reading : readingOf s ≡ joined (take k found) (readBy (rest k) (drop at s))
+  pub place : at ≤ length s
+  pub room : length found ≡ count
+  pub fields : k ≤ count
+
+pub getting-start : (s : List ℕ) → Getting s (replicate count (pos 0)) 0 0
+unfolding readingOf
+getting-start s =
+    record {
+      reading = ap (λ (l : List Piece). readBy l s) (sym rest-all) ∙ joined-none (readBy (rest 0) s);
+      place = omega arith;
+      room = refl;
+      fields = omega arith;
+    }
+
+-- what is promised of an answer and the numbers that are left
+abbrev pub Answered : List ℕ → List ℤ → Got → List ℤ → Type 0
+Answered s old r new = (r ≡ gotOf (readingOf s)) × (new ≡ numbersAfter (readingOf s) old)
+
+answered : (s : List ℕ) (old : List ℤ) (x : Reading) → readingOf s ≡ x → Answered s old (gotOf x) (numbersAfter x old)
+answered s old x e = (ap gotOf (sym e), ap (λ (y : Reading). numbersAfter y old) (sym e))
+
+module _ (s : List ℕ) (found : List ℤ) (at k : ℕ) (g : Getting s found at k) where
+  module _ (h : k < count) where
+    next : (p : Part) → partOf (rowAt k) s at ≡ p → readingOf s ≡ joined (take k found) (onward (rest (k + 1)) s p)
+    next p e = g .reading ∙ ap (joined (take k found)) (read-next s at k h (g .place) ∙ ap (onward (rest (k + 1)) s) e)
+
+    pub getting-other : (old : List ℤ) → partOf (rowAt k) s at ≡ P.Misshaped → Answered s old G.Misshaped old
+    getting-other old e = answered s old misshaped (next P.Misshaped e)
+
+    pub getting-more : (z : ℤ) (after : ℕ) → partOf (rowAt k) s at ≡ P.Is z after → Getting s (set found k z) after (k + 1)
+    getting-more z after e =
+        record {
+          reading = next (P.Is z after) e ∙ joined-before (take k found) z (readBy (rest (k + 1)) (drop after s))
+              ∙ ap (λ (l : List ℤ). joined l (readBy (rest (k + 1)) (drop after s))) one;
+          place = part-within (rowAt k) s at z after e;
+          room = length-set found k z ∙ g .room;
+          fields = omega arith;
+        }
+      where
+        one : take k found ++ (z ∷ []) ≡ take (k + 1) (set found k z)
+        one = rw (add-one, take-suc-set found k z (omega (arith, g .room)))
+
+  module _ (h : count ≤ k) where
+    at-end : readingOf s ≡ joined (take k found) (readBy [] (drop at s))
+    at-end = g .reading ∙ ap (λ (l : List Piece). joined (take k found) (readBy l (drop at s))) (rest-end k h)
+
+    pub getting-longer : (old : List ℤ) → (at ≡ length s → ⊥) → Answered s old G.Misshaped old
+    unfolding readBy
+    getting-longer old n = answered s old misshaped
+        (at-end ∙ ap (λ (l : List ℕ). joined (take k found) (readBy [] l)) (drop-cons s at 0 (omega (arith, g .place))))
+
+    pub getting-end : (old : List ℤ) → at ≡ length s → Answered s old G.Numbers found
+    unfolding readBy
+    getting-end old n =
+        answered s old (numbers found)
+        (at-end ∙ ap (λ (l : List ℕ). joined (take k found) (readBy [] l)) (drop-of-length-le s {i = at} (omega arith))
+        ∙ ap numbers (append-nil (take k found) ∙ take-all k found (omega (arith, g .room))))

@@ -1,0 +1,55 @@
+-- The rows of the code's table are those of the definition: a name with blanks after it, and a kind where a record begins.
+-- Assumes nothing: these are definitions.
+use Prim.Native.Nat.{ℕ}
+use Prim.Native.Char.{code}
+use Prim.Native.String.{String, [] as ε, _∷_ as _then_}
+use mathlib.Core.List.{List, [], _∷_, _++_, map}
+use lib.ListN.{length, getD, take, replicate}
+use Rattle.request_fields.specs.declared.Width.{Width}
+use Rattle.request_fields.specs.declared.Width.the-variants as W
+use Rattle.request_fields.specs.declared.Field.{Field}
+use Rattle.request_fields.specs.Fields.{Number, Record, layout}
+
+-- the bytes of some letters
+abbrev pub letters : String → List ℕ
+letters ε = []
+letters (c then s) = code c ∷ letters s
+
+abbrev pub rowOf : ℕ → Number → Field
+rowOf kind n =
+    record {
+      0 = take 9 (letters (n .name) ++ replicate 9 (code " "));
+      1 = length (letters (n .name));
+      2 = n .decimals;
+      3 = n .width;
+      4 = kind;
+    }
+
+-- the first number of a record has its kind, the others have none
+abbrev pub begun : ℕ → List Number → List Field
+begun kind [] = []
+begun kind (n ∷ ns) = rowOf kind n ∷ map (rowOf 0) ns
+
+abbrev pub rowsOf : List Record → List Field
+rowsOf [] = []
+rowsOf (r ∷ rs) = begun (r .kind) (r .numbers) ++ rowsOf rs
+
+-- document 01's
+unfoldable pub rows : List Field
+rows = rowsOf layout
+
+abbrev pub none : Field
+none = record { 0 = []; 1 = 0; 2 = 0; 3 = W.Unsigned2; 4 = 0 }
+
+unfoldable pub rowAt : ℕ → Field
+rowAt k = getD rows k none
+
+-- a field's name, how many decimals one unit has, its bytes
+abbrev pub nameOf : Field → List ℕ
+nameOf f = take (f .1) (f .0)
+
+abbrev pub decimalsOf : ℕ → ℕ
+decimalsOf k = rowAt k .2
+
+abbrev pub widthOf : ℕ → Width
+widthOf k = rowAt k .3

@@ -1,0 +1,60 @@
+-- What a line of a typed request says: a number of the request and its value in whole units.
+-- Assumes nothing: these are definitions.
+use Prim.Native.Nat.{ℕ}
+use mathlib.Core.Bool.{cond}
+use mathlib.Core.List.{List}
+use lib.Dec.{eqb}
+use lib.IntN.{ℤ, pos, negℤ}
+use lib.ListN.{length, take, drop}
+use Rattle.request_fields.specs.declared.Width.{Width}
+use Rattle.request_fields.specs.Fields.{holds}
+use Rattle.request_fields.specs.Rows.{decimalsOf, widthOf}
+use Rattle.words.specs.declared.Class.the-variants as C
+use Rattle.words.specs.Text.{runOf, allOf, startOf}
+use Rattle.words.specs.Numbers.{isNumber, isWhole, amount}
+use Rattle.request_text.specs.declared.Found.{Found}
+use Rattle.request_text.specs.declared.Found.the-variants as F
+use Rattle.request_text.specs.declared.Fault.the-variants as Fault
+use Rattle.request_text.specs.declared.Line.{Line}
+use Rattle.request_text.specs.declared.Line.the-variants as L
+use Rattle.request_text.specs.Names.{names, findIn}
+
+-- n, below zero where `minus` is 1
+unfoldable pub withSign : ℕ → ℕ → ℤ
+withSign minus n = cond (eqb minus 1) (negℤ (pos n)) (pos n)
+
+-- "as long as they fit their bytes": n units
+unfoldable pub fitted : ℕ → Width → ℕ → ℕ → Line
+fitted k w minus n = cond (holds w (withSign minus n)) (L.Given k (withSign minus n)) (L.Faulty (Fault.Unfit k))
+
+-- "a value that is no whole number of units is refused, not rounded"
+unfoldable pub valueOf : ℕ → List ℕ → Line
+valueOf k w =
+    cond (isNumber w)
+    (cond (isWhole (decimalsOf k) w) (fitted k (widthOf k) (startOf C.Minus w) (amount (decimalsOf k) w)) (L.Faulty (Fault.NotWhole k)))
+    (L.Faulty (Fault.NotNumber k))
+
+-- what follows a name: blanks, the value, and nothing but blanks
+abbrev pub valued : List ℕ → List ℕ
+valued s = drop (runOf C.Blank s) s
+
+unfoldable pub ofValue : ℕ → List ℕ → Line
+ofValue k s =
+    cond (allOf C.Blank (drop (runOf C.Word s) s)) (valueOf k (take (runOf C.Word s) s)) (L.Faulty (Fault.NotNumber k))
+
+abbrev pub ofFound : List ℕ → Found → Line
+ofFound said F.Nowhere = L.Faulty Fault.Unknown
+ofFound said (F.At k n) = ofValue k (valued (drop n said))
+
+unfoldable pub ofName : List ℕ → Line
+ofName said = ofFound said (findIn names 0 said)
+
+-- "`#` starts a comment"; "one `name value` a line"
+abbrev pub content : List ℕ → List ℕ
+content l = take (runOf C.Said l) l
+
+abbrev pub said : List ℕ → List ℕ
+said l = drop (runOf C.Blank (content l)) (content l)
+
+unfoldable pub meaningOf : List ℕ → Line
+meaningOf l = cond (eqb (length (said l)) 0) L.Nothing (ofName (said l))

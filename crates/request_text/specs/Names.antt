@@ -1,0 +1,28 @@
+-- The names of a request's numbers, and which of them a line says.
+-- Assumes nothing: these are definitions. The numbers: request_fields, Fields.
+use Prim.Native.Nat.{ℕ, _+_}
+use mathlib.Core.Bool.{Bool, true, false, cond, _&&_}
+use mathlib.Core.List.{List, [], _∷_, map}
+use lib.Dec.{eqb}
+use lib.ListN.{length}
+use Rattle.request_fields.specs.Fields.{Number, layout, numbersOf}
+use Rattle.request_fields.specs.Rows.{letters}
+use Rattle.words.specs.declared.Class.the-variants as C
+use Rattle.words.specs.Text.{isIn}
+use Rattle.request_text.specs.declared.Found.{Found}
+use Rattle.request_text.specs.declared.Found.the-variants as F
+
+unfoldable pub names : List (List ℕ)
+names = map (λ (n : Number). letters (n .name)) (numbersOf layout)
+
+-- what is said begins with the name, and a blank or nothing follows it
+unfoldable pub named : List ℕ → List ℕ → Bool
+named [] [] = true
+named [] (x ∷ s) = isIn C.Blank x
+named (n ∷ ns) [] = false
+named (n ∷ ns) (x ∷ s) = eqb x n && named ns s
+
+-- the first of some names, from name k on, that is said, and its length
+unfoldable pub findIn : List (List ℕ) → ℕ → List ℕ → Found
+findIn [] k said = F.Nowhere
+findIn (n ∷ ns) k said = cond (named n said) (F.At k (length n)) (findIn ns (k + 1) said)

@@ -1,0 +1,75 @@
+-- A typed request: one `name value` a line, and the numbers that the lines give.
+-- Assumes nothing: these are definitions.
+use Prim.Native.Nat.{ℕ, _+_, _<_}
+use mathlib.Core.Path.{_≡_}
+use mathlib.Core.Bool.{true, cond}
+use mathlib.Core.List.{List, [], _∷_}
+use lib.Dec.{eqb}
+use lib.IntN.{ℤ, pos}
+use lib.ListN.{getD, set, replicate}
+use Rattle.request_fields.specs.Fields.{holds, count}
+use Rattle.request_fields.specs.Rows.{widthOf}
+use Rattle.words.specs.Text.{linesOf}
+use Rattle.request_text.specs.declared.Fault.{Fault}
+use Rattle.request_text.specs.declared.Fault.the-variants as Fault
+use Rattle.request_text.specs.declared.Line.{Line}
+use Rattle.request_text.specs.declared.Line.the-variants as L
+use Rattle.request_text.specs.declared.Noted.{Noted}
+use Rattle.request_text.specs.declared.Noted.the-variants as N
+use Rattle.request_text.specs.declared.Typed.{Typed}
+use Rattle.request_text.specs.declared.Typed.the-variants as T
+use Rattle.request_text.specs.Lines.{meaningOf}
+
+-- a line is taken, but not where its name was given before: a field that was given is marked 1
+abbrev pub notedOf : Line → List ℕ → Noted
+notedOf L.Nothing marks = N.Taken
+notedOf (L.Faulty f) marks = N.Refused f
+notedOf (L.Given k z) marks = cond (eqb (getD marks k 0) 0) N.Taken (N.Refused (Fault.Twice k))
+
+abbrev pub marksAfter : Line → List ℕ → List ℕ
+marksAfter L.Nothing marks = marks
+marksAfter (L.Faulty f) marks = marks
+marksAfter (L.Given k z) marks = cond (eqb (getD marks k 0) 0) (set marks k 1) marks
+
+abbrev pub numbersAfter : Line → List ℕ → List ℤ → List ℤ
+numbersAfter L.Nothing marks ns = ns
+numbersAfter (L.Faulty f) marks ns = ns
+numbersAfter (L.Given k z) marks ns = cond (eqb (getD marks k 0) 0) (set ns k z) ns
+
+-- "a name missing": the first field, from field k on, that is not marked
+unfoldable pub missing : ℕ → List ℕ → Noted
+missing k [] = N.Taken
+missing k (x ∷ marks) = cond (eqb x 0) (N.Refused (Fault.Missing k)) (missing (k + 1) marks)
+
+-- what a text is: the numbers of the request, or the first line that is refused, and why
+pub data Typing : Type 0 where
+  given : List ℤ → Typing
+  refused : ℕ → Fault → Typing
+
+abbrev pub onward : Noted → ℕ → Typing → Typing
+onward N.Taken i r = r
+onward (N.Refused f) i r = refused i f
+
+-- the lines from line i on; after the last, no field may be missing
+unfoldable pub readLines : List (List ℕ) → ℕ → List ℤ → List ℕ → Typing
+readLines [] i ns marks = onward (missing 0 marks) i (given ns)
+readLines (l ∷ ls) i ns marks =
+    onward (notedOf (meaningOf l) marks) i (readLines ls (i + 1) (numbersAfter (meaningOf l) marks ns) (marksAfter (meaningOf l) marks))
+
+unfoldable pub typingOf : List ℕ → Typing
+typingOf text = readLines (linesOf text) 1 (replicate count (pos 0)) (replicate count 0)
+
+abbrev pub answerOf : Typing → Typed
+answerOf (given ns) = T.Numbers
+answerOf (refused i f) = T.Refused i f
+
+-- on a refusal the numbers lent are as they were
+abbrev pub numbersFrom : Typing → List ℤ → List ℤ
+numbersFrom (given ns) old = ns
+numbersFrom (refused i f) old = old
+
+-- a line that gives a number gives one of the request's, and one that its bytes hold
+abbrev pub InFields : Line → Type 0
+InFields L.Nothing = Unit {0}
+InFields (L.Faulty f) = Unit {0}
+InFields (L.Given k z) = (k < count) × (holds (widthOf k) z ≡ true)

@@ -1,0 +1,72 @@
+// A request: the elements of an eclipse, a station and a window of seconds. Its limits, and the refusals 1, 2 and 3.
+use refusals::Checked;
+use refusals::Refusal;
+ghost use mathlib.Core.Path.{_≡_};
+ghost use Prim.Native.Nat.{_<_};
+ghost use lib.IntN.{pos, _+ℤ_};
+ghost use Rattle.requests.specs.Windows.{inSpan, windowHolds, secondCount, nthSecond};
+ghost use Rattle.requests.specs.Requests.{checked};
+ghost use Rattle.requests.specs.WindowLaws.{WindowHolds};
+
+// First and last second of the window, from the reference instant: -10,800 ≤ first ≤ last ≤ 10,800.
+pub struct Window {
+    pub first: i64,
+    pub last: i64,
+}
+
+// What a sheet is asked for: any numbers.
+pub struct Request {
+    pub elements: elements::Elements,
+    pub station: station::Station,
+    pub window: Window,
+}
+
+// Whether a window may have that second.
+pub fn in_span(t: i64) -> bool
+    ensures { λ r. ⌜ r ≡ inSpan t ⌝ }
+{
+    (-10_800 <= t) & (t <= 10_800)
+}
+
+fn window_holds(w: Window) -> bool
+    ensures { λ r. ⌜ r ≡ windowHolds w ⌝ }
+{
+    (-10_800 <= w.first) & ((w.first <= w.last) & (w.last <= 10_800))
+}
+
+// Whether the request is within its limits, or the first of its refusals 1, 2, 3.
+pub fn check(q: Request) -> Checked
+    ensures { λ r. ⌜ r ≡ checked q ⌝ }
+{
+    let w = q.window;
+    let holds = window_holds(w);
+    if !holds {
+        return Checked::Refused(Refusal {
+            number: 1,
+            place: 0,
+        });
+    }
+    let e = q.elements;
+    let of_elements = elements::check(e);
+    if let Checked::Refused(refusal) = of_elements {
+        return Checked::Refused(refusal);
+    }
+    let s = q.station;
+    station::check(s)
+}
+
+// How many seconds the window has, first and last among them.
+pub fn second_count(w: Window) -> usize
+    requires { ⌜ WindowHolds w ⌝ }
+    ensures { λ r. ⌜ r ≡ secondCount w ⌝ }
+{
+    (w.last - w.first) as usize + 1
+}
+
+// The k-th second of the window, counted from 0.
+pub fn nth_second(w: Window, k: usize) -> i64
+    requires { ⌜ (WindowHolds w) × (k < secondCount w) ⌝ }
+    ensures { λ r. ⌜ r ≡ nthSecond w k ⌝ }
+{
+    w.first + k as i64
+}

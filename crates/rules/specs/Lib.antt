@@ -1,0 +1,4 @@
+pub mod Order
+pub mod Rules
+pub mod RuleLaws
+pub mod FieldFits

@@ -1,0 +1,80 @@
+-- The order of a sheet: what may come after what came last.
+-- Assumes nothing: these are definitions.
+use mathlib.Core.Bool.{Bool, true, false}
+use Rattle.phases.specs.declared.Phase.{Phase}
+use Rattle.phases.specs.declared.Phase.the-variants.{Penumbra, Central}
+use Rattle.records.specs.declared.Stage.{Stage}
+use Rattle.records.specs.declared.Stage.the-variants as S
+use Rattle.records.specs.declared.Crossing.{Crossing}
+use Rattle.records.specs.declared.Crossing.the-variants as C
+
+abbrev pub samePhase : Phase → Phase → Bool
+samePhase Penumbra Penumbra = true
+samePhase Penumbra Central = false
+samePhase Central Penumbra = false
+samePhase Central Central = true
+
+-- "penumbra by time, central by time": entries of a phase follow its own and an earlier phase's
+abbrev pub phaseFollows : Phase → Phase → Bool
+phaseFollows Penumbra ψ = true
+phaseFollows Central Penumbra = false
+phaseFollows Central Central = true
+
+-- what came last: nothing
+abbrev pub nothingCame : Stage → Bool
+nothingCame S.Start = true
+nothingCame S.Head = false
+nothingCame (S.Phase φ) = false
+nothingCame S.Closest = false
+nothingCame S.End = false
+
+-- the head, or an entry of a phase that entries of ψ may follow
+abbrev pub phaseMayCome : Stage → Phase → Bool
+phaseMayCome S.Start ψ = false
+phaseMayCome S.Head ψ = true
+phaseMayCome (S.Phase φ) ψ = phaseFollows φ ψ
+phaseMayCome S.Closest ψ = false
+phaseMayCome S.End ψ = false
+
+-- the head, or an entry of any phase
+abbrev pub headOrPhaseCame : Stage → Bool
+headOrPhaseCame S.Start = false
+headOrPhaseCame S.Head = true
+headOrPhaseCame (S.Phase φ) = true
+headOrPhaseCame S.Closest = false
+headOrPhaseCame S.End = false
+
+-- closest
+abbrev pub closestCame : Stage → Bool
+closestCame S.Start = false
+closestCame S.Head = false
+closestCame (S.Phase φ) = false
+closestCame S.Closest = true
+closestCame S.End = false
+
+-- "Order: head, penumbra by time, central by time, closest, end; head, closest and end exactly once";
+-- "A record that stands where another is due breaks order": whether an entry of a stage may come after what came last
+abbrev pub mayCome : Stage → Stage → Bool
+mayCome last S.Start = false
+mayCome last S.Head = nothingCame last
+mayCome last (S.Phase φ) = phaseMayCome last φ
+mayCome last S.Closest = headOrPhaseCame last
+mayCome last S.End = closestCame last
+
+-- an entry of that phase came last
+abbrev pub isWithin : Stage → Phase → Bool
+isWithin S.Start ψ = false
+isWithin S.Head ψ = false
+isWithin (S.Phase φ) ψ = samePhase φ ψ
+isWithin S.Closest ψ = false
+isWithin S.End ψ = false
+
+-- "no enter next to an enter or leave next to a leave": after the last crossing, this one
+abbrev pub repeats : Crossing → Crossing → Bool
+repeats last C.Neither = false
+repeats C.Neither C.Enter = false
+repeats C.Enter C.Enter = true
+repeats C.Leave C.Enter = false
+repeats C.Neither C.Leave = false
+repeats C.Enter C.Leave = false
+repeats C.Leave C.Leave = true

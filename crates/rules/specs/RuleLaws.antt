@@ -1,0 +1,23 @@
+-- What the rules say of an entry, taken apart.
+use Prim.Native.Nat.{ℕ}
+use mathlib.Core.Path.{_≡_, refl}
+use mathlib.Core.Bool.{Bool, true, false}
+use native.Mathlib.Omega.{arith}
+use Rattle.records.specs.declared.Progress.{Progress}
+use Rattle.records.specs.declared.Entry.{Entry}
+use Rattle.rules.specs.declared.Judgement.the-variants.{Next}
+use Rattle.rules.specs.Rules.{inOrder, fieldsHold, afterOf, verdictOn, judgedAs, judgementOf}
+
+module _ (p : Progress) (at : ℕ) (e : Entry) where
+  pub judged-next : inOrder p e ≡ true → fieldsHold p e ≡ true → judgementOf p at e ≡ Next (afterOf p e)
+  unfolding judgedAs
+  judged-next o f = rw (o, f)
+
+  pub next-inv : (q : Progress) → judgementOf p at e ≡ Next q → (inOrder p e ≡ true) × (fieldsHold p e ≡ true) × (q ≡ afterOf p e)
+  unfolding judgedAs
+  next-inv q t = by (inOrder p e) (fieldsHold p e) t
+    where
+      by : (o f : Bool) → verdictOn at o f (afterOf p e) ≡ Next q → (o ≡ true) × (f ≡ true) × (q ≡ afterOf p e)
+      by true true t = (refl, refl, cc)
+      by true false t = let z : _≡_ {A = ℕ} 0 1 = cc in absurd (omega arith)
+      by false f t = let z : _≡_ {A = ℕ} 0 1 = cc in absurd (omega arith)

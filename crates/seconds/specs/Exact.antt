@@ -1,0 +1,31 @@
+-- The exact answer at a second of a request, "From the same sines, cosines and station place", and what the states said of it mean. Definitions only.
+use Prim.Native.Nat.{ℕ}
+use lib.IntN.{ℤ, pos}
+use Rattle.phases.specs.declared.Phase.{Phase}
+use Rattle.phases.specs.declared.Phase.the-variants.{Penumbra, Central}
+use Rattle.phases.specs.States.{stateOf, SaidRightly}
+use Rattle.geometry.specs.Shadow.{cone}
+use Rattle.geometry.specs.Exact as Exact
+use Rattle.shadow.specs.declared.Second.{Second}
+use Rattle.requests.specs.declared.Request.{Request}
+use Rattle.seconds.specs.declared.OneSecond.{OneSecond}
+use Rattle.seconds.specs.declared.OneSecond.the-variants.{Is, Refused}
+use Rattle.seconds.specs.Seconds.{momentAt}
+
+-- "Exactly inside: that distance is less than that L" (geometry, Exact)
+abbrev pub ExactlyInside : Request → Phase → ℤ → Type 0
+ExactlyInside q φ τ = Exact.ExactlyInside φ (momentAt q τ) (cone φ (q .elements))
+
+-- "within n units of it means a difference of at most n"
+abbrev pub WithinUnits : Request → ℕ → Phase → ℤ → Type 0
+WithinUnits q n φ τ = Exact.WithinUnits (pos n) φ (momentAt q τ) (cone φ (q .elements))
+
+-- "Where our program says inside or outside, that is the exact answer. It says unsure only where the exact distance lies within 29 units of the
+-- cone's edge": of the two states of a second that was answered
+pub record SecondMeans (q : Request) (τ : ℤ) (x : Second) : Type 0 where
+  pub penumbra : SaidRightly (stateOf (x .penumbra)) (ExactlyInside q Penumbra τ) (WithinUnits q 29 Penumbra τ)
+  pub central : SaidRightly (stateOf (x .central)) (ExactlyInside q Central τ) (WithinUnits q 29 Central τ)
+
+abbrev pub AnswerMeans : Request → ℤ → OneSecond → Type 0
+AnswerMeans q τ (Is x) = SecondMeans q τ x
+AnswerMeans q τ (Refused r) = Unit

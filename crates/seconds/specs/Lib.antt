@@ -1,0 +1,9 @@
+-- what to believe: what is said of a second of a request, the closest second, all that is answered of one second
+pub mod Seconds
+pub mod Closest
+pub mod OneSecond
+pub mod Exact
+-- laws, for callers
+pub mod ClosestLaws
+pub mod Filled
+pub mod SecondLaws

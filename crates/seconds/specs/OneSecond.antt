@@ -1,0 +1,41 @@
+-- One second of a request: its shadow, states, magnitude and direction, or the refusal. Definitions only.
+use mathlib.Core.Bool.{cond}
+use lib.IntN.{ℤ}
+use Rattle.phases.specs.declared.Phase.the-variants.{Penumbra, Central}
+use Rattle.phases.specs.States.{code}
+use Rattle.refusals.specs.declared.Checked.{Checked}
+use Rattle.refusals.specs.declared.Checked.the-variants as C
+use Rattle.refusals.specs.Refusals.{refusal}
+use Rattle.geometry.specs.Shadow.{u, v, L, M}
+use Rattle.shadow.specs.declared.Second.{Second}
+use Rattle.requests.specs.declared.Request.{Request}
+use Rattle.requests.specs.Windows.{inSpan}
+use Rattle.requests.specs.Requests.{checked}
+use Rattle.seconds.specs.declared.OneSecond.{OneSecond}
+use Rattle.seconds.specs.declared.OneSecond.the-variants as O
+use Rattle.seconds.specs.Seconds.{momentAt, stateAt, directionAt, magnitudeAt}
+
+-- all of a second, number by number
+abbrev pub wholeSecond : Request → ℤ → Second
+wholeSecond q τ =
+    record {
+      shadow = record {
+        u = u (momentAt q τ);
+        v = v (momentAt q τ);
+        l1 = L (momentAt q τ) (q .elements .penumbra);
+        l2 = L (momentAt q τ) (q .elements .central);
+        m = M (momentAt q τ);
+      };
+      penumbra = code (stateAt q Penumbra τ);
+      central = code (stateAt q Central τ);
+      magnitude = magnitudeAt q τ;
+      direction = directionAt q τ;
+    }
+
+abbrev pub secondBy : Checked → Request → ℤ → OneSecond
+secondBy (C.Refused r) q τ = O.Refused r
+secondBy C.Within q τ = O.Is (wholeSecond q τ)
+
+-- the refusals 1, 2, 3 of the request; and "1 | window outside its range | 0" too for a second outside -10,800..10,800, before them
+unfoldable pub secondAnswer : Request → ℤ → OneSecond
+secondAnswer q τ = cond (inSpan τ) (secondBy (checked q) q τ) (O.Refused (refusal 1 0))

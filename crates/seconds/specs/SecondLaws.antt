@@ -1,0 +1,97 @@
+-- What callers use of the seconds of a request within its limits.
+--   states-length                                      a byte for each second
+--   direction-small, magnitude-small, closest-within   what a reader asks of them
+--   each-second                                        every second is said rightly
+--   means-answer                                       so is one that was answered
+--   second-outside, second-by, refused-by              the ways of an answer
+use mathlib.Core.Path.{_≡_, refl, sym, subst, ap, _∙_}
+use mathlib.Core.Logic.{_⊎_}
+use mathlib.Core.Bool.{Bool, true, false, cond}
+use Prim.Native.Nat.{ℕ, suc, _≤_, _<_}
+use native.Mathlib.Omega.{arith}
+use lib.IntN.{ℤ, pos, natAbs, _-ℤ_}
+use lib.ListN.{length}
+use lib.Signed.{leZ-yes}
+use Rattle.phases.specs.declared.Phase.{Phase}
+use Rattle.phases.specs.declared.Phase.the-variants.{Penumbra, Central}
+use Rattle.phases.specs.States.{State, stateOf, code, SaidRightly}
+use Rattle.phases.specs.PhaseLaws.{state-of-code}
+use Rattle.refusals.specs.declared.Refusal.{Refusal}
+use Rattle.refusals.specs.declared.Checked.{Checked}
+use Rattle.refusals.specs.declared.Checked.the-variants as C
+use Rattle.refusals.specs.Refusals.{refusal}
+use Rattle.station.specs.declared.Place.{Place}
+use Rattle.station.specs.Place.{placeOf}
+use Rattle.station.specs.Sizes.{PlaceSizes}
+use Rattle.station.specs.PlaceLaws.{place-sizes}
+use Rattle.geometry.specs.Shadow.{M}
+use Rattle.shadow.specs.SecondLaws.{state-at, states-true, magnitude-most, direction-near}
+use Rattle.requests.specs.declared.Request.{Request}
+use Rattle.requests.specs.Windows.{inSpan, nthSecond, secondCount}
+use Rattle.requests.specs.WindowLaws.{in-span, each-length}
+use Rattle.requests.specs.Requests.{checked}
+use Rattle.requests.specs.RequestLaws.{InLimits, in-limits}
+use Rattle.seconds.specs.declared.OneSecond.{OneSecond}
+use Rattle.seconds.specs.declared.OneSecond.the-variants as O
+use Rattle.seconds.specs.Seconds.{guard, momentAt, stateAt, directionAt, magnitudeAt, statesOf, closestOf}
+use Rattle.seconds.specs.ClosestLaws.{closest-is}
+use Rattle.seconds.specs.OneSecond.{wholeSecond, secondBy, secondAnswer}
+use Rattle.seconds.specs.Exact.{ExactlyInside, WithinUnits, SecondMeans, AnswerMeans}
+
+pub states-length : (q : Request) (φ : Phase) → length (statesOf q φ) ≡ secondCount (q .window)
+states-length q φ = each-length (q .window) (λ τ. code (stateAt q φ τ))
+
+pub direction-small : (q : Request) (τ : ℤ) → (directionAt q τ ≤ 3599) ⊎ (directionAt q τ ≡ 65535)
+unfolding directionAt
+direction-small q τ = direction-near (q .elements) (placeOf (q .station)) τ
+
+module _ (q : Request) (i : InLimits q) where
+  pub placed : PlaceSizes (placeOf (q .station))
+  placed = place-sizes (q .station) (i .station)
+
+  pub closest-within : closestOf q < secondCount (q .window)
+  unfolding closestOf secondCount
+  closest-within =
+      omega (arith, closest-is (λ k. M (momentAt q (nthSecond (q .window) k))) (natAbs (q .window .last -ℤ q .window .first)) .within)
+
+  module _ (τ : ℤ) (h : natAbs τ ≤ 10800) where
+    -- "It never exceeds 1,300,000."
+    pub magnitude-small : magnitudeAt q τ ≤ 1300000
+    unfolding magnitudeAt
+    magnitude-small = magnitude-most (q .elements) (i .elements) (placeOf (q .station)) placed τ h guard
+
+    pub each-second : (φ : Phase) → SaidRightly (stateAt q φ τ) (ExactlyInside q φ τ) (WithinUnits q 29 φ τ)
+    unfolding stateAt
+    each-second φ =
+        let m = states-true (q .elements) (i .elements) (placeOf (q .station)) placed τ h guard (leZ-yes tt) φ in
+        let is = sym (state-at guard (q .elements) (placeOf (q .station)) φ τ) in
+        record { inside-is = λ s. m .inside-is (is ∙ s); outside-is = λ s. m .outside-is (is ∙ s); unsure-is = λ s. m .unsure-is (is ∙ s) }
+
+    -- of the byte that was answered
+    said : (φ : Phase) → SaidRightly (stateOf (code (stateAt q φ τ))) (ExactlyInside q φ τ) (WithinUnits q 29 φ τ)
+    said φ = rw (state-of-code (stateAt q φ τ)) (each-second φ)
+
+    pub second-means : SecondMeans q τ (wholeSecond q τ)
+    second-means = record { penumbra = said Penumbra; central = said Central }
+
+module _ (q : Request) (τ : ℤ) where
+  pub second-outside : inSpan τ ≡ false → secondAnswer q τ ≡ O.Refused (refusal 1 0)
+  unfolding secondAnswer
+  second-outside e = rw e
+
+  pub second-by : inSpan τ ≡ true → secondAnswer q τ ≡ secondBy (checked q) q τ
+  unfolding secondAnswer
+  second-by e = rw e
+
+  -- what was answered means what it says
+  pub means-answer : AnswerMeans q τ (secondAnswer q τ)
+  unfolding secondAnswer
+  means-answer = by-span (inSpan τ) refl
+    where
+      by-check : (c : Checked) → checked q ≡ c → natAbs τ ≤ 10800 → AnswerMeans q τ (secondBy c q τ)
+      by-check (C.Refused r) e h = tt
+      by-check C.Within e h = second-means q (in-limits q e) τ h
+
+      by-span : (b : Bool) → inSpan τ ≡ b → AnswerMeans q τ (cond b (secondBy (checked q) q τ) (O.Refused (refusal 1 0)))
+      by-span true e = by-check (checked q) refl (in-span τ e)
+      by-span false e = tt

@@ -1,0 +1,103 @@
+// The seconds of a request: the states of all of them with the closest, and all that is said of one.
+use refusals::Checked;
+use refusals::Refusal;
+use requests::Request;
+ghost use mathlib.Core.Path.{_≡_};
+ghost use Prim.Native.Nat.{_*_, _≤_};
+ghost use lib.IntN.{natAbs};
+ghost use lib.ListN.{length};
+ghost use Rattle.phases.specs.Phases.{eclipse};
+ghost use Rattle.sine.specs.Table.{Sines};
+ghost use Rattle.station.specs.Place.{placeOf};
+ghost use Rattle.requests.specs.Windows.{secondCount};
+ghost use Rattle.requests.specs.RequestLaws.{InLimits};
+ghost use Rattle.seconds.specs.Seconds.{closestOf, directionAt, magnitudeAt};
+ghost use Rattle.seconds.specs.OneSecond.{wholeSecond, secondAnswer};
+ghost use Rattle.seconds.specs.Exact.{AnswerMeans};
+ghost use Rattle.seconds.specs.Filled.{AllStates};
+
+// All of one second, or why there is none.
+pub enum OneSecond {
+    Is(shadow::Second),
+    Refused(Refusal),
+}
+
+// The states of every second of the window, a byte each, phase after phase, in one pass; and the closest second, counted from 0.
+pub fn fill_states(table: &[u32], q: Request, place: station::Place, states: &mut [u8]) -> usize
+    requires { ⌜ (Sines (now table)) × (InLimits q) × (place ≡ placeOf (q .station)) × (length eclipse * secondCount (q .window) ≤ length (now states)) ⌝ }
+    ensures { λ r. ⌜ r ≡ closestOf q ⌝ }
+    ensures { λ r. ⌜ AllStates q (now (states .exit)) ⌝ }
+    ensures { λ r. ⌜ length (now (states .exit)) ≡ length (now (states .entry)) ⌝ }
+{
+    let e = q.elements;
+    let w = q.window;
+    let n = requests::second_count(w);
+    let mut best: usize = 0;
+    let mut least: i64 = 9_000_000_000_000_000_000;
+    let mut i: usize = 0;
+    while i < n {
+        let t = requests::nth_second(w, i);
+        let s = shadow::states_at(table, e, place, t, 16);
+        states[i] = s.penumbra;
+        let of_central = n + i;
+        states[of_central] = s.central;
+        let m = s.m;
+        if m < least {
+            best = i;
+            least = m;
+        }
+        i += 1;
+    }
+    best
+}
+
+// The direction at a second.
+pub fn direction_at(table: &[u32], q: Request, place: station::Place, t: i64) -> u32
+    requires { ⌜ (Sines (now table)) × (InLimits q) × (place ≡ placeOf (q .station)) × (natAbs t ≤ 10800) ⌝ }
+    ensures { λ r. ⌜ r ≡ directionAt q t ⌝ }
+{
+    let e = q.elements;
+    let direction = shadow::direction_at(table, e, place, t);
+    direction as u32
+}
+
+// The magnitude at a second.
+pub fn magnitude_at(table: &[u32], q: Request, place: station::Place, t: i64) -> u32
+    requires { ⌜ (Sines (now table)) × (InLimits q) × (place ≡ placeOf (q .station)) × (natAbs t ≤ 10800) ⌝ }
+    ensures { λ r. ⌜ r ≡ magnitudeAt q t ⌝ }
+{
+    let e = q.elements;
+    shadow::magnitude_at(table, e, place, t, 16)
+}
+
+// One second of a request within its limits, with the sine table lent.
+fn second_within(table: &[u32], q: Request, t: i64) -> shadow::Second
+    requires { ⌜ (Sines (now table)) × (InLimits q) × (natAbs t ≤ 10800) ⌝ }
+    ensures { λ r. ⌜ r ≡ wholeSecond q t ⌝ }
+{
+    let e = q.elements;
+    let s = q.station;
+    let place = station::geocentric(table, s);
+    shadow::second_at(table, e, place, t, 16)
+}
+
+// The shadow, the states, the magnitude and the direction at second t of a request; t may lie outside its window.
+pub fn second(q: Request, t: i64) -> OneSecond
+    ensures answer { λ r. ⌜ r ≡ secondAnswer q t ⌝ }
+    ensures means { λ r. ⌜ AnswerMeans q t r ⌝ }
+{
+    let inside = requests::in_span(t);
+    if !inside {
+        return OneSecond::Refused(Refusal {
+            number: 1,
+            place: 0,
+        });
+    }
+    let c = requests::check(q);
+    if let Checked::Refused(refusal) = c {
+        return OneSecond::Refused(refusal);
+    }
+    let table = sine::table();
+    let x = second_within(&table, q, t);
+    OneSecond::Is(x)
+}

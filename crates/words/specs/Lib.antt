@@ -1,0 +1,5 @@
+pub mod Text
+pub mod TextLaws
+pub mod Numbers
+pub mod NumberLaws
+pub mod Exact
