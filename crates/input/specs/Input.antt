@@ -4,11 +4,11 @@ use mathlib.Core.List.{List, []}
 use Prim.Native.Nat.{ℕ}
 use lib.IntN.{ℤ, pos}
 use lib.ListN.{getD}
-use Rattle.elements.specs.declared.Elements.{Elements}
+use Rattle.elements.specs.Elements.{elementsOf}
 use Rattle.station.specs.declared.Station.{Station}
-use Rattle.circumstances.specs.declared.Window.{Window}
-use Rattle.circumstances.specs.declared.Request.{Request}
-use Rattle.circumstances.specs.declared.Refusal.the-variants as R
+use Rattle.refusals.specs.Refusals.{refusal}
+use Rattle.requests.specs.declared.Window.{Window}
+use Rattle.requests.specs.declared.Request.{Request}
 use Rattle.request_bytes.specs.Layout.{Reading, numbers, misshaped}
 use Rattle.request_bytes.specs.Request.{readingOf, numbersAfter}
 use Rattle.input.specs.declared.Input.{Input}
@@ -19,33 +19,6 @@ use Rattle.input.specs.declared.Input.the-variants as I
 abbrev pub number : List ℤ → ℕ → ℤ
 number ns k = getD ns k (pos 0)
 
--- "Twenty-two numbers, in this order"
-unfoldable pub elementsBy : (ℕ → ℤ) → Elements
-elementsBy n = record {
-  x0 = n 0;
-  x1 = n 1;
-  x2 = n 2;
-  x3 = n 3;
-  y0 = n 4;
-  y1 = n 5;
-  y2 = n 6;
-  y3 = n 7;
-  d0 = n 8;
-  d1 = n 9;
-  d2 = n 10;
-  l10 = n 11;
-  l11 = n 12;
-  l12 = n 13;
-  l20 = n 14;
-  l21 = n 15;
-  l22 = n 16;
-  mu0 = n 17;
-  mu1 = n 18;
-  mu2 = n 19;
-  tanf1 = n 20;
-  tanf2 = n 21;
-}
-
 -- "number .., latitude, longitude, height"
 unfoldable pub stationFrom : List ℤ → Station
 stationFrom ns = record { number = number ns 22; latitude = number ns 23; longitude = number ns 24; height = number ns 25 }
@@ -55,14 +28,14 @@ unfoldable pub windowFrom : List ℤ → Window
 windowFrom ns = record { first = number ns 26; last = number ns 27 }
 
 unfoldable pub requestFrom : List ℤ → Request
-requestFrom ns = record { elements = elementsBy (number ns); station = stationFrom ns; window = windowFrom ns }
+requestFrom ns = record { elements = elementsOf ns; station = stationFrom ns; window = windowFrom ns }
 
 -- ---- the request of its bytes
 
--- "10: program input not of the shape below"
+-- "10 | program input not of the shape below | 0"
 abbrev pub inputBy : Reading → Input
 inputBy (numbers ns) = I.Is (requestFrom ns)
-inputBy misshaped = I.Refused R.Shape
+inputBy misshaped = I.Refused (refusal 10 0)
 
 unfoldable pub inputOf : List ℕ → Input
 inputOf s = inputBy (readingOf s)

@@ -5,10 +5,10 @@ use Prim.Native.Nat.{ℕ, zero, suc, _≤_, _<_}
 use native.Mathlib.Omega.{arith}
 use lib.IntN.{ℤ, natAbs}
 use lib.ListN.{length}
-use Rattle.elements.specs.Elements.{fields}
-use Rattle.circumstances.specs.declared.Request.{Request}
-use Rattle.circumstances.specs.declared.Refusal.{Refusal}
-use Rattle.circumstances.specs.declared.Refusal.the-variants as R
+use Rattle.elements.specs.Elements.{fields, elementsOf}
+use Rattle.refusals.specs.declared.Refusal.{Refusal}
+use Rattle.refusals.specs.Refusals.{refusal}
+use Rattle.requests.specs.declared.Request.{Request}
 use Rattle.request_fields.specs.Fields.{count}
 use Rattle.request_bytes.specs.declared.Got.the-variants as G
 use Rattle.request_bytes.specs.Layout.{Reading, numbers, misshaped}
@@ -16,36 +16,7 @@ use Rattle.request_bytes.specs.NumberLaws.{Bytes}
 use Rattle.request_bytes.specs.Request.{readingOf, gotOf, numbersAfter}
 use Rattle.request_bytes.specs.RoundTrip.{write-back, numbers-small}
 use Rattle.input.specs.declared.Input.the-variants as I
-use Rattle.input.specs.Input.{number, elementsBy, requestFrom, inputBy, inputOf, requestOf}
-
--- elements are the same where their numbers are
-pub elements-same : (f g : ℕ → ℤ) → ((k : ℕ) → k < 22 → f k ≡ g k) → elementsBy f ≡ elementsBy g
-unfolding elementsBy
-elements-same f g h =
-    rw (
-      h 0 (omega arith),
-      h 1 (omega arith),
-      h 2 (omega arith),
-      h 3 (omega arith),
-      h 4 (omega arith),
-      h 5 (omega arith),
-      h 6 (omega arith),
-      h 7 (omega arith),
-      h 8 (omega arith),
-      h 9 (omega arith),
-      h 10 (omega arith),
-      h 11 (omega arith),
-      h 12 (omega arith),
-      h 13 (omega arith),
-      h 14 (omega arith),
-      h 15 (omega arith),
-      h 16 (omega arith),
-      h 17 (omega arith),
-      h 18 (omega arith),
-      h 19 (omega arith),
-      h 20 (omega arith),
-      h 21 (omega arith),
-    )
+use Rattle.input.specs.Input.{number, requestFrom, inputBy, inputOf, requestOf}
 
 -- as many numbers as a request has, each of at most 32 bits
 pub record Small (ns : List ℤ) : Type 0 where
@@ -73,11 +44,11 @@ asked s ns old b e q = by (readingOf s) refl e q
     by misshaped p f g = let z : _≡_ {A = ℕ} 0 1 = cc in absurd (omega arith)
 
 -- any other
-pub input-refused : (s : List ℕ) → gotOf (readingOf s) ≡ G.Misshaped → I.Refused R.Shape ≡ inputOf s
+pub input-refused : (s : List ℕ) → gotOf (readingOf s) ≡ G.Misshaped → I.Refused (refusal 10 0) ≡ inputOf s
 unfolding inputOf
 input-refused s e = by (readingOf s) e
   where
-    by : (r : Reading) → gotOf r ≡ G.Misshaped → I.Refused R.Shape ≡ inputBy r
+    by : (r : Reading) → gotOf r ≡ G.Misshaped → I.Refused (refusal 10 0) ≡ inputBy r
     by (numbers ms) f = let z : _≡_ {A = ℕ} 0 1 = cc in absurd (omega arith)
     by misshaped f = refl
 
@@ -91,11 +62,11 @@ request-is s q e = by (readingOf s) e
     by misshaped f = let z : _≡_ {A = ℕ} 0 1 = cc in absurd (omega arith)
 
 -- a refused input is not of the shape
-pub shape-is : (s : List ℕ) (r : Refusal) → inputOf s ≡ I.Refused r → r ≡ R.Shape
+pub shape-is : (s : List ℕ) (r : Refusal) → inputOf s ≡ I.Refused r → r ≡ refusal 10 0
 unfolding inputOf
 shape-is s r e = by (readingOf s) e
   where
-    by : (x : Reading) → inputBy x ≡ I.Refused r → r ≡ R.Shape
+    by : (x : Reading) → inputBy x ≡ I.Refused r → r ≡ refusal 10 0
     by (numbers ms) f = let z : _≡_ {A = ℕ} 0 1 = cc in absurd (omega arith)
     by misshaped f = cc
 
@@ -108,5 +79,5 @@ numbersFrom ns k (suc n) = number ns k ∷ numbersFrom ns (suc k) n
 
 -- number k of a request is field k of the elements: the one that refusal 2 with place k is about
 pub elements-are : (ns : List ℤ) → fields (requestFrom ns .elements) ≡ numbersFrom ns 0 22
-unfolding requestFrom elementsBy
+unfolding requestFrom elementsOf
 elements-are ns = refl

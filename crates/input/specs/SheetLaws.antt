@@ -4,11 +4,11 @@ use mathlib.Core.List.{List}
 use Prim.Native.Nat.{ℕ, _≤_}
 use native.Mathlib.Omega.{arith}
 use lib.ListN.{length}
-use Rattle.circumstances.specs.declared.Request.{Request}
-use Rattle.circumstances.specs.declared.Refusal.{Refusal}
+use Rattle.refusals.specs.declared.Refusal.{Refusal}
+use Rattle.requests.specs.declared.Request.{Request}
 use Rattle.circumstances.specs.declared.Answer.{Answer}
 use Rattle.circumstances.specs.declared.Answer.the-variants as A
-use Rattle.circumstances.specs.Sheet.{answerOf, bufferAfter}
+use Rattle.circumstances.specs.Sheet.{sheetAnswer, sheetBuffer}
 use Rattle.circumstances.specs.Demand3.{Claimed}
 use Rattle.circumstances.specs.Claims as Claims
 use Rattle.input.specs.declared.Input.{Input}
@@ -23,8 +23,8 @@ Promised s old r new = (r ≡ answerTo s old) × ((new ≡ bufferFor s old) × C
 
 module _ (s old : List ℕ) where
   -- a request's own sheet
-  pub of-request : (q : Request) (r : Answer) (new : List ℕ) → inputOf s ≡ I.Is q → (r ≡ answerOf q old)
-      × ((new ≡ bufferAfter q old) × Claimed q r new) → Promised s old r new
+  pub of-request : (q : Request) (r : Answer) (new : List ℕ) → inputOf s ≡ I.Is q → (r ≡ sheetAnswer q old)
+      × ((new ≡ sheetBuffer q old) × Claimed q r new) → Promised s old r new
   unfolding answerTo bufferFor
   of-request q r new e p = (
     p .0 ∙ ap (λ (i : Input). answerBy i old) (sym e),
@@ -36,7 +36,7 @@ module _ (s old : List ℕ) where
   unfolding answerTo bufferFor
   of-refusal r e = (
     ap (λ (i : Input). answerBy i old) (sym e),
-    (ap (λ (i : Input). bufferBy i old) (sym e), subst (λ (x : Refusal). Claimed (requestOf s) (A.Refused x) old) (sym (shape-is s r e)) tt),
+    (ap (λ (i : Input). bufferBy i old) (sym e), subst (λ (x : Refusal). Claimed (requestOf s) (A.Refused x) old) (sym (shape-is s r e)) (λ (four : 10 ≡ 4). absurd (omega arith))),
   )
 
   -- ---- what was written fits

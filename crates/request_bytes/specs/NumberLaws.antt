@@ -12,8 +12,7 @@ use lib.ListN.{length, getD, take, drop}
 use lib.Seq.{getD-drop}
 use Rattle.numbers.specs.Parts.{same, sum, opposite}
 use Rattle.numbers.specs.Order.{zs}
-use Rattle.records.specs.Entries.{two}
-use Rattle.records.specs.Records.{twoAt, fourAt}
+use Rattle.records.specs.Numbers.{two, twoAt, fourAt}
 use Rattle.request_fields.specs.declared.Width.{Width}
 use Rattle.request_fields.specs.declared.Width.the-variants as W
 use Rattle.request_fields.specs.Fields.{bytesIn, wholeOf, holds}

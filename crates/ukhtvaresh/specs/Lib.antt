@@ -1,3 +1,4 @@
 pub mod Replies
-pub mod RepliesLaws
+pub mod Second
+pub mod SecondLaws
 pub mod Listing

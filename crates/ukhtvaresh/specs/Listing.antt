@@ -8,7 +8,7 @@ use Rattle.listings.specs.declared.Text.the-variants.{Written, Refused}
 use Rattle.listings.specs.Answers.{answered}
 use Rattle.listings.specs.Listings.{told}
 use Rattle.ukhtvaresh.specs.declared.Reply.{Reply}
-use Rattle.ukhtvaresh.specs.Replies.{sheetRefused}
+use Rattle.ukhtvaresh.specs.Replies.{refusedReply}
 
 -- what a sheet's bytes are answered in a room
 abbrev pub listingGiven : List ℕ → List ℕ → Text
@@ -16,4 +16,4 @@ listingGiven sheet room = answered (length room) (told sheet)
 
 abbrev pub listingReply : Text → Reply
 listingReply (Written n) = record { number = 0; value = n }
-listingReply (Refused r) = sheetRefused r
+listingReply (Refused r) = refusedReply r

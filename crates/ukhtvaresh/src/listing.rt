@@ -13,7 +13,7 @@ fn listing_reply(text: listings::Text) -> Reply
             let value = length as u64;
             Reply { number: 0, value }
         }
-        listings::Text::Refused(refusal) => super::sheet_refused(refusal),
+        listings::Text::Refused(refusal) => super::refused(refusal),
     }
 }
 

@@ -1,6 +1,7 @@
 -- `input::request_from` meets its contract: each number is small, so it is read back from its bits. Assumes nothing.
 use mathlib.Core.Path.{_≡_}
 use Prim.Native.Nat.{ℕ}
+use native.Mathlib.Omega.{arith}
 use borrow.Author.Needs.{needs}
 use mir.Syntax.{w64}
 use mir.Val.{toZ, ofZ}
@@ -9,8 +10,8 @@ use Rattle.input.specs.Input.{number, stationFrom, windowFrom, requestFr
 use Rattle.input.proofs.request_from.Statement.{statement}
 use Rattle.input.proofs.request_from.Tie as tie
 
-elements-from-requires : tie.Need-elements-from-requires
-elements-from-requires c κs = search needs
+from-numbers-requires : tie.Need-from-numbers-requires
+from-numbers-requires c κs = omega (arith, c .pre .all)
 
 shared-slice-copy-out-number : tie.Need-shared-slice-copy-out-number
 shared-slice-copy-out-number c = search needs
@@ -39,13 +40,13 @@ unfolding requestFrom stationFrom windowFrom
 returns c =
     let e = c .before .before .before .before .before .before in
     let s = e .before in
-    rw (e .elements-from .ensures, back s 22, back s 23, back s 24, back s 25, back s 26, back s 27)
+    rw (e .from-numbers .ensures, back s 22, back s 23, back s 24, back s 25, back s 26, back s 27)
 
 pub request-from-spec : {M : Type 1} → statement M
 request-from-spec =
     tie.close
     (tie.spec
-    elements-from-requires
+    from-numbers-requires
     shared-slice-copy-out-number
     shared-slice-copy-out-latitude
     shared-slice-copy-out-longitude

@@ -9,16 +9,16 @@ enum-known-extent c = search needs
 enum-known-extent-2 : tie.Need-enum-known-extent-2
 enum-known-extent-2 c = search needs
 
-sheet-refused-requires : tie.Need-sheet-refused-requires
-sheet-refused-requires c κs = search needs
+refused-requires : tie.Need-refused-requires
+refused-requires c κs = search needs
 
 returns : tie.Need-returns
 returns c = rw (c .before .extent .given .1)
 
 returns-2 : tie.Need-returns-2
-returns-2 c = rw (c .sheet-refused .ensures, c .before .before .extent2 .given .1)
+returns-2 c = rw (c .refused .ensures, c .before .before .extent2 .given .1)
 
 pub read-reply-spec : {M : Type 1} → statement M
 read-reply-spec =
     tie.close
-    (tie.spec enum-known-extent enum-known-extent-2 sheet-refused-requires returns returns-2)
+    (tie.spec enum-known-extent enum-known-extent-2 refused-requires returns returns-2)

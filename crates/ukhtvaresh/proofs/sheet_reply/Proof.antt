@@ -9,16 +9,16 @@ enum-known-answer c = search needs
 enum-known-answer-2 : tie.Need-enum-known-answer-2
 enum-known-answer-2 c = search needs
 
-request-refused-requires : tie.Need-request-refused-requires
-request-refused-requires c κs = search needs
+refused-requires : tie.Need-refused-requires
+refused-requires c κs = search needs
 
 returns : tie.Need-returns
 returns c = rw (c .before .answer .given .1)
 
 returns-2 : tie.Need-returns-2
-returns-2 c = rw (c .request-refused .ensures, c .before .before .answer2 .given .1)
+returns-2 c = rw (c .refused .ensures, c .before .before .answer2 .given .1)
 
 pub sheet-reply-spec : {M : Type 1} → statement M
 sheet-reply-spec =
     tie.close
-    (tie.spec enum-known-answer enum-known-answer-2 request-refused-requires returns returns-2)
+    (tie.spec enum-known-answer enum-known-answer-2 refused-requires returns returns-2)

@@ -1,4 +1,4 @@
--- `ukhtvaresh::ukhtvaresh_second` meets its contract: the second as it is asked for, judged by its room, and stored where it is given. Assumes nothing.
+-- `ukhtvaresh::second::ukhtvaresh_second` meets its contract: the second as it is asked for, judged by its room, and stored where it is given. Assumes nothing.
 use mathlib.Core.Path.{_≡_, sym, ap, _∙_}
 use borrow.Author.Needs.{needs}
 use lib.ListN.{length}
@@ -6,10 +6,10 @@ use mir.Syntax.{w64}
 use mir.ValLaws.{toZ-ofZ}
 use Rattle.input.specs.Input.{inputOf}
 use Rattle.ukhtvaresh.specs.declared.Reply.{Reply}
-use Rattle.ukhtvaresh.specs.Replies.{secondAsked, secondInto, secondGiven, secondReply, numbersAfter}
-use Rattle.ukhtvaresh.specs.RepliesLaws.{second-fits}
-use Rattle.ukhtvaresh.proofs.ukhtvaresh_second.Statement.{statement}
-use Rattle.ukhtvaresh.proofs.ukhtvaresh_second.Tie as tie
+use Rattle.ukhtvaresh.specs.Second.{secondAsked, secondInto, secondGiven, secondReply, numbersAfter}
+use Rattle.ukhtvaresh.specs.SecondLaws.{second-fits}
+use Rattle.ukhtvaresh.proofs.second.ukhtvaresh_second.Statement.{statement}
+use Rattle.ukhtvaresh.proofs.second.ukhtvaresh_second.Tie as tie
 
 -- what is given, by its definition
 given-is : (c : tie.After-in-room)
@@ -35,8 +35,8 @@ second-reply-requires c κs = search needs
 enum-known-given : tie.Need-enum-known-given
 enum-known-given c = search needs
 
-store-requires : tie.Need-store-requires
-store-requires c κs =
+put-second-requires : tie.Need-store-requires
+put-second-requires c κs =
     let got = c .before .before .before .before .before in
     let known = c .before .before .given .given in
     second-fits (length (got .before .before .before .args .shadow .now)) (got .before .asked .result) (known .0 .0) (sym (got .in-room .ensures) ∙ known .1)
@@ -51,7 +51,7 @@ returns : tie.Need-returns
 returns c =
     let e = reply-is (c .before .before .before .before .before .before) in
     let got = c .before .before .before .before .before .before .before in
-    (ap (λ (x : Reply). x .number) e, (ap (λ (x : Reply). x .value) e, c .before .store .ensures ∙ ap (λ x. numbersAfter x (got .before .before .before .args .shadow .now)) (sym (c .before .before .before .before .given .given .1) ∙ given-is got)))
+    (ap (λ (x : Reply). x .number) e, (ap (λ (x : Reply). x .value) e, c .before .put-second .ensures ∙ ap (λ x. numbersAfter x (got .before .before .before .args .shadow .now)) (sym (c .before .before .before .before .given .given .1) ∙ given-is got)))
 
 returns-2 : tie.Need-returns-2
 returns-2 c =
@@ -67,7 +67,7 @@ ukhtvaresh-second-spec =
     in-room-requires
     second-reply-requires
     enum-known-given
-    store-requires
+    put-second-requires
     enum-told
     same-length
     returns

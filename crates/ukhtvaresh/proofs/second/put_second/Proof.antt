@@ -1,4 +1,4 @@
--- `ukhtvaresh::store` meets its contract: eight stores are the eight numbers before the rest; each is read back from its bits. Assumes nothing.
+-- `ukhtvaresh::second::put_second` meets its contract: eight stores are the eight numbers before the rest; each is read back from its bits. Assumes nothing.
 use lib.ListN.{length-set}
 use native.Mathlib.Omega.{arith}
 use lib.Seq.{length-sets, sets-eq}
@@ -12,9 +12,9 @@ use lib.IntN.{pos}
 use mir.Syntax.{Width, w64}
 use mir.Val.{Fits, bits, toZ}
 use Rattle.numbers.specs.Code.{read-result, count-is}
-use Rattle.ukhtvaresh.specs.Replies.{eight}
-use Rattle.ukhtvaresh.proofs.store.Statement.{statement}
-use Rattle.ukhtvaresh.proofs.store.Tie as tie
+use Rattle.ukhtvaresh.specs.Second.{eight}
+use Rattle.ukhtvaresh.proofs.second.put_second.Statement.{statement}
+use Rattle.ukhtvaresh.proofs.second.put_second.Tie as tie
 
 -- a small number, as a signed one
 small : {w : Width} (n : ℕ) → Fits w n → T (leb (2 ^ bits w) 9223372036854775807) → toZ w64 n ≡ pos n
@@ -78,8 +78,8 @@ returns c =
     )
     (sets-eq (eight x) (b .args .room .now) 0 (b .pre))
 
-pub store-spec : {M : Type 1} → statement M
-store-spec =
+pub put-second-spec : {M : Type 1} → statement M
+put-second-spec =
     tie.close
     (tie.spec
     cast-penumbra

@@ -1,11 +1,11 @@
--- `ukhtvaresh::asked` meets its contract: input of the shape is its request, any other is refused. Assumes nothing.
+-- `ukhtvaresh::second::asked` meets its contract: input of the shape is its request, any other is refused. Assumes nothing.
 use mathlib.Core.Path.{sym, ap, ap₂, _∙_}
 use mir.Syntax.{w64}
 use mir.ValLaws.{toZ-ofZ}
 use borrow.Author.Needs.{needs}
-use Rattle.ukhtvaresh.specs.Replies.{secondAsked}
-use Rattle.ukhtvaresh.proofs.asked.Statement.{statement}
-use Rattle.ukhtvaresh.proofs.asked.Tie as tie
+use Rattle.ukhtvaresh.specs.Second.{secondAsked}
+use Rattle.ukhtvaresh.proofs.second.asked.Statement.{statement}
+use Rattle.ukhtvaresh.proofs.second.asked.Tie as tie
 
 request-requires : tie.Need-request-requires
 request-requires c κs = search needs

@@ -1,9 +1,9 @@
--- `ukhtvaresh::in_room` meets its contract, case by case. Assumes nothing.
+-- `ukhtvaresh::second::in_room` meets its contract, case by case. Assumes nothing.
 use mathlib.Core.Path.{sym}
 use borrow.Author.Needs.{needs}
-use Rattle.ukhtvaresh.specs.RepliesLaws.{second-short, second-whole}
-use Rattle.ukhtvaresh.proofs.in_room.Statement.{statement}
-use Rattle.ukhtvaresh.proofs.in_room.Tie as tie
+use Rattle.ukhtvaresh.specs.SecondLaws.{second-short, second-whole}
+use Rattle.ukhtvaresh.proofs.second.in_room.Statement.{statement}
+use Rattle.ukhtvaresh.proofs.second.in_room.Tie as tie
 
 enum-told : tie.Need-enum-told
 enum-told c = search needs
