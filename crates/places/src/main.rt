@@ -28,12 +28,12 @@ fn number_at(input: &[u8], i: usize) -> i64
     signed(unsigned(input[i], input[i + 1], input[i + 2], input[i + 3]))
 }
 
-fn put_place(out: &mut [u8], at: usize, table: &[u32], record: station::Station) -> usize
-    requires { ⌜ (Sines (now table)) × (StationSizes record) ⌝ }
+fn put_place(out: &mut [u8], at: usize, table: &[u32], s: station::Station) -> usize
+    requires { ⌜ (Sines (now table)) × (StationSizes s) ⌝ }
 {
-    let latitude = record.latitude;
-    let height = record.height;
-    let place = station::geocentric(table, record);
+    let latitude = s.latitude;
+    let height = s.height;
+    let place = station::geocentric(table, s);
     let r = place.r;
     let p = place.p;
     let numbers = [latitude, height, r, p];
