@@ -1,25 +1,29 @@
-// The answer to a request's bytes as text on standard output: the listing of its sheet, or its refusal.
-//
-// No contract can say which bytes reach the outside, so of what is printed a `print_` function promises only that it is safe and ends.
+// The answer to a request's bytes as text: the listing of its sheet, or the line of its refusal.
 use circumstances::Answer;
+use refusals::Refusal;
 ghost use mathlib.Core.Path.{_≡_};
+ghost use Rattle.decimals.specs.Texts.{Put};
 ghost use Rattle.input.specs.Sheet.{bufferFor};
+ghost use Rattle.listings.specs.Lines.{refusalLine};
+ghost use Rattle.answers.specs.Answers.{textFor};
 
-// The line of a request's refusal.
-pub fn print_refused(refusal: circumstances::Refusal) {
-    let number = input::number_of(refusal);
-    let place = input::place_of(refusal);
-    listings::print_refusal(number, place);
-    printing::end_line();
+// The line of a refusal, at a place of the room.
+pub fn put_refused(out: &mut [u8], at: usize, refusal: Refusal) -> usize
+    ensures { λ r. ⌜ Put (now (out .entry)) at (refusalLine (refusal .number) (refusal .place)) (now (out .exit)) r ⌝ }
+{
+    let number = refusal.number as u64;
+    let place = refusal.place as u64;
+    listings::lines::put_refusal_line(out, at, number, place)
 }
 
-// Writes the sheet of a request into the room, and prints its listing; or the refusal. Any bytes, any room.
-pub fn print_sheet(request: &[u8], room: &mut [u8])
+// Writes the sheet of a request into the room, and puts its listing, or the line of its refusal, at a place of another. Any bytes, any rooms.
+pub fn put_answer(out: &mut [u8], at: usize, request: &[u8], room: &mut [u8]) -> usize
+    ensures { λ r. ⌜ Put (now (out .entry)) at (textFor (now (request .entry)) (now (room .entry))) (now (out .exit)) r ⌝ }
     ensures { λ r. ⌜ now (room .exit) ≡ bufferFor (now (request .entry)) (now (room .entry)) ⌝ }
 {
     let answer = input::sheet(request, room);
     match answer {
-        Answer::Written(written) => listings::print_sheet(&room[..written]),
-        Answer::Refused(refusal) => print_refused(refusal),
+        Answer::Written(written) => listings::put_listing(out, at, &room[..written]),
+        Answer::Refused(refusal) => put_refused(out, at, refusal),
     }
 }

@@ -1,7 +1,10 @@
 // Reads cases from standard input, 113 bytes each: the room for a sheet, 2 bytes; the length of a request, 1 byte; and its bytes, of 110.
 // Prints for each the listing of its sheet; or the refusal.
 use libc::STDIN_FILENO;
+use libc::STDOUT_FILENO;
+ghost use mathlib.Core.Path.{_≡_};
 ghost use Prim.Native.Nat.{_<_};
+ghost use lib.ListN.{length};
 
 fn wide(x: u8) -> usize
     ensures { λ r. ⌜ r < 256 ⌝ }
@@ -9,26 +12,35 @@ fn wide(x: u8) -> usize
     x as usize
 }
 
-// Reads one case and prints its answer; or answers false where the input ends.
-fn print_next_case() -> bool {
-    let mut case = [0u8; 113];
-    if io::read_full(STDIN_FILENO, &mut case) < 113 {
-        return false;
-    }
+// The answer to a case of 113 bytes.
+fn put_case(out: &mut [u8], at: usize, case: &[u8]) -> usize
+    requires { ⌜ length (now case) ≡ 113 ⌝ }
+{
     let room = wide(case[0]) * 256 + wide(case[1]);
     let end = wide(case[2]) + 3;
     if 113 < end {
-        return false;
+        return at;
     }
     let mut buf = io::large_buffer();
-    answers::print_sheet(&case[3..end], &mut buf[..room]);
-    true
+    answers::put_answer(out, at, &case[3..end], &mut buf[..room])
 }
 
-// Nothing says that an input ends, so the loop counts its turns down, from a number that no run uses up.
-fn main() {
-    let mut turns = u64::MAX;
-    while turns > 0 && print_next_case() {
-        turns -= 1;
+fn put_cases(out: &mut [u8], input: &[u8]) -> usize {
+    let mut at = 0;
+    let mut i = 0;
+    while 113 <= input.len() - i {
+        let end = i + 113;
+        at = put_case(out, at, &input[i..end]);
+        i = end;
     }
+    at
+}
+
+fn main() {
+    let mut input = io::large_buffer();
+    let length = io::read_full(STDIN_FILENO, &mut input);
+    let mut lines = [0u8; 65536];
+    let end = put_cases(&mut lines, &input[..length]);
+    let written = decimals::clipped(&lines, end);
+    io::write_all(STDOUT_FILENO, &lines[..written]);
 }

@@ -8,7 +8,7 @@ fn main() {
     let length = io::read_full(STDIN_FILENO, &mut sheet);
     // 29 bytes of text at most for 5 bytes of a sheet, and the head and closest lines
     let mut text = [0u8; 400000];
-    let end = listings::put_listing(&sheet[..length], &mut text);
+    let end = listings::put_listing(&mut text, 0, &sheet[..length]);
     let written = decimals::clipped(&text, end);
     io::write_all(STDOUT_FILENO, &text[..written]);
 }

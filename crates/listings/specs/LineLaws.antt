@@ -53,7 +53,7 @@ module _ (x : Extent) (old : List ℕ) (at : ℕ) (new : List ℕ) (r : ℕ) whe
   unfolding extentText
   put-refused-extent f q p = rw q p
 
-pub put-refusal-end : (number place : ℕ) (old mid new : List ℕ) (r q : ℕ) → length old < 18446744073709551616
-    → Put old 0 (refusalText number place) mid r → Put mid r (letters "\n") new q → Put old 0 (refusalLine number place) new q
+pub put-refusal-end : (number place : ℕ) (old mid new : List ℕ) (at r q : ℕ) → length old < 18446744073709551616
+    → Put old at (refusalText number place) mid r → Put mid r (letters "\n") new q → Put old at (refusalLine number place) new q
 unfolding refusalLine
-put-refusal-end number place old mid new r q h p w = put-then old mid new 0 r q (refusalText number place) (letters "\n") h p w
+put-refusal-end number place old mid new at r q h p w = put-then old mid new at r q (refusalText number place) (letters "\n") h p w

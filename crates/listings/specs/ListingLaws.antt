@@ -31,10 +31,10 @@ abbrev pub IsSheet : Sheet → Type 0
 IsSheet (refused r) = ⊥
 IsSheet (sheet es n) = Unit
 
--- its lines are put from the room's start on
-abbrev pub Laid : Sheet → List ℕ → List ℕ → ℕ → Type 0
-Laid (refused x) old new r = ⊥
-Laid (sheet es n) old new r = Put old 0 (linesOf es) new r
+-- its lines are put at a place
+abbrev pub Laid : Sheet → List ℕ → ℕ → List ℕ → ℕ → Type 0
+Laid (refused x) old at new r = ⊥
+Laid (sheet es n) old at new r = Put old at (linesOf es) new r
 
 lines-nil : linesOf [] ≡ []
 unfolding linesOf
@@ -47,7 +47,7 @@ lines-cons e es = refl
 -- ---- the loop
 
 -- the lines of the records before `from` are put, up to `at`
-pub record Laying (s old out : List ℕ) (from at : ℕ) : Type 0 where
+pub record Laying (s old : List ℕ) (begin : ℕ) (out : List ℕ) (from at : ℕ) : Type 0 where
   pub p : Progress
   pub n : ℕ
   pub all : List Entry
@@ -58,12 +58,13 @@ pub record Laying (s old out : List ℕ) (from at : ℕ) : Type 0 where
   pub left : sheetFrom (storedAt s) (suc (length s - n)) p n from ≡ sheet es len
   pub low : n ≤ from
   pub within : from ≤ length s
-  pub putting : Putting old 0 (linesOf all) out at (linesOf es)
+  pub putting : Putting old begin (linesOf all) out at (linesOf es)
 
-pub laying-start : (s out : List ℕ) → length out < 18446744073709551616 → IsSheet (readSheet s) → Laying s out out 0 0
-laying-start s out l h = by (readSheet s) refl h
+pub laying-start : (s out : List ℕ) (at : ℕ) → at < 18446744073709551616 → length out < 18446744073709551616 → IsSheet (readSheet s)
+    → Laying s out at out 0 at
+laying-start s out at k l h = by (readSheet s) refl h
   where
-    by : (w : Sheet) → readSheet s ≡ w → IsSheet w → Laying s out out 0 0
+    by : (w : Sheet) → readSheet s ≡ w → IsSheet w → Laying s out at out 0 at
     by (refused r) q h = absurd h
     by (sheet es n) q h =
         record {
@@ -77,10 +78,10 @@ laying-start s out l h = by (readSheet s) refl h
           left = sym (read-start s) ∙ q;
           low = omega arith;
           within = omega arith;
-          putting = putting-start out 0 (linesOf es) (omega arith) l;
+          putting = putting-start out at (linesOf es) k l;
         }
 
-module _ (s old out : List ℕ) (from at : ℕ) (f : Laying s old out from at) where
+module _ (s old : List ℕ) (begin : ℕ) (out : List ℕ) (from at : ℕ) (f : Laying s old begin out from at) where
   first : Went (storedAt s) (length s - f .n) (f .p) (f .n) from (f .es) (f .len)
   first = from-inv (storedAt s) (length s - f .n) (f .p) (f .n) from (f .es) (f .len) (f .left)
 
@@ -100,8 +101,8 @@ module _ (s old out : List ℕ) (from at : ℕ) (f : Laying s old out from at) w
     split : linesOf (f .es) ≡ lineOf e ++ linesOf (first .tail)
     split = ap linesOf (first .all) ∙ lines-cons (first .e) (first .tail) ∙ ap (λ x. lineOf x ++ linesOf (first .tail)) same-entry
 
-    further : Putting old 0 (linesOf (f .all)) new r (linesOf (first .tail))
-    further = putting-turn old 0 (linesOf (f .all)) out at (lineOf e) (linesOf (first .tail)) new r (rw split at (f .putting)) put
+    further : Putting old begin (linesOf (f .all)) new r (linesOf (first .tail))
+    further = putting-turn old begin (linesOf (f .all)) out at (lineOf e) (linesOf (first .tail)) new r (rw split at (f .putting)) put
 
     pub laying-bounds : (from < next) × (next ≤ length s)
     laying-bounds = record-bounds s from e next q
@@ -109,12 +110,12 @@ module _ (s old out : List ℕ) (from at : ℕ) (f : Laying s old out from at) w
     pub laying-same : length new ≡ length old
     laying-same = further .same
 
-    pub laying-end : isEnd (e .kind) ≡ true → Laid (readSheet s) old new r
+    pub laying-end : isEnd (e .kind) ≡ true → Laid (readSheet s) old begin new r
     laying-end b =
         let t : linesOf (first .tail) ≡ [] = ap linesOf (first .last (ended ∙ b) .0) ∙ lines-nil in
-        rw (f .whole) (putting-end old 0 (linesOf (f .all)) new r (rw t at further))
+        rw (f .whole) (putting-end old begin (linesOf (f .all)) new r (rw t at further))
 
-    pub laying-more : isEnd (e .kind) ≡ false → Laying s old new next r
+    pub laying-more : isEnd (e .kind) ≡ false → Laying s old begin new next r
     laying-more b =
         let c = laying-bounds in
         let k : length s - f .n ≡ suc (length s - (f .n + 1)) = omega (arith, f .low) in
@@ -134,19 +135,19 @@ module _ (s old out : List ℕ) (from at : ℕ) (f : Laying s old out from at) w
 
 -- ---- measured, then put
 
-module _ (w : Sheet) (none after old : List ℕ) (need : ℕ) (m : Laid w none after need) (h : length old < 18446744073709551615) where
+module _ (w : Sheet) (none after old : List ℕ) (need : ℕ) (m : Laid w none 0 after need) (h : length old < 18446744073709551615) where
   pub sheet-short : length old < need → (T.Refused (refusal 4 need) ≡ answered (length old) (listingOf w)) × (old ≡ roomWith (listingOf w) old)
   sheet-short g = by w m
     where
-      by : (v : Sheet) → Laid v none after need → (T.Refused (refusal 4 need) ≡ answered (length old) (listingOf v)) × (old ≡ roomWith (listingOf v) old)
+      by : (v : Sheet) → Laid v none 0 after need → (T.Refused (refusal 4 need) ≡ answered (length old) (listingOf v)) × (old ≡ roomWith (listingOf v) old)
       by (refused r) q = absurd q
       by (sheet es n) q = text-short (linesOf es) none after old need q h g
 
-  pub sheet-full : need ≤ length old → (new : List ℕ) (r : ℕ) → Laid w old new r
+  pub sheet-full : need ≤ length old → (new : List ℕ) (r : ℕ) → Laid w old 0 new r
       → (T.Written need ≡ answered (length old) (listingOf w)) × (new ≡ roomWith (listingOf w) old)
   sheet-full g new r d = by w m d
     where
-      by : (v : Sheet) → Laid v none after need → Laid v old new r
+      by : (v : Sheet) → Laid v none 0 after need → Laid v old 0 new r
           → (T.Written need ≡ answered (length old) (listingOf v)) × (new ≡ roomWith (listingOf v) old)
       by (refused x) q d = absurd q
       by (sheet es n) q d = text-full (linesOf es) none after old need q h g new r d
@@ -169,16 +170,16 @@ whole-told s m n old new r q a b = rw (whole-same s m n q) (a, b)
 
 -- ---- what is printed
 
-pub refused-printed : (s : List ℕ) (r : Refusal) (old new : List ℕ) (q : ℕ) → X.Refused r ≡ extentOf (readWhole s)
-    → Put old 0 (refusalLine (r .number) (r .place)) new q → Put old 0 (printed (told s)) new q
+pub refused-printed : (s : List ℕ) (r : Refusal) (old : List ℕ) (at : ℕ) (new : List ℕ) (q : ℕ) → X.Refused r ≡ extentOf (readWhole s)
+    → Put old at (refusalLine (r .number) (r .place)) new q → Put old at (printed (told s)) new q
 unfolding told
-refused-printed s r old new q x p = rw (extent-refused (readWhole s) r x) p
+refused-printed s r old at new q x p = rw (extent-refused (readWhole s) r x) p
 
-pub sheet-printed : (s : List ℕ) (m n : ℕ) (old new : List ℕ) (q : ℕ) → X.Sheet m n ≡ extentOf (readWhole s) → Laid (readSheet s) old new q
-    → Put old 0 (printed (told s)) new q
+pub sheet-printed : (s : List ℕ) (m n : ℕ) (old : List ℕ) (at : ℕ) (new : List ℕ) (q : ℕ) → X.Sheet m n ≡ extentOf (readWhole s)
+    → Laid (readSheet s) old at new q → Put old at (printed (told s)) new q
 unfolding told
-sheet-printed s m n old new q x p = rw (whole-same s m n x) (by (readSheet s) p)
+sheet-printed s m n old at new q x p = rw (whole-same s m n x) (by (readSheet s) p)
   where
-    by : (w : Sheet) → Laid w old new q → Put old 0 (printed (listingOf w)) new q
+    by : (w : Sheet) → Laid w old at new q → Put old at (printed (listingOf w)) new q
     by (refused r) p = absurd p
     by (sheet es k) p = p

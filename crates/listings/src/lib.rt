@@ -19,13 +19,13 @@ pub enum Text {
     Refused(Refusal),
 }
 
-// The lines of the sheet that `sheet` begins with, from the room's start on, as far as the room goes.
-fn put_lines(sheet: &[u8], out: &mut [u8]) -> usize
+// The lines of the sheet that `sheet` begins with, from `start` on, as far as the room goes.
+fn put_lines(sheet: &[u8], out: &mut [u8], start: usize) -> usize
     requires { ⌜ IsSheet (readSheet (now sheet)) ⌝ }
-    ensures { λ r. ⌜ Laid (readSheet (now (sheet .entry))) (now (out .entry)) (now (out .exit)) r ⌝ }
+    ensures { λ r. ⌜ Laid (readSheet (now (sheet .entry))) (now (out .entry)) start (now (out .exit)) r ⌝ }
 {
     let mut from = 0;
-    let mut at = 0;
+    let mut at = start;
     loop {
         let Record::Is(entry, next) = records::bytes::record_at(sheet, from) else {
             return at;
@@ -46,14 +46,14 @@ fn lay(sheet: &[u8], out: &mut [u8]) -> Text
     ensures { λ r. ⌜ now (out .exit) ≡ roomWith (listingOf (readSheet (now (sheet .entry)))) (now (out .entry)) ⌝ }
 {
     let mut none = [0u8; 0];
-    let need = put_lines(sheet, &mut none);
+    let need = put_lines(sheet, &mut none, 0);
     if out.len() < need {
         return Text::Refused(Refusal {
             number: 4,
             place: need,
         });
     }
-    put_lines(sheet, out);
+    put_lines(sheet, out, 0);
     Text::Written(need)
 }
 
@@ -72,27 +72,26 @@ pub fn listing(sheet: &[u8], out: &mut [u8]) -> Text
     }
 }
 
-// The line of a refusal at the room's start, as far as the room goes; and the place after it.
-pub fn put_refused(refusal: Refusal, out: &mut [u8]) -> usize
-    ensures { λ r. ⌜ Put (now (out .entry)) 0 (refusalLine (refusal .number) (refusal .place)) (now (out .exit)) r ⌝ }
+fn put_refused(out: &mut [u8], at: usize, refusal: Refusal) -> usize
+    ensures { λ r. ⌜ Put (now (out .entry)) at (refusalLine (refusal .number) (refusal .place)) (now (out .exit)) r ⌝ }
 {
     let number = refusal.number as u64;
     let place = refusal.place as u64;
-    lines::put_refusal_line(out, number, place)
+    lines::put_refusal_line(out, at, number, place)
 }
 
-// What program `listing` prints of some bytes: the listing of the sheet that they are, or the line of their refusal. From the room's start
-// on, as far as the room goes; and the place after it.
-pub fn put_listing(sheet: &[u8], out: &mut [u8]) -> usize
-    ensures { λ r. ⌜ Put (now (out .entry)) 0 (printed (told (now (sheet .entry)))) (now (out .exit)) r ⌝ }
+// What program `listing` prints of some bytes: the listing of the sheet that they are, or the line of their refusal. It stands
+// at a place of the room, as far as the room goes; and the place after it.
+pub fn put_listing(out: &mut [u8], at: usize, sheet: &[u8]) -> usize
+    ensures { λ r. ⌜ Put (now (out .entry)) at (printed (told (now (sheet .entry)))) (now (out .exit)) r ⌝ }
 {
     let found = sheets::extent_of_sheet(sheet);
     match found {
-        Extent::Refused(refusal) => put_refused(refusal, out),
+        Extent::Refused(refusal) => put_refused(out, at, refusal),
         Extent::Sheet {
             entries: _,
             length: _,
-        } => put_lines(sheet, out),
+        } => put_lines(sheet, out, at),
     }
 }
 
@@ -102,13 +101,13 @@ pub fn refusal_line(number: u64, place: u64, out: &mut [u8]) -> Text
     ensures { λ r. ⌜ now (out .exit) ≡ roomWith (text (refusalLine number place)) (now (out .entry)) ⌝ }
 {
     let mut none = [0u8; 0];
-    let need = lines::put_refusal_line(&mut none, number, place);
+    let need = lines::put_refusal_line(&mut none, 0, number, place);
     if out.len() < need {
         return Text::Refused(Refusal {
             number: 4,
             place: need,
         });
     }
-    lines::put_refusal_line(out, number, place);
+    lines::put_refusal_line(out, 0, number, place);
     Text::Written(need)
 }

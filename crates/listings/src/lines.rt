@@ -107,11 +107,11 @@ pub fn put_refusal(out: &mut [u8], at: usize, number: u64, place: u64) -> usize
     put_two(out, at, b"refused ", number, place)
 }
 
-// The same as a line of its own, at the room's start.
-pub fn put_refusal_line(out: &mut [u8], number: u64, place: u64) -> usize
-    ensures { λ r. ⌜ Put (now (out .entry)) 0 (refusalLine number place) (now (out .exit)) r ⌝ }
+// The same as a line of its own.
+pub fn put_refusal_line(out: &mut [u8], at: usize, number: u64, place: u64) -> usize
+    ensures { λ r. ⌜ Put (now (out .entry)) at (refusalLine number place) (now (out .exit)) r ⌝ }
 {
-    let end = put_refusal(out, 0, number, place);
+    let end = put_refusal(out, at, number, place);
     decimals::put_byte(out, end, b'\n')
 }
 

@@ -26,7 +26,7 @@ same-length c = search needs
 returns : tie.Need-returns
 returns c =
     let f = c .before .before .before .before .before in
-    refused-printed _ _ _ _ _ (sym (f .found .given .1) ∙ f .before .before .extent-of-sheet .ensures) (c .before .before .put-refused .ensures)
+    refused-printed _ _ _ _ _ _ (sym (f .found .given .1) ∙ f .before .before .extent-of-sheet .ensures) (c .before .before .put-refused .ensures)
 
 same-length-2 : tie.Need-same-length-2
 same-length-2 c = search needs
@@ -34,7 +34,7 @@ same-length-2 c = search needs
 returns-2 : tie.Need-returns-2
 returns-2 c =
     let f = c .before .before .before .before in
-    sheet-printed _ _ _ _ _ _ (sym (f .enum-told .given .1) ∙ f .before .before .extent-of-sheet .ensures) (c .before .before .put-lines .ensures)
+    sheet-printed _ _ _ _ _ _ _ (sym (f .enum-told .given .1) ∙ f .before .before .extent-of-sheet .ensures) (c .before .before .put-lines .ensures)
 
 pub put-listing-spec : {M : Type 1} → statement M
 put-listing-spec =

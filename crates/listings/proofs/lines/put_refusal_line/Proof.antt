@@ -15,7 +15,7 @@ same-length : tie.Need-same-length
 same-length c = search needs
 
 returns : tie.Need-returns
-returns c = put-refusal-end _ _ _ _ _ _ _ (omega arith) (c .before .before .before .before .before .before .put-refusal .ensures) (c .before .before .put-byte .ensures)
+returns c = put-refusal-end _ _ _ _ _ _ _ _ (omega arith) (c .before .before .before .before .before .before .put-refusal .ensures) (c .before .before .put-byte .ensures)
 
 pub put-refusal-line-spec : {M : Type 1} → statement M
 put-refusal-line-spec =
