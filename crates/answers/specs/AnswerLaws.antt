@@ -10,7 +10,7 @@ use Rattle.input.specs.Sheet.{answerTo, bufferFor}
 use Rattle.decimals.specs.Texts.{Put}
 use Rattle.listings.specs.Lines.{refusalLine}
 use Rattle.listings.specs.Listings.{told, printed}
-use Rattle.answers.specs.Answers.{answerText, textFor}
+use Rattle.answers.specs.Answers.{textFor}
 
 module _ (request room old : List ℕ) (at : ℕ) (new : List ℕ) (r : ℕ) (a : Answer) (q : a ≡ answerTo request room) where
   pub put-written : (n : ℕ) (after : List ℕ) → a ≡ Written n → after ≡ bufferFor request room → Put old at (printed (told (take n after))) new r

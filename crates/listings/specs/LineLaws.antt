@@ -12,7 +12,7 @@ use Rattle.sheets.specs.declared.Extent.the-variants as X
 use Rattle.decimals.specs.Texts.{letters, Put}
 use Rattle.decimals.specs.TextLaws.{put-then}
 use Rattle.decimals.specs.Patterns.{filled}
-use Rattle.listings.specs.Lines.{lineFor, lineOf, two, refusalText, refusalLine, extentText}
+use Rattle.listings.specs.Lines.{lineFor, lineOf, numbered, refusalText, refusalLine, extentText}
 
 -- a pattern filled with the same numbers
 module _ (s old : List ℕ) (at : ℕ) (new : List ℕ) (r : ℕ) where
@@ -24,14 +24,14 @@ module _ (s old : List ℕ) (at : ℕ) (new : List ℕ) (r : ℕ) where
   filled-three x y z v w u p q t f = rw (← p, ← q, ← t) f
 
 -- three texts, one after the other
-pub three : (old one two new : List ℕ) (at p q r : ℕ) (x y z : List ℕ) → length old < 18446744073709551616
+pub put-three : (old one two new : List ℕ) (at p q r : ℕ) (x y z : List ℕ) → length old < 18446744073709551616
     → Put old at x one p → Put one p y two q → Put two q z new r → Put old at (x ++ y ++ z) new r
-three old one two new at p q r x y z h f g k = put-then old two new at q r (x ++ y) z h (put-then old one two at p q x y h f g) k
+put-three old one two new at p q r x y z h f g k = put-then old two new at q r (x ++ y) z h (put-then old one two at p q x y h f g) k
 
-pub four : (old one two three' new : List ℕ) (at p q t r : ℕ) (x y z w : List ℕ) → length old < 18446744073709551616
-    → Put old at x one p → Put one p y two q → Put two q z three' t → Put three' t w new r → Put old at (x ++ y ++ z ++ w) new r
-four old one two three' new at p q t r x y z w h f g k m =
-    put-then old three' new at t r (x ++ y ++ z) w h (three old one two three' at p q t x y z h f g k) m
+pub put-four : (old one two third new : List ℕ) (at p q t r : ℕ) (x y z w : List ℕ) → length old < 18446744073709551616
+    → Put old at x one p → Put one p y two q → Put two q z third t → Put third t w new r → Put old at (x ++ y ++ z ++ w) new r
+put-four old one two third new at p q t r x y z w h f g k m =
+    put-then old third new at t r (x ++ y ++ z) w h (put-three old one two third at p q t x y z h f g k) m
 
 -- the line of an entry is that of its kind
 pub put-kind : (e : Entry) (k : Kind) → e .kind ≡ k → (old : List ℕ) (at : ℕ) (new : List ℕ) (r : ℕ)
@@ -40,12 +40,12 @@ unfolding lineOf
 put-kind e k q old at new r p = rw q p
 
 pub put-refused : (number place : ℕ) (old : List ℕ) (at : ℕ) (new : List ℕ) (r : ℕ)
-    → Put old at (two (letters "refused ") number place) new r → Put old at (refusalText number place) new r
+    → Put old at (numbered (letters "refused ") number place) new r → Put old at (refusalText number place) new r
 unfolding refusalText
 put-refused number place old at new r p = p
 
 module _ (x : Extent) (old : List ℕ) (at : ℕ) (new : List ℕ) (r : ℕ) where
-  pub put-sheet : (entries n : ℕ) → x ≡ X.Sheet entries n → Put old at (two (letters "sheet ") entries n) new r → Put old at (extentText x) new r
+  pub put-sheet : (entries n : ℕ) → x ≡ X.Sheet entries n → Put old at (numbered (letters "sheet ") entries n) new r → Put old at (extentText x) new r
   unfolding extentText
   put-sheet entries n q p = rw q p
 

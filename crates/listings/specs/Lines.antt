@@ -55,17 +55,17 @@ linesOf [] = []
 linesOf (e ∷ es) = lineOf e ++ linesOf es
 
 -- a word and two numbers
-abbrev pub two : List ℕ → ℕ → ℕ → List ℕ
-two word x y = word ++ decimal x ++ letters " " ++ decimal y
+abbrev pub numbered : List ℕ → ℕ → ℕ → List ℕ
+numbered word x y = word ++ decimal x ++ letters " " ++ decimal y
 
 -- "A refusal prints `refused`, number, place."
 unfoldable pub refusalText : ℕ → ℕ → List ℕ
-refusalText number place = two (letters "refused ") number place
+refusalText number place = numbered (letters "refused ") number place
 
 unfoldable pub refusalLine : ℕ → ℕ → List ℕ
 refusalLine number place = refusalText number place ++ letters "\n"
 
 -- what a reader or a writer answers, in the programs that print it: how many entries and bytes, or the refusal
 unfoldable pub extentText : Extent → List ℕ
-extentText (X.Sheet entries n) = two (letters "sheet ") entries n
+extentText (X.Sheet entries n) = numbered (letters "sheet ") entries n
 extentText (X.Refused r) = refusalText (r .number) (r .place)

@@ -19,11 +19,11 @@ use Rattle.sheets.specs.Sheets.{Sheet, sheet, refused, sheetFrom, storedAt, rea
 use Rattle.sheets.specs.SheetLaws.{read-start, extent-inv, extent-refused, whole-same}
 use Rattle.sheets.specs.GivenLaws.{Went, from-inv}
 use Rattle.decimals.specs.Texts.{Put}
-use Rattle.decimals.specs.TextLaws.{put-same, Putting, putting-start, putting-turn, putting-end}
+use Rattle.decimals.specs.TextLaws.{Putting, putting-start, putting-turn, putting-end}
 use Rattle.listings.specs.declared.Text.{Text}
 use Rattle.listings.specs.declared.Text.the-variants as T
 use Rattle.listings.specs.Lines.{lineOf, linesOf, refusalLine}
-use Rattle.listings.specs.Answers.{Told, text, answered, roomWith}
+use Rattle.listings.specs.Answers.{answered, roomWith}
 use Rattle.listings.specs.AnswerLaws.{text-short, text-full}
 use Rattle.listings.specs.Listings.{listingOf, told, printed}
 

@@ -6,7 +6,7 @@ use records::Kind;
 use sheets::Extent;
 ghost use mathlib.Core.List.{_++_};
 ghost use Rattle.decimals.specs.Texts.{letters, Put};
-ghost use Rattle.listings.specs.Lines.{nameOf, headLine, contactLine, unsureLine, closestLine, lineOf, two, refusalText, refusalLine, extentText};
+ghost use Rattle.listings.specs.Lines.{nameOf, headLine, contactLine, unsureLine, closestLine, lineOf, numbered, refusalText, refusalLine, extentText};
 
 fn put_phase(out: &mut [u8], at: usize, phase: Phase) -> usize
     ensures { λ r. ⌜ Put (now (out .entry)) at (letters (nameOf phase)) (now (out .exit)) r ⌝ }
@@ -91,8 +91,8 @@ pub fn put_entry(out: &mut [u8], at: usize, entry: Entry) -> usize
 }
 
 // A word and two numbers.
-fn put_two(out: &mut [u8], at: usize, word: &[u8], x: u64, y: u64) -> usize
-    ensures { λ r. ⌜ Put (now (out .entry)) at (two (now (word .entry)) x y) (now (out .exit)) r ⌝ }
+fn put_numbered(out: &mut [u8], at: usize, word: &[u8], x: u64, y: u64) -> usize
+    ensures { λ r. ⌜ Put (now (out .entry)) at (numbered (now (word .entry)) x y) (now (out .exit)) r ⌝ }
 {
     let first = decimals::put_text(out, at, word);
     let middle = decimals::put_number(out, first, x);
@@ -104,7 +104,7 @@ fn put_two(out: &mut [u8], at: usize, word: &[u8], x: u64, y: u64) -> usize
 pub fn put_refusal(out: &mut [u8], at: usize, number: u64, place: u64) -> usize
     ensures { λ r. ⌜ Put (now (out .entry)) at (refusalText number place) (now (out .exit)) r ⌝ }
 {
-    put_two(out, at, b"refused ", number, place)
+    put_numbered(out, at, b"refused ", number, place)
 }
 
 // The same as a line of its own.
@@ -120,7 +120,7 @@ pub fn put_extent(out: &mut [u8], at: usize, extent: Extent) -> usize
     ensures { λ r. ⌜ Put (now (out .entry)) at (extentText extent) (now (out .exit)) r ⌝ }
 {
     match extent {
-        Extent::Sheet { entries, length } => put_two(
+        Extent::Sheet { entries, length } => put_numbered(
             out,
             at,
             b"sheet ",

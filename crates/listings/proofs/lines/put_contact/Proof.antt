@@ -2,7 +2,7 @@
 use mathlib.Core.Path.{_∙_}
 use native.Mathlib.Omega.{arith}
 use Rattle.numbers.specs.Code.{read-result, count-is}
-use Rattle.listings.specs.LineLaws.{filled-three, three}
+use Rattle.listings.specs.LineLaws.{filled-three, put-three}
 use borrow.Author.Needs.{needs}
 use Rattle.listings.proofs.lines.put_contact.Statement.{statement}
 use Rattle.listings.proofs.lines.put_contact.Tie as tie
@@ -38,7 +38,7 @@ returns : tie.Need-returns
 returns c =
     let s = c .before .before .before .before .before .before in
     let phase = s .before .before .before .before in
-    three _ _ _ _ _ _ _ _ _ _ _ (omega arith) (phase .before .before .before .before .put-text .ensures) (phase .put-phase .ensures)
+    put-three _ _ _ _ _ _ _ _ _ _ _ (omega arith) (phase .before .before .before .before .put-text .ensures) (phase .put-phase .ensures)
     (filled-three _ _ _ _ _ _ _ _ _ _ _ (read-result (s .before .second-of .result) (s .before .second-of .ok) ∙ s .before .second-of .ensures) (read-result (s .second-of2 .result) (s .second-of2 .ok) ∙ s .second-of2 .ensures) (count-is _ {m = 4294967295} (omega arith) tt)
     (c .before .before .put-filled .ensures))
 

@@ -7,11 +7,11 @@ use Rattle.listings.proofs.lines.put_extent.Tie as tie
 enum-known-extent : tie.Need-enum-known-extent
 enum-known-extent c = search needs
 
-slice-aggregate-put-two : tie.Need-slice-aggregate-put-two
-slice-aggregate-put-two c = search needs
+slice-aggregate-put-numbered : tie.Need-slice-aggregate-put-numbered
+slice-aggregate-put-numbered c = search needs
 
-put-two-requires : tie.Need-put-two-requires
-put-two-requires c κs = search needs
+put-numbered-requires : tie.Need-put-numbered-requires
+put-numbered-requires c κs = search needs
 
 enum-known-extent-2 : tie.Need-enum-known-extent-2
 enum-known-extent-2 c = search needs
@@ -26,7 +26,7 @@ same-length : tie.Need-same-length
 same-length c = search needs
 
 returns : tie.Need-returns
-returns c = put-sheet _ _ _ _ _ _ _ (c .before .before .before .before .before .before .extent .given .1) (c .before .before .put-two .ensures)
+returns c = put-sheet _ _ _ _ _ _ _ (c .before .before .before .before .before .before .extent .given .1) (c .before .before .put-numbered .ensures)
 
 same-length-2 : tie.Need-same-length-2
 same-length-2 c = search needs
@@ -40,8 +40,8 @@ put-extent-spec =
     tie.close
     (tie.spec
     enum-known-extent
-    slice-aggregate-put-two
-    put-two-requires
+    slice-aggregate-put-numbered
+    put-numbered-requires
     enum-known-extent-2
     cast-number
     put-refusal-requires

@@ -4,18 +4,18 @@ use borrow.Author.Needs.{needs}
 use Rattle.listings.proofs.lines.put_refusal.Statement.{statement}
 use Rattle.listings.proofs.lines.put_refusal.Tie as tie
 
-slice-aggregate-put-two : tie.Need-slice-aggregate-put-two
-slice-aggregate-put-two c = search needs
+slice-aggregate-put-numbered : tie.Need-slice-aggregate-put-numbered
+slice-aggregate-put-numbered c = search needs
 
-put-two-requires : tie.Need-put-two-requires
-put-two-requires c κs = search needs
+put-numbered-requires : tie.Need-put-numbered-requires
+put-numbered-requires c κs = search needs
 
 same-length : tie.Need-same-length
 same-length c = search needs
 
 returns : tie.Need-returns
-returns c = put-refused _ _ _ _ _ _ (c .before .before .put-two .ensures)
+returns c = put-refused _ _ _ _ _ _ (c .before .before .put-numbered .ensures)
 
 pub put-refusal-spec : {M : Type 1} → statement M
 put-refusal-spec =
-    tie.close (tie.spec slice-aggregate-put-two put-two-requires same-length returns)
+    tie.close (tie.spec slice-aggregate-put-numbered put-numbered-requires same-length returns)

@@ -2,7 +2,7 @@
 use mathlib.Core.Path.{_∙_}
 use native.Mathlib.Omega.{arith}
 use Rattle.numbers.specs.Code.{read-result}
-use Rattle.listings.specs.LineLaws.{filled-two, three}
+use Rattle.listings.specs.LineLaws.{filled-two, put-three}
 use borrow.Author.Needs.{needs}
 use Rattle.listings.proofs.lines.put_unsure.Statement.{statement}
 use Rattle.listings.proofs.lines.put_unsure.Tie as tie
@@ -35,7 +35,7 @@ returns : tie.Need-returns
 returns c =
     let s = c .before .before .before .before .before .before in
     let phase = s .before .before .before .before in
-    three _ _ _ _ _ _ _ _ _ _ _ (omega arith) (phase .before .before .before .before .put-text .ensures) (phase .put-phase .ensures)
+    put-three _ _ _ _ _ _ _ _ _ _ _ (omega arith) (phase .before .before .before .before .put-text .ensures) (phase .put-phase .ensures)
     (filled-two _ _ _ _ _ _ _ _ _ (read-result (s .before .second-of .result) (s .before .second-of .ok) ∙ s .before .second-of .ensures) (read-result (s .second-of2 .result) (s .second-of2 .ok) ∙ s .second-of2 .ensures) (c .before .before .put-filled .ensures))
 
 pub put-unsure-spec : {M : Type 1} → statement M

@@ -23,7 +23,7 @@ returns : tie.Need-returns
 returns c =
     let start = c .before .before .before .before .before .before in
     let known = c .before .before .given .given in
-    c .second .ensures ∙ ap₂ secondAsked (sym (known .1) ∙ c .before .before .before .before .request .ensures) (toZ-ofZ w64 (start .args .second) (start .fits .second))
+    c .second .ensures .0 ∙ ap₂ secondAsked (sym (known .1) ∙ c .before .before .before .before .request .ensures) (toZ-ofZ w64 (start .args .second) (start .fits .second))
 
 returns-2 : tie.Need-returns-2
 returns-2 c =

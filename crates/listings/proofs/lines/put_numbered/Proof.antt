@@ -1,9 +1,9 @@
--- `listings::lines::put_two` meets its contract: the word and the numbers, one after the other.
+-- `listings::lines::put_numbered` meets its contract: the word and the numbers, one after the other.
 use native.Mathlib.Omega.{arith}
-use Rattle.listings.specs.LineLaws.{four}
+use Rattle.listings.specs.LineLaws.{put-four}
 use borrow.Author.Needs.{needs}
-use Rattle.listings.proofs.lines.put_two.Statement.{statement}
-use Rattle.listings.proofs.lines.put_two.Tie as tie
+use Rattle.listings.proofs.lines.put_numbered.Statement.{statement}
+use Rattle.listings.proofs.lines.put_numbered.Tie as tie
 
 put-text-requires : tie.Need-put-text-requires
 put-text-requires c κs = search needs
@@ -23,11 +23,11 @@ same-length c = search needs
 returns : tie.Need-returns
 returns c =
     let middle = c .before .before .before .before .before .before in
-    four _ _ _ _ _ _ _ _ _ _ _ _ _ _ (omega arith) (middle .before .before .before .before .before .before .before .before .put-text .ensures)
+    put-four _ _ _ _ _ _ _ _ _ _ _ _ _ _ (omega arith) (middle .before .before .before .before .before .before .before .before .put-text .ensures)
     (middle .before .before .before .before .put-number .ensures) (middle .put-byte .ensures) (c .before .before .put-number2 .ensures)
 
-pub put-two-spec : {M : Type 1} → statement M
-put-two-spec =
+pub put-numbered-spec : {M : Type 1} → statement M
+put-numbered-spec =
     tie.close
     (tie.spec
     put-text-requires
