@@ -3,9 +3,9 @@
 use libc::STDIN_FILENO;
 use libc::STDOUT_FILENO;
 ghost use Prim.Native.Nat.{_+_, _≤_};
-ghost use lib.IntN.{natAbs};
 ghost use lib.ListN.{length};
 ghost use Rattle.sine.specs.Table.{Sines};
+ghost use Rattle.station.specs.Sizes.{StationSizes};
 
 // Four bytes as one number, the highest first.
 fn unsigned(a: u8, b: u8, c: u8, d: u8) -> u32 {
@@ -28,10 +28,12 @@ fn number_at(input: &[u8], i: usize) -> i64
     signed(unsigned(input[i], input[i + 1], input[i + 2], input[i + 3]))
 }
 
-fn put_place(out: &mut [u8], at: usize, table: &[u32], latitude: i64, height: i64) -> usize
-    requires { ⌜ (Sines (now table)) × (natAbs latitude ≤ 90000000) × (natAbs height ≤ 9000) ⌝ }
+fn put_place(out: &mut [u8], at: usize, table: &[u32], s: station::Station) -> usize
+    requires { ⌜ (Sines (now table)) × (StationSizes s) ⌝ }
 {
-    let place = station::geocentric(table, latitude, height);
+    let place = station::geocentric(table, s);
+    let latitude = s.latitude;
+    let height = s.height;
     let r = place.r;
     let p = place.p;
     let numbers = [latitude, height, r, p];
@@ -52,10 +54,10 @@ fn put_station(out: &mut [u8], at: usize, table: &[u32], latitude: i64, height: 
         longitude: 0,
         height: height,
     };
-    let range = station::in_range(record);
-    match range {
-        numbers::Limits::Within => put_place(out, at, table, latitude, height),
-        numbers::Limits::Outside(_) => put_refused(out, at, latitude, height),
+    let checked = station::check(record);
+    match checked {
+        refusals::Checked::Within => put_place(out, at, table, record),
+        refusals::Checked::Refused(_) => put_refused(out, at, latitude, height),
     }
 }
 
