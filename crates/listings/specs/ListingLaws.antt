@@ -11,7 +11,7 @@ use Rattle.records.specs.declared.Refusal.{Refusal}
 use Rattle.records.specs.declared.Refusal.the-variants as R
 use Rattle.records.specs.declared.Record.the-variants.{Is, Refused}
 use Rattle.records.specs.Kinds.{isEnd}
-use Rattle.records.specs.Rules.{start, afterOf}
+use Rattle.rules.specs.Rules.{start, afterOf}
 use Rattle.records.specs.Records.{recordAt}
 use Rattle.records.specs.RecordLaws.{record-bounds}
 use Rattle.records.specs.Refusals.{numberOf, placeOf}
