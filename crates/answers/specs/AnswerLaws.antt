@@ -1,23 +1,76 @@
--- The text of an answer, by what was answered.
-use Prim.Native.Nat.{ℕ}
-use mathlib.Core.Path.{_≡_, sym, _∙_}
-use mathlib.Core.List.{List}
-use lib.ListN.{take}
+-- The ways of an answer: what is put, and what is stored.
+use mathlib.Core.Path.{_≡_, refl, sym, ap, subst, _∙_}
+use mathlib.Core.List.{List, []}
+use Prim.Native.Nat.{ℕ, _≤_}
+use native.Mathlib.Omega.{arith}
+use lib.ListN.{length, take}
+use lib.Seq.{length-take-le}
 use Rattle.refusals.specs.declared.Refusal.{Refusal}
 use Rattle.circumstances.specs.declared.Answer.{Answer}
-use Rattle.circumstances.specs.declared.Answer.the-variants.{Written, Refused}
+use Rattle.circumstances.specs.declared.Answer.the-variants as A
 use Rattle.input.specs.Sheet.{answerTo, bufferFor}
-use Rattle.decimals.specs.Texts.{Put}
+use Rattle.input.specs.SheetLaws.{written-fits}
+use Rattle.decimals.specs.Texts.{Put, Counts}
+use Rattle.decimals.specs.TextLaws.{put-nil}
 use Rattle.listings.specs.Lines.{refusalLine}
 use Rattle.listings.specs.Listings.{told, printed}
-use Rattle.answers.specs.Answers.{textFor}
+use Rattle.answers.specs.Answers.{Begins, textBy, answerText, storedBy, sheetStored, errorBy, errorLine}
 
-module _ (request room old : List ℕ) (at : ℕ) (new : List ℕ) (r : ℕ) (a : Answer) (q : a ≡ answerTo request room) where
-  pub put-written : (n : ℕ) (after : List ℕ) → a ≡ Written n → after ≡ bufferFor request room → Put old at (printed (told (take n after))) new r
-      → Put old at (textFor request room) new r
-  unfolding textFor
-  put-written n after w b p = rw (sym q ∙ w, ← b) p
+-- what was written fits the room
+abbrev pub Fits : Answer → List ℕ → Type 0
+Fits (A.Written n) room = n ≤ length room
+Fits (A.Refused r) room = Unit {0}
 
-  pub put-refused : (f : Refusal) → a ≡ Refused f → Put old at (refusalLine (f .number) (f .place)) new r → Put old at (textFor request room) new r
-  unfolding textFor
-  put-refused f w p = rw (sym q ∙ w) p
+-- ---- an answer and the bytes that it left
+
+pub fits-written : (a : Answer) (room : List ℕ) (n : ℕ) → a ≡ A.Written n → Fits a room → n ≤ length room
+fits-written a room n e f = subst (λ (b : Answer). Fits b room) e f
+
+module _ (a : Answer) (room old new : List ℕ) (r : ℕ) where
+  pub put-written : (n : ℕ) → a ≡ A.Written n → Put old 0 (printed (told (take n room))) new r → Put old 0 (textBy a room) new r
+  put-written n e p = rw e p
+
+  pub put-refused : (x : Refusal) → a ≡ A.Refused x → Put old 0 (refusalLine (x .number) (x .place)) new r → Put old 0 (textBy a room) new r
+  put-refused x e p = rw e p
+
+-- ---- what a request's bytes are answered
+
+module _ (request room : List ℕ) (a : Answer) (is : a ≡ answerTo request room) (left : List ℕ) (by-rule : left ≡ bufferFor request room) where
+  pub fits : length left ≡ length room → Fits a left
+  fits l = by a is
+    where
+      by : (b : Answer) → b ≡ answerTo request room → Fits b left
+      by (A.Written n) e = omega (arith, written-fits request room n (sym e), l)
+      by (A.Refused r) e = tt
+
+  pub text-is : textBy a left ≡ answerText request room
+  unfolding answerText
+  text-is = rw (is, by-rule)
+
+  stored-is : storedBy a left ≡ sheetStored request room
+  unfolding sheetStored
+  stored-is = rw (is, by-rule)
+
+  error-is : errorBy a ≡ errorLine request room
+  unfolding errorLine
+  error-is = rw is
+
+  -- what `stored` promises: how many bytes go out, n of the sheet's room and r of the line's
+  abbrev Promised : ℕ → List ℕ → List ℕ → ℕ → Type 0
+  Promised n line after r = Begins n left (sheetStored request room)
+      × (Put line 0 (errorLine request room) after r × ((left ≡ bufferFor request room) × Counts n left))
+
+  pub stored-written : (n : ℕ) → a ≡ A.Written n → length left ≡ length room → (line : List ℕ) → Promised n line line 0
+  stored-written n e l line =
+      let h : n ≤ length left = fits-written a left n e (fits l) in
+      let t : take n left ≡ sheetStored request room = ap (λ (b : Answer). storedBy b left) (sym e) ∙ stored-is in
+      let u : [] ≡ errorLine request room = ap errorBy (sym e) ∙ error-is in
+      let k = sym (length-take-le n left h) in
+      (record { count = k ∙ ap length t; bytes = t }, (rw (← u) (put-nil line 0 (omega arith)), (by-rule, (h, k))))
+
+  pub stored-refused : (x : Refusal) → a ≡ A.Refused x → (line after : List ℕ) (r : ℕ) → Put line 0 (refusalLine (x .number) (x .place)) after r
+      → Promised 0 line after r
+  stored-refused x e line after r p =
+      let t : [] ≡ sheetStored request room = ap (λ (b : Answer). storedBy b left) (sym e) ∙ stored-is in
+      let u : refusalLine (x .number) (x .place) ≡ errorLine request room = ap errorBy (sym e) ∙ error-is in
+      (record { count = ap length t; bytes = t }, (rw (← u) p, (by-rule, (omega arith, refl))))

@@ -1,29 +1,91 @@
-// The answer to a request's bytes as text: the listing of its sheet, or the line of its refusal.
+// The answer to a request's bytes as text: the listing of its sheet, or the line of its refusal; and as a stored sheet, with that line apart.
 use circumstances::Answer;
+use listings::Text;
 use refusals::Refusal;
 ghost use mathlib.Core.Path.{_≡_};
-ghost use Rattle.decimals.specs.Texts.{Put};
+ghost use lib.ListN.{length};
 ghost use Rattle.input.specs.Sheet.{bufferFor};
+ghost use Rattle.decimals.specs.Texts.{Put, Counts};
 ghost use Rattle.listings.specs.Lines.{refusalLine};
-ghost use Rattle.answers.specs.Answers.{textFor};
+ghost use Rattle.listings.specs.Answers.{text, answered, roomWith};
+ghost use Rattle.answers.specs.Answers.{textBy, answerText, Begins, sheetStored, errorLine};
+ghost use Rattle.answers.specs.AnswerLaws.{Fits};
 
-// The line of a refusal, at a place of the room.
-pub fn put_refused(out: &mut [u8], at: usize, refusal: Refusal) -> usize
-    ensures { λ r. ⌜ Put (now (out .entry)) at (refusalLine (refusal .number) (refusal .place)) (now (out .exit)) r ⌝ }
+// How many bytes of each room go out.
+pub struct Streams {
+    // of the sheet's room, to standard output
+    pub output: usize,
+    // of the line's room, to standard error; more than the room has where the room is shorter than the line
+    pub error: usize,
+}
+
+fn put_refused(refusal: Refusal, out: &mut [u8]) -> usize
+    ensures { λ r. ⌜ Put (now (out .entry)) 0 (refusalLine (refusal .number) (refusal .place)) (now (out .exit)) r ⌝ }
 {
     let number = refusal.number as u64;
     let place = refusal.place as u64;
-    listings::lines::put_refusal_line(out, at, number, place)
+    listings::lines::put_refusal_line(out, 0, number, place)
 }
 
-// Writes the sheet of a request into the room, and puts its listing, or the line of its refusal, at a place of another. Any bytes, any rooms.
-pub fn put_answer(out: &mut [u8], at: usize, request: &[u8], room: &mut [u8]) -> usize
-    ensures { λ r. ⌜ Put (now (out .entry)) at (textFor (now (request .entry)) (now (room .entry))) (now (out .exit)) r ⌝ }
-    ensures { λ r. ⌜ now (room .exit) ≡ bufferFor (now (request .entry)) (now (room .entry)) ⌝ }
+// The text of an answer whose sheet stands at the room's start.
+fn put_text(answer: Answer, room: &[u8], out: &mut [u8]) -> usize
+    requires { ⌜ Fits answer (now room) ⌝ }
+    ensures { λ r. ⌜ Put (now (out .entry)) 0 (textBy answer (now (room .entry))) (now (out .exit)) r ⌝ }
+{
+    match answer {
+        Answer::Written(written) => listings::put_listing(out, 0, &room[..written]),
+        Answer::Refused(refusal) => put_refused(refusal, out),
+    }
+}
+
+// The sheet of a request in its room, and the text of the answer from the start of `out` on, as far as that goes; the place after it.
+pub fn put_answer(request: &[u8], room: &mut [u8], out: &mut [u8]) -> usize
+    ensures text { λ r. ⌜ Put (now (out .entry)) 0 (answerText (now (request .entry)) (now (room .entry))) (now (out .exit)) r ⌝ }
+    ensures sheet { λ r. ⌜ now (room .exit) ≡ bufferFor (now (request .entry)) (now (room .entry)) ⌝ }
+{
+    let answer = input::sheet(request, room);
+    put_text(answer, room, out)
+}
+
+// The same where `out` holds the text, and how long it is; or 4, which is of `out` alone, and `out` as it was. What is refused of the
+// request, 4 of the sheet's room among it, is what the text tells.
+pub fn answer(request: &[u8], room: &mut [u8], out: &mut [u8]) -> Text
+    ensures answer { λ r. ⌜ r ≡ answered (length (now (out .entry))) (text (answerText (now (request .entry)) (now (room .entry)))) ⌝ }
+    ensures text { λ r. ⌜ now (out .exit) ≡ roomWith (text (answerText (now (request .entry)) (now (room .entry)))) (now (out .entry)) ⌝ }
+    ensures sheet { λ r. ⌜ now (room .exit) ≡ bufferFor (now (request .entry)) (now (room .entry)) ⌝ }
+{
+    let answer = input::sheet(request, room);
+    let mut none = [0u8; 0];
+    let need = put_text(answer, room, &mut none);
+    if out.len() < need {
+        return Text::Refused(Refusal {
+            number: 4,
+            place: need,
+        });
+    }
+    put_text(answer, room, out);
+    Text::Written(need)
+}
+
+// What program `sheet_bytes` writes: the sheet as it is stored, at its room's start; or the line of the refusal, as far as its room goes.
+pub fn stored(request: &[u8], room: &mut [u8], line: &mut [u8]) -> Streams
+    ensures output { λ r. ⌜ Begins (r .output) (now (room .exit)) (sheetStored (now (request .entry)) (now (room .entry))) ⌝ }
+    ensures error { λ r. ⌜ Put (now (line .entry)) 0 (errorLine (now (request .entry)) (now (room .entry))) (now (line .exit)) (r .error) ⌝ }
+    ensures sheet { λ r. ⌜ now (room .exit) ≡ bufferFor (now (request .entry)) (now (room .entry)) ⌝ }
+    ensures counts { λ r. ⌜ Counts (r .output) (now (room .exit)) ⌝ }
 {
     let answer = input::sheet(request, room);
     match answer {
-        Answer::Written(written) => listings::put_listing(out, at, &room[..written]),
-        Answer::Refused(refusal) => put_refused(out, at, refusal),
+        Answer::Written(written) => Streams {
+            output: written,
+            error: 0,
+        },
+        Answer::Refused(refusal) => {
+            let end = put_refused(refusal, line);
+            Streams {
+                output: 0,
+                error: end,
+            }
+        }
     }
 }

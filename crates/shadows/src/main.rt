@@ -7,7 +7,7 @@ use libc::STDOUT_FILENO;
 use seconds::OneSecond;
 
 // The line of a second.
-fn put_second(out: &mut [u8], at: usize, second: shadow::Second) -> usize {
+fn put_second(out: &mut [u8], second: shadow::Second) -> usize {
     let shadow = second.shadow;
     let u = shadow.u;
     let v = shadow.v;
@@ -18,43 +18,47 @@ fn put_second(out: &mut [u8], at: usize, second: shadow::Second) -> usize {
     let direction = second.direction as i64;
     let magnitude = second.magnitude as i64;
     let numbers = [u, v, l1, l2, penumbra, central, direction, magnitude];
-    decimals::put_filled(out, at, b"# # # # # # # #\n", &numbers)
+    decimals::put_filled(out, 0, b"# # # # # # # #\n", &numbers)
+}
+
+fn put_refused(out: &mut [u8], refusal: refusals::Refusal) -> usize {
+    let number = refusal.number as u64;
+    let place = refusal.place as u64;
+    listings::lines::put_refusal_line(out, number, place)
 }
 
 // The line of the first second of a request's window.
-fn put_first(out: &mut [u8], at: usize, q: requests::Request) -> usize {
+fn put_first(out: &mut [u8], q: requests::Request) -> usize {
     let w = q.window;
     let answer = seconds::second(q, w.first);
     match answer {
-        OneSecond::Is(second) => put_second(out, at, second),
-        OneSecond::Refused(refusal) => answers::put_refused(out, at, refusal),
+        OneSecond::Is(second) => put_second(out, second),
+        OneSecond::Refused(refusal) => put_refused(out, refusal),
     }
 }
 
-fn put_request(out: &mut [u8], at: usize, request: &[u8]) -> usize {
+// The line of a request.
+fn put_request(out: &mut [u8], request: &[u8]) -> usize {
     let asked = input::request(request);
     match asked {
-        Input::Is(q) => put_first(out, at, q),
-        Input::Refused(refusal) => answers::put_refused(out, at, refusal),
+        Input::Is(q) => put_first(out, q),
+        Input::Refused(refusal) => put_refused(out, refusal),
     }
 }
 
-fn put_requests(out: &mut [u8], input: &[u8]) -> usize {
-    let mut at = 0;
-    let mut i = 0;
-    while 109 <= input.len() - i {
-        let end = i + 109;
-        at = put_request(out, at, &input[i..end]);
-        i = end;
-    }
-    at
-}
-
+// Nothing says that an input ends, so the loop counts its turns down, from a number that no run uses up.
 fn main() {
-    let mut input = io::large_buffer();
-    let length = io::read_full(STDIN_FILENO, &mut input);
-    let mut lines = [0u8; 65536];
-    let end = put_requests(&mut lines, &input[..length]);
-    let written = decimals::clipped(&lines, end);
-    io::write_all(STDOUT_FILENO, &lines[..written]);
+    let mut turns = u64::MAX;
+    while turns > 0 {
+        let mut request = [0u8; 109];
+        if io::read_full(STDIN_FILENO, &mut request) < 109 {
+            return;
+        }
+        // eight numbers have 20 digits at most, and a sign
+        let mut line = [0u8; 256];
+        let end = put_request(&mut line, &request);
+        let written = decimals::clipped(&line, end);
+        io::write_all(STDOUT_FILENO, &line[..written]);
+        turns -= 1;
+    }
 }

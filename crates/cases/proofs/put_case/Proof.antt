@@ -1,4 +1,4 @@
--- `cases::put_case` is safe: what is lent lies within the case and the buffer.
+-- `cases::put_case` meets its contract: two bytes tell a room of at most 65,535, and a buffer has 65,536. Assumes nothing.
 use mathlib.Core.Path.{sym}
 use native.Mathlib.Omega.{arith}
 use lib.Seq.{length-take-le}

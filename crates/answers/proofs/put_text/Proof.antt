@@ -1,0 +1,50 @@
+-- `answers::put_text` meets its contract: each arm has the text of its answer.
+use mathlib.Core.Path.{sym}
+use lib.Seq.{length-take-le}
+use Rattle.answers.specs.AnswerLaws.{fits-written, put-written, put-refused}
+use borrow.Author.Needs.{needs}
+use Rattle.answers.proofs.put_text.Statement.{statement}
+use Rattle.answers.proofs.put_text.Tie as tie
+
+enum-known-answer : tie.Need-enum-known-answer
+enum-known-answer c = search needs
+
+slice-aggregate-put-listing : tie.Need-slice-aggregate-put-listing
+slice-aggregate-put-listing c =
+    let a = c .before .before in
+    sym (length-take-le _ _ (fits-written _ _ _ (a .answer .given .1) (a .before .before .before .before .pre)))
+
+put-listing-requires : tie.Need-put-listing-requires
+put-listing-requires c κs = search needs
+
+enum-known-answer-2 : tie.Need-enum-known-answer-2
+enum-known-answer-2 c = search needs
+
+put-refused-requires : tie.Need-put-refused-requires
+put-refused-requires c κs = search needs
+
+same-length : tie.Need-same-length
+same-length c = search needs
+
+returns : tie.Need-returns
+returns c = put-written _ _ _ _ _ _ (c .before .before .before .before .before .before .answer .given .1) (c .before .before .put-listing .ensures)
+
+same-length-2 : tie.Need-same-length-2
+same-length-2 c = search needs
+
+returns-2 : tie.Need-returns-2
+returns-2 c = put-refused _ _ _ _ _ _ (c .before .before .before .before .before .answer2 .given .1) (c .before .before .put-refused .ensures)
+
+pub put-text-spec : {M : Type 1} → statement M
+put-text-spec =
+    tie.close
+    (tie.spec
+    enum-known-answer
+    slice-aggregate-put-listing
+    put-listing-requires
+    enum-known-answer-2
+    put-refused-requires
+    same-length
+    returns
+    same-length-2
+    returns-2)
