@@ -23,8 +23,8 @@ use Rattle.phases.specs.declared.Phase.the-variants.{Penumbra}
 use Rattle.requests.specs.declared.Request.{Request}
 use Rattle.requests.specs.Windows.{secondCount, eachSecond}
 use Rattle.seconds.specs.Seconds.{stateAt}
-use Rattle.records.specs.Entries.{opened}
-use Rattle.records.specs.StoredSeconds.{stored}
+use Rattle.kinds.specs.Entries.{opened}
+use Rattle.kinds.specs.StoredSeconds.{stored}
 use Rattle.courses.specs.Courses.{statesOf, phaseEntries}
 use Rattle.circumstances.specs.Sheet.{courseOf}
 

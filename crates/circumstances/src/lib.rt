@@ -1,7 +1,7 @@
 // From a request to its contact sheet.
+use kinds::Entry;
+use kinds::Kind;
 use phases::Phase;
-use records::Entry;
-use records::Kind;
 use refusals::Checked;
 use refusals::Refusal;
 use requests::Request;
@@ -58,7 +58,7 @@ fn phase_length(phase: Phase, states: &[u8]) -> usize
             return n;
         };
         let kind = kind_in(phase, entry);
-        n += records::kinds::size_of(kind);
+        n += kinds::size_of(kind);
         c = after;
     }
 }
@@ -125,19 +125,19 @@ fn entry_for(table: &[u32], q: Request, place: Place, phase: Phase, entry: conta
     let w = q.window;
     let earlier = requests::nth_second(w, from_of(entry));
     let later = requests::nth_second(w, to_of(entry));
-    let from = records::seconds::store_second(earlier);
-    let to = records::seconds::store_second(later);
+    let from = kinds::seconds::store_second(earlier);
+    let to = kinds::seconds::store_second(later);
     match entry {
         contacts::Entry::Enter { from: _, to: _ } => {
             let direction = seconds::direction_at(table, q, place, later);
-            records::entries::enter(phase, from, to, direction)
+            kinds::entries::enter(phase, from, to, direction)
         }
         contacts::Entry::Leave { from: _, to: _ } => {
             let direction = seconds::direction_at(table, q, place, earlier);
-            records::entries::leave(phase, from, to, direction)
+            kinds::entries::leave(phase, from, to, direction)
         }
-        contacts::Entry::Graze { from: _, to: _ } => records::entries::graze(phase, from, to),
-        contacts::Entry::Open { from: _, to: _ } => records::entries::open(phase, from, to),
+        contacts::Entry::Graze { from: _, to: _ } => kinds::entries::graze(phase, from, to),
+        contacts::Entry::Open { from: _, to: _ } => kinds::entries::open(phase, from, to),
     }
 }
 
@@ -149,9 +149,9 @@ fn head_for(q: Request) -> Entry
     let s = q.station;
     let w = q.window;
     let station = s.number as u32;
-    let first = records::seconds::store_second(w.first);
-    let last = records::seconds::store_second(w.last);
-    records::entries::head(station, first, last)
+    let first = kinds::seconds::store_second(w.first);
+    let last = kinds::seconds::store_second(w.last);
+    kinds::entries::head(station, first, last)
 }
 
 // The closest second, counted from the window's first, with its magnitude.
@@ -161,9 +161,9 @@ fn closest_for(table: &[u32], q: Request, place: Place, k: usize) -> Entry
 {
     let w = q.window;
     let t = requests::nth_second(w, k);
-    let second = records::seconds::store_second(t);
+    let second = kinds::seconds::store_second(t);
     let magnitude = seconds::magnitude_at(table, q, place, t);
-    records::entries::closest(second, magnitude)
+    kinds::entries::closest(second, magnitude)
 }
 
 // ---- the sheet in the buffer
@@ -264,7 +264,7 @@ fn write_sheet(
     let after_phases = write_phases(table, q, place, states, buf, after_head);
     let last = closest_for(table, q, place, closest);
     let after_closest = records::bytes::put(buf, after_phases, last);
-    let end = records::entries::end();
+    let end = kinds::entries::end();
     records::bytes::put(buf, after_closest, end)
 }
 
@@ -282,10 +282,10 @@ fn sheet_from(
     ensures { λ r. ⌜ r ≡ answerWithin q (now (buf .entry)) ⌝ }
     ensures { λ r. ⌜ now (buf .exit) ≡ bufferWithin q (now (buf .entry)) ⌝ }
 {
-    let head = records::kinds::size_of(Kind::Head);
+    let head = kinds::size_of(Kind::Head);
     let phases = phases_length(q, states);
-    let closest_size = records::kinds::size_of(Kind::Closest);
-    let end = records::kinds::size_of(Kind::End);
+    let closest_size = kinds::size_of(Kind::Closest);
+    let end = kinds::size_of(Kind::End);
     let need = head + phases + closest_size + end;
     if buf.len() < need {
         return Answer::Refused(Refusal {

@@ -8,8 +8,8 @@ use Rattle.phases.specs.declared.Phase.{Phase}
 use Rattle.phases.specs.States.{code}
 use Rattle.requests.specs.Windows.{secondCount}
 use Rattle.requests.specs.WindowLaws.{low-second, each-length, each-at}
-use Rattle.records.specs.StoredSeconds.{stored, secondOf}
-use Rattle.records.specs.StoredSecondLaws.{stored-later, second-stored}
+use Rattle.kinds.specs.StoredSeconds.{stored, secondOf}
+use Rattle.kinds.specs.StoredSecondLaws.{stored-later, second-stored}
 use Rattle.courses.specs.Courses.{Course, second, statesOf}
 use Rattle.courses.specs.Sound.{Sound}
 

@@ -9,9 +9,9 @@ use Rattle.requests.specs.Windows.{nthSecond, eachSecond}
 use Rattle.contacts.specs.declared.Entry as Contact
 use Rattle.contacts.specs.declared.Entry.the-variants as C
 use Rattle.contacts.specs.Entries.{entries}
-use Rattle.records.specs.declared.Entry.{Entry}
-use Rattle.records.specs.Entries.{head, enter, leave, graze, opened, closest, end}
-use Rattle.records.specs.StoredSeconds.{stored}
+use Rattle.kinds.specs.declared.Entry.{Entry}
+use Rattle.kinds.specs.Entries.{head, enter, leave, graze, opened, closest, end}
+use Rattle.kinds.specs.StoredSeconds.{stored}
 
 pub record Course : Type 0 where
   -- the station's number, 1 to 999

@@ -19,10 +19,10 @@ use Rattle.contacts.specs.declared.Entry as Contact
 use Rattle.contacts.specs.declared.Entry.the-variants as C
 use Rattle.contacts.specs.Entries.{if-so, All}
 use Rattle.contacts.specs.Exact.{Change, howMany, ExactEnds, neither, Alternate}
-use Rattle.records.specs.declared.Kind.{Kind}
-use Rattle.records.specs.declared.Kind.the-variants as K
-use Rattle.records.specs.declared.Entry.{Entry}
-use Rattle.records.specs.StoredSeconds.{secondOf}
+use Rattle.kinds.specs.declared.Kind.{Kind}
+use Rattle.kinds.specs.declared.Kind.the-variants as K
+use Rattle.kinds.specs.declared.Entry.{Entry}
+use Rattle.kinds.specs.StoredSeconds.{secondOf}
 use Rattle.sheets.specs.Sheets.{sheet, readSheet}
 use Rattle.courses.specs.Courses.{Course, sheetOf}
 

@@ -27,10 +27,10 @@ use Rattle.contacts.specs.Changes.{each-change-in-one}
 use Rattle.contacts.specs.Ends.{each-end-exact}
 use Rattle.contacts.specs.Alternate.{alternate}
 use Rattle.contacts.specs.Shifted.{shifted, how-many-shifted, alternate-shifted, ends-shifted}
-use Rattle.records.specs.declared.Entry.{Entry}
-use Rattle.records.specs.Entries.{end}
-use Rattle.records.specs.StoredSeconds.{stored, secondOf}
-use Rattle.records.specs.StoredSecondLaws.{stored-is}
+use Rattle.kinds.specs.declared.Entry.{Entry}
+use Rattle.kinds.specs.Entries.{end}
+use Rattle.kinds.specs.StoredSeconds.{stored, secondOf}
+use Rattle.kinds.specs.StoredSecondLaws.{stored-is}
 use Rattle.courses.specs.Courses.{Course, second, statesOf, entryOf, phaseEntries, entriesOf, headEntry, closestEntry, sheetOf}
 use Rattle.courses.specs.Demand3.{ExactAnswers, inKind, entriesIn, EachSecond, InsideAt}
 use Rattle.courses.specs.Sound.{Sound}

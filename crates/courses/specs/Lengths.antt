@@ -8,11 +8,12 @@ use Rattle.phases.specs.declared.Phase.{Phase}
 use Rattle.contacts.specs.declared.Entry as Contact
 use Rattle.contacts.specs.declared.Entry.the-variants as C
 use Rattle.contacts.specs.Entries.{entries}
-use Rattle.records.specs.declared.Kind.{Kind}
-use Rattle.records.specs.declared.Kind.the-variants as K
-use Rattle.records.specs.declared.Entry.{Entry}
-use Rattle.records.specs.Kinds.{sizeOf}
-use Rattle.records.specs.Entries.{bytes, bytesOf, end}
+use Rattle.kinds.specs.declared.Kind.{Kind}
+use Rattle.kinds.specs.declared.Kind.the-variants as K
+use Rattle.kinds.specs.declared.Entry.{Entry}
+use Rattle.kinds.specs.Kinds.{sizeOf}
+use Rattle.kinds.specs.Entries.{end}
+use Rattle.records.specs.Entries.{bytes, bytesOf}
 use Rattle.records.specs.EntryLaws.{bytes-nil, bytes-cons, length-bytes-cons}
 use Rattle.courses.specs.Courses.{Course, statesOf, entryOf, phaseEntries, entriesOf, headEntry, closestEntry, sheetOf}
 

@@ -25,15 +25,15 @@ use Rattle.contacts.specs.Exact.{Turn, neither, entered, left, Alternate}
 use Rattle.contacts.specs.Ordered.{Ordered, ordered}
 use Rattle.contacts.specs.Alternate.{alternate}
 use Rattle.contacts.specs.WellFormed as CW
-use Rattle.records.specs.declared.Entry.{Entry}
-use Rattle.records.specs.declared.Crossing.{Crossing}
-use Rattle.records.specs.declared.Crossing.the-variants as C
-use Rattle.records.specs.Entries.{end}
+use Rattle.kinds.specs.declared.Entry.{Entry}
+use Rattle.kinds.specs.declared.Crossing.{Crossing}
+use Rattle.kinds.specs.declared.Crossing.the-variants as C
+use Rattle.kinds.specs.Entries.{end}
 use Rattle.rules.specs.Order.{repeats}
-use Rattle.records.specs.FieldRules.{isDirection}
+use Rattle.kinds.specs.FieldRules.{isDirection}
 use Rattle.rules.specs.Rules.{start}
-use Rattle.records.specs.StoredSeconds.{stored}
-use Rattle.records.specs.StoredSecondLaws.{stored-is}
+use Rattle.kinds.specs.StoredSeconds.{stored}
+use Rattle.kinds.specs.StoredSecondLaws.{stored-is}
 use Rattle.sheets.specs.WellFormed.{WellFormed, within}
 use Rattle.sheets.specs.WellFormedLaws.{well-step, step-head, well-first, well-later, step-enter, step-leave, step-graze, step-open, well-closest}
 use Rattle.courses.specs.Courses.{Course, second, statesOf, entryOf, phaseEntries, entriesOf, headEntry, closestEntry, sheetOf}

@@ -7,9 +7,10 @@ use native.Mathlib.Nat.{add-zero, zero-add}
 use lib.ListN.{length, set, drop}
 use lib.Seq.{sets, sets-eq}
 use Rattle.phases.specs.declared.Phase.{Phase}
-use Rattle.records.specs.declared.Entry.{Entry}
-use Rattle.records.specs.Kinds.{sizeOf}
-use Rattle.records.specs.Entries.{bytes, bytesOf, end}
+use Rattle.kinds.specs.declared.Entry.{Entry}
+use Rattle.kinds.specs.Kinds.{sizeOf}
+use Rattle.kinds.specs.Entries.{end}
+use Rattle.records.specs.Entries.{bytes, bytesOf}
 use Rattle.records.specs.EntryLaws.{bytes-nil, bytes-cons, length-bytes}
 use Rattle.courses.specs.Courses.{Course, phaseEntries, entriesOf, headEntry, closestEntry, sheetOf}
 use Rattle.courses.specs.Lengths.{bytes-append, entries-more}

@@ -2,7 +2,7 @@
 use mathlib.Core.Path.{_≡_, refl}
 use mathlib.Core.List.{[], _∷_}
 use Rattle.phases.specs.declared.Phase.the-variants.{Penumbra, Central}
-use Rattle.records.specs.Entries.{head, enter, leave, graze, opened, closest, end}
+use Rattle.kinds.specs.Entries.{head, enter, leave, graze, opened, closest, end}
 use Rattle.decimals.specs.Decimals.{digitsOf, decimal, signed}
 use Rattle.decimals.specs.Texts.{letters}
 use Rattle.decimals.specs.Patterns.{piece, filled}

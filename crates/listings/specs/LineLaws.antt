@@ -5,8 +5,8 @@ use mathlib.Core.List.{List, [], _∷_, _++_}
 use lib.IntN.{ℤ}
 use lib.ListN.{length}
 use Rattle.refusals.specs.declared.Refusal.{Refusal}
-use Rattle.records.specs.declared.Kind.{Kind}
-use Rattle.records.specs.declared.Entry.{Entry}
+use Rattle.kinds.specs.declared.Kind.{Kind}
+use Rattle.kinds.specs.declared.Entry.{Entry}
 use Rattle.sheets.specs.declared.Extent.{Extent}
 use Rattle.sheets.specs.declared.Extent.the-variants as X
 use Rattle.decimals.specs.Texts.{letters, Put}

@@ -6,10 +6,10 @@ use mathlib.Core.List.{List, [], _∷_, _++_}
 use lib.IntN.{pos}
 use Rattle.phases.specs.declared.Phase.{Phase}
 use Rattle.phases.specs.declared.Phase.the-variants.{Penumbra, Central}
-use Rattle.records.specs.declared.Kind.{Kind}
-use Rattle.records.specs.declared.Kind.the-variants.{Head, Enter, Leave, Graze, Open, Closest, End}
-use Rattle.records.specs.declared.Entry.{Entry}
-use Rattle.records.specs.StoredSeconds.{secondOf}
+use Rattle.kinds.specs.declared.Kind.{Kind}
+use Rattle.kinds.specs.declared.Kind.the-variants.{Head, Enter, Leave, Graze, Open, Closest, End}
+use Rattle.kinds.specs.declared.Entry.{Entry}
+use Rattle.kinds.specs.StoredSeconds.{secondOf}
 use Rattle.sheets.specs.declared.Extent.{Extent}
 use Rattle.sheets.specs.declared.Extent.the-variants as X
 use Rattle.decimals.specs.Decimals.{decimal}

@@ -7,10 +7,10 @@ use native.Mathlib.Omega.{arith}
 use lib.ListN.{length}
 use Rattle.refusals.specs.declared.Refusal.{Refusal}
 use Rattle.refusals.specs.Refusals.{refusal}
-use Rattle.records.specs.declared.Entry.{Entry}
-use Rattle.records.specs.declared.Progress.{Progress}
+use Rattle.kinds.specs.declared.Entry.{Entry}
+use Rattle.kinds.specs.declared.Progress.{Progress}
 use Rattle.records.specs.declared.Record.the-variants.{Is, Refused}
-use Rattle.records.specs.Kinds.{isEnd}
+use Rattle.kinds.specs.Kinds.{isEnd}
 use Rattle.rules.specs.Rules.{start, afterOf}
 use Rattle.records.specs.Records.{recordAt}
 use Rattle.records.specs.RecordLaws.{record-bounds}

@@ -32,7 +32,7 @@ fn put_lines(sheet: &[u8], out: &mut [u8], start: usize) -> usize
         };
         at = lines::put_entry(out, at, entry);
         let kind = entry.kind;
-        if records::kinds::is_end(kind) {
+        if kinds::is_end(kind) {
             return at;
         }
         from = next;

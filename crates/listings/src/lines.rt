@@ -1,8 +1,8 @@
 // The line of an entry, and of a refusal. A `put_` function stores it at a place of a room, as far as the room goes, and gives the place
 // after it (`decimals`).
+use kinds::Entry;
+use kinds::Kind;
 use phases::Phase;
-use records::Entry;
-use records::Kind;
 use sheets::Extent;
 ghost use mathlib.Core.List.{_++_};
 ghost use Rattle.decimals.specs.Texts.{letters, Put};
@@ -22,8 +22,8 @@ fn put_head(out: &mut [u8], at: usize, station: u32, first: u32, last: u32) -> u
     ensures { λ r. ⌜ Put (now (out .entry)) at (headLine station first last) (now (out .exit)) r ⌝ }
 {
     let number = station as i64;
-    let from = records::seconds::second_of(first);
-    let to = records::seconds::second_of(last);
+    let from = kinds::seconds::second_of(first);
+    let to = kinds::seconds::second_of(last);
     let numbers = [number, from, to];
     decimals::put_filled(out, at, b"station # from # to #\n", &numbers)
 }
@@ -42,8 +42,8 @@ fn put_contact(
 {
     let name = decimals::put_text(out, at, word);
     let next = put_phase(out, name, phase);
-    let start = records::seconds::second_of(from);
-    let end = records::seconds::second_of(to);
+    let start = kinds::seconds::second_of(from);
+    let end = kinds::seconds::second_of(to);
     let angle = direction as i64;
     let numbers = [start, end, angle];
     decimals::put_filled(out, next, b" # # #\n", &numbers)
@@ -55,8 +55,8 @@ fn put_unsure(out: &mut [u8], at: usize, word: &[u8], phase: Phase, from: u32, t
 {
     let name = decimals::put_text(out, at, word);
     let next = put_phase(out, name, phase);
-    let start = records::seconds::second_of(from);
-    let end = records::seconds::second_of(to);
+    let start = kinds::seconds::second_of(from);
+    let end = kinds::seconds::second_of(to);
     let numbers = [start, end];
     decimals::put_filled(out, next, b" # #\n", &numbers)
 }
@@ -65,7 +65,7 @@ fn put_unsure(out: &mut [u8], at: usize, word: &[u8], phase: Phase, from: u32, t
 fn put_closest(out: &mut [u8], at: usize, second: u32, magnitude: u32) -> usize
     ensures { λ r. ⌜ Put (now (out .entry)) at (closestLine second magnitude) (now (out .exit)) r ⌝ }
 {
-    let when = records::seconds::second_of(second);
+    let when = kinds::seconds::second_of(second);
     let millionths = magnitude as i64;
     let numbers = [when, millionths];
     decimals::put_filled(out, at, b"closest # #\n", &numbers)

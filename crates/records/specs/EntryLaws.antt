@@ -7,11 +7,11 @@ use native.Mathlib.Nat.{add-zero}
 use native.Mathlib.Numerals.{add-one}
 use lib.ListN.{length, length-append, set}
 use lib.Seq.{sets}
-use Rattle.records.specs.declared.Width.{Width}
-use Rattle.records.specs.declared.Width.the-variants.{Absent, Two, Four}
-use Rattle.records.specs.declared.Widths.{Widths}
-use Rattle.records.specs.declared.Entry.{Entry}
-use Rattle.records.specs.Kinds.{codeOf, widthsOf, bytesIn, sizeOf}
+use Rattle.kinds.specs.declared.Width.{Width}
+use Rattle.kinds.specs.declared.Width.the-variants.{Absent, Two, Four}
+use Rattle.kinds.specs.declared.Widths.{Widths}
+use Rattle.kinds.specs.declared.Entry.{Entry}
+use Rattle.kinds.specs.Kinds.{codeOf, widthsOf, bytesIn, sizeOf}
 use Rattle.records.specs.Numbers.{number}
 use Rattle.records.specs.Entries.{body, bytes, numbers, bytesOf, numbersOf}
 

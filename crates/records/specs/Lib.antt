@@ -1,13 +1,7 @@
 pub mod Entries
-pub mod FieldRules
-pub mod Kinds
-pub mod KindLaws
 pub mod EntryLaws
 pub mod Numbers
 pub mod NumberLaws
 pub mod Records
 pub mod RecordLaws
 pub mod RecordTrip
-pub mod StoredSeconds
-pub mod StoredSecondLaws
-pub mod TestLaws

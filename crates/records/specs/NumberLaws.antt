@@ -7,9 +7,9 @@ use native.Mathlib.Nat.{add-assoc, add-zero}
 use native.Mathlib.Numerals.{add-one}
 use lib.ListN.{length, getD, drop, take}
 use lib.Seq.{getD-append-add, drop-cons}
-use Rattle.records.specs.declared.Width.{Width}
-use Rattle.records.specs.declared.Width.the-variants.{Absent, Two, Four}
-use Rattle.records.specs.Kinds.{bytesIn}
+use Rattle.kinds.specs.declared.Width.{Width}
+use Rattle.kinds.specs.declared.Width.the-variants.{Absent, Two, Four}
+use Rattle.kinds.specs.Kinds.{bytesIn}
 use Rattle.records.specs.Numbers.{twoAt, fourAt, number, numberAt}
 
 -- ---- what is written is read back

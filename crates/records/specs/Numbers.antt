@@ -3,8 +3,8 @@
 use Prim.Native.Nat.{ℕ, _+_, _*_, _/_, _%_}
 use mathlib.Core.List.{List, [], _∷_, _++_}
 use lib.ListN.{getD}
-use Rattle.records.specs.declared.Width.{Width}
-use Rattle.records.specs.declared.Width.the-variants.{Absent, Two, Four}
+use Rattle.kinds.specs.declared.Width.{Width}
+use Rattle.kinds.specs.declared.Width.the-variants.{Absent, Two, Four}
 
 -- the bytes of a number: of two bytes, and of four
 abbrev pub two : ℕ → List ℕ

@@ -8,19 +8,19 @@ use native.Mathlib.Decide.{decLt, decLe}
 use borrow.Author.Tests.{le-leb, lt-leb, lt-ltb, le-ltb}
 use lib.ListN.{length, getD}
 use Rattle.refusals.specs.declared.Refusal.{Refusal}
-use Rattle.records.specs.declared.Kind.{Kind}
-use Rattle.records.specs.declared.Width.{Width}
-use Rattle.records.specs.declared.Width.the-variants.{Absent, Two, Four}
-use Rattle.records.specs.declared.Named.{Named}
-use Rattle.records.specs.declared.Named.the-variants as Named
+use Rattle.kinds.specs.declared.Kind.{Kind}
+use Rattle.kinds.specs.declared.Width.{Width}
+use Rattle.kinds.specs.declared.Width.the-variants.{Absent, Two, Four}
+use Rattle.kinds.specs.declared.Named.{Named}
+use Rattle.kinds.specs.declared.Named.the-variants as Named
 use Rattle.records.specs.declared.Byte.{Byte}
 use Rattle.records.specs.declared.Byte.the-variants as Byte
 use Rattle.records.specs.declared.Body.{Body}
 use Rattle.records.specs.declared.Body.the-variants as Body
-use Rattle.records.specs.declared.Entry.{Entry}
+use Rattle.kinds.specs.declared.Entry.{Entry}
 use Rattle.records.specs.declared.Record.the-variants.{Is, Refused}
-use Rattle.records.specs.Kinds.{kindFor, widthsOf, sizeOf, unused, plain}
-use Rattle.records.specs.KindLaws.{size-small}
+use Rattle.kinds.specs.Kinds.{kindFor, widthsOf, sizeOf, unused, plain}
+use Rattle.kinds.specs.KindLaws.{size-small}
 use Rattle.records.specs.Numbers.{numberAt}
 use Rattle.records.specs.Records.{byteAt, entryAt, bodyAt, ofBody, ofKind, ofByte, recordAt}
 

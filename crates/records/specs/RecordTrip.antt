@@ -5,14 +5,14 @@ use mathlib.Core.List.{List, [], _∷_, _++_, append-assoc}
 use native.Mathlib.Omega.{arith}
 use lib.ListN.{length, getD, drop, take, length-append}
 use lib.Seq.{getD-append-seam, drop-cons, drop-drop, take-add}
-use Rattle.records.specs.declared.Entry.{Entry}
-use Rattle.records.specs.declared.Kind.{Kind}
-use Rattle.records.specs.declared.Width.{Width}
+use Rattle.kinds.specs.declared.Entry.{Entry}
+use Rattle.kinds.specs.declared.Kind.{Kind}
+use Rattle.kinds.specs.declared.Width.{Width}
 use Rattle.records.specs.declared.Byte.the-variants as Byte
 use Rattle.records.specs.declared.Body.the-variants as Body
 use Rattle.records.specs.declared.Record.the-variants.{Is}
-use Rattle.records.specs.Kinds.{codeOf, widthsOf, bytesIn, sizeOf}
-use Rattle.records.specs.KindLaws.{kind-code, kind-inv, size-small}
+use Rattle.kinds.specs.Kinds.{codeOf, widthsOf, bytesIn, sizeOf}
+use Rattle.kinds.specs.KindLaws.{kind-code, kind-inv, size-small}
 use Rattle.records.specs.Numbers.{number, numberAt}
 use Rattle.records.specs.NumberLaws.{Fits, number-back, Bytes, number-there}
 use Rattle.records.specs.Entries.{body, bytes}

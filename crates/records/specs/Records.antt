@@ -6,17 +6,17 @@ use mathlib.Core.Bool.{cond}
 use lib.Dec.{leb, ltb}
 use lib.ListN.{length, getD}
 use Rattle.refusals.specs.Refusals.{refusal}
-use Rattle.records.specs.declared.Kind.{Kind}
-use Rattle.records.specs.declared.Entry.{Entry}
-use Rattle.records.specs.declared.Named.{Named}
-use Rattle.records.specs.declared.Named.the-variants as Named
+use Rattle.kinds.specs.declared.Kind.{Kind}
+use Rattle.kinds.specs.declared.Entry.{Entry}
+use Rattle.kinds.specs.declared.Named.{Named}
+use Rattle.kinds.specs.declared.Named.the-variants as Named
 use Rattle.records.specs.declared.Byte.{Byte}
 use Rattle.records.specs.declared.Byte.the-variants as Byte
 use Rattle.records.specs.declared.Body.{Body}
 use Rattle.records.specs.declared.Body.the-variants as Body
 use Rattle.records.specs.declared.Record.{Record}
 use Rattle.records.specs.declared.Record.the-variants.{Is, Refused}
-use Rattle.records.specs.Kinds.{kindFor, widthsOf, bytesIn, sizeOf}
+use Rattle.kinds.specs.Kinds.{kindFor, widthsOf, bytesIn, sizeOf}
 use Rattle.records.specs.Numbers.{numberAt}
 
 -- the byte at a place

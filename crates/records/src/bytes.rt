@@ -1,18 +1,17 @@
 // The record of an entry: read from bytes, and put into them.
 use super::Body;
 use super::Byte;
-use super::Entry;
-use super::Kind;
-use super::Named;
 use super::Record;
-use super::Width;
-use super::kinds;
+use kinds::Entry;
+use kinds::Kind;
+use kinds::Named;
+use kinds::Width;
 use refusals::Refusal;
 ghost use mathlib.Core.Path.{_≡_};
 ghost use Prim.Native.Nat.{_+_, _≤_, _<_};
 ghost use lib.ListN.{length};
 ghost use lib.Seq.{sets};
-ghost use Rattle.records.specs.Kinds.{bytesIn, sizeOf};
+ghost use Rattle.kinds.specs.Kinds.{bytesIn, sizeOf};
 ghost use Rattle.records.specs.Numbers.{numberAt, number};
 ghost use Rattle.records.specs.Entries.{bytes};
 ghost use Rattle.records.specs.Records.{byteAt, bodyAt, recordAt};

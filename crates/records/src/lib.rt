@@ -1,95 +1,15 @@
-// One record of a sheet, as document 01 has it: what an entry is, and the numbers of its bytes.
-// The modules: the table of kinds, the entries by name, the record of an entry, and stored seconds.
-// The rules of order and of fields are the crate `rules`, a sheet of records the crate `sheets`.
+// One record of a sheet, as document 01 has it: the numbers of its bytes, and what it gives.
+// The kinds of records and the entries are the crate `kinds`, the rules of order and of fields the crate `rules`, a sheet of records the
+// crate `sheets`.
 pub mod bytes;
-pub mod entries;
-pub mod kinds;
-pub mod seconds;
 
-use phases::Phase;
+use kinds::Entry;
 use refusals::Refusal;
 ghost use mathlib.Core.Path.{_≡_};
 ghost use Prim.Native.Nat.{_+_, _≤_, _<_};
 ghost use lib.ListN.{length};
 ghost use lib.Seq.{sets};
 ghost use Rattle.records.specs.Numbers.{two, four, twoAt, fourAt};
-
-// The kinds of the table. Enter, leave, graze, open and closest are document 01's words.
-// A new kind is a case here and a row of `table` and `kinds`, and in the code an arm of `kind_for`, `code_of`, `widths_of`, `is_end`
-// and the crate `rules`.
-pub enum Kind {
-    Head,
-    Enter(Phase),
-    Leave(Phase),
-    Graze(Phase),
-    Open(Phase),
-    Closest,
-    End,
-}
-
-// An entry of a sheet: its kind and up to four numbers, 0 for what the kind does not use.
-// Seconds are stored ones, the second of the window plus 10,800: 0 to 21,600.
-//   head          a station: its number, 1 to 999; b first, c last: the window, first ≤ last
-//   enter, leave  a from, b to; c direction: in tenths of a degree, 0 to 3599, or 65,535 for none
-//   graze, open   a from, b to
-//   closest       a second; b magnitude: in millionths, 0 to 1,300,000
-//   end           none
-pub struct Entry {
-    pub kind: Kind,
-    pub a: u32,
-    pub b: u32,
-    pub c: u32,
-    pub d: u32,
-}
-
-// How many bytes a field has.
-pub enum Width {
-    Absent,
-    Two,
-    Four,
-}
-
-// The widths of an entry's four fields.
-pub struct Widths {
-    pub a: Width,
-    pub b: Width,
-    pub c: Width,
-    pub d: Width,
-}
-
-// What a kind's number names.
-pub enum Named {
-    Is(Kind),
-    Unknown,
-}
-
-// The stages of a sheet in their order: nothing yet, then head, the phases by time, closest, end.
-pub enum Stage {
-    Start,
-    Head,
-    Phase(Phase),
-    Closest,
-    End,
-}
-
-// What an entry says of the shadow's edge: an enter and a leave cross it.
-pub enum Crossing {
-    Neither,
-    Enter,
-    Leave,
-}
-
-// How far a sheet has come, as far as its rules ask.
-pub struct Progress {
-    // the last entry's stage
-    pub stage: Stage,
-    // the window, stored seconds
-    pub first: u32,
-    pub last: u32,
-    // of the phase at that stage: the previous `to`, 0 if there is none, and the last crossing
-    pub until: u32,
-    pub crossing: Crossing,
-}
 
 // The byte at a place.
 pub enum Byte {

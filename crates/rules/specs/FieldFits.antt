@@ -5,15 +5,15 @@ use mathlib.Core.Bool.{Bool, true, false, _&&_, _||_}
 use native.Mathlib.Omega.{arith}
 use borrow.Author.Tests.{leb-true, eqb-true}
 use lib.Dec.{leb, ltb, eqb}
-use Rattle.records.specs.declared.Entry.{Entry}
-use Rattle.records.specs.declared.Kind.{Kind}
-use Rattle.records.specs.declared.Kind.the-variants as K
-use Rattle.records.specs.declared.Progress.{Progress}
-use Rattle.records.specs.Kinds.{plain, table}
-use Rattle.records.specs.KindLaws.{plain-inv}
-use Rattle.records.specs.FieldRules.{inWindow, isDirection, spanHolds}
+use Rattle.kinds.specs.declared.Entry.{Entry}
+use Rattle.kinds.specs.declared.Kind.{Kind}
+use Rattle.kinds.specs.declared.Kind.the-variants as K
+use Rattle.kinds.specs.declared.Progress.{Progress}
+use Rattle.kinds.specs.Kinds.{plain, table}
+use Rattle.kinds.specs.KindLaws.{plain-inv}
+use Rattle.kinds.specs.FieldRules.{inWindow, isDirection, spanHolds}
 use Rattle.records.specs.RecordTrip.{FitsIn}
-use Rattle.records.specs.TestLaws.{both}
+use Rattle.kinds.specs.TestLaws.{both}
 use Rattle.rules.specs.Rules.{start, fieldsHold, afterOf}
 
 -- a window that its head had accepted: seconds fit two bytes

@@ -3,10 +3,10 @@
 use mathlib.Core.Bool.{Bool, true, false}
 use Rattle.phases.specs.declared.Phase.{Phase}
 use Rattle.phases.specs.declared.Phase.the-variants.{Penumbra, Central}
-use Rattle.records.specs.declared.Stage.{Stage}
-use Rattle.records.specs.declared.Stage.the-variants as S
-use Rattle.records.specs.declared.Crossing.{Crossing}
-use Rattle.records.specs.declared.Crossing.the-variants as C
+use Rattle.kinds.specs.declared.Stage.{Stage}
+use Rattle.kinds.specs.declared.Stage.the-variants as S
+use Rattle.kinds.specs.declared.Crossing.{Crossing}
+use Rattle.kinds.specs.declared.Crossing.the-variants as C
 
 abbrev pub samePhase : Phase → Phase → Bool
 samePhase Penumbra Penumbra = true

@@ -3,8 +3,8 @@ use Prim.Native.Nat.{ℕ}
 use mathlib.Core.Path.{_≡_, refl}
 use mathlib.Core.Bool.{Bool, true, false}
 use native.Mathlib.Omega.{arith}
-use Rattle.records.specs.declared.Progress.{Progress}
-use Rattle.records.specs.declared.Entry.{Entry}
+use Rattle.kinds.specs.declared.Progress.{Progress}
+use Rattle.kinds.specs.declared.Entry.{Entry}
 use Rattle.rules.specs.declared.Judgement.the-variants.{Next}
 use Rattle.rules.specs.Rules.{inOrder, fieldsHold, afterOf, verdictOn, judgedAs, judgementOf}
 

@@ -5,17 +5,17 @@ use mathlib.Core.Bool.{Bool, cond, _&&_, _||_, not}
 use lib.Dec.{leb}
 use Rattle.phases.specs.declared.Phase.{Phase}
 use Rattle.refusals.specs.Refusals.{refusal}
-use Rattle.records.specs.declared.Kind.{Kind}
-use Rattle.records.specs.declared.Kind.the-variants as K
-use Rattle.records.specs.declared.Stage.{Stage}
-use Rattle.records.specs.declared.Stage.the-variants as S
-use Rattle.records.specs.declared.Crossing.{Crossing}
-use Rattle.records.specs.declared.Crossing.the-variants as C
-use Rattle.records.specs.declared.Progress.{Progress}
-use Rattle.records.specs.declared.Entry.{Entry}
+use Rattle.kinds.specs.declared.Kind.{Kind}
+use Rattle.kinds.specs.declared.Kind.the-variants as K
+use Rattle.kinds.specs.declared.Stage.{Stage}
+use Rattle.kinds.specs.declared.Stage.the-variants as S
+use Rattle.kinds.specs.declared.Crossing.{Crossing}
+use Rattle.kinds.specs.declared.Crossing.the-variants as C
+use Rattle.kinds.specs.declared.Progress.{Progress}
+use Rattle.kinds.specs.declared.Entry.{Entry}
 use Rattle.rules.specs.declared.Judgement.{Judgement}
 use Rattle.rules.specs.declared.Judgement.the-variants.{Next, Broken}
-use Rattle.records.specs.Kinds.{table, plain}
+use Rattle.kinds.specs.Kinds.{table, plain}
 use Rattle.rules.specs.Order.{mayCome, isWithin, repeats}
 
 -- ---- how far a sheet has come

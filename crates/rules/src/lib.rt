@@ -1,20 +1,20 @@
 // The rules of order and of fields. Reader and writer both go by `judge`.
 mod order;
 
+use kinds::Crossing;
+use kinds::Entry;
+use kinds::Kind;
+use kinds::Progress;
+use kinds::Stage;
 use phases::Phase;
-use records::Crossing;
-use records::Entry;
-use records::Kind;
-use records::Progress;
-use records::Stage;
 use refusals::Refusal;
 ghost use mathlib.Core.Path.{_≡_};
 ghost use mathlib.Core.Bool.{_&&_};
-ghost use Rattle.records.specs.FieldRules.{inWindow, isDirection, headHolds, spanHolds, openHolds, closestHolds};
+ghost use Rattle.kinds.specs.FieldRules.{inWindow, isDirection, headHolds, spanHolds, openHolds, closestHolds};
 ghost use Rattle.rules.specs.Rules.{start, phaseInOrder, crossingKept, passed, reached, verdictOn, judgedAs};
 ghost use Rattle.rules.specs.Order.{mayCome};
-ghost use Rattle.records.specs.declared.Stage.the-variants as S;
-ghost use Rattle.records.specs.declared.Crossing.the-variants as C;
+ghost use Rattle.kinds.specs.declared.Stage.the-variants as S;
+ghost use Rattle.kinds.specs.declared.Crossing.the-variants as C;
 
 // What the rules say of an entry: how far the sheet has come after it, or the refusal.
 pub enum Judgement {

@@ -1,11 +1,11 @@
 // The order of a sheet: what may come after what came last.
+use kinds::Crossing;
+use kinds::Stage;
 use phases::Phase;
-use records::Crossing;
-use records::Stage;
 ghost use mathlib.Core.Path.{_≡_};
 ghost use Rattle.rules.specs.Order.{samePhase, phaseFollows, isWithin, mayCome};
 ghost use Rattle.rules.specs.Order as Order;
-ghost use Rattle.records.specs.declared.Stage.the-variants as S;
+ghost use Rattle.kinds.specs.declared.Stage.the-variants as S;
 
 fn same_phase(last: Phase, phase: Phase) -> bool
     ensures { λ r. ⌜ r ≡ samePhase last phase ⌝ }

@@ -4,13 +4,13 @@ use Prim.Native.Nat.{ℕ, suc, _+_, _-_, _<_}
 use mathlib.Core.Path.{_≡_, sym, ap, _∙_}
 use mathlib.Core.Bool.{true, false}
 use Rattle.refusals.specs.declared.Refusal.{Refusal}
-use Rattle.records.specs.declared.Entry.{Entry}
-use Rattle.records.specs.declared.Progress.{Progress}
+use Rattle.kinds.specs.declared.Entry.{Entry}
+use Rattle.kinds.specs.declared.Progress.{Progress}
 use Rattle.records.specs.declared.Record.{Record}
 use Rattle.records.specs.declared.Record.the-variants.{Is, Refused}
 use Rattle.rules.specs.declared.Judgement.the-variants.{Next, Broken}
 use Rattle.sheets.specs.declared.Extent.the-variants as X
-use Rattle.records.specs.Kinds.{isEnd}
+use Rattle.kinds.specs.Kinds.{isEnd}
 use Rattle.rules.specs.Rules.{judgementOf}
 use Rattle.sheets.specs.Sheets.{Sheet, sheetFrom, extentOf}
 use Rattle.sheets.specs.GivenLaws.{from-refused, from-broken, from-end, extent-turn}

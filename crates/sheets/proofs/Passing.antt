@@ -8,11 +8,11 @@ use native.Mathlib.Omega.{arith}
 use lib.ListN.{length, length-append}
 use lib.Seq.{sets, length-sets}
 use Rattle.refusals.specs.declared.Refusal.{Refusal}
-use Rattle.records.specs.declared.Entry.{Entry}
-use Rattle.records.specs.declared.Progress.{Progress}
+use Rattle.kinds.specs.declared.Entry.{Entry}
+use Rattle.kinds.specs.declared.Progress.{Progress}
 use Rattle.records.specs.declared.Record.{Record}
 use Rattle.records.specs.declared.Record.the-variants.{Is, Refused}
-use Rattle.records.specs.Kinds.{isEnd}
+use Rattle.kinds.specs.Kinds.{isEnd}
 use Rattle.records.specs.EntryLaws.{sets-append}
 use Rattle.rules.specs.Rules.{afterOf}
 use Rattle.sheets.specs.Sheets.{sheet, sheetFrom}

@@ -5,17 +5,17 @@ use mathlib.Core.List.{List, [], _∷_}
 use mathlib.Core.Bool.{Bool, true, false}
 use native.Mathlib.Omega.{arith}
 use Rattle.refusals.specs.declared.Refusal.{Refusal}
-use Rattle.records.specs.declared.Entry.{Entry}
-use Rattle.records.specs.declared.Progress.{Progress}
+use Rattle.kinds.specs.declared.Entry.{Entry}
+use Rattle.kinds.specs.declared.Progress.{Progress}
 use Rattle.records.specs.declared.Record.{Record}
 use Rattle.records.specs.declared.Record.the-variants.{Is, Refused}
 use Rattle.rules.specs.declared.Judgement.{Judgement}
 use Rattle.rules.specs.declared.Judgement.the-variants.{Next, Broken}
 use Rattle.sheets.specs.declared.Extent.the-variants as X
-use Rattle.records.specs.Kinds.{isEnd}
+use Rattle.kinds.specs.Kinds.{isEnd}
 use Rattle.rules.specs.Rules.{inOrder, fieldsHold, afterOf, judgementOf}
 use Rattle.rules.specs.RuleLaws.{next-inv}
-use Rattle.records.specs.TestLaws.{distinct}
+use Rattle.kinds.specs.TestLaws.{distinct}
 use Rattle.sheets.specs.Sheets.{Sheet, sheet, refused, more, onward, sheetFrom, ofJudgement, judged}
 use Rattle.sheets.specs.Passes.{extent}
 

@@ -4,9 +4,10 @@ use mathlib.Core.List.{List, [], _∷_}
 use native.Mathlib.Omega.{arith}
 use lib.ListN.{length}
 use Rattle.phases.specs.declared.Phase.the-variants.{Penumbra, Central}
-use Rattle.records.specs.declared.Crossing.the-variants as C
-use Rattle.records.specs.declared.Entry.{Entry}
-use Rattle.records.specs.Entries.{head, enter, leave, closest, end, bytesOf}
+use Rattle.kinds.specs.declared.Crossing.the-variants as C
+use Rattle.kinds.specs.declared.Entry.{Entry}
+use Rattle.kinds.specs.Entries.{head, enter, leave, closest, end}
+use Rattle.records.specs.Entries.{bytesOf}
 use Rattle.rules.specs.Rules.{start}
 use Rattle.sheets.specs.Sheets.{sheet, readWhole}
 use Rattle.sheets.specs.WellFormed.{WellFormed}

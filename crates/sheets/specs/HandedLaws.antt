@@ -12,16 +12,16 @@ use lib.ListN.{length, getD, drop, length-append}
 use lib.Seq.{getD-append-add, getD-append-seam, drop-cons}
 use Rattle.refusals.specs.declared.Refusal.{Refusal}
 use Rattle.refusals.specs.Refusals.{refusal}
-use Rattle.records.specs.declared.Entry.{Entry}
-use Rattle.records.specs.declared.Named.{Named}
-use Rattle.records.specs.declared.Named.the-variants as Named
-use Rattle.records.specs.declared.Progress.{Progress}
+use Rattle.kinds.specs.declared.Entry.{Entry}
+use Rattle.kinds.specs.declared.Named.{Named}
+use Rattle.kinds.specs.declared.Named.the-variants as Named
+use Rattle.kinds.specs.declared.Progress.{Progress}
 use Rattle.records.specs.declared.Record.the-variants.{Is, Refused}
-use Rattle.records.specs.Kinds.{codeOf, kindFor, sizeOf, isEnd, plain, table}
-use Rattle.records.specs.KindLaws.{kind-code, kind-inv, size-small, plain-fourth}
+use Rattle.kinds.specs.Kinds.{codeOf, kindFor, sizeOf, isEnd, plain, table}
+use Rattle.kinds.specs.KindLaws.{kind-code, kind-inv, size-small, plain-fourth}
 use Rattle.records.specs.Entries.{numbers, numbersOf}
 use Rattle.records.specs.EntryLaws.{numbers-nil, numbers-cons}
-use Rattle.records.specs.TestLaws.{both}
+use Rattle.kinds.specs.TestLaws.{both}
 use Rattle.rules.specs.Rules.{afterOf}
 use Rattle.sheets.specs.Handed.{numbered, ofNamed, handedAt}
 use Rattle.sheets.specs.StandLaws.{Stand, Steady}

@@ -15,9 +15,9 @@ use native.Mathlib.Nat.{zero-add}
 use borrow.Author.Tests.{le-leb}
 use lib.Seq.{take-at}
 use lib.ListN.{length, take, drop, length-append, drop-of-length-le}
-use Rattle.records.specs.declared.Entry.{Entry}
+use Rattle.kinds.specs.declared.Entry.{Entry}
 use Rattle.records.specs.Entries.{bytesOf, numbersOf}
-use Rattle.records.specs.KindLaws.{size-small}
+use Rattle.kinds.specs.KindLaws.{size-small}
 use Rattle.records.specs.EntryLaws.{length-bytes-cons, length-numbers}
 use Rattle.rules.specs.Rules.{start}
 use Rattle.records.specs.NumberLaws.{Bytes}

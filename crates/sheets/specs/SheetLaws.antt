@@ -10,7 +10,7 @@ use lib.Dec.{ltb}
 use lib.ListN.{length}
 use Rattle.refusals.specs.declared.Refusal.{Refusal}
 use Rattle.refusals.specs.Refusals.{refusal}
-use Rattle.records.specs.declared.Entry.{Entry}
+use Rattle.kinds.specs.declared.Entry.{Entry}
 use Rattle.sheets.specs.declared.Extent.{Extent}
 use Rattle.sheets.specs.declared.Extent.the-variants as X
 use Rattle.rules.specs.Rules.{start}

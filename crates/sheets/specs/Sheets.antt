@@ -7,15 +7,15 @@ use lib.Dec.{leb, ltb}
 use lib.ListN.{length, drop}
 use Rattle.refusals.specs.declared.Refusal.{Refusal}
 use Rattle.refusals.specs.Refusals.{refusal}
-use Rattle.records.specs.declared.Entry.{Entry}
-use Rattle.records.specs.declared.Progress.{Progress}
+use Rattle.kinds.specs.declared.Entry.{Entry}
+use Rattle.kinds.specs.declared.Progress.{Progress}
 use Rattle.rules.specs.declared.Judgement.{Judgement}
 use Rattle.rules.specs.declared.Judgement.the-variants.{Next, Broken}
 use Rattle.records.specs.declared.Record.{Record}
 use Rattle.records.specs.declared.Record.the-variants.{Is, Refused}
 use Rattle.sheets.specs.declared.Extent.{Extent}
 use Rattle.sheets.specs.declared.Extent.the-variants as X
-use Rattle.records.specs.Kinds.{isEnd}
+use Rattle.kinds.specs.Kinds.{isEnd}
 use Rattle.records.specs.Entries.{numbersOf}
 use Rattle.rules.specs.Rules.{start, afterOf, judgementOf}
 use Rattle.records.specs.Records.{recordAt}

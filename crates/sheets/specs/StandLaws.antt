@@ -6,11 +6,11 @@ use mathlib.Core.List.{List, [], _∷_}
 use mathlib.Core.Bool.{true, false, cond}
 use native.Mathlib.Omega.{arith}
 use lib.ListN.{length}
-use Rattle.records.specs.declared.Entry.{Entry}
-use Rattle.records.specs.declared.Progress.{Progress}
+use Rattle.kinds.specs.declared.Entry.{Entry}
+use Rattle.kinds.specs.declared.Progress.{Progress}
 use Rattle.records.specs.declared.Record.{Record}
 use Rattle.records.specs.declared.Record.the-variants.{Is}
-use Rattle.records.specs.Kinds.{isEnd, sizeOf}
+use Rattle.kinds.specs.Kinds.{isEnd, sizeOf}
 use Rattle.records.specs.Entries.{bytesOf}
 use Rattle.records.specs.EntryLaws.{bytes-nil, length-bytes-cons}
 use Rattle.rules.specs.Rules.{afterOf}

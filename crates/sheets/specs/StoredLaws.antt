@@ -7,10 +7,10 @@ use native.Mathlib.Omega.{arith}
 use native.Mathlib.Nat.{add-zero}
 use lib.ListN.{length, drop, length-append, take-append-drop}
 use lib.Seq.{drop-drop}
-use Rattle.records.specs.declared.Entry.{Entry}
-use Rattle.records.specs.declared.Progress.{Progress}
+use Rattle.kinds.specs.declared.Entry.{Entry}
+use Rattle.kinds.specs.declared.Progress.{Progress}
 use Rattle.records.specs.declared.Record.the-variants.{Is}
-use Rattle.records.specs.Kinds.{isEnd, sizeOf}
+use Rattle.kinds.specs.Kinds.{isEnd, sizeOf}
 use Rattle.records.specs.Entries.{bytes, bytesOf}
 use Rattle.records.specs.EntryLaws.{length-bytes, bytes-nil, bytes-cons, length-bytes-cons}
 use Rattle.records.specs.NumberLaws.{Bytes}

@@ -5,11 +5,11 @@ use mathlib.Core.Path.{_≡_}
 use mathlib.Core.List.{List, [], _∷_}
 use mathlib.Core.Bool.{true, false, cond}
 use Rattle.phases.specs.declared.Phase.{Phase}
-use Rattle.records.specs.declared.Entry.{Entry}
-use Rattle.records.specs.declared.Stage.the-variants as S
-use Rattle.records.specs.declared.Crossing.{Crossing}
-use Rattle.records.specs.declared.Progress.{Progress}
-use Rattle.records.specs.Kinds.{isEnd}
+use Rattle.kinds.specs.declared.Entry.{Entry}
+use Rattle.kinds.specs.declared.Stage.the-variants as S
+use Rattle.kinds.specs.declared.Crossing.{Crossing}
+use Rattle.kinds.specs.declared.Progress.{Progress}
+use Rattle.kinds.specs.Kinds.{isEnd}
 use Rattle.rules.specs.Rules.{inOrder, fieldsHold, afterOf}
 
 -- each entry keeps the order and its fields the rules, by what came before it; the first end entry is the last

@@ -8,18 +8,18 @@ use borrow.Author.Tests.{le-leb, lt-ltb}
 use lib.Dec.{eqb}
 use Rattle.phases.specs.declared.Phase.{Phase}
 use Rattle.phases.specs.declared.Phase.the-variants.{Penumbra, Central}
-use Rattle.records.specs.declared.Kind.{Kind}
-use Rattle.records.specs.declared.Kind.the-variants as K
-use Rattle.records.specs.declared.Entry.{Entry}
-use Rattle.records.specs.declared.Stage.the-variants as S
-use Rattle.records.specs.declared.Crossing.{Crossing}
-use Rattle.records.specs.declared.Crossing.the-variants as C
-use Rattle.records.specs.declared.Progress.{Progress}
-use Rattle.records.specs.Kinds.{plain}
-use Rattle.records.specs.Entries.{head, enter, leave, graze, opened, closest, end}
-use Rattle.records.specs.TestLaws.{distinct}
+use Rattle.kinds.specs.declared.Kind.{Kind}
+use Rattle.kinds.specs.declared.Kind.the-variants as K
+use Rattle.kinds.specs.declared.Entry.{Entry}
+use Rattle.kinds.specs.declared.Stage.the-variants as S
+use Rattle.kinds.specs.declared.Crossing.{Crossing}
+use Rattle.kinds.specs.declared.Crossing.the-variants as C
+use Rattle.kinds.specs.declared.Progress.{Progress}
+use Rattle.kinds.specs.Kinds.{plain}
+use Rattle.kinds.specs.Entries.{head, enter, leave, graze, opened, closest, end}
+use Rattle.kinds.specs.TestLaws.{distinct}
 use Rattle.rules.specs.Order.{samePhase, phaseFollows, repeats}
-use Rattle.records.specs.FieldRules.{isDirection, spanHolds}
+use Rattle.kinds.specs.FieldRules.{isDirection, spanHolds}
 use Rattle.rules.specs.Rules.{start, reached, phaseInOrder, inOrder, fieldsHold, afterOf}
 use Rattle.sheets.specs.WellFormed.{WellFormed, within, Step}
 

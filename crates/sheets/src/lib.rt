@@ -1,10 +1,10 @@
 // Sheets: records one after the other, by the rules of document 01; read from bytes, and written from entries handed over.
 // An entry handed over, or given to a reader's caller, is four numbers: the kind, then the kind's fields in their order, 0 for what it
 // does not use.
+use kinds::Entry;
+use kinds::Named;
 use records::Body;
 use records::Byte;
-use records::Entry;
-use records::Named;
 use records::Record;
 use refusals::Refusal;
 use rules::Judgement;
@@ -65,7 +65,7 @@ pub fn extent_of_leading_sheet(s: &[u8]) -> Extent
                 place: s.len(),
             });
         };
-        let Named::Is(kind) = records::kinds::kind_for(code) else {
+        let Named::Is(kind) = kinds::kind_for(code) else {
             return Extent::Refused(Refusal {
                 number: 5,
                 place: at,
@@ -81,8 +81,8 @@ pub fn extent_of_leading_sheet(s: &[u8]) -> Extent
         let Judgement::Next(further) = judged else {
             return broken(judged);
         };
-        let next = at + records::kinds::size_of(kind);
-        if records::kinds::is_end(kind) {
+        let next = at + kinds::size_of(kind);
+        if kinds::is_end(kind) {
             let count = n + 1;
             return Extent::Sheet {
                 entries: count,
@@ -138,7 +138,7 @@ fn read_entries(s: &[u8], room: &mut [u32])
         let Byte::Is(code) = records::bytes::byte_at(s, at) else {
             return;
         };
-        let Named::Is(kind) = records::kinds::kind_for(code) else {
+        let Named::Is(kind) = kinds::kind_for(code) else {
             return;
         };
         let Body::Is(entry) = records::bytes::body_at(s, at, kind) else {
@@ -146,10 +146,10 @@ fn read_entries(s: &[u8], room: &mut [u32])
         };
         let place = n * 4;
         put_numbers(room, place, code, entry);
-        if records::kinds::is_end(kind) {
+        if kinds::is_end(kind) {
             return;
         }
-        at += records::kinds::size_of(kind);
+        at += kinds::size_of(kind);
         n += 1;
     }
 }
@@ -189,7 +189,7 @@ fn handed_at(l: &[u32], n: usize, at: usize) -> Record
         });
     }
     let code = l[j];
-    let Named::Is(kind) = records::kinds::kind_for(code) else {
+    let Named::Is(kind) = kinds::kind_for(code) else {
         return Record::Refused(Refusal {
             number: 5,
             place: at,
@@ -198,7 +198,7 @@ fn handed_at(l: &[u32], n: usize, at: usize) -> Record
     let a = l[j + 1];
     let b = l[j + 2];
     let c = l[j + 3];
-    let next = at + records::kinds::size_of(kind);
+    let next = at + kinds::size_of(kind);
     let entry = Entry {
         kind,
         a,
@@ -221,13 +221,13 @@ pub fn extent_of_leading_entries(l: &[u32]) -> Extent
         let Record::Is(entry, next) = given else {
             return refused(given);
         };
-        let plain = records::kinds::is_plain(entry);
+        let plain = kinds::is_plain(entry);
         let judged = rules::judge(p, place, plain, entry);
         let Judgement::Next(further) = judged else {
             return broken(judged);
         };
         let kind = entry.kind;
-        if records::kinds::is_end(kind) {
+        if kinds::is_end(kind) {
             let handed = n + 1;
             return Extent::Sheet {
                 entries: handed,
@@ -271,7 +271,7 @@ fn write_records(l: &[u32], buf: &mut [u8])
         };
         at = records::bytes::put(buf, at, entry);
         let kind = entry.kind;
-        if records::kinds::is_end(kind) {
+        if kinds::is_end(kind) {
             return;
         }
         n += 1;

@@ -11,7 +11,7 @@ enum-known-answer c = search needs
 
 slice-aggregate-put-listing : tie.Need-slice-aggregate-put-listing
 slice-aggregate-put-listing c =
-    let a = c .before .before in
+    let a = c .before .before .before in
     sym (length-take-le _ _ (fits-written _ _ _ (a .answer .given .1) (a .before .before .before .before .pre)))
 
 put-listing-requires : tie.Need-put-listing-requires

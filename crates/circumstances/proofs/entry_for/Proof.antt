@@ -17,9 +17,9 @@ use Rattle.seconds.specs.Seconds.{directionAt}
 use Rattle.contacts.specs.declared.Entry as Contact
 use Rattle.contacts.specs.declared.Entry.the-variants as K
 use Rattle.contacts.specs.Entries.{from, to}
-use Rattle.records.specs.declared.Entry.{Entry}
-use Rattle.records.specs.Entries.{enter, leave, graze, opened}
-use Rattle.records.specs.StoredSeconds.{stored}
+use Rattle.kinds.specs.declared.Entry.{Entry}
+use Rattle.kinds.specs.Entries.{enter, leave, graze, opened}
+use Rattle.kinds.specs.StoredSeconds.{stored}
 use Rattle.courses.specs.Courses.{second, entryOf}
 use Rattle.circumstances.specs.Sheet.{courseOf}
 use Rattle.circumstances.proofs.entry_for.Statement.{statement}

@@ -7,7 +7,7 @@ use lib.ListN.{length}
 use Rattle.contacts.specs.Entries.{entries}
 use Rattle.contacts.specs.Step.{entriesFrom}
 use Rattle.contacts.specs.StepLaws.{all-at-start, Took, took, none-left}
-use Rattle.records.specs.Kinds.{sizeOf}
+use Rattle.kinds.specs.Kinds.{sizeOf}
 use Rattle.courses.specs.Lengths.{kindIn, bytesNeeded, needed-nil, needed-cons}
 use Rattle.circumstances.proofs.phase_length.Statement.{statement}
 use Rattle.circumstances.proofs.phase_length.Tie as tie

@@ -10,7 +10,7 @@ use lib.Seq.{sets, length-sets}
 use Rattle.contacts.specs.Entries.{entries}
 use Rattle.contacts.specs.Step.{entriesFrom}
 use Rattle.contacts.specs.StepLaws.{all-at-start, Took, took, none-left}
-use Rattle.records.specs.Kinds.{sizeOf}
+use Rattle.kinds.specs.Kinds.{sizeOf}
 use Rattle.records.specs.Entries.{bytes, bytesOf}
 use Rattle.courses.specs.Courses.{entryOf}
 use Rattle.courses.specs.Lengths.{kindIn, bytesNeeded, needed-nil, needed-cons, kind-in}

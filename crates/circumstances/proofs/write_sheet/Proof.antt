@@ -7,10 +7,11 @@ use borrow.Author.Needs.{needs}
 use lib.ListN.{length}
 use lib.Seq.{sets, length-sets}
 use Rattle.phases.specs.Phases.{eclipse}
-use Rattle.records.specs.declared.Kind.the-variants as K
-use Rattle.records.specs.declared.Entry.{Entry}
-use Rattle.records.specs.Kinds.{sizeOf}
-use Rattle.records.specs.Entries.{bytes, bytesOf, end}
+use Rattle.kinds.specs.declared.Kind.the-variants as K
+use Rattle.kinds.specs.declared.Entry.{Entry}
+use Rattle.kinds.specs.Kinds.{sizeOf}
+use Rattle.kinds.specs.Entries.{end}
+use Rattle.records.specs.Entries.{bytes, bytesOf}
 use Rattle.courses.specs.Courses.{entriesOf, headEntry, closestEntry, sheetOf}
 use Rattle.courses.specs.Lengths.{head-size, closest-size, sheet-length}
 use Rattle.courses.specs.Stores.{stores-sheet}

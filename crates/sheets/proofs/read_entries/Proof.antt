@@ -5,16 +5,16 @@ use Rattle.sheets.proofs.Answers.{of-numbers, reading-starts}
 use Rattle.sheets.specs.Sheets.{storedAt, readSheet}
 use Rattle.sheets.specs.Passes.{filled}
 use Rattle.records.specs.Entries.{numbersOf}
-use Rattle.records.specs.KindLaws.{kind-inv}
+use Rattle.kinds.specs.KindLaws.{kind-inv}
 use lib.Seq.{sets}
 use Rattle.records.specs.RecordLaws.{by-byte, by-kind, by-body, byte-inv, body-inv, record-bounds}
 use Rattle.records.specs.Records.{byteAt, bodyAt, recordAt}
-use Rattle.records.specs.Kinds.{codeOf, kindFor, sizeOf, isEnd}
-use Rattle.records.specs.declared.Entry.{Entry}
-use Rattle.records.specs.declared.Kind.{Kind}
+use Rattle.kinds.specs.Kinds.{codeOf, kindFor, sizeOf, isEnd}
+use Rattle.kinds.specs.declared.Entry.{Entry}
+use Rattle.kinds.specs.declared.Kind.{Kind}
 use Rattle.records.specs.declared.Record.the-variants.{Is}
 use Rattle.records.specs.declared.Byte.the-variants as Byte
-use Rattle.records.specs.declared.Named.the-variants as Named
+use Rattle.kinds.specs.declared.Named.the-variants as Named
 use Rattle.records.specs.declared.Body.the-variants as Body
 use lib.ListN.{length}
 use mathlib.Core.List.{List, [], _∷_}

@@ -6,7 +6,7 @@ use Rattle.sheets.specs.HandedLaws.{handed-bounds}
 use Rattle.sheets.specs.Passes.{emitted}
 use Rattle.records.specs.Entries.{bytesOf}
 use Rattle.records.specs.EntryLaws.{length-bytes}
-use Rattle.records.specs.Kinds.{sizeOf}
+use Rattle.kinds.specs.Kinds.{sizeOf}
 use Rattle.records.specs.declared.Record.the-variants.{Is}
 use lib.ListN.{length}
 use native.Mathlib.Omega.{arith}

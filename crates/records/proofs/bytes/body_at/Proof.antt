@@ -2,7 +2,7 @@
 use Rattle.records.specs.RecordLaws.{body-cut, body-whole}
 use native.Mathlib.Omega.{arith}
 use mathlib.Core.Path.{sym}
-use Rattle.records.specs.Kinds.{bytesIn}
+use Rattle.kinds.specs.Kinds.{bytesIn}
 use lib.ListN.{length}
 use Prim.Native.Nat.{_+_, _≤_}
 use borrow.Author.Needs.{needs}

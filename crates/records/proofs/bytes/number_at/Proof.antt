@@ -1,5 +1,5 @@
 -- `records::bytes::number_at` meets its contract. Each width reads its bytes.
-use Rattle.records.specs.Kinds.{bytesIn}
+use Rattle.kinds.specs.Kinds.{bytesIn}
 use native.Mathlib.Omega.{arith}
 use mathlib.Core.Path.{ap}
 use borrow.Author.Needs.{needs}

@@ -1,6 +1,6 @@
 -- `records::bytes::put` meets its contract. The kind's byte and the four numbers, each behind the one before it, are the entry's bytes (`put-bytes`).
 use Rattle.records.specs.EntryLaws.{put-bytes}
-use Rattle.records.specs.Kinds.{bytesIn}
+use Rattle.kinds.specs.Kinds.{bytesIn}
 use lib.ListN.{length, length-set}
 use native.Mathlib.Omega.{arith}
 use Prim.Native.Nat.{_+_, _≤_}

@@ -1,5 +1,5 @@
 -- `records::bytes::put_number` meets its contract. Each width puts its bytes.
-use Rattle.records.specs.Kinds.{bytesIn}
+use Rattle.kinds.specs.Kinds.{bytesIn}
 use native.Mathlib.Omega.{arith}
 use mathlib.Core.Path.{refl, ap}
 use borrow.Author.Needs.{needs}

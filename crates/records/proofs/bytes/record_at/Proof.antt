@@ -1,9 +1,9 @@
 -- `records::bytes::record_at` meets its contract. Each sub-answer is its definition's value, so a refusal, and at the end the record, is what `recordAt` computes to.
 use Rattle.records.specs.RecordLaws.{by-byte, by-kind, by-body, byte-inv, body-inv}
 use Rattle.records.specs.Records.{byteAt, bodyAt}
-use Rattle.records.specs.Kinds.{kindFor}
+use Rattle.kinds.specs.Kinds.{kindFor}
 use Rattle.records.specs.declared.Byte.the-variants as Byte
-use Rattle.records.specs.declared.Named.the-variants as Named
+use Rattle.kinds.specs.declared.Named.the-variants as Named
 use Rattle.records.specs.declared.Body.the-variants as Body
 use native.Mathlib.Omega.{arith}
 use mathlib.Core.Path.{_≡_, sym, _∙_}

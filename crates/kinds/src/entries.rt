@@ -3,7 +3,7 @@ use super::Entry;
 use super::Kind;
 use phases::Phase;
 ghost use mathlib.Core.Path.{_≡_};
-ghost use Rattle.records.specs.Entries as Named;
+ghost use Rattle.kinds.specs.Entries as Named;
 
 pub fn head(station: u32, first: u32, last: u32) -> Entry
     ensures { λ r. ⌜ r ≡ Named.head station first last ⌝ }

@@ -1,8 +1,8 @@
--- `records::kinds::size_of` meets its contract. The size is the sum of the widths.
+-- `kinds::size_of` meets its contract. The size is the sum of the widths.
 use native.Mathlib.Omega.{arith}
 use borrow.Author.Needs.{needs}
-use Rattle.records.proofs.kinds.size_of.Statement.{statement}
-use Rattle.records.proofs.kinds.size_of.Tie as tie
+use Rattle.kinds.proofs.size_of.Statement.{statement}
+use Rattle.kinds.proofs.size_of.Tie as tie
 
 widths-of-requires : tie.Need-widths-of-requires
 widths-of-requires c κs = search needs

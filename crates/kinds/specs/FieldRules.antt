@@ -5,7 +5,7 @@
 use Prim.Native.Nat.{ℕ}
 use mathlib.Core.Bool.{Bool, _&&_, _||_}
 use lib.Dec.{leb, ltb, eqb}
-use Rattle.records.specs.declared.Progress.{Progress}
+use Rattle.kinds.specs.declared.Progress.{Progress}
 
 -- "station 1..999; first ≤ last ≤ 21,600"
 abbrev pub headHolds : ℕ → ℕ → ℕ → Bool

@@ -1,7 +1,7 @@
--- `records::kinds::is_unused` meets its contract. Each arm is the definition's.
+-- `kinds::is_unused` meets its contract. Each arm is the definition's.
 use borrow.Author.Needs.{needs}
-use Rattle.records.proofs.kinds.is_unused.Statement.{statement}
-use Rattle.records.proofs.kinds.is_unused.Tie as tie
+use Rattle.kinds.proofs.is_unused.Statement.{statement}
+use Rattle.kinds.proofs.is_unused.Tie as tie
 
 enum-told : tie.Need-enum-told
 enum-told c = search needs

@@ -2,7 +2,7 @@
 ghost use mathlib.Core.Path.{_≡_};
 ghost use Prim.Native.Nat.{_≤_};
 ghost use lib.IntN.{natAbs};
-ghost use Rattle.records.specs.StoredSeconds.{stored, secondOf};
+ghost use Rattle.kinds.specs.StoredSeconds.{stored, secondOf};
 
 // "a second is stored plus 10,800". It has a `requires`, so it is none of the public promises.
 pub fn store_second(second: i64) -> u32

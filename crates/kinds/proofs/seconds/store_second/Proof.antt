@@ -1,4 +1,4 @@
--- `records::seconds::store_second` meets its contract: a second of the window's range plus 10,800 is a natural number. Assumes nothing.
+-- `kinds::seconds::store_second` meets its contract: a second of the window's range plus 10,800 is a natural number. Assumes nothing.
 use mathlib.Core.Path.{_≡_, sym, ap, _∙_}
 use mathlib.Core.List.{[], _∷_}
 use native.Mathlib.Omega.{arith}
@@ -7,10 +7,10 @@ use lib.Signed.{_≤ℤ_}
 use Rattle.numbers.specs.Parts.{sum, opposite}
 use Rattle.numbers.specs.Order.{zs, neg-natAbs}
 use Rattle.numbers.specs.Code.{Code, arg, lit, add, run, Within, whole, ends, _▹_, fits, runs, within, unsigned}
-use Rattle.records.specs.StoredSeconds.{stored}
-use Rattle.records.specs.StoredSecondLaws.{stored-is}
-use Rattle.records.proofs.seconds.store_second.Statement.{statement}
-use Rattle.records.proofs.seconds.store_second.Tie as tie
+use Rattle.kinds.specs.StoredSeconds.{stored}
+use Rattle.kinds.specs.StoredSecondLaws.{stored-is}
+use Rattle.kinds.proofs.seconds.store_second.Statement.{statement}
+use Rattle.kinds.proofs.seconds.store_second.Tie as tie
 
 bounds : (c : tie.Start) → Within (whole (c .args .second) ∷ []) (10800 ∷ [])
 bounds c = c .pre ▹ ends

@@ -1,9 +1,9 @@
--- `records::kinds::kind_for` meets its contract. In an arm the number is the literal, at which `kindFor` computes; in the last arm it is none of them.
-use Rattle.records.specs.KindLaws.{no-kind}
-use Rattle.records.specs.Kinds.{kindFor}
+-- `kinds::kind_for` meets its contract. In an arm the number is the literal, at which `kindFor` computes; in the last arm it is none of them.
+use Rattle.kinds.specs.KindLaws.{no-kind}
+use Rattle.kinds.specs.Kinds.{kindFor}
 use mathlib.Core.Path.{sym, ap}
-use Rattle.records.proofs.kinds.kind_for.Statement.{statement}
-use Rattle.records.proofs.kinds.kind_for.Tie as tie
+use Rattle.kinds.proofs.kind_for.Statement.{statement}
+use Rattle.kinds.proofs.kind_for.Tie as tie
 
 returns : tie.Need-returns
 returns c = sym (ap kindFor (c .match .keys1))

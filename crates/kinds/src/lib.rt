@@ -1,13 +1,91 @@
-// The table of kinds in code: the byte of a kind, the widths of its fields, how long its record is.
-use super::Entry;
-use super::Kind;
-use super::Named;
-use super::Width;
-use super::Widths;
+// The table of kinds, as document 01 has it: what an entry is; the byte of a kind, the widths of its fields, how long its record is.
+// The modules: the entries by name, and stored seconds.
+pub mod entries;
+pub mod seconds;
+
 use phases::Phase;
 ghost use mathlib.Core.Path.{_≡_};
 ghost use Prim.Native.Nat.{_≤_};
-ghost use Rattle.records.specs.Kinds.{base, codeOf, kindFor, bytesIn, fields, widthsOf, sizeOf, isEnd, unused, plain};
+ghost use Rattle.kinds.specs.Kinds.{base, codeOf, kindFor, bytesIn, fields, widthsOf, sizeOf, isEnd, unused, plain};
+
+// The kinds of the table. Enter, leave, graze, open and closest are document 01's words.
+// A new kind is a case here and a row of `table` and `kinds`, and in the code an arm of `kind_for`, `code_of`, `widths_of`, `is_end`
+// and the crate `rules`.
+pub enum Kind {
+    Head,
+    Enter(Phase),
+    Leave(Phase),
+    Graze(Phase),
+    Open(Phase),
+    Closest,
+    End,
+}
+
+// An entry of a sheet: its kind and up to four numbers, 0 for what the kind does not use.
+// Seconds are stored ones, the second of the window plus 10,800: 0 to 21,600.
+//   head          a station: its number, 1 to 999; b first, c last: the window, first ≤ last
+//   enter, leave  a from, b to; c direction: in tenths of a degree, 0 to 3599, or 65,535 for none
+//   graze, open   a from, b to
+//   closest       a second; b magnitude: in millionths, 0 to 1,300,000
+//   end           none
+pub struct Entry {
+    pub kind: Kind,
+    pub a: u32,
+    pub b: u32,
+    pub c: u32,
+    pub d: u32,
+}
+
+// How many bytes a field has.
+pub enum Width {
+    Absent,
+    Two,
+    Four,
+}
+
+// The widths of an entry's four fields.
+pub struct Widths {
+    pub a: Width,
+    pub b: Width,
+    pub c: Width,
+    pub d: Width,
+}
+
+// What a kind's number names.
+pub enum Named {
+    Is(Kind),
+    Unknown,
+}
+
+// The stages of a sheet in their order: nothing yet, then head, the phases by time, closest, end.
+pub enum Stage {
+    Start,
+    Head,
+    Phase(Phase),
+    Closest,
+    End,
+}
+
+// What an entry says of the shadow's edge: an enter and a leave cross it.
+pub enum Crossing {
+    Neither,
+    Enter,
+    Leave,
+}
+
+// How far a sheet has come, as far as its rules ask.
+pub struct Progress {
+    // the last entry's stage
+    pub stage: Stage,
+    // the window, stored seconds
+    pub first: u32,
+    pub last: u32,
+    // of the phase at that stage: the previous `to`, 0 if there is none, and the last crossing
+    pub until: u32,
+    pub crossing: Crossing,
+}
+
+// ---- the table in code
 
 // The first kind of a phase's four.
 fn base_of(phase: Phase) -> u32
@@ -54,7 +132,7 @@ pub fn kind_for(code: u32) -> Named
     }
 }
 
-fn widths(a: Width, b: Width, c: Width, d: Width) -> Widths
+fn fields(a: Width, b: Width, c: Width, d: Width) -> Widths
     ensures { λ r. ⌜ r ≡ fields a b c d ⌝ }
 {
     Widths { a, b, c, d }
@@ -65,13 +143,13 @@ pub fn widths_of(kind: Kind) -> Widths
     ensures { λ r. ⌜ r ≡ widthsOf kind ⌝ }
 {
     match kind {
-        Kind::Head => widths(Width::Two, Width::Two, Width::Two, Width::Absent),
-        Kind::Enter(_) => widths(Width::Two, Width::Two, Width::Two, Width::Absent),
-        Kind::Leave(_) => widths(Width::Two, Width::Two, Width::Two, Width::Absent),
-        Kind::Graze(_) => widths(Width::Two, Width::Two, Width::Absent, Width::Absent),
-        Kind::Open(_) => widths(Width::Two, Width::Two, Width::Absent, Width::Absent),
-        Kind::Closest => widths(Width::Two, Width::Four, Width::Absent, Width::Absent),
-        Kind::End => widths(Width::Absent, Width::Absent, Width::Absent, Width::Absent),
+        Kind::Head => fields(Width::Two, Width::Two, Width::Two, Width::Absent),
+        Kind::Enter(_) => fields(Width::Two, Width::Two, Width::Two, Width::Absent),
+        Kind::Leave(_) => fields(Width::Two, Width::Two, Width::Two, Width::Absent),
+        Kind::Graze(_) => fields(Width::Two, Width::Two, Width::Absent, Width::Absent),
+        Kind::Open(_) => fields(Width::Two, Width::Two, Width::Absent, Width::Absent),
+        Kind::Closest => fields(Width::Two, Width::Four, Width::Absent, Width::Absent),
+        Kind::End => fields(Width::Absent, Width::Absent, Width::Absent, Width::Absent),
     }
 }
 

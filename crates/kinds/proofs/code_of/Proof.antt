@@ -1,8 +1,8 @@
--- `records::kinds::code_of` meets its contract. Each arm is the table's; a phase's code comes from its first kind.
+-- `kinds::code_of` meets its contract. Each arm is the table's; a phase's code comes from its first kind.
 use native.Mathlib.Omega.{arith}
 use borrow.Author.Needs.{needs}
-use Rattle.records.proofs.kinds.code_of.Statement.{statement}
-use Rattle.records.proofs.kinds.code_of.Tie as tie
+use Rattle.kinds.proofs.code_of.Statement.{statement}
+use Rattle.kinds.proofs.code_of.Tie as tie
 
 enum-told : tie.Need-enum-told
 enum-told c = search needs

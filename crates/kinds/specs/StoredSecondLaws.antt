@@ -6,7 +6,7 @@ use lib.IntN.{ℤ, pos, negsuc, negℤ, _+ℤ_, _-ℤ_}
 use lib.Signed.{_≤ℤ_}
 use Rattle.numbers.specs.Parts.{posP, negP, sum, opposite, same}
 use Rattle.numbers.specs.Order.{zs}
-use Rattle.records.specs.StoredSeconds.{stored, secondOf}
+use Rattle.kinds.specs.StoredSeconds.{stored, secondOf}
 
 -- the stored second is the natural number τ + 10,800
 pub stored-is : (τ : ℤ) → negℤ (pos 10800) ≤ℤ τ → pos (stored τ) ≡ τ +ℤ pos 10800

@@ -7,14 +7,14 @@ use native.Mathlib.Omega.{arith}
 use native.Mathlib.Decide.{ℕ-discrete}
 use borrow.Author.Tests.{eq-eqb, ne-eqb, eqb-true}
 use Rattle.phases.specs.declared.Phase.the-variants.{Penumbra, Central}
-use Rattle.records.specs.declared.Kind.{Kind}
-use Rattle.records.specs.declared.Kind.the-variants as K
-use Rattle.records.specs.declared.Width.{Width}
-use Rattle.records.specs.declared.Width.the-variants.{Absent, Two, Four}
-use Rattle.records.specs.declared.Entry.{Entry}
-use Rattle.records.specs.declared.Named.the-variants.{Is, Unknown}
-use Rattle.records.specs.TestLaws.{both}
-use Rattle.records.specs.Kinds.{codeOf, kinds, among, kindFor, widthsOf, bytesIn, sizeOf, unused, plain}
+use Rattle.kinds.specs.declared.Kind.{Kind}
+use Rattle.kinds.specs.declared.Kind.the-variants as K
+use Rattle.kinds.specs.declared.Width.{Width}
+use Rattle.kinds.specs.declared.Width.the-variants.{Absent, Two, Four}
+use Rattle.kinds.specs.declared.Entry.{Entry}
+use Rattle.kinds.specs.declared.Named.the-variants.{Is, Unknown}
+use Rattle.kinds.specs.TestLaws.{both}
+use Rattle.kinds.specs.Kinds.{codeOf, kinds, among, kindFor, widthsOf, bytesIn, sizeOf, unused, plain}
 
 pub no-kind : (x : ℕ) → (x ≡ 0x01 → ⊥) → (x ≡ 0x10 → ⊥) → (x ≡ 0x11 → ⊥) → (x ≡ 0x12 → ⊥) → (x ≡ 0x13 → ⊥)
     → (x ≡ 0x20 → ⊥) → (x ≡ 0x21 → ⊥) → (x ≡ 0x22 → ⊥) → (x ≡ 0x23 → ⊥) → (x ≡ 0x30 → ⊥) → (x ≡ 0x7f → ⊥) → kindFor x ≡ Unknown

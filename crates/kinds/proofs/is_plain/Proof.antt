@@ -1,8 +1,8 @@
--- `records::kinds::is_plain` meets its contract. The four tests are the definition's.
-use Rattle.records.specs.Kinds.{plain}
+-- `kinds::is_plain` meets its contract. The four tests are the definition's.
+use Rattle.kinds.specs.Kinds.{plain}
 use borrow.Author.Needs.{needs}
-use Rattle.records.proofs.kinds.is_plain.Statement.{statement}
-use Rattle.records.proofs.kinds.is_plain.Tie as tie
+use Rattle.kinds.proofs.is_plain.Statement.{statement}
+use Rattle.kinds.proofs.is_plain.Tie as tie
 
 widths-of-requires : tie.Need-widths-of-requires
 widths-of-requires c κs = search needs

@@ -1,4 +1,4 @@
--- `records::seconds::second_of` meets its contract: a number of 32 bits less 10,800 fits. Assumes nothing.
+-- `kinds::seconds::second_of` meets its contract: a number of 32 bits less 10,800 fits. Assumes nothing.
 use mathlib.Core.Path.{ap, _∙_}
 use mathlib.Core.List.{[], _∷_}
 use Prim.Native.Nat.{_≤_}
@@ -6,8 +6,8 @@ use native.Mathlib.Omega.{arith}
 use borrow.Author.Needs.{needs}
 use lib.IntN.{ℤ, pos, _-ℤ_}
 use Rattle.numbers.specs.Code.{Code, arg, lit, sub, Within, raw, ends, _▹_, fits, runs, count-is, count-size}
-use Rattle.records.proofs.seconds.second_of.Statement.{statement}
-use Rattle.records.proofs.seconds.second_of.Tie as tie
+use Rattle.kinds.proofs.seconds.second_of.Statement.{statement}
+use Rattle.kinds.proofs.seconds.second_of.Tie as tie
 
 module _ (c : tie.Start) where
   small : c .args .stored ≤ 4294967295

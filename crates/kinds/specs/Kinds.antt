@@ -6,18 +6,18 @@ use mathlib.Core.Bool.{Bool, true, false, cond, _&&_}
 use lib.Dec.{eqb}
 use Rattle.phases.specs.declared.Phase.{Phase}
 use Rattle.phases.specs.declared.Phase.the-variants.{Penumbra, Central}
-use Rattle.records.specs.declared.Kind.{Kind}
-use Rattle.records.specs.declared.Kind.the-variants as K
-use Rattle.records.specs.declared.Width.{Width}
-use Rattle.records.specs.declared.Width.the-variants.{Absent, Two, Four}
-use Rattle.records.specs.declared.Widths.{Widths}
-use Rattle.records.specs.declared.Stage.{Stage}
-use Rattle.records.specs.declared.Stage.the-variants as S
-use Rattle.records.specs.declared.Progress.{Progress}
-use Rattle.records.specs.declared.Entry.{Entry}
-use Rattle.records.specs.declared.Named.{Named}
-use Rattle.records.specs.declared.Named.the-variants.{Is, Unknown}
-use Rattle.records.specs.FieldRules.{headHolds, spanHolds, openHolds, isDirection, closestHolds}
+use Rattle.kinds.specs.declared.Kind.{Kind}
+use Rattle.kinds.specs.declared.Kind.the-variants as K
+use Rattle.kinds.specs.declared.Width.{Width}
+use Rattle.kinds.specs.declared.Width.the-variants.{Absent, Two, Four}
+use Rattle.kinds.specs.declared.Widths.{Widths}
+use Rattle.kinds.specs.declared.Stage.{Stage}
+use Rattle.kinds.specs.declared.Stage.the-variants as S
+use Rattle.kinds.specs.declared.Progress.{Progress}
+use Rattle.kinds.specs.declared.Entry.{Entry}
+use Rattle.kinds.specs.declared.Named.{Named}
+use Rattle.kinds.specs.declared.Named.the-variants.{Is, Unknown}
+use Rattle.kinds.specs.FieldRules.{headHolds, spanHolds, openHolds, isDirection, closestHolds}
 
 -- a row: the byte of the kind, the widths of its fields a, b, c, d, its stage in the order, and the rule of its fields
 pub record Row : Type 0 where

@@ -1,0 +1,7 @@
+pub mod Entries
+pub mod FieldRules
+pub mod Kinds
+pub mod KindLaws
+pub mod StoredSeconds
+pub mod StoredSecondLaws
+pub mod TestLaws
