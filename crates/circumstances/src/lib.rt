@@ -1,4 +1,6 @@
 // From a request to its contact sheet.
+mod lengths;
+
 use kinds::Entry;
 use kinds::Kind;
 use phases::Phase;
@@ -17,12 +19,12 @@ ghost use Rattle.sine.specs.Table.{Sines};
 ghost use Rattle.station.specs.Place.{placeOf};
 ghost use Rattle.requests.specs.Windows.{secondCount};
 ghost use Rattle.requests.specs.RequestLaws.{InLimits};
-ghost use Rattle.seconds.specs.Seconds.{statesOf, closestOf};
+ghost use Rattle.seconds.specs.Seconds.{closestOf};
 ghost use Rattle.seconds.specs.Filled.{AllStates};
 ghost use Rattle.contacts.specs.Entries.{entries, from, to};
 ghost use Rattle.records.specs.Entries.{bytesOf};
 ghost use Rattle.courses.specs.Courses.{entryOf, phaseEntries, entriesOf, headEntry, closestEntry};
-ghost use Rattle.courses.specs.Lengths.{kindIn, bytesNeeded};
+ghost use Rattle.courses.specs.Lengths.{bytesNeeded};
 ghost use Rattle.circumstances.specs.Sheet.{courseOf, sheetBytes, answerWithin, bufferWithin, sheetAnswer, sheetBuffer};
 ghost use Rattle.circumstances.specs.Demand3.{Claimed};
 
@@ -30,65 +32,6 @@ ghost use Rattle.circumstances.specs.Demand3.{Claimed};
 pub enum Answer {
     Written(usize),
     Refused(Refusal),
-}
-
-// ---- how long a sheet is
-
-// The kind of an entry of a phase.
-fn kind_in(phase: Phase, entry: contacts::Entry) -> Kind
-    ensures { λ r. ⌜ r ≡ kindIn phase entry ⌝ }
-{
-    match entry {
-        contacts::Entry::Enter { from: _, to: _ } => Kind::Enter(phase),
-        contacts::Entry::Leave { from: _, to: _ } => Kind::Leave(phase),
-        contacts::Entry::Graze { from: _, to: _ } => Kind::Graze(phase),
-        contacts::Entry::Open { from: _, to: _ } => Kind::Open(phase),
-    }
-}
-
-// How many bytes the entries of a phase take.
-fn phase_length(phase: Phase, states: &[u8]) -> usize
-    requires { ⌜ length (now states) ≤ 21601 ⌝ }
-    ensures { λ r. ⌜ (r ≡ bytesNeeded phase (entries (now (states .entry)))) × (r ≤ 367217) ⌝ }
-{
-    let mut n: usize = 0;
-    let mut c = contacts::Cursor { at: 0 };
-    loop {
-        let contacts::Next::Found(entry, after) = contacts::step(states, c) else {
-            return n;
-        };
-        let kind = kind_in(phase, entry);
-        n += kinds::size_of(kind);
-        c = after;
-    }
-}
-
-// How many bytes the entries of the k-th phase take, from the states of all phases.
-fn nth_phase_length(q: Request, states: &[u8], k: usize) -> usize
-    requires { ⌜ (InLimits q) × (AllStates q (now states)) × (length eclipse * secondCount (q .window) ≤ length (now states)) × (k < length eclipse) ⌝ }
-    ensures { λ r. ⌜ (r ≡ bytesNeeded (getD eclipse k Penumbra) (entries (statesOf q (getD eclipse k Penumbra)))) × (r ≤ 367217) ⌝ }
-{
-    let w = q.window;
-    let n = requests::second_count(w);
-    let phase = phases::eclipse_phase(k);
-    let begin = k * n;
-    let end = begin + n;
-    phase_length(phase, &states[begin..end])
-}
-
-// How many bytes the entries of all phases take.
-fn phases_length(q: Request, states: &[u8]) -> usize
-    requires { ⌜ (InLimits q) × (AllStates q (now states)) × (length eclipse * secondCount (q .window) ≤ length (now states)) ⌝ }
-    ensures { λ r. ⌜ (r ≡ length (bytesOf (entriesOf (courseOf q) eclipse))) × (r ≤ 734434) ⌝ }
-{
-    let count = phases::eclipse_count();
-    let mut length: usize = 0;
-    let mut k: usize = 0;
-    while k < count {
-        length += nth_phase_length(q, states, k);
-        k += 1;
-    }
-    length
 }
 
 // ---- entries as they stand in a sheet
@@ -283,7 +226,7 @@ fn sheet_from(
     ensures { λ r. ⌜ now (buf .exit) ≡ bufferWithin q (now (buf .entry)) ⌝ }
 {
     let head = kinds::size_of(Kind::Head);
-    let phases = phases_length(q, states);
+    let phases = lengths::phases_length(q, states);
     let closest_size = kinds::size_of(Kind::Closest);
     let end = kinds::size_of(Kind::End);
     let need = head + phases + closest_size + end;

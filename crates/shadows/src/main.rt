@@ -24,7 +24,7 @@ fn put_second(out: &mut [u8], second: shadow::Second) -> usize {
 fn put_refused(out: &mut [u8], refusal: refusals::Refusal) -> usize {
     let number = refusal.number as u64;
     let place = refusal.place as u64;
-    listings::lines::put_refusal_line(out, number, place)
+    listings::lines::put_refusal_line(out, 0, number, place)
 }
 
 // The line of the first second of a request's window.

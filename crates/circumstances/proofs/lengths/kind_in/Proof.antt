@@ -1,9 +1,9 @@
--- `circumstances::kind_in` meets its contract: arm by arm. Assumes nothing.
+-- `circumstances::lengths::kind_in` meets its contract: arm by arm. Assumes nothing.
 use mathlib.Core.Path.{sym, ap}
 use borrow.Author.Needs.{needs}
 use Rattle.courses.specs.Lengths.{kindIn}
-use Rattle.circumstances.proofs.kind_in.Statement.{statement}
-use Rattle.circumstances.proofs.kind_in.Tie as tie
+use Rattle.circumstances.proofs.lengths.kind_in.Statement.{statement}
+use Rattle.circumstances.proofs.lengths.kind_in.Tie as tie
 
 enum-told : tie.Need-enum-told
 enum-told c = search needs

@@ -1,4 +1,4 @@
--- `circumstances::nth_phase_length` meets its contract: the k-th stretch holds the states of the k-th phase. Assumes nothing.
+-- `circumstances::lengths::nth_phase_length` meets its contract: the k-th stretch holds the states of the k-th phase. Assumes nothing.
 use mathlib.Core.Path.{_≡_, ap, ap₂, _∙_}
 use mathlib.Core.List.{List}
 use Prim.Native.Nat.{ℕ, _+_, _-_, _*_, _≤_}
@@ -14,8 +14,8 @@ use Rattle.seconds.specs.SecondLaws.{states-length}
 use Rattle.seconds.specs.Filled.{stretch-small, stretch-is}
 use Rattle.contacts.specs.Entries.{entries}
 use Rattle.courses.specs.Lengths.{bytesNeeded}
-use Rattle.circumstances.proofs.nth_phase_length.Statement.{statement}
-use Rattle.circumstances.proofs.nth_phase_length.Tie as tie
+use Rattle.circumstances.proofs.lengths.nth_phase_length.Statement.{statement}
+use Rattle.circumstances.proofs.lengths.nth_phase_length.Tie as tie
 
 small : (c : tie.After-second-count) → (c .before .before .before .args .k * c .second-count .result ≤ c .second-count .result) × (c .second-count .result ≤ 21601)
 small c =

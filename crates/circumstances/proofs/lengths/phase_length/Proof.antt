@@ -1,4 +1,4 @@
--- `circumstances::phase_length` meets its contract: what is counted, with what is left at the cursor, is the whole. Assumes nothing.
+-- `circumstances::lengths::phase_length` meets its contract: what is counted, with what is left at the cursor, is the whole. Assumes nothing.
 use mathlib.Core.Path.{_≡_, ap, _∙_}
 use Prim.Native.Nat.{_+_, _-_, _*_, _≤_}
 use native.Mathlib.Omega.{arith}
@@ -9,8 +9,8 @@ use Rattle.contacts.specs.Step.{entriesFrom}
 use Rattle.contacts.specs.StepLaws.{all-at-start, Took, took, none-left}
 use Rattle.kinds.specs.Kinds.{sizeOf}
 use Rattle.courses.specs.Lengths.{kindIn, bytesNeeded, needed-nil, needed-cons}
-use Rattle.circumstances.proofs.phase_length.Statement.{statement}
-use Rattle.circumstances.proofs.phase_length.Tie as tie
+use Rattle.circumstances.proofs.lengths.phase_length.Statement.{statement}
+use Rattle.circumstances.proofs.lengths.phase_length.Tie as tie
 
 abbrev Inv-loop : tie.InvT-loop
 Inv-loop phase states n₀ c₀ n c =

@@ -1,4 +1,4 @@
--- `circumstances::phases_length` meets its contract: with k phases counted, it is the length of their entries. Assumes nothing.
+-- `circumstances::lengths::phases_length` meets its contract: with k phases counted, it is the length of their entries. Assumes nothing.
 use mathlib.Core.Path.{_≡_, sym, ap, _∙_}
 use mathlib.Core.List.{List}
 use Prim.Native.Nat.{ℕ, _+_, _-_, _*_, _≤_}
@@ -16,8 +16,8 @@ use Rattle.records.specs.EntryLaws.{bytes-nil}
 use Rattle.courses.specs.Courses.{statesOf, entriesOf}
 use Rattle.courses.specs.Lengths.{more-length}
 use Rattle.circumstances.specs.Sheet.{courseOf}
-use Rattle.circumstances.proofs.phases_length.Statement.{statement}
-use Rattle.circumstances.proofs.phases_length.Tie as tie
+use Rattle.circumstances.proofs.lengths.phases_length.Statement.{statement}
+use Rattle.circumstances.proofs.lengths.phases_length.Tie as tie
 
 -- the bytes of the entries of the first k phases
 abbrev taken : Request → ℕ → ℕ

@@ -1,0 +1,75 @@
+// How many bytes the entries of a sheet take. These are inner functions of the crate, and have a `requires`.
+use kinds::Kind;
+use phases::Phase;
+use requests::Request;
+ghost use mathlib.Core.Path.{_≡_};
+ghost use Prim.Native.Nat.{_*_, _≤_, _<_};
+ghost use lib.ListN.{length, getD};
+ghost use Rattle.phases.specs.declared.Phase.the-variants.{Penumbra};
+ghost use Rattle.phases.specs.Phases.{eclipse};
+ghost use Rattle.requests.specs.Windows.{secondCount};
+ghost use Rattle.requests.specs.RequestLaws.{InLimits};
+ghost use Rattle.seconds.specs.Seconds.{statesOf};
+ghost use Rattle.seconds.specs.Filled.{AllStates};
+ghost use Rattle.contacts.specs.Entries.{entries};
+ghost use Rattle.records.specs.Entries.{bytesOf};
+ghost use Rattle.courses.specs.Courses.{entriesOf};
+ghost use Rattle.courses.specs.Lengths.{kindIn, bytesNeeded};
+ghost use Rattle.circumstances.specs.Sheet.{courseOf};
+
+// The kind of an entry of a phase.
+fn kind_in(phase: Phase, entry: contacts::Entry) -> Kind
+    ensures { λ r. ⌜ r ≡ kindIn phase entry ⌝ }
+{
+    match entry {
+        contacts::Entry::Enter { from: _, to: _ } => Kind::Enter(phase),
+        contacts::Entry::Leave { from: _, to: _ } => Kind::Leave(phase),
+        contacts::Entry::Graze { from: _, to: _ } => Kind::Graze(phase),
+        contacts::Entry::Open { from: _, to: _ } => Kind::Open(phase),
+    }
+}
+
+// How many bytes the entries of a phase take.
+fn phase_length(phase: Phase, states: &[u8]) -> usize
+    requires { ⌜ length (now states) ≤ 21601 ⌝ }
+    ensures { λ r. ⌜ (r ≡ bytesNeeded phase (entries (now (states .entry)))) × (r ≤ 367217) ⌝ }
+{
+    let mut n: usize = 0;
+    let mut c = contacts::Cursor { at: 0 };
+    loop {
+        let contacts::Next::Found(entry, after) = contacts::step(states, c) else {
+            return n;
+        };
+        let kind = kind_in(phase, entry);
+        n += kinds::size_of(kind);
+        c = after;
+    }
+}
+
+// How many bytes the entries of the k-th phase take, from the states of all phases.
+fn nth_phase_length(q: Request, states: &[u8], k: usize) -> usize
+    requires { ⌜ (InLimits q) × (AllStates q (now states)) × (length eclipse * secondCount (q .window) ≤ length (now states)) × (k < length eclipse) ⌝ }
+    ensures { λ r. ⌜ (r ≡ bytesNeeded (getD eclipse k Penumbra) (entries (statesOf q (getD eclipse k Penumbra)))) × (r ≤ 367217) ⌝ }
+{
+    let w = q.window;
+    let n = requests::second_count(w);
+    let phase = phases::eclipse_phase(k);
+    let begin = k * n;
+    let end = begin + n;
+    phase_length(phase, &states[begin..end])
+}
+
+// How many bytes the entries of all phases take.
+pub fn phases_length(q: Request, states: &[u8]) -> usize
+    requires { ⌜ (InLimits q) × (AllStates q (now states)) × (length eclipse * secondCount (q .window) ≤ length (now states)) ⌝ }
+    ensures { λ r. ⌜ (r ≡ length (bytesOf (entriesOf (courseOf q) eclipse))) × (r ≤ 734434) ⌝ }
+{
+    let count = phases::eclipse_count();
+    let mut length: usize = 0;
+    let mut k: usize = 0;
+    while k < count {
+        length += nth_phase_length(q, states, k);
+        k += 1;
+    }
+    length
+}
