@@ -1,5 +1,5 @@
 -- Laws of a second and the room for its numbers.
-use mathlib.Core.Path.{_≡_, refl, sym}
+use mathlib.Core.Path.{_≡_, refl}
 use mathlib.Core.List.{List}
 use mathlib.Core.Bool.{Bool, true, false, cond}
 use Prim.Native.Nat.{ℕ, _≤_, _<_}
@@ -10,14 +10,13 @@ use lib.IntN.{ℤ}
 use lib.ListN.{length}
 use Rattle.shadow.specs.declared.Second.{Second}
 use Rattle.refusals.specs.Refusals.{refusal}
-use Rattle.requests.specs.declared.Request.{Request}
 use Rattle.seconds.specs.declared.OneSecond.{OneSecond}
 use Rattle.seconds.specs.declared.OneSecond.the-variants as O
 use Rattle.seconds.specs.OneSecond.{secondAnswer}
 use Rattle.seconds.specs.SecondLaws.{means-answer}
 use Rattle.input.specs.declared.Input.{Input}
 use Rattle.input.specs.declared.Input.the-variants as I
-use Rattle.input.specs.Input.{inputOf, requestOf}
+use Rattle.input.specs.Input.{inputOf}
 use Rattle.input.specs.InputLaws.{request-is}
 use Rattle.ukhtvaresh.specs.Second.{secondAsked, secondInto, secondGiven, numbersAfter, GivenMeans}
 
