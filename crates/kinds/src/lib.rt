@@ -28,12 +28,13 @@ pub enum Kind {
 //   graze, open   a from, b to
 //   closest       a second; b magnitude: in millionths, 0 to 1,300,000
 //   end           none
+// The kind stands between the first two numbers, so that no two of them are loaded as one right after they were stored apart.
 pub struct Entry {
-    pub kind: Kind,
     pub a: u32,
+    pub kind: Kind,
     pub b: u32,
-    pub c: u32,
     pub d: u32,
+    pub c: u32,
 }
 
 // How many bytes a field has.
@@ -73,16 +74,15 @@ pub enum Crossing {
     Leave,
 }
 
-// How far a sheet has come, as far as its rules ask.
+// How far a sheet has come, as far as its rules ask. The order of the fields is for speed, as an entry's.
 pub struct Progress {
-    // the last entry's stage
-    pub stage: Stage,
-    // the window, stored seconds
+    // the window, stored seconds: the first; the last entry's stage; the last
     pub first: u32,
+    pub stage: Stage,
     pub last: u32,
-    // of the phase at that stage: the previous `to`, 0 if there is none, and the last crossing
-    pub until: u32,
+    // of the phase at that stage: the last crossing, and the previous `to`, 0 if there is none
     pub crossing: Crossing,
+    pub until: u32,
 }
 
 // ---- the table in code

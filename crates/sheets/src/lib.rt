@@ -3,6 +3,7 @@
 // does not use.
 use kinds::Entry;
 use kinds::Named;
+use kinds::Progress;
 use records::Body;
 use records::Byte;
 use records::Record;
@@ -89,7 +90,15 @@ pub fn extent_of_leading_sheet(s: &[u8]) -> Extent
                 length: next,
             };
         }
-        p = further;
+        let stage = further.stage;
+        let crossing = further.crossing;
+        p = Progress {
+            first: further.first,
+            stage,
+            last: further.last,
+            crossing,
+            until: further.until,
+        };
         at = next;
         n += 1;
     }
@@ -234,7 +243,15 @@ pub fn extent_of_leading_entries(l: &[u32]) -> Extent
                 length: next,
             };
         }
-        p = further;
+        let stage = further.stage;
+        let crossing = further.crossing;
+        p = Progress {
+            first: further.first,
+            stage,
+            last: further.last,
+            crossing,
+            until: further.until,
+        };
         place = next;
         n += 1;
     }

@@ -135,7 +135,7 @@ judgement : (c : tie.After-judge Inv-loop μ-loop)
     → judgementOf (from (c .before) .loop .p) (from (c .before) .loop .at) (entry (c .before)) ≡ c .judge .result
 judgement c =
     let a = from (c .before) .loop in
-    let plain-entry : plain (entry (c .before)) ≡ true = ap plain (body-inv _ _ _ _ (is-body (c .before)) .1) ∙ read-plain _ _ _ in
+    let plain-entry : plain (entry (c .before)) ≡ true = ap plain (body-inv _ _ _ _ (is-body (c .before)) .1) ∙ read-plain (kind (named (c .before))) (input (from (c .before))) (a .at + 1) in
     ap (λ b. judgedAs b (a .p) (a .at) (entry (c .before))) plain-entry ∙ sym (c .judge .ensures)
 
 abbrev judged : tie.After-known-told4 Inv-loop μ-loop → tie.After-known-told3 Inv-loop μ-loop
