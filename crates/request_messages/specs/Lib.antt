@@ -1,0 +1,4 @@
+pub mod Messages
+pub mod MessageLaws
+pub mod WordLaws
+pub mod Examples
