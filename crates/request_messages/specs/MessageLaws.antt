@@ -34,8 +34,8 @@ pub put-as : (room old : List ℕ) (at : ℕ) (x y new : List ℕ) (r : ℕ) →
 put-as room old at x y new r q e p = rw (← q, ← e) p
 
 module _ (l old : List ℕ) (at : ℕ) (new : List ℕ) (r : ℕ) where
-  pub put-unknown : (mid : List ℕ) (q : ℕ) → length old < 18446744073709551616 → Put old at (letters "unknown name ") mid q → Put mid q (wordOf l) new r
-      → Put old at (faultText Fault.Unknown l) new r
+  pub put-unknown : (mid : List ℕ) (q : ℕ) → length old < 18446744073709551616 → Put old at (letters "unknown name ") mid q
+      → Put mid q (wordOf l) new r → Put old at (faultText Fault.Unknown l) new r
   unfolding faultText
   put-unknown mid q h p w = put-then old mid new at q r (letters "unknown name ") (wordOf l) h p w
 
@@ -72,8 +72,8 @@ module _ (l old : List ℕ) (at : ℕ) (new : List ℕ) (r : ℕ) where
   put-told f g e p = rw e p
 
 -- the parts of a message, one after the other
-pub put-parts : (text : List ℕ) (line : ℕ) (fault : Fault) (old one two three four new : List ℕ) (at p q t u r : ℕ) → length old < 18446744073709551616
-    → Put old at (letters "line ") one p → Put one p (decimal line) two q → Put two q (letters ": ") three t
+pub put-parts : (text : List ℕ) (line : ℕ) (fault : Fault) (old one two three four new : List ℕ) (at p q t u r : ℕ)
+    → length old < 18446744073709551616 → Put old at (letters "line ") one p → Put one p (decimal line) two q → Put two q (letters ": ") three t
     → Put three t (faultText fault (lineOf text line)) four u → Put four u (letters "\n") new r → Put old at (messageOf text line fault) new r
 unfolding messageOf
 put-parts text line fault old one two three four new at p q t u r h a b c d e =

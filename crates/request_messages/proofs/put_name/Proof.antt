@@ -34,7 +34,9 @@ same-length : tie.Need-same-length
 same-length c = search needs
 
 returns-2 : tie.Need-returns-2
-returns-2 c = put-as _ _ _ _ _ _ _ refl (name-is _ _ (c .before .before .before .before .before .before .field-at .ensures)) (c .before .before .put-text .ensures)
+returns-2 c =
+    put-as _ _ _ _ _ _ _ refl (name-is _ _ (c .before .before .before .before .before .before .field-at .ensures))
+    (c .before .before .put-text .ensures)
 
 pub put-name-spec : {M : Type 1} → statement M
 put-name-spec =

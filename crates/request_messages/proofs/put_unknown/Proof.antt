@@ -18,7 +18,9 @@ same-length : tie.Need-same-length
 same-length c = search needs
 
 returns : tie.Need-returns
-returns c = put-unknown _ _ _ _ _ _ _ (omega arith) (c .before .before .before .before .before .before .put-text .ensures) (c .before .before .put-word-of .ensures)
+returns c =
+    put-unknown _ _ _ _ _ _ _ (omega arith) (c .before .before .before .before .before .before .put-text .ensures)
+    (c .before .before .put-word-of .ensures)
 
 pub put-unknown-spec : {M : Type 1} → statement M
 put-unknown-spec =

@@ -42,7 +42,8 @@ returns c =
     let third = c .before .before .before .before .before in
     let second = third .before .before in
     let first = second .before .before in
-    put-as _ _ _ _ _ _ _ refl (word-cut _ _ _ _ (first .run .ensures .0) (second .run2 .ensures .0) (third .run3 .ensures .0)) (c .before .before .put-text .ensures)
+    put-as _ _ _ _ _ _ _ refl (word-cut _ _ _ _ (first .run .ensures .0) (second .run2 .ensures .0) (third .run3 .ensures .0))
+    (c .before .before .put-text .ensures)
 
 pub put-word-spec : {M : Type 1} → statement M
 put-word-spec =

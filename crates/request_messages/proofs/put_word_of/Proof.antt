@@ -90,7 +90,9 @@ same-length-2 : tie.Need-same-length-2 Inv-loop μ-loop
 same-length-2 c = ap length (c .before .loop .inv .0)
 
 returns-2 : tie.Need-returns-2 Inv-loop μ-loop
-returns-2 c = put-as _ _ _ _ _ _ _ (c .before .loop .inv .0) (sym (seek-end _ _ _ _ (c .before .loop .inv .1) (c .loop-test .left))) (put-nil _ _ (omega arith))
+returns-2 c =
+    put-as _ _ _ _ _ _ _ (c .before .loop .inv .0) (sym (seek-end _ _ _ _ (c .before .loop .inv .1) (c .loop-test .left)))
+    (put-nil _ _ (omega arith))
 
 pub put-word-of-spec : {M : Type 1} → statement M
 put-word-of-spec =
