@@ -49,4 +49,14 @@ pub put-word-spec : {M : Type 1} → statement M
 put-word-spec =
     tie.close
     (tie.spec
-    run-requires slice-aggregate-content run-requires-2 sub-said part-said-start part-said-end run-requires-3 slice-aggregate-put-text put-text-requires same-length returns)
+    run-requires
+    slice-aggregate-content
+    run-requires-2
+    sub-said
+    part-said-start
+    part-said-end
+    run-requires-3
+    slice-aggregate-put-text
+    put-text-requires
+    same-length
+    returns)

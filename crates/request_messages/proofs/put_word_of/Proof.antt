@@ -1,4 +1,5 @@
--- `request_messages::put_word_of` meets its contract: the line looked for is one of those left (`Seeking`). The measure is how many bytes are left. Assumes nothing.
+-- `request_messages::put_word_of` meets its contract: the line looked for is one of those left (`Seeking`). The measure is how many
+-- bytes are left. Assumes nothing.
 use mathlib.Core.Path.{_≡_, refl, sym, ap, _∙_}
 use Prim.Native.Nat.{_+_, _-_, _≤_}
 use native.Mathlib.Omega.{arith}
@@ -98,4 +99,23 @@ pub put-word-of-spec : {M : Type 1} → statement M
 put-word-of-spec =
     tie.close
     (tie.spec
-    Inv-loop μ-loop loop-holds sub-run part-run-start part-run-end run-requires add-end sub-put-word part-put-word-start part-put-word-end put-word-requires same-length returns sub-left add-start loop-less loop-again same-length-2 returns-2)
+    Inv-loop
+    μ-loop
+    loop-holds
+    sub-run
+    part-run-start
+    part-run-end
+    run-requires
+    add-end
+    sub-put-word
+    part-put-word-start
+    part-put-word-end
+    put-word-requires
+    same-length
+    returns
+    sub-left
+    add-start
+    loop-less
+    loop-again
+    same-length-2
+    returns-2)
