@@ -9,7 +9,7 @@ use request_text::Typed;
 ghost use mathlib.Core.Path.{_≡_};
 ghost use Rattle.request_text.specs.Typing.{typingOf, answerOf};
 ghost use lib.ListN.{take};
-ghost use Rattle.decimals.specs.Texts.{Put, Counts};
+ghost use Rattle.decimals.specs.Texts.{Counts};
 ghost use Rattle.request.specs.Encoded.{bytesFrom, ReadAs};
 ghost use Rattle.request.specs.Streams.{outputOf, errorOf};
 
@@ -28,17 +28,20 @@ fn encode(text: &[u8], out: &mut [u8; LENGTH]) -> Typed
     answer
 }
 
+// No message is longer: its word is a part of the text.
+const MESSAGE: usize = 65_623;
+
 // How many bytes go out: of the request to standard output, of the message's room to standard error.
 struct Streams {
     output: usize,
     error: usize,
 }
 
-// What the program writes: the bytes of a typed request; or why there are none, as far as the message's room goes.
-fn respond(text: &[u8], out: &mut [u8; LENGTH], message: &mut [u8]) -> Streams
+// What the program writes: the bytes of a typed request; or why there are none.
+fn respond(text: &[u8], out: &mut [u8; LENGTH], message: &mut [u8; MESSAGE]) -> Streams
     ensures output { λ r. ⌜ take (r .output) (now (out .exit)) ≡ outputOf (now (text .entry)) ⌝ }
-    ensures error { λ r. ⌜ Put (now (message .entry)) 0 (errorOf (now (text .entry))) (now (message .exit)) (r .error) ⌝ }
-    ensures counts { λ r. ⌜ Counts (r .output) (now (out .exit)) ⌝ }
+    ensures error { λ r. ⌜ take (r .error) (now (message .exit)) ≡ errorOf (now (text .entry)) ⌝ }
+    ensures counts { λ r. ⌜ Counts (r .output) (now (out .exit)) × Counts (r .error) (now (message .exit)) ⌝ }
 {
     if 65536 < text.len() {
         let end = decimals::put_text(message, 0, b"the text has more than 65,536 bytes\n");
@@ -68,11 +71,10 @@ fn main() {
     let mut text = [0u8; 65537];
     let length = io::read_full(STDIN_FILENO, &mut text);
     let mut bytes = [0u8; LENGTH];
-    // longer than any message: its word is a part of the text
-    let mut message = [0u8; 65600];
+    let mut message = [0u8; MESSAGE];
     let streams = respond(&text[..length], &mut bytes, &mut message);
     let output = streams.output;
-    let error = decimals::clipped(&message, streams.error);
+    let error = streams.error;
     // one of the two has no bytes, and then no call is made
     io::write_all(STDOUT_FILENO, &bytes[..output]);
     io::write_all(STDERR_FILENO, &message[..error]);

@@ -86,5 +86,13 @@ message-le text i f h =
     let number = letters "line " ++ decimal i in
     let start = number ++ letters ": " in
     let wrong = faultText f (lineOf text i) in
-    omega (arith, length-append (letters "line ") (decimal i), length-append number (letters ": "), length-append start wrong,
-    length-append (start ++ wrong) (letters "\n"), decimal-64 i h, fault-le f (lineOf text i), line-le text (i - 1))
+    omega (
+      arith,
+      length-append (letters "line ") (decimal i),
+      length-append number (letters ": "),
+      length-append start wrong,
+      length-append (start ++ wrong) (letters "\n"),
+      decimal-64 i h,
+      fault-le f (lineOf text i),
+      line-le text (i - 1),
+    )

@@ -12,11 +12,10 @@ slice-aggregate-put-text c = search needs
 put-text-requires : tie.Need-put-text-requires
 put-text-requires c κs = search needs
 
-same-length : tie.Need-same-length
-same-length c = search needs
-
 returns : tie.Need-returns
-returns c = long-put _ (omega arith) (c .before .before .before .before .before .before .before .before .args .out .now) _ _ _ (c .before .before .put-text .ensures)
+returns c =
+    let lent = c .before .before .before .before .before .args in
+    long-put _ (omega arith) (lent .out .now) (lent .message .now) _ _ (omega arith) (c .put-text .ensures)
 
 encode-requires : tie.Need-encode-requires
 encode-requires c κs = search needs
@@ -33,15 +32,15 @@ put-message-requires c κs = search needs
 returns-2 : tie.Need-returns-2
 returns-2 c =
     let e = c .before .before .encode in
-    numbers-written _ (omega arith) (sym (c .enum-told .given .1) ∙ e .ensures .0) _ _ _ (e .ensures .1 .0)
-
-same-length-2 : tie.Need-same-length-2
-same-length-2 c = search needs
+    numbers-written _ (omega arith) (sym (c .enum-told .given .1) ∙ e .ensures .0)
+    _ (c .before .before .before .before .before .before .args .message .now) _ (e .ensures .1 .0)
 
 returns-3 : tie.Need-returns-3
 returns-3 c =
-    let e = c .before .before .before .before .before .before .before .encode in
-    refused-put _ (omega arith) _ _ (sym (c .before .before .before .before .before .answer .given .1) ∙ e .ensures .0) (e .last .1 .0) _ _ _ (c .before .before .put-message .ensures)
+    let lent = c .before .before .before .before .before .before .before .before .before .args in
+    let e = c .before .before .before .before .before .encode in
+    refused-put _ (omega arith) _ _ (sym (c .before .before .before .answer .given .1) ∙ e .ensures .0) (omega arith)
+    (e .last .1 .0) (lent .message .now) _ _ (omega arith) (c .put-message .ensures)
 
 pub respond-spec : {M : Type 1} → statement M
 respond-spec =
@@ -49,12 +48,10 @@ respond-spec =
     (tie.spec
     slice-aggregate-put-text
     put-text-requires
-    same-length
     returns
     encode-requires
     enum-told
     enum-known-answer
     put-message-requires
     returns-2
-    same-length-2
     returns-3)
