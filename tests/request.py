@@ -57,7 +57,7 @@ def answer(text):
     for count, line in enumerate(lines, 1):
 
         def refused(message):
-            return b"", f"line {count}: {message}\n".encode()
+            return b"", f"line {count}: ".encode() + message + b"\n"
 
         said = line.split(b"#")[0].strip(b" \t\r")
         if not said:
@@ -67,12 +67,12 @@ def answer(text):
             if said.startswith(name.encode()) and (not rest or rest[0] in b" \t\r"):
                 break
         else:
-            return refused("unknown name")
+            return refused(b"unknown name " + re.split(rb"[ \t\r]", said)[0])
         value, wrong = units(rest.strip(b" \t\r"), places, bounds)
         if wrong:
-            return refused(f"{name} {wrong}")
+            return refused(f"{name} {wrong}".encode())
         if name in given:
-            return refused(f"{name} is given twice")
+            return refused(f"{name} is given twice".encode())
         given[name] = value
     for name, _, _ in FIELDS:
         if name not in given:
@@ -140,6 +140,11 @@ def texts(count, seed):
     yield b""
     yield b"\n" * 65537
     yield b"#" * 65536
+    # the words of an unknown name: of the whole text, with a comment at once, of a last line without its end
+    yield b"=" * 65536
+    yield b"\n\n \t bogus# 5\nx0 1\n"
+    yield b"x0 1\r\n\r\nbogus\r\n"
+    yield b"x0 1\n\x00\xff 1"
     for k in range(len(FIELDS)):
         # each field missing, twice, no number, a fraction, too large
         name, places, (low, high) = FIELDS[k]
@@ -163,8 +168,8 @@ def main():
         wanted = answer(given)
         if (ran.stdout, ran.stderr) != wanted:
             sys.exit(f"text {tried}: {given!r}\nwrote  {ran.stdout!r} {ran.stderr!r}\nwanted {wanted[0]!r} {wanted[1]!r}")
-        kind = re.sub(rb"line \d+: (tan f\d|[a-z0-9]+) (?=is|has)", b"", wanted[1]).decode().strip() or "109 bytes"
-        kind = re.sub(r"line \d+: ", "", kind)
+        kind = re.sub(rb"line \d+: ((tan f\d|[a-z0-9]+) (?=is|has))?", b"", wanted[1])
+        kind = re.sub(rb"(?s)(?<=unknown name) .*", b"", kind).decode().strip() or "109 bytes"
         kinds[kind] = kinds.get(kind, 0) + 1
     print(f"{tried} texts, no difference")
     for kind, number in sorted(kinds.items(), key=lambda pair: -pair[1]):

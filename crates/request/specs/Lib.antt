@@ -1,2 +1,4 @@
 pub mod Encoded
 pub mod EncodedLaws
+pub mod Streams
+pub mod StreamLaws

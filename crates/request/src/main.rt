@@ -5,11 +5,13 @@ use libc::STDIN_FILENO;
 use libc::STDOUT_FILENO;
 use request_fields::COUNT;
 use request_fields::LENGTH;
-use request_text::Fault;
 use request_text::Typed;
 ghost use mathlib.Core.Path.{_≡_};
 ghost use Rattle.request_text.specs.Typing.{typingOf, answerOf};
+ghost use lib.ListN.{take};
+ghost use Rattle.decimals.specs.Texts.{Counts};
 ghost use Rattle.request.specs.Encoded.{bytesFrom, ReadAs};
+ghost use Rattle.request.specs.Streams.{outputOf, errorOf};
 
 // The bytes of a typed request; or its fault, and the bytes as they were.
 fn encode(text: &[u8], out: &mut [u8; LENGTH]) -> Typed
@@ -26,60 +28,41 @@ fn encode(text: &[u8], out: &mut [u8; LENGTH]) -> Typed
     answer
 }
 
-// ---- what is told
+// No message is longer: its word is a part of the text.
+const MESSAGE: usize = 65_623;
 
-fn tell(text: &[u8]) {
-    io::write_all(STDERR_FILENO, text);
+// How many bytes go out: of the request to standard output, of the message's room to standard error.
+struct Streams {
+    output: usize,
+    error: usize,
 }
 
-fn tell_name(field: usize) {
-    if COUNT <= field {
-        return;
+// What the program writes: the bytes of a typed request; or why there are none.
+fn respond(text: &[u8], out: &mut [u8; LENGTH], message: &mut [u8; MESSAGE]) -> Streams
+    ensures output { λ r. ⌜ take (r .output) (now (out .exit)) ≡ outputOf (now (text .entry)) ⌝ }
+    ensures error { λ r. ⌜ take (r .error) (now (message .exit)) ≡ errorOf (now (text .entry)) ⌝ }
+    ensures counts { λ r. ⌜ Counts (r .output) (now (out .exit)) × Counts (r .error) (now (message .exit)) ⌝ }
+{
+    if 65536 < text.len() {
+        let end = decimals::put_text(message, 0, b"the text has more than 65,536 bytes\n");
+        return Streams {
+            output: 0,
+            error: end,
+        };
     }
-    let row = request_fields::field_at(field);
-    let name = row.0;
-    let letters = row.1;
-    tell(&name[..letters]);
-}
-
-fn tell_of(field: usize, text: &[u8]) {
-    tell_name(field);
-    tell(text);
-}
-
-fn tell_fault(fault: Fault) {
-    match fault {
-        Fault::Unknown => tell(b"unknown name"),
-        Fault::NotNumber(field) => tell_of(field, b" is not a number"),
-        Fault::NotWhole(field) => tell_of(
-            field,
-            b" has too many decimals for a whole number of units",
-        ),
-        Fault::Unfit(field) => tell_of(field, b" is too large for its bytes"),
-        Fault::Twice(field) => tell_of(field, b" is given twice"),
-        Fault::Missing(field) => tell_of(field, b" is missing"),
-    }
-}
-
-fn tell_refused(line: usize, fault: Fault) {
-    tell(b"line ");
-    io::print_decimal(STDERR_FILENO, line as u64);
-    tell(b": ");
-    tell_fault(fault);
-    tell(b"\n");
-}
-
-fn write(bytes: &[u8; LENGTH]) {
-    io::write_all(STDOUT_FILENO, bytes);
-}
-
-// Writes the bytes of a typed request, or tells its fault.
-fn answer(text: &[u8]) {
-    let mut bytes = [0u8; LENGTH];
-    let answer = encode(text, &mut bytes);
+    let answer = encode(text, out);
     match answer {
-        Typed::Numbers => write(&bytes),
-        Typed::Refused(line, fault) => tell_refused(line, fault),
+        Typed::Numbers => Streams {
+            output: LENGTH,
+            error: 0,
+        },
+        Typed::Refused(line, fault) => {
+            let end = request_messages::put_message(message, 0, text, line, fault);
+            Streams {
+                output: 0,
+                error: end,
+            }
+        }
     }
 }
 
@@ -87,9 +70,12 @@ fn main() {
     // a byte more than is taken, so that a longer text is seen
     let mut text = [0u8; 65537];
     let length = io::read_full(STDIN_FILENO, &mut text);
-    if 65536 < length {
-        tell(b"the text has more than 65,536 bytes\n");
-        return;
-    }
-    answer(&text[..length]);
+    let mut bytes = [0u8; LENGTH];
+    let mut message = [0u8; MESSAGE];
+    let streams = respond(&text[..length], &mut bytes, &mut message);
+    let output = streams.output;
+    let error = streams.error;
+    // one of the two has no bytes, and then no call is made
+    io::write_all(STDOUT_FILENO, &bytes[..output]);
+    io::write_all(STDERR_FILENO, &message[..error]);
 }

@@ -1,0 +1,45 @@
+-- `request_messages::put_name` meets its contract: no name is longer than its room. Assumes nothing.
+use mathlib.Core.Path.{refl, sym, subst}
+use Prim.Native.Nat.{_≤_}
+use native.Mathlib.Omega.{arith}
+use lib.ListN.{length}
+use lib.Seq.{length-take-le}
+use Rattle.request_fields.specs.declared.Field.{Field}
+use Rattle.request_fields.specs.RowLaws.{name-room}
+use Rattle.decimals.specs.TextLaws.{put-nil}
+use Rattle.request_messages.specs.MessageLaws.{name-none, name-is, put-as}
+use borrow.Author.Needs.{needs}
+use Rattle.request_messages.proofs.put_name.Statement.{statement}
+use Rattle.request_messages.proofs.put_name.Tie as tie
+
+room : (c : tie.After-field-at) → c .field-at .result .1 ≤ length (c .field-at .result .0)
+room c = subst (λ (f : Field). f .1 ≤ length (f .0)) (sym (c .field-at .ensures)) (name-room _)
+
+returns : tie.Need-returns
+returns c = put-as _ _ _ _ _ _ _ refl (sym (name-none _ (c .if1 .taken))) (put-nil _ _ (omega arith))
+
+field-at-requires : tie.Need-field-at-requires
+field-at-requires c κs = search needs
+
+array-share-prefix-name : tie.Need-array-share-prefix-name
+array-share-prefix-name c = room (c .before .before)
+
+slice-aggregate-put-text : tie.Need-slice-aggregate-put-text
+slice-aggregate-put-text c = sym (length-take-le _ _ (room (c .before .before .before)))
+
+put-text-requires : tie.Need-put-text-requires
+put-text-requires c κs = search needs
+
+same-length : tie.Need-same-length
+same-length c = search needs
+
+returns-2 : tie.Need-returns-2
+returns-2 c =
+    put-as _ _ _ _ _ _ _ refl (name-is _ _ (c .before .before .before .before .before .before .field-at .ensures))
+    (c .before .before .put-text .ensures)
+
+pub put-name-spec : {M : Type 1} → statement M
+put-name-spec =
+    tie.close
+    (tie.spec
+    returns field-at-requires array-share-prefix-name slice-aggregate-put-text put-text-requires same-length returns-2)

@@ -1,0 +1,5 @@
+pub mod Messages
+pub mod MessageLaws
+pub mod WordLaws
+pub mod MessageLength
+pub mod Examples

@@ -1,0 +1,59 @@
+-- Laws of the word that a message names: the line that it stands in, and its place there.
+use Prim.Native.Nat.{ℕ, suc, _+_, _-_, _≤_, _<_}
+use mathlib.Core.Path.{_≡_, refl, sym, ap, _∙_}
+use mathlib.Core.List.{List, [], _∷_}
+use native.Mathlib.Omega.{arith}
+use lib.ListN.{length, getD, take, drop}
+use Rattle.words.specs.declared.Class.the-variants as C
+use Rattle.words.specs.Text.{runOf, linesOf}
+use Rattle.words.specs.TextLaws.{rest-is, line-next, lines-end, lineAt}
+use Rattle.request_text.specs.Lines.{content, said}
+use Rattle.request_messages.specs.Messages.{lineOf, wordOf}
+
+-- a line of which nothing is said has no word
+word-nil : wordOf [] ≡ []
+unfolding wordOf runOf
+word-nil = refl
+
+-- ---- the lines passed: what is looked for is a line of the rest
+
+pub record Seeking (text : List ℕ) (line left start : ℕ) : Type 0 where
+  pub there : lineOf text line ≡ lineOf (drop start text) left
+
+module _ (text : List ℕ) (line : ℕ) where
+  pub seek-start : Seeking text line line 0
+  seek-start = record { there = refl }
+
+  module _ (left start : ℕ) (s : Seeking text line left start) where
+    pub seek-end : length text ≤ start → wordOf (lineOf text line) ≡ []
+    seek-end h = ap wordOf (s .there ∙ ap (λ (ls : List (List ℕ)). getD ls (left - 1) []) (lines-end text start h)) ∙ word-nil
+
+    module _ (n : ℕ) (h : start < length text) (e : n ≡ runOf C.Line (drop start text)) where
+      -- the lines that are left, by their number from 0 on
+      abbrev nth : ℕ → List ℕ
+      nth k = getD (lineAt text start n h e ∷ linesOf (drop (start + n + 1) text)) k []
+
+      here : lineOf text line ≡ nth (left - 1)
+      here = s .there ∙ ap (λ (ls : List (List ℕ)). getD ls (left - 1) []) (line-next text start n h e)
+
+      pub seek-hit : left ≤ 1 → lineOf text line ≡ lineAt text start n h e
+      seek-hit l = let z : left - 1 ≡ 0 = omega arith in here ∙ ap nth z
+
+      pub seek-more : 1 < left → Seeking text line (left - 1) (start + n + 1)
+      seek-more l = let z : left - 1 ≡ suc (left - 1 - 1) = omega arith in record { there = here ∙ ap nth z }
+
+-- ---- the word of a line, cut out part by part
+
+module _ (l : List ℕ) (n gap letters : ℕ) where
+  abbrev cut : List ℕ
+  cut = take n l
+
+  abbrev rest : List ℕ
+  rest = take (length cut - gap) (drop gap cut)
+
+  pub word-cut : n ≡ runOf C.Said l → gap ≡ runOf C.Blank cut → letters ≡ runOf C.Word rest → take letters rest ≡ wordOf l
+  unfolding wordOf
+  word-cut p q r =
+      let c : cut ≡ content l = ap (λ k. take k l) p in
+      let t : rest ≡ said l = rest-is cut gap ∙ ap (λ k. drop k cut) q ∙ ap (λ s. drop (runOf C.Blank s) s) c in
+      ap (λ k. take k rest) r ∙ ap (λ s. take (runOf C.Word s) s) t
