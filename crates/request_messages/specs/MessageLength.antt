@@ -6,7 +6,7 @@ use mathlib.Core.List.{List, [], _∷_, _++_}
 use native.Mathlib.Omega.{arith}
 use borrow.Author.Tests.{leb-true}
 use lib.Dec.{T, leb}
-use lib.ListN.{length, getD, take, drop, length-append, length-drop}
+use lib.ListN.{length, getD, take, length-append, length-drop}
 use Rattle.request_fields.specs.declared.Field.{Field}
 use Rattle.request_fields.specs.Rows.{rows, rowAt, nameOf, none}
 use Rattle.words.specs.declared.Class.the-variants as C
