@@ -4,14 +4,14 @@
     python3 tests/sines.py > crates/sines/stdout
 """
 from fractions import Fraction
-from math import factorial, floor
+from math import ceil, factorial, floor
 
 PI = Fraction("3.14159265358979323846")
 
 
 def near(x):
-    """The floor of x + 1/2: halves go up, also below zero."""
-    return floor(x + Fraction(1, 2))
+    """The nearer of the two whole numbers around x; where both are equally near, the larger in size."""
+    return min(floor(x), ceil(x), key=lambda q: (abs(q - x), -abs(q)))
 
 
 def series(x):

@@ -56,9 +56,9 @@ unfolding near root factorial numerator denominator common term series S arc sag
 open-5400 = refl
 
 pub record Marked : Type 0 where
-  -- "near(50,000,000/10^8)=1, near(-50,000,000/10^8)=0, near(-50,000,001/10^8)=-1"
+  -- "near(50,000,000/10^8)=1, .. near(-50,000,001/10^8)=-1"; between them document 02, wish 3: "-50,000,000 over 10^8 gives -1"
   pub near-1 : near (pos 50000000) (pos 100000000) ≡ pos 1
-  pub near-2 : near (negsuc 49999999) (pos 100000000) ≡ pos 0
+  pub near-2 : near (negsuc 49999999) (pos 100000000) ≡ negsuc 0
   pub near-3 : near (negsuc 50000000) (pos 100000000) ≡ negsuc 0
   -- "sine of 30°; sine of 0.000001° is 2; sine of 89.999999° is 10^8 (the cap acts); cosine of 180° is -10^8"
   pub sine-1 : sine (pos 30_000_000) ≡ pos 50_000_000

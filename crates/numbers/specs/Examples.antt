@@ -1,4 +1,4 @@
--- Document 01's examples of near, by computation.
+-- Document 01's examples of near, the second as document 02 has it (wish 3), by computation.
 use mathlib.Core.Path.{_≡_, refl}
 use lib.IntN.{pos, negsuc}
 use Rattle.numbers.specs.Near.{near}
@@ -9,8 +9,8 @@ pub near-half : near (pos 50000000) (pos 100000000) ≡ pos 1
 unfolding near
 near-half = refl
 
--- near(-50,000,000/10^8) = 0
-pub near-half-below : near (negsuc 49999999) (pos 100000000) ≡ pos 0
+-- near(-50,000,000/10^8) = -1
+pub near-half-below : near (negsuc 49999999) (pos 100000000) ≡ negsuc 0
 unfolding near
 near-half-below = refl
 

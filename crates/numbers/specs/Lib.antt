@@ -8,7 +8,6 @@ pub mod Ring
 pub mod Cert
 pub mod Floor
 pub mod NearLaws
-pub mod Shift
 pub mod RootLaws
 pub mod Code
 pub mod Value

@@ -1,12 +1,18 @@
--- Rounding: the whole number nearest to a fraction.
-use Prim.Native.Nat.{_/_}
-use lib.IntN.{ℤ, pos, negsuc, natAbs, _+ℤ_, _*ℤ_}
+-- Rounding: down, and to the nearest.
+use Prim.Native.Nat.{ℕ, suc, _+_, _*_, _/_}
+use lib.IntN.{ℤ, pos, negsuc, negℤ, natAbs}
 
 -- the floor of a / b, for b above 0: -1 - a is rounded down to -1 - floor(a / b)
 abbrev pub floorZ : ℤ → ℤ → ℤ
 floorZ (pos a) b = pos (a / natAbs b)
 floorZ (negsuc a) b = negsuc (a / natAbs b)
 
--- "near(n/k) is the floor of (2n+k)/(2k), so halves go up, also below zero"
+-- "near(n/k) is the floor of (2n+k)/(2k), so halves go up": where nothing is negative
+abbrev pub halfUp : ℕ → ℕ → ℕ
+halfUp n k = (2 * n + k) / (2 * k)
+
+-- Document 02, wish 3: "Halves shall go away from zero, so -50,000,000 over 10^8 gives -1."
+-- The size is rounded, halves up, and the sign put back.
 unfoldable pub near : ℤ → ℤ → ℤ
-near n k = floorZ (pos 2 *ℤ n +ℤ k) (pos 2 *ℤ k)
+near (pos n) k = pos (halfUp n (natAbs k))
+near (negsuc n) k = negℤ (pos (halfUp (suc n) (natAbs k)))

@@ -1,7 +1,7 @@
 // Rounding to the nearest, square roots and sizes, over 64-bit whole numbers.
 ghost use mathlib.Core.Path.{_≡_};
 ghost use Prim.Native.Nat.{_≤_, _<_};
-ghost use lib.IntN.{pos, natAbs, _+ℤ_, _*ℤ_};
+ghost use lib.IntN.{pos, natAbs};
 ghost use lib.Signed.{_≤ℤ_};
 ghost use lib.ListN.{length};
 ghost use Rattle.numbers.specs.Units.{one, hour};
@@ -9,15 +9,18 @@ ghost use Rattle.numbers.specs.Near.{near};
 ghost use Rattle.numbers.specs.Root.{root};
 ghost use Rattle.numbers.specs.Limits.{firstOutOfRange, rows};
 
-// The whole number nearest to n / k, halves going up.
+// The whole number nearest to n / k, halves going away from zero: half of k is added to the size, and division rounds toward
+// zero. Half of an odd k is rounded down, and n / k is then never a half. With a literal k it compiles to one multiplication.
 pub fn near(n: i64, k: i64) -> i64
     requires { ⌜ (natAbs n ≤ 4000000000000000000) × (natAbs k ≤ 10000000000000000) × (pos 1 ≤ℤ k) ⌝ }
     ensures { λ r. ⌜ r ≡ near n k ⌝ }
 {
-    let a = 2 * n + k;
-    let b = 2 * k;
-    let q = a / b;
-    if a % b < 0 { q - 1 } else { q }
+    let half = k / 2;
+    if n < 0 {
+        (n - half) / k
+    } else {
+        (n + half) / k
+    }
 }
 
 // The same where nothing is negative.
@@ -30,25 +33,12 @@ pub fn near_unsigned(n: u64, k: u64) -> u64
     a / b
 }
 
-// The same for an even k by one division of a number that is not negative: bias, which is half of k more than
-// shift times k, is added first, and shift is taken off after. With literals it compiles to one multiplication.
-fn near_shifted(n: i64, bias: i64, k: u64, shift: i64) -> i64
-    requires { ⌜ (natAbs n ≤ 1000000000000000000) × (natAbs bias ≤ 2000000000000000000) × (natAbs shift ≤ 1000000000000000000) × (0 < k) ⌝ }
-    requires { ⌜ pos 0 ≤ℤ (n +ℤ bias) ⌝ }
-    requires { ⌜ pos 2 *ℤ bias ≡ pos k +ℤ pos 2 *ℤ (pos k *ℤ shift) ⌝ }
-    ensures { λ r. ⌜ r ≡ near n (pos k) ⌝ }
-{
-    let u = (n + bias) as u64;
-    let q = u / k;
-    q as i64 - shift
-}
-
 // near over 10^8: a product of two numbers in units, in units again.
 pub fn near_unit(n: i64) -> i64
     requires { ⌜ natAbs n ≤ 1000000000000000000 ⌝ }
     ensures { λ r. ⌜ r ≡ near n one ⌝ }
 {
-    near_shifted(n, 1_000_000_000_050_000_000, 100_000_000, 10_000_000_000)
+    near(n, 100_000_000)
 }
 
 // near over 3600: a number per hour times seconds.
@@ -56,7 +46,7 @@ pub fn near_hour(n: i64) -> i64
     requires { ⌜ natAbs n ≤ 36000000000000000 ⌝ }
     ensures { λ r. ⌜ r ≡ near n hour ⌝ }
 {
-    near_shifted(n, 36_000_000_000_001_800, 3600, 10_000_000_000_000)
+    near(n, 3600)
 }
 
 // The largest whole number whose square is at most n: two bits of n a round, from its highest one.

@@ -39,10 +39,11 @@ fn hand_worked_sheet() -> (Vec<u8>, Vec<u32>) {
 #[test]
 fn near_values() {
     assert_eq!(near(50_000_000, UNIT), 1);
-    assert_eq!(near(-50_000_000, UNIT), 0);
+    assert_eq!(near(-50_000_000, UNIT), -1);
     assert_eq!(near(-50_000_001, UNIT), -1);
     // An odd denominator has no halves.
     assert_eq!([-5, -4, -2, -1, 0, 1, 2, 4, 5].map(|n| near(n, 3)), [-2, -1, -1, 0, 0, 0, 1, 1, 2]);
+    assert_eq!([-4, -3, -2, -1, 0, 1, 2, 3, 4].map(|n| near(n, 2)), [-2, -2, -1, -1, 0, 1, 1, 2, 2]);
 }
 
 #[test]
@@ -119,8 +120,9 @@ fn places() {
 fn values_at_a_second() {
     assert_eq!(value_at(&[5, 3600], -7), -2);
     assert_eq!(value_at(&[0, 1], 1800), 1);
-    assert_eq!(value_at(&[0, 1], -1800), 0);
+    assert_eq!(value_at(&[0, 1], -1800), -1);
     assert_eq!(value_at(&[10, 0, 0, 8], -1800), 9);
+    assert_eq!(value_at(&[10, 0, 0, 2], -1800), 9);
     assert_eq!(value_at(&[1, 2, 3, 4], 0), 1);
 }
 

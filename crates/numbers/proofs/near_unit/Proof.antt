@@ -1,27 +1,21 @@
--- `numbers::near_unit` meets its contract: it is `near_shifted` with literals that fit: twice the bias is k and twice k times the shift. Assumes nothing.
-use mathlib.Core.Path.{refl, ap, _∙_}
+-- `numbers::near_unit` meets its contract: it is `near` with a literal. Assumes nothing.
+use mathlib.Core.Path.{ap, _∙_}
 use lib.Dec.{lit≤}
+use lib.Signed.{leZ-yes}
 use lib.IntN.{ℤ, pos}
-use mir.Syntax.{w64}
-use mir.Val.{toZ, ofZ}
 use Rattle.numbers.specs.Near.{near}
 use Rattle.numbers.specs.Code.{read-back, read-size, read-result}
-use Rattle.numbers.specs.Shift.{not-below}
 use Rattle.numbers.proofs.near_unit.Statement.{statement}
 use Rattle.numbers.proofs.near_unit.Tie as tie
 
-near-shifted-requires : tie.Need-near-shifted-requires
-near-shifted-requires c κs =
-    let small = read-size (c .args .n) 1000000000000000000 (c .pre) tt in (
-      (read-size (c .args .n) 1000000000000000000 (c .pre) tt, lit≤ tt, lit≤ tt, lit≤ tt),
-      (not-below (toZ w64 (ofZ w64 (c .args .n))) 1000000000000000000 _ small (lit≤ tt), refl),
-    )
+near-requires : tie.Need-near-requires
+near-requires c κs = (read-size (c .args .n) 4000000000000000000 (c .pre) tt, lit≤ tt, leZ-yes tt)
 
 returns : tie.Need-returns
 returns c =
-    read-result (c .near-shifted .result) (c .near-shifted .ok)
-    ∙ c .near-shifted .ensures
+    read-result (c .near .result) (c .near .ok)
+    ∙ c .near .ensures
     ∙ ap (λ (z : ℤ). near z (pos 100000000)) (read-back (c .before .args .n) (c .before .pre) tt)
 
 pub near-unit-spec : {M : Type 1} → statement M
-near-unit-spec = tie.close (tie.spec near-shifted-requires returns)
+near-unit-spec = tie.close (tie.spec near-requires returns)
