@@ -10,7 +10,8 @@
  *
  *   number                                           place
  *    1  window outside its range                     0
- *    2  an element outside its range                 first such field, 0 to 21
+ *    2  an element outside its range, or a           first such field, 0 to 21; of a fit 0 to 3
+ *       coefficient of a fit
  *    3  a station value outside its range            first: 0 number, 1 latitude, 2 longitude, 3 height
  *    4  the buffer is too short                      the length it needs (bytes; entries for ukhtvaresh_read)
  *    5  kind not in the table                        first byte of that record
@@ -20,6 +21,10 @@
  *    8  order broken                                 first byte of that record
  *    9  bytes after the end record                   first of them
  *   10  request not of its shape                     0
+ *   17  a fit differs from the tabulated value by    first such hour, 0 to 6 for -3 to 3
+ *       more than the tolerance
+ *   18  the tolerance or a tabulated value of a      0 for the tolerance, 1 to 7 for the first such tabulated value
+ *       fit outside its range
  */
 #ifndef UKHTVARESH_H
 #define UKHTVARESH_H
@@ -109,6 +114,14 @@ uint64_t ukhtvaresh_write(const uint32_t *entries, size_t entries_len, uint8_t *
  * null byte after the last. *value: its length in bytes.
  * Refusals: those of ukhtvaresh_read, but for 4 the length that the text needs. */
 uint64_t ukhtvaresh_listing(const uint8_t *sheet, size_t sheet_len, uint8_t *text, size_t text_len, uint64_t *value);
+
+/* Whether four coefficients, from a spreadsheet, may stand for seven tabulated hourly values, hours -3 to 3, in units:
+ * accepted exactly if the tolerance is 0 to 1,000, the tabulated values are +-1,000,000,000, the coefficients in the
+ * ranges of x, and at each hour the value by the rule (x at that second) differs from the tabulated one by at most the
+ * tolerance. *value: 0.
+ * Refusals, the first of them: 10 unless coefficients_len is 4 and tabulated_len 7; 18; 2; 17. The lengths count numbers. */
+uint64_t ukhtvaresh_fit(const int64_t *coefficients, size_t coefficients_len, const int64_t *tabulated,
+                        size_t tabulated_len, int64_t tolerance, uint64_t *value);
 
 #ifdef __cplusplus
 }

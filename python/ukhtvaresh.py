@@ -2,8 +2,8 @@
 
 From the elements of an eclipse, a station and a window of seconds, `sheet` makes the station's contact sheet; `read`
 takes a sheet apart, `write` puts entries together as one, `listing` gives a sheet as text, and `second` the shadow at
-one second. Each is a thin call of the proved function of the same name in libukhtvaresh.so, which the script `build`
-makes.
+one second. `fit` judges coefficients that a spreadsheet made of seven hourly values. Each is a thin call of the proved
+function of the same name in libukhtvaresh.so, which the script `build` makes.
 
 Lengths are in 10^-8 of the Earth's equatorial radius, angles in 10^-6 degree, times in whole seconds from the
 reference instant. East longitude is positive. "Document 01" is the paper whose rules the library keeps.
@@ -15,7 +15,7 @@ import struct
 from dataclasses import astuple, dataclass
 from enum import Enum
 from pathlib import Path
-from typing import Callable, Iterable, List, Optional, Union
+from typing import Callable, Iterable, List, Optional, Sequence, Union
 
 REQUEST_LENGTH = 109  # bytes
 
@@ -32,13 +32,16 @@ _WORDS = {
     8: "order broken",
     9: "bytes after the end record",
     10: "request not of its shape",
+    17: "a fit further from a tabulated value than the tolerance",
+    18: "a tolerance or a tabulated value outside its range",
 }
 
 
 class Refused(Exception):
-    """Why a request, a sheet or a list of entries is refused: number and place of document 01's table, and words.
+    """Why a request, a sheet, a list of entries or a fit is refused: number and place of document 01's table, and words.
 
-    place: 2, 3 the first such field; 4 the length needed; 5 to 9 the record's first byte; else 0.
+    place: 2, 3 the first such field; 4 the length needed; 5 to 9 the record's first byte; 17 the first such hour, 0 to 6;
+    18 is 0 for the tolerance, 1 to 7 for the first such tabulated value; else 0.
     """
 
     def __init__(self, number: int, place: int):
@@ -303,7 +306,8 @@ def _load() -> ctypes.CDLL:
     library.ukhtvaresh_read.argtypes = [data, length, room, length, value]
     library.ukhtvaresh_write.argtypes = [room, length, room, length, value]
     library.ukhtvaresh_listing.argtypes = [data, length, room, length, value]
-    for name in ("sheet", "second", "read", "write", "listing"):
+    library.ukhtvaresh_fit.argtypes = [room, length, room, length, ctypes.c_int64, value]
+    for name in ("sheet", "second", "read", "write", "listing", "fit"):
         getattr(library, "ukhtvaresh_" + name).restype = ctypes.c_uint64
     return library
 
@@ -318,6 +322,11 @@ def _call(name: str, *arguments) -> int:
     if number:
         raise Refused(number, value.value)
     return value.value
+
+
+def _signed(number: int) -> int:
+    """The number, or the end of 64 bits that it is beyond: ctypes would take it modulo 2^64, and no range goes so far."""
+    return max(-(2**63), min(number, 2**63 - 1))
 
 
 def _lent(buffer):
@@ -363,8 +372,7 @@ def second(request: bytes, second: int) -> Second:
     """
     request = bytes(request)
     shadow = (ctypes.c_int64 * 8)()
-    second = max(-(2**63), min(second, 2**63 - 1))  # beyond, ctypes would take it modulo 2^64
-    _call("second", request, len(request), second, shadow, 8)
+    _call("second", request, len(request), _signed(second), shadow, 8)
     u, v, l1, l2, penumbra, central, magnitude, direction = shadow
     return Second(u, v, l1, l2, State(penumbra), State(central), magnitude, _direction(direction))
 
@@ -404,3 +412,19 @@ def listing(sheet: bytes) -> str:
     """The listing of a sheet, as program `listing` prints it: a line for each entry but the end. Refusals as read."""
     sheet = bytes(sheet)
     return _whole(lambda buffer: _call("listing", sheet, len(sheet), *_lent(buffer))).decode("ascii")
+
+
+# ---- fits
+
+
+def fit(coefficients: Sequence[int], tabulated: Sequence[int], tolerance: int) -> None:
+    """Accepts a cubic's four coefficients for seven tabulated hourly values, -3 to 3, or raises Refused.
+
+    Accepted exactly if the tolerance is 0 to 1,000 units, the tabulated values are within ±10^9, the coefficients in the
+    ranges of x, and at each hour the value of document 01's rule differs from the tabulated one by at most the tolerance.
+    Refusals, the first of them: 10 (not four and seven), 18, 2, 17.
+    """
+    lists = []
+    for numbers in (coefficients, tabulated):
+        lists += [(ctypes.c_int64 * (len(numbers) + 1))(*map(_signed, numbers)), len(numbers)]
+    _call("fit", *lists, _signed(tolerance))

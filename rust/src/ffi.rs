@@ -1,4 +1,4 @@
-// The library's five functions. All `unsafe` of this crate is here.
+// The library's six functions. All `unsafe` of this crate is here.
 //
 // Each function reads and writes only within the lengths it is given and keeps no pointer (include/ukhtvaresh.h).
 // It asks for pointers that are not null and for written memory that overlaps nothing else; a slice's pointer is
@@ -41,6 +41,14 @@ extern "C" {
         sheet_len: usize,
         text: *mut u8,
         text_len: usize,
+        value: *mut u64,
+    ) -> u64;
+    fn ukhtvaresh_fit(
+        coefficients: *const i64,
+        coefficients_len: usize,
+        tabulated: *const i64,
+        tabulated_len: usize,
+        tolerance: i64,
         value: *mut u64,
     ) -> u64;
 }
@@ -102,5 +110,21 @@ pub fn listing(sheet: &[u8], text: &mut [u8]) -> Result<usize, Refusal> {
     // SAFETY: as in `sheet`.
     let number =
         unsafe { ukhtvaresh_listing(sheet.as_ptr(), sheet.len(), text.as_mut_ptr(), text.len(), &mut value) };
+    answer(number, value)
+}
+
+pub fn fit(coefficients: &[i64], tabulated: &[i64], tolerance: i64) -> Result<usize, Refusal> {
+    let mut value = 0;
+    // SAFETY: as in `sheet`; the lengths count numbers, as the library does.
+    let number = unsafe {
+        ukhtvaresh_fit(
+            coefficients.as_ptr(),
+            coefficients.len(),
+            tabulated.as_ptr(),
+            tabulated.len(),
+            tolerance,
+            &mut value,
+        )
+    };
     answer(number, value)
 }

@@ -2,8 +2,8 @@
 //!
 //! From the elements of an eclipse, a station and a window of seconds, [`sheet`] makes the station's contact sheet;
 //! [`read`] takes a sheet apart, [`write()`] puts entries together as one, [`listing`] gives a sheet as text, and
-//! [`second`] the shadow at one second. Each is a thin call of the proved function of the same name in
-//! `libukhtvaresh.a`.
+//! [`second`] the shadow at one second; [`fit`] judges coefficients that a spreadsheet made. Each is a thin call of the
+//! proved function of the same name in `libukhtvaresh.a`.
 //!
 //! Lengths are in 10^-8 of the Earth's equatorial radius, angles in 10^-6 degree, times in whole seconds from the
 //! reference instant. East longitude is positive. "Document 01" is the paper whose rules the library keeps.
@@ -147,6 +147,15 @@ pub fn write_vec(entries: &[Entry]) -> Result<Vec<u8>, Refusal> {
 pub fn listing(sheet: &[u8]) -> Result<String, Refusal> {
     let text = whole(|buffer| ffi::listing(sheet, buffer))?;
     Ok(String::from_utf8(text).expect("words, digits, spaces and ends of lines"))
+}
+
+/// Accepts a cubic's coefficients for seven tabulated hourly values, -3 to 3, or refuses them.
+///
+/// Accepted exactly if the tolerance is 0 to 1,000 units, the tabulated values are within ±10^9, the coefficients in the
+/// ranges of x, and at each hour the value of document 01's rule differs from the tabulated one by at most the
+/// tolerance. Refusals, the first of them: 18, 2, 17.
+pub fn fit(coefficients: &[i64; 4], tabulated: &[i64; 7], tolerance: i64) -> Result<(), Refusal> {
+    ffi::fit(coefficients, tabulated, tolerance).map(|_| ())
 }
 
 fn numbers(entries: &[Entry]) -> Vec<u32> {

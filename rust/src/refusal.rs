@@ -1,16 +1,17 @@
 use std::error::Error;
 use std::fmt;
 
-/// Why a request, a sheet or a list of entries is refused.
+/// Why a request, a sheet, a list of entries or a fit is refused.
 ///
-/// [`number`](Refusal::number) and [`place`](Refusal::place) are those of document 01's table of refusals.
+/// [`number`](Refusal::number) and [`place`](Refusal::place) are those of document 01's table of refusals; 17 and 18 are
+/// document 02's.
 #[derive(Clone, Copy, Debug, PartialEq, Eq, Hash)]
 pub enum Refusal {
     /// 1: the window, or the second asked for, is outside its range.
     Window,
-    /// 2: an element is outside its range.
+    /// 2: an element, or a coefficient of a fit, is outside its range.
     Element {
-        /// The first such field, 0 to 21, in the order of [`Elements`](crate::Elements).
+        /// The first such field, 0 to 21, in the order of [`Elements`](crate::Elements); of a fit 0 to 3.
         field: u64,
     },
     /// 3: a station value is outside its range.
@@ -50,10 +51,20 @@ pub enum Refusal {
     },
     /// 10: the request is not of its shape.
     Shape,
+    /// 17: a fit's value differs from the tabulated one by more than the tolerance.
+    Hour {
+        /// The first such hour, 0 to 6 for -3 to 3.
+        hour: u64,
+    },
+    /// 18: the tolerance of a fit, or a tabulated value, is outside its range.
+    Given {
+        /// 0 for the tolerance, 1 to 7 for the first such tabulated value.
+        place: u64,
+    },
 }
 
 impl Refusal {
-    /// The refusal's number, 1 to 10.
+    /// The refusal's number, 1 to 10, 17 or 18.
     pub fn number(self) -> u64 {
         match self {
             Refusal::Window => 1,
@@ -66,15 +77,19 @@ impl Refusal {
             Refusal::Order { .. } => 8,
             Refusal::After { .. } => 9,
             Refusal::Shape => 10,
+            Refusal::Hour { .. } => 17,
+            Refusal::Given { .. } => 18,
         }
     }
 
-    /// The refusal's place: a field, a length or a byte, as the number says; 0 for 1 and 10.
+    /// The refusal's place: a field, a length, a byte or an hour, as the number says; 0 for 1 and 10.
     pub fn place(self) -> u64 {
         match self {
             Refusal::Window | Refusal::Shape => 0,
             Refusal::Element { field } | Refusal::Station { field } => field,
             Refusal::Room { needed } => needed,
+            Refusal::Hour { hour } => hour,
+            Refusal::Given { place } => place,
             Refusal::Kind { at }
             | Refusal::Ends { at }
             | Refusal::Field { at }
@@ -96,6 +111,8 @@ impl Refusal {
             8 => Refusal::Order { at: place },
             9 => Refusal::After { at: place },
             10 => Refusal::Shape,
+            17 => Refusal::Hour { hour: place },
+            18 => Refusal::Given { place },
             _ => unreachable!("the library gives only numbers of the table"),
         }
     }
@@ -114,6 +131,8 @@ impl fmt::Display for Refusal {
             Refusal::Order { .. } => "order broken",
             Refusal::After { .. } => "bytes after the end record",
             Refusal::Shape => "request not of its shape",
+            Refusal::Hour { .. } => "a fit further from a tabulated value than the tolerance",
+            Refusal::Given { .. } => "a tolerance or a tabulated value outside its range",
         };
         write!(f, "refused {} {}: {words}", self.number(), self.place())
     }

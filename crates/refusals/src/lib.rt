@@ -1,10 +1,10 @@
-// Why something is refused, in document 01's numbers.
+// Why something is refused, in the numbers of documents 01 and 02.
 ghost use mathlib.Core.Path.{_≡_};
 ghost use Rattle.refusals.specs.Refusals.{ofLimits};
 
-// A row of document 01's table of refusals.
+// A row of document 01's table of refusals, or one that document 02 adds.
 pub struct Refusal {
-    // its number there: 1 to 10
+    // its number there
     pub number: u32,
     // its place, by that row: a field, a byte, a length
     pub place: usize,

@@ -2,3 +2,4 @@ pub mod Replies
 pub mod Second
 pub mod SecondLaws
 pub mod Listing
+pub mod Fits

@@ -1,8 +1,9 @@
-// The library for C and Rust: a request's sheet, a sheet read, entries written; in modules of their own one second of a request, and a
-// sheet as text.
+// The library for C and Rust: a request's sheet, a sheet read, entries written; in modules of their own one second of a request, a
+// sheet as text, and a fit judged.
 // Each function answers the number of the refusal, 0 for none, and puts the length, the count or the refusal's place into `value`.
 mod listing;
 mod second;
+mod spreadsheet;
 
 ghost use mathlib.Core.Path.{_≡_};
 ghost use Rattle.sheets.specs.Sheets.{readWhole, roomAfter};
@@ -14,9 +15,9 @@ ghost use Rattle.ukhtvaresh.specs.Replies.{refusedReply, sheetReply, rea
 
 // What a caller gets.
 pub struct Reply {
-    // number of the refusal, 1 to 10; 0 for none
+    // number of the refusal, 1 to 10, or of a fit 2, 10, 17, 18; 0 for none
     pub number: u64,
-    // length of the sheet, count of the entries or of the numbers; or the refusal's place
+    // length of the sheet, count of the entries or of the numbers, 0 for a fit; or the refusal's place
     pub value: u64,
 }
 

@@ -1,4 +1,5 @@
 //! The compiled library, and what to try it on.
 
 pub mod draws;
+pub mod fits;
 pub mod library;

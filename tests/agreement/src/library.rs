@@ -1,4 +1,4 @@
-//! The library's four functions, as include/ukhtvaresh.h declares them.
+//! The library's five functions, as include/ukhtvaresh.h declares them.
 
 extern "C" {
     fn ukhtvaresh_sheet(
@@ -28,6 +28,14 @@ extern "C" {
         entries_len: usize,
         sheet: *mut u8,
         sheet_len: usize,
+        value: *mut u64,
+    ) -> u64;
+    fn ukhtvaresh_fit(
+        coefficients: *const i64,
+        coefficients_len: usize,
+        tabulated: *const i64,
+        tabulated_len: usize,
+        tolerance: i64,
         value: *mut u64,
     ) -> u64;
 }
@@ -73,6 +81,21 @@ pub fn write(entries: &[u32], sheet: &mut [u8]) -> Reply {
     let mut value = UNSET;
     let number = unsafe {
         ukhtvaresh_write(entries.as_ptr(), entries.len(), sheet.as_mut_ptr(), sheet.len(), &mut value)
+    };
+    (number, value)
+}
+
+pub fn fit(coefficients: &[i64], tabulated: &[i64], tolerance: i64) -> Reply {
+    let mut value = UNSET;
+    let number = unsafe {
+        ukhtvaresh_fit(
+            coefficients.as_ptr(),
+            coefficients.len(),
+            tabulated.as_ptr(),
+            tabulated.len(),
+            tolerance,
+            &mut value,
+        )
     };
     (number, value)
 }

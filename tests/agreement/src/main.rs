@@ -5,13 +5,16 @@
 //! - a sheet for each request, within and outside the limits, near the edge, slow, along it, of other shapes; the room exact, one less,
 //!   none, plenty;
 //! - eight seconds of each request, within ±10,800 and outside;
-//! - sheets, whole and damaged, read; and entries, whole and damaged, written; what was read is written again, and the other way.
+//! - sheets, whole and damaged, read; and entries, whole and damaged, written; what was read is written again, and the other way;
+//! - as many fits as sheets, within the tolerance and at its edge, with numbers changed, of other lengths.
 //!
 //! Prints counts; the first difference stops it with all that gives it again.
 
 use agreement::draws;
+use agreement::fits;
 use agreement::library::{self, Reply};
 use reference::elements::FARTHEST;
+use reference::fit::judge;
 use reference::listing::sheet_of_input;
 use reference::random::Random;
 use reference::refusal::Refusal;
@@ -51,15 +54,15 @@ fn must_agree<T: PartialEq + Debug>(what: &str, given: &dyn Debug, ours: &Left<T
     std::process::exit(1);
 }
 
-/// Calls and replies by number, 0 to 10.
+/// Calls and replies by number, 0 to 18.
 struct Count {
     name: &'static str,
-    replies: [u64; 11],
+    replies: [u64; 19],
 }
 
 impl Count {
     fn new(name: &'static str) -> Count {
-        Count { name, replies: [0; 11] }
+        Count { name, replies: [0; 19] }
     }
 
     fn add(&mut self, number: u64) {
@@ -207,6 +210,15 @@ fn sheet(random: &mut Random, reads: &mut Count, writes: &mut Count) {
     }
 }
 
+fn fit(random: &mut Random, count: &mut Count) {
+    let (coefficients, tabulated, tolerance) = fits::draw(random);
+    let none: Vec<u8> = Vec::new();
+    let ours = (library::fit(&coefficients, &tabulated, tolerance), none.clone());
+    let theirs = (reply(judge(&coefficients, &tabulated, tolerance), |()| 0), none);
+    must_agree("ukhtvaresh_fit", &(coefficients, tabulated, tolerance), &ours, &theirs);
+    count.add(ours.0 .0);
+}
+
 fn main() {
     let arguments: Vec<u64> = std::env::args().skip(1).map(|a| a.parse().expect("a number")).collect();
     let [requests, sheets, seed] = arguments[..] else {
@@ -215,9 +227,9 @@ fn main() {
     };
     let start = Instant::now();
     let mut random = Random::new(seed);
-    let mut counts = [Count::new("sheet"), Count::new("second"), Count::new("read"), Count::new("write")];
+    let mut counts = ["sheet", "second", "read", "write", "fit"].map(Count::new);
     let mut kinds = [0; 128];
-    let [of_sheets, of_seconds, of_reads, of_writes] = &mut counts;
+    let [of_sheets, of_seconds, of_reads, of_writes, of_fits] = &mut counts;
     for _ in 0..requests {
         request(&mut random, of_sheets, of_seconds, &mut kinds);
     }
@@ -229,6 +241,10 @@ fn main() {
         sheet(&mut random, of_reads, of_writes);
     }
     println!("{sheets} sheets and lists of entries agree, {:.1} s", start.elapsed().as_secs_f64());
+    for _ in 0..sheets {
+        fit(&mut random, of_fits);
+    }
+    println!("{sheets} fits agree, {:.1} s", start.elapsed().as_secs_f64());
     counts.iter().for_each(Count::print);
     println!("no difference");
 }

@@ -7,6 +7,7 @@
 pub mod elements;
 pub mod entries;
 pub mod exact;
+pub mod fit;
 pub mod listing;
 pub mod numbers;
 pub mod place;

@@ -1,4 +1,4 @@
-//! The refusals of document 01, each with its number and its place.
+//! The refusals of documents 01 and 02, each with its number and its place.
 
 use std::fmt;
 
@@ -25,6 +25,10 @@ pub enum Refusal {
     After(usize),
     /// 10: the program's input has another shape.
     Shape,
+    /// 17: a fit differs from the tabulated value by more than the tolerance; the first such hour, 0..6.
+    Hour(usize),
+    /// 18: the tolerance of a fit (0), or a tabulated value (the first such, 1..7), is outside its range.
+    Given(usize),
 }
 
 impl Refusal {
@@ -40,6 +44,8 @@ impl Refusal {
             Refusal::Order(_) => 8,
             Refusal::After(_) => 9,
             Refusal::Shape => 10,
+            Refusal::Hour(_) => 17,
+            Refusal::Given(_) => 18,
         }
     }
 
@@ -53,7 +59,9 @@ impl Refusal {
             | Refusal::Cut(place)
             | Refusal::Field(place)
             | Refusal::Order(place)
-            | Refusal::After(place) => place,
+            | Refusal::After(place)
+            | Refusal::Hour(place)
+            | Refusal::Given(place) => place,
         }
     }
 }

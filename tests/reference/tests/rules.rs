@@ -2,6 +2,7 @@
 
 use reference::elements::{value_at, Elements, Station, Window, ELEMENT_RANGES, FARTHEST, STATION_RANGES};
 use reference::entries::{entries, Entry};
+use reference::fit::judge;
 use reference::listing::{listing, program, sheet_of_input};
 use reference::numbers::{near, root};
 use reference::place::{place, Place};
@@ -461,5 +462,36 @@ fn anything_at_all() {
             assert_eq!(read(&buffer[..length], &mut room), Ok(entries.len() / 4));
             assert_eq!(room[..entries.len()], entries);
         }
+    }
+}
+
+#[test]
+fn fits() {
+    // x of 30 June 1954, and the hourly values 9h to 15h of source document 001.
+    let x = [-19_869_267, 55_341_229, -3_333, -800];
+    let hourly = [-185_901_200, -130_559_000, -75_213_000, -19_869_000, 35_468_000, 90_793_000, 146_103_000];
+    assert_eq!(judge(&x, &hourly, 459), Ok(()));
+    assert_eq!(judge(&x, &hourly, 458), Err(Refusal::Hour(5)));
+    assert_eq!(judge(&x, &hourly, 0), Err(Refusal::Hour(0)));
+    for tolerance in [-1, 1_001, i64::MIN] {
+        assert_eq!(judge(&[i64::MAX; 4], &[i64::MIN; 7], tolerance), Err(Refusal::Given(0)));
+    }
+    for place in 0..7 {
+        let mut tabulated = hourly;
+        tabulated[place..].fill(-1_000_000_001);
+        assert_eq!(judge(&[i64::MAX; 4], &tabulated, 0), Err(Refusal::Given(place + 1)));
+        tabulated[place..].fill(1_000_000_000);
+        assert_eq!(judge(&x, &tabulated, 459), Err(Refusal::Hour(place)));
+    }
+    for place in 0..4 {
+        let mut coefficients = x;
+        coefficients[place..].fill(200_000_001);
+        assert_eq!(judge(&coefficients, &hourly, 0), Err(Refusal::Element(place)));
+    }
+    assert_eq!(judge(&x[..3], &hourly, -1), Err(Refusal::Shape));
+    assert_eq!(judge(&x, &hourly[..6], -1), Err(Refusal::Shape));
+    // at whole hours nothing is rounded
+    for hour in -3..=3 {
+        assert_eq!(value_at(&x, 3600 * hour), x[0] + hour * (x[1] + hour * (x[2] + hour * x[3])));
     }
 }

@@ -1,0 +1,53 @@
+-- `fits::hours_in_range` meets its contract: the differences are searched against minus the tolerance and the tolerance. Assumes nothing.
+use mathlib.Core.Path.{_∙_}
+use mathlib.Core.List.{[], _∷_}
+use borrow.Author.Needs.{needs}
+use lib.IntN.{pos, negℤ, +ℤ-idl}
+use Rattle.numbers.specs.Code.{Code, arg, lit, sub, Within, whole, ends, _▹_, fits, runs, read-back}
+use Rattle.fits.specs.Fits.{hourRanges}
+use Rattle.fits.proofs.hours_in_range.Statement.{statement}
+use Rattle.fits.proofs.hours_in_range.Tie as tie
+
+bounds : (c : tie.Start) → Within (whole (c .args .tolerance) ∷ []) (1000 ∷ [])
+bounds c = c .pre .1 ▹ ends
+
+abbrev opposite : Code
+opposite = sub (lit (pos 0)) (arg 0)
+
+differences-requires : tie.Need-differences-requires
+differences-requires c κs = search needs
+
+sub-low : tie.Need-sub-low
+sub-low c = fits (bounds (c .before)) opposite tt
+
+slice-aggregate-first-out-of-range : tie.Need-slice-aggregate-first-out-of-range
+slice-aggregate-first-out-of-range c = search needs
+
+slice-aggregate-first-out-of-range-2 : tie.Need-slice-aggregate-first-out-of-range-2
+slice-aggregate-first-out-of-range-2 c = search needs
+
+slice-aggregate-first-out-of-range-3 : tie.Need-slice-aggregate-first-out-of-range-3
+slice-aggregate-first-out-of-range-3 c = search needs
+
+first-out-of-range-requires : tie.Need-first-out-of-range-requires
+first-out-of-range-requires c κs = search needs
+
+returns : tie.Need-returns
+unfolding hourRanges
+returns c =
+    let start = c .before .before .before .before .before in
+    let t = start .args .tolerance in
+    c .first-out-of-range .ensures
+    ∙ rw (c .before .before .before .before .differences .ensures, runs (bounds start) opposite tt, read-back t (start .pre .1) tt, +ℤ-idl (negℤ t))
+
+pub hours-in-range-spec : {M : Type 1} → statement M
+hours-in-range-spec =
+    tie.close
+    (tie.spec
+    differences-requires
+    sub-low
+    slice-aggregate-first-out-of-range
+    slice-aggregate-first-out-of-range-2
+    slice-aggregate-first-out-of-range-3
+    first-out-of-range-requires
+    returns)

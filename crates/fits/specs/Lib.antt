@@ -1,0 +1,6 @@
+pub mod Fits
+pub mod Conditions
+pub mod Exactly
+pub mod RangeLaws
+pub mod FitLaws
+pub mod WholeHours

@@ -1,0 +1,39 @@
+-- `fitted::signed` is safe: what is left of 2^64 - 1 is below 2^63, so one less than its opposite is an i64.
+use Prim.Native.Nat.{ℕ, zero, suc, _-_, _≤_}
+use native.Mathlib.Omega.{arith}
+use borrow.Author.Needs.{needs}
+use lib.IntN.{pos, negsuc, _-ℤ_}
+use mir.Syntax.{w64}
+use mir.Val.{SFits}
+use Rattle.numbers.specs.Code.{count-is}
+use Rattle.fitted.proofs.signed.Statement.{statement}
+use Rattle.fitted.proofs.signed.Tie as tie
+
+opposite-fits : (n : ℕ) → n ≤ 9223372036854775807 → SFits w64 (negsuc 0 -ℤ pos n)
+opposite-fits zero h = record { sfits = omega arith }
+opposite-fits (suc n) h = record { sfits = omega arith }
+
+cast-result : tie.Need-cast-result
+cast-result c = search needs
+
+sub-result : tie.Need-sub-result
+sub-result c = search needs
+
+cast-result-2 : tie.Need-cast-result-2
+cast-result-2 c = search needs
+
+sub-result-2 : tie.Need-sub-result-2
+sub-result-2 c =
+    let n = 18446744073709551615 - c .before .args .x in
+    let h : n ≤ 9223372036854775807 = omega arith in
+    rw (count-is n {m = 9223372036854775807} h tt) (opposite-fits n h)
+
+returns : tie.Need-returns
+returns c = search needs
+
+returns-2 : tie.Need-returns-2
+returns-2 c = search needs
+
+pub signed-spec : {M : Type 1} → statement M
+signed-spec =
+    tie.close (tie.spec cast-result sub-result cast-result-2 sub-result-2 returns returns-2)
