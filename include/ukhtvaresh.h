@@ -20,7 +20,8 @@
  *    7  a field breaks a reader's rule               first byte of that record
  *    8  order broken                                 first byte of that record
  *    9  bytes after the end record                   first of them
- *   10  request not of its shape                     0
+ *   10  request, fit or tables not of their shape    0
+ *   11  a row of the tables outside its distances    first such row, 0 to 6
  *   17  a fit differs from the tabulated value by    first such hour, 0 to 6 for -3 to 3
  *       more than the tolerance
  *   18  the tolerance or a tabulated value of a      0 for the tolerance, 1 to 7 for the first such tabulated value
@@ -122,6 +123,34 @@ uint64_t ukhtvaresh_listing(const uint8_t *sheet, size_t sheet_len, uint8_t *tex
  * Refusals, the first of them: 10 unless coefficients_len is 4 and tabulated_len 7; 18; 2; 17. The lengths count numbers. */
 uint64_t ukhtvaresh_fit(const int64_t *coefficients, size_t coefficients_len, const int64_t *tabulated,
                         size_t tabulated_len, int64_t tolerance, uint64_t *value);
+
+/* The values of one row, in `values`: see ukhtvaresh_from_tables. x, y, l1, l2 in 10^-8 of the Earth's equatorial radius,
+ * within 1,000 units of the exact value; sines, cosines and tangents in 10^-8, within 4. */
+enum {
+    UKHTVARESH_ROW_X,      /* the Moon from the Earth's centre across the axis, to the east */
+    UKHTVARESH_ROW_Y,      /* the same to the north */
+    UKHTVARESH_ROW_SIN_D,  /* sine of the axis' declination */
+    UKHTVARESH_ROW_COS_D,
+    UKHTVARESH_ROW_TAN_F1, /* tangent of the penumbra's half-angle */
+    UKHTVARESH_ROW_TAN_F2, /* of the central cone's */
+    UKHTVARESH_ROW_L1,     /* the penumbra's radius in the fundamental plane */
+    UKHTVARESH_ROW_L2,     /* the central cone's, below zero where the eclipse is total */
+    UKHTVARESH_ROW_VALUES  /* how many: 8 */
+};
+
+/* How many rows, and how many numbers come in and go out. */
+#define UKHTVARESH_ROWS 7
+#define UKHTVARESH_ROWS_LENGTH 42
+#define UKHTVARESH_VALUES_LENGTH 56
+
+/* Elements from tables: seven hourly rows of apparent places from the Earth's centre, each the Sun's x, y, z and the Moon's x, y, z
+ * in 10^-8 of the Earth's equatorial radius, right-handed, the third to the north pole. The eight values of each row, in the
+ * order of the rows, at the start of `values`. *value: 56.
+ * Refusals: 10 for another length than 42; 11 with the first row in which the Moon is not 55 to 65 radii off, the Sun not 23,000 to
+ * 24,000, or the size of the sine of the axis' declination above 0.43 (ends are accepted); 4 with place 56 where values_len is
+ * below 56. Any numbers may be given. Lengths count numbers. */
+uint64_t ukhtvaresh_from_tables(const int64_t *rows, size_t rows_len, int64_t *values, size_t values_len,
+                                uint64_t *value);
 
 #ifdef __cplusplus
 }

@@ -2,8 +2,9 @@
 
 From the elements of an eclipse, a station and a window of seconds, `sheet` makes the station's contact sheet; `read`
 takes a sheet apart, `write` puts entries together as one, `listing` gives a sheet as text, and `second` the shadow at
-one second. `fit` judges coefficients that a spreadsheet made of seven hourly values. Each is a thin call of the proved
-function of the same name in libukhtvaresh.so, which the script `build` makes.
+one second. `fit` judges coefficients that a spreadsheet made of seven hourly values, `from_tables` makes elements from
+tables of Sun and Moon. Each is a thin call of the proved function of the same name in libukhtvaresh.so, which the script
+`build` makes.
 
 Lengths are in 10^-8 of the Earth's equatorial radius, angles in 10^-6 degree, times in whole seconds from the
 reference instant. East longitude is positive. "Document 01" is the paper whose rules the library keeps.
@@ -32,6 +33,7 @@ _WORDS = {
     8: "order broken",
     9: "bytes after the end record",
     10: "request not of its shape",
+    11: "a row of the tables outside its distances",
     17: "a fit further from a tabulated value than the tolerance",
     18: "a tolerance or a tabulated value outside its range",
 }
@@ -40,8 +42,8 @@ _WORDS = {
 class Refused(Exception):
     """Why a request, a sheet, a list of entries or a fit is refused: number and place of document 01's table, and words.
 
-    place: 2, 3 the first such field; 4 the length needed; 5 to 9 the record's first byte; 17 the first such hour, 0 to 6;
-    18 is 0 for the tolerance, 1 to 7 for the first such tabulated value; else 0.
+    place: 2, 3 the first such field; 4 the length needed; 5 to 9 the record's first byte; 11 the row; 17 the first such
+    hour, 0 to 6; 18 is 0 for the tolerance, 1 to 7 for the first such tabulated value; else 0.
     """
 
     def __init__(self, number: int, place: int):
@@ -307,7 +309,8 @@ def _load() -> ctypes.CDLL:
     library.ukhtvaresh_write.argtypes = [room, length, room, length, value]
     library.ukhtvaresh_listing.argtypes = [data, length, room, length, value]
     library.ukhtvaresh_fit.argtypes = [room, length, room, length, ctypes.c_int64, value]
-    for name in ("sheet", "second", "read", "write", "listing", "fit"):
+    library.ukhtvaresh_from_tables.argtypes = [room, length, room, length, value]
+    for name in ("sheet", "second", "read", "write", "listing", "fit", "from_tables"):
         getattr(library, "ukhtvaresh_" + name).restype = ctypes.c_uint64
     return library
 
@@ -428,3 +431,54 @@ def fit(coefficients: Sequence[int], tabulated: Sequence[int], tolerance: int) -
     for numbers in (coefficients, tabulated):
         lists += [(ctypes.c_int64 * (len(numbers) + 1))(*map(_signed, numbers)), len(numbers)]
     _call("fit", *lists, _signed(tolerance))
+
+
+# ---- elements from tables of Sun and Moon
+
+ROWS = 7
+
+
+@dataclass(frozen=True)
+class Row:
+    """Apparent places from the Earth's centre at one hour, 10^-8 of its equatorial radius; the third to the north pole."""
+
+    sun_x: int  # the Sun, 23,000 to 24,000 radii off
+    sun_y: int
+    sun_z: int
+    moon_x: int  # the Moon, 55 to 65 radii off
+    moon_y: int
+    moon_z: int
+
+
+@dataclass(frozen=True)
+class Besselian:
+    """The elements of one row. Lengths lie within 1,000 units of the exact values, the others within 4."""
+
+    x: int  # the Moon across the axis, to the east, 10^-8 radius
+    y: int  # the same to the north
+    sin_d: int  # 10^-8
+    cos_d: int
+    tan_f1: int
+    tan_f2: int
+    l1: int  # the penumbra's radius in the fundamental plane, 10^-8 radius
+    l2: int  # the central cone's, below zero where the eclipse is total
+
+
+def from_tables_into(rows: Iterable[int], values) -> int:
+    """Puts the values of 42 numbers at the start of `values`, a ctypes array of c_int64; gives 56.
+
+    What lies past them, and on refusal all of `values`, keeps what it held. A number beyond 64 bits is ValueError.
+    Refusals: 10 for another count than 42; 11 with the first row outside its distances; then 4 with 56.
+    """
+    numbers = list(rows)
+    if any(not -(2**63) <= number < 2**63 for number in numbers):
+        raise ValueError("a number does not fit 64 bits")
+    handed = (ctypes.c_int64 * (len(numbers) + 1))(*numbers)
+    return _call("from_tables", handed, len(numbers), values, len(values))
+
+
+def from_tables(rows: Iterable[Row]) -> List[Besselian]:
+    """The Besselian elements of seven hourly rows. Refusals: 10 for another count than seven, 11 with the first bad row."""
+    values = (ctypes.c_int64 * 56)()
+    from_tables_into([number for row in rows for number in astuple(row)], values)
+    return [Besselian(*values[8 * k : 8 * k + 8]) for k in range(ROWS)]

@@ -1,4 +1,4 @@
-// The library's six functions. All `unsafe` of this crate is here.
+// The library's functions. All `unsafe` of this crate is here.
 //
 // Each function reads and writes only within the lengths it is given and keeps no pointer (include/ukhtvaresh.h).
 // It asks for pointers that are not null and for written memory that overlaps nothing else; a slice's pointer is
@@ -49,6 +49,13 @@ extern "C" {
         tabulated: *const i64,
         tabulated_len: usize,
         tolerance: i64,
+        value: *mut u64,
+    ) -> u64;
+    fn ukhtvaresh_from_tables(
+        rows: *const i64,
+        rows_len: usize,
+        values: *mut i64,
+        values_len: usize,
         value: *mut u64,
     ) -> u64;
 }
@@ -125,6 +132,15 @@ pub fn fit(coefficients: &[i64], tabulated: &[i64], tolerance: i64) -> Result<us
             tolerance,
             &mut value,
         )
+    };
+    answer(number, value)
+}
+
+pub fn from_tables(rows: &[i64], values: &mut [i64]) -> Result<usize, Refusal> {
+    let mut value = 0;
+    // SAFETY: as in `sheet`; both lengths count numbers, as the library does.
+    let number = unsafe {
+        ukhtvaresh_from_tables(rows.as_ptr(), rows.len(), values.as_mut_ptr(), values.len(), &mut value)
     };
     answer(number, value)
 }

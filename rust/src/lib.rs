@@ -2,8 +2,8 @@
 //!
 //! From the elements of an eclipse, a station and a window of seconds, [`sheet`] makes the station's contact sheet;
 //! [`read`] takes a sheet apart, [`write()`] puts entries together as one, [`listing`] gives a sheet as text, and
-//! [`second`] the shadow at one second; [`fit`] judges coefficients that a spreadsheet made. Each is a thin call of the
-//! proved function of the same name in `libukhtvaresh.a`.
+//! [`second`] the shadow at one second; [`fit`] judges coefficients that a spreadsheet made, [`from_tables`] makes elements
+//! from tables of Sun and Moon. Each is a thin call of the proved function of the same name in `libukhtvaresh.a`.
 //!
 //! Lengths are in 10^-8 of the Earth's equatorial radius, angles in 10^-6 degree, times in whole seconds from the
 //! reference instant. East longitude is positive. "Document 01" is the paper whose rules the library keeps.
@@ -44,10 +44,12 @@ mod entry;
 mod ffi;
 mod refusal;
 mod request;
+mod tables;
 
 pub use entry::{Entry, Phase};
 pub use refusal::Refusal;
 pub use request::{Elements, Request, Station, Window, REQUEST_LENGTH};
+pub use tables::{from_tables, from_tables_into, Besselian, Position, Row, ROWS};
 
 /// The state of a station in a shadow at a second. Sure and unsure are document 01's words.
 #[derive(Clone, Copy, Debug, PartialEq, Eq, Hash)]

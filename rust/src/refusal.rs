@@ -51,6 +51,11 @@ pub enum Refusal {
     },
     /// 10: the request is not of its shape.
     Shape,
+    /// 11: a row of the tables of Sun and Moon is outside its distances (document 02).
+    Row {
+        /// The first such row, 0 to 6.
+        row: u64,
+    },
     /// 17: a fit's value differs from the tabulated one by more than the tolerance.
     Hour {
         /// The first such hour, 0 to 6 for -3 to 3.
@@ -64,7 +69,7 @@ pub enum Refusal {
 }
 
 impl Refusal {
-    /// The refusal's number, 1 to 10, 17 or 18.
+    /// The refusal's number, 1 to 11, 17 or 18.
     pub fn number(self) -> u64 {
         match self {
             Refusal::Window => 1,
@@ -77,17 +82,19 @@ impl Refusal {
             Refusal::Order { .. } => 8,
             Refusal::After { .. } => 9,
             Refusal::Shape => 10,
+            Refusal::Row { .. } => 11,
             Refusal::Hour { .. } => 17,
             Refusal::Given { .. } => 18,
         }
     }
 
-    /// The refusal's place: a field, a length, a byte or an hour, as the number says; 0 for 1 and 10.
+    /// The refusal's place: a field, a length, a byte, a row or an hour, as the number says; 0 for 1 and 10.
     pub fn place(self) -> u64 {
         match self {
             Refusal::Window | Refusal::Shape => 0,
             Refusal::Element { field } | Refusal::Station { field } => field,
             Refusal::Room { needed } => needed,
+            Refusal::Row { row } => row,
             Refusal::Hour { hour } => hour,
             Refusal::Given { place } => place,
             Refusal::Kind { at }
@@ -111,6 +118,7 @@ impl Refusal {
             8 => Refusal::Order { at: place },
             9 => Refusal::After { at: place },
             10 => Refusal::Shape,
+            11 => Refusal::Row { row: place },
             17 => Refusal::Hour { hour: place },
             18 => Refusal::Given { place },
             _ => unreachable!("the library gives only numbers of the table"),
@@ -131,6 +139,7 @@ impl fmt::Display for Refusal {
             Refusal::Order { .. } => "order broken",
             Refusal::After { .. } => "bytes after the end record",
             Refusal::Shape => "request not of its shape",
+            Refusal::Row { .. } => "a row of the tables outside its distances",
             Refusal::Hour { .. } => "a fit further from a tabulated value than the tolerance",
             Refusal::Given { .. } => "a tolerance or a tabulated value outside its range",
         };

@@ -3,3 +3,4 @@ pub mod Second
 pub mod SecondLaws
 pub mod Listing
 pub mod Fits
+pub mod TablesReply

@@ -1,6 +1,7 @@
 // The library for C and Rust: a request's sheet, a sheet read, entries written; in modules of their own one second of a request, a
-// sheet as text, and a fit judged.
+// sheet as text, a fit judged, and elements from tables.
 // Each function answers the number of the refusal, 0 for none, and puts the length, the count or the refusal's place into `value`.
+mod from_tables;
 mod listing;
 mod second;
 mod spreadsheet;
@@ -15,7 +16,7 @@ ghost use Rattle.ukhtvaresh.specs.Replies.{refusedReply, sheetReply, rea
 
 // What a caller gets.
 pub struct Reply {
-    // number of the refusal, 1 to 10, or of a fit 2, 10, 17, 18; 0 for none
+    // number of the refusal, 1 to 10, of tables 11 too, of a fit 17, 18; 0 for none
     pub number: u64,
     // length of the sheet, count of the entries or of the numbers, 0 for a fit; or the refusal's place
     pub value: u64,

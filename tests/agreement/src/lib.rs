@@ -1,5 +1,6 @@
 //! The compiled library, and what to try it on.
 
+pub mod answers;
 pub mod draws;
 pub mod fits;
 pub mod library;

@@ -1,4 +1,4 @@
-//! The library's five functions, as include/ukhtvaresh.h declares them.
+//! The library's functions, as include/ukhtvaresh.h declares them.
 
 extern "C" {
     fn ukhtvaresh_sheet(
@@ -30,12 +30,26 @@ extern "C" {
         sheet_len: usize,
         value: *mut u64,
     ) -> u64;
+    fn ukhtvaresh_listing(
+        sheet: *const u8,
+        sheet_len: usize,
+        text: *mut u8,
+        text_len: usize,
+        value: *mut u64,
+    ) -> u64;
     fn ukhtvaresh_fit(
         coefficients: *const i64,
         coefficients_len: usize,
         tabulated: *const i64,
         tabulated_len: usize,
         tolerance: i64,
+        value: *mut u64,
+    ) -> u64;
+    fn ukhtvaresh_from_tables(
+        rows: *const i64,
+        rows_len: usize,
+        values: *mut i64,
+        values_len: usize,
         value: *mut u64,
     ) -> u64;
 }
@@ -85,6 +99,14 @@ pub fn write(entries: &[u32], sheet: &mut [u8]) -> Reply {
     (number, value)
 }
 
+pub fn listing(sheet: &[u8], text: &mut [u8]) -> Reply {
+    let mut value = UNSET;
+    let number = unsafe {
+        ukhtvaresh_listing(sheet.as_ptr(), sheet.len(), text.as_mut_ptr(), text.len(), &mut value)
+    };
+    (number, value)
+}
+
 pub fn fit(coefficients: &[i64], tabulated: &[i64], tolerance: i64) -> Reply {
     let mut value = UNSET;
     let number = unsafe {
@@ -96,6 +118,14 @@ pub fn fit(coefficients: &[i64], tabulated: &[i64], tolerance: i64) -> Reply {
             tolerance,
             &mut value,
         )
+    };
+    (number, value)
+}
+
+pub fn from_tables(rows: &[i64], values: &mut [i64]) -> Reply {
+    let mut value = UNSET;
+    let number = unsafe {
+        ukhtvaresh_from_tables(rows.as_ptr(), rows.len(), values.as_mut_ptr(), values.len(), &mut value)
     };
     (number, value)
 }

@@ -5,11 +5,12 @@
 //! - a sheet for each request, within and outside the limits, near the edge, slow, along it, of other shapes; the room exact, one less,
 //!   none, plenty;
 //! - eight seconds of each request, within ±10,800 and outside;
-//! - sheets, whole and damaged, read; and entries, whole and damaged, written; what was read is written again, and the other way;
+//! - sheets, whole and damaged, read and listed; and entries, whole and damaged, written; what was read is written again, and the other way;
 //! - as many fits as sheets, within the tolerance and at its edge, with numbers changed, of other lengths.
 //!
 //! Prints counts; the first difference stops it with all that gives it again.
 
+use agreement::answers;
 use agreement::draws;
 use agreement::fits;
 use agreement::library::{self, Reply};
@@ -18,8 +19,6 @@ use reference::fit::judge;
 use reference::listing::sheet_of_input;
 use reference::random::Random;
 use reference::refusal::Refusal;
-use reference::request::Request;
-use reference::shadow::{Phase, State};
 use reference::sheet;
 use std::fmt::Debug;
 use std::time::Instant;
@@ -72,7 +71,7 @@ impl Count {
     fn print(&self) {
         let total: u64 = self.replies.iter().sum();
         let parts = self.replies.iter().enumerate().filter(|(_, &n)| n > 0).map(|(k, n)| format!("{k}: {n}"));
-        println!("{:6} {total} calls, by number {}", self.name, parts.collect::<Vec<_>>().join(", "));
+        println!("{:7} {total} calls, by number {}", self.name, parts.collect::<Vec<_>>().join(", "));
     }
 }
 
@@ -86,37 +85,12 @@ fn sheet_both(random: &mut Random, request: &[u8], room: usize) -> Left<u8> {
     ours
 }
 
-fn second_by_reference(request: &[u8], second: i64, shadow: &mut [i64]) -> Result<u64, Refusal> {
-    let request = Request::from_bytes(request)?;
-    if !(-FARTHEST..=FARTHEST).contains(&second) {
-        return Err(Refusal::Window);
-    }
-    let found = request.check()?.shadow(second);
-    let state = |phase| match found.state(phase) {
-        State::Outside => 0,
-        State::Inside => 1,
-        State::Unsure => 2,
-    };
-    let numbers = [
-        found.u,
-        found.v,
-        found.l1,
-        found.l2,
-        state(Phase::Penumbra),
-        state(Phase::Central),
-        found.magnitude(),
-        found.direction(),
-    ];
-    shadow.get_mut(..8).ok_or(Refusal::Room(8))?.copy_from_slice(&numbers);
-    Ok(8)
-}
-
 fn second_both(random: &mut Random, request: &[u8], second: i64, room: usize) -> Left<i64> {
     let old = buffer(random, room, |bits| bits as i64);
     let mut ours = ((0, 0), old.clone());
     ours.0 = library::second(request, second, &mut ours.1[..room]);
     let mut theirs = ((0, 0), old);
-    theirs.0 = reply(second_by_reference(request, second, &mut theirs.1[..room]), |count| count);
+    theirs.0 = reply(answers::second(request, second, &mut theirs.1[..room]), |count| count as u64);
     must_agree("ukhtvaresh_second", &(request, second, room), &ours, &theirs);
     ours
 }
@@ -138,6 +112,16 @@ fn write_both(random: &mut Random, entries: &[u32], room: usize) -> Left<u8> {
     let mut theirs = ((0, 0), old);
     theirs.0 = reply(sheet::write(entries, &mut theirs.1[..room]), |length| length as u64);
     must_agree("ukhtvaresh_write", &(entries, room), &ours, &theirs);
+    ours
+}
+
+fn listing_both(random: &mut Random, sheet: &[u8], room: usize) -> Left<u8> {
+    let old = buffer(random, room, |bits| bits as u8);
+    let mut ours = ((0, 0), old.clone());
+    ours.0 = library::listing(sheet, &mut ours.1[..room]);
+    let mut theirs = ((0, 0), old);
+    theirs.0 = reply(answers::listing(sheet, &mut theirs.1[..room]), |length| length as u64);
+    must_agree("ukhtvaresh_listing", &(sheet, room), &ours, &theirs);
     ours
 }
 
@@ -184,7 +168,7 @@ fn request(random: &mut Random, sheets: &mut Count, seconds: &mut Count, kinds: 
     }
 }
 
-fn sheet(random: &mut Random, reads: &mut Count, writes: &mut Count) {
+fn sheet(random: &mut Random, reads: &mut Count, writes: &mut Count, listings: &mut Count) {
     let mut entries = draws::entries(random);
     let mut bytes = vec![0; 7 * entries.len()];
     let length = sheet::write(&entries, &mut bytes).expect("entries that keep all rules");
@@ -199,6 +183,12 @@ fn sheet(random: &mut Random, reads: &mut Count, writes: &mut Count) {
     };
     reads.add(read_both(random, &bytes, room).0 .0);
     round_trip(random, &bytes);
+    let needed = match library::listing(&bytes, &mut []) {
+        (4, needed) => needed as usize,
+        _ => 200,
+    };
+    let room = draws::room(random, needed);
+    listings.add(listing_both(random, &bytes, room).0 .0);
 
     draws::damage_entries(random, &mut entries);
     let room = if random.once_in(2) { draws::room(random, length) } else { 7 * entries.len() };
@@ -227,9 +217,9 @@ fn main() {
     };
     let start = Instant::now();
     let mut random = Random::new(seed);
-    let mut counts = ["sheet", "second", "read", "write", "fit"].map(Count::new);
+    let mut counts = ["sheet", "second", "read", "write", "listing", "fit"].map(Count::new);
     let mut kinds = [0; 128];
-    let [of_sheets, of_seconds, of_reads, of_writes, of_fits] = &mut counts;
+    let [of_sheets, of_seconds, of_reads, of_writes, of_listings, of_fits] = &mut counts;
     for _ in 0..requests {
         request(&mut random, of_sheets, of_seconds, &mut kinds);
     }
@@ -238,7 +228,7 @@ fn main() {
         kinds.iter().enumerate().filter(|(_, &n)| n > 0).map(|(kind, n)| format!("{kind:02X}: {n}"));
     println!("entries of their sheets, by kind {}", by_kind.collect::<Vec<_>>().join(", "));
     for _ in 0..sheets {
-        sheet(&mut random, of_reads, of_writes);
+        sheet(&mut random, of_reads, of_writes, of_listings);
     }
     println!("{sheets} sheets and lists of entries agree, {:.1} s", start.elapsed().as_secs_f64());
     for _ in 0..sheets {

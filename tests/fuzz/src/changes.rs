@@ -43,6 +43,17 @@ pub unsafe fn mutate(
 
 pub use draws::damage as change_sheet;
 
+/// Entries are damaged as numbers.
+pub fn change_entries(random: &mut Random, bytes: &mut Vec<u8>) {
+    let mut entries: Vec<u32> =
+        bytes.chunks_exact(4).map(|b| u32::from_be_bytes([b[0], b[1], b[2], b[3]])).collect();
+    if entries.len() < 8 {
+        entries = draws::entries(random);
+    }
+    draws::damage_entries(random, &mut entries);
+    *bytes = entries.iter().flat_map(|number| number.to_be_bytes()).collect();
+}
+
 /// One number of a request at or next to its limits, or anywhere within them.
 fn put_at_limit(random: &mut Random, request: &mut Request) {
     let manner = if random.once_in(4) { Manner::Anywhere } else { Manner::AtLimits };

@@ -1,4 +1,4 @@
-//! Two targets for libFuzzer: an input goes to the compiled library and to the reference, and any difference aborts.
+//! Targets for libFuzzer: an input goes to the compiled library and to the reference, and any difference aborts.
 //!
 //! Compared: the refusal's number, the value beside it, and the whole buffer with 64 numbers past its end. The library is there twice:
 //! the archive itself, and its guide, the same module compiled with counters on its edges, so that the fuzzer sees the library's own
@@ -6,6 +6,7 @@
 
 pub mod changes;
 
+use agreement::answers;
 use agreement::library::{self, Reply};
 use reference::elements::{Elements, Station, Window, ELEMENT_RANGES, FARTHEST, STATION_RANGES};
 use reference::refusal::Refusal;
@@ -18,11 +19,22 @@ extern "C" {
     // The guide's exports, as include/ukhtvaresh.h declares those of the archive.
     fn guide_read(input: *const u8, length: usize, room: *mut u32, room_len: usize, value: *mut u64) -> u64;
     fn guide_sheet(input: *const u8, length: usize, room: *mut u8, room_len: usize, value: *mut u64) -> u64;
+    fn guide_listing(input: *const u8, length: usize, room: *mut u8, room_len: usize, value: *mut u64)
+        -> u64;
+    fn guide_write(input: *const u32, length: usize, room: *mut u8, room_len: usize, value: *mut u64) -> u64;
+    fn guide_second(
+        input: *const u8,
+        length: usize,
+        second: i64,
+        room: *mut i64,
+        room_len: usize,
+        value: *mut u64,
+    ) -> u64;
 }
 
-type Export<T> = unsafe extern "C" fn(*const u8, usize, *mut T, usize, *mut u64) -> u64;
+type Export<S, T> = unsafe extern "C" fn(*const S, usize, *mut T, usize, *mut u64) -> u64;
 
-fn guide<T>(export: Export<T>, input: &[u8], room: &mut [T]) -> Reply {
+fn guide<S, T>(export: Export<S, T>, input: &[S], room: &mut [T]) -> Reply {
     let mut value = 0;
     let number = unsafe { export(input.as_ptr(), input.len(), room.as_mut_ptr(), room.len(), &mut value) };
     (number, value)
@@ -36,6 +48,11 @@ const PAST: usize = 64;
 struct Left<T> {
     reply: Reply,
     buffer: Vec<T>,
+}
+
+/// What a room of bytes holds before a call.
+fn old_byte(at: usize) -> u8 {
+    (at as u8).wrapping_mul(167) ^ 0xA5
 }
 
 fn left<T>(room: usize, old: fn(usize) -> T, call: impl FnOnce(&mut [T]) -> Reply) -> Left<T> {
@@ -100,6 +117,38 @@ pub fn read(input: &[u8]) {
     }
 }
 
+/// Two bytes for the room, then the sheet.
+pub fn listing(input: &[u8]) {
+    let &[near, far, ref stored @ ..] = input else { return };
+    let needed = match answers::listing(stored, &mut []) {
+        Err(Refusal::Room(needed)) => needed,
+        _ => 0,
+    };
+    let room = room(needed, near, far);
+    let theirs = left(room, old_byte, |room| reply(answers::listing(stored, room)));
+    let ours = left(room, old_byte, |room| library::listing(stored, room));
+    must_agree("ukhtvaresh_listing", stored, room, &ours, &theirs);
+    let guided = left(room, old_byte, |room| guide(guide_listing, stored, room));
+    must_agree("ukhtvaresh_listing with counters", stored, room, &guided, &theirs);
+}
+
+/// Two bytes for the room, then the numbers of the entries, four bytes each, the highest first.
+pub fn write(input: &[u8]) {
+    let &[near, far, ref raw @ ..] = input else { return };
+    let entries: Vec<u32> =
+        raw.chunks_exact(4).map(|b| u32::from_be_bytes([b[0], b[1], b[2], b[3]])).collect();
+    let mut plenty = vec![0; 7 * entries.len() + 7];
+    let room = room(sheet::write(&entries, &mut plenty).unwrap_or(0), near, far);
+    let theirs = left(room, old_byte, |room| reply(sheet::write(&entries, room)));
+    let ours = left(room, old_byte, |room| library::write(&entries, room));
+    must_agree("ukhtvaresh_write", raw, room, &ours, &theirs);
+    let guided = left(room, old_byte, |room| guide(guide_write, &entries, room));
+    must_agree("ukhtvaresh_write with counters", raw, room, &guided, &theirs);
+    if let (0, length) = ours.reply {
+        must_come_back(&ours.buffer[..length as usize]);
+    }
+}
+
 /// Bits of the byte before a request: what is left as it stands. The rest is mended, so that not every change ends in a refusal.
 pub const LEAVE_SHAPE: u8 = 0x01;
 pub const LEAVE_NUMBERS: u8 = 0x02;
@@ -158,15 +207,41 @@ pub fn sheet(input: &[u8]) {
     let found = Request::from_bytes(&request).and_then(|request| request.check());
     let found = found.map(|circumstances| sheet::bytes_of(&circumstances.records()));
     let room = room(found.as_ref().map_or(0, Vec::len), near, far);
-    let old = |at: usize| (at as u8).wrapping_mul(167) ^ 0xA5;
-    let theirs = left(room, old, |room| reply(found.and_then(|bytes| sheet::copy_into(&bytes, room))));
-    let ours = left(room, old, |room| library::sheet(&request, room));
+    let theirs = left(room, old_byte, |room| reply(found.and_then(|bytes| sheet::copy_into(&bytes, room))));
+    let ours = left(room, old_byte, |room| library::sheet(&request, room));
     must_agree("ukhtvaresh_sheet", &request, room, &ours, &theirs);
-    let guided = left(room, old, |room| guide(guide_sheet, &request, room));
+    let guided = left(room, old_byte, |room| guide(guide_sheet, &request, room));
     must_agree("ukhtvaresh_sheet with counters", &request, room, &guided, &theirs);
     if let (0, length) = ours.reply {
         must_come_back(&ours.buffer[..length as usize]);
     }
+}
+
+/// Bit of the byte before a request: its second is left as it stands.
+pub const LEAVE_SECOND: u8 = 0x04;
+
+/// Two bytes for the room, one for what is left as it stands, eight for the second, then the request.
+pub fn second(input: &[u8]) {
+    let &[near, far, leave, a, b, c, d, e, f, g, h, ref raw @ ..] = input else { return };
+    let request = request(leave, raw);
+    let mut second = i64::from_be_bytes([a, b, c, d, e, f, g, h]);
+    if leave & LEAVE_SECOND == 0 {
+        second = into_range(second >> 1, &(-FARTHEST..=FARTHEST));
+    }
+    let room = room(8, near, far);
+    let old = |at: usize| (at as i64).wrapping_mul(0x9E37_79B9_7F4A_7C15_u64 as i64);
+    let theirs = left(room, old, |room| reply(answers::second(&request, second, room)));
+    let ours = left(room, old, |room| library::second(&request, second, room));
+    must_agree("ukhtvaresh_second", &request, room, &ours, &theirs);
+    let guided = left(room, old, |room| {
+        let mut value = 0;
+        let (length, room_len) = (request.len(), room.len());
+        let number = unsafe {
+            guide_second(request.as_ptr(), length, second, room.as_mut_ptr(), room_len, &mut value)
+        };
+        (number, value)
+    });
+    must_agree("ukhtvaresh_second with counters", &request, room, &guided, &theirs);
 }
 
 /// The input that libFuzzer hands over.

@@ -19,4 +19,5 @@ pub mod shadow;
 pub mod sheet;
 pub mod sine;
 pub mod sine_table;
+pub mod tables;
 pub mod wide;

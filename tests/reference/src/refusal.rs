@@ -25,6 +25,8 @@ pub enum Refusal {
     After(usize),
     /// 10: the program's input has another shape.
     Shape,
+    /// 11: a row of the tables of Sun and Moon is outside its distances; the first such row, 0..6.
+    Row(usize),
     /// 17: a fit differs from the tabulated value by more than the tolerance; the first such hour, 0..6.
     Hour(usize),
     /// 18: the tolerance of a fit (0), or a tabulated value (the first such, 1..7), is outside its range.
@@ -44,6 +46,7 @@ impl Refusal {
             Refusal::Order(_) => 8,
             Refusal::After(_) => 9,
             Refusal::Shape => 10,
+            Refusal::Row(_) => 11,
             Refusal::Hour(_) => 17,
             Refusal::Given(_) => 18,
         }
@@ -60,6 +63,7 @@ impl Refusal {
             | Refusal::Field(place)
             | Refusal::Order(place)
             | Refusal::After(place)
+            | Refusal::Row(place)
             | Refusal::Hour(place)
             | Refusal::Given(place) => place,
         }

@@ -1,8 +1,8 @@
-//! `seeds FOLDER`: what the fuzzer starts from, in FOLDER/read and FOLDER/sheet: the requests and sheets that the repository holds, and
-//! some drawn as tests/agreement draws them.
+//! `seeds FOLDER`: what the fuzzer starts from, in FOLDER/read, listing, sheet, second and write: the requests and sheets that the
+//! repository holds, and some drawn as tests/agreement draws them.
 
 use agreement::draws;
-use fuzz::{LEAVE_NUMBERS, LEAVE_SHAPE};
+use fuzz::{LEAVE_NUMBERS, LEAVE_SECOND, LEAVE_SHAPE};
 use reference::random::Random;
 use reference::sheet;
 use std::fs;
@@ -48,6 +48,14 @@ fn drawn_sheet(random: &mut Random) -> Vec<u8> {
     bytes
 }
 
+fn drawn_entries(random: &mut Random) -> Vec<u8> {
+    let mut entries = draws::entries(random);
+    if random.once_in(2) {
+        draws::damage_entries(random, &mut entries);
+    }
+    entries.iter().flat_map(|number| number.to_be_bytes()).collect()
+}
+
 fn put(folder: &Path, head: &[u8], inputs: impl IntoIterator<Item = Vec<u8>>, from: &str) {
     fs::create_dir_all(folder).expect("a folder for seeds");
     for (number, input) in inputs.into_iter().enumerate() {
@@ -60,9 +68,16 @@ fn main() {
     let folder = PathBuf::from(std::env::args_os().nth(1).expect("usage: seeds FOLDER"));
     let mut random = Random::new(1);
     let (read, sheet) = (folder.join("read"), folder.join("sheet"));
-    put(&read, &ROOM, stored_sheets(), "stored");
-    put(&read, &ROOM, (0..DRAWN).map(|_| drawn_sheet(&mut random)), "drawn");
+    for folder in [read, folder.join("listing")] {
+        put(&folder, &ROOM, stored_sheets(), "stored");
+        put(&folder, &ROOM, (0..DRAWN).map(|_| drawn_sheet(&mut random)), "drawn");
+    }
+    put(&folder.join("write"), &ROOM, (0..DRAWN).map(|_| drawn_entries(&mut random)), "drawn");
     let head = [ROOM[0], ROOM[1], LEAVE_SHAPE | LEAVE_NUMBERS];
     put(&sheet, &head, stored_requests(), "stored");
     put(&sheet, &head, (0..DRAWN).map(|_| draws::request(&mut random)), "drawn");
+    let head = [&head[..2], &[head[2] | LEAVE_SECOND], &[0; 8]].concat();
+    let second = folder.join("second");
+    put(&second, &head, stored_requests(), "stored");
+    put(&second, &head, (0..DRAWN).map(|_| draws::request(&mut random)), "drawn");
 }

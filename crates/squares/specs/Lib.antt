@@ -1,0 +1,4 @@
+-- what to believe
+pub mod Wide
+-- laws
+pub mod WideLaws

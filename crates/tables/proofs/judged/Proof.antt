@@ -1,0 +1,50 @@
+-- `tables::judged` meets its contract, case by case. Assumes nothing.
+use mathlib.Core.Path.{sym, _∙_}
+use borrow.Author.Needs.{needs}
+use Rattle.tables.specs.TablesLaws.{answer-shape, answer-row, answer-room, answer-made}
+use Rattle.tables.proofs.judged.Statement.{statement}
+use Rattle.tables.proofs.judged.Tie as tie
+
+returns : tie.Need-returns
+returns c = sym (answer-shape (c .before .args .rows .now) (c .before .args .room) (c .if1 .taken))
+
+first-refused-requires : tie.Need-first-refused-requires
+first-refused-requires c κs = search needs
+
+enum-known-verdict : tie.Need-enum-known-verdict
+enum-known-verdict c = search needs
+
+enum-told : tie.Need-enum-told
+enum-told c = search needs
+
+returns-2 : tie.Need-returns-2
+returns-2 c =
+    let s = c .before .before .before .before .before in
+    let got = c .before .before .before in
+    sym (answer-room (s .args .rows .now) (s .args .room) (got .before .if1 .left) (sym (got .first-refused .ensures) ∙ c .before .enum-told .given .1)
+    (c .if2 .taken))
+
+returns-3 : tie.Need-returns-3
+returns-3 c =
+    let s = c .before .before .before .before .before in
+    let got = c .before .before .before in
+    sym (answer-row (s .args .rows .now) (s .args .room) (got .before .if1 .left) _ (sym (got .first-refused .ensures) ∙ c .before .verdict .given .1))
+
+returns-4 : tie.Need-returns-4
+returns-4 c =
+    let s = c .before .before .before .before .before in
+    let got = c .before .before .before in
+    sym (answer-made (s .args .rows .now) (s .args .room) (got .before .if1 .left) (sym (got .first-refused .ensures) ∙ c .before .enum-told .given .1)
+    (c .if2 .left))
+
+pub judged-spec : {M : Type 1} → statement M
+judged-spec =
+    tie.close
+    (tie.spec
+    returns
+    first-refused-requires
+    enum-known-verdict
+    enum-told
+    returns-2
+    returns-3
+    returns-4)

@@ -1,0 +1,4 @@
+-- what to believe
+pub mod Tables
+-- laws
+pub mod TablesLaws

@@ -1,0 +1,26 @@
+-- `ukhtvaresh::from_tables::ukhtvaresh_from_tables` meets its contract: the answer of `tables`, as numbers. Assumes nothing.
+use mathlib.Core.Path.{ap, _∙_}
+use borrow.Author.Needs.{needs}
+use Rattle.ukhtvaresh.specs.declared.Reply.{Reply}
+use Rattle.ukhtvaresh.specs.TablesReply.{tablesReply}
+use Rattle.ukhtvaresh.proofs.from_tables.ukhtvaresh_from_tables.Statement.{statement}
+use Rattle.ukhtvaresh.proofs.from_tables.ukhtvaresh_from_tables.Tie as tie
+
+elements-requires : tie.Need-elements-requires
+elements-requires c κs = search needs
+
+tables-reply-requires : tie.Need-tables-reply-requires
+tables-reply-requires c κs = search needs
+
+same-length : tie.Need-same-length
+same-length c = search needs
+
+returns : tie.Need-returns
+returns c =
+    let done = c .before .before .elements in
+    let e = c .tables-reply .ensures ∙ ap tablesReply (done .ensures .0) in
+    (ap (λ (x : Reply). x .number) e, (ap (λ (x : Reply). x .value) e, done .ensures .1))
+
+pub ukhtvaresh-from-tables-spec : {M : Type 1} → statement M
+ukhtvaresh-from-tables-spec =
+    tie.close (tie.spec elements-requires tables-reply-requires same-length returns)

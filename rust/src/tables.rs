@@ -1,0 +1,77 @@
+use crate::{ffi, Refusal};
+
+/// How many hourly rows the tables have.
+pub const ROWS: usize = 7;
+
+/// A place from the Earth's centre in 10^-8 of its equatorial radius, right-handed, the third to the north pole.
+#[derive(Clone, Copy, Debug, Default, PartialEq, Eq, Hash)]
+pub struct Position {
+    /// To the equinox.
+    pub x: i64,
+    /// A quarter turn east of it on the equator.
+    pub y: i64,
+    /// To the north pole.
+    pub z: i64,
+}
+
+/// A row of the tables: the apparent places of Sun and Moon at one hour.
+#[derive(Clone, Copy, Debug, Default, PartialEq, Eq, Hash)]
+pub struct Row {
+    /// The Sun, 23,000 to 24,000 radii off.
+    pub sun: Position,
+    /// The Moon, 55 to 65 radii off.
+    pub moon: Position,
+}
+
+/// The Besselian elements of one row. Lengths lie within 1,000 units of the exact values, the others within 4.
+#[derive(Clone, Copy, Debug, Default, PartialEq, Eq, Hash)]
+pub struct Besselian {
+    /// The Moon from the Earth's centre, across the axis to the east, 10^-8 radius.
+    pub x: i64,
+    /// The same to the north.
+    pub y: i64,
+    /// Sine of the axis' declination, 10^-8.
+    pub sin_d: i64,
+    /// Its cosine.
+    pub cos_d: i64,
+    /// Tangent of the penumbra's half-angle, 10^-8.
+    pub tan_f1: i64,
+    /// Of the central cone's.
+    pub tan_f2: i64,
+    /// Radius of the penumbra in the fundamental plane, 10^-8 radius.
+    pub l1: i64,
+    /// Of the central cone, below zero where the eclipse is total.
+    pub l2: i64,
+}
+
+/// The Besselian elements of seven hourly rows.
+///
+/// Refusals: 11 with the first row in which the Moon or the Sun is outside its distances or the size of the sine of d is above 0.43.
+pub fn from_tables(rows: &[Row; ROWS]) -> Result<[Besselian; ROWS], Refusal> {
+    let numbers: Vec<i64> =
+        rows.iter().flat_map(|Row { sun, moon }| [sun.x, sun.y, sun.z, moon.x, moon.y, moon.z]).collect();
+    let mut values = [0; 8 * ROWS];
+    ffi::from_tables(&numbers, &mut values)?;
+    let mut elements = [Besselian::default(); ROWS];
+    for (row, eight) in elements.iter_mut().zip(values.chunks_exact(8)) {
+        *row = Besselian {
+            x: eight[0],
+            y: eight[1],
+            sin_d: eight[2],
+            cos_d: eight[3],
+            tan_f1: eight[4],
+            tan_f2: eight[5],
+            l1: eight[6],
+            l2: eight[7],
+        };
+    }
+    Ok(elements)
+}
+
+/// The same from 42 numbers to the start of `values`, 56 of them; gives 56.
+///
+/// What lies past the values, and on refusal all of `values`, keeps what it held. Refusals: 10 for another count than 42, 11, then 4
+/// with 56.
+pub fn from_tables_into(rows: &[i64], values: &mut [i64]) -> Result<usize, Refusal> {
+    ffi::from_tables(rows, values)
+}

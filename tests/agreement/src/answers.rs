@@ -1,0 +1,39 @@
+//! What the library is to answer where the reference has no function of the same shape.
+
+use reference::elements::FARTHEST;
+use reference::listing;
+use reference::refusal::Refusal;
+use reference::request::Request;
+use reference::shadow::{Phase, State};
+use reference::sheet::{copy_into, records_of};
+
+/// The eight numbers of one second.
+pub fn second(request: &[u8], second: i64, shadow: &mut [i64]) -> Result<usize, Refusal> {
+    let request = Request::from_bytes(request)?;
+    if !(-FARTHEST..=FARTHEST).contains(&second) {
+        return Err(Refusal::Window);
+    }
+    let found = request.check()?.shadow(second);
+    let state = |phase| match found.state(phase) {
+        State::Outside => 0,
+        State::Inside => 1,
+        State::Unsure => 2,
+    };
+    let numbers = [
+        found.u,
+        found.v,
+        found.l1,
+        found.l2,
+        state(Phase::Penumbra),
+        state(Phase::Central),
+        found.magnitude(),
+        found.direction(),
+    ];
+    shadow.get_mut(..8).ok_or(Refusal::Room(8))?.copy_from_slice(&numbers);
+    Ok(8)
+}
+
+/// The listing of a sheet as bytes of text.
+pub fn listing(sheet: &[u8], text: &mut [u8]) -> Result<usize, Refusal> {
+    copy_into(listing::listing(&records_of(sheet)?).as_bytes(), text)
+}
