@@ -44,8 +44,18 @@ fn put_answer(out: &mut [u8], at: usize, word: &[u8], answer: Extent) -> usize {
 fn put_list(out: &mut [u8], start: usize, list: &[u32]) -> usize {
     let mut space = [170u8; 256];
     let mut short = [170u8; 20];
-    let middle = put_answer(out, start, b"written ", sheets::write(list, &mut space));
-    let end = put_answer(out, middle, b" short ", sheets::write(list, &mut short));
+    let middle = put_answer(
+        out,
+        start,
+        b"written ",
+        sheets::handed::write(list, &mut space),
+    );
+    let end = put_answer(
+        out,
+        middle,
+        b" short ",
+        sheets::handed::write(list, &mut short),
+    );
     let line = decimals::put_byte(out, end, b'\n');
     let next = put_bytes(out, line, &space);
     put_bytes(out, next, &short)

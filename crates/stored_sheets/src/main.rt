@@ -56,7 +56,7 @@ fn put_written(out: &mut [u8], start: usize, room: &[u32], entries: usize, sheet
     }
     let numbers = entries * 4;
     let mut space = io::buffer();
-    let answer = sheets::write(&room[..numbers], &mut space);
+    let answer = sheets::handed::write(&room[..numbers], &mut space);
     let at = put_answer(out, start, b" written ", answer);
     let Extent::Sheet { entries: _, length } = answer else {
         return at;

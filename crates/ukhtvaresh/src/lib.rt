@@ -104,7 +104,7 @@ pub extern "C" fn ukhtvaresh_write(entries: &[u32], sheet: &mut [u8], value: &mu
     ensures value { λ r. ⌜ now (value .exit) ≡ writeReply (writeGiven (now (entries .entry)) (now (sheet .entry))) .value ⌝ }
     ensures buffer { λ r. ⌜ now (sheet .exit) ≡ bufferAfterList (listWhole (now (entries .entry))) (now (sheet .entry)) ⌝ }
 {
-    let extent = sheets::write(entries, sheet);
+    let extent = sheets::handed::write(entries, sheet);
     let reply = write_reply(extent);
     *value = reply.value;
     reply.number

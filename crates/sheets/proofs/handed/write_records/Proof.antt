@@ -1,4 +1,4 @@
--- `sheets::write_records` meets its contract. What is still to be put, once put, gives what the pass is to leave (`Passing`). The first pass accepted each entry.
+-- `sheets::handed::write_records` meets its contract. What is still to be put, once put, gives what the pass is to leave (`Passing`). The first pass accepted each entry.
 use Rattle.sheets.proofs.Passing.{Passing, pass-never, pass-fits, pass-end, pass-more}
 use Rattle.sheets.proofs.Answers.{of-bytes, writing-starts}
 use Rattle.sheets.specs.Handed.{handedAt, listSheet}
@@ -13,8 +13,8 @@ use native.Mathlib.Omega.{arith}
 use Prim.Native.Nat.{_+_, _-_, _*_, _≤_}
 use mathlib.Core.Path.{_≡_, refl, sym, _∙_}
 use borrow.Author.Needs.{needs}
-use Rattle.sheets.proofs.write_records.Statement.{statement}
-use Rattle.sheets.proofs.write_records.Tie as tie
+use Rattle.sheets.proofs.handed.write_records.Statement.{statement}
+use Rattle.sheets.proofs.handed.write_records.Tie as tie
 
 abbrev Inv-loop : tie.InvT-loop
 Inv-loop l buf₀ at₀ n₀ buf at n =

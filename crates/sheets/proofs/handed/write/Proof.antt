@@ -1,4 +1,4 @@
--- `sheets::write` meets its contract. Three ways out: refused, a short buffer, and written; each is `writeInto` and `bufferAfterList` at what was found.
+-- `sheets::handed::write` meets its contract. Three ways out: refused, a short buffer, and written; each is `writeInto` and `bufferAfterList` at what was found.
 use Rattle.sheets.proofs.Answers.{buffer-for, write-refused, write-short, write-full}
 use Rattle.sheets.specs.SheetLaws.{list-same}
 use Rattle.sheets.specs.RoundTrip.{list-length}
@@ -8,8 +8,8 @@ use Rattle.sheets.specs.Passes.{emitted}
 use Rattle.sheets.specs.declared.Extent.the-variants as X
 use mathlib.Core.Path.{_≡_, sym, ap, _∙_}
 use borrow.Author.Needs.{needs}
-use Rattle.sheets.proofs.write.Statement.{statement}
-use Rattle.sheets.proofs.write.Tie as tie
+use Rattle.sheets.proofs.handed.write.Statement.{statement}
+use Rattle.sheets.proofs.handed.write.Tie as tie
 
 extent-of-entries-requires : tie.Need-extent-of-entries-requires
 extent-of-entries-requires c κs = search needs

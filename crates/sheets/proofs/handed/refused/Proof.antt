@@ -1,7 +1,7 @@
--- `sheets::refused` meets its contract. Each arm is the definition's.
+-- `sheets::handed::refused` meets its contract. Each arm is the definition's.
 use borrow.Author.Needs.{needs}
-use Rattle.sheets.proofs.refused.Statement.{statement}
-use Rattle.sheets.proofs.refused.Tie as tie
+use Rattle.sheets.proofs.handed.refused.Statement.{statement}
+use Rattle.sheets.proofs.handed.refused.Tie as tie
 
 enum-known-got : tie.Need-enum-known-got
 enum-known-got c = search needs

@@ -1,4 +1,4 @@
--- `sheets::extent_of_leading_entries` meets its contract. As `extent_of_leading_sheet`, along the entries of the list.
+-- `sheets::handed::extent_of_leading_entries` meets its contract. As `extent_of_leading_sheet`, along the entries of the list.
 use Rattle.sheets.proofs.Counting.{Counting, count-refused, count-broken, count-end, count-more}
 use Rattle.sheets.specs.Handed.{handedAt, listSheet}
 use Rattle.sheets.specs.SheetLaws.{list-start, extent-start}
@@ -12,8 +12,8 @@ use native.Mathlib.Omega.{arith}
 use Prim.Native.Nat.{_+_, _-_, _*_, _≤_}
 use mathlib.Core.Path.{_≡_, sym, ap, _∙_}
 use borrow.Author.Needs.{needs}
-use Rattle.sheets.proofs.extent_of_leading_entries.Statement.{statement}
-use Rattle.sheets.proofs.extent_of_leading_entries.Tie as tie
+use Rattle.sheets.proofs.handed.extent_of_leading_entries.Statement.{statement}
+use Rattle.sheets.proofs.handed.extent_of_leading_entries.Tie as tie
 
 abbrev Inv-loop : tie.InvT-loop
 Inv-loop l p₀ place₀ n₀ p place n = (n * 4 ≤ length l) × (place ≤ n * 17) × Counting (handedAt l) (length l) (listSheet l) p n place

@@ -1,4 +1,4 @@
--- `sheets::extent_of_entries` meets its contract. What follows the end entry is refused as `alone` does; the list's length over four, rounded up, tells it.
+-- `sheets::handed::extent_of_entries` meets its contract. What follows the end entry is refused as `alone` does; the list's length over four, rounded up, tells it.
 use Rattle.sheets.specs.SheetLaws.{list-by}
 use Rattle.sheets.specs.SheetLaws.{aloneX}
 use Rattle.sheets.specs.Handed.{listWhole}
@@ -11,8 +11,8 @@ use Prim.Native.Nat.{_*_}
 use native.Mathlib.Omega.{arith}
 use mathlib.Core.Path.{_≡_, sym, _∙_}
 use borrow.Author.Needs.{needs}
-use Rattle.sheets.proofs.extent_of_entries.Statement.{statement}
-use Rattle.sheets.proofs.extent_of_entries.Tie as tie
+use Rattle.sheets.proofs.handed.extent_of_entries.Statement.{statement}
+use Rattle.sheets.proofs.handed.extent_of_entries.Tie as tie
 
 extent-of-leading-entries-requires : tie.Need-extent-of-leading-entries-requires
 extent-of-leading-entries-requires c κs = search needs

@@ -1,10 +1,10 @@
--- `sheets::handed_at` meets its contract. Each sub-answer is its definition's value, so the answer is what `handedAt` computes to.
+-- `sheets::handed::handed_at` meets its contract. Each sub-answer is its definition's value, so the answer is what `handedAt` computes to.
 use Rattle.sheets.specs.HandedLaws.{handed-cut, handed-named}
 use native.Mathlib.Omega.{arith}
 use mathlib.Core.Path.{sym, _∙_}
 use borrow.Author.Needs.{needs}
-use Rattle.sheets.proofs.handed_at.Statement.{statement}
-use Rattle.sheets.proofs.handed_at.Tie as tie
+use Rattle.sheets.proofs.handed.handed_at.Statement.{statement}
+use Rattle.sheets.proofs.handed.handed_at.Tie as tie
 
 mul-j : tie.Need-mul-j
 mul-j c = search needs
