@@ -99,6 +99,14 @@ enum {
 uint64_t ukhtvaresh_second(const uint8_t *request, size_t request_len, int64_t second, int64_t *shadow,
                            size_t shadow_len, uint64_t *value);
 
+/* The mirror of a request, at the start of `mirrored`: all y and d coefficients and the latitude with the other sign, nothing
+ * else changed. *value: 109. Any numbers: -2^31, which has no opposite in its bytes, stays as it is.
+ * The sheet of the mirror of a request within the limits has the same entries, of the same seconds, magnitude and length;
+ * their directions differ. A request that is refused 1, 2 or 3 and its mirror are refused alike.
+ * Refusals: 10; 4 with the length. */
+uint64_t ukhtvaresh_mirror(const uint8_t *request, size_t request_len, uint8_t *mirrored, size_t mirrored_len,
+                           uint64_t *value);
+
 /* The entries of a sheet, head and end among them, at the start of `entries`. *value: how many entries.
  * Refusals: the first faulty record's, in it 5, 6, 8, 7; 9; then 4 with the number of entries.
  * entries_len counts numbers, four an entry. */

@@ -24,6 +24,7 @@ from ukhtvaresh import (
     Station,
     Window,
     listing,
+    mirror,
     read,
     second,
     sheet,
@@ -300,6 +301,25 @@ class Writer(Case):
             self.refuses_into(7, 7, write_into, put(ENTRIES, 1, Enter(PENUMBRA, -5401, -5399, direction)))
         for station in (-1, 0, 1_000, 2**16 + 7, 2**32 + 7):
             self.refuses_into(7, 0, write_into, put(ENTRIES, 0, Head(station, -6000, 6000)))
+
+
+def undirected(entry):
+    return replace(entry, direction=None) if isinstance(entry, (Enter, Leave)) else entry
+
+
+class Mirror(Case):
+    def test_mirrors(self):
+        north = HAND_WORKED.to_bytes()
+        south = mirror(north)
+        self.assertEqual(mirror(south), north)
+        self.assertEqual(Request.from_bytes(south).station.latitude, -HAND_WORKED.station.latitude)
+        a, b = read(sheet(north)), read(sheet(south))
+        self.assertEqual([undirected(entry) for entry in a], [undirected(entry) for entry in b])
+        x, y = second(north, 100), second(south, 100)
+        self.assertEqual((x.u, x.v, x.penumbra, x.central, x.magnitude), (y.u, -y.v, y.penumbra, y.central, y.magnitude))
+
+    def test_refused(self):
+        self.refuses(10, 0, mirror, b"")
 
 
 if __name__ == "__main__":

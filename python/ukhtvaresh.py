@@ -2,7 +2,7 @@
 
 From the elements of an eclipse, a station and a window of seconds, `sheet` makes the station's contact sheet; `read`
 takes a sheet apart, `write` puts entries together as one, `listing` gives a sheet as text, and `second` the shadow at
-one second. `fit` judges coefficients that a spreadsheet made of seven hourly values, `from_tables` makes elements from
+one second. `mirror` gives the request beyond the equator, `fit` judges coefficients that a spreadsheet made of seven hourly values, `from_tables` makes elements from
 tables of Sun and Moon. Each is a thin call of the proved function of the same name in libukhtvaresh.so, which the script
 `build` makes.
 
@@ -305,12 +305,13 @@ def _load() -> ctypes.CDLL:
     value = ctypes.POINTER(ctypes.c_uint64)
     library.ukhtvaresh_sheet.argtypes = [data, length, room, length, value]
     library.ukhtvaresh_second.argtypes = [data, length, ctypes.c_int64, room, length, value]
+    library.ukhtvaresh_mirror.argtypes = [data, length, room, length, value]
     library.ukhtvaresh_read.argtypes = [data, length, room, length, value]
     library.ukhtvaresh_write.argtypes = [room, length, room, length, value]
     library.ukhtvaresh_listing.argtypes = [data, length, room, length, value]
     library.ukhtvaresh_fit.argtypes = [room, length, room, length, ctypes.c_int64, value]
     library.ukhtvaresh_from_tables.argtypes = [room, length, room, length, value]
-    for name in ("sheet", "second", "read", "write", "listing", "fit", "from_tables"):
+    for name in ("sheet", "second", "mirror", "read", "write", "listing", "fit", "from_tables"):
         getattr(library, "ukhtvaresh_" + name).restype = ctypes.c_uint64
     return library
 
@@ -378,6 +379,19 @@ def second(request: bytes, second: int) -> Second:
     _call("second", request, len(request), _signed(second), shadow, 8)
     u, v, l1, l2, penumbra, central, magnitude, direction = shadow
     return Second(u, v, l1, l2, State(penumbra), State(central), magnitude, _direction(direction))
+
+
+def mirror(request: bytes) -> bytes:
+    """The mirror of a request: all y and d coefficients and the latitude with the other sign, nothing else changed.
+
+    Any numbers: -2^31, which has no opposite in its bytes, stays as it is. The sheet of the mirror of a request within
+    the limits has the same entries, of the same seconds, magnitude and length; their directions differ. A request that
+    is refused 1, 2 or 3 and its mirror are refused alike. Taken twice the mirror is the first request. Refusal: 10.
+    """
+    request = bytes(request)
+    mirrored = bytearray(REQUEST_LENGTH)
+    _call("mirror", request, len(request), *_lent(mirrored))
+    return bytes(mirrored)
 
 
 def read(sheet: bytes) -> List[Entry]:

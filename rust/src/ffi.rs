@@ -22,6 +22,13 @@ extern "C" {
         shadow_len: usize,
         value: *mut u64,
     ) -> u64;
+    fn ukhtvaresh_mirror(
+        request: *const u8,
+        request_len: usize,
+        mirrored: *mut u8,
+        mirrored_len: usize,
+        value: *mut u64,
+    ) -> u64;
     fn ukhtvaresh_read(
         sheet: *const u8,
         sheet_len: usize,
@@ -90,6 +97,15 @@ pub fn second(request: &[u8], second: i64, shadow: &mut [i64]) -> Result<usize, 
             shadow.len(),
             &mut value,
         )
+    };
+    answer(number, value)
+}
+
+pub fn mirror(request: &[u8], mirrored: &mut [u8]) -> Result<usize, Refusal> {
+    let mut value = 0;
+    // SAFETY: as in `sheet`.
+    let number = unsafe {
+        ukhtvaresh_mirror(request.as_ptr(), request.len(), mirrored.as_mut_ptr(), mirrored.len(), &mut value)
     };
     answer(number, value)
 }

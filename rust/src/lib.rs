@@ -2,7 +2,7 @@
 //!
 //! From the elements of an eclipse, a station and a window of seconds, [`sheet`] makes the station's contact sheet;
 //! [`read`] takes a sheet apart, [`write()`] puts entries together as one, [`listing`] gives a sheet as text, and
-//! [`second`] the shadow at one second; [`fit`] judges coefficients that a spreadsheet made, [`from_tables`] makes elements
+//! [`second`] the shadow at one second, [`mirror`] the request beyond the equator; [`fit`] judges coefficients that a spreadsheet made, [`from_tables`] makes elements
 //! from tables of Sun and Moon. Each is a thin call of the proved function of the same name in `libukhtvaresh.a`.
 //!
 //! Lengths are in 10^-8 of the Earth's equatorial radius, angles in 10^-6 degree, times in whole seconds from the
@@ -113,6 +113,26 @@ pub fn second(request: &[u8], second: i64) -> Result<Second, Refusal> {
         magnitude: magnitude as u32,
         direction: entry::direction(direction as u32),
     })
+}
+
+/// The mirror of a request: all y and d coefficients and the latitude with the other sign, nothing else changed.
+///
+/// Any numbers: -2^31, which has no opposite in its bytes, stays as it is. The sheet of the mirror of a request within
+/// the limits has the same entries, of the same seconds, magnitude and length; their directions differ. A request that
+/// is refused 1, 2 or 3 and its mirror are refused alike. Taken twice the mirror is the first request. Refusal: 10.
+///
+/// ```
+/// use ukhtvaresh::{mirror, Refusal, Request};
+///
+/// let moscow = include_bytes!("../../examples/moscow1954.bin");
+/// let south = Request::from_bytes(&mirror(moscow)?).expect("a request");
+/// assert_eq!((south.elements.y0, south.station.latitude), (-65_293_771, -55_755_000));
+/// # Ok::<(), Refusal>(())
+/// ```
+pub fn mirror(request: &[u8]) -> Result<[u8; REQUEST_LENGTH], Refusal> {
+    let mut mirrored = [0; REQUEST_LENGTH];
+    ffi::mirror(request, &mut mirrored)?;
+    Ok(mirrored)
 }
 
 /// The entries of a sheet, head and end among them.

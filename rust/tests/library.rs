@@ -4,8 +4,8 @@ use std::fs;
 use std::path::Path;
 
 use ukhtvaresh::{
-    listing, read, second, sheet, sheet_vec, write, write_vec, Elements, Entry, Phase, Refusal, Request,
-    State, Station, Window, REQUEST_LENGTH,
+    listing, mirror, read, second, sheet, sheet_vec, write, write_vec, Elements, Entry, Phase, Refusal,
+    Request, State, Station, Window, REQUEST_LENGTH,
 };
 use Phase::{Central, Penumbra};
 
@@ -382,6 +382,47 @@ fn entries_that_cannot_be_stored_refused() {
         entries[1] = Entry::Enter { phase: Penumbra, from: -5401, to: -5399, direction };
         assert_eq!(not_written(&entries), Refusal::Field { at: 7 });
     }
+}
+
+// ---- the mirror
+
+fn undirected(entry: Entry) -> Entry {
+    match entry {
+        Entry::Enter { phase, from, to, .. } => Entry::Enter { phase, from, to, direction: None },
+        Entry::Leave { phase, from, to, .. } => Entry::Leave { phase, from, to, direction: None },
+        other => other,
+    }
+}
+
+#[test]
+fn mirrors() {
+    for name in ["moscow1954.bin", "kiev1954.bin"] {
+        let north = example(name);
+        let south = mirror(&north).expect("a request");
+        assert_eq!(mirror(&south).expect("a request")[..], north);
+        let (request, other) = (Request::from_bytes(&north).unwrap(), Request::from_bytes(&south).unwrap());
+        assert_eq!(other.station.latitude, -request.station.latitude);
+        assert_eq!(other.station.longitude, request.station.longitude);
+        let signs = |k: usize| if (4..=10).contains(&k) { -1 } else { 1 };
+        for k in 0..22 {
+            assert_eq!(other.elements.numbers()[k], signs(k) * request.elements.numbers()[k]);
+        }
+        let (a, b) = (sheet_vec(&north).unwrap(), sheet_vec(&south).unwrap());
+        assert_eq!(a.len(), b.len());
+        let entries = |bytes: &[u8]| read(bytes).unwrap().into_iter().map(undirected).collect::<Vec<_>>();
+        assert_eq!(entries(&a), entries(&b));
+        assert_ne!(read(&a).unwrap(), read(&b).unwrap());
+        let (x, y) = (second(&north, 0).unwrap(), second(&south, 0).unwrap());
+        assert_eq!((x.u, x.v, x.l1, x.l2), (y.u, -y.v, y.l1, y.l2));
+        assert_eq!((x.penumbra, x.central, x.magnitude), (y.penumbra, y.central, y.magnitude));
+    }
+    assert_eq!(mirror(&[]), Err(Refusal::Shape));
+    // the number that has no opposite in its bytes stays, and is refused as before
+    let mut request = hand_worked();
+    request.station.latitude = -(1 << 31);
+    let mirrored = mirror(&bytes(&request)).unwrap();
+    assert_eq!(Request::from_bytes(&mirrored).unwrap().station.latitude, -(1 << 31));
+    assert_eq!(sheet_vec(&mirrored), sheet_vec(&bytes(&request)));
 }
 
 // ---- requests as bytes, refusals as words

@@ -9,3 +9,4 @@ pub mod Demand3Laws
 -- how long a sheet is, and how it is written piece by piece
 pub mod Lengths
 pub mod Stores
+pub mod Directions

@@ -13,11 +13,11 @@ unfolding elementsOf
 elements-of-fields e = refl
 
 -- a list of k numbers, number by number
-abbrev spelled : ℕ → (ℕ → ℤ) → List ℤ
+abbrev pub spelled : ℕ → (ℕ → ℤ) → List ℤ
 spelled zero f = []
 spelled (suc k) f = f 0 ∷ spelled k (λ i. f (suc i))
 
-spell : (k : ℕ) (n : List ℤ) → length n ≡ k → spelled k (λ i. getD n i (pos 0)) ≡ n
+pub spell : (k : ℕ) (n : List ℤ) → length n ≡ k → spelled k (λ i. getD n i (pos 0)) ≡ n
 spell zero [] e = refl
 spell zero (x ∷ n) e = absurd (omega arith)
 spell (suc k) [] e = absurd (omega arith)

@@ -4,7 +4,7 @@ use Prim.Native.Nat.{_≤_}
 use native.Mathlib.Omega.{arith}
 use lib.IntN.{ℤ, natAbs, _+ℤ_, +ℤ-assoc}
 use Rattle.sine.specs.Sine.{sine}
-use Rattle.sine.specs.SineLaws.{sine-small}
+use Rattle.sine.specs.SizeLaws.{sine-small}
 use Rattle.elements.specs.declared.Axis.{Axis}
 use Rattle.elements.specs.Elements.{μAt}
 use Rattle.elements.specs.PolynomialLaws.{quadratic-size}

@@ -1,10 +1,12 @@
--- Laws of ranges: `InRange` says that each number is in its range, and what the search does at one place.
+-- Laws of ranges: `InRange` says that each number is in its range, what the search does at one place, and that a range of either sign
+-- treats a number as it treats its opposite.
 use mathlib.Core.Path.{_≡_, refl, sym, _∙_, ap, subst}
 use mathlib.Core.Bool.{Bool, true, false, cond, _||_}
 use mathlib.Core.List.{List, [], _∷_}
 use Prim.Native.Nat.{ℕ, suc, _+_, _^_, _<_}
 use native.Mathlib.Numerals.{add-one}
-use lib.IntN.{ℤ, pos}
+use native.Mathlib.Omega.{arith}
+use lib.IntN.{ℤ, pos, negℤ, negℤ-negℤ}
 use lib.ListN.{length, getD, drop}
 use lib.Seq.{drop-cons, drop-length}
 use lib.Signed.{mag, ltZ, _≤ℤ_}
@@ -12,8 +14,9 @@ use mir.Syntax.{w64}
 use mir.Val.{toZ, ofZ}
 use Rattle.numbers.specs.declared.Limits.{Limits}
 use Rattle.numbers.specs.declared.Limits.the-variants.{InRange, OutOfRange}
-use Rattle.numbers.specs.Limits.{Row, row, outOfRange, firstOutOfRange, EachInRange, rows}
-use Rattle.numbers.specs.Order.{ltZ-false}
+use Rattle.numbers.specs.Limits.{Row, row, _±_, outOfRange, firstOutOfRange, EachInRange, rows}
+use Rattle.numbers.specs.Parts.{opposite}
+use Rattle.numbers.specs.Order.{zs, ltZ-true, ltZ-false}
 use Rattle.numbers.specs.Code.{read-ltZ}
 
 abbrev isInRange : Limits → Type 0
@@ -70,3 +73,31 @@ module _ (xs ls hs : List ℤ) (i : ℕ) (px : i < length xs) (pl : i < length l
 pub search-end : (xs ls hs : List ℤ) (i : ℕ) → i ≡ length xs → firstOutOfRange i (rows (drop i xs) (drop i ls) (drop i hs)) ≡ InRange
 unfolding firstOutOfRange
 search-end xs ls hs i e = rw (e, drop-length xs)
+
+-- ---- the opposite
+ltZ-opposite : (a b : ℤ) → ltZ (negℤ a) (negℤ b) ≡ ltZ b a
+ltZ-opposite a b = by (ltZ (negℤ a) (negℤ b)) (ltZ b a) refl refl
+  where
+    by : (s t : Bool) → ltZ (negℤ a) (negℤ b) ≡ s → ltZ b a ≡ t → s ≡ t
+    by true true e f = refl
+    by false false e f = refl
+    by true false e f =
+        let g = ltZ-true (negℤ a) (negℤ b) e in
+        let h = ltZ-false b a f in
+        absurd (omega (arith, zs, opposite a .is, opposite b .is))
+    by false true e f =
+        let g = ltZ-false (negℤ a) (negℤ b) e in
+        let h = ltZ-true b a f in
+        absurd (omega (arith, zs, opposite a .is, opposite b .is))
+
+or-swap : (a b : Bool) → (a || b) ≡ (b || a)
+or-swap true true = refl
+or-swap true false = refl
+or-swap false true = refl
+or-swap false false = refl
+
+pub range-opposite : (z : ℤ) (n : ℕ) → outOfRange (negℤ z ± n) ≡ outOfRange (z ± n)
+range-opposite z n =
+    ap (λ (t : Bool). t || ltZ (pos n) (negℤ z)) (ltZ-opposite z (pos n))
+    ∙ ap (λ (t : Bool). ltZ (pos n) z || t) (sym (ltZ-opposite (negℤ z) (pos n)) ∙ ap (λ (x : ℤ). ltZ x (negℤ (pos n))) (negℤ-negℤ z))
+    ∙ or-swap (ltZ (pos n) z) (ltZ z (negℤ (pos n)))

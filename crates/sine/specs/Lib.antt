@@ -7,5 +7,7 @@ pub mod Computed
 pub mod TableLaws
 pub mod FirstQuadrantLaws
 pub mod SineLaws
+pub mod OppositeLaws
+pub mod SizeLaws
 pub mod Examples
 pub mod Rising

@@ -4,28 +4,24 @@
 --   sine-first, sine-above           the rule: up to 90 degrees, and a quarter turn down; the same for the cosine
 --   sine-reduced                     of the reduced angle; the same for the cosine
 --   sine-size, cosine-size           at most 10^8 in size, at every angle
---   sine-second, sine-opposite       180 degrees less the angle, and the other sign, up to 90 degrees; the same for the cosine
---   sine-small                       up to 25.1 degrees
---   square-sum                       the squares make nearly 10^16, up to 90 degrees
+--   sine-second                      180 degrees less the angle, up to 90 degrees; the same for the cosine
 use mathlib.Core.Path.{_≡_, refl, sym, _∙_, ap}
 use mathlib.Core.Bool.{cond}
 use mathlib.Core.Logic.{_⊎_, inl, inr, ⊎-elim}
-use Prim.Native.Nat.{ℕ, zero, suc, _+_, _*_, _-_, _/_, _≤_, _<_}
+use Prim.Native.Nat.{ℕ, zero, suc, _*_, _-_, _≤_, _<_}
 use native.Mathlib.Omega.{arith}
-use native.Mathlib.Nat.{mul-le-mul, eq-or-lt-of-le, eq-zero-or-pos}
+use native.Mathlib.Nat.{eq-or-lt-of-le, eq-zero-or-pos}
 use borrow.Author.Tests.{le-leb, lt-leb}
 use lib.Dec.{leb}
 use lib.IntN.{ℤ, pos, negsuc, negℤ, natAbs, negℤ-negℤ}
 use Rattle.numbers.specs.Order.{natAbs-opposite}
-use Rattle.sine.specs.Table.{S}
-use Rattle.sine.specs.TableLaws.{entry-low, entry-squares, entry-squares-less}
 use Rattle.sine.specs.FirstQuadrant.{firstQuadrant}
-use Rattle.sine.specs.FirstQuadrantLaws.{first-small, first-least, first-most, first-zero}
+use Rattle.sine.specs.FirstQuadrantLaws.{first-small, first-zero}
 use Rattle.sine.specs.Sine.{reduced, sineIn, cosineIn, sine, cosine, IsReduced, IsSine, IsCosine}
 
 -- ---- the angle
 
-either : (a b : ℕ) → (b < a) ⊎ (a ≤ b)
+pub either : (a b : ℕ) → (b < a) ⊎ (a ≤ b)
 either a b = ⊎-elim (λ (e : a - b ≡ 0). inr (omega arith)) (λ (l : 0 < a - b). inl (omega arith)) (eq-zero-or-pos (a - b))
 
 pub reduced-below : (z : ℤ) → reduced z < 360_000_000
@@ -139,7 +135,7 @@ pub cosine-size : (z : ℤ) → natAbs (cosine z) ≤ 100_000_000
 unfolding cosine
 cosine-size z = cosine-sized 3 (reduced z) (omega (arith, reduced-below z))
 
--- ---- the other sign, up to 90 degrees
+-- ---- 180 degrees less the angle, up to 90 degrees
 
 module _ (m : ℕ) (within : m ≤ 90_000_000) where
   module _ (l : m < 90_000_000) where
@@ -163,83 +159,3 @@ module _ (m : ℕ) (within : m ≤ 90_000_000) where
 
   pub cosine-second : cosine (pos (180_000_000 - m)) ≡ negℤ (cosine (pos m))
   cosine-second = ⊎-elim (λ (e : m ≡ 90_000_000). rw (e, cosine-right)) cosine-over (eq-or-lt-of-le within)
-
--- -m is a turn less m
-module _ (n : ℕ) (within : suc n ≤ 90_000_000) where
-  turned : reduced (negsuc n) ≡ 360_000_000 - suc n
-  unfolding reduced
-  turned = omega arith
-
-  sine-below : sine (negsuc n) ≡ negℤ (sine (pos (suc n)))
-  sine-below =
-      sym (sine-reduced (negsuc n))
-      ∙ ap (λ (a : ℕ). sine (pos a)) turned
-      ∙ sine-above (360_000_000 - suc n) (omega arith) (omega arith)
-      ∙ cosine-above (360_000_000 - suc n - 90_000_000) (omega arith) (omega arith)
-      ∙ ap negℤ (ap (λ (a : ℕ). sine (pos a)) (omega arith) ∙ sine-second (suc n) within)
-
-  cosine-below : cosine (negsuc n) ≡ cosine (pos (suc n))
-  cosine-below =
-      sym (cosine-reduced (negsuc n))
-      ∙ ap (λ (a : ℕ). cosine (pos a)) turned
-      ∙ cosine-above (360_000_000 - suc n) (omega arith) (omega arith)
-      ∙ ap negℤ (sine-above (360_000_000 - suc n - 90_000_000) (omega arith) (omega arith)
-      ∙ ap (λ (a : ℕ). cosine (pos a)) (omega arith)
-      ∙ cosine-second (suc n) within)
-      ∙ negℤ-negℤ (cosine (pos (suc n)))
-
-pub sine-zero : sine (pos 0) ≡ pos 0
-sine-zero = sine-first 0 (omega arith) ∙ first-zero
-
-pub sine-opposite : (m : ℕ) → m ≤ 90_000_000 → sine (negℤ (pos m)) ≡ negℤ (sine (pos m))
-sine-opposite zero h = rw sine-zero
-sine-opposite (suc n) h = sine-below n h
-
-pub cosine-opposite : (m : ℕ) → m ≤ 90_000_000 → cosine (negℤ (pos m)) ≡ cosine (pos m)
-cosine-opposite zero h = refl
-cosine-opposite (suc n) h = cosine-below n h
-
--- so the sizes are those of the angle's size
-pub sine-natAbs : (z : ℤ) → natAbs z ≤ 90_000_000 → natAbs (sine z) ≡ natAbs (sine (pos (natAbs z)))
-sine-natAbs (pos m) h = refl
-sine-natAbs (negsuc n) h = ap natAbs (sine-below n h) ∙ natAbs-opposite (sine (pos (suc n)))
-
-pub cosine-natAbs : (z : ℤ) → natAbs z ≤ 90_000_000 → cosine z ≡ cosine (pos (natAbs z))
-cosine-natAbs (pos m) h = refl
-cosine-natAbs (negsuc n) h = cosine-below n h
-
--- ---- sizes, by the entries
-
--- up to 25.1 degrees
-pub sine-small : (z : ℤ) → natAbs z ≤ 25_100_000 → natAbs (sine z) ≤ 43_000_000
-sine-small z h =
-    let m = natAbs z in
-    omega (
-      arith,
-      sine-natAbs z (omega arith),
-      ap natAbs (sine-first m (omega arith)),
-      first-most m (omega arith),
-      entry-low (m / 100_000) (omega arith),
-    )
-
--- the squares make nearly 10^16, up to 90 degrees
-pub square-sum : (z : ℤ) → natAbs z ≤ 90_000_000 → 9_982_500_000_000_000 ≤ natAbs (sine z) * natAbs (sine z) + natAbs (cosine z) * natAbs (cosine z)
-square-sum z h =
-    rw (sine-natAbs z h, cosine-natAbs z h, sine-first (natAbs z) h, cosine-first (natAbs z) h) (squares (natAbs z) h)
-  where
-    squares : (a : ℕ) → a ≤ 90_000_000
-        → 9_982_500_000_000_000 ≤ natAbs (firstQuadrant a) * natAbs (firstQuadrant a) + natAbs (firstQuadrant (90_000_000 - a)) * natAbs
-        (firstQuadrant (90_000_000 - a))
-    squares a h =
-        let k = a / 100_000 in
-        let j = (90_000_000 - a) / 100_000 in
-        let s = first-least a h in
-        let c = first-least (90_000_000 - a) (omega arith) in
-        let squares : S k * S k ≤ natAbs (firstQuadrant a) * natAbs (firstQuadrant a) = mul-le-mul s s in
-        let others : S j * S j ≤ natAbs (firstQuadrant (90_000_000 - a)) * natAbs (firstQuadrant (90_000_000 - a)) = mul-le-mul c c in
-        ⊎-elim (λ (e : j ≡ 900 - k). omega (arith, rw (← e) at (entry-squares k (omega arith))))
-        (λ (l : j < 900 - k). let e : j ≡ 899 - k = omega arith in omega (arith, rw (← e) at (entry-squares-less k (omega arith))))
-        (eq-or-lt-of-le opposite)
-      where
-        opposite : (90_000_000 - a) / 100_000 ≤ 900 - a / 100_000
-        opposite = omega arith

@@ -2,4 +2,6 @@ pub mod Station
 pub mod Place
 pub mod Sizes
 pub mod PlaceLaws
+pub mod Mirror
+pub mod MirrorLaws
 pub mod Examples

@@ -15,7 +15,8 @@ use Rattle.numbers.specs.NearLaws.{near-low, near-high, near-size}
 use Rattle.numbers.specs.Root.{root, IsRoot}
 use Rattle.numbers.specs.RootLaws.{root-is}
 use Rattle.sine.specs.Sine.{sine, cosine}
-use Rattle.sine.specs.SineLaws.{sine-size, cosine-size, square-sum}
+use Rattle.sine.specs.SineLaws.{sine-size, cosine-size}
+use Rattle.sine.specs.SizeLaws.{square-sum}
 use Rattle.station.specs.declared.Station.{Station}
 use Rattle.station.specs.Place.{equatorialRadius, E, under, W, C, Z, h, R, P, placeOf}
 use Rattle.station.specs.Sizes.{StationSizes, PlaceSizes}

@@ -16,6 +16,13 @@ extern "C" {
         shadow_len: usize,
         value: *mut u64,
     ) -> u64;
+    fn ukhtvaresh_mirror(
+        request: *const u8,
+        request_len: usize,
+        mirrored: *mut u8,
+        mirrored_len: usize,
+        value: *mut u64,
+    ) -> u64;
     fn ukhtvaresh_read(
         sheet: *const u8,
         sheet_len: usize,
@@ -83,6 +90,14 @@ pub fn second(request: &[u8], second: i64, shadow: &mut [i64]) -> Reply {
     (number, value)
 }
 
+pub fn mirror(request: &[u8], mirrored: &mut [u8]) -> Reply {
+    let mut value = UNSET;
+    let number = unsafe {
+        ukhtvaresh_mirror(request.as_ptr(), request.len(), mirrored.as_mut_ptr(), mirrored.len(), &mut value)
+    };
+    (number, value)
+}
+
 pub fn read(sheet: &[u8], entries: &mut [u32]) -> Reply {
     let mut value = UNSET;
     let number = unsafe {
@@ -101,9 +116,8 @@ pub fn write(entries: &[u32], sheet: &mut [u8]) -> Reply {
 
 pub fn listing(sheet: &[u8], text: &mut [u8]) -> Reply {
     let mut value = UNSET;
-    let number = unsafe {
-        ukhtvaresh_listing(sheet.as_ptr(), sheet.len(), text.as_mut_ptr(), text.len(), &mut value)
-    };
+    let number =
+        unsafe { ukhtvaresh_listing(sheet.as_ptr(), sheet.len(), text.as_mut_ptr(), text.len(), &mut value) };
     (number, value)
 }
 

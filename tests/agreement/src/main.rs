@@ -5,6 +5,7 @@
 //! - a sheet for each request, within and outside the limits, near the edge, slow, along it, of other shapes; the room exact, one less,
 //!   none, plenty;
 //! - eight seconds of each request, within ±10,800 and outside;
+//! - the mirror of each request; its sheet and its seconds against the request's own, directions left out; the mirror of the mirror;
 //! - sheets, whole and damaged, read and listed; and entries, whole and damaged, written; what was read is written again, and the other way;
 //! - as many fits as sheets, within the tolerance and at its edge, with numbers changed, of other lengths.
 //!
@@ -17,6 +18,7 @@ use agreement::library::{self, Reply};
 use reference::elements::FARTHEST;
 use reference::fit::judge;
 use reference::listing::sheet_of_input;
+use reference::mirror::mirror;
 use reference::random::Random;
 use reference::refusal::Refusal;
 use reference::sheet;
@@ -125,6 +127,16 @@ fn listing_both(random: &mut Random, sheet: &[u8], room: usize) -> Left<u8> {
     ours
 }
 
+fn mirror_both(random: &mut Random, request: &[u8], room: usize) -> Left<u8> {
+    let old = buffer(random, room, |bits| bits as u8);
+    let mut ours = ((0, 0), old.clone());
+    ours.0 = library::mirror(request, &mut ours.1[..room]);
+    let mut theirs = ((0, 0), old);
+    theirs.0 = reply(mirror(request, &mut theirs.1[..room]), |length| length as u64);
+    must_agree("ukhtvaresh_mirror", &(request, room), &ours, &theirs);
+    ours
+}
+
 /// The entries of a sheet that the library read with room enough, by the library.
 fn entries_of(random: &mut Random, sheet: &[u8]) -> Option<Vec<u32>> {
     let ((number, count), mut entries) = read_both(random, sheet, 4 * sheet.len());
@@ -145,9 +157,58 @@ fn round_trip(random: &mut Random, sheet: &[u8]) -> Vec<u32> {
     entries.unwrap_or_default()
 }
 
-fn request(random: &mut Random, sheets: &mut Count, seconds: &mut Count, kinds: &mut [u64; 128]) {
+/// What a second has in common with its mirror: u, the size of v, L1, L2, states and magnitude.
+fn beside_north(reply: Reply, shadow: &[i64; 8]) -> (Reply, [i64; 7]) {
+    let [u, v, l1, l2, penumbra, central, magnitude, _] = *shadow;
+    (reply, [u, v, l1, l2, penumbra, central, magnitude])
+}
+
+/// A request and its mirror: the same answer, the same entries but for directions, the same seconds but for v's sign.
+fn compare_mirror(random: &mut Random, request: &[u8], sheet: &Left<u8>) {
+    let ((number, length), mirrored) = mirror_both(random, request, 200);
+    if number != 0 {
+        return;
+    }
+    let mirrored = &mirrored[..length as usize];
+    let back = mirror_both(random, mirrored, 109).1;
+    let other = sheet_both(random, mirrored, 65_536);
+    let mut same = back[..109] == *request && other.0 == sheet.0;
+    if sheet.0 .0 == 0 {
+        let undirected = |bytes: &[u8]| {
+            let mut entries = vec![0; 4 * bytes.len()];
+            let (_, count) = library::read(bytes, &mut entries);
+            entries.truncate(4 * count as usize);
+            for entry in
+                entries.chunks_exact_mut(4).filter(|entry| [0x10, 0x11, 0x20, 0x21].contains(&entry[0]))
+            {
+                entry[3] = 0;
+            }
+            entries
+        };
+        let length = sheet.0 .1 as usize;
+        same &= undirected(&sheet.1[..length]) == undirected(&other.1[..length]);
+    }
+    for _ in 0..4 {
+        let second = random.within(&(-FARTHEST..=FARTHEST));
+        let (mut north, mut south) = ([0; 8], [0; 8]);
+        let replies =
+            (library::second(request, second, &mut north), library::second(mirrored, second, &mut south));
+        south[1] = -south[1];
+        same &= beside_north(replies.0, &north) == beside_north(replies.1, &south);
+    }
+    if !same {
+        println!("DIFFERENCE between a request and its mirror: {request:?}");
+        std::process::exit(1);
+    }
+}
+
+fn request(random: &mut Random, [sheets, seconds, mirrors]: [&mut Count; 3], kinds: &mut [u64; 128]) {
     let request = draws::request(random);
-    let ((number, needed), written) = sheet_both(random, &request, 65_536);
+    let sheet = sheet_both(random, &request, 65_536);
+    compare_mirror(random, &request, &sheet);
+    let room = draws::room(random, 109);
+    mirrors.add(mirror_both(random, &request, room).0 .0);
+    let ((number, needed), written) = sheet;
     sheets.add(number);
     let needed = if number == 0 { needed as usize } else { 43 };
     if number == 0 {
@@ -217,11 +278,11 @@ fn main() {
     };
     let start = Instant::now();
     let mut random = Random::new(seed);
-    let mut counts = ["sheet", "second", "read", "write", "listing", "fit"].map(Count::new);
+    let mut counts = ["sheet", "second", "mirror", "read", "write", "listing", "fit"].map(Count::new);
     let mut kinds = [0; 128];
-    let [of_sheets, of_seconds, of_reads, of_writes, of_listings, of_fits] = &mut counts;
+    let [of_sheets, of_seconds, of_mirrors, of_reads, of_writes, of_listings, of_fits] = &mut counts;
     for _ in 0..requests {
-        request(&mut random, of_sheets, of_seconds, &mut kinds);
+        request(&mut random, [of_sheets, of_seconds, of_mirrors], &mut kinds);
     }
     println!("{requests} requests agree, {:.1} s", start.elapsed().as_secs_f64());
     let by_kind =

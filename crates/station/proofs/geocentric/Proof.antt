@@ -13,7 +13,8 @@ use Rattle.numbers.specs.Units.{one}
 use Rattle.numbers.specs.Near.{near}
 use Rattle.numbers.specs.Value.{Value}
 use Rattle.sine.specs.Sine.{sine, cosine, IsReduced}
-use Rattle.sine.specs.SineLaws.{sine-of, cosine-of, square-sum}
+use Rattle.sine.specs.SineLaws.{sine-of, cosine-of}
+use Rattle.sine.specs.SizeLaws.{square-sum}
 use Rattle.station.specs.Place.{equatorialRadius, E, C, Z, h, R, P, placeOf}
 use Rattle.station.specs.PlaceLaws.{Z-size, h-size, scaled-size}
 use Rattle.station.proofs.geocentric.Statement.{statement}

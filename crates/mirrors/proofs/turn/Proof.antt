@@ -1,0 +1,41 @@
+-- `mirrors::turn` meets its contract: the number is read, and its opposite is put in its place. Assumes nothing.
+use borrow.Author.Needs.{needs}
+use lib.Dec.{lit≤}
+use lib.IntN.{pos}
+use lib.ListN.{getD}
+use lib.Signed.{leZ-yes}
+use Rattle.mirrors.proofs.Back.{opposite-back}
+use Rattle.mirrors.proofs.turn.Statement.{statement}
+use Rattle.mirrors.proofs.turn.Tie as tie
+
+mul-n : tie.Need-mul-n
+mul-n c = search needs
+
+element-copy-out-n : tie.Need-element-copy-out-n
+element-copy-out-n c = search needs
+
+opposite-requires : tie.Need-opposite-requires
+opposite-requires c κs = leZ-yes tt
+
+mul-t4 : tie.Need-mul-t4
+mul-t4 c = search needs
+
+element-set-from-numbers : tie.Need-element-set-from-numbers
+element-set-from-numbers c = search needs
+
+returns : tie.Need-returns
+returns c =
+    let s = c .before .before in
+    let x = c .before .n .given in
+    rw (opposite-back 2147483647 (lit≤ tt) (getD (s .args .numbers .now) (s .args .k) (pos 0)) (c .opposite .result) x (c .opposite .ensures))
+
+pub turn-spec : {M : Type 1} → statement M
+turn-spec =
+    tie.close
+    (tie.spec
+    mul-n
+    element-copy-out-n
+    opposite-requires
+    mul-t4
+    element-set-from-numbers
+    returns)

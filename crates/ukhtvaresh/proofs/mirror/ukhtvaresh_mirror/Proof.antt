@@ -1,0 +1,26 @@
+-- `ukhtvaresh::mirror::ukhtvaresh_mirror` meets its contract: the answer of the crate below, as numbers. Assumes nothing.
+use mathlib.Core.Path.{ap, _∙_}
+use borrow.Author.Needs.{needs}
+use Rattle.ukhtvaresh.specs.declared.Reply.{Reply}
+use Rattle.ukhtvaresh.specs.Replies.{sheetReply}
+use Rattle.ukhtvaresh.proofs.mirror.ukhtvaresh_mirror.Statement.{statement}
+use Rattle.ukhtvaresh.proofs.mirror.ukhtvaresh_mirror.Tie as tie
+
+mirror-bytes-requires : tie.Need-mirror-bytes-requires
+mirror-bytes-requires c κs = search needs
+
+sheet-reply-requires : tie.Need-sheet-reply-requires
+sheet-reply-requires c κs = search needs
+
+same-length : tie.Need-same-length
+same-length c = search needs
+
+returns : tie.Need-returns
+returns c =
+    let done = c .before .before .before .mirror-bytes in
+    let e = c .sheet-reply .ensures ∙ ap sheetReply (done .ensures .0) in
+    (ap (λ (x : Reply). x .number) e, (ap (λ (x : Reply). x .value) e, done .ensures .1))
+
+pub ukhtvaresh-mirror-spec : {M : Type 1} → statement M
+ukhtvaresh-mirror-spec =
+    tie.close (tie.spec mirror-bytes-requires sheet-reply-requires same-length returns)
