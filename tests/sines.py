@@ -49,6 +49,21 @@ def angle(i):
     return i * 12_345_678_901 % 20_000_000_001 - 10_000_000_000
 
 
+def by_quadrants(a):
+    """Sine and cosine by document 02's four quadrants: s, c, -s, -c and c, -s, -c, s."""
+    quadrant, less = divmod(a, 90_000_000)
+    s, c = first_quadrant(less), first_quadrant(90_000_000 - less)
+    return [(s, c), (c, -s), (-s, -c), (-c, s)][quadrant]
+
+
+def by_turns(a):
+    """Sine and cosine by document 01, a quarter turn down."""
+    return sine(a), cosine(a)
+
+
+same = 0
 for i in range(1000):
     a = angle(i) % 360_000_000
-    print(angle(i), sine(a), cosine(a))
+    print(angle(i), *by_quadrants(a), *by_turns(a))
+    same += by_quadrants(a) == by_turns(a)
+print(f"the same at {same} of 1000 angles")

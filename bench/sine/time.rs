@@ -1,10 +1,12 @@
-//! Nanoseconds a sine: over the table lent once a call, and over the constant named at each lookup. The best of 200 runs of each, in turn.
+//! Nanoseconds a sine: by quadrants and by turns over the table lent once a call, and over the constant named at each lookup. The best of
+//! 200 runs of each, in turn.
 use std::hint::black_box;
 use std::time::Instant;
 
 #[link(name = "sine_speed", kind = "static")]
 extern "C" {
     fn sines_lent(out: *mut i64, length: usize);
+    fn sines_turns(out: *mut i64, length: usize);
     fn sines_named(out: *mut i64, length: usize);
 }
 
@@ -17,13 +19,15 @@ fn nanoseconds(run: unsafe extern "C" fn(*mut i64, usize), out: &mut [i64]) -> f
 }
 
 fn main() {
-    let mut lent = vec![0; ANGLES];
-    let mut named = vec![0; ANGLES];
-    let mut best = [f64::INFINITY; 2];
+    let ways = [sines_lent, sines_turns, sines_named];
+    let mut sines = [(); 3].map(|()| vec![0; ANGLES]);
+    let mut best = [f64::INFINITY; 3];
     for _ in 0..200 {
-        best[0] = best[0].min(nanoseconds(sines_lent, &mut lent));
-        best[1] = best[1].min(nanoseconds(sines_named, &mut named));
+        for (way, run) in ways.iter().enumerate() {
+            best[way] = best[way].min(nanoseconds(*run, &mut sines[way]));
+        }
     }
-    assert_eq!(lent, named);
-    println!("lent {:.1} ns, named {:.1} ns, ratio {:.1}", best[0], best[1], best[1] / best[0]);
+    assert!(sines[0] == sines[1] && sines[0] == sines[2]);
+    let [lent, turns, named] = best;
+    println!("lent {lent:.1} ns, by turns {turns:.1} ns, ratio {:.2}; named {named:.1} ns, ratio {:.1}", lent / turns, named / lent);
 }

@@ -2,6 +2,7 @@
 --   sine-of, cosine-of               from the promises of `reduced` and of the functions: the result is the sine, or cosine, of the angle
 --   reduced-below, reduced-same      from 0 up to 360 degrees, where it changes nothing
 --   sine-first, sine-above           the rule: up to 90 degrees, and a quarter turn down; the same for the cosine
+--   sine-quarter                     a quarter turn down, at 90 degrees too; the same for the cosine
 --   sine-reduced                     of the reduced angle; the same for the cosine
 --   sine-size, cosine-size           at most 10^8 in size, at every angle
 --   sine-second                      180 degrees less the angle, up to 90 degrees; the same for the cosine
@@ -94,6 +95,22 @@ module _ (a : ℕ) (above : 90_000_000 < a) (within : a ≤ 360_000_000) where
       cosine-in a within
       ∙ rw (lt-leb a 90_000_000 above) (ap negℤ (sym (sine-in (a - 90_000_000) (omega arith) ∙ sine-more 2 (a - 90_000_000) (omega arith))))
 
+-- at 90 degrees too: the sine is the cosine of 0, and the cosine is 0
+right-sine : sine (pos 90_000_000) ≡ cosine (pos 0)
+right-sine = sine-first 90_000_000 (omega arith) ∙ sym (cosine-first 0 (omega arith))
+
+right-cosine : cosine (pos 90_000_000) ≡ negℤ (sine (pos 0))
+right-cosine = cosine-first 90_000_000 (omega arith) ∙ first-zero ∙ sym (ap negℤ (sine-first 0 (omega arith) ∙ first-zero))
+
+module _ (a : ℕ) (from : 90_000_000 ≤ a) (within : a ≤ 360_000_000) where
+  pub sine-quarter : sine (pos a) ≡ cosine (pos (a - 90_000_000))
+  sine-quarter =
+      ⊎-elim (λ (e : 90_000_000 ≡ a). rw (← e) right-sine) (λ (l : 90_000_000 < a). sine-above a l within) (eq-or-lt-of-le from)
+
+  pub cosine-quarter : cosine (pos a) ≡ negℤ (sine (pos (a - 90_000_000)))
+  cosine-quarter =
+      ⊎-elim (λ (e : 90_000_000 ≡ a). rw (← e) right-cosine) (λ (l : 90_000_000 < a). cosine-above a l within) (eq-or-lt-of-le from)
+
 -- of the reduced angle, and of one turn more
 pub sine-reduced : (z : ℤ) → sine (pos (reduced z)) ≡ sine z
 unfolding sine
@@ -138,24 +155,14 @@ cosine-size z = cosine-sized 3 (reduced z) (omega (arith, reduced-below z))
 -- ---- 180 degrees less the angle, up to 90 degrees
 
 module _ (m : ℕ) (within : m ≤ 90_000_000) where
-  module _ (l : m < 90_000_000) where
-    sine-over : sine (pos (180_000_000 - m)) ≡ sine (pos m)
-    sine-over =
-        sine-above (180_000_000 - m) (omega arith) (omega arith)
-        ∙ cosine-first (180_000_000 - m - 90_000_000) (omega arith)
-        ∙ ap firstQuadrant (omega arith)
-        ∙ sym (sine-first m within)
-
-    cosine-over : cosine (pos (180_000_000 - m)) ≡ negℤ (cosine (pos m))
-    cosine-over =
-        cosine-above (180_000_000 - m) (omega arith) (omega arith)
-        ∙ ap negℤ (sine-first (180_000_000 - m - 90_000_000) (omega arith) ∙ ap firstQuadrant (omega arith) ∙ sym (cosine-first m within))
-
-  cosine-right : cosine (pos 90_000_000) ≡ pos 0
-  cosine-right = cosine-first 90_000_000 (omega arith) ∙ first-zero
-
   pub sine-second : sine (pos (180_000_000 - m)) ≡ sine (pos m)
-  sine-second = ⊎-elim (λ (e : m ≡ 90_000_000). rw e) sine-over (eq-or-lt-of-le within)
+  sine-second =
+      sine-quarter (180_000_000 - m) (omega arith) (omega arith)
+      ∙ cosine-first (180_000_000 - m - 90_000_000) (omega arith)
+      ∙ ap firstQuadrant (omega arith)
+      ∙ sym (sine-first m within)
 
   pub cosine-second : cosine (pos (180_000_000 - m)) ≡ negℤ (cosine (pos m))
-  cosine-second = ⊎-elim (λ (e : m ≡ 90_000_000). rw (e, cosine-right)) cosine-over (eq-or-lt-of-le within)
+  cosine-second =
+      cosine-quarter (180_000_000 - m) (omega arith) (omega arith)
+      ∙ ap negℤ (sine-first (180_000_000 - m - 90_000_000) (omega arith) ∙ ap firstQuadrant (omega arith) ∙ sym (cosine-first m within))

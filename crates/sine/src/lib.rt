@@ -1,5 +1,6 @@
 // Sine and cosine. Angles are in units of 10^-6 degree, sines and cosines in units of 10^-8.
 mod entries;
+pub mod turns;
 
 ghost use mathlib.Core.Path.{_≡_};
 ghost use Prim.Native.Nat.{_≤_, _<_};
@@ -7,8 +8,6 @@ ghost use lib.IntN.{pos, natAbs};
 ghost use Rattle.sine.specs.Table.{Entry, Sines};
 ghost use Rattle.sine.specs.FirstQuadrant.{firstQuadrant};
 ghost use Rattle.sine.specs.Sine.{IsReduced, IsSine, IsCosine};
-
-const QUARTER: u64 = 90_000_000;
 
 // Table S, to be lent to whatever computes sines. Call it once a request: the array is made anew at each call.
 pub fn table() -> [u32; 901]
@@ -69,26 +68,50 @@ pub fn reduced(a: i64) -> u64
     }
 }
 
-// The sine of an angle from 0 to 360 degrees.
+// s of the page `Quadrants`: the sine of an angle from 0 to 90 degrees.
+fn s(table: &[u32], a: u64) -> i64
+    requires { ⌜ (Sines (now table)) × (a ≤ 90_000_000) ⌝ }
+    ensures { λ r. ⌜ IsSine (pos a) r ⌝ }
+{
+    first_quadrant(table, a)
+}
+
+// c of that page: the cosine, which is the sine of 90 degrees less the angle.
+fn c(table: &[u32], a: u64) -> i64
+    requires { ⌜ (Sines (now table)) × (a ≤ 90_000_000) ⌝ }
+    ensures { λ r. ⌜ IsCosine (pos a) r ⌝ }
+{
+    first_quadrant(table, 90_000_000 - a)
+}
+
+// The sine of an angle from 0 to 360 degrees: s, c, -s, -c.
 pub fn sine(table: &[u32], a: u64) -> i64
     requires { ⌜ (Sines (now table)) × (a ≤ 360_000_000) ⌝ }
     ensures { λ r. ⌜ IsSine (pos a) r ⌝ }
 {
-    if a <= QUARTER {
-        first_quadrant(table, a)
+    if a <= 90_000_000 {
+        s(table, a)
+    } else if a <= 180_000_000 {
+        c(table, a - 90_000_000)
+    } else if a <= 270_000_000 {
+        -s(table, a - 180_000_000)
     } else {
-        cosine(table, a - QUARTER)
+        -c(table, a - 270_000_000)
     }
 }
 
-// The cosine of an angle from 0 to 360 degrees.
+// The cosine of an angle from 0 to 360 degrees: c, -s, -c, s.
 pub fn cosine(table: &[u32], a: u64) -> i64
     requires { ⌜ (Sines (now table)) × (a ≤ 360_000_000) ⌝ }
     ensures { λ r. ⌜ IsCosine (pos a) r ⌝ }
 {
-    if a <= QUARTER {
-        first_quadrant(table, QUARTER - a)
+    if a <= 90_000_000 {
+        c(table, a)
+    } else if a <= 180_000_000 {
+        -s(table, a - 90_000_000)
+    } else if a <= 270_000_000 {
+        -c(table, a - 180_000_000)
     } else {
-        -sine(table, a - QUARTER)
+        s(table, a - 270_000_000)
     }
 }

@@ -1,5 +1,5 @@
-// Prints a thousand angles, each with its sine and cosine: borders of quadrants and octants, tenths of a degree, and angles spread over
-// all that can arise, each border and tenth with the angles beside it.
+// Prints a thousand angles, each with its sine and cosine by quadrants and by turns, and at how many of them both ways give the same. The
+// angles: borders of quadrants and octants, tenths of a degree, each with the angles beside it, and angles spread over all that can arise.
 use libc::STDOUT_FILENO;
 ghost use Prim.Native.Nat.{_+_, _≤_, _<_};
 ghost use lib.IntN.{natAbs};
@@ -8,7 +8,9 @@ ghost use Rattle.sine.specs.Table.{Sines};
 fn main() {
     let table = sine::table();
     let mut lines = [0u8; 65536];
-    let end = put_rows(&mut lines, &table);
+    let rows = put_rows(&mut lines, &table);
+    let counts = [same_rows(&table) as i64, 1000];
+    let end = decimals::put_filled(&mut lines, rows, b"the same at # of # angles\n", &counts);
     let written = decimals::clipped(&lines, end);
     io::write_all(STDOUT_FILENO, &lines[..written]);
 }
@@ -48,13 +50,42 @@ fn less(x: u64, y: u64) -> i64
     x as i64 - y as i64
 }
 
-// The angle, its sine and its cosine.
+// The angle, its sine and cosine by quadrants, and by turns.
 fn put_row(out: &mut [u8], at: usize, table: &[u32], angle: i64) -> usize
     requires { ⌜ (Sines (now table)) × (natAbs angle ≤ 10_000_000_000) ⌝ }
 {
     let a = sine::reduced(angle);
     let s = sine::sine(table, a);
     let c = sine::cosine(table, a);
-    let numbers = [angle, s, c];
-    decimals::put_filled(out, at, b"# # #\n", &numbers)
+    let turned_s = sine::turns::sine(table, a);
+    let turned_c = sine::turns::cosine(table, a);
+    let numbers = [angle, s, c, turned_s, turned_c];
+    decimals::put_filled(out, at, b"# # # # #\n", &numbers)
+}
+
+// At how many of the angles both ways give the same.
+fn same_rows(table: &[u32]) -> u64
+    requires { ⌜ Sines (now table) ⌝ }
+    ensures { λ r. ⌜ r ≤ 1000 ⌝ }
+{
+    let mut count = 0;
+    for i in 0..1000 {
+        count += same(table, angle(i));
+    }
+    count
+}
+
+// 1 where both ways give the same, else 0.
+fn same(table: &[u32], angle: i64) -> u64
+    requires { ⌜ (Sines (now table)) × (natAbs angle ≤ 10_000_000_000) ⌝ }
+    ensures { λ r. ⌜ r ≤ 1 ⌝ }
+{
+    let a = sine::reduced(angle);
+    if sine::sine(table, a) != sine::turns::sine(table, a) {
+        return 0;
+    }
+    if sine::cosine(table, a) != sine::turns::cosine(table, a) {
+        return 0;
+    }
+    1
 }

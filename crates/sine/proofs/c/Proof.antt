@@ -1,0 +1,22 @@
+-- `sine::c` meets its contract: up to 90 degrees the cosine is the sine of 90 degrees less the angle.
+use borrow.Author.Needs.{needs}
+use mathlib.Core.Path.{sym, _∙_}
+use Rattle.sine.specs.SineLaws.{cosine-first}
+use Rattle.sine.proofs.Values.{is-cosine, kept}
+use Rattle.sine.proofs.c.Statement.{statement}
+use Rattle.sine.proofs.c.Tie as tie
+
+sub-first-quadrant : tie.Need-sub-first-quadrant
+sub-first-quadrant c = search needs
+
+first-quadrant-requires : tie.Need-first-quadrant-requires
+first-quadrant-requires c κs = search needs
+
+returns : tie.Need-returns
+returns c =
+    let b = c .before .before in
+    let q = c .first-quadrant in
+    is-cosine (kept (q .ok) (q .ensures) ∙ sym (cosine-first (b .args .a) (b .pre .1)))
+
+pub c-spec : {M : Type 1} → statement M
+c-spec = tie.close (tie.spec sub-first-quadrant first-quadrant-requires returns)
