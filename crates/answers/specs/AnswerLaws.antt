@@ -12,7 +12,7 @@ use Rattle.input.specs.Sheet.{answerTo, bufferFor}
 use Rattle.input.specs.SheetLaws.{written-fits}
 use Rattle.decimals.specs.Texts.{Put, Counts}
 use Rattle.decimals.specs.TextLaws.{put-nil}
-use Rattle.listings.specs.Lines.{refusalLine}
+use Rattle.lines.specs.Lines.{refusalLine}
 use Rattle.listings.specs.Listings.{told, printed}
 use Rattle.answers.specs.Answers.{Begins, textBy, answerText, storedBy, sheetStored, errorBy, errorLine}
 

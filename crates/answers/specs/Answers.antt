@@ -7,7 +7,7 @@ use lib.ListN.{length, take}
 use Rattle.circumstances.specs.declared.Answer.{Answer}
 use Rattle.circumstances.specs.declared.Answer.the-variants as A
 use Rattle.input.specs.Sheet.{answerTo, bufferFor}
-use Rattle.listings.specs.Lines.{refusalLine}
+use Rattle.lines.specs.Lines.{refusalLine}
 use Rattle.listings.specs.Listings.{told, printed}
 
 -- the listing of the bytes that the sheet has in the room; or "A refusal prints `refused`, number, place."

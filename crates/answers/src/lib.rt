@@ -6,7 +6,7 @@ ghost use mathlib.Core.Path.{_≡_};
 ghost use lib.ListN.{length};
 ghost use Rattle.input.specs.Sheet.{bufferFor};
 ghost use Rattle.decimals.specs.Texts.{Put, Counts};
-ghost use Rattle.listings.specs.Lines.{refusalLine};
+ghost use Rattle.lines.specs.Lines.{refusalLine};
 ghost use Rattle.listings.specs.Answers.{text, answered, roomWith};
 ghost use Rattle.answers.specs.Answers.{textBy, answerText, Begins, sheetStored, errorLine};
 ghost use Rattle.answers.specs.AnswerLaws.{Fits};
@@ -24,7 +24,7 @@ fn put_refused(refusal: Refusal, out: &mut [u8]) -> usize
 {
     let number = refusal.number as u64;
     let place = refusal.place as u64;
-    listings::lines::put_refusal_line(out, 0, number, place)
+    lines::put_refusal_line(out, 0, number, place)
 }
 
 // The text of an answer whose sheet stands at the room's start.

@@ -1,43 +1,71 @@
-// Reads cases from standard input, 113 bytes each: the room for a sheet, 2 bytes; the length of a request, 1 byte; and its bytes, of 110.
-// Prints for each the listing of its sheet; or the refusal.
+// Reads cases from standard input, 65,536 bytes at most, 113 bytes each: the room for a sheet, 2 bytes; the length of a request, 1 byte;
+// and its bytes, of 110. Prints for each the listing of its sheet; or the refusal.
 use libc::STDIN_FILENO;
 use libc::STDOUT_FILENO;
-ghost use Prim.Native.Nat.{_<_};
 ghost use mathlib.Core.Path.{_≡_};
+ghost use Prim.Native.Nat.{_≤_};
 ghost use lib.ListN.{length};
+ghost use Rattle.decimals.specs.Texts.{Put};
+ghost use Rattle.answers.specs.Answers.{answerText};
+ghost use Rattle.cases.specs.Printed.{caseText, printed};
+ghost use Rattle.cases.specs.PrintedLaws.{Zeros};
 
 fn wide(x: u8) -> usize
-    ensures { λ r. ⌜ r < 256 ⌝ }
+    ensures { λ r. ⌜ r ≡ x ⌝ }
 {
     x as usize
 }
 
-// The text of a case; none where its request is longer than the case.
-fn put_case(case: &[u8], out: &mut [u8]) -> usize
-    requires { ⌜ length (now case) ≡ 113 ⌝ }
+// The answer to a request, from `at` on.
+fn put_answer(out: &mut [u8], at: usize, request: &[u8], room: &mut [u8]) -> usize
+    ensures { λ r. ⌜ Put (now (out .entry)) at (answerText (now (request .entry)) (now (room .entry))) (now (out .exit)) r ⌝ }
 {
-    let room = wide(case[0]) * 256 + wide(case[1]);
-    let end = wide(case[2]) + 3;
-    if 113 < end {
-        return 0;
-    }
-    let mut buf = io::large_buffer();
-    answers::put_answer(&case[3..end], &mut buf[..room], out)
+    let from = decimals::clipped(out, at);
+    let n = answers::put_answer(request, room, &mut out[from..]);
+    decimals::after(at, n)
 }
 
-// Nothing says that an input ends, so the loop counts its turns down, from a number that no run uses up.
-fn main() {
-    let mut turns = u64::MAX;
-    while turns > 0 {
-        let mut case = [0u8; 113];
-        if io::read_full(STDIN_FILENO, &mut case) < 113 {
-            return;
-        }
-        // 29 bytes of text at most for 5 bytes of a sheet, and the head and closest lines
-        let mut text = [0u8; 400000];
-        let end = put_case(&case, &mut text);
-        let written = decimals::clipped(&text, end);
-        io::write_all(STDOUT_FILENO, &text[..written]);
-        turns -= 1;
+fn zeros() -> [u8; 65536]
+    ensures { λ r. ⌜ Zeros 65536 r ⌝ }
+{
+    [0; 65536]
+}
+
+// The text of a case.
+fn put_case(out: &mut [u8], at: usize, bytes: &[u8]) -> usize
+    requires { ⌜ 113 ≤ length (now bytes) ⌝ }
+    ensures { λ r. ⌜ Put (now (out .entry)) at (caseText (now (bytes .entry))) (now (out .exit)) r ⌝ }
+{
+    let size = records::two_at(bytes, 0) as usize;
+    let length = wide(bytes[2]);
+    if 110 < length {
+        return at;
     }
+    let end = 3 + length;
+    let mut room = zeros();
+    put_answer(out, at, &bytes[3..end], &mut room[..size])
+}
+
+// The text of each case of the input.
+fn put_cases(out: &mut [u8], input: &[u8]) -> usize
+    ensures { λ r. ⌜ Put (now (out .entry)) 0 (printed (now (input .entry))) (now (out .exit)) r ⌝ }
+{
+    let count = input.len() / 113;
+    let mut at = 0;
+    for k in 0..count {
+        let from = k * 113;
+        let end = from + 113;
+        at = put_case(out, at, &input[from..end]);
+    }
+    at
+}
+
+fn main() {
+    let mut input = io::large_buffer();
+    let length = io::read_full(STDIN_FILENO, &mut input);
+    // 579 answers; a text that is longer is cut
+    let mut text = [0u8; 400_000];
+    let end = put_cases(&mut text, &input[..length]);
+    let written = decimals::clipped(&text, end);
+    io::write_all(STDOUT_FILENO, &text[..written]);
 }

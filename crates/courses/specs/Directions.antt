@@ -1,21 +1,10 @@
--- A sheet with its directions left out, and courses that differ in nothing else.
-use mathlib.Core.Path.{_≡_, refl, sym, ap, ap₂, _∙_}
-use mathlib.Core.List.{List, [], _∷_, _++_, map, map-append}
-use Prim.Native.Nat.{ℕ, _+_}
-use lib.IntN.{ℤ}
-use lib.ListN.{length}
-use Rattle.phases.specs.declared.Phase.{Phase}
-use Rattle.contacts.specs.declared.Entry as Contact
-use Rattle.contacts.specs.declared.Entry.the-variants as C
-use Rattle.contacts.specs.Entries.{entries}
+-- A sheet with its directions left out. Definitions only.
+use mathlib.Core.Path.{_≡_}
+use mathlib.Core.List.{List, map}
 use Rattle.kinds.specs.declared.Kind.{Kind}
 use Rattle.kinds.specs.declared.Kind.the-variants as K
 use Rattle.kinds.specs.declared.Entry.{Entry}
-use Rattle.kinds.specs.Kinds.{sizeOf}
-use Rattle.kinds.specs.Entries.{enter, leave, end}
-use Rattle.records.specs.Entries.{bytesOf}
-use Rattle.records.specs.EntryLaws.{length-bytes-cons}
-use Rattle.courses.specs.Courses.{Course, statesOf, entryOf, phaseEntries, entriesOf, headEntry, closestEntry, sheetOf}
+use Rattle.kinds.specs.Entries.{enter, leave}
 
 -- an entry with its direction left out, which enter and leave have
 abbrev pub directionless : Kind → Entry → Entry
@@ -33,61 +22,3 @@ withoutDirection e = directionless (e .kind) e
 -- the same entries in the same places, directions left out
 abbrev pub AlikeButDirections : (es fs : List Entry) → Type 0
 AlikeButDirections es fs = map withoutDirection es ≡ map withoutDirection fs
-
--- ---- so the same length in bytes
-keeps-kind : (k : Kind) (e : Entry) → e .kind ≡ k → directionless k e .kind ≡ k
-keeps-kind (K.Enter φ) e h = refl
-keeps-kind (K.Leave φ) e h = refl
-keeps-kind K.Head e h = h
-keeps-kind (K.Graze φ) e h = h
-keeps-kind (K.Open φ) e h = h
-keeps-kind K.Closest e h = h
-keeps-kind K.End e h = h
-
-without-length : (es : List Entry) → length (bytesOf (map withoutDirection es)) ≡ length (bytesOf es)
-without-length [] = refl
-without-length (e ∷ es) =
-    length-bytes-cons (withoutDirection e) (map withoutDirection es)
-    ∙ ap₂ (λ (k : Kind) (n : ℕ). sizeOf k + n) (keeps-kind (e .kind) e refl) (without-length es)
-    ∙ sym (length-bytes-cons e es)
-
-pub alike-length : (es fs : List Entry) → AlikeButDirections es fs → length (bytesOf es) ≡ length (bytesOf fs)
-alike-length es fs h = sym (without-length es) ∙ ap (λ (l : List Entry). length (bytesOf l)) h ∙ without-length fs
-
--- ---- a course with other directions
-abbrev pub redirected : Course → (ℤ → ℕ) → Course
-redirected c f =
-    record { station = c .station; window = c .window; phases = c .phases; state = c .state; direction = f; closest = c .closest; magnitude = c .magnitude }
-
-module _ (c : Course) (f : ℤ → ℕ) where
-  abbrev c′ : Course
-  c′ = redirected c f
-
-  entry-alike : (φ : Phase) (e : Contact.Entry) → withoutDirection (entryOf c′ φ e) ≡ withoutDirection (entryOf c φ e)
-  entry-alike φ (C.Enter a b) = refl
-  entry-alike φ (C.Leave a b) = refl
-  entry-alike φ (C.Graze a b) = refl
-  entry-alike φ (C.Open a b) = refl
-
-  entries-alike : (φ : Phase) (es : List Contact.Entry) → AlikeButDirections (map (entryOf c′ φ) es) (map (entryOf c φ) es)
-  entries-alike φ [] = refl
-  entries-alike φ (e ∷ es) = ap₂ (λ (x : Entry) (l : List Entry). x ∷ l) (entry-alike φ e) (entries-alike φ es)
-
-  phase-alike : (φ : Phase) → AlikeButDirections (phaseEntries c′ φ) (phaseEntries c φ)
-  unfolding phaseEntries statesOf
-  phase-alike φ = entries-alike φ (entries (statesOf c φ))
-
-  append-alike : (es fs gs hs : List Entry) → AlikeButDirections es fs → AlikeButDirections gs hs → AlikeButDirections (es ++ gs) (fs ++ hs)
-  append-alike es fs gs hs a b =
-      map-append withoutDirection es gs ∙ ap₂ (λ (x y : List Entry). x ++ y) a b ∙ sym (map-append withoutDirection fs hs)
-
-  phases-alike : (φs : List Phase) → AlikeButDirections (entriesOf c′ φs) (entriesOf c φs)
-  phases-alike [] = refl
-  phases-alike (φ ∷ φs) = append-alike (phaseEntries c′ φ) (phaseEntries c φ) (entriesOf c′ φs) (entriesOf c φs) (phase-alike φ) (phases-alike φs)
-
-  pub sheet-alike : AlikeButDirections (sheetOf c′) (sheetOf c)
-  unfolding sheetOf headEntry closestEntry
-  sheet-alike =
-      let tail = closestEntry c ∷ end ∷ [] in
-      ap (λ (l : List Entry). headEntry c ∷ l)
-      (append-alike (entriesOf c′ (c .phases)) (entriesOf c (c .phases)) tail tail (phases-alike (c .phases)) refl)

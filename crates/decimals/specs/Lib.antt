@@ -5,3 +5,5 @@ pub mod TextLaws
 pub mod Patterns
 pub mod PatternLaws
 pub mod Examples
+pub mod Rows
+pub mod RowLaws

@@ -1,14 +1,14 @@
 -- Texts put one after the other.
-use Prim.Native.Nat.{ℕ, suc, _+_, _≤_, _<_}
+use Prim.Native.Nat.{ℕ, zero, suc, _+_, _-_, _≤_, _<_, min}
 use mathlib.Core.Path.{_≡_, refl, sym, ap, _∙_}
-use mathlib.Core.List.{List, [], _∷_, _++_}
+use mathlib.Core.List.{List, [], _∷_, _++_, append-nil}
 use mathlib.Core.Bool.{Bool, true, false}
 use native.Mathlib.Omega.{arith}
-use native.Mathlib.Nat.{add-zero, min-eq-left, min-eq-right}
+use native.Mathlib.Nat.{add-zero, add-comm, le-of-lt, min-eq-left, min-eq-right, min-le-right}
 use borrow.Author.Tests.{leb-true, leb-false}
 use lib.Dec.{leb}
-use lib.ListN.{length, length-append, set}
-use lib.Seq.{sets, set-out, length-sets}
+use lib.ListN.{length, length-append, length-drop, drop-of-length-le, set, take, drop}
+use lib.Seq.{sets, set-out, length-sets, take-all}
 use Rattle.decimals.specs.Texts.{capped, Put}
 
 -- ---- the cap
@@ -99,6 +99,43 @@ put-past old at x h g = record { place = sym (capped-low (at + 1) g); room = sym
 -- a byte at the greatest place
 pub put-last : (old : List ℕ) (at x : ℕ) → length old ≤ at → at ≡ 18446744073709551615 → Put old at (x ∷ []) old at
 put-last old at x h e = record { place = e ∙ sym (capped-high (at + 1) (omega arith)); room = sym (set-out old at x h) }
+
+-- ---- a text put at the start of what is left of a room
+
+sets-cons : (x : ℕ) (text l : List ℕ) (n : ℕ) → sets (x ∷ l) (suc n) text ≡ x ∷ sets l n text
+sets-cons x [] l n = refl
+sets-cons x (a ∷ text) l n = sets-cons x text (set l n a) (suc n)
+
+sets-left : (n : ℕ) (l text : List ℕ) → n ≤ length l → take n l ++ sets (drop n l) 0 text ≡ sets l n text
+sets-left zero l text h = refl
+sets-left (suc n) [] text h = absurd (omega arith)
+sets-left (suc n) (x ∷ l) text h = ap (λ k. x ∷ k) (sets-left n l text (omega arith)) ∙ sym (sets-cons x text l n)
+
+sets-clipped : (l text : List ℕ) (at : ℕ) → sets l (min at (length l)) text ≡ sets l at text
+sets-clipped l text at = by (leb at (length l)) refl
+  where
+    by : (b : Bool) → leb at (length l) ≡ b → sets l (min at (length l)) text ≡ sets l at text
+    by true b = rw (min-eq-left (leb-true at (length l) b))
+    by false b =
+        let h = leb-false at (length l) b in
+        rw (min-eq-right (le-of-lt h)) (sets-past text l (length l) (omega arith) ∙ sym (sets-past text l at (omega arith)))
+
+-- as a caller lends what is left, and gets it back
+pub put-left : (old : List ℕ) (at from : ℕ) (text new : List ℕ) (n r : ℕ) → from ≡ min at (length old)
+    → Put (take (length old - from) (drop from old)) 0 text new n → r ≡ capped (at + n)
+    → Put old at text (take from old ++ (new ++ drop (length old - from) (drop from old))) r
+put-left old at from text new n r e p q =
+    let s : capped (at + capped (0 + length text)) ≡ capped (capped (0 + length text) + at) = ap capped (add-comm at (capped (0 + length text))) in
+    let t : 0 + length text + at ≡ at + length text = omega arith in
+    let h : from ≤ length old = omega (arith, e, min-le-right at (length old)) in
+    let l : length (drop from old) ≤ length old - from = omega (arith, length-drop from old) in
+    record {
+      place = q ∙ ap (λ k. capped (at + k)) (p .place) ∙ s ∙ capped-sum (0 + length text) at ∙ ap capped t;
+      room =
+          ap (λ k. take from old ++ (new ++ k)) (drop-of-length-le (drop from old) l)
+          ∙ ap (λ k. take from old ++ k) (append-nil new ∙ p .room ∙ ap (λ k. sets k 0 text) (take-all (length old - from) (drop from old) l))
+          ∙ sets-left from old text h ∙ ap (λ k. sets old k text) e ∙ sets-clipped old text at;
+    }
 
 -- ---- a text that is being put: what is left of it, once put, gives what is to be left
 

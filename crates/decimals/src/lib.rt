@@ -4,11 +4,11 @@
 // and a room of no bytes measures them.
 ghost use mathlib.Core.Path.{_≡_};
 ghost use mathlib.Core.List.{[], _∷_};
-ghost use Prim.Native.Nat.{_<_, min};
+ghost use Prim.Native.Nat.{_+_, _<_, min};
 ghost use lib.IntN.{pos, natAbs};
 ghost use lib.ListN.{length, getD};
 ghost use Rattle.decimals.specs.Decimals.{decimal, signed};
-ghost use Rattle.decimals.specs.Texts.{Put, Counts};
+ghost use Rattle.decimals.specs.Texts.{capped, Put, Counts};
 ghost use Rattle.decimals.specs.Patterns.{piece, numberAfter, filled};
 
 // A byte.
@@ -34,6 +34,16 @@ pub fn clipped(out: &[u8], end: usize) -> usize
         return end;
     }
     out.len()
+}
+
+// The place n bytes after another, or the greatest place where that lies past it.
+pub fn after(at: usize, n: usize) -> usize
+    ensures { λ r. ⌜ r ≡ capped (at + n) ⌝ }
+{
+    if n <= usize::MAX - at {
+        return at + n;
+    }
+    usize::MAX
 }
 
 // Bytes as they are.

@@ -1,18 +1,28 @@
-// Reads proposed fits from standard input, 96 bytes each: four coefficients, seven tabulated values and the tolerance, signed,
-// 8 bytes big-endian. Prints for each a line: `accepted`, or `refused`, number, place.
-ghost use Prim.Native.Nat.{_<_};
+// Reads proposed fits from standard input, 65,536 bytes at most, 96 bytes each: four coefficients, seven tabulated values and the
+// tolerance, signed, 8 bytes big-endian. Prints for each a line: `accepted`, or `refused`, number, place.
+use libc::STDIN_FILENO;
+use libc::STDOUT_FILENO;
+ghost use mathlib.Core.Path.{_≡_};
+ghost use Prim.Native.Nat.{_+_, _*_, _≤_, _<_};
+ghost use lib.ListN.{length};
+ghost use Rattle.request_bytes.specs.Layout.{signed};
+ghost use Rattle.decimals.specs.Texts.{Put};
+ghost use Rattle.fitted.specs.Printed.{eightAt, numberAt, answerLine, answerTo, recordLine, printed};
 
-// Four bytes as one number, the highest first.
-fn unsigned(a: u8, b: u8, c: u8, d: u8) -> u32 {
-    ((a as u32 * 256 + b as u32) * 256 + c as u32) * 256 + d as u32
-}
-
-fn joined(high: u32, low: u32) -> u64 {
-    high as u64 * 4_294_967_296 + low as u64
+// The number of eight bytes, the highest first.
+fn eight_at(bytes: &[u8], at: usize) -> u64
+    requires { ⌜ at + 8 ≤ length (now bytes) ⌝ }
+    ensures { λ r. ⌜ r ≡ eightAt (now (bytes .entry)) at ⌝ }
+{
+    let high = records::four_at(bytes, at) as u64;
+    let low = records::four_at(bytes, at + 4) as u64;
+    high * 4_294_967_296 + low
 }
 
 // The number whose 64 bits are those of x.
-fn signed(x: u64) -> i64 {
+fn signed(x: u64) -> i64
+    ensures { λ r. ⌜ r ≡ signed 9223372036854775808 x ⌝ }
+{
     if x < 9_223_372_036_854_775_808 {
         x as i64
     } else {
@@ -21,68 +31,78 @@ fn signed(x: u64) -> i64 {
 }
 
 // Number k of the twelve.
-fn number_at(record: &[u8; 96], k: usize) -> i64
-    requires { ⌜ k < 12 ⌝ }
+fn number_at(bytes: &[u8], k: usize) -> i64
+    requires { ⌜ (k < 12) × (96 ≤ length (now bytes)) ⌝ }
+    ensures { λ r. ⌜ r ≡ numberAt (now (bytes .entry)) k ⌝ }
 {
-    let at = 8 * k;
-    let high = unsigned(record[at], record[at + 1], record[at + 2], record[at + 3]);
-    let low = unsigned(
-        record[at + 4],
-        record[at + 5],
-        record[at + 6],
-        record[at + 7],
-    );
-    signed(joined(high, low))
+    signed(eight_at(bytes, 8 * k))
 }
 
-fn print_answer(answer: fits::Answer) {
+fn put_answer(out: &mut [u8], at: usize, answer: fits::Answer) -> usize
+    ensures { λ r. ⌜ Put (now (out .entry)) at (answerLine answer) (now (out .exit)) r ⌝ }
+{
     match answer {
-        fits::Answer::Accepted => {
-            io::write_all(1, b"accepted");
-        }
+        fits::Answer::Accepted => decimals::put_text(out, at, b"accepted\n"),
         fits::Answer::Refused(refusal) => {
-            io::write_all(1, b"refused ");
-            io::print_decimal(1, refusal.number as u64);
-            io::write_all(1, b" ");
-            io::print_decimal(1, refusal.place as u64);
+            let number = refusal.number as u64;
+            let place = refusal.place as u64;
+            lines::put_refusal_line(out, at, number, place)
         }
     }
-    io::write_all(1, b"\n");
 }
 
-fn print_fit(record: &[u8; 96]) {
+// What is said of one fit's 96 bytes.
+fn answer_to(bytes: &[u8]) -> fits::Answer
+    requires { ⌜ 96 ≤ length (now bytes) ⌝ }
+    ensures { λ r. ⌜ r ≡ answerTo (now (bytes .entry)) ⌝ }
+{
     let coefficients = [
-        number_at(record, 0),
-        number_at(record, 1),
-        number_at(record, 2),
-        number_at(record, 3),
+        number_at(bytes, 0),
+        number_at(bytes, 1),
+        number_at(bytes, 2),
+        number_at(bytes, 3),
     ];
     let tabulated = [
-        number_at(record, 4),
-        number_at(record, 5),
-        number_at(record, 6),
-        number_at(record, 7),
-        number_at(record, 8),
-        number_at(record, 9),
-        number_at(record, 10),
+        number_at(bytes, 4),
+        number_at(bytes, 5),
+        number_at(bytes, 6),
+        number_at(bytes, 7),
+        number_at(bytes, 8),
+        number_at(bytes, 9),
+        number_at(bytes, 10),
     ];
-    print_answer(fits::fit(&coefficients, &tabulated, number_at(record, 11)));
+    fits::fit(&coefficients, &tabulated, number_at(bytes, 11))
 }
 
-// Reads one fit and prints its line, or answers false where the input ends.
-fn print_next_fit() -> bool {
-    let mut record = [0u8; 96];
-    if io::read_full(0, &mut record) < 96 {
-        return false;
+// The line of one fit.
+fn put_record(out: &mut [u8], at: usize, bytes: &[u8]) -> usize
+    requires { ⌜ 96 ≤ length (now bytes) ⌝ }
+    ensures { λ r. ⌜ Put (now (out .entry)) at (recordLine (now (bytes .entry))) (now (out .exit)) r ⌝ }
+{
+    let answer = answer_to(bytes);
+    put_answer(out, at, answer)
+}
+
+// A line for each fit of the input.
+fn put_fits(out: &mut [u8], input: &[u8]) -> usize
+    ensures { λ r. ⌜ Put (now (out .entry)) 0 (printed (now (input .entry))) (now (out .exit)) r ⌝ }
+{
+    let count = input.len() / 96;
+    let mut at = 0;
+    for k in 0..count {
+        let from = k * 96;
+        let end = from + 96;
+        at = put_record(out, at, &input[from..end]);
     }
-    print_fit(&record);
-    true
+    at
 }
 
-// Nothing says that an input ends, so the loop counts its turns down, from a number that no run uses up.
 fn main() {
-    let mut turns = u64::MAX;
-    while turns > 0 && print_next_fit() {
-        turns -= 1;
-    }
+    let mut input = io::large_buffer();
+    let length = io::read_full(STDIN_FILENO, &mut input);
+    // 682 lines of 13 bytes at most: a refusal's number has two digits, its place one
+    let mut lines = [0u8; 16384];
+    let end = put_fits(&mut lines, &input[..length]);
+    let written = decimals::clipped(&lines, end);
+    io::write_all(STDOUT_FILENO, &lines[..written]);
 }

@@ -19,4 +19,4 @@ pub mod Sizes
 pub mod DirectionLaws
 pub mod MagnitudeLaws
 pub mod Examples
-pub mod Mirror
+pub mod MirrorLaws

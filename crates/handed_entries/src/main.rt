@@ -38,7 +38,7 @@ fn put_bytes(out: &mut [u8], start: usize, bytes: &[u8]) -> usize {
 // A word, then an answer.
 fn put_answer(out: &mut [u8], at: usize, word: &[u8], answer: Extent) -> usize {
     let next = decimals::put_text(out, at, word);
-    listings::lines::put_extent(out, next, answer)
+    lines::put_extent(out, next, answer)
 }
 
 fn put_list(out: &mut [u8], start: usize, list: &[u32]) -> usize {

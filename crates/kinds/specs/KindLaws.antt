@@ -1,8 +1,8 @@
 -- Laws of the table of kinds.
-use Prim.Native.Nat.{ℕ, _≤_, _<_}
+use Prim.Native.Nat.{ℕ, _-_, _*_, _/_, _%_, _≤_, _<_}
 use mathlib.Core.Path.{_≡_, refl, sym, ap, _∙_}
 use mathlib.Core.List.{List, [], _∷_}
-use mathlib.Core.Bool.{true, cond}
+use mathlib.Core.Bool.{true, false, cond}
 use native.Mathlib.Omega.{arith}
 use native.Mathlib.Decide.{ℕ-discrete}
 use borrow.Author.Tests.{eq-eqb, ne-eqb, eqb-true}
@@ -13,8 +13,8 @@ use Rattle.kinds.specs.declared.Width.{Width}
 use Rattle.kinds.specs.declared.Width.the-variants.{Absent, Two, Four}
 use Rattle.kinds.specs.declared.Entry.{Entry}
 use Rattle.kinds.specs.declared.Named.the-variants.{Is, Unknown}
-use Rattle.kinds.specs.TestLaws.{both}
-use Rattle.kinds.specs.Kinds.{codeOf, kinds, among, kindFor, widthsOf, bytesIn, sizeOf, unused, plain}
+use Rattle.kinds.specs.TestLaws.{both, distinct}
+use Rattle.kinds.specs.Kinds.{codeOf, kinds, among, kindFor, widthsOf, bytesIn, sizeOf, isEnd, unused, plain}
 
 pub no-kind : (x : ℕ) → (x ≡ 0x01 → ⊥) → (x ≡ 0x10 → ⊥) → (x ≡ 0x11 → ⊥) → (x ≡ 0x12 → ⊥) → (x ≡ 0x13 → ⊥)
     → (x ≡ 0x20 → ⊥) → (x ≡ 0x21 → ⊥) → (x ≡ 0x22 → ⊥) → (x ≡ 0x23 → ⊥) → (x ≡ 0x30 → ⊥) → (x ≡ 0x7f → ⊥) → kindFor x ≡ Unknown
@@ -69,6 +69,41 @@ pub size-small : (k : Kind) → (0 < sizeOf k) × (sizeOf k ≤ 17)
 size-small k =
     let w = widthsOf k in
     omega (arith, width-small (w .a), width-small (w .b), width-small (w .c), width-small (w .d))
+
+pub size-seven : (k : Kind) → sizeOf k ≤ 7
+size-seven K.Head = omega arith
+size-seven (K.Enter φ) = omega arith
+size-seven (K.Leave φ) = omega arith
+size-seven (K.Graze φ) = omega arith
+size-seven (K.Open φ) = omega arith
+size-seven K.Closest = omega arith
+size-seven K.End = omega arith
+
+-- the bytes of a record by its kind's byte: a graze's and an open's have the bit of two and two bytes less; only the end has less still
+abbrev pub shortened : ℕ → ℕ
+shortened code = 7 - code % 4 / 2 * 2
+
+pub size-end : (k : Kind) → isEnd k ≡ true → sizeOf k ≡ 1
+size-end K.Head e = absurd (distinct (sym e))
+size-end (K.Enter φ) e = absurd (distinct (sym e))
+size-end (K.Leave φ) e = absurd (distinct (sym e))
+size-end (K.Graze φ) e = absurd (distinct (sym e))
+size-end (K.Open φ) e = absurd (distinct (sym e))
+size-end K.Closest e = absurd (distinct (sym e))
+size-end K.End e = refl
+
+pub size-byte : (k : Kind) → isEnd k ≡ false → shortened (codeOf k) ≡ sizeOf k
+size-byte K.Head e = refl
+size-byte (K.Enter Penumbra) e = refl
+size-byte (K.Enter Central) e = refl
+size-byte (K.Leave Penumbra) e = refl
+size-byte (K.Leave Central) e = refl
+size-byte (K.Graze Penumbra) e = refl
+size-byte (K.Graze Central) e = refl
+size-byte (K.Open Penumbra) e = refl
+size-byte (K.Open Central) e = refl
+size-byte K.Closest e = refl
+size-byte K.End e = absurd (distinct e)
 
 -- what the kind does not use is 0
 pub plain-inv : (e : Entry) → plain e ≡ true → let w = widthsOf (e .kind) in

@@ -5,12 +5,12 @@ pub mod seconds;
 
 use phases::Phase;
 ghost use mathlib.Core.Path.{_≡_};
-ghost use Prim.Native.Nat.{_≤_};
-ghost use Rattle.kinds.specs.Kinds.{base, codeOf, kindFor, bytesIn, fields, widthsOf, sizeOf, isEnd, unused, plain};
+ghost use Prim.Native.Nat.{_+_, _≤_};
+ghost use Rattle.kinds.specs.Kinds.{base, table, codeOf, kindFor, bytesIn, fields, widthsOf, sizeOf, isEnd, unused, plain};
 
 // The kinds of the table. Enter, leave, graze, open and closest are document 01's words.
-// A new kind is a case here and a row of `table` and `kinds`, and in the code an arm of `kind_for`, `code_of`, `widths_of`, `is_end`
-// and the crate `rules`.
+// A new kind is a case here and a row of `table` and `kinds`, and in the code an arm of `kind_for`, `code_of`, `widths_of`, `size_of`,
+// `stage_of`, `is_end`, of the fields in `records` and of the crate `rules`.
 pub enum Kind {
     Head,
     Enter(Phase),
@@ -112,20 +112,27 @@ pub fn code_of(kind: Kind) -> u32
     }
 }
 
-// The kind that a number names.
+// The kind of a phase that stands so far behind its first.
+fn phase_kind(phase: Phase, behind: u32) -> Named
+    requires { ⌜ behind ≤ 3 ⌝ }
+    ensures { λ r. ⌜ r ≡ kindFor (base phase + behind) ⌝ }
+{
+    match behind {
+        0 => Named::Is(Kind::Enter(phase)),
+        1 => Named::Is(Kind::Leave(phase)),
+        2 => Named::Is(Kind::Graze(phase)),
+        _ => Named::Is(Kind::Open(phase)),
+    }
+}
+
+// The kind that a number names. A phase's four are found by one difference, so that which of them comes next costs no branch.
 pub fn kind_for(code: u32) -> Named
     ensures { λ r. ⌜ r ≡ kindFor code ⌝ }
 {
     match code {
+        0x10..=0x13 => phase_kind(Phase::Penumbra, code - 0x10),
+        0x20..=0x23 => phase_kind(Phase::Central, code - 0x20),
         0x01 => Named::Is(Kind::Head),
-        0x10 => Named::Is(Kind::Enter(Phase::Penumbra)),
-        0x11 => Named::Is(Kind::Leave(Phase::Penumbra)),
-        0x12 => Named::Is(Kind::Graze(Phase::Penumbra)),
-        0x13 => Named::Is(Kind::Open(Phase::Penumbra)),
-        0x20 => Named::Is(Kind::Enter(Phase::Central)),
-        0x21 => Named::Is(Kind::Leave(Phase::Central)),
-        0x22 => Named::Is(Kind::Graze(Phase::Central)),
-        0x23 => Named::Is(Kind::Open(Phase::Central)),
         0x30 => Named::Is(Kind::Closest),
         0x7f => Named::Is(Kind::End),
         _ => Named::Unknown,
@@ -168,12 +175,43 @@ pub fn bytes_in(width: Width) -> usize
 pub fn size_of(kind: Kind) -> usize
     ensures { λ r. ⌜ (r ≡ sizeOf kind) × (r ≤ 17) ⌝ }
 {
-    let w = widths_of(kind);
-    let a = w.a;
-    let b = w.b;
-    let c = w.c;
-    let d = w.d;
-    1 + bytes_in(a) + bytes_in(b) + bytes_in(c) + bytes_in(d)
+    match kind {
+        Kind::Head => 7,
+        Kind::Enter(_) => 7,
+        Kind::Leave(_) => 7,
+        Kind::Graze(_) => 5,
+        Kind::Open(_) => 5,
+        Kind::Closest => 7,
+        Kind::End => 1,
+    }
+}
+
+// The same, computed from the kind's byte: a reader waits for it before it can look at the next record.
+// It has a `requires`, so it is none of the public promises.
+pub fn size_for(code: u32, kind: Kind) -> usize
+    requires { ⌜ code ≡ codeOf kind ⌝ }
+    ensures { λ r. ⌜ (r ≡ sizeOf kind) × (r ≤ 17) ⌝ }
+{
+    if is_end(kind) {
+        return 1;
+    }
+    let size = 7 - code % 4 / 2 * 2;
+    size as usize
+}
+
+// The stage of a kind in the order of a sheet.
+pub fn stage_of(kind: Kind) -> Stage
+    ensures { λ r. ⌜ r ≡ table kind .stage ⌝ }
+{
+    match kind {
+        Kind::Head => Stage::Head,
+        Kind::Enter(phase) => Stage::Phase(phase),
+        Kind::Leave(phase) => Stage::Phase(phase),
+        Kind::Graze(phase) => Stage::Phase(phase),
+        Kind::Open(phase) => Stage::Phase(phase),
+        Kind::Closest => Stage::Closest,
+        Kind::End => Stage::End,
+    }
 }
 
 // Whether a record of that kind ends the sheet.

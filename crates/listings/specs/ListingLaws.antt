@@ -22,7 +22,7 @@ use Rattle.decimals.specs.Texts.{Put}
 use Rattle.decimals.specs.TextLaws.{Putting, putting-start, putting-turn, putting-end}
 use Rattle.listings.specs.declared.Text.{Text}
 use Rattle.listings.specs.declared.Text.the-variants as T
-use Rattle.listings.specs.Lines.{lineOf, linesOf, refusalLine}
+use Rattle.lines.specs.Lines.{lineOf, linesOf, refusalLine}
 use Rattle.listings.specs.Answers.{answered, roomWith}
 use Rattle.listings.specs.AnswerLaws.{text-short, text-full}
 use Rattle.listings.specs.Listings.{listingOf, told, printed}

@@ -3,7 +3,7 @@
 use Prim.Native.Nat.{ℕ}
 use mathlib.Core.List.{List}
 use Rattle.sheets.specs.Sheets.{Sheet, sheet, refused, readWhole}
-use Rattle.listings.specs.Lines.{linesOf, refusalLine}
+use Rattle.lines.specs.Lines.{linesOf, refusalLine}
 use Rattle.listings.specs.Answers.{Told, text, withheld}
 
 -- the lines of its entries; or the refusal

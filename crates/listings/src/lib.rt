@@ -1,6 +1,4 @@
 // The listing of a sheet as text, as document 01 has it: a line an entry.
-pub mod lines;
-
 use records::Record;
 use refusals::Refusal;
 use sheets::Extent;
@@ -8,7 +6,7 @@ ghost use mathlib.Core.Path.{_≡_};
 ghost use lib.ListN.{length};
 ghost use Rattle.sheets.specs.Sheets.{readSheet};
 ghost use Rattle.decimals.specs.Texts.{Put};
-ghost use Rattle.listings.specs.Lines.{refusalLine};
+ghost use Rattle.lines.specs.Lines.{refusalLine};
 ghost use Rattle.listings.specs.Answers.{text, answered, roomWith};
 ghost use Rattle.listings.specs.Listings.{listingOf, told, printed};
 ghost use Rattle.listings.specs.ListingLaws.{IsSheet, Laid};

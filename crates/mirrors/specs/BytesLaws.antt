@@ -34,7 +34,7 @@ use Rattle.input.specs.declared.Input.the-variants as I
 use Rattle.input.specs.Input.{requestFrom, stationFrom, windowFrom, inputBy, inputOf}
 use Rattle.input.specs.InputLaws.{input-refused}
 use Rattle.mirrors.specs.Bytes.{numbersOf, mirrorInBytes, mirrorBytes, mirrorAnswer, mirrorBuffer}
-use Rattle.mirrors.specs.Changed.{changed, by-spelling, changed-is, changed-count, changed-fit}
+use Rattle.mirrors.specs.ChangedLaws.{changed, by-spelling, changed-is, changed-count, changed-fit}
 
 -- bytes of the shape have their numbers
 pub reading-is : (s : List ℕ) (ns old : List ℤ) → gotOf (readingOf s) ≡ G.Numbers → ns ≡ numbersAfter (readingOf s) old → readingOf s ≡ numbers ns

@@ -3,5 +3,5 @@ pub mod Mirror
 pub mod Bytes
 -- why it is so
 pub mod MirrorLaws
-pub mod Changed
+pub mod ChangedLaws
 pub mod BytesLaws

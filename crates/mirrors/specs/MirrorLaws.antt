@@ -15,9 +15,10 @@ use Rattle.requests.specs.RequestLaws.{in-limits}
 use Rattle.requests.specs.Mirror.{mirroredRequest, mirrorOf}
 use Rattle.requests.specs.MirrorLaws.{checked-mirrored, mirrored-twice, mirrored-is}
 use Rattle.seconds.specs.Seconds.{momentAt, stateAt, directionAt, magnitudeAt, closestOf}
-use Rattle.seconds.specs.Mirror.{state-mirrored, magnitude-mirrored, u-mirrored, v-mirrored, M-mirrored, closest-mirrored}
+use Rattle.seconds.specs.MirrorLaws.{state-mirrored, magnitude-mirrored, u-mirrored, v-mirrored, M-mirrored, closest-mirrored}
 use Rattle.courses.specs.Courses.{Course, sheetOf}
-use Rattle.courses.specs.Directions.{AlikeButDirections, redirected, sheet-alike, alike-length}
+use Rattle.courses.specs.Directions.{AlikeButDirections}
+use Rattle.courses.specs.DirectionLaws.{redirected, sheet-alike, alike-length}
 use Rattle.circumstances.specs.declared.Answer.{Answer}
 use Rattle.circumstances.specs.Sheet.{courseOf, sheetBytes, sheetAnswer}
 use Rattle.mirrors.specs.Mirror.{Mirrored}

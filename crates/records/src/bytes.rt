@@ -11,9 +11,12 @@ ghost use mathlib.Core.Path.{_≡_};
 ghost use Prim.Native.Nat.{_+_, _≤_, _<_};
 ghost use lib.ListN.{length};
 ghost use lib.Seq.{sets};
+ghost use lib.Dec.{ltb};
+ghost use mathlib.Core.Bool.{true, cond};
 ghost use Rattle.kinds.specs.Kinds.{bytesIn, sizeOf};
-ghost use Rattle.records.specs.Numbers.{numberAt, number};
+ghost use Rattle.records.specs.Numbers.{twoAt, number};
 ghost use Rattle.records.specs.Entries.{bytes};
+ghost use Rattle.records.specs.Bodies.{fieldA, fieldB, fieldC};
 ghost use Rattle.records.specs.Records.{byteAt, bodyAt, recordAt};
 
 // ---- reading
@@ -29,43 +32,94 @@ pub fn byte_at(s: &[u8], at: usize) -> Byte
     Byte::Past
 }
 
-// The number of that width at `at`.
-fn number_at(s: &[u8], at: usize, width: Width) -> u32
-    requires { ⌜ at + bytesIn width ≤ length (now s) ⌝ }
-    ensures { λ r. ⌜ r ≡ numberAt width (now (s .entry)) at ⌝ }
+// The number of two bytes at `at` if it is there, else 0.
+fn two_if(s: &[u8], at: usize, there: bool) -> u32
+    requires { ⌜ (there ≡ true → at + 2 ≤ length (now s)) ⌝ }
+    ensures { λ r. ⌜ (r ≡ cond there (twoAt (now (s .entry)) at) 0) × (r < 65536) ⌝ }
 {
-    match width {
-        Width::Absent => 0,
-        Width::Two => super::two_at(s, at),
-        Width::Four => super::four_at(s, at),
+    if there { super::two_at(s, at) } else { 0 }
+}
+
+// The fields of a kind from the three numbers of two bytes that follow its byte, x, y and z; `wide` is y and z as one.
+fn field_a(kind: Kind, x: u32) -> u32
+    ensures { λ r. ⌜ r ≡ fieldA kind x ⌝ }
+{
+    match kind {
+        Kind::Head => x,
+        Kind::Enter(_) => x,
+        Kind::Leave(_) => x,
+        Kind::Graze(_) => x,
+        Kind::Open(_) => x,
+        Kind::Closest => x,
+        Kind::End => 0,
     }
 }
 
-// The entry of that kind whose record is at `at`, if the input does not end inside it.
+fn field_b(kind: Kind, y: u32, wide: u32) -> u32
+    ensures { λ r. ⌜ r ≡ fieldB kind y wide ⌝ }
+{
+    match kind {
+        Kind::Head => y,
+        Kind::Enter(_) => y,
+        Kind::Leave(_) => y,
+        Kind::Graze(_) => y,
+        Kind::Open(_) => y,
+        Kind::Closest => wide,
+        Kind::End => 0,
+    }
+}
+
+fn field_c(kind: Kind, z: u32) -> u32
+    ensures { λ r. ⌜ r ≡ fieldC kind z ⌝ }
+{
+    match kind {
+        Kind::Head => z,
+        Kind::Enter(_) => z,
+        Kind::Leave(_) => z,
+        Kind::Graze(_) => 0,
+        Kind::Open(_) => 0,
+        Kind::Closest => 0,
+        Kind::End => 0,
+    }
+}
+
+// Whether so many bytes are too few for a record of that kind. None has more than 7.
+fn is_cut(left: usize, kind: Kind) -> bool
+    ensures { λ r. ⌜ r ≡ ltb left (sizeOf kind) ⌝ }
+{
+    if 7 <= left {
+        return false;
+    }
+    left < kinds::size_of(kind)
+}
+
+// The entry of that kind whose record is at `at`, if the input does not end inside it. What is read goes by how much is left, and only
+// what is made of it by the kind: so kinds in no pattern cost no branch.
 // It is for crates that go along a sheet, and has a `requires`, so it is none of the public promises.
 pub fn body_at(s: &[u8], at: usize, kind: Kind) -> Body
     requires { ⌜ at < length (now s) ⌝ }
     ensures { λ r. ⌜ r ≡ bodyAt kind (now (s .entry)) at ⌝ }
 {
     let left = s.len() - at;
-    let size = kinds::size_of(kind);
-    if left < size {
+    if is_cut(left, kind) {
         return Body::Cut;
     }
-    let w = kinds::widths_of(kind);
-    let wa = w.a;
-    let wb = w.b;
-    let wc = w.c;
-    let wd = w.d;
     let at_a = at + 1;
-    let at_b = at_a + kinds::bytes_in(wa);
-    let at_c = at_b + kinds::bytes_in(wb);
-    let at_d = at_c + kinds::bytes_in(wc);
-    let a = number_at(s, at_a, wa);
-    let b = number_at(s, at_b, wb);
-    let c = number_at(s, at_c, wc);
-    let d = number_at(s, at_d, wd);
-    Body::Is(Entry { kind, a, b, c, d })
+    let at_b = at_a + 2;
+    let at_c = at_b + 2;
+    let x = two_if(s, at_a, 5 <= left);
+    let y = two_if(s, at_b, 5 <= left);
+    let z = two_if(s, at_c, 7 <= left);
+    let a = field_a(kind, x);
+    let b = field_b(kind, y, y * 65536 + z);
+    let c = field_c(kind, z);
+    Body::Is(Entry {
+        kind,
+        a,
+        b,
+        c,
+        d: 0,
+    })
 }
 
 // The record at `at`: its entry and the place after it; or 5 or 6.

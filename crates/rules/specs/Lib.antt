@@ -1,4 +1,5 @@
 pub mod Order
 pub mod Rules
+pub mod Stages
 pub mod RuleLaws
 pub mod FieldFits

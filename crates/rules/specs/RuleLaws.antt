@@ -3,15 +3,24 @@ use Prim.Native.Nat.{ℕ}
 use mathlib.Core.Path.{_≡_, refl}
 use mathlib.Core.Bool.{Bool, true, false}
 use native.Mathlib.Omega.{arith}
+use Rattle.refusals.specs.Refusals.{refusal}
 use Rattle.kinds.specs.declared.Progress.{Progress}
 use Rattle.kinds.specs.declared.Entry.{Entry}
-use Rattle.rules.specs.declared.Judgement.the-variants.{Next}
+use Rattle.rules.specs.declared.Judgement.the-variants.{Next, Broken}
 use Rattle.rules.specs.Rules.{inOrder, fieldsHold, afterOf, verdictOn, judgedAs, judgementOf}
 
 module _ (p : Progress) (at : ℕ) (e : Entry) where
   pub judged-next : inOrder p e ≡ true → fieldsHold p e ≡ true → judgementOf p at e ≡ Next (afterOf p e)
   unfolding judgedAs
   judged-next o f = rw (o, f)
+
+  pub judged-disorder : inOrder p e ≡ false → judgementOf p at e ≡ Broken (refusal 8 at)
+  unfolding judgedAs
+  judged-disorder o = rw o
+
+  pub judged-unsound : inOrder p e ≡ true → fieldsHold p e ≡ false → judgementOf p at e ≡ Broken (refusal 7 at)
+  unfolding judgedAs
+  judged-unsound o f = rw (o, f)
 
   pub next-inv : (q : Progress) → judgementOf p at e ≡ Next q → (inOrder p e ≡ true) × (fieldsHold p e ≡ true) × (q ≡ afterOf p e)
   unfolding judgedAs

@@ -1,4 +1,4 @@
-// The rules of order and of fields. Reader and writer both go by `judge`.
+// The rules of order and of fields. Reader and writer both go by `in_order`, `rule_holds` and `after`; `judge` puts the three together.
 mod order;
 
 use kinds::Crossing;
@@ -9,12 +9,10 @@ use kinds::Stage;
 use phases::Phase;
 use refusals::Refusal;
 ghost use mathlib.Core.Path.{_≡_};
-ghost use mathlib.Core.Bool.{_&&_};
-ghost use Rattle.kinds.specs.FieldRules.{inWindow, isDirection, headHolds, spanHolds, openHolds, closestHolds};
-ghost use Rattle.rules.specs.Rules.{start, phaseInOrder, crossingKept, passed, reached, verdictOn, judgedAs};
-ghost use Rattle.rules.specs.Order.{mayCome};
-ghost use Rattle.kinds.specs.declared.Stage.the-variants as S;
-ghost use Rattle.kinds.specs.declared.Crossing.the-variants as C;
+ghost use Rattle.kinds.specs.Kinds.{table};
+ghost use Rattle.kinds.specs.FieldRules.{inWindow, spanHolds, openHolds};
+ghost use Rattle.rules.specs.Rules.{start, phaseInOrder, crossingKept, passed, reached, inOrder, afterOf, verdictOn, judgedAs};
+ghost use Rattle.rules.specs.Stages.{crossingOf, isOpen, directionHolds, phaseHolds, crossingAfter};
 
 // What the rules say of an entry: how far the sheet has come after it, or the refusal.
 pub enum Judgement {
@@ -48,23 +46,75 @@ fn in_window(p: Progress, x: u32) -> bool
 fn span_holds(p: Progress, from: u32, to: u32) -> bool
     ensures { λ r. ⌜ r ≡ spanHolds p from to ⌝ }
 {
-    in_window(p, from) & in_window(p, to) & (from < to)
+    (p.first <= from) & (from < to) & (to <= p.last)
 }
 
 fn open_holds(p: Progress, from: u32, to: u32) -> bool
     ensures { λ r. ⌜ r ≡ openHolds p from to ⌝ }
 {
     let at_end = (from == p.first) | (to == p.last);
-    in_window(p, from) & in_window(p, to) & (from <= to) & at_end
+    (p.first <= from) & (from <= to) & (to <= p.last) & at_end
 }
 
-fn is_direction(d: u32) -> bool
-    ensures { λ r. ⌜ r ≡ isDirection d ⌝ }
+// Whether a direction holds where the kind has one. Almost all are an angle, so that is asked first, whatever the kind.
+fn direction_holds(kind: Kind, direction: u32) -> bool
+    ensures { λ r. ⌜ r ≡ directionHolds kind direction ⌝ }
 {
-    (d <= 3599) | (d == 65535)
+    if direction <= 3599 {
+        return true;
+    }
+    let none = direction == 65535;
+    match kind {
+        Kind::Head => true,
+        Kind::Enter(_) => none,
+        Kind::Leave(_) => none,
+        Kind::Graze(_) => true,
+        Kind::Open(_) => true,
+        Kind::Closest => true,
+        Kind::End => true,
+    }
+}
+
+fn is_open(kind: Kind) -> bool
+    ensures { λ r. ⌜ r ≡ isOpen kind ⌝ }
+{
+    match kind {
+        Kind::Head => false,
+        Kind::Enter(_) => false,
+        Kind::Leave(_) => false,
+        Kind::Graze(_) => false,
+        Kind::Open(_) => true,
+        Kind::Closest => false,
+        Kind::End => false,
+    }
+}
+
+// Of an entry of a phase.
+fn phase_holds(p: Progress, kind: Kind, from: u32, to: u32, direction: u32) -> bool
+    ensures { λ r. ⌜ r ≡ phaseHolds p kind from to direction ⌝ }
+{
+    let spans = span_holds(p, from, to) & direction_holds(kind, direction);
+    if is_open(kind) {
+        return open_holds(p, from, to);
+    }
+    spans
 }
 
 // ---- order
+
+fn crossing_of(kind: Kind) -> Crossing
+    ensures { λ r. ⌜ r ≡ crossingOf kind ⌝ }
+{
+    match kind {
+        Kind::Head => Crossing::Neither,
+        Kind::Enter(_) => Crossing::Enter,
+        Kind::Leave(_) => Crossing::Leave,
+        Kind::Graze(_) => Crossing::Neither,
+        Kind::Open(_) => Crossing::Neither,
+        Kind::Closest => Crossing::Neither,
+        Kind::End => Crossing::Neither,
+    }
+}
 
 // Whether an entry of a phase, with that crossing, may come next.
 fn phase_in_order(p: Progress, phase: Phase, crossing: Crossing, from: u32) -> bool
@@ -72,11 +122,11 @@ fn phase_in_order(p: Progress, phase: Phase, crossing: Crossing, from: u32) -> b
 {
     let stage = p.stage;
     let last = p.crossing;
-    let may = order::phase_may_come(stage, phase);
-    let fresh = !order::is_within(stage, phase);
-    let later = p.until <= from;
-    let repeated = order::repeats(last, crossing);
-    may & (fresh | (later & !repeated))
+    if order::is_within(stage, phase) {
+        let later = p.until <= from;
+        return later & !order::repeats(last, crossing);
+    }
+    order::phase_may_come(stage, phase)
 }
 
 // ---- how far the sheet has come
@@ -121,6 +171,78 @@ fn crossing_kept(p: Progress, phase: Phase) -> Crossing
     }
 }
 
+// The crossing that stands after one of the phase came, `kept` if it was none.
+fn crossing_after(crossing: Crossing, kept: Crossing) -> Crossing
+    ensures { λ r. ⌜ r ≡ crossingAfter crossing kept ⌝ }
+{
+    match crossing {
+        Crossing::Neither => kept,
+        Crossing::Enter => crossing,
+        Crossing::Leave => crossing,
+    }
+}
+
+// ---- an entry, by the stage of its kind
+
+// Whether it may come next.
+pub fn in_order(p: Progress, entry: Entry) -> bool
+    ensures { λ r. ⌜ r ≡ inOrder p entry ⌝ }
+{
+    let kind = entry.kind;
+    let last = p.stage;
+    let stage = kinds::stage_of(kind);
+    match stage {
+        Stage::Start => false,
+        Stage::Head => order::head_may_come(last),
+        Stage::Phase(phase) => {
+            let crossing = crossing_of(kind);
+            phase_in_order(p, phase, crossing, entry.a)
+        }
+        Stage::Closest => order::closest_may_come(last),
+        Stage::End => order::end_may_come(last),
+    }
+}
+
+// Whether its fields keep the rule of its kind.
+pub fn rule_holds(p: Progress, entry: Entry) -> bool
+    ensures { λ r. ⌜ r ≡ table (entry .kind) .rule p entry ⌝ }
+{
+    let kind = entry.kind;
+    let a = entry.a;
+    let b = entry.b;
+    let c = entry.c;
+    let stage = kinds::stage_of(kind);
+    match stage {
+        Stage::Start => false,
+        Stage::Head => (1 <= a) & (a <= 999) & (b <= c) & (c <= 21600),
+        Stage::Phase(_) => phase_holds(p, kind, a, b, c),
+        Stage::Closest => in_window(p, a) & (b <= 1300000),
+        Stage::End => true,
+    }
+}
+
+// How far the sheet has come after it.
+pub fn after(p: Progress, entry: Entry) -> Progress
+    ensures { λ r. ⌜ r ≡ afterOf p entry ⌝ }
+{
+    let kind = entry.kind;
+    let b = entry.b;
+    let c = entry.c;
+    let stage = kinds::stage_of(kind);
+    match stage {
+        Stage::Start => reach(stage, b, c),
+        Stage::Head => reach(stage, b, c),
+        Stage::Phase(phase) => {
+            let crossing = crossing_of(kind);
+            let kept = crossing_kept(p, phase);
+            let now = crossing_after(crossing, kept);
+            passed_to(p, phase, b, now)
+        }
+        Stage::Closest => reach(stage, p.first, p.last),
+        Stage::End => reach(stage, p.first, p.last),
+    }
+}
+
 // ---- the answer
 
 // The answer to both tests, order (8) before fields (7).
@@ -142,83 +264,13 @@ fn verdict(at: usize, ordered: bool, sound: bool, next: Progress) -> Judgement
     Judgement::Next(next)
 }
 
-// Of the head.
-fn judge_head(p: Progress, at: usize, plain: bool, station: u32, first: u32, last: u32) -> Judgement
-    ensures { λ r. ⌜ r ≡ verdictOn at (mayCome (p .stage) S.Head) (plain && headHolds station first last) (reached S.Head first last) ⌝ }
-{
-    let stage = p.stage;
-    let ordered = order::head_may_come(stage);
-    let sound = (1 <= station) & (station <= 999) & (first <= last) & (last <= 21600);
-    let next = reach(Stage::Head, first, last);
-    verdict(at, ordered, plain & sound, next)
-}
-
-// Of an enter or a leave.
-fn judge_crossing(
-    p: Progress,
-    at: usize,
-    plain: bool,
-    phase: Phase,
-    crossing: Crossing,
-    from: u32,
-    to: u32,
-    direction: u32,
-) -> Judgement
-    ensures { λ r. ⌜ r ≡ verdictOn at (phaseInOrder p phase crossing from) (plain && (spanHolds p from to && isDirection direction)) (passed p phase to crossing) ⌝ }
-{
-    let ordered = phase_in_order(p, phase, crossing, from);
-    let sound = span_holds(p, from, to) & is_direction(direction);
-    let next = passed_to(p, phase, to, crossing);
-    verdict(at, ordered, plain & sound, next)
-}
-
-// Of a graze or an open, which are passed over; `sound` says of its fields.
-fn judge_unsure(p: Progress, at: usize, sound: bool, phase: Phase, from: u32, to: u32) -> Judgement
-    ensures { λ r. ⌜ r ≡ verdictOn at (phaseInOrder p phase C.Neither from) sound (passed p phase to (crossingKept p phase)) ⌝ }
-{
-    let ordered = phase_in_order(p, phase, Crossing::Neither, from);
-    let crossing = crossing_kept(p, phase);
-    let next = passed_to(p, phase, to, crossing);
-    verdict(at, ordered, sound, next)
-}
-
-// Of closest.
-fn judge_closest(p: Progress, at: usize, plain: bool, second: u32, magnitude: u32) -> Judgement
-    ensures { λ r. ⌜ r ≡ verdictOn at (mayCome (p .stage) S.Closest) (plain && closestHolds p second magnitude) (reached S.Closest (p .first) (p .last)) ⌝ }
-{
-    let stage = p.stage;
-    let ordered = order::closest_may_come(stage);
-    let sound = in_window(p, second) & (magnitude <= 1300000);
-    let next = reach(Stage::Closest, p.first, p.last);
-    verdict(at, ordered, plain & sound, next)
-}
-
-// Of the end.
-fn judge_end(p: Progress, at: usize, plain: bool) -> Judgement
-    ensures { λ r. ⌜ r ≡ verdictOn at (mayCome (p .stage) S.End) plain (reached S.End (p .first) (p .last)) ⌝ }
-{
-    let stage = p.stage;
-    let ordered = order::end_may_come(stage);
-    let next = reach(Stage::End, p.first, p.last);
-    verdict(at, ordered, plain, next)
-}
-
 // How far the sheet has come after an entry whose record stands at `at`, or the rule that it breaks.
 // `plain` is what else is asked of its fields: that what its kind does not use is 0.
 pub fn judge(p: Progress, at: usize, plain: bool, entry: Entry) -> Judgement
     ensures { λ r. ⌜ r ≡ judgedAs plain p at entry ⌝ }
 {
-    let kind = entry.kind;
-    let a = entry.a;
-    let b = entry.b;
-    let c = entry.c;
-    match kind {
-        Kind::Head => judge_head(p, at, plain, a, b, c),
-        Kind::Enter(phase) => judge_crossing(p, at, plain, phase, Crossing::Enter, a, b, c),
-        Kind::Leave(phase) => judge_crossing(p, at, plain, phase, Crossing::Leave, a, b, c),
-        Kind::Graze(phase) => judge_unsure(p, at, plain & span_holds(p, a, b), phase, a, b),
-        Kind::Open(phase) => judge_unsure(p, at, plain & open_holds(p, a, b), phase, a, b),
-        Kind::Closest => judge_closest(p, at, plain, a, b),
-        Kind::End => judge_end(p, at, plain),
-    }
+    let ordered = in_order(p, entry);
+    let sound = rule_holds(p, entry);
+    let next = after(p, entry);
+    verdict(at, ordered, plain & sound, next)
 }

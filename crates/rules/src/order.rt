@@ -5,6 +5,7 @@ use phases::Phase;
 ghost use mathlib.Core.Path.{_≡_};
 ghost use Rattle.rules.specs.Order.{samePhase, phaseFollows, isWithin, mayCome};
 ghost use Rattle.rules.specs.Order as Order;
+ghost use Rattle.rules.specs.Stages.{crossingNumber};
 ghost use Rattle.kinds.specs.declared.Stage.the-variants as S;
 
 fn same_phase(last: Phase, phase: Phase) -> bool
@@ -96,21 +97,21 @@ pub fn end_may_come(last: Stage) -> bool
     }
 }
 
+// A crossing as a number.
+fn number_of(crossing: Crossing) -> u32
+    ensures { λ r. ⌜ r ≡ crossingNumber crossing ⌝ }
+{
+    match crossing {
+        Crossing::Neither => 0,
+        Crossing::Enter => 1,
+        Crossing::Leave => 2,
+    }
+}
+
 // Whether a crossing comes next to one of its own kind.
 pub fn repeats(last: Crossing, crossing: Crossing) -> bool
     ensures { λ r. ⌜ r ≡ Order.repeats last crossing ⌝ }
 {
-    match crossing {
-        Crossing::Neither => false,
-        Crossing::Enter => match last {
-            Crossing::Neither => false,
-            Crossing::Enter => true,
-            Crossing::Leave => false,
-        },
-        Crossing::Leave => match last {
-            Crossing::Neither => false,
-            Crossing::Enter => false,
-            Crossing::Leave => true,
-        },
-    }
+    let n = number_of(crossing);
+    (n == number_of(last)) & !(n == 0)
 }

@@ -8,4 +8,4 @@ pub mod Errors
 pub mod ClosestLaws
 pub mod Filled
 pub mod SecondLaws
-pub mod Mirror
+pub mod MirrorLaws

@@ -2,4 +2,4 @@ pub mod Shadow
 pub mod Second
 pub mod SecondLaws
 pub mod Examples
-pub mod Mirror
+pub mod MirrorLaws

@@ -1,64 +1,87 @@
-// Reads requests of 109 bytes from standard input, each with a window of one second, and prints for each a line:
+// Reads requests of 109 bytes from standard input, 65,536 bytes at most, and prints for each a line, of the first second of its window:
 // u, v, L1, L2, the states of penumbra and central (0 outside, 1 inside, 2 unsure), the direction and the magnitude;
 // or the refusal.
 use input::Input;
 use libc::STDIN_FILENO;
 use libc::STDOUT_FILENO;
 use seconds::OneSecond;
+ghost use mathlib.Core.Path.{_≡_};
+ghost use Rattle.input.specs.Input.{inputOf};
+ghost use Rattle.decimals.specs.Texts.{Put};
+ghost use Rattle.shadows.specs.Printed.{secondLine, answerLine, firstOf, recordLine, printed};
 
 // The line of a second.
-fn put_second(out: &mut [u8], second: shadow::Second) -> usize {
+fn put_second(out: &mut [u8], at: usize, second: shadow::Second) -> usize
+    ensures { λ r. ⌜ Put (now (out .entry)) at (secondLine second) (now (out .exit)) r ⌝ }
+{
     let shadow = second.shadow;
-    let u = shadow.u;
-    let v = shadow.v;
-    let l1 = shadow.l1;
-    let l2 = shadow.l2;
     let penumbra = second.penumbra as i64;
     let central = second.central as i64;
     let direction = second.direction as i64;
     let magnitude = second.magnitude as i64;
+    let u = shadow.u;
+    let v = shadow.v;
+    let l1 = shadow.l1;
+    let l2 = shadow.l2;
     let numbers = [u, v, l1, l2, penumbra, central, direction, magnitude];
-    decimals::put_filled(out, 0, b"# # # # # # # #\n", &numbers)
+    decimals::put_filled(out, at, b"# # # # # # # #\n", &numbers)
 }
 
-fn put_refused(out: &mut [u8], refusal: refusals::Refusal) -> usize {
-    let number = refusal.number as u64;
-    let place = refusal.place as u64;
-    listings::lines::put_refusal_line(out, 0, number, place)
-}
-
-// The line of the first second of a request's window.
-fn put_first(out: &mut [u8], q: requests::Request) -> usize {
-    let w = q.window;
-    let answer = seconds::second(q, w.first);
+fn put_answer(out: &mut [u8], at: usize, answer: OneSecond) -> usize
+    ensures { λ r. ⌜ Put (now (out .entry)) at (answerLine answer) (now (out .exit)) r ⌝ }
+{
     match answer {
-        OneSecond::Is(second) => put_second(out, second),
-        OneSecond::Refused(refusal) => put_refused(out, refusal),
+        OneSecond::Is(second) => put_second(out, at, second),
+        OneSecond::Refused(refusal) => {
+            let number = refusal.number as u64;
+            let place = refusal.place as u64;
+            lines::put_refusal_line(out, at, number, place)
+        }
+    }
+}
+
+// What is said of the first second of a request's window.
+fn first_of(request: &[u8]) -> OneSecond
+    ensures { λ r. ⌜ r ≡ firstOf (inputOf (now (request .entry))) ⌝ }
+{
+    let asked = input::request(request);
+    match asked {
+        Input::Is(q) => {
+            let w = q.window;
+            seconds::second(q, w.first)
+        }
+        Input::Refused(refusal) => OneSecond::Refused(refusal),
     }
 }
 
 // The line of a request.
-fn put_request(out: &mut [u8], request: &[u8]) -> usize {
-    let asked = input::request(request);
-    match asked {
-        Input::Is(q) => put_first(out, q),
-        Input::Refused(refusal) => put_refused(out, refusal),
-    }
+fn put_record(out: &mut [u8], at: usize, request: &[u8]) -> usize
+    ensures { λ r. ⌜ Put (now (out .entry)) at (recordLine (now (request .entry))) (now (out .exit)) r ⌝ }
+{
+    let answer = first_of(request);
+    put_answer(out, at, answer)
 }
 
-// Nothing says that an input ends, so the loop counts its turns down, from a number that no run uses up.
-fn main() {
-    let mut turns = u64::MAX;
-    while turns > 0 {
-        let mut request = [0u8; 109];
-        if io::read_full(STDIN_FILENO, &mut request) < 109 {
-            return;
-        }
-        // eight numbers have 20 digits at most, and a sign
-        let mut line = [0u8; 256];
-        let end = put_request(&mut line, &request);
-        let written = decimals::clipped(&line, end);
-        io::write_all(STDOUT_FILENO, &line[..written]);
-        turns -= 1;
+// A line for each request of the input.
+fn put_requests(out: &mut [u8], input: &[u8]) -> usize
+    ensures { λ r. ⌜ Put (now (out .entry)) 0 (printed (now (input .entry))) (now (out .exit)) r ⌝ }
+{
+    let count = input.len() / 109;
+    let mut at = 0;
+    for k in 0..count {
+        let from = k * 109;
+        let end = from + 109;
+        at = put_record(out, at, &input[from..end]);
     }
+    at
+}
+
+fn main() {
+    let mut input = io::large_buffer();
+    let length = io::read_full(STDIN_FILENO, &mut input);
+    // 601 lines of 60 bytes at most
+    let mut lines = [0u8; 40_000];
+    let end = put_requests(&mut lines, &input[..length]);
+    let written = decimals::clipped(&lines, end);
+    io::write_all(STDOUT_FILENO, &lines[..written]);
 }

@@ -5,7 +5,6 @@ pub mod handed;
 
 use kinds::Entry;
 use kinds::Named;
-use kinds::Progress;
 use records::Body;
 use records::Byte;
 use refusals::Refusal;
@@ -63,11 +62,19 @@ pub fn extent_of_leading_sheet(s: &[u8]) -> Extent
                 place: at,
             });
         };
-        let judged = rules::judge(p, at, true, entry);
-        let Judgement::Next(further) = judged else {
-            return broken(judged);
-        };
-        let next = at + kinds::size_of(kind);
+        if !rules::in_order(p, entry) {
+            return Extent::Refused(Refusal {
+                number: 8,
+                place: at,
+            });
+        }
+        if !rules::rule_holds(p, entry) {
+            return Extent::Refused(Refusal {
+                number: 7,
+                place: at,
+            });
+        }
+        let next = at + kinds::size_for(code, kind);
         if kinds::is_end(kind) {
             let count = n + 1;
             return Extent::Sheet {
@@ -75,15 +82,7 @@ pub fn extent_of_leading_sheet(s: &[u8]) -> Extent
                 length: next,
             };
         }
-        let stage = further.stage;
-        let crossing = further.crossing;
-        p = Progress {
-            first: further.first,
-            stage,
-            last: further.last,
-            crossing,
-            until: further.until,
-        };
+        p = rules::after(p, entry);
         at = next;
         n += 1;
     }
@@ -143,7 +142,7 @@ fn read_entries(s: &[u8], room: &mut [u32])
         if kinds::is_end(kind) {
             return;
         }
-        at += kinds::size_of(kind);
+        at += kinds::size_for(code, kind);
         n += 1;
     }
 }

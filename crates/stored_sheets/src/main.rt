@@ -13,7 +13,7 @@ fn length_of(high: u8, low: u8) -> usize {
 // A word, then an answer.
 fn put_answer(out: &mut [u8], at: usize, word: &[u8], answer: Extent) -> usize {
     let next = decimals::put_text(out, at, word);
-    listings::lines::put_extent(out, next, answer)
+    lines::put_extent(out, next, answer)
 }
 
 fn put_count(out: &mut [u8], at: usize, count: u32) -> usize {

@@ -1,50 +1,67 @@
--- `kinds::size_of` meets its contract. The size is the sum of the widths.
+-- `kinds::size_of` meets its contract. Each arm is the sum of the widths in the table's row.
+use mathlib.Core.Path.{refl}
 use native.Mathlib.Omega.{arith}
 use borrow.Author.Needs.{needs}
 use Rattle.kinds.proofs.size_of.Statement.{statement}
 use Rattle.kinds.proofs.size_of.Tie as tie
 
-widths-of-requires : tie.Need-widths-of-requires
-widths-of-requires c κs = search needs
+enum-told : tie.Need-enum-told
+enum-told c = search needs
 
-bytes-in-requires : tie.Need-bytes-in-requires
-bytes-in-requires c κs = search needs
+enum-told-2 : tie.Need-enum-told-2
+enum-told-2 c = search needs
 
-add-result : tie.Need-add-result
-add-result c = search needs
+enum-told-3 : tie.Need-enum-told-3
+enum-told-3 c = search needs
 
-bytes-in-requires-2 : tie.Need-bytes-in-requires-2
-bytes-in-requires-2 c κs = search needs
+enum-told-4 : tie.Need-enum-told-4
+enum-told-4 c = search needs
 
-add-result-2 : tie.Need-add-result-2
-add-result-2 c = search needs
+enum-told-5 : tie.Need-enum-told-5
+enum-told-5 c = search needs
 
-bytes-in-requires-3 : tie.Need-bytes-in-requires-3
-bytes-in-requires-3 c κs = search needs
+enum-told-6 : tie.Need-enum-told-6
+enum-told-6 c = search needs
 
-add-result-3 : tie.Need-add-result-3
-add-result-3 c = search needs
-
-bytes-in-requires-4 : tie.Need-bytes-in-requires-4
-bytes-in-requires-4 c κs = search needs
-
-add-result-4 : tie.Need-add-result-4
-add-result-4 c = search needs
+enum-told-7 : tie.Need-enum-told-7
+enum-told-7 c = search needs
 
 returns : tie.Need-returns
-returns c = rw (← c .before .before .before .before .widths-of .ensures) (omega arith)
+returns c = rw (c .enum-told .given .1) (refl, omega arith)
+
+returns-2 : tie.Need-returns-2
+returns-2 c = rw (c .enum-told2 .given .1) (refl, omega arith)
+
+returns-3 : tie.Need-returns-3
+returns-3 c = rw (c .enum-told3 .given .1) (refl, omega arith)
+
+returns-4 : tie.Need-returns-4
+returns-4 c = rw (c .enum-told4 .given .1) (refl, omega arith)
+
+returns-5 : tie.Need-returns-5
+returns-5 c = rw (c .enum-told5 .given .1) (refl, omega arith)
+
+returns-6 : tie.Need-returns-6
+returns-6 c = rw (c .enum-told6 .given .1) (refl, omega arith)
+
+returns-7 : tie.Need-returns-7
+returns-7 c = rw (c .enum-told7 .given .1) (refl, omega arith)
 
 pub size-of-spec : {M : Type 1} → statement M
 size-of-spec =
     tie.close
     (tie.spec
-    widths-of-requires
-    bytes-in-requires
-    add-result
-    bytes-in-requires-2
-    add-result-2
-    bytes-in-requires-3
-    add-result-3
-    bytes-in-requires-4
-    add-result-4
-    returns)
+    enum-told
+    enum-told-2
+    enum-told-3
+    enum-told-4
+    enum-told-5
+    enum-told-6
+    enum-told-7
+    returns
+    returns-2
+    returns-3
+    returns-4
+    returns-5
+    returns-6
+    returns-7)

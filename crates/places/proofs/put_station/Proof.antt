@@ -1,7 +1,10 @@
--- `places::put_station` is safe: where the record is within its ranges, latitude and height are what `geocentric` asks for.
+-- `places::put_station` meets its contract: where the record is within its ranges, latitude and height are what `geocentric` asks for.
 use mathlib.Core.Path.{sym, _∙_}
+use mir.Syntax.{w64}
+use mir.ValLaws.{toZ-ofZ}
 use Rattle.refusals.specs.RefusalLaws.{of-limits-within}
 use Rattle.station.specs.Sizes.{station-sizes}
+use Rattle.places.specs.PrintedLaws.{line-within, line-refused}
 use borrow.Author.Needs.{needs}
 use Rattle.places.proofs.put_station.Statement.{statement}
 use Rattle.places.proofs.put_station.Tie as tie
@@ -27,13 +30,17 @@ same-length : tie.Need-same-length
 same-length c = search needs
 
 returns : tie.Need-returns
-returns c = search needs
+returns c =
+    let s = c .before .before .before .before .before .before .before .before .before in
+    line-within _ _ _ _ (toZ-ofZ w64 _ (s .fits .latitude)) (toZ-ofZ w64 _ (s .fits .height)) _ (c .before .before .before .before .before .before .check .ensures) _ _ _ _ (c .before .before .before .before .enum-told .given .1) (c .before .before .put-place .ensures)
 
 same-length-2 : tie.Need-same-length-2
 same-length-2 c = search needs
 
 returns-2 : tie.Need-returns-2
-returns-2 c = search needs
+returns-2 c =
+    let s = c .before .before .before .before .before .before .before .before .before in
+    line-refused _ _ _ _ (toZ-ofZ w64 _ (s .fits .latitude)) (toZ-ofZ w64 _ (s .fits .height)) _ (c .before .before .before .before .before .before .check .ensures) _ _ _ _ _ (c .before .before .before .before .enum-told2 .given .1) (c .before .before .put-refused .ensures)
 
 pub put-station-spec : {M : Type 1} → statement M
 put-station-spec =

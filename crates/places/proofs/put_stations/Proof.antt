@@ -1,49 +1,56 @@
--- `places::put_stations` is safe: a station is read where its bytes are there, and the room keeps its length.
-use Prim.Native.Nat.{_≤_, _-_}
-use mathlib.Core.Path.{_≡_}
-use lib.ListN.{length}
+-- `places::put_stations` meets its contract: the lines of the stations before the k-th are put.
+use Prim.Native.Nat.{_/_, _-_}
+use native.Mathlib.Omega.{arith}
+use lib.ListN.{length, length-take, length-drop}
+use Rattle.decimals.specs.Rows.{part}
+use Rattle.decimals.specs.RowLaws.{Rows, rows-start, rows-end, parts-turn}
+use Rattle.places.specs.Printed.{recordLine, printed}
 use borrow.Author.Needs.{needs}
 use Rattle.places.proofs.put_stations.Statement.{statement}
 use Rattle.places.proofs.put_stations.Tie as tie
 
 abbrev Inv-loop : tie.InvT-loop
-Inv-loop out₀ table input at₀ i₀ out at i = (i ≤ length input) × (length out ≡ length out₀)
+Inv-loop out₀ table input count at₀ k₀ out at k = Rows (λ j. recordLine (part 8 input j)) (length input / 8) out₀ 0 out at k
 
 abbrev μ-loop : tie.MeasureT-loop
-μ-loop out₀ table input at₀ i₀ out at i = length input - i
+μ-loop out₀ table input count at₀ k₀ out at k = length input / 8 - k
 
 loop-holds : tie.Need-loop-holds Inv-loop μ-loop
-loop-holds c = search needs
+loop-holds c = rows-start _ _ _ _ (omega arith) (omega arith)
 
-sub-loop : tie.Need-sub-loop Inv-loop μ-loop
-sub-loop c = search needs
+mul-from : tie.Need-mul-from Inv-loop μ-loop
+mul-from c = search needs
 
-number-at-requires : tie.Need-number-at-requires Inv-loop μ-loop
-number-at-requires c κs = search needs
+add-end : tie.Need-add-end Inv-loop μ-loop
+add-end c = search needs
 
-add-number-at : tie.Need-add-number-at Inv-loop μ-loop
-add-number-at c = search needs
+sub-put-record : tie.Need-sub-put-record Inv-loop μ-loop
+sub-put-record c = search needs
 
-number-at-requires-2 : tie.Need-number-at-requires-2 Inv-loop μ-loop
-number-at-requires-2 c κs = search needs
+part-put-record-start : tie.Need-part-put-record-start Inv-loop μ-loop
+part-put-record-start c = search needs
 
-put-station-requires : tie.Need-put-station-requires Inv-loop μ-loop
-put-station-requires c κs = search needs
+part-put-record-end : tie.Need-part-put-record-end Inv-loop μ-loop
+part-put-record-end c = search needs
 
-add-i : tie.Need-add-i Inv-loop μ-loop
-add-i c = search needs
+put-record-requires : tie.Need-put-record-requires Inv-loop μ-loop
+put-record-requires c κs = (c .before .before .before .before .before .before .before .pre, simp (length-take, length-drop) (omega arith))
+
+add-k : tie.Need-add-k Inv-loop μ-loop
+add-k c = search needs
 
 loop-less : tie.Need-loop-less Inv-loop μ-loop
 loop-less c = search needs
 
 loop-again : tie.Need-loop-again Inv-loop μ-loop
-loop-again c = search needs
+loop-again c = parts-turn 8 recordLine _ _ _ _ _ _ _ (c .before .before .before .before .before .before .loop .inv) (c .before .before .before .before .before .loop-test .taken) _ _ (c .before .before .put-record .ensures)
 
 same-length : tie.Need-same-length Inv-loop μ-loop
-same-length c = search needs
+same-length c = c .before .loop .inv .same
 
 returns : tie.Need-returns Inv-loop μ-loop
-returns c = search needs
+unfolding printed
+returns c = rows-end _ _ _ _ _ _ _ (c .before .loop .inv) (c .loop-test .left)
 
 pub put-stations-spec : {M : Type 1} → statement M
 put-stations-spec =
@@ -52,12 +59,13 @@ put-stations-spec =
     Inv-loop
     μ-loop
     loop-holds
-    sub-loop
-    number-at-requires
-    add-number-at
-    number-at-requires-2
-    put-station-requires
-    add-i
+    mul-from
+    add-end
+    sub-put-record
+    part-put-record-start
+    part-put-record-end
+    put-record-requires
+    add-k
     loop-less
     loop-again
     same-length

@@ -1,16 +1,14 @@
--- `rules::open_holds` meets its contract. The test is the definition's, once both answers on the window are put in.
-use borrow.Author.Needs.{needs}
+-- `rules::open_holds` meets its contract. With the ends inside the window both seconds are (`both-within`).
+use Rattle.rules.specs.Stages.{both-within}
+use lib.Dec.{leb}
+use borrow.Author.Tests.{leb-true}
 use Rattle.rules.proofs.open_holds.Statement.{statement}
 use Rattle.rules.proofs.open_holds.Tie as tie
 
-in-window-requires : tie.Need-in-window-requires
-in-window-requires c κs = search needs
-
-in-window-requires-2 : tie.Need-in-window-requires-2
-in-window-requires-2 c κs = search needs
-
 returns : tie.Need-returns
-returns c = rw (c .in-window2 .ensures, c .before .in-window .ensures)
+returns c =
+    let a = c .before .before .before .before .args in
+    rw (both-within (a .p .first) (a .p .last) (a .from) (a .to) (leb (a .from) (a .to)) (leb-true (a .from) (a .to)))
 
 pub open-holds-spec : {M : Type 1} → statement M
-open-holds-spec = tie.close (tie.spec in-window-requires in-window-requires-2 returns)
+open-holds-spec = tie.close (tie.spec returns)

@@ -1,10 +1,11 @@
--- `rules::phase_in_order` meets its contract. The test is the definition's, once the answers are put in.
+-- `rules::phase_in_order` meets its contract. After an entry of the same phase one may come (`within-may`); after another nothing is left of
+-- the second test.
+use Rattle.rules.specs.Stages.{within-may}
+use mathlib.Core.Bool.{and-true}
+use mathlib.Core.Path.{sym, _∙_}
 use borrow.Author.Needs.{needs}
 use Rattle.rules.proofs.phase_in_order.Statement.{statement}
 use Rattle.rules.proofs.phase_in_order.Tie as tie
-
-phase-may-come-requires : tie.Need-phase-may-come-requires
-phase-may-come-requires c κs = search needs
 
 is-within-requires : tie.Need-is-within-requires
 is-within-requires c κs = search needs
@@ -13,7 +14,20 @@ repeats-requires : tie.Need-repeats-requires
 repeats-requires c κs = search needs
 
 returns : tie.Need-returns
-returns c = rw (c .before .before .before .phase-may-come .ensures, c .before .before .is-within .ensures, c .repeats .ensures)
+returns c =
+    let a = c .before .before .before .before .args in
+    let h = sym (c .before .before .before .is-within .ensures) ∙ c .before .before .if1 .taken in
+    rw (h, within-may (a .p .stage) (a .phase) h, c .repeats .ensures)
+
+phase-may-come-requires : tie.Need-phase-may-come-requires
+phase-may-come-requires c κs = search needs
+
+returns-2 : tie.Need-returns-2
+returns-2 c =
+    let h = sym (c .before .before .is-within .ensures) ∙ c .before .if1 .left in
+    rw h (c .phase-may-come .ensures ∙ sym (and-true _))
 
 pub phase-in-order-spec : {M : Type 1} → statement M
-phase-in-order-spec = tie.close (tie.spec phase-may-come-requires is-within-requires repeats-requires returns)
+phase-in-order-spec =
+    tie.close
+    (tie.spec is-within-requires repeats-requires returns phase-may-come-requires returns-2)

@@ -1,16 +1,15 @@
--- `rules::span_holds` meets its contract. The test is the definition's, once both answers on the window are put in.
-use borrow.Author.Needs.{needs}
+-- `rules::span_holds` meets its contract. With the ends inside the window both seconds are (`both-within`).
+use Rattle.rules.specs.Stages.{both-within}
+use lib.Dec.{ltb}
+use borrow.Author.Tests.{ltb-true}
+use native.Mathlib.Omega.{arith}
 use Rattle.rules.proofs.span_holds.Statement.{statement}
 use Rattle.rules.proofs.span_holds.Tie as tie
 
-in-window-requires : tie.Need-in-window-requires
-in-window-requires c κs = search needs
-
-in-window-requires-2 : tie.Need-in-window-requires-2
-in-window-requires-2 c κs = search needs
-
 returns : tie.Need-returns
-returns c = rw (c .in-window2 .ensures, c .before .in-window .ensures)
+returns c =
+    let a = c .before .before .args in
+    both-within (a .p .first) (a .p .last) (a .from) (a .to) (ltb (a .from) (a .to)) (λ q. let h = ltb-true (a .from) (a .to) q in omega arith)
 
 pub span-holds-spec : {M : Type 1} → statement M
-span-holds-spec = tie.close (tie.spec in-window-requires in-window-requires-2 returns)
+span-holds-spec = tie.close (tie.spec returns)

@@ -3,16 +3,19 @@
 use Rattle.sheets.proofs.Counting.{Counting, count-refused, count-broken, count-end, count-more}
 use Rattle.sheets.specs.Sheets.{storedAt, readSheet}
 use Rattle.sheets.specs.SheetLaws.{read-start, extent-start}
-use Rattle.sheets.specs.Passes.{brokenOf}
-use Rattle.rules.specs.Rules.{judgedAs, judgementOf}
+use Rattle.rules.specs.Rules.{inOrder, fieldsHold, afterOf, judgementOf}
+use Rattle.rules.specs.RuleLaws.{judged-next, judged-disorder, judged-unsound}
+use Rattle.kinds.specs.KindLaws.{kind-inv}
+use Rattle.kinds.specs.declared.Progress.{Progress}
 use Rattle.records.specs.RecordLaws.{by-byte, by-kind, by-body, byte-inv, body-inv, read-plain, record-bounds}
 use Rattle.records.specs.Records.{byteAt, bodyAt, recordAt}
-use Rattle.kinds.specs.Kinds.{kindFor, sizeOf, isEnd, plain}
+use Rattle.kinds.specs.Kinds.{table, kindFor, sizeOf, isEnd, plain}
 use Rattle.kinds.specs.declared.Entry.{Entry}
 use Rattle.kinds.specs.declared.Kind.{Kind}
 use Rattle.records.specs.declared.Record.the-variants.{Is}
 use Rattle.rules.specs.declared.Judgement.the-variants.{Next}
-use mathlib.Core.Bool.{true}
+use mathlib.Core.Bool.{true, _&&_}
+use borrow.Author.Tests.{not-true, not-false}
 use Rattle.records.specs.declared.Byte.the-variants as Byte
 use Rattle.kinds.specs.declared.Named.the-variants as Named
 use Rattle.records.specs.declared.Body.the-variants as Body
@@ -118,77 +121,96 @@ returns-3 c = count-refused (turn (byted (c .before .before .before)) .loop .inv
     (sym (by-body _ _ _ _ _ (is-byte (byted (c .before .before .before))) (is-kind (c .before .before .before))
     (sym (c .before .before .body-at .ensures) ∙ c .enum-told3 .given .1)))
 
-judge-requires : tie.Need-judge-requires Inv-loop μ-loop
-judge-requires c κs = search needs
+in-order-requires : tie.Need-in-order-requires Inv-loop μ-loop
+in-order-requires c κs = search needs
 
-enum-known-judged : tie.Need-enum-known-judged Inv-loop μ-loop
-enum-known-judged c = search needs
+-- what is read is plain
+plain-entry : (c : tie.After-known-told3 Inv-loop μ-loop) → plain (entry c) ≡ true
+plain-entry c = ap plain (body-inv _ _ _ _ (is-body c) .1) ∙ read-plain (kind (named c)) (input (from c)) (from c .loop .at + 1)
 
-enum-told-4 : tie.Need-enum-told-4 Inv-loop μ-loop
-enum-told-4 c = search needs
+-- the answers of the rules
+abbrev before-entry : tie.After-known-told3 Inv-loop μ-loop → Progress
+before-entry c = from c .loop .p
 
-broken-requires : tie.Need-broken-requires Inv-loop μ-loop
-broken-requires c κs = search needs
+ordered : (c : tie.After-in-order Inv-loop μ-loop) → inOrder (before-entry (c .before)) (entry (c .before)) ≡ c .in-order .result
+ordered c = sym (c .in-order .ensures)
 
--- what is read is plain, so the rules' answer is the judgement
-judgement : (c : tie.After-judge Inv-loop μ-loop)
-    → judgementOf (from (c .before) .loop .p) (from (c .before) .loop .at) (entry (c .before)) ≡ c .judge .result
-judgement c =
-    let a = from (c .before) .loop in
-    let plain-entry : plain (entry (c .before)) ≡ true = ap plain (body-inv _ _ _ _ (is-body (c .before)) .1) ∙ read-plain (kind (named (c .before))) (input (from (c .before))) (a .at + 1) in
-    ap (λ b. judgedAs b (a .p) (a .at) (entry (c .before))) plain-entry ∙ sym (c .judge .ensures)
+sound : (c : tie.After-rule-holds Inv-loop μ-loop) → let t = c .before .before .before in
+    fieldsHold (before-entry t) (entry t) ≡ c .rule-holds .result
+sound c = let t = c .before .before .before in
+    ap (λ b. b && table (entry t .kind) .rule (before-entry t) (entry t)) (plain-entry t) ∙ sym (c .rule-holds .ensures)
 
-abbrev judged : tie.After-known-told4 Inv-loop μ-loop → tie.After-known-told3 Inv-loop μ-loop
-judged c = c .before .before .before .before
+returns-4 : tie.Need-returns-4 Inv-loop μ-loop
+returns-4 c =
+    let t = c .before .before in
+    count-broken (from t .loop .inv .2) _ _ (there t) _
+    (judged-disorder _ _ _ (ordered (c .before) ∙ not-true (c .before .in-order .result) (c .if1 .taken)))
 
-took : (c : tie.After-known-told4 Inv-loop μ-loop)
-    → judgementOf (from (judged c) .loop .p) (from (judged c) .loop .at) (entry (judged c)) ≡ Next (c .before .judged .given .0 .0)
-took c = judgement (c .before .before .before) ∙ c .before .judged .given .1
+rule-holds-requires : tie.Need-rule-holds-requires Inv-loop μ-loop
+rule-holds-requires c κs = search needs
+
+in-its-place : (c : tie.After-rule-holds Inv-loop μ-loop) → let t = c .before .before .before in inOrder (before-entry t) (entry t) ≡ true
+in-its-place c = ordered (c .before .before) ∙ not-false (c .before .before .in-order .result) (c .before .if1 .left)
+
+returns-5 : tie.Need-returns-5 Inv-loop μ-loop
+returns-5 c =
+    let t = c .before .before .before .before in
+    count-broken (from t .loop .inv .2) _ _ (there t) _
+    (judged-unsound _ _ _ (in-its-place (c .before)) (sound (c .before) ∙ not-true (c .before .rule-holds .result) (c .if2 .taken)))
+
+size-for-requires : tie.Need-size-for-requires Inv-loop μ-loop
+size-for-requires c κs = kind-inv _ _ (is-kind (named (c .before .before .before .before)))
+
+abbrev read : tie.After-size-for Inv-loop μ-loop → tie.After-known-told3 Inv-loop μ-loop
+read c = c .before .before .before .before .before
+
+took : (c : tie.After-size-for Inv-loop μ-loop)
+    → judgementOf (before-entry (read c)) (from (read c) .loop .at) (entry (read c)) ≡ Next (afterOf (before-entry (read c)) (entry (read c)))
+took c = judged-next _ _ _ (in-its-place (c .before .before))
+    (sound (c .before .before) ∙ not-false (c .before .before .rule-holds .result) (c .before .if2 .left))
 
 bounds : (c : tie.After-known-told3 Inv-loop μ-loop) → (from c .loop .at < after c) × (after c ≤ length (input (from c)))
 bounds c = record-bounds _ _ _ _ (there c)
 
-ended : (c : tie.After-is-end Inv-loop μ-loop) → isEnd (entry (judged (c .before .before)) .kind) ≡ c .is-end .result
-ended c = ap isEnd (same-kind (judged (c .before .before))) ∙ sym (c .is-end .ensures)
-
-returns-4 : tie.Need-returns-4 Inv-loop μ-loop
-returns-4 c = c .broken .ensures ∙ ap brokenOf (c .before .enum-told4 .given .1) ∙ count-broken
-    (from (c .before .before .before .before) .loop .inv .2) _ _ (there (c .before .before .before .before)) _
-    (judgement (c .before .before .before) ∙ c .before .enum-told4 .given .1)
-
-size-of-requires : tie.Need-size-of-requires Inv-loop μ-loop
-size-of-requires c κs = search needs
-
 add-next : tie.Need-add-next Inv-loop μ-loop
-add-next c = let b = bounds (judged (c .before)) in let z = c .size-of .ensures .0 in
-    omega (arith, from (judged (c .before)) .before .before .before .good .0 .1)
+add-next c = let b = bounds (read c) in let z = c .size-for .ensures .0 in omega (arith, from (read c) .before .before .before .good .0 .1)
 
 is-end-requires : tie.Need-is-end-requires Inv-loop μ-loop
 is-end-requires c κs = search needs
 
-add-count : tie.Need-add-count Inv-loop μ-loop
-add-count c = let b = bounds (judged (c .before .before .before)) in
-    omega (arith, from (judged (c .before .before .before)) .loop .inv .1, from (judged (c .before .before .before)) .before .before .before .good .0 .1)
+ended : (c : tie.After-is-end Inv-loop μ-loop) → isEnd (entry (read (c .before)) .kind) ≡ c .is-end .result
+ended c = ap isEnd (same-kind (read (c .before))) ∙ sym (c .is-end .ensures)
 
-returns-5 : tie.Need-returns-5 Inv-loop μ-loop
-returns-5 c = rw (c .before .before .size-of .ensures .0)
-    (count-end (from (judged (c .before .before .before)) .loop .inv .2) _ _ (there (judged (c .before .before .before))) _
-    (took (c .before .before .before)) (ended (c .before) ∙ c .if1 .taken))
+add-count : tie.Need-add-count Inv-loop μ-loop
+add-count c = let t = read (c .before .before) in let b = bounds t in
+    omega (arith, from t .loop .inv .1, from t .before .before .before .good .0 .1)
+
+returns-6 : tie.Need-returns-6 Inv-loop μ-loop
+returns-6 c = let t = read (c .before .before) in
+    rw (c .before .before .size-for .ensures .0)
+    (count-end (from t .loop .inv .2) _ _ (there t) _ (took (c .before .before)) (ended (c .before) ∙ c .if3 .taken))
+
+after-requires : tie.Need-after-requires Inv-loop μ-loop
+after-requires c κs = search needs
 
 add-n : tie.Need-add-n Inv-loop μ-loop
-add-n c = let b = bounds (judged (c .before .before .before)) in
-    omega (arith, from (judged (c .before .before .before)) .loop .inv .1, from (judged (c .before .before .before)) .before .before .before .good .0 .1)
+add-n c = let t = read (c .before .before .before) in let b = bounds t in
+    omega (arith, from t .loop .inv .1, from t .before .before .before .good .0 .1)
 
 loop-less : tie.Need-loop-less Inv-loop μ-loop
-loop-less c = let b = bounds (judged (c .before .before .before)) in let z = c .before .before .size-of .ensures .0 in omega arith
+loop-less c = let b = bounds (read (c .before .before .before)) in let z = c .before .before .before .size-for .ensures .0 in omega arith
 
 loop-again : tie.Need-loop-again Inv-loop μ-loop
-loop-again c = let b = bounds (judged (c .before .before .before)) in let z = c .before .before .size-of .ensures .0 in (
-  omega arith,
-  omega (arith, from (judged (c .before .before .before)) .loop .inv .1),
-  rw z (count-more (from (judged (c .before .before .before)) .loop .inv .2) _ _ (there (judged (c .before .before .before))) _
-      (took (c .before .before .before)) (ended (c .before) ∙ c .if1 .left) (omega (arith, from (judged (c .before .before .before)) .loop .inv .1))),
-)
+loop-again c =
+    let t = read (c .before .before .before) in
+    let b = bounds t in
+    let z = c .before .before .before .size-for .ensures .0 in (
+      omega arith,
+      omega (arith, from t .loop .inv .1),
+      rw (z, c .after .ensures)
+          (count-more (from t .loop .inv .2) _ _ (there t) _ (took (c .before .before .before)) (ended (c .before .before) ∙ c .before .if3 .left)
+          (omega (arith, from t .loop .inv .1))),
+    )
 
 pub extent-of-leading-sheet-spec : {M : Type 1} → statement M
 extent-of-leading-sheet-spec =
@@ -210,16 +232,16 @@ extent-of-leading-sheet-spec =
     enum-known-entry
     enum-told-3
     returns-3
-    judge-requires
-    enum-known-judged
-    enum-told-4
-    broken-requires
+    in-order-requires
     returns-4
-    size-of-requires
+    rule-holds-requires
+    returns-5
+    size-for-requires
     add-next
     is-end-requires
     add-count
-    returns-5
+    returns-6
+    after-requires
     add-n
     loop-less
     loop-again)

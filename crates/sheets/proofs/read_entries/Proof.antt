@@ -162,23 +162,23 @@ returns-4 c = c .before .before .before .before .put-numbers .ensures ∙ ap (pu
     (from (c .before .before .before .before .before .before) .loop .inv .3) _ _ (there (c .before .before .before .before .before .before))
     (ended (c .before) ∙ c .if1 .taken)
 
-size-of-requires : tie.Need-size-of-requires Inv-loop μ-loop
-size-of-requires c κs = search needs
+size-for-requires : tie.Need-size-for-requires Inv-loop μ-loop
+size-for-requires c κs = kind-inv _ _ (is-kind (named (c .before .before .before .before .before .before)))
 
 add-at : tie.Need-add-at Inv-loop μ-loop
-add-at c = let b = bounds (c .before .before .before .before .before .before .before) in let z = c .size-of .ensures .0 in omega arith
+add-at c = let b = bounds (c .before .before .before .before .before .before .before) in let z = c .size-for .ensures .0 in omega arith
 
 add-n : tie.Need-add-n Inv-loop μ-loop
 add-n c = let b = bounds (c .before .before .before .before .before .before .before) in
     omega (arith, from (c .before .before .before .before .before .before .before) .loop .inv .0)
 
 loop-less : tie.Need-loop-less Inv-loop μ-loop
-loop-less c = let b = bounds (c .before .before .before .before .before .before .before) in let z = c .size-of .ensures .0 in omega arith
+loop-less c = let b = bounds (c .before .before .before .before .before .before .before) in let z = c .size-for .ensures .0 in omega arith
 
 loop-again : tie.Need-loop-again Inv-loop μ-loop
 loop-again c =
     let b = bounds (c .before .before .before .before .before .before .before) in
-    let z = c .size-of .ensures .0 in
+    let z = c .size-for .ensures .0 in
     let i = from (c .before .before .before .before .before .before .before) .loop .inv in
     let k : from (c .before .before .before .before .before .before .before) .loop .n * 4 + 4 ≡
     (from (c .before .before .before .before .before .before .before) .loop .n + 1) * 4 = omega arith in (
@@ -222,7 +222,7 @@ read-entries-spec =
     is-end-requires
     same-length-4
     returns-4
-    size-of-requires
+    size-for-requires
     add-at
     add-n
     loop-less

@@ -1,4 +1,4 @@
--- `sines::less` meets its contract: x - y is between -y and 10^10.
+-- `sines::less` meets its contract: x - y fits, and is between -y and 10^10.
 use mathlib.Core.List.{[], _∷_}
 use Prim.Native.Nat.{ℕ, _+_, _≤_}
 use native.Mathlib.Omega.{arith}
@@ -29,7 +29,9 @@ sub-result : tie.Need-sub-result
 sub-result c = fits (bounds c) (sub (arg 0) (arg 1)) tt
 
 returns : tie.Need-returns
-returns c = rw (runs (bounds c) (sub (arg 0) (arg 1)) tt) (small (c .args .x) (c .args .y) (c .pre .0) (c .pre .1))
+returns c =
+    let e = runs (bounds c) (sub (arg 0) (arg 1)) tt in
+    record { value = e; size = rw e (small (c .args .x) (c .args .y) (c .pre .0) (c .pre .1)) }
 
 pub less-spec : {M : Type 1} → statement M
 less-spec = tie.close (tie.spec cast-result cast-result-2 sub-result returns)

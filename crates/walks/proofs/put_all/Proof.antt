@@ -1,18 +1,20 @@
--- A turn for each length, up to six; the room keeps its own.
-use Prim.Native.Nat.{_-_, _≤_}
-use mathlib.Core.Path.{_≡_}
+-- `walks::put_all` meets its contract: the lines of the lists that are shorter are put.
+use Prim.Native.Nat.{_-_}
+use native.Mathlib.Omega.{arith}
+use Rattle.decimals.specs.RowLaws.{Rows, rows-start, rows-turn, rows-end}
+use Rattle.walks.specs.Printed.{lines, printed}
 use borrow.Author.Needs.{needs}
 use Rattle.walks.proofs.put_all.Statement.{statement}
 use Rattle.walks.proofs.put_all.Tie as tie
 
 abbrev Inv-loop : tie.InvT-loop
-Inv-loop out₀ at₀ length₀ out at length = (length ≤ 7) × (lib.ListN.length out ≡ lib.ListN.length out₀)
+Inv-loop out₀ at₀ length₀ out at length = Rows lines 7 out₀ 0 out at length
 
 abbrev μ-loop : tie.MeasureT-loop
 μ-loop out₀ at₀ length₀ out at length = 7 - length
 
 loop-holds : tie.Need-loop-holds Inv-loop μ-loop
-loop-holds c = search needs
+loop-holds c = rows-start _ _ _ _ (omega arith) (omega arith)
 
 put-lists-requires : tie.Need-put-lists-requires Inv-loop μ-loop
 put-lists-requires c κs = search needs
@@ -24,13 +26,14 @@ loop-less : tie.Need-loop-less Inv-loop μ-loop
 loop-less c = search needs
 
 loop-again : tie.Need-loop-again Inv-loop μ-loop
-loop-again c = search needs
+loop-again c = rows-turn _ _ _ _ _ _ _ (c .before .before .before .before .before .loop .inv) (c .before .before .before .before .loop-test .taken) _ _ (c .before .before .put-lists .ensures)
 
 same-length : tie.Need-same-length Inv-loop μ-loop
-same-length c = search needs
+same-length c = c .before .loop .inv .same
 
 returns : tie.Need-returns Inv-loop μ-loop
-returns c = search needs
+unfolding printed
+returns c = rows-end _ _ _ _ _ _ _ (c .before .loop .inv) (c .loop-test .left)
 
 pub put-all-spec : {M : Type 1} → statement M
 put-all-spec =

@@ -1,21 +1,26 @@
--- Each step moves the cursor forward, within the window; the room keeps its length.
+-- `walks::put_entries` meets its contract: the entries before the cursor are put, and each step takes the next.
 use Prim.Native.Nat.{_-_, _≤_}
-use mathlib.Core.Path.{_≡_}
 use native.Mathlib.Omega.{arith}
 use lib.ListN.{length}
-use Rattle.contacts.specs.StepLaws.{Took, took}
+use Rattle.contacts.specs.StepLaws.{Took, took, none-left}
+use Rattle.walks.specs.PrintedLaws.{Walking, walking-start, walking-turn, walking-end}
 use borrow.Author.Needs.{needs}
 use Rattle.walks.proofs.put_entries.Statement.{statement}
 use Rattle.walks.proofs.put_entries.Tie as tie
 
 abbrev Inv-loop : tie.InvT-loop
-Inv-loop out₀ start states at₀ c₀ out at c = (c .at ≤ length states) × (length out ≡ length out₀)
+Inv-loop out₀ start states at₀ c₀ out at c = (c .at ≤ length states) × Walking states out₀ start out at (c .at)
 
 abbrev μ-loop : tie.MeasureT-loop
 μ-loop out₀ start states at₀ c₀ out at c = length states - c .at
 
+-- the step took the next entry
+onward : (c : tie.After-known-told Inv-loop μ-loop)
+    → Took (c .before .before .before .before .before .before .before .args .states .now) (c .before .before .before .before .loop .c .at) (c .before .found .given .0 .0) (c .before .found .given .0 .1 .0)
+onward c = took _ _ _ _ _ (c .before .before .before .step .ensures) (c .before .found .given .1)
+
 loop-holds : tie.Need-loop-holds Inv-loop μ-loop
-loop-holds c = search needs
+loop-holds c = (omega arith, walking-start _ _ _ (omega arith) (omega arith))
 
 step-requires : tie.Need-step-requires Inv-loop μ-loop
 step-requires c κs = search needs
@@ -27,25 +32,19 @@ enum-told : tie.Need-enum-told Inv-loop μ-loop
 enum-told c = search needs
 
 same-length : tie.Need-same-length Inv-loop μ-loop
-same-length c = search needs
+same-length c = c .before .before .before .loop .inv .1 .same
 
 returns : tie.Need-returns Inv-loop μ-loop
-returns c = search needs
+returns c = walking-end _ _ _ _ _ _ (c .before .before .before .loop .inv .1) (none-left _ _ _ (c .before .before .step .ensures) (c .enum-told .given .1))
 
 put-entry-requires : tie.Need-put-entry-requires Inv-loop μ-loop
 put-entry-requires c κs = search needs
 
--- what a step that found an entry tells
-onward : (c : tie.After-known-told Inv-loop μ-loop) →
-    let states = c .before .before .before .before .before .before .before .args .states .now in
-    Took states (c .before .before .before .before .loop .c .at) (c .before .found .given .0 .0) (c .before .found .given .0 .1 .0)
-onward c = took _ _ _ _ _ (c .before .before .before .step .ensures) (c .before .found .given .1)
-
 loop-less : tie.Need-loop-less Inv-loop μ-loop
-loop-less c = let o = onward (c .before .before .before .before) in omega arith
+loop-less c = let o = onward (c .before .before .before .before) in omega (arith, o .further, o .within)
 
 loop-again : tie.Need-loop-again Inv-loop μ-loop
-loop-again c = let o = onward (c .before .before .before .before) in (omega arith, omega arith)
+loop-again c = let o = onward (c .before .before .before .before) in (o .within, walking-turn _ _ _ _ _ _ (c .before .before .before .before .before .before .before .before .loop .inv .1) _ _ (o .rest) _ _ (c .before .before .put-entry .ensures))
 
 pub put-entries-spec : {M : Type 1} → statement M
 put-entries-spec =

@@ -1,12 +1,16 @@
--- A turn for each list; the room keeps its length.
-use Prim.Native.Nat.{_-_, _≤_}
-use mathlib.Core.Path.{_≡_}
+-- `walks::put_lists` meets its contract: the lines of the lists before this number are put.
+use Prim.Native.Nat.{_-_}
+use mathlib.Core.Path.{ap}
+use native.Mathlib.Omega.{arith}
+use Rattle.decimals.specs.Rows.{rows}
+use Rattle.decimals.specs.RowLaws.{put-as, Rows, rows-start, rows-turn, rows-end}
+use Rattle.walks.specs.Printed.{statesOf, line, lines}
 use borrow.Author.Needs.{needs}
 use Rattle.walks.proofs.put_lists.Statement.{statement}
 use Rattle.walks.proofs.put_lists.Tie as tie
 
 abbrev Inv-loop : tie.InvT-loop
-Inv-loop out₀ start length end at₀ number₀ out at number = (number ≤ end) × (lib.ListN.length out ≡ lib.ListN.length out₀)
+Inv-loop out₀ start length end at₀ number₀ out at number = Rows (λ k. line (statesOf length k)) end out₀ start out at number
 
 abbrev μ-loop : tie.MeasureT-loop
 μ-loop out₀ start length end at₀ number₀ out at number = end - number
@@ -15,13 +19,7 @@ lists-requires : tie.Need-lists-requires Inv-loop μ-loop
 lists-requires c κs = search needs
 
 loop-holds : tie.Need-loop-holds Inv-loop μ-loop
-loop-holds c = search needs
-
-states-of-requires : tie.Need-states-of-requires Inv-loop μ-loop
-states-of-requires c κs = search needs
-
-slice-aggregate-put-line : tie.Need-slice-aggregate-put-line Inv-loop μ-loop
-slice-aggregate-put-line c = search needs
+loop-holds c = rows-start _ _ _ _ (omega arith) (omega arith)
 
 put-line-requires : tie.Need-put-line-requires Inv-loop μ-loop
 put-line-requires c κs = search needs
@@ -33,13 +31,16 @@ loop-less : tie.Need-loop-less Inv-loop μ-loop
 loop-less c = search needs
 
 loop-again : tie.Need-loop-again Inv-loop μ-loop
-loop-again c = search needs
+loop-again c = rows-turn _ _ _ _ _ _ _ (c .before .before .before .before .before .loop .inv) (c .before .before .before .before .loop-test .taken) _ _ (c .before .before .put-line .ensures)
 
 same-length : tie.Need-same-length Inv-loop μ-loop
-same-length c = search needs
+same-length c = c .before .loop .inv .same
 
 returns : tie.Need-returns Inv-loop μ-loop
-returns c = search needs
+unfolding lines
+returns c =
+    let length = c .before .before .before .before .args .length in
+    put-as _ _ _ _ _ _ (ap (rows (λ k. line (statesOf length k))) (c .before .before .lists .ensures)) (rows-end _ _ _ _ _ _ _ (c .before .loop .inv) (c .loop-test .left))
 
 pub put-lists-spec : {M : Type 1} → statement M
 put-lists-spec =
@@ -49,8 +50,6 @@ put-lists-spec =
     μ-loop
     lists-requires
     loop-holds
-    states-of-requires
-    slice-aggregate-put-line
     put-line-requires
     add-number
     loop-less

@@ -1,19 +1,22 @@
--- The loop ends at the length; the room keeps its own.
-use Prim.Native.Nat.{_-_, _≤_}
-use mathlib.Core.Path.{_≡_}
-use lib.ListN.{length}
+-- `walks::put_states` meets its contract: the digits of the states before the i-th are put.
+use Prim.Native.Nat.{_-_}
+use native.Mathlib.Omega.{arith}
+use lib.ListN.{length, getD}
+use Rattle.decimals.specs.Decimals.{decimal}
+use Rattle.decimals.specs.RowLaws.{Rows, rows-start, rows-turn, rows-end}
+use Rattle.walks.specs.Printed.{digits}
 use borrow.Author.Needs.{needs}
 use Rattle.walks.proofs.put_states.Statement.{statement}
 use Rattle.walks.proofs.put_states.Tie as tie
 
 abbrev Inv-loop : tie.InvT-loop
-Inv-loop out₀ start states at₀ i₀ out at i = (i ≤ length states) × (length out ≡ length out₀)
+Inv-loop out₀ start states at₀ i₀ out at i = Rows (λ k. decimal (getD states k 0)) (length states) out₀ start out at i
 
 abbrev μ-loop : tie.MeasureT-loop
 μ-loop out₀ start states at₀ i₀ out at i = length states - i
 
 loop-holds : tie.Need-loop-holds Inv-loop μ-loop
-loop-holds c = search needs
+loop-holds c = rows-start _ _ _ _ (omega arith) (omega arith)
 
 shared-slice-read-put-state : tie.Need-shared-slice-read-put-state Inv-loop μ-loop
 shared-slice-read-put-state c = search needs
@@ -28,13 +31,14 @@ loop-less : tie.Need-loop-less Inv-loop μ-loop
 loop-less c = search needs
 
 loop-again : tie.Need-loop-again Inv-loop μ-loop
-loop-again c = search needs
+loop-again c = rows-turn _ _ _ _ _ _ _ (c .before .before .before .before .before .before .loop .inv) (c .before .before .before .before .before .loop-test .taken) _ _ (c .before .before .put-state .ensures)
 
 same-length : tie.Need-same-length Inv-loop μ-loop
-same-length c = search needs
+same-length c = c .before .loop .inv .same
 
 returns : tie.Need-returns Inv-loop μ-loop
-returns c = search needs
+unfolding digits
+returns c = rows-end _ _ _ _ _ _ _ (c .before .loop .inv) (c .loop-test .left)
 
 pub put-states-spec : {M : Type 1} → statement M
 put-states-spec =

@@ -1,46 +1,37 @@
--- Six turns, each of which stores one digit.
-use Prim.Native.Nat.{_-_, _≤_}
+-- `walks::states_of` meets its contract: digit by digit.
 use borrow.Author.Needs.{needs}
 use Rattle.walks.proofs.states_of.Statement.{statement}
 use Rattle.walks.proofs.states_of.Tie as tie
 
-abbrev Inv-loop : tie.InvT-loop
-Inv-loop number states₀ left₀ i₀ states left i = i ≤ 6
+digit-requires : tie.Need-digit-requires
+digit-requires c κs = search needs
 
-abbrev μ-loop : tie.MeasureT-loop
-μ-loop number states₀ left₀ i₀ states left i = 6 - i
+digit-requires-2 : tie.Need-digit-requires-2
+digit-requires-2 c κs = search needs
 
-loop-holds : tie.Need-loop-holds Inv-loop μ-loop
-loop-holds c = search needs
+digit-requires-3 : tie.Need-digit-requires-3
+digit-requires-3 c κs = search needs
 
-cast-states : tie.Need-cast-states Inv-loop μ-loop
-cast-states c = search needs
+digit-requires-4 : tie.Need-digit-requires-4
+digit-requires-4 c κs = search needs
 
-array-write-states : tie.Need-array-write-states Inv-loop μ-loop
-array-write-states c = search needs
+digit-requires-5 : tie.Need-digit-requires-5
+digit-requires-5 c κs = search needs
 
-add-i : tie.Need-add-i Inv-loop μ-loop
-add-i c = search needs
+digit-requires-6 : tie.Need-digit-requires-6
+digit-requires-6 c κs = search needs
 
-loop-less : tie.Need-loop-less Inv-loop μ-loop
-loop-less c = search needs
-
-loop-again : tie.Need-loop-again Inv-loop μ-loop
-loop-again c = search needs
-
-returns : tie.Need-returns Inv-loop μ-loop
-returns c = search needs
+returns : tie.Need-returns
+returns c = cc
 
 pub states-of-spec : {M : Type 1} → statement M
 states-of-spec =
     tie.close
     (tie.spec
-    Inv-loop
-    μ-loop
-    loop-holds
-    cast-states
-    array-write-states
-    add-i
-    loop-less
-    loop-again
+    digit-requires
+    digit-requires-2
+    digit-requires-3
+    digit-requires-4
+    digit-requires-5
+    digit-requires-6
     returns)

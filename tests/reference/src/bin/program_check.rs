@@ -1,4 +1,4 @@
-//! `program_check SEED N PROGRAM`: draws N requests, has the compiled program `cases` answer all of them, and
+//! `program_check SEED N PROGRAM`: draws N requests, has the compiled program `cases` answer them, a hundred a run, and
 //! compares each answer with this implementation's: the listing, or the refusal.
 //!
 //! Requests lie within their ranges (for which rounding matters, or as eclipses are, with windows up to all of
@@ -17,6 +17,9 @@ use std::process::{Command, Stdio};
 
 /// The most room that a case of the program can name.
 const MOST_ROOM: usize = 65_535;
+
+/// How many cases the program is given in a run: it takes 65,536 bytes of them, and prints 400,000 at most.
+const BATCH: usize = 100;
 
 struct Case {
     room: usize,
@@ -130,16 +133,8 @@ fn draw(random: &mut Random) -> Case {
     Case { room, input }
 }
 
-fn main() {
-    let arguments: Vec<String> = std::env::args().skip(1).collect();
-    let [seed, wanted, program] = &arguments[..] else {
-        eprintln!("usage: program_check SEED N PROGRAM");
-        std::process::exit(1);
-    };
-    let mut random = Random::new(seed.parse().expect("a number"));
-    let wanted: usize = wanted.parse().expect("a number");
-    let cases: Vec<Case> = (0..wanted).map(|_| draw(&mut random)).collect();
-
+/// What the program prints for some cases.
+fn answers_of(program: &str, cases: &[Case]) -> String {
     let mut run = Command::new(program)
         .stdin(Stdio::piped())
         .stdout(Stdio::piped())
@@ -151,27 +146,46 @@ fn main() {
     let mut printed = String::new();
     run.stdout.take().expect("a pipe").read_to_string(&mut printed).expect("text");
     writer.join().expect("all was written");
+    run.wait().expect("the program ends");
+    printed
+}
+
+fn main() {
+    let arguments: Vec<String> = std::env::args().skip(1).collect();
+    let [seed, wanted, program] = &arguments[..] else {
+        eprintln!("usage: program_check SEED N PROGRAM");
+        std::process::exit(1);
+    };
+    let mut random = Random::new(seed.parse().expect("a number"));
+    let wanted: usize = wanted.parse().expect("a number");
+    let cases: Vec<Case> = (0..wanted).map(|_| draw(&mut random)).collect();
 
     let mut counts: BTreeMap<String, usize> = BTreeMap::new();
-    let mut rest = printed.as_str();
-    for case in &cases {
-        let answer = case.answer();
-        let Some(after) = rest.strip_prefix(&answer) else {
-            println!("room {} request {:02x?}", case.room, case.input);
-            println!("expected\n{answer}printed\n{}", rest.lines().take(8).collect::<Vec<_>>().join("\n"));
-            std::process::exit(1);
-        };
-        rest = after;
-        for line in answer.lines() {
-            let words: Vec<&str> = line.split(' ').collect();
-            let sort = match words[0] {
-                "refused" | "enter" | "leave" | "graze" | "open" => words[..2].join(" "),
-                word => word.to_string(),
+    for batch in cases.chunks(BATCH) {
+        let printed = answers_of(program, batch);
+        let mut rest = printed.as_str();
+        for case in batch {
+            let answer = case.answer();
+            let Some(after) = rest.strip_prefix(&answer) else {
+                println!("room {} request {:02x?}", case.room, case.input);
+                println!(
+                    "expected\n{answer}printed\n{}",
+                    rest.lines().take(8).collect::<Vec<_>>().join("\n")
+                );
+                std::process::exit(1);
             };
-            *counts.entry(sort).or_default() += 1;
+            rest = after;
+            for line in answer.lines() {
+                let words: Vec<&str> = line.split(' ').collect();
+                let sort = match words[0] {
+                    "refused" | "enter" | "leave" | "graze" | "open" => words[..2].join(" "),
+                    word => word.to_string(),
+                };
+                *counts.entry(sort).or_default() += 1;
+            }
         }
+        assert!(rest.is_empty(), "the program printed more: {rest}");
     }
-    assert!(rest.is_empty(), "the program printed more: {rest}");
     println!("{wanted} requests, no difference");
     for (sort, count) in counts {
         println!("{sort} {count}");

@@ -1,96 +1,105 @@
--- `records::bytes::body_at` meets its contract. A body that the input does not hold is cut; of one that it holds each field is read behind the one before it, as `entryAt` has them.
+-- `records::bytes::body_at` meets its contract. A body that the input does not hold is cut; of one that it holds the numbers are there as
+-- far as its kind goes (`there`), and are the entry's (`entry-made`).
 use Rattle.records.specs.RecordLaws.{body-cut, body-whole}
-use native.Mathlib.Omega.{arith}
-use mathlib.Core.Path.{sym}
-use Rattle.kinds.specs.Kinds.{bytesIn}
+use Rattle.records.specs.Bodies.{entry-made}
+use Rattle.records.specs.declared.Body.the-variants as Body
+use Rattle.kinds.specs.Kinds.{sizeOf}
+use lib.Dec.{leb}
 use lib.ListN.{length}
-use Prim.Native.Nat.{_+_, _≤_}
+use mathlib.Core.List.{List}
+use mathlib.Core.Bool.{cond}
+use mathlib.Core.Path.{_≡_, sym, ap, _∙_}
+use borrow.Author.Tests.{ltb-true, ltb-false, leb-true, le-leb}
+use native.Mathlib.Omega.{arith}
+use Prim.Native.Nat.{ℕ, _+_, _-_, _≤_}
 use borrow.Author.Needs.{needs}
 use Rattle.records.proofs.bytes.body_at.Statement.{statement}
 use Rattle.records.proofs.bytes.body_at.Tie as tie
 
+-- how many bytes are left
+abbrev left : List ℕ → ℕ → ℕ
+left s at = length s - at
+
 sub-left : tie.Need-sub-left
 sub-left c = search needs
 
-size-of-requires : tie.Need-size-of-requires
-size-of-requires c κs = search needs
+is-cut-requires : tie.Need-is-cut-requires
+is-cut-requires c κs = search needs
 
 returns : tie.Need-returns
-returns c = let h = c .before .size-of .ensures .0 in sym (body-cut _ _ _ (omega arith))
-
-widths-of-requires : tie.Need-widths-of-requires
-widths-of-requires c κs = search needs
+returns c =
+    let a = c .before .before .before .args in
+    let h = ltb-true (left (a .s .now) (a .at)) (sizeOf (a .kind)) (sym (c .before .is-cut .ensures) ∙ c .if1 .taken) in
+    sym (body-cut (a .s .now) (a .at) (a .kind) (omega arith))
 
 add-at-a : tie.Need-add-at-a
 add-at-a c = search needs
 
-bytes-in-requires : tie.Need-bytes-in-requires
-bytes-in-requires c κs = search needs
-
 add-at-b : tie.Need-add-at-b
 add-at-b c = search needs
-
-bytes-in-requires-2 : tie.Need-bytes-in-requires-2
-bytes-in-requires-2 c κs = search needs
 
 add-at-c : tie.Need-add-at-c
 add-at-c c = search needs
 
-bytes-in-requires-3 : tie.Need-bytes-in-requires-3
-bytes-in-requires-3 c κs = search needs
+two-if-requires : tie.Need-two-if-requires
+two-if-requires c κs = λ e. let a = c .before .before .before .args in let h = leb-true 5 (left (a .s .now) (a .at)) e in omega arith
 
-add-at-d : tie.Need-add-at-d
-add-at-d c = search needs
+two-if-requires-2 : tie.Need-two-if-requires-2
+two-if-requires-2 c κs = λ e. let a = c .before .before .before .before .args in let h = leb-true 5 (left (a .s .now) (a .at)) e in omega arith
 
--- the four fields lie within the input
-fits : (c : tie.After-widths-of) → let w = c .widths-of .result in let a = c .before .before .before .before .args in
-    a .at + (1 + (bytesIn (w .a) + (bytesIn (w .b) + (bytesIn (w .c) + bytesIn (w .d))))) ≤ length (a .s .now)
-fits c = let z = c .before .before .size-of .ensures .0 in rw (c .widths-of .ensures) (omega arith)
+two-if-requires-3 : tie.Need-two-if-requires-3
+two-if-requires-3 c κs = λ e. let a = c .before .before .before .before .before .args in let h = leb-true 7 (left (a .s .now) (a .at)) e in omega arith
 
-number-at-requires : tie.Need-number-at-requires
-number-at-requires c κs = let h = fits (c .before .before .before) in omega arith
+field-a-requires : tie.Need-field-a-requires
+field-a-requires c κs = search needs
 
-number-at-requires-2 : tie.Need-number-at-requires-2
-number-at-requires-2 c κs = let h = fits (c .before .before .before .before) in omega arith
+mul-field-b : tie.Need-mul-field-b
+mul-field-b c = search needs
 
-number-at-requires-3 : tie.Need-number-at-requires-3
-number-at-requires-3 c κs = let h = fits (c .before .before .before .before .before) in omega arith
+add-field-b : tie.Need-add-field-b
+add-field-b c = search needs
 
-number-at-requires-4 : tie.Need-number-at-requires-4
-number-at-requires-4 c κs = let h = fits (c .before .before .before .before .before .before) in omega arith
+field-b-requires : tie.Need-field-b-requires
+field-b-requires c κs = search needs
+
+field-c-requires : tie.Need-field-c-requires
+field-c-requires c κs = search needs
+
+-- a number that is there
+there : (m n r v : ℕ) → r ≡ cond (leb m n) v 0 → m ≤ n → r ≡ v
+there m n r v e h = e ∙ ap (λ b. cond b v 0) (le-leb m n h)
 
 returns-2 : tie.Need-returns-2
 returns-2 c =
-    let z = c .before .before .before .before .before .before .before .before .before .size-of .ensures .0 in
-    rw (
-      c .before .before .before .number-at .ensures,
-      c .before .before .number-at2 .ensures,
-      c .before .number-at3 .ensures,
-      c .number-at4 .ensures,
-      c .before .before .before .before .before .before .bytes-in .ensures .0,
-      c .before .before .before .before .before .bytes-in2 .ensures .0,
-      c .before .before .before .before .bytes-in3 .ensures .0,
-      c .before .before .before .before .before .before .before .widths-of .ensures,
-    )
-    (sym (body-whole _ _ _ (omega arith)))
+    let z = c .before .before .before in
+    let y = z .before in
+    let x = y .before in
+    let a = x .before .before .before .before .args in
+    let l = left (a .s .now) (a .at) in
+    let h = ltb-false l (sizeOf (a .kind)) (sym (x .before .before .is-cut .ensures) ∙ x .before .if1 .left) in
+    rw (c .before .before .field-a .ensures, c .before .field-b .ensures, c .field-c .ensures)
+    (ap Body.Is (entry-made (a .kind) (a .s .now) (a .at + 1) (x .two-if .result) (y .two-if2 .result) (z .two-if3 .result)
+    (λ k. there 5 l (x .two-if .result) _ (x .two-if .ensures .0) (omega arith))
+    (λ k. there 5 l (y .two-if2 .result) _ (y .two-if2 .ensures .0) (omega arith))
+    (λ k. there 7 l (z .two-if3 .result) _ (z .two-if3 .ensures .0) (omega arith)))
+    ∙ sym (body-whole (a .s .now) (a .at) (a .kind) (omega arith)))
 
 pub body-at-spec : {M : Type 1} → statement M
 body-at-spec =
     tie.close
     (tie.spec
     sub-left
-    size-of-requires
+    is-cut-requires
     returns
-    widths-of-requires
     add-at-a
-    bytes-in-requires
     add-at-b
-    bytes-in-requires-2
     add-at-c
-    bytes-in-requires-3
-    add-at-d
-    number-at-requires
-    number-at-requires-2
-    number-at-requires-3
-    number-at-requires-4
+    two-if-requires
+    two-if-requires-2
+    two-if-requires-3
+    field-a-requires
+    mul-field-b
+    add-field-b
+    field-b-requires
+    field-c-requires
     returns-2)

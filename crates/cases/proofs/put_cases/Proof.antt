@@ -1,0 +1,72 @@
+-- `cases::put_cases` meets its contract: the texts of the cases before the k-th are put.
+use Prim.Native.Nat.{_/_, _-_}
+use native.Mathlib.Omega.{arith}
+use lib.ListN.{length, length-take, length-drop}
+use Rattle.decimals.specs.Rows.{part}
+use Rattle.decimals.specs.RowLaws.{Rows, rows-start, rows-end, parts-turn}
+use Rattle.cases.specs.Printed.{caseText, printed}
+use borrow.Author.Needs.{needs}
+use Rattle.cases.proofs.put_cases.Statement.{statement}
+use Rattle.cases.proofs.put_cases.Tie as tie
+
+abbrev Inv-loop : tie.InvT-loop
+Inv-loop out₀ input count at₀ k₀ out at k = Rows (λ j. caseText (part 113 input j)) (length input / 113) out₀ 0 out at k
+
+abbrev μ-loop : tie.MeasureT-loop
+μ-loop out₀ input count at₀ k₀ out at k = length input / 113 - k
+
+loop-holds : tie.Need-loop-holds Inv-loop μ-loop
+loop-holds c = rows-start _ _ _ _ (omega arith) (omega arith)
+
+mul-from : tie.Need-mul-from Inv-loop μ-loop
+mul-from c = search needs
+
+add-end : tie.Need-add-end Inv-loop μ-loop
+add-end c = search needs
+
+sub-put-case : tie.Need-sub-put-case Inv-loop μ-loop
+sub-put-case c = search needs
+
+part-put-case-start : tie.Need-part-put-case-start Inv-loop μ-loop
+part-put-case-start c = search needs
+
+part-put-case-end : tie.Need-part-put-case-end Inv-loop μ-loop
+part-put-case-end c = search needs
+
+put-case-requires : tie.Need-put-case-requires Inv-loop μ-loop
+put-case-requires c κs = simp (length-take, length-drop) (omega arith)
+
+add-k : tie.Need-add-k Inv-loop μ-loop
+add-k c = search needs
+
+loop-less : tie.Need-loop-less Inv-loop μ-loop
+loop-less c = search needs
+
+loop-again : tie.Need-loop-again Inv-loop μ-loop
+loop-again c = parts-turn 113 caseText _ _ _ _ _ _ _ (c .before .before .before .before .before .before .loop .inv) (c .before .before .before .before .before .loop-test .taken) _ _ (c .before .before .put-case .ensures)
+
+same-length : tie.Need-same-length Inv-loop μ-loop
+same-length c = c .before .loop .inv .same
+
+returns : tie.Need-returns Inv-loop μ-loop
+unfolding printed
+returns c = rows-end _ _ _ _ _ _ _ (c .before .loop .inv) (c .loop-test .left)
+
+pub put-cases-spec : {M : Type 1} → statement M
+put-cases-spec =
+    tie.close
+    (tie.spec
+    Inv-loop
+    μ-loop
+    loop-holds
+    mul-from
+    add-end
+    sub-put-case
+    part-put-case-start
+    part-put-case-end
+    put-case-requires
+    add-k
+    loop-less
+    loop-again
+    same-length
+    returns)

@@ -1,0 +1,24 @@
+-- What the program prints: the answer to each case of its input.
+-- Assumes nothing: these are definitions.
+use Prim.Native.Nat.{ℕ}
+use mathlib.Core.Bool.{cond}
+use mathlib.Core.List.{List, []}
+use lib.Dec.{ltb}
+use lib.ListN.{getD, take, drop, replicate}
+use Rattle.records.specs.Numbers.{twoAt}
+use Rattle.decimals.specs.Rows.{eachPart}
+use Rattle.answers.specs.Answers.{answerText}
+
+-- a case of 113 bytes: the room for a sheet, two of them; how long the request is; and its bytes, of 110
+abbrev pub roomOf : List ℕ → List ℕ
+roomOf s = replicate (twoAt s 0) 0
+
+abbrev pub requestOf : List ℕ → List ℕ
+requestOf s = take (getD s 2 0) (drop 3 s)
+
+-- the listing of the request's sheet, or its refusal; nothing where the request is longer than the case
+unfoldable pub caseText : List ℕ → List ℕ
+caseText s = cond (ltb 110 (getD s 2 0)) [] (answerText (requestOf s) (roomOf s))
+
+unfoldable pub printed : List ℕ → List ℕ
+printed input = eachPart 113 caseText input

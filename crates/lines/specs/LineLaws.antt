@@ -1,0 +1,59 @@
+-- A line put part by part.
+use Prim.Native.Nat.{ℕ, _<_}
+use mathlib.Core.Path.{_≡_}
+use mathlib.Core.List.{List, [], _∷_, _++_}
+use lib.IntN.{ℤ}
+use lib.ListN.{length}
+use Rattle.refusals.specs.declared.Refusal.{Refusal}
+use Rattle.kinds.specs.declared.Kind.{Kind}
+use Rattle.kinds.specs.declared.Entry.{Entry}
+use Rattle.sheets.specs.declared.Extent.{Extent}
+use Rattle.sheets.specs.declared.Extent.the-variants as X
+use Rattle.decimals.specs.Texts.{letters, Put}
+use Rattle.decimals.specs.TextLaws.{put-then}
+use Rattle.decimals.specs.Patterns.{filled}
+use Rattle.lines.specs.Lines.{lineFor, lineOf, numbered, refusalText, refusalLine, extentText}
+
+-- a pattern filled with the same numbers
+module _ (s old : List ℕ) (at : ℕ) (new : List ℕ) (r : ℕ) where
+  pub filled-two : (x y v w : ℤ) → x ≡ v → y ≡ w → Put old at (filled (x ∷ y ∷ []) 0 s) new r → Put old at (filled (v ∷ w ∷ []) 0 s) new r
+  filled-two x y v w p q f = rw (← p, ← q) f
+
+  pub filled-three : (x y z v w u : ℤ) → x ≡ v → y ≡ w → z ≡ u → Put old at (filled (x ∷ y ∷ z ∷ []) 0 s) new r
+      → Put old at (filled (v ∷ w ∷ u ∷ []) 0 s) new r
+  filled-three x y z v w u p q t f = rw (← p, ← q, ← t) f
+
+-- three texts, one after the other
+pub put-three : (old one two new : List ℕ) (at p q r : ℕ) (x y z : List ℕ) → length old < 18446744073709551616
+    → Put old at x one p → Put one p y two q → Put two q z new r → Put old at (x ++ y ++ z) new r
+put-three old one two new at p q r x y z h f g k = put-then old two new at q r (x ++ y) z h (put-then old one two at p q x y h f g) k
+
+pub put-four : (old one two third new : List ℕ) (at p q t r : ℕ) (x y z w : List ℕ) → length old < 18446744073709551616
+    → Put old at x one p → Put one p y two q → Put two q z third t → Put third t w new r → Put old at (x ++ y ++ z ++ w) new r
+put-four old one two third new at p q t r x y z w h f g k m =
+    put-then old third new at t r (x ++ y ++ z) w h (put-three old one two third at p q t x y z h f g k) m
+
+-- the line of an entry is that of its kind
+pub put-kind : (e : Entry) (k : Kind) → e .kind ≡ k → (old : List ℕ) (at : ℕ) (new : List ℕ) (r : ℕ)
+    → Put old at (lineFor k (e .a) (e .b) (e .c)) new r → Put old at (lineOf e) new r
+unfolding lineOf
+put-kind e k q old at new r p = rw q p
+
+pub put-refused : (number place : ℕ) (old : List ℕ) (at : ℕ) (new : List ℕ) (r : ℕ)
+    → Put old at (numbered (letters "refused ") number place) new r → Put old at (refusalText number place) new r
+unfolding refusalText
+put-refused number place old at new r p = p
+
+module _ (x : Extent) (old : List ℕ) (at : ℕ) (new : List ℕ) (r : ℕ) where
+  pub put-sheet : (entries n : ℕ) → x ≡ X.Sheet entries n → Put old at (numbered (letters "sheet ") entries n) new r → Put old at (extentText x) new r
+  unfolding extentText
+  put-sheet entries n q p = rw q p
+
+  pub put-refused-extent : (f : Refusal) → x ≡ X.Refused f → Put old at (refusalText (f .number) (f .place)) new r → Put old at (extentText x) new r
+  unfolding extentText
+  put-refused-extent f q p = rw q p
+
+pub put-refusal-end : (number place : ℕ) (old mid new : List ℕ) (at r q : ℕ) → length old < 18446744073709551616
+    → Put old at (refusalText number place) mid r → Put mid r (letters "\n") new q → Put old at (refusalLine number place) new q
+unfolding refusalLine
+put-refusal-end number place old mid new at r q h p w = put-then old mid new at r q (refusalText number place) (letters "\n") h p w

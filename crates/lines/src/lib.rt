@@ -1,0 +1,136 @@
+// The line of an entry, and of a refusal. A `put_` function stores it at a place of a room, as far as the room goes, and gives the place
+// after it (`decimals`).
+use kinds::Entry;
+use kinds::Kind;
+use phases::Phase;
+use sheets::Extent;
+ghost use mathlib.Core.List.{_++_};
+ghost use Rattle.decimals.specs.Texts.{letters, Put};
+ghost use Rattle.lines.specs.Lines.{nameOf, headLine, contactLine, unsureLine, closestLine, lineOf, numbered, refusalText, refusalLine, extentText};
+
+fn put_phase(out: &mut [u8], at: usize, phase: Phase) -> usize
+    ensures { λ r. ⌜ Put (now (out .entry)) at (letters (nameOf phase)) (now (out .exit)) r ⌝ }
+{
+    match phase {
+        Phase::Penumbra => decimals::put_text(out, at, b"penumbra"),
+        Phase::Central => decimals::put_text(out, at, b"central"),
+    }
+}
+
+// "a head line"
+fn put_head(out: &mut [u8], at: usize, station: u32, first: u32, last: u32) -> usize
+    ensures { λ r. ⌜ Put (now (out .entry)) at (headLine station first last) (now (out .exit)) r ⌝ }
+{
+    let number = station as i64;
+    let from = kinds::seconds::second_of(first);
+    let to = kinds::seconds::second_of(last);
+    let numbers = [number, from, to];
+    decimals::put_filled(out, at, b"station # from # to #\n", &numbers)
+}
+
+// An enter or a leave: "each entry with from, to, direction".
+fn put_contact(
+    out: &mut [u8],
+    at: usize,
+    word: &[u8],
+    phase: Phase,
+    from: u32,
+    to: u32,
+    direction: u32,
+) -> usize
+    ensures { λ r. ⌜ Put (now (out .entry)) at (contactLine (now (word .entry)) phase from to direction) (now (out .exit)) r ⌝ }
+{
+    let name = decimals::put_text(out, at, word);
+    let next = put_phase(out, name, phase);
+    let start = kinds::seconds::second_of(from);
+    let end = kinds::seconds::second_of(to);
+    let angle = direction as i64;
+    let numbers = [start, end, angle];
+    decimals::put_filled(out, next, b" # # #\n", &numbers)
+}
+
+// A graze or an open: "with no direction".
+fn put_unsure(out: &mut [u8], at: usize, word: &[u8], phase: Phase, from: u32, to: u32) -> usize
+    ensures { λ r. ⌜ Put (now (out .entry)) at (unsureLine (now (word .entry)) phase from to) (now (out .exit)) r ⌝ }
+{
+    let name = decimals::put_text(out, at, word);
+    let next = put_phase(out, name, phase);
+    let start = kinds::seconds::second_of(from);
+    let end = kinds::seconds::second_of(to);
+    let numbers = [start, end];
+    decimals::put_filled(out, next, b" # #\n", &numbers)
+}
+
+// "last the closest second with magnitude"
+fn put_closest(out: &mut [u8], at: usize, second: u32, magnitude: u32) -> usize
+    ensures { λ r. ⌜ Put (now (out .entry)) at (closestLine second magnitude) (now (out .exit)) r ⌝ }
+{
+    let when = kinds::seconds::second_of(second);
+    let millionths = magnitude as i64;
+    let numbers = [when, millionths];
+    decimals::put_filled(out, at, b"closest # #\n", &numbers)
+}
+
+// The line of an entry. A new kind is an arm here and a row of `lineFor`.
+pub fn put_entry(out: &mut [u8], at: usize, entry: Entry) -> usize
+    ensures { λ r. ⌜ Put (now (out .entry)) at (lineOf entry) (now (out .exit)) r ⌝ }
+{
+    let kind = entry.kind;
+    let a = entry.a;
+    let b = entry.b;
+    let c = entry.c;
+    match kind {
+        Kind::Head => put_head(out, at, a, b, c),
+        Kind::Enter(phase) => put_contact(out, at, b"enter ", phase, a, b, c),
+        Kind::Leave(phase) => put_contact(out, at, b"leave ", phase, a, b, c),
+        Kind::Graze(phase) => put_unsure(out, at, b"graze ", phase, a, b),
+        Kind::Open(phase) => put_unsure(out, at, b"open ", phase, a, b),
+        Kind::Closest => put_closest(out, at, a, b),
+        Kind::End => at,
+    }
+}
+
+// A word and two numbers.
+fn put_numbered(out: &mut [u8], at: usize, word: &[u8], x: u64, y: u64) -> usize
+    ensures { λ r. ⌜ Put (now (out .entry)) at (numbered (now (word .entry)) x y) (now (out .exit)) r ⌝ }
+{
+    let first = decimals::put_text(out, at, word);
+    let middle = decimals::put_number(out, first, x);
+    let second = decimals::put_byte(out, middle, b' ');
+    decimals::put_number(out, second, y)
+}
+
+// "A refusal prints `refused`, number, place.", without the end of its line.
+pub fn put_refusal(out: &mut [u8], at: usize, number: u64, place: u64) -> usize
+    ensures { λ r. ⌜ Put (now (out .entry)) at (refusalText number place) (now (out .exit)) r ⌝ }
+{
+    put_numbered(out, at, b"refused ", number, place)
+}
+
+// The same as a line of its own.
+pub fn put_refusal_line(out: &mut [u8], at: usize, number: u64, place: u64) -> usize
+    ensures { λ r. ⌜ Put (now (out .entry)) at (refusalLine number place) (now (out .exit)) r ⌝ }
+{
+    let end = put_refusal(out, at, number, place);
+    decimals::put_byte(out, end, b'\n')
+}
+
+// What a reader or a writer answered: how many entries and bytes, or the refusal.
+pub fn put_extent(out: &mut [u8], at: usize, extent: Extent) -> usize
+    ensures { λ r. ⌜ Put (now (out .entry)) at (extentText extent) (now (out .exit)) r ⌝ }
+{
+    match extent {
+        Extent::Sheet { entries, length } => put_numbered(
+            out,
+            at,
+            b"sheet ",
+            entries as u64,
+            length as u64,
+        ),
+        Extent::Refused(refusal) => {
+            let number = refusal.number as u64;
+            let place = refusal.place as u64;
+            put_refusal(out, at, number, place)
+        }
+    }
+}

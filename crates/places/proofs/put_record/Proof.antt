@@ -1,0 +1,30 @@
+-- `places::put_record` meets its contract: latitude, then height.
+use mathlib.Core.Path.{ap₂}
+use Rattle.decimals.specs.RowLaws.{given, put-as}
+use Rattle.places.specs.Printed.{stationLine, recordLine}
+use borrow.Author.Needs.{needs}
+use Rattle.places.proofs.put_record.Statement.{statement}
+use Rattle.places.proofs.put_record.Tie as tie
+
+number-at-requires : tie.Need-number-at-requires
+number-at-requires c κs = search needs
+
+number-at-requires-2 : tie.Need-number-at-requires-2
+number-at-requires-2 c κs = search needs
+
+put-station-requires : tie.Need-put-station-requires
+put-station-requires c κs = search needs
+
+same-length : tie.Need-same-length
+same-length c = search needs
+
+returns : tie.Need-returns
+unfolding recordLine
+returns c =
+    let s = c .before .before .before .before in
+    put-as _ _ _ _ _ _ (ap₂ stationLine (given (s .before .number-at .ok) (s .before .number-at .ensures)) (given (s .number-at2 .ok) (s .number-at2 .ensures))) (c .before .before .put-station .ensures)
+
+pub put-record-spec : {M : Type 1} → statement M
+put-record-spec =
+    tie.close
+    (tie.spec number-at-requires number-at-requires-2 put-station-requires same-length returns)

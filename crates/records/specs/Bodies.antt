@@ -1,0 +1,52 @@
+-- The fields of a kind from the three numbers of two bytes that follow its byte, x, y and z, `wide` being y and z as one; and that they are
+-- the entry's.
+-- Callers go by `bodyAt`.
+use Prim.Native.Nat.{ℕ, _+_, _*_, _≤_}
+use mathlib.Core.Path.{_≡_, refl}
+use mathlib.Core.List.{List}
+use native.Mathlib.Omega.{arith}
+use Rattle.kinds.specs.declared.Kind.{Kind}
+use Rattle.kinds.specs.declared.Kind.the-variants as K
+use Rattle.kinds.specs.declared.Entry.{Entry}
+use Rattle.kinds.specs.Kinds.{sizeOf}
+use Rattle.records.specs.Numbers.{twoAt}
+use Rattle.records.specs.Records.{entryAt}
+
+abbrev pub fieldA : Kind → ℕ → ℕ
+fieldA K.Head x = x
+fieldA (K.Enter φ) x = x
+fieldA (K.Leave φ) x = x
+fieldA (K.Graze φ) x = x
+fieldA (K.Open φ) x = x
+fieldA K.Closest x = x
+fieldA K.End x = 0
+
+abbrev pub fieldB : Kind → ℕ → ℕ → ℕ
+fieldB K.Head y wide = y
+fieldB (K.Enter φ) y wide = y
+fieldB (K.Leave φ) y wide = y
+fieldB (K.Graze φ) y wide = y
+fieldB (K.Open φ) y wide = y
+fieldB K.Closest y wide = wide
+fieldB K.End y wide = 0
+
+abbrev pub fieldC : Kind → ℕ → ℕ
+fieldC K.Head z = z
+fieldC (K.Enter φ) z = z
+fieldC (K.Leave φ) z = z
+fieldC (K.Graze φ) z = 0
+fieldC (K.Open φ) z = 0
+fieldC K.Closest z = 0
+fieldC K.End z = 0
+
+-- the entry whose three numbers are those that stand there, as far as its record goes
+pub entry-made : (k : Kind) (s : List ℕ) (at x y z : ℕ) → (5 ≤ sizeOf k → x ≡ twoAt s at) → (5 ≤ sizeOf k → y ≡ twoAt s (at + 2))
+    → (7 ≤ sizeOf k → z ≡ twoAt s (at + 2 + 2))
+    → _≡_ {A = Entry} (record { kind = k; a = fieldA k x; b = fieldB k y (y * 65536 + z); c = fieldC k z; d = 0 }) (entryAt k s at)
+entry-made K.Head s at x y z f g h = rw (f (omega arith), g (omega arith), h (omega arith))
+entry-made (K.Enter φ) s at x y z f g h = rw (f (omega arith), g (omega arith), h (omega arith))
+entry-made (K.Leave φ) s at x y z f g h = rw (f (omega arith), g (omega arith), h (omega arith))
+entry-made (K.Graze φ) s at x y z f g h = rw (f (omega arith), g (omega arith))
+entry-made (K.Open φ) s at x y z f g h = rw (f (omega arith), g (omega arith))
+entry-made K.Closest s at x y z f g h = rw (f (omega arith), g (omega arith), h (omega arith))
+entry-made K.End s at x y z f g h = refl

@@ -1,0 +1,17 @@
+-- `rules::order::repeats` meets its contract. Two crossings are the same if their numbers are (`repeats-number`).
+use Rattle.rules.specs.Stages.{repeats-number}
+use borrow.Author.Needs.{needs}
+use Rattle.rules.proofs.order.repeats.Statement.{statement}
+use Rattle.rules.proofs.order.repeats.Tie as tie
+
+number-of-requires : tie.Need-number-of-requires
+number-of-requires c κs = search needs
+
+number-of-requires-2 : tie.Need-number-of-requires-2
+number-of-requires-2 c κs = search needs
+
+returns : tie.Need-returns
+returns c = let a = c .before .before .args in rw (c .before .number-of .ensures, c .number-of2 .ensures) (repeats-number (a .last) (a .crossing))
+
+pub repeats-spec : {M : Type 1} → statement M
+repeats-spec = tie.close (tie.spec number-of-requires number-of-requires-2 returns)

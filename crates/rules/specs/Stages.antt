@@ -1,0 +1,188 @@
+-- The rules as the code asks them: an entry by the stage of its kind, so that the four kinds of a phase go one way; and that these are the
+-- rules. Callers go by `Rules`.
+use Prim.Native.Nat.{ℕ, _≤_}
+use mathlib.Core.Path.{_≡_, refl, sym, ap, _∙_}
+use mathlib.Core.Bool.{Bool, true, false, cond, and-true, not, _&&_}
+use native.Mathlib.Omega.{arith}
+use borrow.Author.Tests.{leb-true, le-leb}
+use lib.Dec.{leb, eqb}
+use Rattle.phases.specs.declared.Phase.{Phase}
+use Rattle.phases.specs.declared.Phase.the-variants.{Penumbra, Central}
+use Rattle.kinds.specs.declared.Kind.{Kind}
+use Rattle.kinds.specs.declared.Kind.the-variants as K
+use Rattle.kinds.specs.declared.Stage.{Stage}
+use Rattle.kinds.specs.declared.Stage.the-variants as S
+use Rattle.kinds.specs.declared.Crossing.{Crossing}
+use Rattle.kinds.specs.declared.Crossing.the-variants as C
+use Rattle.kinds.specs.declared.Progress.{Progress}
+use Rattle.kinds.specs.declared.Entry.{Entry}
+use Rattle.kinds.specs.Kinds.{table}
+use Rattle.kinds.specs.TestLaws.{both}
+use Rattle.kinds.specs.FieldRules.{headHolds, spanHolds, openHolds, isDirection, closestHolds}
+use Rattle.rules.specs.Order.{mayCome, isWithin, repeats}
+use Rattle.rules.specs.Rules.{reached, passed, crossingKept, afterKind, phaseInOrder, kindInOrder}
+
+-- ---- what a kind of a phase asks
+
+abbrev pub crossingOf : Kind → Crossing
+crossingOf K.Head = C.Neither
+crossingOf (K.Enter φ) = C.Enter
+crossingOf (K.Leave φ) = C.Leave
+crossingOf (K.Graze φ) = C.Neither
+crossingOf (K.Open φ) = C.Neither
+crossingOf K.Closest = C.Neither
+crossingOf K.End = C.Neither
+
+abbrev pub isOpen : Kind → Bool
+isOpen K.Head = false
+isOpen (K.Enter φ) = false
+isOpen (K.Leave φ) = false
+isOpen (K.Graze φ) = false
+isOpen (K.Open φ) = true
+isOpen K.Closest = false
+isOpen K.End = false
+
+abbrev pub directionHolds : Kind → ℕ → Bool
+directionHolds K.Head direction = true
+directionHolds (K.Enter φ) direction = isDirection direction
+directionHolds (K.Leave φ) direction = isDirection direction
+directionHolds (K.Graze φ) direction = true
+directionHolds (K.Open φ) direction = true
+directionHolds K.Closest direction = true
+directionHolds K.End direction = true
+
+abbrev pub phaseHolds : Progress → Kind → ℕ → ℕ → ℕ → Bool
+phaseHolds p k from to direction = cond (isOpen k) (openHolds p from to) (spanHolds p from to && directionHolds k direction)
+
+-- a crossing stands after it came; else the one that stood
+abbrev pub crossingAfter : Crossing → Crossing → Crossing
+crossingAfter C.Neither kept = kept
+crossingAfter C.Enter kept = C.Enter
+crossingAfter C.Leave kept = C.Leave
+
+-- ---- an entry by the stage of its kind
+
+abbrev pub orderAt : Progress → Entry → Kind → Stage → Bool
+orderAt p e k S.Start = false
+orderAt p e k S.Head = mayCome (p .stage) S.Head
+orderAt p e k (S.Phase φ) = phaseInOrder p φ (crossingOf k) (e .a)
+orderAt p e k S.Closest = mayCome (p .stage) S.Closest
+orderAt p e k S.End = mayCome (p .stage) S.End
+
+abbrev pub ruleAt : Progress → Entry → Kind → Stage → Bool
+ruleAt p e k S.Start = false
+ruleAt p e k S.Head = headHolds (e .a) (e .b) (e .c)
+ruleAt p e k (S.Phase φ) = phaseHolds p k (e .a) (e .b) (e .c)
+ruleAt p e k S.Closest = closestHolds p (e .a) (e .b)
+ruleAt p e k S.End = true
+
+abbrev pub afterAt : Progress → Entry → Kind → Stage → Progress
+afterAt p e k S.Start = reached S.Start (e .b) (e .c)
+afterAt p e k S.Head = reached S.Head (e .b) (e .c)
+afterAt p e k (S.Phase φ) = passed p φ (e .b) (crossingAfter (crossingOf k) (crossingKept p φ))
+afterAt p e k S.Closest = reached S.Closest (p .first) (p .last)
+afterAt p e k S.End = reached S.End (p .first) (p .last)
+
+-- ---- at the stage of the kind's row these are the rules
+
+module _ (p : Progress) (e : Entry) where
+  order-at : (k : Kind) → orderAt p e k (table k .stage) ≡ kindInOrder p e k
+  order-at K.Head = refl
+  order-at (K.Enter φ) = refl
+  order-at (K.Leave φ) = refl
+  order-at (K.Graze φ) = refl
+  order-at (K.Open φ) = refl
+  order-at K.Closest = refl
+  order-at K.End = refl
+
+  rule-at : (k : Kind) → ruleAt p e k (table k .stage) ≡ table k .rule p e
+  rule-at K.Head = refl
+  rule-at (K.Enter φ) = refl
+  rule-at (K.Leave φ) = refl
+  rule-at (K.Graze φ) = and-true (spanHolds p (e .a) (e .b))
+  rule-at (K.Open φ) = refl
+  rule-at K.Closest = refl
+  rule-at K.End = refl
+
+  after-at : (k : Kind) → afterAt p e k (table k .stage) ≡ afterKind p e k
+  after-at K.Head = refl
+  after-at (K.Enter φ) = refl
+  after-at (K.Leave φ) = refl
+  after-at (K.Graze φ) = refl
+  after-at (K.Open φ) = refl
+  after-at K.Closest = refl
+  after-at K.End = refl
+
+  -- so at a stage that the row is known to have
+  pub order-by : (s : Stage) → s ≡ table (e .kind) .stage → orderAt p e (e .kind) s ≡ kindInOrder p e (e .kind)
+  order-by s q = ap (orderAt p e (e .kind)) q ∙ order-at (e .kind)
+
+  pub rule-by : (s : Stage) → s ≡ table (e .kind) .stage → ruleAt p e (e .kind) s ≡ table (e .kind) .rule p e
+  rule-by s q = ap (ruleAt p e (e .kind)) q ∙ rule-at (e .kind)
+
+  pub after-by : (s : Stage) → s ≡ table (e .kind) .stage → afterAt p e (e .kind) s ≡ afterKind p e (e .kind)
+  after-by s q = ap (afterAt p e (e .kind)) q ∙ after-at (e .kind)
+
+-- ---- the same in fewer tests
+
+-- after an entry of the same phase one may come
+pub within-may : (s : Stage) (φ : Phase) → isWithin s φ ≡ true → mayCome s (S.Phase φ) ≡ true
+within-may S.Start φ e = e
+within-may S.Head φ e = refl
+within-may (S.Phase Penumbra) φ e = refl
+within-may (S.Phase Central) Penumbra e = e
+within-may (S.Phase Central) Central e = refl
+within-may S.Closest φ e = e
+within-may S.End φ e = e
+
+-- a crossing as a number: two that repeat have the same, and it is not that of none
+abbrev pub crossingNumber : Crossing → ℕ
+crossingNumber C.Neither = 0
+crossingNumber C.Enter = 1
+crossingNumber C.Leave = 2
+
+pub repeats-number : (last c : Crossing) → (eqb (crossingNumber c) (crossingNumber last) && not (eqb (crossingNumber c) 0)) ≡ repeats last c
+repeats-number C.Neither C.Neither = refl
+repeats-number C.Neither C.Enter = refl
+repeats-number C.Neither C.Leave = refl
+repeats-number C.Enter C.Neither = refl
+repeats-number C.Enter C.Enter = refl
+repeats-number C.Enter C.Leave = refl
+repeats-number C.Leave C.Neither = refl
+repeats-number C.Leave C.Enter = refl
+repeats-number C.Leave C.Leave = refl
+
+-- what lies from the first second to the last lies within both ways
+same : (x y : Bool) → (x ≡ true → y ≡ true) → (y ≡ true → x ≡ true) → x ≡ y
+same true y f g = sym (f refl)
+same false true f g = g refl
+same false false f g = refl
+
+pub both-within : (first last from to : ℕ) (t : Bool) → (t ≡ true → from ≤ to)
+    → (leb first from && t && leb to last) ≡ ((leb first from && leb from last) && (leb first to && leb to last) && t)
+both-within first last from to t h = same _ _ forth back
+  where
+    forth : (leb first from && t && leb to last) ≡ true → ((leb first from && leb from last) && (leb first to && leb to last) && t) ≡ true
+    forth q =
+        let u = both (leb first from && t) (leb to last) q in
+        let v = both (leb first from) t (u .0) in
+        let a = leb-true first from (v .0) in
+        let b = h (v .1) in
+        let c = leb-true to last (u .1) in
+        rw (v .0, le-leb from last (omega arith), le-leb first to (omega arith), u .1, v .1)
+
+    back : ((leb first from && leb from last) && (leb first to && leb to last) && t) ≡ true → (leb first from && t && leb to last) ≡ true
+    back q =
+        let u = both ((leb first from && leb from last) && (leb first to && leb to last)) t q in
+        let v = both (leb first from && leb from last) (leb first to && leb to last) (u .0) in
+        rw (both (leb first from) (leb from last) (v .0) .0, u .1, both (leb first to) (leb to last) (v .1) .1)
+
+-- an angle is a direction, and where the kind has none nothing is asked
+pub angle-holds : (k : Kind) (d : ℕ) → leb d 3599 ≡ true → directionHolds k d ≡ true
+angle-holds K.Head d e = refl
+angle-holds (K.Enter φ) d e = rw e
+angle-holds (K.Leave φ) d e = rw e
+angle-holds (K.Graze φ) d e = refl
+angle-holds (K.Open φ) d e = refl
+angle-holds K.Closest d e = refl
+angle-holds K.End d e = refl

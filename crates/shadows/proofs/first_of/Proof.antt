@@ -1,0 +1,41 @@
+-- `shadows::first_of` meets its contract: input of the shape is its request, and its first second is asked; any other is refused.
+use mathlib.Core.Path.{refl, sym, ap, _∙_}
+use Rattle.decimals.specs.RowLaws.{given}
+use Rattle.seconds.specs.OneSecond.{secondAnswer}
+use Rattle.shadows.specs.Printed.{firstOf}
+use borrow.Author.Needs.{needs}
+use Rattle.shadows.proofs.first_of.Statement.{statement}
+use Rattle.shadows.proofs.first_of.Tie as tie
+
+request-requires : tie.Need-request-requires
+request-requires c κs = search needs
+
+enum-known-asked : tie.Need-enum-known-asked
+enum-known-asked c = search needs
+
+second-requires : tie.Need-second-requires
+second-requires c κs = search needs
+
+enum-known-asked-2 : tie.Need-enum-known-asked-2
+enum-known-asked-2 c = search needs
+
+returns : tie.Need-returns
+returns c =
+    let known = c .before .before .before .before .asked .given in
+    c .second .ensures .0
+    ∙ ap (secondAnswer _) (given (c .before .struct-told .given .0 .1) refl)
+    ∙ ap firstOf (sym (known .1) ∙ c .before .before .before .before .before .before .request .ensures)
+
+returns-2 : tie.Need-returns-2
+returns-2 c = ap firstOf (sym (c .before .asked2 .given .1) ∙ c .before .before .before .request .ensures)
+
+pub first-of-spec : {M : Type 1} → statement M
+first-of-spec =
+    tie.close
+    (tie.spec
+    request-requires
+    enum-known-asked
+    second-requires
+    enum-known-asked-2
+    returns
+    returns-2)

@@ -1,0 +1,49 @@
+-- What the program prints: a line for each request of its input, of the first second of its window.
+-- Assumes nothing: these are definitions.
+use Prim.Native.Nat.{ℕ}
+use mathlib.Core.List.{List, [], _∷_}
+use lib.IntN.{pos}
+use Rattle.shadow.specs.declared.Second.{Second}
+use Rattle.seconds.specs.declared.OneSecond.{OneSecond}
+use Rattle.seconds.specs.declared.OneSecond.the-variants as O
+use Rattle.seconds.specs.OneSecond.{secondAnswer}
+use Rattle.input.specs.declared.Input.{Input}
+use Rattle.input.specs.declared.Input.the-variants as I
+use Rattle.input.specs.Input.{inputOf}
+use Rattle.decimals.specs.Texts.{letters}
+use Rattle.decimals.specs.Patterns.{filled}
+use Rattle.decimals.specs.Rows.{eachPart}
+use Rattle.lines.specs.Lines.{refusalLine}
+
+-- u, v, L1, L2, the states of penumbra and central (0 outside, 1 inside, 2 unsure), direction, magnitude
+unfoldable pub secondLine : Second → List ℕ
+secondLine x =
+    filled
+    (x .shadow .u
+    ∷ x .shadow .v
+    ∷ x .shadow .l1
+    ∷ x .shadow .l2
+    ∷ pos (x .penumbra)
+    ∷ pos (x .central)
+    ∷ pos (x .direction)
+    ∷ pos (x .magnitude)
+    ∷ [])
+    0
+    (letters "# # # # # # # #\n")
+
+-- "A refusal prints `refused`, number, place."
+unfoldable pub answerLine : OneSecond → List ℕ
+answerLine (O.Is x) = secondLine x
+answerLine (O.Refused r) = refusalLine (r .number) (r .place)
+
+-- what is said of the first second
+abbrev pub firstOf : Input → OneSecond
+firstOf (I.Is q) = secondAnswer q (q .window .first)
+firstOf (I.Refused r) = O.Refused r
+
+-- the line of a request's 109 bytes
+unfoldable pub recordLine : List ℕ → List ℕ
+recordLine request = answerLine (firstOf (inputOf request))
+
+unfoldable pub printed : List ℕ → List ℕ
+printed input = eachPart 109 recordLine input

@@ -1,0 +1,67 @@
+-- `sines::angle` meets its contract, part by part of the thousand.
+use mathlib.Core.Path.{sym, _∙_}
+use Rattle.numbers.specs.Code.{read-size}
+use Rattle.decimals.specs.RowLaws.{given}
+use Rattle.sines.specs.PrintedLaws.{angle-border, angle-tenth, angle-spread}
+use borrow.Author.Needs.{needs}
+use Rattle.sines.proofs.angle.Statement.{statement}
+use Rattle.sines.proofs.angle.Tie as tie
+
+mul-less : tie.Need-mul-less
+mul-less c = search needs
+
+add-less : tie.Need-add-less
+add-less c = search needs
+
+less-requires : tie.Need-less-requires
+less-requires c κs = search needs
+
+mul-less-2 : tie.Need-mul-less-2
+mul-less-2 c = search needs
+
+mul-less-3 : tie.Need-mul-less-3
+mul-less-3 c = search needs
+
+add-less-2 : tie.Need-add-less-2
+add-less-2 c = search needs
+
+less-requires-2 : tie.Need-less-requires-2
+less-requires-2 c κs = search needs
+
+mul-less-4 : tie.Need-mul-less-4
+mul-less-4 c = search needs
+
+less-requires-3 : tie.Need-less-requires-3
+less-requires-3 c κs = search needs
+
+returns : tie.Need-returns
+returns c =
+    let w = c .less .ensures in
+    record { value = given (c .less .ok) (w .value) ∙ sym (angle-border _ (c .before .if1 .taken)); size = read-size (c .less .result) 10_000_000_000 (w .size) tt }
+
+returns-2 : tie.Need-returns-2
+returns-2 c =
+    let w = c .less2 .ensures in
+    record { value = given (c .less2 .ok) (w .value) ∙ sym (angle-tenth _ (c .before .before .if1 .left) (c .before .if2 .taken)); size = read-size (c .less2 .result) 10_000_000_000 (w .size) tt }
+
+returns-3 : tie.Need-returns-3
+returns-3 c =
+    let w = c .less3 .ensures in
+    record { value = given (c .less3 .ok) (w .value) ∙ sym (angle-spread _ (c .before .before .if1 .left) (c .before .if2 .left)); size = read-size (c .less3 .result) 10_000_000_000 (w .size) tt }
+
+pub angle-spec : {M : Type 1} → statement M
+angle-spec =
+    tie.close
+    (tie.spec
+    mul-less
+    add-less
+    less-requires
+    mul-less-2
+    mul-less-3
+    add-less-2
+    less-requires-2
+    mul-less-4
+    less-requires-3
+    returns
+    returns-2
+    returns-3)

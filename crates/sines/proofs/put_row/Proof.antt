@@ -1,0 +1,70 @@
+-- `sines::put_row` meets its contract: each of the two ways gives sine and cosine of the reduced angle, and so of the angle.
+use mathlib.Core.Path.{refl}
+use mir.Syntax.{w64}
+use mir.ValLaws.{toZ-ofZ}
+use Rattle.sine.specs.SineLaws.{sine-of, cosine-of}
+use Rattle.decimals.specs.RowLaws.{also, given, filled-as}
+use Rattle.sines.specs.Printed.{line}
+use borrow.Author.Needs.{needs}
+use Rattle.sines.proofs.put_row.Statement.{statement}
+use Rattle.sines.proofs.put_row.Tie as tie
+
+reduced-requires : tie.Need-reduced-requires
+reduced-requires c κs = search needs
+
+sine-requires : tie.Need-sine-requires
+sine-requires c κs = search needs
+
+cosine-requires : tie.Need-cosine-requires
+cosine-requires c κs = search needs
+
+sine-requires-2 : tie.Need-sine-requires-2
+sine-requires-2 c κs = search needs
+
+cosine-requires-2 : tie.Need-cosine-requires-2
+cosine-requires-2 c κs = search needs
+
+slice-aggregate-put-filled : tie.Need-slice-aggregate-put-filled
+slice-aggregate-put-filled c = search needs
+
+slice-aggregate-put-filled-2 : tie.Need-slice-aggregate-put-filled-2
+slice-aggregate-put-filled-2 c = search needs
+
+put-filled-requires : tie.Need-put-filled-requires
+put-filled-requires c κs = search needs
+
+same-length : tie.Need-same-length
+same-length c = search needs
+
+returns : tie.Need-returns
+unfolding line
+returns c =
+    let start = c .before .before .before .before .before .before .before .before .before .before .before .before .before in
+    let is = toZ-ofZ w64 (start .args .angle) (start .fits .angle) in
+    let four = c .before .before .before .before .before .before in
+    let three = four .before in
+    let two = three .before in
+    let one = two .before in
+    let a = rw is at (one .before .reduced .ensures) in
+    filled-as _ _ _ _ _ _ _
+    (also is
+    (also (given (one .sine .ok) (sine-of a (one .sine .ensures)))
+    (also (given (two .cosine .ok) (cosine-of a (two .cosine .ensures)))
+    (also (given (three .sine2 .ok) (sine-of a (three .sine2 .ensures)))
+    (also (given (four .cosine2 .ok) (cosine-of a (four .cosine2 .ensures))) refl)))))
+    (c .before .before .put-filled .ensures)
+
+pub put-row-spec : {M : Type 1} → statement M
+put-row-spec =
+    tie.close
+    (tie.spec
+    reduced-requires
+    sine-requires
+    cosine-requires
+    sine-requires-2
+    cosine-requires-2
+    slice-aggregate-put-filled
+    slice-aggregate-put-filled-2
+    put-filled-requires
+    same-length
+    returns)

@@ -1,0 +1,42 @@
+-- `walks::put_line` meets its contract: the first of the six states of a number are its states.
+use mathlib.Core.Path.{sym, ap, _∙_}
+use native.Mathlib.Omega.{arith}
+use lib.ListN.{length, take}
+use lib.Seq.{length-take-le}
+use Rattle.decimals.specs.RowLaws.{put-as}
+use Rattle.walks.specs.Printed.{line}
+use Rattle.walks.specs.PrintedLaws.{first-states}
+use borrow.Author.Needs.{needs}
+use Rattle.walks.proofs.put_line.Statement.{statement}
+use Rattle.walks.proofs.put_line.Tie as tie
+
+states-of-requires : tie.Need-states-of-requires
+states-of-requires c κs = search needs
+
+array-share-prefix-states : tie.Need-array-share-prefix-states
+array-share-prefix-states c = search needs
+
+slice-aggregate-put-window : tie.Need-slice-aggregate-put-window
+slice-aggregate-put-window c = sym (length-take-le _ _ (omega (arith, ap length (c .before .before .states-of .ensures))))
+
+put-window-requires : tie.Need-put-window-requires
+put-window-requires c κs = search needs
+
+same-length : tie.Need-same-length
+same-length c = search needs
+
+returns : tie.Need-returns
+returns c =
+    let s = c .before .before .before .before .before .before .before in
+    put-as _ _ _ _ _ _ (ap line (ap (take (s .args .length)) (c .before .before .before .before .before .states-of .ensures) ∙ first-states (s .args .length) 6 (s .args .number) (s .pre))) (c .before .before .put-window .ensures)
+
+pub put-line-spec : {M : Type 1} → statement M
+put-line-spec =
+    tie.close
+    (tie.spec
+    states-of-requires
+    array-share-prefix-states
+    slice-aggregate-put-window
+    put-window-requires
+    same-length
+    returns)
