@@ -1,7 +1,7 @@
 /* Ukhtvaresh: local circumstances of a solar eclipse in whole numbers.
  *
- * Lengths are in 10^-8 of the Earth's equatorial radius, angles in 10^-6 degree, times in whole seconds from the
- * reference instant. East longitude is positive.
+ * Lengths are in 10^-8 of the Earth's equatorial radius, angles in 10^-6 degree, times in whole seconds of
+ * ephemeris time from the reference instant. East longitude is positive.
  *
  * Each function answers the number of the refusal, 0 for none. *value gets the length or the count on success, the
  * refusal's place otherwise. Buffers are untouched on refusal; on success what lies past the result is.
@@ -12,7 +12,7 @@
  *    1  window outside its range                     0
  *    2  an element outside its range, or a           first such field, 0 to 21; of a fit 0 to 3
  *       coefficient of a fit
- *    3  a station value outside its range            first: 0 number, 1 latitude, 2 longitude, 3 height
+ *    3  a station value outside its range            first: 0 number, 1 latitude, 2 longitude, 3 height, 4 delta T
  *    4  the buffer is too short                      the length it needs (bytes; entries for ukhtvaresh_read)
  *    5  kind not in the table                        first byte of that record
  *    6  the sheet ends inside a record or before     first byte of that record, or the input's length
@@ -47,9 +47,10 @@ extern "C" {
  *     mu        0 to 359,999,999   14,900,000 to 15,100,000   +-100
  *     tan f     400,000 to 500,000 (10^-8)
  *   kind 03, then the station's number (unsigned, 2 bytes, 1 to 999), and signed, 4 bytes each, its geodetic latitude
- *     (+-90,000,000), longitude (+-180,000,000, east positive) and height (-500 to 9,000 metres);
+ *     (+-90,000,000), longitude (+-180,000,000, east positive), height (-500 to 9,000 metres) and delta T (-10,000 to
+ *     20,000 hundredths of a second; ephemeris time less universal time, 0 for elements by universal time);
  *   kind 04, then first and last second of the window (signed, 2 bytes each), -10,800 <= first <= last <= 10,800. */
-#define UKHTVARESH_REQUEST_LENGTH 109
+#define UKHTVARESH_REQUEST_LENGTH 113
 
 /* Kinds of entries. Enter, leave, graze and open are the paper's words. */
 enum {
@@ -100,7 +101,7 @@ uint64_t ukhtvaresh_second(const uint8_t *request, size_t request_len, int64_t s
                            size_t shadow_len, uint64_t *value);
 
 /* The mirror of a request, at the start of `mirrored`: all y and d coefficients and the latitude with the other sign, nothing
- * else changed. *value: 109. Any numbers: -2^31, which has no opposite in its bytes, stays as it is.
+ * else changed. *value: 113. Any numbers: -2^31, which has no opposite in its bytes, stays as it is.
  * The sheet of the mirror of a request within the limits has the same entries, of the same seconds, magnitude and length;
  * their directions differ. A request that is refused 1, 2 or 3 and its mirror are refused alike.
  * Refusals: 10; 4 with the length. */

@@ -46,7 +46,7 @@ HAND_WORKED = Request(
         tan_f1=460_000,
         tan_f2=458_000,
     ),
-    Station(number=7, latitude=90_000_000, longitude=0, height=0),
+    Station(number=7, latitude=90_000_000, longitude=0, height=0, delta_t=0),
     Window(-6000, 6000),
 )
 ENTRIES = [
@@ -78,7 +78,7 @@ RANGES = [
     *[(0, 359_999_999), (14_900_000, 15_100_000), (-100, 100)],
     *[(400_000, 500_000), (400_000, 500_000)],
 ]
-STATION_RANGES = [(1, 999), (-90_000_000, 90_000_000), (-180_000_000, 180_000_000), (-500, 9_000)]
+STATION_RANGES = [(1, 999), (-90_000_000, 90_000_000), (-180_000_000, 180_000_000), (-500, 9_000), (-10_000, 20_000)]
 
 
 def example(name):
@@ -193,7 +193,7 @@ class Requests(Case):
 
     def test_shapes_refused(self):
         request = HAND_WORKED.to_bytes()
-        kinds = [bytes(put(request, kind, 5)) for kind in (0, 89, 104)]
+        kinds = [bytes(put(request, kind, 5)) for kind in (0, 89, 108)]
         for shape in (b"", request[:108], request + b"\0", *kinds):
             self.refuses_request(10, 0, shape)
             self.refuses(10, 0, Request.from_bytes, shape)
@@ -301,6 +301,16 @@ class Writer(Case):
             self.refuses_into(7, 7, write_into, put(ENTRIES, 1, Enter(PENUMBRA, -5401, -5399, direction)))
         for station in (-1, 0, 1_000, 2**16 + 7, 2**32 + 7):
             self.refuses_into(7, 0, write_into, put(ENTRIES, 0, Head(station, -6000, 6000)))
+
+
+class EphemerisTime(Case):
+    def test_delta_t_turns_the_station_back(self):
+        request = Request.from_bytes(example("hopkinsville2017.bin"))
+        self.assertEqual(request.station.delta_t, 6_880)
+        west = replace(request.station, delta_t=0, longitude=request.station.longitude - 287_451)
+        self.assertEqual(sheet(replace(request, station=west).to_bytes()), sheet(request.to_bytes()))
+        enter = read(sheet(request.to_bytes()))[1]
+        self.assertEqual((enter.phase, enter.from_, enter.to), (PENUMBRA, -3740, -3739))  # 16:56:31.2 to 32.2 universal time
 
 
 def undirected(entry):

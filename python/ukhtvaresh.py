@@ -6,8 +6,8 @@ one second. `mirror` gives the request beyond the equator, `fit` judges coeffici
 tables of Sun and Moon. Each is a thin call of the proved function of the same name in libukhtvaresh.so, which the script
 `build` makes.
 
-Lengths are in 10^-8 of the Earth's equatorial radius, angles in 10^-6 degree, times in whole seconds from the
-reference instant. East longitude is positive. "Document 01" is the paper whose rules the library keeps.
+Lengths are in 10^-8 of the Earth's equatorial radius, angles in 10^-6 degree, times in whole seconds of
+ephemeris time from the reference instant. East longitude is positive. "Document 01" is the paper whose rules the library keeps.
 """
 
 import ctypes
@@ -18,7 +18,7 @@ from enum import Enum
 from pathlib import Path
 from typing import Callable, Iterable, List, Optional, Sequence, Union
 
-REQUEST_LENGTH = 109  # bytes
+REQUEST_LENGTH = 113  # bytes
 
 # ---- refusals
 
@@ -58,7 +58,7 @@ class Refused(Exception):
 
 # ---- requests
 
-_REQUEST = struct.Struct(">B22iBH3iB2h")
+_REQUEST = struct.Struct(">B22iBH4iB2h")
 
 
 @dataclass(frozen=True)
@@ -97,11 +97,12 @@ class Station:
     latitude: int  # geodetic, 10^-6 degree, ±90,000,000
     longitude: int  # 10^-6 degree, ±180,000,000, east positive
     height: int  # metres, -500 to 9,000
+    delta_t: int  # ephemeris less universal time, hundredths of a second, -10,000 to 20,000; 0 for elements by universal time
 
 
 @dataclass(frozen=True)
 class Window:
-    """A window of seconds, both ends included: -10,800 <= first <= last <= 10,800."""
+    """A window of ephemeris seconds, both ends included: -10,800 <= first <= last <= 10,800."""
 
     first: int
     last: int
@@ -116,7 +117,7 @@ class Request:
     window: Window
 
     def to_bytes(self) -> bytes:
-        """The 109 bytes that the library takes; ValueError where a number does not fit its bytes."""
+        """The 113 bytes that the library takes; ValueError where a number does not fit its bytes."""
         try:
             return _REQUEST.pack(
                 2, *astuple(self.elements), 3, *astuple(self.station), 4, *astuple(self.window)
@@ -126,13 +127,13 @@ class Request:
 
     @staticmethod
     def from_bytes(request: bytes) -> "Request":
-        """The request of 109 bytes; Refused(10, 0) where they are not of its shape."""
+        """The request of 113 bytes; Refused(10, 0) where they are not of its shape."""
         if len(request) != REQUEST_LENGTH:
             raise Refused(10, 0)
         numbers = _REQUEST.unpack(request)
-        if (numbers[0], numbers[23], numbers[28]) != (2, 3, 4):
+        if (numbers[0], numbers[23], numbers[29]) != (2, 3, 4):
             raise Refused(10, 0)
-        return Request(Elements(*numbers[1:23]), Station(*numbers[24:28]), Window(*numbers[29:31]))
+        return Request(Elements(*numbers[1:23]), Station(*numbers[24:29]), Window(*numbers[30:32]))
 
 
 # ---- entries of a sheet

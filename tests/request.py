@@ -25,7 +25,7 @@ FIELDS = (
     + [(name, 8, SIGNED4) for name in "l10 l11 l12 l20 l21 l22".split()]
     + [(name, 6, SIGNED4) for name in "mu0 mu1 mu2".split()]
     + [("tan f1", 8, SIGNED4), ("tan f2", 8, SIGNED4)]
-    + [("station", 0, UNSIGNED2), ("latitude", 6, SIGNED4), ("longitude", 6, SIGNED4), ("height", 0, SIGNED4)]
+    + [("station", 0, UNSIGNED2), ("latitude", 6, SIGNED4), ("longitude", 6, SIGNED4), ("height", 0, SIGNED4), ("delta t", 2, SIGNED4)]
     + [("first", 0, SIGNED2), ("last", 0, SIGNED2)]
 )
 NUMBER = re.compile(rb"[+-]?([0-9]+\.?[0-9]*|\.[0-9]+)")
@@ -78,7 +78,7 @@ def answer(text):
         if name not in given:
             return b"", f"line {len(lines) + 1}: {name} is missing\n".encode()
     n = [given[name] for name, _, _ in FIELDS]
-    return struct.pack(">B22iBHiiiBhh", 2, *n[:22], 3, *n[22:26], 4, *n[26:]), b""
+    return struct.pack(">B22iBHiiiiBhh", 2, *n[:22], 3, *n[22:27], 4, *n[27:]), b""
 
 
 def typed(draw, name, places, bounds):
@@ -169,7 +169,7 @@ def main():
         if (ran.stdout, ran.stderr) != wanted:
             sys.exit(f"text {tried}: {given!r}\nwrote  {ran.stdout!r} {ran.stderr!r}\nwanted {wanted[0]!r} {wanted[1]!r}")
         kind = re.sub(rb"line \d+: ((tan f\d|[a-z0-9]+) (?=is|has))?", b"", wanted[1])
-        kind = re.sub(rb"(?s)(?<=unknown name) .*", b"", kind).decode().strip() or "109 bytes"
+        kind = re.sub(rb"(?s)(?<=unknown name) .*", b"", kind).decode().strip() or "113 bytes"
         kinds[kind] = kinds.get(kind, 0) + 1
     print(f"{tried} texts, no difference")
     for kind, number in sorted(kinds.items(), key=lambda pair: -pair[1]):

@@ -5,8 +5,8 @@
 //! [`second`] the shadow at one second, [`mirror`] the request beyond the equator; [`fit`] judges coefficients that a spreadsheet made, [`from_tables`] makes elements
 //! from tables of Sun and Moon. Each is a thin call of the proved function of the same name in `libukhtvaresh.a`.
 //!
-//! Lengths are in 10^-8 of the Earth's equatorial radius, angles in 10^-6 degree, times in whole seconds from the
-//! reference instant. East longitude is positive. "Document 01" is the paper whose rules the library keeps.
+//! Lengths are in 10^-8 of the Earth's equatorial radius, angles in 10^-6 degree, times in whole seconds of
+//! ephemeris time from the reference instant. East longitude is positive. "Document 01" is the paper whose rules the library keeps.
 //!
 //! ```
 //! use ukhtvaresh::{listing, read, sheet_vec, Elements, Entry, Phase, Request, Station, Window};
@@ -23,7 +23,7 @@
 //!         tan_f2: 458_000,
 //!         ..Elements::default()
 //!     },
-//!     station: Station { number: 7, latitude: 90_000_000, longitude: 0, height: 0 },
+//!     station: Station { number: 7, latitude: 90_000_000, longitude: 0, height: 0, delta_t: 0 },
 //!     window: Window { first: -6000, last: 6000 },
 //! };
 //! let sheet = sheet_vec(&request.to_bytes().expect("every number fits"))?;

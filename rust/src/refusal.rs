@@ -16,7 +16,7 @@ pub enum Refusal {
     },
     /// 3: a station value is outside its range.
     Station {
-        /// The first such value: 0 number, 1 latitude, 2 longitude, 3 height.
+        /// The first such value: 0 number, 1 latitude, 2 longitude, 3 height, 4 ΔT.
         field: u64,
     },
     /// 4: the sheet is longer than the buffer.

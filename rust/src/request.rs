@@ -1,5 +1,5 @@
 /// The length of a request in bytes.
-pub const REQUEST_LENGTH: usize = 109;
+pub const REQUEST_LENGTH: usize = 113;
 
 const ELEMENTS: u8 = 0x02;
 const STATION: u8 = 0x03;
@@ -127,9 +127,12 @@ pub struct Station {
     pub longitude: i64,
     /// Height, metres, -500 to 9,000.
     pub height: i64,
+    /// ΔT, ephemeris time less universal time, hundredths of a second, -10,000 to 20,000; 0 where the elements are given
+    /// by universal time. With it seconds are ephemeris seconds.
+    pub delta_t: i64,
 }
 
-/// A window of whole seconds from the reference instant, both ends included: -10,800 ≤ first ≤ last ≤ 10,800.
+/// A window of whole seconds, ephemeris seconds, from the reference instant, both ends included: -10,800 ≤ first ≤ last ≤ 10,800.
 #[derive(Clone, Copy, Debug, Default, PartialEq, Eq, Hash)]
 pub struct Window {
     /// The first second.
@@ -167,6 +170,7 @@ impl Request {
         bytes.extend(signed4(self.station.latitude)?);
         bytes.extend(signed4(self.station.longitude)?);
         bytes.extend(signed4(self.station.height)?);
+        bytes.extend(signed4(self.station.delta_t)?);
         bytes.push(WINDOW);
         bytes.extend(signed2(self.window.first)?);
         bytes.extend(signed2(self.window.last)?);
@@ -177,7 +181,7 @@ impl Request {
     /// which the library refuses as [`Refusal::Shape`](crate::Refusal::Shape).
     pub fn from_bytes(bytes: &[u8]) -> Option<Request> {
         let bytes: &[u8; REQUEST_LENGTH] = bytes.try_into().ok()?;
-        if (bytes[0], bytes[89], bytes[104]) != (ELEMENTS, STATION, WINDOW) {
+        if (bytes[0], bytes[89], bytes[108]) != (ELEMENTS, STATION, WINDOW) {
             return None;
         }
         let two = |at: usize| [bytes[at], bytes[at + 1]];
@@ -192,8 +196,9 @@ impl Request {
                 latitude: signed4(92),
                 longitude: signed4(96),
                 height: signed4(100),
+                delta_t: signed4(104),
             },
-            window: Window { first: signed2(105), last: signed2(107) },
+            window: Window { first: signed2(109), last: signed2(111) },
         })
     }
 }

@@ -22,7 +22,7 @@ fn hand_worked() -> Request {
             tan_f2: 458_000,
             ..Elements::default()
         },
-        station: Station { number: 7, latitude: 90_000_000, longitude: 0, height: 0 },
+        station: Station { number: 7, latitude: 90_000_000, longitude: 0, height: 0, delta_t: 0 },
         window: Window { first: -6000, last: 6000 },
     }
 }
@@ -201,15 +201,21 @@ fn elements_refused() {
 
 #[test]
 fn stations_refused() {
-    let ranges = [(1, 999), (-90_000_000, 90_000_000), (-180_000_000, 180_000_000), (-500, 9_000)];
+    let ranges =
+        [(1, 999), (-90_000_000, 90_000_000), (-180_000_000, 180_000_000), (-500, 9_000), (-10_000, 20_000)];
     let mut request = hand_worked();
     request.window = Window { first: 0, last: 10 };
     for (field, (low, high)) in ranges.into_iter().enumerate() {
         let with = |number: i64| {
             let mut changed = request;
             let station = &mut changed.station;
-            *[&mut station.number, &mut station.latitude, &mut station.longitude, &mut station.height]
-                [field] = number;
+            *[
+                &mut station.number,
+                &mut station.latitude,
+                &mut station.longitude,
+                &mut station.height,
+                &mut station.delta_t,
+            ][field] = number;
             bytes(&changed)
         };
         assert!(sheet_vec(&with(low)).is_ok() && sheet_vec(&with(high)).is_ok());
@@ -225,7 +231,7 @@ fn shapes_refused() {
     assert_eq!(refused(&[]), Refusal::Shape);
     assert_eq!(refused(&request[..108]), Refusal::Shape);
     assert_eq!(refused(&[&request[..], &[0]].concat()), Refusal::Shape);
-    for kind in [0, 89, 104] {
+    for kind in [0, 89, 108] {
         let mut request = request;
         request[kind] = 5;
         assert_eq!(refused(&request), Refusal::Shape);
@@ -382,6 +388,46 @@ fn entries_that_cannot_be_stored_refused() {
         entries[1] = Entry::Enter { phase: Penumbra, from: -5401, to: -5399, direction };
         assert_eq!(not_written(&entries), Refusal::Field { at: 7 });
     }
+}
+
+// ---- ephemeris time
+
+/// First contact, totality's begin and end, last contact: the first sure second after each.
+fn contacts(request: &Request) -> [i64; 4] {
+    let entries = read(&sheet_vec(&bytes(request)).unwrap()).unwrap();
+    let to = |wanted: Phase, entering: bool| {
+        entries.iter().find_map(|entry| match *entry {
+            Entry::Enter { phase, to, .. } if entering && phase == wanted => Some(to),
+            Entry::Leave { phase, to, .. } if !entering && phase == wanted => Some(to),
+            _ => None,
+        })
+    };
+    [to(Penumbra, true), to(Central, true), to(Central, false), to(Penumbra, false)]
+        .map(|to| to.expect("a contact"))
+}
+
+#[test]
+fn delta_t_turns_the_station_back() {
+    // 21 August 2017: Swiss Ephemeris has 16:56:31.3, 18:24:41.1, 18:27:21.1, 19:51:43.0 universal time; tenths of a second from 18h
+    let told = [-38_087, 14_811, 16_411, 67_030];
+    let request = Request::from_bytes(&example("hopkinsville2017.bin")).unwrap();
+    assert_eq!(request.station.delta_t, 6_880);
+    let late = |request: &Request| {
+        let found = contacts(request);
+        [0, 1, 2, 3].map(|k| 10 * found[k] - 688 - told[k])
+    };
+    // the first sure second after a contact comes a second later at most, and the places of Sun and Moon are not the same
+    assert!(late(&request).iter().all(|tenths| (0..=15).contains(tenths)));
+    let mut forgotten = request;
+    forgotten.station.delta_t = 0;
+    assert!(late(&forgotten).iter().all(|tenths| (280..=380).contains(tenths)));
+    let mut turned = request;
+    turned.station.delta_t = -6_880;
+    assert!(late(&turned).iter().all(|tenths| (550..=790).contains(tenths)));
+    // the Earth turns by 287,451 millionths of a degree in 68.80 s
+    let mut west = forgotten;
+    west.station.longitude -= 287_451;
+    assert_eq!(sheet_vec(&bytes(&west)), sheet_vec(&bytes(&request)));
 }
 
 // ---- the mirror

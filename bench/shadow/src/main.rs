@@ -34,7 +34,7 @@ fn number(state: State) -> u8 {
 }
 
 fn at(r: &Request, place: reference::place::Place, second: i64) -> Shadow {
-    Shadow::at(&r.elements, place, r.station.longitude, second)
+    Shadow::at(&r.elements, place, r.station.east(), second)
 }
 
 /// As the reference fills a window's states.

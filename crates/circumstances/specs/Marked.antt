@@ -12,7 +12,7 @@ use Rattle.sine.specs.Examples.{sine-of-30, sine-of-least, sine-capped, cosine-
 use Rattle.elements.specs.declared.Elements.{Elements}
 use Rattle.elements.specs.Polynomial.{step, quadraticAt, cubicAt}
 use Rattle.station.specs.declared.Station.{Station}
-use Rattle.station.specs.Place.{under, W, C, Z, h, R, P, placeOf}
+use Rattle.station.specs.Place.{under, W, C, Z, h, R, P, turnIn, ephemerisLongitude, placeOf}
 use Rattle.station.specs.Examples.{pole-R, pole-P, equator-R, equator-P}
 use Rattle.geometry.specs.Shadow.{H, q, ξ, η, ζ, u, v, L, state}
 use Rattle.geometry.specs.Direction.{direction}
@@ -42,16 +42,16 @@ elements =
       central = record { l = record { c0 = negsuc 999999; c1 = pos 0; c2 = pos 0 }; tanf = pos 458000 };
     }
 
--- "station 7, latitude 90,000,000, longitude 0, height 0"
+-- "station 7, latitude 90,000,000, longitude 0, height 0"; document 02, wish 1: "a ΔT of 0 keeps its cases"
 abbrev pole : Station
-pole = record { number = pos 7; latitude = pos 90000000; longitude = pos 0; height = pos 0 }
+pole = record { number = pos 7; latitude = pos 90000000; longitude = pos 0; height = pos 0; deltat = pos 0 }
 
 abbrev pub hand-worked : (first last : ℤ) → Request
 hand-worked first last = record { elements = elements; station = pole; window = record { first = first; last = last } }
 
 -- "window 5400..5400 gives open 5400 5400": the penumbra has that one entry, stored plus 10,800
 open-5400 : phaseEntries (courseOf (hand-worked (pos 5400) (pos 5400))) Penumbra ≡ opened Penumbra 16200 16200 ∷ []
-unfolding near root factorial numerator denominator common term series S arc sag between capped firstQuadrant reduced sineIn sine cosine under W C Z h R P placeOf
+unfolding near root factorial numerator denominator common term series S arc sag between capped firstQuadrant reduced sineIn sine cosine under W C Z h R P turnIn ephemerisLongitude placeOf
     step quadraticAt cubicAt H q ξ η ζ u v L state Shadow.stateAt stateAt secondCount eachSecond statesOf stored phaseEntries someBetween
 open-5400 = refl
 

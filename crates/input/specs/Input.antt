@@ -19,13 +19,14 @@ use Rattle.input.specs.declared.Input.the-variants as I
 abbrev pub number : List ℤ → ℕ → ℤ
 number ns k = getD ns k (pos 0)
 
--- "number .., latitude, longitude, height"
+-- "number .., latitude, longitude, height", and ΔT
 unfoldable pub stationFrom : List ℤ → Station
-stationFrom ns = record { number = number ns 22; latitude = number ns 23; longitude = number ns 24; height = number ns 25 }
+stationFrom ns =
+    record { number = number ns 22; latitude = number ns 23; longitude = number ns 24; height = number ns 25; deltat = number ns 26 }
 
 -- "first, last"
 unfoldable pub windowFrom : List ℤ → Window
-windowFrom ns = record { first = number ns 26; last = number ns 27 }
+windowFrom ns = record { first = number ns 27; last = number ns 28 }
 
 unfoldable pub requestFrom : List ℤ → Request
 requestFrom ns = record { elements = elementsOf ns; station = stationFrom ns; window = windowFrom ns }

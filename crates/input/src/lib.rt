@@ -27,13 +27,15 @@ fn request_from(n: &[i64]) -> Request
     let latitude = n[23];
     let longitude = n[24];
     let height = n[25];
-    let first = n[26];
-    let last = n[27];
+    let deltat = n[26];
+    let first = n[27];
+    let last = n[28];
     let station = station::Station {
         number,
         latitude,
         longitude,
         height,
+        deltat,
     };
     let window = requests::Window { first, last };
     Request {

@@ -84,6 +84,7 @@ pub fn mirror(q: Request) -> Request
         latitude,
         longitude: s.longitude,
         height: s.height,
+        deltat: s.deltat,
     };
     let window = q.window;
     Request {

@@ -20,7 +20,7 @@ numberAt s at = signed 2147483648 (fourAt s at)
 
 -- the station that is checked: only latitude, 10^-6 degree, and height, m, matter
 abbrev pub stationAt : ℤ → ℤ → Station
-stationAt latitude height = record { number = pos 1; latitude = latitude; longitude = pos 0; height = height }
+stationAt latitude height = record { number = pos 1; latitude = latitude; longitude = pos 0; height = height; deltat = pos 0 }
 
 -- latitude, height, R and P
 unfoldable pub placeLine : Station → List ℕ

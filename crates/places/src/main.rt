@@ -59,6 +59,7 @@ fn put_station(out: &mut [u8], at: usize, table: &[u32], latitude: i64, height: 
         latitude: latitude,
         longitude: 0,
         height: height,
+        deltat: 0,
     };
     let checked = station::check(record);
     match checked {

@@ -76,20 +76,22 @@ elements =
           ∷ length8 "tan f1" ∷ length8 "tan f2" ∷ [];
     }
 
--- "kind 03 and number (unsigned, 2 bytes), latitude, longitude, height (signed, 4 each)"; a height is in metres
+-- "kind 03 and number (unsigned, 2 bytes), latitude, longitude, height (signed, 4 each)"; a height is in metres. Document 02, wish 1:
+-- "ΔT in hundredths of a second"; "the station record in the program's input grows by 4 bytes at its end, signed"
 abbrev station : Record
 station =
     record {
       kind = 0x03;
       numbers =
-          number W.Unsigned2 "station" 0 ∷ angle "latitude" ∷ angle "longitude" ∷ number W.Signed4 "height" 0 ∷ [];
+          number W.Unsigned2 "station" 0 ∷ angle "latitude" ∷ angle "longitude" ∷ number W.Signed4 "height" 0
+          ∷ number W.Signed4 "delta t" 2 ∷ [];
     }
 
 -- "kind 04 and first, last (signed, 2 each)"; "Time: whole seconds"
 abbrev window : Record
 window = record { kind = 0x04; numbers = number W.Signed2 "first" 0 ∷ number W.Signed2 "last" 0 ∷ [] }
 
--- "exactly 109 bytes, numbers big-endian: kind 02 ..; kind 03 ..; kind 04 .."
+-- "exactly 109 bytes, numbers big-endian: kind 02 ..; kind 03 ..; kind 04 .."; with ΔT 113
 abbrev pub layout : List Record
 layout = elements ∷ station ∷ window ∷ []
 

@@ -6,9 +6,9 @@ ghost use Rattle.request_fields.specs.Fields.{bytesIn, holds, count};
 ghost use Rattle.request_fields.specs.Rows.{rowAt};
 
 // How many numbers a request has, and how many bytes.
-pub const COUNT: usize = 28;
+pub const COUNT: usize = 29;
 
-pub const LENGTH: usize = 109;
+pub const LENGTH: usize = 113;
 
 // The bytes of a number.
 pub enum Width {
@@ -48,6 +48,7 @@ const FIELDS: [Field; COUNT] = [
     Field(*b"latitude ", 8, 6, Width::Signed4, 0),
     Field(*b"longitude", 9, 6, Width::Signed4, 0),
     Field(*b"height   ", 6, 0, Width::Signed4, 0),
+    Field(*b"delta t  ", 7, 2, Width::Signed4, 0),
     Field(*b"first    ", 5, 0, Width::Signed2, 0x04),
     Field(*b"last     ", 4, 0, Width::Signed2, 0),
 ];

@@ -5,7 +5,7 @@ use Rattle.station.specs.declared.Place.{Place}
 
 -- document 02, wish 13: "change the sign of .. the latitude"
 abbrev pub mirroredStation : (f : ℤ → ℤ) → Station → Station
-mirroredStation f s = record { number = s .number; latitude = f (s .latitude); longitude = s .longitude; height = s .height }
+mirroredStation f s = record { number = s .number; latitude = f (s .latitude); longitude = s .longitude; height = s .height; deltat = s .deltat }
 
 -- as far from the axis, and as far on the other side of the equator's plane
 abbrev pub mirroredPlace : Place → Place

@@ -18,7 +18,7 @@ use Rattle.sine.specs.Sine.{sine, cosine}
 use Rattle.sine.specs.OppositeLaws.{sine-opposite, cosine-opposite}
 use Rattle.station.specs.declared.Station.{Station}
 use Rattle.station.specs.Station.{ranges, rangeOf}
-use Rattle.station.specs.Place.{E, under, W, C, Z, h, R, P, placeOf}
+use Rattle.station.specs.Place.{E, under, W, C, Z, h, R, P, ephemerisLongitude, placeOf}
 use Rattle.station.specs.Sizes.{StationSizes}
 use Rattle.station.specs.Mirror.{mirroredStation, mirroredPlace}
 
@@ -56,7 +56,7 @@ module _ (latitude height : ℤ) where
 pub place-mirrored : (s : Station) → placeOf (mirroredStation negℤ s) ≡ mirroredPlace (placeOf s)
 unfolding placeOf
 place-mirrored s =
-    ap₂ (λ (r p : ℤ). record { r = r; p = p; longitude = s .longitude }) (R-opposite (s .latitude) (s .height)) (P-opposite (s .latitude) (s .height))
+    ap₂ (λ (r p : ℤ). record { r = r; p = p; longitude = ephemerisLongitude (s .longitude) (s .deltat) }) (R-opposite (s .latitude) (s .height)) (P-opposite (s .latitude) (s .height))
 
 -- ---- ranges
 pub mirrored-range : (f : ℤ → ℤ) → ((z : ℤ) (n : ℕ) → outOfRange (f z ± n) ≡ outOfRange (z ± n)) → (s : Station) → rangeOf (mirroredStation f s) ≡ rangeOf s

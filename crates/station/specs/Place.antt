@@ -1,5 +1,5 @@
 -- The station's place: R from the Earth's axis, P from the plane of the equator. Lengths and sines are in units of 10^-8.
-use lib.IntN.{ℤ, pos, natAbs, _+ℤ_, _*ℤ_}
+use lib.IntN.{ℤ, pos, natAbs, _+ℤ_, _-ℤ_, _*ℤ_}
 use Rattle.numbers.specs.Units.{one}
 use Rattle.numbers.specs.Near.{near}
 use Rattle.numbers.specs.Root.{root}
@@ -41,6 +41,19 @@ R latitude height = near ((C (sine latitude) (cosine latitude) +ℤ h height) *�
 unfoldable pub P : (latitude height : ℤ) → ℤ
 P latitude height = near ((Z (sine latitude) (cosine latitude) +ℤ h height) *ℤ sine latitude) one
 
--- the place: R, P, and what "H is μ plus longitude" adds to μ (the Explanatory Supplement's ephemeris longitude, to the east)
+-- document 02, wish 1: "H becomes μ plus longitude less near(ΔT·417,807/10,000)": the Earth's turn in ΔT, 0.00417807 degrees a second
+unfoldable pub turnIn : (ΔT : ℤ) → ℤ
+turnIn ΔT = near (ΔT *ℤ pos 417807) (pos 10000)
+
+-- and what H adds to μ, the Explanatory Supplement's ephemeris longitude, to the east
+unfoldable pub ephemerisLongitude : (longitude ΔT : ℤ) → ℤ
+ephemerisLongitude longitude ΔT = longitude -ℤ turnIn ΔT
+
+-- the place: R, P, and what H adds to μ
 unfoldable pub placeOf : Station → Place
-placeOf s = record { r = R (s .latitude) (s .height); p = P (s .latitude) (s .height); longitude = s .longitude }
+placeOf s =
+    record {
+      r = R (s .latitude) (s .height);
+      p = P (s .latitude) (s .height);
+      longitude = ephemerisLongitude (s .longitude) (s .deltat);
+    }

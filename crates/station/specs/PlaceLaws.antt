@@ -4,21 +4,22 @@ use mathlib.Core.List.{[], _∷_}
 use Prim.Native.Nat.{ℕ, _+_, _*_, _≤_}
 use native.Mathlib.Omega.{arith}
 use native.Mathlib.Nat.{mul-le-mul, lt-of-not-le}
-use lib.IntN.{ℤ, pos, negsuc, natAbs, _+ℤ_, _*ℤ_}
+use lib.IntN.{ℤ, pos, negsuc, negℤ, natAbs, _+ℤ_, _*ℤ_}
 use lib.Signed.{_≤ℤ_, leZ-yes}
-use Rattle.numbers.specs.Order.{zs, ≤-parts, ≤ℤ-trans, le-natAbs, neg-natAbs, natAbs-sum, natAbs-product-le}
-use Rattle.numbers.specs.Ring.{num, _⊕_, _⊖_, _⊗_, opp, v0, v1, v2}
+use Rattle.numbers.specs.Parts.{sum, opposite}
+use Rattle.numbers.specs.Order.{zs, *ℤ-nonneg, ≤-parts, ≤ℤ-trans, le-natAbs, neg-natAbs, natAbs-sum, natAbs-minus, natAbs-product-le}
+use Rattle.numbers.specs.Ring.{num, _⊕_, _⊖_, _⊗_, opp, ring, v0, v1, v2}
 use Rattle.numbers.specs.Cert.{leq, lit, sq, _⊞_, _⊠_, certify}
 use Rattle.numbers.specs.Units.{one}
 use Rattle.numbers.specs.Near.{near}
-use Rattle.numbers.specs.NearLaws.{near-low, near-high, near-size}
+use Rattle.numbers.specs.NearLaws.{near-is, near-low, near-high, near-size}
 use Rattle.numbers.specs.Root.{root, IsRoot}
 use Rattle.numbers.specs.RootLaws.{root-is}
 use Rattle.sine.specs.Sine.{sine, cosine}
 use Rattle.sine.specs.SineLaws.{sine-size, cosine-size}
 use Rattle.sine.specs.SizeLaws.{square-sum}
 use Rattle.station.specs.declared.Station.{Station}
-use Rattle.station.specs.Place.{equatorialRadius, E, under, W, C, Z, h, R, P, placeOf}
+use Rattle.station.specs.Place.{equatorialRadius, E, under, W, C, Z, h, R, P, turnIn, ephemerisLongitude, placeOf}
 use Rattle.station.specs.Sizes.{StationSizes, PlaceSizes}
 
 square-natAbs : (z : ℤ) → z *ℤ z ≡ pos (natAbs z * natAbs z)
@@ -124,11 +125,36 @@ module _ (latitude height : ℤ) (hl : natAbs latitude ≤ 90000000) (hh : natAb
       let n = Z-size s c (sine-size latitude) (cosine-size latitude) circle-of in
       omega (arith, scaled-size (Z s c) (h height) s 100000000 141106 n (h-size height hh) (sine-size latitude))
 
+-- ---- ephemeris time
+
+-- in 200 s the Earth turns by less than a degree
+pub turn-size : (ΔT : ℤ) → natAbs ΔT ≤ 20000 → natAbs (turnIn ΔT) ≤ 835614
+unfolding turnIn
+turn-size ΔT h = near-size _ _ 835614 (leZ-yes tt) (omega (arith, natAbs-product-le ΔT (pos 417807) 20000 417807 h (omega arith)))
+
+turn-nonneg : (ΔT : ℤ) → pos 0 ≤ℤ ΔT → pos 0 ≤ℤ turnIn ΔT
+unfolding turnIn
+turn-nonneg ΔT h = near-is _ _ (leZ-yes tt) .above (*ℤ-nonneg h (leZ-yes tt))
+
+-- "each station was turned too far": a ΔT above 0 turns it back, to the west
+pub turned-back : (longitude ΔT : ℤ) → pos 0 ≤ℤ ΔT → ephemerisLongitude longitude ΔT ≤ℤ longitude
+unfolding ephemerisLongitude
+turned-back longitude ΔT h = omega (arith, zs, turn-nonneg ΔT h, sum longitude (negℤ (turnIn ΔT)) .is, opposite (turnIn ΔT) .is)
+
+pub longitude-size : (longitude ΔT : ℤ) → natAbs longitude ≤ 180000000 → natAbs ΔT ≤ 20000 → natAbs (ephemerisLongitude longitude ΔT) ≤ 180835614
+unfolding ephemerisLongitude
+longitude-size longitude ΔT hl ht = omega (arith, natAbs-minus longitude (turnIn ΔT), turn-size ΔT ht)
+
+-- "a ΔT of 0 keeps its cases"
+pub longitude-same : (longitude : ℤ) → ephemerisLongitude longitude (pos 0) ≡ longitude
+unfolding ephemerisLongitude turnIn near
+longitude-same longitude = ring (longitude ∷ []) (v0 ⊕ num 0) v0 tt
+
 pub place-sizes : (s : Station) → StationSizes s → PlaceSizes (placeOf s)
 unfolding placeOf
 place-sizes s z =
     record {
       r = R-size (s .latitude) (s .height) (z .latitude) (z .height);
       p = P-size (s .latitude) (s .height) (z .latitude) (z .height);
-      longitude = omega (arith, z .longitude);
+      longitude = omega (arith, longitude-size (s .longitude) (s .deltat) (z .longitude) (z .deltat));
     }

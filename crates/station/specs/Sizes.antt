@@ -15,6 +15,7 @@ pub record StationSizes (s : Station) : Type 0 where
   pub latitude : natAbs (s .latitude) ≤ 90000000
   pub longitude : natAbs (s .longitude) ≤ 180000000
   pub height : natAbs (s .height) ≤ 9000
+  pub deltat : natAbs (s .deltat) ≤ 20000
 
 pub station-sizes : (s : Station) → rangeOf s ≡ InRange → StationSizes s
 unfolding rangeOf ranges
@@ -25,6 +26,7 @@ station-sizes s w =
       latitude = natAbs-le (s .latitude) (i .1 .0 .0) (i .1 .0 .1);
       longitude = natAbs-le (s .longitude) (i .1 .1 .0 .0) (i .1 .1 .0 .1);
       height = natAbs-le (s .height) (≤ℤ-trans (leZ-yes tt) (i .1 .1 .1 .0 .0)) (i .1 .1 .1 .0 .1);
+      deltat = natAbs-le (s .deltat) (≤ℤ-trans (leZ-yes tt) (i .1 .1 .1 .1 .0 .0)) (i .1 .1 .1 .1 .0 .1);
     }
 
 -- a place on the spheroid, at any height in range, with room; PlaceLaws, place-sizes: every station in its ranges has such a one

@@ -6,7 +6,7 @@ ghost use Rattle.numbers.specs.Value.{Value};
 ghost use Rattle.sine.specs.Table.{Sines};
 ghost use Rattle.station.specs.Station.{fields, rangeOf, stationChecked};
 ghost use Rattle.station.specs.Sizes.{StationSizes};
-ghost use Rattle.station.specs.Place.{C, placeOf};
+ghost use Rattle.station.specs.Place.{C, ephemerisLongitude, placeOf};
 
 #[repr(C)]
 pub struct Station {
@@ -18,6 +18,8 @@ pub struct Station {
     pub longitude: i64,
     // Height above the spheroid, metres, -500 to 9,000.
     pub height: i64,
+    // ΔT, ephemeris time less universal time, hundredths of a second, -10,000 to 20,000.
+    pub deltat: i64,
 }
 
 // Where the station stands in the Earth, and the constant part of its hour angle.
@@ -26,26 +28,28 @@ pub struct Place {
     pub r: i64,
     // P: distance from the plane of the equator, north positive, the same unit, ρ sin φ', ±101,000,000.
     pub p: i64,
-    // What the hour angle has more than at Greenwich, 10^-6 degree, EAST positive, ±180,000,000.
+    // Ephemeris longitude, what the hour angle has more than μ: the longitude less the Earth's turn in ΔT, 10^-6 degree,
+    // EAST positive, ±180,835,614.
     pub longitude: i64,
 }
 
-const LOWS: [i64; 4] = [1, -90_000_000, -180_000_000, -500];
+const LOWS: [i64; 5] = [1, -90_000_000, -180_000_000, -500, -10_000];
 
-const HIGHS: [i64; 4] = [999, 90_000_000, 180_000_000, 9_000];
+const HIGHS: [i64; 5] = [999, 90_000_000, 180_000_000, 9_000, 20_000];
 
 // The numbers of the record, in their order.
-pub fn listed(s: Station) -> [i64; 4]
+pub fn listed(s: Station) -> [i64; 5]
     ensures { λ r. ⌜ r ≡ fields s ⌝ }
 {
     let number = s.number;
     let latitude = s.latitude;
     let longitude = s.longitude;
     let height = s.height;
-    [number, latitude, longitude, height]
+    let deltat = s.deltat;
+    [number, latitude, longitude, height, deltat]
 }
 
-// Whether every number is in its range, or the first that is not: 0 number, 1 latitude, 2 longitude, 3 height.
+// Whether every number is in its range, or the first that is not: 0 number, 1 latitude, 2 longitude, 3 height, 4 ΔT.
 fn in_range(s: Station) -> numbers::Limits
     ensures { λ r. ⌜ r ≡ rangeOf s ⌝ }
 {
@@ -77,6 +81,14 @@ fn c_of(sine: i64, cosine: i64) -> i64
     numbers::near(10_000_000_000_000_000, w as i64)
 }
 
+// The longitude less the Earth's turn in ΔT, 417,807 of 10^-10 degree in a hundredth of a second.
+fn ephemeris_longitude(longitude: i64, deltat: i64) -> i64
+    requires { ⌜ (natAbs longitude ≤ 180000000) × (natAbs deltat ≤ 20000) ⌝ }
+    ensures { λ r. ⌜ Value (ephemerisLongitude longitude deltat) 180835614 r ⌝ }
+{
+    longitude - numbers::near(deltat * 417_807, 10_000)
+}
+
 // The place of a station: R, P and the longitude that its hour angle counts.
 pub fn geocentric(table: &[u32], s: Station) -> Place
     requires { ⌜ (Sines (now table)) × (StationSizes s) ⌝ }
@@ -85,6 +97,7 @@ pub fn geocentric(table: &[u32], s: Station) -> Place
     let latitude = s.latitude;
     let height = s.height;
     let longitude = s.longitude;
+    let deltat = s.deltat;
     let angle = sine::reduced(latitude);
     let sine = sine::sine(table, angle);
     let cosine = sine::cosine(table, angle);
@@ -93,9 +106,6 @@ pub fn geocentric(table: &[u32], s: Station) -> Place
     let h = numbers::near(height * 100_000_000, 6_378_245);
     let r = numbers::near_unit((c + h) * cosine);
     let p = numbers::near_unit((z + h) * sine);
-    Place {
-        r: r,
-        p: p,
-        longitude: longitude,
-    }
+    let longitude = ephemeris_longitude(longitude, deltat);
+    Place { r, p, longitude }
 }

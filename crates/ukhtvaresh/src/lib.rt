@@ -71,7 +71,7 @@ fn write_reply(extent: sheets::Extent) -> Reply
 
 // ---- exported
 
-// The contact sheet of a request of 109 bytes, in the caller's buffer; value: its length.
+// The contact sheet of a request of 113 bytes, in the caller's buffer; value: its length.
 #[no_mangle]
 pub extern "C" fn ukhtvaresh_sheet(request: &[u8], sheet: &mut [u8], value: &mut u64) -> u64
     ensures number { λ r. ⌜ r ≡ sheetReply (answerTo (now (request .entry)) (now (sheet .entry))) .number ⌝ }

@@ -2,7 +2,7 @@
 
 use reference::elements::{Elements, Station, Window, ELEMENT_RANGES, FARTHEST, STATION_RANGES};
 use reference::random::Random;
-use reference::request::Request;
+use reference::request::{Request, KIND_PLACES, REQUEST_LENGTH};
 use reference::sample::{self, Manner};
 use reference::shadow::Phase;
 use reference::sheet::{self, Record};
@@ -98,12 +98,11 @@ pub fn outside(random: &mut Random, request: &mut Request) {
                 request.elements = Elements::from_fields(fields);
             }
             _ => {
-                let field = random.below(4) as usize;
+                let field = random.below(5) as usize;
                 let mut fields = request.station.fields();
                 fields[field] = past(random, *STATION_RANGES[field].start(), *STATION_RANGES[field].end());
                 fields[0] = fields[0].clamp(0, 65_535);
-                let [number, latitude, longitude, height] = fields;
-                request.station = Station { number, latitude, longitude, height };
+                request.station = Station::from_fields(fields);
             }
         }
     }
@@ -119,12 +118,12 @@ pub fn request(random: &mut Random) -> Vec<u8> {
     let mut bytes = request.to_bytes().expect("numbers that have room").to_vec();
     if random.once_in(16) {
         match random.below(4) {
-            0 => bytes.truncate(random.below(109) as usize),
+            0 => bytes.truncate(random.below(REQUEST_LENGTH as u64) as usize),
             1 => bytes.extend((0..1 + random.below(9)).map(|_| 7)),
-            2 => bytes[[0, 89, 104][random.below(3) as usize]] = random.below(256) as u8,
+            2 => bytes[KIND_PLACES[random.below(3) as usize]] = random.below(256) as u8,
             // any bytes, in a short window
             _ => {
-                for at in (1..89).chain(90..104) {
+                for at in (1..REQUEST_LENGTH - 5).filter(|at| !KIND_PLACES.contains(at)) {
                     bytes[at] = random.below(256) as u8;
                 }
             }

@@ -21,6 +21,7 @@ use reference::listing::sheet_of_input;
 use reference::mirror::mirror;
 use reference::random::Random;
 use reference::refusal::Refusal;
+use reference::request::REQUEST_LENGTH;
 use reference::sheet;
 use std::fmt::Debug;
 use std::time::Instant;
@@ -170,9 +171,9 @@ fn compare_mirror(random: &mut Random, request: &[u8], sheet: &Left<u8>) {
         return;
     }
     let mirrored = &mirrored[..length as usize];
-    let back = mirror_both(random, mirrored, 109).1;
+    let back = mirror_both(random, mirrored, REQUEST_LENGTH).1;
     let other = sheet_both(random, mirrored, 65_536);
-    let mut same = back[..109] == *request && other.0 == sheet.0;
+    let mut same = back[..REQUEST_LENGTH] == *request && other.0 == sheet.0;
     if sheet.0 .0 == 0 {
         let undirected = |bytes: &[u8]| {
             let mut entries = vec![0; 4 * bytes.len()];
@@ -206,7 +207,7 @@ fn request(random: &mut Random, [sheets, seconds, mirrors]: [&mut Count; 3], kin
     let request = draws::request(random);
     let sheet = sheet_both(random, &request, 65_536);
     compare_mirror(random, &request, &sheet);
-    let room = draws::room(random, 109);
+    let room = draws::room(random, REQUEST_LENGTH);
     mirrors.add(mirror_both(random, &request, room).0 .0);
     let ((number, needed), written) = sheet;
     sheets.add(number);

@@ -58,19 +58,18 @@ pub fn change_entries(random: &mut Random, bytes: &mut Vec<u8>) {
 fn put_at_limit(random: &mut Random, request: &mut Request) {
     let manner = if random.once_in(4) { Manner::Anywhere } else { Manner::AtLimits };
     let drawn = sample::draw(random, manner);
-    match random.below(28) as usize {
+    match random.below(29) as usize {
         field @ 0..22 => {
             let mut fields = request.elements.fields();
             fields[field] = drawn.elements.fields()[field];
             request.elements = Elements::from_fields(fields);
         }
-        field @ 22..26 => {
+        field @ 22..27 => {
             let mut fields = request.station.fields();
             fields[field - 22] = drawn.station.fields()[field - 22];
-            let [number, latitude, longitude, height] = fields;
-            request.station = Station { number, latitude, longitude, height };
+            request.station = Station::from_fields(fields);
         }
-        26 => request.window.first = drawn.window.first,
+        27 => request.window.first = drawn.window.first,
         _ => request.window.last = drawn.window.last,
     }
 }

@@ -10,7 +10,7 @@ use agreement::answers;
 use agreement::library::{self, Reply};
 use reference::elements::{Elements, Station, Window, ELEMENT_RANGES, FARTHEST, STATION_RANGES};
 use reference::refusal::Refusal;
-use reference::request::{Request, REQUEST_LENGTH};
+use reference::request::{Request, KIND_PLACES, REQUEST_LENGTH};
 use reference::sheet;
 use std::fmt::Debug;
 use std::ops::RangeInclusive;
@@ -167,19 +167,21 @@ fn into_ranges<const N: usize>(numbers: [i64; N], ranges: &[RangeInclusive<i64>;
 }
 
 pub(crate) fn within_limits(request: &Request) -> Request {
-    let [number, latitude, longitude, height] = into_ranges(request.station.fields(), &STATION_RANGES);
+    let station = Station::from_fields(into_ranges(request.station.fields(), &STATION_RANGES));
     let seconds = -FARTHEST..=FARTHEST;
     let [a, b] = [request.window.first, request.window.last].map(|second| into_range(second, &seconds));
     Request {
         elements: Elements::from_fields(into_ranges(request.elements.fields(), &ELEMENT_RANGES)),
-        station: Station { number, latitude, longitude, height },
+        station,
         window: Window { first: a.min(b), last: a.max(b) },
     }
 }
 
 pub(crate) fn give_shape(bytes: &mut Vec<u8>) {
     bytes.resize(REQUEST_LENGTH, 0);
-    (bytes[0], bytes[89], bytes[104]) = (2, 3, 4);
+    for (kind, at) in (2..).zip(KIND_PLACES) {
+        bytes[at] = kind;
+    }
 }
 
 fn request(leave: u8, raw: &[u8]) -> Vec<u8> {

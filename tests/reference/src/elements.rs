@@ -101,15 +101,27 @@ pub struct Station {
     pub longitude: i64,
     /// height, metres, -500 to 9,000.
     pub height: i64,
+    /// ΔT, hundredths of a second, -10,000 to 20,000: document 02, wish 1.
+    pub delta_t: i64,
 }
 
 /// The range of each station field, ends included.
-pub const STATION_RANGES: [RangeInclusive<i64>; 4] =
-    [1..=999, -90_000_000..=90_000_000, -180_000_000..=180_000_000, -500..=9_000];
+pub const STATION_RANGES: [RangeInclusive<i64>; 5] =
+    [1..=999, -90_000_000..=90_000_000, -180_000_000..=180_000_000, -500..=9_000, -10_000..=20_000];
 
 impl Station {
-    pub fn fields(&self) -> [i64; 4] {
-        [self.number, self.latitude, self.longitude, self.height]
+    /// From its numbers in their order.
+    pub fn from_fields([number, latitude, longitude, height, delta_t]: [i64; 5]) -> Station {
+        Station { number, latitude, longitude, height, delta_t }
+    }
+
+    pub fn fields(&self) -> [i64; 5] {
+        [self.number, self.latitude, self.longitude, self.height, self.delta_t]
+    }
+
+    /// How far east the station is of where μ is counted from: the longitude, less the Earth's turn in ΔT.
+    pub fn east(&self) -> i64 {
+        self.longitude - near(417_807 * self.delta_t, 10_000)
     }
 
     /// Refused as 3 with the first field outside its range.

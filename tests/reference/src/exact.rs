@@ -40,7 +40,7 @@ impl Exact {
     pub fn at(circumstances: &Circumstances, second: i64) -> Exact {
         let request = circumstances.request();
         let elements = &request.elements;
-        let Turned { sin_h, cos_h, sin_d, cos_d } = Turned::at(elements, request.station.longitude, second);
+        let Turned { sin_h, cos_h, sin_d, cos_d } = Turned::at(elements, request.station.east(), second);
         let [r, p, sin_h, cos_h, sin_d, cos_d, tan_f1, tan_f2] = [
             circumstances.place().r,
             circumstances.place().p,

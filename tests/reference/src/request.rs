@@ -16,15 +16,18 @@ pub struct Request {
 }
 
 /// The length of a request in bytes.
-pub const REQUEST_LENGTH: usize = 109;
+pub const REQUEST_LENGTH: usize = 113;
+
+/// Where the bytes of kind stand in it: 02, 03, 04.
+pub const KIND_PLACES: [usize; 3] = [0, 89, 108];
 
 impl Request {
-    /// From exactly 109 bytes: kind 02 and 22 signed 4-byte numbers; kind 03 and number (unsigned, 2 bytes),
-    /// latitude, longitude, height (signed, 4 each); kind 04 and first, last (signed, 2 each); big-endian.
+    /// From exactly 113 bytes: kind 02 and 22 signed 4-byte numbers; kind 03 and number (unsigned, 2 bytes),
+    /// latitude, longitude, height, ΔT (signed, 4 each); kind 04 and first, last (signed, 2 each); big-endian.
     /// Refused as 10 otherwise. Ranges are not looked at.
     pub fn from_bytes(bytes: &[u8]) -> Result<Request, Refusal> {
         let bytes: &[u8; REQUEST_LENGTH] = bytes.try_into().map_err(|_| Refusal::Shape)?;
-        if (bytes[0], bytes[89], bytes[104]) != (2, 3, 4) {
+        if KIND_PLACES.map(|at| bytes[at]) != [2, 3, 4] {
             return Err(Refusal::Shape);
         }
         let two = |at: usize| [bytes[at], bytes[at + 1]];
@@ -38,15 +41,16 @@ impl Request {
                 latitude: four(92),
                 longitude: four(96),
                 height: four(100),
+                delta_t: four(104),
             },
             window: Window {
-                first: i16::from_be_bytes(two(105)).into(),
-                last: i16::from_be_bytes(two(107)).into(),
+                first: i16::from_be_bytes(two(109)).into(),
+                last: i16::from_be_bytes(two(111)).into(),
             },
         })
     }
 
-    /// The 109 bytes of a request, or nothing if a number has no room in them.
+    /// The 113 bytes of a request, or nothing if a number has no room in them.
     pub fn to_bytes(&self) -> Option<[u8; REQUEST_LENGTH]> {
         let mut bytes = vec![2];
         for field in self.elements.fields() {
@@ -70,7 +74,7 @@ impl Request {
         self.elements.check()?;
         self.station.check()?;
         let place = place(self.station.latitude, self.station.height);
-        Ok(Circumstances { request: *self, place })
+        Ok(Circumstances { request: *self, place, east: self.station.east() })
     }
 
     /// Write the sheet at the start of the buffer and give its length, or refuse as 1, 2, 3 or 4 and leave
@@ -85,6 +89,7 @@ impl Request {
 pub struct Circumstances {
     request: Request,
     place: Place,
+    east: i64,
 }
 
 impl Circumstances {
@@ -99,7 +104,7 @@ impl Circumstances {
     /// The shadow at a second within ±10,800.
     #[inline]
     pub fn shadow(&self, second: i64) -> Shadow {
-        Shadow::at(&self.request.elements, self.place, self.request.station.longitude, second)
+        Shadow::at(&self.request.elements, self.place, self.east, second)
     }
 
     /// The records of the request's sheet.

@@ -19,7 +19,7 @@ pub fn hand_worked() -> Request {
     fields[21] = 458_000;
     Request {
         elements: Elements::from_fields(fields),
-        station: Station { number: 7, latitude: 90_000_000, longitude: 0, height: 0 },
+        station: Station { number: 7, latitude: 90_000_000, longitude: 0, height: 0, delta_t: 0 },
         window: Window { first: -6000, last: 6000 },
     }
 }
@@ -77,13 +77,17 @@ pub fn draw(random: &mut Random, manner: Manner) -> Request {
     }
     let place_manner = if random.once_in(2) { Manner::AtLimits } else { Manner::Anywhere };
     let [number, latitude, longitude, height] =
-        STATION_RANGES.map(|range| field(random, &range, place_manner));
+        [0, 1, 2, 3].map(|k| field(random, &STATION_RANGES[k], place_manner));
+    // ΔT has a lot of its own, told by the other numbers, and is 0 every other time: what was drawn before it came stays.
+    let mut own = Random::new((number ^ latitude << 10 ^ longitude << 20 ^ height << 40) as u64);
+    let delta_t = if own.once_in(2) { 0 } else { field(&mut own, &STATION_RANGES[4], place_manner) };
+    let station = Station { number, latitude, longitude, height, delta_t };
     let seconds = -FARTHEST..=FARTHEST;
     let second_manner = if random.once_in(4) { Manner::AtLimits } else { Manner::Anywhere };
     let second = field(random, &seconds, second_manner);
     Request {
         elements: Elements::from_fields(fields),
-        station: Station { number, latitude, longitude, height },
+        station,
         window: Window { first: second, last: second },
     }
 }

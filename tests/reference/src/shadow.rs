@@ -51,8 +51,8 @@ pub struct Turned {
 impl Turned {
     /// The Earth's turn and the axis's declination at a second.
     #[inline]
-    pub fn at(elements: &Elements, longitude: i64, second: i64) -> Turned {
-        let h = value_at(&elements.mu, second) + longitude;
+    pub fn at(elements: &Elements, east: i64, second: i64) -> Turned {
+        let h = value_at(&elements.mu, second) + east;
         let (sin_h, cos_h) = sine_cosine(h);
         let (sin_d, cos_d) = sine_cosine(value_at(&elements.d, second));
         Turned { sin_h, cos_h, sin_d, cos_d }
@@ -62,8 +62,8 @@ impl Turned {
 impl Shadow {
     /// The shadow at a second, for values within their ranges.
     #[inline]
-    pub fn at(elements: &Elements, place: Place, longitude: i64, second: i64) -> Shadow {
-        let Turned { sin_h, cos_h, sin_d, cos_d } = Turned::at(elements, longitude, second);
+    pub fn at(elements: &Elements, place: Place, east: i64, second: i64) -> Shadow {
+        let Turned { sin_h, cos_h, sin_d, cos_d } = Turned::at(elements, east, second);
         let Place { r, p } = place;
         let q = near(r * cos_h, UNIT);
         let xi = near(r * sin_h, UNIT);

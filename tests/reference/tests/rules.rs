@@ -8,7 +8,7 @@ use reference::numbers::{near, root};
 use reference::place::{place, Place};
 use reference::random::Random;
 use reference::refusal::Refusal;
-use reference::request::Request;
+use reference::request::{Request, KIND_PLACES};
 use reference::sample::hand_worked;
 use reference::shadow::{direction, state, Shadow, State, GUARD};
 use reference::sheet::{read, records_of, write, Role};
@@ -257,10 +257,9 @@ fn first_field_outside_its_range() {
     for (field, range) in STATION_RANGES.iter().enumerate() {
         for value in [range.start() - 1, range.end() + 1, i64::MIN, i64::MAX] {
             let mut fields = hand_worked().station.fields();
-            fields[3] = 9_001;
+            fields[4] = 20_001;
             fields[field] = value;
-            let [number, latitude, longitude, height] = fields;
-            let station = Station { number, latitude, longitude, height };
+            let station = Station::from_fields(fields);
             assert_eq!(Request { station, ..hand_worked() }.sheet(&mut []), Err(Refusal::Station(field)));
         }
     }
@@ -281,11 +280,11 @@ fn elements_keep_their_order() {
 fn input_of_another_shape() {
     let good = hand_worked().to_bytes().unwrap();
     let mut buffer = [0; 43];
-    for length in [0, 1, 43, 108] {
+    for length in [0, 1, 43, 109, 112] {
         assert_eq!(sheet_of_input(&good[..length], &mut buffer), Err(Refusal::Shape));
     }
     assert_eq!(sheet_of_input(&[&good[..], &[0]].concat(), &mut buffer), Err(Refusal::Shape));
-    for at in [0, 89, 104] {
+    for at in KIND_PLACES {
         let mut bad = good;
         bad[at] ^= 1;
         assert_eq!(program(&bad), "refused 10 0\n");

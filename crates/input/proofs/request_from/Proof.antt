@@ -25,6 +25,9 @@ shared-slice-copy-out-longitude c = search needs
 shared-slice-copy-out-height : tie.Need-shared-slice-copy-out-height
 shared-slice-copy-out-height c = search needs
 
+shared-slice-copy-out-deltat : tie.Need-shared-slice-copy-out-deltat
+shared-slice-copy-out-deltat c = search needs
+
 shared-slice-copy-out-first : tie.Need-shared-slice-copy-out-first
 shared-slice-copy-out-first c = search needs
 
@@ -38,9 +41,9 @@ back c k = read-back (number (c .args .n .now) k) (c .pre .each k) tt
 returns : tie.Need-returns
 unfolding requestFrom stationFrom windowFrom
 returns c =
-    let e = c .before .before .before .before .before .before in
+    let e = c .before .before .before .before .before .before .before in
     let s = e .before in
-    rw (e .from-numbers .ensures, back s 22, back s 23, back s 24, back s 25, back s 26, back s 27)
+    rw (e .from-numbers .ensures, back s 22, back s 23, back s 24, back s 25, back s 26, back s 27, back s 28)
 
 pub request-from-spec : {M : Type 1} → statement M
 request-from-spec =
@@ -51,6 +54,7 @@ request-from-spec =
     shared-slice-copy-out-latitude
     shared-slice-copy-out-longitude
     shared-slice-copy-out-height
+    shared-slice-copy-out-deltat
     shared-slice-copy-out-first
     shared-slice-copy-out-last
     returns)

@@ -29,6 +29,7 @@ returns c =
       read-result (q .station .number) (s .0 .1),
       read-result (q .station .longitude) (s .1 .1 .0 .1),
       read-result (q .station .height) (s .1 .1 .1 .0 .1),
+      read-result (q .station .deltat) (s .1 .1 .1 .1 .0 .1),
     )
 
 pub mirror-spec : {M : Type 1} → statement M

@@ -15,14 +15,14 @@ use Rattle.numbers.specs.Value.{Value}
 use Rattle.sine.specs.Sine.{sine, cosine, IsReduced}
 use Rattle.sine.specs.SineLaws.{sine-of, cosine-of}
 use Rattle.sine.specs.SizeLaws.{square-sum}
-use Rattle.station.specs.Place.{equatorialRadius, E, C, Z, h, R, P, placeOf}
+use Rattle.station.specs.Place.{equatorialRadius, E, C, Z, h, R, P, ephemerisLongitude, placeOf}
 use Rattle.station.specs.PlaceLaws.{Z-size, h-size, scaled-size}
 use Rattle.station.proofs.geocentric.Statement.{statement}
 use Rattle.station.proofs.geocentric.Tie as tie
 
 -- ---- where it starts, seen from each call
 abbrev start : tie.After-reduced → tie.Start
-start c = c .before .before .before .before .before
+start c = c .before .before .before .before .before .before
 
 abbrev at-sine : tie.After-c-of → tie.After-sine
 at-sine c = c .before .before
@@ -137,7 +137,7 @@ P-small c =
 -- ---- the needs
 reduced-requires : tie.Need-reduced-requires
 reduced-requires c κs =
-    let b = c .before .before .before .before in
+    let b = c .before .before .before .before .before in
     read-size (b .args .s .latitude) 10000000000 (b .pre .1 .latitude) tt
 
 sine-requires : tie.Need-sine-requires
@@ -209,9 +209,22 @@ module _ (c : tie.After-near-unit3) where
       ∙ P-of (first .args .s .latitude) (first .args .s .height) (sine-is (at-sine b)) (cosine-is (b .before)) (h-is (c .before .before))
       (Z-is (c .before .before .before))
 
+ephemeris-longitude-requires : tie.Need-ephemeris-longitude-requires
+ephemeris-longitude-requires c κs =
+    let s = first c in
+    (read-size (s .args .s .longitude) 180000000 (s .pre .1 .longitude) tt, read-size (s .args .s .deltat) 20000 (s .pre .1 .deltat) tt)
+
+longitude-is : (c : tie.After-ephemeris-longitude)
+    → Value (ephemerisLongitude (first (c .before) .args .s .longitude) (first (c .before) .args .s .deltat)) 180835614 (c .ephemeris-longitude .result)
+longitude-is c =
+    let s = first (c .before) in
+    rw (read-back (s .args .s .longitude) (s .pre .1 .longitude) tt, read-back (s .args .s .deltat) (s .pre .1 .deltat) tt) at (c .ephemeris-longitude .ensures)
+
 returns : tie.Need-returns
 unfolding placeOf
-returns c = rw (r-back c, p-back c, read-back (first c .args .s .longitude) (first c .pre .1 .longitude) tt)
+returns c =
+    let l = longitude-is c in
+    rw (r-back (c .before), p-back (c .before), read-back (c .ephemeris-longitude .result) (l .size) tt, l .value)
 
 pub geocentric-spec : {M : Type 1} → statement M
 geocentric-spec =
@@ -231,4 +244,5 @@ geocentric-spec =
     add-near-unit-2
     mul-near-unit-3
     near-unit-requires-3
+    ephemeris-longitude-requires
     returns)

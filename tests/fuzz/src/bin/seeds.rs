@@ -4,6 +4,7 @@
 use agreement::draws;
 use fuzz::{LEAVE_NUMBERS, LEAVE_SECOND, LEAVE_SHAPE};
 use reference::random::Random;
+use reference::request::REQUEST_LENGTH;
 use reference::sheet;
 use std::fs;
 use std::path::{Path, PathBuf};
@@ -31,11 +32,17 @@ fn stored_sheets() -> Vec<Vec<u8>> {
     sheets
 }
 
-/// Each case of program `cases` is a room in two bytes, the input's length in one, and the input in 110.
+/// Each case of program `cases` is a room in two bytes, the input's length in one, and the input in one byte more than a request has.
 fn stored_requests() -> Vec<Vec<u8>> {
-    let files = ["examples/moscow1954.bin", "examples/kiev1954.bin", "crates/sheet/stdin"];
+    let files = [
+        "examples/moscow1954.bin",
+        "examples/kiev1954.bin",
+        "examples/hopkinsville2017.bin",
+        "crates/sheet/stdin",
+    ];
     let cases = stored("crates/cases/stdin");
-    let inputs = cases.chunks_exact(113).map(|case| case[3..3 + usize::from(case[2])].to_vec());
+    let inputs =
+        cases.chunks_exact(3 + REQUEST_LENGTH + 1).map(|case| case[3..3 + usize::from(case[2])].to_vec());
     files.iter().map(|file| stored(file)).chain(inputs).collect()
 }
 

@@ -8,7 +8,7 @@
 use reference::elements::{Window, ELEMENT_RANGES, FARTHEST, STATION_RANGES};
 use reference::listing::{listing, sheet_of_input};
 use reference::random::Random;
-use reference::request::{Request, REQUEST_LENGTH};
+use reference::request::{Request, KIND_PLACES, REQUEST_LENGTH};
 use reference::sample::{self, Manner};
 use reference::sheet::records_of;
 use std::collections::BTreeMap;
@@ -27,7 +27,7 @@ struct Case {
 }
 
 impl Case {
-    /// As the program reads it: room, length of the input, the input in 110 bytes.
+    /// As the program reads it: room, length of the input, the input in 114 bytes.
     fn bytes(&self) -> Vec<u8> {
         let mut bytes = (self.room as u16).to_be_bytes().to_vec();
         bytes.push(self.input.len() as u8);
@@ -80,13 +80,14 @@ fn beyond(random: &mut Random) -> Request {
                 fields[at] = outside(random, *ELEMENT_RANGES[at].start(), *ELEMENT_RANGES[at].end(), 32);
             }
             2 => {
-                let range = &STATION_RANGES[random.below(4) as usize];
+                let range = &STATION_RANGES[random.below(5) as usize];
                 let drawn = outside(random, *range.start(), *range.end(), 32);
-                match random.below(4) {
+                match random.below(5) {
                     0 => request.station.number = [0, 1000, 65_535][random.below(3) as usize],
                     1 => request.station.latitude = drawn,
                     2 => request.station.longitude = drawn,
-                    _ => request.station.height = drawn,
+                    3 => request.station.height = drawn,
+                    _ => request.station.delta_t = drawn,
                 }
             }
             _ => match random.below(3) {
@@ -105,10 +106,10 @@ fn damaged(random: &mut Random, mut input: Vec<u8>) -> Vec<u8> {
     match random.below(4) {
         0 => input.truncate(random.below(REQUEST_LENGTH as u64) as usize),
         1 => input.push(random.below(256) as u8),
-        2 => input[[0, 89, 104][random.below(3) as usize]] ^= 1 << random.below(8),
+        2 => input[KIND_PLACES[random.below(3) as usize]] ^= 1 << random.below(8),
         _ => {
             for (at, byte) in input.iter_mut().enumerate() {
-                if ![0, 89, 104].contains(&at) {
+                if !KIND_PLACES.contains(&at) {
                     *byte = random.below(256) as u8;
                 }
             }

@@ -16,7 +16,7 @@
 //! | reads | room sheet count entries |
 //! | writes | room entries sheet |
 //!
-//! States are 0 outside, 1 inside, 2 unsure. A request is the 109 bytes of program `sheet`; in `shadows` its
+//! States are 0 outside, 1 inside, 2 unsure. A request is the 113 bytes of program `sheet`; in `shadows` its
 //! window is the one second that the line is about; in `sheets` and `listings` it may have another length. A
 //! listing is what program `sheet` prints, each end of a line written `;`. Room is in bytes for `sheets` and
 //! `writes`, in entries for `reads`. Entries are numbers separated by commas, four an entry:
@@ -28,7 +28,7 @@ use reference::listing::{program, sheet_of_input, ROOM};
 use reference::place::place;
 use reference::random::Random;
 use reference::refusal::Refusal;
-use reference::request::Request;
+use reference::request::{Request, KIND_PLACES, REQUEST_LENGTH};
 use reference::sample::{self, Manner};
 use reference::shadow::{direction, state, Phase, State, GUARD};
 use reference::sheet;
@@ -297,8 +297,7 @@ fn limits() -> Vec<Request> {
         for value in about(range) {
             let mut fields = short.station.fields();
             fields[field] = value;
-            let [number, latitude, longitude, height] = fields;
-            requests.push(Request { station: Station { number, latitude, longitude, height }, ..short });
+            requests.push(Request { station: Station::from_fields(fields), ..short });
         }
     }
     requests
@@ -309,6 +308,7 @@ fn faults() -> [Request; 3] {
     let mut station = sample::hand_worked();
     station.station.latitude = 90_000_001;
     station.station.height = -501;
+    station.station.delta_t = 20_001;
     let mut elements = station;
     elements.elements.y[3] = 10_001;
     elements.elements.tan_f2 = 0;
@@ -318,8 +318,9 @@ fn faults() -> [Request; 3] {
 /// Inputs that are too short or too long or have other kinds.
 fn other_shapes() -> Vec<Vec<u8>> {
     let good = bytes(&sample::hand_worked());
-    let mut inputs = vec![vec![], good[..108].to_vec(), [&good[..], &[0]].concat(), good[1..].to_vec()];
-    for at in [0, 89, 104] {
+    let mut inputs =
+        vec![vec![], good[..REQUEST_LENGTH - 1].to_vec(), [&good[..], &[0]].concat(), good[1..].to_vec()];
+    for at in KIND_PLACES {
         for kind in [0, 1, 5, 0x82] {
             let mut input = good.clone();
             input[at] = kind;
