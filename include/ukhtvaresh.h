@@ -3,8 +3,8 @@
  * Lengths are in 10^-8 of the Earth's equatorial radius, angles in 10^-6 degree, times in whole seconds of
  * ephemeris time from the reference instant. East longitude is positive.
  *
- * Each function answers the number of the refusal, 0 for none. *value gets the length or the count on success, the
- * refusal's place otherwise. Buffers are untouched on refusal; on success what lies past the result is.
+ * Each function but ukhtvaresh_root answers the number of the refusal, 0 for none. *value gets the length or the count on
+ * success, the refusal's place otherwise. Buffers are untouched on refusal; on success what lies past the result is.
  * No function reads or writes outside the lengths it is given, and none keeps a pointer. A length of 0 is allowed,
  * with any pointer that is not null. A buffer that is written, *value among them, must not overlap any other.
  *
@@ -160,6 +160,11 @@ enum {
  * below 56. Any numbers may be given. Lengths count numbers. */
 uint64_t ukhtvaresh_from_tables(const int64_t *rows, size_t rows_len, int64_t *values, size_t values_len,
                                 uint64_t *value);
+
+/* The root of n: the largest whole number whose square is at most n, for any n. It takes two bits of n a round, from the top.
+ * *rounds: how many rounds that are, one for each two bits up to the highest one set, a single bit at the top counting as two;
+ * 0 for n = 0, at most 30 for n below 2^60, 32 at most. The answer is the root and not the number of a refusal: there is none. */
+uint64_t ukhtvaresh_root(uint64_t n, uint64_t *rounds);
 
 #ifdef __cplusplus
 }

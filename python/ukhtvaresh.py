@@ -2,9 +2,9 @@
 
 From the elements of an eclipse, a station and a window of seconds, `sheet` makes the station's contact sheet; `read`
 takes a sheet apart, `write` puts entries together as one, `listing` gives a sheet as text, and `second` the shadow at
-one second. `mirror` gives the request beyond the equator, `fit` judges coefficients that a spreadsheet made of seven hourly values, `from_tables` makes elements from
-tables of Sun and Moon. Each is a thin call of the proved function of the same name in libukhtvaresh.so, which the script
-`build` makes.
+one second. `mirror` gives the request beyond the equator, `fit` judges coefficients that a spreadsheet made of seven
+hourly values, `from_tables` makes elements from tables of Sun and Moon, `root` gives a square root with its rounds. Each is
+a thin call of the proved function of the same name in libukhtvaresh.so, which the script `build` makes.
 
 Lengths are in 10^-8 of the Earth's equatorial radius, angles in 10^-6 degree, times in whole seconds of
 ephemeris time from the reference instant. East longitude is positive. "Document 01" is the paper whose rules the library keeps.
@@ -312,7 +312,8 @@ def _load() -> ctypes.CDLL:
     library.ukhtvaresh_listing.argtypes = [data, length, room, length, value]
     library.ukhtvaresh_fit.argtypes = [room, length, room, length, ctypes.c_int64, value]
     library.ukhtvaresh_from_tables.argtypes = [room, length, room, length, value]
-    for name in ("sheet", "second", "mirror", "read", "write", "listing", "fit", "from_tables"):
+    library.ukhtvaresh_root.argtypes = [ctypes.c_uint64, value]
+    for name in ("sheet", "second", "mirror", "read", "write", "listing", "fit", "from_tables", "root"):
         getattr(library, "ukhtvaresh_" + name).restype = ctypes.c_uint64
     return library
 
@@ -446,6 +447,25 @@ def fit(coefficients: Sequence[int], tabulated: Sequence[int], tolerance: int) -
     for numbers in (coefficients, tabulated):
         lists += [(ctypes.c_int64 * (len(numbers) + 1))(*map(_signed, numbers)), len(numbers)]
     _call("fit", *lists, _signed(tolerance))
+
+
+# ---- the root
+
+
+@dataclass(frozen=True)
+class Root:
+    """The root of a number, and the rounds in which it is found."""
+
+    root: int  # the largest whole number whose square is at most the number
+    rounds: int  # one for each two bits up to the highest one set, a single bit at the top counting as two; 0 to 32
+
+
+def root(n: int) -> Root:
+    """The root of n with its rounds: none for 0, at most 30 for n below 2^60. ValueError unless n is 0 to 2^64 - 1."""
+    if not 0 <= n < 2**64:
+        raise ValueError(f"not a number of 64 bits without a sign: {n}")
+    rounds = ctypes.c_uint64()
+    return Root(_library.ukhtvaresh_root(n, ctypes.byref(rounds)), rounds.value)
 
 
 # ---- elements from tables of Sun and Moon

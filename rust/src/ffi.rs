@@ -65,6 +65,7 @@ extern "C" {
         values_len: usize,
         value: *mut u64,
     ) -> u64;
+    fn ukhtvaresh_root(n: u64, rounds: *mut u64) -> u64;
 }
 
 // The answer of a call: the length or the count, or the refusal.
@@ -159,4 +160,12 @@ pub fn from_tables(rows: &[i64], values: &mut [i64]) -> Result<usize, Refusal> {
         ukhtvaresh_from_tables(rows.as_ptr(), rows.len(), values.as_mut_ptr(), values.len(), &mut value)
     };
     answer(number, value)
+}
+
+// The root and its rounds.
+pub fn root(n: u64) -> (u64, u64) {
+    let mut rounds = 0;
+    // SAFETY: `rounds` is borrowed mutably, and there is no other memory.
+    let root = unsafe { ukhtvaresh_root(n, &mut rounds) };
+    (root, rounds)
 }

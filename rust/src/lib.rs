@@ -2,8 +2,9 @@
 //!
 //! From the elements of an eclipse, a station and a window of seconds, [`sheet`] makes the station's contact sheet;
 //! [`read`] takes a sheet apart, [`write()`] puts entries together as one, [`listing`] gives a sheet as text, and
-//! [`second`] the shadow at one second, [`mirror`] the request beyond the equator; [`fit`] judges coefficients that a spreadsheet made, [`from_tables`] makes elements
-//! from tables of Sun and Moon. Each is a thin call of the proved function of the same name in `libukhtvaresh.a`.
+//! [`second`] the shadow at one second, [`mirror`] the request beyond the equator; [`fit`] judges coefficients that a
+//! spreadsheet made, [`from_tables`] makes elements from tables of Sun and Moon, [`root`] gives a square root with its rounds.
+//! Each is a thin call of the proved function of the same name in `libukhtvaresh.a`.
 //!
 //! Lengths are in 10^-8 of the Earth's equatorial radius, angles in 10^-6 degree, times in whole seconds of
 //! ephemeris time from the reference instant. East longitude is positive. "Document 01" is the paper whose rules the library keeps.
@@ -178,6 +179,28 @@ pub fn listing(sheet: &[u8]) -> Result<String, Refusal> {
 /// tolerance. Refusals, the first of them: 18, 2, 17.
 pub fn fit(coefficients: &[i64; 4], tabulated: &[i64; 7], tolerance: i64) -> Result<(), Refusal> {
     ffi::fit(coefficients, tabulated, tolerance).map(|_| ())
+}
+
+/// The root of a number, and the rounds in which it is found.
+#[derive(Clone, Copy, Debug, PartialEq, Eq, Hash)]
+pub struct Root {
+    /// The largest whole number whose square is at most the number.
+    pub root: u64,
+    /// One round for each two bits up to the highest one set, a single bit at the top counting as two; 0 to 32.
+    pub rounds: u32,
+}
+
+/// The root of n with its rounds: none for 0, at most 30 for n below 2^60.
+///
+/// ```
+/// use ukhtvaresh::{root, Root};
+///
+/// // 10 is 1010 in binary: first 10, whose root is 1, then 1010.
+/// assert_eq!(root(10), Root { root: 3, rounds: 2 });
+/// ```
+pub fn root(n: u64) -> Root {
+    let (root, rounds) = ffi::root(n);
+    Root { root, rounds: rounds as u32 }
 }
 
 fn numbers(entries: &[Entry]) -> Vec<u32> {

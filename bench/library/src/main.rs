@@ -120,6 +120,28 @@ fn records(rounds: usize, name: &str, entries: &[u32], times: usize) {
     line("write", ours, theirs);
 }
 
+/// The root of a thousand numbers of so many bits, with its rounds; Rust's own root beside it, which reports none.
+fn roots(rounds: usize) {
+    let mut random = Random::new(7);
+    for bits in [16, 32, 48, 60, 64] {
+        let numbers: Vec<u64> = (0..1_000).map(|_| random.bits() >> (64 - bits) | 1 << (bits - 1)).collect();
+        let (mut a, mut b) = (0, 0);
+        let (ours, theirs) = best(
+            rounds,
+            20,
+            || a = numbers.iter().map(|&n| black_box(library::root(black_box(n))).0).sum::<u64>(),
+            || b = numbers.iter().map(|&n| black_box(black_box(n).isqrt())).sum::<u64>(),
+        );
+        assert_eq!(a, b);
+        println!(
+            "root, {bits} bits: library {:5.1} ns, Rust {:5.1} ns, ratio {:.2}",
+            ours * 1e6,
+            theirs * 1e6,
+            ours / theirs
+        );
+    }
+}
+
 fn main() {
     let rounds = std::env::args().nth(1).map_or(100, |n| n.parse().expect("a number of rounds"));
     sheets(rounds);
@@ -134,4 +156,5 @@ fn main() {
     records(rounds, "medium", &long_list(30), 500);
     records(rounds, "long", &long_list(3_000), 20);
     records(rounds, "drawn", &drawn_list(3_000), 20);
+    roots(rounds);
 }

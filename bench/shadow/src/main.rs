@@ -15,7 +15,7 @@ struct Elements([i64; 22]);
 
 #[repr(C)]
 #[derive(Clone, Copy)]
-struct Station([i64; 4]);
+struct Station([i64; 5]);
 
 extern "C" {
     fn rattle_states(e: Elements, s: Station, first: i64, pen: *mut u8, pen_len: usize, cen: *mut u8, cen_len: usize) -> usize;
@@ -113,7 +113,7 @@ fn parts(r: &Request) -> (Elements, Station) {
     f.extend(e.l2);
     f.push(e.tan_f2);
     let s = &r.station;
-    (Elements(f.try_into().unwrap()), Station([s.number, s.latitude, s.longitude, s.height]))
+    (Elements(f.try_into().unwrap()), Station(s.fields()))
 }
 
 fn time<T>(f: impl FnOnce() -> T) -> (f64, T) {

@@ -7,3 +7,4 @@ pub mod PatternLaws
 pub mod Examples
 pub mod Rows
 pub mod RowLaws
+pub mod CountedLaws

@@ -7,7 +7,7 @@ use native.Mathlib.Omega.{arith}
 use lib.IntN.{ℤ}
 use mir.Syntax.{w64}
 use mir.Val.{toZ, ofZ}
-use lib.ListN.{length, take, drop}
+use lib.ListN.{length, take, drop, replicate, length-replicate}
 use lib.Signed.{mag}
 use Rattle.numbers.specs.Code.{read-result}
 use Rattle.decimals.specs.Texts.{Put}
@@ -18,6 +18,18 @@ use Rattle.decimals.specs.Rows.{rows, part}
 -- one text for another that is the same
 pub put-as : (x y old : List ℕ) (at : ℕ) (new : List ℕ) (r : ℕ) → x ≡ y → Put old at x new r → Put old at y new r
 put-as x y old at new r e p = rw (← e) p
+
+-- one text after the other: `joined h (joined h p q) w`
+pub joined : {old mid new : List ℕ} {at r q : ℕ} {x y : List ℕ} → length old < 18446744073709551616 → Put old at x mid r → Put mid r y new q
+    → Put old at (x ++ y) new q
+joined h p w = put-then _ _ _ _ _ _ _ _ h p w
+
+-- a room that holds n times the same
+pub record Copies (x n : ℕ) (l : List ℕ) : Type 0 where
+  pub is : l ≡ replicate n x
+
+pub copies-length : {x n : ℕ} {l : List ℕ} → Copies x n l → length l ≡ n
+copies-length {x} {n} c = ap length (c .is) ∙ length-replicate n x
 
 -- the same numbers, told one by one: `also e (also f refl)`
 pub also : {x v : ℤ} {xs vs : List ℤ} → x ≡ v → xs ≡ vs → x ∷ xs ≡ v ∷ vs

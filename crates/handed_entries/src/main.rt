@@ -4,28 +4,37 @@
 use libc::STDIN_FILENO;
 use libc::STDOUT_FILENO;
 use sheets::Extent;
-ghost use Prim.Native.Nat.{_+_, _*_, _≤_, _<_};
-ghost use lib.ListN.{length};
+ghost use mathlib.Core.Path.{_≡_};
+ghost use mathlib.Core.List.{_++_};
+ghost use Prim.Native.Nat.{_/_, _≤_, _<_};
+ghost use lib.ListN.{length, take};
+ghost use Rattle.decimals.specs.Texts.{Put};
+ghost use Rattle.decimals.specs.RowLaws.{Copies};
+ghost use Rattle.lines.specs.Lines.{extentText};
+ghost use Rattle.handed_entries.specs.Printed.{digit, hexOf, bytesLine, listText, numbersOf, printed};
 
-// A byte in hexadecimal after a space, two digits.
-fn put_hex(out: &mut [u8], at: usize, x: u8) -> usize {
-    let next = decimals::put_byte(out, at, b' ');
-    let low = decimals::put_byte(out, next, digit(x / 16));
-    decimals::put_byte(out, low, digit(x % 16))
-}
-
-fn digit(x: u8) -> u8 {
+fn digit(x: u8) -> u8
+    requires { ⌜ x < 16 ⌝ }
+    ensures { λ r. ⌜ r ≡ digit x ⌝ }
+{
     if x < 10 {
         return 48 + x;
     }
-    if x < 16 {
-        return 87 + x;
-    }
-    b'?'
+    87 + x
+}
+
+// A byte in hexadecimal after a space, two digits.
+fn put_hex(out: &mut [u8], at: usize, x: u8) -> usize
+    ensures { λ r. ⌜ Put (now (out .entry)) at (hexOf x) (now (out .exit)) r ⌝ }
+{
+    let text = [b' ', digit(x / 16), digit(x % 16)];
+    decimals::put_text(out, at, &text)
 }
 
 // Bytes in hexadecimal, a line.
-fn put_bytes(out: &mut [u8], start: usize, bytes: &[u8]) -> usize {
+fn put_bytes(out: &mut [u8], start: usize, bytes: &[u8]) -> usize
+    ensures { λ r. ⌜ Put (now (out .entry)) start (bytesLine (now (bytes .entry))) (now (out .exit)) r ⌝ }
+{
     let mut at = start;
     let mut i = 0;
     while i < bytes.len() {
@@ -36,95 +45,78 @@ fn put_bytes(out: &mut [u8], start: usize, bytes: &[u8]) -> usize {
 }
 
 // A word, then an answer.
-fn put_answer(out: &mut [u8], at: usize, word: &[u8], answer: Extent) -> usize {
+fn put_answer(out: &mut [u8], at: usize, word: &[u8], answer: Extent) -> usize
+    ensures { λ r. ⌜ Put (now (out .entry)) at (now (word .entry) ++ extentText answer) (now (out .exit)) r ⌝ }
+{
     let next = decimals::put_text(out, at, word);
     lines::put_extent(out, next, answer)
 }
 
-fn put_list(out: &mut [u8], start: usize, list: &[u32]) -> usize {
-    let mut space = [170u8; 256];
-    let mut short = [170u8; 20];
-    let middle = put_answer(
-        out,
-        start,
-        b"written ",
-        sheets::handed::write(list, &mut space),
-    );
-    let end = put_answer(
-        out,
-        middle,
-        b" short ",
-        sheets::handed::write(list, &mut short),
-    );
+fn long_buffer() -> [u8; 256]
+    ensures { λ r. ⌜ Copies 170 256 r ⌝ }
+{
+    [170; 256]
+}
+
+fn short_buffer() -> [u8; 20]
+    ensures { λ r. ⌜ Copies 170 20 r ⌝ }
+{
+    [170; 20]
+}
+
+fn put_list(out: &mut [u8], start: usize, list: &[u32]) -> usize
+    ensures { λ r. ⌜ Put (now (out .entry)) start (listText (now (list .entry))) (now (out .exit)) r ⌝ }
+{
+    let mut long = long_buffer();
+    let mut short = short_buffer();
+    let written = sheets::handed::write(list, &mut long);
+    let cut = sheets::handed::write(list, &mut short);
+    let middle = put_answer(out, start, b"written ", written);
+    let end = put_answer(out, middle, b" short ", cut);
     let line = decimals::put_byte(out, end, b'\n');
-    let next = put_bytes(out, line, &space);
+    let next = put_bytes(out, line, &long);
     put_bytes(out, next, &short)
 }
 
-fn number_of(a: u8, b: u8, c: u8, d: u8) -> u32 {
-    let high = (a as u32) * 256 + (b as u32);
-    let low = (c as u32) * 256 + (d as u32);
-    high * 65536 + low
-}
-
-// The `count` numbers of the bytes that start at `from`, into the list.
-fn take(input: &[u8], from: usize, count: usize, list: &mut [u32])
-    requires { ⌜ (from + count * 4 ≤ length (now input)) × (count ≤ length (now list)) ⌝ }
+// The numbers of some bytes, at the start of the list.
+fn take(bytes: &[u8], list: &mut [u32])
+    requires { ⌜ length (now bytes) / 4 ≤ length (now list) ⌝ }
+    ensures { λ r. ⌜ take (length (now (bytes .entry)) / 4) (now (list .exit)) ≡ numbersOf (now (bytes .entry)) ⌝ }
 {
+    let count = bytes.len() / 4;
     let mut n = 0;
     while n < count {
-        let at = from + n * 4;
-        list[n] = number_of(input[at], input[at + 1], input[at + 2], input[at + 3]);
+        list[n] = records::four_at(bytes, n * 4);
         n += 1;
     }
 }
 
-// The list of `count` numbers that starts at `from`, where the input has it and the list holds it.
-fn put_taken(
-    out: &mut [u8],
-    at: usize,
-    input: &[u8],
-    from: usize,
-    count: usize,
-    list: &mut [u32],
-) -> usize {
-    if list.len() < count {
-        return at;
-    }
-    if input.len() < from {
-        return at;
-    }
-    if (input.len() - from) / 4 < count {
-        return at;
-    }
-    take(input, from, count, list);
+// The text of the list that some bytes are.
+fn put_taken(out: &mut [u8], at: usize, bytes: &[u8]) -> usize
+    requires { ⌜ length (now bytes) < 262144 ⌝ }
+    ensures { λ r. ⌜ Put (now (out .entry)) at (listText (numbersOf (now (bytes .entry)))) (now (out .exit)) r ⌝ }
+{
+    let mut list = [0u32; 65536];
+    take(bytes, &mut list);
+    let count = bytes.len() / 4;
     put_list(out, at, &list[..count])
 }
 
-fn put_list_at(out: &mut [u8], at: usize, input: &[u8], from: usize, count: usize) -> usize {
-    let mut list = [0u32; 128];
-    put_taken(out, at, input, from, count, &mut list)
-}
-
-fn length_of(high: u8, low: u8) -> usize
-    ensures { λ r. ⌜ r < 65536 ⌝ }
+// The text of each list of the input.
+fn put_lists(out: &mut [u8], input: &[u8]) -> usize
+    ensures { λ r. ⌜ Put (now (out .entry)) 0 (printed (now (input .entry))) (now (out .exit)) r ⌝ }
 {
-    (high as usize) * 256 + (low as usize)
-}
-
-fn put_lists(out: &mut [u8], input: &[u8]) -> usize {
     let mut at = 0;
     let mut i = 0;
     while i + 1 < input.len() {
-        let count = length_of(input[i], input[i + 1]);
+        let size = records::two_at(input, i) as usize * 4;
         let from = i + 2;
-        at = put_list_at(out, at, input, from, count);
-        let left = input.len() - from;
-        let size = count * 4;
-        if left < size {
+        if input.len() - from < size {
             return at;
         }
-        i = from + size;
+        let end = from + size;
+        at = put_taken(out, at, &input[from..end]);
+        i = end;
     }
     at
 }

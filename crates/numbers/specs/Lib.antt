@@ -1,6 +1,7 @@
 pub mod Units
 pub mod Near
 pub mod Root
+pub mod Rounds
 pub mod Parts
 pub mod Laws
 pub mod Order
@@ -9,6 +10,7 @@ pub mod Cert
 pub mod Floor
 pub mod NearLaws
 pub mod RootLaws
+pub mod RoundsLaws
 pub mod Code
 pub mod Value
 pub mod Limits

@@ -1,4 +1,6 @@
-// Rounding to the nearest, square roots and sizes, over 64-bit whole numbers.
+// Rounding to the nearest, square roots and sizes, over 64-bit whole numbers; in a module of its own the rounds of the root.
+pub mod roots;
+
 ghost use mathlib.Core.Path.{_≡_};
 ghost use Prim.Native.Nat.{_≤_, _<_};
 ghost use lib.IntN.{pos, natAbs};
@@ -49,24 +51,12 @@ pub fn near_hour(n: i64) -> i64
     near(n, 3600)
 }
 
-// The largest whole number whose square is at most n: two bits of n a round, from its highest one.
+// The largest whole number whose square is at most n.
 pub fn root(n: u64) -> u64
     ensures { λ r. ⌜ r ≡ root n ⌝ }
 {
-    let mut i = (65 - u64::leading_zeros(n)) / 2;
-    let mut r: u64 = 0;
-    let mut rest: u64 = 0;
-    while 0 < i {
-        i -= 1;
-        rest = 4 * rest + (n >> (2 * i)) % 4;
-        let t = 4 * r + 1;
-        r = 2 * r;
-        if t <= rest {
-            rest -= t;
-            r += 1;
-        }
-    }
-    r
+    let found = roots::root_and_rounds(n);
+    found.root
 }
 
 // The size of x: its distance from 0.

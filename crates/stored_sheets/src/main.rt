@@ -4,59 +4,74 @@
 use libc::STDIN_FILENO;
 use libc::STDOUT_FILENO;
 use sheets::Extent;
-
-// The number of two bytes, the higher first.
-fn length_of(high: u8, low: u8) -> usize {
-    (high as usize) * 256 + (low as usize)
-}
+ghost use mathlib.Core.Path.{_≡_};
+ghost use mathlib.Core.List.{_++_};
+ghost use Prim.Native.Nat.{_+_, _*_, _≤_};
+ghost use lib.IntN.{pos};
+ghost use lib.ListN.{length};
+ghost use Rattle.sheets.specs.Sheets.{readWhole};
+ghost use Rattle.decimals.specs.Texts.{Put};
+ghost use Rattle.lines.specs.Lines.{extentText};
+ghost use Rattle.stored_sheets.specs.Printed.{threeAnswers, entryLine, entriesText, writtenLine, sheetText, printed};
+ghost use Rattle.stored_sheets.specs.PrintedLaws.{Again};
 
 // A word, then an answer.
-fn put_answer(out: &mut [u8], at: usize, word: &[u8], answer: Extent) -> usize {
+fn put_answer(out: &mut [u8], at: usize, word: &[u8], answer: Extent) -> usize
+    ensures { λ r. ⌜ Put (now (out .entry)) at (now (word .entry) ++ extentText answer) (now (out .exit)) r ⌝ }
+{
     let next = decimals::put_text(out, at, word);
     lines::put_extent(out, next, answer)
 }
 
-fn put_count(out: &mut [u8], at: usize, count: u32) -> usize {
-    let next = decimals::put_byte(out, at, b' ');
-    decimals::put_number(out, next, count as u64)
+// The three answers of the reader, a line.
+fn put_answers(out: &mut [u8], start: usize, begins: Extent, is: Extent, short: Extent) -> usize
+    ensures { λ r. ⌜ Put (now (out .entry)) start (threeAnswers begins is short) (now (out .exit)) r ⌝ }
+{
+    let first = put_answer(out, start, b"begins ", begins);
+    let second = put_answer(out, first, b" is ", is);
+    let third = put_answer(out, second, b" short ", short);
+    decimals::put_byte(out, third, b'\n')
 }
 
-fn put_field(out: &mut [u8], at: usize, room: &[u32], i: usize) -> usize {
-    if i < room.len() {
-        return put_count(out, at, room[i]);
-    }
-    at
+fn wide(x: u32) -> i64
+    ensures { λ r. ⌜ r ≡ pos x ⌝ }
+{
+    x as i64
 }
 
-// The room's first entries, a line each.
-fn put_entries(out: &mut [u8], start: usize, room: &[u32], entries: usize) -> usize {
-    let count = room.len() / 4;
-    if count < entries {
-        return start;
-    }
+// The line of entry n.
+fn put_entry(out: &mut [u8], at: usize, numbers: &[u32], n: usize) -> usize
+    requires { ⌜ n * 4 + 4 ≤ length (now numbers) ⌝ }
+    ensures { λ r. ⌜ Put (now (out .entry)) at (entryLine (now (numbers .entry)) n) (now (out .exit)) r ⌝ }
+{
+    let i = n * 4;
+    let kind = wide(numbers[i]);
+    let a = wide(numbers[i + 1]);
+    let b = wide(numbers[i + 2]);
+    let c = wide(numbers[i + 3]);
+    let fields = [kind, a, b, c];
+    decimals::put_filled(out, at, b" # # # #\n", &fields)
+}
+
+// The entries, a line each.
+fn put_entries(out: &mut [u8], start: usize, numbers: &[u32]) -> usize
+    ensures { λ r. ⌜ Put (now (out .entry)) start (entriesText (now (numbers .entry))) (now (out .exit)) r ⌝ }
+{
+    let count = numbers.len() / 4;
     let mut at = start;
-    let mut n = 0;
-    while n < entries {
-        let i = n * 4;
-        at = put_field(out, at, room, i);
-        at = put_field(out, at, room, i + 1);
-        at = put_field(out, at, room, i + 2);
-        at = put_field(out, at, room, i + 3);
-        at = decimals::put_byte(out, at, b'\n');
-        n += 1;
+    for n in 0..count {
+        at = put_entry(out, at, numbers, n);
     }
     at
 }
 
-// Writes the room's first entries again, and tells whether that gives the sheet.
-fn put_written(out: &mut [u8], start: usize, room: &[u32], entries: usize, sheet: &[u8]) -> usize {
-    let count = room.len() / 4;
-    if count < entries {
-        return start;
-    }
-    let numbers = entries * 4;
+// Writes the entries again, and tells whether that gives the sheet.
+fn put_written(out: &mut [u8], start: usize, numbers: &[u32], sheet: &[u8]) -> usize
+    requires { ⌜ Again (readWhole (now sheet)) (now numbers) (now sheet) ⌝ }
+    ensures { λ r. ⌜ Put (now (out .entry)) start (writtenLine (readWhole (now (sheet .entry)))) (now (out .exit)) r ⌝ }
+{
     let mut space = io::buffer();
-    let answer = sheets::handed::write(&room[..numbers], &mut space);
+    let answer = sheets::handed::write(numbers, &mut space);
     let at = put_answer(out, start, b" written ", answer);
     let Extent::Sheet { entries: _, length } = answer else {
         return at;
@@ -68,17 +83,23 @@ fn put_written(out: &mut [u8], start: usize, room: &[u32], entries: usize, sheet
     decimals::put_byte(out, at, b'\n')
 }
 
-// The three answers of the reader, a line.
-fn put_answers(out: &mut [u8], start: usize, begins: Extent, is: Extent, short: Extent) -> usize {
-    let first = put_answer(out, start, b"begins ", begins);
-    let second = put_answer(out, first, b" is ", is);
-    let third = put_answer(out, second, b" short ", short);
-    decimals::put_byte(out, third, b'\n')
+fn room_for_64() -> [u32; 256]
+    ensures { λ r. ⌜ 256 ≡ length r ⌝ }
+{
+    [0; 256]
 }
 
-fn put_sheet(out: &mut [u8], start: usize, sheet: &[u8]) -> usize {
-    let mut room = [0u32; 256];
-    let mut three = [0u32; 15];
+fn room_for_three() -> [u32; 15]
+    ensures { λ r. ⌜ 15 ≡ length r ⌝ }
+{
+    [0; 15]
+}
+
+fn put_sheet(out: &mut [u8], start: usize, sheet: &[u8]) -> usize
+    ensures { λ r. ⌜ Put (now (out .entry)) start (sheetText (now (sheet .entry))) (now (out .exit)) r ⌝ }
+{
+    let mut room = room_for_64();
+    let mut three = room_for_three();
     let begins = sheets::extent_of_leading_sheet(sheet);
     let is = sheets::read(sheet, &mut room);
     let short = sheets::read(sheet, &mut three);
@@ -86,15 +107,19 @@ fn put_sheet(out: &mut [u8], start: usize, sheet: &[u8]) -> usize {
     let Extent::Sheet { entries, length: _ } = is else {
         return line;
     };
-    let at = put_entries(out, line, &room, entries);
-    put_written(out, at, &room, entries, sheet)
+    let numbers = entries * 4;
+    let at = put_entries(out, line, &room[..numbers]);
+    put_written(out, at, &room[..numbers], sheet)
 }
 
-fn put_sheets(out: &mut [u8], input: &[u8]) -> usize {
+// The text of each sheet of the input.
+fn put_sheets(out: &mut [u8], input: &[u8]) -> usize
+    ensures { λ r. ⌜ Put (now (out .entry)) 0 (printed (now (input .entry))) (now (out .exit)) r ⌝ }
+{
     let mut at = 0;
     let mut i = 0;
     while i + 1 < input.len() {
-        let length = length_of(input[i], input[i + 1]);
+        let length = records::two_at(input, i) as usize;
         let from = i + 2;
         if input.len() - from < length {
             return at;

@@ -285,3 +285,12 @@ pub fn room(random: &mut Random, needed: usize) -> usize {
         _ => random.below(2 * needed as u64 + 2) as usize,
     }
 }
+
+/// A number of any count of bits, half of the time a square or a neighbour of one.
+pub fn number(random: &mut Random) -> u64 {
+    if random.once_in(2) {
+        return random.bits() >> random.below(64);
+    }
+    let side = random.bits() >> (32 + random.below(32));
+    [(side * side).saturating_sub(1), side * side, side * side + 1][random.below(3) as usize]
+}

@@ -59,6 +59,7 @@ extern "C" {
         values_len: usize,
         value: *mut u64,
     ) -> u64;
+    fn ukhtvaresh_root(n: u64, rounds: *mut u64) -> u64;
 }
 
 /// The number of the refusal, 0 for none; the length, the count or the place.
@@ -142,4 +143,11 @@ pub fn from_tables(rows: &[i64], values: &mut [i64]) -> Reply {
         ukhtvaresh_from_tables(rows.as_ptr(), rows.len(), values.as_mut_ptr(), values.len(), &mut value)
     };
     (number, value)
+}
+
+/// The root and its rounds.
+pub fn root(n: u64) -> (u64, u64) {
+    let mut rounds = UNSET;
+    let root = unsafe { ukhtvaresh_root(n, &mut rounds) };
+    (root, rounds)
 }

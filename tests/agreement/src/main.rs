@@ -7,7 +7,8 @@
 //! - eight seconds of each request, within ±10,800 and outside;
 //! - the mirror of each request; its sheet and its seconds against the request's own, directions left out; the mirror of the mirror;
 //! - sheets, whole and damaged, read and listed; and entries, whole and damaged, written; what was read is written again, and the other way;
-//! - as many fits as sheets, within the tolerance and at its edge, with numbers changed, of other lengths.
+//! - as many fits as sheets, within the tolerance and at its edge, with numbers changed, of other lengths;
+//! - as many roots as sheets, with their rounds, and those of all numbers up to 70,000.
 //!
 //! Prints counts; the first difference stops it with all that gives it again.
 
@@ -19,6 +20,7 @@ use reference::elements::FARTHEST;
 use reference::fit::judge;
 use reference::listing::sheet_of_input;
 use reference::mirror::mirror;
+use reference::numbers::rounds;
 use reference::random::Random;
 use reference::refusal::Refusal;
 use reference::request::REQUEST_LENGTH;
@@ -271,6 +273,12 @@ fn fit(random: &mut Random, count: &mut Count) {
     count.add(ours.0 .0);
 }
 
+fn root(n: u64) {
+    let none: Vec<u8> = Vec::new();
+    let ours = (library::root(n), none.clone());
+    must_agree("ukhtvaresh_root", &n, &ours, &((n.isqrt(), rounds(n)), none));
+}
+
 fn main() {
     let arguments: Vec<u64> = std::env::args().skip(1).map(|a| a.parse().expect("a number")).collect();
     let [requests, sheets, seed] = arguments[..] else {
@@ -297,6 +305,9 @@ fn main() {
         fit(&mut random, of_fits);
     }
     println!("{sheets} fits agree, {:.1} s", start.elapsed().as_secs_f64());
+    (0..=70_000).for_each(root);
+    (0..sheets).for_each(|_| root(draws::number(&mut random)));
+    println!("{} roots agree, {:.1} s", 70_001 + sheets, start.elapsed().as_secs_f64());
     counts.iter().for_each(Count::print);
     println!("no difference");
 }

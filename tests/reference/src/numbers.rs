@@ -12,3 +12,17 @@ pub const fn near(n: i64, k: i64) -> i64 {
 pub const fn root(n: i64) -> i64 {
     n.isqrt()
 }
+
+/// Rounds of the root of n: the binary digits are crossed off two at a time from the right, a single one left over by itself; 0 has none.
+pub fn rounds(n: u64) -> u64 {
+    let mut digits = match n {
+        0 => String::new(),
+        _ => format!("{n:b}"),
+    };
+    let mut rounds = 0;
+    while digits.pop().is_some() {
+        digits.pop();
+        rounds += 1;
+    }
+    rounds
+}

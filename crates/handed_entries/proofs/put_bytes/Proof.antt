@@ -1,19 +1,24 @@
--- `handed_entries::put_bytes` is safe: the loop ends at the length; the room keeps its own.
-use Prim.Native.Nat.{_≤_, _-_}
-use mathlib.Core.Path.{_≡_}
-use lib.ListN.{length}
+-- `handed_entries::put_bytes` meets its contract: the bytes before the i-th are put.
+use mathlib.Core.Path.{_∙_}
+use Rattle.decimals.specs.TextLaws.{put-same}
 use borrow.Author.Needs.{needs}
+use Rattle.handed_entries.specs.PrintedLaws.{put-line}
+use Rattle.handed_entries.specs.Printed.{hexOf}
+use Rattle.decimals.specs.RowLaws.{Rows, rows-start, rows-turn, rows-end}
+use lib.ListN.{length, getD}
+use native.Mathlib.Omega.{arith}
+use Prim.Native.Nat.{_-_}
 use Rattle.handed_entries.proofs.put_bytes.Statement.{statement}
 use Rattle.handed_entries.proofs.put_bytes.Tie as tie
 
 abbrev Inv-loop : tie.InvT-loop
-Inv-loop out₀ start bytes at₀ i₀ out at i = (i ≤ length bytes) × (length out ≡ length out₀)
+Inv-loop out₀ start bytes at₀ i₀ out at i = Rows (λ k. hexOf (getD bytes k 0)) (length bytes) out₀ start out at i
 
 abbrev μ-loop : tie.MeasureT-loop
 μ-loop out₀ start bytes at₀ i₀ out at i = length bytes - i
 
 loop-holds : tie.Need-loop-holds Inv-loop μ-loop
-loop-holds c = search needs
+loop-holds c = rows-start _ _ _ _ (omega arith) (omega arith)
 
 shared-slice-read-put-hex : tie.Need-shared-slice-read-put-hex Inv-loop μ-loop
 shared-slice-read-put-hex c = search needs
@@ -28,16 +33,16 @@ loop-less : tie.Need-loop-less Inv-loop μ-loop
 loop-less c = search needs
 
 loop-again : tie.Need-loop-again Inv-loop μ-loop
-loop-again c = search needs
+loop-again c = rows-turn _ _ _ _ _ _ _ (c .before .before .before .before .before .before .loop .inv) (c .before .before .before .before .before .loop-test .taken) _ _ (c .before .before .put-hex .ensures)
 
 put-byte-requires : tie.Need-put-byte-requires Inv-loop μ-loop
 put-byte-requires c κs = search needs
 
 same-length : tie.Need-same-length Inv-loop μ-loop
-same-length c = search needs
+same-length c = put-same _ _ _ _ _ (c .before .before .put-byte .ensures) ∙ c .before .before .before .before .before .loop .inv .same
 
 returns : tie.Need-returns Inv-loop μ-loop
-returns c = search needs
+returns c = put-line _ _ _ _ _ _ _ (omega arith) (rows-end _ _ _ _ _ _ _ (c .before .before .before .before .before .loop .inv) (c .before .before .before .before .loop-test .left)) (c .before .before .put-byte .ensures)
 
 pub put-bytes-spec : {M : Type 1} → statement M
 put-bytes-spec =

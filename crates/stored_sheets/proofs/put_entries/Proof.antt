@@ -1,49 +1,24 @@
--- `stored_sheets::put_entries` is safe: the room holds the entries, so each index fits; what is lent keeps its length.
-use Prim.Native.Nat.{_≤_, _-_, _*_}
-use mathlib.Core.Path.{_≡_}
-use lib.ListN.{length}
+-- `stored_sheets::put_entries` meets its contract: the lines of the entries before the n-th are put.
 use borrow.Author.Needs.{needs}
+use Rattle.stored_sheets.specs.Printed.{entryLine, entriesText}
+use Rattle.decimals.specs.RowLaws.{Rows, rows-start, rows-turn, rows-end}
+use lib.ListN.{length}
+use native.Mathlib.Omega.{arith}
+use Prim.Native.Nat.{_/_, _-_}
 use Rattle.stored_sheets.proofs.put_entries.Statement.{statement}
 use Rattle.stored_sheets.proofs.put_entries.Tie as tie
 
 abbrev Inv-loop : tie.InvT-loop
-Inv-loop out₀ start room entries count at₀ n₀ out at n = (n ≤ entries) × (entries * 4 ≤ length room) × (length out ≡ length out₀)
+Inv-loop out₀ start numbers count at₀ n₀ out at n = Rows (entryLine numbers) (length numbers / 4) out₀ start out at n
 
 abbrev μ-loop : tie.MeasureT-loop
-μ-loop out₀ start room entries count at₀ n₀ out at n = entries - n
-
-returns : tie.Need-returns Inv-loop μ-loop
-returns c = search needs
+μ-loop out₀ start numbers count at₀ n₀ out at n = length numbers / 4 - n
 
 loop-holds : tie.Need-loop-holds Inv-loop μ-loop
-loop-holds c = search needs
+loop-holds c = rows-start _ _ _ _ (omega arith) (omega arith)
 
-mul-i : tie.Need-mul-i Inv-loop μ-loop
-mul-i c = search needs
-
-put-field-requires : tie.Need-put-field-requires Inv-loop μ-loop
-put-field-requires c κs = search needs
-
-add-put-field : tie.Need-add-put-field Inv-loop μ-loop
-add-put-field c = search needs
-
-put-field-requires-2 : tie.Need-put-field-requires-2 Inv-loop μ-loop
-put-field-requires-2 c κs = search needs
-
-add-put-field-2 : tie.Need-add-put-field-2 Inv-loop μ-loop
-add-put-field-2 c = search needs
-
-put-field-requires-3 : tie.Need-put-field-requires-3 Inv-loop μ-loop
-put-field-requires-3 c κs = search needs
-
-add-put-field-3 : tie.Need-add-put-field-3 Inv-loop μ-loop
-add-put-field-3 c = search needs
-
-put-field-requires-4 : tie.Need-put-field-requires-4 Inv-loop μ-loop
-put-field-requires-4 c κs = search needs
-
-put-byte-requires : tie.Need-put-byte-requires Inv-loop μ-loop
-put-byte-requires c κs = search needs
+put-entry-requires : tie.Need-put-entry-requires Inv-loop μ-loop
+put-entry-requires c κs = search needs
 
 add-n : tie.Need-add-n Inv-loop μ-loop
 add-n c = search needs
@@ -52,13 +27,14 @@ loop-less : tie.Need-loop-less Inv-loop μ-loop
 loop-less c = search needs
 
 loop-again : tie.Need-loop-again Inv-loop μ-loop
-loop-again c = search needs
+loop-again c = rows-turn _ _ _ _ _ _ _ (c .before .before .before .before .before .loop .inv) (c .before .before .before .before .loop-test .taken) _ _ (c .before .before .put-entry .ensures)
 
 same-length : tie.Need-same-length Inv-loop μ-loop
-same-length c = search needs
+same-length c = c .before .loop .inv .same
 
-returns-2 : tie.Need-returns-2 Inv-loop μ-loop
-returns-2 c = search needs
+returns : tie.Need-returns Inv-loop μ-loop
+unfolding entriesText
+returns c = rows-end _ _ _ _ _ _ _ (c .before .loop .inv) (c .loop-test .left)
 
 pub put-entries-spec : {M : Type 1} → statement M
 put-entries-spec =
@@ -66,19 +42,10 @@ put-entries-spec =
     (tie.spec
     Inv-loop
     μ-loop
-    returns
     loop-holds
-    mul-i
-    put-field-requires
-    add-put-field
-    put-field-requires-2
-    add-put-field-2
-    put-field-requires-3
-    add-put-field-3
-    put-field-requires-4
-    put-byte-requires
+    put-entry-requires
     add-n
     loop-less
     loop-again
     same-length
-    returns-2)
+    returns)

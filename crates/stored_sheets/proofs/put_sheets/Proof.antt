@@ -1,34 +1,32 @@
--- `stored_sheets::put_sheets` is safe: a sheet ends inside the input, and past its start; the room keeps its length.
-use Prim.Native.Nat.{_≤_, _-_}
-use mathlib.Core.Path.{_≡_}
-use lib.ListN.{length}
+-- `stored_sheets::put_sheets` meets its contract: the texts of the sheets before byte i are put.
+use native.Mathlib.Nat.{mul-one}
+use mathlib.Core.Path.{sym, _∙_}
 use borrow.Author.Needs.{needs}
+use Rattle.stored_sheets.specs.Printed.{sheetText, printed}
+use Rattle.decimals.specs.CountedLaws.{Counted, counted-start, counted-turn, counted-short, counted-end}
+use lib.ListN.{length}
+use native.Mathlib.Omega.{arith}
+use Prim.Native.Nat.{_-_}
 use Rattle.stored_sheets.proofs.put_sheets.Statement.{statement}
 use Rattle.stored_sheets.proofs.put_sheets.Tie as tie
 
 abbrev Inv-loop : tie.InvT-loop
-Inv-loop out₀ input at₀ i₀ out at i = (i ≤ length input) × (length out ≡ length out₀)
+Inv-loop out₀ input at₀ i₀ out at i = Counted 1 sheetText input out₀ 0 out at i
 
 abbrev μ-loop : tie.MeasureT-loop
 μ-loop out₀ input at₀ i₀ out at i = length input - i
 
 loop-holds : tie.Need-loop-holds Inv-loop μ-loop
-loop-holds c = search needs
+loop-holds c = counted-start _ _ _ _ _ (omega arith) (omega arith)
 
 add-loop : tie.Need-add-loop Inv-loop μ-loop
 add-loop c = search needs
 
-shared-slice-read-length-of : tie.Need-shared-slice-read-length-of Inv-loop μ-loop
-shared-slice-read-length-of c = search needs
+two-at-requires : tie.Need-two-at-requires Inv-loop μ-loop
+two-at-requires c κs = search needs
 
-add-length-of : tie.Need-add-length-of Inv-loop μ-loop
-add-length-of c = search needs
-
-shared-slice-read-length-of-2 : tie.Need-shared-slice-read-length-of-2 Inv-loop μ-loop
-shared-slice-read-length-of-2 c = search needs
-
-length-of-requires : tie.Need-length-of-requires Inv-loop μ-loop
-length-of-requires c κs = search needs
+cast-length : tie.Need-cast-length Inv-loop μ-loop
+cast-length c = search needs
 
 add-from : tie.Need-add-from Inv-loop μ-loop
 add-from c = search needs
@@ -37,10 +35,11 @@ sub-if1 : tie.Need-sub-if1 Inv-loop μ-loop
 sub-if1 c = search needs
 
 same-length : tie.Need-same-length Inv-loop μ-loop
-same-length c = search needs
+same-length c = c .before .before .before .loop .inv .same
 
 returns : tie.Need-returns Inv-loop μ-loop
-returns c = search needs
+unfolding printed
+returns c = counted-short _ _ _ _ _ _ _ _ (c .before .before .before .loop .inv) (c .before .before .loop-test .taken) _ (c .before .two-at .ensures .0 ∙ sym (mul-one _)) (omega arith)
 
 add-end : tie.Need-add-end Inv-loop μ-loop
 add-end c = search needs
@@ -61,13 +60,14 @@ loop-less : tie.Need-loop-less Inv-loop μ-loop
 loop-less c = search needs
 
 loop-again : tie.Need-loop-again Inv-loop μ-loop
-loop-again c = search needs
+loop-again c = counted-turn _ _ _ _ _ _ _ _ (c .before .before .before .before .before .before .before .before .loop .inv) (c .before .before .before .before .before .before .before .loop-test .taken) _ (c .before .before .before .before .before .before .two-at .ensures .0 ∙ sym (mul-one _)) (omega arith) _ _ (c .before .before .put-sheet .ensures)
 
 same-length-2 : tie.Need-same-length-2 Inv-loop μ-loop
-same-length-2 c = search needs
+same-length-2 c = c .before .loop .inv .same
 
 returns-2 : tie.Need-returns-2 Inv-loop μ-loop
-returns-2 c = search needs
+unfolding printed
+returns-2 c = counted-end _ _ _ _ _ _ _ _ (c .before .loop .inv) (c .loop-test .left)
 
 pub put-sheets-spec : {M : Type 1} → statement M
 put-sheets-spec =
@@ -77,10 +77,8 @@ put-sheets-spec =
     μ-loop
     loop-holds
     add-loop
-    shared-slice-read-length-of
-    add-length-of
-    shared-slice-read-length-of-2
-    length-of-requires
+    two-at-requires
+    cast-length
     add-from
     sub-if1
     same-length

@@ -1,0 +1,50 @@
+-- What the program prints: for each stored sheet of its input, what the reader answers; and of a good one its entries, and that they are
+-- written back to the same bytes.
+-- Assumes nothing: these are definitions.
+use Prim.Native.Nat.{ℕ, _+_, _*_, _/_}
+use Prim.Native.String.{String}
+use mathlib.Core.Bool.{cond}
+use mathlib.Core.List.{List, [], _∷_, _++_}
+use lib.IntN.{pos}
+use lib.ListN.{length, getD}
+use Rattle.records.specs.Entries.{numbersOf}
+use Rattle.sheets.specs.declared.Extent.{Extent}
+use Rattle.sheets.specs.Sheets.{Sheet, sheet, refused, extentOf, holds, readSheet, readWhole, readInto}
+use Rattle.decimals.specs.Texts.{letters}
+use Rattle.decimals.specs.Patterns.{filled}
+use Rattle.decimals.specs.Rows.{rows, eachCounted}
+use Rattle.lines.specs.Lines.{extentText}
+
+-- a word, and an answer
+unfoldable pub answerText : String → Extent → List ℕ
+answerText word answer = letters word ++ extentText answer
+
+unfoldable pub threeAnswers : Extent → Extent → Extent → List ℕ
+threeAnswers begins is short = answerText "begins " begins ++ answerText " is " is ++ answerText " short " short ++ letters "\n"
+
+-- the sheet that the bytes begin with, the sheet that they are, and the same with room for three entries
+unfoldable pub answersLine : List ℕ → List ℕ
+answersLine s = threeAnswers (extentOf (readSheet s)) (readInto 256 (readWhole s)) (readInto 15 (readWhole s))
+
+-- the n-th entry of some numbers, four numbers each
+unfoldable pub entryLine : List ℕ → ℕ → List ℕ
+entryLine l n =
+    filled (pos (getD l (n * 4) 0) ∷ pos (getD l (n * 4 + 1) 0) ∷ pos (getD l (n * 4 + 2) 0) ∷ pos (getD l (n * 4 + 3) 0) ∷ []) 0 (letters " # # # #\n")
+
+unfoldable pub entriesText : List ℕ → List ℕ
+entriesText l = rows (entryLine l) (length l / 4)
+
+-- what the writer answers to the entries of a sheet: just what they were read from
+unfoldable pub writtenLine : Sheet → List ℕ
+writtenLine w = answerText " written " (extentOf w) ++ letters " same\n"
+
+-- of a sheet whose entries the room of 256 numbers holds
+unfoldable pub backText : Sheet → List ℕ
+backText (refused r) = []
+backText (sheet es n) = cond (holds es 256) (entriesText (numbersOf es) ++ writtenLine (sheet es n)) []
+
+unfoldable pub sheetText : List ℕ → List ℕ
+sheetText s = answersLine s ++ backText (readWhole s)
+
+unfoldable pub printed : List ℕ → List ℕ
+printed input = eachCounted 1 sheetText input
