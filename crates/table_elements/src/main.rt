@@ -1,258 +1,247 @@
 // Reads hourly rows of Sun and Moon from standard input, six whole numbers a line: the Sun's x, y, z and the Moon's x, y, z in 10^-8 of
 // the Earth's equatorial radius. `#` starts a comment. After each seven rows it prints their values, a line a row: x, y, sin d, cos d,
 // tan f1, tan f2, l1, l2; or `refused`, number and place. A fault is told on standard error with its line, and ends the reading.
+mod text;
+
 use libc::STDERR_FILENO;
 use libc::STDIN_FILENO;
 use libc::STDOUT_FILENO;
+use words::Class;
+ghost use mathlib.Core.Path.{_≡_};
+ghost use Prim.Native.Nat.{_+_, _-_, _*_, _≤_};
+ghost use lib.ListN.{length};
+ghost use Rattle.decimals.specs.Texts.{Put};
+ghost use Rattle.table_elements.specs.Reading.{appended, withSign, numberOf, lineOf};
+ghost use Rattle.table_elements.specs.NumberLaws.{capped};
+ghost use Rattle.table_elements.specs.ReadingLaws.{answerOf, lineWith, faultOf, Stored};
+ghost use Rattle.table_elements.specs.Printed.{printed};
+ghost use Rattle.table_elements.specs.PrintedLaws.{wholeText, rowsAfter};
 
-// ---- what is written
-
-fn put_refused(out: &mut [u8], start: usize, refusal: refusals::Refusal) -> usize {
-    let mut at = decimals::put_text(out, start, b"refused ");
-    at = decimals::put_number(out, at, refusal.number as u64);
-    at = decimals::put_byte(out, at, 32);
-    at = decimals::put_number(out, at, refusal.place as u64);
-    decimals::put_byte(out, at, 10)
+// Why a text is refused.
+pub enum Fault {
+    // of a word
+    NotWhole,
+    TooLarge,
+    // of a line: more or fewer than six numbers
+    More,
+    Fewer,
+    // of the text: fewer than seven rows in the last table
+    Unfinished,
 }
 
-// The values of seven rows, a line a row.
-fn put_values(out: &mut [u8], at: usize, values: &[i64; 56]) -> usize {
-    decimals::put_filled(
-        out,
-        at,
-        b"# # # # # # # #\n# # # # # # # #\n# # # # # # # #\n# # # # # # # #\n# # # # # # # #\n# # # # # # # #\n# # # # # # # #\n",
-        values,
-    )
+pub enum Number {
+    Is(i64),
+    Faulty(Fault),
 }
 
-fn put_table(out: &mut [u8], at: usize, numbers: &[i64; 42]) -> usize {
-    let mut values = [0i64; 56];
-    let answer = tables::elements(numbers, &mut values);
-    match answer {
-        tables::Answer::Made => put_values(out, at, &values),
-        tables::Answer::Refused(refusal) => put_refused(out, at, refusal),
-    }
+// What a line says.
+pub enum Line {
+    Nothing,
+    // six numbers
+    Row,
+    Faulty(Fault),
 }
 
-fn tell(text: &[u8]) {
-    io::write_all(STDERR_FILENO, text);
-}
-
-// A fault, after the number of its line.
-fn tell_line(line: u64, text: &[u8]) {
-    let mut room = [0u8; 128];
-    let mut at = decimals::put_text(&mut room, 0, b"line ");
-    at = decimals::put_number(&mut room, at, line);
-    at = decimals::put_text(&mut room, at, text);
-    let written = decimals::clipped(&room, at);
-    tell(&room[..written]);
+// How many bytes go to standard output, and to standard error.
+struct Streams {
+    output: usize,
+    error: usize,
 }
 
 // ---- what is read
 
-// Where the reading stands.
-struct Reader {
-    // the line, from 1
-    line: u64,
-    // rows of this table and numbers of this row so far
-    row: usize,
-    column: usize,
-    // between words 0, after a minus 1, in digits 2, in another word 3, in a comment 4
-    word: u8,
-    minus: bool,
-    // the number's size so far; 2^64 - 1 where it has become too large
-    size: u64,
+fn digit_of(x: u8) -> u64
+    ensures { λ r. ⌜ r ≡ x - 48 ⌝ }
+{
+    let code = x as u64;
+    if code < 48 { 0 } else { code - 48 }
 }
 
-fn is_blank(byte: u8) -> bool {
-    (byte == 32) | (byte == 9) | (byte == 13) | (byte == 10) | (byte == 35)
+// A digit written after a number; 2^63 stands for all above.
+fn with_digit(n: u64, x: u8) -> u64
+    requires { ⌜ n ≤ 9223372036854775808 ⌝ }
+    ensures { λ r. ⌜ r ≡ capped (10 * n + (x - 48)) ⌝ }
+{
+    if 922_337_203_685_477_580 < n {
+        return 9_223_372_036_854_775_808;
+    }
+    let longer = 10 * n + digit_of(x);
+    if 9_223_372_036_854_775_808 < longer {
+        return 9_223_372_036_854_775_808;
+    }
+    longer
 }
 
-fn is_digit(byte: u8) -> bool {
-    (48 <= byte) & (byte <= 57)
-}
-
-fn with_digit(size: u64, byte: u8) -> u64 {
-    if size < 922_337_203_685_477_581 {
-        size * 10 + (byte % 16) as u64
-    } else {
-        18_446_744_073_709_551_615
-    }
-}
-
-fn in_word(r: Reader, word: u8, minus: bool, size: u64) -> Reader {
-    Reader {
-        line: r.line,
-        row: r.row,
-        column: r.column,
-        word: word,
-        minus: minus,
-        size: size,
-    }
-}
-
-// A byte within a line.
-fn within_line(r: Reader, byte: u8) -> Reader {
-    if r.word == 4 {
-        return r;
-    }
-    if byte == 35 {
-        return in_word(r, 4, false, 0);
-    }
-    if is_blank(byte) {
-        return r;
-    }
-    if (byte == 45) & (r.word == 0) {
-        return in_word(r, 1, true, 0);
-    }
-    if is_digit(byte) & (r.word < 3) {
-        let size = with_digit(r.size, byte);
-        return in_word(r, 2, r.minus, size);
-    }
-    in_word(r, 3, r.minus, r.size)
-}
-
-fn value_of(minus: bool, size: u64) -> i64 {
-    if 9_223_372_036_854_775_807 < size {
-        return 0;
-    }
-    if minus {
-        return -(size as i64);
-    }
-    size as i64
-}
-
-// Whether the word that ends here is the next number of its row; tells the fault.
-fn is_number(r: Reader) -> bool {
-    if r.word != 2 {
-        tell_line(r.line, b": not a whole number\n");
-        return false;
-    }
-    if 9_223_372_036_854_775_807 < r.size {
-        tell_line(r.line, b": a number is too large for 64 bits\n");
-        return false;
-    }
-    if 5 < r.column {
-        tell_line(r.line, b": more than six numbers\n");
-        return false;
-    }
-    true
-}
-
-// The reader after the number that it read.
-fn past_word(r: Reader) -> Reader {
-    let column = if r.column < 6 { r.column + 1 } else { 6 };
-    Reader {
-        line: r.line,
-        row: r.row,
-        column: column,
-        word: 0,
-        minus: false,
-        size: 0,
-    }
-}
-
-// The rows of this table after a line with so many numbers.
-fn rows_after(row: usize, column: usize) -> usize {
-    if column != 6 {
-        return row;
-    }
-    if row < 6 { row + 1 } else { 0 }
-}
-
-// The reader at the next line.
-fn past_line(r: Reader) -> Reader {
-    let line = if r.line < 1_000_000 {
-        r.line + 1
-    } else {
-        r.line
-    };
-    let row = rows_after(r.row, r.column);
-    Reader {
-        line: line,
-        row: row,
-        column: 0,
-        word: 0,
-        minus: false,
-        size: 0,
-    }
-}
-
-fn put(numbers: &mut [i64; 42], row: usize, column: usize, value: i64) {
-    if 6 < row {
-        return;
-    }
-    if 5 < column {
-        return;
-    }
-    numbers[6 * row + column] = value;
-}
-
-// The byte at i, or the end of a line past the text's end.
-fn byte_or_end(text: &[u8], i: usize) -> u8 {
-    if i < text.len() { text[i] } else { 10 }
-}
-
-// Whether the line that ends here is a row or empty; tells the fault.
-fn is_row(r: Reader) -> bool {
-    if (r.column != 0) & (r.column != 6) {
-        tell_line(r.line, b": fewer than six numbers\n");
-        return false;
-    }
-    true
-}
-
-// The lines of a table where its seventh row ends at this byte.
-fn put_whole(out: &mut [u8], at: usize, byte: u8, r: Reader, numbers: &[i64; 42]) -> usize {
-    if (byte == 10) & (r.row == 6) & (r.column == 6) {
-        return put_table(out, at, numbers);
-    }
-    at
-}
-
-// The lines of all tables of a text, or of those before its fault.
-fn answer(text: &[u8], out: &mut [u8]) -> usize {
-    let mut at = 0;
-    if 65536 < text.len() {
-        tell(b"the text has more than 65,536 bytes\n");
-        return at;
-    }
-    let mut numbers = [0i64; 42];
-    let mut r = Reader {
-        line: 1,
-        row: 0,
-        column: 0,
-        word: 0,
-        minus: false,
-        size: 0,
-    };
-    let mut i: usize = 0;
-    while i <= text.len() {
-        let byte = byte_or_end(text, i);
-        let ends = is_blank(byte);
-        if ends & (r.word != 0) & (r.word != 4) {
-            if !is_number(r) {
-                return at;
-            }
-            let value = value_of(r.minus, r.size);
-            put(&mut numbers, r.row, r.column, value);
-            r = past_word(r);
-        }
-        at = put_whole(out, at, byte, r, &numbers);
-        if byte == 10 {
-            if !is_row(r) {
-                return at;
-            }
-            r = past_line(r);
-        } else {
-            r = within_line(r, byte);
-        }
+fn size_of(digits: &[u8]) -> u64
+    ensures { λ r. ⌜ r ≡ capped (appended 0 (now (digits .entry))) ⌝ }
+{
+    let mut n = 0;
+    let mut i = 0;
+    while i < digits.len() {
+        n = with_digit(n, digits[i]);
         i += 1;
     }
-    if r.row != 0 {
-        tell_line(r.line, b": the last table has fewer than seven rows\n");
+    n
+}
+
+fn with_sign(minus: usize, n: u64) -> i64
+    requires { ⌜ n ≤ 9223372036854775807 ⌝ }
+    ensures { λ r. ⌜ r ≡ withSign minus n ⌝ }
+{
+    let value = n as i64;
+    if minus == 1 {
+        return -value;
     }
-    at
+    value
+}
+
+// The number that a word is.
+fn number_of(word: &[u8]) -> Number
+    ensures { λ r. ⌜ r ≡ numberOf (now (word .entry)) ⌝ }
+{
+    let minus = words::start(word, Class::Minus);
+    let digits = &word[minus..];
+    if digits.len() == 0 {
+        return Number::Faulty(Fault::NotWhole);
+    }
+    if !words::all(digits, Class::Digit) {
+        return Number::Faulty(Fault::NotWhole);
+    }
+    let n = size_of(digits);
+    if 9_223_372_036_854_775_807 < n {
+        return Number::Faulty(Fault::TooLarge);
+    }
+    Number::Is(with_sign(minus, n))
+}
+
+// What a line with so many numbers is.
+fn line_with(count: usize) -> Line
+    ensures { λ r. ⌜ r ≡ lineWith count ⌝ }
+{
+    if count == 0 {
+        return Line::Nothing;
+    }
+    if count == 6 {
+        return Line::Row;
+    }
+    Line::Faulty(Fault::Fewer)
+}
+
+// A word's fault, passed on.
+fn fault_of(number: Number) -> Line
+    ensures { λ r. ⌜ r ≡ faultOf number ⌝ }
+{
+    match number {
+        Number::Is(_) => Line::Nothing,
+        Number::Faulty(fault) => Line::Faulty(fault),
+    }
+}
+
+// What a line says; its numbers go into the room, from place `start` on.
+fn read_line(line: &[u8], numbers: &mut [i64], start: usize) -> Line
+    requires { ⌜ start + 6 ≤ length (now numbers) ⌝ }
+    ensures { λ r. ⌜ r ≡ answerOf (lineOf (now (line .entry))) ⌝ }
+    ensures { λ r. ⌜ Stored (lineOf (now (line .entry))) start (now (numbers .entry)) (now (numbers .exit)) ⌝ }
+{
+    let said = words::run(line, Class::Said);
+    let content = &line[..said];
+    let mut at = 0;
+    let mut column = 0;
+    loop {
+        let gap = words::run(&content[at..], Class::Blank);
+        let from = at + gap;
+        let size = words::run(&content[from..], Class::Word);
+        if size == 0 {
+            return line_with(column);
+        }
+        let end = from + size;
+        let number = number_of(&content[from..end]);
+        let Number::Is(value) = number else {
+            return fault_of(number);
+        };
+        if column == 6 {
+            return Line::Faulty(Fault::More);
+        }
+        let place = start + column;
+        numbers[place] = value;
+        column += 1;
+        at = end;
+    }
+}
+
+// ---- what is written
+
+fn table() -> [i64; 42]
+    ensures { λ r. ⌜ 42 ≡ length r ⌝ }
+{
+    [0; 42]
+}
+
+// What a line adds: a table, where it is its seventh row.
+fn put_whole(out: &mut [u8], at: usize, said: Line, row: usize, numbers: &[i64; 42]) -> usize
+    ensures { λ r. ⌜ Put (now (out .entry)) at (wholeText said row (now (numbers .entry))) (now (out .exit)) r ⌝ }
+{
+    match said {
+        Line::Nothing => at,
+        Line::Faulty(_) => at,
+        Line::Row => {
+            if row == 6 {
+                return text::put_table(out, at, numbers);
+            }
+            at
+        }
+    }
+}
+
+// The rows of this table after a line.
+fn rows_after(said: Line, row: usize) -> usize
+    requires { ⌜ row ≤ 6 ⌝ }
+    ensures { λ r. ⌜ r ≡ rowsAfter said row ⌝ }
+{
+    match said {
+        Line::Nothing => row,
+        Line::Faulty(_) => row,
+        Line::Row => {
+            if row == 6 {
+                return 0;
+            }
+            row + 1
+        }
+    }
+}
+
+// The text of all tables, or of those before the first fault; and the fault.
+fn respond(text: &[u8], out: &mut [u8], message: &mut [u8]) -> Streams
+    ensures { λ r. ⌜ Put (now (out .entry)) 0 (printed (now (text .entry)) .output) (now (out .exit)) (r .output) ⌝ }
+    ensures { λ r. ⌜ Put (now (message .entry)) 0 (printed (now (text .entry)) .error) (now (message .exit)) (r .error) ⌝ }
+{
+    if 65536 < text.len() {
+        let error = decimals::put_text(message, 0, b"the text has more than 65,536 bytes\n");
+        return Streams { output: 0, error };
+    }
+    let mut numbers = table();
+    let mut output = 0;
+    let mut row = 0;
+    let mut line = 1;
+    let mut from = 0;
+    while from <= text.len() {
+        let length = words::run(&text[from..], Class::Line);
+        let end = from + length;
+        let said = read_line(&text[from..end], &mut numbers, 6 * row);
+        if let Line::Faulty(fault) = said {
+            let error = text::put_fault(message, line, fault);
+            return Streams { output, error };
+        }
+        output = put_whole(out, output, said, row, &numbers);
+        row = rows_after(said, row);
+        line += 1;
+        from = end + 1;
+    }
+    if row == 0 {
+        return Streams { output, error: 0 };
+    }
+    let error = text::put_fault(message, line, Fault::Unfinished);
+    Streams { output, error }
 }
 
 fn main() {
@@ -261,7 +250,12 @@ fn main() {
     let length = io::read_full(STDIN_FILENO, &mut text);
     // an accepted row takes 33 bytes at least, and its line 78 at most
     let mut lines = [0u8; 160_000];
-    let end = answer(&text[..length], &mut lines);
-    let written = decimals::clipped(&lines, end);
+    let mut message = [0u8; 128];
+    let streams = respond(&text[..length], &mut lines, &mut message);
+    let output = streams.output;
+    let error = streams.error;
+    let written = decimals::clipped(&lines, output);
+    let told = decimals::clipped(&message, error);
     io::write_all(STDOUT_FILENO, &lines[..written]);
+    io::write_all(STDERR_FILENO, &message[..told]);
 }

@@ -1,0 +1,23 @@
+-- `table_elements::text::put_values` meets its contract: seven times the same line.
+use Rattle.decimals.specs.Rows.{rows}
+use Rattle.table_elements.specs.Printed.{valuesText}
+use borrow.Author.Needs.{needs}
+use Rattle.table_elements.proofs.text.put_values.Statement.{statement}
+use Rattle.table_elements.proofs.text.put_values.Tie as tie
+
+slice-aggregate-put-filled : tie.Need-slice-aggregate-put-filled
+slice-aggregate-put-filled c = search needs
+
+put-filled-requires : tie.Need-put-filled-requires
+put-filled-requires c κs = search needs
+
+same-length : tie.Need-same-length
+same-length c = search needs
+
+returns : tie.Need-returns
+unfolding valuesText rows
+returns c = c .before .before .put-filled .ensures
+
+pub put-values-spec : {M : Type 1} → statement M
+put-values-spec =
+    tie.close (tie.spec slice-aggregate-put-filled put-filled-requires same-length returns)
