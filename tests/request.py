@@ -168,7 +168,7 @@ def main():
         wanted = answer(given)
         if (ran.stdout, ran.stderr) != wanted:
             sys.exit(f"text {tried}: {given!r}\nwrote  {ran.stdout!r} {ran.stderr!r}\nwanted {wanted[0]!r} {wanted[1]!r}")
-        kind = re.sub(rb"line \d+: ((tan f\d|[a-z0-9]+) (?=is|has))?", b"", wanted[1])
+        kind = re.sub(rb"line \d+: ((tan f\d|delta t|[a-z0-9]+) (?=is|has))?", b"", wanted[1])
         kind = re.sub(rb"(?s)(?<=unknown name) .*", b"", kind).decode().strip() or "113 bytes"
         kinds[kind] = kinds.get(kind, 0) + 1
     print(f"{tried} texts, no difference")
