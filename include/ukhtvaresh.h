@@ -9,7 +9,7 @@
  * with any pointer that is not null. A buffer that is written, *value among them, must not overlap any other.
  *
  *   number                                           place
- *    1  window outside its range                     0
+ *    1  window or guard outside its range            0 window, 1 guard
  *    2  an element outside its range, or a           first such field, 0 to 21; of a fit 0 to 3
  *       coefficient of a fit
  *    3  a station value outside its range            first: 0 number, 1 latitude, 2 longitude, 3 height, 4 delta T
@@ -49,12 +49,15 @@ extern "C" {
  *   kind 03, then the station's number (unsigned, 2 bytes, 1 to 999), and signed, 4 bytes each, its geodetic latitude
  *     (+-90,000,000), longitude (+-180,000,000, east positive), height (-500 to 9,000 metres) and delta T (-10,000 to
  *     20,000 hundredths of a second; ephemeris time less universal time, 0 for elements by universal time);
- *   kind 04, then first and last second of the window (signed, 2 bytes each), -10,800 <= first <= last <= 10,800. */
-#define UKHTVARESH_REQUEST_LENGTH 113
+ *   kind 04, then first and last second of the window (signed, 2 bytes each), -10,800 <= first <= last <= 10,800, and the
+ *     guard (unsigned, 2 bytes, 16 to 1,000 units of 10^-8 of the Earth's equatorial radius): how near to a cone's edge
+ *     nothing is sure. A larger guard only withholds: what is sure under it is sure, with the same answer, under every
+ *     smaller one. */
+#define UKHTVARESH_REQUEST_LENGTH 115
 
 /* Kinds of entries. Enter, leave, graze and open are the paper's words. */
 enum {
-    UKHTVARESH_HEAD = 0x01,           /* station, first, last */
+    UKHTVARESH_HEAD = 0x01,           /* station, first, last, guard */
     UKHTVARESH_ENTER_PENUMBRA = 0x10, /* from, to, direction */
     UKHTVARESH_LEAVE_PENUMBRA = 0x11, /* from, to, direction */
     UKHTVARESH_GRAZE_PENUMBRA = 0x12, /* from, to */
@@ -69,11 +72,11 @@ enum {
 
 /* An entry of a sheet: its kind and the kind's fields in their order, 0 for what the kind does not use.
  * A second is stored plus 10,800, 0 to 21,600. Direction: tenths of a degree, north through east, 0 to 3599, or
- * 65,535 for none. Magnitude: millionths, 0 to 1,300,000. Station: 1 to 999.
- * An array of these is the memory that ukhtvaresh_read fills and ukhtvaresh_write takes, four numbers an entry. */
+ * 65,535 for none. Magnitude: millionths, 0 to 1,300,000. Station: 1 to 999. Guard: 16 to 1,000.
+ * An array of these is the memory that ukhtvaresh_read fills and ukhtvaresh_write takes, five numbers an entry. */
 typedef struct ukhtvaresh_entry {
     uint32_t kind;
-    uint32_t fields[3];
+    uint32_t fields[4];
 } ukhtvaresh_entry;
 
 /* The contact sheet of a request, at the start of `sheet`. *value: its length in bytes.
@@ -87,7 +90,7 @@ enum {
     UKHTVARESH_V,         /* the same to the north, +-651,170,000 */
     UKHTVARESH_L1,        /* the penumbra's radius at the station, 48,860,000 to 61,140,000 */
     UKHTVARESH_L2,        /* the central cone's, below zero where the eclipse is total, +-6,140,000 */
-    UKHTVARESH_PENUMBRA,  /* 0 outside, 1 inside, 2 unsure */
+    UKHTVARESH_PENUMBRA,  /* 0 outside, 1 inside, 2 unsure: within the guard plus 13 units of the cone's edge */
     UKHTVARESH_CENTRAL,   /* likewise */
     UKHTVARESH_MAGNITUDE, /* millionths, 0 to 1,300,000 */
     UKHTVARESH_DIRECTION, /* tenths of a degree, north through east, 0 to 3599, or 65,535 for none */
@@ -95,13 +98,13 @@ enum {
 };
 
 /* The shadow at a second of a request, -10,800 to 10,800, also outside its window. *value: 8.
- * Refusals: 10; 1 for the window or the second; 2; 3; 4 with place 8 where shadow_len is below 8.
+ * Refusals: 10; 1 for the window or the second, then for the guard; 2; 3; 4 with place 8 where shadow_len is below 8.
  * shadow_len counts numbers. */
 uint64_t ukhtvaresh_second(const uint8_t *request, size_t request_len, int64_t second, int64_t *shadow,
                            size_t shadow_len, uint64_t *value);
 
 /* The mirror of a request, at the start of `mirrored`: all y and d coefficients and the latitude with the other sign, nothing
- * else changed. *value: 113. Any numbers: -2^31, which has no opposite in its bytes, stays as it is.
+ * else changed. *value: 115. Any numbers: -2^31, which has no opposite in its bytes, stays as it is.
  * The sheet of the mirror of a request within the limits has the same entries, of the same seconds, magnitude and length;
  * their directions differ. A request that is refused 1, 2 or 3 and its mirror are refused alike.
  * Refusals: 10; 4 with the length. */
@@ -110,7 +113,7 @@ uint64_t ukhtvaresh_mirror(const uint8_t *request, size_t request_len, uint8_t *
 
 /* The entries of a sheet, head and end among them, at the start of `entries`. *value: how many entries.
  * Refusals: the first faulty record's, in it 5, 6, 8, 7; 9; then 4 with the number of entries.
- * entries_len counts numbers, four an entry. */
+ * entries_len counts numbers, five an entry. A sheet from before heads had a guard gives 7 with place 0. */
 uint64_t ukhtvaresh_read(const uint8_t *sheet, size_t sheet_len, uint32_t *entries, size_t entries_len,
                          uint64_t *value);
 

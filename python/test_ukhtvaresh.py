@@ -50,7 +50,7 @@ HAND_WORKED = Request(
     Window(-6000, 6000),
 )
 ENTRIES = [
-    Head(7, -6000, 6000),
+    Head(7, -6000, 6000, 16),
     Enter(PENUMBRA, -5401, -5399, 2700),
     Leave(PENUMBRA, 5399, 5401, 900),
     Enter(CENTRAL, -101, -99, 2700),
@@ -66,7 +66,7 @@ enter central -101 -99 2700
 leave central 99 101 900
 closest 0 1037735
 """
-RECORDS = [0, 7, 14, 21, 28, 35, 42]  # the first byte of each record
+RECORDS = [0, 9, 16, 23, 30, 37, 44]  # the first byte of each record
 
 X = [(-200_000_000, 200_000_000), (-100_000_000, 100_000_000), (-100_000, 100_000), (-10_000, 10_000)]
 RANGES = [
@@ -128,9 +128,9 @@ class Sheets(Case):
 
     def test_listings_and_their_refusals(self):
         stored = write(ENTRIES)
-        self.refuses(6, 42, listing, stored[:42])
-        self.refuses(9, 43, listing, stored + b"\0")
-        unsure = [Head(999, 5400, 5402), Open(PENUMBRA, 5400, 5401), Closest(5400, 0), End()]
+        self.refuses(6, 44, listing, stored[:44])
+        self.refuses(9, 45, listing, stored + b"\0")
+        unsure = [Head(999, 5400, 5402, 1000), Open(PENUMBRA, 5400, 5401), Closest(5400, 0), End()]
         self.assertEqual(
             listing(write(unsure)), "station 999 from 5400 to 5402\nopen penumbra 5400 5401\nclosest 5400 0\n"
         )
@@ -140,24 +140,24 @@ class Sheets(Case):
             request = replace(HAND_WORKED, window=Window(5400, last))
             self.assertEqual(read(sheet(request.to_bytes()))[1], Open(PENUMBRA, 5400, to))
 
-    def test_buffer_of_43_bytes_and_of_42(self):
+    def test_buffer_of_45_bytes_and_of_44(self):
         request = HAND_WORKED.to_bytes()
-        buffer = bytearray(43)
-        self.assertEqual(sheet_into(request, buffer), 43)
+        buffer = bytearray(45)
+        self.assertEqual(sheet_into(request, buffer), 45)
         self.assertEqual(buffer, sheet(request))
-        for length in (42, 0):
-            self.refuses_into(4, 43, sheet_into, request, length)
+        for length in (44, 0):
+            self.refuses_into(4, 45, sheet_into, request, length)
 
     def test_bytes_past_the_sheet_are_kept(self):
         for call, given in ((sheet_into, HAND_WORKED.to_bytes()), (write_into, ENTRIES)):
             buffer = bytearray(b"\xa5" * 64)
-            self.assertEqual(call(given, buffer), 43)
-            self.assertEqual(buffer[43:], b"\xa5" * 21)
+            self.assertEqual(call(given, buffer), 45)
+            self.assertEqual(buffer[45:], b"\xa5" * 19)
 
     def test_request_in_the_buffer_itself(self):
         buffer = bytearray(HAND_WORKED.to_bytes())
-        self.assertEqual(sheet_into(buffer, buffer), 43)
-        self.assertEqual(read(buffer[:43]), ENTRIES)
+        self.assertEqual(sheet_into(buffer, buffer), 45)
+        self.assertEqual(read(buffer[:45]), ENTRIES)
 
 
 class Requests(Case):
@@ -210,12 +210,16 @@ class Requests(Case):
             replace(HAND_WORKED, window=Window(0, 32_768)),
             replace(HAND_WORKED, station=replace(HAND_WORKED.station, number=-1)),
             replace(HAND_WORKED, elements=replace(HAND_WORKED.elements, x0=2**31)),
+            replace(HAND_WORKED, guard=-1),
+            replace(HAND_WORKED, guard=2**16),
         ):
             with self.assertRaises(ValueError):
                 request.to_bytes()
 
     def test_refusals_as_words(self):
-        self.assertEqual(str(Refused(4, 43)), "refused 4 43: sheet longer than the buffer")
+        self.assertEqual(str(Refused(4, 45)), "refused 4 45: sheet longer than the buffer")
+        self.assertEqual(str(Refused(1, 0)), "refused 1 0: window outside its range")
+        self.assertEqual(str(Refused(1, 1)), "refused 1 1: guard outside its range")
         self.assertEqual(Refused(10, 0).words, "request not of its shape")
 
 
@@ -251,22 +255,22 @@ class Reader(Case):
             self.refuses(5, at, read, damaged((at, 0x14)))
 
     def test_short_sheets_refused(self):
-        for length in range(43):
+        for length in range(45):
             place = max(at for at in RECORDS if at <= length)
             self.refuses(6, place, read, damaged()[:length])
 
     def test_fields_refused(self):
         self.refuses(7, 0, read, damaged((1, 0), (2, 0)))  # station 0
-        self.refuses(7, 7, read, damaged((12, 0x0E), (13, 0x10)))  # direction 3,600
-        self.refuses(7, 35, read, damaged((38, 1)))  # magnitude of over 16 million
+        self.refuses(7, 9, read, damaged((14, 0x0E), (15, 0x10)))  # direction 3,600
+        self.refuses(7, 37, read, damaged((40, 1)))  # magnitude of over 16 million
 
     def test_order_refused(self):
-        self.refuses(8, 14, read, damaged((14, 0x10)))  # an enter next to an enter
-        self.refuses(8, 7, read, damaged((7, 0x01)))  # a second head
-        self.refuses(8, 35, read, damaged((35, 0x7F)))  # no closest
+        self.refuses(8, 16, read, damaged((16, 0x10)))  # an enter next to an enter
+        self.refuses(8, 9, read, damaged((9, 0x01)))  # a second head
+        self.refuses(8, 37, read, damaged((37, 0x7F)))  # no closest
 
     def test_bytes_after_the_end_refused(self):
-        self.refuses(9, 43, read, damaged() + b"\0")
+        self.refuses(9, 45, read, damaged() + b"\0")
 
 
 class Writer(Case):
@@ -281,26 +285,67 @@ class Writer(Case):
         grazes = [Graze(CENTRAL, 2 * k, 2 * k + 2) for k in range(1000)]
         entries = [ENTRIES[0], *grazes, ENTRIES[5], End()]
         stored = write(entries)
-        self.assertEqual(len(stored), 15 + 5 * 1000)
+        self.assertEqual(len(stored), 17 + 5 * 1000)
         self.assertEqual(read(stored), entries)
 
     def test_entries_refused(self):
         for count, at in enumerate(RECORDS):
             self.refuses_into(6, at, write_into, ENTRIES[:count])
-        self.refuses_into(9, 43, write_into, ENTRIES + [End()])
-        self.refuses_into(8, 14, write_into, [ENTRIES[0], ENTRIES[3], ENTRIES[1]])
-        self.refuses_into(4, 43, write_into, ENTRIES, 42)
+        self.refuses_into(9, 45, write_into, ENTRIES + [End()])
+        self.refuses_into(8, 16, write_into, [ENTRIES[0], ENTRIES[3], ENTRIES[1]])
+        self.refuses_into(4, 45, write_into, ENTRIES, 44)
 
     def test_entries_that_cannot_be_stored_refused(self):
         for time in (-10_801, 10_801, 2**32 - 10_800, 2**64, -(2**64)):
-            widest = put(ENTRIES, 0, Head(7, -10_800, 10_800))
-            self.refuses_into(7, 35, write_into, put(widest, 5, Closest(time, 0)))
+            widest = put(ENTRIES, 0, Head(7, -10_800, 10_800, 16))
+            self.refuses_into(7, 37, write_into, put(widest, 5, Closest(time, 0)))
         for magnitude in (-1, 1_300_001, 2**32):
-            self.refuses_into(7, 35, write_into, put(ENTRIES, 5, Closest(0, magnitude)))
+            self.refuses_into(7, 37, write_into, put(ENTRIES, 5, Closest(0, magnitude)))
         for direction in (-1, 3_600, 65_535, 2**32):
-            self.refuses_into(7, 7, write_into, put(ENTRIES, 1, Enter(PENUMBRA, -5401, -5399, direction)))
+            self.refuses_into(7, 9, write_into, put(ENTRIES, 1, Enter(PENUMBRA, -5401, -5399, direction)))
         for station in (-1, 0, 1_000, 2**16 + 7, 2**32 + 7):
-            self.refuses_into(7, 0, write_into, put(ENTRIES, 0, Head(station, -6000, 6000)))
+            self.refuses_into(7, 0, write_into, put(ENTRIES, 0, Head(station, -6000, 6000, 16)))
+        for guard in (-1, 0, 15, 1_001, 2**16 + 16, 2**32 + 16):
+            self.refuses_into(7, 0, write_into, put(ENTRIES, 0, Head(7, -6000, 6000, guard)))
+
+
+class Guards(Case):
+    def test_guards_refused(self):
+        self.assertEqual(HAND_WORKED.guard, 16)
+        for guard in (16, 17, 999, 1_000):
+            request = replace(HAND_WORKED, guard=guard).to_bytes()
+            self.assertEqual(Request.from_bytes(request).guard, guard)
+            self.assertEqual(read(sheet(request))[0], Head(7, -6000, 6000, guard))
+        for guard in (0, 15, 1_001, 65_535):
+            request = replace(HAND_WORKED, guard=guard)
+            self.refuses_request(1, 1, request.to_bytes())
+            self.refuses(1, 1, second, request.to_bytes(), 0)
+            request = replace(request, elements=replace(request.elements, x0=200_000_001))
+            self.refuses_request(1, 1, request.to_bytes())
+            self.refuses(1, 0, second, request.to_bytes(), 10_801)
+            self.refuses_request(1, 0, replace(request, window=Window(1, 0)).to_bytes())
+
+    def test_larger_guards_withhold(self):
+        elements = HAND_WORKED.elements
+        # an axis that goes past the penumbra 500 units off its edge, and one that stands 500 units inside the central cone
+        beside = replace(HAND_WORKED, elements=replace(elements, x0=54_000_500, x1=0, y1=36_000_000), window=Window(-60, 60))
+        within = replace(HAND_WORKED, elements=replace(elements, x0=999_500, x1=0), window=Window(0, 2))
+        for guard in (16, 499):
+            self.assertEqual(len(read(sheet(replace(beside, guard=guard).to_bytes()))), 3)
+            request = replace(within, guard=guard).to_bytes()
+            self.assertEqual(read(sheet(request))[1], Closest(0, 1_037_735))
+            self.assertEqual(second(request, 0).central, State.INSIDE)
+        for guard, edge in ((500, 1), (1_000, 24)):
+            self.assertEqual(read(sheet(replace(beside, guard=guard).to_bytes()))[1], Graze(PENUMBRA, -edge, edge))
+            request = replace(within, guard=guard).to_bytes()
+            self.assertEqual(read(sheet(request))[1:3], [Open(CENTRAL, 0, 2), Closest(0, 1_000_009)])
+            self.assertEqual(second(request, 0).central, State.UNSURE)
+
+    def test_sheets_of_the_old_form_refused(self):
+        stored = write(ENTRIES)  # without the head's guard, which came later
+        self.assertEqual(len(stored[:7] + stored[9:]), 43)
+        self.refuses(7, 0, read, stored[:7] + stored[9:])
+        self.refuses(7, 0, listing, stored[:7] + stored[37:])
 
 
 class EphemerisTime(Case):

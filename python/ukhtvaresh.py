@@ -1,6 +1,6 @@
 """Local circumstances of a solar eclipse in whole numbers, from a proved library.
 
-From the elements of an eclipse, a station and a window of seconds, `sheet` makes the station's contact sheet; `read`
+From the elements of an eclipse, a station, a window of seconds and a guard, `sheet` makes the station's contact sheet; `read`
 takes a sheet apart, `write` puts entries together as one, `listing` gives a sheet as text, and `second` the shadow at
 one second. `mirror` gives the request beyond the equator, `fit` judges coefficients that a spreadsheet made of seven
 hourly values, `from_tables` makes elements from tables of Sun and Moon, `root` gives a square root with its rounds. Each is
@@ -18,7 +18,8 @@ from enum import Enum
 from pathlib import Path
 from typing import Callable, Iterable, List, Optional, Sequence, Union
 
-REQUEST_LENGTH = 113  # bytes
+REQUEST_LENGTH = 115  # bytes
+LEAST_GUARD = 16  # that of document 01's cases
 
 # ---- refusals
 
@@ -37,19 +38,21 @@ _WORDS = {
     17: "a fit further from a tabulated value than the tolerance",
     18: "a tolerance or a tabulated value outside its range",
 }
+_GUARD_WORDS = "guard outside its range"  # of 1 with place 1
 
 
 class Refused(Exception):
     """Why a request, a sheet, a list of entries or a fit is refused: number and place of document 01's table, and words.
 
-    place: 2, 3 the first such field; 4 the length needed; 5 to 9 the record's first byte; 11 the row; 17 the first such
-    hour, 0 to 6; 18 is 0 for the tolerance, 1 to 7 for the first such tabulated value; else 0.
+    place: 1 is 0 for the window, 1 for the guard; 2, 3 the first such field; 4 the length needed; 5 to 9 the record's first
+    byte; 11 the row; 17 the first such hour, 0 to 6; 18 is 0 for the tolerance, 1 to 7 for the first such tabulated value;
+    else 0.
     """
 
     def __init__(self, number: int, place: int):
         self.number = number
         self.place = place
-        self.words = _WORDS[number]
+        self.words = _GUARD_WORDS if (number, place) == (1, 1) else _WORDS[number]
         super().__init__(number, place)
 
     def __str__(self) -> str:
@@ -58,7 +61,7 @@ class Refused(Exception):
 
 # ---- requests
 
-_REQUEST = struct.Struct(">B22iBH4iB2h")
+_REQUEST = struct.Struct(">B22iBH4iB2hH")
 
 
 @dataclass(frozen=True)
@@ -110,30 +113,35 @@ class Window:
 
 @dataclass(frozen=True)
 class Request:
-    """What a sheet is asked for. Numbers outside document 01's ranges are the library's to refuse."""
+    """What a sheet is asked for. Numbers outside document 01's ranges are the library's to refuse.
+
+    guard: how near to a cone's edge nothing is sure, in 10^-8 of the Earth's equatorial radius, 16 to 1,000. A larger guard
+    only withholds: what is sure under it is sure, with the same answer, under every smaller one.
+    """
 
     elements: Elements
     station: Station
     window: Window
+    guard: int = LEAST_GUARD
 
     def to_bytes(self) -> bytes:
-        """The 113 bytes that the library takes; ValueError where a number does not fit its bytes."""
+        """The 115 bytes that the library takes; ValueError where a number does not fit its bytes."""
         try:
             return _REQUEST.pack(
-                2, *astuple(self.elements), 3, *astuple(self.station), 4, *astuple(self.window)
+                2, *astuple(self.elements), 3, *astuple(self.station), 4, *astuple(self.window), self.guard
             )
         except struct.error as error:
             raise ValueError(f"a number does not fit its bytes: {error}") from None
 
     @staticmethod
     def from_bytes(request: bytes) -> "Request":
-        """The request of 113 bytes; Refused(10, 0) where they are not of its shape."""
+        """The request of 115 bytes; Refused(10, 0) where they are not of its shape."""
         if len(request) != REQUEST_LENGTH:
             raise Refused(10, 0)
         numbers = _REQUEST.unpack(request)
         if (numbers[0], numbers[23], numbers[29]) != (2, 3, 4):
             raise Refused(10, 0)
-        return Request(Elements(*numbers[1:23]), Station(*numbers[24:29]), Window(*numbers[30:32]))
+        return Request(Elements(*numbers[1:23]), Station(*numbers[24:29]), Window(*numbers[30:32]), numbers[32])
 
 
 # ---- entries of a sheet
@@ -153,11 +161,12 @@ class Phase(Enum):
 
 @dataclass(frozen=True)
 class Head:
-    """The station's number and the window."""
+    """The station's number, 1 to 999, the window and the request's guard, 16 to 1,000."""
 
     station: int
     first: int
     last: int
+    guard: int
 
 
 @dataclass(frozen=True)
@@ -241,20 +250,20 @@ def _direction(tenths: int) -> Optional[int]:
 def _numbers(entry: Entry) -> List[int]:
     """The entry as the library has it: its kind and the kind's fields."""
     if isinstance(entry, Head):
-        return [0x01, _fit(entry.station), _stored(entry.first), _stored(entry.last)]
+        return [0x01, _fit(entry.station), _stored(entry.first), _stored(entry.last), _fit(entry.guard)]
     if isinstance(entry, Closest):
-        return [0x30, _stored(entry.second), _fit(entry.magnitude), 0]
+        return [0x30, _stored(entry.second), _fit(entry.magnitude), 0, 0]
     if isinstance(entry, End):
-        return [0x7F, 0, 0, 0]
+        return [0x7F, 0, 0, 0, 0]
     direction = _tenths(entry.direction) if isinstance(entry, (Enter, Leave)) else 0
     kind = _BASE[entry.phase] + _OF_PHASE.index(type(entry))
-    return [kind, _stored(entry.from_), _stored(entry.to), direction]
+    return [kind, _stored(entry.from_), _stored(entry.to), direction, 0]
 
 
-def _entry(kind: int, a: int, b: int, c: int) -> Entry:
+def _entry(kind: int, a: int, b: int, c: int, d: int) -> Entry:
     """The entry of numbers that the library gave."""
     if kind == 0x01:
-        return Head(a, b - _SHIFT, c - _SHIFT)
+        return Head(a, b - _SHIFT, c - _SHIFT, d)
     if kind == 0x30:
         return Closest(a - _SHIFT, b)
     if kind == 0x7F:
@@ -270,7 +279,7 @@ def _entry(kind: int, a: int, b: int, c: int) -> Entry:
 
 
 class State(Enum):
-    """The state of a station in a shadow at a second; unsure is too near the cone's edge to say."""
+    """The state of a station in a shadow at a second; unsure is within the guard plus 13 units of the cone's edge."""
 
     OUTSIDE = 0
     INSIDE = 1
@@ -374,7 +383,7 @@ def sheet(request: bytes) -> bytes:
 def second(request: bytes, second: int) -> Second:
     """The shadow at a second of a request, -10,800 to 10,800, also outside its window.
 
-    Refusals, the first of them: 10, 1 (for the window or the second), 2, 3.
+    Refusals, the first of them: 10, 1 (for the window or the second, then for the guard), 2, 3.
     """
     request = bytes(request)
     shadow = (ctypes.c_int64 * 8)()
@@ -402,11 +411,11 @@ def read(sheet: bytes) -> List[Entry]:
     Refusals: the first faulty record's, in it 5, 6, 8, 7; then 9.
     """
     sheet = bytes(sheet)
-    # An entry is four numbers. Its record has five bytes or more, save the end's one, and the head's seven and the
-    # closest's seven make up for that: as many numbers as the sheet has bytes are always enough.
+    # An entry is five numbers. Its record has five bytes or more, save the end's one, and the head's nine make up for
+    # that: as many numbers as the sheet has bytes are always enough.
     numbers = (ctypes.c_uint32 * (len(sheet) + 1))()
     count = _call("read", sheet, len(sheet), numbers, len(sheet))
-    return [_entry(*numbers[4 * k : 4 * k + 4]) for k in range(count)]
+    return [_entry(*numbers[5 * k : 5 * k + 5]) for k in range(count)]
 
 
 def write_into(entries: Iterable[Entry], buffer) -> int:

@@ -1,7 +1,7 @@
 #!/usr/bin/env python3
 """Makes crates/handed_entries/stdin and stdout: lists of entries, good and damaged, and what a writer has to answer.
 
-The answers come from document 01's rules, as in stored_sheets.py, whose table and rules of one record are used here.
+The answers come from the rules of documents 01 and 02, as in stored_sheets.py, whose table and rules of one record are used here.
 Run in the repository's root: python3 tests/handed_entries.py
 """
 import os
@@ -16,9 +16,9 @@ def judge(numbers):
     """(number, place) of the refusal, or the records of the list."""
     records, place = [], 0
     while numbers:
-        if len(numbers) < 4:
+        if len(numbers) < 5:
             return (6, place)
-        kind, fields, numbers = numbers[0], numbers[1:4], numbers[4:]
+        kind, fields, numbers = numbers[0], numbers[1:5], numbers[5:]
         if kind not in TABLE:
             return (5, place)
         widths = TABLE[kind][2]
@@ -56,7 +56,7 @@ def lines(numbers):
 def listed(records):
     out = []
     for kind, fields in records:
-        out += ([kind] + fields + [0, 0, 0])[:4]
+        out += ([kind] + fields + [0, 0, 0, 0])[:5]
     return out
 
 
@@ -75,8 +75,12 @@ def lists():
             yield listed(records[:i] + [records[i]] + records[i:])
             if i + 1 < len(records):
                 yield listed(records[:i] + [records[i + 1], records[i]] + records[i + 2:])
-        for tail in ([0x7F], [0, 0], [1, 2, 3], listed(BARE)):  # numbers after the end entry
+        for tail in ([0x7F], [0, 0], [1, 2, 3, 4], listed(BARE)):  # numbers after the end entry
             yield good + tail
+    for guard in (0, 15, 16, 17, 999, 1000, 1001, 65535, 65552):  # the head's guard at and past its limits
+        yield listed([(0x01, BARE[0][1][:3] + [guard])] + BARE[1:])
+    four = [number for kind, fields in LISTING for number in ([kind] + fields + [0, 0, 0])[:4]]
+    yield four  # entries of four numbers, as they were before the guard
     for records in (MIXED, INSTANT):
         for i in range(len(records)):
             yield listed(records[:i] + records[i + 1:])

@@ -26,8 +26,9 @@ FIELDS = (
     + [(name, 6, SIGNED4) for name in "mu0 mu1 mu2".split()]
     + [("tan f1", 8, SIGNED4), ("tan f2", 8, SIGNED4)]
     + [("station", 0, UNSIGNED2), ("latitude", 6, SIGNED4), ("longitude", 6, SIGNED4), ("height", 0, SIGNED4), ("delta t", 2, SIGNED4)]
-    + [("first", 0, SIGNED2), ("last", 0, SIGNED2)]
+    + [("first", 0, SIGNED2), ("last", 0, SIGNED2), ("guard", 0, UNSIGNED2)]
 )
+LEFT_OUT = {"guard": 16}  # what stands for a name that need not be typed
 NUMBER = re.compile(rb"[+-]?([0-9]+\.?[0-9]*|\.[0-9]+)")
 
 
@@ -74,11 +75,12 @@ def answer(text):
         if name in given:
             return refused(f"{name} is given twice".encode())
         given[name] = value
+    given = {**LEFT_OUT, **given}
     for name, _, _ in FIELDS:
         if name not in given:
             return b"", f"line {len(lines) + 1}: {name} is missing\n".encode()
     n = [given[name] for name, _, _ in FIELDS]
-    return struct.pack(">B22iBHiiiiBhh", 2, *n[:22], 3, *n[22:27], 4, *n[27:]), b""
+    return struct.pack(">B22iBHiiiiBhhH", 2, *n[:22], 3, *n[22:27], 4, *n[27:]), b""
 
 
 def typed(draw, name, places, bounds):
@@ -87,7 +89,7 @@ def typed(draw, name, places, bounds):
     value = draw.choice([draw.randint(low, high), draw.randint(-1000, 1000), low, high, 0])
     if draw.random() < 0.01:
         value = draw.choice([low - 1, high + 1, 10**12, -(10**30), 2**32, 2**63, 2**64])
-    if name == "station" and value < 0 and draw.random() < 0.9:
+    if bounds == UNSIGNED2 and value < 0 and draw.random() < 0.9:
         value = -value % 65536
     sign = "-" if value < 0 else draw.choice(["", "", "", "+"])
     digits = str(abs(value)).rjust(places + 1, "0")
@@ -109,6 +111,8 @@ def typed(draw, name, places, bounds):
 
 def text(draw):
     lines = [typed(draw, *field) for field in FIELDS]
+    if draw.random() < 0.3:
+        lines.pop()  # no guard
     if draw.random() < 0.5:
         draw.shuffle(lines)
     for extra in range(draw.choice([0, 0, 1, 5])):
@@ -145,6 +149,10 @@ def texts(count, seed):
     yield b"\n\n \t bogus# 5\nx0 1\n"
     yield b"x0 1\r\n\r\nbogus\r\n"
     yield b"x0 1\n\x00\xff 1"
+    # nothing but the guard; every name but the guard, which stands in a comment, in another spelling, without its number
+    yield b"guard 17\n"
+    for line in ["# guard 17", "Guard 17", "guards 17", "guard17", "guard", *(f"guard {value}" for value in [-1, 15, 16, 1001, "16.0", 65536])]:
+        yield "\n".join(plain[:-1] + [line]).encode()
     for k in range(len(FIELDS)):
         # each field missing, twice, no number, a fraction, too large
         name, places, (low, high) = FIELDS[k]
@@ -169,7 +177,7 @@ def main():
         if (ran.stdout, ran.stderr) != wanted:
             sys.exit(f"text {tried}: {given!r}\nwrote  {ran.stdout!r} {ran.stderr!r}\nwanted {wanted[0]!r} {wanted[1]!r}")
         kind = re.sub(rb"line \d+: ((tan f\d|delta t|[a-z0-9]+) (?=is|has))?", b"", wanted[1])
-        kind = re.sub(rb"(?s)(?<=unknown name) .*", b"", kind).decode().strip() or "113 bytes"
+        kind = re.sub(rb"(?s)(?<=unknown name) .*", b"", kind).decode().strip() or "115 bytes"
         kinds[kind] = kinds.get(kind, 0) + 1
     print(f"{tried} texts, no difference")
     for kind, number in sorted(kinds.items(), key=lambda pair: -pair[1]):

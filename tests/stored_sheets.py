@@ -1,14 +1,14 @@
 #!/usr/bin/env python3
 """Makes crates/stored_sheets/stdin and stdout: stored sheets, good and damaged, and what a reader has to answer.
 
-The answers come from the rules as they stand in document 01, worked out here over lists of records; nothing is taken from the crates.
+The answers come from the rules of documents 01 and 02, worked out here over lists of records; nothing is taken from the crates.
 Run in the repository's root: python3 tests/stored_sheets.py
 """
 import struct
 
 # kind: (name, family, widths of the fields)
 TABLE = {
-    0x01: ("head", None, (2, 2, 2)),
+    0x01: ("head", None, (2, 2, 2, 2)),
     0x30: ("closest", None, (2, 4)),
     0x7F: ("end", None, ()),
 }
@@ -54,11 +54,11 @@ def order_holds(before, record):
 def fields_hold(before, record):
     name = TABLE[record[0]][0]
     if name == "head":
-        station, first, last = record[1]
-        return 1 <= station <= 999 and first <= last <= 21600
+        station, first, last, guard = record[1]
+        return 1 <= station <= 999 and first <= last <= 21600 and 16 <= guard <= 1000
     if name == "end":
         return True
-    _, first, last = before[0][1]
+    _, first, last, _ = before[0][1]
     if name == "closest":
         second, magnitude = record[1]
         return first <= second <= last and magnitude <= 1300000
@@ -128,7 +128,7 @@ def answers(data):
     lines = ["begins %s is %s short %s" % (word(begins), word(whole), word(short))]
     if whole[0]:
         for kind, fields in records:
-            lines.append(" %d %d %d %d" % tuple([kind] + (fields + [0, 0, 0])[:3]))
+            lines.append(" %d %d %d %d %d" % tuple([kind] + (fields + [0, 0, 0, 0])[:4]))
         assert encode(records) == data
         lines.append(" written sheet %d %d same" % (len(records), length))
     return lines
@@ -136,20 +136,36 @@ def answers(data):
 
 # ---- the sheets
 
-HEAD, END = (0x01, [7, 4800, 16800]), (0x7F, [])
+HEAD, END = (0x01, [7, 4800, 16800, 16]), (0x7F, [])
 CLOSEST = (0x30, [10800, 1037735])
 LISTING = [HEAD, (0x10, [5399, 5401, 2700]), (0x11, [16199, 16201, 900]), (0x20, [10699, 10701, 2700]), (0x21, [10899, 10901, 900]), CLOSEST, END]
-MIXED = [(0x01, [999, 0, 21600]), (0x13, [0, 40]), (0x11, [40, 42, 3599]), (0x12, [100, 200]), (0x10, [200, 201, 65535]), (0x12, [201, 203]),
+MIXED = [(0x01, [999, 0, 21600, 1000]), (0x13, [0, 40]), (0x11, [40, 42, 3599]), (0x12, [100, 200]), (0x10, [200, 201, 65535]), (0x12, [201, 203]),
          (0x11, [203, 21599, 0]), (0x13, [21599, 21600]), (0x22, [0, 2]), (0x20, [2, 3, 1]), (0x23, [21599, 21600]), (0x30, [21600, 1300000]), END]
-BARE = [(0x01, [1, 5, 5]), (0x30, [5, 0]), END]
-INSTANT = [(0x01, [12, 16200, 16200]), (0x13, [16200, 16200]), (0x23, [16200, 16200]), (0x30, [16200, 0]), END]
-CENTRAL = [(0x01, [3, 10, 90]), (0x21, [10, 20, 5]), (0x20, [20, 30, 6]), (0x21, [31, 90, 7]), (0x30, [10, 1]), END]
+BARE = [(0x01, [1, 5, 5, 16]), (0x30, [5, 0]), END]
+INSTANT = [(0x01, [12, 16200, 16200, 17]), (0x13, [16200, 16200]), (0x23, [16200, 16200]), (0x30, [16200, 0]), END]
+CENTRAL = [(0x01, [3, 10, 90, 999]), (0x21, [10, 20, 5]), (0x20, [20, 30, 6]), (0x21, [31, 90, 7]), (0x30, [10, 1]), END]
 GOOD = [LISTING, MIXED, BARE, INSTANT, CENTRAL]
+
+
+def old(records):
+    """The sheet as it was stored before the head had a guard."""
+    data = encode(records)
+    return data[:7] + data[9:]
 
 
 def damaged():
     for records in GOOD:
         yield encode(records)
+    assert (len(encode(LISTING)), len(old(LISTING)), len(old(BARE))) == (45, 43, 15)
+    for records in GOOD:  # whole old sheets, one after another too
+        yield old(records)
+    yield old(BARE) + old(LISTING)
+    yield encode(BARE) + old(BARE)
+    for n in range(7, 15):  # old sheets cut
+        yield old(BARE)[:n]
+    for records in (LISTING, BARE):  # the guard at and past its limits
+        for guard in (0, 1, 15, 16, 17, 255, 256, 999, 1000, 1001, 4096, 65535):
+            yield encode([(0x01, records[0][1][:3] + [guard])] + records[1:])
     good = encode(LISTING)
     for i in range(len(good)):  # each byte changed in turn
         for flip in (0x01, 0x10, 0x80, 0xFF):
@@ -170,7 +186,7 @@ def damaged():
         yield encode(LISTING) + tail
     for i, record in enumerate(MIXED):  # each field at and past its limits
         for j in range(len(record[1])):
-            for value in (0, 1, 39, 40, 41, 200, 201, 202, 203, 999, 1000, 3599, 3600, 21598, 21599, 21600, 21601, 65534, 65535):
+            for value in (0, 1, 39, 40, 41, 200, 201, 202, 203, 999, 1000, 1001, 3599, 3600, 21598, 21599, 21600, 21601, 65534, 65535):
                 if value != record[1][j]:
                     fields = list(record[1])
                     fields[j] = value

@@ -13,14 +13,16 @@ pub enum Phase {
 /// north through east, 0 to 3,599; `None` where the axis goes through the station.
 #[derive(Clone, Copy, Debug, PartialEq, Eq, Hash)]
 pub enum Entry {
-    /// The station's number, 1 to 999, and the window.
+    /// The station's number, the window and the guard.
     Head {
-        /// The station's number.
+        /// The station's number, 1 to 999.
         station: u16,
         /// First second of the window.
         first: i64,
         /// Last second of the window.
         last: i64,
+        /// The request's guard, 10^-8 of the Earth's equatorial radius, 16 to 1,000: nothing is sure within it of a cone's edge.
+        guard: u16,
     },
     /// Outside at `from`, inside at `to`.
     Enter {
@@ -112,29 +114,31 @@ impl Phase {
 
 impl Entry {
     // The entry as the library has it: its kind and the kind's fields.
-    pub(crate) fn numbers(self) -> [u32; 4] {
+    pub(crate) fn numbers(self) -> [u32; 5] {
         match self {
-            Entry::Head { station, first, last } => [0x01, u32::from(station), stored(first), stored(last)],
+            Entry::Head { station, first, last, guard } => {
+                [0x01, u32::from(station), stored(first), stored(last), u32::from(guard)]
+            }
             Entry::Enter { phase, from, to, direction } => {
-                [phase.kind(), stored(from), stored(to), tenths(direction)]
+                [phase.kind(), stored(from), stored(to), tenths(direction), 0]
             }
             Entry::Leave { phase, from, to, direction } => {
-                [phase.kind() + 1, stored(from), stored(to), tenths(direction)]
+                [phase.kind() + 1, stored(from), stored(to), tenths(direction), 0]
             }
-            Entry::Graze { phase, from, to } => [phase.kind() + 2, stored(from), stored(to), 0],
-            Entry::Open { phase, from, to } => [phase.kind() + 3, stored(from), stored(to), 0],
-            Entry::Closest { second, magnitude } => [0x30, stored(second), magnitude, 0],
-            Entry::End => [0x7F, 0, 0, 0],
+            Entry::Graze { phase, from, to } => [phase.kind() + 2, stored(from), stored(to), 0, 0],
+            Entry::Open { phase, from, to } => [phase.kind() + 3, stored(from), stored(to), 0, 0],
+            Entry::Closest { second, magnitude } => [0x30, stored(second), magnitude, 0, 0],
+            Entry::End => [0x7F, 0, 0, 0, 0],
         }
     }
 
     // The entry of numbers that the library gave.
-    pub(crate) fn of(numbers: [u32; 4]) -> Entry {
-        let [kind, a, b, c] = numbers;
+    pub(crate) fn of(numbers: [u32; 5]) -> Entry {
+        let [kind, a, b, c, d] = numbers;
         let phase = if kind < 0x20 { Phase::Penumbra } else { Phase::Central };
         let (from, to) = (second(a), second(b));
         match kind {
-            0x01 => Entry::Head { station: a as u16, first: second(b), last: second(c) },
+            0x01 => Entry::Head { station: a as u16, first: second(b), last: second(c), guard: d as u16 },
             0x10 | 0x20 => Entry::Enter { phase, from, to, direction: direction(c) },
             0x11 | 0x21 => Entry::Leave { phase, from, to, direction: direction(c) },
             0x12 | 0x22 => Entry::Graze { phase, from, to },

@@ -1,6 +1,6 @@
 //! Local circumstances of a solar eclipse in whole numbers, from a proved library.
 //!
-//! From the elements of an eclipse, a station and a window of seconds, [`sheet`] makes the station's contact sheet;
+//! From the elements of an eclipse, a station, a window of seconds and a guard, [`sheet`] makes the station's contact sheet;
 //! [`read`] takes a sheet apart, [`write()`] puts entries together as one, [`listing`] gives a sheet as text, and
 //! [`second`] the shadow at one second, [`mirror`] the request beyond the equator; [`fit`] judges coefficients that a
 //! spreadsheet made, [`from_tables`] makes elements from tables of Sun and Moon, [`root`] gives a square root with its rounds.
@@ -26,6 +26,7 @@
 //!     },
 //!     station: Station { number: 7, latitude: 90_000_000, longitude: 0, height: 0, delta_t: 0 },
 //!     window: Window { first: -6000, last: 6000 },
+//!     guard: 16,
 //! };
 //! let sheet = sheet_vec(&request.to_bytes().expect("every number fits"))?;
 //! let entries = read(&sheet)?;
@@ -49,7 +50,7 @@ mod tables;
 
 pub use entry::{Entry, Phase};
 pub use refusal::Refusal;
-pub use request::{Elements, Request, Station, Window, REQUEST_LENGTH};
+pub use request::{Elements, Request, Station, Window, LEAST_GUARD, REQUEST_LENGTH};
 pub use tables::{from_tables, from_tables_into, Besselian, Position, Row, ROWS};
 
 /// The state of a station in a shadow at a second. Sure and unsure are document 01's words.
@@ -59,7 +60,7 @@ pub enum State {
     Outside,
     /// Surely inside.
     Inside,
-    /// Too near the cone's edge to say.
+    /// Too near the cone's edge to say: within the guard plus 13 units of it.
     Unsure,
 }
 
@@ -99,7 +100,7 @@ pub fn sheet_vec(request: &[u8]) -> Result<Vec<u8>, Refusal> {
 
 /// The shadow at a second of a request, -10,800 to 10,800, also outside its window.
 ///
-/// Refusals, the first of them: 10, 1 (for the window or the second), 2, 3.
+/// Refusals, the first of them: 10, 1 (for the window or the second, then for the guard), 2, 3.
 pub fn second(request: &[u8], second: i64) -> Result<Second, Refusal> {
     let mut shadow = [0; 8];
     ffi::second(request, second, &mut shadow)?;
@@ -140,14 +141,14 @@ pub fn mirror(request: &[u8]) -> Result<[u8; REQUEST_LENGTH], Refusal> {
 ///
 /// Refusals: the first faulty record's, in it 5, 6, 8, 7; then 9.
 pub fn read(sheet: &[u8]) -> Result<Vec<Entry>, Refusal> {
-    // An entry is four numbers. Its record has five bytes or more, save the end's one, and the head's seven and the
-    // closest's seven make up for that: as many numbers as the sheet has bytes are always enough.
+    // An entry is five numbers. Its record has five bytes or more, save the end's one, and the head's nine make up for
+    // that: as many numbers as the sheet has bytes are always enough.
     let mut numbers = vec![0; sheet.len()];
     let count = ffi::read(sheet, &mut numbers)?;
     Ok(numbers
-        .chunks_exact(4)
+        .chunks_exact(5)
         .take(count)
-        .map(|entry| Entry::of([entry[0], entry[1], entry[2], entry[3]]))
+        .map(|entry| Entry::of([entry[0], entry[1], entry[2], entry[3], entry[4]]))
         .collect())
 }
 
@@ -215,7 +216,7 @@ fn state(number: i64) -> State {
     }
 }
 
-// What `fill` writes, at its exact length. A sheet seldom has more than six entries, 43 bytes; where it has, and for a
+// What `fill` writes, at its exact length. A sheet seldom has more than seven entries, 45 bytes; where it has, and for a
 // listing, refusal 4 tells the length.
 fn whole(fill: impl Fn(&mut [u8]) -> Result<usize, Refusal>) -> Result<Vec<u8>, Refusal> {
     let mut bytes = vec![0; 128];

@@ -3,12 +3,14 @@ use std::fmt;
 
 /// Why a request, a sheet, a list of entries or a fit is refused.
 ///
-/// [`number`](Refusal::number) and [`place`](Refusal::place) are those of document 01's table of refusals; 17 and 18 are
-/// document 02's.
+/// [`number`](Refusal::number) and [`place`](Refusal::place) are those of document 01's table of refusals; 11, 17 and 18
+/// are document 02's.
 #[derive(Clone, Copy, Debug, PartialEq, Eq, Hash)]
 pub enum Refusal {
-    /// 1: the window, or the second asked for, is outside its range.
+    /// 1: the window, or the second asked for, is outside its range (place 0).
     Window,
+    /// 1: the guard is outside its range (place 1; document 02).
+    Guard,
     /// 2: an element, or a coefficient of a fit, is outside its range.
     Element {
         /// The first such field, 0 to 21, in the order of [`Elements`](crate::Elements); of a fit 0 to 3.
@@ -72,7 +74,7 @@ impl Refusal {
     /// The refusal's number, 1 to 11, 17 or 18.
     pub fn number(self) -> u64 {
         match self {
-            Refusal::Window => 1,
+            Refusal::Window | Refusal::Guard => 1,
             Refusal::Element { .. } => 2,
             Refusal::Station { .. } => 3,
             Refusal::Room { .. } => 4,
@@ -88,10 +90,12 @@ impl Refusal {
         }
     }
 
-    /// The refusal's place: a field, a length, a byte, a row or an hour, as the number says; 0 for 1 and 10.
+    /// The refusal's place: a field, a length, a byte, a row or an hour, as the number says; of 1 it is 0 for the window, 1 for the
+    /// guard; of 10 it is 0.
     pub fn place(self) -> u64 {
         match self {
             Refusal::Window | Refusal::Shape => 0,
+            Refusal::Guard => 1,
             Refusal::Element { field } | Refusal::Station { field } => field,
             Refusal::Room { needed } => needed,
             Refusal::Row { row } => row,
@@ -108,7 +112,8 @@ impl Refusal {
     // The refusal of a number and a place that the library gave.
     pub(crate) fn of(number: u64, place: u64) -> Refusal {
         match number {
-            1 => Refusal::Window,
+            1 if place == 0 => Refusal::Window,
+            1 => Refusal::Guard,
             2 => Refusal::Element { field: place },
             3 => Refusal::Station { field: place },
             4 => Refusal::Room { needed: place },
@@ -130,6 +135,7 @@ impl fmt::Display for Refusal {
     fn fmt(&self, f: &mut fmt::Formatter<'_>) -> fmt::Result {
         let words = match self {
             Refusal::Window => "window outside its range",
+            Refusal::Guard => "guard outside its range",
             Refusal::Element { .. } => "an element outside its range",
             Refusal::Station { .. } => "a station value outside its range",
             Refusal::Room { .. } => "sheet longer than the buffer",

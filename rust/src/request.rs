@@ -1,5 +1,8 @@
 /// The length of a request in bytes.
-pub const REQUEST_LENGTH: usize = 113;
+pub const REQUEST_LENGTH: usize = 115;
+
+/// The least guard, that of document 01's cases.
+pub const LEAST_GUARD: i64 = 16;
 
 const ELEMENTS: u8 = 0x02;
 const STATION: u8 = 0x03;
@@ -141,10 +144,10 @@ pub struct Window {
     pub last: i64,
 }
 
-/// What a sheet is asked for: elements, station and window.
+/// What a sheet is asked for: elements, station, window and guard.
 ///
 /// A request may hold numbers outside document 01's ranges: the library refuses them by number.
-#[derive(Clone, Copy, Debug, Default, PartialEq, Eq, Hash)]
+#[derive(Clone, Copy, Debug, PartialEq, Eq, Hash)]
 pub struct Request {
     /// The elements of the eclipse.
     pub elements: Elements,
@@ -152,21 +155,33 @@ pub struct Request {
     pub station: Station,
     /// The window.
     pub window: Window,
+    /// The guard, 10^-8 of the Earth's equatorial radius, 16 to 1,000: how near to a cone's edge nothing is sure. A larger guard only
+    /// withholds: what is sure under it is sure, with the same answer, under every smaller one.
+    pub guard: i64,
+}
+
+impl Default for Request {
+    /// Every number 0, the guard [`LEAST_GUARD`].
+    fn default() -> Request {
+        let (elements, station, window) = Default::default();
+        Request { elements, station, window, guard: LEAST_GUARD }
+    }
 }
 
 impl Request {
-    /// The request as the library takes it; `None` where a number does not fit its bytes (the station's number 2
-    /// unsigned, first and last 2 signed, all others 4 signed).
+    /// The request as the library takes it; `None` where a number does not fit its bytes (the station's number and the
+    /// guard 2 unsigned, first and last 2 signed, all others 4 signed).
     pub fn to_bytes(&self) -> Option<[u8; REQUEST_LENGTH]> {
         let mut bytes = Vec::with_capacity(REQUEST_LENGTH);
         let signed4 = |number: i64| Some(i32::try_from(number).ok()?.to_be_bytes());
         let signed2 = |number: i64| Some(i16::try_from(number).ok()?.to_be_bytes());
+        let unsigned2 = |number: i64| Some(u16::try_from(number).ok()?.to_be_bytes());
         bytes.push(ELEMENTS);
         for number in self.elements.numbers() {
             bytes.extend(signed4(number)?);
         }
         bytes.push(STATION);
-        bytes.extend(u16::try_from(self.station.number).ok()?.to_be_bytes());
+        bytes.extend(unsigned2(self.station.number)?);
         bytes.extend(signed4(self.station.latitude)?);
         bytes.extend(signed4(self.station.longitude)?);
         bytes.extend(signed4(self.station.height)?);
@@ -174,6 +189,7 @@ impl Request {
         bytes.push(WINDOW);
         bytes.extend(signed2(self.window.first)?);
         bytes.extend(signed2(self.window.last)?);
+        bytes.extend(unsigned2(self.guard)?);
         bytes.try_into().ok()
     }
 
@@ -186,19 +202,21 @@ impl Request {
         }
         let two = |at: usize| [bytes[at], bytes[at + 1]];
         let signed2 = |at: usize| i64::from(i16::from_be_bytes(two(at)));
+        let unsigned2 = |at: usize| i64::from(u16::from_be_bytes(two(at)));
         let signed4 = |at: usize| {
             i64::from(i32::from_be_bytes([bytes[at], bytes[at + 1], bytes[at + 2], bytes[at + 3]]))
         };
         Some(Request {
             elements: Elements::from_numbers(std::array::from_fn(|field| signed4(1 + 4 * field))),
             station: Station {
-                number: i64::from(u16::from_be_bytes(two(90))),
+                number: unsigned2(90),
                 latitude: signed4(92),
                 longitude: signed4(96),
                 height: signed4(100),
                 delta_t: signed4(104),
             },
             window: Window { first: signed2(109), last: signed2(111) },
+            guard: unsigned2(113),
         })
     }
 }

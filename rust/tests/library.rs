@@ -5,7 +5,7 @@ use std::path::Path;
 
 use ukhtvaresh::{
     listing, mirror, read, second, sheet, sheet_vec, write, write_vec, Elements, Entry, Phase, Refusal,
-    Request, State, Station, Window, REQUEST_LENGTH,
+    Request, State, Station, Window, LEAST_GUARD, REQUEST_LENGTH,
 };
 use Phase::{Central, Penumbra};
 
@@ -24,6 +24,7 @@ fn hand_worked() -> Request {
         },
         station: Station { number: 7, latitude: 90_000_000, longitude: 0, height: 0, delta_t: 0 },
         window: Window { first: -6000, last: 6000 },
+        guard: LEAST_GUARD,
     }
 }
 
@@ -34,7 +35,7 @@ fn bytes(request: &Request) -> [u8; REQUEST_LENGTH] {
 // The hand-worked sheet's entries.
 fn entries() -> Vec<Entry> {
     vec![
-        Entry::Head { station: 7, first: -6000, last: 6000 },
+        Entry::Head { station: 7, first: -6000, last: 6000, guard: 16 },
         Entry::Enter { phase: Penumbra, from: -5401, to: -5399, direction: Some(2700) },
         Entry::Leave { phase: Penumbra, from: 5399, to: 5401, direction: Some(900) },
         Entry::Enter { phase: Central, from: -101, to: -99, direction: Some(2700) },
@@ -54,7 +55,7 @@ closest 0 1037735
 ";
 
 // The first byte of each record of the hand-worked sheet.
-const RECORDS: [u64; 7] = [0, 7, 14, 21, 28, 35, 42];
+const RECORDS: [u64; 7] = [0, 9, 16, 23, 30, 37, 44];
 
 fn entries_of(request: &Request) -> Vec<Entry> {
     read(&sheet_vec(&bytes(request)).expect("a sheet")).expect("entries")
@@ -100,37 +101,37 @@ fn open_at_the_windows_end() {
 }
 
 #[test]
-fn buffer_of_43_bytes_and_of_42() {
+fn buffer_of_45_bytes_and_of_44() {
     let request = bytes(&hand_worked());
-    let mut buffer = [0xA5; 43];
-    assert_eq!(sheet(&request, &mut buffer), Ok(43));
+    let mut buffer = [0xA5; 45];
+    assert_eq!(sheet(&request, &mut buffer), Ok(45));
     assert_eq!(buffer[..], sheet_vec(&request).unwrap());
-    let mut buffer = [0xA5; 42];
-    assert_eq!(sheet(&request, &mut buffer), Err(Refusal::Room { needed: 43 }));
-    assert_eq!(buffer, [0xA5; 42]);
-    assert_eq!(sheet(&request, &mut []), Err(Refusal::Room { needed: 43 }));
+    let mut buffer = [0xA5; 44];
+    assert_eq!(sheet(&request, &mut buffer), Err(Refusal::Room { needed: 45 }));
+    assert_eq!(buffer, [0xA5; 44]);
+    assert_eq!(sheet(&request, &mut []), Err(Refusal::Room { needed: 45 }));
 }
 
 #[test]
 fn bytes_past_the_sheet_are_kept() {
     let request = bytes(&hand_worked());
     let mut buffer = [0xA5; 64];
-    assert_eq!(sheet(&request, &mut buffer), Ok(43));
-    assert_eq!(buffer[43..], [0xA5; 21]);
+    assert_eq!(sheet(&request, &mut buffer), Ok(45));
+    assert_eq!(buffer[45..], [0xA5; 19]);
     let mut buffer = [0xA5; 64];
-    assert_eq!(write(&entries(), &mut buffer), Ok(43));
-    assert_eq!(buffer[43..], [0xA5; 21]);
+    assert_eq!(write(&entries(), &mut buffer), Ok(45));
+    assert_eq!(buffer[45..], [0xA5; 19]);
 }
 
 #[test]
 fn listings_and_their_refusals() {
     let stored = write_vec(&entries()).expect("a sheet");
-    assert_eq!(listing(&stored[..42]), Err(read(&stored[..42]).expect_err("a refusal")));
+    assert_eq!(listing(&stored[..44]), Err(read(&stored[..44]).expect_err("a refusal")));
     let mut after = stored.clone();
     after.push(0);
     assert_eq!(listing(&after), Err(read(&after).expect_err("a refusal")));
     let unsure = [
-        Entry::Head { station: 999, first: 5400, last: 5402 },
+        Entry::Head { station: 999, first: 5400, last: 5402, guard: 1_000 },
         Entry::Open { phase: Penumbra, from: 5400, to: 5401 },
         Entry::Closest { second: 5400, magnitude: 0 },
         Entry::End,
@@ -293,7 +294,7 @@ fn kinds_refused() {
 #[test]
 fn short_sheets_refused() {
     let sheet = damaged(&[]);
-    for length in 0..43 {
+    for length in 0..45 {
         let at = RECORDS.into_iter().filter(|&at| at <= length).max();
         let cut = read(&sheet[..length as usize]);
         assert_eq!(cut, Err(Refusal::Ends { at: at.unwrap() }), "{length}");
@@ -303,7 +304,7 @@ fn short_sheets_refused() {
 #[test]
 fn fields_refused() {
     // Station 0; a direction of 3,600; a magnitude of over 16 million.
-    for (at, changes) in [(0, vec![(1, 0), (2, 0)]), (7, vec![(12, 0x0E), (13, 0x10)]), (35, vec![(38, 1)])] {
+    for (at, changes) in [(0, vec![(1, 0), (2, 0)]), (9, vec![(14, 0x0E), (15, 0x10)]), (37, vec![(40, 1)])] {
         assert_eq!(read(&damaged(&changes)), Err(Refusal::Field { at }));
     }
 }
@@ -311,7 +312,7 @@ fn fields_refused() {
 #[test]
 fn order_refused() {
     // An enter next to an enter; a second head; a closest that is missing.
-    for (at, changes) in [(14, (14, 0x10)), (7, (7, 0x01)), (35, (35, 0x7F))] {
+    for (at, changes) in [(16, (16, 0x10)), (9, (9, 0x01)), (37, (37, 0x7F))] {
         assert_eq!(read(&damaged(&[changes])), Err(Refusal::Order { at }));
     }
 }
@@ -320,7 +321,7 @@ fn order_refused() {
 fn bytes_after_the_end_refused() {
     let mut sheet = damaged(&[]);
     sheet.push(0);
-    assert_eq!(read(&sheet), Err(Refusal::After { at: 43 }));
+    assert_eq!(read(&sheet), Err(Refusal::After { at: 45 }));
 }
 
 // ---- entries written
@@ -348,7 +349,7 @@ fn long_sheets() {
     long.extend((0..1000).map(|k| Entry::Graze { phase: Central, from: 2 * k, to: 2 * k + 2 }));
     long.extend([entries()[5], Entry::End]);
     let sheet = write_vec(&long).unwrap();
-    assert_eq!(sheet.len(), 15 + 5 * 1000);
+    assert_eq!(sheet.len(), 17 + 5 * 1000);
     assert_eq!(read(&sheet).unwrap(), long);
 }
 
@@ -367,26 +368,26 @@ fn entries_refused() {
         assert_eq!(not_written(&whole[..count]), Refusal::Ends { at });
     }
     let after = [&whole[..], &[Entry::End]].concat();
-    assert_eq!(not_written(&after), Refusal::After { at: 43 });
+    assert_eq!(not_written(&after), Refusal::After { at: 45 });
     let swapped = [whole[0], whole[3], whole[1]];
-    assert_eq!(not_written(&swapped), Refusal::Order { at: 14 });
-    let mut buffer = [0xA5; 42];
-    assert_eq!(write(&whole, &mut buffer), Err(Refusal::Room { needed: 43 }));
-    assert_eq!(buffer, [0xA5; 42]);
+    assert_eq!(not_written(&swapped), Refusal::Order { at: 16 });
+    let mut buffer = [0xA5; 44];
+    assert_eq!(write(&whole, &mut buffer), Err(Refusal::Room { needed: 45 }));
+    assert_eq!(buffer, [0xA5; 44]);
 }
 
 #[test]
 fn entries_that_cannot_be_stored_refused() {
     for second in [-10_801, 10_801, i64::MIN, i64::MAX, (1 << 32) - 10_800] {
         let mut entries = entries();
-        entries[0] = Entry::Head { station: 7, first: -10_800, last: 10_800 };
+        entries[0] = Entry::Head { station: 7, first: -10_800, last: 10_800, guard: 16 };
         entries[5] = Entry::Closest { second, magnitude: 0 };
-        assert_eq!(not_written(&entries), Refusal::Field { at: 35 });
+        assert_eq!(not_written(&entries), Refusal::Field { at: 37 });
     }
     for direction in [Some(3_600), Some(65_535)] {
         let mut entries = entries();
         entries[1] = Entry::Enter { phase: Penumbra, from: -5401, to: -5399, direction };
-        assert_eq!(not_written(&entries), Refusal::Field { at: 7 });
+        assert_eq!(not_written(&entries), Refusal::Field { at: 9 });
     }
 }
 
@@ -471,6 +472,64 @@ fn mirrors() {
     assert_eq!(sheet_vec(&mirrored), sheet_vec(&bytes(&request)));
 }
 
+// ---- the guard
+
+#[test]
+fn guards_refused() {
+    let mut request = hand_worked();
+    for guard in [16, 17, 999, 1_000] {
+        request.guard = guard;
+        let head = Entry::Head { station: 7, first: -6000, last: 6000, guard: guard as u16 };
+        assert_eq!(entries_of(&request)[0], head);
+    }
+    for guard in [0, 15, 1_001, 65_535] {
+        let mut request = Request { guard, ..hand_worked() };
+        assert_eq!(refused(&bytes(&request)), Refusal::Guard);
+        assert_eq!(second(&bytes(&request), 0), Err(Refusal::Guard));
+        // before an element, after the window and the second asked for
+        request.elements.x0 = 200_000_001;
+        assert_eq!(refused(&bytes(&request)), Refusal::Guard);
+        assert_eq!(second(&bytes(&request), 10_801), Err(Refusal::Window));
+        request.window.first = -10_801;
+        assert_eq!(refused(&bytes(&request)), Refusal::Window);
+        let mut entries = entries();
+        entries[0] = Entry::Head { station: 7, first: -6000, last: 6000, guard: guard as u16 };
+        assert_eq!(not_written(&entries), Refusal::Field { at: 0 });
+    }
+}
+
+#[test]
+fn larger_guards_withhold() {
+    // An axis that goes past the penumbra 500 units off its edge, and one that stands 500 units inside the central cone.
+    let mut beside = Request { window: Window { first: -60, last: 60 }, ..hand_worked() };
+    (beside.elements.x0, beside.elements.x1, beside.elements.y1) = (54_000_500, 0, 36_000_000);
+    let mut within = Request { window: Window { first: 0, last: 2 }, ..hand_worked() };
+    (within.elements.x0, within.elements.x1) = (999_500, 0);
+    for guard in [16, 499] {
+        (beside.guard, within.guard) = (guard, guard);
+        assert_eq!(entries_of(&beside).len(), 3);
+        assert_eq!(entries_of(&within)[1], Entry::Closest { second: 0, magnitude: 1_037_735 });
+        assert_eq!(second(&bytes(&within), 0).unwrap().central, State::Inside);
+    }
+    for (guard, from, to) in [(500, -1, 1), (1_000, -24, 24)] {
+        (beside.guard, within.guard) = (guard, guard);
+        assert_eq!(entries_of(&beside)[1], Entry::Graze { phase: Penumbra, from, to });
+        assert_eq!(entries_of(&within)[1], Entry::Open { phase: Central, from: 0, to: 2 });
+        assert_eq!(entries_of(&within)[2], Entry::Closest { second: 0, magnitude: 1_000_009 });
+        assert_eq!(second(&bytes(&within), 0).unwrap().central, State::Unsure);
+    }
+}
+
+#[test]
+fn sheets_of_the_old_form_refused() {
+    // without the head's guard, which came later
+    let stored = write_vec(&entries()).expect("a sheet");
+    let old = [&stored[..7], &stored[9..]].concat();
+    assert_eq!((old.len(), read(&old)), (43, Err(Refusal::Field { at: 0 })));
+    let shortest = [&stored[..7], &stored[37..]].concat();
+    assert_eq!(listing(&shortest), Err(Refusal::Field { at: 0 }));
+}
+
 // ---- requests as bytes, refusals as words
 
 #[test]
@@ -498,13 +557,19 @@ fn requests_as_bytes() {
     request.station.number = 7;
     request.elements.x0 = 1 << 31;
     assert_eq!(request.to_bytes(), None);
+    request.elements.x0 = 0;
+    for guard in [-1, 1 << 16] {
+        request.guard = guard;
+        assert_eq!(request.to_bytes(), None);
+    }
 }
 
 #[test]
 fn refusals_as_words() {
-    let refusal = Refusal::Room { needed: 43 };
-    assert_eq!((refusal.number(), refusal.place()), (4, 43));
-    assert_eq!(refusal.to_string(), "refused 4 43: sheet longer than the buffer");
+    let refusal = Refusal::Room { needed: 45 };
+    assert_eq!((refusal.number(), refusal.place()), (4, 45));
+    assert_eq!(refusal.to_string(), "refused 4 45: sheet longer than the buffer");
+    assert_eq!(Refusal::Guard.to_string(), "refused 1 1: guard outside its range");
     let boxed: Box<dyn std::error::Error> = Box::new(Refusal::Shape);
     assert_eq!(boxed.to_string(), "refused 10 0: request not of its shape");
 }

@@ -59,31 +59,31 @@ fn sheets(rounds: usize) {
 
 /// As many enters, leaves and grazes as a window of 21,601 seconds holds side by side, so many of each phase.
 fn long_list(of_each: u32) -> Vec<u32> {
-    let mut entries = vec![0x01, 999, 0, 21_600];
+    let mut entries = vec![0x01, 999, 0, 21_600, 16];
     for base in [0x10, 0x20] {
         for k in 0..of_each {
             let (kind, direction) = [(0, 900), (2, 0), (1, 2700)][k as usize % 3];
-            entries.extend([base + kind, 2 * k, 2 * k + 2, direction]);
+            entries.extend([base + kind, 2 * k, 2 * k + 2, direction, 0]);
         }
     }
-    entries.extend([0x30, 10_800, 1_000_000, 0, 0x7F, 0, 0, 0]);
+    entries.extend([0x30, 10_800, 1_000_000, 0, 0, 0x7F, 0, 0, 0, 0]);
     entries
 }
 
 /// The same with kinds in no pattern: a graze, or the next of enter and leave, by lot.
 fn drawn_list(of_each: u32) -> Vec<u32> {
     let mut random = Random::new(7);
-    let mut entries = vec![0x01, 999, 0, 21_600];
+    let mut entries = vec![0x01, 999, 0, 21_600, 16];
     for base in [0x10, 0x20] {
         let mut turn = 1;
         for k in 0..of_each {
             let graze = random.once_in(2);
             turn = if graze { turn } else { 1 - turn };
             let (kind, direction) = if graze { (2, 0) } else { (turn, 900) };
-            entries.extend([base + kind, 2 * k, 2 * k + 2, direction]);
+            entries.extend([base + kind, 2 * k, 2 * k + 2, direction, 0]);
         }
     }
-    entries.extend([0x30, 10_800, 1_000_000, 0, 0x7F, 0, 0, 0]);
+    entries.extend([0x30, 10_800, 1_000_000, 0, 0, 0x7F, 0, 0, 0, 0]);
     entries
 }
 
@@ -145,7 +145,7 @@ fn roots(rounds: usize) {
 fn main() {
     let rounds = std::env::args().nth(1).map_or(100, |n| n.parse().expect("a number of rounds"));
     sheets(rounds);
-    let mut hand = [0; 43];
+    let mut hand = [0; 45];
     sample::hand_worked().sheet(&mut hand).expect("room enough");
     let short: Vec<u32> = sheet::records_of(&hand)
         .expect("a well-formed sheet")

@@ -5,7 +5,7 @@
 use reference::random::Random;
 use reference::request::Request;
 use reference::sample::{self, Manner};
-use reference::shadow::{Phase, Shadow, State};
+use reference::shadow::{Phase, Shadow, State, GUARD};
 use std::hint::black_box;
 use std::time::Instant;
 
@@ -44,8 +44,8 @@ fn rust_states(r: &Request, pen: &mut [u8], cen: &mut [u8]) -> usize {
     let mut closest = (i64::MAX, 0);
     for i in 0..N {
         let shadow = at(r, place, FIRST + i as i64);
-        pen[i] = number(shadow.state(Phase::Penumbra));
-        cen[i] = number(shadow.state(Phase::Central));
+        pen[i] = number(shadow.state(Phase::Penumbra, r.guard));
+        cen[i] = number(shadow.state(Phase::Central, r.guard));
         if shadow.m() < closest.0 {
             closest = (shadow.m(), i);
         }
@@ -59,8 +59,8 @@ fn rust_seconds(r: &Request) -> u64 {
     let mut sum = 0;
     for i in 0..N {
         let shadow = at(r, place, FIRST + i as i64);
-        sum += shadow.magnitude() as u64 + shadow.direction() as u64;
-        sum += u64::from(number(shadow.state(Phase::Penumbra))) + u64::from(number(shadow.state(Phase::Central)));
+        sum += shadow.magnitude(r.guard) as u64 + shadow.direction() as u64;
+        sum += u64::from(number(shadow.state(Phase::Penumbra, r.guard))) + u64::from(number(shadow.state(Phase::Central, r.guard)));
     }
     sum
 }
@@ -94,8 +94,8 @@ fn rust_halved(r: &Request) -> u64 {
     let mut sum = 0;
     for i in 0..N {
         let shadow = at(r, place, FIRST + i as i64);
-        sum += shadow.magnitude() as u64 + halved(shadow.u, shadow.v);
-        sum += u64::from(number(shadow.state(Phase::Penumbra))) + u64::from(number(shadow.state(Phase::Central)));
+        sum += shadow.magnitude(r.guard) as u64 + halved(shadow.u, shadow.v);
+        sum += u64::from(number(shadow.state(Phase::Penumbra, r.guard))) + u64::from(number(shadow.state(Phase::Central, r.guard)));
     }
     sum
 }
@@ -132,6 +132,8 @@ fn main() {
     ];
     let rounds: usize = std::env::args().nth(1).map_or(60, |n| n.parse().unwrap());
     for (name, r) in requests {
+        // as `fills` has it
+        let r = Request { guard: GUARD, ..r };
         let (e, s) = parts(&r);
         let (mut pa, mut ca) = (vec![9u8; N], vec![9u8; N]);
         let (mut pb, mut cb) = (vec![9u8; N], vec![9u8; N]);

@@ -9,7 +9,7 @@ use Rattle.records.specs.Numbers.{twoAt}
 use Rattle.decimals.specs.Rows.{eachPart}
 use Rattle.answers.specs.Answers.{answerText}
 
--- a case of 117 bytes: the room for a sheet, two of them; how long the request is; and its bytes, of 114
+-- a case of 119 bytes: the room for a sheet, two of them; how long the request is; and its bytes, of 116
 abbrev pub roomOf : List ℕ → List ℕ
 roomOf s = replicate (twoAt s 0) 0
 
@@ -18,7 +18,7 @@ requestOf s = take (getD s 2 0) (drop 3 s)
 
 -- the listing of the request's sheet, or its refusal; nothing where the request is longer than the case
 unfoldable pub caseText : List ℕ → List ℕ
-caseText s = cond (ltb 114 (getD s 2 0)) [] (answerText (requestOf s) (roomOf s))
+caseText s = cond (ltb 116 (getD s 2 0)) [] (answerText (requestOf s) (roomOf s))
 
 unfoldable pub printed : List ℕ → List ℕ
-printed input = eachPart 117 caseText input
+printed input = eachPart 119 caseText input

@@ -26,11 +26,11 @@ pub zeros-first : {m : ℕ} {l : List ℕ} → Zeros m l → (n : ℕ) → n ≤
 zeros-first {m} z n h = ap (take n) (z .is) ∙ first-zeros n m h
 
 module _ (s old : List ℕ) (at : ℕ) where
-  pub case-long : 114 < getD s 2 0 → at < 18446744073709551616 → Put old at (caseText s) old at
+  pub case-long : 116 < getD s 2 0 → at < 18446744073709551616 → Put old at (caseText s) old at
   unfolding caseText
-  case-long h l = rw (lt-ltb 114 (getD s 2 0) h) (put-nil old at l)
+  case-long h l = rw (lt-ltb 116 (getD s 2 0) h) (put-nil old at l)
 
-  pub case-text : getD s 2 0 ≤ 114 → (request room new : List ℕ) (r : ℕ) → request ≡ requestOf s → room ≡ roomOf s
+  pub case-text : getD s 2 0 ≤ 116 → (request room new : List ℕ) (r : ℕ) → request ≡ requestOf s → room ≡ roomOf s
       → Put old at (answerText request room) new r → Put old at (caseText s) new r
   unfolding caseText
-  case-text h request room new r e f p = rw (le-ltb 114 (getD s 2 0) h, ← e, ← f) p
+  case-text h request room new r e f p = rw (le-ltb 116 (getD s 2 0) h, ← e, ← f) p

@@ -1,5 +1,5 @@
-// Reads cases from standard input, 65,536 bytes at most, 117 bytes each: the room for a sheet, 2 bytes; the length of a request, 1 byte;
-// and its bytes, of 114. Prints for each the listing of its sheet; or the refusal.
+// Reads cases from standard input, 65,536 bytes at most, 119 bytes each: the room for a sheet, 2 bytes; the length of a request, 1 byte;
+// and its bytes, of 116. Prints for each the listing of its sheet; or the refusal.
 use libc::STDIN_FILENO;
 use libc::STDOUT_FILENO;
 ghost use mathlib.Core.Path.{_≡_};
@@ -33,12 +33,12 @@ fn zeros() -> [u8; 65536]
 
 // The text of a case.
 fn put_case(out: &mut [u8], at: usize, bytes: &[u8]) -> usize
-    requires { ⌜ 117 ≤ length (now bytes) ⌝ }
+    requires { ⌜ 119 ≤ length (now bytes) ⌝ }
     ensures { λ r. ⌜ Put (now (out .entry)) at (caseText (now (bytes .entry))) (now (out .exit)) r ⌝ }
 {
     let size = records::two_at(bytes, 0) as usize;
     let length = wide(bytes[2]);
-    if 114 < length {
+    if 116 < length {
         return at;
     }
     let end = 3 + length;
@@ -50,11 +50,11 @@ fn put_case(out: &mut [u8], at: usize, bytes: &[u8]) -> usize
 fn put_cases(out: &mut [u8], input: &[u8]) -> usize
     ensures { λ r. ⌜ Put (now (out .entry)) 0 (printed (now (input .entry))) (now (out .exit)) r ⌝ }
 {
-    let count = input.len() / 117;
+    let count = input.len() / 119;
     let mut at = 0;
     for k in 0..count {
-        let from = k * 117;
-        let end = from + 117;
+        let from = k * 119;
+        let end = from + 119;
         at = put_case(out, at, &input[from..end]);
     }
     at
@@ -63,7 +63,7 @@ fn put_cases(out: &mut [u8], input: &[u8]) -> usize
 fn main() {
     let mut input = io::large_buffer();
     let length = io::read_full(STDIN_FILENO, &mut input);
-    // 560 answers; a text that is longer is cut
+    // 550 answers; a text that is longer is cut
     let mut text = [0u8; 400_000];
     let end = put_cases(&mut text, &input[..length]);
     let written = decimals::clipped(&text, end);

@@ -9,7 +9,7 @@ use Rattle.numbers.specs.Order.{≤-parts, natAbs-parts, natAbs-between}
 use Rattle.phases.specs.PhaseLaws.{once-in-eclipse}
 use Rattle.requests.specs.declared.Request.{Request}
 use Rattle.requests.specs.WindowLaws.{in-window-size}
-use Rattle.requests.specs.RequestLaws.{InLimits}
+use Rattle.requests.specs.RequestLaws.{InLimits, guard-size}
 use Rattle.seconds.specs.SecondLaws.{direction-small, magnitude-small, closest-within, each-second}
 use Rattle.records.specs.Entries.{bytesOf}
 use Rattle.rules.specs.Rules.{start}
@@ -37,6 +37,7 @@ module _ (q : Request) (i : InLimits q) where
       record {
         station = number-small;
         window = i .window;
+        guard = guard-size (i .guard);
         once = λ φ l. once-in-eclipse φ;
         order = eclipse-in-order;
         direction = direction-small q;

@@ -46,8 +46,9 @@ elements =
 abbrev pole : Station
 pole = record { number = pos 7; latitude = pos 90000000; longitude = pos 0; height = pos 0; deltat = pos 0 }
 
+-- document 02, wish 9: "the cases in document 01 use guard 16"
 abbrev pub hand-worked : (first last : ℤ) → Request
-hand-worked first last = record { elements = elements; station = pole; window = record { first = first; last = last } }
+hand-worked first last = record { elements = elements; station = pole; window = record { first = first; last = last }; guard = pos 16 }
 
 -- "window 5400..5400 gives open 5400 5400": the penumbra has that one entry, stored plus 10,800
 open-5400 : phaseEntries (courseOf (hand-worked (pos 5400) (pos 5400))) Penumbra ≡ opened Penumbra 16200 16200 ∷ []

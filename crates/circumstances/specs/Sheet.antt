@@ -23,6 +23,7 @@ courseOf q =
     record {
       station = natAbs (q .station .number);
       window = q .window;
+      guard = natAbs (q .guard);
       phases = eclipse;
       state = stateAt q;
       direction = directionAt q;

@@ -94,7 +94,8 @@ fn head_for(q: Request) -> Entry
     let station = s.number as u32;
     let first = kinds::seconds::store_second(w.first);
     let last = kinds::seconds::store_second(w.last);
-    kinds::entries::head(station, first, last)
+    let guard = q.guard as u32;
+    kinds::entries::head(station, first, last, guard)
 }
 
 // The closest second, counted from the window's first, with its magnitude.

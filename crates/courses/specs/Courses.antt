@@ -17,6 +17,8 @@ pub record Course : Type 0 where
   -- the station's number, 1 to 999
   pub station : ℕ
   pub window : Window
+  -- how near to a cone's edge nothing is said, 16 to 1,000 units
+  pub guard : ℕ
   -- the phases, in the order of the sheet
   pub phases : List Phase
   -- what is said of a phase at second τ
@@ -54,8 +56,9 @@ module _ (c : Course) where
   entriesOf [] = []
   entriesOf (φ ∷ φs) = phaseEntries φ ++ entriesOf φs
 
+  -- document 02, wish 9: "The request and, at its end, the head record gain a guard"
   unfoldable pub headEntry : Entry
-  headEntry = head (c .station) (stored (c .window .first)) (stored (c .window .last))
+  headEntry = head (c .station) (stored (c .window .first)) (stored (c .window .last)) (c .guard)
 
   -- "*Closest* .. with its magnitude"
   unfoldable pub closestEntry : Entry

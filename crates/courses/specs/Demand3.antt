@@ -6,6 +6,7 @@
 --   in exactly one entry of the penumbra. Each enter runs from a second exactly outside to one exactly inside, each leave the other way, so
 --   neither is given where no change is. Enters and leaves alternate. The same holds for the central phase, with its own exact answer and
 --   its own entries."
+-- Document 02, wish 9: "Demand 3 then reads "within the guard plus 13" for 29".
 -- One claim about a course, every second of its window, and the entries that stand in the bytes written for it. Definitions only.
 use mathlib.Core.Path.{_≡_}
 use mathlib.Core.List.{List, [], _∷_, _++_}
@@ -51,9 +52,10 @@ entriesIn φ (e ∷ es) = inKind φ (e .kind) (e .a) (e .b) ++ entriesIn φ es
 
 module _ (c : Course) (x : ExactAnswers) where
   -- "Where our program says inside or outside, that is the exact answer. It says unsure only where the exact distance lies within 29 units
-  -- of the cone's edge."
+  -- of the cone's edge.", the guard plus 13 for 29
   abbrev pub EachSecond : Type 0
-  EachSecond = (φ : Phase) → Listed φ (c .phases) → (τ : ℤ) → InWindow (c .window) τ → SaidRightly (c .state φ τ) (x .Inside φ τ) (x .WithinUnits 29 φ τ)
+  EachSecond = (φ : Phase) → Listed φ (c .phases) → (τ : ℤ) → InWindow (c .window) τ
+      → SaidRightly (c .state φ τ) (x .Inside φ τ) (x .WithinUnits (c .guard + 13) φ τ)
 
   -- exactly inside at the second that is stored as k
   abbrev pub InsideAt : Phase → ℕ → Type 0

@@ -110,7 +110,7 @@ module _ (c : Course) (s : Sound c) (x : ExactAnswers) (said : EachSecond c x) (
   back : (k : ℕ) → InsideAt c x φ (first c s + k) → In k
   back k i = subst (x .Inside φ) (second-at c s k) i
 
-  said-at : (k : ℕ) → k < length (statesOf c φ) → SaidRightly (c .state φ (second c k)) (In k) (x .WithinUnits 29 φ (second c k))
+  said-at : (k : ℕ) → k < length (statesOf c φ) → SaidRightly (c .state φ (second c k)) (In k) (x .WithinUnits (c .guard + 13) φ (second c k))
   said-at k h = said φ l (second c k) (second-in (c .window) (s .window) k (omega (arith, states-length c φ)))
 
   byte-at : (k : ℕ) → k < length (statesOf c φ) → getD (statesOf c φ) k 0 ≡ code (c .state φ (second c k))

@@ -41,7 +41,16 @@ alike-length es fs h = sym (without-length es) ∙ ap (λ (l : List Entry). leng
 -- ---- a course with other directions
 abbrev pub redirected : Course → (ℤ → ℕ) → Course
 redirected c f =
-    record { station = c .station; window = c .window; phases = c .phases; state = c .state; direction = f; closest = c .closest; magnitude = c .magnitude }
+    record {
+      station = c .station;
+      window = c .window;
+      guard = c .guard;
+      phases = c .phases;
+      state = c .state;
+      direction = f;
+      closest = c .closest;
+      magnitude = c .magnitude;
+    }
 
 module _ (c : Course) (f : ℤ → ℕ) where
   abbrev c′ : Course

@@ -180,5 +180,5 @@ module _ (c : Course) (s : Sound c) where
   kept-sheet =
       let all = kept-all (c .phases) (s .order) in
       well-step (entriesOf c (c .phases) ++ tail)
-      (step-head (c .station) f l (s .station .0) (s .station .1) (omega (arith, last-stored, s .closest)) last-small)
+      (step-head (c .station) f l (c .guard) (s .station .0) (s .station .1) (omega (arith, last-stored, s .closest)) last-small (s .guard .0) (s .guard .1))
       (well-first (all .0) f l (entriesOf c (c .phases) ++ tail) (all .1))

@@ -21,6 +21,7 @@ InOrder (φ ∷ ψ ∷ ψs) = (phaseFollows ψ φ ≡ false) × InOrder (ψ ∷ 
 pub record Sound (c : Course) : Type 0 where
   pub station : (1 ≤ c .station) × (c .station ≤ 999)
   pub window : WindowHolds (c .window)
+  pub guard : (16 ≤ c .guard) × (c .guard ≤ 1000)
   pub once : (φ : Phase) → Listed φ (c .phases) → times φ (c .phases) ≡ 1
   pub order : InOrder (c .phases)
   pub direction : (τ : ℤ) → (c .direction τ ≤ 3599) ⊎ (c .direction τ ≡ 65535)

@@ -28,8 +28,9 @@ stationFrom ns =
 unfoldable pub windowFrom : List ℤ → Window
 windowFrom ns = record { first = number ns 27; last = number ns 28 }
 
+-- document 02, wish 9: "the program's kind 04 ends with it"
 unfoldable pub requestFrom : List ℤ → Request
-requestFrom ns = record { elements = elementsOf ns; station = stationFrom ns; window = windowFrom ns }
+requestFrom ns = record { elements = elementsOf ns; station = stationFrom ns; window = windowFrom ns; guard = number ns 29 }
 
 -- ---- the request of its bytes
 

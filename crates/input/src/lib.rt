@@ -30,6 +30,7 @@ fn request_from(n: &[i64]) -> Request
     let deltat = n[26];
     let first = n[27];
     let last = n[28];
+    let guard = n[29];
     let station = station::Station {
         number,
         latitude,
@@ -42,6 +43,7 @@ fn request_from(n: &[i64]) -> Request
         elements,
         station,
         window,
+        guard,
     }
 }
 

@@ -5,9 +5,9 @@ use Rattle.phases.specs.declared.Phase.{Phase}
 use Rattle.kinds.specs.declared.Kind.the-variants as K
 use Rattle.kinds.specs.declared.Entry.{Entry}
 
--- station, first and last second
-abbrev pub head : ℕ → ℕ → ℕ → Entry
-head station first last = record { kind = K.Head; a = station; b = first; c = last; d = 0 }
+-- station, first and last second, guard
+abbrev pub head : ℕ → ℕ → ℕ → ℕ → Entry
+head station first last guard = record { kind = K.Head; a = station; b = first; c = last; d = guard }
 
 -- of a phase: from, to, direction
 abbrev pub enter : Phase → ℕ → ℕ → ℕ → Entry

@@ -1,15 +1,19 @@
 -- The rules of an entry's fields, in the window of its sheet: "A reader also asks: station 1..999; first ≤ last ≤ 21,600; every second
 -- inside the window; from < to (open: from ≤ to, and from is the first second or to the last); direction 0..3599 or 65,535;
--- magnitude ≤ 1,300,000."
+-- magnitude ≤ 1,300,000." Of the head's guard document 02, wish 9, asks 16 to 1,000.
 -- Assumes nothing: these are definitions.
 use Prim.Native.Nat.{ℕ}
 use mathlib.Core.Bool.{Bool, _&&_, _||_}
 use lib.Dec.{leb, ltb, eqb}
 use Rattle.kinds.specs.declared.Progress.{Progress}
 
--- "station 1..999; first ≤ last ≤ 21,600"
-abbrev pub headHolds : ℕ → ℕ → ℕ → Bool
-headHolds station first last = leb 1 station && leb station 999 && leb first last && leb last 21600
+-- document 02, wish 9: "a guard of 16 to 1,000"
+abbrev pub guardHolds : ℕ → Bool
+guardHolds guard = leb 16 guard && leb guard 1000
+
+-- "station 1..999; first ≤ last ≤ 21,600", and the guard
+abbrev pub headHolds : ℕ → ℕ → ℕ → ℕ → Bool
+headHolds station first last guard = leb 1 station && leb station 999 && leb first last && leb last 21600 && guardHolds guard
 
 -- "every second inside the window"
 abbrev pub inWindow : Progress → ℕ → Bool

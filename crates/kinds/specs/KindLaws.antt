@@ -70,16 +70,17 @@ size-small k =
     let w = widthsOf k in
     omega (arith, width-small (w .a), width-small (w .b), width-small (w .c), width-small (w .d))
 
-pub size-seven : (k : Kind) → sizeOf k ≤ 7
-size-seven K.Head = omega arith
-size-seven (K.Enter φ) = omega arith
-size-seven (K.Leave φ) = omega arith
-size-seven (K.Graze φ) = omega arith
-size-seven (K.Open φ) = omega arith
-size-seven K.Closest = omega arith
-size-seven K.End = omega arith
+pub size-nine : (k : Kind) → sizeOf k ≤ 9
+size-nine K.Head = omega arith
+size-nine (K.Enter φ) = omega arith
+size-nine (K.Leave φ) = omega arith
+size-nine (K.Graze φ) = omega arith
+size-nine (K.Open φ) = omega arith
+size-nine K.Closest = omega arith
+size-nine K.End = omega arith
 
--- the bytes of a record by its kind's byte: a graze's and an open's have the bit of two and two bytes less; only the end has less still
+-- the bytes of a record by its kind's byte: a graze's and an open's have the bit of two and two bytes less; the end has less still, the
+-- head more
 abbrev pub shortened : ℕ → ℕ
 shortened code = 7 - code % 4 / 2 * 2
 
@@ -92,18 +93,22 @@ size-end (K.Open φ) e = absurd (distinct (sym e))
 size-end K.Closest e = absurd (distinct (sym e))
 size-end K.End e = refl
 
-pub size-byte : (k : Kind) → isEnd k ≡ false → shortened (codeOf k) ≡ sizeOf k
-size-byte K.Head e = refl
-size-byte (K.Enter Penumbra) e = refl
-size-byte (K.Enter Central) e = refl
-size-byte (K.Leave Penumbra) e = refl
-size-byte (K.Leave Central) e = refl
-size-byte (K.Graze Penumbra) e = refl
-size-byte (K.Graze Central) e = refl
-size-byte (K.Open Penumbra) e = refl
-size-byte (K.Open Central) e = refl
-size-byte K.Closest e = refl
-size-byte K.End e = absurd (distinct e)
+pub size-byte : (k : Kind) → isEnd k ≡ false → (codeOf k ≡ 0x01 → ⊥) → shortened (codeOf k) ≡ sizeOf k
+size-byte K.Head e n = absurd (n refl)
+size-byte (K.Enter Penumbra) e n = refl
+size-byte (K.Enter Central) e n = refl
+size-byte (K.Leave Penumbra) e n = refl
+size-byte (K.Leave Central) e n = refl
+size-byte (K.Graze Penumbra) e n = refl
+size-byte (K.Graze Central) e n = refl
+size-byte (K.Open Penumbra) e n = refl
+size-byte (K.Open Central) e n = refl
+size-byte K.Closest e n = refl
+size-byte K.End e n = absurd (distinct e)
+
+-- the head is the only kind of its byte
+pub size-head : (k : Kind) → codeOf k ≡ 0x01 → sizeOf k ≡ 9
+size-head k e = ap sizeOf (let h : Is k ≡ Is K.Head = sym (kind-code k) ∙ ap kindFor e in let i : k ≡ K.Head = cc in i)
 
 -- what the kind does not use is 0
 pub plain-inv : (e : Entry) → plain e ≡ true → let w = widthsOf (e .kind) in
@@ -114,16 +119,3 @@ plain-inv e q =
     let y = both _ _ (x .0) in
     let z = both _ _ (y .0) in
     (z .0, z .1, y .1, x .1)
-
-no-fourth : (k : Kind) → widthsOf k .d ≡ Absent
-no-fourth K.Head = refl
-no-fourth (K.Enter φ) = refl
-no-fourth (K.Leave φ) = refl
-no-fourth (K.Graze φ) = refl
-no-fourth (K.Open φ) = refl
-no-fourth K.Closest = refl
-no-fourth K.End = refl
-
--- no kind has a fourth field, so that of a plain entry is 0
-pub plain-fourth : (e : Entry) → plain e ≡ true → e .d ≡ 0
-plain-fourth e q = eqb-true (e .d) 0 (ap (λ w. unused w (e .d)) (sym (no-fourth (e .kind))) ∙ plain-inv e q .3)

@@ -38,9 +38,10 @@ base Penumbra = 0x10
 base Central = 0x20
 
 -- "01 head: station, first, last (2 bytes each)"; "10, 11 enter, leave penumbra; 20, 21 central: from, to, direction (2 each)";
--- "12, 13 graze, open penumbra; 22, 23 central: from, to (2 each)"; "30 closest: second (2), magnitude (4)"; "7F end: none"
+-- "12, 13 graze, open penumbra; 22, 23 central: from, to (2 each)"; "30 closest: second (2), magnitude (4)"; "7F end: none".
+-- Document 02, wish 9: "The request and, at its end, the head record gain a guard of 16 to 1,000, two bytes."
 abbrev pub table : Kind → Row
-table K.Head = row 0x01 (fields Two Two Two Absent) S.Head (λ p e. headHolds (e .a) (e .b) (e .c))
+table K.Head = row 0x01 (fields Two Two Two Two) S.Head (λ p e. headHolds (e .a) (e .b) (e .c) (e .d))
 table (K.Enter φ) = row (base φ) (fields Two Two Two Absent) (S.Phase φ) (λ p e. spanHolds p (e .a) (e .b) && isDirection (e .c))
 table (K.Leave φ) = row (base φ + 1) (fields Two Two Two Absent) (S.Phase φ) (λ p e. spanHolds p (e .a) (e .b) && isDirection (e .c))
 table (K.Graze φ) = row (base φ + 2) (fields Two Two Absent Absent) (S.Phase φ) (λ p e. spanHolds p (e .a) (e .b))

@@ -5,8 +5,8 @@ use phases::Phase;
 ghost use mathlib.Core.Path.{_≡_};
 ghost use Rattle.kinds.specs.Entries as Named;
 
-pub fn head(station: u32, first: u32, last: u32) -> Entry
-    ensures { λ r. ⌜ r ≡ Named.head station first last ⌝ }
+pub fn head(station: u32, first: u32, last: u32, guard: u32) -> Entry
+    ensures { λ r. ⌜ r ≡ Named.head station first last guard ⌝ }
 {
     let kind = Kind::Head;
     Entry {
@@ -14,7 +14,7 @@ pub fn head(station: u32, first: u32, last: u32) -> Entry
         a: station,
         b: first,
         c: last,
-        d: 0,
+        d: guard,
     }
 }
 

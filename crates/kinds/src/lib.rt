@@ -23,7 +23,7 @@ pub enum Kind {
 
 // An entry of a sheet: its kind and up to four numbers, 0 for what the kind does not use.
 // Seconds are stored ones, the second of the window plus 10,800: 0 to 21,600.
-//   head          a station: its number, 1 to 999; b first, c last: the window, first ≤ last
+//   head          a station: its number, 1 to 999; b first, c last: the window, first ≤ last; d guard: 16 to 1,000 units
 //   enter, leave  a from, b to; c direction: in tenths of a degree, 0 to 3599, or 65,535 for none
 //   graze, open   a from, b to
 //   closest       a second; b magnitude: in millionths, 0 to 1,300,000
@@ -150,7 +150,7 @@ pub fn widths_of(kind: Kind) -> Widths
     ensures { λ r. ⌜ r ≡ widthsOf kind ⌝ }
 {
     match kind {
-        Kind::Head => fields(Width::Two, Width::Two, Width::Two, Width::Absent),
+        Kind::Head => fields(Width::Two, Width::Two, Width::Two, Width::Two),
         Kind::Enter(_) => fields(Width::Two, Width::Two, Width::Two, Width::Absent),
         Kind::Leave(_) => fields(Width::Two, Width::Two, Width::Two, Width::Absent),
         Kind::Graze(_) => fields(Width::Two, Width::Two, Width::Absent, Width::Absent),
@@ -176,7 +176,7 @@ pub fn size_of(kind: Kind) -> usize
     ensures { λ r. ⌜ (r ≡ sizeOf kind) × (r ≤ 17) ⌝ }
 {
     match kind {
-        Kind::Head => 7,
+        Kind::Head => 9,
         Kind::Enter(_) => 7,
         Kind::Leave(_) => 7,
         Kind::Graze(_) => 5,
@@ -194,6 +194,9 @@ pub fn size_for(code: u32, kind: Kind) -> usize
 {
     if is_end(kind) {
         return 1;
+    }
+    if code == 0x01 {
+        return 9;
     }
     let size = 7 - code % 4 / 2 * 2;
     size as usize

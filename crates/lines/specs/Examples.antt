@@ -9,7 +9,7 @@ use Rattle.decimals.specs.Patterns.{piece, filled}
 use Rattle.lines.specs.Lines.{lineOf, linesOf, refusalText, refusalLine}
 
 pub hand-worked : linesOf (
-    head 7 4800 16800 ∷ enter Penumbra 5399 5401 2700 ∷ leave Penumbra 16199 16201 900
+    head 7 4800 16800 16 ∷ enter Penumbra 5399 5401 2700 ∷ leave Penumbra 16199 16201 900
     ∷ enter Central 10699 10701 2700 ∷ leave Central 10899 10901 900 ∷ closest 10800 1037735 ∷ end ∷ []
     )
     ≡ letters "station 7 from -6000 to 6000\nenter penumbra -5401 -5399 2700\nleave penumbra 5399 5401 900\nenter central -101 -99 2700\nleave central 99 101 900\nclosest 0 1037735\n"
@@ -20,7 +20,7 @@ pub unsure : linesOf (opened Penumbra 16200 16201 ∷ graze Central 10799 10801 
 unfolding linesOf lineOf filled piece signed decimal digitsOf
 unsure = refl
 
--- "a buffer of 43 bytes succeeds, 42 gives refusal 4 with place 43"
-pub refused : refusalLine 4 43 ≡ letters "refused 4 43\n"
+-- "42 gives refusal 4 with place 43"; document 02, wish 9: "with 45 and 44 bytes for 43 and 42"
+pub refused : refusalLine 4 45 ≡ letters "refused 4 45\n"
 unfolding refusalLine refusalText decimal digitsOf
 refused = refl

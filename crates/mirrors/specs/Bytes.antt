@@ -20,7 +20,7 @@ use Rattle.input.specs.Input.{inputOf}
 
 -- the numbers of a request, in document 01's order
 abbrev pub numbersOf : Request → List ℤ
-numbersOf q = E.fields (q .elements) ++ (S.fields (q .station) ++ (q .window .first ∷ q .window .last ∷ []))
+numbersOf q = E.fields (q .elements) ++ (S.fields (q .station) ++ (q .window .first ∷ q .window .last ∷ q .guard ∷ []))
 
 -- the mirror that its bytes hold: in 4 bytes each number has its opposite but one, -2^31, which stays as it is
 abbrev pub mirrorInBytes : Request → Request

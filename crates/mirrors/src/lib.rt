@@ -91,6 +91,7 @@ pub fn mirror(q: Request) -> Request
         elements,
         station,
         window,
+        guard: q.guard,
     }
 }
 

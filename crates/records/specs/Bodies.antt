@@ -1,5 +1,5 @@
--- The fields of a kind from the three numbers of two bytes that follow its byte, x, y and z, `wide` being y and z as one; and that they are
--- the entry's.
+-- The fields of a kind from the four numbers of two bytes that follow its byte, x, y, z and w, `wide` being y and z as one; and that they
+-- are the entry's.
 -- Callers go by `bodyAt`.
 use Prim.Native.Nat.{ℕ, _+_, _*_, _≤_}
 use mathlib.Core.Path.{_≡_, refl}
@@ -39,14 +39,23 @@ fieldC (K.Open φ) z = 0
 fieldC K.Closest z = 0
 fieldC K.End z = 0
 
--- the entry whose three numbers are those that stand there, as far as its record goes
-pub entry-made : (k : Kind) (s : List ℕ) (at x y z : ℕ) → (5 ≤ sizeOf k → x ≡ twoAt s at) → (5 ≤ sizeOf k → y ≡ twoAt s (at + 2))
-    → (7 ≤ sizeOf k → z ≡ twoAt s (at + 2 + 2))
-    → _≡_ {A = Entry} (record { kind = k; a = fieldA k x; b = fieldB k y (y * 65536 + z); c = fieldC k z; d = 0 }) (entryAt k s at)
-entry-made K.Head s at x y z f g h = rw (f (omega arith), g (omega arith), h (omega arith))
-entry-made (K.Enter φ) s at x y z f g h = rw (f (omega arith), g (omega arith), h (omega arith))
-entry-made (K.Leave φ) s at x y z f g h = rw (f (omega arith), g (omega arith), h (omega arith))
-entry-made (K.Graze φ) s at x y z f g h = rw (f (omega arith), g (omega arith))
-entry-made (K.Open φ) s at x y z f g h = rw (f (omega arith), g (omega arith))
-entry-made K.Closest s at x y z f g h = rw (f (omega arith), g (omega arith), h (omega arith))
-entry-made K.End s at x y z f g h = refl
+abbrev pub fieldD : Kind → ℕ → ℕ
+fieldD K.Head w = w
+fieldD (K.Enter φ) w = 0
+fieldD (K.Leave φ) w = 0
+fieldD (K.Graze φ) w = 0
+fieldD (K.Open φ) w = 0
+fieldD K.Closest w = 0
+fieldD K.End w = 0
+
+-- the entry whose four numbers are those that stand there, as far as its record goes
+pub entry-made : (k : Kind) (s : List ℕ) (at x y z w : ℕ) → (5 ≤ sizeOf k → x ≡ twoAt s at) → (5 ≤ sizeOf k → y ≡ twoAt s (at + 2))
+    → (7 ≤ sizeOf k → z ≡ twoAt s (at + 2 + 2)) → (9 ≤ sizeOf k → w ≡ twoAt s (at + 2 + 2 + 2))
+    → _≡_ {A = Entry} (record { kind = k; a = fieldA k x; b = fieldB k y (y * 65536 + z); c = fieldC k z; d = fieldD k w }) (entryAt k s at)
+entry-made K.Head s at x y z w f g h i = rw (f (omega arith), g (omega arith), h (omega arith), i (omega arith))
+entry-made (K.Enter φ) s at x y z w f g h i = rw (f (omega arith), g (omega arith), h (omega arith))
+entry-made (K.Leave φ) s at x y z w f g h i = rw (f (omega arith), g (omega arith), h (omega arith))
+entry-made (K.Graze φ) s at x y z w f g h i = rw (f (omega arith), g (omega arith))
+entry-made (K.Open φ) s at x y z w f g h i = rw (f (omega arith), g (omega arith))
+entry-made K.Closest s at x y z w f g h i = rw (f (omega arith), g (omega arith), h (omega arith))
+entry-made K.End s at x y z w f g h i = refl

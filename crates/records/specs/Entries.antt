@@ -15,9 +15,9 @@ body w e = number (w .a) (e .a) ++ (number (w .b) (e .b) ++ (number (w .c) (e .c
 abbrev pub bytes : Entry → List ℕ
 bytes e = codeOf (e .kind) ∷ body (widthsOf (e .kind)) e
 
--- an entry as four numbers: no kind has a fourth field
+-- an entry as five numbers: its kind's byte and its fields
 abbrev pub numbers : Entry → List ℕ
-numbers e = codeOf (e .kind) ∷ e .a ∷ e .b ∷ e .c ∷ []
+numbers e = codeOf (e .kind) ∷ e .a ∷ e .b ∷ e .c ∷ e .d ∷ []
 
 -- the bytes of a list of entries, and its numbers
 unfoldable pub bytesOf : List Entry → List ℕ

@@ -57,7 +57,7 @@ numbers-cons e es = refl
 pub length-bytes-cons : (e : Entry) (es : List Entry) → length (bytesOf (e ∷ es)) ≡ sizeOf (e .kind) + length (bytesOf es)
 length-bytes-cons e es = ap length (bytes-cons e es) ∙ length-append (bytes e) (bytesOf es) ∙ ap (λ n. n + length (bytesOf es)) (length-bytes e)
 
-pub length-numbers : (es : List Entry) → length (numbersOf es) ≡ length es * 4
+pub length-numbers : (es : List Entry) → length (numbersOf es) ≡ length es * 5
 unfolding numbersOf
 length-numbers [] = refl
 length-numbers (e ∷ es) = omega (arith, length-numbers es)

@@ -16,7 +16,7 @@ ghost use mathlib.Core.Bool.{true, cond};
 ghost use Rattle.kinds.specs.Kinds.{bytesIn, sizeOf};
 ghost use Rattle.records.specs.Numbers.{twoAt, number};
 ghost use Rattle.records.specs.Entries.{bytes};
-ghost use Rattle.records.specs.Bodies.{fieldA, fieldB, fieldC};
+ghost use Rattle.records.specs.Bodies.{fieldA, fieldB, fieldC, fieldD};
 ghost use Rattle.records.specs.Records.{byteAt, bodyAt, recordAt};
 
 // ---- reading
@@ -40,7 +40,7 @@ fn two_if(s: &[u8], at: usize, there: bool) -> u32
     if there { super::two_at(s, at) } else { 0 }
 }
 
-// The fields of a kind from the three numbers of two bytes that follow its byte, x, y and z; `wide` is y and z as one.
+// The fields of a kind from the four numbers of two bytes that follow its byte, x, y, z and w; `wide` is y and z as one.
 fn field_a(kind: Kind, x: u32) -> u32
     ensures { λ r. ⌜ r ≡ fieldA kind x ⌝ }
 {
@@ -83,11 +83,25 @@ fn field_c(kind: Kind, z: u32) -> u32
     }
 }
 
-// Whether so many bytes are too few for a record of that kind. None has more than 7.
+fn field_d(kind: Kind, w: u32) -> u32
+    ensures { λ r. ⌜ r ≡ fieldD kind w ⌝ }
+{
+    match kind {
+        Kind::Head => w,
+        Kind::Enter(_) => 0,
+        Kind::Leave(_) => 0,
+        Kind::Graze(_) => 0,
+        Kind::Open(_) => 0,
+        Kind::Closest => 0,
+        Kind::End => 0,
+    }
+}
+
+// Whether so many bytes are too few for a record of that kind. None has more than 9.
 fn is_cut(left: usize, kind: Kind) -> bool
     ensures { λ r. ⌜ r ≡ ltb left (sizeOf kind) ⌝ }
 {
-    if 7 <= left {
+    if 9 <= left {
         return false;
     }
     left < kinds::size_of(kind)
@@ -107,19 +121,16 @@ pub fn body_at(s: &[u8], at: usize, kind: Kind) -> Body
     let at_a = at + 1;
     let at_b = at_a + 2;
     let at_c = at_b + 2;
+    let at_d = at_c + 2;
     let x = two_if(s, at_a, 5 <= left);
     let y = two_if(s, at_b, 5 <= left);
     let z = two_if(s, at_c, 7 <= left);
+    let w = two_if(s, at_d, 9 <= left);
     let a = field_a(kind, x);
     let b = field_b(kind, y, y * 65536 + z);
     let c = field_c(kind, z);
-    Body::Is(Entry {
-        kind,
-        a,
-        b,
-        c,
-        d: 0,
-    })
+    let d = field_d(kind, w);
+    Body::Is(Entry { kind, a, b, c, d })
 }
 
 // The record at `at`: its entry and the place after it; or 5 or 6.

@@ -36,8 +36,8 @@ put-whole x old new r h g p =
     let l : r ≤ length new = omega (arith, put-same old 0 x new r p) in
     (t, (l, e ∙ sym (ap length t)))
 
--- "exactly 109 bytes", and 4 of ΔT
-bytes-length : (ns : List ℤ) → length ns ≡ count → length (bytesOf ns) ≡ 113
+-- "exactly 109 bytes", 4 of ΔT and 2 of the guard
+bytes-length : (ns : List ℤ) → length ns ≡ count → length (bytesOf ns) ≡ 115
 unfolding bytesOf
 bytes-length ns e = length-bytes (piecesOf layout) ns e
 
@@ -83,13 +83,13 @@ module _ (text : List ℕ) where
             (sym o, (w .0 ∙ sym u, ((omega arith, refl), w .1)))
 
     pub numbers-written : T.Numbers ≡ answerOf (typingOf text) → (out message before : List ℕ) → out ≡ bytesFrom (typingOf text) before
-        → Promised text 113 out message 0
+        → Promised text 115 out message 0
     numbers-written e out message before b = by (typingOf text) refl e b
       where
-        by : (x : Typing) → typingOf text ≡ x → T.Numbers ≡ answerOf x → out ≡ bytesFrom x before → Promised text 113 out message 0
+        by : (x : Typing) → typingOf text ≡ x → T.Numbers ≡ answerOf x → out ≡ bytesFrom x before → Promised text 115 out message 0
         by (given ns) q a p =
-            let h : length out ≡ 113 = ap length p ∙ bytes-length ns (numbers-fit text ns q .all) in
-            let all : take 113 out ≡ out = take-all 113 out (omega arith) in
+            let h : length out ≡ 115 = ap length p ∙ bytes-length ns (numbers-fit text ns q .all) in
+            let all : take 115 out ≡ out = take-all 115 out (omega arith) in
             let u : errorOf text ≡ [] = error-is ∙ ap (errorBy text) q in
             (all ∙ p ∙ sym (output-is ∙ ap outputBy q), (sym u, ((omega arith, sym (ap length all ∙ h)), (omega arith, refl))))
         by (refused j k) q a p = let z : _≡_ {A = ℕ} 0 1 = cc in absurd (omega arith)

@@ -1,4 +1,4 @@
-// Reads a typed request from standard input, one `name value` a line, and writes its 113 bytes to standard output.
+// Reads a typed request from standard input, one `name value` a line, and writes its 115 bytes to standard output.
 // A fault is told on standard error with its line, and nothing is written.
 use libc::STDERR_FILENO;
 use libc::STDIN_FILENO;

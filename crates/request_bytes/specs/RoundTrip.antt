@@ -13,8 +13,8 @@ use Rattle.request_bytes.specs.NumberLaws.{Bytes}
 use Rattle.request_bytes.specs.LayoutLaws as Any
 use Rattle.request_bytes.specs.Request.{putOf, bytesOf, readingOf}
 
--- "exactly 109 bytes", and 4 of ΔT
-pub size-is : sizeOf (piecesOf layout) ≡ 113
+-- "exactly 109 bytes", 4 of ΔT and 2 of the guard
+pub size-is : sizeOf (piecesOf layout) ≡ 115
 size-is = refl
 
 -- numbers that are put are read back

@@ -87,11 +87,12 @@ station =
           ∷ number W.Signed4 "delta t" 2 ∷ [];
     }
 
--- "kind 04 and first, last (signed, 2 each)"; "Time: whole seconds"
+-- "kind 04 and first, last (signed, 2 each)"; "Time: whole seconds". Document 02, wish 9: "a guard of 16 to 1,000, two bytes"; "the program's
+-- kind 04 ends with it"
 abbrev window : Record
-window = record { kind = 0x04; numbers = number W.Signed2 "first" 0 ∷ number W.Signed2 "last" 0 ∷ [] }
+window = record { kind = 0x04; numbers = number W.Signed2 "first" 0 ∷ number W.Signed2 "last" 0 ∷ number W.Unsigned2 "guard" 0 ∷ [] }
 
--- "exactly 109 bytes, numbers big-endian: kind 02 ..; kind 03 ..; kind 04 .."; with ΔT 113
+-- "exactly 109 bytes, numbers big-endian: kind 02 ..; kind 03 ..; kind 04 .."; with ΔT and the guard 115
 abbrev pub layout : List Record
 layout = elements ∷ station ∷ window ∷ []
 

@@ -6,9 +6,9 @@ ghost use Rattle.request_fields.specs.Fields.{bytesIn, holds, count};
 ghost use Rattle.request_fields.specs.Rows.{rowAt};
 
 // How many numbers a request has, and how many bytes.
-pub const COUNT: usize = 29;
+pub const COUNT: usize = 30;
 
-pub const LENGTH: usize = 113;
+pub const LENGTH: usize = 115;
 
 // The bytes of a number.
 pub enum Width {
@@ -51,6 +51,7 @@ const FIELDS: [Field; COUNT] = [
     Field(*b"delta t  ", 7, 2, Width::Signed4, 0),
     Field(*b"first    ", 5, 0, Width::Signed2, 0x04),
     Field(*b"last     ", 4, 0, Width::Signed2, 0),
+    Field(*b"guard    ", 5, 0, Width::Unsigned2, 0),
 ];
 
 // Number k of a request. It is for crates that go through the numbers, and has a `requires`, so it is none of the public promises.

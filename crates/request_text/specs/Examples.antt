@@ -15,12 +15,13 @@ use Rattle.request_text.specs.Lines.{withSign, fitted, valueOf, ofValue,
 abbrev lines : List String
 lines =
     "x0 -0.19869267" ∷ "  latitude\t55.755  # Moscow" ∷ "tan f1 .00459878" ∷ "first -3600" ∷ "d0 23.1932850000" ∷ "delta t -29.5"
-    ∷ "# a comment" ∷ "" ∷ "y0 0.123456789" ∷ "delta t 29.505" ∷ "height 1e3" ∷ "station -1" ∷ "last 32768" ∷ "tan f3 0" ∷ "x00 1" ∷ []
+    ∷ "# a comment" ∷ "" ∷ "y0 0.123456789" ∷ "delta t 29.505" ∷ "height 1e3" ∷ "station -1" ∷ "last 32768" ∷ "guard -1" ∷ "guard 100" ∷ "tan f3 0" ∷ "x00 1" ∷ []
 
 pub meanings : map (λ (l : String). meaningOf (letters l)) lines
     ≡ L.Given 0 (negℤ (pos 19869267)) ∷ L.Given 23 (pos 55755000) ∷ L.Given 20 (pos 459878) ∷ L.Given 27 (negℤ (pos 3600)) ∷ L.Given 8 (pos 23193285)
     ∷ L.Given 26 (negℤ (pos 2950)) ∷ L.Nothing ∷ L.Nothing ∷ L.Faulty (Fault.NotWhole 4) ∷ L.Faulty (Fault.NotWhole 26)
     ∷ L.Faulty (Fault.NotNumber 25) ∷ L.Faulty (Fault.Unfit 22) ∷ L.Faulty (Fault.Unfit 28)
+    ∷ L.Faulty (Fault.Unfit 29) ∷ L.Given 29 (pos 100)
     ∷ L.Faulty Fault.Unknown ∷ L.Faulty Fault.Unknown ∷ []
 unfolding holds rows rowAt runOf linesOf appended isNumber isWhole amount names named findIn withSign fitted valueOf ofValue ofName meaningOf
 meanings = refl

@@ -7,10 +7,10 @@ use native.Mathlib.Omega.{arith}
 use native.Mathlib.Decide.{decLt}
 use lib.Dec.{eqb}
 use lib.IntN.{ℤ, pos}
-use lib.ListN.{length, getD, set, replicate, length-set, getD-replicate}
+use lib.ListN.{length, getD, set, take, replicate, length-set, getD-replicate}
 use lib.Seq.{getD-set-same, getD-set-other}
 use Rattle.request_fields.specs.Fields.{holds, count}
-use Rattle.request_fields.specs.Rows.{widthOf}
+use Rattle.request_fields.specs.Rows.{rows, rowAt, widthOf}
 use Rattle.request_fields.specs.WidthLaws.{held-zero}
 use Rattle.words.specs.Text.{linesOf}
 use Rattle.request_text.specs.declared.Line.{Line}
@@ -19,7 +19,7 @@ use Rattle.request_text.specs.declared.Noted.{Noted}
 use Rattle.request_text.specs.declared.Noted.the-variants as N
 use Rattle.request_text.specs.Lines.{meaningOf}
 use Rattle.request_text.specs.LineLaws.{meaning-in}
-use Rattle.request_text.specs.Typing.{InFields, notedOf, marksAfter, numbersAfter, missing, Typing, given, onward, readLines, typingOf}
+use Rattle.request_text.specs.Typing.{InFields, notedOf, marksAfter, numbersAfter, missing, Typing, given, onward, required, untyped, readLines, typingOf}
 use Rattle.request_text.specs.TypingLaws.{read-end, read-line}
 
 -- ---- the numbers of a text fit their bytes
@@ -61,15 +61,20 @@ same-numbers a b e = cc
 
 lines-fit : (ls : List (List ℕ)) (i : ℕ) (ns : List ℤ) (marks : List ℕ) (out : List ℤ) → Fit ns → readLines ls i ns marks ≡ given out → Fit out
 lines-fit [] i ns marks out f e =
-    subst Fit (same-numbers ns out (onward-taken (missing 0 marks) i (given ns) out (sym (read-end i ns marks) ∙ e))) f
+    subst Fit (same-numbers ns out (onward-taken (missing 0 (take required marks)) i (given ns) out (sym (read-end i ns marks) ∙ e))) f
 lines-fit (l ∷ ls) i ns marks out f e =
     let m = meaningOf l in
     lines-fit ls (i + 1) (numbersAfter m marks ns) (marksAfter m marks) out (fit-line m marks ns (meaning-in l) f)
     (onward-taken (notedOf m marks) i (readLines ls (i + 1) (numbersAfter m marks ns) (marksAfter m marks)) out (sym (read-line l ls i ns marks) ∙ e))
 
+-- zeros and the guard that is left out
 zeros-fit : Fit (replicate count (pos 0))
 zeros-fit = record { all = refl; each = λ k h. rw (getD-replicate count k (pos 0) (pos 0) h) (held-zero (widthOf k)) }
 
+untyped-fit : Fit untyped
+unfolding holds rowAt rows
+untyped-fit = fit-set (replicate count (pos 0)) required (pos 16) zeros-fit (omega arith) refl
+
 pub numbers-fit : (text : List ℕ) (ns : List ℤ) → typingOf text ≡ given ns → Fit ns
 unfolding typingOf
-numbers-fit text ns e = lines-fit (linesOf text) 1 (replicate count (pos 0)) (replicate count 0) ns zeros-fit e
+numbers-fit text ns e = lines-fit (linesOf text) 1 untyped (replicate count 0) ns untyped-fit e

@@ -3,10 +3,10 @@
 use Prim.Native.Nat.{ℕ, _+_, _<_}
 use mathlib.Core.Path.{_≡_}
 use mathlib.Core.Bool.{true, cond}
-use mathlib.Core.List.{List, [], _∷_}
+use mathlib.Core.List.{List, [], _∷_, _++_}
 use lib.Dec.{eqb}
 use lib.IntN.{ℤ, pos}
-use lib.ListN.{getD, set, replicate}
+use lib.ListN.{getD, set, take, replicate}
 use Rattle.request_fields.specs.Fields.{holds, count}
 use Rattle.request_fields.specs.Rows.{widthOf}
 use Rattle.words.specs.Text.{linesOf}
@@ -50,14 +50,22 @@ abbrev pub onward : Noted → ℕ → Typing → Typing
 onward N.Taken i r = r
 onward (N.Refused f) i r = refused i f
 
--- the lines from line i on; after the last, no field may be missing
+-- the fields before the guard must be typed
+abbrev pub required : ℕ
+required = 29
+
+-- the numbers where nothing is typed: the guard, the last, is 16 then
+abbrev pub untyped : List ℤ
+untyped = replicate required (pos 0) ++ pos 16 ∷ []
+
+-- the lines from line i on; after the last, no field that must be typed may be missing
 unfoldable pub readLines : List (List ℕ) → ℕ → List ℤ → List ℕ → Typing
-readLines [] i ns marks = onward (missing 0 marks) i (given ns)
+readLines [] i ns marks = onward (missing 0 (take required marks)) i (given ns)
 readLines (l ∷ ls) i ns marks =
     onward (notedOf (meaningOf l) marks) i (readLines ls (i + 1) (numbersAfter (meaningOf l) marks ns) (marksAfter (meaningOf l) marks))
 
 unfoldable pub typingOf : List ℕ → Typing
-typingOf text = readLines (linesOf text) 1 (replicate count (pos 0)) (replicate count 0)
+typingOf text = readLines (linesOf text) 1 untyped (replicate count 0)
 
 abbrev pub answerOf : Typing → Typed
 answerOf (given ns) = T.Numbers

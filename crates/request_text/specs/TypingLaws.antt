@@ -4,8 +4,8 @@ use mathlib.Core.List.{List, [], _∷_}
 use Prim.Native.Nat.{ℕ, _+_, _≤_, _<_}
 use native.Mathlib.Omega.{arith}
 use borrow.Author.Tests.{eq-eqb, ne-eqb}
-use lib.IntN.{ℤ, pos}
-use lib.ListN.{length, getD, drop, set, replicate}
+use lib.IntN.{ℤ}
+use lib.ListN.{length, getD, take, drop, set, replicate}
 use Rattle.request_fields.specs.Fields.{count}
 use Rattle.words.specs.declared.Class.the-variants as C
 use Rattle.words.specs.Text.{runOf, linesOf}
@@ -19,7 +19,7 @@ use Rattle.request_text.specs.declared.Noted.the-variants as N
 use Rattle.request_text.specs.declared.Typed.{Typed}
 use Rattle.request_text.specs.declared.Typed.the-variants as T
 use Rattle.request_text.specs.Lines.{meaningOf}
-use Rattle.request_text.specs.Typing.{notedOf, marksAfter, numbersAfter, missing, Typing, given, refused, onward, readLines, typingOf, answerOf, numbersFrom}
+use Rattle.request_text.specs.Typing.{notedOf, marksAfter, numbersAfter, missing, Typing, given, refused, onward, required, untyped, readLines, typingOf, answerOf, numbersFrom}
 
 -- ---- the fields given so far
 
@@ -70,7 +70,7 @@ module _ (marks : List ℕ) (k : ℕ) (g : Given marks k) where
 
 -- ---- the lines one after the other
 
-pub read-end : (i : ℕ) (ns : List ℤ) (marks : List ℕ) → readLines [] i ns marks ≡ onward (missing 0 marks) i (given ns)
+pub read-end : (i : ℕ) (ns : List ℤ) (marks : List ℕ) → readLines [] i ns marks ≡ onward (missing 0 (take required marks)) i (given ns)
 unfolding readLines
 read-end i ns marks = refl
 
@@ -88,7 +88,7 @@ pub record Walked (text : List ℕ) (marks : List ℕ) (ns : List ℤ) (at i : �
   pub marked : length marks ≡ count
   pub fields : length ns ≡ count
 
-pub typing-start : (text : List ℕ) → Walked text (replicate count 0) (replicate count (pos 0)) 0 1
+pub typing-start : (text : List ℕ) → Walked text (replicate count 0) untyped 0 1
 unfolding typingOf
 typing-start text = record { reading = refl; lines = omega arith; place = omega arith; marked = refl; fields = refl }
 
@@ -100,13 +100,13 @@ module _ (text marks : List ℕ) (ns : List ℤ) (at i : ℕ) (w : Walked text m
   answered : (old : List ℤ) (x : Typing) → typingOf text ≡ x → Answered old (answerOf x) (numbersFrom x old)
   answered old x e = (ap answerOf (sym e), ap (λ (y : Typing). numbersFrom y old) (sym e))
 
-  at-end : length text ≤ at → typingOf text ≡ onward (missing 0 marks) i (given ns)
+  at-end : length text ≤ at → typingOf text ≡ onward (missing 0 (take required marks)) i (given ns)
   at-end h = w .reading ∙ ap (λ (l : List (List ℕ)). readLines l i ns marks) (lines-end text at h) ∙ read-end i ns marks
 
-  pub end-missing : length text ≤ at → (old : List ℤ) (f : Fault) → missing 0 marks ≡ N.Refused f → Answered old (T.Refused i f) old
+  pub end-missing : length text ≤ at → (old : List ℤ) (f : Fault) → missing 0 (take required marks) ≡ N.Refused f → Answered old (T.Refused i f) old
   end-missing h old f e = answered old (refused i f) (at-end h ∙ ap (λ (m : Noted). onward m i (given ns)) e)
 
-  pub end-all : length text ≤ at → (old : List ℤ) → missing 0 marks ≡ N.Taken → Answered old T.Numbers ns
+  pub end-all : length text ≤ at → (old : List ℤ) → missing 0 (take required marks) ≡ N.Taken → Answered old T.Numbers ns
   end-all h old e = answered old (given ns) (at-end h ∙ ap (λ (m : Noted). onward m i (given ns)) e)
 
   module _ (n : ℕ) (h : at < length text) (e : n ≡ runOf C.Line (drop at text)) where

@@ -54,6 +54,9 @@ pub enum Typed {
     Refused(usize, Fault),
 }
 
+// The numbers before the guard must be typed; the guard is 16 where it is left out.
+const REQUIRED: usize = 29;
+
 // ---- names
 
 // Whether what is said begins with the name, and a blank or nothing follows.
@@ -202,7 +205,7 @@ fn note(line: Line, marks: &mut [u8], numbers: &mut [i64]) -> Noted
     }
 }
 
-// Whether all fields were given.
+// Whether all these fields were given.
 fn complete(marks: &[u8]) -> Noted
     ensures { λ r. ⌜ r ≡ missing 0 (now (marks .entry)) ⌝ }
 {
@@ -223,6 +226,7 @@ pub fn numbers(text: &[u8], out: &mut [i64; COUNT]) -> Typed
 {
     let mut marks = [0u8; COUNT];
     let mut found = [0i64; COUNT];
+    found[REQUIRED] = 16;
     let mut at = 0;
     let mut line = 1;
     while at < text.len() {
@@ -236,7 +240,7 @@ pub fn numbers(text: &[u8], out: &mut [i64; COUNT]) -> Typed
         at = end + 1;
         line += 1;
     }
-    let all = complete(&marks);
+    let all = complete(&marks[..REQUIRED]);
     if let Noted::Refused(fault) = all {
         return Typed::Refused(line, fault);
     }

@@ -1,11 +1,11 @@
-// A request: the elements of an eclipse, a station and a window of seconds. Its limits, and the refusals 1, 2 and 3.
+// A request: the elements of an eclipse, a station, a window of seconds and a guard. Its limits, and the refusals 1, 2 and 3.
 use refusals::Checked;
 use refusals::Refusal;
 ghost use mathlib.Core.Path.{_≡_};
 ghost use Prim.Native.Nat.{_<_};
 ghost use lib.IntN.{pos, _+ℤ_};
 ghost use Rattle.requests.specs.Windows.{inSpan, windowHolds, secondCount, nthSecond};
-ghost use Rattle.requests.specs.Requests.{checked};
+ghost use Rattle.requests.specs.Requests.{guardHolds, checked};
 ghost use Rattle.requests.specs.WindowLaws.{WindowHolds};
 
 // First and last second of the window, from the reference instant: -10,800 ≤ first ≤ last ≤ 10,800.
@@ -19,6 +19,8 @@ pub struct Request {
     pub elements: elements::Elements,
     pub station: station::Station,
     pub window: Window,
+    // how near to a cone's edge nothing is said, 10^-8 of the Earth's equatorial radius, 16 to 1,000
+    pub guard: i64,
 }
 
 // Whether a window may have that second.
@@ -34,6 +36,12 @@ fn window_holds(w: Window) -> bool
     (-10_800 <= w.first) & ((w.first <= w.last) & (w.last <= 10_800))
 }
 
+fn guard_holds(g: i64) -> bool
+    ensures { λ r. ⌜ r ≡ guardHolds g ⌝ }
+{
+    (16 <= g) & (g <= 1_000)
+}
+
 // Whether the request is within its limits, or the first of its refusals 1, 2, 3.
 pub fn check(q: Request) -> Checked
     ensures { λ r. ⌜ r ≡ checked q ⌝ }
@@ -44,6 +52,14 @@ pub fn check(q: Request) -> Checked
         return Checked::Refused(Refusal {
             number: 1,
             place: 0,
+        });
+    }
+    let g = q.guard;
+    let guarded = guard_holds(g);
+    if !guarded {
+        return Checked::Refused(Refusal {
+            number: 1,
+            place: 1,
         });
     }
     let e = q.elements;

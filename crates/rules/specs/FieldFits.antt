@@ -11,7 +11,7 @@ use Rattle.kinds.specs.declared.Kind.the-variants as K
 use Rattle.kinds.specs.declared.Progress.{Progress}
 use Rattle.kinds.specs.Kinds.{plain, table}
 use Rattle.kinds.specs.KindLaws.{plain-inv}
-use Rattle.kinds.specs.FieldRules.{inWindow, isDirection, spanHolds}
+use Rattle.kinds.specs.FieldRules.{guardHolds, headHolds, inWindow, isDirection, spanHolds}
 use Rattle.records.specs.RecordTrip.{FitsIn}
 use Rattle.kinds.specs.TestLaws.{both}
 use Rattle.rules.specs.Rules.{start, fieldsHold, afterOf}
@@ -36,15 +36,17 @@ both-fit p f t h q = let y = both (inWindow p f) (inWindow p t) q in (window-fit
 span-fits : (p : Progress) (f t : ℕ) → Small p → spanHolds p f t ≡ true → (f < 65536) × (t < 65536)
 span-fits p f t h q = both-fit p f t h (both (inWindow p f && inWindow p t) (ltb f t) q .0)
 
-head-fits : (s f l : ℕ) → (leb 1 s && leb s 999 && leb f l && leb l 21600) ≡ true → (s < 65536) × (f < 65536) × (l < 65536)
-head-fits s f l q =
-    let x = both (leb 1 s && leb s 999 && leb f l) (leb l 21600) q in
+head-fits : (s f l g : ℕ) → headHolds s f l g ≡ true → (s < 65536) × (f < 65536) × (l < 65536) × (g < 65536)
+head-fits s f l g q =
+    let w = both (leb 1 s && leb s 999 && leb f l && leb l 21600) (guardHolds g) q in
+    let x = both (leb 1 s && leb s 999 && leb f l) (leb l 21600) (w .0) in
     let y = both (leb 1 s && leb s 999) (leb f l) (x .0) in
     let z = both (leb 1 s) (leb s 999) (y .0) in
     let a = leb-true l 21600 (x .1) in
     let b = leb-true f l (y .1) in
     let c = leb-true s 999 (z .1) in
-    (omega arith, omega arith, omega arith)
+    let d = leb-true g 1000 (both (leb 16 g) (leb g 1000) (w .1) .1) in
+    (omega arith, omega arith, omega arith, omega arith)
 
 zero : (x : ℕ) → eqb x 0 ≡ true → x ≡ 0
 zero x q = eqb-true x 0 q
@@ -53,8 +55,8 @@ zero x q = eqb-true x 0 q
 kind-fits : (p : Progress) (k : Kind) (a b c d : ℕ) → Small p → let e : Entry = record { kind = k; a = a; b = b; c = c; d = d } in
     plain e ≡ true → table k .rule p e ≡ true → FitsIn e
 kind-fits p K.Head a b c d h n q =
-    let u = plain-inv _ n in let x = head-fits a b c q in
-    record { a = x .0; b = x .1; c = x .2; d = zero d (u .3) }
+    let x = head-fits a b c d q in
+    record { a = x .0; b = x .1; c = x .2; d = x .3 }
 kind-fits p (K.Enter φ) a b c d h n q =
     let u = plain-inv _ n in let x = both (spanHolds p a b) (isDirection c) q in let y = span-fits p a b h (x .0) in
     record { a = y .0; b = y .1; c = direction-fits c (x .1); d = zero d (u .3) }
@@ -86,7 +88,7 @@ start-small = omega arith
 
 kind-small : (p : Progress) (k : Kind) (a b c d : ℕ) → Small p → let e : Entry = record { kind = k; a = a; b = b; c = c; d = d } in
     table k .rule p e ≡ true → Small (afterOf p e)
-kind-small p K.Head a b c d h q = head-fits a b c q .2
+kind-small p K.Head a b c d h q = head-fits a b c d q .2
 kind-small p (K.Enter φ) a b c d h q = h
 kind-small p (K.Leave φ) a b c d h q = h
 kind-small p (K.Graze φ) a b c d h q = h

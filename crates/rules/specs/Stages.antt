@@ -71,7 +71,7 @@ orderAt p e k S.End = mayCome (p .stage) S.End
 
 abbrev pub ruleAt : Progress → Entry → Kind → Stage → Bool
 ruleAt p e k S.Start = false
-ruleAt p e k S.Head = headHolds (e .a) (e .b) (e .c)
+ruleAt p e k S.Head = headHolds (e .a) (e .b) (e .c) (e .d)
 ruleAt p e k (S.Phase φ) = phaseHolds p k (e .a) (e .b) (e .c)
 ruleAt p e k S.Closest = closestHolds p (e .a) (e .b)
 ruleAt p e k S.End = true

@@ -10,7 +10,7 @@ use phases::Phase;
 use refusals::Refusal;
 ghost use mathlib.Core.Path.{_≡_};
 ghost use Rattle.kinds.specs.Kinds.{table};
-ghost use Rattle.kinds.specs.FieldRules.{inWindow, spanHolds, openHolds};
+ghost use Rattle.kinds.specs.FieldRules.{guardHolds, inWindow, spanHolds, openHolds};
 ghost use Rattle.rules.specs.Rules.{start, phaseInOrder, crossingKept, passed, reached, inOrder, afterOf, verdictOn, judgedAs};
 ghost use Rattle.rules.specs.Stages.{crossingOf, isOpen, directionHolds, phaseHolds, crossingAfter};
 
@@ -36,6 +36,12 @@ pub fn begun() -> Progress
 }
 
 // ---- fields
+
+fn guard_holds(guard: u32) -> bool
+    ensures { λ r. ⌜ r ≡ guardHolds guard ⌝ }
+{
+    (16 <= guard) & (guard <= 1_000)
+}
 
 fn in_window(p: Progress, x: u32) -> bool
     ensures { λ r. ⌜ r ≡ inWindow p x ⌝ }
@@ -211,10 +217,11 @@ pub fn rule_holds(p: Progress, entry: Entry) -> bool
     let a = entry.a;
     let b = entry.b;
     let c = entry.c;
+    let d = entry.d;
     let stage = kinds::stage_of(kind);
     match stage {
         Stage::Start => false,
-        Stage::Head => (1 <= a) & (a <= 999) & (b <= c) & (c <= 21600),
+        Stage::Head => (1 <= a) & (a <= 999) & (b <= c) & (c <= 21600) & guard_holds(d),
         Stage::Phase(_) => phase_holds(p, kind, a, b, c),
         Stage::Closest => in_window(p, a) & (b <= 1300000),
         Stage::End => true,

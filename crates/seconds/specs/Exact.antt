@@ -1,6 +1,6 @@
 -- The exact answer at a second of a request, "From the same sines, cosines and station place", and what the states said of it mean. Definitions only.
-use Prim.Native.Nat.{ℕ}
-use lib.IntN.{ℤ, pos}
+use Prim.Native.Nat.{ℕ, _+_}
+use lib.IntN.{ℤ, pos, natAbs}
 use Rattle.phases.specs.declared.Phase.{Phase}
 use Rattle.phases.specs.declared.Phase.the-variants.{Penumbra, Central}
 use Rattle.phases.specs.States.{stateOf, SaidRightly}
@@ -20,11 +20,15 @@ ExactlyInside q φ τ = Exact.ExactlyInside φ (momentAt q τ) (cone φ (q .elem
 abbrev pub WithinUnits : Request → ℕ → Phase → ℤ → Type 0
 WithinUnits q n φ τ = Exact.WithinUnits (pos n) φ (momentAt q τ) (cone φ (q .elements))
 
+-- document 02, wish 9: "Demand 3 then reads "within the guard plus 13" for 29"
+abbrev pub unsureUnits : Request → ℕ
+unsureUnits q = natAbs (q .guard) + 13
+
 -- "Where our program says inside or outside, that is the exact answer. It says unsure only where the exact distance lies within 29 units of the
 -- cone's edge": of the two states of a second that was answered
 pub record SecondMeans (q : Request) (τ : ℤ) (x : Second) : Type 0 where
-  pub penumbra : SaidRightly (stateOf (x .penumbra)) (ExactlyInside q Penumbra τ) (WithinUnits q 29 Penumbra τ)
-  pub central : SaidRightly (stateOf (x .central)) (ExactlyInside q Central τ) (WithinUnits q 29 Central τ)
+  pub penumbra : SaidRightly (stateOf (x .penumbra)) (ExactlyInside q Penumbra τ) (WithinUnits q (unsureUnits q) Penumbra τ)
+  pub central : SaidRightly (stateOf (x .central)) (ExactlyInside q Central τ) (WithinUnits q (unsureUnits q) Central τ)
 
 abbrev pub AnswerMeans : Request → ℤ → OneSecond → Type 0
 AnswerMeans q τ (Is x) = SecondMeans q τ x

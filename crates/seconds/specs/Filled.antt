@@ -21,16 +21,16 @@ use Rattle.requests.specs.declared.Window.{Window}
 use Rattle.requests.specs.declared.Request.{Request}
 use Rattle.requests.specs.Windows.{nthSecond, secondCount, eachSecond}
 use Rattle.requests.specs.WindowLaws.{each-is}
-use Rattle.seconds.specs.Seconds.{guard, stateAt, statesOf}
+use Rattle.seconds.specs.Seconds.{stateAt, statesOf}
 
 -- the k-th phase of an eclipse has the k-th stretch
 pub record AllStates (q : Request) (l : List ℕ) : Type 0 where
   pub stretch : (k : ℕ) → k < length eclipse
       → take (secondCount (q .window)) (drop (k * secondCount (q .window)) l) ≡ statesOf q (getD eclipse k Penumbra)
 
--- a phase's byte at the k-th second, and M there
-unfoldable pub byteAt : Elements → Place → Window → Phase → ℕ → ℕ
-byteAt e p w φ k = code (Shadow.stateAt guard e p φ (nthSecond w k))
+-- a phase's byte at the k-th second under a guard, and M there
+unfoldable pub byteAt : ℤ → Elements → Place → Window → Phase → ℕ → ℕ
+byteAt g e p w φ k = code (Shadow.stateAt g e p φ (nthSecond w k))
 
 unfoldable pub squareAt : Elements → Place → Window → ℕ → ℤ
 squareAt e p w k = M (moment e p (nthSecond w k))
@@ -68,8 +68,8 @@ filled-seconds w f at l h d =
 
 -- all phases of a request: the penumbra's states stand first, the central ones after them
 pub all-filled : (q : Request) (l : List ℕ) → length eclipse * secondCount (q .window) ≤ length l
-    → Filled (byteAt (q .elements) (placeOf (q .station)) (q .window) Penumbra) 0 (secondCount (q .window)) l
-    → Filled (byteAt (q .elements) (placeOf (q .station)) (q .window) Central) (secondCount (q .window)) (secondCount (q .window)) l
+    → Filled (byteAt (q .guard) (q .elements) (placeOf (q .station)) (q .window) Penumbra) 0 (secondCount (q .window)) l
+    → Filled (byteAt (q .guard) (q .elements) (placeOf (q .station)) (q .window) Central) (secondCount (q .window)) (secondCount (q .window)) l
     → AllStates q l
 unfolding byteAt stateAt
 all-filled q l h pen cen = record { stretch = go }
@@ -78,7 +78,7 @@ all-filled q l h pen cen = record { stretch = go }
     n = secondCount (q .window)
 
     part : (φ : Phase) (at : ℕ) → at + secondCount (q .window) ≤ length l
-        → Filled (λ k. code (Shadow.stateAt guard (q .elements) (placeOf (q .station)) φ (nthSecond (q .window) k))) at (secondCount (q .window)) l
+        → Filled (λ k. code (Shadow.stateAt (q .guard) (q .elements) (placeOf (q .station)) φ (nthSecond (q .window) k))) at (secondCount (q .window)) l
         → take (secondCount (q .window)) (drop at l) ≡ statesOf q φ
     part φ at h f = filled-seconds (q .window) (λ τ. code (stateAt q φ τ)) at l h f
 

@@ -12,7 +12,7 @@ use Rattle.shadow.specs.MirrorLaws as Shadow
 use Rattle.requests.specs.declared.Request.{Request}
 use Rattle.requests.specs.Windows.{nthSecond}
 use Rattle.requests.specs.Mirror.{mirroredRequest}
-use Rattle.seconds.specs.Seconds.{guard, momentAt, stateAt, magnitudeAt, closestOf}
+use Rattle.seconds.specs.Seconds.{momentAt, stateAt, magnitudeAt, closestOf}
 use Rattle.seconds.specs.Closest.{closestTo}
 
 module _ (q : Request) where
@@ -25,11 +25,11 @@ module _ (q : Request) where
 
     pub state-mirrored : (φ : Phase) → stateAt q′ φ τ ≡ stateAt q φ τ
     unfolding stateAt
-    state-mirrored φ = rw (place-mirrored (q .station)) (Shadow.state-mirrored guard (q .elements) (placeOf (q .station)) τ φ)
+    state-mirrored φ = rw (place-mirrored (q .station)) (Shadow.state-mirrored (q .guard) (q .elements) (placeOf (q .station)) τ φ)
 
     pub magnitude-mirrored : magnitudeAt q′ τ ≡ magnitudeAt q τ
     unfolding magnitudeAt
-    magnitude-mirrored = rw (place-mirrored (q .station)) (Shadow.magnitude-mirrored guard (q .elements) (placeOf (q .station)) τ)
+    magnitude-mirrored = rw (place-mirrored (q .station)) (Shadow.magnitude-mirrored (q .guard) (q .elements) (placeOf (q .station)) τ)
 
     pub u-mirrored : u (momentAt q′ τ) ≡ u (momentAt q τ)
     u-mirrored = ap u moment-mirrored ∙ G.u-mirrored (momentAt q τ)

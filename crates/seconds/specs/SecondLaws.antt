@@ -9,9 +9,13 @@ use mathlib.Core.Logic.{_⊎_}
 use mathlib.Core.Bool.{Bool, true, false, cond}
 use Prim.Native.Nat.{ℕ, suc, _≤_, _<_}
 use native.Mathlib.Omega.{arith}
-use lib.IntN.{ℤ, pos, natAbs, _-ℤ_}
+use lib.IntN.{ℤ, pos, natAbs, _+ℤ_, _-ℤ_}
 use lib.ListN.{length}
 use lib.Signed.{leZ-yes}
+use mir.Syntax.{w64}
+use mir.Val.{toZ, ofZ}
+use Rattle.numbers.specs.Order.{≤ℤ-trans}
+use Rattle.numbers.specs.Code.{read-back, read-size}
 use Rattle.phases.specs.declared.Phase.{Phase}
 use Rattle.phases.specs.declared.Phase.the-variants.{Penumbra, Central}
 use Rattle.phases.specs.States.{State, stateOf, code, SaidRightly}
@@ -24,19 +28,20 @@ use Rattle.station.specs.declared.Place.{Place}
 use Rattle.station.specs.Place.{placeOf}
 use Rattle.station.specs.Sizes.{PlaceSizes}
 use Rattle.station.specs.PlaceLaws.{place-sizes}
-use Rattle.geometry.specs.Shadow.{M}
+use Rattle.geometry.specs.Shadow.{cone, M}
+use Rattle.geometry.specs.Exact as Exact
 use Rattle.shadow.specs.SecondLaws.{state-at, states-true, magnitude-most, direction-near}
 use Rattle.requests.specs.declared.Request.{Request}
 use Rattle.requests.specs.Windows.{inSpan, nthSecond, secondCount}
 use Rattle.requests.specs.WindowLaws.{in-span, each-length}
 use Rattle.requests.specs.Requests.{checked}
-use Rattle.requests.specs.RequestLaws.{InLimits, in-limits}
+use Rattle.requests.specs.RequestLaws.{InLimits, in-limits, guard-is, guard-size}
 use Rattle.seconds.specs.declared.OneSecond.{OneSecond}
 use Rattle.seconds.specs.declared.OneSecond.the-variants as O
-use Rattle.seconds.specs.Seconds.{guard, momentAt, stateAt, directionAt, magnitudeAt, statesOf, closestOf}
+use Rattle.seconds.specs.Seconds.{momentAt, stateAt, directionAt, magnitudeAt, statesOf, closestOf}
 use Rattle.seconds.specs.ClosestLaws.{closest-is}
 use Rattle.seconds.specs.OneSecond.{wholeSecond, secondBy, secondAnswer}
-use Rattle.seconds.specs.Exact.{ExactlyInside, WithinUnits, SecondMeans, AnswerMeans}
+use Rattle.seconds.specs.Exact.{ExactlyInside, WithinUnits, unsureUnits, SecondMeans, AnswerMeans}
 
 pub states-length : (q : Request) (φ : Phase) → length (statesOf q φ) ≡ secondCount (q .window)
 states-length q φ = each-length (q .window) (λ τ. code (stateAt q φ τ))
@@ -49,6 +54,10 @@ module _ (q : Request) (i : InLimits q) where
   pub placed : PlaceSizes (placeOf (q .station))
   placed = place-sizes (q .station) (i .station)
 
+  -- the guard, as the code reads it from its bits
+  pub guard-read : (toZ w64 (ofZ w64 (q .guard)) ≡ q .guard) × (natAbs (toZ w64 (ofZ w64 (q .guard))) ≤ 1000)
+  guard-read = let n = guard-size (i .guard) .1 in (read-back (q .guard) n tt, read-size (q .guard) 1000 n tt)
+
   pub closest-within : closestOf q < secondCount (q .window)
   unfolding closestOf secondCount
   closest-within =
@@ -58,17 +67,22 @@ module _ (q : Request) (i : InLimits q) where
     -- "It never exceeds 1,300,000."
     pub magnitude-small : magnitudeAt q τ ≤ 1300000
     unfolding magnitudeAt
-    magnitude-small = magnitude-most (q .elements) (i .elements) (placeOf (q .station)) placed τ h guard
+    magnitude-small = magnitude-most (q .elements) (i .elements) (placeOf (q .station)) placed τ h (q .guard)
 
-    pub each-second : (φ : Phase) → SaidRightly (stateAt q φ τ) (ExactlyInside q φ τ) (WithinUnits q 29 φ τ)
+    pub each-second : (φ : Phase) → SaidRightly (stateAt q φ τ) (ExactlyInside q φ τ) (WithinUnits q (unsureUnits q) φ τ)
     unfolding stateAt
     each-second φ =
-        let m = states-true (q .elements) (i .elements) (placeOf (q .station)) placed τ h guard (leZ-yes tt) φ in
-        let is = sym (state-at guard (q .elements) (placeOf (q .station)) φ τ) in
-        record { inside-is = λ s. m .inside-is (is ∙ s); outside-is = λ s. m .outside-is (is ∙ s); unsure-is = λ s. m .unsure-is (is ∙ s) }
+        let m = states-true (q .elements) (i .elements) (placeOf (q .station)) placed τ h (q .guard) (≤ℤ-trans (leZ-yes tt) (i .guard .low)) φ in
+        let is = sym (state-at (q .guard) (q .elements) (placeOf (q .station)) φ τ) in
+        let Near : ℤ → Type 0 = λ n. Exact.WithinUnits n φ (momentAt q τ) (cone φ (q .elements)) in
+        record {
+          inside-is = λ s. m .inside-is (is ∙ s);
+          outside-is = λ s. m .outside-is (is ∙ s);
+          unsure-is = λ s. subst (λ (g : ℤ). Near (g +ℤ pos 13)) (sym (guard-is (i .guard))) (m .unsure-is (is ∙ s));
+        }
 
     -- of the byte that was answered
-    said : (φ : Phase) → SaidRightly (stateOf (code (stateAt q φ τ))) (ExactlyInside q φ τ) (WithinUnits q 29 φ τ)
+    said : (φ : Phase) → SaidRightly (stateOf (code (stateAt q φ τ))) (ExactlyInside q φ τ) (WithinUnits q (unsureUnits q) φ τ)
     said φ = rw (state-of-code (stateAt q φ τ)) (each-second φ)
 
     pub second-means : SecondMeans q τ (wholeSecond q τ)

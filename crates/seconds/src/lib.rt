@@ -37,7 +37,7 @@ pub fn fill_states(table: &[u32], q: Request, place: station::Place, states: &mu
     let mut i: usize = 0;
     while i < n {
         let t = requests::nth_second(w, i);
-        let s = shadow::states_at(table, e, place, t, 16);
+        let s = shadow::states_at(table, e, place, t, q.guard);
         states[i] = s.penumbra;
         let of_central = n + i;
         states[of_central] = s.central;
@@ -67,7 +67,8 @@ pub fn magnitude_at(table: &[u32], q: Request, place: station::Place, t: i64) ->
     ensures { λ r. ⌜ r ≡ magnitudeAt q t ⌝ }
 {
     let e = q.elements;
-    shadow::magnitude_at(table, e, place, t, 16)
+    let guard = q.guard;
+    shadow::magnitude_at(table, e, place, t, guard)
 }
 
 // One second of a request within its limits, with the sine table lent.
@@ -78,7 +79,7 @@ fn second_within(table: &[u32], q: Request, t: i64) -> shadow::Second
     let e = q.elements;
     let s = q.station;
     let place = station::geocentric(table, s);
-    shadow::second_at(table, e, place, t, 16)
+    shadow::second_at(table, e, place, t, q.guard)
 }
 
 // The shadow, the states, the magnitude and the direction at second t of a request; t may lie outside its window.

@@ -41,9 +41,9 @@ abbrev pub firstOf : Input → OneSecond
 firstOf (I.Is q) = secondAnswer q (q .window .first)
 firstOf (I.Refused r) = O.Refused r
 
--- the line of a request's 113 bytes
+-- the line of a request's 115 bytes
 unfoldable pub recordLine : List ℕ → List ℕ
 recordLine request = answerLine (firstOf (inputOf request))
 
 unfoldable pub printed : List ℕ → List ℕ
-printed input = eachPart 113 recordLine input
+printed input = eachPart 115 recordLine input

@@ -1,4 +1,4 @@
-// Reads requests of 113 bytes from standard input, 65,536 bytes at most, and prints for each a line, of the first second of its window:
+// Reads requests of 115 bytes from standard input, 65,536 bytes at most, and prints for each a line, of the first second of its window:
 // u, v, L1, L2, the states of penumbra and central (0 outside, 1 inside, 2 unsure), the direction and the magnitude;
 // or the refusal.
 use input::Input;
@@ -66,11 +66,11 @@ fn put_record(out: &mut [u8], at: usize, request: &[u8]) -> usize
 fn put_requests(out: &mut [u8], input: &[u8]) -> usize
     ensures { λ r. ⌜ Put (now (out .entry)) 0 (printed (now (input .entry))) (now (out .exit)) r ⌝ }
 {
-    let count = input.len() / 113;
+    let count = input.len() / 115;
     let mut at = 0;
     for k in 0..count {
-        let from = k * 113;
-        let end = from + 113;
+        let from = k * 115;
+        let end = from + 115;
         at = put_record(out, at, &input[from..end]);
     }
     at
@@ -79,7 +79,7 @@ fn put_requests(out: &mut [u8], input: &[u8]) -> usize
 fn main() {
     let mut input = io::large_buffer();
     let length = io::read_full(STDIN_FILENO, &mut input);
-    // 579 lines of 60 bytes at most
+    // 569 lines of 60 bytes at most
     let mut lines = [0u8; 40_000];
     let end = put_requests(&mut lines, &input[..length]);
     let written = decimals::clipped(&lines, end);

@@ -1,10 +1,10 @@
-// Reads a request, 113 bytes, from standard input, and prints the listing of its contact sheet; or its refusal.
+// Reads a request, 115 bytes, from standard input, and prints the listing of its contact sheet; or its refusal.
 use libc::STDIN_FILENO;
 use libc::STDOUT_FILENO;
 
 fn main() {
     // a byte more than a request has, so that longer input is seen
-    let mut request = [0u8; 114];
+    let mut request = [0u8; 116];
     let length = io::read_full(STDIN_FILENO, &mut request);
     let mut room = io::large_buffer();
     // 29 bytes of text at most for 5 bytes of a sheet, and the head and closest lines

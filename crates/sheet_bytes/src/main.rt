@@ -1,4 +1,4 @@
-// Reads a request, 113 bytes, from standard input, and writes its contact sheet as it is stored to standard output.
+// Reads a request, 115 bytes, from standard input, and writes its contact sheet as it is stored to standard output.
 // A refusal is told on standard error, and nothing is written.
 use libc::STDERR_FILENO;
 use libc::STDIN_FILENO;
@@ -6,7 +6,7 @@ use libc::STDOUT_FILENO;
 
 fn main() {
     // a byte more than a request has, so that longer input is seen
-    let mut request = [0u8; 114];
+    let mut request = [0u8; 116];
     let length = io::read_full(STDIN_FILENO, &mut request);
     let mut room = io::large_buffer();
     // longer than the line of any refusal

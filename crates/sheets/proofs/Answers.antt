@@ -61,25 +61,25 @@ writing-starts l buf h = by (listSheet l) refl h
         }
 
 module _ (w : Sheet) where
-  pub room-for : (k m n : ℕ) → X.Sheet m n ≡ extentOf w → m ≤ k / 4 → RoomFor w k
+  pub room-for : (k m n : ℕ) → X.Sheet m n ≡ extentOf w → m ≤ k / 5 → RoomFor w k
   room-for k m n q h = let x = extent-inv w m n q in rw (x .1) (let z : length (x .0) ≡ m = x .2 in omega arith)
 
   pub read-refused : (room : List ℕ) (r : Refusal) → X.Refused r ≡ extentOf w → (X.Refused r ≡ readInto (length room) w) × (room ≡ roomAfter w room)
   read-refused room r q = rw (extent-refused w r q) (refl, refl)
 
-  pub read-short : (room : List ℕ) (m n : ℕ) → X.Sheet m n ≡ extentOf w → length room / 4 < m
+  pub read-short : (room : List ℕ) (m n : ℕ) → X.Sheet m n ≡ extentOf w → length room / 5 < m
       → (X.Refused (refusal 4 m) ≡ readInto (length room) w) × (room ≡ roomAfter w room)
   read-short room m n q h =
       let x = extent-inv w m n q in
-      let t : holds (x .0) (length room) ≡ false = lt-leb (length (x .0)) (length room / 4) (let z : length (x .0) ≡ m = x .2 in omega arith) in
+      let t : holds (x .0) (length room) ≡ false = lt-leb (length (x .0)) (length room / 5) (let z : length (x .0) ≡ m = x .2 in omega arith) in
       rw (x .1, t, x .2) (refl, refl)
 
-  pub read-full : (room new : List ℕ) (m n : ℕ) → X.Sheet m n ≡ extentOf w → m ≤ length room / 4 → new ≡ filled w room
+  pub read-full : (room new : List ℕ) (m n : ℕ) → X.Sheet m n ≡ extentOf w → m ≤ length room / 5 → new ≡ filled w room
       → (X.Sheet m n ≡ readInto (length room) w) × (new ≡ roomAfter w room)
   read-full room new m n q h f =
       let x = extent-inv w m n q in
       let z : length (x .0) ≡ m = x .2 in
-      let t : holds (x .0) (length room) ≡ true = le-leb (length (x .0)) (length room / 4) (omega arith) in
+      let t : holds (x .0) (length room) ≡ true = le-leb (length (x .0)) (length room / 5) (omega arith) in
       let g : new ≡ sets room 0 (numbersOf (x .0)) = f ∙ ap (λ v. filled v room) (x .1) in
       let s : sets room 0 (numbersOf (x .0)) ≡ numbersOf (x .0) ++ drop (length (numbersOf (x .0))) room =
       sets-eq (numbersOf (x .0)) room 0 (omega (arith, length-numbers (x .0))) ∙ rw zero-add in

@@ -3,6 +3,7 @@ pub mod Handed
 pub mod WellFormed
 pub mod RoundTrip
 pub mod HandWorked
+pub mod OldSheets
 pub mod Passes
 pub mod SheetLaws
 pub mod GivenLaws

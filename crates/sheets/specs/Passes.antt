@@ -17,7 +17,7 @@ use Rattle.sheets.specs.Sheets.{Sheet, sheet, refused}
 -- there is a sheet, and k numbers hold its entries
 abbrev pub RoomFor : Sheet → ℕ → Type 0
 RoomFor (refused r) k = ⊥
-RoomFor (sheet es n) k = length es * 4 ≤ k
+RoomFor (sheet es n) k = length es * 5 ≤ k
 
 abbrev pub filled : Sheet → List ℕ → List ℕ
 filled (refused r) room = room

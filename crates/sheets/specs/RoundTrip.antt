@@ -91,7 +91,7 @@ list-well l es n q =
     let v = list-inv l es n q in
     let r = well-from (handedAt l) (handed-steady l) (suc (length l - 0)) start 0 0 es n (sym (list-start l) ∙ v .0) in (
       r .0,
-      stand-numbers l es 0 0 (r .1) ∙ ap (λ x. numbersOf es ++ x) (drop-of-length-le l {i = (0 + length es) * 4} (omega (arith, v .1)))
+      stand-numbers l es 0 0 (r .1) ∙ ap (λ x. numbersOf es ++ x) (drop-of-length-le l {i = (0 + length es) * 5} (omega (arith, v .1)))
           ∙ append-nil (numbersOf es),
       r .2 ∙ zero-add (length (bytesOf es)),
     )
@@ -123,7 +123,7 @@ accepted-is-written s b = (
 -- ---- the same of the buffer and the room that the functions leave
 
 -- entries written into a buffer and read from it into a room: the room's first numbers are the entries handed over, and the others are as they were
-pub through-buffer : (l buf room : List ℕ) (es : List Entry) (n : ℕ) → listWhole l ≡ sheet es n → n ≤ length buf → length es ≤ length room / 4
+pub through-buffer : (l buf room : List ℕ) (es : List Entry) (n : ℕ) → listWhole l ≡ sheet es n → n ≤ length buf → length es ≤ length room / 5
     → roomAfter (readWhole (take n (bufferAfterList (listWhole l) buf))) room ≡ l ++ drop (length l) room
 through-buffer l buf room es n q h k =
     let v = list-well l es n q in
@@ -132,19 +132,19 @@ through-buffer l buf room es n q h k =
     ap (λ w. bufferAfterList w buf) q ∙ ap (λ b. cond b (bytesOf es ++ drop n buf) buf) (le-leb n (length buf) h) in
     let s : take n (bufferAfterList (listWhole l) buf) ≡ bytesOf es = ap (take n) b ∙ take-at (bytesOf es) (drop n buf) n (sym (v .2)) in
     ap (λ x. roomAfter (readWhole x) room) s ∙ ap (λ w. roomAfter w room) (t .0)
-    ∙ ap (λ b. cond b (numbersOf es ++ drop (length (numbersOf es)) room) room) (le-leb (length es) (length room / 4) k)
+    ∙ ap (λ b. cond b (numbersOf es ++ drop (length (numbersOf es)) room) room) (le-leb (length es) (length room / 5) k)
     ∙ ap (λ x. x ++ drop (length x) room) (t .1)
 
 -- a sheet read into a room and written from it into a buffer: the buffer's first bytes are the sheet, and the others are as they were
-pub through-room : (s room buf : List ℕ) → Bytes s → (es : List Entry) (n : ℕ) → readWhole s ≡ sheet es n → length es ≤ length room / 4 → n ≤ length buf
-    → bufferAfterList (listWhole (take (length es * 4) (roomAfter (readWhole s) room))) buf ≡ s ++ drop (length s) buf
+pub through-room : (s room buf : List ℕ) → Bytes s → (es : List Entry) (n : ℕ) → readWhole s ≡ sheet es n → length es ≤ length room / 5 → n ≤ length buf
+    → bufferAfterList (listWhole (take (length es * 5) (roomAfter (readWhole s) room))) buf ≡ s ++ drop (length s) buf
 through-room s room buf b es n q k h =
     let t = read-then-written s b es n q in
     let r : roomAfter (readWhole s) room ≡ numbersOf es ++ drop (length (numbersOf es)) room =
     ap (λ w. roomAfter w room) q
-    ∙ ap (λ b. cond b (numbersOf es ++ drop (length (numbersOf es)) room) room) (le-leb (length es) (length room / 4) k) in
-    let l : take (length es * 4) (roomAfter (readWhole s) room) ≡ numbersOf es =
-    ap (take (length es * 4)) r ∙ take-at (numbersOf es) (drop (length (numbersOf es)) room) (length es * 4) (length-numbers es) in
+    ∙ ap (λ b. cond b (numbersOf es ++ drop (length (numbersOf es)) room) room) (le-leb (length es) (length room / 5) k) in
+    let l : take (length es * 5) (roomAfter (readWhole s) room) ≡ numbersOf es =
+    ap (take (length es * 5)) r ∙ take-at (numbersOf es) (drop (length (numbersOf es)) room) (length es * 5) (length-numbers es) in
     let m : n ≡ length s = reads-length s es n (whole-inv s es n q .0) ∙ ap length (t .1) in
     ap (λ x. bufferAfterList (listWhole x) buf) l ∙ ap (λ w. bufferAfterList w buf) (t .0)
     ∙ ap (λ b. cond b (bytesOf es ++ drop n buf) buf) (le-leb n (length buf) h)

@@ -97,20 +97,20 @@ pub whole-is : (s : List ℕ) (es : List Entry) (n : ℕ) → readSheet s ≡ sh
 unfolding readWhole
 whole-is s es n q h = alone-is (λ k n. ltb n (length s)) (readSheet s) es n q (le-ltb n (length s) h)
 
-pub list-by : (l : List ℕ) (x : Extent) → x ≡ extentOf (listSheet l) → extentOf (listWhole l) ≡ aloneX (λ k n. ltb (k * 4) (length l)) x
+pub list-by : (l : List ℕ) (x : Extent) → x ≡ extentOf (listSheet l) → extentOf (listWhole l) ≡ aloneX (λ k n. ltb (k * 5) (length l)) x
 unfolding listWhole
-list-by l x q = alone-extent (λ k n. ltb (k * 4) (length l)) (listSheet l) x q
+list-by l x q = alone-extent (λ k n. ltb (k * 5) (length l)) (listSheet l) x q
 
 pub list-same : (l : List ℕ) (k n : ℕ) → X.Sheet k n ≡ extentOf (listWhole l) → listWhole l ≡ listSheet l
 unfolding listWhole
-list-same l k n q = alone-same (λ k n. ltb (k * 4) (length l)) (listSheet l) k n q
+list-same l k n q = alone-same (λ k n. ltb (k * 5) (length l)) (listSheet l) k n q
 
-pub list-inv : (l : List ℕ) (es : List Entry) (n : ℕ) → listWhole l ≡ sheet es n → (listSheet l ≡ sheet es n) × (length l ≤ length es * 4)
+pub list-inv : (l : List ℕ) (es : List Entry) (n : ℕ) → listWhole l ≡ sheet es n → (listSheet l ≡ sheet es n) × (length l ≤ length es * 5)
 unfolding listWhole
 list-inv l es n q =
-    let x = alone-inv (λ k n. ltb (k * 4) (length l)) (listSheet l) es n q in
-    (x .0, ltb-false (length es * 4) (length l) (x .1))
+    let x = alone-inv (λ k n. ltb (k * 5) (length l)) (listSheet l) es n q in
+    (x .0, ltb-false (length es * 5) (length l) (x .1))
 
-pub list-is : (l : List ℕ) (es : List Entry) (n : ℕ) → listSheet l ≡ sheet es n → length l ≤ length es * 4 → listWhole l ≡ sheet es n
+pub list-is : (l : List ℕ) (es : List Entry) (n : ℕ) → listSheet l ≡ sheet es n → length l ≤ length es * 5 → listWhole l ≡ sheet es n
 unfolding listWhole
-list-is l es n q h = alone-is (λ k n. ltb (k * 4) (length l)) (listSheet l) es n q (le-ltb (length es * 4) (length l) h)
+list-is l es n q h = alone-is (λ k n. ltb (k * 5) (length l)) (listSheet l) es n q (le-ltb (length es * 5) (length l) h)

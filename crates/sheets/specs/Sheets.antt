@@ -72,9 +72,9 @@ extentOf (sheet es n) = X.Sheet (length es) n
 extentOf (refused r) = X.Refused r
 
 -- "Where a reader is lent room for entries and there are more, it gives 4 with their number, after all others".
--- A room of k numbers holds k / 4 entries.
+-- A room of k numbers holds k / 5 entries.
 abbrev pub holds : List Entry → ℕ → Bool
-holds es k = leb (length es) (k / 4)
+holds es k = leb (length es) (k / 5)
 
 abbrev pub readInto : ℕ → Sheet → Extent
 readInto k (refused r) = X.Refused r

@@ -28,10 +28,15 @@ unfolding WellFormed
 well-step es s w = (s .order, s .fields, rw (s .goes-on, s .comes-to) w)
 
 -- the head opens the sheet
-pub step-head : (s f l : ℕ) → 1 ≤ s → s ≤ 999 → f ≤ l → l ≤ 21600 → Step start (head s f l) (reached S.Head f l)
+pub step-head : (s f l g : ℕ) → 1 ≤ s → s ≤ 999 → f ≤ l → l ≤ 21600 → 16 ≤ g → g ≤ 1000 → Step start (head s f l g) (reached S.Head f l)
 unfolding plain
-step-head s f l a b c d =
-    record { order = refl; fields = rw (le-leb 1 s a, le-leb s 999 b, le-leb f l c, le-leb l 21600 d); goes-on = refl; comes-to = refl }
+step-head s f l g a b c d m n =
+    record {
+      order = refl;
+      fields = rw (le-leb 1 s a, le-leb s 999 b, le-leb f l c, le-leb l 21600 d, le-leb 16 g m, le-leb g 1000 n);
+      goes-on = refl;
+      comes-to = refl;
+    }
 
 same-phase : (φ : Phase) → samePhase φ φ ≡ true
 same-phase Penumbra = refl

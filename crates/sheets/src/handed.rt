@@ -28,12 +28,12 @@ fn refused(got: Record) -> Extent
 
 // The n-th entry of a list, whose record stands at `at`, and the place after it; or 5 or 6.
 fn handed_at(l: &[u32], n: usize, at: usize) -> Record
-    requires { ⌜ (n * 4 ≤ length (now l)) × (at ≤ n * 17) ⌝ }
+    requires { ⌜ (n * 5 ≤ length (now l)) × (at ≤ n * 17) ⌝ }
     ensures { λ r. ⌜ r ≡ handedAt (now (l .entry)) n at ⌝ }
 {
-    let j = n * 4;
+    let j = n * 5;
     let left = l.len() - j;
-    if left < 4 {
+    if left < 5 {
         return Record::Refused(Refusal {
             number: 6,
             place: at,
@@ -49,14 +49,9 @@ fn handed_at(l: &[u32], n: usize, at: usize) -> Record
     let a = l[j + 1];
     let b = l[j + 2];
     let c = l[j + 3];
+    let d = l[j + 4];
     let next = at + kinds::size_of(kind);
-    let entry = Entry {
-        kind,
-        a,
-        b,
-        c,
-        d: 0,
-    };
+    let entry = Entry { kind, a, b, c, d };
     Record::Is(entry, next)
 }
 
@@ -107,7 +102,7 @@ pub fn extent_of_entries(l: &[u32]) -> Extent
     let Extent::Sheet { entries, length } = found else {
         return found;
     };
-    let held = (l.len() + 3) / 4;
+    let held = (l.len() + 4) / 5;
     if entries < held {
         return Extent::Refused(Refusal {
             number: 9,

@@ -1,5 +1,5 @@
 // Sheets: records one after the other, by the rules of document 01; read from bytes here, written from entries in `handed`.
-// An entry handed over, or given to a reader's caller, is four numbers: the kind, then the kind's fields in their order, 0 for what it
+// An entry handed over, or given to a reader's caller, is five numbers: the kind, then the kind's fields in their order, 0 for what it
 // does not use.
 pub mod handed;
 
@@ -109,15 +109,16 @@ pub fn extent_of_sheet(s: &[u8]) -> Extent
     found
 }
 
-// The four numbers of an entry at `at`.
+// The five numbers of an entry at `at`.
 fn put_numbers(room: &mut [u32], at: usize, code: u32, entry: Entry)
-    requires { ⌜ at + 4 ≤ length (now room) ⌝ }
-    ensures { λ r. ⌜ now (room .exit) ≡ sets (now (room .entry)) at (code ∷ entry .a ∷ entry .b ∷ entry .c ∷ []) ⌝ }
+    requires { ⌜ at + 5 ≤ length (now room) ⌝ }
+    ensures { λ r. ⌜ now (room .exit) ≡ sets (now (room .entry)) at (code ∷ entry .a ∷ entry .b ∷ entry .c ∷ entry .d ∷ []) ⌝ }
 {
     room[at] = code;
     room[at + 1] = entry.a;
     room[at + 2] = entry.b;
     room[at + 3] = entry.c;
+    room[at + 4] = entry.d;
 }
 
 // The entries of the sheet that `s` begins with, into a room that holds them.
@@ -137,7 +138,7 @@ fn read_entries(s: &[u8], room: &mut [u32])
         let Body::Is(entry) = records::bytes::body_at(s, at, kind) else {
             return;
         };
-        let place = n * 4;
+        let place = n * 5;
         put_numbers(room, place, code, entry);
         if kinds::is_end(kind) {
             return;
@@ -147,7 +148,7 @@ fn read_entries(s: &[u8], room: &mut [u32])
     }
 }
 
-// Reads a sheet: its entries, four numbers each, into the room, and how many they are; or the refusal, and the room as it was.
+// Reads a sheet: its entries, five numbers each, into the room, and how many they are; or the refusal, and the room as it was.
 pub fn read(s: &[u8], room: &mut [u32]) -> Extent
     ensures { λ r. ⌜ r ≡ readInto (length (now (room .entry))) (readWhole (now (s .entry))) ⌝ }
     ensures { λ r. ⌜ now (room .exit) ≡ roomAfter (readWhole (now (s .entry))) (now (room .entry)) ⌝ }
@@ -156,7 +157,7 @@ pub fn read(s: &[u8], room: &mut [u32]) -> Extent
     let Extent::Sheet { entries, length: _ } = found else {
         return found;
     };
-    if room.len() / 4 < entries {
+    if room.len() / 5 < entries {
         return Extent::Refused(Refusal {
             number: 4,
             place: entries,

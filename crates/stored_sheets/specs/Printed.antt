@@ -24,24 +24,25 @@ threeAnswers begins is short = answerText "begins " begins ++ answerText " is " 
 
 -- the sheet that the bytes begin with, the sheet that they are, and the same with room for three entries
 unfoldable pub answersLine : List ℕ → List ℕ
-answersLine s = threeAnswers (extentOf (readSheet s)) (readInto 256 (readWhole s)) (readInto 15 (readWhole s))
+answersLine s = threeAnswers (extentOf (readSheet s)) (readInto 320 (readWhole s)) (readInto 19 (readWhole s))
 
--- the n-th entry of some numbers, four numbers each
+-- the n-th entry of some numbers, five numbers each
 unfoldable pub entryLine : List ℕ → ℕ → List ℕ
 entryLine l n =
-    filled (pos (getD l (n * 4) 0) ∷ pos (getD l (n * 4 + 1) 0) ∷ pos (getD l (n * 4 + 2) 0) ∷ pos (getD l (n * 4 + 3) 0) ∷ []) 0 (letters " # # # #\n")
+    filled (pos (getD l (n * 5) 0) ∷ pos (getD l (n * 5 + 1) 0) ∷ pos (getD l (n * 5 + 2) 0) ∷ pos (getD l (n * 5 + 3) 0) ∷ pos (getD l (n * 5 + 4) 0) ∷ []) 0
+    (letters " # # # # #\n")
 
 unfoldable pub entriesText : List ℕ → List ℕ
-entriesText l = rows (entryLine l) (length l / 4)
+entriesText l = rows (entryLine l) (length l / 5)
 
 -- what the writer answers to the entries of a sheet: just what they were read from
 unfoldable pub writtenLine : Sheet → List ℕ
 writtenLine w = answerText " written " (extentOf w) ++ letters " same\n"
 
--- of a sheet whose entries the room of 256 numbers holds
+-- of a sheet whose entries the room of 320 numbers holds
 unfoldable pub backText : Sheet → List ℕ
 backText (refused r) = []
-backText (sheet es n) = cond (holds es 256) (entriesText (numbersOf es) ++ writtenLine (sheet es n)) []
+backText (sheet es n) = cond (holds es 320) (entriesText (numbersOf es) ++ writtenLine (sheet es n)) []
 
 unfoldable pub sheetText : List ℕ → List ℕ
 sheetText s = answersLine s ++ backText (readWhole s)

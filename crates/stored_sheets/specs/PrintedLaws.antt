@@ -70,13 +70,13 @@ few (e ∷ es) = omega (arith, few es, length-bytes-cons e es, size-small (e .ki
 
 -- ---- what the reader found
 
--- a room of 256 numbers holds no sheet
-pub back-none : (w : Sheet) (k : ℕ) (r : Refusal) → k ≡ 256 → X.Refused r ≡ readInto k w → backText w ≡ []
+-- a room of 320 numbers holds no sheet
+pub back-none : (w : Sheet) (k : ℕ) (r : Refusal) → k ≡ 320 → X.Refused r ≡ readInto k w → backText w ≡ []
 unfolding backText
 back-none (refused x) k r e q = refl
-back-none (sheet es n) k r e q = by (holds es 256) refl
+back-none (sheet es n) k r e q = by (holds es 320) refl
   where
-    by : (b : Bool) → holds es 256 ≡ b → backText (sheet es n) ≡ []
+    by : (b : Bool) → holds es 320 ≡ b → backText (sheet es n) ≡ []
     by true b =
         let t : X.Refused r ≡ X.Sheet (length es) n = q ∙ ap (λ j. readInto j (sheet es n)) e ∙ rw b in
         let z : _≡_ {A = ℕ} 0 1 = cc in
@@ -89,12 +89,12 @@ pub record Good (s numbers : List ℕ) : Type 0 where
   pub text : backText (readWhole s) ≡ entriesText numbers ++ writtenLine (readWhole s)
 
 -- the room holds k entries
-pub found : (s room : List ℕ) → length room ≡ 256 → Bytes s → (k m : ℕ) (after : List ℕ) → X.Sheet k m ≡ readInto (length room) (readWhole s)
-    → after ≡ roomAfter (readWhole s) room → (k ≤ 64) × Good s (take (k * 4) after)
+pub found : (s room : List ℕ) → length room ≡ 320 → Bytes s → (k m : ℕ) (after : List ℕ) → X.Sheet k m ≡ readInto (length room) (readWhole s)
+    → after ≡ roomAfter (readWhole s) room → (k ≤ 64) × Good s (take (k * 5) after)
 unfolding backText
 found s room size b k m after q a = by (readWhole s) refl
   where
-    full : (es : List Entry) (n : ℕ) → readWhole s ≡ sheet es n → (h : Bool) → holds es (length room) ≡ h → (k ≤ 64) × Good s (take (k * 4) after)
+    full : (es : List Entry) (n : ℕ) → readWhole s ≡ sheet es n → (h : Bool) → holds es (length room) ≡ h → (k ≤ 64) × Good s (take (k * 5) after)
     full es n e false h =
         let t : X.Sheet k m ≡ X.Refused (refusal 4 (length es)) = q ∙ ap (readInto (length room)) e ∙ rw h in
         let z : _≡_ {A = ℕ} 0 1 = cc in
@@ -104,18 +104,18 @@ found s room size b k m after q a = by (readWhole s) refl
         let g : k ≡ length es = cc in
         let rest = drop (length (numbersOf es)) room in
         let r : after ≡ numbersOf es ++ rest = a ∙ ap (λ w. roomAfter w room) e ∙ rw h in
-        let l : take (k * 4) after ≡ numbersOf es = ap (take (k * 4)) r ∙ take-at (numbersOf es) rest (k * 4) (omega (arith, length-numbers es)) in
-        let f : length es ≤ 256 / 4 = leb-true (length es) (256 / 4) (ap (holds es) (sym size) ∙ h) in
+        let l : take (k * 5) after ≡ numbersOf es = ap (take (k * 5)) r ∙ take-at (numbersOf es) rest (k * 5) (omega (arith, length-numbers es)) in
+        let f : length es ≤ 320 / 5 = leb-true (length es) (320 / 5) (ap (holds es) (sym size) ∙ h) in
         let back = read-then-written s b es n e in
         let long : n ≤ 4096 = omega (arith, few es, reads-length s es n (whole-inv s es n e .0)) in (
           omega arith,
           record {
             again = record { es = es; n = n; is = e; accepted = rw l (back .0); bytes = back .1; fits = long };
-            text = rw (e, l, le-leb (length es) (256 / 4) f);
+            text = rw (e, l, le-leb (length es) (320 / 5) f);
           },
         )
 
-    by : (w : Sheet) → readWhole s ≡ w → (k ≤ 64) × Good s (take (k * 4) after)
+    by : (w : Sheet) → readWhole s ≡ w → (k ≤ 64) × Good s (take (k * 5) after)
     by (refused r) e =
         let t : X.Sheet k m ≡ X.Refused r = q ∙ ap (readInto (length room)) e in
         let z : _≡_ {A = ℕ} 0 1 = cc in
@@ -136,7 +136,7 @@ module _ (old : List ℕ) (short : length old < 18446744073709551616) (at : ℕ)
   put-written w e a new p r q f g = joined short (put-as _ _ old at a p (ap (λ x. letters " written " ++ extentText x) q) f) g
 
   module _ (s : List ℕ) (x y z : Extent) (a : List ℕ) (p : ℕ) (put : Put old at (threeAnswers x y z) a p) where
-    pub answers : (k m : ℕ) → k ≡ 256 → m ≡ 15 → x ≡ extentOf (readSheet s) → y ≡ readInto k (readWhole s) → z ≡ readInto m (readWhole s)
+    pub answers : (k m : ℕ) → k ≡ 320 → m ≡ 19 → x ≡ extentOf (readSheet s) → y ≡ readInto k (readWhole s) → z ≡ readInto m (readWhole s)
         → Put old at (answersLine s) a p
     unfolding answersLine
     answers k m e f u v w = rw (← e, ← f, ← u, ← v, ← w) put

@@ -41,23 +41,24 @@ fn wide(x: u32) -> i64
 
 // The line of entry n.
 fn put_entry(out: &mut [u8], at: usize, numbers: &[u32], n: usize) -> usize
-    requires { ⌜ n * 4 + 4 ≤ length (now numbers) ⌝ }
+    requires { ⌜ n * 5 + 5 ≤ length (now numbers) ⌝ }
     ensures { λ r. ⌜ Put (now (out .entry)) at (entryLine (now (numbers .entry)) n) (now (out .exit)) r ⌝ }
 {
-    let i = n * 4;
+    let i = n * 5;
     let kind = wide(numbers[i]);
     let a = wide(numbers[i + 1]);
     let b = wide(numbers[i + 2]);
     let c = wide(numbers[i + 3]);
-    let fields = [kind, a, b, c];
-    decimals::put_filled(out, at, b" # # # #\n", &fields)
+    let d = wide(numbers[i + 4]);
+    let fields = [kind, a, b, c, d];
+    decimals::put_filled(out, at, b" # # # # #\n", &fields)
 }
 
 // The entries, a line each.
 fn put_entries(out: &mut [u8], start: usize, numbers: &[u32]) -> usize
     ensures { λ r. ⌜ Put (now (out .entry)) start (entriesText (now (numbers .entry))) (now (out .exit)) r ⌝ }
 {
-    let count = numbers.len() / 4;
+    let count = numbers.len() / 5;
     let mut at = start;
     for n in 0..count {
         at = put_entry(out, at, numbers, n);
@@ -83,16 +84,16 @@ fn put_written(out: &mut [u8], start: usize, numbers: &[u32], sheet: &[u8]) -> u
     decimals::put_byte(out, at, b'\n')
 }
 
-fn room_for_64() -> [u32; 256]
-    ensures { λ r. ⌜ 256 ≡ length r ⌝ }
+fn room_for_64() -> [u32; 320]
+    ensures { λ r. ⌜ 320 ≡ length r ⌝ }
 {
-    [0; 256]
+    [0; 320]
 }
 
-fn room_for_three() -> [u32; 15]
-    ensures { λ r. ⌜ 15 ≡ length r ⌝ }
+fn room_for_three() -> [u32; 19]
+    ensures { λ r. ⌜ 19 ≡ length r ⌝ }
 {
-    [0; 15]
+    [0; 19]
 }
 
 fn put_sheet(out: &mut [u8], start: usize, sheet: &[u8]) -> usize
@@ -107,7 +108,7 @@ fn put_sheet(out: &mut [u8], start: usize, sheet: &[u8]) -> usize
     let Extent::Sheet { entries, length: _ } = is else {
         return line;
     };
-    let numbers = entries * 4;
+    let numbers = entries * 5;
     let at = put_entries(out, line, &room[..numbers]);
     put_written(out, at, &room[..numbers], sheet)
 }

@@ -72,7 +72,7 @@ fn write_reply(extent: sheets::Extent) -> Reply
 
 // ---- exported
 
-// The contact sheet of a request of 113 bytes, in the caller's buffer; value: its length.
+// The contact sheet of a request of 115 bytes, in the caller's buffer; value: its length.
 #[no_mangle]
 pub extern "C" fn ukhtvaresh_sheet(request: &[u8], sheet: &mut [u8], value: &mut u64) -> u64
     ensures number { λ r. ⌜ r ≡ sheetReply (answerTo (now (request .entry)) (now (sheet .entry))) .number ⌝ }
@@ -86,7 +86,7 @@ pub extern "C" fn ukhtvaresh_sheet(request: &[u8], sheet: &mut [u8], value: &mut
     reply.number
 }
 
-// Reads a sheet: its entries, four numbers each, into the room lent; value: how many entries.
+// Reads a sheet: its entries, five numbers each, into the room lent; value: how many entries.
 #[no_mangle]
 pub extern "C" fn ukhtvaresh_read(sheet: &[u8], entries: &mut [u32], value: &mut u64) -> u64
     ensures number { λ r. ⌜ r ≡ readReply (readGiven (now (sheet .entry)) (now (entries .entry))) .number ⌝ }
@@ -99,7 +99,7 @@ pub extern "C" fn ukhtvaresh_read(sheet: &[u8], entries: &mut [u32], value: &mut
     reply.number
 }
 
-// Writes entries, four numbers each, as a sheet in the caller's buffer; value: its length.
+// Writes entries, five numbers each, as a sheet in the caller's buffer; value: its length.
 #[no_mangle]
 pub extern "C" fn ukhtvaresh_write(entries: &[u32], sheet: &mut [u8], value: &mut u64) -> u64
     ensures number { λ r. ⌜ r ≡ writeReply (writeGiven (now (entries .entry)) (now (sheet .entry))) .number ⌝ }

@@ -72,7 +72,7 @@ fn put_second(room: &mut [i64], second: shadow::Second)
     room[7] = direction;
 }
 
-// The shadow at one second of a request of 113 bytes, which may lie outside its window: u, v, L1, L2, the states of penumbra and
+// The shadow at one second of a request of 115 bytes, which may lie outside its window: u, v, L1, L2, the states of penumbra and
 // central cone (0 outside, 1 inside, 2 unsure), magnitude, direction; value: 8.
 #[no_mangle]
 pub extern "C" fn ukhtvaresh_second(

@@ -14,7 +14,7 @@ pub fn second(request: &[u8], second: i64, shadow: &mut [i64]) -> Result<usize, 
         return Err(Refusal::Window);
     }
     let found = request.check()?.shadow(second);
-    let state = |phase| match found.state(phase) {
+    let state = |phase| match found.state(phase, request.guard) {
         State::Outside => 0,
         State::Inside => 1,
         State::Unsure => 2,
@@ -26,7 +26,7 @@ pub fn second(request: &[u8], second: i64, shadow: &mut [i64]) -> Result<usize, 
         found.l2,
         state(Phase::Penumbra),
         state(Phase::Central),
-        found.magnitude(),
+        found.magnitude(request.guard),
         found.direction(),
     ];
     shadow.get_mut(..8).ok_or(Refusal::Room(8))?.copy_from_slice(&numbers);

@@ -4,8 +4,8 @@ use reference::elements::{Elements, Station, Window, ELEMENT_RANGES, FARTHEST, S
 use reference::random::Random;
 use reference::request::{Request, KIND_PLACES, REQUEST_LENGTH};
 use reference::sample::{self, Manner};
-use reference::shadow::Phase;
-use reference::sheet::{self, Record};
+use reference::shadow::{Phase, GUARD, GUARDS};
+use reference::sheet::{self, Record, WORDS};
 
 fn phase(random: &mut Random) -> Phase {
     if random.once_in(2) {
@@ -39,10 +39,12 @@ pub fn arranged(random: &mut Random) -> Request {
             sample::put_near_edge(random, &mut request, second, phase);
         }
         8 => {
-            sample::put_along_edge(&mut request, second, phase, random.within(&(-40..=40)));
+            let beyond = sample::beyond(random, request.guard);
+            sample::put_along_edge(&mut request, second, phase, beyond);
         }
         _ => {
-            sample::shrink_central(&mut request, second, random.within(&(-40..=40)));
+            let size = sample::beyond(random, request.guard);
+            sample::shrink_central(&mut request, second, size);
             sample::put_near_edge(random, &mut request, second, Phase::Central);
         }
     }
@@ -76,7 +78,8 @@ pub fn outside(random: &mut Random, request: &mut Request) {
                 most + beyond
             }
         };
-        match random.below(4) {
+        match random.below(5) {
+            4 => request.guard = past(random, *GUARDS.start(), *GUARDS.end()).clamp(0, 65_535),
             0 => {
                 request.window = match random.below(4) {
                     0 => Window { first: -10_801, last: 0 },
@@ -123,7 +126,10 @@ pub fn request(random: &mut Random) -> Vec<u8> {
             2 => bytes[KIND_PLACES[random.below(3) as usize]] = random.below(256) as u8,
             // any bytes, in a short window
             _ => {
-                for at in (1..REQUEST_LENGTH - 5).filter(|at| !KIND_PLACES.contains(at)) {
+                for at in (1..KIND_PLACES[2])
+                    .chain(REQUEST_LENGTH - 2..REQUEST_LENGTH)
+                    .filter(|at| !KIND_PLACES.contains(at))
+                {
                     bytes[at] = random.below(256) as u8;
                 }
             }
@@ -136,7 +142,8 @@ pub fn request(random: &mut Random) -> Vec<u8> {
 pub fn entries(random: &mut Random) -> Vec<u32> {
     let (a, b) = (random.below(21_601) as u32, random.below(21_601) as u32);
     let (first, last) = (a.min(b), a.max(b));
-    let mut entries = vec![0x01, 1 + random.below(999) as u32, first, last];
+    let guard = if random.once_in(2) { GUARD } else { random.within(&GUARDS) };
+    let mut entries = vec![0x01, 1 + random.below(999) as u32, first, last, guard as u32];
     for base in [0x10, 0x20] {
         let mut from = first;
         let mut next_contact = random.below(2) as u32;
@@ -148,23 +155,23 @@ pub fn entries(random: &mut Random) -> Vec<u32> {
             from += random.below(u64::from(last - from)) as u32 / 3;
             let to = from + 1 + random.below(u64::from(last - from)) as u32 / 3;
             if random.once_in(3) {
-                entries.extend([base + 2, from, to, 0]);
+                entries.extend([base + 2, from, to, 0, 0]);
             } else if random.once_in(3) && from == first {
-                entries.extend([base + 3, from, to, 0]);
+                entries.extend([base + 3, from, to, 0, 0]);
             } else {
                 let direction = if random.once_in(9) { 65_535 } else { random.below(3600) as u32 };
-                entries.extend([base + next_contact, from, to, direction]);
+                entries.extend([base + next_contact, from, to, direction, 0]);
                 next_contact = 1 - next_contact;
             }
             from = to;
         }
         if random.once_in(3) {
-            entries.extend([base + 3, from, last, 0]);
+            entries.extend([base + 3, from, last, 0, 0]);
         }
     }
     let second = first + random.below(u64::from(last - first) + 1) as u32;
-    entries.extend([0x30, second, random.below(1_300_001) as u32, 0]);
-    entries.extend([0x7F, 0, 0, 0]);
+    entries.extend([0x30, second, random.below(1_300_001) as u32, 0, 0]);
+    entries.extend([0x7F, 0, 0, 0, 0]);
     entries
 }
 
@@ -184,33 +191,42 @@ fn shuffle<T: Copy>(random: &mut Random, list: &mut Vec<T>) {
 const KINDS: [u32; 11] = [0x01, 0x10, 0x11, 0x12, 0x13, 0x20, 0x21, 0x22, 0x23, 0x30, 0x7F];
 
 /// The reader's limits, and what lies next to them.
-const LIMITS: [u32; 13] =
-    [0, 1, 999, 1_000, 3_599, 3_600, 21_600, 21_601, 65_534, 65_535, 65_536, 1_300_000, 1_300_001];
+const LIMITS: [u32; 16] = [
+    0, 1, 15, 16, 999, 1_000, 1_001, 3_599, 3_600, 21_600, 21_601, 65_534, 65_535, 65_536, 1_300_000,
+    1_300_001,
+];
 
 /// A field of an entry at a limit, or at or next to another number of the list.
 fn put_at_limit(random: &mut Random, entries: &mut [u32]) {
-    if entries.len() < 4 {
+    if entries.len() < WORDS {
         return;
     }
-    let at = random.below(entries.len() as u64 / 4) as usize * 4 + 1 + random.below(3) as usize;
+    let fields = WORDS - 1;
+    let at = random.below((entries.len() / WORDS) as u64) as usize * WORDS
+        + 1
+        + random.below(fields as u64) as usize;
     let other = entries[random.below(entries.len() as u64) as usize];
     entries[at] = match random.below(4) {
-        0 | 1 => LIMITS[random.below(13) as usize],
+        0 | 1 => LIMITS[random.below(LIMITS.len() as u64) as usize],
         2 => other,
         _ => other.wrapping_add([1, u32::MAX][random.below(2) as usize]),
     };
 }
 
-/// Damage a sheet: fields at limits, bytes changed, cut, records dropped, doubled or exchanged, bytes after it; or leave it.
+/// Damage a sheet: fields at limits, bytes changed, cut, records dropped, doubled or exchanged, bytes after it, the head without its
+/// guard, as it was before; or leave it.
 pub fn damage(random: &mut Random, sheet: &mut Vec<u8>) {
     for _ in 0..random.below(3) {
-        match random.below(12) {
+        match random.below(13) {
+            12 if sheet.len() > 9 => _ = sheet.drain(7..9),
             8.. => {
                 if let Ok(records) = sheet::records_of(sheet) {
                     let mut words: Vec<u32> = records.iter().flat_map(Record::words).collect();
                     put_at_limit(random, &mut words);
-                    let records: Vec<Record> =
-                        words.chunks_exact(4).map(|w| Record::new(w[0], [w[1], w[2], w[3]])).collect();
+                    let records: Vec<Record> = words
+                        .chunks_exact(WORDS)
+                        .map(|w| Record::new(w[0], [w[1], w[2], w[3], w[4]]))
+                        .collect();
                     *sheet = sheet::bytes_of(&records);
                 }
             }
@@ -248,14 +264,14 @@ pub fn damage_entries(random: &mut Random, entries: &mut Vec<u32>) {
             0 => entries.truncate(random.below(entries.len() as u64 + 1) as usize),
             1 => entries.extend((0..1 + random.below(9)).map(|_| 0x7F)),
             2 | 3 => {
-                let mut fours: Vec<[u32; 4]> =
-                    entries.chunks_exact(4).map(|four| [four[0], four[1], four[2], four[3]]).collect();
-                shuffle(random, &mut fours);
-                *entries = fours.concat();
+                let mut fives: Vec<[u32; WORDS]> =
+                    entries.chunks_exact(WORDS).map(|five| five.try_into().expect("five numbers")).collect();
+                shuffle(random, &mut fives);
+                *entries = fives.concat();
             }
             _ if entries.is_empty() => {}
             4 => {
-                let at = random.below(entries.len() as u64) as usize / 4 * 4;
+                let at = random.below(entries.len() as u64) as usize / WORDS * WORDS;
                 entries[at] = KINDS[random.below(11) as usize];
             }
             5 => {

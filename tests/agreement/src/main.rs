@@ -2,8 +2,9 @@
 //!
 //! Compared for each call: the refusal's number, the value beside it, and the whole buffer with 64 numbers past its end.
 //!
-//! - a sheet for each request, within and outside the limits, near the edge, slow, along it, of other shapes; the room exact, one less,
-//!   none, plenty;
+//! - a sheet for each request, within and outside the limits, under guards of all sizes, near the edge, slow, along it, of other shapes;
+//!   the room exact, one less, none, plenty; and of each request within the limits the states of its seconds under a larger guard: unsure,
+//!   or as they were;
 //! - eight seconds of each request, within ±10,800 and outside;
 //! - the mirror of each request; its sheet and its seconds against the request's own, directions left out; the mirror of the mirror;
 //! - sheets, whole and damaged, read and listed; and entries, whole and damaged, written; what was read is written again, and the other way;
@@ -23,8 +24,9 @@ use reference::mirror::mirror;
 use reference::numbers::rounds;
 use reference::random::Random;
 use reference::refusal::Refusal;
-use reference::request::REQUEST_LENGTH;
-use reference::sheet;
+use reference::request::{Request, REQUEST_LENGTH};
+use reference::shadow::GUARDS;
+use reference::sheet::{self, WORDS};
 use std::fmt::Debug;
 use std::time::Instant;
 
@@ -142,8 +144,8 @@ fn mirror_both(random: &mut Random, request: &[u8], room: usize) -> Left<u8> {
 
 /// The entries of a sheet that the library read with room enough, by the library.
 fn entries_of(random: &mut Random, sheet: &[u8]) -> Option<Vec<u32>> {
-    let ((number, count), mut entries) = read_both(random, sheet, 4 * sheet.len());
-    entries.truncate(4 * count as usize);
+    let ((number, count), mut entries) = read_both(random, sheet, WORDS * sheet.len());
+    entries.truncate(WORDS * count as usize);
     (number == 0).then_some(entries)
 }
 
@@ -178,11 +180,11 @@ fn compare_mirror(random: &mut Random, request: &[u8], sheet: &Left<u8>) {
     let mut same = back[..REQUEST_LENGTH] == *request && other.0 == sheet.0;
     if sheet.0 .0 == 0 {
         let undirected = |bytes: &[u8]| {
-            let mut entries = vec![0; 4 * bytes.len()];
+            let mut entries = vec![0; WORDS * bytes.len()];
             let (_, count) = library::read(bytes, &mut entries);
-            entries.truncate(4 * count as usize);
+            entries.truncate(WORDS * count as usize);
             for entry in
-                entries.chunks_exact_mut(4).filter(|entry| [0x10, 0x11, 0x20, 0x21].contains(&entry[0]))
+                entries.chunks_exact_mut(WORDS).filter(|entry| [0x10, 0x11, 0x20, 0x21].contains(&entry[0]))
             {
                 entry[3] = 0;
             }
@@ -205,17 +207,49 @@ fn compare_mirror(random: &mut Random, request: &[u8], sheet: &Left<u8>) {
     }
 }
 
-fn request(random: &mut Random, [sheets, seconds, mirrors]: [&mut Count; 3], kinds: &mut [u64; 128]) {
+/// A request within the limits under a larger guard: at seconds of its window the same numbers, and states the same or unsure. How many
+/// states were withheld.
+fn compare_guards(random: &mut Random, bytes: &[u8]) -> u64 {
+    let Ok(request) = Request::from_bytes(bytes) else { return 0 };
+    if request.check().is_err() {
+        return 0;
+    }
+    let guard = random.within(&(request.guard..=*GUARDS.end()));
+    let larger = Request { guard, ..request }.to_bytes().expect("a guard that has room");
+    let mut withheld = 0;
+    for _ in 0..8 {
+        let second = random.within(&request.window.seconds());
+        let (mut few, mut many) = ([0; 8], [0; 8]);
+        let replies = (library::second(bytes, second, &mut few), library::second(&larger, second, &mut many));
+        let [states, others] = [few, many].map(|n| [n[4], n[5]]);
+        let lengths = [few, many].map(|n| (n[0], n[1], n[2], n[3], n[7]));
+        let same = replies.0 == replies.1 && lengths[0] == lengths[1];
+        if !same || states.iter().zip(&others).any(|(state, other)| state != other && *other != 2) {
+            println!("DIFFERENCE between guards at {second}: {bytes:?} under {guard}");
+            std::process::exit(1);
+        }
+        withheld += states.iter().zip(&others).filter(|(state, other)| state != other).count() as u64;
+    }
+    withheld
+}
+
+fn request(
+    random: &mut Random,
+    [sheets, seconds, mirrors]: [&mut Count; 3],
+    kinds: &mut [u64; 128],
+    withheld: &mut u64,
+) {
     let request = draws::request(random);
     let sheet = sheet_both(random, &request, 65_536);
     compare_mirror(random, &request, &sheet);
+    *withheld += compare_guards(random, &request);
     let room = draws::room(random, REQUEST_LENGTH);
     mirrors.add(mirror_both(random, &request, room).0 .0);
     let ((number, needed), written) = sheet;
     sheets.add(number);
-    let needed = if number == 0 { needed as usize } else { 43 };
+    let needed = if number == 0 { needed as usize } else { 45 };
     if number == 0 {
-        for entry in round_trip(random, &written[..needed]).chunks_exact(4) {
+        for entry in round_trip(random, &written[..needed]).chunks_exact(WORDS) {
             kinds[entry[0] as usize] += 1;
         }
     }
@@ -242,8 +276,8 @@ fn sheet(random: &mut Random, reads: &mut Count, writes: &mut Count, listings: &
     let room = match random.below(3) {
         // rooms that are no whole number of entries too
         0 => draws::room(random, entries.len()),
-        1 => 4 * draws::room(random, entries.len() / 4),
-        _ => 4 * bytes.len(),
+        1 => WORDS * draws::room(random, entries.len() / WORDS),
+        _ => WORDS * bytes.len(),
     };
     reads.add(read_both(random, &bytes, room).0 .0);
     round_trip(random, &bytes);
@@ -288,15 +322,16 @@ fn main() {
     let start = Instant::now();
     let mut random = Random::new(seed);
     let mut counts = ["sheet", "second", "mirror", "read", "write", "listing", "fit"].map(Count::new);
-    let mut kinds = [0; 128];
+    let (mut kinds, mut withheld) = ([0; 128], 0);
     let [of_sheets, of_seconds, of_mirrors, of_reads, of_writes, of_listings, of_fits] = &mut counts;
     for _ in 0..requests {
-        request(&mut random, [of_sheets, of_seconds, of_mirrors], &mut kinds);
+        request(&mut random, [of_sheets, of_seconds, of_mirrors], &mut kinds, &mut withheld);
     }
     println!("{requests} requests agree, {:.1} s", start.elapsed().as_secs_f64());
     let by_kind =
         kinds.iter().enumerate().filter(|(_, &n)| n > 0).map(|(kind, n)| format!("{kind:02X}: {n}"));
     println!("entries of their sheets, by kind {}", by_kind.collect::<Vec<_>>().join(", "));
+    println!("{withheld} states that larger guards withheld");
     for _ in 0..sheets {
         sheet(&mut random, of_reads, of_writes, of_listings);
     }

@@ -47,7 +47,7 @@ pub use draws::damage as change_sheet;
 pub fn change_entries(random: &mut Random, bytes: &mut Vec<u8>) {
     let mut entries: Vec<u32> =
         bytes.chunks_exact(4).map(|b| u32::from_be_bytes([b[0], b[1], b[2], b[3]])).collect();
-    if entries.len() < 8 {
+    if entries.len() < 10 {
         entries = draws::entries(random);
     }
     draws::damage_entries(random, &mut entries);
@@ -58,7 +58,7 @@ pub fn change_entries(random: &mut Random, bytes: &mut Vec<u8>) {
 fn put_at_limit(random: &mut Random, request: &mut Request) {
     let manner = if random.once_in(4) { Manner::Anywhere } else { Manner::AtLimits };
     let drawn = sample::draw(random, manner);
-    match random.below(29) as usize {
+    match random.below(30) as usize {
         field @ 0..22 => {
             let mut fields = request.elements.fields();
             fields[field] = drawn.elements.fields()[field];
@@ -70,7 +70,8 @@ fn put_at_limit(random: &mut Random, request: &mut Request) {
             request.station = Station::from_fields(fields);
         }
         27 => request.window.first = drawn.window.first,
-        _ => request.window.last = drawn.window.last,
+        28 => request.window.last = drawn.window.last,
+        _ => request.guard = drawn.guard,
     }
 }
 

@@ -11,7 +11,8 @@ use agreement::library::{self, Reply};
 use reference::elements::{Elements, Station, Window, ELEMENT_RANGES, FARTHEST, STATION_RANGES};
 use reference::refusal::Refusal;
 use reference::request::{Request, KIND_PLACES, REQUEST_LENGTH};
-use reference::sheet;
+use reference::shadow::GUARDS;
+use reference::sheet::{self, WORDS};
 use std::fmt::Debug;
 use std::ops::RangeInclusive;
 
@@ -87,10 +88,10 @@ fn must_agree<T: PartialEq + Debug>(what: &str, given: &[u8], room: usize, ours:
 
 /// A sheet that reads well is written back to the same bytes.
 fn must_come_back(sheet: &[u8]) {
-    let mut entries = vec![0; 4 * sheet.len()];
+    let mut entries = vec![0; WORDS * sheet.len()];
     let (number, count) = library::read(sheet, &mut entries);
     let mut again = vec![0; sheet.len()];
-    let written = library::write(&entries[..4 * count as usize], &mut again);
+    let written = library::write(&entries[..WORDS * count as usize], &mut again);
     if number != 0 || written != (0, sheet.len() as u64) || again != sheet {
         differ("a sheet read and written again", sheet);
     }
@@ -105,7 +106,7 @@ fn room(needed: usize, near: u8, far: u8) -> usize {
 pub fn read(input: &[u8]) {
     let &[near, far, ref stored @ ..] = input else { return };
     let records = sheet::records_of(stored);
-    let room = room(records.as_ref().map_or(0, |records| 4 * records.len()), near, far);
+    let room = room(records.as_ref().map_or(0, |records| WORDS * records.len()), near, far);
     let old = |at: usize| (at as u32).wrapping_mul(0x9E37_79B9) ^ 0xA5A5_5A5A;
     let theirs = left(room, old, |room| reply(sheet::read(stored, room)));
     let ours = left(room, old, |room| library::read(stored, room));
@@ -174,6 +175,7 @@ pub(crate) fn within_limits(request: &Request) -> Request {
         elements: Elements::from_fields(into_ranges(request.elements.fields(), &ELEMENT_RANGES)),
         station,
         window: Window { first: a.min(b), last: a.max(b) },
+        guard: into_range(request.guard, &GUARDS),
     }
 }
 

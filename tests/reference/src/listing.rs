@@ -15,7 +15,7 @@ pub fn listing(records: &[Record]) -> String {
     let second = |field: u32| i64::from(field) - FARTHEST;
     let mut text = String::new();
     for record in records {
-        let [a, b, c] = record.fields;
+        let [a, b, c, _] = record.fields;
         let line = match (record.kind, record.role()) {
             (_, Some((phase, role))) => {
                 let phase = match phase {

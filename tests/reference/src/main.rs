@@ -1,4 +1,4 @@
-//! `reference sheet`: 113 bytes on standard input, the listing on standard output.
+//! `reference sheet`: 115 bytes on standard input, the listing on standard output.
 //! `reference time N`: the same input, its sheet written N times; prints nanoseconds a sheet.
 
 use reference::listing::{program, sheet_of_input, ROOM};

@@ -5,11 +5,13 @@ use std::fmt;
 /// Why nothing was done. What a case carries is its place.
 #[derive(Clone, Copy, PartialEq, Eq, Debug)]
 pub enum Refusal {
-    /// 1: the window is outside its range.
+    /// 1: the window is outside its range (0).
     Window,
+    /// 1: the guard is outside its range (1).
+    Guard,
     /// 2: an element is outside its range; the first such field, 0..21.
     Element(usize),
-    /// 3: a station value is outside its range; the first such field, 0..3.
+    /// 3: a station value is outside its range; the first such field, 0..4.
     Station(usize),
     /// 4: the room is too short; the length or count it needs.
     Room(usize),
@@ -36,7 +38,7 @@ pub enum Refusal {
 impl Refusal {
     pub fn number(self) -> u32 {
         match self {
-            Refusal::Window => 1,
+            Refusal::Window | Refusal::Guard => 1,
             Refusal::Element(_) => 2,
             Refusal::Station(_) => 3,
             Refusal::Room(_) => 4,
@@ -55,6 +57,7 @@ impl Refusal {
     pub fn place(self) -> usize {
         match self {
             Refusal::Window | Refusal::Shape => 0,
+            Refusal::Guard => 1,
             Refusal::Element(place)
             | Refusal::Station(place)
             | Refusal::Room(place)

@@ -1,10 +1,10 @@
-//! A request: elements, station and window; its sheet.
+//! A request: elements, station, window and guard; its sheet.
 
 use crate::elements::{Elements, Station, Window, FARTHEST};
 use crate::entries::entries;
 use crate::place::{place, Place};
 use crate::refusal::Refusal;
-use crate::shadow::{Phase, Shadow, State};
+use crate::shadow::{Phase, Shadow, State, GUARDS};
 use crate::sheet::{bytes_of, copy_into, Record, Role, CLOSEST, END, HEAD};
 
 /// What is asked for; any numbers at all.
@@ -13,18 +13,20 @@ pub struct Request {
     pub elements: Elements,
     pub station: Station,
     pub window: Window,
+    /// how near to a cone's edge nothing is sure, units, 16 to 1,000: document 02, wish 9.
+    pub guard: i64,
 }
 
 /// The length of a request in bytes.
-pub const REQUEST_LENGTH: usize = 113;
+pub const REQUEST_LENGTH: usize = 115;
 
 /// Where the bytes of kind stand in it: 02, 03, 04.
 pub const KIND_PLACES: [usize; 3] = [0, 89, 108];
 
 impl Request {
-    /// From exactly 113 bytes: kind 02 and 22 signed 4-byte numbers; kind 03 and number (unsigned, 2 bytes),
-    /// latitude, longitude, height, ΔT (signed, 4 each); kind 04 and first, last (signed, 2 each); big-endian.
-    /// Refused as 10 otherwise. Ranges are not looked at.
+    /// From exactly 115 bytes: kind 02 and 22 signed 4-byte numbers; kind 03 and number (unsigned, 2 bytes),
+    /// latitude, longitude, height, ΔT (signed, 4 each); kind 04 and first, last (signed, 2 each), guard (unsigned,
+    /// 2 bytes); big-endian. Refused as 10 otherwise. Ranges are not looked at.
     pub fn from_bytes(bytes: &[u8]) -> Result<Request, Refusal> {
         let bytes: &[u8; REQUEST_LENGTH] = bytes.try_into().map_err(|_| Refusal::Shape)?;
         if KIND_PLACES.map(|at| bytes[at]) != [2, 3, 4] {
@@ -47,10 +49,11 @@ impl Request {
                 first: i16::from_be_bytes(two(109)).into(),
                 last: i16::from_be_bytes(two(111)).into(),
             },
+            guard: u16::from_be_bytes(two(113)).into(),
         })
     }
 
-    /// The 113 bytes of a request, or nothing if a number has no room in them.
+    /// The 115 bytes of a request, or nothing if a number has no room in them.
     pub fn to_bytes(&self) -> Option<[u8; REQUEST_LENGTH]> {
         let mut bytes = vec![2];
         for field in self.elements.fields() {
@@ -65,12 +68,16 @@ impl Request {
         for second in [self.window.first, self.window.last] {
             bytes.extend(i16::try_from(second).ok()?.to_be_bytes());
         }
+        bytes.extend(u16::try_from(self.guard).ok()?.to_be_bytes());
         bytes.try_into().ok()
     }
 
     /// The request with its station's place, once 1, 2 and 3 are past.
     pub fn check(&self) -> Result<Circumstances, Refusal> {
         self.window.check()?;
+        if !GUARDS.contains(&self.guard) {
+            return Err(Refusal::Guard);
+        }
         self.elements.check()?;
         self.station.check()?;
         let place = place(self.station.latitude, self.station.height);
@@ -109,7 +116,7 @@ impl Circumstances {
 
     /// The records of the request's sheet.
     pub fn records(&self) -> Vec<Record> {
-        let Window { first, last } = self.request.window;
+        let Request { window: Window { first, last }, guard, .. } = self.request;
         let length = (last - first + 1) as usize;
         let mut penumbra = Vec::with_capacity(length);
         let mut central = Vec::with_capacity(length);
@@ -117,20 +124,20 @@ impl Circumstances {
         let mut closest = (i64::MAX, first);
         for second in first..=last {
             let shadow = self.shadow(second);
-            penumbra.push(shadow.state(Phase::Penumbra));
-            central.push(shadow.state(Phase::Central));
+            penumbra.push(shadow.state(Phase::Penumbra, guard));
+            central.push(shadow.state(Phase::Central, guard));
             if shadow.m() < closest.0 {
                 closest = (shadow.m(), second);
             }
         }
         let (_, closest) = closest;
         let number = self.request.station.number as u32;
-        let mut records = vec![Record::new(HEAD, [number, stored(first), stored(last)])];
+        let mut records = vec![Record::new(HEAD, [number, stored(first), stored(last), guard as u32])];
         self.append_phase(&mut records, 0x10, &penumbra);
         self.append_phase(&mut records, 0x20, &central);
-        let magnitude = self.shadow(closest).magnitude() as u32;
-        records.push(Record::new(CLOSEST, [stored(closest), magnitude, 0]));
-        records.push(Record::new(END, [0; 3]));
+        let magnitude = self.shadow(closest).magnitude(guard) as u32;
+        records.push(Record::new(CLOSEST, [stored(closest), magnitude, 0, 0]));
+        records.push(Record::new(END, [0; 4]));
         records
     }
 
@@ -143,7 +150,7 @@ impl Circumstances {
                 Role::Graze => (base + 2, 0),
                 Role::Open => (base + 3, 0),
             };
-            records.push(Record::new(kind, [stored(entry.from), stored(entry.to), direction]));
+            records.push(Record::new(kind, [stored(entry.from), stored(entry.to), direction, 0]));
         }
     }
 }

@@ -3,7 +3,7 @@
 use crate::elements::{Elements, Station, Window, ELEMENT_RANGES, FARTHEST, STATION_RANGES};
 use crate::random::Random;
 use crate::request::Request;
-use crate::shadow::{Phase, Shadow};
+use crate::shadow::{Phase, Shadow, GUARD, GUARDS};
 use std::f64::consts::TAU;
 use std::ops::RangeInclusive;
 
@@ -21,6 +21,7 @@ pub fn hand_worked() -> Request {
         elements: Elements::from_fields(fields),
         station: Station { number: 7, latitude: 90_000_000, longitude: 0, height: 0, delta_t: 0 },
         window: Window { first: -6000, last: 6000 },
+        guard: GUARD,
     }
 }
 
@@ -78,10 +79,12 @@ pub fn draw(random: &mut Random, manner: Manner) -> Request {
     let place_manner = if random.once_in(2) { Manner::AtLimits } else { Manner::Anywhere };
     let [number, latitude, longitude, height] =
         [0, 1, 2, 3].map(|k| field(random, &STATION_RANGES[k], place_manner));
-    // ΔT has a lot of its own, told by the other numbers, and is 0 every other time: what was drawn before it came stays.
+    // ΔT and the guard have a lot of their own, told by the other numbers, and are 0 and 16 every other time: what was drawn before
+    // they came stays.
     let mut own = Random::new((number ^ latitude << 10 ^ longitude << 20 ^ height << 40) as u64);
     let delta_t = if own.once_in(2) { 0 } else { field(&mut own, &STATION_RANGES[4], place_manner) };
     let station = Station { number, latitude, longitude, height, delta_t };
+    let guard = guard(&mut own);
     let seconds = -FARTHEST..=FARTHEST;
     let second_manner = if random.once_in(4) { Manner::AtLimits } else { Manner::Anywhere };
     let second = field(random, &seconds, second_manner);
@@ -89,7 +92,26 @@ pub fn draw(random: &mut Random, manner: Manner) -> Request {
         elements: Elements::from_fields(fields),
         station,
         window: Window { first: second, last: second },
+        guard,
     }
+}
+
+/// That of document 01 every other time, else at an end of the range or next to it, or anywhere.
+fn guard(random: &mut Random) -> i64 {
+    match random.below(12) {
+        0 => 17,
+        1 => 100,
+        2 => 999,
+        3 | 4 => 1_000,
+        5 => random.within(&GUARDS),
+        _ => GUARD,
+    }
+}
+
+/// How far from the cone's edge: at most 40 units either way under document 01's guard, farther out by what another is more.
+pub fn beyond(random: &mut Random, guard: i64) -> i64 {
+    let drawn = random.within(&(-40..=40));
+    drawn + (guard - GUARD) * drawn.signum()
 }
 
 /// The shadow of a request within its ranges.
@@ -135,7 +157,7 @@ pub fn put(request: &mut Request, second: i64, phase: Phase, beyond: i64, angle:
 /// Put the axis near the edge in any direction that the elements have room for, if there is one.
 pub fn put_near_edge(random: &mut Random, request: &mut Request, second: i64, phase: Phase) {
     for _ in 0..12 {
-        let beyond = random.within(&(-40..=40));
+        let beyond = beyond(random, request.guard);
         let angle = random.below(1 << 20) as f64 / (1 << 20) as f64 * TAU;
         if put(request, second, phase, beyond, angle) {
             return;
@@ -210,12 +232,13 @@ pub fn difficult(random: &mut Random) -> Request {
                 let (u_rate, v_rate) = (random.within(&(-most..=most)), random.within(&(-most..=most)));
                 slow_down(&mut request, second, u_rate, v_rate);
             }
-            let beyond = random.within(&(-40..=40));
+            let beyond = beyond(random, request.guard);
             put_along_edge(&mut request, second, phase, beyond);
         }
         // Near the point of the central cone.
         _ => {
-            shrink_central(&mut request, second, random.within(&(-40..=40)));
+            let size = beyond(random, request.guard);
+            shrink_central(&mut request, second, size);
             put_near_edge(random, &mut request, second, Phase::Central);
         }
     }

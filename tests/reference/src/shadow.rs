@@ -5,9 +5,13 @@ use crate::numbers::{near, root};
 use crate::place::Place;
 use crate::sine::{sine_cosine, UNIT};
 use crate::sine_table::S;
+use std::ops::RangeInclusive;
 
-/// The guard of document 01: a second is sure where it lies more than this from the edge.
+/// The guard of document 01's cases: a second is sure where it lies more than this from the edge.
 pub const GUARD: i64 = 16;
+
+/// What a customer's guard may be: document 02, wish 9.
+pub const GUARDS: RangeInclusive<i64> = GUARD..=1_000;
 
 /// A phase: the outer or the inner cone.
 #[derive(Clone, Copy, PartialEq, Eq, Debug)]
@@ -92,15 +96,15 @@ impl Shadow {
         }
     }
 
-    /// The state in a phase under document 01's guard.
+    /// The state in a phase under a guard.
     #[inline]
-    pub fn state(&self, phase: Phase) -> State {
-        state(self.l(phase), self.m(), GUARD)
+    pub fn state(&self, phase: Phase, guard: i64) -> State {
+        state(self.l(phase), self.m(), guard)
     }
 
-    /// Magnitude in millionths, rounded down.
-    pub fn magnitude(&self) -> i64 {
-        let nearer = match self.state(Phase::Central) {
+    /// Magnitude in millionths, rounded down; the guard decides whether central is inside.
+    pub fn magnitude(&self, guard: i64) -> i64 {
+        let nearer = match self.state(Phase::Central, guard) {
             State::Inside => self.l1 - self.l2,
             _ => self.l1 - root(self.m()),
         };

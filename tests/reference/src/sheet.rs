@@ -1,15 +1,18 @@
 //! The sheet: records as bytes, the reader and the writer of entries handed over.
 
 use crate::refusal::Refusal;
-use crate::shadow::Phase;
+use crate::shadow::{Phase, GUARDS};
 
 /// A record of a sheet: its kind and the numbers of its body in their order, 0 where a kind has fewer.
 /// Seconds are stored plus 10,800.
 #[derive(Clone, Copy, PartialEq, Eq, Debug)]
 pub struct Record {
     pub kind: u32,
-    pub fields: [u32; 3],
+    pub fields: [u32; 4],
 }
+
+/// The numbers of an entry handed over or read: its kind and its fields.
+pub const WORDS: usize = 5;
 
 pub const HEAD: u32 = 0x01;
 pub const ENTER_PENUMBRA: u32 = 0x10;
@@ -26,7 +29,8 @@ pub const END: u32 = 0x7F;
 /// The bytes of each number in a kind's body, or nothing for a kind that is not in the table.
 fn widths(kind: u32) -> Option<&'static [usize]> {
     match kind {
-        HEAD | ENTER_PENUMBRA | LEAVE_PENUMBRA | ENTER_CENTRAL | LEAVE_CENTRAL => Some(&[2, 2, 2]),
+        HEAD => Some(&[2, 2, 2, 2]),
+        ENTER_PENUMBRA | LEAVE_PENUMBRA | ENTER_CENTRAL | LEAVE_CENTRAL => Some(&[2, 2, 2]),
         GRAZE_PENUMBRA | OPEN_PENUMBRA | GRAZE_CENTRAL | OPEN_CENTRAL => Some(&[2, 2]),
         CLOSEST => Some(&[2, 4]),
         END => Some(&[]),
@@ -54,14 +58,14 @@ pub enum Role {
 }
 
 impl Record {
-    pub fn new(kind: u32, fields: [u32; 3]) -> Record {
+    pub fn new(kind: u32, fields: [u32; 4]) -> Record {
         Record { kind, fields }
     }
 
-    /// Four numbers: kind, then fields.
-    pub fn words(&self) -> [u32; 4] {
-        let [a, b, c] = self.fields;
-        [self.kind, a, b, c]
+    /// Five numbers: kind, then fields.
+    pub fn words(&self) -> [u32; WORDS] {
+        let [a, b, c, d] = self.fields;
+        [self.kind, a, b, c, d]
     }
 
     /// The phase and what is said of it, for the records of a phase.
@@ -131,11 +135,12 @@ impl Record {
     fn fields_good_after(&self, before: &[Record]) -> bool {
         let used = widths(self.kind).map_or(0, |w| w.len());
         let unused_are_zero = self.fields[used..].iter().all(|&field| field == 0);
-        let [a, b, c] = self.fields;
+        let [a, b, c, d] = self.fields;
         let Some(head) = before.first() else {
-            return unused_are_zero && (1..=999).contains(&a) && b <= c && c <= 21_600;
+            let window = b <= c && c <= 21_600;
+            return unused_are_zero && (1..=999).contains(&a) && window && GUARDS.contains(&d.into());
         };
-        let [_, first, last] = head.fields;
+        let [_, first, last, _] = head.fields;
         let in_window = |second: u32| first <= second && second <= last;
         let kept = match self.role() {
             Some((_, role)) => {
@@ -174,7 +179,7 @@ pub fn records_of(sheet: &[u8]) -> Result<Vec<Record>, Refusal> {
         if body.len() < widths.iter().sum() {
             return Err(Refusal::Cut(place));
         }
-        let mut record = Record::new(kind.into(), [0; 3]);
+        let mut record = Record::new(kind.into(), [0; 4]);
         for (field, &width) in record.fields.iter_mut().zip(widths) {
             *field = body.by_ref().take(width).fold(0, |number, &byte| number << 8 | u32::from(byte));
         }
@@ -193,35 +198,35 @@ pub fn records_of(sheet: &[u8]) -> Result<Vec<Record>, Refusal> {
     Ok(records)
 }
 
-/// Read a sheet into lent room, four numbers an entry: kind, then fields. Every record is an entry, head
+/// Read a sheet into lent room, five numbers an entry: kind, then fields. Every record is an entry, head
 /// and end too. The number of entries, or the sheet's first fault, or 4 with the number of entries where
 /// the room holds fewer. After a refusal the room holds its old numbers.
 pub fn read(sheet: &[u8], room: &mut [u32]) -> Result<usize, Refusal> {
     let records = records_of(sheet)?;
-    if room.len() / 4 < records.len() {
+    if room.len() / WORDS < records.len() {
         return Err(Refusal::Room(records.len()));
     }
-    for (entry, record) in room.chunks_exact_mut(4).zip(&records) {
+    for (entry, record) in room.chunks_exact_mut(WORDS).zip(&records) {
         entry.copy_from_slice(&record.words());
     }
     Ok(records.len())
 }
 
-/// Write entries handed over, four numbers each, as a sheet. The sheet's length; or the first fault, in an
+/// Write entries handed over, five numbers each, as a sheet. The sheet's length; or the first fault, in an
 /// entry 5, 8, 7, at the place its record has or would have; 6 where the list stops before its end entry or
 /// inside an entry; 9 for anything after the end entry; last 4. After a refusal the buffer holds its old bytes.
 pub fn write(entries: &[u32], buffer: &mut [u8]) -> Result<usize, Refusal> {
     let mut records: Vec<Record> = Vec::new();
     let mut bytes = Vec::new();
-    for entry in entries.chunks(4) {
+    for entry in entries.chunks(WORDS) {
         let place = bytes.len();
         if records.last().is_some_and(|r| r.kind == END) {
             return Err(Refusal::After(place));
         }
-        let &[kind, a, b, c] = entry else {
+        let &[kind, a, b, c, d] = entry else {
             return Err(Refusal::Cut(place));
         };
-        let record = Record::new(kind, [a, b, c]);
+        let record = Record::new(kind, [a, b, c, d]);
         if widths(kind).is_none() {
             return Err(Refusal::Kind(place));
         }

@@ -1,4 +1,4 @@
-//! The cases that document 01 gives or that follow from its words.
+//! The cases that documents 01 and 02 give or that follow from their words.
 
 use reference::elements::{value_at, Elements, Station, Window, ELEMENT_RANGES, FARTHEST, STATION_RANGES};
 use reference::entries::{entries, Entry};
@@ -10,8 +10,8 @@ use reference::random::Random;
 use reference::refusal::Refusal;
 use reference::request::{Request, KIND_PLACES};
 use reference::sample::hand_worked;
-use reference::shadow::{direction, state, Shadow, State, GUARD};
-use reference::sheet::{read, records_of, write, Role};
+use reference::shadow::{direction, state, Shadow, State, GUARD, GUARDS};
+use reference::sheet::{read, records_of, write, Role, WORDS};
 use reference::sine::{cosine, sine, sine_cosine, UNIT};
 use reference::sine_table::S;
 
@@ -29,10 +29,10 @@ fn listing_in_window(first: i64, last: i64) -> String {
     program(&request.to_bytes().unwrap())
 }
 
-/// The hand-worked sheet and its entries, four numbers each.
+/// The hand-worked sheet and its entries, five numbers each.
 fn hand_worked_sheet() -> (Vec<u8>, Vec<u32>) {
-    let mut buffer = vec![0; 43];
-    assert_eq!(hand_worked().sheet(&mut buffer), Ok(43));
+    let mut buffer = vec![0; 45];
+    assert_eq!(hand_worked().sheet(&mut buffer), Ok(45));
     let words = records_of(&buffer).unwrap().iter().flat_map(|record| record.words()).collect();
     (buffer, words)
 }
@@ -153,15 +153,37 @@ fn states_by_squares() {
     );
 }
 
+/// Larger guards only withhold: each state under all guards, and the first that says unsure.
+#[test]
+fn larger_guards_withhold() {
+    for (l, m, sure) in [
+        (1_000_000, (1_000_000i64 - 500).pow(2), State::Inside),
+        (1_000_000, (1_000_000i64 + 500).pow(2), State::Outside),
+        (500, 0, State::Inside),
+        (0, 500 * 500, State::Outside),
+    ] {
+        for guard in GUARDS {
+            let expected = if guard < 500 { sure } else { State::Unsure };
+            assert_eq!(state(l, m, guard), expected, "{l} {m} {guard}");
+        }
+    }
+}
+
 #[test]
 fn magnitudes() {
     let shadow = Shadow { u: 0, v: 0, l1: 54_000_000, l2: -1_000_000 };
-    assert_eq!(shadow.magnitude(), 1_037_735);
+    assert_eq!(shadow.magnitude(GUARD), 1_037_735);
     // Annular: below 1.
-    assert_eq!(Shadow { l2: 1_000_000, ..shadow }.magnitude(), 963_636);
-    assert_eq!(Shadow { u: 54_000_000, ..shadow }.magnitude(), 0);
-    assert_eq!(Shadow { u: 54_000_001, ..shadow }.magnitude(), 0);
-    assert_eq!(Shadow { u: 27_500_000, ..shadow }.magnitude(), 500_000);
+    assert_eq!(Shadow { l2: 1_000_000, ..shadow }.magnitude(GUARD), 963_636);
+    assert_eq!(Shadow { u: 54_000_000, ..shadow }.magnitude(GUARD), 0);
+    assert_eq!(Shadow { u: 54_000_001, ..shadow }.magnitude(GUARD), 0);
+    assert_eq!(Shadow { u: 27_500_000, ..shadow }.magnitude(GUARD), 500_000);
+    // Inside by 500 units: where the guard is not less, the total phase is not known.
+    let edge = Shadow { u: 999_500, ..shadow };
+    assert_eq!(
+        [16, 499, 500, 1_000].map(|guard| edge.magnitude(guard)),
+        [1_037_735, 1_037_735, 1_000_009, 1_000_009]
+    );
 }
 
 #[test]
@@ -221,13 +243,49 @@ fn entries_of_states() {
 
 #[test]
 fn room_for_the_sheet() {
-    let mut buffer = [0xA5; 43];
-    assert_eq!(hand_worked().sheet(&mut buffer[..42]), Err(Refusal::Room(43)));
-    assert_eq!(buffer, [0xA5; 43]);
-    assert_eq!(hand_worked().sheet(&mut buffer), Ok(43));
-    let mut longer = [0xA5; 50];
-    assert_eq!(hand_worked().sheet(&mut longer), Ok(43));
-    assert_eq!((&longer[..43], &longer[43..]), (&buffer[..], &[0xA5; 7][..]));
+    let mut buffer = [0xA5; 45];
+    assert_eq!(hand_worked().sheet(&mut buffer[..44]), Err(Refusal::Room(45)));
+    assert_eq!(buffer, [0xA5; 45]);
+    assert_eq!(hand_worked().sheet(&mut buffer), Ok(45));
+    let mut longer = [0xA5; 52];
+    assert_eq!(hand_worked().sheet(&mut longer), Ok(45));
+    assert_eq!((&longer[..45], &longer[45..]), (&buffer[..], &[0xA5; 7][..]));
+}
+
+/// The guard is in the head of the sheet and not in its listing; outside its range it comes after the window and before the elements.
+#[test]
+fn guards_of_requests() {
+    for guard in GUARDS {
+        let mut buffer = [0; 45];
+        assert_eq!(Request { guard, ..hand_worked() }.sheet(&mut buffer), Ok(45));
+        assert_eq!(buffer[7..9], (guard as u16).to_be_bytes());
+        assert_eq!(listing(&records_of(&buffer).unwrap()), HAND_WORKED);
+    }
+    for guard in [0, 15, 1_001, 65_535] {
+        let mut request = Request { guard, ..hand_worked() };
+        assert_eq!(program(&request.to_bytes().unwrap()), "refused 1 1\n");
+        request.elements.x[0] = 200_000_001;
+        assert_eq!(request.sheet(&mut []), Err(Refusal::Guard));
+        request.window.last = 10_801;
+        assert_eq!(request.sheet(&mut []), Err(Refusal::Window));
+    }
+    for guard in [i64::MIN, -16, i64::MAX] {
+        assert_eq!(Request { guard, ..hand_worked() }.sheet(&mut []), Err(Refusal::Guard));
+    }
+}
+
+/// Beside the cone, 500 units off it at second 0: a graze under the larger guards alone.
+#[test]
+fn graze_under_a_larger_guard() {
+    let listed = |guard| {
+        let mut request = Request { guard, window: Window { first: -60, last: 60 }, ..hand_worked() };
+        request.elements.x = [54_000_500, 0, 0, 0];
+        request.elements.y[1] = 36_000_000;
+        program(&request.to_bytes().unwrap())
+    };
+    assert_eq!(listed(499), "station 7 from -60 to 60\nclosest 0 0\n");
+    assert_eq!(listed(500), "station 7 from -60 to 60\ngraze penumbra -1 1\nclosest 0 0\n");
+    assert_eq!(listed(1_000), "station 7 from -60 to 60\ngraze penumbra -24 24\nclosest 0 0\n");
 }
 
 #[test]
@@ -279,8 +337,8 @@ fn elements_keep_their_order() {
 #[test]
 fn input_of_another_shape() {
     let good = hand_worked().to_bytes().unwrap();
-    let mut buffer = [0; 43];
-    for length in [0, 1, 43, 109, 112] {
+    let mut buffer = [0; 45];
+    for length in [0, 1, 45, 109, 113, 114] {
         assert_eq!(sheet_of_input(&good[..length], &mut buffer), Err(Refusal::Shape));
     }
     assert_eq!(sheet_of_input(&[&good[..], &[0]].concat(), &mut buffer), Err(Refusal::Shape));
@@ -294,23 +352,23 @@ fn input_of_another_shape() {
 #[test]
 fn sheet_cut_or_lengthened() {
     let (sheet, _) = hand_worked_sheet();
-    let starts = [0, 7, 14, 21, 28, 35, 42];
-    for length in 0..43 {
+    let starts = [0, 9, 16, 23, 30, 37, 44];
+    for length in 0..45 {
         let place = starts.into_iter().rfind(|&start| start <= length).unwrap();
         assert_eq!(records_of(&sheet[..length]), Err(Refusal::Cut(place)));
     }
-    assert_eq!(records_of(&[&sheet[..], &[0xFF]].concat()), Err(Refusal::After(43)));
+    assert_eq!(records_of(&[&sheet[..], &[0xFF]].concat()), Err(Refusal::After(45)));
 }
 
 #[test]
 fn reader_with_room() {
     let (sheet, words) = hand_worked_sheet();
-    let mut room = vec![9; 30];
-    assert_eq!(read(&sheet, &mut room[..27]), Err(Refusal::Room(7)));
-    assert_eq!(room, vec![9; 30]);
+    let mut room = vec![9; 37];
+    assert_eq!(read(&sheet, &mut room[..34]), Err(Refusal::Room(7)));
+    assert_eq!(room, vec![9; 37]);
     assert_eq!(read(&sheet, &mut room), Ok(7));
-    assert_eq!((&room[..28], &room[28..]), (&words[..], &[9, 9][..]));
-    assert_eq!(read(&sheet[..42], &mut []), Err(Refusal::Cut(42)));
+    assert_eq!((&room[..35], &room[35..]), (&words[..], &[9, 9][..]));
+    assert_eq!(read(&sheet[..44], &mut []), Err(Refusal::Cut(44)));
 }
 
 #[test]
@@ -325,69 +383,74 @@ fn each_fault_of_a_sheet() {
     };
     // Kinds that are not in the table, also where order would be broken.
     assert_eq!(with(&[(0, 0x02)]), Err(Refusal::Kind(0)));
-    assert_eq!(with(&[(7, 0x14)]), Err(Refusal::Kind(7)));
-    assert_eq!(with(&[(42, 0xFF)]), Err(Refusal::Kind(42)));
+    assert_eq!(with(&[(9, 0x14)]), Err(Refusal::Kind(9)));
+    assert_eq!(with(&[(44, 0xFF)]), Err(Refusal::Kind(44)));
     // Cut before order: the end in place of which a longer record stands.
-    assert_eq!(with(&[(42, 0x30)]), Err(Refusal::Cut(42)));
+    assert_eq!(with(&[(44, 0x30)]), Err(Refusal::Cut(44)));
     // Order before fields.
     assert_eq!(with(&[(0, 0x10)]), Err(Refusal::Order(0)));
-    assert_eq!(with(&[(7, 0x01)]), Err(Refusal::Order(7)));
-    assert_eq!(with(&[(14, 0x10)]), Err(Refusal::Order(14)));
-    assert_eq!(with(&[(14, 0x10), (15, 0)]), Err(Refusal::Order(14)));
-    assert_eq!(with(&[(28, 0x11)]), Err(Refusal::Order(28)));
-    assert_eq!(with(&[(7, 0x7F)]), Err(Refusal::Order(7)));
-    assert_eq!(with(&[(28, 0x30)]), Err(Refusal::Field(28)));
+    assert_eq!(with(&[(9, 0x01)]), Err(Refusal::Order(9)));
+    assert_eq!(with(&[(16, 0x10)]), Err(Refusal::Order(16)));
+    assert_eq!(with(&[(16, 0x10), (17, 0)]), Err(Refusal::Order(16)));
+    assert_eq!(with(&[(30, 0x11)]), Err(Refusal::Order(30)));
+    assert_eq!(with(&[(9, 0x7F)]), Err(Refusal::Order(9)));
+    assert_eq!(with(&[(30, 0x30)]), Err(Refusal::Field(30)));
     // From of the leave, 16,199, before to of the enter, 5,401; then equal to it.
-    assert_eq!(with(&[(15, 0x15), (16, 0x18)]), Err(Refusal::Order(14)));
-    assert!(with(&[(15, 0x15), (16, 0x19)]).is_ok());
-    // Fields: station, window, seconds, direction, magnitude.
+    assert_eq!(with(&[(17, 0x15), (18, 0x18)]), Err(Refusal::Order(16)));
+    assert!(with(&[(17, 0x15), (18, 0x19)]).is_ok());
+    // Fields: station, window, guard, seconds, direction, magnitude.
     assert_eq!(with(&[(2, 0)]), Err(Refusal::Field(0)));
     assert_eq!(with(&[(1, 3), (2, 0xE8)]), Err(Refusal::Field(0)));
     assert_eq!(with(&[(5, 0x54), (6, 0x61)]), Err(Refusal::Field(0)));
     assert_eq!(with(&[(3, 0x41), (4, 0xA1)]), Err(Refusal::Field(0)));
-    assert_eq!(with(&[(8, 0x12), (9, 0xBF)]), Err(Refusal::Field(7)));
-    assert_eq!(with(&[(12, 0x0E), (13, 0x10)]), Err(Refusal::Field(7)));
-    assert!(with(&[(12, 0x0E), (13, 0x0F)]).is_ok());
-    assert!(with(&[(12, 0xFF), (13, 0xFF)]).is_ok());
-    assert_eq!(with(&[(38, 0x00), (39, 0x13), (40, 0xD6), (41, 0x21)]), Err(Refusal::Field(35)));
-    assert!(with(&[(38, 0x00), (39, 0x13), (40, 0xD6), (41, 0x20)]).is_ok());
+    let with_guard = |guard: u16| with(&[(7, guard.to_be_bytes()[0]), (8, guard.to_be_bytes()[1])]);
+    assert!(with_guard(16).is_ok() && with_guard(1_000).is_ok());
+    for guard in [0, 15, 1_001, 65_535] {
+        assert_eq!(with_guard(guard), Err(Refusal::Field(0)));
+    }
+    assert_eq!(with(&[(10, 0x12), (11, 0xBF)]), Err(Refusal::Field(9)));
+    assert_eq!(with(&[(14, 0x0E), (15, 0x10)]), Err(Refusal::Field(9)));
+    assert!(with(&[(14, 0x0E), (15, 0x0F)]).is_ok());
+    assert!(with(&[(14, 0xFF), (15, 0xFF)]).is_ok());
+    assert_eq!(with(&[(40, 0x00), (41, 0x13), (42, 0xD6), (43, 0x21)]), Err(Refusal::Field(37)));
+    assert!(with(&[(40, 0x00), (41, 0x13), (42, 0xD6), (43, 0x20)]).is_ok());
 }
 
 #[test]
 fn order_of_a_family() {
     let sheet = |middle: &[u8]| {
-        records_of(&[&[1, 0, 7, 0, 10, 0, 20], middle, &[0x30, 0, 10, 0, 0, 0, 0, 0x7F]].concat())
+        records_of(&[&[1, 0, 7, 0, 10, 0, 20, 0, 16], middle, &[0x30, 0, 10, 0, 0, 0, 0, 0x7F]].concat())
     };
     // Grazes and opens are passed over.
     assert!(sheet(&[0x10, 0, 10, 0, 11, 0, 0, 0x12, 0, 11, 0, 13, 0x11, 0, 13, 0, 14, 0, 0]).is_ok());
     assert_eq!(
         sheet(&[0x10, 0, 10, 0, 11, 0, 0, 0x12, 0, 11, 0, 13, 0x10, 0, 13, 0, 14, 0, 0]),
-        Err(Refusal::Order(19))
+        Err(Refusal::Order(21))
     );
     // Each family begins anew, and penumbra does not come back.
     assert!(sheet(&[0x10, 0, 18, 0, 19, 0, 0, 0x20, 0, 10, 0, 11, 0, 0]).is_ok());
-    assert_eq!(sheet(&[0x20, 0, 10, 0, 11, 0, 0, 0x10, 0, 18, 0, 19, 0, 0]), Err(Refusal::Order(14)));
+    assert_eq!(sheet(&[0x20, 0, 10, 0, 11, 0, 0, 0x10, 0, 18, 0, 19, 0, 0]), Err(Refusal::Order(16)));
     // Opens touch an end of the window; one second is enough.
     assert!(sheet(&[0x13, 0, 10, 0, 10, 0x13, 0, 20, 0, 20]).is_ok());
     assert!(sheet(&[0x13, 0, 10, 0, 12, 0x13, 0, 12, 0, 20]).is_ok());
-    assert_eq!(sheet(&[0x13, 0, 11, 0, 12]), Err(Refusal::Field(7)));
-    assert_eq!(sheet(&[0x13, 0, 20, 0, 19]), Err(Refusal::Field(7)));
-    assert_eq!(sheet(&[0x12, 0, 11, 0, 11]), Err(Refusal::Field(7)));
-    assert_eq!(sheet(&[0x12, 0, 19, 0, 21]), Err(Refusal::Field(7)));
-    assert_eq!(sheet(&[0x10, 0, 11, 0, 11, 0, 0]), Err(Refusal::Field(7)));
+    assert_eq!(sheet(&[0x13, 0, 11, 0, 12]), Err(Refusal::Field(9)));
+    assert_eq!(sheet(&[0x13, 0, 20, 0, 19]), Err(Refusal::Field(9)));
+    assert_eq!(sheet(&[0x12, 0, 11, 0, 11]), Err(Refusal::Field(9)));
+    assert_eq!(sheet(&[0x12, 0, 19, 0, 21]), Err(Refusal::Field(9)));
+    assert_eq!(sheet(&[0x10, 0, 11, 0, 11, 0, 0]), Err(Refusal::Field(9)));
     // Closest twice, nothing between closest and end.
-    assert_eq!(sheet(&[0x30, 0, 10, 0, 0, 0, 0]), Err(Refusal::Order(14)));
+    assert_eq!(sheet(&[0x30, 0, 10, 0, 0, 0, 0]), Err(Refusal::Order(16)));
 }
 
 #[test]
 fn writer_gives_the_sheet_again() {
     let (sheet, words) = hand_worked_sheet();
-    let mut buffer = [0xA5; 44];
-    assert_eq!(write(&words, &mut buffer[..42]), Err(Refusal::Room(43)));
-    assert_eq!(buffer, [0xA5; 44]);
-    assert_eq!(write(&words, &mut buffer), Ok(43));
-    assert_eq!((&buffer[..43], buffer[43]), (&sheet[..], 0xA5));
-    assert_eq!(listing(&records_of(&buffer[..43]).unwrap()), HAND_WORKED);
+    let mut buffer = [0xA5; 46];
+    assert_eq!(write(&words, &mut buffer[..44]), Err(Refusal::Room(45)));
+    assert_eq!(buffer, [0xA5; 46]);
+    assert_eq!(write(&words, &mut buffer), Ok(45));
+    assert_eq!((&buffer[..45], buffer[45]), (&sheet[..], 0xA5));
+    assert_eq!(listing(&records_of(&buffer[..45]).unwrap()), HAND_WORKED);
 }
 
 #[test]
@@ -398,34 +461,54 @@ fn each_fault_of_entries() {
         changed[at] = value;
         write(&changed, &mut [])
     };
-    let places = [0, 7, 14, 21, 28, 35, 42];
+    let places = [0, 9, 16, 23, 30, 37, 44];
     for (entry, place) in places.into_iter().enumerate() {
-        assert_eq!(with(4 * entry, 0x101), Err(Refusal::Kind(place)));
-        assert_eq!(with(4 * entry, u32::MAX), Err(Refusal::Kind(place)));
-        for cut in 0..4 {
-            assert_eq!(write(&words[..4 * entry + cut], &mut []), Err(Refusal::Cut(place)));
+        assert_eq!(with(WORDS * entry, 0x101), Err(Refusal::Kind(place)));
+        assert_eq!(with(WORDS * entry, u32::MAX), Err(Refusal::Kind(place)));
+        for cut in 0..WORDS {
+            assert_eq!(write(&words[..WORDS * entry + cut], &mut []), Err(Refusal::Cut(place)));
         }
     }
     // Numbers that are not used, and numbers too large for their bytes.
-    assert_eq!(with(4 * 6 + 3, 1), Err(Refusal::Field(42)));
-    assert_eq!(with(4 * 5 + 3, 1), Err(Refusal::Field(35)));
+    assert_eq!(with(WORDS * 6 + 4, 1), Err(Refusal::Field(44)));
+    assert_eq!(with(WORDS * 5 + 3, 1), Err(Refusal::Field(37)));
+    assert_eq!(with(WORDS + 4, 16), Err(Refusal::Field(9)));
     assert_eq!(with(1, 0x1_0007), Err(Refusal::Field(0)));
-    assert_eq!(with(7, 0x1_0000), Err(Refusal::Field(7)));
-    assert_eq!(with(6, u32::MAX), Err(Refusal::Field(7)));
-    assert_eq!(with(8, 0x10), Err(Refusal::Order(14)));
+    assert_eq!(with(4, 0x1_0010), Err(Refusal::Field(0)));
+    assert_eq!(with(4, 15), Err(Refusal::Field(0)));
+    assert_eq!(with(4, 1_001), Err(Refusal::Field(0)));
+    assert_eq!(with(4, 1_000), Err(Refusal::Room(45)));
+    assert_eq!(with(8, 0x1_0000), Err(Refusal::Field(9)));
+    assert_eq!(with(7, u32::MAX), Err(Refusal::Field(9)));
+    assert_eq!(with(10, 0x10), Err(Refusal::Order(16)));
     // After the end entry: 9, before the room is looked at.
-    for more in [&[0x7F][..], &[5, 5], &[0x7F, 0, 0, 0], &[0xFFFF, 1, 2, 3, 4]] {
-        assert_eq!(write(&[&words, more].concat(), &mut []), Err(Refusal::After(43)));
+    for more in [&[0x7F][..], &[5, 5], &[0x7F, 0, 0, 0, 0], &[0xFFFF, 1, 2, 3, 4, 5]] {
+        assert_eq!(write(&[&words, more].concat(), &mut []), Err(Refusal::After(45)));
     }
     assert_eq!(write(&[], &mut []), Err(Refusal::Cut(0)));
+}
+
+/// A whole sheet of the old form, without the guard: its next record stands where the guard is, and no kind begins a number below 1,000.
+#[test]
+fn old_sheets() {
+    let (sheet, _) = hand_worked_sheet();
+    let old = [&sheet[..7], &sheet[9..]].concat();
+    assert_eq!((old.len(), records_of(&old)), (43, Err(Refusal::Field(0))));
+    for kind in [0x10, 0x11, 0x12, 0x13, 0x20, 0x21, 0x22, 0x23, 0x30] {
+        for second in 0..=21_600u16 {
+            let [high, low] = second.to_be_bytes();
+            let old = [&[1, 0, 1, 0, 0, 0x54, 0x60, kind, high, low], &[0; 8][..]].concat();
+            assert_eq!(records_of(&old), Err(Refusal::Field(0)));
+        }
+    }
 }
 
 #[test]
 fn stored_seconds() {
     let (sheet, _) = hand_worked_sheet();
-    assert_eq!(sheet[..7], [1, 0, 7, 0x12, 0xC0, 0x41, 0xA0]);
-    assert_eq!(i64::from(u16::from_be_bytes([sheet[8], sheet[9]])) - FARTHEST, -5401);
-    assert_eq!(sheet[35..], [0x30, 0x2A, 0x30, 0x00, 0x0F, 0xD5, 0xA7, 0x7F]);
+    assert_eq!(sheet[..9], [1, 0, 7, 0x12, 0xC0, 0x41, 0xA0, 0, 16]);
+    assert_eq!(i64::from(u16::from_be_bytes([sheet[10], sheet[11]])) - FARTHEST, -5401);
+    assert_eq!(sheet[37..], [0x30, 0x2A, 0x30, 0x00, 0x0F, 0xD5, 0xA7, 0x7F]);
 }
 
 /// No numbers and no bytes stop the program.
@@ -444,21 +527,22 @@ fn anything_at_all() {
         request.station.longitude = number(&mut random);
         request.window.first = number(&mut random);
         request.window.last = number(&mut random);
+        request.guard = number(&mut random);
         assert!(request.sheet(&mut buffer).is_err());
 
         let mut changed = sheet.clone();
         let mut entries = words.clone();
         for _ in 0..=random.below(3) {
-            changed[random.below(43) as usize] = random.bits() as u8;
-            entries[random.below(28) as usize] = random.bits() as u32 >> random.below(32);
+            changed[random.below(45) as usize] = random.bits() as u8;
+            entries[random.below(35) as usize] = random.bits() as u32 >> random.below(32);
         }
         // What one takes the other gives back.
         if let Ok(count) = read(&changed, &mut room) {
-            assert_eq!(write(&room[..4 * count], &mut buffer), Ok(changed.len()));
+            assert_eq!(write(&room[..WORDS * count], &mut buffer), Ok(changed.len()));
             assert_eq!(buffer[..changed.len()], changed);
         }
         if let Ok(length) = write(&entries, &mut buffer) {
-            assert_eq!(read(&buffer[..length], &mut room), Ok(entries.len() / 4));
+            assert_eq!(read(&buffer[..length], &mut room), Ok(entries.len() / WORDS));
             assert_eq!(room[..entries.len()], entries);
         }
     }

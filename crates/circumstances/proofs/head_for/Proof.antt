@@ -1,4 +1,4 @@
--- `circumstances::head_for` meets its contract: a number and two seconds within their ranges, as unsigned numbers. Assumes nothing.
+-- `circumstances::head_for` meets its contract: a number, two seconds and a guard within their ranges, as unsigned numbers. Assumes nothing.
 use mathlib.Core.Path.{_≡_, _∙_}
 use mathlib.Core.List.{[], _∷_}
 use Prim.Native.Nat.{ℕ, _≤_}
@@ -10,7 +10,7 @@ use Rattle.numbers.specs.Order.{≤ℤ-trans, natAbs-between}
 use Rattle.numbers.specs.Code.{arg, Within, whole, ends, _▹_, within, unsigned, read-back, read-size}
 use Rattle.requests.specs.declared.Request.{Request}
 use Rattle.requests.specs.WindowLaws.{window-sizes}
-use Rattle.requests.specs.RequestLaws.{InLimits}
+use Rattle.requests.specs.RequestLaws.{InLimits, guard-size}
 use Rattle.courses.specs.Courses.{headEntry}
 use Rattle.circumstances.proofs.head_for.Statement.{statement}
 use Rattle.circumstances.proofs.head_for.Tie as tie
@@ -34,23 +34,30 @@ store-second-requires-2 c κs =
     let b = c .before .before .before .before .before .before .before in
     read-size (b .args .q .window .last) 10800 (window-sizes (b .args .q .window) (b .pre .window) .1) tt
 
+cast-guard : tie.Need-cast-guard
+cast-guard c =
+    let b = c .before .before .before .before .before .before .before .before .before .before in
+    let w : Within (whole (b .args .q .guard) ∷ []) (1000 ∷ []) = guard-size (b .pre .guard) .1 ▹ ends in
+    (unsigned w (arg 0) tt (≤ℤ-trans (leZ-yes tt) (b .pre .guard .low)) .0, record { fits = omega (arith, within w (arg 0) 1000 tt) })
+
 head-requires : tie.Need-head-requires
 head-requires c κs = search needs
 
 returns : tie.Need-returns
 unfolding headEntry
 returns c =
-    let b = c .before .before .before .before .before .before .before .before .before in
+    let b = c .before .before .before .before .before .before .before .before .before .before .before in
     let q = b .args .q in
     let s = window-sizes (q .window) (b .pre .window) in
     c .head .ensures
     ∙ rw (
       read-back (q .station .number) (number-size q (b .pre)) tt,
-      c .before .before .before .store-second .ensures .0,
-      c .before .store-second2 .ensures .0,
+      c .before .before .before .before .before .store-second .ensures .0,
+      c .before .before .before .store-second2 .ensures .0,
       read-back (q .window .first) (s .0) tt,
       read-back (q .window .last) (s .1) tt,
+      read-back (q .guard) (guard-size (b .pre .guard) .1) tt,
     )
 
 pub head-for-spec : {M : Type 1} → statement M
-head-for-spec = tie.close (tie.spec cast-station store-second-requires store-second-requires-2 head-requires returns)
+head-for-spec = tie.close (tie.spec cast-station store-second-requires store-second-requires-2 cast-guard head-requires returns)

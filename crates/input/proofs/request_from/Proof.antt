@@ -34,6 +34,9 @@ shared-slice-copy-out-first c = search needs
 shared-slice-copy-out-last : tie.Need-shared-slice-copy-out-last
 shared-slice-copy-out-last c = search needs
 
+shared-slice-copy-out-guard : tie.Need-shared-slice-copy-out-guard
+shared-slice-copy-out-guard c = search needs
+
 -- a number, as it is put into a field
 back : (c : tie.Start) (k : ℕ) → toZ w64 (ofZ w64 (number (c .args .n .now) k)) ≡ number (c .args .n .now) k
 back c k = read-back (number (c .args .n .now) k) (c .pre .each k) tt
@@ -41,9 +44,9 @@ back c k = read-back (number (c .args .n .now) k) (c .pre .each k) tt
 returns : tie.Need-returns
 unfolding requestFrom stationFrom windowFrom
 returns c =
-    let e = c .before .before .before .before .before .before .before in
+    let e = c .before .before .before .before .before .before .before .before in
     let s = e .before in
-    rw (e .from-numbers .ensures, back s 22, back s 23, back s 24, back s 25, back s 26, back s 27, back s 28)
+    rw (e .from-numbers .ensures, back s 22, back s 23, back s 24, back s 25, back s 26, back s 27, back s 28, back s 29)
 
 pub request-from-spec : {M : Type 1} → statement M
 request-from-spec =
@@ -57,4 +60,5 @@ request-from-spec =
     shared-slice-copy-out-deltat
     shared-slice-copy-out-first
     shared-slice-copy-out-last
+    shared-slice-copy-out-guard
     returns)

@@ -17,11 +17,11 @@ opposite-requires c κs = leZ-yes tt
 
 returns : tie.Need-returns
 returns c =
-    let o = c .before .before .before .before in
+    let o = c .before .before .before .before .before in
     let d = o .before .before .before in
     let y = d .before .before in
     let q = y .before .before .before .before .before .before .args .q in
-    let s = c .before .struct-told2 .given in
+    let s = c .before .before .struct-told2 .given in
     rw (
       y .mirrored-cubic .ensures,
       d .mirrored-quadratic .ensures,
@@ -30,6 +30,7 @@ returns c =
       read-result (q .station .longitude) (s .1 .1 .0 .1),
       read-result (q .station .height) (s .1 .1 .1 .0 .1),
       read-result (q .station .deltat) (s .1 .1 .1 .1 .0 .1),
+      read-result (q .guard) (c .struct-told3 .given .1 .1 .1 .0 .1),
     )
 
 pub mirror-spec : {M : Type 1} → statement M

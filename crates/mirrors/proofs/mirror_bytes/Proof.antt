@@ -30,7 +30,7 @@ made-is c =
     let h = c .before .before .before in
     mirror-put _ (bytes (told c)) _ (shaped (told c)) _ _ _ (h .change .ensures) (c .put .ensures .1)
 
-made-length : (c : tie.After-put) → length (c .put .last .1 .0) ≡ 113
+made-length : (c : tie.After-put) → length (c .put .last .1 .0) ≡ 115
 made-length c = ap length (made-is c) ∙ mirror-length _ (bytes (told c)) _ (shaped (told c))
 
 get-requires : tie.Need-get-requires

@@ -3,14 +3,16 @@
 use mathlib.Core.Path.{_≡_, sym, ap, subst, _∙_}
 use Prim.Native.Nat.{_+_, _-_, _≤_}
 use borrow.Author.Needs.{needs}
+use native.Mathlib.Omega.{arith}
 use lib.ListN.{length, drop}
+use lib.Seq.{length-take-le}
 use Rattle.words.specs.declared.Class.the-variants as C
 use Rattle.words.specs.Text.{runOf}
 use Rattle.words.specs.TextLaws.{rest-is, line-within}
 use Rattle.request_text.specs.declared.Line.{Line}
 use Rattle.request_text.specs.Lines.{meaningOf}
 use Rattle.request_text.specs.LineLaws.{meaning-in}
-use Rattle.request_text.specs.Typing.{InFields}
+use Rattle.request_text.specs.Typing.{InFields, required}
 use Rattle.request_text.specs.TypingLaws.{Noting, Walked, typing-start, end-missing, end-all, line, line-refused, line-taken}
 use Rattle.request_text.proofs.numbers.Statement.{statement}
 use Rattle.request_text.proofs.numbers.Tie as tie
@@ -45,6 +47,9 @@ module _ (c : tie.After-note Inv-loop μ-loop) where
       (loop at-run .before .loop .marks) (loop at-run .before .loop .found) (c .note .result) (c .note .last .1 .0) (c .note .last .1 .1 .0)
   noted = subst (λ (l : Line). Noting l (loop at-run .before .loop .marks) (loop at-run .before .loop .found) (c .note .result) (c .note .last .1 .0)
       (c .note .last .1 .1 .0)) (c .before .before .before .meaning .ensures) (c .note .ensures)
+
+array-set-of-found : tie.Need-array-set-of-found Inv-loop μ-loop
+array-set-of-found c = search needs
 
 loop-holds : tie.Need-loop-holds Inv-loop μ-loop
 loop-holds c = typing-start _
@@ -116,8 +121,11 @@ loop-again c =
     line-taken _ _ _ _ _ (walked r) _ (loop r .loop-test .taken) (ran r) _ _ (sym (noted n .0) ∙ c .enum-told .given .1) (noted n .1 .0)
     (noted n .1 .1) (n .note .kept .1 .0 ∙ walked r .marked) (n .note .kept .1 .1 .0 ∙ walked r .fields)
 
+array-share-prefix-marks : tie.Need-array-share-prefix-marks Inv-loop μ-loop
+array-share-prefix-marks c = omega (arith, c .before .loop .inv .marked)
+
 slice-aggregate-complete : tie.Need-slice-aggregate-complete Inv-loop μ-loop
-slice-aggregate-complete c = sym (c .before .before .loop .inv .marked)
+slice-aggregate-complete c = sym (length-take-le required (c .before .before .loop .marks) (omega (arith, c .before .before .loop .inv .marked)))
 
 complete-requires : tie.Need-complete-requires Inv-loop μ-loop
 complete-requires c κs = search needs
@@ -144,6 +152,7 @@ numbers-spec =
     (tie.spec
     Inv-loop
     μ-loop
+    array-set-of-found
     loop-holds
     sub-run
     part-run-start
@@ -164,6 +173,7 @@ numbers-spec =
     add-line
     loop-less
     loop-again
+    array-share-prefix-marks
     slice-aggregate-complete
     complete-requires
     enum-known-all

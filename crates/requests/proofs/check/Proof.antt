@@ -1,9 +1,11 @@
--- `requests::check` meets its contract: the window, then the elements, then the station; the first that is out of range answers. Assumes nothing.
-use mathlib.Core.Path.{_≡_, sym, _∙_}
+-- `requests::check` meets its contract: the window, the guard, the elements, then the station; the first that is out of range answers. Assumes nothing.
+use mathlib.Core.Path.{_≡_, sym, ap, _∙_}
 use mathlib.Core.Bool.{true}
 use borrow.Author.Needs.{needs}
+use Rattle.numbers.specs.Code.{read-result}
 use Rattle.requests.specs.Windows.{windowHolds}
-use Rattle.requests.specs.RequestLaws.{not-true, not-false, checked-window, checked-element, checked-station}
+use Rattle.requests.specs.Requests.{guardHolds}
+use Rattle.requests.specs.RequestLaws.{not-true, not-false, checked-window, checked-guard, checked-element, checked-station}
 use Rattle.requests.proofs.check.Statement.{statement}
 use Rattle.requests.proofs.check.Tie as tie
 
@@ -18,17 +20,36 @@ returns c =
     let q = c .before .before .before .args .q in
     sym (checked-window q (sym (c .before .window-holds .ensures) ∙ not-true (c .before .window-holds .result) (c .if1 .taken)))
 
+guard-holds-requires : tie.Need-guard-holds-requires
+guard-holds-requires c κs = search needs
+
+-- the guard is read back from its bits
+guard-is : (c : tie.After-guard-holds) → c .guard-holds .result ≡ guardHolds (c .before .before .before .before .before .args .q .guard)
+guard-is c =
+    let q = c .before .before .before .before .before .args .q in
+    c .guard-holds .ensures ∙ ap guardHolds (read-result (q .guard) (c .before .struct-told .given .1 .1 .1 .0 .1))
+
+guarded : (c : tie.Else2) → guardHolds (c .before .before .before .before .before .before .args .q .guard) ≡ true
+guarded c = sym (guard-is (c .before)) ∙ not-false (c .before .guard-holds .result) (c .if2 .left)
+
+returns-2 : tie.Need-returns-2
+returns-2 c =
+    let e = c .before .before .before in
+    let q = e .before .before .before .args .q in
+    sym (checked-guard q (holds e) (sym (guard-is (c .before)) ∙ not-true (c .before .guard-holds .result) (c .if2 .taken)))
+
 check-requires : tie.Need-check-requires
 check-requires c κs = search needs
 
 enum-known-of-elements : tie.Need-enum-known-of-elements
 enum-known-of-elements c = search needs
 
-returns-2 : tie.Need-returns-2
-returns-2 c =
-    let e = c .before .before .before .before .before in
+returns-3 : tie.Need-returns-3
+returns-3 c =
+    let g = c .before .before .before .before .before in
+    let e = g .before .before .before in
     let q = e .before .before .before .args .q in
-    sym (checked-element q (holds e) (sym (c .before .before .before .check .ensures) ∙ c .before .of-elements .given .1))
+    sym (checked-element q (holds e) (guarded g) (sym (c .before .before .before .check .ensures) ∙ c .before .of-elements .given .1))
 
 enum-told : tie.Need-enum-told
 enum-told c = search needs
@@ -36,12 +57,13 @@ enum-told c = search needs
 check-requires-2 : tie.Need-check-requires-2
 check-requires-2 c κs = search needs
 
-returns-3 : tie.Need-returns-3
-returns-3 c =
+returns-4 : tie.Need-returns-4
+returns-4 c =
     let t = c .before .before in
-    let e = t .before .before .before .before in
+    let g = t .before .before .before .before in
+    let e = g .before .before .before in
     let q = e .before .before .before .args .q in
-    c .check2 .ensures ∙ sym (checked-station q (holds e) (sym (t .before .before .check .ensures) ∙ t .enum-told .given .1))
+    c .check2 .ensures ∙ sym (checked-station q (holds e) (guarded g) (sym (t .before .before .check .ensures) ∙ t .enum-told .given .1))
 
 pub check-spec : {M : Type 1} → statement M
 check-spec =
@@ -49,9 +71,11 @@ check-spec =
     (tie.spec
     window-holds-requires
     returns
+    guard-holds-requires
+    returns-2
     check-requires
     enum-known-of-elements
-    returns-2
+    returns-3
     enum-told
     check-requires-2
-    returns-3)
+    returns-4)

@@ -14,6 +14,9 @@ enum-told c = search needs
 enum-told-2 : tie.Need-enum-told-2
 enum-told-2 c = search needs
 
+guard-holds-requires : tie.Need-guard-holds-requires
+guard-holds-requires c κs = search needs
+
 enum-told-3 : tie.Need-enum-told-3
 enum-told-3 c = search needs
 
@@ -33,7 +36,7 @@ returns : tie.Need-returns
 returns c = let a = c .before .before .before .args in rule-by (a .p) (a .entry) _ (sym (c .enum-told .given .1) ∙ c .before .before .stage-of .ensures)
 
 returns-2 : tie.Need-returns-2
-returns-2 c = let a = c .before .before .before .args in rule-by (a .p) (a .entry) _ (sym (c .enum-told2 .given .1) ∙ c .before .before .stage-of .ensures)
+returns-2 c = let a = c .before .before .before .before .args in rw (c .guard-holds .ensures) (rule-by (a .p) (a .entry) _ (sym (c .before .enum-told2 .given .1) ∙ c .before .before .before .stage-of .ensures))
 
 returns-3 : tie.Need-returns-3
 returns-3 c = let a = c .before .before .before .before .args in rw (c .phase-holds .ensures) (rule-by (a .p) (a .entry) _ (sym (c .before .enum-told3 .given .1) ∙ c .before .before .before .stage-of .ensures))
@@ -51,6 +54,7 @@ rule-holds-spec =
     stage-of-requires
     enum-told
     enum-told-2
+    guard-holds-requires
     enum-told-3
     phase-holds-requires
     enum-told-4

@@ -28,25 +28,25 @@ use Rattle.requests.specs.declared.Request.{Request}
 use Rattle.requests.specs.Windows.{nthSecond, secondCount}
 use Rattle.requests.specs.WindowLaws.{seconds-few, second-size}
 use Rattle.requests.specs.RequestLaws.{InLimits}
-use Rattle.seconds.specs.Seconds.{guard, closestOf}
+use Rattle.seconds.specs.Seconds.{closestOf}
 use Rattle.seconds.specs.Closest.{closestTo}
 use Rattle.seconds.specs.ClosestLaws.{Least, least-start, least-new, least-same}
 use Rattle.seconds.specs.Filled.{byteAt, squareAt, Filled, filled-none, filled-more, filled-beside, all-filled}
-use Rattle.seconds.specs.SecondLaws.{placed}
+use Rattle.seconds.specs.SecondLaws.{placed, guard-read}
 use Rattle.seconds.proofs.fill_states.Statement.{statement}
 use Rattle.seconds.proofs.fill_states.Tie as tie
 
 abbrev Inv-loop : tie.InvT-loop
-Inv-loop table place states₀ e w n best₀ least₀ i₀ states best least i =
+Inv-loop table q place states₀ e w n best₀ least₀ i₀ states best least i =
     (i ≤ n)
     × (length states ≡ length states₀)
-    × Filled (byteAt e place w Penumbra) 0 i states
-    × Filled (byteAt e place w Central) n i states
+    × Filled (byteAt (q .guard) e place w Penumbra) 0 i states
+    × Filled (byteAt (q .guard) e place w Central) n i states
     × Least (squareAt e place w) i best (toZ w64 least)
     × (natAbs (toZ w64 least) ≤ 9000000000000000000)
 
 abbrev μ-loop : tie.MeasureT-loop
-μ-loop table place states₀ e w n best₀ least₀ i₀ states best least i = n - i
+μ-loop table q place states₀ e w n best₀ least₀ i₀ states best least i = n - i
 
 -- ---- the window
 holds : (c : tie.After-w Inv-loop μ-loop) → InLimits (c .before .before .before .before .args .q)
@@ -88,39 +88,42 @@ module _ (c : tie.After-nth-second Inv-loop μ-loop) where
 
 module _ (c : tie.After-states-at Inv-loop μ-loop) where
   abbrev elements : Elements
-  elements = c .before .before .before .before .before .before .before .before .before .args .q .elements
+  elements = c .before .before .before .before .before .before .before .before .before .before .args .q .elements
+
+  abbrev guard : ℤ
+  guard = c .before .before .before .before .before .before .before .before .before .before .args .q .guard
 
   abbrev place : Place
-  place = c .before .before .before .before .before .before .before .before .before .args .place
+  place = c .before .before .before .before .before .before .before .before .before .before .args .place
 
   abbrev second : ℤ
-  second = nthSecond (window (c .before)) (k (c .before))
+  second = nthSecond (window (c .before .before)) (k (c .before .before))
 
   given : IsStates guard elements place second (c .states-at .result)
-  given = rw (read-back (c .before .nth-second .result) (result-small (c .before)) tt, second-is (c .before)) at (c .states-at .ensures)
+  given = rw (guard-read _ (holds (c .before .before .before .before .before .before)) .0, read-back (c .before .before .nth-second .result) (result-small (c .before .before)) tt, second-is (c .before .before)) at (c .states-at .ensures)
 
   abbrev squares : ℕ → ℤ
-  squares = squareAt elements place (window (c .before))
+  squares = squareAt elements place (window (c .before .before))
 
-  m-is : c .states-at .result .m ≡ squares (k (c .before))
+  m-is : c .states-at .result .m ≡ squares (k (c .before .before))
   unfolding squareAt
   m-is = given .m
 
   m-size : natAbs (c .states-at .result .m) ≤ 800000000000000000
   m-size =
-      let w = c .before .before .before .before .before in
-      omega (arith, ap natAbs (given .m), M-size (moment elements place second) (record { axis = holds w .elements .axis; place = placed-there w; τ = second-small (c .before) }))
+      let w = c .before .before .before .before .before .before in
+      omega (arith, ap natAbs (given .m), M-size (moment elements place second) (record { axis = holds w .elements .axis; place = placed-there w; τ = second-small (c .before .before) }))
 
-  byte-penumbra : c .states-at .result .penumbra ≡ byteAt elements place (window (c .before)) Penumbra (k (c .before))
+  byte-penumbra : c .states-at .result .penumbra ≡ byteAt guard elements place (window (c .before .before)) Penumbra (k (c .before .before))
   unfolding byteAt
   byte-penumbra = given .penumbra
 
-  byte-central : c .states-at .result .central ≡ byteAt elements place (window (c .before)) Central (k (c .before))
+  byte-central : c .states-at .result .central ≡ byteAt guard elements place (window (c .before .before)) Central (k (c .before .before))
   unfolding byteAt
   byte-central = given .central
 
-  below-start : squares (k (c .before)) <ℤ pos 9000000000000000000
-  below-start = omega (arith, zs, natAbs-parts (squares (k (c .before))), ap natAbs m-is, m-size)
+  below-start : squares (k (c .before .before)) <ℤ pos 9000000000000000000
+  below-start = omega (arith, zs, natAbs-parts (squares (k (c .before .before))), ap natAbs m-is, m-size)
 
 second-count-requires : tie.Need-second-count-requires Inv-loop μ-loop
 second-count-requires c κs = holds c .window
@@ -141,40 +144,40 @@ nth-second-requires c κs = (holds (c .before .before .before) .window, omega (a
 
 states-at-requires : tie.Need-states-at-requires Inv-loop μ-loop
 states-at-requires c κs =
-    let w = c .before .before .before .before in
-    (w .before .before .before .before .pre .0, holds w .elements, placed-there w, read-size (c .nth-second .result) 10800 (result-small c) tt, lit≤ tt)
+    let w = c .before .before .before .before .before in
+    (w .before .before .before .before .pre .0, holds w .elements, placed-there w, read-size (c .before .nth-second .result) 10800 (result-small (c .before)) tt, guard-read _ (holds w) .1)
 
 slice-write-states : tie.Need-slice-write-states Inv-loop μ-loop
 slice-write-states c =
-    omega (arith, c .before .before .loop-test .taken, c .before .before .before .loop .inv .1, room (c .before .before .before .before))
+    omega (arith, c .before .before .before .loop-test .taken, c .before .before .before .before .loop .inv .1, room (c .before .before .before .before .before))
 
 add-of-central : tie.Need-add-of-central Inv-loop μ-loop
-add-of-central c = record { fits = omega (arith, c .before .before .loop-test .taken, few (c .before .before .before .before)) }
+add-of-central c = record { fits = omega (arith, c .before .before .before .loop-test .taken, few (c .before .before .before .before .before)) }
 
 slice-write-states-2 : tie.Need-slice-write-states-2 Inv-loop μ-loop
 slice-write-states-2 c =
-    let l = c .before .before .before .loop in
+    let l = c .before .before .before .before .loop in
     omega (
       arith,
-      c .before .before .loop-test .taken,
+      c .before .before .before .loop-test .taken,
       l .inv .1,
-      room (c .before .before .before .before),
+      room (c .before .before .before .before .before),
       length-set (l .states) (l .i) (c .states-at .result .penumbra),
     )
 
 add-i : tie.Need-add-i Inv-loop μ-loop
-add-i c = record { fits = omega (arith, c .before .before .before .before .loop-test .taken, few (c .before .before .before .before .before .before)) }
+add-i c = record { fits = omega (arith, c .before .before .before .before .before .loop-test .taken, few (c .before .before .before .before .before .before .before)) }
 
 loop-less : tie.Need-loop-less Inv-loop μ-loop
-loop-less c = omega (arith, c .before .before .before .before .loop-test .taken)
+loop-less c = omega (arith, c .before .before .before .before .before .loop-test .taken)
 
 loop-again : tie.Need-loop-again Inv-loop μ-loop
 loop-again c =
     let s = c .before .before in
-    let l = s .before .before .before .loop in
-    let n = s .before .before .before .before .second-count .result in
+    let l = s .before .before .before .before .loop in
+    let n = s .before .before .before .before .before .second-count .result in
     let x = s .states-at .result in
-    let taken = s .before .before .loop-test .taken in
+    let taken = s .before .before .before .loop-test .taken in
     let size = length-set (l .states) (l .i) (x .penumbra) in
     let pen = filled-beside (n + l .i) (x .central) (filled-more (l .i) (x .penumbra) (l .inv .2) (sym (zero-add (l .i))) (slice-write-states s) (byte-penumbra s)) (λ k b e. omega arith) in
     let cen = filled-more (n + l .i) (x .central) (filled-beside (l .i) (x .penumbra) (l .inv .3) (λ k b e. omega arith)) refl (slice-write-states-2 s) (byte-central s) in

@@ -1,22 +1,21 @@
 -- `seconds::second_within` meets its contract: the place is the station's, and the second is the whole second there. Assumes nothing.
 use mathlib.Core.Path.{_≡_, sym, subst}
-use lib.Dec.{lit≤}
 use borrow.Author.Needs.{needs}
 use Rattle.numbers.specs.Code.{read-back, read-size}
 use Rattle.station.specs.Place.{placeOf}
 use Rattle.station.specs.Sizes.{PlaceSizes}
 use Rattle.shadow.specs.declared.Second.{Second}
 use Rattle.shadow.specs.Second.{IsSecond}
-use Rattle.seconds.specs.Seconds.{guard, stateAt, directionAt, magnitudeAt}
+use Rattle.seconds.specs.Seconds.{stateAt, directionAt, magnitudeAt}
 use Rattle.seconds.specs.OneSecond.{wholeSecond}
-use Rattle.seconds.specs.SecondLaws.{placed}
+use Rattle.seconds.specs.SecondLaws.{placed, guard-read}
 use Rattle.requests.specs.declared.Request.{Request}
 use lib.IntN.{ℤ}
 use Rattle.seconds.proofs.second_within.Statement.{statement}
 use Rattle.seconds.proofs.second_within.Tie as tie
 
 -- what the code gives is that record
-whole : (q : Request) (τ : ℤ) (x : Second) → IsSecond guard (q .elements) (placeOf (q .station)) τ x → x ≡ wholeSecond q τ
+whole : (q : Request) (τ : ℤ) (x : Second) → IsSecond (q .guard) (q .elements) (placeOf (q .station)) τ x → x ≡ wholeSecond q τ
 unfolding stateAt directionAt magnitudeAt
 whole q τ x i = by
   where
@@ -36,13 +35,13 @@ geocentric-requires c κs = search needs
 
 second-at-requires : tie.Need-second-at-requires
 second-at-requires c κs =
-    let b = c .before .before .before .before in
-    (b .pre .0, b .pre .1 .elements, subst PlaceSizes (sym (c .geocentric .ensures)) (placed (b .args .q) (b .pre .1)), read-size (b .args .t) 10800 (b .pre .2) tt, lit≤ tt)
+    let b = c .before .before .before .before .before in
+    (b .pre .0, b .pre .1 .elements, subst PlaceSizes (sym (c .before .geocentric .ensures)) (placed (b .args .q) (b .pre .1)), read-size (b .args .t) 10800 (b .pre .2) tt, guard-read (b .args .q) (b .pre .1) .1)
 
 returns : tie.Need-returns
 returns c =
-    let b = c .before .before .before .before .before in
-    whole (b .args .q) (b .args .t) (c .second-at .result) (rw (read-back (b .args .t) (b .pre .2) tt, c .before .geocentric .ensures) at (c .second-at .ensures))
+    let b = c .before .before .before .before .before .before in
+    whole (b .args .q) (b .args .t) (c .second-at .result) (rw (guard-read (b .args .q) (b .pre .1) .0, read-back (b .args .t) (b .pre .2) tt, c .before .before .geocentric .ensures) at (c .second-at .ensures))
 
 pub second-within-spec : {M : Type 1} → statement M
 second-within-spec = tie.close (tie.spec geocentric-requires second-at-requires returns)

@@ -10,10 +10,10 @@ use Rattle.shadows.proofs.put_requests.Statement.{statement}
 use Rattle.shadows.proofs.put_requests.Tie as tie
 
 abbrev Inv-loop : tie.InvT-loop
-Inv-loop out₀ input count at₀ k₀ out at k = Rows (λ j. recordLine (part 113 input j)) (length input / 113) out₀ 0 out at k
+Inv-loop out₀ input count at₀ k₀ out at k = Rows (λ j. recordLine (part 115 input j)) (length input / 115) out₀ 0 out at k
 
 abbrev μ-loop : tie.MeasureT-loop
-μ-loop out₀ input count at₀ k₀ out at k = length input / 113 - k
+μ-loop out₀ input count at₀ k₀ out at k = length input / 115 - k
 
 loop-holds : tie.Need-loop-holds Inv-loop μ-loop
 loop-holds c = rows-start _ _ _ _ (omega arith) (omega arith)
@@ -43,7 +43,7 @@ loop-less : tie.Need-loop-less Inv-loop μ-loop
 loop-less c = search needs
 
 loop-again : tie.Need-loop-again Inv-loop μ-loop
-loop-again c = parts-turn 113 recordLine _ _ _ _ _ _ _ (c .before .before .before .before .before .before .loop .inv) (c .before .before .before .before .before .loop-test .taken) _ _ (c .before .before .put-record .ensures)
+loop-again c = parts-turn 115 recordLine _ _ _ _ _ _ _ (c .before .before .before .before .before .before .loop .inv) (c .before .before .before .before .before .loop-test .taken) _ _ (c .before .before .put-record .ensures)
 
 same-length : tie.Need-same-length Inv-loop μ-loop
 same-length c = c .before .loop .inv .same

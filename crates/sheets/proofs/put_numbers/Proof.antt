@@ -1,10 +1,15 @@
--- `sheets::put_numbers` meets its contract. Four stores are `sets` of the four numbers.
+-- `sheets::put_numbers` meets its contract. Five stores are `sets` of the five numbers.
 use lib.ListN.{length-set}
+use Prim.Native.Nat.{ℕ, suc, _+_}
+use mathlib.Core.Path.{_≡_}
 use native.Mathlib.Numerals.{add-one, add-two, add-three}
 use native.Mathlib.Omega.{arith}
 use borrow.Author.Needs.{needs}
 use Rattle.sheets.proofs.put_numbers.Statement.{statement}
 use Rattle.sheets.proofs.put_numbers.Tie as tie
+
+add-four : (n : ℕ) → n + 4 ≡ suc (suc (suc (suc n)))
+add-four n = omega arith
 
 mul-room : tie.Need-mul-room
 mul-room c = search needs
@@ -39,11 +44,20 @@ mul-room-4 c = search needs
 slice-write-room-4 : tie.Need-slice-write-room-4
 slice-write-room-4 c = simp length-set (omega arith)
 
+add-room-4 : tie.Need-add-room-4
+add-room-4 c = search needs
+
+mul-room-5 : tie.Need-mul-room-5
+mul-room-5 c = search needs
+
+slice-write-room-5 : tie.Need-slice-write-room-5
+slice-write-room-5 c = simp length-set (omega arith)
+
 same-length : tie.Need-same-length
 same-length c = search needs
 
 returns : tie.Need-returns
-returns c = simp (add-one, add-two, add-three)
+returns c = simp (add-one, add-two, add-three, add-four)
 
 pub put-numbers-spec : {M : Type 1} → statement M
 put-numbers-spec =
@@ -60,5 +74,8 @@ put-numbers-spec =
     add-room-3
     mul-room-4
     slice-write-room-4
+    add-room-4
+    mul-room-5
+    slice-write-room-5
     same-length
     returns)

@@ -28,7 +28,7 @@ use Rattle.sheets.proofs.read_entries.Tie as tie
 abbrev Inv-loop : tie.InvT-loop
 Inv-loop s room₀ at₀ n₀ room at n =
     (n ≤ at) × (at ≤ length s) × (length room ≡ length room₀)
-    × Passing (storedAt s) (length s) numbersOf (filled (readSheet s) room₀) room n at (n * 4)
+    × Passing (storedAt s) (length s) numbersOf (filled (readSheet s) room₀) room n at (n * 5)
 
 abbrev μ-loop : tie.MeasureT-loop
 μ-loop s room₀ at₀ n₀ room at n = length s - at
@@ -128,7 +128,7 @@ returns-3 c = absurd (pass-never of-numbers (turn (byted (c .before .before .bef
     (sym (c .before .before .body-at .ensures) ∙ c .enum-told3 .given .1))))
 
 bounds : (c : tie.After-known-told3 Inv-loop μ-loop)
-    → (from c .loop .at < after c) × (after c ≤ length (input (from c))) × (from c .loop .n * 4 + 4 ≤ length (from c .loop .room))
+    → (from c .loop .at < after c) × (after c ≤ length (input (from c))) × (from c .loop .n * 5 + 5 ≤ length (from c .loop .room))
 bounds c =
     let b = record-bounds _ _ _ _ (there c) in
     (b .0, b .1, pass-fits of-numbers (from c .loop .inv .3) _ _ (there c))
@@ -145,7 +145,7 @@ code-is c = kind-inv _ _ (is-kind (named c)) ∙ ap codeOf (sym (same-kind c))
 
 -- the room with the entry's numbers, as they were put
 abbrev put-room : (c : tie.After-known-told3 Inv-loop μ-loop) → ℕ → List ℕ
-put-room c x = sets (from c .loop .room) (from c .loop .n * 4) (x ∷ entry c .a ∷ entry c .b ∷ entry c .c ∷ [])
+put-room c x = sets (from c .loop .room) (from c .loop .n * 5) (x ∷ entry c .a ∷ entry c .b ∷ entry c .c ∷ entry c .d ∷ [])
 
 is-end-requires : tie.Need-is-end-requires Inv-loop μ-loop
 is-end-requires c κs = search needs
@@ -180,8 +180,8 @@ loop-again c =
     let b = bounds (c .before .before .before .before .before .before .before) in
     let z = c .size-for .ensures .0 in
     let i = from (c .before .before .before .before .before .before .before) .loop .inv in
-    let k : from (c .before .before .before .before .before .before .before) .loop .n * 4 + 4 ≡
-    (from (c .before .before .before .before .before .before .before) .loop .n + 1) * 4 = omega arith in (
+    let k : from (c .before .before .before .before .before .before .before) .loop .n * 5 + 5 ≡
+    (from (c .before .before .before .before .before .before .before) .loop .n + 1) * 5 = omega arith in (
       omega (arith, i .0),
       omega arith,
       c .before .before .before .before .before .put-numbers .kept .0 ∙ i .2,

@@ -9,10 +9,10 @@ use Rattle.stored_sheets.proofs.put_entries.Statement.{statement}
 use Rattle.stored_sheets.proofs.put_entries.Tie as tie
 
 abbrev Inv-loop : tie.InvT-loop
-Inv-loop out₀ start numbers count at₀ n₀ out at n = Rows (entryLine numbers) (length numbers / 4) out₀ start out at n
+Inv-loop out₀ start numbers count at₀ n₀ out at n = Rows (entryLine numbers) (length numbers / 5) out₀ start out at n
 
 abbrev μ-loop : tie.MeasureT-loop
-μ-loop out₀ start numbers count at₀ n₀ out at n = length numbers / 4 - n
+μ-loop out₀ start numbers count at₀ n₀ out at n = length numbers / 5 - n
 
 loop-holds : tie.Need-loop-holds Inv-loop μ-loop
 loop-holds c = rows-start _ _ _ _ (omega arith) (omega arith)

@@ -1,4 +1,4 @@
--- `stored_sheets::put_entry` meets its contract: the four numbers are those of the entry.
+-- `stored_sheets::put_entry` meets its contract: the five numbers are those of the entry.
 use Rattle.stored_sheets.specs.Printed.{entryLine}
 use Rattle.decimals.specs.RowLaws.{also, given, filled-as}
 use mathlib.Core.Path.{refl}
@@ -54,6 +54,18 @@ shared-slice-read-wide-4 c = search needs
 wide-requires-4 : tie.Need-wide-requires-4
 wide-requires-4 c κs = search needs
 
+add-wide-4 : tie.Need-add-wide-4
+add-wide-4 c = search needs
+
+mul-wide-5 : tie.Need-mul-wide-5
+mul-wide-5 c = search needs
+
+shared-slice-read-wide-5 : tie.Need-shared-slice-read-wide-5
+shared-slice-read-wide-5 c = search needs
+
+wide-requires-5 : tie.Need-wide-requires-5
+wide-requires-5 c κs = search needs
+
 slice-aggregate-put-filled : tie.Need-slice-aggregate-put-filled
 slice-aggregate-put-filled c = search needs
 
@@ -69,12 +81,13 @@ same-length c = search needs
 returns : tie.Need-returns
 unfolding entryLine
 returns c =
-    let k = c .before .before .before .before .before .before .before .before .before .before .before .before .wide in
-    let x = c .before .before .before .before .before .before .before .before .before .before .wide2 in
-    let y = c .before .before .before .before .before .before .before .before .wide3 in
-    let z = c .before .before .before .before .before .before .wide4 in
-    filled-as _ _ _ _ _ _ _ (also (given (k .ok) (k .ensures)) (also (given (x .ok) (x .ensures)) (also (given (y .ok) (y .ensures)) (also (given (z .ok) (z .ensures)) refl))))
-    (c .before .before .put-filled .ensures)
+    let k = c .before .before .before .before .before .before .before .before .before .before .before .before .before .before .wide in
+    let x = c .before .before .before .before .before .before .before .before .before .before .before .before .wide2 in
+    let y = c .before .before .before .before .before .before .before .before .before .before .wide3 in
+    let z = c .before .before .before .before .before .before .before .before .wide4 in
+    let w = c .before .before .before .before .before .before .wide5 in
+    filled-as _ _ _ _ _ _ _ (also (given (k .ok) (k .ensures)) (also (given (x .ok) (x .ensures)) (also (given (y .ok) (y .ensures)) (also (given (z .ok) (z .ensures))
+    (also (given (w .ok) (w .ensures)) refl))))) (c .before .before .put-filled .ensures)
 
 pub put-entry-spec : {M : Type 1} → statement M
 put-entry-spec =
@@ -96,6 +109,10 @@ put-entry-spec =
     mul-wide-4
     shared-slice-read-wide-4
     wide-requires-4
+    add-wide-4
+    mul-wide-5
+    shared-slice-read-wide-5
+    wide-requires-5
     slice-aggregate-put-filled
     slice-aggregate-put-filled-2
     put-filled-requires

@@ -1,7 +1,8 @@
 //! `exact_check SEED N`: draws requests until N seconds are looked at, and holds the rules of document 01
 //! against the exact values at every second of every window:
 //!
-//! - inside and outside are never exactly wrong, and an unsure second lies within 29 units of the edge;
+//! - under each of several guards and the request's own, inside and outside are never exactly wrong, and an unsure second lies
+//!   within the guard plus 13 units of the edge; what is sure under one of them is sure, with the same answer, under all smaller ones;
 //! - u is within 7 units of its exact value, v within 7½, L1 and L2 within 3;
 //! - the 13-unit law, for several t;
 //! - the sheet: every exact change lies in exactly one entry of its phase, enters and leaves run between the
@@ -17,16 +18,18 @@ use reference::numbers::root;
 use reference::random::Random;
 use reference::request::{Circumstances, Request};
 use reference::sample;
-use reference::shadow::{Phase, Shadow, State};
+use reference::shadow::{Phase, Shadow, State, GUARDS};
 use reference::sheet::{self, Role};
 use reference::wide::Wide;
 use std::time::Instant;
 
 const PHASES: [Phase; 2] = [Phase::Penumbra, Phase::Central];
 
-/// The bounds that document 01 asks to be proved, in units.
-const SURE_UP_TO: i64 = 29;
+/// The bound that document 01 asks to be proved of the distance less L, in units.
 const WHOLE: i64 = 13;
+
+/// Guards that every second is asked under, the request's own beside them.
+const SOME_GUARDS: [i64; 5] = [16, 17, 100, 999, 1_000];
 
 /// The largest of something seen, and where.
 struct Worst {
@@ -52,7 +55,8 @@ struct Tally {
     seconds: u64,
     /// outside, inside, unsure for each phase.
     states: [[u64; 3]; 2],
-    within_40: [u64; 2],
+    close: [u64; 2],
+    withheld: u64,
     entries: [[u64; 4]; 2],
     changes: u64,
     changes_in_graze_or_open: u64,
@@ -91,12 +95,13 @@ impl Tally {
             requests: 0,
             seconds: 0,
             states: [[0; 3]; 2],
-            within_40: [0; 2],
+            close: [0; 2],
+            withheld: 0,
             entries: [[0; 4]; 2],
             changes: 0,
             changes_in_graze_or_open: 0,
             laws: 0,
-            limits: vec![[false; 2]; ELEMENT_RANGES.len() + STATION_RANGES.len() + 2],
+            limits: vec![[false; 2]; ELEMENT_RANGES.len() + STATION_RANGES.len() + 3],
             u: Worst::new(),
             v: Worst::new(),
             l1: Worst::new(),
@@ -135,8 +140,8 @@ impl Tally {
     fn note_limits(&mut self, request: &Request) {
         let seconds = -FARTHEST..=FARTHEST;
         let fields = request.elements.fields().into_iter().chain(request.station.fields());
-        let fields = fields.chain([request.window.first, request.window.last]);
-        let ranges = ELEMENT_RANGES.iter().chain(&STATION_RANGES).chain([&seconds, &seconds]);
+        let fields = fields.chain([request.window.first, request.window.last, request.guard]);
+        let ranges = ELEMENT_RANGES.iter().chain(&STATION_RANGES).chain([&seconds, &seconds, &GUARDS]);
         for ((touched, field), range) in self.limits.iter_mut().zip(fields).zip(ranges) {
             touched[0] |= field == *range.start();
             touched[1] |= field == *range.end();
@@ -168,21 +173,36 @@ impl Tally {
 
         let mut answers = [(State::Unsure, false); 2];
         for (index, phase) in PHASES.into_iter().enumerate() {
-            let state = shadow.state(phase);
+            let state = shadow.state(phase, request.guard);
             let inside = exact.inside(phase);
             let beyond = exact.beyond_edge(phase);
             answers[index] = (state, inside);
             self.states[index][state as usize] += 1;
-            match state {
-                State::Inside => must(inside, "inside is exactly inside"),
-                State::Outside => must(!inside, "outside is exactly outside"),
-                State::Unsure => must(exact.near_edge(phase, SURE_UP_TO), "unsure within 29 of the edge"),
+            let mut smaller = None;
+            let mut guards = [request.guard; 6];
+            guards[1..].copy_from_slice(&SOME_GUARDS);
+            guards.sort();
+            for guard in guards {
+                let state = shadow.state(phase, guard);
+                match state {
+                    State::Inside => must(inside, "inside is exactly inside"),
+                    State::Outside => must(!inside, "outside is exactly outside"),
+                    State::Unsure => must(
+                        exact.near_edge(phase, guard + WHOLE),
+                        "unsure within the guard plus 13 of the edge",
+                    ),
+                }
+                let withholds = state == State::Unsure || smaller.is_none_or(|before| before == state);
+                must(withholds, "sure under a guard is sure, with the same answer, under a smaller one");
+                self.withheld += u64::from(smaller.is_some_and(|before| before != state));
+                smaller = Some(state);
+                let request = Request { guard, ..*request };
+                match state {
+                    State::Unsure => self.unsure_reach.look(beyond.abs() - guard as f64, &request, second),
+                    _ => self.sure_reach.look(guard as f64 - beyond.abs(), &request, second),
+                }
             }
-            match state {
-                State::Unsure => self.unsure_reach.look(beyond.abs(), request, second),
-                _ => self.sure_reach.look(-beyond.abs(), request, second),
-            }
-            self.within_40[index] += u64::from(beyond.abs() <= 40.0);
+            self.close[index] += u64::from(beyond.abs() <= (request.guard + 24) as f64);
 
             let (l, m) = (shadow.l(phase), shadow.m());
             let reached = root(m) - l;
@@ -285,8 +305,8 @@ impl Tally {
         for (index, phase) in PHASES.into_iter().enumerate() {
             let [outside, inside, unsure] = self.states[index];
             println!(
-                "{phase:?}: outside {outside}, inside {inside}, unsure {unsure}, within 40 of the edge {}",
-                self.within_40[index]
+                "{phase:?}: outside {outside}, inside {inside}, unsure {unsure}, within the guard plus 24 of the edge {}",
+                self.close[index]
             );
             let [enter, leave, graze, open] = self.entries[index];
             println!("{phase:?}: entries: enter {enter}, leave {leave}, graze {graze}, open {open}");
@@ -295,20 +315,21 @@ impl Tally {
             "exact changes {}, of them in a graze or open {}",
             self.changes, self.changes_in_graze_or_open
         );
+        println!("sure under a guard and unsure under the next larger one: {}", self.withheld);
         println!("longest unsure spell {} s", self.longest_unsure);
-        for (name, worst, sign) in [
-            ("u off by", &self.u, 1.0),
-            ("v off by", &self.v, 1.0),
-            ("L1 off by", &self.l1, 1.0),
-            ("L2 off by", &self.l2, 1.0),
-            ("distance less L off by", &self.whole, 1.0),
-            ("unsure as far from the edge as", &self.unsure_reach, 1.0),
-            ("sure as near to the edge as", &self.sure_reach, -1.0),
+        for (name, worst) in [
+            ("u off by", &self.u),
+            ("v off by", &self.v),
+            ("L1 off by", &self.l1),
+            ("L2 off by", &self.l2),
+            ("distance less L off by", &self.whole),
+            ("unsure, farther from the edge than the guard by", &self.unsure_reach),
+            ("sure, nearer to the edge than the guard by", &self.sure_reach),
         ] {
-            println!("{name} {:.4}", sign * worst.value);
+            println!("{name} {:.4}", worst.value);
             if let Some((request, second)) = &worst.seen {
                 let (fields, station) = (request.elements.fields(), request.station.fields());
-                println!("    at {second} with {fields:?} {station:?}");
+                println!("    at {second} with {fields:?} {station:?} {}", request.guard);
             }
         }
     }
@@ -319,7 +340,11 @@ fn broken(claim: &str, request: &Request, second: i64, shadow: &Shadow, exact: &
     println!("at {second} of {request:?}");
     println!("{shadow:?}");
     for phase in PHASES {
-        println!("{phase:?} {:?}, exactly {} beyond the edge", shadow.state(phase), exact.beyond_edge(phase));
+        println!(
+            "{phase:?} {:?}, exactly {} beyond the edge",
+            shadow.state(phase, request.guard),
+            exact.beyond_edge(phase)
+        );
     }
     std::process::exit(2);
 }

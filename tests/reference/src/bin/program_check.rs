@@ -27,7 +27,7 @@ struct Case {
 }
 
 impl Case {
-    /// As the program reads it: room, length of the input, the input in 114 bytes.
+    /// As the program reads it: room, length of the input, the input in 116 bytes.
     fn bytes(&self) -> Vec<u8> {
         let mut bytes = (self.room as u16).to_be_bytes().to_vec();
         bytes.push(self.input.len() as u8);
@@ -74,7 +74,7 @@ fn beyond(random: &mut Random) -> Request {
     let mut request = within(random);
     let mut fields = request.elements.fields();
     for _ in 0..=random.below(3) {
-        match random.below(4) {
+        match random.below(5) {
             0 | 1 => {
                 let at = random.below(22) as usize;
                 fields[at] = outside(random, *ELEMENT_RANGES[at].start(), *ELEMENT_RANGES[at].end(), 32);
@@ -90,6 +90,7 @@ fn beyond(random: &mut Random) -> Request {
                     _ => request.station.delta_t = drawn,
                 }
             }
+            3 => request.guard = [0, 15, 1_001, 65_535][random.below(4) as usize],
             _ => match random.below(3) {
                 0 => request.window.first = outside(random, -FARTHEST, FARTHEST, 16),
                 1 => request.window.last = outside(random, -FARTHEST, FARTHEST, 16),

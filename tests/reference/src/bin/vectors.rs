@@ -16,10 +16,10 @@
 //! | reads | room sheet count entries |
 //! | writes | room entries sheet |
 //!
-//! States are 0 outside, 1 inside, 2 unsure. A request is the 113 bytes of program `sheet`; in `shadows` its
+//! States are 0 outside, 1 inside, 2 unsure. A request is the 115 bytes of program `sheet`; in `shadows` its
 //! window is the one second that the line is about; in `sheets` and `listings` it may have another length. A
 //! listing is what program `sheet` prints, each end of a line written `;`. Room is in bytes for `sheets` and
-//! `writes`, in entries for `reads`. Entries are numbers separated by commas, four an entry:
+//! `writes`, in entries for `reads`. Entries are numbers separated by commas, five an entry:
 //! kind, then the fields of its body in their order, 0 where the kind has fewer; an empty list is `-`. Every
 //! record of a sheet is an entry, head and end too.
 
@@ -30,8 +30,8 @@ use reference::random::Random;
 use reference::refusal::Refusal;
 use reference::request::{Request, KIND_PLACES, REQUEST_LENGTH};
 use reference::sample::{self, Manner};
-use reference::shadow::{direction, state, Phase, State, GUARD};
-use reference::sheet;
+use reference::shadow::{direction, state, Phase, State, GUARD, GUARDS};
+use reference::sheet::{self, WORDS};
 use reference::sine::sine_cosine;
 use std::fmt::Display;
 use std::ops::RangeInclusive;
@@ -151,14 +151,17 @@ fn state_number(state: State) -> i64 {
 
 /// The squares at both edges of the unsure ring with their neighbours, for radii down to 0.
 fn states(random: &mut Random) -> Vec<String> {
-    let mut radii = vec![0, 1, 15, 16, 17, 18, 1_000, 500_000, 54_000_000, 60_000_000];
-    radii.extend((0..20).map(|_| random.within(&(0..=60_000_000))));
     let mut lines = Vec::new();
-    for l in radii {
-        let (inner, outer) = ((l - GUARD) * (l - GUARD), (l + GUARD) * (l + GUARD));
-        for m in [0, inner - 1, inner, inner + 1, l * l, outer - 1, outer, outer + 1] {
-            if m >= 0 {
-                lines.push(line(&[&l, &m, &GUARD, &state_number(state(l, m, GUARD))]));
+    for guard in [GUARD, 17, 100, 999, 1_000] {
+        let mut radii =
+            vec![0, 1, guard - 1, guard, guard + 1, guard + 2, 2_000, 500_000, 54_000_000, 60_000_000];
+        radii.extend((0..20).map(|_| random.within(&(0..=60_000_000))));
+        for l in radii {
+            let (inner, outer) = ((l - guard) * (l - guard), (l + guard) * (l + guard));
+            for m in [0, inner - 1, inner, inner + 1, l * l, outer - 1, outer, outer + 1] {
+                if m >= 0 {
+                    lines.push(line(&[&l, &m, &guard, &state_number(state(l, m, guard))]));
+                }
             }
         }
     }
@@ -166,17 +169,21 @@ fn states(random: &mut Random) -> Vec<String> {
 }
 
 fn shadow_line(request: &Request) -> String {
-    let shadow = sample::shadow(request, request.window.first);
+    let circumstances = match request.check() {
+        Ok(circumstances) => circumstances,
+        Err(refusal) => return line(&[&hex(&bytes(request)), &refusal]),
+    };
+    let shadow = circumstances.shadow(request.window.first);
     line(&[
         &hex(&bytes(request)),
         &shadow.u,
         &shadow.v,
         &shadow.l1,
         &shadow.l2,
-        &state_number(shadow.state(Phase::Penumbra)),
-        &state_number(shadow.state(Phase::Central)),
+        &state_number(shadow.state(Phase::Penumbra, request.guard)),
+        &state_number(shadow.state(Phase::Central, request.guard)),
         &shadow.direction(),
-        &shadow.magnitude(),
+        &shadow.magnitude(request.guard),
     ])
 }
 
@@ -187,13 +194,15 @@ fn draw_near_edge(random: &mut Random) -> Request {
     let second = request.window.first;
     let phase = if random.once_in(2) { Phase::Central } else { Phase::Penumbra };
     if random.once_in(4) {
-        sample::shrink_central(&mut request, second, random.within(&(-40..=40)));
+        let size = sample::beyond(random, request.guard);
+        sample::shrink_central(&mut request, second, size);
     }
     if random.once_in(4) {
         sample::slow_down(&mut request, second, random.within(&(-9_999..=9_999)), 0);
     }
     if random.once_in(3) {
-        sample::put_along_edge(&mut request, second, phase, random.within(&(-40..=40)));
+        let beyond = sample::beyond(random, request.guard);
+        sample::put_along_edge(&mut request, second, phase, beyond);
     } else {
         sample::put_near_edge(random, &mut request, second, phase);
     }
@@ -201,7 +210,8 @@ fn draw_near_edge(random: &mut Random) -> Request {
 }
 
 /// Seconds of the hand-worked sheet and of the eclipse of 1954 at and about the contacts and over the whole
-/// range; drawn requests anywhere, at the limits and near the edge.
+/// range; drawn requests anywhere, at the limits and near the edge; a shadow at rest by each guard; guards at
+/// their limits and beyond.
 fn shadows(random: &mut Random) -> Vec<String> {
     let mut lines = Vec::new();
     for (request, contacts) in [
@@ -218,6 +228,7 @@ fn shadows(random: &mut Random) -> Vec<String> {
         lines.extend((0..40).map(|_| shadow_line(&sample::draw(random, manner))));
     }
     lines.extend((0..120).map(|_| shadow_line(&draw_near_edge(random))));
+    lines.extend(still().iter().chain(&guard_limits()).map(shadow_line));
     lines
 }
 
@@ -244,10 +255,13 @@ fn inputs(random: &mut Random) -> Vec<(usize, Vec<u8>)> {
     }
     requests.extend(windows());
     requests.extend(limits());
+    requests.extend(guard_limits());
+    requests.extend(still());
+    requests.extend(passing());
     requests.extend(faults());
     requests.extend((0..120).map(|_| draw_in_window(random)));
     let mut inputs: Vec<(usize, Vec<u8>)> = requests.iter().map(|request| (ROOM, bytes(request))).collect();
-    inputs.extend([0, 1, 42, 43, 44].map(|room| (room, bytes(&hand))));
+    inputs.extend([0, 1, 44, 45, 46].map(|room| (room, bytes(&hand))));
     inputs.extend(faults().map(|request| (0, bytes(&request))));
     inputs.extend(other_shapes().into_iter().map(|input| (ROOM, input)));
     inputs
@@ -303,8 +317,55 @@ fn limits() -> Vec<Request> {
     requests
 }
 
+/// The guard at its limits and just beyond them, and as far as its bytes reach.
+fn guard_limits() -> Vec<Request> {
+    let short = in_window(&sample::hand_worked(), -102, -98);
+    let guards = [0, *GUARDS.start() - 1, *GUARDS.start(), *GUARDS.end(), *GUARDS.end() + 1, 65_535];
+    guards.map(|guard| Request { guard, ..short }).to_vec()
+}
+
+/// A shadow at rest, a unit within each guard, at it and a unit beyond it, on both sides of both edges: the sheet
+/// says open or nothing, and the magnitude knows the total phase or does not.
+fn still() -> Vec<Request> {
+    let mut requests = Vec::new();
+    for guard in [GUARD, 17, 500, 999, 1_000] {
+        for edge in [54_000_000, 1_000_000] {
+            for off in [guard - 1, guard, guard + 1].into_iter().flat_map(|off| [off, -off]) {
+                let mut request = Request { guard, ..in_window(&sample::hand_worked(), 0, 2) };
+                request.elements.x = [edge + off, 0, 0, 0];
+                requests.push(request);
+            }
+        }
+    }
+    requests
+}
+
+/// The same way of the shadow under several guards, 500 units from an edge: beside it without crossing, which is a
+/// graze under the larger ones alone; slowly across it, which becomes a longer entry; across it just after the first
+/// second or before the last, which becomes open.
+fn passing() -> Vec<Request> {
+    let mut requests = Vec::new();
+    for edge in [54_000_000, 1_000_000] {
+        for (x, y1, first, last) in [
+            ([edge + 500, 0], 36_000_000, -60, 60),
+            ([edge, 36_000], 0, -150, 150),
+            ([edge, -36_000], 0, -150, 150),
+            ([edge + 500, -360_000], 0, 0, 100),
+            ([edge - 500, 360_000], 0, -100, 0),
+        ] {
+            for guard in [GUARD, 17, 499, 500, 501, 1_000] {
+                let mut request = Request { guard, ..in_window(&sample::hand_worked(), first, last) };
+                request.elements.x = [x[0], x[1], 0, 0];
+                request.elements.y[1] = y1;
+                requests.push(request);
+            }
+        }
+    }
+    requests
+}
+
 /// Several faults at once: the refusal that comes first, with its first field.
-fn faults() -> [Request; 3] {
+fn faults() -> [Request; 4] {
     let mut station = sample::hand_worked();
     station.station.latitude = 90_000_001;
     station.station.height = -501;
@@ -312,7 +373,8 @@ fn faults() -> [Request; 3] {
     let mut elements = station;
     elements.elements.y[3] = 10_001;
     elements.elements.tan_f2 = 0;
-    [station, elements, in_window(&elements, -6000, 10_801)]
+    let guard = Request { guard: 15, ..elements };
+    [station, elements, guard, in_window(&guard, -6000, 10_801)]
 }
 
 /// Inputs that are too short or too long or have other kinds.
@@ -344,7 +406,8 @@ fn draw_in_window(random: &mut Random) -> Request {
 fn draw_entries(random: &mut Random) -> Vec<u32> {
     let (a, b) = (random.below(21_601) as u32, random.below(21_601) as u32);
     let (first, last) = (a.min(b), a.max(b));
-    let mut entries = vec![0x01, 1 + random.below(999) as u32, first, last];
+    let guard = if random.once_in(2) { GUARD } else { random.within(&GUARDS) };
+    let mut entries = vec![0x01, 1 + random.below(999) as u32, first, last, guard as u32];
     for base in [0x10, 0x20] {
         let mut from = first;
         let mut next_contact = random.below(2) as u32;
@@ -355,36 +418,40 @@ fn draw_entries(random: &mut Random) -> Vec<u32> {
             from += random.below(u64::from(last - from)) as u32 / 3;
             let to = from + 1 + random.below(u64::from(last - from)) as u32 / 3;
             if random.once_in(3) {
-                entries.extend([base + 2, from, to, 0]);
+                entries.extend([base + 2, from, to, 0, 0]);
             } else if random.once_in(3) && from == first {
-                entries.extend([base + 3, from, to, 0]);
+                entries.extend([base + 3, from, to, 0, 0]);
             } else {
                 let direction = if random.once_in(9) { 65_535 } else { random.below(3600) as u32 };
-                entries.extend([base + next_contact, from, to, direction]);
+                entries.extend([base + next_contact, from, to, direction, 0]);
                 next_contact = 1 - next_contact;
             }
             from = to;
         }
         if random.once_in(3) {
-            entries.extend([base + 3, from, last, 0]);
+            entries.extend([base + 3, from, last, 0, 0]);
         }
     }
     let second = first + random.below(u64::from(last - first) + 1) as u32;
-    entries.extend([0x30, second, random.below(1_300_001) as u32, 0]);
-    entries.extend([0x7F, 0, 0, 0]);
+    entries.extend([0x30, second, random.below(1_300_001) as u32, 0, 0]);
+    entries.extend([0x7F, 0, 0, 0, 0]);
     entries
 }
 
 fn read_line(room: usize, bytes: &[u8]) -> String {
-    let mut entries = vec![7; 4 * room];
+    let mut entries = vec![7; WORDS * room];
     let result = sheet::read(bytes, &mut entries);
-    line(&[&room, &hex(bytes), &answer(result, |count| format!("{count} {}", list(&entries[..4 * count])))])
+    line(&[
+        &room,
+        &hex(bytes),
+        &answer(result, |count| format!("{count} {}", list(&entries[..WORDS * count]))),
+    ])
 }
 
 /// Well-formed sheets; the same cut, lengthened, with records dropped, doubled or exchanged, with a byte
 /// changed; short room.
 fn reads(random: &mut Random) -> Vec<String> {
-    let mut hand = vec![0; 43];
+    let mut hand = vec![0; 45];
     sample::hand_worked().sheet(&mut hand).expect("room enough");
     let mut lines: Vec<String> = (0..=hand.len()).map(|length| read_line(7, &hand[..length])).collect();
     for room in [0, 6, 7, 8] {
@@ -392,17 +459,23 @@ fn reads(random: &mut Random) -> Vec<String> {
     }
     lines.push(read_line(7, &[&hand[..], &[0x7F]].concat()));
     for kind in [0x00, 0x02, 0x0F, 0x14, 0x1F, 0x24, 0x31, 0x7E, 0x80, 0xFF] {
-        lines.push(read_line(7, &[&hand[..7], &[kind], &hand[7..]].concat()));
+        lines.push(read_line(7, &[&hand[..9], &[kind], &hand[9..]].concat()));
     }
     // Each record alone, so most where another is due.
     for kind in [0x01, 0x10, 0x11, 0x12, 0x13, 0x20, 0x21, 0x22, 0x23, 0x30, 0x7F] {
-        lines.push(read_line(7, &[kind, 0, 7, 0, 8, 0, 9]));
-        lines.push(read_line(7, &[&hand[..35], &[kind, 0x12, 0xC1, 0x12, 0xC3, 0, 9]].concat()));
+        lines.push(read_line(7, &[kind, 0, 7, 0, 8, 0, 9, 0, 16]));
+        lines.push(read_line(7, &[&hand[..37], &[kind, 0x12, 0xC1, 0x12, 0xC3, 0, 9]].concat()));
     }
+    // The head's guard; and a whole sheet of the old form, without one.
+    for guard in [0u16, 15, 16, 17, 999, 1_000, 1_001, 65_535] {
+        lines.push(read_line(7, &[&hand[..7], &guard.to_be_bytes(), &hand[9..]].concat()));
+    }
+    lines.push(read_line(7, &[&hand[..7], &hand[9..]].concat()));
+    lines.push(read_line(7, &[&hand[..7], &hand[37..]].concat()));
     for _ in 0..60 {
         let entries = draw_entries(random);
         let mut sheet = written(&entries);
-        lines.push(read_line(entries.len() / 4, &sheet));
+        lines.push(read_line(entries.len() / WORDS, &sheet));
         let records = sheet::records_of(&sheet).expect("a well-formed sheet");
         let at = random.below(records.len() as u64) as usize;
         let other = random.below(records.len() as u64) as usize;
@@ -441,20 +514,20 @@ fn write_line(room: usize, entries: &[u32]) -> String {
 /// Lists that keep all rules; the same cut at every length, lengthened, with a number changed, with entries
 /// dropped, doubled or exchanged; short room.
 fn writes(random: &mut Random) -> Vec<String> {
-    let mut sheet = vec![0; 43];
+    let mut sheet = vec![0; 45];
     sample::hand_worked().sheet(&mut sheet).expect("room enough");
     let records = sheet::records_of(&sheet).expect("a well-formed sheet");
     let hand: Vec<u32> = records.iter().flat_map(|record| record.words()).collect();
-    let mut lines: Vec<String> = (0..=hand.len()).map(|length| write_line(43, &hand[..length])).collect();
-    for room in [0, 42, 44] {
+    let mut lines: Vec<String> = (0..=hand.len()).map(|length| write_line(45, &hand[..length])).collect();
+    for room in [0, 44, 46] {
         lines.push(write_line(room, &hand));
     }
-    for more in [&[0x7F][..], &[0x7F, 0, 0, 0], &[5, 5, 5, 5], &[0x30, 0]] {
+    for more in [&[0x7F][..], &[0x7F, 0, 0, 0, 0], &[5, 5, 5, 5, 5], &[0x30, 0]] {
         lines.push(write_line(ROOM, &[&hand, more].concat()));
         lines.push(write_line(0, &[&hand, more].concat()));
     }
     for kind in [0, 2, 0x14, 0x7E, 0x80, 0x101, 0x110, 0x17F, 0x7F00, u32::MAX] {
-        lines.push(write_line(ROOM, &[&hand[..4], &[kind, 0, 0, 0], &hand[4..]].concat()));
+        lines.push(write_line(ROOM, &[&hand[..WORDS], &[kind, 0, 0, 0, 0], &hand[WORDS..]].concat()));
     }
     // One number after another made too large or, where unused, other than 0.
     for at in 0..hand.len() {
@@ -471,7 +544,7 @@ fn writes(random: &mut Random) -> Vec<String> {
         let at = random.below(changed.len() as u64) as usize;
         changed[at] = if random.once_in(2) { changed[at] ^ 1 } else { random.below(25_000) as u32 };
         lines.push(write_line(ROOM, &changed));
-        let mut exchanged: Vec<&[u32]> = entries.chunks(4).collect();
+        let mut exchanged: Vec<&[u32]> = entries.chunks(WORDS).collect();
         let (a, b) = (random.below(exchanged.len() as u64), random.below(exchanged.len() as u64));
         exchanged.swap(a as usize, b as usize);
         lines.push(write_line(ROOM, &exchanged.concat()));

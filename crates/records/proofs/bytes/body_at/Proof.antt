@@ -41,6 +41,9 @@ add-at-b c = search needs
 add-at-c : tie.Need-add-at-c
 add-at-c c = search needs
 
+add-at-d : tie.Need-add-at-d
+add-at-d c = search needs
+
 two-if-requires : tie.Need-two-if-requires
 two-if-requires c κs = λ e. let a = c .before .before .before .args in let h = leb-true 5 (left (a .s .now) (a .at)) e in omega arith
 
@@ -49,6 +52,9 @@ two-if-requires-2 c κs = λ e. let a = c .before .before .before .before .args 
 
 two-if-requires-3 : tie.Need-two-if-requires-3
 two-if-requires-3 c κs = λ e. let a = c .before .before .before .before .before .args in let h = leb-true 7 (left (a .s .now) (a .at)) e in omega arith
+
+two-if-requires-4 : tie.Need-two-if-requires-4
+two-if-requires-4 c κs = λ e. let a = c .before .before .before .before .before .before .args in let h = leb-true 9 (left (a .s .now) (a .at)) e in omega arith
 
 field-a-requires : tie.Need-field-a-requires
 field-a-requires c κs = search needs
@@ -65,23 +71,28 @@ field-b-requires c κs = search needs
 field-c-requires : tie.Need-field-c-requires
 field-c-requires c κs = search needs
 
+field-d-requires : tie.Need-field-d-requires
+field-d-requires c κs = search needs
+
 -- a number that is there
 there : (m n r v : ℕ) → r ≡ cond (leb m n) v 0 → m ≤ n → r ≡ v
 there m n r v e h = e ∙ ap (λ b. cond b v 0) (le-leb m n h)
 
 returns-2 : tie.Need-returns-2
 returns-2 c =
-    let z = c .before .before .before in
+    let w = c .before .before .before .before in
+    let z = w .before in
     let y = z .before in
     let x = y .before in
     let a = x .before .before .before .before .args in
     let l = left (a .s .now) (a .at) in
     let h = ltb-false l (sizeOf (a .kind)) (sym (x .before .before .is-cut .ensures) ∙ x .before .if1 .left) in
-    rw (c .before .before .field-a .ensures, c .before .field-b .ensures, c .field-c .ensures)
-    (ap Body.Is (entry-made (a .kind) (a .s .now) (a .at + 1) (x .two-if .result) (y .two-if2 .result) (z .two-if3 .result)
+    rw (c .before .before .before .field-a .ensures, c .before .before .field-b .ensures, c .before .field-c .ensures, c .field-d .ensures)
+    (ap Body.Is (entry-made (a .kind) (a .s .now) (a .at + 1) (x .two-if .result) (y .two-if2 .result) (z .two-if3 .result) (w .two-if4 .result)
     (λ k. there 5 l (x .two-if .result) _ (x .two-if .ensures .0) (omega arith))
     (λ k. there 5 l (y .two-if2 .result) _ (y .two-if2 .ensures .0) (omega arith))
-    (λ k. there 7 l (z .two-if3 .result) _ (z .two-if3 .ensures .0) (omega arith)))
+    (λ k. there 7 l (z .two-if3 .result) _ (z .two-if3 .ensures .0) (omega arith))
+    (λ k. there 9 l (w .two-if4 .result) _ (w .two-if4 .ensures .0) (omega arith)))
     ∙ sym (body-whole (a .s .now) (a .at) (a .kind) (omega arith)))
 
 pub body-at-spec : {M : Type 1} → statement M
@@ -94,12 +105,15 @@ body-at-spec =
     add-at-a
     add-at-b
     add-at-c
+    add-at-d
     two-if-requires
     two-if-requires-2
     two-if-requires-3
+    two-if-requires-4
     field-a-requires
     mul-field-b
     add-field-b
     field-b-requires
     field-c-requires
+    field-d-requires
     returns-2)

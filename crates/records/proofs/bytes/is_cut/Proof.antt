@@ -1,5 +1,5 @@
--- `records::bytes::is_cut` meets its contract. No kind has more than seven bytes (`size-seven`).
-use Rattle.kinds.specs.KindLaws.{size-seven}
+-- `records::bytes::is_cut` meets its contract. No kind has more than nine bytes (`size-nine`).
+use Rattle.kinds.specs.KindLaws.{size-nine}
 use Rattle.kinds.specs.Kinds.{sizeOf}
 use mathlib.Core.Path.{sym}
 use borrow.Author.Tests.{le-ltb}
@@ -9,7 +9,7 @@ use Rattle.records.proofs.bytes.is_cut.Statement.{statement}
 use Rattle.records.proofs.bytes.is_cut.Tie as tie
 
 returns : tie.Need-returns
-returns c = let a = c .before .args in sym (le-ltb (a .left) (sizeOf (a .kind)) (omega (arith, size-seven (a .kind))))
+returns c = let a = c .before .args in sym (le-ltb (a .left) (sizeOf (a .kind)) (omega (arith, size-nine (a .kind))))
 
 size-of-requires : tie.Need-size-of-requires
 size-of-requires c κs = search needs

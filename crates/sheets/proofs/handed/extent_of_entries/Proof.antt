@@ -30,17 +30,17 @@ add-held : tie.Need-add-held
 add-held c = search needs
 
 found-is : (c : tie.After-known-told) → extentOf (listWhole (c .before .before .before .before .before .args .l .now)) ≡ aloneX
-    (λ k n. ltb (k * 4) (length (c .before .before .before .before .before .args .l .now)))
+    (λ k n. ltb (k * 5) (length (c .before .before .before .before .before .args .l .now)))
     (X.Sheet (c .before .found .given .0 .0) (c .before .found .given .0 .1 .0))
 found-is c = list-by _ _ (sym (c .before .found .given .1) ∙ c .before .before .before .extent-of-leading-entries .ensures)
 
 returns-2 : tie.Need-returns-2
 returns-2 c = sym (found-is (c .before) ∙ rw
-    (lt-ltb (c .before .before .found .given .0 .0 * 4) (length (c .before .before .before .before .before .before .args .l .now)) (omega arith)))
+    (lt-ltb (c .before .before .found .given .0 .0 * 5) (length (c .before .before .before .before .before .before .args .l .now)) (omega arith)))
 
 returns-3 : tie.Need-returns-3
 returns-3 c = sym (found-is (c .before) ∙ rw
-    (le-ltb (c .before .before .found .given .0 .0 * 4) (length (c .before .before .before .before .before .before .args .l .now)) (omega arith)))
+    (le-ltb (c .before .before .found .given .0 .0 * 5) (length (c .before .before .before .before .before .before .args .l .now)) (omega arith)))
 
 pub extent-of-entries-spec : {M : Type 1} → statement M
 extent-of-entries-spec =

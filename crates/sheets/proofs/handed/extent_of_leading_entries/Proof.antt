@@ -16,7 +16,7 @@ use Rattle.sheets.proofs.handed.extent_of_leading_entries.Statement.{st
 use Rattle.sheets.proofs.handed.extent_of_leading_entries.Tie as tie
 
 abbrev Inv-loop : tie.InvT-loop
-Inv-loop l p₀ place₀ n₀ p place n = (n * 4 ≤ length l) × (place ≤ n * 17) × Counting (handedAt l) (length l) (listSheet l) p n place
+Inv-loop l p₀ place₀ n₀ p place n = (n * 5 ≤ length l) × (place ≤ n * 17) × Counting (handedAt l) (length l) (listSheet l) p n place
 
 abbrev μ-loop : tie.MeasureT-loop
 μ-loop l p₀ place₀ n₀ p place n = length l - n
@@ -64,7 +64,7 @@ there : (c : tie.After-known-told Inv-loop μ-loop)
 there c = sym (c .before .before .before .handed-at .ensures) ∙ c .before .given .given .1
 
 bounds : (c : tie.After-known-told Inv-loop μ-loop) →
-    (c .before .before .before .before .loop .n * 4 + 4 ≤ length (c .before .before .before .before .before .before .before .args .l .now)) ×
+    (c .before .before .before .before .loop .n * 5 + 5 ≤ length (c .before .before .before .before .before .before .before .args .l .now)) ×
     (c .before .given .given .0 .1 .0 ≤ c .before .before .before .before .loop .place + 17)
 bounds c = let b = handed-bounds _ _ _ _ _ (there c) in (b .0, b .2)
 

@@ -60,6 +60,15 @@ mul-c c = search needs
 shared-slice-read-c : tie.Need-shared-slice-read-c
 shared-slice-read-c c = search needs
 
+add-d : tie.Need-add-d
+add-d c = search needs
+
+mul-d : tie.Need-mul-d
+mul-d c = search needs
+
+shared-slice-read-d : tie.Need-shared-slice-read-d
+shared-slice-read-d c = search needs
+
 size-of-requires : tie.Need-size-of-requires
 size-of-requires c κs = search needs
 
@@ -68,8 +77,8 @@ add-next c = search needs
 
 returns-3 : tie.Need-returns-3
 returns-3 c = rw (c .size-of .ensures .0)
-    (handed-named _ _ _ _ (omega arith) (sym (c .before .before .before .before .before .before .before .kind-for .ensures) ∙
-    c .before .before .before .before .before .kind .given .1))
+    (handed-named _ _ _ _ (omega arith) (sym (c .before .before .before .before .before .before .before .before .kind-for .ensures) ∙
+    c .before .before .before .before .before .before .kind .given .1))
 
 pub handed-at-spec : {M : Type 1} → statement M
 handed-at-spec =
@@ -93,6 +102,9 @@ handed-at-spec =
     add-c
     mul-c
     shared-slice-read-c
+    add-d
+    mul-d
+    shared-slice-read-d
     size-of-requires
     add-next
     returns-3)

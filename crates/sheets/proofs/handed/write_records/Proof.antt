@@ -18,7 +18,7 @@ use Rattle.sheets.proofs.handed.write_records.Tie as tie
 
 abbrev Inv-loop : tie.InvT-loop
 Inv-loop l buf₀ at₀ n₀ buf at n =
-    (n * 4 ≤ length l) × (at ≤ n * 17) × (length buf ≡ length buf₀)
+    (n * 5 ≤ length l) × (at ≤ n * 17) × (length buf ≡ length buf₀)
     × Passing (handedAt l) (length l) bytesOf (emitted (listSheet l) buf₀) buf n at at
 
 abbrev μ-loop : tie.MeasureT-loop
@@ -48,7 +48,7 @@ there : (c : tie.After-known-told Inv-loop μ-loop)
 there c = sym (c .before .before .before .handed-at .ensures) ∙ c .before .entry .given .1
 
 bounds : (c : tie.After-known-told Inv-loop μ-loop) → let e = c .before .entry .given .0 .0 in let a = c .before .before .before .before .loop in
-    (a .n * 4 + 4 ≤ length (c .before .before .before .before .before .before .before .args .l .now)) × (sizeOf (e .kind) ≤ 17) ×
+    (a .n * 5 + 5 ≤ length (c .before .before .before .before .before .before .before .args .l .now)) × (sizeOf (e .kind) ≤ 17) ×
     (a .at + sizeOf (e .kind) ≤ length (a .buf)) × (c .before .entry .given .0 .1 .0 ≡ a .at + sizeOf (e .kind))
 bounds c =
     let b = handed-bounds _ _ _ _ _ (there c) in
