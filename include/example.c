@@ -12,6 +12,7 @@
 enum { SHEET = 65536, TEXT = 6 * SHEET }; /* of a record of 5 bytes a line has 29 at most */
 
 static uint8_t sheet[SHEET], text[TEXT];
+static uint32_t sines[UKHTVARESH_SINES_LENGTH];
 
 static int refused(uint64_t number, uint64_t place)
 {
@@ -26,7 +27,7 @@ int main(void)
     size_t request_len = fread(request, 1, sizeof request, stdin);
     uint64_t length, number;
 
-    number = ukhtvaresh_sheet(request, request_len, sheet, SHEET, &length);
+    number = ukhtvaresh_sheet(request, request_len, sines, UKHTVARESH_SINES_LENGTH, sheet, SHEET, &length);
     if (number != 0)
         return refused(number, length);
 

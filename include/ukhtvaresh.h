@@ -4,7 +4,8 @@
  * ephemeris time from the reference instant. East longitude is positive.
  *
  * Each function but ukhtvaresh_root answers the number of the refusal, 0 for none. *value gets the length or the count on
- * success, the refusal's place otherwise. Buffers are untouched on refusal; on success what lies past the result is.
+ * success, the refusal's place otherwise. Buffers are untouched on refusal; on success what lies past the result is. The room for
+ * the sine table, `sines`, alone is filled on some refusals too: see UKHTVARESH_SINES_LENGTH.
  * No function reads or writes outside the lengths it is given, and none keeps a pointer. A length of 0 is allowed,
  * with any pointer that is not null. A buffer that is written, *value among them, must not overlap any other.
  *
@@ -13,7 +14,8 @@
  *    2  an element outside its range, or a           first such field, 0 to 21; of a fit 0 to 3
  *       coefficient of a fit
  *    3  a station value outside its range            first: 0 number, 1 latitude, 2 longitude, 3 height, 4 delta T
- *    4  the buffer is too short                      the length it needs (bytes; entries for ukhtvaresh_read)
+ *    4  the buffer is too short                      the length it needs (bytes; entries for ukhtvaresh_read);
+ *       of the room for the sine table               901
  *    5  kind not in the table                        first byte of that record
  *    6  the sheet ends inside a record or before     first byte of that record, or the input's length
  *       the end record
@@ -79,10 +81,17 @@ typedef struct ukhtvaresh_entry {
     uint32_t fields[4];
 } ukhtvaresh_entry;
 
-/* The contact sheet of a request, at the start of `sheet`. *value: its length in bytes.
- * Refusals, the first of them: 10, 1, 2, 3, 4. */
-uint64_t ukhtvaresh_sheet(const uint8_t *request, size_t request_len, uint8_t *sheet, size_t sheet_len,
-                          uint64_t *value);
+/* How many numbers a caller lends for the sine table, in `sines`. The library stores no table, only differences, 1.8 KB in place of
+ * 3.6: each call sums them up in this room, whatever it held before, and looks its sines up there. So one room serves call after
+ * call, but not two at the same time. It is filled once only the 4 of the sheet, or of a second's numbers, can still refuse, and
+ * is untouched on every refusal before that; its own, 4 with place 901, is the last of these. What lies past its 901 numbers is
+ * untouched. Nothing need be read from it: it holds 10^8 times the sine of each tenth of a degree from 0 to 90. */
+#define UKHTVARESH_SINES_LENGTH 901
+
+/* The contact sheet of a request, at the start of `sheet`. *value: its length in bytes. sines_len counts numbers.
+ * Refusals, the first of them: 10, 1, 2, 3, 4 with place 901 where sines_len is below that, 4. */
+uint64_t ukhtvaresh_sheet(const uint8_t *request, size_t request_len, uint32_t *sines, size_t sines_len, uint8_t *sheet,
+                          size_t sheet_len, uint64_t *value);
 
 /* The numbers of one second, in `shadow`: see ukhtvaresh_second. */
 enum {
@@ -98,10 +107,10 @@ enum {
 };
 
 /* The shadow at a second of a request, -10,800 to 10,800, also outside its window. *value: 8.
- * Refusals: 10; 1 for the window or the second, then for the guard; 2; 3; 4 with place 8 where shadow_len is below 8.
- * shadow_len counts numbers. */
-uint64_t ukhtvaresh_second(const uint8_t *request, size_t request_len, int64_t second, int64_t *shadow,
-                           size_t shadow_len, uint64_t *value);
+ * Refusals: 10; 1 for the window or the second, then for the guard; 2; 3; 4 with place 901 where sines_len is below that; 4 with place 8 where
+ * shadow_len is below 8. The lengths count numbers. */
+uint64_t ukhtvaresh_second(const uint8_t *request, size_t request_len, int64_t second, uint32_t *sines, size_t sines_len,
+                           int64_t *shadow, size_t shadow_len, uint64_t *value);
 
 /* The mirror of a request, at the start of `mirrored`: all y and d coefficients and the latitude with the other sign, nothing
  * else changed. *value: 115. Any numbers: -2^31, which has no opposite in its bytes, stays as it is.

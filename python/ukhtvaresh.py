@@ -13,6 +13,7 @@ ephemeris time from the reference instant. East longitude is positive. "Document
 import ctypes
 import os
 import struct
+import threading
 from dataclasses import astuple, dataclass
 from enum import Enum
 from pathlib import Path
@@ -313,8 +314,8 @@ def _load() -> ctypes.CDLL:
     library = ctypes.CDLL(str(shared))
     data, length, room = ctypes.c_char_p, ctypes.c_size_t, ctypes.c_void_p
     value = ctypes.POINTER(ctypes.c_uint64)
-    library.ukhtvaresh_sheet.argtypes = [data, length, room, length, value]
-    library.ukhtvaresh_second.argtypes = [data, length, ctypes.c_int64, room, length, value]
+    library.ukhtvaresh_sheet.argtypes = [data, length, room, length, room, length, value]
+    library.ukhtvaresh_second.argtypes = [data, length, ctypes.c_int64, room, length, room, length, value]
     library.ukhtvaresh_mirror.argtypes = [data, length, room, length, value]
     library.ukhtvaresh_read.argtypes = [data, length, room, length, value]
     library.ukhtvaresh_write.argtypes = [room, length, room, length, value]
@@ -352,6 +353,17 @@ def _lent(buffer):
     return (ctypes.c_uint8 * length).from_buffer(buffer), length
 
 
+_SINES = 901  # numbers of the sine table
+_rooms = threading.local()
+
+
+def _sines():
+    """The room for the sine table, which each call fills anew, and its length: one for each thread, lent to call after call."""
+    if not hasattr(_rooms, "sines"):
+        _rooms.sines = (ctypes.c_uint32 * _SINES)()
+    return _rooms.sines, _SINES
+
+
 def _whole(fill: Callable[[bytearray], int]) -> bytes:
     """What `fill` writes, at its exact length. Few sheets pass 128 bytes; else refusal 4 tells the length."""
     buffer = bytearray(128)
@@ -372,7 +384,7 @@ def sheet_into(request: bytes, buffer) -> int:
     Refusals, the first of them: 10, 1, 2, 3, 4.
     """
     request = bytes(request)
-    return _call("sheet", request, len(request), *_lent(buffer))
+    return _call("sheet", request, len(request), *_sines(), *_lent(buffer))
 
 
 def sheet(request: bytes) -> bytes:
@@ -387,7 +399,7 @@ def second(request: bytes, second: int) -> Second:
     """
     request = bytes(request)
     shadow = (ctypes.c_int64 * 8)()
-    _call("second", request, len(request), _signed(second), shadow, 8)
+    _call("second", request, len(request), _signed(second), *_sines(), shadow, 8)
     u, v, l1, l2, penumbra, central, magnitude, direction = shadow
     return Second(u, v, l1, l2, State(penumbra), State(central), magnitude, _direction(direction))
 

@@ -5,11 +5,14 @@
 // never null, also of an empty slice, and a mutable reference overlaps no other.
 
 use crate::Refusal;
+use std::cell::RefCell;
 
 extern "C" {
     fn ukhtvaresh_sheet(
         request: *const u8,
         request_len: usize,
+        sines: *mut u32,
+        sines_len: usize,
         sheet: *mut u8,
         sheet_len: usize,
         value: *mut u64,
@@ -18,6 +21,8 @@ extern "C" {
         request: *const u8,
         request_len: usize,
         second: i64,
+        sines: *mut u32,
+        sines_len: usize,
         shadow: *mut i64,
         shadow_len: usize,
         value: *mut u64,
@@ -76,29 +81,44 @@ fn answer(number: u64, value: u64) -> Result<usize, Refusal> {
     }
 }
 
+// The room for the sine table, which each call fills anew: one for each thread, lent to call after call.
+thread_local! {
+    static SINES: RefCell<[u32; 901]> = const { RefCell::new([0; 901]) };
+}
+
 pub fn sheet(request: &[u8], sheet: &mut [u8]) -> Result<usize, Refusal> {
     let mut value = 0;
-    // SAFETY: pointers and lengths are those of live slices; `sheet` and `value` are borrowed mutably, so they
+    // SAFETY: pointers and lengths are those of live slices; `sines`, `sheet` and `value` are borrowed mutably, so they
     // overlap neither each other nor `request`.
-    let number = unsafe {
-        ukhtvaresh_sheet(request.as_ptr(), request.len(), sheet.as_mut_ptr(), sheet.len(), &mut value)
-    };
+    let number = SINES.with_borrow_mut(|sines| unsafe {
+        ukhtvaresh_sheet(
+            request.as_ptr(),
+            request.len(),
+            sines.as_mut_ptr(),
+            sines.len(),
+            sheet.as_mut_ptr(),
+            sheet.len(),
+            &mut value,
+        )
+    });
     answer(number, value)
 }
 
 pub fn second(request: &[u8], second: i64, shadow: &mut [i64]) -> Result<usize, Refusal> {
     let mut value = 0;
-    // SAFETY: as in `sheet`; the length of `shadow` counts its numbers, as the library does.
-    let number = unsafe {
+    // SAFETY: as in `sheet`; the lengths of `sines` and `shadow` count numbers, as the library does.
+    let number = SINES.with_borrow_mut(|sines| unsafe {
         ukhtvaresh_second(
             request.as_ptr(),
             request.len(),
             second,
+            sines.as_mut_ptr(),
+            sines.len(),
             shadow.as_mut_ptr(),
             shadow.len(),
             &mut value,
         )
-    };
+    });
     answer(number, value)
 }
 

@@ -39,11 +39,11 @@ fn sheets(rounds: usize) {
             let first = if seconds == 21_601 { -10_800 } else { -200 };
             let window = Window { first, last: first + seconds - 1 };
             let bytes = Request { window, ..request }.to_bytes().expect("numbers that have room");
-            let (mut a, mut b) = ([0; 4096], [0; 4096]);
+            let (mut a, mut b, mut sines) = ([0; 4096], [0; 4096], [0; 901]);
             let (ours, theirs) = best(
                 rounds,
                 (200_000 / seconds).max(1) as usize,
-                || _ = black_box(library::sheet(black_box(&bytes), &mut a)),
+                || _ = black_box(library::sheet(black_box(&bytes), &mut sines, &mut a)),
                 || _ = black_box(sheet_of_input(black_box(&bytes), &mut b)),
             );
             assert_eq!(a, b);

@@ -8,7 +8,7 @@ use lib.Seq.{length-take-le}
 use Rattle.refusals.specs.declared.Refusal.{Refusal}
 use Rattle.circumstances.specs.declared.Answer.{Answer}
 use Rattle.circumstances.specs.declared.Answer.the-variants as A
-use Rattle.input.specs.Sheet.{answerTo, bufferFor}
+use Rattle.input.specs.Sheet.{answerTo, bufferFor, sinesFor}
 use Rattle.input.specs.SheetLaws.{written-fits}
 use Rattle.decimals.specs.Texts.{Put, Counts}
 use Rattle.decimals.specs.TextLaws.{put-nil}
@@ -35,42 +35,45 @@ module _ (a : Answer) (room old new : List ℕ) (r : ℕ) where
 
 -- ---- what a request's bytes are answered
 
-module _ (request room : List ℕ) (a : Answer) (is : a ≡ answerTo request room) (left : List ℕ) (by-rule : left ≡ bufferFor request room) where
+module _ (request sines room : List ℕ) (a : Answer) (is : a ≡ answerTo request sines room)
+    (left : List ℕ) (by-rule : left ≡ bufferFor request sines room) where
   pub fits : length left ≡ length room → Fits a left
   fits l = by a is
     where
-      by : (b : Answer) → b ≡ answerTo request room → Fits b left
-      by (A.Written n) e = omega (arith, written-fits request room n (sym e), l)
+      by : (b : Answer) → b ≡ answerTo request sines room → Fits b left
+      by (A.Written n) e = omega (arith, written-fits request sines room n (sym e), l)
       by (A.Refused r) e = tt
 
-  pub text-is : textBy a left ≡ answerText request room
+  pub text-is : textBy a left ≡ answerText request sines room
   unfolding answerText
   text-is = rw (is, by-rule)
 
-  stored-is : storedBy a left ≡ sheetStored request room
+  stored-is : storedBy a left ≡ sheetStored request sines room
   unfolding sheetStored
   stored-is = rw (is, by-rule)
 
-  error-is : errorBy a ≡ errorLine request room
+  error-is : errorBy a ≡ errorLine request sines room
   unfolding errorLine
   error-is = rw is
 
-  -- what `stored` promises: how many bytes go out, n of the sheet's room and r of the line's
-  abbrev Promised : ℕ → List ℕ → List ℕ → ℕ → Type 0
-  Promised n line after r = Begins n left (sheetStored request room)
-      × (Put line 0 (errorLine request room) after r × ((left ≡ bufferFor request room) × Counts n left))
+  module _ (full : List ℕ) (by-fill : full ≡ sinesFor request sines) where
+    -- what `stored` promises: how many bytes go out, n of the sheet's room and r of the line's; and what the rooms hold
+    abbrev Promised : ℕ → List ℕ → List ℕ → ℕ → Type 0
+    Promised n line after r = Begins n left (sheetStored request sines room)
+        × (Put line 0 (errorLine request sines room) after r
+        × ((left ≡ bufferFor request sines room) × ((full ≡ sinesFor request sines) × Counts n left)))
 
-  pub stored-written : (n : ℕ) → a ≡ A.Written n → length left ≡ length room → (line : List ℕ) → Promised n line line 0
-  stored-written n e l line =
-      let h : n ≤ length left = fits-written a left n e (fits l) in
-      let t : take n left ≡ sheetStored request room = ap (λ (b : Answer). storedBy b left) (sym e) ∙ stored-is in
-      let u : [] ≡ errorLine request room = ap errorBy (sym e) ∙ error-is in
-      let k = sym (length-take-le n left h) in
-      (record { count = k ∙ ap length t; bytes = t }, (rw (← u) (put-nil line 0 (omega arith)), (by-rule, (h, k))))
+    pub stored-written : (n : ℕ) → a ≡ A.Written n → length left ≡ length room → (line : List ℕ) → Promised n line line 0
+    stored-written n e l line =
+        let h : n ≤ length left = fits-written a left n e (fits l) in
+        let t : take n left ≡ sheetStored request sines room = ap (λ (b : Answer). storedBy b left) (sym e) ∙ stored-is in
+        let u : [] ≡ errorLine request sines room = ap errorBy (sym e) ∙ error-is in
+        let k = sym (length-take-le n left h) in
+        (record { count = k ∙ ap length t; bytes = t }, (rw (← u) (put-nil line 0 (omega arith)), (by-rule, (by-fill, (h, k)))))
 
-  pub stored-refused : (x : Refusal) → a ≡ A.Refused x → (line after : List ℕ) (r : ℕ) → Put line 0 (refusalLine (x .number) (x .place)) after r
-      → Promised 0 line after r
-  stored-refused x e line after r p =
-      let t : [] ≡ sheetStored request room = ap (λ (b : Answer). storedBy b left) (sym e) ∙ stored-is in
-      let u : refusalLine (x .number) (x .place) ≡ errorLine request room = ap errorBy (sym e) ∙ error-is in
-      (record { count = ap length t; bytes = t }, (rw (← u) p, (by-rule, (omega arith, refl))))
+    pub stored-refused : (x : Refusal) → a ≡ A.Refused x → (line after : List ℕ) (r : ℕ) → Put line 0 (refusalLine (x .number) (x .place)) after r
+        → Promised 0 line after r
+    stored-refused x e line after r p =
+        let t : [] ≡ sheetStored request sines room = ap (λ (b : Answer). storedBy b left) (sym e) ∙ stored-is in
+        let u : refusalLine (x .number) (x .place) ≡ errorLine request sines room = ap errorBy (sym e) ∙ error-is in
+        (record { count = ap length t; bytes = t }, (rw (← u) p, (by-rule, (by-fill, (omega arith, refl)))))

@@ -1,5 +1,5 @@
--- The answer to a request's bytes, given a room for its sheet: as text, and as it is stored.
--- Assumes nothing: these are definitions. The answer, and the bytes that it leaves in the room: input, Sheet.
+-- The answer to a request's bytes, given a room for table S and one for its sheet: as text, and as it is stored.
+-- Assumes nothing: these are definitions. The answer, and what it leaves in the rooms: input, Sheet.
 use mathlib.Core.Path.{_≡_}
 use mathlib.Core.List.{List, []}
 use Prim.Native.Nat.{ℕ}
@@ -15,8 +15,8 @@ abbrev pub textBy : Answer → List ℕ → List ℕ
 textBy (A.Written n) room = printed (told (take n room))
 textBy (A.Refused r) room = refusalLine (r .number) (r .place)
 
-unfoldable pub answerText : List ℕ → List ℕ → List ℕ
-answerText request room = textBy (answerTo request room) (bufferFor request room)
+unfoldable pub answerText : (request sines room : List ℕ) → List ℕ
+answerText request sines room = textBy (answerTo request sines room) (bufferFor request sines room)
 
 -- ---- the sheet as it is stored
 
@@ -30,13 +30,13 @@ abbrev pub storedBy : Answer → List ℕ → List ℕ
 storedBy (A.Written n) room = take n room
 storedBy (A.Refused r) room = []
 
-unfoldable pub sheetStored : List ℕ → List ℕ → List ℕ
-sheetStored request room = storedBy (answerTo request room) (bufferFor request room)
+unfoldable pub sheetStored : (request sines room : List ℕ) → List ℕ
+sheetStored request sines room = storedBy (answerTo request sines room) (bufferFor request sines room)
 
 -- to standard error: nothing, or the line of the refusal
 abbrev pub errorBy : Answer → List ℕ
 errorBy (A.Written n) = []
 errorBy (A.Refused r) = refusalLine (r .number) (r .place)
 
-unfoldable pub errorLine : List ℕ → List ℕ → List ℕ
-errorLine request room = errorBy (answerTo request room)
+unfoldable pub errorLine : (request sines room : List ℕ) → List ℕ
+errorLine request sines room = errorBy (answerTo request sines room)

@@ -4,7 +4,7 @@ use listings::Text;
 use refusals::Refusal;
 ghost use mathlib.Core.Path.{_≡_};
 ghost use lib.ListN.{length};
-ghost use Rattle.input.specs.Sheet.{bufferFor};
+ghost use Rattle.input.specs.Sheet.{bufferFor, sinesFor};
 ghost use Rattle.decimals.specs.Texts.{Put, Counts};
 ghost use Rattle.lines.specs.Lines.{refusalLine};
 ghost use Rattle.listings.specs.Answers.{text, answered, roomWith};
@@ -38,23 +38,25 @@ fn put_text(answer: Answer, room: &[u8], out: &mut [u8]) -> usize
     }
 }
 
-// The sheet of a request in its room, and the text of the answer from the start of `out` on, as far as that goes; the place after it.
-pub fn put_answer(request: &[u8], room: &mut [u8], out: &mut [u8]) -> usize
-    ensures text { λ r. ⌜ Put (now (out .entry)) 0 (answerText (now (request .entry)) (now (room .entry))) (now (out .exit)) r ⌝ }
-    ensures sheet { λ r. ⌜ now (room .exit) ≡ bufferFor (now (request .entry)) (now (room .entry)) ⌝ }
+// The sheet of a request in its room, with `sines` for table S, and the text of the answer from the start of `out` on, as far as that goes; the place after it.
+pub fn put_answer(request: &[u8], sines: &mut [u32], room: &mut [u8], out: &mut [u8]) -> usize
+    ensures text { λ r. ⌜ Put (now (out .entry)) 0 (answerText (now (request .entry)) (now (sines .entry)) (now (room .entry))) (now (out .exit)) r ⌝ }
+    ensures sheet { λ r. ⌜ now (room .exit) ≡ bufferFor (now (request .entry)) (now (sines .entry)) (now (room .entry)) ⌝ }
+    ensures sines { λ r. ⌜ now (sines .exit) ≡ sinesFor (now (request .entry)) (now (sines .entry)) ⌝ }
 {
-    let answer = input::sheet(request, room);
+    let answer = input::sheet(request, sines, room);
     put_text(answer, room, out)
 }
 
 // The same where `out` holds the text, and how long it is; or 4, which is of `out` alone, and `out` as it was. What is refused of the
 // request, 4 of the sheet's room among it, is what the text tells.
-pub fn answer(request: &[u8], room: &mut [u8], out: &mut [u8]) -> Text
-    ensures answer { λ r. ⌜ r ≡ answered (length (now (out .entry))) (text (answerText (now (request .entry)) (now (room .entry)))) ⌝ }
-    ensures text { λ r. ⌜ now (out .exit) ≡ roomWith (text (answerText (now (request .entry)) (now (room .entry)))) (now (out .entry)) ⌝ }
-    ensures sheet { λ r. ⌜ now (room .exit) ≡ bufferFor (now (request .entry)) (now (room .entry)) ⌝ }
+pub fn answer(request: &[u8], sines: &mut [u32], room: &mut [u8], out: &mut [u8]) -> Text
+    ensures answer { λ r. ⌜ r ≡ answered (length (now (out .entry))) (text (answerText (now (request .entry)) (now (sines .entry)) (now (room .entry)))) ⌝ }
+    ensures text { λ r. ⌜ now (out .exit) ≡ roomWith (text (answerText (now (request .entry)) (now (sines .entry)) (now (room .entry)))) (now (out .entry)) ⌝ }
+    ensures sheet { λ r. ⌜ now (room .exit) ≡ bufferFor (now (request .entry)) (now (sines .entry)) (now (room .entry)) ⌝ }
+    ensures sines { λ r. ⌜ now (sines .exit) ≡ sinesFor (now (request .entry)) (now (sines .entry)) ⌝ }
 {
-    let answer = input::sheet(request, room);
+    let answer = input::sheet(request, sines, room);
     let mut none = [0u8; 0];
     let need = put_text(answer, room, &mut none);
     if out.len() < need {
@@ -68,13 +70,14 @@ pub fn answer(request: &[u8], room: &mut [u8], out: &mut [u8]) -> Text
 }
 
 // What program `sheet_bytes` writes: the sheet as it is stored, at its room's start; or the line of the refusal, as far as its room goes.
-pub fn stored(request: &[u8], room: &mut [u8], line: &mut [u8]) -> Streams
-    ensures output { λ r. ⌜ Begins (r .output) (now (room .exit)) (sheetStored (now (request .entry)) (now (room .entry))) ⌝ }
-    ensures error { λ r. ⌜ Put (now (line .entry)) 0 (errorLine (now (request .entry)) (now (room .entry))) (now (line .exit)) (r .error) ⌝ }
-    ensures sheet { λ r. ⌜ now (room .exit) ≡ bufferFor (now (request .entry)) (now (room .entry)) ⌝ }
+pub fn stored(request: &[u8], sines: &mut [u32], room: &mut [u8], line: &mut [u8]) -> Streams
+    ensures output { λ r. ⌜ Begins (r .output) (now (room .exit)) (sheetStored (now (request .entry)) (now (sines .entry)) (now (room .entry))) ⌝ }
+    ensures error { λ r. ⌜ Put (now (line .entry)) 0 (errorLine (now (request .entry)) (now (sines .entry)) (now (room .entry))) (now (line .exit)) (r .error) ⌝ }
+    ensures sheet { λ r. ⌜ now (room .exit) ≡ bufferFor (now (request .entry)) (now (sines .entry)) (now (room .entry)) ⌝ }
+    ensures sines { λ r. ⌜ now (sines .exit) ≡ sinesFor (now (request .entry)) (now (sines .entry)) ⌝ }
     ensures counts { λ r. ⌜ Counts (r .output) (now (room .exit)) ⌝ }
 {
-    let answer = input::sheet(request, room);
+    let answer = input::sheet(request, sines, room);
     match answer {
         Answer::Written(written) => Streams {
             output: written,

@@ -13,12 +13,16 @@ use Rattle.answers.specs.Answers.{answerText}
 abbrev pub roomOf : List ℕ → List ℕ
 roomOf s = replicate (twoAt s 0) 0
 
+-- for table S there is always room
+abbrev pub sinesRoom : List ℕ
+sinesRoom = replicate 901 0
+
 abbrev pub requestOf : List ℕ → List ℕ
 requestOf s = take (getD s 2 0) (drop 3 s)
 
 -- the listing of the request's sheet, or its refusal; nothing where the request is longer than the case
 unfoldable pub caseText : List ℕ → List ℕ
-caseText s = cond (ltb 116 (getD s 2 0)) [] (answerText (requestOf s) (roomOf s))
+caseText s = cond (ltb 116 (getD s 2 0)) [] (answerText (requestOf s) sinesRoom (roomOf s))
 
 unfoldable pub printed : List ℕ → List ℕ
 printed input = eachPart 119 caseText input

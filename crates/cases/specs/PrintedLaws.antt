@@ -30,7 +30,7 @@ module _ (s old : List ℕ) (at : ℕ) where
   unfolding caseText
   case-long h l = rw (lt-ltb 116 (getD s 2 0) h) (put-nil old at l)
 
-  pub case-text : getD s 2 0 ≤ 116 → (request room new : List ℕ) (r : ℕ) → request ≡ requestOf s → room ≡ roomOf s
-      → Put old at (answerText request room) new r → Put old at (caseText s) new r
+  pub case-text : getD s 2 0 ≤ 116 → (request sines room new : List ℕ) (r : ℕ) → request ≡ requestOf s → Zeros 901 sines → room ≡ roomOf s
+      → Put old at (answerText request sines room) new r → Put old at (caseText s) new r
   unfolding caseText
-  case-text h request room new r e f p = rw (le-ltb 116 (getD s 2 0) h, ← e, ← f) p
+  case-text h request sines room new r e z f p = rw (le-ltb 116 (getD s 2 0) h, ← e, ← z .is, ← f) p

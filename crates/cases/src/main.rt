@@ -17,11 +17,17 @@ fn wide(x: u8) -> usize
 }
 
 // The answer to a request, from `at` on.
-fn put_answer(out: &mut [u8], at: usize, request: &[u8], room: &mut [u8]) -> usize
-    ensures { λ r. ⌜ Put (now (out .entry)) at (answerText (now (request .entry)) (now (room .entry))) (now (out .exit)) r ⌝ }
+fn put_answer(
+    out: &mut [u8],
+    at: usize,
+    request: &[u8],
+    sines: &mut [u32],
+    room: &mut [u8],
+) -> usize
+    ensures { λ r. ⌜ Put (now (out .entry)) at (answerText (now (request .entry)) (now (sines .entry)) (now (room .entry))) (now (out .exit)) r ⌝ }
 {
     let from = decimals::clipped(out, at);
-    let n = answers::put_answer(request, room, &mut out[from..]);
+    let n = answers::put_answer(request, sines, room, &mut out[from..]);
     decimals::after(at, n)
 }
 
@@ -29,6 +35,13 @@ fn zeros() -> [u8; 65536]
     ensures { λ r. ⌜ Zeros 65536 r ⌝ }
 {
     [0; 65536]
+}
+
+// Room for table S.
+fn sines_room() -> [u32; 901]
+    ensures { λ r. ⌜ Zeros 901 r ⌝ }
+{
+    [0; 901]
 }
 
 // The text of a case.
@@ -43,7 +56,8 @@ fn put_case(out: &mut [u8], at: usize, bytes: &[u8]) -> usize
     }
     let end = 3 + length;
     let mut room = zeros();
-    put_answer(out, at, &bytes[3..end], &mut room[..size])
+    let mut sines = sines_room();
+    put_answer(out, at, &bytes[3..end], &mut sines, &mut room[..size])
 }
 
 // The text of each case of the input.

@@ -13,11 +13,12 @@ use Rattle.refusals.specs.declared.Checked.{Checked}
 use Rattle.refusals.specs.declared.Checked.the-variants as C
 use Rattle.refusals.specs.Refusals.{refusal}
 use Rattle.requests.specs.declared.Request.{Request}
-use Rattle.requests.specs.Requests.{checked}
-use Rattle.requests.specs.RequestLaws.{InLimits, in-limits, never-room}
+use Rattle.requests.specs.RequestLaws.{InLimits}
+use Rattle.requests.specs.Admission.{admitted, sinesAfter}
+use Rattle.requests.specs.AdmissionLaws.{admitted-within, admitted-four}
 use Rattle.circumstances.specs.declared.Answer.{Answer}
 use Rattle.circumstances.specs.declared.Answer.the-variants as A
-use Rattle.circumstances.specs.Sheet.{sheetBytes, answerWithin, bufferWithin, answerBy, bufferBy, sheetAnswer, sheetBuffer}
+use Rattle.circumstances.specs.Sheet.{sheetBytes, answerWithin, bufferWithin, answerBy, bufferBy, sheetAnswer, sheetBuffer, sheetSines}
 use Rattle.courses.specs.Stores.{stores-start}
 use Rattle.circumstances.specs.Demand3.{Claimed}
 use Rattle.circumstances.specs.CourseSound.{said, demand3}
@@ -25,24 +26,6 @@ use Rattle.circumstances.specs.CourseSound.{said, demand3}
 module _ (q : Request) (old : List ℕ) where
   abbrev fits? : Bool
   fits? = leb (length (sheetBytes q)) (length old)
-
-  -- ---- demand 3 of the answer and the buffer that the rules give
-  pub claims : Claimed q (sheetAnswer q old) (sheetBuffer q old)
-  unfolding sheetAnswer sheetBuffer
-  claims = by-check (checked q) refl
-    where
-      by-room : (b : Bool) → InLimits q
-          → Claimed q (cond b (A.Written (length (sheetBytes q))) (A.Refused (refusal 4 (length (sheetBytes q))))) (cond b (sheetBytes q ++ drop (length (sheetBytes q)) old) old)
-      by-room true i = demand3 q i (drop (length (sheetBytes q)) old)
-      by-room false i = λ e. said q i
-
-      by-check : (c : Checked) → checked q ≡ c → Claimed q (answerBy c q old) (bufferBy c q old)
-      by-check (C.Refused r) e = λ four. absurd (never-room q r e four)
-      by-check C.Within e = by-room fits? (in-limits q e)
-
-  -- what was answered and left is what the rules say: so demand 3 is claimed of it
-  pub claimed : (r : Answer) (new : List ℕ) → r ≡ sheetAnswer q old → new ≡ sheetBuffer q old → Claimed q r new
-  claimed r new er en = rw (er, en) claims
 
   -- ---- the ways of an answer
   pub room-short : (n : ℕ) → n ≡ length (sheetBytes q) → length old < n → (A.Refused (refusal 4 n) ≡ answerWithin q old) × (old ≡ bufferWithin q old)
@@ -61,26 +44,47 @@ module _ (q : Request) (old : List ℕ) where
       go true e = ap length (sym (stores-start (sheetBytes q) old (leb-true (length (sheetBytes q)) (length old) e))) ∙ length-sets old 0 (sheetBytes q)
       go false e = refl
 
-  pub refused-answer : (x : Refusal) → checked q ≡ C.Refused x → (A.Refused x ≡ sheetAnswer q old) × (old ≡ sheetBuffer q old)
-  unfolding sheetAnswer sheetBuffer
-  refused-answer x e = (rw e, rw e)
+module _ (q : Request) (sines old : List ℕ) where
+  -- ---- demand 3 of the answer and the buffer that a check gives
+  claims : (c : Checked) → admitted q sines ≡ c → Claimed q (answerBy c q old) (bufferBy c q old)
+  claims (C.Refused r) e = λ four. said q (admitted-four q sines r e four)
+  claims C.Within e = by-room (fits? q old) (admitted-within q sines e .0)
+    where
+      by-room : (b : Bool) → InLimits q
+          → Claimed q (cond b (A.Written (length (sheetBytes q))) (A.Refused (refusal 4 (length (sheetBytes q))))) (cond b (sheetBytes q ++ drop (length (sheetBytes q)) old) old)
+      by-room true i = demand3 q i (drop (length (sheetBytes q)) old)
+      by-room false i = λ e. said q i
 
-  pub within-answer : checked q ≡ C.Within → (answerWithin q old ≡ sheetAnswer q old) × (bufferWithin q old ≡ sheetBuffer q old)
-  unfolding sheetAnswer sheetBuffer
-  within-answer e = (rw e, rw e)
+  -- ---- the answer, the buffer and the room for table S are those that the check gives
+  answer-by : (c : Checked) → admitted q sines ≡ c → answerBy c q old ≡ sheetAnswer q sines old
+  unfolding sheetAnswer
+  answer-by c e = ap (λ (k : Checked). answerBy k q old) (sym e)
+
+  buffer-by : (c : Checked) → admitted q sines ≡ c → bufferBy c q old ≡ sheetBuffer q sines old
+  unfolding sheetBuffer
+  buffer-by c e = ap (λ (k : Checked). bufferBy k q old) (sym e)
+
+  sines-by : (c : Checked) → admitted q sines ≡ c → sinesAfter c sines ≡ sheetSines q sines
+  unfolding sheetSines
+  sines-by c e = ap (λ (k : Checked). sinesAfter k sines) (sym e)
+
+  -- so what was answered and left is what the rules say, and demand 3 is claimed of it
+  pub sheet-is : (c : Checked) → admitted q sines ≡ c → (r : Answer) (new room : List ℕ) → r ≡ answerBy c q old → new ≡ bufferBy c q old
+      → room ≡ sinesAfter c sines
+      → (r ≡ sheetAnswer q sines old) × ((new ≡ sheetBuffer q sines old) × ((room ≡ sheetSines q sines) × Claimed q r new))
+  sheet-is c e r new room er en es = (er ∙ answer-by c e, (en ∙ buffer-by c e, (es ∙ sines-by c e, rw (er, en) (claims c e))))
 
   -- what was written fits the buffer
-  pub written-fits : (n : ℕ) → sheetAnswer q old ≡ A.Written n → n ≤ length old
-  unfolding sheetAnswer
-  written-fits n e = by-check (checked q) e
+  pub written-fits : (n : ℕ) → sheetAnswer q sines old ≡ A.Written n → n ≤ length old
+  written-fits n e = by-check (admitted q sines) (answer-by (admitted q sines) refl ∙ e)
     where
       never : {B : Type 0} (r : Refusal) → A.Refused r ≡ A.Written n → B
       never r e = let z : _≡_ {A = ℕ} 0 1 = cc in absurd (omega arith)
 
-      by-room : (b : Bool) → fits? ≡ b → cond b (A.Written (length (sheetBytes q))) (A.Refused (refusal 4 (length (sheetBytes q)))) ≡ A.Written n → n ≤ length old
+      by-room : (b : Bool) → fits? q old ≡ b → cond b (A.Written (length (sheetBytes q))) (A.Refused (refusal 4 (length (sheetBytes q)))) ≡ A.Written n → n ≤ length old
       by-room true h e = let m : length (sheetBytes q) ≡ n = cc in omega (arith, leb-true (length (sheetBytes q)) (length old) h)
       by-room false h e = never (refusal 4 (length (sheetBytes q))) e
 
       by-check : (c : Checked) → answerBy c q old ≡ A.Written n → n ≤ length old
       by-check (C.Refused r) e = never r e
-      by-check C.Within e = by-room fits? refl e
+      by-check C.Within e = by-room (fits? q old) refl e

@@ -10,7 +10,7 @@ use Rattle.refusals.specs.declared.Checked.{Checked}
 use Rattle.refusals.specs.declared.Checked.the-variants as C
 use Rattle.refusals.specs.Refusals.{refusal}
 use Rattle.requests.specs.declared.Request.{Request}
-use Rattle.requests.specs.Requests.{checked}
+use Rattle.requests.specs.Admission.{admitted, sinesAfter}
 use Rattle.seconds.specs.Seconds.{stateAt, directionAt, magnitudeAt, closestOf}
 use Rattle.records.specs.Entries.{bytesOf}
 use Rattle.courses.specs.Courses.{Course, sheetOf}
@@ -41,13 +41,14 @@ sheetBytes q = bytesOf (sheetOf (courseOf q))
 abbrev pub answerWithin : Request → List ℕ → Answer
 answerWithin q old = cond (leb (length (sheetBytes q)) (length old)) (A.Written (length (sheetBytes q))) (A.Refused (refusal 4 (length (sheetBytes q))))
 
--- after the refusals of the request's numbers
+-- after the refusals of the request's numbers and of its room for table S
 abbrev pub answerBy : Checked → Request → List ℕ → Answer
 answerBy (C.Refused r) q old = A.Refused r
 answerBy C.Within q old = answerWithin q old
 
-unfoldable pub sheetAnswer : Request → List ℕ → Answer
-sheetAnswer q old = answerBy (checked q) q old
+-- document 02, wish 8: the room's 4 is "just ahead of the sheet's 4"
+unfoldable pub sheetAnswer : Request → (sines old : List ℕ) → Answer
+sheetAnswer q sines old = answerBy (admitted q sines) q old
 
 -- "After any refusal the buffer holds its old bytes; after success the bytes past the sheet do."
 abbrev pub bufferWithin : Request → List ℕ → List ℕ
@@ -57,5 +58,9 @@ abbrev pub bufferBy : Checked → Request → List ℕ → List ℕ
 bufferBy (C.Refused r) q old = old
 bufferBy C.Within q old = bufferWithin q old
 
-unfoldable pub sheetBuffer : Request → List ℕ → List ℕ
-sheetBuffer q old = bufferBy (checked q) q old
+unfoldable pub sheetBuffer : Request → (sines old : List ℕ) → List ℕ
+sheetBuffer q sines old = bufferBy (admitted q sines) q old
+
+-- the room for table S: the sheet's 4 "alone leaves this room filled"
+unfoldable pub sheetSines : Request → List ℕ → List ℕ
+sheetSines q sines = sinesAfter (admitted q sines) sines

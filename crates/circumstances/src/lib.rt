@@ -25,7 +25,7 @@ ghost use Rattle.contacts.specs.Entries.{entries, from, to};
 ghost use Rattle.records.specs.Entries.{bytesOf};
 ghost use Rattle.courses.specs.Courses.{entryOf, phaseEntries, entriesOf, headEntry, closestEntry};
 ghost use Rattle.courses.specs.Lengths.{bytesNeeded};
-ghost use Rattle.circumstances.specs.Sheet.{courseOf, sheetBytes, answerWithin, bufferWithin, sheetAnswer, sheetBuffer};
+ghost use Rattle.circumstances.specs.Sheet.{courseOf, sheetBytes, answerWithin, bufferWithin, sheetAnswer, sheetBuffer, sheetSines};
 ghost use Rattle.circumstances.specs.Demand3.{Claimed};
 
 // A sheet of that many bytes was written, or why there is none: 1, 2, 3 or 4.
@@ -254,16 +254,16 @@ fn sheet_within(table: &[u32], q: Request, buf: &mut [u8]) -> Answer
     sheet_from(table, q, place, closest, &states, buf)
 }
 
-// The contact sheet of a request, in the caller's buffer.
-pub fn sheet(q: Request, buf: &mut [u8]) -> Answer
-    ensures answer { λ r. ⌜ r ≡ sheetAnswer q (now (buf .entry)) ⌝ }
-    ensures buffer { λ r. ⌜ now (buf .exit) ≡ sheetBuffer q (now (buf .entry)) ⌝ }
+// The contact sheet of a request, in the caller's buffer; `sines` is room for table S.
+pub fn sheet(q: Request, sines: &mut [u32], buf: &mut [u8]) -> Answer
+    ensures answer { λ r. ⌜ r ≡ sheetAnswer q (now (sines .entry)) (now (buf .entry)) ⌝ }
+    ensures buffer { λ r. ⌜ now (buf .exit) ≡ sheetBuffer q (now (sines .entry)) (now (buf .entry)) ⌝ }
+    ensures sines { λ r. ⌜ now (sines .exit) ≡ sheetSines q (now (sines .entry)) ⌝ }
     ensures demand3 { λ r. ⌜ Claimed q r (now (buf .exit)) ⌝ }
 {
-    let c = requests::check(q);
+    let c = requests::admission::admit(q, sines);
     if let Checked::Refused(refusal) = c {
         return Answer::Refused(refusal);
     }
-    let table = sine::table();
-    sheet_within(&table, q, buf)
+    sheet_within(sines, q, buf)
 }

@@ -7,7 +7,7 @@ ghost use lib.ListN.{getD};
 ghost use Rattle.circumstances.specs.Demand3.{Claimed};
 ghost use Rattle.input.specs.Input.{requestFrom, requestOf, inputOf};
 ghost use Rattle.input.specs.InputLaws.{Small};
-ghost use Rattle.input.specs.Sheet.{answerTo, bufferFor};
+ghost use Rattle.input.specs.Sheet.{answerTo, bufferFor, sinesFor};
 
 // What the bytes hold, or the refusal of their shape.
 pub enum Input {
@@ -67,15 +67,16 @@ pub fn request(input: &[u8]) -> Input
 
 // ---- the sheet
 
-// The contact sheet of the program's input, in the caller's buffer. Any bytes, any buffer.
-pub fn sheet(input: &[u8], buf: &mut [u8]) -> circumstances::Answer
-    ensures answer { λ r. ⌜ r ≡ answerTo (now (input .entry)) (now (buf .entry)) ⌝ }
-    ensures buffer { λ r. ⌜ now (buf .exit) ≡ bufferFor (now (input .entry)) (now (buf .entry)) ⌝ }
+// The contact sheet of the program's input, in the caller's buffer; `sines` is room for table S. Any bytes, any room, any buffer.
+pub fn sheet(input: &[u8], sines: &mut [u32], buf: &mut [u8]) -> circumstances::Answer
+    ensures answer { λ r. ⌜ r ≡ answerTo (now (input .entry)) (now (sines .entry)) (now (buf .entry)) ⌝ }
+    ensures buffer { λ r. ⌜ now (buf .exit) ≡ bufferFor (now (input .entry)) (now (sines .entry)) (now (buf .entry)) ⌝ }
+    ensures sines { λ r. ⌜ now (sines .exit) ≡ sinesFor (now (input .entry)) (now (sines .entry)) ⌝ }
     ensures demand3 { λ r. ⌜ Claimed (requestOf (now (input .entry))) r (now (buf .exit)) ⌝ }
 {
     let asked = request(input);
     match asked {
-        Input::Is(q) => circumstances::sheet(q, buf),
+        Input::Is(q) => circumstances::sheet(q, sines, buf),
         Input::Refused(refusal) => circumstances::Answer::Refused(refusal),
     }
 }

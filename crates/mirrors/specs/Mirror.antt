@@ -28,8 +28,8 @@ pub record Mirrored (q : Request) : Type 0 where
   pub north : (τ : ℤ) → v (momentAt (mirrorOf q) τ) ≡ negℤ (v (momentAt q τ))
   -- .. so the same entries in the same places. Directions are left out, as they round down.
   pub entries : AlikeButDirections (sheetOf (courseOf (mirrorOf q))) (sheetOf (courseOf q))
-  -- the sheet is as long, so every buffer gets the same answer
+  -- the sheet is as long, so every room and buffer get the same answer
   pub bytes : length (sheetBytes (mirrorOf q)) ≡ length (sheetBytes q)
-  pub answer : (buffer : List ℕ) → sheetAnswer (mirrorOf q) buffer ≡ sheetAnswer q buffer
+  pub answer : (sines buffer : List ℕ) → sheetAnswer (mirrorOf q) sines buffer ≡ sheetAnswer q sines buffer
   -- Taking the mirror twice gives the first request back."
   pub twice : mirrorOf (mirrorOf q) ≡ q

@@ -7,11 +7,14 @@ use lib.IntN.{ℤ, negℤ}
 use lib.ListN.{length}
 use Rattle.phases.specs.declared.Phase.{Phase}
 use Rattle.phases.specs.States.{State}
+use Rattle.refusals.specs.declared.Checked.{Checked}
 use Rattle.refusals.specs.declared.Checked.the-variants as C
 use Rattle.geometry.specs.Shadow.{u, v, M}
 use Rattle.requests.specs.declared.Request.{Request}
 use Rattle.requests.specs.Requests.{checked}
 use Rattle.requests.specs.RequestLaws.{in-limits}
+use Rattle.requests.specs.Admission.{roomChecked}
+use Rattle.requests.specs.AdmissionLaws.{admitted-room}
 use Rattle.requests.specs.Mirror.{mirroredRequest, mirrorOf}
 use Rattle.requests.specs.MirrorLaws.{checked-mirrored, mirrored-twice, mirrored-is}
 use Rattle.seconds.specs.Seconds.{momentAt, stateAt, directionAt, magnitudeAt, closestOf}
@@ -20,7 +23,7 @@ use Rattle.courses.specs.Courses.{Course, sheetOf}
 use Rattle.courses.specs.Directions.{AlikeButDirections}
 use Rattle.courses.specs.DirectionLaws.{redirected, sheet-alike, alike-length}
 use Rattle.circumstances.specs.declared.Answer.{Answer}
-use Rattle.circumstances.specs.Sheet.{courseOf, sheetBytes, sheetAnswer}
+use Rattle.circumstances.specs.Sheet.{courseOf, sheetBytes, answerBy, sheetAnswer}
 use Rattle.mirrors.specs.Mirror.{Mirrored}
 
 abbrev most : ℕ
@@ -47,10 +50,16 @@ module _ (q : Request) where
   bytes-mirrored = alike-length (sheetOf (courseOf q′)) (sheetOf (courseOf q)) entries-mirrored
 
 -- a sheet as long gets the same answer
-answers-mirrored : (p q : Request) → checked p ≡ C.Within → checked q ≡ C.Within → length (sheetBytes p) ≡ length (sheetBytes q) → (buffer : List ℕ)
-    → sheetAnswer p buffer ≡ sheetAnswer q buffer
+answers-mirrored : (p q : Request) → checked p ≡ C.Within → checked q ≡ C.Within → length (sheetBytes p) ≡ length (sheetBytes q) → (sines buffer : List ℕ)
+    → sheetAnswer p sines buffer ≡ sheetAnswer q sines buffer
 unfolding sheetAnswer
-answers-mirrored p q cp cq l buffer = rw (cp, cq, l)
+answers-mirrored p q cp cq l sines buffer =
+    ap (λ (c : Checked). answerBy c p buffer) (sym (admitted-room p sines cp .0)) ∙ by (roomChecked sines)
+    ∙ ap (λ (c : Checked). answerBy c q buffer) (admitted-room q sines cq .0)
+  where
+    by : (c : Checked) → answerBy c p buffer ≡ answerBy c q buffer
+    by (C.Refused r) = refl
+    by C.Within = rw l
 
 -- ---- the theorem
 pub the-mirror : (q : Request) → checked q ≡ C.Within → Mirrored q
@@ -67,6 +76,6 @@ the-mirror q w =
       north = λ τ. ap (λ (x : Request). v (momentAt x τ)) e ∙ v-mirrored q τ;
       entries = subst (λ (x : Request). AlikeButDirections (sheetOf (courseOf x)) (sheetOf (courseOf q))) (sym e) (entries-mirrored q);
       bytes = l;
-      answer = λ buffer. answers-mirrored (mirrorOf q) q c w l buffer;
+      answer = λ sines buffer. answers-mirrored (mirrorOf q) q c w l sines buffer;
       twice = mirrored-twice most q;
     }

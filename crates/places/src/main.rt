@@ -94,7 +94,8 @@ fn put_stations(out: &mut [u8], table: &[u32], input: &[u8]) -> usize
 }
 
 fn main() {
-    let table = sine::table();
+    let mut table = [0u32; 901];
+    sine::fill(&mut table);
     let mut input = io::buffer();
     let length = io::read_full(STDIN_FILENO, &mut input);
     // 512 lines of 46 bytes at most

@@ -1,4 +1,6 @@
 // A request: the elements of an eclipse, a station, a window of seconds and a guard. Its limits, and the refusals 1, 2 and 3.
+pub mod admission;
+
 use refusals::Checked;
 use refusals::Refusal;
 ghost use mathlib.Core.Path.{_≡_};

@@ -1,5 +1,7 @@
 -- One second of a request: its shadow, states, magnitude and direction, or the refusal. Definitions only.
 use mathlib.Core.Bool.{cond}
+use mathlib.Core.List.{List}
+use Prim.Native.Nat.{ℕ}
 use lib.IntN.{ℤ}
 use Rattle.phases.specs.declared.Phase.the-variants.{Penumbra, Central}
 use Rattle.phases.specs.States.{code}
@@ -10,7 +12,7 @@ use Rattle.geometry.specs.Shadow.{u, v, L, M}
 use Rattle.shadow.specs.declared.Second.{Second}
 use Rattle.requests.specs.declared.Request.{Request}
 use Rattle.requests.specs.Windows.{inSpan}
-use Rattle.requests.specs.Requests.{checked}
+use Rattle.requests.specs.Admission.{admitted, sinesAfter}
 use Rattle.seconds.specs.declared.OneSecond.{OneSecond}
 use Rattle.seconds.specs.declared.OneSecond.the-variants as O
 use Rattle.seconds.specs.Seconds.{momentAt, stateAt, directionAt, magnitudeAt}
@@ -36,6 +38,13 @@ abbrev pub secondBy : Checked → Request → ℤ → OneSecond
 secondBy (C.Refused r) q τ = O.Refused r
 secondBy C.Within q τ = O.Is (wholeSecond q τ)
 
--- the refusals 1, 2, 3 of the request; and "1 | window outside its range | 0" too for a second outside -10,800..10,800, before them
-unfoldable pub secondAnswer : Request → ℤ → OneSecond
-secondAnswer q τ = cond (inSpan τ) (secondBy (checked q) q τ) (O.Refused (refusal 1 0))
+-- "1 | window outside its range | 0" too for a second outside -10,800..10,800; then the refusals of the request and of its room for table S
+unfoldable pub secondChecked : Request → ℤ → List ℕ → Checked
+secondChecked q τ sines = cond (inSpan τ) (admitted q sines) (C.Refused (refusal 1 0))
+
+unfoldable pub secondAnswer : Request → ℤ → List ℕ → OneSecond
+secondAnswer q τ sines = secondBy (secondChecked q τ sines) q τ
+
+-- that room afterwards
+unfoldable pub secondSines : Request → ℤ → List ℕ → List ℕ
+secondSines q τ sines = sinesAfter (secondChecked q τ sines) sines

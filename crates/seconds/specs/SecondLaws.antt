@@ -3,10 +3,11 @@
 --   direction-small, magnitude-small, closest-within   what a reader asks of them
 --   each-second                                        every second is said rightly
 --   means-answer                                       so is one that was answered
---   second-outside, second-by, refused-by              the ways of an answer
+--   second-outside, second-inside, second-is           the ways of an answer
 use mathlib.Core.Path.{_≡_, refl, sym, subst, ap, _∙_}
 use mathlib.Core.Logic.{_⊎_}
 use mathlib.Core.Bool.{Bool, true, false, cond}
+use mathlib.Core.List.{List}
 use Prim.Native.Nat.{ℕ, suc, _≤_, _<_}
 use native.Mathlib.Omega.{arith}
 use lib.IntN.{ℤ, pos, natAbs, _+ℤ_, _-ℤ_}
@@ -34,13 +35,14 @@ use Rattle.shadow.specs.SecondLaws.{state-at, states-true, magnitude-most, dire
 use Rattle.requests.specs.declared.Request.{Request}
 use Rattle.requests.specs.Windows.{inSpan, nthSecond, secondCount}
 use Rattle.requests.specs.WindowLaws.{in-span, each-length}
-use Rattle.requests.specs.Requests.{checked}
-use Rattle.requests.specs.RequestLaws.{InLimits, in-limits, guard-is, guard-size}
+use Rattle.requests.specs.RequestLaws.{InLimits, guard-is, guard-size}
+use Rattle.requests.specs.Admission.{admitted, sinesAfter}
+use Rattle.requests.specs.AdmissionLaws.{admitted-within}
 use Rattle.seconds.specs.declared.OneSecond.{OneSecond}
 use Rattle.seconds.specs.declared.OneSecond.the-variants as O
 use Rattle.seconds.specs.Seconds.{momentAt, stateAt, directionAt, magnitudeAt, statesOf, closestOf}
 use Rattle.seconds.specs.ClosestLaws.{closest-is}
-use Rattle.seconds.specs.OneSecond.{wholeSecond, secondBy, secondAnswer}
+use Rattle.seconds.specs.OneSecond.{wholeSecond, secondBy, secondChecked, secondAnswer, secondSines}
 use Rattle.seconds.specs.Exact.{ExactlyInside, WithinUnits, unsureUnits, SecondMeans, AnswerMeans}
 
 pub states-length : (q : Request) (φ : Phase) → length (statesOf q φ) ≡ secondCount (q .window)
@@ -88,24 +90,32 @@ module _ (q : Request) (i : InLimits q) where
     pub second-means : SecondMeans q τ (wholeSecond q τ)
     second-means = record { penumbra = said Penumbra; central = said Central }
 
-module _ (q : Request) (τ : ℤ) where
-  pub second-outside : inSpan τ ≡ false → secondAnswer q τ ≡ O.Refused (refusal 1 0)
-  unfolding secondAnswer
+module _ (q : Request) (τ : ℤ) (sines : List ℕ) where
+  pub second-outside : inSpan τ ≡ false → secondChecked q τ sines ≡ C.Refused (refusal 1 0)
+  unfolding secondChecked
   second-outside e = rw e
 
-  pub second-by : inSpan τ ≡ true → secondAnswer q τ ≡ secondBy (checked q) q τ
-  unfolding secondAnswer
-  second-by e = rw e
+  pub second-inside : inSpan τ ≡ true → secondChecked q τ sines ≡ admitted q sines
+  unfolding secondChecked
+  second-inside e = rw e
 
   -- what was answered means what it says
-  pub means-answer : AnswerMeans q τ (secondAnswer q τ)
-  unfolding secondAnswer
+  pub means-answer : AnswerMeans q τ (secondAnswer q τ sines)
+  unfolding secondAnswer secondChecked
   means-answer = by-span (inSpan τ) refl
     where
-      by-check : (c : Checked) → checked q ≡ c → natAbs τ ≤ 10800 → AnswerMeans q τ (secondBy c q τ)
+      by-check : (c : Checked) → admitted q sines ≡ c → natAbs τ ≤ 10800 → AnswerMeans q τ (secondBy c q τ)
       by-check (C.Refused r) e h = tt
-      by-check C.Within e h = second-means q (in-limits q e) τ h
+      by-check C.Within e h = second-means q (admitted-within q sines e .0) τ h
 
-      by-span : (b : Bool) → inSpan τ ≡ b → AnswerMeans q τ (cond b (secondBy (checked q) q τ) (O.Refused (refusal 1 0)))
-      by-span true e = by-check (checked q) refl (in-span τ e)
+      by-span : (b : Bool) → inSpan τ ≡ b → AnswerMeans q τ (secondBy (cond b (admitted q sines) (C.Refused (refusal 1 0))) q τ)
+      by-span true e = by-check (admitted q sines) refl (in-span τ e)
       by-span false e = tt
+
+  -- what a check gives: the answer, the room, and what the answer means
+  pub second-is : (c : Checked) → secondChecked q τ sines ≡ c → (r : OneSecond) (new : List ℕ) → r ≡ secondBy c q τ → new ≡ sinesAfter c sines
+      → (r ≡ secondAnswer q τ sines) × ((new ≡ secondSines q τ sines) × AnswerMeans q τ r)
+  unfolding secondAnswer secondSines
+  second-is c e r new er en =
+      let a : r ≡ secondAnswer q τ sines = er ∙ ap (λ (k : Checked). secondBy k q τ) (sym e) in
+      (a, (en ∙ ap (λ (k : Checked). sinesAfter k sines) (sym e), subst (AnswerMeans q τ) (sym a) means-answer))

@@ -12,7 +12,7 @@ ghost use Rattle.station.specs.Place.{placeOf};
 ghost use Rattle.requests.specs.Windows.{secondCount};
 ghost use Rattle.requests.specs.RequestLaws.{InLimits};
 ghost use Rattle.seconds.specs.Seconds.{closestOf, directionAt, magnitudeAt};
-ghost use Rattle.seconds.specs.OneSecond.{wholeSecond, secondAnswer};
+ghost use Rattle.seconds.specs.OneSecond.{wholeSecond, secondAnswer, secondSines};
 ghost use Rattle.seconds.specs.Exact.{AnswerMeans};
 ghost use Rattle.seconds.specs.Filled.{AllStates};
 
@@ -82,9 +82,10 @@ fn second_within(table: &[u32], q: Request, t: i64) -> shadow::Second
     shadow::second_at(table, e, place, t, q.guard)
 }
 
-// The shadow, the states, the magnitude and the direction at second t of a request; t may lie outside its window.
-pub fn second(q: Request, t: i64) -> OneSecond
-    ensures answer { λ r. ⌜ r ≡ secondAnswer q t ⌝ }
+// The shadow, the states, the magnitude and the direction at second t of a request, which may lie outside its window; `sines` is room for table S.
+pub fn second(q: Request, t: i64, sines: &mut [u32]) -> OneSecond
+    ensures answer { λ r. ⌜ r ≡ secondAnswer q t (now (sines .entry)) ⌝ }
+    ensures sines { λ r. ⌜ now (sines .exit) ≡ secondSines q t (now (sines .entry)) ⌝ }
     ensures means { λ r. ⌜ AnswerMeans q t r ⌝ }
 {
     let inside = requests::in_span(t);
@@ -94,11 +95,10 @@ pub fn second(q: Request, t: i64) -> OneSecond
             place: 0,
         });
     }
-    let c = requests::check(q);
+    let c = requests::admission::admit(q, sines);
     if let Checked::Refused(refusal) = c {
         return OneSecond::Refused(refusal);
     }
-    let table = sine::table();
-    let x = second_within(&table, q, t);
+    let x = second_within(sines, q, t);
     OneSecond::Is(x)
 }

@@ -3,6 +3,7 @@
 use Prim.Native.Nat.{ℕ}
 use mathlib.Core.List.{List, [], _∷_}
 use lib.IntN.{pos}
+use lib.ListN.{replicate}
 use Rattle.shadow.specs.declared.Second.{Second}
 use Rattle.seconds.specs.declared.OneSecond.{OneSecond}
 use Rattle.seconds.specs.declared.OneSecond.the-variants as O
@@ -36,9 +37,9 @@ unfoldable pub answerLine : OneSecond → List ℕ
 answerLine (O.Is x) = secondLine x
 answerLine (O.Refused r) = refusalLine (r .number) (r .place)
 
--- what is said of the first second
+-- what is said of the first second; for table S there is room
 abbrev pub firstOf : Input → OneSecond
-firstOf (I.Is q) = secondAnswer q (q .window .first)
+firstOf (I.Is q) = secondAnswer q (q .window .first) (replicate 901 0)
 firstOf (I.Refused r) = O.Refused r
 
 -- the line of a request's 115 bytes

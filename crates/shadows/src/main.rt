@@ -48,7 +48,8 @@ fn first_of(request: &[u8]) -> OneSecond
     match asked {
         Input::Is(q) => {
             let w = q.window;
-            seconds::second(q, w.first)
+            let mut sines = [0u32; 901];
+            seconds::second(q, w.first, &mut sines)
         }
         Input::Refused(refusal) => OneSecond::Refused(refusal),
     }

@@ -9,7 +9,8 @@ fn main() {
     let mut room = io::large_buffer();
     // 29 bytes of text at most for 5 bytes of a sheet, and the head and closest lines
     let mut text = [0u8; 400000];
-    let end = answers::put_answer(&request[..length], &mut room, &mut text);
+    let mut sines = [0u32; 901];
+    let end = answers::put_answer(&request[..length], &mut sines, &mut room, &mut text);
     let written = decimals::clipped(&text, end);
     io::write_all(STDOUT_FILENO, &text[..written]);
 }

@@ -11,7 +11,8 @@ fn main() {
     let mut room = io::large_buffer();
     // longer than the line of any refusal
     let mut line = [0u8; 64];
-    let streams = answers::stored(&request[..length], &mut room, &mut line);
+    let mut sines = [0u32; 901];
+    let streams = answers::stored(&request[..length], &mut sines, &mut room, &mut line);
     let output = streams.output;
     let error = decimals::clipped(&line, streams.error);
     // one of the two has no bytes, and then no call is made

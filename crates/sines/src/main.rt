@@ -10,7 +10,8 @@ ghost use Rattle.decimals.specs.Texts.{Put};
 ghost use Rattle.sines.specs.Printed.{angle, line, lines, printed};
 
 fn main() {
-    let table = sine::table();
+    let mut table = [0u32; 901];
+    sine::fill(&mut table);
     let mut text = [0u8; 65536];
     let end = put_all(&mut text, &table);
     let written = decimals::clipped(&text, end);

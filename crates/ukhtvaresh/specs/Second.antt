@@ -13,7 +13,7 @@ use Rattle.shadow.specs.declared.Second.{Second}
 use Rattle.requests.specs.declared.Request.{Request}
 use Rattle.seconds.specs.declared.OneSecond.{OneSecond}
 use Rattle.seconds.specs.declared.OneSecond.the-variants as O
-use Rattle.seconds.specs.OneSecond.{secondAnswer}
+use Rattle.seconds.specs.OneSecond.{secondAnswer, secondSines}
 use Rattle.seconds.specs.Exact.{ExactlyInside, WithinUnits, unsureUnits}
 use Rattle.input.specs.declared.Input.{Input}
 use Rattle.input.specs.declared.Input.the-variants as I
@@ -21,18 +21,23 @@ use Rattle.input.specs.Input.{inputOf, requestOf}
 use Rattle.ukhtvaresh.specs.declared.Reply.{Reply}
 use Rattle.ukhtvaresh.specs.Replies.{refusedReply}
 
--- "Requests: 10, 1, 2, 3": the shape comes first
-abbrev pub secondAsked : Input → ℤ → OneSecond
-secondAsked (I.Is q) τ = secondAnswer q τ
-secondAsked (I.Refused r) τ = O.Refused r
+-- "Requests: 10, 1, 2, 3": the shape comes first. Document 02, wish 8: then the 4 of the room for table S
+abbrev pub secondAsked : Input → ℤ → (sines : List ℕ) → OneSecond
+secondAsked (I.Is q) τ sines = secondAnswer q τ sines
+secondAsked (I.Refused r) τ sines = O.Refused r
+
+-- that room afterwards
+abbrev pub sinesAsked : Input → ℤ → (sines : List ℕ) → List ℕ
+sinesAsked (I.Is q) τ sines = secondSines q τ sines
+sinesAsked (I.Refused r) τ sines = sines
 
 -- "4" with "the length it needs", after them: a second takes eight numbers
 abbrev pub secondInto : ℕ → OneSecond → OneSecond
 secondInto k (O.Is x) = cond (leb 8 k) (O.Is x) (O.Refused (refusal 4 8))
 secondInto k (O.Refused r) = O.Refused r
 
-abbrev pub secondGiven : List ℕ → ℤ → List ℤ → OneSecond
-secondGiven request τ room = secondInto (length room) (secondAsked (inputOf request) τ)
+abbrev pub secondGiven : (request : List ℕ) → ℤ → (sines : List ℕ) → List ℤ → OneSecond
+secondGiven request τ sines room = secondInto (length room) (secondAsked (inputOf request) τ sines)
 
 abbrev pub secondReply : OneSecond → Reply
 secondReply (O.Is x) = record { number = 0; value = 8 }

@@ -36,19 +36,20 @@ second-fits k (O.Is y) x e = by (leb 8 k) refl e
     by false h e = let z : _≡_ {A = ℕ} 0 1 = cc in absurd (omega arith)
 
 -- what stands in the room means what the second that was given means
-pub given-means : (request : List ℕ) (τ : ℤ) (old room : List ℤ) → room ≡ numbersAfter (secondGiven request τ old) old
-    → GivenMeans request τ (secondGiven request τ old) room
-given-means request τ old room e = rw e (by-input (inputOf request) refl)
+pub given-means : (request : List ℕ) (τ : ℤ) (sines : List ℕ) (old room : List ℤ) → room ≡ numbersAfter (secondGiven request τ sines old) old
+    → GivenMeans request τ (secondGiven request τ sines old) room
+given-means request τ sines old room e = rw e (by-input (inputOf request) refl)
   where
     by-input : (i : Input) → inputOf request ≡ i
-        → GivenMeans request τ (secondInto (length old) (secondAsked i τ)) (numbersAfter (secondInto (length old) (secondAsked i τ)) old)
-    by-input (I.Is q) f = by-second (secondAnswer q τ) refl
+        → GivenMeans request τ (secondInto (length old) (secondAsked i τ sines)) (numbersAfter (secondInto (length old) (secondAsked i τ sines)) old)
+    by-input (I.Is q) f = by-second (secondAnswer q τ sines) refl
       where
-        by-second : (o : OneSecond) → secondAnswer q τ ≡ o → GivenMeans request τ (secondInto (length old) o) (numbersAfter (secondInto (length old) o) old)
+        by-second : (o : OneSecond) → secondAnswer q τ sines ≡ o
+            → GivenMeans request τ (secondInto (length old) o) (numbersAfter (secondInto (length old) o) old)
         by-second (O.Refused r) g = tt
         by-second (O.Is x) g = by-fit (leb 8 (length old))
           where
             by-fit : (b : Bool) → GivenMeans request τ (cond b (O.Is x) (O.Refused (refusal 4 8))) (numbersAfter (cond b (O.Is x) (O.Refused (refusal 4 8))) old)
-            by-fit true = let m = rw (g, request-is request q f) at (means-answer q τ) in record { penumbra = m .penumbra; central = m .central }
+            by-fit true = let m = rw (g, request-is request q f) at (means-answer q τ sines) in record { penumbra = m .penumbra; central = m .central }
             by-fit false = tt
     by-input (I.Refused r) f = tt

@@ -13,7 +13,7 @@ ghost use Rattle.sheets.specs.Sheets.{readWhole, roomAfter};
 ghost use Rattle.sheets.specs.Handed.{listWhole, bufferAfterList};
 ghost use Rattle.circumstances.specs.Demand3.{Claimed};
 ghost use Rattle.input.specs.Input.{requestOf};
-ghost use Rattle.input.specs.Sheet.{answerTo, bufferFor};
+ghost use Rattle.input.specs.Sheet.{answerTo, bufferFor, sinesFor};
 ghost use Rattle.ukhtvaresh.specs.Replies.{refusedReply, sheetReply, readGiven, readReply, writeGiven, writeReply};
 
 // What a caller gets.
@@ -72,15 +72,21 @@ fn write_reply(extent: sheets::Extent) -> Reply
 
 // ---- exported
 
-// The contact sheet of a request of 115 bytes, in the caller's buffer; value: its length.
+// The contact sheet of a request of 115 bytes, in the caller's buffer; value: its length. `sines` is room for table S.
 #[no_mangle]
-pub extern "C" fn ukhtvaresh_sheet(request: &[u8], sheet: &mut [u8], value: &mut u64) -> u64
-    ensures number { λ r. ⌜ r ≡ sheetReply (answerTo (now (request .entry)) (now (sheet .entry))) .number ⌝ }
-    ensures value { λ r. ⌜ now (value .exit) ≡ sheetReply (answerTo (now (request .entry)) (now (sheet .entry))) .value ⌝ }
-    ensures buffer { λ r. ⌜ now (sheet .exit) ≡ bufferFor (now (request .entry)) (now (sheet .entry)) ⌝ }
-    ensures demand3 { λ r. ⌜ Claimed (requestOf (now (request .entry))) (answerTo (now (request .entry)) (now (sheet .entry))) (now (sheet .exit)) ⌝ }
+pub extern "C" fn ukhtvaresh_sheet(
+    request: &[u8],
+    sines: &mut [u32],
+    sheet: &mut [u8],
+    value: &mut u64,
+) -> u64
+    ensures number { λ r. ⌜ r ≡ sheetReply (answerTo (now (request .entry)) (now (sines .entry)) (now (sheet .entry))) .number ⌝ }
+    ensures value { λ r. ⌜ now (value .exit) ≡ sheetReply (answerTo (now (request .entry)) (now (sines .entry)) (now (sheet .entry))) .value ⌝ }
+    ensures buffer { λ r. ⌜ now (sheet .exit) ≡ bufferFor (now (request .entry)) (now (sines .entry)) (now (sheet .entry)) ⌝ }
+    ensures sines { λ r. ⌜ now (sines .exit) ≡ sinesFor (now (request .entry)) (now (sines .entry)) ⌝ }
+    ensures demand3 { λ r. ⌜ Claimed (requestOf (now (request .entry))) (answerTo (now (request .entry)) (now (sines .entry)) (now (sheet .entry))) (now (sheet .exit)) ⌝ }
 {
-    let answer = input::sheet(request, sheet);
+    let answer = input::sheet(request, sines, sheet);
     let reply = sheet_reply(answer);
     *value = reply.value;
     reply.number

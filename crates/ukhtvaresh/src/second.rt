@@ -7,7 +7,7 @@ ghost use Prim.Native.Nat.{_≤_};
 ghost use lib.ListN.{length};
 ghost use Rattle.seconds.specs.declared.OneSecond.the-variants.{Is};
 ghost use Rattle.input.specs.Input.{inputOf};
-ghost use Rattle.ukhtvaresh.specs.Second.{secondAsked, secondInto, secondGiven, secondReply, numbersAfter, GivenMeans};
+ghost use Rattle.ukhtvaresh.specs.Second.{secondAsked, sinesAsked, secondInto, secondGiven, secondReply, numbersAfter, GivenMeans};
 
 fn second_reply(second: OneSecond) -> Reply
     ensures { λ r. ⌜ r ≡ secondReply second ⌝ }
@@ -21,13 +21,14 @@ fn second_reply(second: OneSecond) -> Reply
     }
 }
 
-// The second of the program's input, or refusal 10, 1, 2, 3.
-fn asked(input: &[u8], second: i64) -> OneSecond
-    ensures { λ r. ⌜ r ≡ secondAsked (inputOf (now (input .entry))) second ⌝ }
+// The second of the program's input, or refusal 10, 1, 2, 3, or 4 for the room for table S.
+fn asked(input: &[u8], second: i64, sines: &mut [u32]) -> OneSecond
+    ensures { λ r. ⌜ r ≡ secondAsked (inputOf (now (input .entry))) second (now (sines .entry)) ⌝ }
+    ensures { λ r. ⌜ now (sines .exit) ≡ sinesAsked (inputOf (now (input .entry))) second (now (sines .entry)) ⌝ }
 {
     let given = input::request(input);
     match given {
-        input::Input::Is(q) => seconds::second(q, second),
+        input::Input::Is(q) => seconds::second(q, second, sines),
         input::Input::Refused(refusal) => OneSecond::Refused(refusal),
     }
 }
@@ -73,20 +74,22 @@ fn put_second(room: &mut [i64], second: shadow::Second)
 }
 
 // The shadow at one second of a request of 115 bytes, which may lie outside its window: u, v, L1, L2, the states of penumbra and
-// central cone (0 outside, 1 inside, 2 unsure), magnitude, direction; value: 8.
+// central cone (0 outside, 1 inside, 2 unsure), magnitude, direction; value: 8. `sines` is room for table S.
 #[no_mangle]
 pub extern "C" fn ukhtvaresh_second(
     request: &[u8],
     second: i64,
+    sines: &mut [u32],
     shadow: &mut [i64],
     value: &mut u64,
 ) -> u64
-    ensures number { λ r. ⌜ r ≡ secondReply (secondGiven (now (request .entry)) second (now (shadow .entry))) .number ⌝ }
-    ensures value { λ r. ⌜ now (value .exit) ≡ secondReply (secondGiven (now (request .entry)) second (now (shadow .entry))) .value ⌝ }
-    ensures buffer { λ r. ⌜ now (shadow .exit) ≡ numbersAfter (secondGiven (now (request .entry)) second (now (shadow .entry))) (now (shadow .entry)) ⌝ }
-    ensures means { λ r. ⌜ GivenMeans (now (request .entry)) second (secondGiven (now (request .entry)) second (now (shadow .entry))) (now (shadow .exit)) ⌝ }
+    ensures number { λ r. ⌜ r ≡ secondReply (secondGiven (now (request .entry)) second (now (sines .entry)) (now (shadow .entry))) .number ⌝ }
+    ensures value { λ r. ⌜ now (value .exit) ≡ secondReply (secondGiven (now (request .entry)) second (now (sines .entry)) (now (shadow .entry))) .value ⌝ }
+    ensures buffer { λ r. ⌜ now (shadow .exit) ≡ numbersAfter (secondGiven (now (request .entry)) second (now (sines .entry)) (now (shadow .entry))) (now (shadow .entry)) ⌝ }
+    ensures sines { λ r. ⌜ now (sines .exit) ≡ sinesAsked (inputOf (now (request .entry))) second (now (sines .entry)) ⌝ }
+    ensures means { λ r. ⌜ GivenMeans (now (request .entry)) second (secondGiven (now (request .entry)) second (now (sines .entry)) (now (shadow .entry))) (now (shadow .exit)) ⌝ }
 {
-    let found = asked(request, second);
+    let found = asked(request, second, sines);
     let room = shadow.len();
     let given = in_room(room, found);
     let reply = second_reply(given);

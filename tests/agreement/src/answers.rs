@@ -4,16 +4,18 @@ use reference::elements::FARTHEST;
 use reference::listing;
 use reference::refusal::Refusal;
 use reference::request::Request;
+use reference::room;
 use reference::shadow::{Phase, State};
 use reference::sheet::{copy_into, records_of};
 
-/// The eight numbers of one second.
-pub fn second(request: &[u8], second: i64, shadow: &mut [i64]) -> Result<usize, Refusal> {
+/// The eight numbers of one second, from a room for table S: 10, 1, 2, 3, 4 for that room, 4 for the numbers' own.
+pub fn second(request: &[u8], second: i64, sines: &mut [u32], shadow: &mut [i64]) -> Result<usize, Refusal> {
     let request = Request::from_bytes(request)?;
     if !(-FARTHEST..=FARTHEST).contains(&second) {
         return Err(Refusal::Window);
     }
     let found = request.check()?.shadow(second);
+    room::fill(sines)?;
     let state = |phase| match found.state(phase, request.guard) {
         State::Outside => 0,
         State::Inside => 1,

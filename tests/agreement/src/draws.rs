@@ -3,6 +3,7 @@
 use reference::elements::{Elements, Station, Window, ELEMENT_RANGES, FARTHEST, STATION_RANGES};
 use reference::random::Random;
 use reference::request::{Request, KIND_PLACES, REQUEST_LENGTH};
+use reference::room::SINES;
 use reference::sample::{self, Manner};
 use reference::shadow::{Phase, GUARD, GUARDS};
 use reference::sheet::{self, Record, WORDS};
@@ -299,6 +300,17 @@ pub fn room(random: &mut Random, needed: usize) -> usize {
         3 => 0,
         4 => needed + 1 + random.below(300) as usize,
         _ => random.below(2 * needed as u64 + 2) as usize,
+    }
+}
+
+/// How much room to lend for table S: mostly enough.
+pub fn sines_room(random: &mut Random) -> usize {
+    match random.below(10) {
+        0 => 0,
+        1 => SINES - 1,
+        2 => SINES + 1,
+        3 => random.below(2 * SINES as u64) as usize,
+        _ => SINES,
     }
 }
 

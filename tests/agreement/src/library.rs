@@ -4,6 +4,8 @@ extern "C" {
     fn ukhtvaresh_sheet(
         request: *const u8,
         request_len: usize,
+        sines: *mut u32,
+        sines_len: usize,
         sheet: *mut u8,
         sheet_len: usize,
         value: *mut u64,
@@ -12,6 +14,8 @@ extern "C" {
         request: *const u8,
         request_len: usize,
         second: i64,
+        sines: *mut u32,
+        sines_len: usize,
         shadow: *mut i64,
         shadow_len: usize,
         value: *mut u64,
@@ -68,21 +72,31 @@ pub type Reply = (u64, u64);
 /// What `value` holds before a call.
 const UNSET: u64 = 0xDEAD_BEEF_DEAD_BEEF;
 
-pub fn sheet(request: &[u8], sheet: &mut [u8]) -> Reply {
+pub fn sheet(request: &[u8], sines: &mut [u32], sheet: &mut [u8]) -> Reply {
     let mut value = UNSET;
     let number = unsafe {
-        ukhtvaresh_sheet(request.as_ptr(), request.len(), sheet.as_mut_ptr(), sheet.len(), &mut value)
+        ukhtvaresh_sheet(
+            request.as_ptr(),
+            request.len(),
+            sines.as_mut_ptr(),
+            sines.len(),
+            sheet.as_mut_ptr(),
+            sheet.len(),
+            &mut value,
+        )
     };
     (number, value)
 }
 
-pub fn second(request: &[u8], second: i64, shadow: &mut [i64]) -> Reply {
+pub fn second(request: &[u8], second: i64, sines: &mut [u32], shadow: &mut [i64]) -> Reply {
     let mut value = UNSET;
     let number = unsafe {
         ukhtvaresh_second(
             request.as_ptr(),
             request.len(),
             second,
+            sines.as_mut_ptr(),
+            sines.len(),
             shadow.as_mut_ptr(),
             shadow.len(),
             &mut value,

@@ -1,9 +1,10 @@
 //! `agreement REQUESTS SHEETS SEED`: the compiled library against document 01 in plain Rust.
 //!
-//! Compared for each call: the refusal's number, the value beside it, and the whole buffer with 64 numbers past its end.
+//! Compared for each call: the refusal's number, the value beside it, and each whole buffer with 64 numbers past its end; the room for
+//! table S among them, of no numbers, 900, 901, 902, or any count.
 //!
 //! - a sheet for each request, within and outside the limits, under guards of all sizes, near the edge, slow, along it, of other shapes;
-//!   the room exact, one less, none, plenty; and of each request within the limits the states of its seconds under a larger guard: unsure,
+//!   its room exact, one less, none, plenty; and of each request within the limits the states of its seconds under a larger guard: unsure,
 //!   or as they were;
 //! - eight seconds of each request, within ±10,800 and outside;
 //! - the mirror of each request; its sheet and its seconds against the request's own, directions left out; the mirror of the mirror;
@@ -19,12 +20,12 @@ use agreement::fits;
 use agreement::library::{self, Reply};
 use reference::elements::FARTHEST;
 use reference::fit::judge;
-use reference::listing::sheet_of_input;
 use reference::mirror::mirror;
 use reference::numbers::rounds;
 use reference::random::Random;
 use reference::refusal::Refusal;
 use reference::request::{Request, REQUEST_LENGTH};
+use reference::room::{sheet_of_input, SINES};
 use reference::shadow::GUARDS;
 use reference::sheet::{self, WORDS};
 use std::fmt::Debug;
@@ -82,23 +83,31 @@ impl Count {
     }
 }
 
-fn sheet_both(random: &mut Random, request: &[u8], room: usize) -> Left<u8> {
+fn sheet_both(random: &mut Random, request: &[u8], lent: usize, room: usize) -> Left<u8> {
+    let old_sines = buffer(random, lent, |bits| bits as u32);
     let old = buffer(random, room, |bits| bits as u8);
-    let mut ours = ((0, 0), old.clone());
-    ours.0 = library::sheet(request, &mut ours.1[..room]);
-    let mut theirs = ((0, 0), old);
-    theirs.0 = reply(sheet_of_input(request, &mut theirs.1[..room]), |length| length as u64);
-    must_agree("ukhtvaresh_sheet", &(request, room), &ours, &theirs);
+    let (mut ours, mut our_sines) = (((0, 0), old.clone()), old_sines.clone());
+    ours.0 = library::sheet(request, &mut our_sines[..lent], &mut ours.1[..room]);
+    let (mut theirs, mut their_sines) = (((0, 0), old), old_sines);
+    let made = sheet_of_input(request, &mut their_sines[..lent], &mut theirs.1[..room]);
+    theirs.0 = reply(made, |length| length as u64);
+    must_agree("ukhtvaresh_sheet", &(request, lent, room), &ours, &theirs);
+    let sines = ((ours.0, our_sines), (theirs.0, their_sines));
+    must_agree("the sines of ukhtvaresh_sheet", &(request, lent, room), &sines.0, &sines.1);
     ours
 }
 
-fn second_both(random: &mut Random, request: &[u8], second: i64, room: usize) -> Left<i64> {
+fn second_both(random: &mut Random, request: &[u8], second: i64, lent: usize, room: usize) -> Left<i64> {
+    let old_sines = buffer(random, lent, |bits| bits as u32);
     let old = buffer(random, room, |bits| bits as i64);
-    let mut ours = ((0, 0), old.clone());
-    ours.0 = library::second(request, second, &mut ours.1[..room]);
-    let mut theirs = ((0, 0), old);
-    theirs.0 = reply(answers::second(request, second, &mut theirs.1[..room]), |count| count as u64);
-    must_agree("ukhtvaresh_second", &(request, second, room), &ours, &theirs);
+    let (mut ours, mut our_sines) = (((0, 0), old.clone()), old_sines.clone());
+    ours.0 = library::second(request, second, &mut our_sines[..lent], &mut ours.1[..room]);
+    let (mut theirs, mut their_sines) = (((0, 0), old), old_sines);
+    let made = answers::second(request, second, &mut their_sines[..lent], &mut theirs.1[..room]);
+    theirs.0 = reply(made, |count| count as u64);
+    must_agree("ukhtvaresh_second", &(request, second, lent, room), &ours, &theirs);
+    let sines = ((ours.0, our_sines), (theirs.0, their_sines));
+    must_agree("the sines of ukhtvaresh_second", &(request, second, lent, room), &sines.0, &sines.1);
     ours
 }
 
@@ -176,7 +185,7 @@ fn compare_mirror(random: &mut Random, request: &[u8], sheet: &Left<u8>) {
     }
     let mirrored = &mirrored[..length as usize];
     let back = mirror_both(random, mirrored, REQUEST_LENGTH).1;
-    let other = sheet_both(random, mirrored, 65_536);
+    let other = sheet_both(random, mirrored, SINES, 65_536);
     let mut same = back[..REQUEST_LENGTH] == *request && other.0 == sheet.0;
     if sheet.0 .0 == 0 {
         let undirected = |bytes: &[u8]| {
@@ -193,11 +202,14 @@ fn compare_mirror(random: &mut Random, request: &[u8], sheet: &Left<u8>) {
         let length = sheet.0 .1 as usize;
         same &= undirected(&sheet.1[..length]) == undirected(&other.1[..length]);
     }
+    let mut sines = [0; SINES];
     for _ in 0..4 {
         let second = random.within(&(-FARTHEST..=FARTHEST));
         let (mut north, mut south) = ([0; 8], [0; 8]);
-        let replies =
-            (library::second(request, second, &mut north), library::second(mirrored, second, &mut south));
+        let replies = (
+            library::second(request, second, &mut sines, &mut north),
+            library::second(mirrored, second, &mut sines, &mut south),
+        );
         south[1] = -south[1];
         same &= beside_north(replies.0, &north) == beside_north(replies.1, &south);
     }
@@ -217,10 +229,12 @@ fn compare_guards(random: &mut Random, bytes: &[u8]) -> u64 {
     let guard = random.within(&(request.guard..=*GUARDS.end()));
     let larger = Request { guard, ..request }.to_bytes().expect("a guard that has room");
     let mut withheld = 0;
+    let mut sines = [0; SINES];
     for _ in 0..8 {
         let second = random.within(&request.window.seconds());
         let (mut few, mut many) = ([0; 8], [0; 8]);
-        let replies = (library::second(bytes, second, &mut few), library::second(&larger, second, &mut many));
+        let replies =
+            (library::second(bytes, second, &mut sines, &mut few), library::second(&larger, second, &mut sines, &mut many));
         let [states, others] = [few, many].map(|n| [n[4], n[5]]);
         let lengths = [few, many].map(|n| (n[0], n[1], n[2], n[3], n[7]));
         let same = replies.0 == replies.1 && lengths[0] == lengths[1];
@@ -240,7 +254,7 @@ fn request(
     withheld: &mut u64,
 ) {
     let request = draws::request(random);
-    let sheet = sheet_both(random, &request, 65_536);
+    let sheet = sheet_both(random, &request, SINES, 65_536);
     compare_mirror(random, &request, &sheet);
     *withheld += compare_guards(random, &request);
     let room = draws::room(random, REQUEST_LENGTH);
@@ -254,7 +268,8 @@ fn request(
         }
     }
     let room = draws::room(random, needed);
-    sheets.add(sheet_both(random, &request, room).0 .0);
+    let lent = draws::sines_room(random);
+    sheets.add(sheet_both(random, &request, lent, room).0 .0);
     for _ in 0..8 {
         let second = if random.once_in(20) {
             [-FARTHEST - 1, FARTHEST + 1, i64::MIN, i64::MAX, random.bits() as i64][random.below(5) as usize]
@@ -262,7 +277,8 @@ fn request(
             random.within(&(-FARTHEST..=FARTHEST))
         };
         let room = if random.once_in(8) { random.below(8) as usize } else { 8 + random.below(4) as usize };
-        seconds.add(second_both(random, &request, second, room).0 .0);
+        let lent = draws::sines_room(random);
+        seconds.add(second_both(random, &request, second, lent, room).0 .0);
     }
 }
 

@@ -1,6 +1,6 @@
 //! Targets for libFuzzer: an input goes to the compiled library and to the reference, and any difference aborts.
 //!
-//! Compared: the refusal's number, the value beside it, and the whole buffer with 64 numbers past its end. The library is there twice:
+//! Compared: the refusal's number, the value beside it, and each whole buffer with 64 numbers past its end. The library is there twice:
 //! the archive itself, and its guide, the same module compiled with counters on its edges, so that the fuzzer sees the library's own
 //! branches.
 
@@ -11,6 +11,7 @@ use agreement::library::{self, Reply};
 use reference::elements::{Elements, Station, Window, ELEMENT_RANGES, FARTHEST, STATION_RANGES};
 use reference::refusal::Refusal;
 use reference::request::{Request, KIND_PLACES, REQUEST_LENGTH};
+use reference::room::{fill, SINES};
 use reference::shadow::GUARDS;
 use reference::sheet::{self, WORDS};
 use std::fmt::Debug;
@@ -19,7 +20,15 @@ use std::ops::RangeInclusive;
 extern "C" {
     // The guide's exports, as include/ukhtvaresh.h declares those of the archive.
     fn guide_read(input: *const u8, length: usize, room: *mut u32, room_len: usize, value: *mut u64) -> u64;
-    fn guide_sheet(input: *const u8, length: usize, room: *mut u8, room_len: usize, value: *mut u64) -> u64;
+    fn guide_sheet(
+        input: *const u8,
+        length: usize,
+        sines: *mut u32,
+        sines_len: usize,
+        room: *mut u8,
+        room_len: usize,
+        value: *mut u64,
+    ) -> u64;
     fn guide_listing(input: *const u8, length: usize, room: *mut u8, room_len: usize, value: *mut u64)
         -> u64;
     fn guide_write(input: *const u32, length: usize, room: *mut u8, room_len: usize, value: *mut u64) -> u64;
@@ -27,6 +36,8 @@ extern "C" {
         input: *const u8,
         length: usize,
         second: i64,
+        sines: *mut u32,
+        sines_len: usize,
         room: *mut i64,
         room_len: usize,
         value: *mut u64,
@@ -56,10 +67,49 @@ fn old_byte(at: usize) -> u8 {
     (at as u8).wrapping_mul(167) ^ 0xA5
 }
 
+/// And a room of numbers.
+fn old_number(at: usize) -> u32 {
+    (at as u32).wrapping_mul(0x9E37_79B9) ^ 0xA5A5_5A5A
+}
+
 fn left<T>(room: usize, old: fn(usize) -> T, call: impl FnOnce(&mut [T]) -> Reply) -> Left<T> {
     let mut buffer: Vec<T> = (0..room + PAST).map(old).collect();
     let reply = call(&mut buffer[..room]);
     Left { reply, buffer }
+}
+
+/// The room for table S: 901 numbers, or another count where that bit of the byte before a request says so.
+pub const OTHER_SINES: u8 = 0x08;
+
+fn sines_room(leave: u8, near: u8, far: u8) -> usize {
+    if leave & OTHER_SINES == 0 {
+        return SINES;
+    }
+    [0, SINES - 1, SINES + 1, usize::from(near)][usize::from(far >> 3) % 4]
+}
+
+/// The same with that room: what it holds afterwards stands behind the buffer.
+fn left_lent<T>(
+    lent: usize,
+    room: usize,
+    old: fn(usize) -> T,
+    call: impl FnOnce(&mut [u32], &mut [T]) -> Reply,
+) -> (Left<T>, Left<u32>) {
+    let mut sines: Vec<u32> = (0..lent + PAST).map(old_number).collect();
+    let left = left(room, old, |room| call(&mut sines[..lent], room));
+    let reply = left.reply;
+    (left, Left { reply, buffer: sines })
+}
+
+fn both_agree<T: PartialEq + Debug>(
+    what: &str,
+    given: &[u8],
+    [lent, room]: [usize; 2],
+    ours: &(Left<T>, Left<u32>),
+    theirs: &(Left<T>, Left<u32>),
+) {
+    must_agree(what, given, room, &ours.0, &theirs.0);
+    must_agree(&format!("the sines of {what}"), given, lent, &ours.1, &theirs.1);
 }
 
 fn reply(result: Result<usize, Refusal>) -> Reply {
@@ -107,11 +157,10 @@ pub fn read(input: &[u8]) {
     let &[near, far, ref stored @ ..] = input else { return };
     let records = sheet::records_of(stored);
     let room = room(records.as_ref().map_or(0, |records| WORDS * records.len()), near, far);
-    let old = |at: usize| (at as u32).wrapping_mul(0x9E37_79B9) ^ 0xA5A5_5A5A;
-    let theirs = left(room, old, |room| reply(sheet::read(stored, room)));
-    let ours = left(room, old, |room| library::read(stored, room));
+    let theirs = left(room, old_number, |room| reply(sheet::read(stored, room)));
+    let ours = left(room, old_number, |room| library::read(stored, room));
     must_agree("ukhtvaresh_read", stored, room, &ours, &theirs);
-    let guided = left(room, old, |room| guide(guide_read, stored, room));
+    let guided = left(room, old_number, |room| guide(guide_read, stored, room));
     must_agree("ukhtvaresh_read with counters", stored, room, &guided, &theirs);
     if records.is_ok() {
         must_come_back(stored);
@@ -211,13 +260,23 @@ pub fn sheet(input: &[u8]) {
     let found = Request::from_bytes(&request).and_then(|request| request.check());
     let found = found.map(|circumstances| sheet::bytes_of(&circumstances.records()));
     let room = room(found.as_ref().map_or(0, Vec::len), near, far);
-    let theirs = left(room, old_byte, |room| reply(found.and_then(|bytes| sheet::copy_into(&bytes, room))));
-    let ours = left(room, old_byte, |room| library::sheet(&request, room));
-    must_agree("ukhtvaresh_sheet", &request, room, &ours, &theirs);
-    let guided = left(room, old_byte, |room| guide(guide_sheet, &request, room));
-    must_agree("ukhtvaresh_sheet with counters", &request, room, &guided, &theirs);
-    if let (0, length) = ours.reply {
-        must_come_back(&ours.buffer[..length as usize]);
+    let rooms @ [lent, room] = [sines_room(leave, near, far), room];
+    let theirs = left_lent(lent, room, old_byte, |sines, room| {
+        reply(found.and_then(|bytes| fill(sines).and_then(|()| sheet::copy_into(&bytes, room))))
+    });
+    let ours = left_lent(lent, room, old_byte, |sines, room| library::sheet(&request, sines, room));
+    both_agree("ukhtvaresh_sheet", &request, rooms, &ours, &theirs);
+    let guided = left_lent(lent, room, old_byte, |sines, room| {
+        let mut value = 0;
+        let (length, sines_len, room_len) = (request.len(), sines.len(), room.len());
+        let (sines, room) = (sines.as_mut_ptr(), room.as_mut_ptr());
+        let number =
+            unsafe { guide_sheet(request.as_ptr(), length, sines, sines_len, room, room_len, &mut value) };
+        (number, value)
+    });
+    both_agree("ukhtvaresh_sheet with counters", &request, rooms, &guided, &theirs);
+    if let (0, length) = ours.0.reply {
+        must_come_back(&ours.0.buffer[..length as usize]);
     }
 }
 
@@ -234,18 +293,21 @@ pub fn second(input: &[u8]) {
     }
     let room = room(8, near, far);
     let old = |at: usize| (at as i64).wrapping_mul(0x9E37_79B9_7F4A_7C15_u64 as i64);
-    let theirs = left(room, old, |room| reply(answers::second(&request, second, room)));
-    let ours = left(room, old, |room| library::second(&request, second, room));
-    must_agree("ukhtvaresh_second", &request, room, &ours, &theirs);
-    let guided = left(room, old, |room| {
+    let rooms @ [lent, room] = [sines_room(leave, near, far), room];
+    let theirs =
+        left_lent(lent, room, old, |sines, room| reply(answers::second(&request, second, sines, room)));
+    let ours = left_lent(lent, room, old, |sines, room| library::second(&request, second, sines, room));
+    both_agree("ukhtvaresh_second", &request, rooms, &ours, &theirs);
+    let guided = left_lent(lent, room, old, |sines, room| {
         let mut value = 0;
-        let (length, room_len) = (request.len(), room.len());
+        let (length, sines_len, room_len) = (request.len(), sines.len(), room.len());
+        let (sines, room) = (sines.as_mut_ptr(), room.as_mut_ptr());
         let number = unsafe {
-            guide_second(request.as_ptr(), length, second, room.as_mut_ptr(), room_len, &mut value)
+            guide_second(request.as_ptr(), length, second, sines, sines_len, room, room_len, &mut value)
         };
         (number, value)
     });
-    must_agree("ukhtvaresh_second with counters", &request, room, &guided, &theirs);
+    both_agree("ukhtvaresh_second with counters", &request, rooms, &guided, &theirs);
 }
 
 /// The input that libFuzzer hands over.

@@ -15,6 +15,7 @@ pub mod place;
 pub mod random;
 pub mod refusal;
 pub mod request;
+pub mod room;
 pub mod sample;
 pub mod shadow;
 pub mod sheet;

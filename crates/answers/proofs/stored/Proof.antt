@@ -20,23 +20,29 @@ put-refused-requires c κs = search needs
 same-length : tie.Need-same-length
 same-length c = search needs
 
+same-length-2 : tie.Need-same-length-2
+same-length-2 c = search needs
+
 returns : tie.Need-returns
 returns c =
     let k = c .before .answer .given in
-    let m = c .before .before .before .before .before .sheet in
-    stored-written _ _ _ (m .ensures .0) _ (m .ensures .1 .0) _ (k .1) (omega arith) _
-
-same-length-2 : tie.Need-same-length-2
-same-length-2 c = search needs
+    let m = c .before .before .before .before .before .before .before .sheet in
+    stored-written _ _ _ _ (m .ensures .0) _ (m .ensures .1 .0) _ (m .ensures .1 .1 .0) _ (k .1) (omega arith) _
 
 same-length-3 : tie.Need-same-length-3
 same-length-3 c = search needs
 
+same-length-4 : tie.Need-same-length-4
+same-length-4 c = search needs
+
+same-length-5 : tie.Need-same-length-5
+same-length-5 c = search needs
+
 returns-2 : tie.Need-returns-2
 returns-2 c =
     let k = c .before .before .before .before .before .answer2 .given in
-    let m = c .before .before .before .before .before .before .before .before .before .sheet in
-    stored-refused _ _ _ (m .ensures .0) _ (m .ensures .1 .0) _ (k .1) _ _ _ (c .before .before .put-refused .ensures)
+    let m = c .before .before .before .before .before .before .before .before .before .before .before .sheet in
+    stored-refused _ _ _ _ (m .ensures .0) _ (m .ensures .1 .0) _ (m .ensures .1 .1 .0) _ (k .1) _ _ _ (c .before .before .put-refused .ensures)
 
 pub stored-spec : {M : Type 1} → statement M
 stored-spec =
@@ -47,7 +53,9 @@ stored-spec =
     enum-known-answer-2
     put-refused-requires
     same-length
-    returns
     same-length-2
+    returns
     same-length-3
+    same-length-4
+    same-length-5
     returns-2)

@@ -28,8 +28,11 @@ same-length c = search needs
 same-length-2 : tie.Need-same-length-2
 same-length-2 c = search needs
 
+same-length-3 : tie.Need-same-length-3
+same-length-3 c = search needs
+
 returns : tie.Need-returns
-returns c = put-left _ _ _ _ _ _ _ (c .before .before .before .before .before .before .before .before .clipped .ensures .0) (c .before .before .before .before .before .put-answer .ensures .0) (c .after .ensures)
+returns c = let put = c .before .before .before .before .before .before .before in put-left _ _ _ _ _ _ _ (put .before .before .before .before .clipped .ensures .0) (put .put-answer .ensures .0) (c .after .ensures)
 
 pub put-answer-spec : {M : Type 1} → statement M
 put-answer-spec =
@@ -43,4 +46,5 @@ put-answer-spec =
     after-requires
     same-length
     same-length-2
+    same-length-3
     returns)

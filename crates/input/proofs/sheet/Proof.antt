@@ -1,4 +1,4 @@
--- `input::sheet` meets its contract: input of the shape is its request's sheet; any other is refused before the buffer is touched. Assumes nothing.
+-- `input::sheet` meets its contract: input of the shape is its request's sheet; any other is refused before room and buffer are touched. Assumes nothing.
 use mathlib.Core.Path.{sym, _∙_}
 use borrow.Author.Needs.{needs}
 use Rattle.input.specs.SheetLaws.{of-request, of-refusal}
@@ -20,14 +20,18 @@ enum-known-asked-2 c = search needs
 same-length : tie.Need-same-length
 same-length c = search needs
 
+same-length-2 : tie.Need-same-length-2
+same-length-2 c = search needs
+
 returns : tie.Need-returns
 returns c =
-    let read = c .before .before .before .before .before .before .before .request in
-    let known = c .before .before .before .before .before .asked .given in
-    of-request _ _ (known .0 .0) _ _ (sym (read .ensures) ∙ known .1) (c .before .before .sheet .ensures)
+    let made = c .before .before .before .before in
+    let asked = made .before .before .before .before in
+    let known = asked .asked .given in
+    of-request _ _ _ (known .0 .0) _ _ _ (sym (asked .before .before .request .ensures) ∙ known .1) (made .sheet .ensures)
 
 returns-2 : tie.Need-returns-2
-returns-2 c = let known = c .before .asked2 .given in of-refusal _ _ (known .0 .0) (sym (c .before .before .before .request .ensures) ∙ known .1)
+returns-2 c = let known = c .before .asked2 .given in of-refusal _ _ _ (known .0 .0) (sym (c .before .before .before .request .ensures) ∙ known .1)
 
 pub sheet-spec : {M : Type 1} → statement M
 sheet-spec =
@@ -38,5 +42,6 @@ sheet-spec =
     sheet-requires
     enum-known-asked-2
     same-length
+    same-length-2
     returns
     returns-2)

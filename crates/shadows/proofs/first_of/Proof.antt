@@ -1,5 +1,6 @@
 -- `shadows::first_of` meets its contract: input of the shape is its request, and its first second is asked; any other is refused.
 use mathlib.Core.Path.{refl, sym, ap, _∙_}
+use lib.ListN.{replicate}
 use Rattle.decimals.specs.RowLaws.{given}
 use Rattle.seconds.specs.OneSecond.{secondAnswer}
 use Rattle.shadows.specs.Printed.{firstOf}
@@ -13,6 +14,9 @@ request-requires c κs = search needs
 enum-known-asked : tie.Need-enum-known-asked
 enum-known-asked c = search needs
 
+slice-aggregate-second : tie.Need-slice-aggregate-second
+slice-aggregate-second c = search needs
+
 second-requires : tie.Need-second-requires
 second-requires c κs = search needs
 
@@ -21,10 +25,12 @@ enum-known-asked-2 c = search needs
 
 returns : tie.Need-returns
 returns c =
-    let known = c .before .before .before .before .asked .given in
-    c .second .ensures .0
-    ∙ ap (secondAnswer _) (given (c .before .struct-told .given .0 .1) refl)
-    ∙ ap firstOf (sym (known .1) ∙ c .before .before .before .before .before .before .request .ensures)
+    let s = c .before in
+    let asked = s .before .before .before .before .before in
+    let known = asked .asked .given in
+    s .second .ensures .0
+    ∙ ap (λ τ. secondAnswer (known .0 .0) τ (replicate 901 0)) (given (s .before .struct-told .given .0 .1) refl)
+    ∙ ap firstOf (sym (known .1) ∙ asked .before .before .request .ensures)
 
 returns-2 : tie.Need-returns-2
 returns-2 c = ap firstOf (sym (c .before .asked2 .given .1) ∙ c .before .before .before .request .ensures)
@@ -35,6 +41,7 @@ first-of-spec =
     (tie.spec
     request-requires
     enum-known-asked
+    slice-aggregate-second
     second-requires
     enum-known-asked-2
     returns

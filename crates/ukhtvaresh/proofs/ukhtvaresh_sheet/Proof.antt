@@ -18,13 +18,18 @@ sheet-reply-requires c κs = search needs
 same-length : tie.Need-same-length
 same-length c = search needs
 
+same-length-2 : tie.Need-same-length-2
+same-length-2 c = search needs
+
 returns : tie.Need-returns
 returns c =
-    let start = c .before .before .before .before .before .before .before in
-    let done = c .before .before .before .sheet in
-    let e = c .sheet-reply .ensures ∙ ap sheetReply (done .ensures .0) in
-    (ap (λ (x : Reply). x .number) e, (ap (λ (x : Reply). x .value) e, (done .ensures .1 .0, subst (λ (x : Answer). Claimed (requestOf (start .args .request .now)) x (done .last .1 .0)) (done .ensures .0) (done .ensures .1 .1))))
+    let made = c .before .before .before .before .before in
+    let request = made .before .before .before .before .before .before .args .request .now in
+    let p = made .sheet .ensures in
+    let e = c .sheet-reply .ensures ∙ ap sheetReply (p .0) in
+    let claimed = subst (λ (x : Answer). Claimed (requestOf request) x (made .sheet .last .1 .1 .0)) (p .0) (p .1 .1 .1) in
+    (ap (λ (x : Reply). x .number) e, (ap (λ (x : Reply). x .value) e, (p .1 .0, (p .1 .1 .0, claimed))))
 
 pub ukhtvaresh-sheet-spec : {M : Type 1} → statement M
 ukhtvaresh-sheet-spec =
-    tie.close (tie.spec sheet-requires sheet-reply-requires same-length returns)
+    tie.close (tie.spec sheet-requires sheet-reply-requires same-length same-length-2 returns)

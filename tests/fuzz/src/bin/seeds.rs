@@ -2,7 +2,7 @@
 //! repository holds, and some drawn as tests/agreement draws them.
 
 use agreement::draws;
-use fuzz::{LEAVE_NUMBERS, LEAVE_SECOND, LEAVE_SHAPE};
+use fuzz::{LEAVE_NUMBERS, LEAVE_SECOND, LEAVE_SHAPE, OTHER_SINES};
 use reference::random::Random;
 use reference::request::REQUEST_LENGTH;
 use reference::sheet;
@@ -83,8 +83,16 @@ fn main() {
     let head = [ROOM[0], ROOM[1], LEAVE_SHAPE | LEAVE_NUMBERS];
     put(&sheet, &head, stored_requests(), "stored");
     put(&sheet, &head, (0..DRAWN).map(|_| draws::request(&mut random)), "drawn");
-    let head = [&head[..2], &[head[2] | LEAVE_SECOND], &[0; 8]].concat();
+    // the same with a room for table S that is shorter or longer by one
+    let others = [0x08, 0x10].map(|far| [ROOM[0], far, head[2] | OTHER_SINES]);
+    for (head, from) in others.iter().zip(["short", "long"]) {
+        put(&sheet, head, stored_requests(), from);
+    }
     let second = folder.join("second");
+    for (head, from) in others.iter().zip(["short", "long"]) {
+        put(&second, &[&head[..], &[0; 8]].concat(), stored_requests(), from);
+    }
+    let head = [&head[..2], &[head[2] | LEAVE_SECOND], &[0; 8]].concat();
     put(&second, &head, stored_requests(), "stored");
     put(&second, &head, (0..DRAWN).map(|_| draws::request(&mut random)), "drawn");
 }

@@ -1,0 +1,56 @@
+-- What callers use of a request that is admitted.
+--   room-short, room-long             the ways of a room: what is answered, and what it holds
+--   admitted-refused, admitted-room   the ways of a request
+--   admitted-within                   it is within its limits, and the room holds table S
+--   admitted-four                     a 4 is the room's, of a request within its limits
+use mathlib.Core.Path.{_≡_, refl, sym, subst, _∙_}
+use mathlib.Core.List.{List}
+use Prim.Native.Nat.{ℕ, _≤_, _<_}
+use borrow.Author.Tests.{le-leb, lt-leb}
+use lib.ListN.{length}
+use Rattle.refusals.specs.declared.Refusal.{Refusal}
+use Rattle.refusals.specs.declared.Checked.{Checked}
+use Rattle.refusals.specs.declared.Checked.the-variants as C
+use Rattle.refusals.specs.Refusals.{refusal, andThen}
+use Rattle.refusals.specs.RefusalLaws.{both-within}
+use Rattle.sine.specs.Table.{Sines}
+use Rattle.sine.specs.Room.{filled}
+use Rattle.sine.specs.RoomLaws.{filled-sines}
+use Rattle.requests.specs.declared.Request.{Request}
+use Rattle.requests.specs.Requests.{checked}
+use Rattle.requests.specs.RequestLaws.{InLimits, in-limits, never-room}
+use Rattle.requests.specs.Admission.{roomChecked, admitted, sinesAfter}
+
+module _ (room : List ℕ) where
+  pub room-short : length room < 901 → (C.Refused (refusal 4 901) ≡ roomChecked room) × (room ≡ sinesAfter (roomChecked room) room)
+  unfolding roomChecked
+  room-short h = rw (lt-leb 901 (length room) h) (refl, refl)
+
+  pub room-long : 901 ≤ length room → (C.Within ≡ roomChecked room) × (filled room ≡ sinesAfter (roomChecked room) room)
+  unfolding roomChecked
+  room-long h = rw (le-leb 901 (length room) h) (refl, refl)
+
+module _ (q : Request) (room : List ℕ) where
+  pub admitted-refused : (r : Refusal) → checked q ≡ C.Refused r → (C.Refused r ≡ admitted q room) × (room ≡ sinesAfter (admitted q room) room)
+  unfolding admitted
+  admitted-refused r e = rw e (refl, refl)
+
+  pub admitted-room : checked q ≡ C.Within
+      → (roomChecked room ≡ admitted q room) × (sinesAfter (roomChecked room) room ≡ sinesAfter (admitted q room) room)
+  unfolding admitted
+  admitted-room e = rw e (refl, refl)
+
+  checked-within : admitted q room ≡ C.Within → checked q ≡ C.Within
+  unfolding admitted
+  checked-within e = both-within (checked q) (roomChecked room) e .0
+
+  pub admitted-within : admitted q room ≡ C.Within → InLimits q × Sines (sinesAfter (admitted q room) room)
+  admitted-within e = (in-limits q (checked-within e), subst (λ (c : Checked). Sines (sinesAfter c room)) (sym e) (filled-sines room))
+
+  pub admitted-four : (r : Refusal) → admitted q room ≡ C.Refused r → r .number ≡ 4 → InLimits q
+  unfolding admitted
+  admitted-four r e four = in-limits q (by (checked q) refl e)
+    where
+      by : (c : Checked) → checked q ≡ c → andThen c (roomChecked room) ≡ C.Refused r → checked q ≡ C.Within
+      by C.Within h e = h
+      by (C.Refused s) h e = absurd (never-room q r (h ∙ e) four)

@@ -1,0 +1,33 @@
+// The room for table S: a request within its limits fills it, and 4 is given where it is shorter.
+use super::Request;
+use refusals::Checked;
+use refusals::Refusal;
+ghost use mathlib.Core.Path.{_≡_};
+ghost use Rattle.requests.specs.Admission.{roomChecked, admitted, sinesAfter};
+
+// Table S in the room lent, or refusal 4 with place 901 where the room is shorter.
+pub fn fill_sines(sines: &mut [u32]) -> Checked
+    ensures answer { λ r. ⌜ r ≡ roomChecked (now (sines .entry)) ⌝ }
+    ensures sines { λ r. ⌜ now (sines .exit) ≡ sinesAfter (roomChecked (now (sines .entry))) (now (sines .entry)) ⌝ }
+{
+    if sines.len() < 901 {
+        return Checked::Refused(Refusal {
+            number: 4,
+            place: 901,
+        });
+    }
+    sine::fill(sines);
+    Checked::Within
+}
+
+// Whether only the sheet's 4 can still refuse a request, or the first of its refusals before that; the room is filled in the first case alone.
+pub fn admit(q: Request, sines: &mut [u32]) -> Checked
+    ensures answer { λ r. ⌜ r ≡ admitted q (now (sines .entry)) ⌝ }
+    ensures sines { λ r. ⌜ now (sines .exit) ≡ sinesAfter (admitted q (now (sines .entry))) (now (sines .entry)) ⌝ }
+{
+    let c = super::check(q);
+    if let Checked::Refused(refusal) = c {
+        return Checked::Refused(refusal);
+    }
+    fill_sines(sines)
+}

@@ -1,0 +1,91 @@
+"""The room for the sine table that a caller of the library lends (document 02, wish 8), and the module's own.
+
+python3 python/test_room.py
+"""
+
+import ctypes
+import threading
+import unittest
+from dataclasses import replace
+from pathlib import Path
+
+import ukhtvaresh
+from ukhtvaresh import Request, second, sheet
+
+MOSCOW = (Path(__file__).resolve().parent.parent / "examples" / "moscow1954.bin").read_bytes()
+PAST = 64  # numbers past the room, which nobody may write
+LENGTHS = (0, 900, 901, 902)
+
+
+def old(lent):
+    return [(at * 0x9E37_79B9) % 2**32 ^ 0xA5A5_5A5A for at in range(lent + PAST)]
+
+
+def called(name, request, between, lent, room, length):
+    """Number, value, and what the room of so many numbers holds, with those past its end."""
+    sines = (ctypes.c_uint32 * (lent + PAST))(*old(lent))
+    value = ctypes.c_uint64()
+    function = getattr(ukhtvaresh._library, "ukhtvaresh_" + name)
+    number = function(request, len(request), *between, sines, lent, room, length, ctypes.byref(value))
+    return number, value.value, list(sines)
+
+
+def sheet_of(request, lent, length):
+    return called("sheet", request, (), lent, ctypes.create_string_buffer(length + 1), length)
+
+
+def second_of(request, at, lent, length):
+    return called("second", request, (at,), lent, (ctypes.c_int64 * (length + 1))(), length)
+
+
+class Room(unittest.TestCase):
+    def filled(self, sines):
+        """Document 01's entries 0, 300 and 900, that each is more than the one before it, and what lies past the table."""
+        self.assertEqual((sines[0], sines[300], sines[900]), (0, 50_000_000, 100_000_000))
+        self.assertTrue(all(a < b for a, b in zip(sines[:900], sines[1:901])))
+        self.assertEqual(sines[901:], old(len(sines) - PAST)[901:])
+
+    def test_only_the_last_4_leaves_it_filled(self):
+        needed = sheet_of(MOSCOW, 901, 1000)[1]
+        for lent in LENGTHS:
+            calls = [(sheet_of(MOSCOW, lent, length), length, needed) for length in (0, needed - 1, needed, needed + 1)]
+            calls += [(second_of(MOSCOW, 0, lent, length), length, 8) for length in (0, 7, 8, 9)]
+            for (number, value, sines), length, whole in calls:
+                if lent < 901:
+                    self.assertEqual((number, value, sines), (4, 901, old(lent)))
+                else:
+                    self.assertEqual((number, value), (4 if length < whole else 0, whole))
+                    self.filled(sines)
+
+    def test_other_refusals_leave_it(self):
+        request = Request.from_bytes(MOSCOW)
+        refused = [
+            (1, 0, replace(request, window=replace(request.window, last=10_801)).to_bytes()),
+            (2, 0, replace(request, elements=replace(request.elements, x0=200_000_001)).to_bytes()),
+            (3, 3, replace(request, station=replace(request.station, height=9_001)).to_bytes()),
+            (10, 0, MOSCOW[1:]),
+        ]
+        for lent in LENGTHS:
+            for number, place, changed in refused:
+                self.assertEqual(sheet_of(changed, lent, 0), (number, place, old(lent)))
+                self.assertEqual(second_of(changed, 0, lent, 0), (number, place, old(lent)))
+            self.assertEqual(second_of(MOSCOW, 10_801, lent, 0), (1, 0, old(lent)))
+
+    def test_the_modules_own_serves_every_call(self):
+        expected = sheet(MOSCOW), second(MOSCOW, 36)
+        answers = []
+
+        def run():
+            answers.extend((sheet(MOSCOW), second(MOSCOW, 36)) for _ in range(3))
+
+        threads = [threading.Thread(target=run) for _ in range(4)]
+        for thread in threads:
+            thread.start()
+        for thread in threads:
+            thread.join()
+        self.assertEqual(answers, [expected] * 12)
+        self.assertIs(ukhtvaresh._sines()[0], ukhtvaresh._sines()[0])
+
+
+if __name__ == "__main__":
+    unittest.main()
