@@ -3,7 +3,7 @@
  * Lengths are in 10^-8 of the Earth's equatorial radius, angles in 10^-6 degree, times in whole seconds of
  * ephemeris time from the reference instant. East longitude is positive.
  *
- * Each function but ukhtvaresh_root answers the number of the refusal, 0 for none. *value gets the length or the count on
+ * Each function but ukhtvaresh_root answers the number of the refusal, 0 for none. *value gets the length, the count or the share on
  * success, the refusal's place otherwise. Buffers are untouched on refusal; on success what lies past the result is. The room for
  * the sine table, `sines`, alone is filled on some refusals too: see UKHTVARESH_SINES_LENGTH.
  * No function reads or writes outside the lengths it is given, and none keeps a pointer. A length of 0 is allowed,
@@ -69,12 +69,14 @@ enum {
     UKHTVARESH_GRAZE_CENTRAL = 0x22,
     UKHTVARESH_OPEN_CENTRAL = 0x23,
     UKHTVARESH_CLOSEST = 0x30, /* second, magnitude */
+    UKHTVARESH_SHARE = 0x31,   /* share; once, directly after closest, or left out */
     UKHTVARESH_END = 0x7F
 };
 
 /* An entry of a sheet: its kind and the kind's fields in their order, 0 for what the kind does not use.
  * A second is stored plus 10,800, 0 to 21,600. Direction: tenths of a degree, north through east, 0 to 3599, or
- * 65,535 for none. Magnitude: millionths, 0 to 1,300,000. Station: 1 to 999. Guard: 16 to 1,000.
+ * 65,535 for none. Magnitude: millionths, 0 to 1,300,000. Share: the covered part of the Sun's disc at the closest second,
+ * millionths, 0 to 1,000,000. Station: 1 to 999. Guard: 16 to 1,000.
  * An array of these is the memory that ukhtvaresh_read fills and ukhtvaresh_write takes, five numbers an entry. */
 typedef struct ukhtvaresh_entry {
     uint32_t kind;
@@ -92,6 +94,17 @@ typedef struct ukhtvaresh_entry {
  * Refusals, the first of them: 10, 1, 2, 3, 4 with place 901 where sines_len is below that, 4. */
 uint64_t ukhtvaresh_sheet(const uint8_t *request, size_t request_len, uint32_t *sines, size_t sines_len, uint8_t *sheet,
                           size_t sheet_len, uint64_t *value);
+
+/* The same sheet with one entry more, the share at its closest second, between closest and end: 5 bytes longer. Nothing in the
+ * request's bytes asks for it, so ukhtvaresh_sheet never writes it. Parameters, *value and refusals as above. */
+uint64_t ukhtvaresh_sheet_and_share(const uint8_t *request, size_t request_len, uint32_t *sines, size_t sines_len,
+                                    uint8_t *sheet, size_t sheet_len, uint64_t *value);
+
+/* How much of the Sun's disc the Moon covers at a second of a request, -10,800 to 10,800, also outside its window. *value: the share
+ * itself, millionths rounded down, 0 to 1,000,000: 1,000,000 wherever the total phase is sure, 0 where the penumbra is surely left.
+ * Refusals: 10; 1 for the window or the second, then for the guard; 2; 3; 4 with place 901 where sines_len is below that. */
+uint64_t ukhtvaresh_share(const uint8_t *request, size_t request_len, int64_t second, uint32_t *sines, size_t sines_len,
+                          uint64_t *value);
 
 /* The numbers of one second, in `shadow`: see ukhtvaresh_second. */
 enum {
@@ -114,7 +127,7 @@ uint64_t ukhtvaresh_second(const uint8_t *request, size_t request_len, int64_t s
 
 /* The mirror of a request, at the start of `mirrored`: all y and d coefficients and the latitude with the other sign, nothing
  * else changed. *value: 115. Any numbers: -2^31, which has no opposite in its bytes, stays as it is.
- * The sheet of the mirror of a request within the limits has the same entries, of the same seconds, magnitude and length;
+ * The sheet of the mirror of a request within the limits has the same entries, of the same seconds, magnitude, share and length;
  * their directions differ. A request that is refused 1, 2 or 3 and its mirror are refused alike.
  * Refusals: 10; 4 with the length. */
 uint64_t ukhtvaresh_mirror(const uint8_t *request, size_t request_len, uint8_t *mirrored, size_t mirrored_len,

@@ -10,7 +10,7 @@ from dataclasses import replace
 from pathlib import Path
 
 import ukhtvaresh
-from ukhtvaresh import Request, second, sheet
+from ukhtvaresh import Request, second, share, sheet, sheet_and_share
 
 MOSCOW = (Path(__file__).resolve().parent.parent / "examples" / "moscow1954.bin").read_bytes()
 PAST = 64  # numbers past the room, which nobody may write
@@ -21,17 +21,24 @@ def old(lent):
     return [(at * 0x9E37_79B9) % 2**32 ^ 0xA5A5_5A5A for at in range(lent + PAST)]
 
 
-def called(name, request, between, lent, room, length):
+def called(name, request, between, lent, *room):
     """Number, value, and what the room of so many numbers holds, with those past its end."""
     sines = (ctypes.c_uint32 * (lent + PAST))(*old(lent))
     value = ctypes.c_uint64()
     function = getattr(ukhtvaresh._library, "ukhtvaresh_" + name)
-    number = function(request, len(request), *between, sines, lent, room, length, ctypes.byref(value))
+    number = function(request, len(request), *between, sines, lent, *room, ctypes.byref(value))
     return number, value.value, list(sines)
 
 
-def sheet_of(request, lent, length):
-    return called("sheet", request, (), lent, ctypes.create_string_buffer(length + 1), length)
+SHEETS = ("sheet", "sheet_and_share")
+
+
+def sheet_of(name, request, lent, length):
+    return called(name, request, (), lent, ctypes.create_string_buffer(length + 1), length)
+
+
+def share_of(request, at, lent):
+    return called("share", request, (at,), lent)
 
 
 def second_of(request, at, lent, length):
@@ -46,9 +53,15 @@ class Room(unittest.TestCase):
         self.assertEqual(sines[901:], old(len(sines) - PAST)[901:])
 
     def test_only_the_last_4_leaves_it_filled(self):
-        needed = sheet_of(MOSCOW, 901, 1000)[1]
+        needed = {name: sheet_of(name, MOSCOW, 901, 1000)[1] for name in SHEETS}
+        self.assertEqual(needed["sheet_and_share"], needed["sheet"] + 5)
         for lent in LENGTHS:
-            calls = [(sheet_of(MOSCOW, lent, length), length, needed) for length in (0, needed - 1, needed, needed + 1)]
+            calls = [
+                (sheet_of(name, MOSCOW, lent, length), length, whole)
+                for name, whole in needed.items()
+                for length in (0, whole - 1, whole, whole + 1)
+            ]
+            calls.append((share_of(MOSCOW, 4_115, lent), 843_499, 843_499))
             calls += [(second_of(MOSCOW, 0, lent, length), length, 8) for length in (0, 7, 8, 9)]
             for (number, value, sines), length, whole in calls:
                 if lent < 901:
@@ -67,16 +80,22 @@ class Room(unittest.TestCase):
         ]
         for lent in LENGTHS:
             for number, place, changed in refused:
-                self.assertEqual(sheet_of(changed, lent, 0), (number, place, old(lent)))
+                for name in SHEETS:
+                    self.assertEqual(sheet_of(name, changed, lent, 0), (number, place, old(lent)))
                 self.assertEqual(second_of(changed, 0, lent, 0), (number, place, old(lent)))
+                self.assertEqual(share_of(changed, 0, lent), (number, place, old(lent)))
             self.assertEqual(second_of(MOSCOW, 10_801, lent, 0), (1, 0, old(lent)))
+            self.assertEqual(share_of(MOSCOW, 10_801, lent), (1, 0, old(lent)))
 
     def test_the_modules_own_serves_every_call(self):
-        expected = sheet(MOSCOW), second(MOSCOW, 36)
+        def once():
+            return sheet(MOSCOW), second(MOSCOW, 36), sheet_and_share(MOSCOW), share(MOSCOW, 36)
+
+        expected = once()
         answers = []
 
         def run():
-            answers.extend((sheet(MOSCOW), second(MOSCOW, 36)) for _ in range(3))
+            answers.extend(once() for _ in range(3))
 
         threads = [threading.Thread(target=run) for _ in range(4)]
         for thread in threads:

@@ -1,10 +1,11 @@
 """Local circumstances of a solar eclipse in whole numbers, from a proved library.
 
-From the elements of an eclipse, a station, a window of seconds and a guard, `sheet` makes the station's contact sheet; `read`
-takes a sheet apart, `write` puts entries together as one, `listing` gives a sheet as text, and `second` the shadow at
-one second. `mirror` gives the request beyond the equator, `fit` judges coefficients that a spreadsheet made of seven
-hourly values, `from_tables` makes elements from tables of Sun and Moon, `root` gives a square root with its rounds. Each is
-a thin call of the proved function of the same name in libukhtvaresh.so, which the script `build` makes.
+From the elements of an eclipse, a station, a window of seconds and a guard, `sheet` makes the station's contact sheet,
+`sheet_and_share` the same with the covered share of the Sun's disc; `read` takes a sheet apart, `write` puts entries together as
+one, `listing` gives a sheet as text, `second` the shadow at one second and `share` the share at it. `mirror` gives the request
+beyond the equator, `fit` judges coefficients that a spreadsheet made of seven hourly values, `from_tables` makes elements from
+tables of Sun and Moon, `root` gives a square root with its rounds. Each is a thin call of the proved function of the same name
+in libukhtvaresh.so, which the script `build` makes.
 
 Lengths are in 10^-8 of the Earth's equatorial radius, angles in 10^-6 degree, times in whole seconds of
 ephemeris time from the reference instant. East longitude is positive. "Document 01" is the paper whose rules the library keeps.
@@ -217,11 +218,21 @@ class Closest:
 
 
 @dataclass(frozen=True)
+class Share:
+    """How much of the Sun's disc is covered at the closest second, millionths, 0 to 1,000,000.
+
+    It stands directly after Closest, in a sheet that has it.
+    """
+
+    share: int
+
+
+@dataclass(frozen=True)
 class End:
     """The end of the sheet."""
 
 
-Entry = Union[Head, Enter, Leave, Graze, Open, Closest, End]
+Entry = Union[Head, Enter, Leave, Graze, Open, Closest, Share, End]
 
 _SHIFT = 10_800  # a second is stored plus this
 _NONE = 65_535  # direction where there is none
@@ -254,6 +265,8 @@ def _numbers(entry: Entry) -> List[int]:
         return [0x01, _fit(entry.station), _stored(entry.first), _stored(entry.last), _fit(entry.guard)]
     if isinstance(entry, Closest):
         return [0x30, _stored(entry.second), _fit(entry.magnitude), 0, 0]
+    if isinstance(entry, Share):
+        return [0x31, _fit(entry.share), 0, 0, 0]
     if isinstance(entry, End):
         return [0x7F, 0, 0, 0, 0]
     direction = _tenths(entry.direction) if isinstance(entry, (Enter, Leave)) else 0
@@ -267,6 +280,8 @@ def _entry(kind: int, a: int, b: int, c: int, d: int) -> Entry:
         return Head(a, b - _SHIFT, c - _SHIFT, d)
     if kind == 0x30:
         return Closest(a - _SHIFT, b)
+    if kind == 0x31:
+        return Share(a)
     if kind == 0x7F:
         return End()
     phase = Phase.PENUMBRA if kind < 0x20 else Phase.CENTRAL
@@ -315,6 +330,8 @@ def _load() -> ctypes.CDLL:
     data, length, room = ctypes.c_char_p, ctypes.c_size_t, ctypes.c_void_p
     value = ctypes.POINTER(ctypes.c_uint64)
     library.ukhtvaresh_sheet.argtypes = [data, length, room, length, room, length, value]
+    library.ukhtvaresh_sheet_and_share.argtypes = library.ukhtvaresh_sheet.argtypes
+    library.ukhtvaresh_share.argtypes = [data, length, ctypes.c_int64, room, length, value]
     library.ukhtvaresh_second.argtypes = [data, length, ctypes.c_int64, room, length, room, length, value]
     library.ukhtvaresh_mirror.argtypes = [data, length, room, length, value]
     library.ukhtvaresh_read.argtypes = [data, length, room, length, value]
@@ -323,7 +340,8 @@ def _load() -> ctypes.CDLL:
     library.ukhtvaresh_fit.argtypes = [room, length, room, length, ctypes.c_int64, value]
     library.ukhtvaresh_from_tables.argtypes = [room, length, room, length, value]
     library.ukhtvaresh_root.argtypes = [ctypes.c_uint64, value]
-    for name in ("sheet", "second", "mirror", "read", "write", "listing", "fit", "from_tables", "root"):
+    names = "sheet sheet_and_share second share mirror read write listing fit from_tables root"
+    for name in names.split():
         getattr(library, "ukhtvaresh_" + name).restype = ctypes.c_uint64
     return library
 
@@ -332,7 +350,7 @@ _library = _load()
 
 
 def _call(name: str, *arguments) -> int:
-    """The length or the count that the library's function gives, or its refusal."""
+    """The length, the count or the share that the library's function gives, or its refusal."""
     value = ctypes.c_uint64()
     number = getattr(_library, "ukhtvaresh_" + name)(*arguments, ctypes.byref(value))
     if number:
@@ -392,6 +410,27 @@ def sheet(request: bytes) -> bytes:
     return _whole(lambda buffer: sheet_into(request, buffer))
 
 
+def sheet_and_share_into(request: bytes, buffer) -> int:
+    """As sheet_into, but the sheet has the covered share at its closest second, a Share between Closest and End: 5 bytes more."""
+    request = bytes(request)
+    return _call("sheet_and_share", request, len(request), *_sines(), *_lent(buffer))
+
+
+def sheet_and_share(request: bytes) -> bytes:
+    """The same sheet. Refusals, the first of them: 10, 1, 2, 3."""
+    return _whole(lambda buffer: sheet_and_share_into(request, buffer))
+
+
+def share(request: bytes, second: int) -> int:
+    """How much of the Sun's disc the Moon covers at a second of a request, -10,800 to 10,800, also outside its window.
+
+    Millionths, rounded down, 0 to 1,000,000: 1,000,000 wherever the total phase is sure, 0 where the penumbra is surely left.
+    Refusals, the first of them: 10, 1 (for the window or the second, then for the guard), 2, 3.
+    """
+    request = bytes(request)
+    return _call("share", request, len(request), _signed(second), *_sines())
+
+
 def second(request: bytes, second: int) -> Second:
     """The shadow at a second of a request, -10,800 to 10,800, also outside its window.
 
@@ -408,7 +447,7 @@ def mirror(request: bytes) -> bytes:
     """The mirror of a request: all y and d coefficients and the latitude with the other sign, nothing else changed.
 
     Any numbers: -2^31, which has no opposite in its bytes, stays as it is. The sheet of the mirror of a request within
-    the limits has the same entries, of the same seconds, magnitude and length; their directions differ. A request that
+    the limits has the same entries, of the same seconds, magnitude, share and length; their directions differ. A request that
     is refused 1, 2 or 3 and its mirror are refused alike. Taken twice the mirror is the first request. Refusal: 10.
     """
     request = bytes(request)

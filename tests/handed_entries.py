@@ -9,7 +9,8 @@ import struct
 import sys
 
 sys.path.insert(0, os.path.dirname(__file__))
-from stored_sheets import BARE, CENTRAL, GOOD, INSTANT, LISTING, MIXED, TABLE, encode, fields_hold, order_holds  # noqa: E402
+from stored_sheets import (  # noqa: E402
+    BARE, CENTRAL, ECLIPSED, END, GOOD, INSTANT, LISTING, MIXED, SHARES, TABLE, encode, fields_hold, order_holds)
 
 
 def judge(numbers):
@@ -63,10 +64,10 @@ def listed(records):
 def lists():
     for records in GOOD:
         yield listed(records)
-    for records in (LISTING, CENTRAL, BARE):
+    for records in (LISTING, CENTRAL, ECLIPSED):
         good = listed(records)
         for i in range(len(good)):  # each number changed in turn
-            for value in (0, 1, good[i] + 1, good[i] + 65536, 0xFFFFFFFF):
+            for value in (0, good[i] + 1) if records is CENTRAL else (0, 1, good[i] + 1, good[i] + 65536, 0xFFFFFFFF):
                 yield good[:i] + [value] + good[i + 1:]
         for n in range(len(good)):  # each prefix
             yield good[:n]
@@ -79,6 +80,12 @@ def lists():
             yield good + tail
     for guard in (0, 15, 16, 17, 999, 1000, 1001, 65535, 65552):  # the head's guard at and past its limits
         yield listed([(0x01, BARE[0][1][:3] + [guard])] + BARE[1:])
+    for millionths in SHARES:
+        yield listed(BARE[:2] + [(0x31, [millionths]), END])
+    for millionths in (7, 1000001):  # a share in every place, order before its field; twice; after the end
+        for records in (LISTING, ECLIPSED):
+            for i in range(len(records) + 1):
+                yield listed(records[:i] + [(0x31, [millionths])] + records[i:])
     four = [number for kind, fields in LISTING for number in ([kind] + fields + [0, 0, 0])[:4]]
     yield four  # entries of four numbers, as they were before the guard
     for records in (MIXED, INSTANT):

@@ -10,6 +10,7 @@ import struct
 TABLE = {
     0x01: ("head", None, (2, 2, 2, 2)),
     0x30: ("closest", None, (2, 4)),
+    0x31: ("share", None, (4,)),
     0x7F: ("end", None, ()),
 }
 for family, base in (("penumbra", 0x10), ("central", 0x20)):
@@ -17,7 +18,8 @@ for family, base in (("penumbra", 0x10), ("central", 0x20)):
     TABLE[base + 1] = ("leave", family, (2, 2, 2))
     TABLE[base + 2] = ("graze", family, (2, 2))
     TABLE[base + 3] = ("open", family, (2, 2))
-SECTIONS = ["head", "penumbra", "central", "closest", "end"]
+SECTIONS = ["head", "penumbra", "central", "closest", "share", "end"]
+DUE = (0, 3, 5)  # head, closest, end; a share may be left out
 
 
 class Refused(Exception):
@@ -31,16 +33,15 @@ def section(kind):
 
 
 def order_holds(before, record):
-    """Whether a record may stand after those before it: families in order, head, closest and end exactly once."""
+    """Whether a record may stand after those before it: families in order, head, closest and end exactly once, share at most once."""
     here = SECTIONS.index(section(record[0]))
     seen = [SECTIONS.index(section(r[0])) for r in before]
     if seen and here < max(seen):
         return False
-    for once in (0, 3, 4):  # head, closest, end: all due ones must have come, none twice
-        if once < here and once not in seen:
-            return False
-        if once == here and once in seen:
-            return False
+    if any(due < here and due not in seen for due in DUE):
+        return False
+    if section(record[0]) in ("head", "closest", "share", "end") and here in seen:
+        return False
     if section(record[0]) in ("penumbra", "central"):
         mine = [r for r in before if section(r[0]) == section(record[0])]
         if mine and record[1][0] < mine[-1][1][1]:
@@ -62,6 +63,8 @@ def fields_hold(before, record):
     if name == "closest":
         second, magnitude = record[1]
         return first <= second <= last and magnitude <= 1300000
+    if name == "share":
+        return record[1][0] <= 1000000
     start, end = record[1][:2]
     if not (first <= start <= last and first <= end <= last):
         return False
@@ -144,7 +147,10 @@ MIXED = [(0x01, [999, 0, 21600, 1000]), (0x13, [0, 40]), (0x11, [40, 42, 3599]),
 BARE = [(0x01, [1, 5, 5, 16]), (0x30, [5, 0]), END]
 INSTANT = [(0x01, [12, 16200, 16200, 17]), (0x13, [16200, 16200]), (0x23, [16200, 16200]), (0x30, [16200, 0]), END]
 CENTRAL = [(0x01, [3, 10, 90, 999]), (0x21, [10, 20, 5]), (0x20, [20, 30, 6]), (0x21, [31, 90, 7]), (0x30, [10, 1]), END]
-GOOD = [LISTING, MIXED, BARE, INSTANT, CENTRAL]
+SHARED = [(0x01, [5, 100, 300, 16]), (0x10, [120, 122, 900]), (0x22, [150, 160]), (0x30, [200, 512345]), (0x31, [405728]), END]
+ECLIPSED = [(0x01, [1, 5, 5, 16]), (0x30, [5, 1300000]), (0x31, [1000000]), END]
+GOOD = [LISTING, MIXED, BARE, INSTANT, CENTRAL, SHARED, ECLIPSED]
+SHARES = (0, 1, 255, 256, 65535, 65536, 999999, 1000000, 1000001, 1000256, 0x01000000, 0x80000000, 0xFFFFFFFF)  # at and past the limit
 
 
 def old(records):
@@ -170,23 +176,38 @@ def damaged():
     for i in range(len(good)):  # each byte changed in turn
         for flip in (0x01, 0x10, 0x80, 0xFF):
             yield good[:i] + bytes([good[i] ^ flip]) + good[i + 1:]
-    for records in (LISTING, MIXED):  # each prefix
+    good, share = encode(SHARED), len(encode(SHARED[:4]))
+    for i in range(share, len(good)):  # each byte of the share and of the end changed in turn
+        for flip in (0x01, 0x10, 0x80, 0xFF):
+            yield good[:i] + bytes([good[i] ^ flip]) + good[i + 1:]
+    for n in range(4):  # the share's body short, with the end behind it
+        yield good[:share + 1 + n] + b"\x7f"
+    for records in (LISTING, MIXED, SHARED):  # each prefix
         good = encode(records)
         for n in range(len(good)):
             yield good[:n]
-    for records in (LISTING, MIXED, CENTRAL):
+    for records in (LISTING, MIXED, CENTRAL, SHARED):
         for i in range(len(records)):  # records left out, doubled, swapped
             yield encode(records[:i] + records[i + 1:])
             yield encode(records[:i] + [records[i]] + records[i:])
             if i + 1 < len(records):
                 yield encode(records[:i] + [records[i + 1], records[i]] + records[i + 2:])
             yield encode([records[i]] + records[:i] + records[i + 1:])
+    for millionths in SHARES:
+        yield encode(BARE[:2] + [(0x31, [millionths]), END])
+    for millionths in (0, 1000000, 1000001):  # a share in every place, order before its field; twice; after the end
+        for records in (LISTING, BARE, ECLIPSED):
+            for i in range(len(records) + 1):
+                yield encode(records[:i] + [(0x31, [millionths])] + records[i:])
+    for record in SHARED + [(0x11, [250, 260, 0]), (0x21, [250, 260, 0]), (0x13, [290, 300])]:  # each record where the end is due
+        yield encode(SHARED[:5] + [record, END])
     for tail in (b"\x7f", b"\x00", b"\x01\x00\x07", encode(BARE)):  # bytes after the end
-        yield encode(BARE) + tail
-        yield encode(LISTING) + tail
+        for records in (BARE, LISTING, SHARED):
+            yield encode(records) + tail
     for i, record in enumerate(MIXED):  # each field at and past its limits
+        limits = (999, 1000, 1001) if TABLE[record[0]][0] == "head" else (3599, 3600)
         for j in range(len(record[1])):
-            for value in (0, 1, 39, 40, 41, 200, 201, 202, 203, 999, 1000, 1001, 3599, 3600, 21598, 21599, 21600, 21601, 65534, 65535):
+            for value in (0, 1, 39, 40, 41, 200, 201, 202, 203, 21598, 21599, 21600, 21601, 65534, 65535) + limits:
                 if value != record[1][j]:
                     fields = list(record[1])
                     fields[j] = value

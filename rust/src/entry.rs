@@ -71,6 +71,11 @@ pub enum Entry {
         /// Its magnitude, millionths, 0 to 1,300,000.
         magnitude: u32,
     },
+    /// How much of the Sun's disc is covered at the closest second: directly after [`Entry::Closest`], in a sheet that has it.
+    Share {
+        /// Millionths, rounded down, 0 to 1,000,000.
+        share: u32,
+    },
     /// The end of the sheet.
     End,
 }
@@ -128,6 +133,7 @@ impl Entry {
             Entry::Graze { phase, from, to } => [phase.kind() + 2, stored(from), stored(to), 0, 0],
             Entry::Open { phase, from, to } => [phase.kind() + 3, stored(from), stored(to), 0, 0],
             Entry::Closest { second, magnitude } => [0x30, stored(second), magnitude, 0, 0],
+            Entry::Share { share } => [0x31, share, 0, 0, 0],
             Entry::End => [0x7F, 0, 0, 0, 0],
         }
     }
@@ -144,6 +150,7 @@ impl Entry {
             0x12 | 0x22 => Entry::Graze { phase, from, to },
             0x13 | 0x23 => Entry::Open { phase, from, to },
             0x30 => Entry::Closest { second: second(a), magnitude: b },
+            0x31 => Entry::Share { share: a },
             0x7F => Entry::End,
             _ => unreachable!("the library gives only kinds of the table"),
         }

@@ -17,6 +17,23 @@ extern "C" {
         sheet_len: usize,
         value: *mut u64,
     ) -> u64;
+    fn ukhtvaresh_sheet_and_share(
+        request: *const u8,
+        request_len: usize,
+        sines: *mut u32,
+        sines_len: usize,
+        sheet: *mut u8,
+        sheet_len: usize,
+        value: *mut u64,
+    ) -> u64;
+    fn ukhtvaresh_share(
+        request: *const u8,
+        request_len: usize,
+        second: i64,
+        sines: *mut u32,
+        sines_len: usize,
+        value: *mut u64,
+    ) -> u64;
     fn ukhtvaresh_second(
         request: *const u8,
         request_len: usize,
@@ -73,7 +90,7 @@ extern "C" {
     fn ukhtvaresh_root(n: u64, rounds: *mut u64) -> u64;
 }
 
-// The answer of a call: the length or the count, or the refusal.
+// The answer of a call: the length, the count or the share, or the refusal.
 fn answer(number: u64, value: u64) -> Result<usize, Refusal> {
     match number {
         0 => Ok(value as usize),
@@ -100,6 +117,32 @@ pub fn sheet(request: &[u8], sheet: &mut [u8]) -> Result<usize, Refusal> {
             sheet.len(),
             &mut value,
         )
+    });
+    answer(number, value)
+}
+
+pub fn sheet_and_share(request: &[u8], sheet: &mut [u8]) -> Result<usize, Refusal> {
+    let mut value = 0;
+    // SAFETY: as in `sheet`.
+    let number = SINES.with_borrow_mut(|sines| unsafe {
+        ukhtvaresh_sheet_and_share(
+            request.as_ptr(),
+            request.len(),
+            sines.as_mut_ptr(),
+            sines.len(),
+            sheet.as_mut_ptr(),
+            sheet.len(),
+            &mut value,
+        )
+    });
+    answer(number, value)
+}
+
+pub fn share(request: &[u8], second: i64) -> Result<usize, Refusal> {
+    let mut value = 0;
+    // SAFETY: as in `sheet`.
+    let number = SINES.with_borrow_mut(|sines| unsafe {
+        ukhtvaresh_share(request.as_ptr(), request.len(), second, sines.as_mut_ptr(), sines.len(), &mut value)
     });
     answer(number, value)
 }

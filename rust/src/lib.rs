@@ -1,10 +1,11 @@
 //! Local circumstances of a solar eclipse in whole numbers, from a proved library.
 //!
-//! From the elements of an eclipse, a station, a window of seconds and a guard, [`sheet`] makes the station's contact sheet;
-//! [`read`] takes a sheet apart, [`write()`] puts entries together as one, [`listing`] gives a sheet as text, and
-//! [`second`] the shadow at one second, [`mirror`] the request beyond the equator; [`fit`] judges coefficients that a
-//! spreadsheet made, [`from_tables`] makes elements from tables of Sun and Moon, [`root`] gives a square root with its rounds.
-//! Each is a thin call of the proved function of the same name in `libukhtvaresh.a`.
+//! From the elements of an eclipse, a station, a window of seconds and a guard, [`sheet`] makes the station's contact sheet,
+//! [`sheet_and_share`] the same with the covered share of the Sun's disc; [`read`] takes a sheet apart, [`write()`] puts entries
+//! together as one, [`listing`] gives a sheet as text, [`second`] the shadow at one second and [`share`] the share at it,
+//! [`mirror`] the request beyond the equator; [`fit`] judges coefficients that a spreadsheet made, [`from_tables`] makes elements
+//! from tables of Sun and Moon, [`root`] gives a square root with its rounds. Each is a thin call of the proved function of the
+//! same name in `libukhtvaresh.a`.
 //!
 //! Lengths are in 10^-8 of the Earth's equatorial radius, angles in 10^-6 degree, times in whole seconds of
 //! ephemeris time from the reference instant. East longitude is positive. "Document 01" is the paper whose rules the library keeps.
@@ -98,6 +99,33 @@ pub fn sheet_vec(request: &[u8]) -> Result<Vec<u8>, Refusal> {
     whole(|buffer| ffi::sheet(request, buffer))
 }
 
+/// The contact sheet of a request with the covered share of the Sun's disc at its closest second, an [`Entry::Share`] between
+/// [`Entry::Closest`] and [`Entry::End`]: 5 bytes longer than [`sheet`], and else the same, refusals too.
+pub fn sheet_and_share(request: &[u8], buffer: &mut [u8]) -> Result<usize, Refusal> {
+    ffi::sheet_and_share(request, buffer)
+}
+
+/// The same sheet. Refusals as [`sheet_and_share`], but 4.
+pub fn sheet_and_share_vec(request: &[u8]) -> Result<Vec<u8>, Refusal> {
+    whole(|buffer| ffi::sheet_and_share(request, buffer))
+}
+
+/// How much of the Sun's disc the Moon covers at a second of a request, -10,800 to 10,800, also outside its window: millionths,
+/// rounded down, 0 to 1,000,000. It is 1,000,000 wherever the total phase is sure, and 0 where the penumbra is surely left.
+///
+/// Refusals, the first of them: 10, 1 (for the window or the second, then for the guard), 2, 3.
+///
+/// ```
+/// use ukhtvaresh::{share, Refusal};
+///
+/// let moscow = include_bytes!("../../examples/moscow1954.bin");
+/// assert_eq!(share(moscow, 4_115)?, 843_499); // at the closest second: 84 per cent
+/// # Ok::<(), Refusal>(())
+/// ```
+pub fn share(request: &[u8], second: i64) -> Result<u32, Refusal> {
+    ffi::share(request, second).map(|share| share as u32)
+}
+
 /// The shadow at a second of a request, -10,800 to 10,800, also outside its window.
 ///
 /// Refusals, the first of them: 10, 1 (for the window or the second, then for the guard), 2, 3.
@@ -120,7 +148,7 @@ pub fn second(request: &[u8], second: i64) -> Result<Second, Refusal> {
 /// The mirror of a request: all y and d coefficients and the latitude with the other sign, nothing else changed.
 ///
 /// Any numbers: -2^31, which has no opposite in its bytes, stays as it is. The sheet of the mirror of a request within
-/// the limits has the same entries, of the same seconds, magnitude and length; their directions differ. A request that
+/// the limits has the same entries, of the same seconds, magnitude, share and length; their directions differ. A request that
 /// is refused 1, 2 or 3 and its mirror are refused alike. Taken twice the mirror is the first request. Refusal: 10.
 ///
 /// ```

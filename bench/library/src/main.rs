@@ -4,7 +4,7 @@ use agreement::library;
 use reference::elements::Window;
 use reference::listing::sheet_of_input;
 use reference::random::Random;
-use reference::request::Request;
+use reference::request::{Request, REQUEST_LENGTH};
 use reference::sample::{self, Manner};
 use reference::sheet;
 use std::hint::black_box;
@@ -27,6 +27,13 @@ fn best(rounds: usize, times: usize, mut ours: impl FnMut(), mut theirs: impl Fn
     least
 }
 
+/// A request's bytes under a window of so many seconds.
+fn in_window(request: &Request, seconds: i64) -> [u8; REQUEST_LENGTH] {
+    let first = if seconds == 21_601 { -10_800 } else { -200 };
+    let window = Window { first, last: first + seconds - 1 };
+    Request { window, ..*request }.to_bytes().expect("numbers that have room")
+}
+
 fn sheets(rounds: usize) {
     let mut random = Random::new(7);
     let requests = [
@@ -36,9 +43,7 @@ fn sheets(rounds: usize) {
     ];
     for (name, request) in requests {
         for seconds in [600, 6_000, 21_601] {
-            let first = if seconds == 21_601 { -10_800 } else { -200 };
-            let window = Window { first, last: first + seconds - 1 };
-            let bytes = Request { window, ..request }.to_bytes().expect("numbers that have room");
+            let bytes = in_window(&request, seconds);
             let (mut a, mut b, mut sines) = ([0; 4096], [0; 4096], [0; 901]);
             let (ours, theirs) = best(
                 rounds,
@@ -54,6 +59,57 @@ fn sheets(rounds: usize) {
                 ours / theirs
             );
         }
+    }
+}
+
+/// What the share adds to the library's sheet, and what a share alone takes, with the filling of table S that each call begins with: the
+/// second's numbers beside it begin so too.
+fn shares(rounds: usize) {
+    let moscow = sample::moscow_1954();
+    for (name, request, closest) in [
+        ("hand-worked", sample::hand_worked(), 0),
+        ("Kiev 1954", sample::kiev_1954(), 4_389),
+        ("Moscow 1954", moscow, 4_115),
+    ] {
+        for seconds in [600, 21_601] {
+            let bytes = in_window(&request, seconds);
+            let (mut a, mut b, mut sines, mut others) = ([0; 4096], [0; 4096], [0; 901], [0; 901]);
+            let (with, without) = best(
+                10 * rounds,
+                (20_000 / seconds).max(1) as usize,
+                || _ = black_box(library::sheet_and_share(black_box(&bytes), &mut sines, &mut a)),
+                || _ = black_box(library::sheet(black_box(&bytes), &mut others, &mut b)),
+            );
+            assert!(a != b && sines == others);
+            println!(
+                "sheet, {name:11} {seconds:6} s: with share {:8.1} us, without {:8.1} us, ratio {:.3}, the share {:.1} us",
+                with * 1e6,
+                without * 1e6,
+                with / without,
+                (with - without) * 1e6
+            );
+        }
+        let bytes = in_window(&request, 600);
+        let (mut sines, mut others, mut shadow) = ([0; 901], [0; 901], [0; 8]);
+        let (share, second) = best(
+            10 * rounds,
+            100,
+            || _ = black_box(library::share(black_box(&bytes), black_box(closest), &mut sines)),
+            || {
+                _ = black_box(library::second(
+                    black_box(&bytes),
+                    black_box(closest),
+                    &mut others,
+                    &mut shadow,
+                ))
+            },
+        );
+        println!(
+            "share, {name:11} at {closest:5}: {:5.1} us, second {:5.1} us, ratio {:.2}",
+            share * 1e6,
+            second * 1e6,
+            share / second
+        );
     }
 }
 
@@ -145,6 +201,7 @@ fn roots(rounds: usize) {
 fn main() {
     let rounds = std::env::args().nth(1).map_or(100, |n| n.parse().expect("a number of rounds"));
     sheets(rounds);
+    shares(rounds);
     let mut hand = [0; 45];
     sample::hand_worked().sheet(&mut hand).expect("room enough");
     let short: Vec<u32> = sheet::records_of(&hand)

@@ -11,6 +11,7 @@ use Rattle.requests.specs.declared.Request.{Request}
 use Rattle.requests.specs.WindowLaws.{in-window-size}
 use Rattle.requests.specs.RequestLaws.{InLimits, guard-size}
 use Rattle.seconds.specs.SecondLaws.{direction-small, magnitude-small, closest-within, each-second}
+use Rattle.covered.specs.CoveredLaws.{share-means}
 use Rattle.records.specs.Entries.{bytesOf}
 use Rattle.rules.specs.Rules.{start}
 use Rattle.sheets.specs.Sheets.{sheet, readSheet}
@@ -43,6 +44,7 @@ module _ (q : Request) (i : InLimits q) where
         direction = direction-small q;
         closest = closest-within q i;
         magnitude = λ τ w. magnitude-small q i τ (in-window-size (q .window) (i .window) τ w);
+        share = λ τ w. share-means q i τ (in-window-size (q .window) (i .window) τ w) .limit;
       }
 
   pub said : EachSecond (courseOf q) (exactAnswers q)

@@ -1,6 +1,7 @@
 -- The rows that document 01 marks for proof of the rules themselves, under one theorem: each holds by computation of the definitions.
 use mathlib.Core.Path.{_≡_, refl}
 use mathlib.Core.List.{[], _∷_}
+use mathlib.Core.Bool.{false}
 use lib.IntN.{ℤ, pos, negsuc}
 use Rattle.numbers.specs.Near.{near}
 use Rattle.numbers.specs.Root.{root}
@@ -46,9 +47,9 @@ elements =
 abbrev pole : Station
 pole = record { number = pos 7; latitude = pos 90000000; longitude = pos 0; height = pos 0; deltat = pos 0 }
 
--- document 02, wish 9: "the cases in document 01 use guard 16"
+-- document 02, wish 9: "the cases in document 01 use guard 16"; wish 4: "(the program never does)" ask for a share
 abbrev pub hand-worked : (first last : ℤ) → Request
-hand-worked first last = record { elements = elements; station = pole; window = record { first = first; last = last }; guard = pos 16 }
+hand-worked first last = record { elements = elements; station = pole; window = record { first = first; last = last }; guard = pos 16; share = false }
 
 -- "window 5400..5400 gives open 5400 5400": the penumbra has that one entry, stored plus 10,800
 open-5400 : phaseEntries (courseOf (hand-worked (pos 5400) (pos 5400))) Penumbra ≡ opened Penumbra 16200 16200 ∷ []

@@ -12,6 +12,7 @@ use Rattle.refusals.specs.Refusals.{refusal}
 use Rattle.requests.specs.declared.Request.{Request}
 use Rattle.requests.specs.Admission.{admitted, sinesAfter}
 use Rattle.seconds.specs.Seconds.{stateAt, directionAt, magnitudeAt, closestOf}
+use Rattle.covered.specs.Covered.{shareAt}
 use Rattle.records.specs.Entries.{bytesOf}
 use Rattle.courses.specs.Courses.{Course, sheetOf}
 use Rattle.circumstances.specs.declared.Answer.{Answer}
@@ -29,6 +30,8 @@ courseOf q =
       direction = directionAt q;
       closest = closestOf q;
       magnitude = magnitudeAt q;
+      sharing = q .share;
+      share = shareAt q;
     }
 
 -- its sheet

@@ -13,7 +13,7 @@ ghost use Rattle.seconds.specs.Seconds.{statesOf};
 ghost use Rattle.seconds.specs.Filled.{AllStates};
 ghost use Rattle.contacts.specs.Entries.{entries};
 ghost use Rattle.records.specs.Entries.{bytesOf};
-ghost use Rattle.courses.specs.Courses.{entriesOf};
+ghost use Rattle.courses.specs.Courses.{entriesOf, closingEntries};
 ghost use Rattle.courses.specs.Lengths.{kindIn, bytesNeeded};
 ghost use Rattle.circumstances.specs.Sheet.{courseOf};
 
@@ -72,4 +72,17 @@ pub fn phases_length(q: Request, states: &[u8]) -> usize
         k += 1;
     }
     length
+}
+
+// How many bytes the closest second, the share where it is asked for, and the end take.
+pub fn closing_length(q: Request) -> usize
+    ensures { λ r. ⌜ (r ≡ length (bytesOf (closingEntries (courseOf q)))) × (r ≤ 17) ⌝ }
+{
+    let closest = kinds::size_of(Kind::Closest);
+    let end = kinds::size_of(Kind::End);
+    if q.share {
+        let share = kinds::size_of(Kind::Share);
+        return closest + share + end;
+    }
+    closest + end
 }

@@ -23,7 +23,7 @@ ghost use Rattle.seconds.specs.Seconds.{closestOf};
 ghost use Rattle.seconds.specs.Filled.{AllStates};
 ghost use Rattle.contacts.specs.Entries.{entries, from, to};
 ghost use Rattle.records.specs.Entries.{bytesOf};
-ghost use Rattle.courses.specs.Courses.{entryOf, phaseEntries, entriesOf, headEntry, closestEntry};
+ghost use Rattle.courses.specs.Courses.{entryOf, phaseEntries, entriesOf, headEntry, closestEntry, shareEntry, closingEntries};
 ghost use Rattle.courses.specs.Lengths.{bytesNeeded};
 ghost use Rattle.circumstances.specs.Sheet.{courseOf, sheetBytes, answerWithin, bufferWithin, sheetAnswer, sheetBuffer, sheetSines};
 ghost use Rattle.circumstances.specs.Demand3.{Claimed};
@@ -110,6 +110,17 @@ fn closest_for(table: &[u32], q: Request, place: Place, k: usize) -> Entry
     kinds::entries::closest(second, magnitude)
 }
 
+// The covered share at that second.
+fn share_for(table: &[u32], q: Request, place: Place, k: usize) -> Entry
+    requires { ⌜ (Sines (now table)) × (InLimits q) × (place ≡ placeOf (q .station)) × (k ≡ closestOf q) ⌝ }
+    ensures { λ r. ⌜ r ≡ shareEntry (courseOf q) ⌝ }
+{
+    let w = q.window;
+    let t = requests::nth_second(w, k);
+    let share = covered::share_at(table, q, place, t);
+    kinds::entries::share(share)
+}
+
 // ---- the sheet in the buffer
 
 // The entries of a phase from `start` on; the place after them.
@@ -188,6 +199,31 @@ fn write_phases(
     at
 }
 
+// The closest second, the share where it is asked for, and the end from `start` on; the place after them.
+fn write_closing(
+    table: &[u32],
+    q: Request,
+    place: Place,
+    closest: usize,
+    buf: &mut [u8],
+    start: usize,
+) -> usize
+    requires { ⌜ (Sines (now table)) × (InLimits q) × (place ≡ placeOf (q .station)) × (closest ≡ closestOf q) ⌝ }
+    requires { ⌜ start + length (bytesOf (closingEntries (courseOf q))) ≤ length (now buf) ⌝ }
+    ensures { λ r. ⌜ r ≡ start + length (bytesOf (closingEntries (courseOf q))) ⌝ }
+    ensures { λ r. ⌜ now (buf .exit) ≡ sets (now (buf .entry)) start (bytesOf (closingEntries (courseOf q))) ⌝ }
+{
+    let last = closest_for(table, q, place, closest);
+    let end = kinds::entries::end();
+    let after_closest = records::bytes::put(buf, start, last);
+    if q.share {
+        let share = share_for(table, q, place, closest);
+        let after_share = records::bytes::put(buf, after_closest, share);
+        return records::bytes::put(buf, after_share, end);
+    }
+    records::bytes::put(buf, after_closest, end)
+}
+
 // The whole sheet at the buffer's start, which has room for it; its length.
 fn write_sheet(
     table: &[u32],
@@ -206,10 +242,7 @@ fn write_sheet(
     let head = head_for(q);
     let after_head = records::bytes::put(buf, 0, head);
     let after_phases = write_phases(table, q, place, states, buf, after_head);
-    let last = closest_for(table, q, place, closest);
-    let after_closest = records::bytes::put(buf, after_phases, last);
-    let end = kinds::entries::end();
-    records::bytes::put(buf, after_closest, end)
+    write_closing(table, q, place, closest, buf, after_phases)
 }
 
 // The sheet of a request within its limits, from the states of its seconds: its length is known before the first byte.
@@ -228,9 +261,8 @@ fn sheet_from(
 {
     let head = kinds::size_of(Kind::Head);
     let phases = lengths::phases_length(q, states);
-    let closest_size = kinds::size_of(Kind::Closest);
-    let end = kinds::size_of(Kind::End);
-    let need = head + phases + closest_size + end;
+    let closing = lengths::closing_length(q);
+    let need = head + phases + closing;
     if buf.len() < need {
         return Answer::Refused(Refusal {
             number: 4,

@@ -1,4 +1,5 @@
 -- A course: what is said of a station at each second of a window, in each of its phases; and its sheet. Definitions only.
+use mathlib.Core.Bool.{Bool, cond}
 use mathlib.Core.List.{List, [], _∷_, _++_, map}
 use Prim.Native.Nat.{ℕ}
 use lib.IntN.{ℤ}
@@ -10,7 +11,7 @@ use Rattle.contacts.specs.declared.Entry as Contact
 use Rattle.contacts.specs.declared.Entry.the-variants as C
 use Rattle.contacts.specs.Entries.{entries}
 use Rattle.kinds.specs.declared.Entry.{Entry}
-use Rattle.kinds.specs.Entries.{head, enter, leave, graze, opened, closest, end}
+use Rattle.kinds.specs.Entries.{head, enter, leave, graze, opened, closest, share, end}
 use Rattle.kinds.specs.StoredSeconds.{stored}
 
 pub record Course : Type 0 where
@@ -29,6 +30,9 @@ pub record Course : Type 0 where
   pub closest : ℕ
   -- the magnitude at second τ
   pub magnitude : ℤ → ℕ
+  -- whether the covered share is asked for; the share at second τ
+  pub sharing : Bool
+  pub share : ℤ → ℕ
 
 module _ (c : Course) where
   -- the k-th second of the window
@@ -64,6 +68,14 @@ module _ (c : Course) where
   unfoldable pub closestEntry : Entry
   closestEntry = closest (stored (second (c .closest))) (c .magnitude (second (c .closest)))
 
+  -- document 02, wish 4: "the covered share of the disc at the closest second"
+  unfoldable pub shareEntry : Entry
+  shareEntry = share (c .share (second (c .closest)))
+
+  -- document 02, wish 4: "A new kind 31 .. stands once, directly after closest, where the request asks for it"
+  unfoldable pub closingEntries : List Entry
+  closingEntries = closestEntry ∷ cond (c .sharing) (shareEntry ∷ end ∷ []) (end ∷ [])
+
   -- "Order: head, penumbra by time, central by time, closest, end"
   unfoldable pub sheetOf : List Entry
-  sheetOf = headEntry ∷ (entriesOf (c .phases) ++ closestEntry ∷ end ∷ [])
+  sheetOf = headEntry ∷ (entriesOf (c .phases) ++ closingEntries)

@@ -42,6 +42,7 @@ inKind φ (K.Graze ψ) f t = if-so (same φ ψ) (C.Graze f t)
 inKind φ (K.Open ψ) f t = if-so (same φ ψ) (C.Open f t)
 inKind φ K.Head f t = []
 inKind φ K.Closest f t = []
+inKind φ K.Share f t = []
 inKind φ K.End f t = []
 
 abbrev pub entriesIn : Phase → List Entry → List Contact.Entry

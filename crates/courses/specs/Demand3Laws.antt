@@ -2,7 +2,7 @@
 -- Why: the entries of a phase in the sheet are those of contacts, counted from the stored first second (`entries-in-sheet`); what contacts
 -- proves of any states that agree with exact answers then holds of them.
 use mathlib.Core.Path.{_≡_, refl, sym, subst, ap, ap₂, _∙_}
-use mathlib.Core.Bool.{Bool, true, false}
+use mathlib.Core.Bool.{Bool, true, false, cond}
 use mathlib.Core.List.{List, [], _∷_, _++_, map, append-nil, append-assoc}
 use mathlib.Core.Logic.{_⊎_}
 use Prim.Native.Nat.{ℕ, _+_, _-_, _≤_, _<_}
@@ -31,7 +31,7 @@ use Rattle.kinds.specs.declared.Entry.{Entry}
 use Rattle.kinds.specs.Entries.{end}
 use Rattle.kinds.specs.StoredSeconds.{stored, secondOf}
 use Rattle.kinds.specs.StoredSecondLaws.{stored-is}
-use Rattle.courses.specs.Courses.{Course, second, statesOf, entryOf, phaseEntries, entriesOf, headEntry, closestEntry, sheetOf}
+use Rattle.courses.specs.Courses.{Course, second, statesOf, entryOf, phaseEntries, entriesOf, headEntry, closestEntry, shareEntry, closingEntries, sheetOf}
 use Rattle.courses.specs.Demand3.{ExactAnswers, inKind, entriesIn, EachSecond, InsideAt}
 use Rattle.courses.specs.Sound.{Sound}
 use Rattle.courses.specs.CourseLaws.{states-length, states-at, first, stored-at, second-at}
@@ -91,10 +91,20 @@ module _ (c : Course) (s : Sound c) (φ : Phase) where
           ∙ ap own (sym (same-is φ ψ o))
       go false o e rest = in-append φ (phaseEntries c ψ) (entriesOf c φs) ∙ ap₂ _++_ (all-other ψ o (entries (statesOf c ψ))) (rest (omega arith))
 
+  -- what closes a sheet is of no phase
+  none-closing : entriesIn φ (closingEntries c) ≡ []
+  unfolding closingEntries closestEntry shareEntry
+  none-closing = go (c .sharing)
+    where
+      go : (b : Bool) → entriesIn φ (cond b (shareEntry c ∷ end ∷ []) (end ∷ [])) ≡ []
+      go true = refl
+      go false = refl
+
   pub entries-in-sheet : Listed φ (c .phases) → entriesIn φ (sheetOf c) ≡ map (shifted (first c s)) (entries (statesOf c φ))
-  unfolding sheetOf headEntry closestEntry
+  unfolding sheetOf headEntry
   entries-in-sheet l =
-      in-append φ (entriesOf c (c .phases)) (closestEntry c ∷ end ∷ [])
+      in-append φ (entriesOf c (c .phases)) (closingEntries c)
+      ∙ ap (λ (es : List Contact.Entry). entriesIn φ (entriesOf c (c .phases)) ++ es) none-closing
       ∙ append-nil (entriesIn φ (entriesOf c (c .phases)))
       ∙ one-in (c .phases) (s .once φ l)
 

@@ -15,7 +15,7 @@ use Rattle.kinds.specs.Kinds.{sizeOf}
 use Rattle.kinds.specs.Entries.{end}
 use Rattle.records.specs.Entries.{bytesOf}
 use Rattle.records.specs.EntryLaws.{length-bytes-cons}
-use Rattle.courses.specs.Courses.{Course, statesOf, entryOf, phaseEntries, entriesOf, headEntry, closestEntry, sheetOf}
+use Rattle.courses.specs.Courses.{Course, statesOf, entryOf, phaseEntries, entriesOf, headEntry, closestEntry, shareEntry, closingEntries, sheetOf}
 use Rattle.courses.specs.Directions.{directionless, withoutDirection, AlikeButDirections}
 
 -- ---- so the same length in bytes
@@ -26,6 +26,7 @@ keeps-kind K.Head e h = h
 keeps-kind (K.Graze φ) e h = h
 keeps-kind (K.Open φ) e h = h
 keeps-kind K.Closest e h = h
+keeps-kind K.Share e h = h
 keeps-kind K.End e h = h
 
 without-length : (es : List Entry) → length (bytesOf (map withoutDirection es)) ≡ length (bytesOf es)
@@ -50,6 +51,8 @@ redirected c f =
       direction = f;
       closest = c .closest;
       magnitude = c .magnitude;
+      sharing = c .sharing;
+      share = c .share;
     }
 
 module _ (c : Course) (f : ℤ → ℕ) where
@@ -79,8 +82,8 @@ module _ (c : Course) (f : ℤ → ℕ) where
   phases-alike (φ ∷ φs) = append-alike (phaseEntries c′ φ) (phaseEntries c φ) (entriesOf c′ φs) (entriesOf c φs) (phase-alike φ) (phases-alike φs)
 
   pub sheet-alike : AlikeButDirections (sheetOf c′) (sheetOf c)
-  unfolding sheetOf headEntry closestEntry
+  unfolding sheetOf headEntry closingEntries closestEntry shareEntry
   sheet-alike =
-      let tail = closestEntry c ∷ end ∷ [] in
+      let tail = closingEntries c in
       ap (λ (l : List Entry). headEntry c ∷ l)
       (append-alike (entriesOf c′ (c .phases)) (entriesOf c (c .phases)) tail tail (phases-alike (c .phases)) refl)

@@ -14,6 +14,7 @@ directionless K.Head e = e
 directionless (K.Graze φ) e = e
 directionless (K.Open φ) e = e
 directionless K.Closest e = e
+directionless K.Share e = e
 directionless K.End e = e
 
 abbrev pub withoutDirection : Entry → Entry

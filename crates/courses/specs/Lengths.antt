@@ -1,5 +1,6 @@
 -- How many bytes the entries of a phase take, and a whole sheet.
 use mathlib.Core.Path.{_≡_, refl, sym, ap, _∙_}
+use mathlib.Core.Bool.{Bool, true, false, cond}
 use mathlib.Core.List.{List, [], _∷_, _++_, map, append-nil, append-assoc}
 use Prim.Native.Nat.{ℕ, _+_, _≤_}
 use native.Mathlib.Omega.{arith}
@@ -15,7 +16,7 @@ use Rattle.kinds.specs.Kinds.{sizeOf}
 use Rattle.kinds.specs.Entries.{end}
 use Rattle.records.specs.Entries.{bytes, bytesOf}
 use Rattle.records.specs.EntryLaws.{bytes-nil, bytes-cons, length-bytes-cons}
-use Rattle.courses.specs.Courses.{Course, statesOf, entryOf, phaseEntries, entriesOf, headEntry, closestEntry, sheetOf}
+use Rattle.courses.specs.Courses.{Course, statesOf, entryOf, phaseEntries, entriesOf, headEntry, closestEntry, shareEntry, closingEntries, sheetOf}
 
 -- the kind of an entry of a phase
 abbrev pub kindIn : Phase → Contact.Entry → Kind
@@ -97,15 +98,47 @@ module _ (c : Course) where
   unfolding closestEntry
   closest-size = refl
 
-  -- head, the phases, closest and end
-  pub sheet-length : length (bytesOf (sheetOf c)) ≡ sizeOf K.Head + length (bytesOf (entriesOf c (c .phases))) + sizeOf K.Closest + sizeOf K.End
-  unfolding sheetOf headEntry closestEntry
+  pub share-size : sizeOf (shareEntry c .kind) ≡ sizeOf K.Share
+  unfolding shareEntry
+  share-size = refl
+
+  -- what closes a sheet, with a share and without
+  closing : Bool → List Entry
+  closing b = closestEntry c ∷ cond b (shareEntry c ∷ end ∷ []) (end ∷ [])
+
+  pub closing-shared : c .sharing ≡ true → closingEntries c ≡ closestEntry c ∷ shareEntry c ∷ end ∷ []
+  unfolding closingEntries closing
+  closing-shared e = ap closing e
+
+  pub closing-plain : c .sharing ≡ false → closingEntries c ≡ closestEntry c ∷ end ∷ []
+  unfolding closingEntries closing
+  closing-plain e = ap closing e
+
+  pub shared-length : c .sharing ≡ true → length (bytesOf (closingEntries c)) ≡ sizeOf K.Closest + sizeOf K.Share + sizeOf K.End
+  shared-length e =
+      ap (λ (es : List Entry). length (bytesOf es)) (closing-shared e)
+      ∙ omega (
+        arith,
+        closest-size,
+        share-size,
+        length-bytes-cons (closestEntry c) (shareEntry c ∷ end ∷ []),
+        length-bytes-cons (shareEntry c) (end ∷ []),
+        length-bytes-cons end [],
+        ap length bytes-nil,
+      )
+
+  pub plain-length : c .sharing ≡ false → length (bytesOf (closingEntries c)) ≡ sizeOf K.Closest + sizeOf K.End
+  plain-length e =
+      ap (λ (es : List Entry). length (bytesOf es)) (closing-plain e)
+      ∙ omega (arith, closest-size, length-bytes-cons (closestEntry c) (end ∷ []), length-bytes-cons end [], ap length bytes-nil)
+
+  -- head, the phases, and what closes the sheet
+  pub sheet-length : length (bytesOf (sheetOf c)) ≡ sizeOf K.Head + length (bytesOf (entriesOf c (c .phases))) + length (bytesOf (closingEntries c))
+  unfolding sheetOf
   sheet-length =
       omega (
         arith,
-        length-bytes-cons (headEntry c) (entriesOf c (c .phases) ++ closestEntry c ∷ end ∷ []),
-        length-bytes-append (entriesOf c (c .phases)) (closestEntry c ∷ end ∷ []),
-        length-bytes-cons (closestEntry c) (end ∷ []),
-        length-bytes-cons end [],
-        ap length bytes-nil,
+        head-size,
+        length-bytes-cons (headEntry c) (entriesOf c (c .phases) ++ closingEntries c),
+        length-bytes-append (entriesOf c (c .phases)) (closingEntries c),
       )

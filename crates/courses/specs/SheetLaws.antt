@@ -35,8 +35,9 @@ use Rattle.rules.specs.Rules.{start}
 use Rattle.kinds.specs.StoredSeconds.{stored}
 use Rattle.kinds.specs.StoredSecondLaws.{stored-is}
 use Rattle.sheets.specs.WellFormed.{WellFormed, within}
-use Rattle.sheets.specs.WellFormedLaws.{well-step, step-head, well-first, well-later, step-enter, step-leave, step-graze, step-open, well-closest}
-use Rattle.courses.specs.Courses.{Course, second, statesOf, entryOf, phaseEntries, entriesOf, headEntry, closestEntry, sheetOf}
+use Rattle.sheets.specs.WellFormedLaws.{well-step, step-head, well-first, well-later, step-enter, step-leave, step-graze, step-open, well-closest, well-share}
+use Rattle.courses.specs.Lengths.{closing-shared, closing-plain}
+use Rattle.courses.specs.Courses.{Course, second, statesOf, entryOf, phaseEntries, entriesOf, headEntry, closestEntry, shareEntry, closingEntries, sheetOf}
 use Rattle.courses.specs.Sound.{InOrder, Sound}
 use Rattle.courses.specs.CourseLaws.{states-length, first, stored-at}
 
@@ -145,16 +146,23 @@ module _ (c : Course) (s : Sound c) where
         kept-phase (CE.entries (statesOf c φ)) 0 0 neither (omega arith) (ordered (statesOf c φ)) (alternate (statesOf c φ))
         (subst (λ (j : ℕ). CE.All (CW.WellFormed j) (CE.entries (statesOf c φ))) (states-length c φ) (CW.well-formed (statesOf c φ)))
 
-  -- ---- the phases in their order, and closest and end
+  -- ---- the phases in their order, and what closes the sheet
   abbrev tail : List Entry
-  tail = closestEntry c ∷ end ∷ []
+  tail = closingEntries c
 
   kept-closest : (φ : Phase) (until : ℕ) (t : Crossing) → WellFormed (within φ f l until t) tail
-  unfolding closestEntry
+  unfolding closestEntry shareEntry
   kept-closest φ until t =
       let k = c .closest in
-      well-closest φ f l until t (stored (second c k)) (c .magnitude (second c k)) (not-early k (s .closest)) (not-late k (s .closest))
-      (s .magnitude (second c k) (second-in (c .window) (s .window) k (s .closest)))
+      let inside = second-in (c .window) (s .window) k (s .closest) in
+      elim (c .sharing) as (λ b. c .sharing ≡ b → WellFormed (within φ f l until t) tail) [
+        | true ↦ λ e. subst (WellFormed (within φ f l until t)) (sym (closing-shared c e))
+            (well-share φ f l until t (stored (second c k)) (c .magnitude (second c k)) (c .share (second c k)) (not-early k (s .closest))
+            (not-late k (s .closest)) (s .magnitude (second c k) inside) (s .share (second c k) inside))
+        | false ↦ λ e. subst (WellFormed (within φ f l until t)) (sym (closing-plain c e))
+            (well-closest φ f l until t (stored (second c k)) (c .magnitude (second c k)) (not-early k (s .closest)) (not-late k (s .closest))
+            (s .magnitude (second c k) inside))
+      ] refl
 
   kept-phases : (φ : Phase) (φs : List Phase) → InOrder (φ ∷ φs) → WellFormed (within φ f l 0 C.Neither) (phaseEntries c φ ++ (entriesOf c φs ++ tail))
   kept-phases φ [] o = kept-entries φ tail (kept-closest φ)

@@ -27,3 +27,4 @@ pub record Sound (c : Course) : Type 0 where
   pub direction : (τ : ℤ) → (c .direction τ ≤ 3599) ⊎ (c .direction τ ≡ 65535)
   pub closest : c .closest < secondCount (c .window)
   pub magnitude : (τ : ℤ) → InWindow (c .window) τ → c .magnitude τ ≤ 1300000
+  pub share : (τ : ℤ) → InWindow (c .window) τ → c .share τ ≤ 1000000

@@ -1,5 +1,6 @@
 -- The program's input: the request that its bytes hold.
 -- Assumes nothing: these are definitions. The bytes of a request: request_bytes, Layout and Request; its numbers: request_fields, Fields.
+use mathlib.Core.Bool.{false}
 use mathlib.Core.List.{List, []}
 use Prim.Native.Nat.{ℕ}
 use lib.IntN.{ℤ, pos}
@@ -9,6 +10,7 @@ use Rattle.station.specs.declared.Station.{Station}
 use Rattle.refusals.specs.Refusals.{refusal}
 use Rattle.requests.specs.declared.Window.{Window}
 use Rattle.requests.specs.declared.Request.{Request}
+use Rattle.requests.specs.Shares.{withShare}
 use Rattle.request_bytes.specs.Layout.{Reading, numbers, misshaped}
 use Rattle.request_bytes.specs.Request.{readingOf, numbersAfter}
 use Rattle.input.specs.declared.Input.{Input}
@@ -28,9 +30,9 @@ stationFrom ns =
 unfoldable pub windowFrom : List ℤ → Window
 windowFrom ns = record { first = number ns 27; last = number ns 28 }
 
--- document 02, wish 9: "the program's kind 04 ends with it"
+-- document 02, wish 9: "the program's kind 04 ends with it". Wish 4: "(the program never does)" ask for a share, and no byte does
 unfoldable pub requestFrom : List ℤ → Request
-requestFrom ns = record { elements = elementsOf ns; station = stationFrom ns; window = windowFrom ns; guard = number ns 29 }
+requestFrom ns = record { elements = elementsOf ns; station = stationFrom ns; window = windowFrom ns; guard = number ns 29; share = false }
 
 -- ---- the request of its bytes
 
@@ -45,3 +47,9 @@ inputOf s = inputBy (readingOf s)
 -- the request that was asked for, where there is one
 unfoldable pub requestOf : List ℕ → Request
 requestOf s = requestFrom (numbersAfter (readingOf s) [])
+
+-- ---- the same with a share asked for
+
+abbrev pub sharing : Input → Input
+sharing (I.Is q) = I.Is (withShare q)
+sharing (I.Refused r) = I.Refused r

@@ -7,7 +7,7 @@ use Rattle.circumstances.specs.declared.Answer.the-variants as A
 use Rattle.circumstances.specs.Sheet.{sheetAnswer, sheetBuffer, sheetSines}
 use Rattle.input.specs.declared.Input.{Input}
 use Rattle.input.specs.declared.Input.the-variants as I
-use Rattle.input.specs.Input.{inputOf}
+use Rattle.input.specs.Input.{inputOf, sharing}
 
 -- "Requests: 10, 1, 2, 3, 4": the shape comes first
 abbrev pub answerBy : Input → (sines old : List ℕ) → Answer
@@ -32,3 +32,14 @@ sinesBy (I.Refused r) sines = sines
 
 unfoldable pub sinesFor : (input sines : List ℕ) → List ℕ
 sinesFor input sines = sinesBy (inputOf input) sines
+
+-- ---- of a request that asks for the covered share, document 02, wish 4
+
+unfoldable pub sharedAnswer : (input sines old : List ℕ) → Answer
+sharedAnswer input sines old = answerBy (sharing (inputOf input)) sines old
+
+unfoldable pub sharedBuffer : (input sines old : List ℕ) → List ℕ
+sharedBuffer input sines old = bufferBy (sharing (inputOf input)) sines old
+
+unfoldable pub sharedSines : (input sines : List ℕ) → List ℕ
+sharedSines input sines = sinesBy (sharing (inputOf input)) sines

@@ -5,9 +5,11 @@ ghost use mathlib.Core.Path.{_≡_};
 ghost use lib.IntN.{pos};
 ghost use lib.ListN.{getD};
 ghost use Rattle.circumstances.specs.Demand3.{Claimed};
-ghost use Rattle.input.specs.Input.{requestFrom, requestOf, inputOf};
+ghost use Rattle.input.specs.Input.{requestFrom, requestOf, inputOf, sharing};
 ghost use Rattle.input.specs.InputLaws.{Small};
-ghost use Rattle.input.specs.Sheet.{answerTo, bufferFor, sinesFor};
+ghost use Rattle.input.specs.Sheet.{answerTo, bufferFor, sinesFor, sharedAnswer, sharedBuffer, sharedSines};
+ghost use Rattle.input.specs.SheetLaws.{Made};
+ghost use Rattle.requests.specs.Shares.{withShare};
 
 // What the bytes hold, or the refusal of their shape.
 pub enum Input {
@@ -44,6 +46,7 @@ fn request_from(n: &[i64]) -> Request
         station,
         window,
         guard,
+        share: false,
     }
 }
 
@@ -67,6 +70,16 @@ pub fn request(input: &[u8]) -> Input
 
 // ---- the sheet
 
+// The sheet of what is asked for.
+fn sheet_for(asked: Input, sines: &mut [u32], buf: &mut [u8]) -> circumstances::Answer
+    ensures { λ r. ⌜ Made asked (now (sines .entry)) (now (buf .entry)) r (now (buf .exit)) (now (sines .exit)) ⌝ }
+{
+    match asked {
+        Input::Is(q) => circumstances::sheet(q, sines, buf),
+        Input::Refused(refusal) => circumstances::Answer::Refused(refusal),
+    }
+}
+
 // The contact sheet of the program's input, in the caller's buffer; `sines` is room for table S. Any bytes, any room, any buffer.
 pub fn sheet(input: &[u8], sines: &mut [u32], buf: &mut [u8]) -> circumstances::Answer
     ensures answer { λ r. ⌜ r ≡ answerTo (now (input .entry)) (now (sines .entry)) (now (buf .entry)) ⌝ }
@@ -75,8 +88,38 @@ pub fn sheet(input: &[u8], sines: &mut [u32], buf: &mut [u8]) -> circumstances::
     ensures demand3 { λ r. ⌜ Claimed (requestOf (now (input .entry))) r (now (buf .exit)) ⌝ }
 {
     let asked = request(input);
+    sheet_for(asked, sines, buf)
+}
+
+// The same, with a share asked for.
+fn with_share(asked: Input) -> Input
+    ensures { λ r. ⌜ r ≡ sharing asked ⌝ }
+{
     match asked {
-        Input::Is(q) => circumstances::sheet(q, sines, buf),
-        Input::Refused(refusal) => circumstances::Answer::Refused(refusal),
+        Input::Is(q) => {
+            let elements = q.elements;
+            let station = q.station;
+            let window = q.window;
+            let wish = Request {
+                elements,
+                station,
+                window,
+                guard: q.guard,
+                share: true,
+            };
+            Input::Is(wish)
+        }
+        Input::Refused(refusal) => Input::Refused(refusal),
     }
+}
+
+// The sheet of the same request with the covered share after the closest second.
+pub fn sheet_and_share(input: &[u8], sines: &mut [u32], buf: &mut [u8]) -> circumstances::Answer
+    ensures answer { λ r. ⌜ r ≡ sharedAnswer (now (input .entry)) (now (sines .entry)) (now (buf .entry)) ⌝ }
+    ensures buffer { λ r. ⌜ now (buf .exit) ≡ sharedBuffer (now (input .entry)) (now (sines .entry)) (now (buf .entry)) ⌝ }
+    ensures sines { λ r. ⌜ now (sines .exit) ≡ sharedSines (now (input .entry)) (now (sines .entry)) ⌝ }
+    ensures demand3 { λ r. ⌜ Claimed (withShare (requestOf (now (input .entry)))) r (now (buf .exit)) ⌝ }
+{
+    let asked = with_share(request(input));
+    sheet_for(asked, sines, buf)
 }

@@ -27,5 +27,9 @@ opened φ from to = record { kind = K.Open φ; a = from; b = to; c = 0; d = 0 }
 abbrev pub closest : ℕ → ℕ → Entry
 closest second magnitude = record { kind = K.Closest; a = second; b = magnitude; c = 0; d = 0 }
 
+-- the covered share
+abbrev pub share : ℕ → Entry
+share covered = record { kind = K.Share; a = covered; b = 0; c = 0; d = 0 }
+
 abbrev pub end : Entry
 end = record { kind = K.End; a = 0; b = 0; c = 0; d = 0 }

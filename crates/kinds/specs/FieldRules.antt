@@ -1,6 +1,7 @@
 -- The rules of an entry's fields, in the window of its sheet: "A reader also asks: station 1..999; first ≤ last ≤ 21,600; every second
 -- inside the window; from < to (open: from ≤ to, and from is the first second or to the last); direction 0..3599 or 65,535;
 -- magnitude ≤ 1,300,000." Of the head's guard document 02, wish 9, asks 16 to 1,000.
+-- Of a share document 02, wish 4, asks: "It lies from 0 to 1,000,000".
 -- Assumes nothing: these are definitions.
 use Prim.Native.Nat.{ℕ}
 use mathlib.Core.Bool.{Bool, _&&_, _||_}
@@ -34,3 +35,7 @@ isDirection direction = leb direction 3599 || eqb direction 65535
 -- "magnitude ≤ 1,300,000"
 abbrev pub closestHolds : Progress → ℕ → ℕ → Bool
 closestHolds p second magnitude = inWindow p second && leb magnitude 1300000
+
+-- document 02, wish 4: "7 for a share above 1,000,000"
+abbrev pub shareHolds : ℕ → Bool
+shareHolds share = leb share 1000000

@@ -17,8 +17,8 @@ use Rattle.kinds.specs.TestLaws.{both, distinct}
 use Rattle.kinds.specs.Kinds.{codeOf, kinds, among, kindFor, widthsOf, bytesIn, sizeOf, isEnd, unused, plain}
 
 pub no-kind : (x : ℕ) → (x ≡ 0x01 → ⊥) → (x ≡ 0x10 → ⊥) → (x ≡ 0x11 → ⊥) → (x ≡ 0x12 → ⊥) → (x ≡ 0x13 → ⊥)
-    → (x ≡ 0x20 → ⊥) → (x ≡ 0x21 → ⊥) → (x ≡ 0x22 → ⊥) → (x ≡ 0x23 → ⊥) → (x ≡ 0x30 → ⊥) → (x ≡ 0x7f → ⊥) → kindFor x ≡ Unknown
-no-kind x a b c d e f g h i j k =
+    → (x ≡ 0x20 → ⊥) → (x ≡ 0x21 → ⊥) → (x ≡ 0x22 → ⊥) → (x ≡ 0x23 → ⊥) → (x ≡ 0x30 → ⊥) → (x ≡ 0x31 → ⊥) → (x ≡ 0x7f → ⊥) → kindFor x ≡ Unknown
+no-kind x a b c d e f g h i j l k =
     rw (
       ne-eqb x 0x01 a,
       ne-eqb x 0x10 b,
@@ -30,6 +30,7 @@ no-kind x a b c d e f g h i j k =
       ne-eqb x 0x22 h,
       ne-eqb x 0x23 i,
       ne-eqb x 0x30 j,
+      ne-eqb x 0x31 l,
       ne-eqb x 0x7f k,
     )
 
@@ -45,6 +46,7 @@ kind-code (K.Graze Central) = refl
 kind-code (K.Open Penumbra) = refl
 kind-code (K.Open Central) = refl
 kind-code K.Closest = refl
+kind-code K.Share = refl
 kind-code K.End = refl
 
 among-inv : (ks : List Kind) (x : ℕ) (k : Kind) → among x ks ≡ Is k → x ≡ codeOf k
@@ -77,10 +79,11 @@ size-nine (K.Leave φ) = omega arith
 size-nine (K.Graze φ) = omega arith
 size-nine (K.Open φ) = omega arith
 size-nine K.Closest = omega arith
+size-nine K.Share = omega arith
 size-nine K.End = omega arith
 
 -- the bytes of a record by its kind's byte: a graze's and an open's have the bit of two and two bytes less; the end has less still, the
--- head more
+-- head more, and the share's does not tell
 abbrev pub shortened : ℕ → ℕ
 shortened code = 7 - code % 4 / 2 * 2
 
@@ -91,24 +94,32 @@ size-end (K.Leave φ) e = absurd (distinct (sym e))
 size-end (K.Graze φ) e = absurd (distinct (sym e))
 size-end (K.Open φ) e = absurd (distinct (sym e))
 size-end K.Closest e = absurd (distinct (sym e))
+size-end K.Share e = absurd (distinct (sym e))
 size-end K.End e = refl
 
-pub size-byte : (k : Kind) → isEnd k ≡ false → (codeOf k ≡ 0x01 → ⊥) → shortened (codeOf k) ≡ sizeOf k
-size-byte K.Head e n = absurd (n refl)
-size-byte (K.Enter Penumbra) e n = refl
-size-byte (K.Enter Central) e n = refl
-size-byte (K.Leave Penumbra) e n = refl
-size-byte (K.Leave Central) e n = refl
-size-byte (K.Graze Penumbra) e n = refl
-size-byte (K.Graze Central) e n = refl
-size-byte (K.Open Penumbra) e n = refl
-size-byte (K.Open Central) e n = refl
-size-byte K.Closest e n = refl
-size-byte K.End e n = absurd (distinct e)
+pub size-byte : (k : Kind) → isEnd k ≡ false → (codeOf k ≡ 0x01 → ⊥) → (codeOf k ≡ 0x31 → ⊥) → shortened (codeOf k) ≡ sizeOf k
+size-byte K.Head e n m = absurd (n refl)
+size-byte (K.Enter Penumbra) e n m = refl
+size-byte (K.Enter Central) e n m = refl
+size-byte (K.Leave Penumbra) e n m = refl
+size-byte (K.Leave Central) e n m = refl
+size-byte (K.Graze Penumbra) e n m = refl
+size-byte (K.Graze Central) e n m = refl
+size-byte (K.Open Penumbra) e n m = refl
+size-byte (K.Open Central) e n m = refl
+size-byte K.Closest e n m = refl
+size-byte K.Share e n m = absurd (m refl)
+size-byte K.End e n m = absurd (distinct e)
 
--- the head is the only kind of its byte
+-- a kind is the only one of its byte
+size-of-byte : (k j : Kind) → codeOf k ≡ codeOf j → sizeOf k ≡ sizeOf j
+size-of-byte k j e = ap sizeOf (let h : Is k ≡ Is j = sym (kind-code k) ∙ ap kindFor e ∙ kind-code j in let i : k ≡ j = cc in i)
+
 pub size-head : (k : Kind) → codeOf k ≡ 0x01 → sizeOf k ≡ 9
-size-head k e = ap sizeOf (let h : Is k ≡ Is K.Head = sym (kind-code k) ∙ ap kindFor e in let i : k ≡ K.Head = cc in i)
+size-head k e = size-of-byte k K.Head e
+
+pub size-share : (k : Kind) → codeOf k ≡ 0x31 → sizeOf k ≡ 5
+size-share k e = size-of-byte k K.Share e
 
 -- what the kind does not use is 0
 pub plain-inv : (e : Entry) → plain e ≡ true → let w = widthsOf (e .kind) in

@@ -17,7 +17,7 @@ use Rattle.kinds.specs.declared.Progress.{Progress}
 use Rattle.kinds.specs.declared.Entry.{Entry}
 use Rattle.kinds.specs.declared.Named.{Named}
 use Rattle.kinds.specs.declared.Named.the-variants.{Is, Unknown}
-use Rattle.kinds.specs.FieldRules.{headHolds, spanHolds, openHolds, isDirection, closestHolds}
+use Rattle.kinds.specs.FieldRules.{headHolds, spanHolds, openHolds, isDirection, closestHolds, shareHolds}
 
 -- a row: the byte of the kind, the widths of its fields a, b, c, d, its stage in the order, and the rule of its fields
 pub record Row : Type 0 where
@@ -39,7 +39,8 @@ base Central = 0x20
 
 -- "01 head: station, first, last (2 bytes each)"; "10, 11 enter, leave penumbra; 20, 21 central: from, to, direction (2 each)";
 -- "12, 13 graze, open penumbra; 22, 23 central: from, to (2 each)"; "30 closest: second (2), magnitude (4)"; "7F end: none".
--- Document 02, wish 9: "The request and, at its end, the head record gain a guard of 16 to 1,000, two bytes."
+-- Document 02, wish 9: "The request and, at its end, the head record gain a guard of 16 to 1,000, two bytes." Wish 4: "A new kind 31 with a
+-- 4-byte body stands once, directly after closest".
 abbrev pub table : Kind → Row
 table K.Head = row 0x01 (fields Two Two Two Two) S.Head (λ p e. headHolds (e .a) (e .b) (e .c) (e .d))
 table (K.Enter φ) = row (base φ) (fields Two Two Two Absent) (S.Phase φ) (λ p e. spanHolds p (e .a) (e .b) && isDirection (e .c))
@@ -47,12 +48,13 @@ table (K.Leave φ) = row (base φ + 1) (fields Two Two Two Absent) (S.Phase φ) 
 table (K.Graze φ) = row (base φ + 2) (fields Two Two Absent Absent) (S.Phase φ) (λ p e. spanHolds p (e .a) (e .b))
 table (K.Open φ) = row (base φ + 3) (fields Two Two Absent Absent) (S.Phase φ) (λ p e. openHolds p (e .a) (e .b))
 table K.Closest = row 0x30 (fields Two Four Absent Absent) S.Closest (λ p e. closestHolds p (e .a) (e .b))
+table K.Share = row 0x31 (fields Four Absent Absent Absent) S.Share (λ p e. shareHolds (e .a))
 table K.End = row 0x7f (fields Absent Absent Absent Absent) S.End (λ p e. true)
 
 abbrev pub kinds : List Kind
 kinds =
     K.Head ∷ K.Enter Penumbra ∷ K.Leave Penumbra ∷ K.Graze Penumbra ∷ K.Open Penumbra
-    ∷ K.Enter Central ∷ K.Leave Central ∷ K.Graze Central ∷ K.Open Central ∷ K.Closest ∷ K.End ∷ []
+    ∷ K.Enter Central ∷ K.Leave Central ∷ K.Graze Central ∷ K.Open Central ∷ K.Closest ∷ K.Share ∷ K.End ∷ []
 
 abbrev pub codeOf : Kind → ℕ
 codeOf k = table k .code
@@ -84,6 +86,7 @@ isEnd (K.Leave φ) = false
 isEnd (K.Graze φ) = false
 isEnd (K.Open φ) = false
 isEnd K.Closest = false
+isEnd K.Share = false
 isEnd K.End = true
 
 -- a number that the kind does not use is 0

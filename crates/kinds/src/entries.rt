@@ -83,6 +83,19 @@ pub fn closest(second: u32, magnitude: u32) -> Entry
     }
 }
 
+pub fn share(share: u32) -> Entry
+    ensures { λ r. ⌜ r ≡ Named.share share ⌝ }
+{
+    let kind = Kind::Share;
+    Entry {
+        kind,
+        a: share,
+        b: 0,
+        c: 0,
+        d: 0,
+    }
+}
+
 pub fn end() -> Entry
     ensures { λ r. ⌜ r ≡ Named.end ⌝ }
 {

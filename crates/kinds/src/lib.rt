@@ -18,6 +18,7 @@ pub enum Kind {
     Graze(Phase),
     Open(Phase),
     Closest,
+    Share,
     End,
 }
 
@@ -27,6 +28,7 @@ pub enum Kind {
 //   enter, leave  a from, b to; c direction: in tenths of a degree, 0 to 3599, or 65,535 for none
 //   graze, open   a from, b to
 //   closest       a second; b magnitude: in millionths, 0 to 1,300,000
+//   share         a share: of the Sun's disc that is covered, in millionths, 0 to 1,000,000
 //   end           none
 // The kind stands between the first two numbers, so that no two of them are loaded as one right after they were stored apart.
 pub struct Entry {
@@ -58,12 +60,13 @@ pub enum Named {
     Unknown,
 }
 
-// The stages of a sheet in their order: nothing yet, then head, the phases by time, closest, end.
+// The stages of a sheet in their order: nothing yet, then head, the phases by time, closest, the share if there is one, end.
 pub enum Stage {
     Start,
     Head,
     Phase(Phase),
     Closest,
+    Share,
     End,
 }
 
@@ -108,6 +111,7 @@ pub fn code_of(kind: Kind) -> u32
         Kind::Graze(phase) => base_of(phase) + 2,
         Kind::Open(phase) => base_of(phase) + 3,
         Kind::Closest => 0x30,
+        Kind::Share => 0x31,
         Kind::End => 0x7f,
     }
 }
@@ -134,6 +138,7 @@ pub fn kind_for(code: u32) -> Named
         0x20..=0x23 => phase_kind(Phase::Central, code - 0x20),
         0x01 => Named::Is(Kind::Head),
         0x30 => Named::Is(Kind::Closest),
+        0x31 => Named::Is(Kind::Share),
         0x7f => Named::Is(Kind::End),
         _ => Named::Unknown,
     }
@@ -156,6 +161,7 @@ pub fn widths_of(kind: Kind) -> Widths
         Kind::Graze(_) => fields(Width::Two, Width::Two, Width::Absent, Width::Absent),
         Kind::Open(_) => fields(Width::Two, Width::Two, Width::Absent, Width::Absent),
         Kind::Closest => fields(Width::Two, Width::Four, Width::Absent, Width::Absent),
+        Kind::Share => fields(Width::Four, Width::Absent, Width::Absent, Width::Absent),
         Kind::End => fields(Width::Absent, Width::Absent, Width::Absent, Width::Absent),
     }
 }
@@ -182,6 +188,7 @@ pub fn size_of(kind: Kind) -> usize
         Kind::Graze(_) => 5,
         Kind::Open(_) => 5,
         Kind::Closest => 7,
+        Kind::Share => 5,
         Kind::End => 1,
     }
 }
@@ -198,6 +205,9 @@ pub fn size_for(code: u32, kind: Kind) -> usize
     if code == 0x01 {
         return 9;
     }
+    if code == 0x31 {
+        return 5;
+    }
     let size = 7 - code % 4 / 2 * 2;
     size as usize
 }
@@ -213,6 +223,7 @@ pub fn stage_of(kind: Kind) -> Stage
         Kind::Graze(phase) => Stage::Phase(phase),
         Kind::Open(phase) => Stage::Phase(phase),
         Kind::Closest => Stage::Closest,
+        Kind::Share => Stage::Share,
         Kind::End => Stage::End,
     }
 }
@@ -228,6 +239,7 @@ pub fn is_end(kind: Kind) -> bool
         Kind::Graze(_) => false,
         Kind::Open(_) => false,
         Kind::Closest => false,
+        Kind::Share => false,
         Kind::End => true,
     }
 }

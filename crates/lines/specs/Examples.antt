@@ -2,7 +2,7 @@
 use mathlib.Core.Path.{_≡_, refl}
 use mathlib.Core.List.{[], _∷_}
 use Rattle.phases.specs.declared.Phase.the-variants.{Penumbra, Central}
-use Rattle.kinds.specs.Entries.{head, enter, leave, graze, opened, closest, end}
+use Rattle.kinds.specs.Entries.{head, enter, leave, graze, opened, closest, share, end}
 use Rattle.decimals.specs.Decimals.{digitsOf, decimal, signed}
 use Rattle.decimals.specs.Texts.{letters}
 use Rattle.decimals.specs.Patterns.{piece, filled}
@@ -16,9 +16,10 @@ pub hand-worked : linesOf (
 unfolding linesOf lineOf filled piece signed decimal digitsOf
 hand-worked = refl
 
-pub unsure : linesOf (opened Penumbra 16200 16201 ∷ graze Central 10799 10801 ∷ []) ≡ letters "open penumbra 5400 5401\ngraze central -1 1\n"
+pub others : linesOf (opened Penumbra 16200 16201 ∷ graze Central 10799 10801 ∷ share 405728 ∷ [])
+    ≡ letters "open penumbra 5400 5401\ngraze central -1 1\nshare 405728\n"
 unfolding linesOf lineOf filled piece signed decimal digitsOf
-unsure = refl
+others = refl
 
 -- "42 gives refusal 4 with place 43"; document 02, wish 9: "with 45 and 44 bytes for 43 and 42"
 pub refused : refusalLine 4 45 ≡ letters "refused 4 45\n"

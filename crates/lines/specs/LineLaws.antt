@@ -16,6 +16,9 @@ use Rattle.lines.specs.Lines.{lineFor, lineOf, numbered, refusalText, re
 
 -- a pattern filled with the same numbers
 module _ (s old : List ℕ) (at : ℕ) (new : List ℕ) (r : ℕ) where
+  pub filled-one : (x v : ℤ) → x ≡ v → Put old at (filled (x ∷ []) 0 s) new r → Put old at (filled (v ∷ []) 0 s) new r
+  filled-one x v p f = rw (← p) f
+
   pub filled-two : (x y v w : ℤ) → x ≡ v → y ≡ w → Put old at (filled (x ∷ y ∷ []) 0 s) new r → Put old at (filled (v ∷ w ∷ []) 0 s) new r
   filled-two x y v w p q f = rw (← p, ← q) f
 

@@ -7,7 +7,7 @@ use lib.IntN.{pos}
 use Rattle.phases.specs.declared.Phase.{Phase}
 use Rattle.phases.specs.declared.Phase.the-variants.{Penumbra, Central}
 use Rattle.kinds.specs.declared.Kind.{Kind}
-use Rattle.kinds.specs.declared.Kind.the-variants.{Head, Enter, Leave, Graze, Open, Closest, End}
+use Rattle.kinds.specs.declared.Kind.the-variants.{Head, Enter, Leave, Graze, Open, Closest, Share, End}
 use Rattle.kinds.specs.declared.Entry.{Entry}
 use Rattle.kinds.specs.StoredSeconds.{secondOf}
 use Rattle.sheets.specs.declared.Extent.{Extent}
@@ -36,6 +36,10 @@ unsureLine word φ from to = word ++ letters (nameOf φ) ++ filled (secondOf fro
 abbrev pub closestLine : ℕ → ℕ → List ℕ
 closestLine second magnitude = filled (secondOf second ∷ pos magnitude ∷ []) 0 (letters "closest # #\n")
 
+-- document 02, wish 4, as the others have it: a word and the share
+abbrev pub shareLine : ℕ → List ℕ
+shareLine covered = filled (pos covered ∷ []) 0 (letters "share #\n")
+
 -- the line of a kind with its first three fields; the end record has none
 abbrev pub lineFor : Kind → ℕ → ℕ → ℕ → List ℕ
 lineFor Head a b c = headLine a b c
@@ -44,6 +48,7 @@ lineFor (Leave φ) a b c = contactLine (letters "leave ") φ a b c
 lineFor (Graze φ) a b c = unsureLine (letters "graze ") φ a b
 lineFor (Open φ) a b c = unsureLine (letters "open ") φ a b
 lineFor Closest a b c = closestLine a b
+lineFor Share a b c = shareLine a
 lineFor End a b c = []
 
 unfoldable pub lineOf : Entry → List ℕ

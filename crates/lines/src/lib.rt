@@ -6,7 +6,7 @@ use phases::Phase;
 use sheets::Extent;
 ghost use mathlib.Core.List.{_++_};
 ghost use Rattle.decimals.specs.Texts.{letters, Put};
-ghost use Rattle.lines.specs.Lines.{nameOf, headLine, contactLine, unsureLine, closestLine, lineOf, numbered, refusalText, refusalLine, extentText};
+ghost use Rattle.lines.specs.Lines.{nameOf, headLine, contactLine, unsureLine, closestLine, shareLine, lineOf, numbered, refusalText, refusalLine, extentText};
 
 fn put_phase(out: &mut [u8], at: usize, phase: Phase) -> usize
     ensures { λ r. ⌜ Put (now (out .entry)) at (letters (nameOf phase)) (now (out .exit)) r ⌝ }
@@ -71,6 +71,15 @@ fn put_closest(out: &mut [u8], at: usize, second: u32, magnitude: u32) -> usize
     decimals::put_filled(out, at, b"closest # #\n", &numbers)
 }
 
+// The covered share in millionths.
+fn put_share(out: &mut [u8], at: usize, share: u32) -> usize
+    ensures { λ r. ⌜ Put (now (out .entry)) at (shareLine share) (now (out .exit)) r ⌝ }
+{
+    let millionths = share as i64;
+    let numbers = [millionths];
+    decimals::put_filled(out, at, b"share #\n", &numbers)
+}
+
 // The line of an entry. A new kind is an arm here and a row of `lineFor`.
 pub fn put_entry(out: &mut [u8], at: usize, entry: Entry) -> usize
     ensures { λ r. ⌜ Put (now (out .entry)) at (lineOf entry) (now (out .exit)) r ⌝ }
@@ -86,6 +95,7 @@ pub fn put_entry(out: &mut [u8], at: usize, entry: Entry) -> usize
         Kind::Graze(phase) => put_unsure(out, at, b"graze ", phase, a, b),
         Kind::Open(phase) => put_unsure(out, at, b"open ", phase, a, b),
         Kind::Closest => put_closest(out, at, a, b),
+        Kind::Share => put_share(out, at, a),
         Kind::End => at,
     }
 }

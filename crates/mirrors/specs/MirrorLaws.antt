@@ -19,6 +19,8 @@ use Rattle.requests.specs.Mirror.{mirroredRequest, mirrorOf}
 use Rattle.requests.specs.MirrorLaws.{checked-mirrored, mirrored-twice, mirrored-is}
 use Rattle.seconds.specs.Seconds.{momentAt, stateAt, directionAt, magnitudeAt, closestOf}
 use Rattle.seconds.specs.MirrorLaws.{state-mirrored, magnitude-mirrored, u-mirrored, v-mirrored, M-mirrored, closest-mirrored}
+use Rattle.covered.specs.Covered.{shareAt}
+use Rattle.covered.specs.MirrorLaws.{share-mirrored}
 use Rattle.courses.specs.Courses.{Course, sheetOf}
 use Rattle.courses.specs.Directions.{AlikeButDirections}
 use Rattle.courses.specs.DirectionLaws.{redirected, sheet-alike, alike-length}
@@ -39,7 +41,8 @@ module _ (q : Request) where
   course-mirrored =
       let s : stateAt q′ ≡ stateAt q = fun-ext (λ φ. fun-ext (λ τ. state-mirrored q τ φ)) in
       let m : magnitudeAt q′ ≡ magnitudeAt q = fun-ext (λ τ. magnitude-mirrored q τ) in
-      rw (s, m, closest-mirrored q)
+      let c : shareAt q′ ≡ shareAt q = fun-ext (λ τ. share-mirrored q τ) in
+      rw (s, m, c, closest-mirrored q)
 
   entries-mirrored : AlikeButDirections (sheetOf (courseOf q′)) (sheetOf (courseOf q))
   entries-mirrored =

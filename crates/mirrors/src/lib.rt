@@ -92,6 +92,7 @@ pub fn mirror(q: Request) -> Request
         station,
         window,
         guard: q.guard,
+        share: q.share,
     }
 }
 

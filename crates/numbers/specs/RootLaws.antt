@@ -1,4 +1,7 @@
--- Laws of the root: it is the largest whole number whose square is at most n (root-is), and the only one (root-unique).
+-- Laws of the root.
+--   root-is, root-unique   it is the largest whole number whose square is at most n, and the only one
+--   root-below, root-least it is at most k where the number is below (k + 1)², and at least k where k² is at most the number
+--   root-mono, root-above  the root of the larger is no smaller; it is at least 1 where the number is
 use mathlib.Core.Path.{_≡_, refl}
 use mathlib.Core.Bool.{Bool, true, false, cond}
 use Prim.Native.Nat.{ℕ, zero, suc, _+_, _*_, _/_, _^_, _≤_, _<_}
@@ -31,3 +34,16 @@ digits-is (suc f) n h = more-is n (digits f (n / 4)) (digits-is f (n / 4) (omega
 pub root-is : (n : ℕ) → n < 18446744073709551616 → IsRoot n (root n)
 unfolding root
 root-is n h = digits-is 32 n h
+
+-- ---- the root and the order
+pub root-below : (n k : ℕ) → n < 18446744073709551616 → n < (k + 1) * (k + 1) → root n ≤ k
+root-below n k h l = omega (arith, lt-of-not-le (λ (g : k + 1 ≤ root n). absurd (omega (arith, root-is n h .low, mul-le-mul g g))))
+
+pub root-least : (n k : ℕ) → n < 18446744073709551616 → k * k ≤ n → k ≤ root n
+root-least n k h l = omega (arith, lt-of-not-le (λ (g : root n + 1 ≤ k). absurd (omega (arith, root-is n h .high, mul-le-mul g g))))
+
+pub root-mono : (a b : ℕ) → a ≤ b → b < 18446744073709551616 → root a ≤ root b
+root-mono a b h l = root-below a (root b) (omega arith) (omega (arith, root-is b l .high))
+
+pub root-above : (n : ℕ) → 1 ≤ n → n < 18446744073709551616 → 1 ≤ root n
+root-above n h l = root-least n 1 l (omega arith)

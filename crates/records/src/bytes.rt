@@ -40,9 +40,9 @@ fn two_if(s: &[u8], at: usize, there: bool) -> u32
     if there { super::two_at(s, at) } else { 0 }
 }
 
-// The fields of a kind from the four numbers of two bytes that follow its byte, x, y, z and w; `wide` is y and z as one.
-fn field_a(kind: Kind, x: u32) -> u32
-    ensures { λ r. ⌜ r ≡ fieldA kind x ⌝ }
+// The fields of a kind from the four numbers of two bytes that follow its byte, x, y, z and w; `early` is x and y as one, `wide` y and z.
+fn field_a(kind: Kind, x: u32, early: u32) -> u32
+    ensures { λ r. ⌜ r ≡ fieldA kind x early ⌝ }
 {
     match kind {
         Kind::Head => x,
@@ -51,6 +51,7 @@ fn field_a(kind: Kind, x: u32) -> u32
         Kind::Graze(_) => x,
         Kind::Open(_) => x,
         Kind::Closest => x,
+        Kind::Share => early,
         Kind::End => 0,
     }
 }
@@ -65,6 +66,7 @@ fn field_b(kind: Kind, y: u32, wide: u32) -> u32
         Kind::Graze(_) => y,
         Kind::Open(_) => y,
         Kind::Closest => wide,
+        Kind::Share => 0,
         Kind::End => 0,
     }
 }
@@ -79,6 +81,7 @@ fn field_c(kind: Kind, z: u32) -> u32
         Kind::Graze(_) => 0,
         Kind::Open(_) => 0,
         Kind::Closest => 0,
+        Kind::Share => 0,
         Kind::End => 0,
     }
 }
@@ -93,6 +96,7 @@ fn field_d(kind: Kind, w: u32) -> u32
         Kind::Graze(_) => 0,
         Kind::Open(_) => 0,
         Kind::Closest => 0,
+        Kind::Share => 0,
         Kind::End => 0,
     }
 }
@@ -126,7 +130,7 @@ pub fn body_at(s: &[u8], at: usize, kind: Kind) -> Body
     let y = two_if(s, at_b, 5 <= left);
     let z = two_if(s, at_c, 7 <= left);
     let w = two_if(s, at_d, 9 <= left);
-    let a = field_a(kind, x);
+    let a = field_a(kind, x, x * 65536 + y);
     let b = field_b(kind, y, y * 65536 + z);
     let c = field_c(kind, z);
     let d = field_d(kind, w);

@@ -4,5 +4,6 @@ pub mod Admission
 pub mod WindowLaws
 pub mod RequestLaws
 pub mod AdmissionLaws
+pub mod Shares
 pub mod Mirror
 pub mod MirrorLaws

@@ -9,7 +9,7 @@ use Rattle.requests.specs.declared.Request.{Request}
 
 -- document 02, wish 13: "change the sign of all y and d coefficients and of the latitude", and nothing else; f changes a sign
 abbrev pub mirroredRequest : (f : ℤ → ℤ) → Request → Request
-mirroredRequest f q = record { elements = mirroredElements f (q .elements); station = mirroredStation f (q .station); window = q .window; guard = q .guard }
+mirroredRequest f q = record { elements = mirroredElements f (q .elements); station = mirroredStation f (q .station); window = q .window; guard = q .guard; share = q .share }
 
 -- "change the sign": of a number of at most `most` in size. A larger one stays as it is; all ranges leave it out
 unfoldable pub opposite : (most : ℕ) → ℤ → ℤ

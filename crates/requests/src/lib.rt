@@ -1,4 +1,5 @@
-// A request: the elements of an eclipse, a station, a window of seconds and a guard. Its limits, and the refusals 1, 2 and 3.
+// A request: the elements of an eclipse, a station, a window of seconds, a guard, and whether a share is asked for. Its limits, and the
+// refusals 1, 2 and 3.
 pub mod admission;
 
 use refusals::Checked;
@@ -23,6 +24,8 @@ pub struct Request {
     pub window: Window,
     // how near to a cone's edge nothing is said, 10^-8 of the Earth's equatorial radius, 16 to 1,000
     pub guard: i64,
+    // whether the sheet has the covered share at the closest second
+    pub share: bool,
 }
 
 // Whether a window may have that second.

@@ -76,6 +76,10 @@ kind-fits p K.Closest a b c d h n q =
     let x = both (inWindow p a) (leb b 1300000) q in
     let m = leb-true b 1300000 (x .1) in
     record { a = window-fits p a h (x .0); b = omega arith; c = zero c (u .2); d = zero d (u .3) }
+kind-fits p K.Share a b c d h n q =
+    let u = plain-inv _ n in
+    let m = leb-true a 1000000 q in
+    record { a = omega arith; b = zero b (u .1); c = zero c (u .2); d = zero d (u .3) }
 kind-fits p K.End a b c d h n q =
     let u = plain-inv _ n in
     record { a = zero a (u .0); b = zero b (u .1); c = zero c (u .2); d = zero d (u .3) }
@@ -94,6 +98,7 @@ kind-small p (K.Leave φ) a b c d h q = h
 kind-small p (K.Graze φ) a b c d h q = h
 kind-small p (K.Open φ) a b c d h q = h
 kind-small p K.Closest a b c d h q = h
+kind-small p K.Share a b c d h q = h
 kind-small p K.End a b c d h q = h
 
 pub after-small : (p : Progress) (e : Entry) → Small p → fieldsHold p e ≡ true → Small (afterOf p e)

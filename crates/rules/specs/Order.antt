@@ -26,6 +26,7 @@ nothingCame S.Start = true
 nothingCame S.Head = false
 nothingCame (S.Phase φ) = false
 nothingCame S.Closest = false
+nothingCame S.Share = false
 nothingCame S.End = false
 
 -- the head, or an entry of a phase that entries of ψ may follow
@@ -34,6 +35,7 @@ phaseMayCome S.Start ψ = false
 phaseMayCome S.Head ψ = true
 phaseMayCome (S.Phase φ) ψ = phaseFollows φ ψ
 phaseMayCome S.Closest ψ = false
+phaseMayCome S.Share ψ = false
 phaseMayCome S.End ψ = false
 
 -- the head, or an entry of any phase
@@ -42,6 +44,7 @@ headOrPhaseCame S.Start = false
 headOrPhaseCame S.Head = true
 headOrPhaseCame (S.Phase φ) = true
 headOrPhaseCame S.Closest = false
+headOrPhaseCame S.Share = false
 headOrPhaseCame S.End = false
 
 -- closest
@@ -50,16 +53,28 @@ closestCame S.Start = false
 closestCame S.Head = false
 closestCame (S.Phase φ) = false
 closestCame S.Closest = true
+closestCame S.Share = false
 closestCame S.End = false
 
+-- closest, or the share after it
+abbrev pub closestOrShareCame : Stage → Bool
+closestOrShareCame S.Start = false
+closestOrShareCame S.Head = false
+closestOrShareCame (S.Phase φ) = false
+closestOrShareCame S.Closest = true
+closestOrShareCame S.Share = true
+closestOrShareCame S.End = false
+
 -- "Order: head, penumbra by time, central by time, closest, end; head, closest and end exactly once";
+-- document 02, wish 4: "A new kind 31 .. stands once, directly after closest .. sheets without it still read well";
 -- "A record that stands where another is due breaks order": whether an entry of a stage may come after what came last
 abbrev pub mayCome : Stage → Stage → Bool
 mayCome last S.Start = false
 mayCome last S.Head = nothingCame last
 mayCome last (S.Phase φ) = phaseMayCome last φ
 mayCome last S.Closest = headOrPhaseCame last
-mayCome last S.End = closestCame last
+mayCome last S.Share = closestCame last
+mayCome last S.End = closestOrShareCame last
 
 -- an entry of that phase came last
 abbrev pub isWithin : Stage → Phase → Bool
@@ -67,6 +82,7 @@ isWithin S.Start ψ = false
 isWithin S.Head ψ = false
 isWithin (S.Phase φ) ψ = samePhase φ ψ
 isWithin S.Closest ψ = false
+isWithin S.Share ψ = false
 isWithin S.End ψ = false
 
 -- "no enter next to an enter or leave next to a leave": after the last crossing, this one

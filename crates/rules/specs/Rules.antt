@@ -43,6 +43,7 @@ afterKind p e (K.Leave φ) = passed p φ (e .b) C.Leave
 afterKind p e (K.Graze φ) = passed p φ (e .b) (crossingKept p φ)
 afterKind p e (K.Open φ) = passed p φ (e .b) (crossingKept p φ)
 afterKind p e K.Closest = reached S.Closest (p .first) (p .last)
+afterKind p e K.Share = reached S.Share (p .first) (p .last)
 afterKind p e K.End = reached S.End (p .first) (p .last)
 
 -- how far the sheet has come after an entry
@@ -64,6 +65,7 @@ kindInOrder p e (K.Leave φ) = phaseInOrder p φ C.Leave (e .a)
 kindInOrder p e (K.Graze φ) = phaseInOrder p φ C.Neither (e .a)
 kindInOrder p e (K.Open φ) = phaseInOrder p φ C.Neither (e .a)
 kindInOrder p e K.Closest = mayCome (p .stage) S.Closest
+kindInOrder p e K.Share = mayCome (p .stage) S.Share
 kindInOrder p e K.End = mayCome (p .stage) S.End
 
 abbrev pub inOrder : Progress → Entry → Bool

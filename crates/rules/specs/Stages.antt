@@ -18,7 +18,7 @@ use Rattle.kinds.specs.declared.Progress.{Progress}
 use Rattle.kinds.specs.declared.Entry.{Entry}
 use Rattle.kinds.specs.Kinds.{table}
 use Rattle.kinds.specs.TestLaws.{both}
-use Rattle.kinds.specs.FieldRules.{headHolds, spanHolds, openHolds, isDirection, closestHolds}
+use Rattle.kinds.specs.FieldRules.{headHolds, spanHolds, openHolds, isDirection, closestHolds, shareHolds}
 use Rattle.rules.specs.Order.{mayCome, isWithin, repeats}
 use Rattle.rules.specs.Rules.{reached, passed, crossingKept, afterKind, phaseInOrder, kindInOrder}
 
@@ -31,6 +31,7 @@ crossingOf (K.Leave φ) = C.Leave
 crossingOf (K.Graze φ) = C.Neither
 crossingOf (K.Open φ) = C.Neither
 crossingOf K.Closest = C.Neither
+crossingOf K.Share = C.Neither
 crossingOf K.End = C.Neither
 
 abbrev pub isOpen : Kind → Bool
@@ -40,6 +41,7 @@ isOpen (K.Leave φ) = false
 isOpen (K.Graze φ) = false
 isOpen (K.Open φ) = true
 isOpen K.Closest = false
+isOpen K.Share = false
 isOpen K.End = false
 
 abbrev pub directionHolds : Kind → ℕ → Bool
@@ -49,6 +51,7 @@ directionHolds (K.Leave φ) direction = isDirection direction
 directionHolds (K.Graze φ) direction = true
 directionHolds (K.Open φ) direction = true
 directionHolds K.Closest direction = true
+directionHolds K.Share direction = true
 directionHolds K.End direction = true
 
 abbrev pub phaseHolds : Progress → Kind → ℕ → ℕ → ℕ → Bool
@@ -67,6 +70,7 @@ orderAt p e k S.Start = false
 orderAt p e k S.Head = mayCome (p .stage) S.Head
 orderAt p e k (S.Phase φ) = phaseInOrder p φ (crossingOf k) (e .a)
 orderAt p e k S.Closest = mayCome (p .stage) S.Closest
+orderAt p e k S.Share = mayCome (p .stage) S.Share
 orderAt p e k S.End = mayCome (p .stage) S.End
 
 abbrev pub ruleAt : Progress → Entry → Kind → Stage → Bool
@@ -74,6 +78,7 @@ ruleAt p e k S.Start = false
 ruleAt p e k S.Head = headHolds (e .a) (e .b) (e .c) (e .d)
 ruleAt p e k (S.Phase φ) = phaseHolds p k (e .a) (e .b) (e .c)
 ruleAt p e k S.Closest = closestHolds p (e .a) (e .b)
+ruleAt p e k S.Share = shareHolds (e .a)
 ruleAt p e k S.End = true
 
 abbrev pub afterAt : Progress → Entry → Kind → Stage → Progress
@@ -81,6 +86,7 @@ afterAt p e k S.Start = reached S.Start (e .b) (e .c)
 afterAt p e k S.Head = reached S.Head (e .b) (e .c)
 afterAt p e k (S.Phase φ) = passed p φ (e .b) (crossingAfter (crossingOf k) (crossingKept p φ))
 afterAt p e k S.Closest = reached S.Closest (p .first) (p .last)
+afterAt p e k S.Share = reached S.Share (p .first) (p .last)
 afterAt p e k S.End = reached S.End (p .first) (p .last)
 
 -- ---- at the stage of the kind's row these are the rules
@@ -93,6 +99,7 @@ module _ (p : Progress) (e : Entry) where
   order-at (K.Graze φ) = refl
   order-at (K.Open φ) = refl
   order-at K.Closest = refl
+  order-at K.Share = refl
   order-at K.End = refl
 
   rule-at : (k : Kind) → ruleAt p e k (table k .stage) ≡ table k .rule p e
@@ -102,6 +109,7 @@ module _ (p : Progress) (e : Entry) where
   rule-at (K.Graze φ) = and-true (spanHolds p (e .a) (e .b))
   rule-at (K.Open φ) = refl
   rule-at K.Closest = refl
+  rule-at K.Share = refl
   rule-at K.End = refl
 
   after-at : (k : Kind) → afterAt p e k (table k .stage) ≡ afterKind p e k
@@ -111,6 +119,7 @@ module _ (p : Progress) (e : Entry) where
   after-at (K.Graze φ) = refl
   after-at (K.Open φ) = refl
   after-at K.Closest = refl
+  after-at K.Share = refl
   after-at K.End = refl
 
   -- so at a stage that the row is known to have
@@ -133,6 +142,7 @@ within-may (S.Phase Penumbra) φ e = refl
 within-may (S.Phase Central) Penumbra e = e
 within-may (S.Phase Central) Central e = refl
 within-may S.Closest φ e = e
+within-may S.Share φ e = e
 within-may S.End φ e = e
 
 -- a crossing as a number: two that repeat have the same, and it is not that of none
@@ -185,4 +195,5 @@ angle-holds (K.Leave φ) d e = rw e
 angle-holds (K.Graze φ) d e = refl
 angle-holds (K.Open φ) d e = refl
 angle-holds K.Closest d e = refl
+angle-holds K.Share d e = refl
 angle-holds K.End d e = refl

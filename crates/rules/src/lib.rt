@@ -77,6 +77,7 @@ fn direction_holds(kind: Kind, direction: u32) -> bool
         Kind::Graze(_) => true,
         Kind::Open(_) => true,
         Kind::Closest => true,
+        Kind::Share => true,
         Kind::End => true,
     }
 }
@@ -91,6 +92,7 @@ fn is_open(kind: Kind) -> bool
         Kind::Graze(_) => false,
         Kind::Open(_) => true,
         Kind::Closest => false,
+        Kind::Share => false,
         Kind::End => false,
     }
 }
@@ -118,6 +120,7 @@ fn crossing_of(kind: Kind) -> Crossing
         Kind::Graze(_) => Crossing::Neither,
         Kind::Open(_) => Crossing::Neither,
         Kind::Closest => Crossing::Neither,
+        Kind::Share => Crossing::Neither,
         Kind::End => Crossing::Neither,
     }
 }
@@ -205,6 +208,7 @@ pub fn in_order(p: Progress, entry: Entry) -> bool
             phase_in_order(p, phase, crossing, entry.a)
         }
         Stage::Closest => order::closest_may_come(last),
+        Stage::Share => order::share_may_come(last),
         Stage::End => order::end_may_come(last),
     }
 }
@@ -224,6 +228,7 @@ pub fn rule_holds(p: Progress, entry: Entry) -> bool
         Stage::Head => (1 <= a) & (a <= 999) & (b <= c) & (c <= 21600) & guard_holds(d),
         Stage::Phase(_) => phase_holds(p, kind, a, b, c),
         Stage::Closest => in_window(p, a) & (b <= 1300000),
+        Stage::Share => a <= 1000000,
         Stage::End => true,
     }
 }
@@ -246,6 +251,7 @@ pub fn after(p: Progress, entry: Entry) -> Progress
             passed_to(p, phase, b, now)
         }
         Stage::Closest => reach(stage, p.first, p.last),
+        Stage::Share => reach(stage, p.first, p.last),
         Stage::End => reach(stage, p.first, p.last),
     }
 }

@@ -45,6 +45,7 @@ pub fn is_within(last: Stage, phase: Phase) -> bool
         Stage::Head => false,
         Stage::Phase(of) => same_phase(of, phase),
         Stage::Closest => false,
+        Stage::Share => false,
         Stage::End => false,
     }
 }
@@ -57,6 +58,7 @@ pub fn head_may_come(last: Stage) -> bool
         Stage::Head => false,
         Stage::Phase(_) => false,
         Stage::Closest => false,
+        Stage::Share => false,
         Stage::End => false,
     }
 }
@@ -69,6 +71,7 @@ pub fn phase_may_come(last: Stage, phase: Phase) -> bool
         Stage::Head => true,
         Stage::Phase(of) => phase_follows(of, phase),
         Stage::Closest => false,
+        Stage::Share => false,
         Stage::End => false,
     }
 }
@@ -81,6 +84,20 @@ pub fn closest_may_come(last: Stage) -> bool
         Stage::Head => true,
         Stage::Phase(_) => true,
         Stage::Closest => false,
+        Stage::Share => false,
+        Stage::End => false,
+    }
+}
+
+pub fn share_may_come(last: Stage) -> bool
+    ensures { λ r. ⌜ r ≡ mayCome last S.Share ⌝ }
+{
+    match last {
+        Stage::Start => false,
+        Stage::Head => false,
+        Stage::Phase(_) => false,
+        Stage::Closest => true,
+        Stage::Share => false,
         Stage::End => false,
     }
 }
@@ -93,6 +110,7 @@ pub fn end_may_come(last: Stage) -> bool
         Stage::Head => false,
         Stage::Phase(_) => false,
         Stage::Closest => true,
+        Stage::Share => true,
         Stage::End => false,
     }
 }

@@ -16,7 +16,7 @@ use Rattle.seconds.specs.SecondLaws.{placed}
 
 -- the same request under another guard
 abbrev pub withGuard : ℤ → Request → Request
-withGuard guard q = record { elements = q .elements; station = q .station; window = q .window; guard = guard }
+withGuard guard q = record { elements = q .elements; station = q .station; window = q .window; guard = guard; share = q .share }
 
 -- of every request within the limits, both phases, every second of its window, every smaller guard from 0 on
 pub only-withhold : (q : Request) → InLimits q → (smaller : ℤ) → pos 0 ≤ℤ smaller → smaller ≤ℤ q .guard

@@ -20,7 +20,7 @@ module _ (q : Request) where
   q′ = mirroredRequest negℤ q
 
   module _ (τ : ℤ) where
-    moment-mirrored : momentAt q′ τ ≡ mirroredMoment (momentAt q τ)
+    pub moment-mirrored : momentAt q′ τ ≡ mirroredMoment (momentAt q τ)
     moment-mirrored = rw (place-mirrored (q .station))
 
     pub state-mirrored : (φ : Phase) → stateAt q′ φ τ ≡ stateAt q φ τ

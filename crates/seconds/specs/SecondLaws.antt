@@ -1,6 +1,6 @@
 -- What callers use of the seconds of a request within its limits.
 --   states-length                                      a byte for each second
---   direction-small, magnitude-small, closest-within   what a reader asks of them
+--   direction-small, magnitude-small, closest-within, closest-size   what a reader asks of them
 --   each-second                                        every second is said rightly
 --   means-answer                                       so is one that was answered
 --   second-outside, second-inside, second-is           the ways of an answer
@@ -34,7 +34,7 @@ use Rattle.geometry.specs.Exact as Exact
 use Rattle.shadow.specs.SecondLaws.{state-at, states-true, magnitude-most, direction-near}
 use Rattle.requests.specs.declared.Request.{Request}
 use Rattle.requests.specs.Windows.{inSpan, nthSecond, secondCount}
-use Rattle.requests.specs.WindowLaws.{in-span, each-length}
+use Rattle.requests.specs.WindowLaws.{in-span, each-length, second-size}
 use Rattle.requests.specs.RequestLaws.{InLimits, guard-is, guard-size}
 use Rattle.requests.specs.Admission.{admitted, sinesAfter}
 use Rattle.requests.specs.AdmissionLaws.{admitted-within}
@@ -64,6 +64,9 @@ module _ (q : Request) (i : InLimits q) where
   unfolding closestOf secondCount
   closest-within =
       omega (arith, closest-is (λ k. M (momentAt q (nthSecond (q .window) k))) (natAbs (q .window .last -ℤ q .window .first)) .within)
+
+  pub closest-size : natAbs (nthSecond (q .window) (closestOf q)) ≤ 10800
+  closest-size = second-size (q .window) (i .window) (closestOf q) closest-within
 
   module _ (τ : ℤ) (h : natAbs τ ≤ 10800) where
     -- "It never exceeds 1,300,000."

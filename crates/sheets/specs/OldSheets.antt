@@ -67,6 +67,7 @@ follows f l e (K.Leave φ) o = (omega (arith, first-kinds φ), omega arith)
 follows f l e (K.Graze φ) o = (omega (arith, first-kinds φ), omega arith)
 follows f l e (K.Open φ) o = (omega (arith, first-kinds φ), omega arith)
 follows f l e K.Closest o = (omega arith, omega arith)
+follows f l e K.Share o = absurd (distinct (sym o))
 follows f l e K.End o = absurd (distinct (sym o))
 
 -- any head, any entries that may follow a head in some window, whatever stands after them

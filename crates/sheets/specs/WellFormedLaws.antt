@@ -1,4 +1,5 @@
--- Laws by which a list of entries is shown well formed, piece by piece: a head, the entries of the phases in their order, closest and end.
+-- Laws by which a list of entries is shown well formed, piece by piece: a head, the entries of the phases in their order, closest, the
+-- share if there is one, and end.
 use Prim.Native.Nat.{ℕ, _≤_, _<_}
 use mathlib.Core.Path.{_≡_, refl, sym}
 use mathlib.Core.List.{List, [], _∷_}
@@ -16,7 +17,7 @@ use Rattle.kinds.specs.declared.Crossing.{Crossing}
 use Rattle.kinds.specs.declared.Crossing.the-variants as C
 use Rattle.kinds.specs.declared.Progress.{Progress}
 use Rattle.kinds.specs.Kinds.{plain}
-use Rattle.kinds.specs.Entries.{head, enter, leave, graze, opened, closest, end}
+use Rattle.kinds.specs.Entries.{head, enter, leave, graze, opened, closest, share, end}
 use Rattle.kinds.specs.TestLaws.{distinct}
 use Rattle.rules.specs.Order.{samePhase, phaseFollows, repeats}
 use Rattle.kinds.specs.FieldRules.{isDirection, spanHolds}
@@ -113,6 +114,7 @@ well-first ψ f l es w = well-before (reached S.Head f l) ψ f l before es w
     before (K.Graze φ) a b c d o = (refl, refl, rw (no-crossing ψ φ))
     before (K.Open φ) a b c d o = (refl, refl, rw (no-crossing ψ φ))
     before K.Closest a b c d o = (refl, refl, refl)
+    before K.Share a b c d o = absurd (distinct (sym o))
     before K.End a b c d o = absurd (distinct (sym o))
 
 -- after a phase a later one may begin, whatever came there
@@ -134,9 +136,16 @@ well-later Penumbra Central f l u t n es w = well-before (within Penumbra f l u 
     before (K.Open Penumbra) a b c d o = absurd (distinct (sym o))
     before (K.Open Central) a b c d o = (refl, refl, refl)
     before K.Closest a b c d o = (refl, refl, refl)
+    before K.Share a b c d o = absurd (distinct (sym o))
     before K.End a b c d o = absurd (distinct (sym o))
 
--- closest and end close it
+-- closest, the share if there is one, and end close it
 pub well-closest : (φ : Phase) (f l u : ℕ) (t : Crossing) (s g : ℕ) → f ≤ s → s ≤ l → g ≤ 1300000 → WellFormed (within φ f l u t) (closest s g ∷ end ∷ [])
 unfolding WellFormed plain
 well-closest φ f l u t s g a b c = (refl, rw (le-leb f s a, le-leb s l b, le-leb g 1300000 c), (refl, refl, refl))
+
+pub well-share : (φ : Phase) (f l u : ℕ) (t : Crossing) (s g covered : ℕ) → f ≤ s → s ≤ l → g ≤ 1300000 → covered ≤ 1000000
+    → WellFormed (within φ f l u t) (closest s g ∷ share covered ∷ end ∷ [])
+unfolding WellFormed plain
+well-share φ f l u t s g covered a b c d =
+    (refl, rw (le-leb f s a, le-leb s l b, le-leb g 1300000 c), (refl, rw (le-leb covered 1000000 d), (refl, refl, refl)))

@@ -22,7 +22,7 @@ fn second_reply(second: OneSecond) -> Reply
 }
 
 // The second of the program's input, or refusal 10, 1, 2, 3, or 4 for the room for table S.
-fn asked(input: &[u8], second: i64, sines: &mut [u32]) -> OneSecond
+pub fn asked(input: &[u8], second: i64, sines: &mut [u32]) -> OneSecond
     ensures { λ r. ⌜ r ≡ secondAsked (inputOf (now (input .entry))) second (now (sines .entry)) ⌝ }
     ensures { λ r. ⌜ now (sines .exit) ≡ sinesAsked (inputOf (now (input .entry))) second (now (sines .entry)) ⌝ }
 {

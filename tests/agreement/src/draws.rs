@@ -139,7 +139,34 @@ pub fn request(random: &mut Random) -> Vec<u8> {
     bytes
 }
 
-/// A well-formed sheet as entries, with many entries, grazes and opens among them.
+/// The bytes of a request within its limits and a second at which its discs overlap: anywhere, near the total or annular phase's edge,
+/// within it, central; or just touch. The window may lie elsewhere.
+pub fn overlapping(random: &mut Random) -> (Vec<u8>, i64) {
+    let mut request = arranged(random);
+    let second = request.window.first;
+    if random.once_in(2) {
+        // an annular or a total eclipse as often as the other
+        let size = random.within(&(-5_000_000..=5_000_000));
+        sample::shrink_central(&mut request, second, size);
+    }
+    let now = sample::shadow(&request, second);
+    let (phase, beyond) = match random.below(6) {
+        0 => (Phase::Central, -now.l(Phase::Central)),
+        1 => (Phase::Central, -random.within(&(0..=now.l(Phase::Central)))),
+        2 => (Phase::Central, random.within(&(-40..=40))),
+        3 => (Phase::Penumbra, random.within(&(-2_000..=40))),
+        _ => (Phase::Penumbra, -random.within(&(0..=now.l(Phase::Penumbra)))),
+    };
+    for _ in 0..12 {
+        let angle = random.below(1 << 20) as f64 / (1 << 20) as f64 * std::f64::consts::TAU;
+        if sample::put(&mut request, second, phase, beyond, angle) {
+            break;
+        }
+    }
+    (request.to_bytes().expect("numbers that have room").to_vec(), second)
+}
+
+/// A well-formed sheet as entries, with many entries, grazes and opens among them, every other one with a share.
 pub fn entries(random: &mut Random) -> Vec<u32> {
     let (a, b) = (random.below(21_601) as u32, random.below(21_601) as u32);
     let (first, last) = (a.min(b), a.max(b));
@@ -172,6 +199,10 @@ pub fn entries(random: &mut Random) -> Vec<u32> {
     }
     let second = first + random.below(u64::from(last - first) + 1) as u32;
     entries.extend([0x30, second, random.below(1_300_001) as u32, 0, 0]);
+    if random.once_in(2) {
+        let share = [0, 1_000_000, random.below(1_000_001) as u32][random.below(3) as usize];
+        entries.extend([0x31, share, 0, 0, 0]);
+    }
     entries.extend([0x7F, 0, 0, 0, 0]);
     entries
 }
@@ -189,12 +220,12 @@ fn shuffle<T: Copy>(random: &mut Random, list: &mut Vec<T>) {
     }
 }
 
-const KINDS: [u32; 11] = [0x01, 0x10, 0x11, 0x12, 0x13, 0x20, 0x21, 0x22, 0x23, 0x30, 0x7F];
+const KINDS: [u32; 12] = [0x01, 0x10, 0x11, 0x12, 0x13, 0x20, 0x21, 0x22, 0x23, 0x30, 0x31, 0x7F];
 
 /// The reader's limits, and what lies next to them.
-const LIMITS: [u32; 16] = [
-    0, 1, 15, 16, 999, 1_000, 1_001, 3_599, 3_600, 21_600, 21_601, 65_534, 65_535, 65_536, 1_300_000,
-    1_300_001,
+const LIMITS: [u32; 18] = [
+    0, 1, 15, 16, 999, 1_000, 1_001, 3_599, 3_600, 21_600, 21_601, 65_534, 65_535, 65_536, 1_000_000,
+    1_000_001, 1_300_000, 1_300_001,
 ];
 
 /// A field of an entry at a limit, or at or next to another number of the list.
@@ -243,7 +274,7 @@ pub fn damage(random: &mut Random, sheet: &mut Vec<u8>) {
             // a kind in place of another, with the body that stands there
             4 => {
                 let at = random.below(sheet.len() as u64) as usize;
-                sheet[at] = KINDS[random.below(11) as usize] as u8;
+                sheet[at] = KINDS[random.below(KINDS.len() as u64) as usize] as u8;
             }
             _ => {
                 let at = random.below(sheet.len() as u64) as usize;
@@ -273,7 +304,7 @@ pub fn damage_entries(random: &mut Random, entries: &mut Vec<u32>) {
             _ if entries.is_empty() => {}
             4 => {
                 let at = random.below(entries.len() as u64) as usize / WORDS * WORDS;
-                entries[at] = KINDS[random.below(11) as usize];
+                entries[at] = KINDS[random.below(KINDS.len() as u64) as usize];
             }
             5 => {
                 let at = random.below(entries.len() as u64) as usize;

@@ -1,6 +1,7 @@
 //! The compiled library, and what to try it on.
 
 pub mod answers;
+pub mod both;
 pub mod draws;
 pub mod fits;
 pub mod library;

@@ -10,6 +10,23 @@ extern "C" {
         sheet_len: usize,
         value: *mut u64,
     ) -> u64;
+    fn ukhtvaresh_sheet_and_share(
+        request: *const u8,
+        request_len: usize,
+        sines: *mut u32,
+        sines_len: usize,
+        sheet: *mut u8,
+        sheet_len: usize,
+        value: *mut u64,
+    ) -> u64;
+    fn ukhtvaresh_share(
+        request: *const u8,
+        request_len: usize,
+        second: i64,
+        sines: *mut u32,
+        sines_len: usize,
+        value: *mut u64,
+    ) -> u64;
     fn ukhtvaresh_second(
         request: *const u8,
         request_len: usize,
@@ -84,6 +101,30 @@ pub fn sheet(request: &[u8], sines: &mut [u32], sheet: &mut [u8]) -> Reply {
             sheet.len(),
             &mut value,
         )
+    };
+    (number, value)
+}
+
+pub fn sheet_and_share(request: &[u8], sines: &mut [u32], sheet: &mut [u8]) -> Reply {
+    let mut value = UNSET;
+    let number = unsafe {
+        ukhtvaresh_sheet_and_share(
+            request.as_ptr(),
+            request.len(),
+            sines.as_mut_ptr(),
+            sines.len(),
+            sheet.as_mut_ptr(),
+            sheet.len(),
+            &mut value,
+        )
+    };
+    (number, value)
+}
+
+pub fn share(request: &[u8], second: i64, sines: &mut [u32]) -> Reply {
+    let mut value = UNSET;
+    let number = unsafe {
+        ukhtvaresh_share(request.as_ptr(), request.len(), second, sines.as_mut_ptr(), sines.len(), &mut value)
     };
     (number, value)
 }

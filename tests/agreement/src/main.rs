@@ -6,60 +6,35 @@
 //! - a sheet for each request, within and outside the limits, under guards of all sizes, near the edge, slow, along it, of other shapes;
 //!   its room exact, one less, none, plenty; and of each request within the limits the states of its seconds under a larger guard: unsure,
 //!   or as they were;
-//! - eight seconds of each request, within ±10,800 and outside;
-//! - the mirror of each request; its sheet and its seconds against the request's own, directions left out; the mirror of the mirror;
-//! - sheets, whole and damaged, read and listed; and entries, whole and damaged, written; what was read is written again, and the other way;
+//! - the sheet with its share for each request likewise: it is the other one with the share of the closest second before the end;
+//! - eight seconds of each request, within ±10,800 and outside, and their shares;
+//! - as many shares as requests where the discs overlap, central, at the edge of the total phase, or anywhere: 1,000,000 where that phase
+//!   is sure, 0 where the penumbra is surely left;
+//! - the mirror of each request; its sheet, with the share or without, and its seconds against the request's own, directions left out;
+//!   the mirror of the mirror;
+//! - sheets, whole and damaged, with a share and without, read and listed; and entries, whole and damaged, written; what was read is
+//!   written again, and the other way;
 //! - as many fits as sheets, within the tolerance and at its edge, with numbers changed, of other lengths;
 //! - as many roots as sheets, with their rounds, and those of all numbers up to 70,000.
 //!
 //! Prints counts; the first difference stops it with all that gives it again.
 
-use agreement::answers;
+use agreement::both::{
+    listing_both, mirror_both, must_agree, read_both, reply, second_both, share_both, sheet_both, write_both,
+    Asked, Left, PLAIN, SHARED,
+};
 use agreement::draws;
 use agreement::fits;
 use agreement::library::{self, Reply};
 use reference::elements::FARTHEST;
 use reference::fit::judge;
-use reference::mirror::mirror;
 use reference::numbers::rounds;
 use reference::random::Random;
-use reference::refusal::Refusal;
 use reference::request::{Request, REQUEST_LENGTH};
-use reference::room::{sheet_of_input, SINES};
+use reference::room::SINES;
 use reference::shadow::GUARDS;
-use reference::sheet::{self, WORDS};
-use std::fmt::Debug;
+use reference::sheet::{self, Record, CLOSEST, END, SHARE, WORDS};
 use std::time::Instant;
-
-const PAST: usize = 64;
-
-/// What a call left: the reply and the whole buffer, canaries too.
-type Left<T> = (Reply, Vec<T>);
-
-/// A buffer of `length` with canaries past its end, both from the same random numbers.
-fn buffer<T>(random: &mut Random, length: usize, number: impl Fn(u64) -> T) -> Vec<T> {
-    (0..length + PAST).map(|_| number(random.bits())).collect()
-}
-
-fn reply<T>(result: Result<T, Refusal>, value: impl Fn(T) -> u64) -> Reply {
-    match result {
-        Ok(x) => (0, value(x)),
-        Err(refusal) => (refusal.number().into(), refusal.place() as u64),
-    }
-}
-
-fn must_agree<T: PartialEq + Debug>(what: &str, given: &dyn Debug, ours: &Left<T>, theirs: &Left<T>) {
-    if ours == theirs {
-        return;
-    }
-    println!("DIFFERENCE in {what}");
-    println!("given {given:?}");
-    println!("library {:?}, reference {:?}", ours.0, theirs.0);
-    if let Some(at) = ours.1.iter().zip(&theirs.1).position(|(a, b)| a != b) {
-        println!("buffers differ from {at} on: library {:?}, reference {:?}", ours.1[at], theirs.1[at]);
-    }
-    std::process::exit(1);
-}
 
 /// Calls and replies by number, 0 to 18.
 struct Count {
@@ -79,76 +54,44 @@ impl Count {
     fn print(&self) {
         let total: u64 = self.replies.iter().sum();
         let parts = self.replies.iter().enumerate().filter(|(_, &n)| n > 0).map(|(k, n)| format!("{k}: {n}"));
-        println!("{:7} {total} calls, by number {}", self.name, parts.collect::<Vec<_>>().join(", "));
+        println!("{:15} {total} calls, by number {}", self.name, parts.collect::<Vec<_>>().join(", "));
     }
 }
 
-fn sheet_both(random: &mut Random, request: &[u8], lent: usize, room: usize) -> Left<u8> {
-    let old_sines = buffer(random, lent, |bits| bits as u32);
-    let old = buffer(random, room, |bits| bits as u8);
-    let (mut ours, mut our_sines) = (((0, 0), old.clone()), old_sines.clone());
-    ours.0 = library::sheet(request, &mut our_sines[..lent], &mut ours.1[..room]);
-    let (mut theirs, mut their_sines) = (((0, 0), old), old_sines);
-    let made = sheet_of_input(request, &mut their_sines[..lent], &mut theirs.1[..room]);
-    theirs.0 = reply(made, |length| length as u64);
-    must_agree("ukhtvaresh_sheet", &(request, lent, room), &ours, &theirs);
-    let sines = ((ours.0, our_sines), (theirs.0, their_sines));
-    must_agree("the sines of ukhtvaresh_sheet", &(request, lent, room), &sines.0, &sines.1);
-    ours
+/// One for each function but the root.
+struct Counts {
+    sheets: Count,
+    shared: Count,
+    seconds: Count,
+    shares: Count,
+    mirrors: Count,
+    reads: Count,
+    writes: Count,
+    listings: Count,
+    fits: Count,
 }
 
-fn second_both(random: &mut Random, request: &[u8], second: i64, lent: usize, room: usize) -> Left<i64> {
-    let old_sines = buffer(random, lent, |bits| bits as u32);
-    let old = buffer(random, room, |bits| bits as i64);
-    let (mut ours, mut our_sines) = (((0, 0), old.clone()), old_sines.clone());
-    ours.0 = library::second(request, second, &mut our_sines[..lent], &mut ours.1[..room]);
-    let (mut theirs, mut their_sines) = (((0, 0), old), old_sines);
-    let made = answers::second(request, second, &mut their_sines[..lent], &mut theirs.1[..room]);
-    theirs.0 = reply(made, |count| count as u64);
-    must_agree("ukhtvaresh_second", &(request, second, lent, room), &ours, &theirs);
-    let sines = ((ours.0, our_sines), (theirs.0, their_sines));
-    must_agree("the sines of ukhtvaresh_second", &(request, second, lent, room), &sines.0, &sines.1);
-    ours
-}
+impl Counts {
+    fn new() -> Counts {
+        Counts {
+            sheets: Count::new("sheet"),
+            shared: Count::new("sheet_and_share"),
+            seconds: Count::new("second"),
+            shares: Count::new("share"),
+            mirrors: Count::new("mirror"),
+            reads: Count::new("read"),
+            writes: Count::new("write"),
+            listings: Count::new("listing"),
+            fits: Count::new("fit"),
+        }
+    }
 
-fn read_both(random: &mut Random, sheet: &[u8], room: usize) -> Left<u32> {
-    let old = buffer(random, room, |bits| bits as u32);
-    let mut ours = ((0, 0), old.clone());
-    ours.0 = library::read(sheet, &mut ours.1[..room]);
-    let mut theirs = ((0, 0), old);
-    theirs.0 = reply(sheet::read(sheet, &mut theirs.1[..room]), |count| count as u64);
-    must_agree("ukhtvaresh_read", &(sheet, room), &ours, &theirs);
-    ours
-}
-
-fn write_both(random: &mut Random, entries: &[u32], room: usize) -> Left<u8> {
-    let old = buffer(random, room, |bits| bits as u8);
-    let mut ours = ((0, 0), old.clone());
-    ours.0 = library::write(entries, &mut ours.1[..room]);
-    let mut theirs = ((0, 0), old);
-    theirs.0 = reply(sheet::write(entries, &mut theirs.1[..room]), |length| length as u64);
-    must_agree("ukhtvaresh_write", &(entries, room), &ours, &theirs);
-    ours
-}
-
-fn listing_both(random: &mut Random, sheet: &[u8], room: usize) -> Left<u8> {
-    let old = buffer(random, room, |bits| bits as u8);
-    let mut ours = ((0, 0), old.clone());
-    ours.0 = library::listing(sheet, &mut ours.1[..room]);
-    let mut theirs = ((0, 0), old);
-    theirs.0 = reply(answers::listing(sheet, &mut theirs.1[..room]), |length| length as u64);
-    must_agree("ukhtvaresh_listing", &(sheet, room), &ours, &theirs);
-    ours
-}
-
-fn mirror_both(random: &mut Random, request: &[u8], room: usize) -> Left<u8> {
-    let old = buffer(random, room, |bits| bits as u8);
-    let mut ours = ((0, 0), old.clone());
-    ours.0 = library::mirror(request, &mut ours.1[..room]);
-    let mut theirs = ((0, 0), old);
-    theirs.0 = reply(mirror(request, &mut theirs.1[..room]), |length| length as u64);
-    must_agree("ukhtvaresh_mirror", &(request, room), &ours, &theirs);
-    ours
+    fn print(&self) {
+        let Counts { sheets, shared, seconds, shares, mirrors, reads, writes, listings, fits } = self;
+        for count in [sheets, shared, seconds, shares, mirrors, reads, writes, listings, fits] {
+            count.print();
+        }
+    }
 }
 
 /// The entries of a sheet that the library read with room enough, by the library.
@@ -177,15 +120,15 @@ fn beside_north(reply: Reply, shadow: &[i64; 8]) -> (Reply, [i64; 7]) {
     (reply, [u, v, l1, l2, penumbra, central, magnitude])
 }
 
-/// A request and its mirror: the same answer, the same entries but for directions, the same seconds but for v's sign.
-fn compare_mirror(random: &mut Random, request: &[u8], sheet: &Left<u8>) {
+/// A request and its mirror: the same answer, the same entries but for directions, the same seconds but for v's sign, the same shares.
+fn compare_mirror(random: &mut Random, request: &[u8], asked: &Asked, sheet: &Left<u8>) {
     let ((number, length), mirrored) = mirror_both(random, request, 200);
     if number != 0 {
         return;
     }
     let mirrored = &mirrored[..length as usize];
     let back = mirror_both(random, mirrored, REQUEST_LENGTH).1;
-    let other = sheet_both(random, mirrored, SINES, 65_536);
+    let other = sheet_both(random, asked, mirrored, SINES, 65_536);
     let mut same = back[..REQUEST_LENGTH] == *request && other.0 == sheet.0;
     if sheet.0 .0 == 0 {
         let undirected = |bytes: &[u8]| {
@@ -212,6 +155,7 @@ fn compare_mirror(random: &mut Random, request: &[u8], sheet: &Left<u8>) {
         );
         south[1] = -south[1];
         same &= beside_north(replies.0, &north) == beside_north(replies.1, &south);
+        same &= library::share(request, second, &mut sines) == library::share(mirrored, second, &mut sines);
     }
     if !same {
         println!("DIFFERENCE between a request and its mirror: {request:?}");
@@ -233,8 +177,10 @@ fn compare_guards(random: &mut Random, bytes: &[u8]) -> u64 {
     for _ in 0..8 {
         let second = random.within(&request.window.seconds());
         let (mut few, mut many) = ([0; 8], [0; 8]);
-        let replies =
-            (library::second(bytes, second, &mut sines, &mut few), library::second(&larger, second, &mut sines, &mut many));
+        let replies = (
+            library::second(bytes, second, &mut sines, &mut few),
+            library::second(&larger, second, &mut sines, &mut many),
+        );
         let [states, others] = [few, many].map(|n| [n[4], n[5]]);
         let lengths = [few, many].map(|n| (n[0], n[1], n[2], n[3], n[7]));
         let same = replies.0 == replies.1 && lengths[0] == lengths[1];
@@ -247,29 +193,51 @@ fn compare_guards(random: &mut Random, bytes: &[u8]) -> u64 {
     withheld
 }
 
-fn request(
-    random: &mut Random,
-    [sheets, seconds, mirrors]: [&mut Count; 3],
-    kinds: &mut [u64; 128],
-    withheld: &mut u64,
-) {
+/// The sheet with the share is the plain one with a record more before its end: the share at the closest second.
+fn compare_shared(request: &[u8], plain: &[u8], shared: &[u8]) {
+    let records = sheet::records_of(plain).expect("a sheet reads well");
+    let [.., closest, end] = records[..] else { panic!("a closest and an end") };
+    assert_eq!((closest.kind, end.kind), (CLOSEST, END));
+    let second = i64::from(closest.fields[0]) - FARTHEST;
+    let (number, share) = library::share(request, second, &mut [0; SINES]);
+    let more = sheet::bytes_of(&[Record::new(SHARE, [share as u32, 0, 0, 0]), end]);
+    if number != 0 || *shared != [&plain[..plain.len() - 1], &more].concat() {
+        println!(
+            "DIFFERENCE: the sheet with the share is not the other and the share at {second}: {request:?}"
+        );
+        std::process::exit(1);
+    }
+}
+
+fn request(random: &mut Random, counts: &mut Counts, kinds: &mut [u64; 128], withheld: &mut u64) {
     let request = draws::request(random);
-    let sheet = sheet_both(random, &request, SINES, 65_536);
-    compare_mirror(random, &request, &sheet);
+    let [plain, shared] = [PLAIN, SHARED].map(|asked| sheet_both(random, &asked, &request, SINES, 65_536));
+    let (asked, sheet) = if random.once_in(2) { (PLAIN, &plain) } else { (SHARED, &shared) };
+    compare_mirror(random, &request, &asked, sheet);
     *withheld += compare_guards(random, &request);
     let room = draws::room(random, REQUEST_LENGTH);
-    mirrors.add(mirror_both(random, &request, room).0 .0);
-    let ((number, needed), written) = sheet;
-    sheets.add(number);
-    let needed = if number == 0 { needed as usize } else { 45 };
-    if number == 0 {
-        for entry in round_trip(random, &written[..needed]).chunks_exact(WORDS) {
+    counts.mirrors.add(mirror_both(random, &request, room).0 .0);
+    counts.sheets.add(plain.0 .0);
+    counts.shared.add(shared.0 .0);
+    let mut needed = [45, 50];
+    if plain.0 .0 == 0 {
+        needed = [plain.0 .1, shared.0 .1].map(|length| length as usize);
+        let written = [&plain.1[..needed[0]], &shared.1[..needed[1]]];
+        compare_shared(&request, written[0], written[1]);
+        round_trip(random, written[0]);
+        for entry in round_trip(random, written[1]).chunks_exact(WORDS) {
             kinds[entry[0] as usize] += 1;
         }
     }
+    // one of the two, since the seconds of a window are most of the work
+    let (asked, needed, count) = if random.once_in(2) {
+        (PLAIN, needed[0], &mut counts.sheets)
+    } else {
+        (SHARED, needed[1], &mut counts.shared)
+    };
     let room = draws::room(random, needed);
     let lent = draws::sines_room(random);
-    sheets.add(sheet_both(random, &request, lent, room).0 .0);
+    count.add(sheet_both(random, &asked, &request, lent, room).0 .0);
     for _ in 0..8 {
         let second = if random.once_in(20) {
             [-FARTHEST - 1, FARTHEST + 1, i64::MIN, i64::MAX, random.bits() as i64][random.below(5) as usize]
@@ -278,11 +246,32 @@ fn request(
         };
         let room = if random.once_in(8) { random.below(8) as usize } else { 8 + random.below(4) as usize };
         let lent = draws::sines_room(random);
-        seconds.add(second_both(random, &request, second, lent, room).0 .0);
+        counts.seconds.add(second_both(random, &request, second, lent, room).0 .0);
+        let lent = draws::sines_room(random);
+        counts.shares.add(share_both(random, &request, second, lent).0 .0);
     }
 }
 
-fn sheet(random: &mut Random, reads: &mut Count, writes: &mut Count, listings: &mut Count) {
+/// How many shares are 0, between, and the whole disc.
+type Covered = [u64; 3];
+
+/// The share of overlapping discs, against the states and sizes that the library gives at the same second.
+fn share(random: &mut Random, count: &mut Count, covered: &mut Covered) {
+    let (request, second) = draws::overlapping(random);
+    let ((number, share), mut sines) = share_both(random, &request, second, SINES);
+    count.add(number);
+    let mut shadow = [0; 8];
+    let seen = library::second(&request, second, &mut sines[..SINES], &mut shadow);
+    let [_, _, _, l2, penumbra, central, ..] = shadow;
+    let wrong = (l2 < 0 && central == 1 && share != 1_000_000) || (penumbra == 0 && share != 0);
+    if (number, seen) != (0, (0, 8)) || share > 1_000_000 || wrong {
+        println!("DIFFERENCE: a share of {share} beside {shadow:?} at {second}: {request:?}");
+        std::process::exit(1);
+    }
+    covered[usize::from(share > 0) + usize::from(share == 1_000_000)] += 1;
+}
+
+fn sheet(random: &mut Random, counts: &mut Counts) {
     let mut entries = draws::entries(random);
     let mut bytes = vec![0; 7 * entries.len()];
     let length = sheet::write(&entries, &mut bytes).expect("entries that keep all rules");
@@ -295,19 +284,19 @@ fn sheet(random: &mut Random, reads: &mut Count, writes: &mut Count, listings: &
         1 => WORDS * draws::room(random, entries.len() / WORDS),
         _ => WORDS * bytes.len(),
     };
-    reads.add(read_both(random, &bytes, room).0 .0);
+    counts.reads.add(read_both(random, &bytes, room).0 .0);
     round_trip(random, &bytes);
     let needed = match library::listing(&bytes, &mut []) {
         (4, needed) => needed as usize,
         _ => 200,
     };
     let room = draws::room(random, needed);
-    listings.add(listing_both(random, &bytes, room).0 .0);
+    counts.listings.add(listing_both(random, &bytes, room).0 .0);
 
     draws::damage_entries(random, &mut entries);
     let room = if random.once_in(2) { draws::room(random, length) } else { 7 * entries.len() };
     let ((number, written), sheet) = write_both(random, &entries, room);
-    writes.add(number);
+    counts.writes.add(number);
     if number == 0 && entries_of(random, &sheet[..written as usize]).as_ref() != Some(&entries) {
         println!("DIFFERENCE: entries written and read again are others: {entries:?}");
         std::process::exit(1);
@@ -337,28 +326,32 @@ fn main() {
     };
     let start = Instant::now();
     let mut random = Random::new(seed);
-    let mut counts = ["sheet", "second", "mirror", "read", "write", "listing", "fit"].map(Count::new);
-    let (mut kinds, mut withheld) = ([0; 128], 0);
-    let [of_sheets, of_seconds, of_mirrors, of_reads, of_writes, of_listings, of_fits] = &mut counts;
+    let mut counts = Counts::new();
+    let (mut kinds, mut withheld, mut covered) = ([0; 128], 0, [0; 3]);
     for _ in 0..requests {
-        request(&mut random, [of_sheets, of_seconds, of_mirrors], &mut kinds, &mut withheld);
+        request(&mut random, &mut counts, &mut kinds, &mut withheld);
+        share(&mut random, &mut counts.shares, &mut covered);
     }
     println!("{requests} requests agree, {:.1} s", start.elapsed().as_secs_f64());
     let by_kind =
         kinds.iter().enumerate().filter(|(_, &n)| n > 0).map(|(kind, n)| format!("{kind:02X}: {n}"));
     println!("entries of their sheets, by kind {}", by_kind.collect::<Vec<_>>().join(", "));
     println!("{withheld} states that larger guards withheld");
+    println!(
+        "shares of overlapping discs: 0 {}, between {}, 1,000,000 {}",
+        covered[0], covered[1], covered[2]
+    );
     for _ in 0..sheets {
-        sheet(&mut random, of_reads, of_writes, of_listings);
+        sheet(&mut random, &mut counts);
     }
     println!("{sheets} sheets and lists of entries agree, {:.1} s", start.elapsed().as_secs_f64());
     for _ in 0..sheets {
-        fit(&mut random, of_fits);
+        fit(&mut random, &mut counts.fits);
     }
     println!("{sheets} fits agree, {:.1} s", start.elapsed().as_secs_f64());
     (0..=70_000).for_each(root);
     (0..sheets).for_each(|_| root(draws::number(&mut random)));
     println!("{} roots agree, {:.1} s", 70_001 + sheets, start.elapsed().as_secs_f64());
-    counts.iter().for_each(Count::print);
+    counts.print();
     println!("no difference");
 }

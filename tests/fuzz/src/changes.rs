@@ -1,6 +1,6 @@
 //! How inputs are changed: half by libFuzzer, half by changes that know what a sheet or a request is.
 
-use crate::{give_shape, within_limits};
+use crate::requests::{give_shape, within_limits};
 use agreement::draws;
 use reference::elements::{Elements, Station};
 use reference::random::Random;

@@ -5,43 +5,20 @@
 //! branches.
 
 pub mod changes;
+pub mod requests;
 
 use agreement::answers;
 use agreement::library::{self, Reply};
-use reference::elements::{Elements, Station, Window, ELEMENT_RANGES, FARTHEST, STATION_RANGES};
 use reference::refusal::Refusal;
-use reference::request::{Request, KIND_PLACES, REQUEST_LENGTH};
-use reference::room::{fill, SINES};
-use reference::shadow::GUARDS;
 use reference::sheet::{self, WORDS};
 use std::fmt::Debug;
-use std::ops::RangeInclusive;
 
 extern "C" {
     // The guide's exports, as include/ukhtvaresh.h declares those of the archive.
     fn guide_read(input: *const u8, length: usize, room: *mut u32, room_len: usize, value: *mut u64) -> u64;
-    fn guide_sheet(
-        input: *const u8,
-        length: usize,
-        sines: *mut u32,
-        sines_len: usize,
-        room: *mut u8,
-        room_len: usize,
-        value: *mut u64,
-    ) -> u64;
     fn guide_listing(input: *const u8, length: usize, room: *mut u8, room_len: usize, value: *mut u64)
         -> u64;
     fn guide_write(input: *const u32, length: usize, room: *mut u8, room_len: usize, value: *mut u64) -> u64;
-    fn guide_second(
-        input: *const u8,
-        length: usize,
-        second: i64,
-        sines: *mut u32,
-        sines_len: usize,
-        room: *mut i64,
-        room_len: usize,
-        value: *mut u64,
-    ) -> u64;
 }
 
 type Export<S, T> = unsafe extern "C" fn(*const S, usize, *mut T, usize, *mut u64) -> u64;
@@ -76,40 +53,6 @@ fn left<T>(room: usize, old: fn(usize) -> T, call: impl FnOnce(&mut [T]) -> Repl
     let mut buffer: Vec<T> = (0..room + PAST).map(old).collect();
     let reply = call(&mut buffer[..room]);
     Left { reply, buffer }
-}
-
-/// The room for table S: 901 numbers, or another count where that bit of the byte before a request says so.
-pub const OTHER_SINES: u8 = 0x08;
-
-fn sines_room(leave: u8, near: u8, far: u8) -> usize {
-    if leave & OTHER_SINES == 0 {
-        return SINES;
-    }
-    [0, SINES - 1, SINES + 1, usize::from(near)][usize::from(far >> 3) % 4]
-}
-
-/// The same with that room: what it holds afterwards stands behind the buffer.
-fn left_lent<T>(
-    lent: usize,
-    room: usize,
-    old: fn(usize) -> T,
-    call: impl FnOnce(&mut [u32], &mut [T]) -> Reply,
-) -> (Left<T>, Left<u32>) {
-    let mut sines: Vec<u32> = (0..lent + PAST).map(old_number).collect();
-    let left = left(room, old, |room| call(&mut sines[..lent], room));
-    let reply = left.reply;
-    (left, Left { reply, buffer: sines })
-}
-
-fn both_agree<T: PartialEq + Debug>(
-    what: &str,
-    given: &[u8],
-    [lent, room]: [usize; 2],
-    ours: &(Left<T>, Left<u32>),
-    theirs: &(Left<T>, Left<u32>),
-) {
-    must_agree(what, given, room, &ours.0, &theirs.0);
-    must_agree(&format!("the sines of {what}"), given, lent, &ours.1, &theirs.1);
 }
 
 fn reply(result: Result<usize, Refusal>) -> Reply {
@@ -197,117 +140,6 @@ pub fn write(input: &[u8]) {
     if let (0, length) = ours.reply {
         must_come_back(&ours.buffer[..length as usize]);
     }
-}
-
-/// Bits of the byte before a request: what is left as it stands. The rest is mended, so that not every change ends in a refusal.
-pub const LEAVE_SHAPE: u8 = 0x01;
-pub const LEAVE_NUMBERS: u8 = 0x02;
-
-/// A short window's seconds, less one.
-const SHORT: i64 = 600;
-
-/// A number of the range, itself where it is one.
-fn into_range(number: i64, range: &RangeInclusive<i64>) -> i64 {
-    let count = range.end() - range.start() + 1;
-    range.start() + (number - range.start()).rem_euclid(count)
-}
-
-fn into_ranges<const N: usize>(numbers: [i64; N], ranges: &[RangeInclusive<i64>; N]) -> [i64; N] {
-    std::array::from_fn(|field| into_range(numbers[field], &ranges[field]))
-}
-
-pub(crate) fn within_limits(request: &Request) -> Request {
-    let station = Station::from_fields(into_ranges(request.station.fields(), &STATION_RANGES));
-    let seconds = -FARTHEST..=FARTHEST;
-    let [a, b] = [request.window.first, request.window.last].map(|second| into_range(second, &seconds));
-    Request {
-        elements: Elements::from_fields(into_ranges(request.elements.fields(), &ELEMENT_RANGES)),
-        station,
-        window: Window { first: a.min(b), last: a.max(b) },
-        guard: into_range(request.guard, &GUARDS),
-    }
-}
-
-pub(crate) fn give_shape(bytes: &mut Vec<u8>) {
-    bytes.resize(REQUEST_LENGTH, 0);
-    for (kind, at) in (2..).zip(KIND_PLACES) {
-        bytes[at] = kind;
-    }
-}
-
-fn request(leave: u8, raw: &[u8]) -> Vec<u8> {
-    let mut bytes = raw.to_vec();
-    if leave & LEAVE_SHAPE == 0 {
-        give_shape(&mut bytes);
-    }
-    let Ok(mut request) = Request::from_bytes(&bytes) else { return bytes };
-    if leave & LEAVE_NUMBERS == 0 {
-        request = within_limits(&request);
-    }
-    // Long windows are slow, and the fuzzer would stay with them: one input in sixteen, any change draws anew.
-    let sum: u32 = raw.iter().copied().map(u32::from).sum();
-    if sum % 16 != u32::from(leave >> 4) {
-        request.window.last = request.window.last.min(request.window.first + SHORT);
-    }
-    request.to_bytes().expect("numbers no wider than they were").to_vec()
-}
-
-/// Two bytes for the room, one for what is left as it stands, then the request.
-pub fn sheet(input: &[u8]) {
-    let &[near, far, leave, ref raw @ ..] = input else { return };
-    let request = request(leave, raw);
-    // The sheet once, and only then the room, since the seconds of a window are most of the work.
-    let found = Request::from_bytes(&request).and_then(|request| request.check());
-    let found = found.map(|circumstances| sheet::bytes_of(&circumstances.records()));
-    let room = room(found.as_ref().map_or(0, Vec::len), near, far);
-    let rooms @ [lent, room] = [sines_room(leave, near, far), room];
-    let theirs = left_lent(lent, room, old_byte, |sines, room| {
-        reply(found.and_then(|bytes| fill(sines).and_then(|()| sheet::copy_into(&bytes, room))))
-    });
-    let ours = left_lent(lent, room, old_byte, |sines, room| library::sheet(&request, sines, room));
-    both_agree("ukhtvaresh_sheet", &request, rooms, &ours, &theirs);
-    let guided = left_lent(lent, room, old_byte, |sines, room| {
-        let mut value = 0;
-        let (length, sines_len, room_len) = (request.len(), sines.len(), room.len());
-        let (sines, room) = (sines.as_mut_ptr(), room.as_mut_ptr());
-        let number =
-            unsafe { guide_sheet(request.as_ptr(), length, sines, sines_len, room, room_len, &mut value) };
-        (number, value)
-    });
-    both_agree("ukhtvaresh_sheet with counters", &request, rooms, &guided, &theirs);
-    if let (0, length) = ours.0.reply {
-        must_come_back(&ours.0.buffer[..length as usize]);
-    }
-}
-
-/// Bit of the byte before a request: its second is left as it stands.
-pub const LEAVE_SECOND: u8 = 0x04;
-
-/// Two bytes for the room, one for what is left as it stands, eight for the second, then the request.
-pub fn second(input: &[u8]) {
-    let &[near, far, leave, a, b, c, d, e, f, g, h, ref raw @ ..] = input else { return };
-    let request = request(leave, raw);
-    let mut second = i64::from_be_bytes([a, b, c, d, e, f, g, h]);
-    if leave & LEAVE_SECOND == 0 {
-        second = into_range(second >> 1, &(-FARTHEST..=FARTHEST));
-    }
-    let room = room(8, near, far);
-    let old = |at: usize| (at as i64).wrapping_mul(0x9E37_79B9_7F4A_7C15_u64 as i64);
-    let rooms @ [lent, room] = [sines_room(leave, near, far), room];
-    let theirs =
-        left_lent(lent, room, old, |sines, room| reply(answers::second(&request, second, sines, room)));
-    let ours = left_lent(lent, room, old, |sines, room| library::second(&request, second, sines, room));
-    both_agree("ukhtvaresh_second", &request, rooms, &ours, &theirs);
-    let guided = left_lent(lent, room, old, |sines, room| {
-        let mut value = 0;
-        let (length, sines_len, room_len) = (request.len(), sines.len(), room.len());
-        let (sines, room) = (sines.as_mut_ptr(), room.as_mut_ptr());
-        let number = unsafe {
-            guide_second(request.as_ptr(), length, second, sines, sines_len, room, room_len, &mut value)
-        };
-        (number, value)
-    });
-    both_agree("ukhtvaresh_second with counters", &request, rooms, &guided, &theirs);
 }
 
 /// The input that libFuzzer hands over.

@@ -18,6 +18,7 @@ pub mod request;
 pub mod room;
 pub mod sample;
 pub mod shadow;
+pub mod share;
 pub mod sheet;
 pub mod sine;
 pub mod sine_table;

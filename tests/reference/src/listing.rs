@@ -4,7 +4,7 @@ use crate::elements::FARTHEST;
 use crate::refusal::Refusal;
 use crate::request::Request;
 use crate::shadow::Phase;
-use crate::sheet::{records_of, Record, Role, CLOSEST, HEAD};
+use crate::sheet::{records_of, Record, Role, CLOSEST, HEAD, SHARE};
 use std::fmt::Write;
 
 /// The room that program `sheet` lends.
@@ -32,6 +32,7 @@ pub fn listing(records: &[Record]) -> String {
             }
             (HEAD, None) => format!("station {a} from {} to {}", second(b), second(c)),
             (CLOSEST, None) => format!("closest {} {b}", second(a)),
+            (SHARE, None) => format!("share {a}"),
             _ => continue,
         };
         writeln!(text, "{line}").expect("a string takes all text");

@@ -1,11 +1,36 @@
 //! `reference sheet`: 115 bytes on standard input, the listing on standard output.
 //! `reference time N`: the same input, its sheet written N times; prints nanoseconds a sheet.
+//! `reference seconds`: the same input, a line `second L1 L2 M share` for each second of its window.
+//! `reference shares`: lines that begin with L1, L2 and M on standard input, a line `L1 L2 M share` for each.
 
 use reference::listing::{program, sheet_of_input, ROOM};
+use reference::request::Request;
+use reference::share::share;
 use std::hint::black_box;
-use std::io::{stdin, stdout, Read, Write};
+use std::io::{read_to_string, stdin, stdout, Read, Write};
 use std::process::ExitCode;
 use std::time::Instant;
+
+/// A line for each second of a request's window.
+fn seconds(input: &[u8]) -> String {
+    let circumstances =
+        Request::from_bytes(input).and_then(|request| request.check()).expect("a request within its limits");
+    let line_of = |second| {
+        let shadow = circumstances.shadow(second);
+        format!("{second} {} {} {} {}\n", shadow.l1, shadow.l2, shadow.m(), shadow.share())
+    };
+    circumstances.request().window.seconds().map(line_of).collect()
+}
+
+/// The same lines with their shares.
+fn shares(input: &str) -> String {
+    let line_of = |line: &str| {
+        let numbers: Vec<i64> = line.split(' ').take(3).map(|word| word.parse().expect("a number")).collect();
+        let [l1, l2, m] = numbers[..] else { panic!("L1, L2 and M") };
+        format!("{l1} {l2} {m} {}\n", share(l1, l2, m))
+    };
+    input.lines().map(line_of).collect()
+}
 
 fn main() -> ExitCode {
     let arguments: Vec<String> = std::env::args().skip(1).collect();
@@ -26,8 +51,13 @@ fn main() -> ExitCode {
             }
             format!("{}\n", start.elapsed().as_nanos() / u128::from(times.max(1)))
         }
+        ["seconds"] => {
+            stdin().read_to_end(&mut input).expect("standard input can be read");
+            seconds(&input)
+        }
+        ["shares"] => shares(&read_to_string(stdin()).expect("text on standard input")),
         _ => {
-            eprintln!("usage: reference sheet | reference time N");
+            eprintln!("usage: reference sheet | time N | seconds | shares");
             return ExitCode::FAILURE;
         }
     };

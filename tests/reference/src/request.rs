@@ -1,11 +1,11 @@
-//! A request: elements, station, window and guard; its sheet.
+//! A request: elements, station, window and guard, and whether the share is asked for; its sheet.
 
 use crate::elements::{Elements, Station, Window, FARTHEST};
 use crate::entries::entries;
 use crate::place::{place, Place};
 use crate::refusal::Refusal;
 use crate::shadow::{Phase, Shadow, State, GUARDS};
-use crate::sheet::{bytes_of, copy_into, Record, Role, CLOSEST, END, HEAD};
+use crate::sheet::{bytes_of, copy_into, Record, Role, CLOSEST, END, HEAD, SHARE};
 
 /// What is asked for; any numbers at all.
 #[derive(Clone, Copy, PartialEq, Eq, Debug)]
@@ -15,6 +15,8 @@ pub struct Request {
     pub window: Window,
     /// how near to a cone's edge nothing is sure, units, 16 to 1,000: document 02, wish 9.
     pub guard: i64,
+    /// whether the sheet is to have the share: document 02, wish 4. The 115 bytes have no place for it.
+    pub share: bool,
 }
 
 /// The length of a request in bytes.
@@ -24,7 +26,7 @@ pub const REQUEST_LENGTH: usize = 115;
 pub const KIND_PLACES: [usize; 3] = [0, 89, 108];
 
 impl Request {
-    /// From exactly 115 bytes: kind 02 and 22 signed 4-byte numbers; kind 03 and number (unsigned, 2 bytes),
+    /// From exactly 115 bytes, which never ask for the share: kind 02 and 22 signed 4-byte numbers; kind 03 and number (unsigned, 2 bytes),
     /// latitude, longitude, height, ΔT (signed, 4 each); kind 04 and first, last (signed, 2 each), guard (unsigned,
     /// 2 bytes); big-endian. Refused as 10 otherwise. Ranges are not looked at.
     pub fn from_bytes(bytes: &[u8]) -> Result<Request, Refusal> {
@@ -50,10 +52,11 @@ impl Request {
                 last: i16::from_be_bytes(two(111)).into(),
             },
             guard: u16::from_be_bytes(two(113)).into(),
+            share: false,
         })
     }
 
-    /// The 115 bytes of a request, or nothing if a number has no room in them.
+    /// The 115 bytes of a request but for its wish for the share, or nothing if a number has no room in them.
     pub fn to_bytes(&self) -> Option<[u8; REQUEST_LENGTH]> {
         let mut bytes = vec![2];
         for field in self.elements.fields() {
@@ -135,8 +138,12 @@ impl Circumstances {
         let mut records = vec![Record::new(HEAD, [number, stored(first), stored(last), guard as u32])];
         self.append_phase(&mut records, 0x10, &penumbra);
         self.append_phase(&mut records, 0x20, &central);
-        let magnitude = self.shadow(closest).magnitude(guard) as u32;
+        let shadow = self.shadow(closest);
+        let magnitude = shadow.magnitude(guard) as u32;
         records.push(Record::new(CLOSEST, [stored(closest), magnitude, 0, 0]));
+        if self.request.share {
+            records.push(Record::new(SHARE, [shadow.share() as u32, 0, 0, 0]));
+        }
         records.push(Record::new(END, [0; 4]));
         records
     }

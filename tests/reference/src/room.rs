@@ -1,5 +1,6 @@
 //! The room for table S that a caller lends: document 02, wish 8.
 
+use crate::elements::FARTHEST;
 use crate::refusal::Refusal;
 use crate::request::Request;
 use crate::sheet::{bytes_of, copy_into};
@@ -20,7 +21,32 @@ pub fn fill(sines: &mut [u32]) -> Result<(), Refusal> {
 /// The sheet of a program's input, or its refusal: 10, 1, 2, 3, 4 for the room for table S, 4 for the sheet's own, which alone leaves
 /// that room filled.
 pub fn sheet_of_input(input: &[u8], sines: &mut [u32], buffer: &mut [u8]) -> Result<usize, Refusal> {
-    let circumstances = Request::from_bytes(input)?.check()?;
+    sheet_for(Request::from_bytes(input)?, sines, buffer)
+}
+
+/// The same of the request that asks for the share too.
+pub fn sheet_and_share_of_input(
+    input: &[u8],
+    sines: &mut [u32],
+    buffer: &mut [u8],
+) -> Result<usize, Refusal> {
+    sheet_for(Request { share: true, ..Request::from_bytes(input)? }, sines, buffer)
+}
+
+fn sheet_for(request: Request, sines: &mut [u32], buffer: &mut [u8]) -> Result<usize, Refusal> {
+    let circumstances = request.check()?;
     fill(sines)?;
     copy_into(&bytes_of(&circumstances.records()), buffer)
+}
+
+/// The share at a second of a program's input, also outside its window: 10, 1 for the window or the second, then for the guard, 2, 3,
+/// 4 for the room for table S.
+pub fn share_of_input(input: &[u8], second: i64, sines: &mut [u32]) -> Result<i64, Refusal> {
+    let request = Request::from_bytes(input)?;
+    if !(-FARTHEST..=FARTHEST).contains(&second) {
+        return Err(Refusal::Window);
+    }
+    let shadow = request.check()?.shadow(second);
+    fill(sines)?;
+    Ok(shadow.share())
 }

@@ -22,6 +22,7 @@ pub fn hand_worked() -> Request {
         station: Station { number: 7, latitude: 90_000_000, longitude: 0, height: 0, delta_t: 0 },
         window: Window { first: -6000, last: 6000 },
         guard: GUARD,
+        share: false,
     }
 }
 
@@ -93,6 +94,7 @@ pub fn draw(random: &mut Random, manner: Manner) -> Request {
         station,
         window: Window { first: second, last: second },
         guard,
+        share: false,
     }
 }
 

@@ -24,6 +24,7 @@ pub const LEAVE_CENTRAL: u32 = 0x21;
 pub const GRAZE_CENTRAL: u32 = 0x22;
 pub const OPEN_CENTRAL: u32 = 0x23;
 pub const CLOSEST: u32 = 0x30;
+pub const SHARE: u32 = 0x31;
 pub const END: u32 = 0x7F;
 
 /// The bytes of each number in a kind's body, or nothing for a kind that is not in the table.
@@ -33,6 +34,7 @@ fn widths(kind: u32) -> Option<&'static [usize]> {
         ENTER_PENUMBRA | LEAVE_PENUMBRA | ENTER_CENTRAL | LEAVE_CENTRAL => Some(&[2, 2, 2]),
         GRAZE_PENUMBRA | OPEN_PENUMBRA | GRAZE_CENTRAL | OPEN_CENTRAL => Some(&[2, 2]),
         CLOSEST => Some(&[2, 4]),
+        SHARE => Some(&[4]),
         END => Some(&[]),
         _ => None,
     }
@@ -45,6 +47,7 @@ enum Family {
     Penumbra,
     Central,
     Closest,
+    Share,
     End,
 }
 
@@ -92,6 +95,7 @@ impl Record {
             None => match self.kind {
                 HEAD => Family::Head,
                 CLOSEST => Family::Closest,
+                SHARE => Family::Share,
                 _ => Family::End,
             },
         }
@@ -117,7 +121,9 @@ impl Record {
         let family = self.family();
         let due = match family {
             Family::Head => false,
-            Family::End => previous.family() == Family::Closest,
+            // The share may be left out, and stands nowhere else.
+            Family::End => matches!(previous.family(), Family::Closest | Family::Share),
+            Family::Share => previous.family() == Family::Closest,
             Family::Closest => previous.family() < Family::Closest,
             Family::Penumbra | Family::Central => previous.family() <= family,
         };
@@ -153,6 +159,7 @@ impl Record {
                     }
             }
             None if self.kind == CLOSEST => in_window(a) && b <= 1_300_000,
+            None if self.kind == SHARE => a <= 1_000_000,
             None => true,
         };
         unused_are_zero && kept

@@ -1,27 +1,25 @@
 -- `circumstances::closest_for` meets its contract: the closest second is one of the window's. Assumes nothing.
 use mathlib.Core.Path.{_≡_, ap, _∙_}
-use Prim.Native.Nat.{ℕ, _≤_, _<_}
+use Prim.Native.Nat.{_≤_}
 use native.Mathlib.Omega.{arith}
 use borrow.Author.Needs.{needs}
 use lib.IntN.{natAbs}
 use Rattle.numbers.specs.Code.{read-back, read-size}
-use Rattle.requests.specs.Windows.{nthSecond, secondCount}
-use Rattle.requests.specs.WindowLaws.{second-size}
-use Rattle.seconds.specs.SecondLaws.{closest-within}
+use Rattle.requests.specs.Windows.{nthSecond}
+use Rattle.seconds.specs.SecondLaws.{closest-within, closest-size}
 use Rattle.courses.specs.Courses.{closestEntry}
 use Rattle.circumstances.proofs.closest_for.Statement.{statement}
 use Rattle.circumstances.proofs.closest_for.Tie as tie
 
-counted : (c : tie.After-w) → c .before .before .args .k < secondCount (c .before .before .args .q .window)
-counted c = let b = c .before .before in omega (arith, b .pre .3, closest-within (b .args .q) (b .pre .1))
-
 small : (c : tie.After-nth-second) → natAbs (c .nth-second .result) ≤ 10800
 small c =
     let b = c .before .before .before in
-    omega (arith, ap natAbs (c .nth-second .ensures), second-size (b .args .q .window) (b .pre .1 .window) (b .args .k) (counted (c .before)))
+    omega (arith, ap natAbs (c .nth-second .ensures ∙ ap (nthSecond (b .args .q .window)) (b .pre .3)), closest-size (b .args .q) (b .pre .1))
 
 nth-second-requires : tie.Need-nth-second-requires
-nth-second-requires c κs = (c .before .before .pre .1 .window, counted c)
+nth-second-requires c κs =
+    let b = c .before .before in
+    (b .pre .1 .window, omega (arith, b .pre .3, closest-within (b .args .q) (b .pre .1)))
 
 store-second-requires : tie.Need-store-second-requires
 store-second-requires c κs = read-size (c .nth-second .result) 10800 (small c) tt

@@ -1,5 +1,5 @@
--- `kinds::size_for` meets its contract. The byte of every kind but the end and the head tells the size (`size-byte`).
-use Rattle.kinds.specs.KindLaws.{shortened, size-end, size-head, size-byte, size-small}
+-- `kinds::size_for` meets its contract. The byte of every kind but the end, the head and the share tells the size (`size-byte`).
+use Rattle.kinds.specs.KindLaws.{shortened, size-end, size-head, size-share, size-byte, size-small}
 use mathlib.Core.Path.{sym, ap, _∙_}
 use native.Mathlib.Omega.{arith}
 use borrow.Author.Needs.{needs}
@@ -17,6 +17,11 @@ returns-2 c =
     let s = c .before .before .before in
     (sym (size-head (s .args .kind) (sym (s .pre) ∙ c .if2 .taken)), omega arith)
 
+returns-3 : tie.Need-returns-3
+returns-3 c =
+    let s = c .before .before .before .before in
+    (sym (size-share (s .args .kind) (sym (s .pre) ∙ c .if3 .taken)), omega arith)
+
 mul-size : tie.Need-mul-size
 mul-size c = search needs
 
@@ -26,13 +31,13 @@ sub-size c = search needs
 cast-result : tie.Need-cast-result
 cast-result c = search needs
 
-returns-3 : tie.Need-returns-3
-returns-3 c =
-    let s = c .before .before .before in
-    let e = ap shortened (s .pre) ∙ size-byte (s .args .kind) (sym (c .before .before .is-end .ensures) ∙ c .before .if1 .left)
-    (λ h. c .if2 .left (s .pre ∙ h)) in
+returns-4 : tie.Need-returns-4
+returns-4 c =
+    let s = c .before .before .before .before in
+    let e = ap shortened (s .pre) ∙ size-byte (s .args .kind) (sym (c .before .before .before .is-end .ensures) ∙ c .before .before .if1 .left)
+    (λ h. c .before .if2 .left (s .pre ∙ h)) (λ h. c .if3 .left (s .pre ∙ h)) in
     (e, omega (arith, e, size-small (s .args .kind)))
 
 pub size-for-spec : {M : Type 1} → statement M
 size-for-spec =
-    tie.close (tie.spec is-end-requires returns returns-2 mul-size sub-size cast-result returns-3)
+    tie.close (tie.spec is-end-requires returns returns-2 returns-3 mul-size sub-size cast-result returns-4)

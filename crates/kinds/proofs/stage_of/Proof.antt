@@ -24,6 +24,9 @@ enum-told-2 c = search needs
 enum-told-3 : tie.Need-enum-told-3
 enum-told-3 c = search needs
 
+enum-told-4 : tie.Need-enum-told-4
+enum-told-4 c = search needs
+
 returns : tie.Need-returns
 returns c = search needs
 
@@ -45,6 +48,9 @@ returns-6 c = search needs
 returns-7 : tie.Need-returns-7
 returns-7 c = search needs
 
+returns-8 : tie.Need-returns-8
+returns-8 c = search needs
+
 pub stage-of-spec : {M : Type 1} → statement M
 stage-of-spec =
     tie.close
@@ -56,10 +62,12 @@ stage-of-spec =
     enum-known-kind-4
     enum-told-2
     enum-told-3
+    enum-told-4
     returns
     returns-2
     returns-3
     returns-4
     returns-5
     returns-6
-    returns-7)
+    returns-7
+    returns-8)

@@ -42,8 +42,14 @@ fields-requires-6 c κs = search needs
 enum-told-7 : tie.Need-enum-told-7
 enum-told-7 c = search needs
 
+enum-told-8 : tie.Need-enum-told-8
+enum-told-8 c = search needs
+
 fields-requires-7 : tie.Need-fields-requires-7
 fields-requires-7 c κs = search needs
+
+fields-requires-8 : tie.Need-fields-requires-8
+fields-requires-8 c κs = search needs
 
 returns : tie.Need-returns
 returns c = rw (c .before .enum-told .given .1) (c .fields .ensures)
@@ -66,6 +72,9 @@ returns-6 c = rw (c .before .enum-told6 .given .1) (c .fields6 .ensures)
 returns-7 : tie.Need-returns-7
 returns-7 c = rw (c .before .enum-told7 .given .1) (c .fields7 .ensures)
 
+returns-8 : tie.Need-returns-8
+returns-8 c = rw (c .before .enum-told8 .given .1) (c .fields8 .ensures)
+
 pub widths-of-spec : {M : Type 1} → statement M
 widths-of-spec =
     tie.close
@@ -84,10 +93,13 @@ widths-of-spec =
     fields-requires-6
     enum-told-7
     fields-requires-7
+    enum-told-8
+    fields-requires-8
     returns
     returns-2
     returns-3
     returns-4
     returns-5
     returns-6
-    returns-7)
+    returns-7
+    returns-8)

@@ -57,6 +57,12 @@ put-closest-requires c κs = search needs
 enum-told-3 : tie.Need-enum-told-3
 enum-told-3 c = search needs
 
+put-share-requires : tie.Need-put-share-requires
+put-share-requires c κs = search needs
+
+enum-told-4 : tie.Need-enum-told-4
+enum-told-4 c = search needs
+
 same-length : tie.Need-same-length
 same-length c = search needs
 
@@ -93,8 +99,14 @@ same-length-6 c = search needs
 returns-6 : tie.Need-returns-6
 returns-6 c = put-kind _ _ (c .before .before .before .before .enum-told2 .given .1) _ _ _ _ (c .before .before .put-closest .ensures)
 
+same-length-7 : tie.Need-same-length-7
+same-length-7 c = search needs
+
 returns-7 : tie.Need-returns-7
-returns-7 c = put-kind _ _ (c .enum-told3 .given .1) _ _ _ _ (put-nil _ _ (omega arith))
+returns-7 c = put-kind _ _ (c .before .before .before .before .enum-told3 .given .1) _ _ _ _ (c .before .before .put-share .ensures)
+
+returns-8 : tie.Need-returns-8
+returns-8 c = put-kind _ _ (c .enum-told4 .given .1) _ _ _ _ (put-nil _ _ (omega arith))
 
 pub put-entry-spec : {M : Type 1} → statement M
 put-entry-spec =
@@ -117,6 +129,8 @@ put-entry-spec =
     enum-told-2
     put-closest-requires
     enum-told-3
+    put-share-requires
+    enum-told-4
     same-length
     returns
     same-length-2
@@ -129,4 +143,6 @@ put-entry-spec =
     returns-5
     same-length-6
     returns-6
-    returns-7)
+    same-length-7
+    returns-7
+    returns-8)

@@ -47,6 +47,12 @@ enum-told-4 c = search needs
 reach-requires-4 : tie.Need-reach-requires-4
 reach-requires-4 c κs = search needs
 
+enum-told-5 : tie.Need-enum-told-5
+enum-told-5 c = search needs
+
+reach-requires-5 : tie.Need-reach-requires-5
+reach-requires-5 c κs = search needs
+
 returns : tie.Need-returns
 returns c = let a = c .before .before .before .before .args in rw (c .reach .ensures, c .before .enum-told .given .1) (after-by (a .p) (a .entry) _ (sym (c .before .enum-told .given .1) ∙ c .before .before .before .stage-of .ensures))
 
@@ -66,6 +72,9 @@ returns-4 c = let a = c .before .before .before .before .args in rw (c .reach3 .
 returns-5 : tie.Need-returns-5
 returns-5 c = let a = c .before .before .before .before .args in rw (c .reach4 .ensures, c .before .enum-told4 .given .1) (after-by (a .p) (a .entry) _ (sym (c .before .enum-told4 .given .1) ∙ c .before .before .before .stage-of .ensures))
 
+returns-6 : tie.Need-returns-6
+returns-6 c = let a = c .before .before .before .before .args in rw (c .reach5 .ensures, c .before .enum-told5 .given .1) (after-by (a .p) (a .entry) _ (sym (c .before .enum-told5 .given .1) ∙ c .before .before .before .stage-of .ensures))
+
 pub after-spec : {M : Type 1} → statement M
 after-spec =
     tie.close
@@ -84,8 +93,11 @@ after-spec =
     reach-requires-3
     enum-told-4
     reach-requires-4
+    enum-told-5
+    reach-requires-5
     returns
     returns-2
     returns-3
     returns-4
-    returns-5)
+    returns-5
+    returns-6)

@@ -32,6 +32,9 @@ in-window-requires c κs = search needs
 enum-told-5 : tie.Need-enum-told-5
 enum-told-5 c = search needs
 
+enum-told-6 : tie.Need-enum-told-6
+enum-told-6 c = search needs
+
 returns : tie.Need-returns
 returns c = let a = c .before .before .before .args in rule-by (a .p) (a .entry) _ (sym (c .enum-told .given .1) ∙ c .before .before .stage-of .ensures)
 
@@ -47,6 +50,9 @@ returns-4 c = let a = c .before .before .before .before .args in rw (c .in-windo
 returns-5 : tie.Need-returns-5
 returns-5 c = let a = c .before .before .before .args in rule-by (a .p) (a .entry) _ (sym (c .enum-told5 .given .1) ∙ c .before .before .stage-of .ensures)
 
+returns-6 : tie.Need-returns-6
+returns-6 c = let a = c .before .before .before .args in rule-by (a .p) (a .entry) _ (sym (c .enum-told6 .given .1) ∙ c .before .before .stage-of .ensures)
+
 pub rule-holds-spec : {M : Type 1} → statement M
 rule-holds-spec =
     tie.close
@@ -60,8 +66,10 @@ rule-holds-spec =
     enum-told-4
     in-window-requires
     enum-told-5
+    enum-told-6
     returns
     returns-2
     returns-3
     returns-4
-    returns-5)
+    returns-5
+    returns-6)

@@ -3,14 +3,13 @@ use mathlib.Core.Path.{_≡_, refl, sym, ap, ap₂, _∙_, subst}
 use mathlib.Core.List.{[], _∷_}
 use Prim.Native.Nat.{ℕ, zero, suc, _≤_}
 use native.Mathlib.Omega.{arith}
-use native.Mathlib.Nat.{mul-le-mul, lt-of-not-le}
 use lib.Dec.{T}
 use lib.IntN.{ℤ, pos, natAbs, _+ℤ_, _-ℤ_}
 use lib.Signed.{_<ℤ_}
 use Rattle.phases.specs.States.{State, inside, outside, stateOf}
 use Rattle.numbers.specs.Code.{Code, arg, add, sub, Within, whole, ends, _▹_, fits, runs, within, unsigned, read-back}
 use Rattle.numbers.specs.Root.{root}
-use Rattle.numbers.specs.RootLaws.{root-is}
+use Rattle.numbers.specs.RootLaws.{root-below}
 use Rattle.geometry.specs.Magnitude.{millionths, isInside, magnitude}
 use Rattle.geometry.specs.MagnitudeLaws.{magnitude-inside, magnitude-else, magnitude-limit, sum-positive}
 use Rattle.shadow.proofs.magnitude.Statement.{statement}
@@ -32,8 +31,7 @@ not-inside (suc (suc n)) h e = subst (λ (w : State). T (isInside w)) (sym e) tt
 
 -- a root of at most 10^18 is at most 10^9
 root-small : (n : ℕ) → n ≤ 1000000000000000000 → root n ≤ 1000000000
-root-small n h =
-    omega (arith, lt-of-not-le (λ (g : 1000000001 ≤ root n). absurd (omega (arith, root-is n (omega arith) .low, mul-le-mul g g))))
+root-small n h = root-below n 1000000000 (omega arith) (omega arith)
 
 module _ (c : tie.Start) where
   abbrev l1 : ℤ

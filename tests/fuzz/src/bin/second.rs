@@ -7,7 +7,7 @@ use fuzz::changes;
 /// `data` and `size` are libFuzzer's input.
 #[no_mangle]
 pub unsafe extern "C" fn LLVMFuzzerTestOneInput(data: *const u8, size: usize) -> i32 {
-    fuzz::second(fuzz::input(data, size));
+    fuzz::requests::second(fuzz::input(data, size));
     0
 }
 

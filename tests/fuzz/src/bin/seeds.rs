@@ -1,8 +1,8 @@
-//! `seeds FOLDER`: what the fuzzer starts from, in FOLDER/read, listing, sheet, second and write: the requests and sheets that the
+//! `seeds FOLDER`: what the fuzzer starts from, in FOLDER/read, listing, sheet, second, share and write: the requests and sheets that the
 //! repository holds, and some drawn as tests/agreement draws them.
 
 use agreement::draws;
-use fuzz::{LEAVE_NUMBERS, LEAVE_SECOND, LEAVE_SHAPE, OTHER_SINES};
+use fuzz::requests::{LEAVE_NUMBERS, LEAVE_SECOND, LEAVE_SHAPE, OTHER_SINES, WITH_SHARE};
 use reference::random::Random;
 use reference::request::REQUEST_LENGTH;
 use reference::sheet;
@@ -83,16 +83,26 @@ fn main() {
     let head = [ROOM[0], ROOM[1], LEAVE_SHAPE | LEAVE_NUMBERS];
     put(&sheet, &head, stored_requests(), "stored");
     put(&sheet, &head, (0..DRAWN).map(|_| draws::request(&mut random)), "drawn");
+    let shared = [head[0], head[1], head[2] | WITH_SHARE];
+    put(&sheet, &shared, stored_requests(), "shared");
+    put(&sheet, &shared, (0..DRAWN).map(|_| draws::request(&mut random)), "shared_drawn");
     // the same with a room for table S that is shorter or longer by one
     let others = [0x08, 0x10].map(|far| [ROOM[0], far, head[2] | OTHER_SINES]);
     for (head, from) in others.iter().zip(["short", "long"]) {
         put(&sheet, head, stored_requests(), from);
     }
-    let second = folder.join("second");
-    for (head, from) in others.iter().zip(["short", "long"]) {
-        put(&second, &[&head[..], &[0; 8]].concat(), stored_requests(), from);
+    let head = [head[0], head[1], head[2] | LEAVE_SECOND];
+    for second in [folder.join("second"), folder.join("share")] {
+        for (head, from) in others.iter().zip(["short", "long"]) {
+            put(&second, &[&head[..], &[0; 8]].concat(), stored_requests(), from);
+        }
+        let at_zero = [&head[..], &[0; 8]].concat();
+        put(&second, &at_zero, stored_requests(), "stored");
+        put(&second, &at_zero, (0..DRAWN).map(|_| draws::request(&mut random)), "drawn");
+        let overlapping = (0..DRAWN).map(|_| {
+            let (request, second) = draws::overlapping(&mut random);
+            [&second.to_be_bytes()[..], &request].concat()
+        });
+        put(&second, &head, overlapping, "overlapping");
     }
-    let head = [&head[..2], &[head[2] | LEAVE_SECOND], &[0; 8]].concat();
-    put(&second, &head, stored_requests(), "stored");
-    put(&second, &head, (0..DRAWN).map(|_| draws::request(&mut random)), "drawn");
 }

@@ -1,4 +1,4 @@
-//! libFuzzer's target for `ukhtvaresh_sheet`.
+//! libFuzzer's target for `ukhtvaresh_sheet` and `ukhtvaresh_sheet_and_share`.
 #![no_main]
 
 use fuzz::changes;
@@ -7,7 +7,7 @@ use fuzz::changes;
 /// `data` and `size` are libFuzzer's input.
 #[no_mangle]
 pub unsafe extern "C" fn LLVMFuzzerTestOneInput(data: *const u8, size: usize) -> i32 {
-    fuzz::sheet(fuzz::input(data, size));
+    fuzz::requests::sheet(fuzz::input(data, size));
     0
 }
 

@@ -12,19 +12,20 @@
 //! | states | L M guard state |
 //! | shadows | request u v L1 L2 penumbra central direction magnitude |
 //! | sheets | room request sheet |
+//! | shared | room request sheet |
 //! | listings | request listing |
 //! | reads | room sheet count entries |
 //! | writes | room entries sheet |
 //!
 //! States are 0 outside, 1 inside, 2 unsure. A request is the 115 bytes of program `sheet`; in `shadows` its
-//! window is the one second that the line is about; in `sheets` and `listings` it may have another length. A
-//! listing is what program `sheet` prints, each end of a line written `;`. Room is in bytes for `sheets` and
-//! `writes`, in entries for `reads`. Entries are numbers separated by commas, five an entry:
-//! kind, then the fields of its body in their order, 0 where the kind has fewer; an empty list is `-`. Every
-//! record of a sheet is an entry, head and end too.
+//! window is the one second that the line is about; in `sheets`, `shared` and `listings` it may have another
+//! length. In `shared` the request asks for the share too, beside its bytes. A listing is what program `sheet`
+//! prints, each end of a line written `;`. Room is in bytes for `sheets`, `shared` and `writes`, in entries for
+//! `reads`. Entries are numbers separated by commas, five an entry: kind, then the fields of its body in their
+//! order, 0 where the kind has fewer; an empty list is `-`. Every record of a sheet is an entry, head and end too.
 
 use reference::elements::{Elements, Station, Window, ELEMENT_RANGES, FARTHEST, STATION_RANGES};
-use reference::listing::{program, sheet_of_input, ROOM};
+use reference::listing::{program, ROOM};
 use reference::place::place;
 use reference::random::Random;
 use reference::refusal::Refusal;
@@ -48,12 +49,13 @@ fn main() -> ExitCode {
         "directions" => directions(&mut random),
         "states" => states(&mut random),
         "shadows" => shadows(&mut random),
-        "sheets" => sheets(&mut random),
+        "sheets" => sheets(&mut random, false),
+        "shared" => sheets(&mut random, true),
         "listings" => listings(&mut random),
         "reads" => reads(&mut random),
         "writes" => writes(&mut random),
         _ => {
-            eprintln!("usage: vectors sines | places | directions | states | shadows | sheets | listings | reads | writes");
+            eprintln!("usage: vectors sines | places | directions | states | shadows | sheets | shared | listings | reads | writes");
             return ExitCode::FAILURE;
         }
     };
@@ -232,10 +234,11 @@ fn shadows(random: &mut Random) -> Vec<String> {
     lines
 }
 
-fn sheets(random: &mut Random) -> Vec<String> {
+fn sheets(random: &mut Random, share: bool) -> Vec<String> {
     let line_of = |(room, input): (usize, Vec<u8>)| {
         let mut buffer = vec![0xA5; room];
-        let result = sheet_of_input(&input, &mut buffer);
+        let request = Request::from_bytes(&input).map(|request| Request { share, ..request });
+        let result = request.and_then(|request| request.sheet(&mut buffer));
         line(&[&room, &hex(&input), &answer(result, |length| hex(&buffer[..length]))])
     };
     inputs(random).into_iter().map(line_of).collect()
@@ -434,6 +437,9 @@ fn draw_entries(random: &mut Random) -> Vec<u32> {
     }
     let second = first + random.below(u64::from(last - first) + 1) as u32;
     entries.extend([0x30, second, random.below(1_300_001) as u32, 0, 0]);
+    if random.once_in(2) {
+        entries.extend([0x31, random.below(1_000_001) as u32, 0, 0, 0]);
+    }
     entries.extend([0x7F, 0, 0, 0, 0]);
     entries
 }
@@ -458,11 +464,11 @@ fn reads(random: &mut Random) -> Vec<String> {
         lines.push(read_line(room, &hand));
     }
     lines.push(read_line(7, &[&hand[..], &[0x7F]].concat()));
-    for kind in [0x00, 0x02, 0x0F, 0x14, 0x1F, 0x24, 0x31, 0x7E, 0x80, 0xFF] {
+    for kind in [0x00, 0x02, 0x0F, 0x14, 0x1F, 0x24, 0x31, 0x32, 0x7E, 0x80, 0xFF] {
         lines.push(read_line(7, &[&hand[..9], &[kind], &hand[9..]].concat()));
     }
     // Each record alone, so most where another is due.
-    for kind in [0x01, 0x10, 0x11, 0x12, 0x13, 0x20, 0x21, 0x22, 0x23, 0x30, 0x7F] {
+    for kind in [0x01, 0x10, 0x11, 0x12, 0x13, 0x20, 0x21, 0x22, 0x23, 0x30, 0x31, 0x7F] {
         lines.push(read_line(7, &[kind, 0, 7, 0, 8, 0, 9, 0, 16]));
         lines.push(read_line(7, &[&hand[..37], &[kind, 0x12, 0xC1, 0x12, 0xC3, 0, 9]].concat()));
     }
@@ -472,6 +478,16 @@ fn reads(random: &mut Random) -> Vec<String> {
     }
     lines.push(read_line(7, &[&hand[..7], &hand[9..]].concat()));
     lines.push(read_line(7, &[&hand[..7], &hand[37..]].concat()));
+    // The share at its limits; before each record and after the last.
+    let (before, end) = hand.split_at(44);
+    for share in [0u32, 1, 999_999, 1_000_000, 1_000_001, u32::MAX] {
+        let record = [&[0x31], &share.to_be_bytes()[..]].concat();
+        lines.push(read_line(8, &[before, &record, end].concat()));
+        lines.push(read_line(8, &[before, &record, &record, end].concat()));
+        for at in [0, 9, 16, 23, 30, 37, 44, 45] {
+            lines.push(read_line(8, &[&hand[..at], &record, &hand[at..]].concat()));
+        }
+    }
     for _ in 0..60 {
         let entries = draw_entries(random);
         let mut sheet = written(&entries);
@@ -535,6 +551,13 @@ fn writes(random: &mut Random) -> Vec<String> {
             let mut changed = hand.clone();
             changed[at] = value;
             lines.push(write_line(ROOM, &changed));
+        }
+    }
+    // The share after each entry, at its limits, and with a number that it does not use.
+    for at in 0..=records.len() {
+        for share in [[0, 0, 0, 0], [1_000_000, 0, 0, 0], [1_000_001, 0, 0, 0], [7, 1, 0, 0], [7, 0, 0, 1]] {
+            let (before, after) = hand.split_at(WORDS * at);
+            lines.push(write_line(ROOM, &[before, &[0x31], &share[..], after].concat()));
         }
     }
     for _ in 0..50 {

@@ -56,6 +56,12 @@ two-if-requires-3 c κs = λ e. let a = c .before .before .before .before .befor
 two-if-requires-4 : tie.Need-two-if-requires-4
 two-if-requires-4 c κs = λ e. let a = c .before .before .before .before .before .before .args in let h = leb-true 9 (left (a .s .now) (a .at)) e in omega arith
 
+mul-field-a : tie.Need-mul-field-a
+mul-field-a c = search needs
+
+add-field-a : tie.Need-add-field-a
+add-field-a c = search needs
+
 field-a-requires : tie.Need-field-a-requires
 field-a-requires c κs = search needs
 
@@ -110,6 +116,8 @@ body-at-spec =
     two-if-requires-2
     two-if-requires-3
     two-if-requires-4
+    mul-field-a
+    add-field-a
     field-a-requires
     mul-field-b
     add-field-b

@@ -1,0 +1,48 @@
+-- `covered::share` meets its contract: what is answered of the second has L1, L2 and M within their sizes; what the share means follows
+-- from the answer alone. Assumes nothing.
+use mathlib.Core.Path.{_≡_, sym, subst, ap, _∙_}
+use mathlib.Core.List.{List}
+use Prim.Native.Nat.{ℕ}
+use borrow.Author.Needs.{needs}
+use lib.IntN.{ℤ}
+use mir.Syntax.{w64}
+use mir.ValLaws.{toZ-ofZ}
+use Rattle.requests.specs.declared.Request.{Request}
+use Rattle.seconds.specs.OneSecond.{secondAnswer, secondSines}
+use Rattle.covered.specs.declared.OneShare.{OneShare}
+use Rattle.covered.specs.Answer.{shareAnswer, AnswerMeans}
+use Rattle.covered.specs.AnswerLaws.{AnsweredSizes, answered-sizes, means-answer, share-by}
+use Rattle.covered.proofs.share.Statement.{statement}
+use Rattle.covered.proofs.share.Tie as tie
+
+-- t is read back from its bits
+answered : (c : tie.After-second) → let a = c .before .before .before .args in
+    (c .second .result ≡ secondAnswer (a .q) (a .t) (a .sines .now)) × (c .second .last .1 .1 .0 ≡ secondSines (a .q) (a .t) (a .sines .now))
+answered c =
+    let b = c .before .before .before in
+    let a = b .args in
+    let t = toZ-ofZ w64 (a .t) (b .fits .t) in (
+      c .second .ensures .0 ∙ ap (λ (τ : ℤ). secondAnswer (a .q) τ (a .sines .now)) t,
+      c .second .ensures .1 .0 ∙ ap (λ (τ : ℤ). secondSines (a .q) τ (a .sines .now)) t,
+    )
+
+all : (q : Request) (τ : ℤ) (sines left : List ℕ) (r : OneShare) → r ≡ shareAnswer q τ sines → left ≡ secondSines q τ sines
+    → (r ≡ shareAnswer q τ sines) × ((left ≡ secondSines q τ sines) × AnswerMeans q τ r)
+all q τ sines left r e l = (e, (l, rw e (means-answer q τ sines)))
+
+second-requires : tie.Need-second-requires
+second-requires c κs = search needs
+
+of-second-requires : tie.Need-of-second-requires
+of-second-requires c κs = subst AnsweredSizes (sym (answered (c .before .before) .0)) (answered-sizes _ _ _)
+
+same-length : tie.Need-same-length
+same-length c = search needs
+
+returns : tie.Need-returns
+returns c =
+    let a = answered (c .before .before .before) in
+    all _ _ _ _ _ (c .of-second .ensures ∙ share-by _ _ _ (a .0)) (a .1)
+
+pub share-spec : {M : Type 1} → statement M
+share-spec = tie.close (tie.spec second-requires of-second-requires same-length returns)

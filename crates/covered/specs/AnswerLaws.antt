@@ -1,0 +1,59 @@
+-- What is answered means what it says, and how the code comes to it.
+--   means-answer    the answer means what it says
+--   answered-sizes  a second that is answered has L1, L2 and M within the sizes of `share`
+--   share-by        the answer, by what is answered of the second
+use mathlib.Core.Path.{_≡_, refl, sym, ap}
+use mathlib.Core.Bool.{Bool, true, false}
+use mathlib.Core.List.{List}
+use Prim.Native.Nat.{ℕ, _≤_}
+use lib.IntN.{ℤ, natAbs}
+use Rattle.refusals.specs.declared.Refusal.{Refusal}
+use Rattle.refusals.specs.declared.Checked.{Checked}
+use Rattle.refusals.specs.declared.Checked.the-variants as C
+use Rattle.refusals.specs.Refusals.{refusal}
+use Rattle.share.specs.Share.{Sizes}
+use Rattle.requests.specs.declared.Request.{Request}
+use Rattle.requests.specs.Windows.{inSpan}
+use Rattle.requests.specs.WindowLaws.{in-span}
+use Rattle.requests.specs.RequestLaws.{InLimits}
+use Rattle.requests.specs.Admission.{admitted}
+use Rattle.requests.specs.AdmissionLaws.{admitted-within}
+use Rattle.seconds.specs.declared.OneSecond.{OneSecond}
+use Rattle.seconds.specs.declared.OneSecond.the-variants as S
+use Rattle.seconds.specs.OneSecond.{secondBy, secondChecked, secondAnswer}
+use Rattle.seconds.specs.SecondLaws.{second-outside, second-inside}
+use Rattle.covered.specs.CoveredLaws.{share-at, sizes-at, share-means}
+use Rattle.covered.specs.Answer.{shareBy, shareAnswer, AnswerMeans}
+
+-- the sizes of what is answered; a refusal has none
+abbrev pub AnsweredSizes : OneSecond → Type 0
+AnsweredSizes (S.Is x) = Sizes (x .shadow .l1) (x .shadow .l2) (x .shadow .m)
+AnsweredSizes (S.Refused r) = Unit
+
+module _ (q : Request) (τ : ℤ) (sines : List ℕ) where
+  -- what holds of the refusals, and of the second of a request within its limits, holds of the answer
+  either : (P : OneSecond → Type 0) → ((r : Refusal) → P (S.Refused r)) → (InLimits q → natAbs τ ≤ 10800 → P (secondBy C.Within q τ))
+      → P (secondAnswer q τ sines)
+  unfolding secondAnswer
+  either P refused within = by-span (inSpan τ) refl
+    where
+      by-check : (c : Checked) → admitted q sines ≡ c → natAbs τ ≤ 10800 → P (secondBy c q τ)
+      by-check (C.Refused r) e h = refused r
+      by-check C.Within e h = within (admitted-within q sines e .0) h
+
+      by-span : (b : Bool) → inSpan τ ≡ b → P (secondBy (secondChecked q τ sines) q τ)
+      by-span true e = rw (second-inside q τ sines e) (by-check (admitted q sines) refl (in-span τ e))
+      by-span false e = rw (second-outside q τ sines e) (refused (refusal 1 0))
+
+  pub answered-sizes : AnsweredSizes (secondAnswer q τ sines)
+  answered-sizes = either AnsweredSizes (λ r. tt) (λ i h. sizes-at q i τ h)
+
+  pub means-answer : AnswerMeans q τ (shareAnswer q τ sines)
+  unfolding shareAnswer
+  means-answer =
+      either (λ (x : OneSecond). AnswerMeans q τ (shareBy x)) (λ r. tt)
+      (λ i h. (sym (share-at q τ), rw (← share-at q τ) (share-means q i τ h)))
+
+  pub share-by : {x : OneSecond} → x ≡ secondAnswer q τ sines → shareBy x ≡ shareAnswer q τ sines
+  unfolding shareAnswer
+  share-by e = ap shareBy e

@@ -1,0 +1,32 @@
+-- `input::sheet_and_share` meets its contract: it is the sheet of that request with a share asked for. Assumes nothing.
+use borrow.Author.Needs.{needs}
+use mathlib.Core.Path.{ap, _∙_}
+use Rattle.input.specs.Input.{sharing}
+use Rattle.input.specs.SheetLaws.{promised-shared}
+use Rattle.input.proofs.sheet_and_share.Statement.{statement}
+use Rattle.input.proofs.sheet_and_share.Tie as tie
+
+request-requires : tie.Need-request-requires
+request-requires c κs = search needs
+
+with-share-requires : tie.Need-with-share-requires
+with-share-requires c κs = search needs
+
+sheet-for-requires : tie.Need-sheet-for-requires
+sheet-for-requires c κs = search needs
+
+same-length : tie.Need-same-length
+same-length c = search needs
+
+same-length-2 : tie.Need-same-length-2
+same-length-2 c = search needs
+
+returns : tie.Need-returns
+returns c =
+    let made = c .before .before .before .before in
+    let asked = made .before .before .before in
+    promised-shared _ _ _ _ _ _ (rw (asked .with-share .ensures ∙ ap sharing (asked .before .request .ensures)) at (made .sheet-for .ensures))
+
+pub sheet-and-share-spec : {M : Type 1} → statement M
+sheet-and-share-spec =
+    tie.close (tie.spec request-requires with-share-requires sheet-for-requires same-length same-length-2 returns)

@@ -1,0 +1,33 @@
+-- `input::sheet_for` meets its contract: a request's own sheet; a shape that is refused leaves room and buffer alone. Assumes nothing.
+use borrow.Author.Needs.{needs}
+use Rattle.input.specs.SheetLaws.{of-request, of-refusal}
+use Rattle.input.proofs.sheet_for.Statement.{statement}
+use Rattle.input.proofs.sheet_for.Tie as tie
+
+enum-known-asked : tie.Need-enum-known-asked
+enum-known-asked c = search needs
+
+sheet-requires : tie.Need-sheet-requires
+sheet-requires c κs = search needs
+
+enum-known-asked-2 : tie.Need-enum-known-asked-2
+enum-known-asked-2 c = search needs
+
+same-length : tie.Need-same-length
+same-length c = search needs
+
+same-length-2 : tie.Need-same-length-2
+same-length-2 c = search needs
+
+returns : tie.Need-returns
+returns c =
+    let made = c .before .before .before .before in
+    let known = made .before .before .before .before .asked .given in
+    of-request _ _ _ (known .0 .0) _ _ _ (known .1) (made .sheet .ensures)
+
+returns-2 : tie.Need-returns-2
+returns-2 c = let known = c .before .asked2 .given in of-refusal _ _ _ (known .0 .0) (known .1)
+
+pub sheet-for-spec : {M : Type 1} → statement M
+sheet-for-spec =
+    tie.close (tie.spec enum-known-asked sheet-requires enum-known-asked-2 same-length same-length-2 returns returns-2)

@@ -1,0 +1,137 @@
+//! One call of the library and of the reference: compared are the refusal's number, the value beside it, and each whole buffer with 64
+//! numbers past its end, the room for table S among them. The first difference stops the program with all that gives it again.
+
+use crate::answers;
+use crate::library::{self, Reply};
+use reference::mirror::mirror;
+use reference::random::Random;
+use reference::refusal::Refusal;
+use reference::room::{share_of_input, sheet_and_share_of_input, sheet_of_input};
+use reference::sheet;
+use std::fmt::Debug;
+
+const PAST: usize = 64;
+
+/// What a call left: the reply and the whole buffer, canaries too.
+pub type Left<T> = (Reply, Vec<T>);
+
+/// A buffer of `length` with canaries past its end, both from the same random numbers.
+fn buffer<T>(random: &mut Random, length: usize, number: impl Fn(u64) -> T) -> Vec<T> {
+    (0..length + PAST).map(|_| number(random.bits())).collect()
+}
+
+pub fn reply<T>(result: Result<T, Refusal>, value: impl Fn(T) -> u64) -> Reply {
+    match result {
+        Ok(x) => (0, value(x)),
+        Err(refusal) => (refusal.number().into(), refusal.place() as u64),
+    }
+}
+
+pub fn must_agree<T: PartialEq + Debug>(what: &str, given: &dyn Debug, ours: &Left<T>, theirs: &Left<T>) {
+    if ours == theirs {
+        return;
+    }
+    println!("DIFFERENCE in {what}");
+    println!("given {given:?}");
+    println!("library {:?}, reference {:?}", ours.0, theirs.0);
+    if let Some(at) = ours.1.iter().zip(&theirs.1).position(|(a, b)| a != b) {
+        println!("buffers differ from {at} on: library {:?}, reference {:?}", ours.1[at], theirs.1[at]);
+    }
+    std::process::exit(1);
+}
+
+/// A sheet that a request may ask for: the library's function and the reference's.
+pub struct Asked {
+    name: &'static str,
+    ours: fn(&[u8], &mut [u32], &mut [u8]) -> Reply,
+    theirs: fn(&[u8], &mut [u32], &mut [u8]) -> Result<usize, Refusal>,
+}
+
+/// Without the share.
+pub const PLAIN: Asked = Asked { name: "ukhtvaresh_sheet", ours: library::sheet, theirs: sheet_of_input };
+
+/// With it.
+pub const SHARED: Asked = Asked {
+    name: "ukhtvaresh_sheet_and_share",
+    ours: library::sheet_and_share,
+    theirs: sheet_and_share_of_input,
+};
+
+pub fn sheet_both(random: &mut Random, asked: &Asked, request: &[u8], lent: usize, room: usize) -> Left<u8> {
+    let old_sines = buffer(random, lent, |bits| bits as u32);
+    let old = buffer(random, room, |bits| bits as u8);
+    let (mut ours, mut our_sines) = (((0, 0), old.clone()), old_sines.clone());
+    ours.0 = (asked.ours)(request, &mut our_sines[..lent], &mut ours.1[..room]);
+    let (mut theirs, mut their_sines) = (((0, 0), old), old_sines);
+    let made = (asked.theirs)(request, &mut their_sines[..lent], &mut theirs.1[..room]);
+    theirs.0 = reply(made, |length| length as u64);
+    must_agree(asked.name, &(request, lent, room), &ours, &theirs);
+    let sines = ((ours.0, our_sines), (theirs.0, their_sines));
+    must_agree(&format!("the sines of {}", asked.name), &(request, lent, room), &sines.0, &sines.1);
+    ours
+}
+
+pub fn second_both(random: &mut Random, request: &[u8], second: i64, lent: usize, room: usize) -> Left<i64> {
+    let old_sines = buffer(random, lent, |bits| bits as u32);
+    let old = buffer(random, room, |bits| bits as i64);
+    let (mut ours, mut our_sines) = (((0, 0), old.clone()), old_sines.clone());
+    ours.0 = library::second(request, second, &mut our_sines[..lent], &mut ours.1[..room]);
+    let (mut theirs, mut their_sines) = (((0, 0), old), old_sines);
+    let made = answers::second(request, second, &mut their_sines[..lent], &mut theirs.1[..room]);
+    theirs.0 = reply(made, |count| count as u64);
+    must_agree("ukhtvaresh_second", &(request, second, lent, room), &ours, &theirs);
+    let sines = ((ours.0, our_sines), (theirs.0, their_sines));
+    must_agree("the sines of ukhtvaresh_second", &(request, second, lent, room), &sines.0, &sines.1);
+    ours
+}
+
+/// What it leaves in the room for table S, since it fills no other.
+pub fn share_both(random: &mut Random, request: &[u8], second: i64, lent: usize) -> Left<u32> {
+    let old = buffer(random, lent, |bits| bits as u32);
+    let mut ours = ((0, 0), old.clone());
+    ours.0 = library::share(request, second, &mut ours.1[..lent]);
+    let mut theirs = ((0, 0), old);
+    theirs.0 = reply(share_of_input(request, second, &mut theirs.1[..lent]), |share| share as u64);
+    must_agree("ukhtvaresh_share", &(request, second, lent), &ours, &theirs);
+    ours
+}
+
+pub fn read_both(random: &mut Random, sheet: &[u8], room: usize) -> Left<u32> {
+    let old = buffer(random, room, |bits| bits as u32);
+    let mut ours = ((0, 0), old.clone());
+    ours.0 = library::read(sheet, &mut ours.1[..room]);
+    let mut theirs = ((0, 0), old);
+    theirs.0 = reply(sheet::read(sheet, &mut theirs.1[..room]), |count| count as u64);
+    must_agree("ukhtvaresh_read", &(sheet, room), &ours, &theirs);
+    ours
+}
+
+pub fn write_both(random: &mut Random, entries: &[u32], room: usize) -> Left<u8> {
+    let old = buffer(random, room, |bits| bits as u8);
+    let mut ours = ((0, 0), old.clone());
+    ours.0 = library::write(entries, &mut ours.1[..room]);
+    let mut theirs = ((0, 0), old);
+    theirs.0 = reply(sheet::write(entries, &mut theirs.1[..room]), |length| length as u64);
+    must_agree("ukhtvaresh_write", &(entries, room), &ours, &theirs);
+    ours
+}
+
+pub fn listing_both(random: &mut Random, sheet: &[u8], room: usize) -> Left<u8> {
+    let old = buffer(random, room, |bits| bits as u8);
+    let mut ours = ((0, 0), old.clone());
+    ours.0 = library::listing(sheet, &mut ours.1[..room]);
+    let mut theirs = ((0, 0), old);
+    theirs.0 = reply(answers::listing(sheet, &mut theirs.1[..room]), |length| length as u64);
+    must_agree("ukhtvaresh_listing", &(sheet, room), &ours, &theirs);
+    ours
+}
+
+pub fn mirror_both(random: &mut Random, request: &[u8], room: usize) -> Left<u8> {
+    let old = buffer(random, room, |bits| bits as u8);
+    let mut ours = ((0, 0), old.clone());
+    ours.0 = library::mirror(request, &mut ours.1[..room]);
+    let mut theirs = ((0, 0), old);
+    theirs.0 = reply(mirror(request, &mut theirs.1[..room]), |length| length as u64);
+    must_agree("ukhtvaresh_mirror", &(request, room), &ours, &theirs);
+    ours
+}
