@@ -191,6 +191,19 @@ uint64_t ukhtvaresh_from_tables(const int64_t *rows, size_t rows_len, int64_t *v
  * 0 for n = 0, at most 30 for n below 2^60, 32 at most. The answer is the root and not the number of a refusal: there is none. */
 uint64_t ukhtvaresh_root(uint64_t n, uint64_t *rounds);
 
+/* A stretch of dropped bytes in ukhtvaresh_mend's notes: its start and its length, 8 bytes each, big-endian. */
+#define UKHTVARESH_STRETCH_LENGTH 16
+
+/* Mends a file of sheets appended to one another. From the start: where a whole well-formed sheet begins, it is kept, and the walk goes
+ * on behind it; otherwise one byte is dropped. The kept sheets in their order at the start of `sheets`, each unbroken stretch of dropped
+ * bytes in order at the start of `dropped`. *kept, *noted: how many bytes each has.
+ * A file of nothing but well-formed sheets comes out unchanged with *noted 0; so does what was kept, mended again. Kept bytes and the
+ * lengths of the stretches add up to file_len. As many bytes as the file has are enough for `sheets`, and 16 more for `dropped`.
+ * Its time went by the file's length on every file that was tried, hostile ones too: measured, not proved.
+ * Refusal: 4, where a room is short, the room of `sheets` first; *kept is the length needed, and *noted is 0. */
+uint64_t ukhtvaresh_mend(const uint8_t *file, size_t file_len, uint8_t *sheets, size_t sheets_len, uint8_t *dropped,
+                         size_t dropped_len, uint64_t *kept, uint64_t *noted);
+
 #ifdef __cplusplus
 }
 #endif

@@ -4,8 +4,8 @@ From the elements of an eclipse, a station, a window of seconds and a guard, `sh
 `sheet_and_share` the same with the covered share of the Sun's disc; `read` takes a sheet apart, `write` puts entries together as
 one, `listing` gives a sheet as text, `second` the shadow at one second and `share` the share at it. `mirror` gives the request
 beyond the equator, `fit` judges coefficients that a spreadsheet made of seven hourly values, `from_tables` makes elements from
-tables of Sun and Moon, `root` gives a square root with its rounds. Each is a thin call of the proved function of the same name
-in libukhtvaresh.so, which the script `build` makes.
+tables of Sun and Moon, `root` gives a square root with its rounds, `mend` takes the damaged parts out of a
+file of sheets. Each is a thin call of the proved function of the same name in libukhtvaresh.so, which the script `build` makes.
 
 Lengths are in 10^-8 of the Earth's equatorial radius, angles in 10^-6 degree, times in whole seconds of
 ephemeris time from the reference instant. East longitude is positive. "Document 01" is the paper whose rules the library keeps.
@@ -18,7 +18,7 @@ import threading
 from dataclasses import astuple, dataclass
 from enum import Enum
 from pathlib import Path
-from typing import Callable, Iterable, List, Optional, Sequence, Union
+from typing import Callable, Iterable, List, Optional, Sequence, Tuple, Union
 
 REQUEST_LENGTH = 115  # bytes
 LEAST_GUARD = 16  # that of document 01's cases
@@ -340,7 +340,8 @@ def _load() -> ctypes.CDLL:
     library.ukhtvaresh_fit.argtypes = [room, length, room, length, ctypes.c_int64, value]
     library.ukhtvaresh_from_tables.argtypes = [room, length, room, length, value]
     library.ukhtvaresh_root.argtypes = [ctypes.c_uint64, value]
-    names = "sheet sheet_and_share second share mirror read write listing fit from_tables root"
+    library.ukhtvaresh_mend.argtypes = [data, length, room, length, room, length, value, value]
+    names = "sheet sheet_and_share second share mirror read write listing fit from_tables root mend"
     for name in names.split():
         getattr(library, "ukhtvaresh_" + name).restype = ctypes.c_uint64
     return library
@@ -577,3 +578,53 @@ def from_tables(rows: Iterable[Row]) -> List[Besselian]:
     values = (ctypes.c_int64 * 56)()
     from_tables_into([number for row in rows for number in astuple(row)], values)
     return [Besselian(*values[8 * k : 8 * k + 8]) for k in range(ROWS)]
+
+
+# ---- a file of sheets mended
+
+
+@dataclass(frozen=True)
+class Stretch:
+    """An unbroken stretch of dropped bytes."""
+
+    start: int  # its first byte, counted from 0 in the file
+    length: int  # at least 1
+
+
+@dataclass(frozen=True)
+class Mended:
+    """A file mended: the kept sheets in their order, and what was dropped, in order, with kept bytes between two stretches."""
+
+    sheets: bytes
+    stretches: List[Stretch]
+
+
+def mend_into(file: bytes, sheets, dropped) -> Tuple[int, int]:
+    """Mends a file into two writable buffers; gives how many bytes each then has.
+
+    `sheets` gets the kept sheets, `dropped` 16 bytes for each stretch, its start and its length, 8 each, big-endian. The
+    bytes past them, and on refusal all bytes, keep what they held. Refusal: 4 with the length needed, `sheets` first.
+    """
+    file = bytes(file)
+    noted = ctypes.c_uint64()
+    kept = ctypes.c_uint64()
+    number = _library.ukhtvaresh_mend(
+        file, len(file), *_lent(sheets), *_lent(dropped), ctypes.byref(kept), ctypes.byref(noted)
+    )
+    if number:
+        raise Refused(number, kept.value)
+    return kept.value, noted.value
+
+
+def mend(file: bytes) -> Mended:
+    """Mends a file of sheets appended to one another, of any size.
+
+    From the start: where a whole well-formed sheet begins, it is kept, and the walk goes on behind it; otherwise one byte is
+    dropped. A file of nothing but well-formed sheets comes out unchanged with no stretch. Kept bytes and the lengths of the
+    stretches add up to the file's length. Its time went by that length on every file that
+    was tried: measured, not proved.
+    """
+    # a stretch and the sheet behind it have 18 bytes at least, and behind the last there may be none
+    sheets, dropped = bytearray(len(file)), bytearray(len(file) + 16)
+    kept, noted = mend_into(file, sheets, dropped)
+    return Mended(bytes(sheets[:kept]), [Stretch(*numbers) for numbers in struct.iter_unpack(">QQ", dropped[:noted])])

@@ -88,6 +88,16 @@ extern "C" {
         value: *mut u64,
     ) -> u64;
     fn ukhtvaresh_root(n: u64, rounds: *mut u64) -> u64;
+    fn ukhtvaresh_mend(
+        file: *const u8,
+        file_len: usize,
+        sheets: *mut u8,
+        sheets_len: usize,
+        dropped: *mut u8,
+        dropped_len: usize,
+        kept: *mut u64,
+        noted: *mut u64,
+    ) -> u64;
 }
 
 // The answer of a call: the length, the count or the share, or the refusal.
@@ -231,4 +241,23 @@ pub fn root(n: u64) -> (u64, u64) {
     // SAFETY: `rounds` is borrowed mutably, and there is no other memory.
     let root = unsafe { ukhtvaresh_root(n, &mut rounds) };
     (root, rounds)
+}
+
+// The bytes that each room has.
+pub fn mend(file: &[u8], sheets: &mut [u8], dropped: &mut [u8]) -> Result<(usize, usize), Refusal> {
+    let (mut kept, mut noted) = (0, 0);
+    // SAFETY: as in `sheet`; both rooms and both values are borrowed mutably, so none overlaps another.
+    let number = unsafe {
+        ukhtvaresh_mend(
+            file.as_ptr(),
+            file.len(),
+            sheets.as_mut_ptr(),
+            sheets.len(),
+            dropped.as_mut_ptr(),
+            dropped.len(),
+            &mut kept,
+            &mut noted,
+        )
+    };
+    answer(number, kept).map(|kept| (kept, noted as usize))
 }

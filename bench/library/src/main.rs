@@ -198,6 +198,42 @@ fn roots(rounds: usize) {
     }
 }
 
+/// A year file mended: 100,000 sheets; with a hole in every tenth; any bytes; and files made to be slow.
+fn files(rounds: usize, sheet: &[u8]) {
+    let mut random = Random::new(7);
+    let year = sheet.repeat(100_000);
+    let mut holes = year.clone();
+    for block in holes.chunks_exact_mut(10 * sheet.len()) {
+        let from = random.below(block.len() as u64 - 60) as usize;
+        block[from..from + 1 + random.below(60) as usize].fill(random.bits() as u8);
+    }
+    let head = &sheet[..9];
+    let opens = [&[0x13], &head[3..5], &head[3..5]].concat();
+    let files = [
+        ("100,000 sheets", year.clone()),
+        ("the same with holes", holes),
+        ("any bytes", (0..year.len()).map(|_| random.bits() as u8).collect()),
+        ("bytes of 01", vec![1; year.len()]),
+        ("heads alone", head.repeat(year.len() / 9)),
+        ("a sheet without an end", [head, &opens.repeat(year.len() / 5)].concat()),
+        ("nested beginnings", [0x13, 0x01, 0x00, 0x01, 0x00].repeat(year.len() / 5)),
+    ];
+    for (name, file) in files {
+        let (mut sheets, mut dropped) = (vec![0; file.len()], vec![0; file.len() + 16]);
+        let (time, _) = best(
+            rounds.min(10),
+            1,
+            || _ = black_box(library::mend(black_box(&file), &mut sheets, &mut dropped)),
+            || (),
+        );
+        println!(
+            "mend, {name:22} {:.1} MB: {:4.0} MB/s",
+            file.len() as f64 / 1e6,
+            file.len() as f64 / time / 1e6
+        );
+    }
+}
+
 fn main() {
     let rounds = std::env::args().nth(1).map_or(100, |n| n.parse().expect("a number of rounds"));
     sheets(rounds);
@@ -214,4 +250,5 @@ fn main() {
     records(rounds, "long", &long_list(3_000), 20);
     records(rounds, "drawn", &drawn_list(3_000), 20);
     roots(rounds);
+    files(rounds, &hand);
 }

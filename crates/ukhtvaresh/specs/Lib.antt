@@ -6,3 +6,4 @@ pub mod ShareLaws
 pub mod Listing
 pub mod Fits
 pub mod TablesReply
+pub mod MendReply

@@ -3,5 +3,6 @@
 pub mod answers;
 pub mod both;
 pub mod draws;
+pub mod files;
 pub mod fits;
 pub mod library;

@@ -81,6 +81,16 @@ extern "C" {
         value: *mut u64,
     ) -> u64;
     fn ukhtvaresh_root(n: u64, rounds: *mut u64) -> u64;
+    fn ukhtvaresh_mend(
+        file: *const u8,
+        file_len: usize,
+        sheets: *mut u8,
+        sheets_len: usize,
+        dropped: *mut u8,
+        dropped_len: usize,
+        kept: *mut u64,
+        noted: *mut u64,
+    ) -> u64;
 }
 
 /// The number of the refusal, 0 for none; the length, the count or the place.
@@ -205,4 +215,24 @@ pub fn root(n: u64) -> (u64, u64) {
     let mut rounds = UNSET;
     let root = unsafe { ukhtvaresh_root(n, &mut rounds) };
     (root, rounds)
+}
+
+/// The number of the refusal, 0 for none; the bytes written into the first room, or the place; those written into the second.
+pub type MendReply = (u64, u64, u64);
+
+pub fn mend(file: &[u8], sheets: &mut [u8], dropped: &mut [u8]) -> MendReply {
+    let (mut kept, mut noted) = (UNSET, UNSET);
+    let number = unsafe {
+        ukhtvaresh_mend(
+            file.as_ptr(),
+            file.len(),
+            sheets.as_mut_ptr(),
+            sheets.len(),
+            dropped.as_mut_ptr(),
+            dropped.len(),
+            &mut kept,
+            &mut noted,
+        )
+    };
+    (number, kept, noted)
 }

@@ -1,7 +1,7 @@
 //! How inputs are changed: half by libFuzzer, half by changes that know what a sheet or a request is.
 
 use crate::requests::{give_shape, within_limits};
-use agreement::draws;
+use agreement::{draws, files};
 use reference::elements::{Elements, Station};
 use reference::random::Random;
 use reference::request::Request;
@@ -42,6 +42,7 @@ pub unsafe fn mutate(
 }
 
 pub use draws::damage as change_sheet;
+pub use files::change as change_file;
 
 /// Entries are damaged as numbers.
 pub fn change_entries(random: &mut Random, bytes: &mut Vec<u8>) {

@@ -8,7 +8,8 @@ pub mod changes;
 pub mod requests;
 
 use agreement::answers;
-use agreement::library::{self, Reply};
+use agreement::library::{self, MendReply, Reply};
+use reference::mend;
 use reference::refusal::Refusal;
 use reference::sheet::{self, WORDS};
 use std::fmt::Debug;
@@ -19,6 +20,16 @@ extern "C" {
     fn guide_listing(input: *const u8, length: usize, room: *mut u8, room_len: usize, value: *mut u64)
         -> u64;
     fn guide_write(input: *const u32, length: usize, room: *mut u8, room_len: usize, value: *mut u64) -> u64;
+    fn guide_mend(
+        file: *const u8,
+        file_len: usize,
+        sheets: *mut u8,
+        sheets_len: usize,
+        dropped: *mut u8,
+        dropped_len: usize,
+        kept: *mut u64,
+        noted: *mut u64,
+    ) -> u64;
 }
 
 type Export<S, T> = unsafe extern "C" fn(*const S, usize, *mut T, usize, *mut u64) -> u64;
@@ -151,5 +162,41 @@ pub unsafe fn input<'a>(data: *const u8, size: usize) -> &'a [u8] {
         &[]
     } else {
         std::slice::from_raw_parts(data, size)
+    }
+}
+
+fn guide_mended(file: &[u8], sheets: &mut [u8], dropped: &mut [u8]) -> MendReply {
+    let (mut kept, mut noted) = (0, 0);
+    let (sheets, sheets_len) = (sheets.as_mut_ptr(), sheets.len());
+    let (dropped, dropped_len) = (dropped.as_mut_ptr(), dropped.len());
+    let number = unsafe {
+        guide_mend(file.as_ptr(), file.len(), sheets, sheets_len, dropped, dropped_len, &mut kept, &mut noted)
+    };
+    (number, kept, noted)
+}
+
+/// Two bytes for each of the two rooms, then the file.
+pub fn mend(input: &[u8]) {
+    let &[near, far, near_notes, far_notes, ref file @ ..] = input else { return };
+    let mended = mend::mend(file);
+    let rooms =
+        [room(mended.sheets.len(), near, far), room(16 * mended.stretches.len(), near_notes, far_notes)];
+    let left = |call: &dyn Fn(&mut [u8], &mut [u8]) -> MendReply| {
+        let mut kept: Vec<u8> = (0..rooms[0] + PAST).map(old_byte).collect();
+        let mut notes: Vec<u8> = (0..rooms[1] + PAST).map(old_byte).collect();
+        (call(&mut kept[..rooms[0]], &mut notes[..rooms[1]]), kept, notes)
+    };
+    let theirs = left(&|kept, notes| match mend::mend_into(file, kept, notes) {
+        Ok((kept, noted)) => (0, kept as u64, noted as u64),
+        Err(refusal) => (refusal.number().into(), refusal.place() as u64, 0),
+    });
+    for (what, ours) in [
+        ("ukhtvaresh_mend", left(&|kept, notes| library::mend(file, kept, notes))),
+        ("ukhtvaresh_mend with counters", left(&|kept, notes| guide_mended(file, kept, notes))),
+    ] {
+        if ours != theirs {
+            eprintln!("rooms {rooms:?}, {what} {:?}, reference {:?}", ours.0, theirs.0);
+            differ(what, file);
+        }
     }
 }

@@ -9,6 +9,7 @@ pub mod entries;
 pub mod exact;
 pub mod fit;
 pub mod listing;
+pub mod mend;
 pub mod mirror;
 pub mod numbers;
 pub mod place;

@@ -1,7 +1,7 @@
-//! `seeds FOLDER`: what the fuzzer starts from, in FOLDER/read, listing, sheet, second, share and write: the requests and sheets that the
-//! repository holds, and some drawn as tests/agreement draws them.
+//! `seeds FOLDER`: what the fuzzer starts from, in FOLDER/read, listing, sheet, second, share, write and mend: the requests and sheets that
+//! the repository holds, and some drawn as tests/agreement draws them.
 
-use agreement::draws;
+use agreement::{draws, files};
 use fuzz::requests::{LEAVE_NUMBERS, LEAVE_SECOND, LEAVE_SHAPE, OTHER_SINES, WITH_SHARE};
 use reference::random::Random;
 use reference::request::REQUEST_LENGTH;
@@ -79,6 +79,9 @@ fn main() {
         put(&folder, &ROOM, stored_sheets(), "stored");
         put(&folder, &ROOM, (0..DRAWN).map(|_| drawn_sheet(&mut random)), "drawn");
     }
+    let mend = folder.join("mend");
+    put(&mend, &[ROOM, ROOM].concat(), [stored_sheets().concat()], "stored");
+    put(&mend, &[ROOM, ROOM].concat(), (0..DRAWN).map(|_| files::file(&mut random)), "drawn");
     put(&folder.join("write"), &ROOM, (0..DRAWN).map(|_| drawn_entries(&mut random)), "drawn");
     let head = [ROOM[0], ROOM[1], LEAVE_SHAPE | LEAVE_NUMBERS];
     put(&sheet, &head, stored_requests(), "stored");

@@ -1,0 +1,46 @@
+-- What the program writes: the mended file to standard output, and to standard error a line for each dropped stretch.
+-- Assumes nothing: these are definitions.
+use Prim.Native.Nat.{ℕ}
+use mathlib.Core.List.{List, [], _∷_, _++_}
+use mathlib.Core.Bool.{cond}
+use lib.Dec.{ltb}
+use lib.ListN.{length}
+use Rattle.decimals.specs.Decimals.{decimal}
+use Rattle.decimals.specs.Texts.{letters}
+use Rattle.lines.specs.Lines.{refusalLine}
+use Rattle.mending.specs.declared.Answer.{Answer}
+use Rattle.mending.specs.declared.Answer.the-variants.{Mended, Refused}
+use Rattle.mending.specs.Mending.{Stretch, kept, stretches, answerTo}
+use Rattle.mending.specs.Claims.{eightAt}
+
+-- `dropped START LENGTH`
+unfoldable pub droppedLine : ℕ → ℕ → List ℕ
+droppedLine from long = letters "dropped " ++ decimal from ++ letters " " ++ decimal long ++ letters "\n"
+
+unfoldable pub linesOf : List Stretch → List ℕ
+linesOf [] = []
+linesOf (t ∷ ts) = droppedLine (t .from) (t .long) ++ linesOf ts
+
+-- the same of 16 bytes of a note
+unfoldable pub noteLine : List ℕ → List ℕ
+noteLine s = droppedLine (eightAt s 0) (eightAt s 8)
+
+-- a file that is not shorter than the sheets' room, of a bytes, is refused whole
+unfoldable pub tooLong : ℕ → List ℕ
+tooLong a = letters "file of " ++ decimal a ++ letters " bytes or more\n"
+
+-- to standard output: the mended file, or nothing
+abbrev pub outputBy : Answer → List ℕ → List ℕ
+outputBy (Mended k n) file = kept file
+outputBy (Refused r) file = []
+
+unfoldable pub output : ℕ → ℕ → List ℕ → List ℕ
+output a b file = cond (ltb (length file) a) (outputBy (answerTo a b file) file) []
+
+-- to standard error: the lines of the stretches, or why nothing was written
+abbrev pub errorBy : Answer → List ℕ → List ℕ
+errorBy (Mended k n) file = linesOf (stretches file)
+errorBy (Refused r) file = refusalLine (r .number) (r .place)
+
+unfoldable pub error : ℕ → ℕ → List ℕ → List ℕ
+error a b file = cond (ltb (length file) a) (errorBy (answerTo a b file) file) (tooLong a)

@@ -1,0 +1,129 @@
+// Reads a file of sheets from standard input, shorter than 196,608 bytes, and writes it mended to standard output; each dropped stretch is
+// told on standard error. A longer file is refused whole: nothing is written, and standard error says so.
+use libc::STDERR_FILENO;
+use libc::STDIN_FILENO;
+use libc::STDOUT_FILENO;
+ghost use mathlib.Core.Path.{_≡_};
+ghost use Prim.Native.Nat.{_+_, _≤_};
+ghost use lib.ListN.{length, take};
+ghost use Rattle.decimals.specs.Texts.{Put, Counts};
+ghost use Rattle.decimals.specs.Rows.{eachPart};
+ghost use Rattle.lines.specs.Lines.{refusalLine};
+ghost use Rattle.mending.specs.Claims.{eightAt};
+ghost use Rattle.mend.specs.Printed.{noteLine, tooLong, output, error};
+
+// How many bytes of each room go out.
+struct Streams {
+    // of the sheets' room, to standard output
+    output: usize,
+    // of the text's room, to standard error; more than the room has where the room is shorter than the text
+    error: usize,
+}
+
+// The number of eight bytes, the highest first.
+fn eight_at(bytes: &[u8], at: usize) -> u64
+    requires { ⌜ at + 8 ≤ length (now bytes) ⌝ }
+    ensures { λ r. ⌜ r ≡ eightAt (now (bytes .entry)) at ⌝ }
+{
+    let high = records::four_at(bytes, at) as u64;
+    let low = records::four_at(bytes, at + 4) as u64;
+    high * 4_294_967_296 + low
+}
+
+// The line of a note.
+fn put_note(out: &mut [u8], at: usize, note: &[u8]) -> usize
+    requires { ⌜ 16 ≤ length (now note) ⌝ }
+    ensures { λ r. ⌜ Put (now (out .entry)) at (noteLine (now (note .entry))) (now (out .exit)) r ⌝ }
+{
+    let start = eight_at(note, 0);
+    let length = eight_at(note, 8);
+    let word = decimals::put_text(out, at, b"dropped ");
+    let first = decimals::put_number(out, word, start);
+    let space = decimals::put_byte(out, first, b' ');
+    let second = decimals::put_number(out, space, length);
+    decimals::put_byte(out, second, b'\n')
+}
+
+// A line for each note.
+fn put_notes(out: &mut [u8], notes: &[u8]) -> usize
+    ensures { λ r. ⌜ Put (now (out .entry)) 0 (eachPart 16 noteLine (now (notes .entry))) (now (out .exit)) r ⌝ }
+{
+    let count = notes.len() / 16;
+    let mut at = 0;
+    for k in 0..count {
+        let from = k * 16;
+        let end = from + 16;
+        at = put_note(out, at, &notes[from..end]);
+    }
+    at
+}
+
+fn put_refused(out: &mut [u8], refusal: refusals::Refusal) -> usize
+    ensures { λ r. ⌜ Put (now (out .entry)) 0 (refusalLine (refusal .number) (refusal .place)) (now (out .exit)) r ⌝ }
+{
+    let number = refusal.number as u64;
+    let place = refusal.place as u64;
+    lines::put_refusal_line(out, 0, number, place)
+}
+
+// That a file is too long for a room.
+fn put_too_long(out: &mut [u8], room: usize) -> usize
+    ensures { λ r. ⌜ Put (now (out .entry)) 0 (tooLong room) (now (out .exit)) r ⌝ }
+{
+    let bytes = room as u64;
+    let word = decimals::put_text(out, 0, b"file of ");
+    let number = decimals::put_number(out, word, bytes);
+    decimals::put_text(out, number, b" bytes or more\n")
+}
+
+// The mended file at the start of the sheets' room, and what is told from the start of the text's on, as far as that goes.
+fn mended(file: &[u8], sheets: &mut [u8], notes: &mut [u8], text: &mut [u8]) -> Streams
+    ensures output { λ r. ⌜ take (r .output) (now (sheets .exit)) ≡ output (length (now (sheets .entry))) (length (now (notes .entry))) (now (file .entry)) ⌝ }
+    ensures error { λ r. ⌜ Put (now (text .entry)) 0 (error (length (now (sheets .entry))) (length (now (notes .entry))) (now (file .entry))) (now (text .exit)) (r .error) ⌝ }
+    ensures counts { λ r. ⌜ Counts (r .output) (now (sheets .exit)) ⌝ }
+{
+    if sheets.len() <= file.len() {
+        let end = put_too_long(text, sheets.len());
+        return Streams {
+            output: 0,
+            error: end,
+        };
+    }
+    let answer = mending::mend(file, sheets, notes);
+    match answer {
+        mending::Answer::Mended { kept, noted } => {
+            let end = put_notes(text, &notes[..noted]);
+            Streams {
+                output: kept,
+                error: end,
+            }
+        }
+        mending::Answer::Refused(refusal) => {
+            let end = put_refused(text, refusal);
+            Streams {
+                output: 0,
+                error: end,
+            }
+        }
+    }
+}
+
+fn room() -> [u8; 196608]
+    ensures { λ r. ⌜ 196608 ≡ length r ⌝ }
+{
+    [0; 196608]
+}
+
+fn main() {
+    let mut file = room();
+    let length = io::read_full(STDIN_FILENO, &mut file);
+    let mut sheets = room();
+    // a stretch and the sheet behind it have 18 bytes at least; a note has 16, and a line as many and the digits of the stretch's length
+    let mut notes = room();
+    let mut text = room();
+    let streams = mended(&file[..length], &mut sheets, &mut notes, &mut text);
+    let output = streams.output;
+    let error = decimals::clipped(&text, streams.error);
+    io::write_all(STDOUT_FILENO, &sheets[..output]);
+    io::write_all(STDERR_FILENO, &text[..error]);
+}
