@@ -1,4 +1,4 @@
-/* Ukhtvaresh: local circumstances of a solar eclipse in whole numbers.
+/* Ukhtvaresh: local circumstances of a solar eclipse, and of a star behind the Moon, in whole numbers.
  *
  * Lengths are in 10^-8 of the Earth's equatorial radius, angles in 10^-6 degree, times in whole seconds of
  * ephemeris time from the reference instant. East longitude is positive.
@@ -11,7 +11,7 @@
  *
  *   number                                           place
  *    1  window or guard outside its range            0 window, 1 guard
- *    2  an element outside its range, or a           first such field, 0 to 21; of a fit 0 to 3
+ *    2  an element outside its range, or a           first such field, 0 to 21; of a star 0 to 11; of a fit 0 to 3
  *       coefficient of a fit
  *    3  a station value outside its range            first: 0 number, 1 latitude, 2 longitude, 3 height, 4 delta T
  *    4  the buffer is too short                      the length it needs (bytes; entries for ukhtvaresh_read);
@@ -24,6 +24,8 @@
  *    9  bytes after the end record                   first of them
  *   10  request, fit or tables not of their shape    0
  *   11  a row of the tables outside its distances    first such row, 0 to 6
+ *   13  the radius of a star request outside its     0
+ *       range
  *   17  a fit differs from the tabulated value by    first such hour, 0 to 6 for -3 to 3
  *       more than the tolerance
  *   18  the tolerance or a tabulated value of a      0 for the tolerance, 1 to 7 for the first such tabulated value
@@ -68,8 +70,12 @@ enum {
     UKHTVARESH_LEAVE_CENTRAL = 0x21,
     UKHTVARESH_GRAZE_CENTRAL = 0x22,
     UKHTVARESH_OPEN_CENTRAL = 0x23,
-    UKHTVARESH_CLOSEST = 0x30, /* second, magnitude */
-    UKHTVARESH_SHARE = 0x31,   /* share; once, directly after closest, or left out */
+    UKHTVARESH_CLOSEST = 0x30, /* second, magnitude; 0 after a star's entry */
+    UKHTVARESH_SHARE = 0x31,   /* share; once, directly after closest, or left out; never after a star's entry */
+    UKHTVARESH_ENTER_STAR = 0x40, /* from, to, direction; a star's entries stand in place of penumbra and central */
+    UKHTVARESH_LEAVE_STAR = 0x41, /* from, to, direction */
+    UKHTVARESH_GRAZE_STAR = 0x42, /* from, to */
+    UKHTVARESH_OPEN_STAR = 0x43,  /* from, to */
     UKHTVARESH_END = 0x7F
 };
 
@@ -99,6 +105,22 @@ uint64_t ukhtvaresh_sheet(const uint8_t *request, size_t request_len, uint32_t *
  * request's bytes asks for it, so ukhtvaresh_sheet never writes it. Parameters, *value and refusals as above. */
 uint64_t ukhtvaresh_sheet_and_share(const uint8_t *request, size_t request_len, uint32_t *sines, size_t sines_len,
                                     uint8_t *sheet, size_t sheet_len, uint64_t *value);
+
+/* The length of a star request in bytes. Numbers are big-endian:
+ *   kind 05, then 13 signed 4-byte numbers: x0 x1 x2 x3, y0 y1 y2 y3, d0, mu0 mu1 mu2, radius; coefficients per hour. x and y are the
+ *     Moon's centre in the plane through the Earth's centre at right angles to the star's direction, d0 is the star's declination, mu
+ *     its hour angle; ranges of x, y and mu as above, d0 +-30,000,000, the Moon's radius 27,200,000 to 27,300,000 (k = 0.2725 is
+ *     27,250,000);
+ *   kinds 03 and 04 as above. */
+#define UKHTVARESH_STAR_REQUEST_LENGTH 79
+
+/* The sheet of a star behind the Moon, at the start of `sheet`: head, entries of the star, closest with magnitude 0, end. The shadow is
+ * a cylinder of the Moon's radius: one phase and no cone, and the guard as for an eclipse. Enter is where the star vanishes, leave where
+ * it appears again; the direction is that of the Moon's centre from the star, so on the Moon's edge the star is at the opposite one.
+ * Parameters and *value as of ukhtvaresh_sheet. Refusals, the first of them: 10; 1; 2 with place 0 to 11; 13; 3; 4 with place 901 where
+ * sines_len is below that; 4. */
+uint64_t ukhtvaresh_star(const uint8_t *request, size_t request_len, uint32_t *sines, size_t sines_len, uint8_t *sheet,
+                         size_t sheet_len, uint64_t *value);
 
 /* How much of the Sun's disc the Moon covers at a second of a request, -10,800 to 10,800, also outside its window. *value: the share
  * itself, millionths rounded down, 0 to 1,000,000: 1,000,000 wherever the total phase is sure, 0 where the penumbra is surely left.
@@ -134,7 +156,8 @@ uint64_t ukhtvaresh_mirror(const uint8_t *request, size_t request_len, uint8_t *
                            uint64_t *value);
 
 /* The entries of a sheet, head and end among them, at the start of `entries`. *value: how many entries.
- * Refusals: the first faulty record's, in it 5, 6, 8, 7; 9; then 4 with the number of entries.
+ * Refusals: the first faulty record's, in it 5, 6, 8, 7; 9; then 4 with the number of entries. In a sheet with a star's entry an
+ * eclipse's entry or a share breaks order, 8, and a magnitude above 0 breaks a rule, 7.
  * entries_len counts numbers, five an entry. A sheet from before heads had a guard gives 7 with place 0. */
 uint64_t ukhtvaresh_read(const uint8_t *sheet, size_t sheet_len, uint32_t *entries, size_t entries_len,
                          uint64_t *value);

@@ -10,9 +10,11 @@ from dataclasses import replace
 from pathlib import Path
 
 import ukhtvaresh
-from ukhtvaresh import Request, second, share, sheet, sheet_and_share
+from ukhtvaresh import Request, second, share, sheet, sheet_and_share, star
 
-MOSCOW = (Path(__file__).resolve().parent.parent / "examples" / "moscow1954.bin").read_bytes()
+EXAMPLES = Path(__file__).resolve().parent.parent / "examples"
+MOSCOW = (EXAMPLES / "moscow1954.bin").read_bytes()
+POTSDAM = (EXAMPLES / "potsdam1956.bin").read_bytes()  # a star
 PAST = 64  # numbers past the room, which nobody may write
 LENGTHS = (0, 900, 901, 902)
 
@@ -61,6 +63,7 @@ class Room(unittest.TestCase):
                 for name, whole in needed.items()
                 for length in (0, whole - 1, whole, whole + 1)
             ]
+            calls += [(sheet_of("star", POTSDAM, lent, length), length, 31) for length in (0, 30, 31, 32)]
             calls.append((share_of(MOSCOW, 4_115, lent), 843_499, 843_499))
             calls += [(second_of(MOSCOW, 0, lent, length), length, 8) for length in (0, 7, 8, 9)]
             for (number, value, sines), length, whole in calls:
@@ -84,12 +87,14 @@ class Room(unittest.TestCase):
                     self.assertEqual(sheet_of(name, changed, lent, 0), (number, place, old(lent)))
                 self.assertEqual(second_of(changed, 0, lent, 0), (number, place, old(lent)))
                 self.assertEqual(share_of(changed, 0, lent), (number, place, old(lent)))
+            self.assertEqual(sheet_of("star", POTSDAM[1:], lent, 0), (10, 0, old(lent)))
+            self.assertEqual(sheet_of("star", POTSDAM[:49] + bytes(4) + POTSDAM[53:], lent, 0), (13, 0, old(lent)))
             self.assertEqual(second_of(MOSCOW, 10_801, lent, 0), (1, 0, old(lent)))
             self.assertEqual(share_of(MOSCOW, 10_801, lent), (1, 0, old(lent)))
 
     def test_the_modules_own_serves_every_call(self):
         def once():
-            return sheet(MOSCOW), second(MOSCOW, 36), sheet_and_share(MOSCOW), share(MOSCOW, 36)
+            return sheet(MOSCOW), second(MOSCOW, 36), sheet_and_share(MOSCOW), share(MOSCOW, 36), star(POTSDAM)
 
         expected = once()
         answers = []

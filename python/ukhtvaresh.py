@@ -1,11 +1,12 @@
-"""Local circumstances of a solar eclipse in whole numbers, from a proved library.
+"""Local circumstances of a solar eclipse, and of a star behind the Moon, in whole numbers, from a proved library.
 
 From the elements of an eclipse, a station, a window of seconds and a guard, `sheet` makes the station's contact sheet,
-`sheet_and_share` the same with the covered share of the Sun's disc; `read` takes a sheet apart, `write` puts entries together as
-one, `listing` gives a sheet as text, `second` the shadow at one second and `share` the share at it. `mirror` gives the request
-beyond the equator, `fit` judges coefficients that a spreadsheet made of seven hourly values, `from_tables` makes elements from
-tables of Sun and Moon, `root` gives a square root with its rounds, `mend` takes the damaged parts out of a
-file of sheets. Each is a thin call of the proved function of the same name in libukhtvaresh.so, which the script `build` makes.
+`sheet_and_share` the same with the covered share of the Sun's disc; `star` makes that of a star from its elements and the Moon's
+radius; `read` takes a sheet apart, `write` puts entries together as one, `listing` gives a sheet as text, `second` the shadow at one
+second and `share` the share at it. `mirror` gives the request beyond the equator, `fit` judges coefficients that a spreadsheet made
+of seven hourly values, `from_tables` makes elements from tables of Sun and Moon, `root` gives a square root with its rounds, `mend`
+takes the damaged parts out of a file of sheets. Each is a thin call of the proved function of the same name in libukhtvaresh.so,
+which the script `build` makes.
 
 Lengths are in 10^-8 of the Earth's equatorial radius, angles in 10^-6 degree, times in whole seconds of
 ephemeris time from the reference instant. East longitude is positive. "Document 01" is the paper whose rules the library keeps.
@@ -21,6 +22,7 @@ from pathlib import Path
 from typing import Callable, Iterable, List, Optional, Sequence, Tuple, Union
 
 REQUEST_LENGTH = 115  # bytes
+STAR_REQUEST_LENGTH = 79
 LEAST_GUARD = 16  # that of document 01's cases
 
 # ---- refusals
@@ -37,6 +39,7 @@ _WORDS = {
     9: "bytes after the end record",
     10: "request not of its shape",
     11: "a row of the tables outside its distances",
+    13: "the radius of a star request outside its range",
     17: "a fit further from a tabulated value than the tolerance",
     18: "a tolerance or a tabulated value outside its range",
 }
@@ -64,6 +67,14 @@ class Refused(Exception):
 # ---- requests
 
 _REQUEST = struct.Struct(">B22iBH4iB2hH")
+_STAR_REQUEST = struct.Struct(">B13iBH4iB2hH")
+
+
+def _packed(form: struct.Struct, *numbers: int) -> bytes:
+    try:
+        return form.pack(*numbers)
+    except struct.error as error:
+        raise ValueError(f"a number does not fit its bytes: {error}") from None
 
 
 @dataclass(frozen=True)
@@ -128,12 +139,8 @@ class Request:
 
     def to_bytes(self) -> bytes:
         """The 115 bytes that the library takes; ValueError where a number does not fit its bytes."""
-        try:
-            return _REQUEST.pack(
-                2, *astuple(self.elements), 3, *astuple(self.station), 4, *astuple(self.window), self.guard
-            )
-        except struct.error as error:
-            raise ValueError(f"a number does not fit its bytes: {error}") from None
+        further = (3, *astuple(self.station), 4, *astuple(self.window), self.guard)
+        return _packed(_REQUEST, 2, *astuple(self.elements), *further)
 
     @staticmethod
     def from_bytes(request: bytes) -> "Request":
@@ -146,14 +153,67 @@ class Request:
         return Request(Elements(*numbers[1:23]), Station(*numbers[24:29]), Window(*numbers[30:32]), numbers[32])
 
 
+@dataclass(frozen=True)
+class StarElements:
+    """The elements of an occultation, in document 02's order. Coefficients are per hour.
+
+    x and y are the Moon's centre in the fundamental plane, which is at right angles to the star's direction.
+    """
+
+    x0: int = 0  # to the east, ±200,000,000
+    x1: int = 0  # ±100,000,000
+    x2: int = 0  # ±100,000
+    x3: int = 0  # ±10,000
+    y0: int = 0  # to the north, y as x
+    y1: int = 0
+    y2: int = 0
+    y3: int = 0
+    d0: int = 0  # the star's declination, angle, ±30,000,000
+    mu0: int = 0  # its hour angle, 0 to 359,999,999
+    mu1: int = 0  # 14,900,000 to 15,100,000; a star's is 15,041,069
+    mu2: int = 0  # ±100
+
+
+@dataclass(frozen=True)
+class StarRequest:
+    """What a star's sheet is asked for. Numbers outside their ranges are the library's to refuse.
+
+    radius: the Moon's, in 10^-8 of the Earth's equatorial radius, 27,200,000 to 27,300,000.
+    guard: how near to the cylinder's edge nothing is sure, as in Request.
+    """
+
+    elements: StarElements
+    radius: int
+    station: Station
+    window: Window
+    guard: int = LEAST_GUARD
+
+    def to_bytes(self) -> bytes:
+        """The 79 bytes that the library takes; ValueError where a number does not fit its bytes."""
+        further = (3, *astuple(self.station), 4, *astuple(self.window), self.guard)
+        return _packed(_STAR_REQUEST, 5, *astuple(self.elements), self.radius, *further)
+
+    @staticmethod
+    def from_bytes(request: bytes) -> "StarRequest":
+        """The request of 79 bytes; Refused(10, 0) where they are not of its shape."""
+        if len(request) != STAR_REQUEST_LENGTH:
+            raise Refused(10, 0)
+        numbers = _STAR_REQUEST.unpack(request)
+        if (numbers[0], numbers[14], numbers[20]) != (5, 3, 4):
+            raise Refused(10, 0)
+        elements, radius = StarElements(*numbers[1:13]), numbers[13]
+        return StarRequest(elements, radius, Station(*numbers[15:20]), Window(*numbers[21:23]), numbers[23])
+
+
 # ---- entries of a sheet
 
 
 class Phase(Enum):
-    """The shadow that an entry is about."""
+    """The shadow that an entry is about; a star's stands in place of the other two, and no sheet has both."""
 
     PENUMBRA = "penumbra"
     CENTRAL = "central"
+    STAR = "star"
 
 
 # Seconds count from the reference instant. A direction is in tenths of a degree, north through east, 0 to 3,599; None
@@ -211,7 +271,7 @@ class Open:
 
 @dataclass(frozen=True)
 class Closest:
-    """The second at which the axis is closest to the station; magnitude in millionths."""
+    """The second at which the axis is closest to the station; magnitude in millionths, 0 after an entry of a star."""
 
     second: int
     magnitude: int
@@ -221,7 +281,7 @@ class Closest:
 class Share:
     """How much of the Sun's disc is covered at the closest second, millionths, 0 to 1,000,000.
 
-    It stands directly after Closest, in a sheet that has it.
+    It stands directly after Closest, in a sheet that has it; no sheet with an entry of a star has it.
     """
 
     share: int
@@ -237,7 +297,8 @@ Entry = Union[Head, Enter, Leave, Graze, Open, Closest, Share, End]
 _SHIFT = 10_800  # a second is stored plus this
 _NONE = 65_535  # direction where there is none
 _BAD = 0xFFFF_FFFF  # breaks every rule; stands for a number that cannot be stored
-_BASE = {Phase.PENUMBRA: 0x10, Phase.CENTRAL: 0x20}
+_BASE = {Phase.PENUMBRA: 0x10, Phase.CENTRAL: 0x20, Phase.STAR: 0x40}
+_PHASES = {base: phase for phase, base in _BASE.items()}
 _OF_PHASE = (Enter, Leave, Graze, Open)  # kinds from the phase's base on
 
 
@@ -284,8 +345,7 @@ def _entry(kind: int, a: int, b: int, c: int, d: int) -> Entry:
         return Share(a)
     if kind == 0x7F:
         return End()
-    phase = Phase.PENUMBRA if kind < 0x20 else Phase.CENTRAL
-    made = _OF_PHASE[kind - _BASE[phase]]
+    phase, made = _PHASES[kind & 0xF0], _OF_PHASE[kind & 0x0F]
     if made in (Enter, Leave):
         return made(phase, a - _SHIFT, b - _SHIFT, _direction(c))
     return made(phase, a - _SHIFT, b - _SHIFT)
@@ -331,6 +391,7 @@ def _load() -> ctypes.CDLL:
     value = ctypes.POINTER(ctypes.c_uint64)
     library.ukhtvaresh_sheet.argtypes = [data, length, room, length, room, length, value]
     library.ukhtvaresh_sheet_and_share.argtypes = library.ukhtvaresh_sheet.argtypes
+    library.ukhtvaresh_star.argtypes = library.ukhtvaresh_sheet.argtypes
     library.ukhtvaresh_share.argtypes = [data, length, ctypes.c_int64, room, length, value]
     library.ukhtvaresh_second.argtypes = [data, length, ctypes.c_int64, room, length, room, length, value]
     library.ukhtvaresh_mirror.argtypes = [data, length, room, length, value]
@@ -341,7 +402,7 @@ def _load() -> ctypes.CDLL:
     library.ukhtvaresh_from_tables.argtypes = [room, length, room, length, value]
     library.ukhtvaresh_root.argtypes = [ctypes.c_uint64, value]
     library.ukhtvaresh_mend.argtypes = [data, length, room, length, room, length, value, value]
-    names = "sheet sheet_and_share second share mirror read write listing fit from_tables root mend"
+    names = "sheet sheet_and_share star second share mirror read write listing fit from_tables root mend"
     for name in names.split():
         getattr(library, "ukhtvaresh_" + name).restype = ctypes.c_uint64
     return library
@@ -420,6 +481,22 @@ def sheet_and_share_into(request: bytes, buffer) -> int:
 def sheet_and_share(request: bytes) -> bytes:
     """The same sheet. Refusals, the first of them: 10, 1, 2, 3."""
     return _whole(lambda buffer: sheet_and_share_into(request, buffer))
+
+
+def star_into(request: bytes, buffer) -> int:
+    """Puts the sheet of a star behind the Moon at the start of a writable buffer; gives its length in bytes.
+
+    Its entries are of Phase.STAR: Enter where the star vanishes, Leave where it appears again. A direction is that of the Moon's
+    centre from the star. The closest second has magnitude 0. The bytes past the sheet, and on refusal all bytes, keep what they
+    held. Refusals, the first of them: 10, 1, 2, 13, 3, 4.
+    """
+    request = bytes(request)
+    return _call("star", request, len(request), *_sines(), *_lent(buffer))
+
+
+def star(request: bytes) -> bytes:
+    """The same sheet. Refusals, the first of them: 10, 1, 2, 13, 3."""
+    return _whole(lambda buffer: star_into(request, buffer))
 
 
 def share(request: bytes, second: int) -> int:

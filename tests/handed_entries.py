@@ -10,7 +10,8 @@ import sys
 
 sys.path.insert(0, os.path.dirname(__file__))
 from stored_sheets import (  # noqa: E402
-    BARE, CENTRAL, ECLIPSED, END, GOOD, INSTANT, LISTING, MIXED, SHARES, TABLE, encode, fields_hold, order_holds)
+    BARE, CENTRAL, ECLIPSED, END, GOOD, HEAD, INSTANT, LISTING, MIXED, OCCULTED, SHARES, STARRED, TABLE, encode, fields_hold, order_holds,
+    star_entries)
 
 
 def judge(numbers):
@@ -64,10 +65,10 @@ def listed(records):
 def lists():
     for records in GOOD:
         yield listed(records)
-    for records in (LISTING, CENTRAL, ECLIPSED):
+    for records in (LISTING, CENTRAL, ECLIPSED, OCCULTED):
         good = listed(records)
         for i in range(len(good)):  # each number changed in turn
-            for value in (0, good[i] + 1) if records is CENTRAL else (0, 1, good[i] + 1, good[i] + 65536, 0xFFFFFFFF):
+            for value in (0, good[i] + 1) if records in (CENTRAL, OCCULTED) else (0, 1, good[i] + 1, good[i] + 65536, 0xFFFFFFFF):
                 yield good[:i] + [value] + good[i + 1:]
         for n in range(len(good)):  # each prefix
             yield good[:n]
@@ -88,15 +89,25 @@ def lists():
                 yield listed(records[:i] + [(0x31, [millionths])] + records[i:])
     four = [number for kind, fields in LISTING for number in ([kind] + fields + [0, 0, 0])[:4]]
     yield four  # entries of four numbers, as they were before the guard
-    for records in (MIXED, INSTANT):
+    for records in (MIXED, INSTANT, STARRED):
         for i in range(len(records)):
             yield listed(records[:i] + records[i + 1:])
+    for kind, fields in star_entries():
+        for i in range(len(OCCULTED) + 1):  # an eclipse's entry in a star's sheet, in every place, and a star's in an eclipse's
+            yield listed(OCCULTED[:i] + [(kind - 0x30, fields)] + OCCULTED[i:])
+        for i in (1, 3, 5, 6):
+            yield listed(LISTING[:i] + [(kind, fields)] + LISTING[i:])
+        for magnitude in (0, 1, 1300000):  # a magnitude after a star entry of each kind, and a share
+            yield listed([HEAD, (kind, fields), (0x30, [9065, magnitude]), END])
+        yield listed([HEAD, (kind, fields), (0x30, [9065, 0]), (0x31, [0]), END])
+    for code in (0x3F, 0x44, 0x140, 0x40000000):  # kinds next to a star's, and its byte with others before and behind it
+        yield listed([HEAD, (code, [16000, 16001]), OCCULTED[3], END])
 
 
 if __name__ == "__main__":
     every = list(lists())
     stdin = b"".join(struct.pack(">H", len(l)) + b"".join(struct.pack(">I", x & 0xFFFFFFFF) for x in l) for l in every)
-    assert len(stdin) <= 65536, len(stdin)
+    assert len(stdin) <= 98304, len(stdin)
     every = [[x & 0xFFFFFFFF for x in l] for l in every]
     open("crates/handed_entries/stdin", "wb").write(stdin)
     open("crates/handed_entries/stdout", "w").write("".join(line + "\n" for l in every for line in lines(l)))

@@ -35,27 +35,28 @@ def mend(file):
 
 
 def sheets():
-    """Three short sheets: with nothing but a head, closest and end; with opens and a graze; with contacts."""
+    """Three short sheets: with nothing but a head, closest and end; with opens and a graze; with a star's contact."""
     last = [(0x30, (300, 77)), (0x7F, ())]
     return [
         encode([(0x01, (7, 200, 400, 16))] + last),
         encode([(0x01, (257, 256, 400, 256)), (0x13, (256, 260)), (0x22, (300, 301))] + last),
-        encode([(0x01, (999, 1, 21600, 1000)), (0x10, (16, 19, 256))] + last),
+        encode([(0x01, (999, 1, 21600, 1000)), (0x40, (16, 19, 256)), (0x30, (300, 0)), (0x7F, ())]),
     ]
 
 
-def repeated(count, end=b""):
+def repeated(count, end=b"", kind=0x13):
     """An open entry of one second again and again, with a head in each two of them: from each of those a read goes on to the end."""
-    return bytes([0x13, 0x01, 0x00, 0x01, 0x00]) * count + end
+    return bytes([kind, 0x01, 0x00, 0x01, 0x00]) * count + end
 
 
 def cases():
     """A file of three sheets with holes of every length at every place, one such file behind the other; then others."""
     three = b"".join(sheets())
     holes = [three[:start] + three[end:] for start in range(len(three)) for end in range(start + 1, len(three) + 1)]
-    closing = encode([(0x30, (256, 1)), (0x7F, ())])
+    closing = [encode([(0x30, (256, magnitude)), (0x7F, ())]) for magnitude in (0, 1)]
     old = sheets()[2][:7] + sheets()[2][9:]  # a head without its guard
-    return b"".join(holes + [three, old, three, repeated(40), b"\xff", repeated(40, closing), three])
+    again = [repeated(40, end, kind) for kind in (0x13, 0x43) for end in [b"", b"\xff"] + closing]
+    return b"".join(holes + [three, old, three] + again + [three])
 
 
 def check(count, seed):
@@ -77,14 +78,15 @@ def check(count, seed):
         got = subprocess.run([PROGRAM], input=file, capture_output=True)
         assert (got.stdout, got.stderr.decode()) == (kept, told), file[:200].hex()
     # nothing is kept of this, and the reader above would be long about it
-    long = repeated(ROOM // 5 - 1)
-    got = subprocess.run([PROGRAM], input=long, capture_output=True, timeout=10)
-    assert (got.stdout, got.stderr.decode()) == (b"", f"dropped 0 {len(long)}\n")
+    for kind in (0x13, 0x43):
+        long = repeated(ROOM // 5 - 1, kind=kind)
+        got = subprocess.run([PROGRAM], input=long, capture_output=True, timeout=10)
+        assert (got.stdout, got.stderr.decode()) == (b"", f"dropped 0 {len(long)}\n")
     for length in (ROOM, ROOM + 1, 10 * ROOM):
         file = (sheets()[0] * (length // 17 + 1))[:length]
         got = subprocess.run([PROGRAM], input=file, capture_output=True)
         assert (got.stdout, got.stderr.decode()) == (b"", f"file of {ROOM} bytes or more\n")
-    print(f"tests/mend.py: the program and the words agree on {len(tried) + 4} files")
+    print(f"tests/mend.py: the program and the words agree on {len(tried) + 5} files")
 
 
 if __name__ == "__main__":

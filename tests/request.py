@@ -18,16 +18,21 @@ SIGNED4 = (-(2**31), 2**31 - 1)
 SIGNED2 = (-(2**15), 2**15 - 1)
 UNSIGNED2 = (0, 2**16 - 1)
 
-# name, decimals of a unit, what its bytes hold
+# name, decimals of a unit, what its bytes hold: of an eclipse, of a star
+LENGTHS = [(name, 8, SIGNED4) for name in "x0 x1 x2 x3 y0 y1 y2 y3".split()]
+STATION = [("station", 0, UNSIGNED2), ("latitude", 6, SIGNED4), ("longitude", 6, SIGNED4), ("height", 0, SIGNED4), ("delta t", 2, SIGNED4)]
+WINDOW = [("first", 0, SIGNED2), ("last", 0, SIGNED2), ("guard", 0, UNSIGNED2)]
 FIELDS = (
-    [(name, 8, SIGNED4) for name in "x0 x1 x2 x3 y0 y1 y2 y3".split()]
+    LENGTHS
     + [(name, 6, SIGNED4) for name in "d0 d1 d2".split()]
     + [(name, 8, SIGNED4) for name in "l10 l11 l12 l20 l21 l22".split()]
     + [(name, 6, SIGNED4) for name in "mu0 mu1 mu2".split()]
     + [("tan f1", 8, SIGNED4), ("tan f2", 8, SIGNED4)]
-    + [("station", 0, UNSIGNED2), ("latitude", 6, SIGNED4), ("longitude", 6, SIGNED4), ("height", 0, SIGNED4), ("delta t", 2, SIGNED4)]
-    + [("first", 0, SIGNED2), ("last", 0, SIGNED2), ("guard", 0, UNSIGNED2)]
+    + STATION
+    + WINDOW
 )
+STAR_FIELDS = LENGTHS + [(name, 6, SIGNED4) for name in "d0 mu0 mu1 mu2".split()] + [("radius", 8, SIGNED4)] + STATION + WINDOW
+FORMS = {len(FIELDS): (2, ">B22iBHiiiiBhhH"), len(STAR_FIELDS): (5, ">B13iBHiiiiBhhH")}
 LEFT_OUT = {"guard": 16}  # what stands for a name that need not be typed
 NUMBER = re.compile(rb"[+-]?([0-9]+\.?[0-9]*|\.[0-9]+)")
 
@@ -47,10 +52,21 @@ def units(word, places, bounds):
     return value, None
 
 
+def packed(n):
+    kind, form = FORMS[len(n)]
+    return struct.pack(form, kind, *n[:-8], 3, *n[-8:-3], 4, *n[-3:])
+
+
+def fields_of(text):
+    """A star's, if a line has the name `radius`."""
+    return STAR_FIELDS if re.search(rb"(?m)^[ \t\r]*radius(?![^ \t\r\n#])", text) else FIELDS
+
+
 def answer(text):
     """What the program writes to its two outputs."""
     if len(text) > 65536:
         return b"", b"the text has more than 65,536 bytes\n"
+    fields = fields_of(text)
     lines = text.split(b"\n")
     if lines[-1] == b"":
         lines.pop()
@@ -63,7 +79,7 @@ def answer(text):
         said = line.split(b"#")[0].strip(b" \t\r")
         if not said:
             continue
-        for name, places, bounds in FIELDS:
+        for name, places, bounds in fields:
             rest = said[len(name) :]
             if said.startswith(name.encode()) and (not rest or rest[0] in b" \t\r"):
                 break
@@ -76,11 +92,10 @@ def answer(text):
             return refused(f"{name} is given twice".encode())
         given[name] = value
     given = {**LEFT_OUT, **given}
-    for name, _, _ in FIELDS:
+    for name, _, _ in fields:
         if name not in given:
             return b"", f"line {len(lines) + 1}: {name} is missing\n".encode()
-    n = [given[name] for name, _, _ in FIELDS]
-    return struct.pack(">B22iBHiiiiBhhH", 2, *n[:22], 3, *n[22:27], 4, *n[27:]), b""
+    return packed([given[name] for name, _, _ in fields]), b""
 
 
 def typed(draw, name, places, bounds):
@@ -110,7 +125,8 @@ def typed(draw, name, places, bounds):
 
 
 def text(draw):
-    lines = [typed(draw, *field) for field in FIELDS]
+    fields = draw.choice([FIELDS, STAR_FIELDS])
+    lines = [typed(draw, *field) for field in fields]
     if draw.random() < 0.3:
         lines.pop()  # no guard
     if draw.random() < 0.5:
@@ -123,7 +139,8 @@ def text(draw):
     elif fault < 0.2:
         lines.insert(draw.randint(0, len(lines)), draw.choice(lines))
     elif fault < 0.25:
-        lines.insert(draw.randint(0, len(lines)), draw.choice(["x4 0", "tanf1 0", "X0 1", "x0", "tan  f1 1", "latitude55", "last 1 2", "-", "="]))
+        others = ["x4 0", "tanf1 0", "X0 1", "x0", "tan  f1 1", "latitude55", "last 1 2", "-", "=", "d1 0", "radius 0", "radius", "radius#"]
+        lines.insert(draw.randint(0, len(lines)), draw.choice(others))
     made = bytearray("\n".join(lines).encode() + draw.choice([b"\n", b"\n", b"", b"\n\n"]))
     if fault > 0.8:
         for _ in range(draw.choice([1, 1, 2, 5])):
@@ -138,9 +155,38 @@ def text(draw):
     return bytes(made)
 
 
+def faults(fields):
+    """Each field missing, twice, no number, a fraction, too large; and the guard left out, in other spellings, without its number."""
+    plain = ["%s %s" % (name, 1) for name, _, _ in fields]
+    yield "\n".join(plain)
+    for line in ["# guard 17", "Guard 17", "guards 17", "guard17", "guard", *(f"guard {value}" for value in [-1, 15, 16, 1001, "16.0", 65536])]:
+        yield "\n".join(plain[:-1] + [line])
+    for k in range(len(fields)):
+        name, places, (low, high) = fields[k]
+        yield "\n".join(plain[:k] + plain[k + 1 :])
+        yield "\n".join(plain + [plain[k]])
+        for value in ["", "-", ".", "1e3", "1,5", "1.2.3", "--1", "0." + "0" * places + "1", "0." + "0" * places + "0"]:
+            yield "\n".join(plain[:k] + [f"{name} {value}"] + plain[k + 1 :])
+        for value in [low - 1, low, high, high + 1, -0, 2**64 + 1]:
+            exact = Decimal(value).scaleb(-places)
+            yield "\n".join(plain[:k] + [f"{name} {exact:f}"] + plain[k + 1 :])
+
+
+def shapes():
+    """Texts of the one request with a line of the other: an eclipse with a radius, a star with each name that only an eclipse has."""
+    eclipse = ["%s %s" % (name, 1) for name, _, _ in FIELDS]
+    star = ["%s %s" % (name, 1) for name, _, _ in STAR_FIELDS]
+    named = ["radius 1", "\tradius 1", "radius", "radius# 1", "radius\t", "radius\r"]
+    for line in named + ["#radius 1", "radius1 1", "Radius 1", "x0 1 # radius 1"]:
+        for lines in eclipse, [name for name in star if name != "radius 1"]:
+            for place in 0, 12, len(lines):
+                yield "\n".join(lines[:place] + [line] + lines[place:])
+    for line in sorted(set(eclipse) - set(star)):
+        yield "\n".join(star + [line])
+
+
 def texts(count, seed):
     draw = random.Random(seed)
-    plain = ["%s %s" % (name, 1) for name, _, _ in FIELDS]
     yield b""
     yield b"\n" * 65537
     yield b"#" * 65536
@@ -149,20 +195,10 @@ def texts(count, seed):
     yield b"\n\n \t bogus# 5\nx0 1\n"
     yield b"x0 1\r\n\r\nbogus\r\n"
     yield b"x0 1\n\x00\xff 1"
-    # nothing but the guard; every name but the guard, which stands in a comment, in another spelling, without its number
+    # nothing but the guard
     yield b"guard 17\n"
-    for line in ["# guard 17", "Guard 17", "guards 17", "guard17", "guard", *(f"guard {value}" for value in [-1, 15, 16, 1001, "16.0", 65536])]:
-        yield "\n".join(plain[:-1] + [line]).encode()
-    for k in range(len(FIELDS)):
-        # each field missing, twice, no number, a fraction, too large
-        name, places, (low, high) = FIELDS[k]
-        yield "\n".join(plain[:k] + plain[k + 1 :]).encode()
-        yield "\n".join(plain + [plain[k]]).encode()
-        for value in ["", "-", ".", "1e3", "1,5", "1.2.3", "--1", "0." + "0" * places + "1", "0." + "0" * places + "0"]:
-            yield "\n".join(plain[:k] + [f"{name} {value}"] + plain[k + 1 :]).encode()
-        for value in [low - 1, low, high, high + 1, -0, 2**64 + 1]:
-            exact = Decimal(value).scaleb(-places)
-            yield "\n".join(plain[:k] + [f"{name} {exact:f}"] + plain[k + 1 :]).encode()
+    for made in *faults(FIELDS), *faults(STAR_FIELDS), *shapes():
+        yield made.encode()
     for _ in range(count):
         yield text(draw)
 
@@ -177,7 +213,7 @@ def main():
         if (ran.stdout, ran.stderr) != wanted:
             sys.exit(f"text {tried}: {given!r}\nwrote  {ran.stdout!r} {ran.stderr!r}\nwanted {wanted[0]!r} {wanted[1]!r}")
         kind = re.sub(rb"line \d+: ((tan f\d|delta t|[a-z0-9]+) (?=is|has))?", b"", wanted[1])
-        kind = re.sub(rb"(?s)(?<=unknown name) .*", b"", kind).decode().strip() or "115 bytes"
+        kind = re.sub(rb"(?s)(?<=unknown name) .*", b"", kind).decode().strip() or f"{len(wanted[0])} bytes"
         kinds[kind] = kinds.get(kind, 0) + 1
     print(f"{tried} texts, no difference")
     for kind, number in sorted(kinds.items(), key=lambda pair: -pair[1]):

@@ -13,12 +13,13 @@ TABLE = {
     0x31: ("share", None, (4,)),
     0x7F: ("end", None, ()),
 }
-for family, base in (("penumbra", 0x10), ("central", 0x20)):
+for family, base in (("penumbra", 0x10), ("central", 0x20), ("star", 0x40)):
     TABLE[base + 0] = ("enter", family, (2, 2, 2))
     TABLE[base + 1] = ("leave", family, (2, 2, 2))
     TABLE[base + 2] = ("graze", family, (2, 2))
     TABLE[base + 3] = ("open", family, (2, 2))
-SECTIONS = ["head", "penumbra", "central", "closest", "share", "end"]
+ECLIPSE = ("penumbra", "central")
+PLACE = {"head": 0, "penumbra": 1, "central": 2, "star": 1, "closest": 3, "share": 4, "end": 5}  # the star in place of penumbra and central
 DUE = (0, 3, 5)  # head, closest, end; a share may be left out
 
 
@@ -33,20 +34,23 @@ def section(kind):
 
 
 def order_holds(before, record):
-    """Whether a record may stand after those before it: families in order, head, closest and end exactly once, share at most once."""
-    here = SECTIONS.index(section(record[0]))
-    seen = [SECTIONS.index(section(r[0])) for r in before]
-    if seen and here < max(seen):
+    """Whether a record may stand after those before it: families in order, head, closest and end exactly once, share at most once; no star
+    beside an eclipse or a share."""
+    mine, seen = section(record[0]), [section(r[0]) for r in before]
+    here, places = PLACE[mine], [PLACE[s] for s in seen]
+    if places and here < max(places):
         return False
-    if any(due < here and due not in seen for due in DUE):
+    if any(due < here and due not in places for due in DUE):
         return False
-    if section(record[0]) in ("head", "closest", "share", "end") and here in seen:
+    if mine in ("head", "closest", "share", "end") and mine in seen:
         return False
-    if section(record[0]) in ("penumbra", "central"):
-        mine = [r for r in before if section(r[0]) == section(record[0])]
-        if mine and record[1][0] < mine[-1][1][1]:
+    if mine == "star" and any(family in seen for family in ECLIPSE) or mine in ECLIPSE + ("share",) and "star" in seen:
+        return False
+    if mine in ECLIPSE + ("star",):
+        family = [r for r in before if section(r[0]) == mine]
+        if family and record[1][0] < family[-1][1][1]:
             return False
-        turns = [TABLE[r[0]][0] for r in mine if TABLE[r[0]][0] in ("enter", "leave")]
+        turns = [TABLE[r[0]][0] for r in family if TABLE[r[0]][0] in ("enter", "leave")]
         if turns and turns[-1] == TABLE[record[0]][0]:
             return False
     return True
@@ -62,7 +66,8 @@ def fields_hold(before, record):
     _, first, last, _ = before[0][1]
     if name == "closest":
         second, magnitude = record[1]
-        return first <= second <= last and magnitude <= 1300000
+        starred = any(section(r[0]) == "star" for r in before)
+        return first <= second <= last and magnitude <= (0 if starred else 1300000)
     if name == "share":
         return record[1][0] <= 1000000
     start, end = record[1][:2]
@@ -149,7 +154,10 @@ INSTANT = [(0x01, [12, 16200, 16200, 17]), (0x13, [16200, 16200]), (0x23, [16200
 CENTRAL = [(0x01, [3, 10, 90, 999]), (0x21, [10, 20, 5]), (0x20, [20, 30, 6]), (0x21, [31, 90, 7]), (0x30, [10, 1]), END]
 SHARED = [(0x01, [5, 100, 300, 16]), (0x10, [120, 122, 900]), (0x22, [150, 160]), (0x30, [200, 512345]), (0x31, [405728]), END]
 ECLIPSED = [(0x01, [1, 5, 5, 16]), (0x30, [5, 1300000]), (0x31, [1000000]), END]
-GOOD = [LISTING, MIXED, BARE, INSTANT, CENTRAL, SHARED, ECLIPSED]
+OCCULTED = [HEAD, (0x40, [7321, 7323, 655]), (0x41, [10807, 10809, 3077]), (0x30, [9065, 0]), END]
+STARRED = [(0x01, [999, 0, 21600, 1000]), (0x43, [0, 40]), (0x41, [40, 42, 3599]), (0x42, [42, 200]), (0x40, [200, 201, 65535]),
+           (0x43, [21599, 21600]), (0x30, [21600, 0]), END]
+GOOD = [LISTING, MIXED, BARE, INSTANT, CENTRAL, SHARED, ECLIPSED, OCCULTED, STARRED]
 SHARES = (0, 1, 255, 256, 65535, 65536, 999999, 1000000, 1000001, 1000256, 0x01000000, 0x80000000, 0xFFFFFFFF)  # at and past the limit
 
 
@@ -214,12 +222,54 @@ def damaged():
                     yield encode(MIXED[:i] + [(record[0], fields)] + MIXED[i + 1:])
     for magnitude in (1299999, 1300001, 0xFFFFFFFF, 0x01000000):
         yield encode(BARE[:1] + [(0x30, [5, magnitude])] + BARE[2:])
+    yield from damaged_stars()
+
+
+def star_entries():
+    """One of each kind, that may stand in any place of LISTING's window by its fields."""
+    return [(0x40, [16000, 16001, 1]), (0x41, [16000, 16001, 1]), (0x42, [16000, 16001]), (0x43, [16000, 16800])]
+
+
+def damaged_stars():
+    good = encode(OCCULTED)
+    for i in range(len(good)):  # each byte changed in turn
+        for flip in (0x01, 0x10, 0x80, 0xFF):
+            yield good[:i] + bytes([good[i] ^ flip]) + good[i + 1:]
+    for n in range(len(good)):  # each prefix
+        yield good[:n]
+    for records in (OCCULTED, STARRED):
+        for i in range(len(records)):  # records left out, doubled, swapped
+            yield encode(records[:i] + records[i + 1:])
+            yield encode(records[:i] + [records[i]] + records[i:])
+            if i + 1 < len(records):
+                yield encode(records[:i] + [records[i + 1], records[i]] + records[i + 2:])
+    for kind, fields in star_entries():  # star and eclipse entries in one sheet, each in every place; of the star's own family too
+        for i in range(len(OCCULTED) + 1):
+            for base in (0x10, 0x20, 0x40):
+                yield encode(OCCULTED[:i] + [(kind - 0x40 + base, fields)] + OCCULTED[i:])
+        for records in (LISTING, BARE):
+            for i in range(len(records) + 1):
+                yield encode(records[:i] + [(kind, fields)] + records[i:])
+        for magnitude in (0, 1, 256, 65536, 1300000, 1300001, 0xFFFFFFFF):  # a magnitude after a star entry of each kind, and a share
+            yield encode([HEAD, (kind, fields), (0x30, [9065, magnitude]), END])
+            yield encode([HEAD, (kind, fields), (0x30, [9065, magnitude]), (0x31, [magnitude]), END])
+    for millionths in (0, 1000001):  # a share in every place
+        for i in range(len(OCCULTED) + 1):
+            yield encode(OCCULTED[:i] + [(0x31, [millionths])] + OCCULTED[i:])
+    for code in (0x00, 0x02, 0x0F, 0x14, 0x1F, 0x24, 0x2F, 0x32, 0x3F, 0x44, 0x4F, 0x50, 0x53, 0x7E, 0x80, 0xC0):  # kinds next to those of the table
+        yield good[:9] + bytes([code]) + good[10:]
+        yield good[:-1] + bytes([code])
+    for i, (kind, fields) in enumerate(STARRED):  # each field at and past its limits
+        for j in range(len(fields)):
+            for value in (0, 1, 39, 40, 41, 43, 199, 200, 201, 3599, 3600, 21598, 21599, 21600, 21601, 65534, 65535):
+                if value != fields[j]:
+                    yield encode(STARRED[:i] + [(kind, fields[:j] + [value] + fields[j + 1:])] + STARRED[i + 1:])
 
 
 def main():
     frames = list(damaged())
     stdin = b"".join(struct.pack(">H", len(d)) + d for d in frames)
-    assert len(stdin) <= 65536, len(stdin)
+    assert len(stdin) <= 131072, len(stdin)
     lines = [line for d in frames for line in answers(d)]
     open("crates/stored_sheets/stdin", "wb").write(stdin)
     open("crates/stored_sheets/stdout", "w").write("".join(l + "\n" for l in lines))

@@ -5,6 +5,8 @@ pub enum Phase {
     Penumbra,
     /// The central cone, of a total or an annular eclipse.
     Central,
+    /// The cylinder behind which a star vanishes. It stands in place of the other two: no sheet has both.
+    Star,
 }
 
 /// An entry of a sheet. Enter, leave, graze and open are document 01's words.
@@ -26,7 +28,7 @@ pub enum Entry {
     },
     /// Outside at `from`, inside at `to`.
     Enter {
-        /// Penumbra or central.
+        /// Penumbra, central or star.
         phase: Phase,
         /// The last sure second before.
         from: i64,
@@ -37,7 +39,7 @@ pub enum Entry {
     },
     /// Inside at `from`, outside at `to`.
     Leave {
-        /// Penumbra or central.
+        /// Penumbra, central or star.
         phase: Phase,
         /// The last sure second before.
         from: i64,
@@ -48,7 +50,7 @@ pub enum Entry {
     },
     /// One state at `from` and `to`, with unsure seconds between them.
     Graze {
-        /// Penumbra or central.
+        /// Penumbra, central or star.
         phase: Phase,
         /// The last sure second before.
         from: i64,
@@ -57,7 +59,7 @@ pub enum Entry {
     },
     /// Unsure seconds at an end of the window, up to the nearest sure second.
     Open {
-        /// Penumbra or central.
+        /// Penumbra, central or star.
         phase: Phase,
         /// First second.
         from: i64,
@@ -68,10 +70,11 @@ pub enum Entry {
     Closest {
         /// The second.
         second: i64,
-        /// Its magnitude, millionths, 0 to 1,300,000.
+        /// Its magnitude, millionths, 0 to 1,300,000; 0 after an entry of a star.
         magnitude: u32,
     },
-    /// How much of the Sun's disc is covered at the closest second: directly after [`Entry::Closest`], in a sheet that has it.
+    /// How much of the Sun's disc is covered at the closest second: directly after [`Entry::Closest`], in a sheet that has it. No
+    /// sheet with an entry of a star has it.
     Share {
         /// Millionths, rounded down, 0 to 1,000,000.
         share: u32,
@@ -113,6 +116,16 @@ impl Phase {
         match self {
             Phase::Penumbra => 0x10,
             Phase::Central => 0x20,
+            Phase::Star => 0x40,
+        }
+    }
+
+    // The phase of one of these kinds.
+    fn of(kind: u32) -> Phase {
+        match kind >> 4 {
+            1 => Phase::Penumbra,
+            2 => Phase::Central,
+            _ => Phase::Star,
         }
     }
 }
@@ -141,14 +154,13 @@ impl Entry {
     // The entry of numbers that the library gave.
     pub(crate) fn of(numbers: [u32; 5]) -> Entry {
         let [kind, a, b, c, d] = numbers;
-        let phase = if kind < 0x20 { Phase::Penumbra } else { Phase::Central };
-        let (from, to) = (second(a), second(b));
+        let (phase, from, to) = (Phase::of(kind), second(a), second(b));
         match kind {
             0x01 => Entry::Head { station: a as u16, first: second(b), last: second(c), guard: d as u16 },
-            0x10 | 0x20 => Entry::Enter { phase, from, to, direction: direction(c) },
-            0x11 | 0x21 => Entry::Leave { phase, from, to, direction: direction(c) },
-            0x12 | 0x22 => Entry::Graze { phase, from, to },
-            0x13 | 0x23 => Entry::Open { phase, from, to },
+            0x10 | 0x20 | 0x40 => Entry::Enter { phase, from, to, direction: direction(c) },
+            0x11 | 0x21 | 0x41 => Entry::Leave { phase, from, to, direction: direction(c) },
+            0x12 | 0x22 | 0x42 => Entry::Graze { phase, from, to },
+            0x13 | 0x23 | 0x43 => Entry::Open { phase, from, to },
             0x30 => Entry::Closest { second: second(a), magnitude: b },
             0x31 => Entry::Share { share: a },
             0x7F => Entry::End,

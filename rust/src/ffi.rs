@@ -26,6 +26,15 @@ extern "C" {
         sheet_len: usize,
         value: *mut u64,
     ) -> u64;
+    fn ukhtvaresh_star(
+        request: *const u8,
+        request_len: usize,
+        sines: *mut u32,
+        sines_len: usize,
+        sheet: *mut u8,
+        sheet_len: usize,
+        value: *mut u64,
+    ) -> u64;
     fn ukhtvaresh_share(
         request: *const u8,
         request_len: usize,
@@ -113,12 +122,15 @@ thread_local! {
     static SINES: RefCell<[u32; 901]> = const { RefCell::new([0; 901]) };
 }
 
-pub fn sheet(request: &[u8], sheet: &mut [u8]) -> Result<usize, Refusal> {
+type SheetExport = unsafe extern "C" fn(*const u8, usize, *mut u32, usize, *mut u8, usize, *mut u64) -> u64;
+
+// The sheet that one of the three functions of these parameters makes of a request.
+fn made(export: SheetExport, request: &[u8], sheet: &mut [u8]) -> Result<usize, Refusal> {
     let mut value = 0;
     // SAFETY: pointers and lengths are those of live slices; `sines`, `sheet` and `value` are borrowed mutably, so they
     // overlap neither each other nor `request`.
     let number = SINES.with_borrow_mut(|sines| unsafe {
-        ukhtvaresh_sheet(
+        export(
             request.as_ptr(),
             request.len(),
             sines.as_mut_ptr(),
@@ -131,26 +143,21 @@ pub fn sheet(request: &[u8], sheet: &mut [u8]) -> Result<usize, Refusal> {
     answer(number, value)
 }
 
+pub fn sheet(request: &[u8], sheet: &mut [u8]) -> Result<usize, Refusal> {
+    made(ukhtvaresh_sheet, request, sheet)
+}
+
 pub fn sheet_and_share(request: &[u8], sheet: &mut [u8]) -> Result<usize, Refusal> {
-    let mut value = 0;
-    // SAFETY: as in `sheet`.
-    let number = SINES.with_borrow_mut(|sines| unsafe {
-        ukhtvaresh_sheet_and_share(
-            request.as_ptr(),
-            request.len(),
-            sines.as_mut_ptr(),
-            sines.len(),
-            sheet.as_mut_ptr(),
-            sheet.len(),
-            &mut value,
-        )
-    });
-    answer(number, value)
+    made(ukhtvaresh_sheet_and_share, request, sheet)
+}
+
+pub fn star(request: &[u8], sheet: &mut [u8]) -> Result<usize, Refusal> {
+    made(ukhtvaresh_star, request, sheet)
 }
 
 pub fn share(request: &[u8], second: i64) -> Result<usize, Refusal> {
     let mut value = 0;
-    // SAFETY: as in `sheet`.
+    // SAFETY: as in `made`.
     let number = SINES.with_borrow_mut(|sines| unsafe {
         ukhtvaresh_share(request.as_ptr(), request.len(), second, sines.as_mut_ptr(), sines.len(), &mut value)
     });
@@ -159,7 +166,7 @@ pub fn share(request: &[u8], second: i64) -> Result<usize, Refusal> {
 
 pub fn second(request: &[u8], second: i64, shadow: &mut [i64]) -> Result<usize, Refusal> {
     let mut value = 0;
-    // SAFETY: as in `sheet`; the lengths of `sines` and `shadow` count numbers, as the library does.
+    // SAFETY: as in `made`; the lengths of `sines` and `shadow` count numbers, as the library does.
     let number = SINES.with_borrow_mut(|sines| unsafe {
         ukhtvaresh_second(
             request.as_ptr(),
@@ -177,7 +184,7 @@ pub fn second(request: &[u8], second: i64, shadow: &mut [i64]) -> Result<usize, 
 
 pub fn mirror(request: &[u8], mirrored: &mut [u8]) -> Result<usize, Refusal> {
     let mut value = 0;
-    // SAFETY: as in `sheet`.
+    // SAFETY: as in `made`.
     let number = unsafe {
         ukhtvaresh_mirror(request.as_ptr(), request.len(), mirrored.as_mut_ptr(), mirrored.len(), &mut value)
     };
@@ -186,7 +193,7 @@ pub fn mirror(request: &[u8], mirrored: &mut [u8]) -> Result<usize, Refusal> {
 
 pub fn read(sheet: &[u8], entries: &mut [u32]) -> Result<usize, Refusal> {
     let mut value = 0;
-    // SAFETY: as in `sheet`; the length of `entries` counts its numbers, as the library does.
+    // SAFETY: as in `made`; the length of `entries` counts its numbers, as the library does.
     let number = unsafe {
         ukhtvaresh_read(sheet.as_ptr(), sheet.len(), entries.as_mut_ptr(), entries.len(), &mut value)
     };
@@ -195,7 +202,7 @@ pub fn read(sheet: &[u8], entries: &mut [u32]) -> Result<usize, Refusal> {
 
 pub fn write(entries: &[u32], sheet: &mut [u8]) -> Result<usize, Refusal> {
     let mut value = 0;
-    // SAFETY: as in `sheet`; the length of `entries` counts its numbers, as the library does.
+    // SAFETY: as in `made`; the length of `entries` counts its numbers, as the library does.
     let number = unsafe {
         ukhtvaresh_write(entries.as_ptr(), entries.len(), sheet.as_mut_ptr(), sheet.len(), &mut value)
     };
@@ -204,7 +211,7 @@ pub fn write(entries: &[u32], sheet: &mut [u8]) -> Result<usize, Refusal> {
 
 pub fn listing(sheet: &[u8], text: &mut [u8]) -> Result<usize, Refusal> {
     let mut value = 0;
-    // SAFETY: as in `sheet`.
+    // SAFETY: as in `made`.
     let number =
         unsafe { ukhtvaresh_listing(sheet.as_ptr(), sheet.len(), text.as_mut_ptr(), text.len(), &mut value) };
     answer(number, value)
@@ -212,7 +219,7 @@ pub fn listing(sheet: &[u8], text: &mut [u8]) -> Result<usize, Refusal> {
 
 pub fn fit(coefficients: &[i64], tabulated: &[i64], tolerance: i64) -> Result<usize, Refusal> {
     let mut value = 0;
-    // SAFETY: as in `sheet`; the lengths count numbers, as the library does.
+    // SAFETY: as in `made`; the lengths count numbers, as the library does.
     let number = unsafe {
         ukhtvaresh_fit(
             coefficients.as_ptr(),
@@ -228,7 +235,7 @@ pub fn fit(coefficients: &[i64], tabulated: &[i64], tolerance: i64) -> Result<us
 
 pub fn from_tables(rows: &[i64], values: &mut [i64]) -> Result<usize, Refusal> {
     let mut value = 0;
-    // SAFETY: as in `sheet`; both lengths count numbers, as the library does.
+    // SAFETY: as in `made`; both lengths count numbers, as the library does.
     let number = unsafe {
         ukhtvaresh_from_tables(rows.as_ptr(), rows.len(), values.as_mut_ptr(), values.len(), &mut value)
     };
@@ -246,7 +253,7 @@ pub fn root(n: u64) -> (u64, u64) {
 // The bytes that each room has.
 pub fn mend(file: &[u8], sheets: &mut [u8], dropped: &mut [u8]) -> Result<(usize, usize), Refusal> {
     let (mut kept, mut noted) = (0, 0);
-    // SAFETY: as in `sheet`; both rooms and both values are borrowed mutably, so none overlaps another.
+    // SAFETY: as in `made`; both rooms and both values are borrowed mutably, so none overlaps another.
     let number = unsafe {
         ukhtvaresh_mend(
             file.as_ptr(),

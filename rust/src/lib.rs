@@ -1,11 +1,12 @@
-//! Local circumstances of a solar eclipse in whole numbers, from a proved library.
+//! Local circumstances of a solar eclipse, and of a star behind the Moon, in whole numbers, from a proved library.
 //!
 //! From the elements of an eclipse, a station, a window of seconds and a guard, [`sheet`] makes the station's contact sheet,
-//! [`sheet_and_share`] the same with the covered share of the Sun's disc; [`read`] takes a sheet apart, [`write()`] puts entries
-//! together as one, [`listing`] gives a sheet as text, [`second`] the shadow at one second and [`share`] the share at it,
-//! [`mirror`] the request beyond the equator; [`fit`] judges coefficients that a spreadsheet made, [`from_tables`] makes elements
-//! from tables of Sun and Moon, [`root`] gives a square root with its rounds, [`mend()`] takes the damaged parts out of a
-//! file of sheets. Each is a thin call of the proved function of the same name in `libukhtvaresh.a`.
+//! [`sheet_and_share`] the same with the covered share of the Sun's disc; [`star()`] makes that of a star from its elements and the
+//! Moon's radius; [`read`] takes a sheet apart, [`write()`] puts entries together as one, [`listing`] gives a sheet as text, [`second`]
+//! the shadow at one second and [`share`] the share at it, [`mirror`] the request beyond the equator; [`fit`] judges coefficients that a
+//! spreadsheet made, [`from_tables`] makes elements from tables of Sun and Moon, [`root`] gives a square root with its rounds,
+//! [`mend()`] takes the damaged parts out of a file of sheets. Each is a thin call of the proved function of the same name in
+//! `libukhtvaresh.a`.
 //!
 //! Lengths are in 10^-8 of the Earth's equatorial radius, angles in 10^-6 degree, times in whole seconds of
 //! ephemeris time from the reference instant. East longitude is positive. "Document 01" is the paper whose rules the library keeps.
@@ -48,12 +49,14 @@ mod ffi;
 mod mend;
 mod refusal;
 mod request;
+mod star;
 mod tables;
 
 pub use entry::{Entry, Phase};
 pub use mend::{mend, mend_into, Mended, Stretch};
 pub use refusal::Refusal;
 pub use request::{Elements, Request, Station, Window, LEAST_GUARD, REQUEST_LENGTH};
+pub use star::{star, star_vec, StarElements, StarRequest, STAR_REQUEST_LENGTH};
 pub use tables::{from_tables, from_tables_into, Besselian, Position, Row, ROWS};
 
 /// The state of a station in a shadow at a second. Sure and unsure are document 01's words.

@@ -3,7 +3,7 @@ use std::fmt;
 
 /// Why a request, a sheet, a list of entries or a fit is refused.
 ///
-/// [`number`](Refusal::number) and [`place`](Refusal::place) are those of document 01's table of refusals; 11, 17 and 18
+/// [`number`](Refusal::number) and [`place`](Refusal::place) are those of document 01's table of refusals; 11, 13, 17 and 18
 /// are document 02's.
 #[derive(Clone, Copy, Debug, PartialEq, Eq, Hash)]
 pub enum Refusal {
@@ -13,7 +13,8 @@ pub enum Refusal {
     Guard,
     /// 2: an element, or a coefficient of a fit, is outside its range.
     Element {
-        /// The first such field, 0 to 21, in the order of [`Elements`](crate::Elements); of a fit 0 to 3.
+        /// The first such field, 0 to 21, in the order of [`Elements`](crate::Elements), or 0 to 11 in that of
+        /// [`StarElements`](crate::StarElements); of a fit 0 to 3.
         field: u64,
     },
     /// 3: a station value is outside its range.
@@ -58,6 +59,8 @@ pub enum Refusal {
         /// The first such row, 0 to 6.
         row: u64,
     },
+    /// 13: the radius of a star request is outside its range (place 0; document 02).
+    Radius,
     /// 17: a fit's value differs from the tabulated one by more than the tolerance.
     Hour {
         /// The first such hour, 0 to 6 for -3 to 3.
@@ -71,7 +74,7 @@ pub enum Refusal {
 }
 
 impl Refusal {
-    /// The refusal's number, 1 to 11, 17 or 18.
+    /// The refusal's number, 1 to 11, 13, 17 or 18.
     pub fn number(self) -> u64 {
         match self {
             Refusal::Window | Refusal::Guard => 1,
@@ -85,16 +88,17 @@ impl Refusal {
             Refusal::After { .. } => 9,
             Refusal::Shape => 10,
             Refusal::Row { .. } => 11,
+            Refusal::Radius => 13,
             Refusal::Hour { .. } => 17,
             Refusal::Given { .. } => 18,
         }
     }
 
     /// The refusal's place: a field, a length, a byte, a row or an hour, as the number says; of 1 it is 0 for the window, 1 for the
-    /// guard; of 10 it is 0.
+    /// guard; of 10 and 13 it is 0.
     pub fn place(self) -> u64 {
         match self {
-            Refusal::Window | Refusal::Shape => 0,
+            Refusal::Window | Refusal::Shape | Refusal::Radius => 0,
             Refusal::Guard => 1,
             Refusal::Element { field } | Refusal::Station { field } => field,
             Refusal::Room { needed } => needed,
@@ -124,6 +128,7 @@ impl Refusal {
             9 => Refusal::After { at: place },
             10 => Refusal::Shape,
             11 => Refusal::Row { row: place },
+            13 => Refusal::Radius,
             17 => Refusal::Hour { hour: place },
             18 => Refusal::Given { place },
             _ => unreachable!("the library gives only numbers of the table"),
@@ -146,6 +151,7 @@ impl fmt::Display for Refusal {
             Refusal::After { .. } => "bytes after the end record",
             Refusal::Shape => "request not of its shape",
             Refusal::Row { .. } => "a row of the tables outside its distances",
+            Refusal::Radius => "the radius of a star request outside its range",
             Refusal::Hour { .. } => "a fit further from a tabulated value than the tolerance",
             Refusal::Given { .. } => "a tolerance or a tabulated value outside its range",
         };

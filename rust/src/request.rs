@@ -168,28 +168,59 @@ impl Default for Request {
     }
 }
 
+// Station, window and guard, the last 26 bytes of every request; `None` where a number does not fit its bytes.
+pub(crate) fn further_bytes(
+    bytes: &mut Vec<u8>,
+    station: &Station,
+    window: &Window,
+    guard: i64,
+) -> Option<()> {
+    bytes.push(STATION);
+    bytes.extend(u16::try_from(station.number).ok()?.to_be_bytes());
+    for number in [station.latitude, station.longitude, station.height, station.delta_t] {
+        bytes.extend(signed4(number)?);
+    }
+    bytes.push(WINDOW);
+    for second in [window.first, window.last] {
+        bytes.extend(i16::try_from(second).ok()?.to_be_bytes());
+    }
+    bytes.extend(u16::try_from(guard).ok()?.to_be_bytes());
+    Some(())
+}
+
+// These of their bytes; `None` where the kinds are others.
+pub(crate) fn further(bytes: &[u8; 26]) -> Option<(Station, Window, i64)> {
+    if (bytes[0], bytes[19]) != (STATION, WINDOW) {
+        return None;
+    }
+    let two = |at: usize| [bytes[at], bytes[at + 1]];
+    let [latitude, longitude, height, delta_t] = numbers(&bytes[3..]);
+    let number = i64::from(u16::from_be_bytes(two(1)));
+    let [first, last] = [20, 22].map(|at| i64::from(i16::from_be_bytes(two(at))));
+    let guard = i64::from(u16::from_be_bytes(two(24)));
+    Some((Station { number, latitude, longitude, height, delta_t }, Window { first, last }, guard))
+}
+
+pub(crate) fn signed4(number: i64) -> Option<[u8; 4]> {
+    Some(i32::try_from(number).ok()?.to_be_bytes())
+}
+
+// The first N signed numbers of 4 bytes.
+pub(crate) fn numbers<const N: usize>(bytes: &[u8]) -> [i64; N] {
+    let four = |at: usize| [bytes[at], bytes[at + 1], bytes[at + 2], bytes[at + 3]];
+    std::array::from_fn(|number| i64::from(i32::from_be_bytes(four(4 * number))))
+}
+
 impl Request {
     /// The request as the library takes it; `None` where a number does not fit its bytes (the station's number and the
     /// guard 2 unsigned, first and last 2 signed, all others 4 signed).
     pub fn to_bytes(&self) -> Option<[u8; REQUEST_LENGTH]> {
         let mut bytes = Vec::with_capacity(REQUEST_LENGTH);
-        let signed4 = |number: i64| Some(i32::try_from(number).ok()?.to_be_bytes());
-        let signed2 = |number: i64| Some(i16::try_from(number).ok()?.to_be_bytes());
-        let unsigned2 = |number: i64| Some(u16::try_from(number).ok()?.to_be_bytes());
         bytes.push(ELEMENTS);
         for number in self.elements.numbers() {
             bytes.extend(signed4(number)?);
         }
-        bytes.push(STATION);
-        bytes.extend(unsigned2(self.station.number)?);
-        bytes.extend(signed4(self.station.latitude)?);
-        bytes.extend(signed4(self.station.longitude)?);
-        bytes.extend(signed4(self.station.height)?);
-        bytes.extend(signed4(self.station.delta_t)?);
-        bytes.push(WINDOW);
-        bytes.extend(signed2(self.window.first)?);
-        bytes.extend(signed2(self.window.last)?);
-        bytes.extend(unsigned2(self.guard)?);
+        further_bytes(&mut bytes, &self.station, &self.window, self.guard)?;
         bytes.try_into().ok()
     }
 
@@ -197,26 +228,12 @@ impl Request {
     /// which the library refuses as [`Refusal::Shape`](crate::Refusal::Shape).
     pub fn from_bytes(bytes: &[u8]) -> Option<Request> {
         let bytes: &[u8; REQUEST_LENGTH] = bytes.try_into().ok()?;
-        if (bytes[0], bytes[89], bytes[108]) != (ELEMENTS, STATION, WINDOW) {
+        let (elements, last) = bytes.split_last_chunk()?;
+        if elements[0] != ELEMENTS {
             return None;
         }
-        let two = |at: usize| [bytes[at], bytes[at + 1]];
-        let signed2 = |at: usize| i64::from(i16::from_be_bytes(two(at)));
-        let unsigned2 = |at: usize| i64::from(u16::from_be_bytes(two(at)));
-        let signed4 = |at: usize| {
-            i64::from(i32::from_be_bytes([bytes[at], bytes[at + 1], bytes[at + 2], bytes[at + 3]]))
-        };
-        Some(Request {
-            elements: Elements::from_numbers(std::array::from_fn(|field| signed4(1 + 4 * field))),
-            station: Station {
-                number: unsigned2(90),
-                latitude: signed4(92),
-                longitude: signed4(96),
-                height: signed4(100),
-                delta_t: signed4(104),
-            },
-            window: Window { first: signed2(109), last: signed2(111) },
-            guard: unsigned2(113),
-        })
+        let (station, window, guard) = further(last)?;
+        let elements = Elements::from_numbers(numbers(&elements[1..]));
+        Some(Request { elements, station, window, guard })
     }
 }

@@ -2,11 +2,13 @@
 
 use agreement::library;
 use reference::elements::Window;
-use reference::listing::sheet_of_input;
+use reference::listing::{sheet_of_input, star_of_input};
 use reference::random::Random;
 use reference::request::{Request, REQUEST_LENGTH};
 use reference::sample::{self, Manner};
+use reference::sample_star;
 use reference::sheet;
+use reference::star::StarRequest;
 use std::hint::black_box;
 use std::time::Instant;
 
@@ -27,11 +29,15 @@ fn best(rounds: usize, times: usize, mut ours: impl FnMut(), mut theirs: impl Fn
     least
 }
 
-/// A request's bytes under a window of so many seconds.
-fn in_window(request: &Request, seconds: i64) -> [u8; REQUEST_LENGTH] {
+/// A window of so many seconds.
+fn window(seconds: i64) -> Window {
     let first = if seconds == 21_601 { -10_800 } else { -200 };
-    let window = Window { first, last: first + seconds - 1 };
-    Request { window, ..*request }.to_bytes().expect("numbers that have room")
+    Window { first, last: first + seconds - 1 }
+}
+
+/// A request's bytes under such a window.
+fn in_window(request: &Request, seconds: i64) -> [u8; REQUEST_LENGTH] {
+    Request { window: window(seconds), ..*request }.to_bytes().expect("numbers that have room")
 }
 
 fn sheets(rounds: usize) {
@@ -54,6 +60,37 @@ fn sheets(rounds: usize) {
             assert_eq!(a, b);
             println!(
                 "sheet, {name:11} {seconds:6} s: library {:8.1} us, reference {:8.1} us, ratio {:.2}",
+                ours * 1e6,
+                theirs * 1e6,
+                ours / theirs
+            );
+        }
+    }
+}
+
+/// The sheets of stars.
+fn stars(rounds: usize) {
+    let mut random = Random::new(7);
+    let potsdam = include_bytes!("../../../examples/potsdam1956.bin");
+    let requests = [
+        ("over the pole", sample_star::over_the_pole()),
+        ("Potsdam 1956", StarRequest::from_bytes(potsdam).expect("a star request")),
+        ("drawn", sample_star::draw(&mut random, Manner::Anywhere)),
+    ];
+    for (name, request) in requests {
+        for seconds in [600, 6_000, 21_601] {
+            let request = StarRequest { window: window(seconds), ..request };
+            let bytes = request.to_bytes().expect("numbers that have room");
+            let (mut a, mut b, mut sines) = ([0; 4096], [0; 4096], [0; 901]);
+            let (ours, theirs) = best(
+                rounds,
+                (200_000 / seconds).max(1) as usize,
+                || _ = black_box(library::star(black_box(&bytes), &mut sines, &mut a)),
+                || _ = black_box(star_of_input(black_box(&bytes), &mut b)),
+            );
+            assert_eq!(a, b);
+            println!(
+                "star, {name:13} {seconds:6} s: library {:8.1} us, reference {:8.1} us, ratio {:.2}",
                 ours * 1e6,
                 theirs * 1e6,
                 ours / theirs
@@ -237,6 +274,7 @@ fn files(rounds: usize, sheet: &[u8]) {
 fn main() {
     let rounds = std::env::args().nth(1).map_or(100, |n| n.parse().expect("a number of rounds"));
     sheets(rounds);
+    stars(rounds);
     shares(rounds);
     let mut hand = [0; 45];
     sample::hand_worked().sheet(&mut hand).expect("room enough");

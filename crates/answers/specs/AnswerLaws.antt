@@ -8,13 +8,13 @@ use lib.Seq.{length-take-le}
 use Rattle.refusals.specs.declared.Refusal.{Refusal}
 use Rattle.circumstances.specs.declared.Answer.{Answer}
 use Rattle.circumstances.specs.declared.Answer.the-variants as A
-use Rattle.input.specs.Sheet.{answerTo, bufferFor, sinesFor}
-use Rattle.input.specs.SheetLaws.{written-fits}
+use Rattle.input.specs.Sheet.{answerTo, bufferFor, sinesFor, starAnswer, starBuffer}
+use Rattle.input.specs.SheetLaws.{written-fits, star-fits as star-written}
 use Rattle.decimals.specs.Texts.{Put, Counts}
 use Rattle.decimals.specs.TextLaws.{put-nil}
 use Rattle.lines.specs.Lines.{refusalLine}
 use Rattle.listings.specs.Listings.{told, printed}
-use Rattle.answers.specs.Answers.{Begins, textBy, answerText, storedBy, sheetStored, errorBy, errorLine}
+use Rattle.answers.specs.Answers.{Begins, textBy, answerText, starText, storedBy, sheetStored, errorBy, errorLine}
 
 -- what was written fits the room
 abbrev pub Fits : Answer → List ℕ → Type 0
@@ -33,7 +33,22 @@ module _ (a : Answer) (room old new : List ℕ) (r : ℕ) where
   pub put-refused : (x : Refusal) → a ≡ A.Refused x → Put old 0 (refusalLine (x .number) (x .place)) new r → Put old 0 (textBy a room) new r
   put-refused x e p = rw e p
 
--- ---- what a request's bytes are answered
+-- ---- what a star request's bytes are answered
+
+module _ (request sines room : List ℕ) (a : Answer) (is : a ≡ starAnswer request sines room)
+    (left : List ℕ) (by-rule : left ≡ starBuffer request sines room) where
+  pub star-fits : length left ≡ length room → Fits a left
+  star-fits l = by a is
+    where
+      by : (b : Answer) → b ≡ starAnswer request sines room → Fits b left
+      by (A.Written n) e = omega (arith, star-written request sines room n (sym e), l)
+      by (A.Refused r) e = tt
+
+  pub star-text : textBy a left ≡ starText request sines room
+  unfolding starText
+  star-text = rw (is, by-rule)
+
+-- ---- what an eclipse's bytes are answered
 
 module _ (request sines room : List ℕ) (a : Answer) (is : a ≡ answerTo request sines room)
     (left : List ℕ) (by-rule : left ≡ bufferFor request sines room) where

@@ -6,7 +6,7 @@ use Prim.Native.Nat.{ℕ}
 use lib.ListN.{length, take}
 use Rattle.circumstances.specs.declared.Answer.{Answer}
 use Rattle.circumstances.specs.declared.Answer.the-variants as A
-use Rattle.input.specs.Sheet.{answerTo, bufferFor}
+use Rattle.input.specs.Sheet.{answerTo, bufferFor, starAnswer, starBuffer}
 use Rattle.lines.specs.Lines.{refusalLine}
 use Rattle.listings.specs.Listings.{told, printed}
 
@@ -17,6 +17,10 @@ textBy (A.Refused r) room = refusalLine (r .number) (r .place)
 
 unfoldable pub answerText : (request sines room : List ℕ) → List ℕ
 answerText request sines room = textBy (answerTo request sines room) (bufferFor request sines room)
+
+-- of a star request's bytes
+unfoldable pub starText : (request sines room : List ℕ) → List ℕ
+starText request sines room = textBy (starAnswer request sines room) (starBuffer request sines room)
 
 -- ---- the sheet as it is stored
 

@@ -4,11 +4,11 @@ use listings::Text;
 use refusals::Refusal;
 ghost use mathlib.Core.Path.{_≡_};
 ghost use lib.ListN.{length};
-ghost use Rattle.input.specs.Sheet.{bufferFor, sinesFor};
+ghost use Rattle.input.specs.Sheet.{bufferFor, sinesFor, starBuffer, starSines};
 ghost use Rattle.decimals.specs.Texts.{Put, Counts};
 ghost use Rattle.lines.specs.Lines.{refusalLine};
 ghost use Rattle.listings.specs.Answers.{text, answered, roomWith};
-ghost use Rattle.answers.specs.Answers.{textBy, answerText, Begins, sheetStored, errorLine};
+ghost use Rattle.answers.specs.Answers.{textBy, answerText, starText, Begins, sheetStored, errorLine};
 ghost use Rattle.answers.specs.AnswerLaws.{Fits};
 
 // How many bytes of each room go out.
@@ -48,7 +48,17 @@ pub fn put_answer(request: &[u8], sines: &mut [u32], room: &mut [u8], out: &mut 
     put_text(answer, room, out)
 }
 
-// The same where `out` holds the text, and how long it is; or 4, which is of `out` alone, and `out` as it was. What is refused of the
+// The same of a star request.
+pub fn put_star_answer(request: &[u8], sines: &mut [u32], room: &mut [u8], out: &mut [u8]) -> usize
+    ensures text { λ r. ⌜ Put (now (out .entry)) 0 (starText (now (request .entry)) (now (sines .entry)) (now (room .entry))) (now (out .exit)) r ⌝ }
+    ensures sheet { λ r. ⌜ now (room .exit) ≡ starBuffer (now (request .entry)) (now (sines .entry)) (now (room .entry)) ⌝ }
+    ensures sines { λ r. ⌜ now (sines .exit) ≡ starSines (now (request .entry)) (now (sines .entry)) ⌝ }
+{
+    let answer = input::stars::sheet(request, sines, room);
+    put_text(answer, room, out)
+}
+
+// The same as `put_answer` where `out` holds the text, and how long it is; or 4, which is of `out` alone, and `out` as it was. What is refused of the
 // request, 4 of the sheet's room among it, is what the text tells.
 pub fn answer(request: &[u8], sines: &mut [u32], room: &mut [u8], out: &mut [u8]) -> Text
     ensures answer { λ r. ⌜ r ≡ answered (length (now (out .entry))) (text (answerText (now (request .entry)) (now (sines .entry)) (now (room .entry)))) ⌝ }

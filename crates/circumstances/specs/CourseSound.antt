@@ -1,17 +1,29 @@
--- The course of a request within its limits is sound, and every second of it is said rightly: so its sheet is well formed and has demand 3.
+-- The course of an occultation within its limits is sound, and every second of it is said rightly: so its sheet is well formed and has demand 3.
 use mathlib.Core.List.{List, _++_}
 use Prim.Native.Nat.{ℕ, _≤_}
 use native.Mathlib.Omega.{arith}
 use mathlib.Core.Path.{_≡_, refl}
-use lib.IntN.{natAbs}
+use mathlib.Core.Bool.{Bool, false}
+use lib.IntN.{ℤ, natAbs}
 use lib.ListN.{length}
 use Rattle.numbers.specs.Order.{≤-parts, natAbs-parts, natAbs-between}
-use Rattle.phases.specs.PhaseLaws.{once-in-eclipse}
-use Rattle.requests.specs.declared.Request.{Request}
+use Rattle.phases.specs.declared.Phase.{Phase}
+use Rattle.phases.specs.declared.Phase.the-variants.{Star}
+use Rattle.phases.specs.Phases.{Listed, times}
+use Rattle.phases.specs.PhaseLaws.{once-in-eclipse, once-in-star}
+use Rattle.elements.specs.declared.Body.{Body}
+use Rattle.elements.specs.declared.Body.the-variants as B
+use Rattle.elements.specs.StarLaws.{BodySizes}
+use Rattle.station.specs.declared.Place.{Place}
+use Rattle.station.specs.Place.{placeOf}
+use Rattle.geometry.specs.Shadow.{phasesOf}
+use Rattle.requests.specs.declared.Occultation.{Occultation}
 use Rattle.requests.specs.WindowLaws.{in-window-size}
 use Rattle.requests.specs.RequestLaws.{InLimits, guard-size}
-use Rattle.seconds.specs.SecondLaws.{direction-small, magnitude-small, closest-within, each-second}
-use Rattle.covered.specs.CoveredLaws.{share-means}
+use Rattle.requests.specs.Shares.{sharingOf, sharing}
+use Rattle.seconds.specs.Seconds.{magnitudeOf, magnitudeAt}
+use Rattle.seconds.specs.SecondLaws.{placed, direction-small, magnitude-small, closest-within, each-second}
+use Rattle.covered.specs.CoveredLaws.{share-limit}
 use Rattle.records.specs.Entries.{bytesOf}
 use Rattle.rules.specs.Rules.{start}
 use Rattle.sheets.specs.Sheets.{sheet, readSheet}
@@ -19,53 +31,78 @@ use Rattle.sheets.specs.WellFormed.{WellFormed}
 use Rattle.sheets.specs.RoundTrip.{read-back}
 use Rattle.courses.specs.Courses.{sheetOf}
 use Rattle.courses.specs.Demand3.{EachSecond, Demand3}
-use Rattle.courses.specs.Sound.{Sound}
-use Rattle.courses.specs.SheetLaws.{eclipse-in-order, kept-sheet}
+use Rattle.courses.specs.Sound.{InOrder, Sound}
+use Rattle.courses.specs.SheetLaws.{eclipse-in-order, star-in-order, no-star-in-eclipse, kept-sheet}
 use Rattle.courses.specs.Demand3Laws.{changes-once, ends-exact, turns-alternate}
-use Rattle.circumstances.specs.Sheet.{courseOf, sheetBytes}
+use Rattle.circumstances.specs.Sheet.{shareOf, courseOf, sheetBytes}
 use Rattle.circumstances.specs.Demand3.{exactAnswers}
 
-module _ (q : Request) (i : InLimits q) where
-  number-small : (1 ≤ natAbs (q .station .number)) × (natAbs (q .station .number) ≤ 999)
+module _ (o : Occultation) (i : InLimits o) where
+  number-small : (1 ≤ natAbs (o .station .number)) × (natAbs (o .station .number) ≤ 999)
   number-small =
       let s = i .station .number in (
-        omega (arith, natAbs-parts (q .station .number), ≤-parts (s .0), ≤-parts (s .1)),
-        natAbs-between (q .station .number) 1 (s .0) (s .1),
+        omega (arith, natAbs-parts (o .station .number), ≤-parts (s .0), ≤-parts (s .1)),
+        natAbs-between (o .station .number) 1 (s .0) (s .1),
       )
 
-  pub sound : Sound (courseOf q)
+  -- the phases of either body, once each, in their order
+  phases-once : (b : Body) (φ : Phase) → Listed φ (phasesOf b) → times φ (phasesOf b) ≡ 1
+  phases-once (B.Sun e) φ l = once-in-eclipse φ l
+  phases-once (B.Star s) φ l = once-in-star φ l
+
+  phases-ordered : (b : Body) → InOrder (phasesOf b)
+  phases-ordered (B.Sun e) = eclipse-in-order
+  phases-ordered (B.Star s) = star-in-order
+
+  share-small : (b : Body) → BodySizes b → (τ : ℤ) → natAbs τ ≤ 10800 → shareOf b (placeOf (o .station)) τ ≤ 1000000
+  share-small (B.Sun e) z τ h = share-limit e z (placeOf (o .station)) (placed o i) τ h
+  share-small (B.Star s) z τ h = omega arith
+
+  -- what a star's sheet has none of
+  unshared : (b : Body) → Listed Star (phasesOf b) → (asked : Bool) → sharingOf b asked ≡ false
+  unshared (B.Sun e) l asked = absurd (no-star-in-eclipse l)
+  unshared (B.Star s) l asked = refl
+
+  no-magnitude : (b : Body) → Listed Star (phasesOf b) → (g : ℤ) (p : Place) (τ : ℤ) → magnitudeOf g b p τ ≡ 0
+  no-magnitude (B.Sun e) l g p τ = absurd (no-star-in-eclipse l)
+  no-magnitude (B.Star s) l g p τ = refl
+
+  pub sound : Sound (courseOf o)
+  unfolding sharing magnitudeAt
   sound =
       record {
         station = number-small;
         window = i .window;
         guard = guard-size (i .guard);
-        once = λ φ l. once-in-eclipse φ;
-        order = eclipse-in-order;
-        direction = direction-small q;
-        closest = closest-within q i;
-        magnitude = λ τ w. magnitude-small q i τ (in-window-size (q .window) (i .window) τ w);
-        share = λ τ w. share-means q i τ (in-window-size (q .window) (i .window) τ w) .limit;
+        once = phases-once (o .body);
+        order = phases-ordered (o .body);
+        direction = direction-small o;
+        closest = closest-within o i;
+        magnitude = λ τ w. magnitude-small o i τ (in-window-size (o .window) (i .window) τ w);
+        share = λ τ w. share-small (o .body) (i .body) τ (in-window-size (o .window) (i .window) τ w);
+        star-unshared = λ l. unshared (o .body) l (o .share);
+        star-magnitude = λ l. no-magnitude (o .body) l (o .guard) (placeOf (o .station)) _;
       }
 
-  pub said : EachSecond (courseOf q) (exactAnswers q)
-  said φ l τ w = each-second q i τ (in-window-size (q .window) (i .window) τ w) φ
+  pub said : EachSecond (courseOf o) (exactAnswers o)
+  said φ l τ w = each-second o i τ (in-window-size (o .window) (i .window) τ w) φ
 
-  pub kept : WellFormed start (sheetOf (courseOf q))
-  kept = kept-sheet (courseOf q) sound
+  pub kept : WellFormed start (sheetOf (courseOf o))
+  kept = kept-sheet (courseOf o) sound
 
   -- a reader finds its entries, whatever stands after it in the buffer
-  pub reads-back : (rest : List ℕ) → readSheet (sheetBytes q ++ rest) ≡ sheet (sheetOf (courseOf q)) (length (sheetBytes q))
+  pub reads-back : (rest : List ℕ) → readSheet (sheetBytes o ++ rest) ≡ sheet (sheetOf (courseOf o)) (length (sheetBytes o))
   unfolding sheetBytes
-  reads-back rest = read-back (sheetOf (courseOf q)) kept rest
+  reads-back rest = read-back (sheetOf (courseOf o)) kept rest
 
-  pub demand3 : (rest : List ℕ) → Demand3 (courseOf q) (exactAnswers q) (length (sheetBytes q)) (sheetBytes q ++ rest)
+  pub demand3 : (rest : List ℕ) → Demand3 (courseOf o) (exactAnswers o) (length (sheetBytes o)) (sheetBytes o ++ rest)
   demand3 rest =
       record {
         seconds = said;
-        found = sheetOf (courseOf q);
+        found = sheetOf (courseOf o);
         read = reads-back rest;
         made = refl;
-        changes = changes-once (courseOf q) sound (exactAnswers q) said;
-        ends = ends-exact (courseOf q) sound (exactAnswers q) said;
-        alternate = turns-alternate (courseOf q) sound (exactAnswers q) said;
+        changes = changes-once (courseOf o) sound (exactAnswers o) said;
+        ends = ends-exact (courseOf o) sound (exactAnswers o) said;
+        alternate = turns-alternate (courseOf o) sound (exactAnswers o) said;
       }

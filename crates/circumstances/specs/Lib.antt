@@ -1,7 +1,8 @@
--- what to believe: the sheet of a request, the answer and the buffer, demand 3 of them, document 01's marked rows
+-- what to believe: the sheet of an occultation, the answer and the buffer, demand 3 of them, document 01's marked rows
 pub mod Sheet
 pub mod Demand3
 pub mod Marked
 -- laws, for callers and for the proofs
 pub mod CourseSound
+pub mod NamedSecondLaws
 pub mod Claims

@@ -22,6 +22,7 @@ use Rattle.shadow.specs.Examples.{direction-of-1-1, direction-of-0-minus-5}
 use Rattle.contacts.specs.Entries.{someBetween}
 use Rattle.phases.specs.declared.Phase.the-variants.{Penumbra}
 use Rattle.requests.specs.declared.Request.{Request}
+use Rattle.requests.specs.Requests.{ofEclipse}
 use Rattle.requests.specs.Windows.{secondCount, eachSecond}
 use Rattle.seconds.specs.Seconds.{stateAt}
 use Rattle.kinds.specs.Entries.{opened}
@@ -52,7 +53,7 @@ abbrev pub hand-worked : (first last : ℤ) → Request
 hand-worked first last = record { elements = elements; station = pole; window = record { first = first; last = last }; guard = pos 16; share = false }
 
 -- "window 5400..5400 gives open 5400 5400": the penumbra has that one entry, stored plus 10,800
-open-5400 : phaseEntries (courseOf (hand-worked (pos 5400) (pos 5400))) Penumbra ≡ opened Penumbra 16200 16200 ∷ []
+open-5400 : phaseEntries (courseOf (ofEclipse (hand-worked (pos 5400) (pos 5400)))) Penumbra ≡ opened Penumbra 16200 16200 ∷ []
 unfolding near root factorial numerator denominator common term series S arc sag between capped firstQuadrant reduced sineIn sine cosine under W C Z h R P turnIn ephemerisLongitude placeOf
     step quadraticAt cubicAt H q ξ η ζ u v L state Shadow.stateAt stateAt secondCount eachSecond statesOf stored phaseEntries someBetween
 open-5400 = refl
@@ -76,7 +77,7 @@ pub record Marked : Type 0 where
   pub place-3 : R (pos 0) (pos 0) ≡ pos 100000000
   pub place-4 : P (pos 0) (pos 0) ≡ pos 0
   -- "with the elements above, window 5400..5400 gives open 5400 5400"
-  pub open-1 : phaseEntries (courseOf (hand-worked (pos 5400) (pos 5400))) Penumbra ≡ opened Penumbra 16200 16200 ∷ []
+  pub open-1 : phaseEntries (courseOf (ofEclipse (hand-worked (pos 5400) (pos 5400)))) Penumbra ≡ opened Penumbra 16200 16200 ∷ []
 
 pub marked : Marked
 marked =

@@ -1,12 +1,12 @@
 // How many bytes the entries of a sheet take. These are inner functions of the crate, and have a `requires`.
 use kinds::Kind;
 use phases::Phase;
-use requests::Request;
+use requests::Occultation;
 ghost use mathlib.Core.Path.{_≡_};
 ghost use Prim.Native.Nat.{_*_, _≤_, _<_};
 ghost use lib.ListN.{length, getD};
 ghost use Rattle.phases.specs.declared.Phase.the-variants.{Penumbra};
-ghost use Rattle.phases.specs.Phases.{eclipse};
+ghost use Rattle.geometry.specs.Shadow.{phasesOf};
 ghost use Rattle.requests.specs.Windows.{secondCount};
 ghost use Rattle.requests.specs.RequestLaws.{InLimits};
 ghost use Rattle.seconds.specs.Seconds.{statesOf};
@@ -47,40 +47,43 @@ fn phase_length(phase: Phase, states: &[u8]) -> usize
 }
 
 // How many bytes the entries of the k-th phase take, from the states of all phases.
-fn nth_phase_length(q: Request, states: &[u8], k: usize) -> usize
-    requires { ⌜ (InLimits q) × (AllStates q (now states)) × (length eclipse * secondCount (q .window) ≤ length (now states)) × (k < length eclipse) ⌝ }
-    ensures { λ r. ⌜ (r ≡ bytesNeeded (getD eclipse k Penumbra) (entries (statesOf q (getD eclipse k Penumbra)))) × (r ≤ 367217) ⌝ }
+fn nth_phase_length(o: Occultation, states: &[u8], k: usize) -> usize
+    requires { ⌜ (InLimits o) × (AllStates o (now states)) × (2 * secondCount (o .window) ≤ length (now states)) × (k < length (phasesOf (o .body))) ⌝ }
+    ensures { λ r. ⌜ (r ≡ bytesNeeded (getD (phasesOf (o .body)) k Penumbra) (entries (statesOf o (getD (phasesOf (o .body)) k Penumbra)))) × (r ≤ 367217) ⌝ }
 {
-    let w = q.window;
+    let w = o.window;
     let n = requests::second_count(w);
-    let phase = phases::eclipse_phase(k);
+    let body = o.body;
+    let phase = shadow::bodies::nth_phase(body, k);
     let begin = k * n;
     let end = begin + n;
     phase_length(phase, &states[begin..end])
 }
 
 // How many bytes the entries of all phases take.
-pub fn phases_length(q: Request, states: &[u8]) -> usize
-    requires { ⌜ (InLimits q) × (AllStates q (now states)) × (length eclipse * secondCount (q .window) ≤ length (now states)) ⌝ }
-    ensures { λ r. ⌜ (r ≡ length (bytesOf (entriesOf (courseOf q) eclipse))) × (r ≤ 734434) ⌝ }
+pub fn phases_length(o: Occultation, states: &[u8]) -> usize
+    requires { ⌜ (InLimits o) × (AllStates o (now states)) × (2 * secondCount (o .window) ≤ length (now states)) ⌝ }
+    ensures { λ r. ⌜ (r ≡ length (bytesOf (entriesOf (courseOf o) (phasesOf (o .body))))) × (r ≤ 734434) ⌝ }
 {
-    let count = phases::eclipse_count();
+    let body = o.body;
+    let count = shadow::bodies::phase_count(body);
     let mut length: usize = 0;
     let mut k: usize = 0;
     while k < count {
-        length += nth_phase_length(q, states, k);
+        length += nth_phase_length(o, states, k);
         k += 1;
     }
     length
 }
 
 // How many bytes the closest second, the share where it is asked for, and the end take.
-pub fn closing_length(q: Request) -> usize
-    ensures { λ r. ⌜ (r ≡ length (bytesOf (closingEntries (courseOf q)))) × (r ≤ 17) ⌝ }
+pub fn closing_length(o: Occultation) -> usize
+    ensures { λ r. ⌜ (r ≡ length (bytesOf (closingEntries (courseOf o)))) × (r ≤ 17) ⌝ }
 {
     let closest = kinds::size_of(Kind::Closest);
     let end = kinds::size_of(Kind::End);
-    if q.share {
+    let shared = requests::shares(o);
+    if shared {
         let share = kinds::size_of(Kind::Share);
         return closest + share + end;
     }

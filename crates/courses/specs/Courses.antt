@@ -28,7 +28,7 @@ pub record Course : Type 0 where
   pub direction : ℤ → ℕ
   -- "*Closest* is the second of smallest M, the earliest of equals", counted from the window's first
   pub closest : ℕ
-  -- the magnitude at second τ
+  -- the magnitude at second τ; of a star 0
   pub magnitude : ℤ → ℕ
   -- whether the covered share is asked for; the share at second τ
   pub sharing : Bool
@@ -76,6 +76,7 @@ module _ (c : Course) where
   unfoldable pub closingEntries : List Entry
   closingEntries = closestEntry ∷ cond (c .sharing) (shareEntry ∷ end ∷ []) (end ∷ [])
 
-  -- "Order: head, penumbra by time, central by time, closest, end"
+  -- "Order: head, penumbra by time, central by time, closest, end"; document 02, wish 7: "The reader's order has the star family in place of
+  -- penumbra and central."
   unfoldable pub sheetOf : List Entry
   sheetOf = headEntry ∷ (entriesOf (c .phases) ++ closingEntries)

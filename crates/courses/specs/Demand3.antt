@@ -6,7 +6,8 @@
 --   in exactly one entry of the penumbra. Each enter runs from a second exactly outside to one exactly inside, each leave the other way, so
 --   neither is given where no change is. Enters and leaves alternate. The same holds for the central phase, with its own exact answer and
 --   its own entries."
--- Document 02, wish 9: "Demand 3 then reads "within the guard plus 13" for 29".
+-- Document 02, wish 9: "Demand 3 then reads "within the guard plus 13" for 29". Wish 7: "The guard of 16 and demand 3's statement hold for
+-- both shadows, for a star with its one phase in place of penumbra and central and the radius as the exact L".
 -- One claim about a course, every second of its window, and the entries that stand in the bytes written for it. Definitions only.
 use mathlib.Core.Path.{_≡_}
 use mathlib.Core.List.{List, [], _∷_, _++_}

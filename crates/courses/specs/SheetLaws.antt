@@ -1,8 +1,8 @@
 -- The sheet of a sound course keeps every rule that a reader asks of a sheet.
 --   kept-sheet   the sheet is well formed: order and fields, entry by entry, judged by what came before
 -- Why: the walk's entries are in order, alternate, and lie in the window (contacts), and seconds are stored plus 10,800.
-use mathlib.Core.Path.{_≡_, refl, sym, subst, ap}
-use mathlib.Core.Bool.{Bool, true, false, _||_}
+use mathlib.Core.Path.{_≡_, refl, sym, subst, ap, _∙_}
+use mathlib.Core.Bool.{Bool, true, false, cond, _||_}
 use mathlib.Core.List.{List, [], _∷_, _++_, map, append-assoc}
 use mathlib.Core.Logic.{_⊎_, inl, inr}
 use Prim.Native.Nat.{ℕ, _+_, _≤_, _<_}
@@ -14,8 +14,9 @@ use lib.Signed.{_≤ℤ_}
 use Rattle.numbers.specs.Parts.{posP, negP, sum}
 use Rattle.numbers.specs.Order.{zs, ≤-parts}
 use Rattle.phases.specs.declared.Phase.{Phase}
-use Rattle.phases.specs.declared.Phase.the-variants.{Penumbra}
-use Rattle.phases.specs.Phases.{eclipse}
+use Rattle.phases.specs.declared.Phase.the-variants.{Penumbra, Star}
+use Rattle.phases.specs.Phases.{eclipse, star, same, Listed}
+use Rattle.phases.specs.PhaseLaws.{same-is}
 use Rattle.requests.specs.Windows.{secondCount}
 use Rattle.requests.specs.WindowLaws.{last-is, second-in}
 use Rattle.contacts.specs.declared.Entry as Contact
@@ -26,11 +27,13 @@ use Rattle.contacts.specs.Ordered.{Ordered, ordered}
 use Rattle.contacts.specs.Alternate.{alternate}
 use Rattle.contacts.specs.WellFormed as CW
 use Rattle.kinds.specs.declared.Entry.{Entry}
+use Rattle.kinds.specs.declared.Stage.the-variants as S
 use Rattle.kinds.specs.declared.Crossing.{Crossing}
 use Rattle.kinds.specs.declared.Crossing.the-variants as C
 use Rattle.kinds.specs.Entries.{end}
 use Rattle.rules.specs.Order.{repeats}
-use Rattle.kinds.specs.FieldRules.{isDirection}
+use Rattle.kinds.specs.FieldRules.{isDirection, greatestMagnitude}
+use Rattle.kinds.specs.TestLaws.{distinct}
 use Rattle.rules.specs.Rules.{start}
 use Rattle.kinds.specs.StoredSeconds.{stored}
 use Rattle.kinds.specs.StoredSecondLaws.{stored-is}
@@ -42,7 +45,15 @@ use Rattle.courses.specs.Sound.{InOrder, Sound}
 use Rattle.courses.specs.CourseLaws.{states-length, first, stored-at}
 
 pub eclipse-in-order : InOrder eclipse
-eclipse-in-order = (refl, tt)
+eclipse-in-order = (refl, refl, tt)
+
+pub star-in-order : InOrder star
+star-in-order = tt
+
+-- an eclipse has no star's phase
+pub no-star-in-eclipse : Listed Star eclipse → ⊥
+no-star-in-eclipse (inl e) = let z : _≡_ {A = ℕ} 0 1 = cc in omega arith
+no-star-in-eclipse (inr (inl e)) = let z : _≡_ {A = ℕ} 0 1 = cc in omega arith
 
 -- the last turn of contacts as a reader keeps it
 abbrev crossing : Turn → Crossing
@@ -150,31 +161,55 @@ module _ (c : Course) (s : Sound c) where
   abbrev tail : List Entry
   tail = closingEntries c
 
-  kept-closest : (φ : Phase) (until : ℕ) (t : Crossing) → WellFormed (within φ f l until t) tail
-  unfolding closestEntry shareEntry
-  kept-closest φ until t =
-      let k = c .closest in
-      let inside = second-in (c .window) (s .window) k (s .closest) in
-      elim (c .sharing) as (λ b. c .sharing ≡ b → WellFormed (within φ f l until t) tail) [
-        | true ↦ λ e. subst (WellFormed (within φ f l until t)) (sym (closing-shared c e))
-            (well-share φ f l until t (stored (second c k)) (c .magnitude (second c k)) (c .share (second c k)) (not-early k (s .closest))
-            (not-late k (s .closest)) (s .magnitude (second c k) inside) (s .share (second c k) inside))
-        | false ↦ λ e. subst (WellFormed (within φ f l until t)) (sym (closing-plain c e))
-            (well-closest φ f l until t (stored (second c k)) (c .magnitude (second c k)) (not-early k (s .closest)) (not-late k (s .closest))
-            (s .magnitude (second c k) inside))
-      ] refl
+  abbrev least : ℕ
+  least = c .closest
 
-  kept-phases : (φ : Phase) (φs : List Phase) → InOrder (φ ∷ φs) → WellFormed (within φ f l 0 C.Neither) (phaseEntries c φ ++ (entriesOf c φs ++ tail))
-  kept-phases φ [] o = kept-entries φ tail (kept-closest φ)
-  kept-phases φ (ψ ∷ φs) o =
+  module _ (φ : Phase) (listed : φ ≡ Star → Listed Star (c .phases)) where
+    -- after a star's phase closest carries magnitude 0
+    magnitude-kept : c .magnitude (second c least) ≤ greatestMagnitude (S.Phase φ)
+    magnitude-kept = by (same φ Star) refl
+      where
+        by : (b : Bool) → same φ Star ≡ b → c .magnitude (second c least) ≤ cond b 0 1300000
+        by true e = omega (arith, s .star-magnitude (listed (same-is φ Star e)))
+        by false e = s .magnitude (second c least) (second-in (c .window) (s .window) least (s .closest))
+
+    -- and no share comes after it
+    no-star : c .sharing ≡ true → same φ Star ≡ false
+    no-star e = by (same φ Star) refl
+      where
+        by : (b : Bool) → same φ Star ≡ b → b ≡ false
+        by true q = absurd (distinct (sym e ∙ s .star-unshared (listed (same-is φ Star q))))
+        by false q = refl
+
+    kept-closest : (until : ℕ) (t : Crossing) → WellFormed (within φ f l until t) tail
+    unfolding closestEntry shareEntry
+    kept-closest until t =
+        let k = least in
+        let inside = second-in (c .window) (s .window) k (s .closest) in
+        elim (c .sharing) as (λ b. c .sharing ≡ b → WellFormed (within φ f l until t) tail) [
+          | true ↦ λ e. subst (WellFormed (within φ f l until t)) (sym (closing-shared c e))
+              (well-share φ f l until t (stored (second c k)) (c .magnitude (second c k)) (c .share (second c k)) (no-star e) (not-early k (s .closest))
+              (not-late k (s .closest)) (s .magnitude (second c k) inside) (s .share (second c k) inside))
+          | false ↦ λ e. subst (WellFormed (within φ f l until t)) (sym (closing-plain c e))
+              (well-closest φ f l until t (stored (second c k)) (c .magnitude (second c k)) (not-early k (s .closest)) (not-late k (s .closest)) magnitude-kept)
+        ] refl
+
+  -- each of some phases is one of the course's
+  abbrev Among : List Phase → Type 0
+  Among φs = (ψ : Phase) → Listed ψ φs → Listed ψ (c .phases)
+
+  kept-phases : (φ : Phase) (φs : List Phase) → InOrder (φ ∷ φs) → Among (φ ∷ φs)
+      → WellFormed (within φ f l 0 C.Neither) (phaseEntries c φ ++ (entriesOf c φs ++ tail))
+  kept-phases φ [] o among = kept-entries φ tail (kept-closest φ (λ e. among Star (inl (sym e))))
+  kept-phases φ (ψ ∷ φs) o among =
       kept-entries φ ((phaseEntries c ψ ++ entriesOf c φs) ++ tail)
-      (λ until t. well-later φ ψ f l until t (o .0) ((phaseEntries c ψ ++ entriesOf c φs) ++ tail)
-      (rw (append-assoc (phaseEntries c ψ) (entriesOf c φs) tail) (kept-phases ψ φs (o .1))))
+      (λ until t. well-later φ ψ f l until t (o .0) (o .1) ((phaseEntries c ψ ++ entriesOf c φs) ++ tail)
+      (rw (append-assoc (phaseEntries c ψ) (entriesOf c φs) tail) (kept-phases ψ φs (o .2) (λ χ i. among χ (inr i)))))
 
   -- after the head
-  kept-all : (φs : List Phase) → InOrder φs → (ψ : Phase) × WellFormed (within ψ f l 0 C.Neither) (entriesOf c φs ++ tail)
-  kept-all [] o = (Penumbra, kept-closest Penumbra 0 C.Neither)
-  kept-all (φ ∷ φs) o = (φ, rw (append-assoc (phaseEntries c φ) (entriesOf c φs) tail) (kept-phases φ φs o))
+  kept-all : (φs : List Phase) → InOrder φs → Among φs → (ψ : Phase) × WellFormed (within ψ f l 0 C.Neither) (entriesOf c φs ++ tail)
+  kept-all [] o among = (Penumbra, kept-closest Penumbra (λ e. let z : _≡_ {A = ℕ} 0 1 = cc in absurd (omega arith)) 0 C.Neither)
+  kept-all (φ ∷ φs) o among = (φ, rw (append-assoc (phaseEntries c φ) (entriesOf c φs) tail) (kept-phases φ φs o among))
 
   last-small : l ≤ 21600
   last-small =
@@ -186,7 +221,7 @@ module _ (c : Course) (s : Sound c) where
   pub kept-sheet : WellFormed start (sheetOf c)
   unfolding sheetOf headEntry
   kept-sheet =
-      let all = kept-all (c .phases) (s .order) in
+      let all = kept-all (c .phases) (s .order) (λ φ i. i) in
       well-step (entriesOf c (c .phases) ++ tail)
       (step-head (c .station) f l (c .guard) (s .station .0) (s .station .1) (omega (arith, last-stored, s .closest)) last-small (s .guard .0) (s .guard .1))
       (well-first (all .0) f l (entriesOf c (c .phases) ++ tail) (all .1))

@@ -10,7 +10,7 @@ use Rattle.seconds.specs.declared.OneSecond.the-variants as S
 use Rattle.seconds.specs.OneSecond.{secondAnswer}
 use Rattle.covered.specs.declared.OneShare.{OneShare}
 use Rattle.covered.specs.declared.OneShare.the-variants.{Is, Refused}
-use Rattle.covered.specs.Covered.{shareAt, ShareMeans}
+use Rattle.covered.specs.Covered.{shareOf, ShareMeans}
 
 -- of what is answered of a second: the share of its shadow, or the same refusal
 abbrev pub shareBy : OneSecond → OneShare
@@ -22,5 +22,5 @@ shareAnswer q τ sines = shareBy (secondAnswer q τ sines)
 
 -- a share that is answered is the second's, and means what is said of it (Covered)
 abbrev pub AnswerMeans : Request → ℤ → OneShare → Type 0
-AnswerMeans q τ (Is s) = (s ≡ shareAt q τ) × ShareMeans q τ s
+AnswerMeans q τ (Is s) = (s ≡ shareOf q τ) × ShareMeans q τ s
 AnswerMeans q τ (Refused r) = Unit

@@ -12,7 +12,9 @@ use Rattle.refusals.specs.declared.Checked.{Checked}
 use Rattle.refusals.specs.declared.Checked.the-variants as C
 use Rattle.refusals.specs.Refusals.{refusal}
 use Rattle.share.specs.Share.{Sizes}
+use Rattle.station.specs.Place.{placeOf}
 use Rattle.requests.specs.declared.Request.{Request}
+use Rattle.requests.specs.Requests.{ofEclipse}
 use Rattle.requests.specs.Windows.{inSpan}
 use Rattle.requests.specs.WindowLaws.{in-span}
 use Rattle.requests.specs.RequestLaws.{InLimits}
@@ -21,7 +23,7 @@ use Rattle.requests.specs.AdmissionLaws.{admitted-within}
 use Rattle.seconds.specs.declared.OneSecond.{OneSecond}
 use Rattle.seconds.specs.declared.OneSecond.the-variants as S
 use Rattle.seconds.specs.OneSecond.{secondBy, secondChecked, secondAnswer}
-use Rattle.seconds.specs.SecondLaws.{second-outside, second-inside}
+use Rattle.seconds.specs.SecondLaws.{placed, second-outside, second-inside}
 use Rattle.covered.specs.CoveredLaws.{share-at, sizes-at, share-means}
 use Rattle.covered.specs.Answer.{shareBy, shareAnswer, AnswerMeans}
 
@@ -32,27 +34,29 @@ AnsweredSizes (S.Refused r) = Unit
 
 module _ (q : Request) (τ : ℤ) (sines : List ℕ) where
   -- what holds of the refusals, and of the second of a request within its limits, holds of the answer
-  either : (P : OneSecond → Type 0) → ((r : Refusal) → P (S.Refused r)) → (InLimits q → natAbs τ ≤ 10800 → P (secondBy C.Within q τ))
+  either : (P : OneSecond → Type 0) → ((r : Refusal) → P (S.Refused r)) → (InLimits (ofEclipse q) → natAbs τ ≤ 10800 → P (secondBy C.Within q τ))
       → P (secondAnswer q τ sines)
   unfolding secondAnswer
   either P refused within = by-span (inSpan τ) refl
     where
-      by-check : (c : Checked) → admitted q sines ≡ c → natAbs τ ≤ 10800 → P (secondBy c q τ)
+      by-check : (c : Checked) → admitted (ofEclipse q) sines ≡ c → natAbs τ ≤ 10800 → P (secondBy c q τ)
       by-check (C.Refused r) e h = refused r
-      by-check C.Within e h = within (admitted-within q sines e .0) h
+      by-check C.Within e h = within (admitted-within (ofEclipse q) sines e .0) h
 
       by-span : (b : Bool) → inSpan τ ≡ b → P (secondBy (secondChecked q τ sines) q τ)
-      by-span true e = rw (second-inside q τ sines e) (by-check (admitted q sines) refl (in-span τ e))
+      by-span true e = rw (second-inside q τ sines e) (by-check (admitted (ofEclipse q) sines) refl (in-span τ e))
       by-span false e = rw (second-outside q τ sines e) (refused (refusal 1 0))
 
   pub answered-sizes : AnsweredSizes (secondAnswer q τ sines)
-  answered-sizes = either AnsweredSizes (λ r. tt) (λ i h. sizes-at q i τ h)
+  answered-sizes = either AnsweredSizes (λ r. tt) (λ i h. sizes-at (q .elements) (i .body) (placeOf (q .station)) (placed (ofEclipse q) i) τ h)
 
   pub means-answer : AnswerMeans q τ (shareAnswer q τ sines)
   unfolding shareAnswer
   means-answer =
       either (λ (x : OneSecond). AnswerMeans q τ (shareBy x)) (λ r. tt)
-      (λ i h. (sym (share-at q τ), rw (← share-at q τ) (share-means q i τ h)))
+      (λ i h.
+      let is = share-at (q .elements) (placeOf (q .station)) τ in
+      (sym is, rw (← is) (share-means q i τ h)))
 
   pub share-by : {x : OneSecond} → x ≡ secondAnswer q τ sines → shareBy x ≡ shareAnswer q τ sines
   unfolding shareAnswer

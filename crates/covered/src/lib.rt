@@ -1,4 +1,4 @@
-// How much of the Sun is gone at a second of a request.
+// How much of the Sun is gone at a second of an eclipse.
 use refusals::Refusal;
 use requests::Request;
 use seconds::OneSecond;
@@ -7,8 +7,8 @@ ghost use Prim.Native.Nat.{_≤_};
 ghost use lib.IntN.{natAbs};
 ghost use Rattle.sine.specs.Table.{Sines};
 ghost use Rattle.share.specs.Share.{share, Sizes};
-ghost use Rattle.station.specs.Place.{placeOf};
-ghost use Rattle.requests.specs.RequestLaws.{InLimits};
+ghost use Rattle.elements.specs.Sizes.{ElementSizes};
+ghost use Rattle.station.specs.Sizes.{PlaceSizes};
 ghost use Rattle.seconds.specs.OneSecond.{secondSines};
 ghost use Rattle.covered.specs.Covered.{shareAt};
 ghost use Rattle.covered.specs.Answer.{shareBy, shareAnswer, AnswerMeans};
@@ -29,12 +29,11 @@ fn share_of(s: shadow::Shadow) -> u32
     share::share(s.l1, s.l2, s.m)
 }
 
-// The share at a second of a request within its limits, sines and place lent.
-pub fn share_at(table: &[u32], q: Request, place: station::Place, t: i64) -> u32
-    requires { ⌜ (Sines (now table)) × (InLimits q) × (place ≡ placeOf (q .station)) × (natAbs t ≤ 10800) ⌝ }
-    ensures { λ r. ⌜ r ≡ shareAt q t ⌝ }
+// The share at a second of an eclipse within its limits, sines and place lent.
+pub fn share_at(table: &[u32], e: elements::Elements, place: station::Place, t: i64) -> u32
+    requires { ⌜ (Sines (now table)) × (ElementSizes e) × (PlaceSizes place) × (natAbs t ≤ 10800) ⌝ }
+    ensures { λ r. ⌜ r ≡ shareAt e place t ⌝ }
 {
-    let e = q.elements;
     let s = shadow::shadow_at(table, e, place, t);
     share_of(s)
 }

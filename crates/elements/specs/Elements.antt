@@ -1,5 +1,5 @@
 -- The elements in their order, their ranges, and their values at a second.
-use mathlib.Core.List.{List, [], _∷_}
+use mathlib.Core.List.{List, [], _∷_, _++_}
 use Prim.Native.Nat.{ℕ, _+_}
 use lib.IntN.{ℤ, pos}
 use lib.ListN.{getD}
@@ -45,25 +45,30 @@ elementsOf n =
     }
 
 -- "each range inclusive", row by row
+-- "x0, x1, x2, x3 | ±2·10^8, ±10^8, ±10^5, ±10^4"
+abbrev pub positionRanges : Cubic → List Row
+positionRanges c = (c .c0 ± 200000000) ∷ (c .c1 ± 100000000) ∷ (c .c2 ± 100000) ∷ (c .c3 ± 10000) ∷ []
+
+-- "μ0, μ1, μ2 (angle) | 0 to 359,999,999; 14,900,000 to 15,100,000; ±100"
+abbrev pub hourAngleRanges : Quadratic → List Row
+hourAngleRanges q = row (q .c0) (pos 0) (pos 359999999) ∷ row (q .c1) (pos 14900000) (pos 15100000) ∷ (q .c2 ± 100) ∷ []
+
 unfoldable pub ranges : Elements → List Row
 ranges e =
     let a = e .axis in
     let l1 = e .penumbra .l in
     let l2 = e .central .l in
-    -- "x0, x1, x2, x3 | ±2·10^8, ±10^8, ±10^5, ±10^4"
-    (a .x .c0 ± 200000000) ∷ (a .x .c1 ± 100000000) ∷ (a .x .c2 ± 100000) ∷ (a .x .c3 ± 10000)
     -- "y0 to y3 | as x"
-    ∷ (a .y .c0 ± 200000000) ∷ (a .y .c1 ± 100000000) ∷ (a .y .c2 ± 100000) ∷ (a .y .c3 ± 10000)
+    positionRanges (a .x) ++ positionRanges (a .y)
     -- "d0, d1, d2 (angle) | ±25,000,000; ±20,000; ±100"
-    ∷ (a .d .c0 ± 25000000) ∷ (a .d .c1 ± 20000) ∷ (a .d .c2 ± 100)
+    ++ (a .d .c0 ± 25000000) ∷ (a .d .c1 ± 20000) ∷ (a .d .c2 ± 100)
     -- "l1: constant, first, second | 5·10^7 to 6·10^7; ±10^5; ±10^4"
     ∷ row (l1 .c0) (pos 50000000) (pos 60000000) ∷ (l1 .c1 ± 100000) ∷ (l1 .c2 ± 10000)
     -- "l2: constant, first, second | ±5·10^6; ±10^5; ±10^4"
     ∷ (l2 .c0 ± 5000000) ∷ (l2 .c1 ± 100000) ∷ (l2 .c2 ± 10000)
-    -- "μ0, μ1, μ2 (angle) | 0 to 359,999,999; 14,900,000 to 15,100,000; ±100"
-    ∷ row (a .mu .c0) (pos 0) (pos 359999999) ∷ row (a .mu .c1) (pos 14900000) (pos 15100000) ∷ (a .mu .c2 ± 100)
+    ∷ hourAngleRanges (a .mu)
     -- "tan f1, tan f2 | 400,000 to 500,000"
-    ∷ row (e .penumbra .tanf) (pos 400000) (pos 500000) ∷ row (e .central .tanf) (pos 400000) (pos 500000)
+    ++ row (e .penumbra .tanf) (pos 400000) (pos 500000) ∷ row (e .central .tanf) (pos 400000) (pos 500000)
     ∷ []
 
 -- "first such field, 0..21"

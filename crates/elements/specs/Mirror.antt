@@ -1,9 +1,12 @@
--- The elements of the mirrored eclipse, where f changes the sign of a number. Definitions only.
+-- The elements of the mirrored eclipse, or star, where f changes the sign of a number. Definitions only.
 use lib.IntN.{ℤ}
 use Rattle.elements.specs.declared.Cubic.{Cubic}
 use Rattle.elements.specs.declared.Quadratic.{Quadratic}
 use Rattle.elements.specs.declared.Axis.{Axis}
 use Rattle.elements.specs.declared.Elements.{Elements}
+use Rattle.elements.specs.declared.Star.{Star}
+use Rattle.elements.specs.declared.Body.{Body}
+use Rattle.elements.specs.declared.Body.the-variants as B
 
 -- "all .. coefficients" of a polynomial
 abbrev pub eachOfCubic : (f : ℤ → ℤ) → Cubic → Cubic
@@ -18,3 +21,10 @@ mirroredAxis f a = record { x = a .x; y = eachOfCubic f (a .y); d = eachOfQuadra
 
 abbrev pub mirroredElements : (f : ℤ → ℤ) → Elements → Elements
 mirroredElements f e = record { axis = mirroredAxis f (e .axis); penumbra = e .penumbra; central = e .central }
+
+abbrev pub mirroredStar : (f : ℤ → ℤ) → Star → Star
+mirroredStar f s = record { x = s .x; y = eachOfCubic f (s .y); d = f (s .d); mu = s .mu; radius = s .radius }
+
+abbrev pub mirroredBody : (f : ℤ → ℤ) → Body → Body
+mirroredBody f (B.Sun e) = B.Sun (mirroredElements f e)
+mirroredBody f (B.Star s) = B.Star (mirroredStar f s)

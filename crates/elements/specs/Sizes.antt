@@ -6,6 +6,7 @@ use lib.Dec.{lit≤}
 use lib.IntN.{pos, natAbs}
 use lib.Signed.{_≤ℤ_}
 use Rattle.numbers.specs.declared.Limits.the-variants.{InRange}
+use Rattle.numbers.specs.Limits.{Row, row, _±_}
 use Rattle.numbers.specs.LimitsLaws.{each-in-range}
 use Rattle.numbers.specs.Order.{natAbs-le, natAbs-between}
 use Rattle.elements.specs.declared.Cubic.{Cubic}
@@ -57,42 +58,57 @@ wider-axis h l = record { x = h .x; y = h .y; d = wider (h .d) l (lit≤ tt) (li
 pub wider-cone : {A B : ℕ} {k : Cone} → ConeSizes A k → A ≤ B → ConeSizes B k
 wider-cone h l = record { l = wider (h .l) l (lit≤ tt) (lit≤ tt); tanf = h .tanf }
 
--- elements that are in their ranges have these sizes
+-- ---- numbers that are in their ranges have these sizes
+abbrev Ranged : Row → Type 0
+Ranged r = (r .low ≤ℤ r .value) × (r .value ≤ℤ r .high)
+
+-- x or y, and what follows it
+pub position-sizes : (c : Cubic) {Rest : Type 0}
+    → Ranged (c .c0 ± 200000000) × (Ranged (c .c1 ± 100000000) × (Ranged (c .c2 ± 100000) × (Ranged (c .c3 ± 10000) × Rest))) → CubicSizes c × Rest
+position-sizes c w = (
+  record {
+    c0 = natAbs-le (c .c0) (w .0 .0) (w .0 .1);
+    c1 = natAbs-le (c .c1) (w .1 .0 .0) (w .1 .0 .1);
+    c2 = natAbs-le (c .c2) (w .1 .1 .0 .0) (w .1 .1 .0 .1);
+    c3 = natAbs-le (c .c3) (w .1 .1 .1 .0 .0) (w .1 .1 .1 .0 .1);
+  },
+  w .1 .1 .1 .1,
+)
+
+-- μ, and what follows it
+pub hour-angle-sizes : (q : Quadratic) {Rest : Type 0}
+    → Ranged (row (q .c0) (pos 0) (pos 359999999)) × (Ranged (row (q .c1) (pos 14900000) (pos 15100000)) × (Ranged (q .c2 ± 100) × Rest))
+    → QuadraticSizes 359999999 15100000 100 q × Rest
+hour-angle-sizes q w = (
+  record {
+    c0 = natAbs-between (q .c0) 0 (w .0 .0) (w .0 .1);
+    c1 = natAbs-between (q .c1) 14900000 (w .1 .0 .0) (w .1 .0 .1);
+    c2 = natAbs-le (q .c2) (w .1 .1 .0 .0) (w .1 .1 .0 .1);
+  },
+  w .1 .1 .1,
+)
+
 pub element-sizes : (e : Elements) → rangeOf e ≡ InRange → ElementSizes e
 unfolding rangeOf ranges
 element-sizes e w =
     let a = e .axis in
-    let x = each-in-range 0 (ranges e) w in
-    let y = x .1 .1 .1 .1 in
-    let d = y .1 .1 .1 .1 in
+    let x = position-sizes (a .x) (each-in-range 0 (ranges e) w) in
+    let y = position-sizes (a .y) (x .1) in
+    let d = y .1 in
     let l1 = d .1 .1 .1 in
     let l2 = l1 .1 .1 .1 in
-    let mu = l2 .1 .1 .1 in
-    let tanf = mu .1 .1 .1 in
+    let mu = hour-angle-sizes (a .mu) (l2 .1 .1 .1) in
+    let tanf = mu .1 in
     record {
       axis = record {
-        x = record {
-          c0 = natAbs-le (a .x .c0) (x .0 .0) (x .0 .1);
-          c1 = natAbs-le (a .x .c1) (x .1 .0 .0) (x .1 .0 .1);
-          c2 = natAbs-le (a .x .c2) (x .1 .1 .0 .0) (x .1 .1 .0 .1);
-          c3 = natAbs-le (a .x .c3) (x .1 .1 .1 .0 .0) (x .1 .1 .1 .0 .1);
-        };
-        y = record {
-          c0 = natAbs-le (a .y .c0) (y .0 .0) (y .0 .1);
-          c1 = natAbs-le (a .y .c1) (y .1 .0 .0) (y .1 .0 .1);
-          c2 = natAbs-le (a .y .c2) (y .1 .1 .0 .0) (y .1 .1 .0 .1);
-          c3 = natAbs-le (a .y .c3) (y .1 .1 .1 .0 .0) (y .1 .1 .1 .0 .1);
-        };
+        x = x .0;
+        y = y .0;
         d = record {
           c0 = natAbs-le (a .d .c0) (d .0 .0) (d .0 .1);
           c1 = natAbs-le (a .d .c1) (d .1 .0 .0) (d .1 .0 .1);
           c2 = natAbs-le (a .d .c2) (d .1 .1 .0 .0) (d .1 .1 .0 .1);
         };
-        mu = record {
-          c0 = natAbs-between (a .mu .c0) 0 (mu .0 .0) (mu .0 .1);
-          c1 = natAbs-between (a .mu .c1) 14900000 (mu .1 .0 .0) (mu .1 .0 .1);
-          c2 = natAbs-le (a .mu .c2) (mu .1 .1 .0 .0) (mu .1 .1 .0 .1);
-        };
+        mu = mu .0;
       };
       penumbra = record {
         l = record {

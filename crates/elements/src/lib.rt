@@ -1,4 +1,7 @@
 // The Besselian elements of an eclipse: 22 whole numbers as an axis and two cones, their ranges, and a value at a second.
+// In module `stars` those of a star's occultation.
+pub mod stars;
+
 ghost use mathlib.Core.Path.{_≡_};
 ghost use Prim.Native.Nat.{_+_, _*_, _≤_, _<_};
 ghost use lib.IntN.{natAbs};
@@ -36,7 +39,7 @@ pub struct Axis {
     pub x: Cubic,
     // The same to the north.
     pub y: Cubic,
-    // Its declination: ±25,000,000; ±20,000; ±100.
+    // Its declination: ±25,000,000; ±20,000; ±100. Of a star: ±30,000,000; 0; 0.
     pub d: Quadratic,
     // Its hour angle at Greenwich: 0 to 359,999,999; 14,900,000 to 15,100,000; ±100.
     pub mu: Quadratic,
@@ -59,6 +62,27 @@ pub struct Elements {
     pub penumbra: Cone,
     // l2 and tan f2
     pub central: Cone,
+}
+
+// The elements of a star's occultation: the shadow is a cylinder, and the star does not move.
+#[repr(C)]
+pub struct Star {
+    // Where the axis meets the fundamental plane, to the east.
+    pub x: Cubic,
+    // The same to the north.
+    pub y: Cubic,
+    // The star's declination, ±30,000,000.
+    pub d: i64,
+    // Its hour angle at Greenwich: 0 to 359,999,999; 14,900,000 to 15,100,000; ±100.
+    pub mu: Quadratic,
+    // The Moon's radius, 27,200,000 to 27,300,000.
+    pub radius: i64,
+}
+
+// What the Moon hides.
+pub enum Body {
+    Sun(Elements),
+    Star(Star),
 }
 
 // Ranges of the 22 numbers, in document 01's order: x, y, d, l1, l2, mu, tan f1, tan f2.

@@ -13,6 +13,7 @@ use Rattle.sine.specs.FirstQuadrant.{arc, sag, between, capped, firstQuadrant}
 use Rattle.sine.specs.Sine.{reduced, sineIn, sine, cosine}
 use Rattle.elements.specs.declared.Elements.{Elements}
 use Rattle.elements.specs.Polynomial.{step, quadraticAt, cubicAt}
+use Rattle.elements.specs.declared.Body.the-variants as B
 use Rattle.geometry.specs.Shadow.{Moment, moment, cone, _², H, q, ξ, η, ζ, u, v, L, M, edge, state}
 use Rattle.geometry.specs.Exact.{exact-quadratic, exact-cubic, exact-q, exact-ξ, exact-η, exact-ζ, exact-term, exact-u, exact-v, exact-L}
 use Rattle.geometry.specs.Exact.{ExactlyInside, ExactlyOutside}
@@ -63,7 +64,7 @@ abbrev at-pole : ℤ → Moment
 at-pole τ = moment worked (record { r = pos 0; p = pos 99664768; longitude = pos 0 }) τ
 
 abbrev poleState : Phase → ℤ → State
-poleState φ τ = state (pos 16) (edge φ (L (at-pole τ) (cone φ worked))) (M (at-pole τ))
+poleState φ τ = state (pos 16) (edge φ (L (at-pole τ) (cone (B.Sun worked) φ))) (M (at-pole τ))
 
 -- "enter penumbra -5401 -5399", with one unsure second between
 before-enter : poleState Penumbra (negsuc 5400) ≡ outside

@@ -9,6 +9,7 @@ pub mod Errors
 pub mod Triangle
 pub mod Thirteen
 pub mod States
+pub mod Cylinder
 -- laws of the definitions, for callers
 pub mod Tests
 pub mod StateLaws

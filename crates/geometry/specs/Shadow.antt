@@ -1,16 +1,21 @@
 -- The shadow at one second, to the nearest unit: document 01's page of that name, line by line.
 use mathlib.Core.Bool.{_&&_, cond}
+use mathlib.Core.List.{List}
 use lib.IntN.{ℤ, pos, natAbs, _+ℤ_, _-ℤ_, _*ℤ_}
 use lib.Signed.{ltZ}
 use Rattle.phases.specs.States.{State, inside, outside, unsure}
 use Rattle.phases.specs.declared.Phase.{Phase}
-use Rattle.phases.specs.declared.Phase.the-variants.{Penumbra, Central}
+use Rattle.phases.specs.declared.Phase.the-variants.{Penumbra, Central, Star}
+use Rattle.phases.specs.Phases.{eclipse, star}
 use Rattle.numbers.specs.Units.{one}
 use Rattle.numbers.specs.Near.{near}
 use Rattle.sine.specs.Sine.{sine, cosine}
 use Rattle.elements.specs.declared.Axis.{Axis}
 use Rattle.elements.specs.declared.Cone.{Cone}
 use Rattle.elements.specs.declared.Elements.{Elements}
+use Rattle.elements.specs.declared.Body.{Body}
+use Rattle.elements.specs.declared.Body.the-variants as B
+use Rattle.elements.specs.Stars.{cylinderOf}
 use Rattle.elements.specs.Elements.{xAt, yAt, dAt, μAt, lAt}
 use Rattle.station.specs.declared.Place.{Place}
 
@@ -35,10 +40,21 @@ momentOf a p τ = record { axis = a; place = p; τ = τ }
 abbrev pub moment : (e : Elements) (p : Place) (τ : ℤ) → Moment
 moment e p τ = momentOf (e .axis) p τ
 
--- the cone of a phase: l1 and tan f1, or l2 and tan f2
-abbrev pub cone : Phase → Elements → Cone
-cone Penumbra e = e .penumbra
-cone Central e = e .central
+-- the phases of a shadow, in the order of its sheet
+abbrev pub phasesOf : Body → List Phase
+phasesOf (B.Sun e) = eclipse
+phasesOf (B.Star s) = star
+
+-- the cone of a phase: l1 and tan f1, or l2 and tan f2; an eclipse has no star's phase, so there it may be any
+abbrev pub eclipseCone : Phase → Elements → Cone
+eclipseCone Penumbra e = e .penumbra
+eclipseCone Central e = e .central
+eclipseCone Star e = e .penumbra
+
+-- document 02, wish 7: "The shadow is a cylinder: no cone term, no central phase"
+abbrev pub cone : Body → Phase → Cone
+cone (B.Sun e) φ = eclipseCone φ e
+cone (B.Star s) φ = cylinderOf s
 
 -- ---- the letters
 
@@ -82,10 +98,12 @@ M m = u m ² +ℤ v m ²
 
 -- ---- the states
 
--- "Penumbra, with L = L1 .. Central: the same with L the size of L2.": where the cone's edge is
+-- "Penumbra, with L = L1 .. Central: the same with L the size of L2.": where the cone's edge is. Document 02, wish 7: "L a lunar radius given
+-- with the request"
 abbrev pub edge : Phase → ℤ → ℤ
 edge Penumbra L1 = L1
 edge Central L2 = pos (natAbs L2)
+edge Star L = L
 
 -- "*inside* if L > 16 and M < (L-16)²; *outside* if M > (L+16)²; otherwise *unsure*", with the guard g for 16, r for L and s for M
 unfoldable pub state : (g r s : ℤ) → State

@@ -14,7 +14,7 @@ use Rattle.numbers.specs.Order.{zs, ≤ℤ-total, <ℤ-≤, le-natAbs, neg-natA
 use Rattle.numbers.specs.Ring.{num, _⊕_, _⊖_, _⊗_, opp, ring, v0, v1, v2, v3, v4, v5}
 use Rattle.numbers.specs.Cert.{leq, less, lit, sq, _⊞_, _⊠_, certify, certify-<}
 use Rattle.phases.specs.declared.Phase.{Phase}
-use Rattle.phases.specs.declared.Phase.the-variants.{Penumbra, Central}
+use Rattle.phases.specs.declared.Phase.the-variants.{Penumbra, Central, Star}
 use Rattle.elements.specs.declared.Cone.{Cone}
 use Rattle.geometry.specs.Shadow.{Moment, _², u, v, L, M, edge}
 use Rattle.geometry.specs.Exact.{D, exact-u, exact-v, exact-L, exact-M, exact-edge, AtMost, Less, AtLeast}
@@ -135,6 +135,7 @@ sizes-apart y z =
 
 edge-apart : (φ : Phase) (d : ℕ) (l K : ℤ) → natAbs (pos d *ℤ edge φ l -ℤ edge φ K) ≤ natAbs (pos d *ℤ l -ℤ K)
 edge-apart Penumbra d l K = omega arith
+edge-apart Star d l K = omega arith
 edge-apart Central d l K = omega (arith, sizes-apart (pos d *ℤ l) K, ap (λ (n : ℕ). natAbs (pos n -ℤ pos (natAbs K))) (natAbs-product (pos d) l))
 
 module _ (m : Moment) (t : natAbs (m .τ) ≤ 10800) (k : Cone) (f : natAbs (k .tanf) ≤ 500000) (φ : Phase) where

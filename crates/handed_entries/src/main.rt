@@ -122,9 +122,9 @@ fn put_lists(out: &mut [u8], input: &[u8]) -> usize
 }
 
 fn main() {
-    let mut input = io::large_buffer();
+    let mut input = [0u8; 98304];
     let length = io::read_full(STDIN_FILENO, &mut input);
-    let mut lines = [0u8; 524288];
+    let mut lines = [0u8; 655360];
     let end = put_lists(&mut lines, &input[..length]);
     let written = decimals::clipped(&lines, end);
     io::write_all(STDOUT_FILENO, &lines[..written]);

@@ -1,38 +1,54 @@
--- The program's input: the request that its bytes hold.
+-- The programs' input: the request that its bytes hold, an eclipse's or a star's.
 -- Assumes nothing: these are definitions. The bytes of a request: request_bytes, Layout and Request; its numbers: request_fields, Fields.
 use mathlib.Core.Bool.{false}
 use mathlib.Core.List.{List, []}
-use Prim.Native.Nat.{ℕ}
+use Prim.Native.Nat.{ℕ, _+_}
 use lib.IntN.{ℤ, pos}
 use lib.ListN.{getD}
 use Rattle.elements.specs.Elements.{elementsOf}
+use Rattle.elements.specs.Stars.{starOf}
 use Rattle.station.specs.declared.Station.{Station}
 use Rattle.refusals.specs.Refusals.{refusal}
 use Rattle.requests.specs.declared.Window.{Window}
 use Rattle.requests.specs.declared.Request.{Request}
+use Rattle.requests.specs.declared.StarRequest.{StarRequest}
+use Rattle.requests.specs.Requests.{ofEclipse, ofStar}
 use Rattle.requests.specs.Shares.{withShare}
+use Rattle.request_fields.specs.declared.Shape.the-variants as S
 use Rattle.request_bytes.specs.Layout.{Reading, numbers, misshaped}
-use Rattle.request_bytes.specs.Request.{readingOf, numbersAfter}
+use Rattle.request_bytes.specs.Request.{readingFor, readingOf, numbersAfter}
 use Rattle.input.specs.declared.Input.{Input}
 use Rattle.input.specs.declared.Input.the-variants as I
+use Rattle.input.specs.declared.Asked.{Asked}
+use Rattle.input.specs.declared.Asked.the-variants as A
 
 -- ---- the request of its numbers, in document 01's order
 
 abbrev pub number : List ℤ → ℕ → ℤ
 number ns k = getD ns k (pos 0)
 
--- "number .., latitude, longitude, height", and ΔT
-unfoldable pub stationFrom : List ℤ → Station
-stationFrom ns =
-    record { number = number ns 22; latitude = number ns 23; longitude = number ns 24; height = number ns 25; deltat = number ns 26 }
+-- "number .., latitude, longitude, height", and ΔT: from number k on
+unfoldable pub stationFrom : ℕ → List ℤ → Station
+stationFrom k ns =
+    record {
+      number = number ns k;
+      latitude = number ns (k + 1);
+      longitude = number ns (k + 2);
+      height = number ns (k + 3);
+      deltat = number ns (k + 4);
+    }
 
 -- "first, last"
-unfoldable pub windowFrom : List ℤ → Window
-windowFrom ns = record { first = number ns 27; last = number ns 28 }
+unfoldable pub windowFrom : ℕ → List ℤ → Window
+windowFrom k ns = record { first = number ns k; last = number ns (k + 1) }
 
 -- document 02, wish 9: "the program's kind 04 ends with it". Wish 4: "(the program never does)" ask for a share, and no byte does
 unfoldable pub requestFrom : List ℤ → Request
-requestFrom ns = record { elements = elementsOf ns; station = stationFrom ns; window = windowFrom ns; guard = number ns 29; share = false }
+requestFrom ns = record { elements = elementsOf ns; station = stationFrom 22 ns; window = windowFrom 27 ns; guard = number ns 29; share = false }
+
+-- document 02, wish 7: twelve elements and the radius, then station, window and guard as in an eclipse's
+unfoldable pub starFrom : List ℤ → StarRequest
+starFrom ns = record { star = starOf ns; station = stationFrom 13 ns; window = windowFrom 18 ns; guard = number ns 20 }
 
 -- ---- the request of its bytes
 
@@ -53,3 +69,21 @@ requestOf s = requestFrom (numbersAfter (readingOf s) [])
 abbrev pub sharing : Input → Input
 sharing (I.Is q) = I.Is (withShare q)
 sharing (I.Refused r) = I.Refused r
+
+-- ---- what a sheet is asked for
+
+abbrev pub eclipseAsked : Input → Asked
+eclipseAsked (I.Is q) = A.Is (ofEclipse q)
+eclipseAsked (I.Refused r) = A.Refused r
+
+-- of a star's bytes
+abbrev pub starBy : Reading → Asked
+starBy (numbers ns) = A.Is (ofStar (starFrom ns))
+starBy misshaped = A.Refused (refusal 10 0)
+
+unfoldable pub starAsked : List ℕ → Asked
+starAsked s = starBy (readingFor S.Star s)
+
+-- the request that was asked for, where there is one
+unfoldable pub starRequestOf : List ℕ → StarRequest
+starRequestOf s = starFrom (numbersAfter (readingFor S.Star s) [])

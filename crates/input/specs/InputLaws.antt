@@ -6,42 +6,57 @@ use native.Mathlib.Omega.{arith}
 use lib.IntN.{ℤ, natAbs}
 use lib.ListN.{length}
 use Rattle.elements.specs.Elements.{fields, elementsOf}
+use Rattle.elements.specs.Stars.{starFields, starOf}
 use Rattle.refusals.specs.declared.Refusal.{Refusal}
 use Rattle.refusals.specs.Refusals.{refusal}
 use Rattle.requests.specs.declared.Request.{Request}
-use Rattle.request_fields.specs.Fields.{count}
+use Rattle.requests.specs.declared.Occultation.{Occultation}
+use Rattle.requests.specs.Requests.{ofStar}
+use Rattle.request_fields.specs.declared.Shape.{Shape}
+use Rattle.request_fields.specs.declared.Shape.the-variants as S
+use Rattle.request_fields.specs.Fields.{countOf}
 use Rattle.request_bytes.specs.declared.Got.the-variants as G
 use Rattle.request_bytes.specs.Layout.{Reading, numbers, misshaped}
 use Rattle.request_bytes.specs.NumberLaws.{Bytes}
-use Rattle.request_bytes.specs.Request.{readingOf, gotOf, numbersAfter}
+use Rattle.request_bytes.specs.Request.{readingFor, readingOf, gotOf, numbersAfter}
 use Rattle.request_bytes.specs.RoundTrip.{write-back, numbers-small}
 use Rattle.input.specs.declared.Input.the-variants as I
-use Rattle.input.specs.Input.{number, requestFrom, inputBy, inputOf, requestOf}
+use Rattle.input.specs.declared.Asked.the-variants as A
+use Rattle.input.specs.Input.{number, requestFrom, starFrom, inputBy, inputOf, requestOf, starBy, starAsked, starRequestOf}
 
 -- as many numbers as a request has, each of at most 32 bits
-pub record Small (ns : List ℤ) : Type 0 where
-  pub all : length ns ≡ count
+pub record Small (shape : Shape) (ns : List ℤ) : Type 0 where
+  pub all : length ns ≡ countOf shape
   pub each : (k : ℕ) → natAbs (number ns k) ≤ 4294967296
 
 -- ---- what bytes hold
 
 -- bytes of the shape
-pub record Asked (s : List ℕ) (ns : List ℤ) : Type 0 where
-  pub small : Small ns
-  pub input : inputOf s ≡ I.Is (requestFrom ns)
+pub record Held (shape : Shape) (s : List ℕ) (ns : List ℤ) : Type 0 where
+  pub small : Small shape ns
+  pub reading : readingFor shape s ≡ numbers ns
 
-pub asked : (s : List ℕ) (ns old : List ℤ) → Bytes s → gotOf (readingOf s) ≡ G.Numbers → ns ≡ numbersAfter (readingOf s) old → Asked s ns
-unfolding inputOf
-asked s ns old b e q = by (readingOf s) refl e q
+pub held : (shape : Shape) (s : List ℕ) (ns old : List ℤ) → Bytes s → gotOf (readingFor shape s) ≡ G.Numbers → ns ≡ numbersAfter (readingFor shape s) old
+    → Held shape s ns
+held shape s ns old b e q = by (readingFor shape s) refl e q
   where
-    by : (r : Reading) → readingOf s ≡ r → gotOf r ≡ G.Numbers → ns ≡ numbersAfter r old → Asked s ns
+    by : (r : Reading) → readingFor shape s ≡ r → gotOf r ≡ G.Numbers → ns ≡ numbersAfter r old → Held shape s ns
     by (numbers ms) p f g =
         rw g
         (record {
-          small = record { all = write-back s ms b p .0; each = λ k. let h = numbers-small s ms b p k in omega arith };
-          input = ap inputBy p;
+          small = record { all = write-back shape s ms b p .0; each = λ k. let h = numbers-small shape s ms b p k in omega arith };
+          reading = p;
         })
     by misshaped p f g = let z : _≡_ {A = ℕ} 0 1 = cc in absurd (omega arith)
+
+module _ (s : List ℕ) (ns : List ℤ) where
+  pub eclipse-held : Held S.Eclipse s ns → inputOf s ≡ I.Is (requestFrom ns)
+  unfolding inputOf
+  eclipse-held h = ap inputBy (h .reading)
+
+  pub star-held : Held S.Star s ns → starAsked s ≡ A.Is (ofStar (starFrom ns))
+  unfolding starAsked
+  star-held h = ap starBy (h .reading)
 
 -- any other
 pub input-refused : (s : List ℕ) → gotOf (readingOf s) ≡ G.Misshaped → I.Refused (refusal 10 0) ≡ inputOf s
@@ -70,6 +85,31 @@ shape-is s r e = by (readingOf s) e
     by (numbers ms) f = let z : _≡_ {A = ℕ} 0 1 = cc in absurd (omega arith)
     by misshaped f = cc
 
+-- ---- a star's bytes
+pub star-refused : (s : List ℕ) → gotOf (readingFor S.Star s) ≡ G.Misshaped → A.Refused (refusal 10 0) ≡ starAsked s
+unfolding starAsked
+star-refused s e = by (readingFor S.Star s) e
+  where
+    by : (r : Reading) → gotOf r ≡ G.Misshaped → A.Refused (refusal 10 0) ≡ starBy r
+    by (numbers ms) f = let z : _≡_ {A = ℕ} 0 1 = cc in absurd (omega arith)
+    by misshaped f = refl
+
+pub star-request-is : (s : List ℕ) (o : Occultation) → starAsked s ≡ A.Is o → o ≡ ofStar (starRequestOf s)
+unfolding starAsked starRequestOf
+star-request-is s o e = by (readingFor S.Star s) e
+  where
+    by : (r : Reading) → starBy r ≡ A.Is o → o ≡ ofStar (starFrom (numbersAfter r []))
+    by (numbers ms) f = cc
+    by misshaped f = let z : _≡_ {A = ℕ} 0 1 = cc in absurd (omega arith)
+
+pub star-shape-is : (s : List ℕ) (r : Refusal) → starAsked s ≡ A.Refused r → r ≡ refusal 10 0
+unfolding starAsked
+star-shape-is s r e = by (readingFor S.Star s) e
+  where
+    by : (x : Reading) → starBy x ≡ A.Refused r → r ≡ refusal 10 0
+    by (numbers ms) f = let z : _≡_ {A = ℕ} 0 1 = cc in absurd (omega arith)
+    by misshaped f = cc
+
 -- ---- the elements' own order
 
 -- n numbers, from number k on
@@ -81,3 +121,7 @@ numbersFrom ns k (suc n) = number ns k ∷ numbersFrom ns (suc k) n
 pub elements-are : (ns : List ℤ) → fields (requestFrom ns .elements) ≡ numbersFrom ns 0 22
 unfolding requestFrom elementsOf
 elements-are ns = refl
+
+pub star-elements-are : (ns : List ℤ) → starFields (starFrom ns .star) ≡ numbersFrom ns 0 12
+unfolding starFrom starOf
+star-elements-are ns = refl

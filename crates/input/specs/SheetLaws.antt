@@ -8,6 +8,8 @@ use Rattle.refusals.specs.declared.Refusal.{Refusal}
 use Rattle.refusals.specs.Refusals.{refusal}
 use Rattle.requests.specs.Shares.{withShare}
 use Rattle.requests.specs.declared.Request.{Request}
+use Rattle.requests.specs.declared.Occultation.{Occultation}
+use Rattle.requests.specs.Requests.{ofEclipse, ofStar}
 use Rattle.circumstances.specs.declared.Answer.{Answer}
 use Rattle.circumstances.specs.declared.Answer.the-variants as A
 use Rattle.circumstances.specs.Sheet.{sheetAnswer, sheetBuffer, sheetSines}
@@ -15,59 +17,85 @@ use Rattle.circumstances.specs.Demand3.{Claimed}
 use Rattle.circumstances.specs.Claims as Claims
 use Rattle.input.specs.declared.Input.{Input}
 use Rattle.input.specs.declared.Input.the-variants as I
-use Rattle.input.specs.Input.{inputOf, requestOf, sharing}
-use Rattle.input.specs.InputLaws.{request-is, shape-is}
-use Rattle.input.specs.Sheet.{answerBy, answerTo, bufferBy, bufferFor, sinesBy, sinesFor, sharedAnswer, sharedBuffer, sharedSines}
+use Rattle.input.specs.declared.Asked.{Asked}
+use Rattle.input.specs.declared.Asked.the-variants as W
+use Rattle.input.specs.Input.{inputOf, requestOf, sharing, eclipseAsked, starAsked, starRequestOf}
+use Rattle.input.specs.InputLaws.{request-is, shape-is, star-request-is, star-shape-is}
+use Rattle.input.specs.Sheet.{answerBy, answerTo, bufferBy, bufferFor, sinesBy, sinesFor, sharedAnswer, sharedBuffer, sharedSines, starAnswer, starBuffer, starSines}
 
 -- ---- the sheet of what was asked for
 
--- demand 3 of the request that is asked for, where there is one
-abbrev pub ClaimedBy : Input → Answer → List ℕ → Type 0
-ClaimedBy (I.Is q) r new = Claimed q r new
-ClaimedBy (I.Refused x) r new = Unit {0}
+-- demand 3 of what is asked for, where it is something
+abbrev pub ClaimedBy : Asked → Answer → List ℕ → Type 0
+ClaimedBy (W.Is o) r new = Claimed o r new
+ClaimedBy (W.Refused x) r new = Unit {0}
 
 -- what is promised of an answer r, the bytes that are left, and the room for table S
-abbrev pub Made : (asked : Input) (sines old : List ℕ) → Answer → (new room : List ℕ) → Type 0
+abbrev pub Made : (asked : Asked) (sines old : List ℕ) → Answer → (new room : List ℕ) → Type 0
 Made i sines old r new room = (r ≡ answerBy i sines old) × ((new ≡ bufferBy i sines old) × ((room ≡ sinesBy i sines) × ClaimedBy i r new))
 
-module _ (i : Input) (sines old : List ℕ) where
-  pub of-request : (q : Request) (r : Answer) (new room : List ℕ) → i ≡ I.Is q → (r ≡ sheetAnswer q sines old)
-      × ((new ≡ sheetBuffer q sines old) × ((room ≡ sheetSines q sines) × Claimed q r new)) → Made i sines old r new room
-  of-request q r new room e p = rw e p
+module _ (i : Asked) (sines old : List ℕ) where
+  pub of-occultation : (o : Occultation) (r : Answer) (new room : List ℕ) → i ≡ W.Is o → (r ≡ sheetAnswer o sines old)
+      × ((new ≡ sheetBuffer o sines old) × ((room ≡ sheetSines o sines) × Claimed o r new)) → Made i sines old r new room
+  of-occultation o r new room e p = rw e p
 
-  pub of-refusal : (r : Refusal) → i ≡ I.Refused r → Made i sines old (A.Refused r) old sines
+  pub of-refusal : (r : Refusal) → i ≡ W.Refused r → Made i sines old (A.Refused r) old sines
   of-refusal r e = rw e (refl, (refl, (refl, tt)))
 
-  -- a request that is asked for has its claim; a shape that is refused is not refused with 4
-  claimed : (q : Request) → ((p : Request) → i ≡ I.Is p → p ≡ q) → ((x : Refusal) → i ≡ I.Refused x → x ≡ refusal 10 0)
-      → (r : Answer) (new : List ℕ) → r ≡ answerBy i sines old → ClaimedBy i r new → Claimed q r new
-  claimed q is shape r new e c = by i refl e c
+  -- what is asked for has its claim; a shape that is refused is not refused with 4
+  claimed : (o : Occultation) → ((p : Occultation) → i ≡ W.Is p → p ≡ o) → ((x : Refusal) → i ≡ W.Refused x → x ≡ refusal 10 0)
+      → (r : Answer) (new : List ℕ) → r ≡ answerBy i sines old → ClaimedBy i r new → Claimed o r new
+  claimed o is shape r new e c = by i refl e c
     where
-      by : (j : Input) → i ≡ j → r ≡ answerBy j sines old → ClaimedBy j r new → Claimed q r new
-      by (I.Is p) f g h = subst (λ (x : Request). Claimed x r new) (is p f) h
-      by (I.Refused x) f g h =
-          subst (λ (y : Answer). Claimed q y new) (sym (g ∙ ap A.Refused (shape x f))) (λ (four : 10 ≡ 4). absurd (omega arith))
+      by : (j : Asked) → i ≡ j → r ≡ answerBy j sines old → ClaimedBy j r new → Claimed o r new
+      by (W.Is p) f g h = subst (λ (x : Occultation). Claimed x r new) (is p f) h
+      by (W.Refused x) f g h =
+          subst (λ (y : Answer). Claimed o y new) (sym (g ∙ ap A.Refused (shape x f))) (λ (four : 10 ≡ 4). absurd (omega arith))
 
--- ---- of the bytes as they are, and with a share asked for
+-- ---- of the bytes of an eclipse as they are, and with a share asked for; of a star's
+
+-- of an input whose request, where there is one, is q
+module _ (i : Input) (q : Request) (is : (p : Request) → i ≡ I.Is p → p ≡ q) (shape : (x : Refusal) → i ≡ I.Refused x → x ≡ refusal 10 0) where
+  asked-is : (o : Occultation) → eclipseAsked i ≡ W.Is o → o ≡ ofEclipse q
+  asked-is o e = by i refl e
+    where
+      by : (j : Input) → i ≡ j → eclipseAsked j ≡ W.Is o → o ≡ ofEclipse q
+      by (I.Is p) f g = let h : ofEclipse p ≡ o = cc in sym h ∙ ap ofEclipse (is p f)
+      by (I.Refused x) f g = let z : _≡_ {A = ℕ} 0 1 = cc in absurd (omega arith)
+
+  asked-shape : (x : Refusal) → eclipseAsked i ≡ W.Refused x → x ≡ refusal 10 0
+  asked-shape x e = by i refl e
+    where
+      by : (j : Input) → i ≡ j → eclipseAsked j ≡ W.Refused x → x ≡ refusal 10 0
+      by (I.Is p) f g = let z : _≡_ {A = ℕ} 0 1 = cc in absurd (omega arith)
+      by (I.Refused y) f g = let h : y ≡ x = cc in sym h ∙ shape y f
+
+  claimed-eclipse : (sines old : List ℕ) (r : Answer) (new : List ℕ) → r ≡ answerBy (eclipseAsked i) sines old → ClaimedBy (eclipseAsked i) r new
+      → Claimed (ofEclipse q) r new
+  claimed-eclipse sines old r new e c = claimed (eclipseAsked i) sines old (ofEclipse q) asked-is asked-shape r new e c
 
 abbrev pub Promised : (input sines old : List ℕ) → Answer → (new room : List ℕ) → Type 0
 Promised s sines old r new room = (r ≡ answerTo s sines old)
-    × ((new ≡ bufferFor s sines old) × ((room ≡ sinesFor s sines) × Claimed (requestOf s) r new))
+    × ((new ≡ bufferFor s sines old) × ((room ≡ sinesFor s sines) × Claimed (ofEclipse (requestOf s)) r new))
 
 abbrev pub PromisedShared : (input sines old : List ℕ) → Answer → (new room : List ℕ) → Type 0
 PromisedShared s sines old r new room = (r ≡ sharedAnswer s sines old)
-    × ((new ≡ sharedBuffer s sines old) × ((room ≡ sharedSines s sines) × Claimed (withShare (requestOf s)) r new))
+    × ((new ≡ sharedBuffer s sines old) × ((room ≡ sharedSines s sines) × Claimed (ofEclipse (withShare (requestOf s))) r new))
+
+abbrev pub PromisedStar : (input sines old : List ℕ) → Answer → (new room : List ℕ) → Type 0
+PromisedStar s sines old r new room = (r ≡ starAnswer s sines old)
+    × ((new ≡ starBuffer s sines old) × ((room ≡ starSines s sines) × Claimed (ofStar (starRequestOf s)) r new))
 
 module _ (s sines old : List ℕ) where
-  pub promised : (r : Answer) (new room : List ℕ) → Made (inputOf s) sines old r new room → Promised s sines old r new room
+  pub promised : (r : Answer) (new room : List ℕ) → Made (eclipseAsked (inputOf s)) sines old r new room → Promised s sines old r new room
   unfolding answerTo bufferFor sinesFor
   promised r new room m =
-      (m .0, (m .1 .0, (m .1 .1 .0, claimed (inputOf s) sines old (requestOf s) (request-is s) (shape-is s) r new (m .0) (m .1 .1 .1))))
+      (m .0, (m .1 .0, (m .1 .1 .0, claimed-eclipse (inputOf s) (requestOf s) (request-is s) (shape-is s) sines old r new (m .0) (m .1 .1 .1))))
 
-  pub promised-shared : (r : Answer) (new room : List ℕ) → Made (sharing (inputOf s)) sines old r new room → PromisedShared s sines old r new room
+  pub promised-shared : (r : Answer) (new room : List ℕ) → Made (eclipseAsked (sharing (inputOf s))) sines old r new room → PromisedShared s sines old r new room
   unfolding sharedAnswer sharedBuffer sharedSines
   promised-shared r new room m =
-      (m .0, (m .1 .0, (m .1 .1 .0, claimed (sharing (inputOf s)) sines old (withShare (requestOf s)) is shape r new (m .0) (m .1 .1 .1))))
+      (m .0, (m .1 .0, (m .1 .1 .0, claimed-eclipse (sharing (inputOf s)) (withShare (requestOf s)) is shape sines old r new (m .0) (m .1 .1 .1))))
     where
       is : (p : Request) → sharing (inputOf s) ≡ I.Is p → p ≡ withShare (requestOf s)
       is p e = by (inputOf s) refl e
@@ -83,11 +111,21 @@ module _ (s sines old : List ℕ) where
           by (I.Is q) f g = let z : _≡_ {A = ℕ} 0 1 = cc in absurd (omega arith)
           by (I.Refused y) f g = let h : y ≡ x = cc in sym h ∙ shape-is s y f
 
-  -- ---- what was written fits
-  pub written-fits : (n : ℕ) → answerTo s sines old ≡ A.Written n → n ≤ length old
+  pub promised-star : (r : Answer) (new room : List ℕ) → Made (starAsked s) sines old r new room → PromisedStar s sines old r new room
+  unfolding starAnswer starBuffer starSines
+  promised-star r new room m =
+      (m .0, (m .1 .0, (m .1 .1 .0, claimed (starAsked s) sines old (ofStar (starRequestOf s)) (star-request-is s) (star-shape-is s) r new (m .0) (m .1 .1 .1))))
+
+-- ---- what was written fits
+fits-by : (i : Asked) (sines old : List ℕ) (n : ℕ) → answerBy i sines old ≡ A.Written n → n ≤ length old
+fits-by (W.Is o) sines old n f = Claims.written-fits o sines old n f
+fits-by (W.Refused r) sines old n f = let z : _≡_ {A = ℕ} 0 1 = cc in absurd (omega arith)
+
+module _ (s sines old : List ℕ) (n : ℕ) where
+  pub written-fits : answerTo s sines old ≡ A.Written n → n ≤ length old
   unfolding answerTo
-  written-fits n e = by (inputOf s) e
-    where
-      by : (i : Input) → answerBy i sines old ≡ A.Written n → n ≤ length old
-      by (I.Is q) f = Claims.written-fits q sines old n f
-      by (I.Refused r) f = let z : _≡_ {A = ℕ} 0 1 = cc in absurd (omega arith)
+  written-fits e = fits-by (eclipseAsked (inputOf s)) sines old n e
+
+  pub star-fits : starAnswer s sines old ≡ A.Written n → n ≤ length old
+  unfolding starAnswer
+  star-fits e = fits-by (starAsked s) sines old n e

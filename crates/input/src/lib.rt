@@ -1,46 +1,73 @@
-// The sheet of a request's bytes.
+// The sheet of a request's bytes: an eclipse's here, a star's in module `stars`.
+pub mod stars;
+
 use refusals::Refusal;
+use requests::Occultation;
 use requests::Request;
 ghost use mathlib.Core.Path.{_≡_};
-ghost use lib.IntN.{pos};
-ghost use lib.ListN.{getD};
+ghost use Prim.Native.Nat.{_+_, _≤_};
+ghost use lib.ListN.{length};
 ghost use Rattle.circumstances.specs.Demand3.{Claimed};
-ghost use Rattle.input.specs.Input.{requestFrom, requestOf, inputOf, sharing};
+ghost use Rattle.input.specs.Input.{stationFrom, windowFrom, requestFrom, requestOf, inputOf, sharing, eclipseAsked};
 ghost use Rattle.input.specs.InputLaws.{Small};
 ghost use Rattle.input.specs.Sheet.{answerTo, bufferFor, sinesFor, sharedAnswer, sharedBuffer, sharedSines};
 ghost use Rattle.input.specs.SheetLaws.{Made};
+ghost use Rattle.requests.specs.Requests.{ofEclipse};
 ghost use Rattle.requests.specs.Shares.{withShare};
+ghost use Rattle.request_fields.specs.declared.Shape.the-variants.{Eclipse};
 
-// What the bytes hold, or the refusal of their shape.
+// What the bytes of an eclipse hold, or the refusal of their shape.
 pub enum Input {
     Is(Request),
     Refused(Refusal),
 }
 
+// What a sheet is asked for, or the refusal of the bytes' shape.
+pub enum Asked {
+    Is(Occultation),
+    Refused(Refusal),
+}
+
 // ---- the request of its numbers
 
-// The request of its numbers, in document 01's order.
-fn request_from(n: &[i64]) -> Request
-    requires { ⌜ Small (now n) ⌝ }
-    ensures { λ r. ⌜ r ≡ requestFrom (now (n .entry)) ⌝ }
+// The station whose five numbers stand from place `at` on.
+fn station_from(n: &[i64], at: usize) -> station::Station
+    requires { ⌜ at + 5 ≤ length (now n) ⌝ }
+    ensures { λ r. ⌜ r ≡ stationFrom at (now (n .entry)) ⌝ }
 {
-    let elements = elements::from_numbers(n);
-    let number = n[22];
-    let latitude = n[23];
-    let longitude = n[24];
-    let height = n[25];
-    let deltat = n[26];
-    let first = n[27];
-    let last = n[28];
-    let guard = n[29];
-    let station = station::Station {
+    let number = n[at];
+    let latitude = n[at + 1];
+    let longitude = n[at + 2];
+    let height = n[at + 3];
+    let deltat = n[at + 4];
+    station::Station {
         number,
         latitude,
         longitude,
         height,
         deltat,
-    };
-    let window = requests::Window { first, last };
+    }
+}
+
+// The window whose two numbers stand from place `at` on.
+fn window_from(n: &[i64], at: usize) -> requests::Window
+    requires { ⌜ at + 2 ≤ length (now n) ⌝ }
+    ensures { λ r. ⌜ r ≡ windowFrom at (now (n .entry)) ⌝ }
+{
+    let first = n[at];
+    let last = n[at + 1];
+    requests::Window { first, last }
+}
+
+// The request of its numbers, in document 01's order.
+fn request_from(n: &[i64]) -> Request
+    requires { ⌜ Small Eclipse (now n) ⌝ }
+    ensures { λ r. ⌜ r ≡ requestFrom (now (n .entry)) ⌝ }
+{
+    let elements = elements::from_numbers(n);
+    let station = station_from(n, 22);
+    let window = window_from(n, 27);
+    let guard = n[29];
     Request {
         elements,
         station,
@@ -70,13 +97,23 @@ pub fn request(input: &[u8]) -> Input
 
 // ---- the sheet
 
+// What the bytes of an eclipse ask for.
+fn of_eclipse(input: Input) -> Asked
+    ensures { λ r. ⌜ r ≡ eclipseAsked input ⌝ }
+{
+    match input {
+        Input::Is(q) => Asked::Is(requests::of_eclipse(q)),
+        Input::Refused(refusal) => Asked::Refused(refusal),
+    }
+}
+
 // The sheet of what is asked for.
-fn sheet_for(asked: Input, sines: &mut [u32], buf: &mut [u8]) -> circumstances::Answer
+fn sheet_for(asked: Asked, sines: &mut [u32], buf: &mut [u8]) -> circumstances::Answer
     ensures { λ r. ⌜ Made asked (now (sines .entry)) (now (buf .entry)) r (now (buf .exit)) (now (sines .exit)) ⌝ }
 {
     match asked {
-        Input::Is(q) => circumstances::sheet(q, sines, buf),
-        Input::Refused(refusal) => circumstances::Answer::Refused(refusal),
+        Asked::Is(o) => circumstances::sheet(o, sines, buf),
+        Asked::Refused(refusal) => circumstances::Answer::Refused(refusal),
     }
 }
 
@@ -85,9 +122,9 @@ pub fn sheet(input: &[u8], sines: &mut [u32], buf: &mut [u8]) -> circumstances::
     ensures answer { λ r. ⌜ r ≡ answerTo (now (input .entry)) (now (sines .entry)) (now (buf .entry)) ⌝ }
     ensures buffer { λ r. ⌜ now (buf .exit) ≡ bufferFor (now (input .entry)) (now (sines .entry)) (now (buf .entry)) ⌝ }
     ensures sines { λ r. ⌜ now (sines .exit) ≡ sinesFor (now (input .entry)) (now (sines .entry)) ⌝ }
-    ensures demand3 { λ r. ⌜ Claimed (requestOf (now (input .entry))) r (now (buf .exit)) ⌝ }
+    ensures demand3 { λ r. ⌜ Claimed (ofEclipse (requestOf (now (input .entry)))) r (now (buf .exit)) ⌝ }
 {
-    let asked = request(input);
+    let asked = of_eclipse(request(input));
     sheet_for(asked, sines, buf)
 }
 
@@ -118,8 +155,8 @@ pub fn sheet_and_share(input: &[u8], sines: &mut [u32], buf: &mut [u8]) -> circu
     ensures answer { λ r. ⌜ r ≡ sharedAnswer (now (input .entry)) (now (sines .entry)) (now (buf .entry)) ⌝ }
     ensures buffer { λ r. ⌜ now (buf .exit) ≡ sharedBuffer (now (input .entry)) (now (sines .entry)) (now (buf .entry)) ⌝ }
     ensures sines { λ r. ⌜ now (sines .exit) ≡ sharedSines (now (input .entry)) (now (sines .entry)) ⌝ }
-    ensures demand3 { λ r. ⌜ Claimed (withShare (requestOf (now (input .entry)))) r (now (buf .exit)) ⌝ }
+    ensures demand3 { λ r. ⌜ Claimed (ofEclipse (withShare (requestOf (now (input .entry))))) r (now (buf .exit)) ⌝ }
 {
-    let asked = with_share(request(input));
+    let asked = of_eclipse(with_share(request(input)));
     sheet_for(asked, sines, buf)
 }

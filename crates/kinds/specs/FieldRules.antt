@@ -2,10 +2,16 @@
 -- inside the window; from < to (open: from ≤ to, and from is the first second or to the last); direction 0..3599 or 65,535;
 -- magnitude ≤ 1,300,000." Of the head's guard document 02, wish 9, asks 16 to 1,000.
 -- Of a share document 02, wish 4, asks: "It lies from 0 to 1,000,000".
+-- Of a magnitude after a star's entry document 02, wish 7, asks 0.
 -- Assumes nothing: these are definitions.
 use Prim.Native.Nat.{ℕ}
-use mathlib.Core.Bool.{Bool, _&&_, _||_}
+use mathlib.Core.Bool.{Bool, false, cond, _&&_, _||_}
 use lib.Dec.{leb, ltb, eqb}
+use Rattle.phases.specs.declared.Phase.{Phase}
+use Rattle.phases.specs.declared.Phase.the-variants.{Star}
+use Rattle.phases.specs.Phases.{same}
+use Rattle.kinds.specs.declared.Stage.{Stage}
+use Rattle.kinds.specs.declared.Stage.the-variants as S
 use Rattle.kinds.specs.declared.Progress.{Progress}
 
 -- document 02, wish 9: "a guard of 16 to 1,000"
@@ -32,9 +38,22 @@ openHolds p from to = inWindow p from && inWindow p to && leb from to && (eqb fr
 abbrev pub isDirection : ℕ → Bool
 isDirection direction = leb direction 3599 || eqb direction 65535
 
--- "magnitude ≤ 1,300,000"
+-- an entry of that phase came last
+abbrev pub isWithin : Stage → Phase → Bool
+isWithin S.Start ψ = false
+isWithin S.Head ψ = false
+isWithin (S.Phase φ) ψ = same φ ψ
+isWithin S.Closest ψ = false
+isWithin S.StarClosest ψ = false
+isWithin S.Share ψ = false
+isWithin S.End ψ = false
+
+-- "magnitude ≤ 1,300,000"; document 02, wish 7: "7 for a magnitude above 0 after a star entry"
+abbrev pub greatestMagnitude : Stage → ℕ
+greatestMagnitude last = cond (isWithin last Star) 0 1300000
+
 abbrev pub closestHolds : Progress → ℕ → ℕ → Bool
-closestHolds p second magnitude = inWindow p second && leb magnitude 1300000
+closestHolds p second magnitude = inWindow p second && leb magnitude (greatestMagnitude (p .stage))
 
 -- document 02, wish 4: "7 for a share above 1,000,000"
 abbrev pub shareHolds : ℕ → Bool

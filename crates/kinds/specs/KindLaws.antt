@@ -1,12 +1,13 @@
 -- Laws of the table of kinds.
-use Prim.Native.Nat.{ℕ, _-_, _*_, _/_, _%_, _≤_, _<_}
+use Prim.Native.Nat.{ℕ, _+_, _-_, _*_, _/_, _%_, _≤_, _<_}
 use mathlib.Core.Path.{_≡_, refl, sym, ap, _∙_}
 use mathlib.Core.List.{List, [], _∷_}
 use mathlib.Core.Bool.{true, false, cond}
 use native.Mathlib.Omega.{arith}
 use native.Mathlib.Decide.{ℕ-discrete}
 use borrow.Author.Tests.{eq-eqb, ne-eqb, eqb-true}
-use Rattle.phases.specs.declared.Phase.the-variants.{Penumbra, Central}
+use Rattle.phases.specs.declared.Phase.{Phase}
+use Rattle.phases.specs.declared.Phase.the-variants.{Penumbra, Central, Star}
 use Rattle.kinds.specs.declared.Kind.{Kind}
 use Rattle.kinds.specs.declared.Kind.the-variants as K
 use Rattle.kinds.specs.declared.Width.{Width}
@@ -14,24 +15,29 @@ use Rattle.kinds.specs.declared.Width.the-variants.{Absent, Two, Four}
 use Rattle.kinds.specs.declared.Entry.{Entry}
 use Rattle.kinds.specs.declared.Named.the-variants.{Is, Unknown}
 use Rattle.kinds.specs.TestLaws.{both, distinct}
-use Rattle.kinds.specs.Kinds.{codeOf, kinds, among, kindFor, widthsOf, bytesIn, sizeOf, isEnd, unused, plain}
+use Rattle.kinds.specs.Kinds.{base, codeOf, kinds, among, kindFor, widthsOf, bytesIn, sizeOf, isEnd, unused, plain}
 
-pub no-kind : (x : ℕ) → (x ≡ 0x01 → ⊥) → (x ≡ 0x10 → ⊥) → (x ≡ 0x11 → ⊥) → (x ≡ 0x12 → ⊥) → (x ≡ 0x13 → ⊥)
-    → (x ≡ 0x20 → ⊥) → (x ≡ 0x21 → ⊥) → (x ≡ 0x22 → ⊥) → (x ≡ 0x23 → ⊥) → (x ≡ 0x30 → ⊥) → (x ≡ 0x31 → ⊥) → (x ≡ 0x7f → ⊥) → kindFor x ≡ Unknown
-no-kind x a b c d e f g h i j l k =
+-- a number that is no phase's kind and none of the others names none
+pub no-kind : (x : ℕ) → (x ≡ 0x01 → ⊥) → (x ≡ 0x30 → ⊥) → (x ≡ 0x31 → ⊥) → (x ≡ 0x7f → ⊥) → ((φ : Phase) (y : ℕ) → y < 4 → x ≡ base φ + y → ⊥)
+    → kindFor x ≡ Unknown
+no-kind x a b c d p =
     rw (
       ne-eqb x 0x01 a,
-      ne-eqb x 0x10 b,
-      ne-eqb x 0x11 c,
-      ne-eqb x 0x12 d,
-      ne-eqb x 0x13 e,
-      ne-eqb x 0x20 f,
-      ne-eqb x 0x21 g,
-      ne-eqb x 0x22 h,
-      ne-eqb x 0x23 i,
-      ne-eqb x 0x30 j,
-      ne-eqb x 0x31 l,
-      ne-eqb x 0x7f k,
+      ne-eqb x 0x10 (p Penumbra 0 (omega arith)),
+      ne-eqb x 0x11 (p Penumbra 1 (omega arith)),
+      ne-eqb x 0x12 (p Penumbra 2 (omega arith)),
+      ne-eqb x 0x13 (p Penumbra 3 (omega arith)),
+      ne-eqb x 0x20 (p Central 0 (omega arith)),
+      ne-eqb x 0x21 (p Central 1 (omega arith)),
+      ne-eqb x 0x22 (p Central 2 (omega arith)),
+      ne-eqb x 0x23 (p Central 3 (omega arith)),
+      ne-eqb x 0x30 b,
+      ne-eqb x 0x31 c,
+      ne-eqb x 0x40 (p Star 0 (omega arith)),
+      ne-eqb x 0x41 (p Star 1 (omega arith)),
+      ne-eqb x 0x42 (p Star 2 (omega arith)),
+      ne-eqb x 0x43 (p Star 3 (omega arith)),
+      ne-eqb x 0x7f d,
     )
 
 -- the byte of a kind names it
@@ -39,12 +45,16 @@ pub kind-code : (k : Kind) → kindFor (codeOf k) ≡ Is k
 kind-code K.Head = refl
 kind-code (K.Enter Penumbra) = refl
 kind-code (K.Enter Central) = refl
+kind-code (K.Enter Star) = refl
 kind-code (K.Leave Penumbra) = refl
 kind-code (K.Leave Central) = refl
+kind-code (K.Leave Star) = refl
 kind-code (K.Graze Penumbra) = refl
 kind-code (K.Graze Central) = refl
+kind-code (K.Graze Star) = refl
 kind-code (K.Open Penumbra) = refl
 kind-code (K.Open Central) = refl
+kind-code (K.Open Star) = refl
 kind-code K.Closest = refl
 kind-code K.Share = refl
 kind-code K.End = refl
@@ -101,12 +111,16 @@ pub size-byte : (k : Kind) → isEnd k ≡ false → (codeOf k ≡ 0x01 → ⊥)
 size-byte K.Head e n m = absurd (n refl)
 size-byte (K.Enter Penumbra) e n m = refl
 size-byte (K.Enter Central) e n m = refl
+size-byte (K.Enter Star) e n m = refl
 size-byte (K.Leave Penumbra) e n m = refl
 size-byte (K.Leave Central) e n m = refl
+size-byte (K.Leave Star) e n m = refl
 size-byte (K.Graze Penumbra) e n m = refl
 size-byte (K.Graze Central) e n m = refl
+size-byte (K.Graze Star) e n m = refl
 size-byte (K.Open Penumbra) e n m = refl
 size-byte (K.Open Central) e n m = refl
+size-byte (K.Open Star) e n m = refl
 size-byte K.Closest e n m = refl
 size-byte K.Share e n m = absurd (m refl)
 size-byte K.End e n m = absurd (distinct e)

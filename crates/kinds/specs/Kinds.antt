@@ -5,7 +5,7 @@ use mathlib.Core.List.{List, [], _∷_}
 use mathlib.Core.Bool.{Bool, true, false, cond, _&&_}
 use lib.Dec.{eqb}
 use Rattle.phases.specs.declared.Phase.{Phase}
-use Rattle.phases.specs.declared.Phase.the-variants.{Penumbra, Central}
+use Rattle.phases.specs.declared.Phase.the-variants.{Penumbra, Central, Star}
 use Rattle.kinds.specs.declared.Kind.{Kind}
 use Rattle.kinds.specs.declared.Kind.the-variants as K
 use Rattle.kinds.specs.declared.Width.{Width}
@@ -32,10 +32,12 @@ row code widths stage rule = record { code = code; widths = widths; stage = stag
 abbrev pub fields : Width → Width → Width → Width → Widths
 fields a b c d = record { a = a; b = b; c = c; d = d }
 
--- "10, 11 enter, leave penumbra; 20, 21 central": a phase's first kind
+-- "10, 11 enter, leave penumbra; 20, 21 central": a phase's first kind. Document 02, wish 7: "Sheets use kinds 40 to 43 where eclipses use
+-- 10 to 13, and closest carries magnitude 0."
 abbrev pub base : Phase → ℕ
 base Penumbra = 0x10
 base Central = 0x20
+base Star = 0x40
 
 -- "01 head: station, first, last (2 bytes each)"; "10, 11 enter, leave penumbra; 20, 21 central: from, to, direction (2 each)";
 -- "12, 13 graze, open penumbra; 22, 23 central: from, to (2 each)"; "30 closest: second (2), magnitude (4)"; "7F end: none".
@@ -54,7 +56,8 @@ table K.End = row 0x7f (fields Absent Absent Absent Absent) S.End (λ p e. true)
 abbrev pub kinds : List Kind
 kinds =
     K.Head ∷ K.Enter Penumbra ∷ K.Leave Penumbra ∷ K.Graze Penumbra ∷ K.Open Penumbra
-    ∷ K.Enter Central ∷ K.Leave Central ∷ K.Graze Central ∷ K.Open Central ∷ K.Closest ∷ K.Share ∷ K.End ∷ []
+    ∷ K.Enter Central ∷ K.Leave Central ∷ K.Graze Central ∷ K.Open Central ∷ K.Closest ∷ K.Share
+    ∷ K.Enter Star ∷ K.Leave Star ∷ K.Graze Star ∷ K.Open Star ∷ K.End ∷ []
 
 abbrev pub codeOf : Kind → ℕ
 codeOf k = table k .code

@@ -27,7 +27,7 @@ pub enum Kind {
 //   head          a station: its number, 1 to 999; b first, c last: the window, first ≤ last; d guard: 16 to 1,000 units
 //   enter, leave  a from, b to; c direction: in tenths of a degree, 0 to 3599, or 65,535 for none
 //   graze, open   a from, b to
-//   closest       a second; b magnitude: in millionths, 0 to 1,300,000
+//   closest       a second; b magnitude: in millionths, 0 to 1,300,000, and 0 after an entry of a star
 //   share         a share: of the Sun's disc that is covered, in millionths, 0 to 1,000,000
 //   end           none
 // The kind stands between the first two numbers, so that no two of them are loaded as one right after they were stored apart.
@@ -61,11 +61,13 @@ pub enum Named {
 }
 
 // The stages of a sheet in their order: nothing yet, then head, the phases by time, closest, the share if there is one, end.
+// `StarClosest` is closest after an entry of a star, where no share may come.
 pub enum Stage {
     Start,
     Head,
     Phase(Phase),
     Closest,
+    StarClosest,
     Share,
     End,
 }
@@ -92,11 +94,12 @@ pub struct Progress {
 
 // The first kind of a phase's four.
 fn base_of(phase: Phase) -> u32
-    ensures { λ r. ⌜ (r ≡ base phase) × (r ≤ 32) ⌝ }
+    ensures { λ r. ⌜ (r ≡ base phase) × (r ≤ 64) ⌝ }
 {
     match phase {
         Phase::Penumbra => 0x10,
         Phase::Central => 0x20,
+        Phase::Star => 0x40,
     }
 }
 
@@ -136,6 +139,7 @@ pub fn kind_for(code: u32) -> Named
     match code {
         0x10..=0x13 => phase_kind(Phase::Penumbra, code - 0x10),
         0x20..=0x23 => phase_kind(Phase::Central, code - 0x20),
+        0x40..=0x43 => phase_kind(Phase::Star, code - 0x40),
         0x01 => Named::Is(Kind::Head),
         0x30 => Named::Is(Kind::Closest),
         0x31 => Named::Is(Kind::Share),

@@ -1,7 +1,7 @@
 -- Document 01's hand-worked listing, and a line of each other kind: each is computed.
 use mathlib.Core.Path.{_≡_, refl}
 use mathlib.Core.List.{[], _∷_}
-use Rattle.phases.specs.declared.Phase.the-variants.{Penumbra, Central}
+use Rattle.phases.specs.declared.Phase.the-variants.{Penumbra, Central, Star}
 use Rattle.kinds.specs.Entries.{head, enter, leave, graze, opened, closest, share, end}
 use Rattle.decimals.specs.Decimals.{digitsOf, decimal, signed}
 use Rattle.decimals.specs.Texts.{letters}
@@ -20,6 +20,14 @@ pub others : linesOf (opened Penumbra 16200 16201 ∷ graze Central 10799 10801 
     ≡ letters "open penumbra 5400 5401\ngraze central -1 1\nshare 405728\n"
 unfolding linesOf lineOf filled piece signed decimal digitsOf
 others = refl
+
+-- the four lines of a star, and its closest
+pub of-a-star : linesOf (
+    head 7 4800 16800 16 ∷ opened Star 4800 4801 ∷ enter Star 7321 7323 655 ∷ graze Star 8000 8002 ∷ leave Star 10807 10809 3077 ∷ closest 9065 0 ∷ end ∷ []
+    )
+    ≡ letters "station 7 from -6000 to 6000\nopen star -6000 -5999\nenter star -3479 -3477 655\ngraze star -2800 -2798\nleave star 7 9 3077\nclosest -1735 0\n"
+unfolding linesOf lineOf filled piece signed decimal digitsOf
+of-a-star = refl
 
 -- "42 gives refusal 4 with place 43"; document 02, wish 9: "with 45 and 44 bytes for 43 and 42"
 pub refused : refusalLine 4 45 ≡ letters "refused 4 45\n"

@@ -5,7 +5,7 @@ use Prim.Native.String.{String}
 use mathlib.Core.List.{List, [], _∷_, _++_}
 use lib.IntN.{pos}
 use Rattle.phases.specs.declared.Phase.{Phase}
-use Rattle.phases.specs.declared.Phase.the-variants.{Penumbra, Central}
+use Rattle.phases.specs.declared.Phase.the-variants.{Penumbra, Central, Star}
 use Rattle.kinds.specs.declared.Kind.{Kind}
 use Rattle.kinds.specs.declared.Kind.the-variants.{Head, Enter, Leave, Graze, Open, Closest, Share, End}
 use Rattle.kinds.specs.declared.Entry.{Entry}
@@ -16,9 +16,11 @@ use Rattle.decimals.specs.Decimals.{decimal}
 use Rattle.decimals.specs.Texts.{letters}
 use Rattle.decimals.specs.Patterns.{filled}
 
+-- the phase's word; that of a star (document 02, wish 7) as the others have it
 abbrev pub nameOf : Phase → String
 nameOf Penumbra = "penumbra"
 nameOf Central = "central"
+nameOf Star = "star"
 
 -- "a head line": the station and its window
 abbrev pub headLine : ℕ → ℕ → ℕ → List ℕ

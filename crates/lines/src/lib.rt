@@ -14,6 +14,7 @@ fn put_phase(out: &mut [u8], at: usize, phase: Phase) -> usize
     match phase {
         Phase::Penumbra => decimals::put_text(out, at, b"penumbra"),
         Phase::Central => decimals::put_text(out, at, b"central"),
+        Phase::Star => decimals::put_text(out, at, b"star"),
     }
 }
 

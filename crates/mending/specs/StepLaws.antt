@@ -42,6 +42,7 @@ came S.Start e = e
 came S.Head e = e
 came (S.Phase φ) e = e
 came S.Closest e = refl
+came S.StarClosest e = refl
 came S.Share e = refl
 came S.End e = e
 

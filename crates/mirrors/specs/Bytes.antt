@@ -10,8 +10,7 @@ use Rattle.elements.specs.Elements as E
 use Rattle.station.specs.Station as S
 use Rattle.requests.specs.declared.Request.{Request}
 use Rattle.requests.specs.Mirror.{mirroredRequest, opposite}
-use Rattle.request_bytes.specs.Request.{bytesOf}
-use Rattle.request_bytes.specs.PutLaws.{size}
+use Rattle.request_bytes.specs.Request.{size, bytesOf}
 use Rattle.circumstances.specs.declared.Answer.{Answer}
 use Rattle.circumstances.specs.declared.Answer.the-variants.{Written, Refused}
 use Rattle.input.specs.declared.Input.{Input}

@@ -15,18 +15,18 @@ use Rattle.refusals.specs.Refusals.{refusal}
 use Rattle.refusals.specs.declared.Checked.the-variants as C
 use Rattle.elements.specs.Elements.{elementsOf}
 use Rattle.requests.specs.declared.Request.{Request}
-use Rattle.requests.specs.Requests.{checked}
+use Rattle.requests.specs.Requests.{ofEclipse, checked}
 use Rattle.requests.specs.RequestLaws.{in-limits}
 use Rattle.requests.specs.Mirror.{mirrorOf}
-use Rattle.requests.specs.MirrorLaws.{mirrored-twice, mirrored-is}
+use Rattle.requests.specs.MirrorLaws.{request-twice, request-mirrored}
+use Rattle.request_fields.specs.declared.Shape.the-variants as S
 use Rattle.request_fields.specs.Fields.{layout, count}
 use Rattle.request_bytes.specs.declared.Answer.the-variants.{Done}
 use Rattle.request_bytes.specs.declared.Got.the-variants as G
 use Rattle.request_bytes.specs.Layout.{piecesOf, bytesBy, Reading, numbers, misshaped}
 use Rattle.request_bytes.specs.LayoutLaws.{length-bytes}
 use Rattle.request_bytes.specs.NumberLaws.{Bytes}
-use Rattle.request_bytes.specs.Request.{putOf, bytesOf, bytesAfter, readingOf, gotOf, numbersAfter}
-use Rattle.request_bytes.specs.PutLaws.{size}
+use Rattle.request_bytes.specs.Request.{size, putOf, bytesFor, bytesOf, afterFor, bytesAfter, readingOf, gotOf, numbersAfter}
 use Rattle.request_bytes.specs.RoundTrip.{read-back, write-back}
 use Rattle.circumstances.specs.declared.Answer.the-variants.{Written, Refused}
 use Rattle.courses.specs.Stores.{stores-start}
@@ -49,21 +49,21 @@ module _ (s : List ℕ) (b : Bytes s) (ns : List ℤ) (e : readingOf s ≡ numbe
   q = requestFrom ns
 
   back : (length ns ≡ count) × (putOf ns ≡ Done) × (bytesOf ns ≡ s)
-  back = write-back s ns b e
+  back = write-back S.Eclipse s ns b e
 
   -- what is put in the room
   pub mirror-put : (ms : List ℤ) (old made : List ℕ) → ms ≡ changed ns → made ≡ bytesAfter ms old → made ≡ mirrorBytes q
-  unfolding bytesAfter mirrorBytes
+  unfolding afterFor mirrorBytes
   mirror-put ms old made m p = p ∙ rw (m, changed-fit ns (back .1), changed-is ns (back .0))
 
   pub mirror-length : length (mirrorBytes q) ≡ size
-  unfolding mirrorBytes bytesOf
+  unfolding mirrorBytes bytesFor
   mirror-length = ap (λ (l : List ℤ). length (bytesBy (piecesOf layout) l)) (sym (changed-is ns (back .0))) ∙ length-bytes (piecesOf layout) (changed ns) (changed-count ns (back .0))
 
   mirror-reading : readingOf (mirrorBytes q) ≡ numbers (numbersOf (mirrorInBytes q))
   unfolding mirrorBytes
   mirror-reading =
-      rw (← changed-is ns (back .0)) (read-back (changed ns) (changed-count ns (back .0)) (changed-fit ns (back .1)))
+      rw (← changed-is ns (back .0)) (read-back S.Eclipse (changed ns) (changed-count ns (back .0)) (changed-fit ns (back .1)))
 
   -- the bytes of the mirror are a request's, and hold the mirror
   pub bytes-hold : inputOf (mirrorBytes q) ≡ I.Is (mirrorInBytes q)
@@ -71,14 +71,16 @@ module _ (s : List ℕ) (b : Bytes s) (ns : List ℤ) (e : readingOf s ≡ numbe
   bytes-hold = ap inputBy mirror-reading
 
   -- which is the request's mirror, within the limits
-  pub bytes-within : checked q ≡ C.Within → mirrorInBytes q ≡ mirrorOf q
-  bytes-within w = mirrored-is 2147483647 (lit≤ tt) q (in-limits q w) ∙ sym (mirrored-is 9223372036854775807 (lit≤ tt) q (in-limits q w))
+  pub bytes-within : checked (ofEclipse q) ≡ C.Within → mirrorInBytes q ≡ mirrorOf q
+  bytes-within w =
+      let i = in-limits (ofEclipse q) w in
+      request-mirrored 2147483647 (lit≤ tt) q i ∙ sym (request-mirrored 9223372036854775807 (lit≤ tt) q i)
 
   -- taken twice it gives the first bytes back
   pub bytes-twice : mirrorBytes (mirrorInBytes q) ≡ s
   unfolding mirrorBytes requestFrom elementsOf stationFrom windowFrom
   bytes-twice =
-      ap (λ (r : Request). bytesOf (numbersOf r)) (mirrored-twice 2147483647 q)
+      ap (λ (r : Request). bytesOf (numbersOf r)) (request-twice 2147483647 q)
       ∙ ap bytesOf (by-spelling (λ l. numbersOf (requestFrom l) ≡ l) (λ f. refl) ns (back .0))
       ∙ back .2
 

@@ -20,7 +20,7 @@ use Rattle.request_fields.specs.WidthLaws.{holding}
 use Rattle.request_bytes.specs.declared.Answer.the-variants.{Done}
 use Rattle.request_bytes.specs.Layout.{Piece, kind, number, piecesOf, fitting}
 use Rattle.request_bytes.specs.LayoutLaws.{fits-cases}
-use Rattle.request_bytes.specs.Request.{putOf}
+use Rattle.request_bytes.specs.Request.{putFor, putOf}
 use Rattle.input.specs.Input.{requestFrom, stationFrom, windowFrom}
 use Rattle.mirrors.specs.Bytes.{numbersOf, mirrorInBytes}
 
@@ -85,7 +85,7 @@ turned-fits (number w ∷ l) j (suc k) (z ∷ ns) e f = let h = fits-cases w l j
 
 -- each of the eight has 4 bytes
 pub changed-fit : (ns : List ℤ) → putOf ns ≡ Done → putOf (changed ns) ≡ Done
-unfolding putOf changed
+unfolding putFor changed
 changed-fit ns e = turn 23 _ refl (turn 10 _ refl (turn 9 _ refl (turn 8 _ refl (turn 7 _ refl (turn 6 _ refl (turn 5 _ refl (turn 4 _ refl e)))))))
   where
     turn : (k : ℕ) (ms : List ℤ) → W.Signed4 ≡ widthIn (piecesOf layout) k → fitting (piecesOf layout) 0 ms ≡ Done

@@ -5,80 +5,109 @@ use Prim.Native.Nat.{ℕ}
 use lib.Dec.{lit≤}
 use lib.IntN.{ℤ, negℤ}
 use lib.ListN.{length}
-use Rattle.phases.specs.declared.Phase.{Phase}
-use Rattle.phases.specs.States.{State}
 use Rattle.refusals.specs.declared.Checked.{Checked}
 use Rattle.refusals.specs.declared.Checked.the-variants as C
-use Rattle.geometry.specs.Shadow.{u, v, M}
+use Rattle.elements.specs.declared.Body.{Body}
+use Rattle.elements.specs.declared.Body.the-variants as B
+use Rattle.elements.specs.Mirror.{mirroredBody}
+use Rattle.station.specs.Place.{placeOf}
+use Rattle.station.specs.Mirror.{mirroredPlace}
+use Rattle.station.specs.MirrorLaws.{place-mirrored}
+use Rattle.geometry.specs.Shadow.{phasesOf, u, v, M}
 use Rattle.requests.specs.declared.Request.{Request}
-use Rattle.requests.specs.Requests.{checked}
+use Rattle.requests.specs.declared.Occultation.{Occultation}
+use Rattle.requests.specs.Requests.{ofEclipse, checked}
+use Rattle.requests.specs.Shares.{sharingOf, sharing}
 use Rattle.requests.specs.RequestLaws.{in-limits}
 use Rattle.requests.specs.Admission.{roomChecked}
 use Rattle.requests.specs.AdmissionLaws.{admitted-room}
-use Rattle.requests.specs.Mirror.{mirroredRequest, mirrorOf}
+use Rattle.requests.specs.Mirror.{mirrorOf, mirroredOccultation, mirrorFor}
 use Rattle.requests.specs.MirrorLaws.{checked-mirrored, mirrored-twice, mirrored-is}
-use Rattle.seconds.specs.Seconds.{momentAt, stateAt, directionAt, magnitudeAt, closestOf}
+use Rattle.seconds.specs.Seconds.{momentAt, stateAt, directionAt, magnitudeAt}
 use Rattle.seconds.specs.MirrorLaws.{state-mirrored, magnitude-mirrored, u-mirrored, v-mirrored, M-mirrored, closest-mirrored}
-use Rattle.covered.specs.Covered.{shareAt}
 use Rattle.covered.specs.MirrorLaws.{share-mirrored}
 use Rattle.courses.specs.Courses.{Course, sheetOf}
 use Rattle.courses.specs.Directions.{AlikeButDirections}
 use Rattle.courses.specs.DirectionLaws.{redirected, sheet-alike, alike-length}
 use Rattle.circumstances.specs.declared.Answer.{Answer}
-use Rattle.circumstances.specs.Sheet.{courseOf, sheetBytes, answerBy, sheetAnswer}
+use Rattle.circumstances.specs.Sheet.{shareOf, courseOf, sheetBytes, answerBy, sheetAnswer}
 use Rattle.mirrors.specs.Mirror.{Mirrored}
 
 abbrev most : ℕ
 most = 9223372036854775807
 
 -- ---- with the signs changed
-module _ (q : Request) where
-  abbrev q′ : Request
-  q′ = mirroredRequest negℤ q
+module _ (o : Occultation) where
+  abbrev o′ : Occultation
+  o′ = mirroredOccultation negℤ o
+
+  -- the phases and the share are as they were
+  phases-mirrored : (b : Body) → phasesOf (mirroredBody negℤ b) ≡ phasesOf b
+  phases-mirrored (B.Sun e) = refl
+  phases-mirrored (B.Star s) = refl
+
+  sharing-mirrored : sharing o′ ≡ sharing o
+  unfolding sharing
+  sharing-mirrored = by (o .body)
+    where
+      by : (b : Body) → sharingOf (mirroredBody negℤ b) (o .share) ≡ sharingOf b (o .share)
+      by (B.Sun e) = refl
+      by (B.Star s) = refl
+
+  shares-mirrored : (τ : ℤ) → shareOf (o′ .body) (placeOf (o′ .station)) τ ≡ shareOf (o .body) (placeOf (o .station)) τ
+  shares-mirrored τ = rw (place-mirrored (o .station)) (by (o .body))
+    where
+      by : (b : Body) → shareOf (mirroredBody negℤ b) (mirroredPlace (placeOf (o .station))) τ ≡ shareOf b (placeOf (o .station)) τ
+      by (B.Sun e) = share-mirrored e (placeOf (o .station)) τ
+      by (B.Star s) = refl
 
   -- the course differs in its directions only
-  course-mirrored : courseOf q′ ≡ redirected (courseOf q) (directionAt q′)
+  course-mirrored : courseOf o′ ≡ redirected (courseOf o) (directionAt o′)
   course-mirrored =
-      let s : stateAt q′ ≡ stateAt q = fun-ext (λ φ. fun-ext (λ τ. state-mirrored q τ φ)) in
-      let m : magnitudeAt q′ ≡ magnitudeAt q = fun-ext (λ τ. magnitude-mirrored q τ) in
-      let c : shareAt q′ ≡ shareAt q = fun-ext (λ τ. share-mirrored q τ) in
-      rw (s, m, c, closest-mirrored q)
+      let s : stateAt o′ ≡ stateAt o = fun-ext (λ φ. fun-ext (λ τ. state-mirrored o τ φ)) in
+      let m : magnitudeAt o′ ≡ magnitudeAt o = fun-ext (λ τ. magnitude-mirrored o τ) in
+      let c : shareOf (o′ .body) (placeOf (o′ .station)) ≡ shareOf (o .body) (placeOf (o .station)) = fun-ext shares-mirrored in
+      rw (s, m, c, closest-mirrored o, sharing-mirrored, phases-mirrored (o .body))
 
-  entries-mirrored : AlikeButDirections (sheetOf (courseOf q′)) (sheetOf (courseOf q))
+  entries-mirrored : AlikeButDirections (sheetOf (courseOf o′)) (sheetOf (courseOf o))
   entries-mirrored =
-      subst (λ (c : Course). AlikeButDirections (sheetOf c) (sheetOf (courseOf q))) (sym course-mirrored) (sheet-alike (courseOf q) (directionAt q′))
+      subst (λ (c : Course). AlikeButDirections (sheetOf c) (sheetOf (courseOf o))) (sym course-mirrored) (sheet-alike (courseOf o) (directionAt o′))
 
-  bytes-mirrored : length (sheetBytes q′) ≡ length (sheetBytes q)
+  bytes-mirrored : length (sheetBytes o′) ≡ length (sheetBytes o)
   unfolding sheetBytes
-  bytes-mirrored = alike-length (sheetOf (courseOf q′)) (sheetOf (courseOf q)) entries-mirrored
+  bytes-mirrored = alike-length (sheetOf (courseOf o′)) (sheetOf (courseOf o)) entries-mirrored
 
 -- a sheet as long gets the same answer
-answers-mirrored : (p q : Request) → checked p ≡ C.Within → checked q ≡ C.Within → length (sheetBytes p) ≡ length (sheetBytes q) → (sines buffer : List ℕ)
-    → sheetAnswer p sines buffer ≡ sheetAnswer q sines buffer
+answers-mirrored : (p o : Occultation) → checked p ≡ C.Within → checked o ≡ C.Within → length (sheetBytes p) ≡ length (sheetBytes o) → (sines buffer : List ℕ)
+    → sheetAnswer p sines buffer ≡ sheetAnswer o sines buffer
 unfolding sheetAnswer
-answers-mirrored p q cp cq l sines buffer =
+answers-mirrored p o cp co l sines buffer =
     ap (λ (c : Checked). answerBy c p buffer) (sym (admitted-room p sines cp .0)) ∙ by (roomChecked sines)
-    ∙ ap (λ (c : Checked). answerBy c q buffer) (admitted-room q sines cq .0)
+    ∙ ap (λ (c : Checked). answerBy c o buffer) (admitted-room o sines co .0)
   where
-    by : (c : Checked) → answerBy c p buffer ≡ answerBy c q buffer
+    by : (c : Checked) → answerBy c p buffer ≡ answerBy c o buffer
     by (C.Refused r) = refl
     by C.Within = rw l
 
 -- ---- the theorem
-pub the-mirror : (q : Request) → checked q ≡ C.Within → Mirrored q
-the-mirror q w =
-    let e : mirrorOf q ≡ mirroredRequest negℤ q = mirrored-is most (lit≤ tt) q (in-limits q w) in
-    let l : length (sheetBytes (mirrorOf q)) ≡ length (sheetBytes q) = ap (λ (x : Request). length (sheetBytes x)) e ∙ bytes-mirrored q in
-    let c : checked (mirrorOf q) ≡ C.Within = checked-mirrored most q ∙ w in
+pub the-mirror : (o : Occultation) → checked o ≡ C.Within → Mirrored o
+the-mirror o w =
+    let e : mirrorFor o ≡ mirroredOccultation negℤ o = mirrored-is most (lit≤ tt) o (in-limits o w) in
+    let l : length (sheetBytes (mirrorFor o)) ≡ length (sheetBytes o) = ap (λ (x : Occultation). length (sheetBytes x)) e ∙ bytes-mirrored o in
+    let c : checked (mirrorFor o) ≡ C.Within = checked-mirrored most o ∙ w in
     record {
       within = c;
-      state = λ φ τ. ap (λ (x : Request). stateAt x φ τ) e ∙ state-mirrored q τ φ;
-      square = λ τ. ap (λ (x : Request). M (momentAt x τ)) e ∙ M-mirrored q τ;
-      magnitude = λ τ. ap (λ (x : Request). magnitudeAt x τ) e ∙ magnitude-mirrored q τ;
-      east = λ τ. ap (λ (x : Request). u (momentAt x τ)) e ∙ u-mirrored q τ;
-      north = λ τ. ap (λ (x : Request). v (momentAt x τ)) e ∙ v-mirrored q τ;
-      entries = subst (λ (x : Request). AlikeButDirections (sheetOf (courseOf x)) (sheetOf (courseOf q))) (sym e) (entries-mirrored q);
+      state = λ φ τ. ap (λ (x : Occultation). stateAt x φ τ) e ∙ state-mirrored o τ φ;
+      square = λ τ. ap (λ (x : Occultation). M (momentAt x τ)) e ∙ M-mirrored o τ;
+      magnitude = λ τ. ap (λ (x : Occultation). magnitudeAt x τ) e ∙ magnitude-mirrored o τ;
+      east = λ τ. ap (λ (x : Occultation). u (momentAt x τ)) e ∙ u-mirrored o τ;
+      north = λ τ. ap (λ (x : Occultation). v (momentAt x τ)) e ∙ v-mirrored o τ;
+      entries = subst (λ (x : Occultation). AlikeButDirections (sheetOf (courseOf x)) (sheetOf (courseOf o))) (sym e) (entries-mirrored o);
       bytes = l;
-      answer = λ sines buffer. answers-mirrored (mirrorOf q) q c w l sines buffer;
-      twice = mirrored-twice most q;
+      answer = λ sines buffer. answers-mirrored (mirrorFor o) o c w l sines buffer;
+      twice = mirrored-twice most o;
     }
+
+-- the mirror of an eclipse's request asks for its mirror
+pub of-mirror : (q : Request) → ofEclipse (mirrorOf q) ≡ mirrorFor (ofEclipse q)
+of-mirror q = refl

@@ -2,32 +2,41 @@
 use Prim.Native.Nat.{ℕ, zero, suc, _+_, _≤_, _<_}
 use lib.ListN.{length, take, getD}
 use native.Mathlib.Omega.{arith}
-use mathlib.Core.Path.{_≡_, refl}
-use mathlib.Core.Bool.{true}
-use mathlib.Core.List.{[], _∷_, _++_}
+use mathlib.Core.Path.{_≡_, refl, ap}
+use mathlib.Core.Bool.{true, false}
+use mathlib.Core.List.{List, [], _∷_, _++_}
 use mathlib.Core.Logic.{inl, inr}
 use Rattle.phases.specs.declared.Phase.{Phase}
-use Rattle.phases.specs.declared.Phase.the-variants.{Penumbra, Central}
-use Rattle.phases.specs.Phases.{eclipse, same, Listed, times}
+use Rattle.phases.specs.declared.Phase.the-variants.{Penumbra, Central, Star}
+use Rattle.phases.specs.Phases.{eclipse, star, same, Listed, times}
 use Rattle.phases.specs.States.{State, inside, outside, unsure, code, stateOf}
 
 pub same-own : (φ : Phase) → same φ φ ≡ true
 same-own Penumbra = refl
 same-own Central = refl
+same-own Star = refl
+
+apart : false ≡ true → ⊥
+apart e = let z : _≡_ {A = ℕ} 0 1 = cc in omega arith
 
 pub same-is : (φ ψ : Phase) → same φ ψ ≡ true → φ ≡ ψ
 same-is Penumbra Penumbra e = refl
-same-is Penumbra Central e = absurd (let z : _≡_ {A = ℕ} 0 1 = cc in omega arith)
-same-is Central Penumbra e = absurd (let z : _≡_ {A = ℕ} 0 1 = cc in omega arith)
+same-is Penumbra Central e = absurd (apart e)
+same-is Penumbra Star e = absurd (apart e)
+same-is Central Penumbra e = absurd (apart e)
 same-is Central Central e = refl
+same-is Central Star e = absurd (apart e)
+same-is Star Penumbra e = absurd (apart e)
+same-is Star Central e = absurd (apart e)
+same-is Star Star e = refl
 
-pub in-eclipse : (φ : Phase) → Listed φ eclipse
-in-eclipse Penumbra = inl refl
-in-eclipse Central = inr (inl refl)
+-- each phase of an eclipse is one of its list once, and so is a star's
+pub once-in-eclipse : (φ : Phase) → Listed φ eclipse → times φ eclipse ≡ 1
+once-in-eclipse φ (inl e) = rw e
+once-in-eclipse φ (inr (inl e)) = rw e
 
-pub once-in-eclipse : (φ : Phase) → times φ eclipse ≡ 1
-once-in-eclipse Penumbra = refl
-once-in-eclipse Central = refl
+pub once-in-star : (φ : Phase) → Listed φ star → times φ star ≡ 1
+once-in-star φ (inl e) = rw e
 
 pub state-of-code : (w : State) → stateOf (code w) ≡ w
 state-of-code outside = refl
@@ -49,8 +58,10 @@ code-outside inside e = absurd (omega arith)
 code-outside outside e = refl
 code-outside unsure e = absurd (omega arith)
 
--- the first k + 1 phases of an eclipse are the first k and the k-th
-pub eclipse-more : (k : ℕ) → k < length eclipse → take (k + 1) eclipse ≡ take k eclipse ++ getD eclipse k Penumbra ∷ []
-eclipse-more zero h = refl
-eclipse-more (suc zero) h = refl
-eclipse-more (suc (suc k)) h = absurd (omega arith)
+-- the first k + 1 phases of a list are the first k and the k-th
+pub phases-more : (φs : List Phase) (k : ℕ) → k < length φs → take (k + 1) φs ≡ take k φs ++ getD φs k Penumbra ∷ []
+phases-more [] k h = absurd (omega arith)
+phases-more (φ ∷ φs) zero h = refl
+phases-more (φ ∷ φs) (suc k) h =
+    let e : suc k + 1 ≡ suc (k + 1) = omega arith in
+    rw e (ap (λ (ψs : List Phase). φ ∷ ψs) (phases-more φs k (omega arith)))

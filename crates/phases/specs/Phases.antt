@@ -5,17 +5,26 @@ use mathlib.Core.List.{List, [], _∷_}
 use mathlib.Core.Bool.{Bool, true, false}
 use mathlib.Core.Logic.{_⊎_}
 use Rattle.phases.specs.declared.Phase.{Phase}
-use Rattle.phases.specs.declared.Phase.the-variants.{Penumbra, Central}
+use Rattle.phases.specs.declared.Phase.the-variants.{Penumbra, Central, Star}
 
 -- "Order: head, penumbra by time, central by time ..": the phases of an eclipse
 abbrev pub eclipse : List Phase
 eclipse = Penumbra ∷ Central ∷ []
 
+-- document 02, wish 7: "for a star with its one phase in place of penumbra and central"
+abbrev pub star : List Phase
+star = Star ∷ []
+
 abbrev pub same : Phase → Phase → Bool
 same Penumbra Penumbra = true
 same Penumbra Central = false
+same Penumbra Star = false
 same Central Penumbra = false
 same Central Central = true
+same Central Star = false
+same Star Penumbra = false
+same Star Central = false
+same Star Star = true
 
 -- a phase is one of a list
 abbrev pub Listed : Phase → List Phase → Type 0

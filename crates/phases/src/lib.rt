@@ -1,4 +1,4 @@
-// The phases of a shadow, and those that an eclipse has.
+// The phases of a shadow: those that an eclipse has, and a star's.
 ghost use mathlib.Core.Path.{_≡_};
 ghost use Prim.Native.Nat.{_<_};
 ghost use lib.ListN.{length, getD};
@@ -11,6 +11,8 @@ pub enum Phase {
     Penumbra,
     // in the central cone: the eclipse is total or annular
     Central,
+    // in the cylinder behind the Moon: a star is hidden
+    Star,
 }
 
 // How many phases an eclipse has.

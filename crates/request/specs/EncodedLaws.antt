@@ -1,54 +1,95 @@
 -- The numbers of a typed request fit their bytes, so they are put, and read back.
-use mathlib.Core.Path.{_≡_, refl, ap, _∙_}
-use mathlib.Core.List.{List}
-use Prim.Native.Nat.{ℕ}
+use mathlib.Core.Path.{_≡_, refl, sym, ap, _∙_}
+use mathlib.Core.List.{List, _++_}
+use Prim.Native.Nat.{ℕ, _+_, _≤_}
 use native.Mathlib.Omega.{arith}
 use lib.IntN.{ℤ}
+use lib.ListN.{length, take, drop}
+use lib.Seq.{sets-eq, take-at}
+use Rattle.request_fields.specs.declared.Shape.{Shape}
+use Rattle.request_fields.specs.declared.Shape.the-variants as S
 use Rattle.request_bytes.specs.declared.Answer.the-variants.{Done}
-use Rattle.request_bytes.specs.Request.{putOf, bytesOf, bytesAfter}
+use Rattle.request_bytes.specs.Layout.{numbers}
+use Rattle.request_bytes.specs.Request.{sizeFor, putFor, bytesFor, afterFor, readingFor}
 use Rattle.request_bytes.specs.PutLaws.{all-put}
-use Rattle.request_bytes.specs.RoundTrip.{read-back}
-use Rattle.input.specs.declared.Input.the-variants as I
-use Rattle.input.specs.Input.{requestFrom, inputBy, inputOf}
+use Rattle.request_bytes.specs.RoundTrip.{bytes-length, read-back}
+use Rattle.input.specs.Input.{inputBy, inputOf, starBy, starAsked}
 use Rattle.request_text.specs.declared.Fault.{Fault}
+use Rattle.request_text.specs.declared.Typed.{Typed}
 use Rattle.request_text.specs.declared.Typed.the-variants as T
 use Rattle.request_text.specs.Typing.{Typing, given, refused, typingOf, answerOf, numbersFrom}
 use Rattle.request_text.specs.FitLaws.{Fit, numbers-fit}
-use Rattle.request.specs.Encoded.{bytesFrom, ReadAs}
+use Rattle.decimals.specs.Texts.{Put}
+use Rattle.request.specs.Encoded.{ReadAs, Encoded}
 
-typed-done : (ns : List ℤ) → Fit ns → putOf ns ≡ Done
-typed-done ns f = all-put ns (f .all) (f .each)
+-- a text at the start of a room that holds it
+pub put-start : (x old new : List ℕ) (r : ℕ) → length x ≤ length old → Put old 0 x new r → new ≡ x ++ drop (length x) old
+put-start x old new r h p =
+    let z : 0 + length x ≡ length x = omega arith in p .room ∙ sets-eq x old 0 (omega arith) ∙ ap (λ (k : ℕ). x ++ drop k old) z
 
-after-done : (ns : List ℤ) (old : List ℕ) → putOf ns ≡ Done → bytesAfter ns old ≡ bytesOf ns
-unfolding bytesAfter
-after-done ns old e = rw e
+module _ (shape : Shape) where
+  typed-done : (ns : List ℤ) → Fit shape ns → putFor shape ns ≡ Done
+  typed-done ns f = all-put shape ns (f .all) (f .each)
 
--- numbers that are put are the request's that the bytes hold
-held : (ns : List ℤ) → Fit ns → inputOf (bytesOf ns) ≡ I.Is (requestFrom ns)
-unfolding inputOf
-held ns f = ap inputBy (read-back ns (f .all) (typed-done ns f))
+  after-done : (ns : List ℤ) (old : List ℕ) → putFor shape ns ≡ Done → afterFor shape ns old ≡ bytesFor shape ns
+  unfolding afterFor
+  after-done ns old e = rw e
 
--- ---- what `encode` promises of the bytes
+  -- numbers that are put are those that the bytes hold
+  held : (ns : List ℤ) → Fit shape ns → readingFor shape (bytesFor shape ns) ≡ numbers ns
+  held ns f = read-back shape ns (f .all) (typed-done ns f)
 
-abbrev Promised : Typing → List ℕ → List ℕ → Type 0
-Promised x old new = (new ≡ bytesFrom x old) × ReadAs x new
+-- and are the request's
+read-given : (shape : Shape) (ns : List ℤ) (bytes : List ℕ) → readingFor shape bytes ≡ numbers ns → ReadAs shape (given ns) bytes
+unfolding inputOf starAsked
+read-given S.Eclipse ns bytes e = ap inputBy e
+read-given S.Star ns bytes e = ap starBy e
 
--- a refused text leaves them
-pub refused-kept : (text old : List ℕ) (i : ℕ) (f : Fault) → answerOf (typingOf text) ≡ T.Refused i f → Promised (typingOf text) old old
-refused-kept text old i f e = by (typingOf text) e
-  where
-    by : (x : Typing) → answerOf x ≡ T.Refused i f → Promised x old old
-    by (given ns) q = let z : _≡_ {A = ℕ} 0 1 = cc in absurd (omega arith)
-    by (refused j g) q = (refl, tt)
+read-refused : (shape : Shape) (i : ℕ) (f : Fault) (bytes : List ℕ) → ReadAs shape (refused i f) bytes
+read-refused S.Eclipse i f bytes = tt
+read-refused S.Star i f bytes = tt
 
--- any other has its numbers put
-pub numbers-put : (text : List ℕ) (lent ns : List ℤ) (old new : List ℕ) → answerOf (typingOf text) ≡ T.Numbers → ns ≡ numbersFrom (typingOf text) lent
-    → new ≡ bytesAfter ns old → Promised (typingOf text) old new
-numbers-put text lent ns old new e p q = by (typingOf text) refl e p
-  where
-    by : (x : Typing) → typingOf text ≡ x → answerOf x ≡ T.Numbers → ns ≡ numbersFrom x lent → Promised x old new
-    by (given ms) r a b =
-        let fits = numbers-fit text ms r in
-        let bytes : new ≡ bytesOf ms = q ∙ ap (λ (l : List ℤ). bytesAfter l old) b ∙ after-done ms old (typed-done ms fits) in
-        (bytes, ap inputOf bytes ∙ held ms fits)
-    by (refused j g) r a b = let z : _≡_ {A = ℕ} 0 1 = cc in absurd (omega arith)
+-- the bytes of the numbers typed
+pub record Made (shape : Shape) (text made : List ℕ) : Type 0 where
+  pub typed : List ℤ
+  pub is : typingOf shape text ≡ given typed
+  pub fits : Fit shape typed
+  pub bytes : made ≡ bytesFor shape typed
+  pub size : length made ≡ sizeFor shape
+
+module _ (shape : Shape) (text : List ℕ) (r : Typed) (e : r ≡ answerOf (typingOf shape text)) where
+  -- the numbers of a text that is not refused are put
+  pub made-is : (lent ns : List ℤ) (zeros made : List ℕ) → r ≡ T.Numbers → ns ≡ numbersFrom (typingOf shape text) lent → made ≡ afterFor shape ns zeros
+      → Made shape text made
+  made-is lent ns zeros made q n m = by (typingOf shape text) refl (sym e ∙ q) n
+    where
+      by : (x : Typing) → typingOf shape text ≡ x → answerOf x ≡ T.Numbers → ns ≡ numbersFrom x lent → Made shape text made
+      by (given ms) t a b =
+          let f = numbers-fit shape text ms t in
+          let is : made ≡ bytesFor shape ms = m ∙ ap (λ (l : List ℤ). afterFor shape l zeros) b ∙ after-done shape ms zeros (typed-done shape ms f) in
+          record { typed = ms; is = t; fits = f; bytes = is; size = ap length is ∙ bytes-length shape ms (f .all) }
+      by (refused j g) t a b = let z : _≡_ {A = ℕ} 0 1 = cc in absurd (omega arith)
+
+  module _ (old : List ℕ) where
+    -- they stand at the start of the room
+    pub numbers-put : (made new : List ℕ) (end : ℕ) → Made shape text made → sizeFor shape ≤ length old → Put old 0 made new end
+        → Encoded shape text old r new
+    numbers-put made new end m room p =
+        let all : new ≡ made ++ drop (sizeFor shape) old = put-start made old new end (omega (arith, m .size)) p ∙ rw (m .size) in
+        let first : take (sizeFor shape) new ≡ made = ap (take (sizeFor shape)) all ∙ take-at made (drop (sizeFor shape) old) (sizeFor shape) (m .size) in
+        record {
+          answer = e;
+          bytes = all ∙ rw (m .is, m .bytes);
+          read-as = rw (m .is, first, m .bytes) (read-given shape (m .typed) (bytesFor shape (m .typed)) (held shape (m .typed) (m .fits)));
+        }
+
+    -- a refused text leaves the room
+    pub refused-kept : (i : ℕ) (f : Fault) → r ≡ T.Refused i f → Encoded shape text old r old
+    refused-kept i f q = by (typingOf shape text) refl (sym e ∙ q)
+      where
+        by : (x : Typing) → typingOf shape text ≡ x → answerOf x ≡ T.Refused i f → Encoded shape text old r old
+        by (given ns) p a = let z : _≡_ {A = ℕ} 0 1 = cc in absurd (omega arith)
+        by (refused j g) p a = record { answer = e; bytes = rw p; read-as = rw p (read-refused shape j g (take (sizeFor shape) old)) }
+
+pub encoded-as : (shape s : Shape) (text old : List ℕ) (r : Typed) (new : List ℕ) → shape ≡ s → Encoded s text old r new → Encoded shape text old r new
+encoded-as shape s text old r new e p = rw e p

@@ -1,31 +1,59 @@
-// Reads a typed request from standard input, one `name value` a line, and writes its 115 bytes to standard output.
+// Reads a typed request from standard input, one `name value` a line, and writes its bytes to standard output: 115 of an eclipse, 79 of a star.
 // A fault is told on standard error with its line, and nothing is written.
 use libc::STDERR_FILENO;
 use libc::STDIN_FILENO;
 use libc::STDOUT_FILENO;
 use request_fields::COUNT;
 use request_fields::LENGTH;
+use request_fields::STAR_COUNT;
+use request_fields::STAR_LENGTH;
+use request_fields::Shape;
 use request_text::Typed;
 ghost use mathlib.Core.Path.{_≡_};
-ghost use Rattle.request_text.specs.Typing.{typingOf, answerOf};
+ghost use Rattle.request_fields.specs.declared.Shape.the-variants.{Eclipse, Star};
 ghost use lib.ListN.{take};
 ghost use Rattle.decimals.specs.Texts.{Counts};
-ghost use Rattle.request.specs.Encoded.{bytesFrom, ReadAs};
+ghost use Rattle.request.specs.Encoded.{Encoded};
 ghost use Rattle.request.specs.Streams.{outputOf, errorOf};
 
-// The bytes of a typed request; or its fault, and the bytes as they were.
-fn encode(text: &[u8], out: &mut [u8; LENGTH]) -> Typed
-    ensures answer { λ r. ⌜ r ≡ answerOf (typingOf (now (text .entry))) ⌝ }
-    ensures bytes { λ r. ⌜ now (out .exit) ≡ bytesFrom (typingOf (now (text .entry))) (now (out .entry)) ⌝ }
-    ensures read_as { λ r. ⌜ ReadAs (typingOf (now (text .entry))) (now (out .exit)) ⌝ }
+// The bytes of a typed eclipse at the start of the room; or its fault, and the room as it was.
+fn encode_eclipse(text: &[u8], out: &mut [u8; LENGTH]) -> Typed
+    ensures { λ r. ⌜ Encoded Eclipse (now (text .entry)) (now (out .entry)) r (now (out .exit)) ⌝ }
 {
     let mut numbers = [0i64; COUNT];
     let answer = request_text::numbers(text, &mut numbers);
     if let Typed::Refused(_, _) = answer {
         return answer;
     }
-    request_bytes::put(&numbers, out);
+    let mut made = [0u8; LENGTH];
+    request_bytes::put(&numbers, &mut made);
+    decimals::put_text(out, 0, &made);
     answer
+}
+
+// The same of a star.
+fn encode_star(text: &[u8], out: &mut [u8; LENGTH]) -> Typed
+    ensures { λ r. ⌜ Encoded Star (now (text .entry)) (now (out .entry)) r (now (out .exit)) ⌝ }
+{
+    let mut numbers = [0i64; STAR_COUNT];
+    let answer = request_text::star_numbers(text, &mut numbers);
+    if let Typed::Refused(_, _) = answer {
+        return answer;
+    }
+    let mut made = [0u8; STAR_LENGTH];
+    request_bytes::put_star(&numbers, &mut made);
+    decimals::put_text(out, 0, &made);
+    answer
+}
+
+// The same of a typed request.
+fn encode(shape: Shape, text: &[u8], out: &mut [u8; LENGTH]) -> Typed
+    ensures { λ r. ⌜ Encoded shape (now (text .entry)) (now (out .entry)) r (now (out .exit)) ⌝ }
+{
+    match shape {
+        Shape::Eclipse => encode_eclipse(text, out),
+        Shape::Star => encode_star(text, out),
+    }
 }
 
 // No message is longer: its word is a part of the text.
@@ -50,14 +78,18 @@ fn respond(text: &[u8], out: &mut [u8; LENGTH], message: &mut [u8; MESSAGE]) -> 
             error: end,
         };
     }
-    let answer = encode(text, out);
+    let shape = request_text::shapes::shape_of(text);
+    let answer = encode(shape, text, out);
     match answer {
-        Typed::Numbers => Streams {
-            output: LENGTH,
-            error: 0,
-        },
+        Typed::Numbers => {
+            let length = request_bytes::length_of(shape);
+            Streams {
+                output: length,
+                error: 0,
+            }
+        }
         Typed::Refused(line, fault) => {
-            let end = request_messages::put_message(message, 0, text, line, fault);
+            let end = request_messages::put_message(message, 0, shape, text, line, fault);
             Streams {
                 output: 0,
                 error: end,

@@ -7,18 +7,19 @@ use native.Mathlib.Omega.{arith}
 use native.Mathlib.Numerals.{add-one}
 use borrow.Author.Tests.{le-leb, lt-leb, leb-true}
 use lib.Dec.{leb}
-use lib.IntN.{ℤ, pos}
-use lib.ListN.{length, take, drop, set, replicate, length-set, drop-of-length-le}
+use lib.IntN.{ℤ}
+use lib.ListN.{length, take, drop, set, length-set, drop-of-length-le}
 use lib.Seq.{drop-cons, take-suc-set, take-all}
 use Rattle.request_fields.specs.declared.Field.{Field}
-use Rattle.request_fields.specs.Fields.{bytesIn, count}
+use Rattle.request_fields.specs.declared.Shape.{Shape}
+use Rattle.request_fields.specs.Fields.{bytesIn, countOf}
 use Rattle.request_fields.specs.Rows.{rowAt}
 use Rattle.request_bytes.specs.declared.Got.{Got}
 use Rattle.request_bytes.specs.declared.Got.the-variants as G
 use Rattle.request_bytes.specs.declared.Part.{Part}
 use Rattle.request_bytes.specs.declared.Part.the-variants as P
 use Rattle.request_bytes.specs.Layout.{numberAt, Piece, Reading, numbers, misshaped, before, readBy}
-use Rattle.request_bytes.specs.Request.{readingOf, gotOf, numbersAfter}
+use Rattle.request_bytes.specs.Request.{readingFor, gotOf, numbersAfter}
 use Rattle.request_bytes.specs.Rows.{rest, kindBytes, kindStands, partFrom, partOf}
 use Rattle.request_bytes.specs.RowLaws.{rest-all, rest-end, onward, read-next}
 
@@ -69,43 +70,48 @@ joined-none : (r : Reading) → r ≡ joined [] r
 joined-none (numbers ys) = refl
 joined-none misshaped = refl
 
-pub record Getting (s : List ℕ) (found : List ℤ) (at k : ℕ) : Type 0 where
-  pub reading : readingOf s ≡ joined (take k found) (readBy (rest k) (drop at s))
+pub record Getting (shape : Shape) (s : List ℕ) (found : List ℤ) (at k : ℕ) : Type 0 where
+  pub reading : readingFor shape s ≡ joined (take k found) (readBy (rest shape k) (drop at s))
   pub place : at ≤ length s
-  pub room : length found ≡ count
-  pub fields : k ≤ count
+  pub room : length found ≡ countOf shape
+  pub fields : k ≤ countOf shape
 
-pub getting-start : (s : List ℕ) → Getting s (replicate count (pos 0)) 0 0
-unfolding readingOf
-getting-start s =
+pub getting-start : (shape : Shape) (s : List ℕ) (found : List ℤ) → length found ≡ countOf shape → Getting shape s found 0 0
+unfolding readingFor
+getting-start shape s found r =
     record {
-      reading = ap (λ (l : List Piece). readBy l s) (sym rest-all) ∙ joined-none (readBy (rest 0) s);
+      reading = ap (λ (l : List Piece). readBy l s) (sym (rest-all shape)) ∙ joined-none (readBy (rest shape 0) s);
       place = omega arith;
-      room = refl;
+      room = r;
       fields = omega arith;
     }
 
--- what is promised of an answer and the numbers that are left
-abbrev pub Answered : List ℕ → List ℤ → Got → List ℤ → Type 0
-Answered s old r new = (r ≡ gotOf (readingOf s)) × (new ≡ numbersAfter (readingOf s) old)
+-- the answer, and the numbers where the bytes are of the shape
+pub record Read (shape : Shape) (s : List ℕ) (r : Got) (found : List ℤ) : Type 0 where
+  pub answer : r ≡ gotOf (readingFor shape s)
+  pub all : r ≡ G.Numbers → readingFor shape s ≡ numbers found
 
-answered : (s : List ℕ) (old : List ℤ) (x : Reading) → readingOf s ≡ x → Answered s old (gotOf x) (numbersAfter x old)
-answered s old x e = (ap gotOf (sym e), ap (λ (y : Reading). numbersAfter y old) (sym e))
+module _ (shape : Shape) (s : List ℕ) (found : List ℤ) where
+  read-numbers : readingFor shape s ≡ numbers found → Read shape s G.Numbers found
+  read-numbers e = record { answer = ap gotOf (sym e); all = λ q. e }
 
-module _ (s : List ℕ) (found : List ℤ) (at k : ℕ) (g : Getting s found at k) where
-  module _ (h : k < count) where
-    next : (p : Part) → partOf (rowAt k) s at ≡ p → readingOf s ≡ joined (take k found) (onward (rest (k + 1)) s p)
-    next p e = g .reading ∙ ap (joined (take k found)) (read-next s at k h (g .place) ∙ ap (onward (rest (k + 1)) s) e)
+  read-other : readingFor shape s ≡ misshaped → Read shape s G.Misshaped found
+  read-other e = record { answer = ap gotOf (sym e); all = λ q. let x : _≡_ {A = ℕ} 0 1 = cc in absurd (omega arith) }
 
-    pub getting-other : (old : List ℤ) → partOf (rowAt k) s at ≡ P.Misshaped → Answered s old G.Misshaped old
-    getting-other old e = answered s old misshaped (next P.Misshaped e)
+module _ (shape : Shape) (s : List ℕ) (found : List ℤ) (at k : ℕ) (g : Getting shape s found at k) where
+  module _ (h : k < countOf shape) where
+    next : (p : Part) → partOf (rowAt shape k) s at ≡ p → readingFor shape s ≡ joined (take k found) (onward (rest shape (k + 1)) s p)
+    next p e = g .reading ∙ ap (joined (take k found)) (read-next shape s at k h (g .place) ∙ ap (onward (rest shape (k + 1)) s) e)
 
-    pub getting-more : (z : ℤ) (after : ℕ) → partOf (rowAt k) s at ≡ P.Is z after → Getting s (set found k z) after (k + 1)
+    pub getting-other : partOf (rowAt shape k) s at ≡ P.Misshaped → Read shape s G.Misshaped found
+    getting-other e = read-other shape s found (next P.Misshaped e)
+
+    pub getting-more : (z : ℤ) (after : ℕ) → partOf (rowAt shape k) s at ≡ P.Is z after → Getting shape s (set found k z) after (k + 1)
     getting-more z after e =
         record {
-          reading = next (P.Is z after) e ∙ joined-before (take k found) z (readBy (rest (k + 1)) (drop after s))
-              ∙ ap (λ (l : List ℤ). joined l (readBy (rest (k + 1)) (drop after s))) one;
-          place = part-within (rowAt k) s at z after e;
+          reading = next (P.Is z after) e ∙ joined-before (take k found) z (readBy (rest shape (k + 1)) (drop after s))
+              ∙ ap (λ (l : List ℤ). joined l (readBy (rest shape (k + 1)) (drop after s))) one;
+          place = part-within (rowAt shape k) s at z after e;
           room = length-set found k z ∙ g .room;
           fields = omega arith;
         }
@@ -113,18 +119,31 @@ module _ (s : List ℕ) (found : List ℤ) (at k : ℕ) (g : Getting s found at 
         one : take k found ++ (z ∷ []) ≡ take (k + 1) (set found k z)
         one = rw (add-one, take-suc-set found k z (omega (arith, g .room)))
 
-  module _ (h : count ≤ k) where
-    at-end : readingOf s ≡ joined (take k found) (readBy [] (drop at s))
-    at-end = g .reading ∙ ap (λ (l : List Piece). joined (take k found) (readBy l (drop at s))) (rest-end k h)
+  module _ (h : countOf shape ≤ k) where
+    at-end : readingFor shape s ≡ joined (take k found) (readBy [] (drop at s))
+    at-end = g .reading ∙ ap (λ (l : List Piece). joined (take k found) (readBy l (drop at s))) (rest-end shape k h)
 
-    pub getting-longer : (old : List ℤ) → (at ≡ length s → ⊥) → Answered s old G.Misshaped old
+    pub getting-longer : (at ≡ length s → ⊥) → Read shape s G.Misshaped found
     unfolding readBy
-    getting-longer old n = answered s old misshaped
+    getting-longer n = read-other shape s found
         (at-end ∙ ap (λ (l : List ℕ). joined (take k found) (readBy [] l)) (drop-cons s at 0 (omega (arith, g .place))))
 
-    pub getting-end : (old : List ℤ) → at ≡ length s → Answered s old G.Numbers found
+    pub getting-end : at ≡ length s → Read shape s G.Numbers found
     unfolding readBy
-    getting-end old n =
-        answered s old (numbers found)
+    getting-end n =
+        read-numbers shape s found
         (at-end ∙ ap (λ (l : List ℕ). joined (take k found) (readBy [] l)) (drop-of-length-le s {i = at} (omega arith))
         ∙ ap numbers (append-nil (take k found) ∙ take-all k found (omega (arith, g .room))))
+
+-- ---- what is promised
+
+module _ (shape : Shape) (s : List ℕ) (r : Got) (found old : List ℤ) (l : Read shape s r found) where
+  pub get-numbers : r ≡ G.Numbers → (r ≡ gotOf (readingFor shape s)) × (found ≡ numbersAfter (readingFor shape s) old)
+  get-numbers e = (l .answer, rw (l .all e))
+
+  pub get-misshaped : r ≡ G.Misshaped → (r ≡ gotOf (readingFor shape s)) × (old ≡ numbersAfter (readingFor shape s) old)
+  get-misshaped e = (l .answer, by (readingFor shape s) (sym (l .answer) ∙ e))
+    where
+      by : (x : Reading) → gotOf x ≡ G.Misshaped → old ≡ numbersAfter x old
+      by (numbers ns) q = let x : _≡_ {A = ℕ} 0 1 = cc in absurd (omega arith)
+      by misshaped q = refl

@@ -10,16 +10,17 @@ use lib.IntN.{ℤ, pos}
 use lib.ListN.{length, getD, drop, set, length-append, drop-of-length-le}
 use lib.Seq.{sets, sets-eq, length-sets}
 use Rattle.request_fields.specs.declared.Field.{Field}
-use Rattle.request_fields.specs.Fields.{bytesIn, holds, layout, count}
+use Rattle.request_fields.specs.declared.Shape.{Shape}
+use Rattle.request_fields.specs.Fields.{bytesIn, holds, countOf}
 use Rattle.request_fields.specs.Rows.{rowAt}
 use Rattle.request_bytes.specs.declared.Answer.{Answer}
 use Rattle.request_bytes.specs.declared.Answer.the-variants.{Done, Unfit}
-use Rattle.request_bytes.specs.Layout.{numberBytes, Piece, piecesOf, sizeOf, fitting, bytesBy}
+use Rattle.request_bytes.specs.Layout.{numberBytes, Piece, fitting, bytesBy}
 use Rattle.request_bytes.specs.NumberLaws.{length-number}
 use Rattle.request_bytes.specs.LayoutLaws.{length-bytes}
-use Rattle.request_bytes.specs.Request.{putOf, bytesOf, bytesAfter}
+use Rattle.request_bytes.specs.Request.{piecesFor, sizeFor, putFor, bytesFor, afterFor}
 use Rattle.request_bytes.specs.Rows.{rest, kindBytes, fieldBytes}
-use Rattle.request_bytes.specs.RowLaws.{rest-all, rest-end, bytes-next, fits-next}
+use Rattle.request_bytes.specs.RowLaws.{rest-all, pieces-count, rest-end, bytes-next, fits-next}
 
 -- ---- bytes one after the other
 
@@ -43,100 +44,96 @@ field-put f z out kinds new at start e p q = q ∙ rw (p, e) (sym (sets-append o
 
 -- ---- the numbers before number k are put, in the bytes before `at`
 
--- how many bytes a request has
-abbrev pub size : ℕ
-size = sizeOf (piecesOf layout)
-
 -- what is left to put
-abbrev left : List ℤ → ℕ → List ℕ
-left ns k = bytesBy (rest k) (drop k ns)
+abbrev left : Shape → List ℤ → ℕ → List ℕ
+left s ns k = bytesBy (rest s k) (drop k ns)
 
-pub record Putting (ns : List ℤ) (made : List ℕ) (at k : ℕ) : Type 0 where
-  pub fits : putOf ns ≡ fitting (rest k) k (drop k ns)
-  pub bytes : sets made at (left ns k) ≡ bytesOf ns
-  pub place : at + length (left ns k) ≡ size
-  pub room : length made ≡ size
-  pub fields : k ≤ count
+pub record Putting (s : Shape) (ns : List ℤ) (made : List ℕ) (at k : ℕ) : Type 0 where
+  pub fits : putFor s ns ≡ fitting (rest s k) k (drop k ns)
+  pub bytes : sets made at (left s ns k) ≡ bytesFor s ns
+  pub place : at + length (left s ns k) ≡ sizeFor s
+  pub room : length made ≡ sizeFor s
+  pub fields : k ≤ countOf s
 
-pub putting-start : (ns : List ℤ) (made : List ℕ) → length ns ≡ count → length made ≡ size → Putting ns made 0 0
-unfolding putOf bytesOf
-putting-start ns made e r =
-    let all : length (left ns 0) ≡ size = ap (λ (l : List Piece). length (bytesBy l ns)) rest-all ∙ length-bytes (piecesOf layout) ns e in
+pub putting-start : (s : Shape) (ns : List ℤ) (made : List ℕ) → length ns ≡ countOf s → length made ≡ sizeFor s → Putting s ns made 0 0
+unfolding putFor bytesFor
+putting-start s ns made e r =
+    let all : length (left s ns 0) ≡ sizeFor s = ap (λ (l : List Piece). length (bytesBy l ns)) (rest-all s) ∙ length-bytes (piecesFor s) ns (e ∙ pieces-count s) in
     record {
-      fits = ap (λ (l : List Piece). fitting l 0 ns) (sym rest-all);
-      bytes = sets-whole made (left ns 0) (r ∙ sym all) ∙ ap (λ (l : List Piece). bytesBy l ns) rest-all;
+      fits = ap (λ (l : List Piece). fitting l 0 ns) (sym (rest-all s));
+      bytes = sets-whole made (left s ns 0) (r ∙ sym all) ∙ ap (λ (l : List Piece). bytesBy l ns) (rest-all s);
       place = omega (arith, all);
       room = r;
       fields = omega arith;
     }
 
 -- the answer, and the bytes where all fit
-pub record Laid (ns : List ℤ) (r : Answer) (made : List ℕ) : Type 0 where
-  pub answer : r ≡ putOf ns
-  pub bytes : r ≡ Done → made ≡ bytesOf ns
+pub record Laid (s : Shape) (ns : List ℤ) (r : Answer) (made : List ℕ) : Type 0 where
+  pub answer : r ≡ putFor s ns
+  pub bytes : r ≡ Done → made ≡ bytesFor s ns
 
-module _ (ns : List ℤ) (made : List ℕ) (at k : ℕ) (e : length ns ≡ count) (p : Putting ns made at k) where
-  module _ (h : k < count) where
+module _ (s : Shape) (ns : List ℤ) (made : List ℕ) (at k : ℕ) (e : length ns ≡ countOf s) (p : Putting s ns made at k) where
+  module _ (h : k < countOf s) where
     abbrev z : ℤ
     z = getD ns k (pos 0)
 
     abbrev field : List ℕ
-    field = fieldBytes (rowAt k) z
+    field = fieldBytes (rowAt s k) z
 
-    next : left ns k ≡ field ++ left ns (k + 1)
-    next = bytes-next ns k h (omega arith)
+    next : left s ns k ≡ field ++ left s ns (k + 1)
+    next = bytes-next s ns k h (omega arith)
 
     -- there is room for the field
     pub putting-room : at + length field ≤ length made
-    putting-room = omega (arith, p .place, p .room, ap (λ (l : List ℕ). length l) next, length-append field (left ns (k + 1)))
+    putting-room = omega (arith, p .place, p .room, ap (λ (l : List ℕ). length l) next, length-append field (left s ns (k + 1)))
 
-    pub putting-unfit : holds (rowAt k .3) z ≡ false → Laid ns (Unfit k) made
+    pub putting-unfit : holds (rowAt s k .3) z ≡ false → Laid s ns (Unfit k) made
     putting-unfit t =
-        record { answer = sym (p .fits ∙ fits-next ns k h (omega arith) ∙ rw t); bytes = λ q. let x : _≡_ {A = ℕ} 0 1 = cc in absurd (omega arith) }
+        record { answer = sym (p .fits ∙ fits-next s ns k h (omega arith) ∙ rw t); bytes = λ q. let x : _≡_ {A = ℕ} 0 1 = cc in absurd (omega arith) }
 
-    pub putting-more : (new : List ℕ) (after : ℕ) → holds (rowAt k .3) z ≡ true → after ≡ at + length field → new ≡ sets made at field
-        → Putting ns new after (k + 1)
+    pub putting-more : (new : List ℕ) (after : ℕ) → holds (rowAt s k .3) z ≡ true → after ≡ at + length field → new ≡ sets made at field
+        → Putting s ns new after (k + 1)
     putting-more new after t a b =
         rw (a, b)
         (record {
-          fits = p .fits ∙ fits-next ns k h (omega arith) ∙ rw t;
-          bytes = sym (sets-append made at field (left ns (k + 1))) ∙ ap (sets made at) (sym next) ∙ p .bytes;
-          place = omega (arith, p .place, ap (λ (l : List ℕ). length l) next, length-append field (left ns (k + 1)));
+          fits = p .fits ∙ fits-next s ns k h (omega arith) ∙ rw t;
+          bytes = sym (sets-append made at field (left s ns (k + 1))) ∙ ap (sets made at) (sym next) ∙ p .bytes;
+          place = omega (arith, p .place, ap (λ (l : List ℕ). length l) next, length-append field (left s ns (k + 1)));
           room = length-sets made at field ∙ p .room;
           fields = omega arith;
         })
 
-  pub putting-end : count ≤ k → Laid ns Done made
+  pub putting-end : countOf s ≤ k → Laid s ns Done made
   unfolding fitting bytesBy
   putting-end h =
       record {
-        answer = sym (p .fits ∙ ap (λ (l : List Piece). fitting l k (drop k ns)) (rest-end k h));
-        bytes = λ q. ap (λ (l : List Piece). sets made at (bytesBy l (drop k ns))) (sym (rest-end k h)) ∙ p .bytes;
+        answer = sym (p .fits ∙ ap (λ (l : List Piece). fitting l k (drop k ns)) (rest-end s k h));
+        bytes = λ q. ap (λ (l : List Piece). sets made at (bytesBy l (drop k ns))) (sym (rest-end s k h)) ∙ p .bytes;
       }
 
 -- ---- what is promised
 
-module _ (ns : List ℤ) (r : Answer) (made old : List ℕ) (l : Laid ns r made) where
-  pub put-done : r ≡ Done → (r ≡ putOf ns) × (made ≡ bytesAfter ns old)
-  unfolding bytesAfter
-  put-done e = let q : putOf ns ≡ Done = sym (l .answer) ∙ e in (l .answer, l .bytes e ∙ rw q)
+module _ (s : Shape) (ns : List ℤ) (r : Answer) (made old : List ℕ) (l : Laid s ns r made) where
+  pub put-done : r ≡ Done → (r ≡ putFor s ns) × (made ≡ afterFor s ns old)
+  unfolding afterFor
+  put-done e = let q : putFor s ns ≡ Done = sym (l .answer) ∙ e in (l .answer, l .bytes e ∙ rw q)
 
-  pub put-unfit : (k : ℕ) → r ≡ Unfit k → (r ≡ putOf ns) × (old ≡ bytesAfter ns old)
-  unfolding bytesAfter
-  put-unfit k e = let q : putOf ns ≡ Unfit k = sym (l .answer) ∙ e in (l .answer, rw q)
+  pub put-unfit : (k : ℕ) → r ≡ Unfit k → (r ≡ putFor s ns) × (old ≡ afterFor s ns old)
+  unfolding afterFor
+  put-unfit k e = let q : putFor s ns ≡ Unfit k = sym (l .answer) ∙ e in (l .answer, rw q)
 
 -- numbers that their bytes hold are put
-pub all-put : (ns : List ℤ) → length ns ≡ count → ((k : ℕ) → k < count → holds (rowAt k .3) (getD ns k (pos 0)) ≡ true) → putOf ns ≡ Done
-unfolding putOf fitting
-all-put ns e h = ap (λ (l : List Piece). fitting l 0 ns) (sym rest-all) ∙ from count 0 (omega arith)
+pub all-put : (s : Shape) (ns : List ℤ) → length ns ≡ countOf s → ((k : ℕ) → k < countOf s → holds (rowAt s k .3) (getD ns k (pos 0)) ≡ true) → putFor s ns ≡ Done
+unfolding putFor fitting
+all-put s ns e h = ap (λ (l : List Piece). fitting l 0 ns) (sym (rest-all s)) ∙ from (countOf s) 0 (omega arith)
   where
-    ends : (k : ℕ) → count ≤ k → fitting (rest k) k (drop k ns) ≡ Done
-    ends k l = ap (λ (x : List Piece). fitting x k (drop k ns)) (rest-end k l)
+    ends : (k : ℕ) → countOf s ≤ k → fitting (rest s k) k (drop k ns) ≡ Done
+    ends k l = ap (λ (x : List Piece). fitting x k (drop k ns)) (rest-end s k l)
 
-    from : (others k : ℕ) → count ≤ k + others → fitting (rest k) k (drop k ns) ≡ Done
+    from : (others k : ℕ) → countOf s ≤ k + others → fitting (rest s k) k (drop k ns) ≡ Done
     from zero k l = ends k (omega arith)
     from (suc n) k l =
-        elim (decLt k count) [
-          | yes g ↦ fits-next ns k g (omega arith) ∙ rw (h k g) (from n (k + 1) (omega arith))
+        elim (decLt k (countOf s)) [
+          | yes g ↦ fits-next s ns k g (omega arith) ∙ rw (h k g) (from n (k + 1) (omega arith))
           | no g ↦ ends k (omega arith)
         ]

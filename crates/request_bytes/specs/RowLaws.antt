@@ -12,31 +12,41 @@ use lib.Dec.{eqb}
 use lib.IntN.{ℤ, pos}
 use lib.ListN.{length, getD, drop, length-drop, drop-of-length-le}
 use lib.Seq.{drop-cons, drop-drop, getD-drop}
+use Rattle.request_fields.specs.declared.Shape.{Shape}
+use Rattle.request_fields.specs.declared.Shape.the-variants as S
 use Rattle.request_fields.specs.declared.Width.{Width}
 use Rattle.request_fields.specs.declared.Width.the-variants as W
-use Rattle.request_fields.specs.Fields.{bytesIn, holds, layout, count}
+use Rattle.request_fields.specs.Fields.{bytesIn, holds, countOf}
 use Rattle.request_fields.specs.Rows.{rows, rowAt}
 use Rattle.request_fields.specs.RowLaws.{rows-next, rows-end}
 use Rattle.request_bytes.specs.declared.Answer.the-variants.{Unfit}
 use Rattle.request_bytes.specs.declared.Part.{Part}
 use Rattle.request_bytes.specs.declared.Part.the-variants as P
-use Rattle.request_bytes.specs.Layout.{numberBytes, numberAt, Piece, kind, number, piecesOf, fitting, bytesBy, Reading, misshaped, before, readBy}
+use Rattle.request_bytes.specs.Layout.{numberBytes, numberAt, Piece, kind, number, countIn, fitting, bytesBy, Reading, misshaped, before, readBy}
+use Rattle.request_bytes.specs.Request.{piecesFor}
 use Rattle.request_bytes.specs.Rows.{begun, piecesIn, rest, kindBytes, fieldBytes, kindStands, partFrom, partOf}
 
 -- ---- the fields
 
--- all of them are document 01's layout
-pub rest-all : rest 0 ≡ piecesOf layout
+-- all of them are the layout
+pub rest-all : (s : Shape) → rest s 0 ≡ piecesFor s
 unfolding rest rows
-rest-all = refl
+rest-all S.Eclipse = refl
+rest-all S.Star = refl
 
-pub rest-end : (k : ℕ) → count ≤ k → rest k ≡ []
-unfolding rest
-rest-end k h = ap piecesIn (rows-end k h)
+-- as many as a request has numbers
+pub pieces-count : (s : Shape) → countOf s ≡ countIn (piecesFor s)
+pieces-count S.Eclipse = refl
+pieces-count S.Star = refl
 
-rest-next : (k : ℕ) → k < count → rest k ≡ begun (rowAt k .4) (number (rowAt k .3) ∷ rest (k + 1))
-unfolding rest
-rest-next k h = ap piecesIn (rows-next k h)
+module _ (s : Shape) (k : ℕ) where
+  pub rest-end : countOf s ≤ k → rest s k ≡ []
+  unfolding rest
+  rest-end h = ap piecesIn (rows-end s k h)
+
+  rest-next : k < countOf s → rest s k ≡ begun (rowAt s k .4) (number (rowAt s k .3) ∷ rest s (k + 1))
+  unfolding rest
+  rest-next h = ap piecesIn (rows-next s k h)
 
 -- the numbers from number k on
 numbers-next : (ns : List ℤ) (k : ℕ) → k < length ns → drop k ns ≡ getD ns k (pos 0) ∷ drop (k + 1) ns
@@ -62,25 +72,25 @@ fits-number : (w : Width) (l : List Piece) (k : ℕ) (z : ℤ) (ns : List ℤ) �
 unfolding fitting
 fits-number w l k z ns = refl
 
-module _ (ns : List ℤ) (k : ℕ) (h : k < count) (g : k < length ns) where
+module _ (s : Shape) (ns : List ℤ) (k : ℕ) (h : k < countOf s) (g : k < length ns) where
   abbrev z : ℤ
   z = getD ns k (pos 0)
 
-  pub bytes-next : bytesBy (rest k) (drop k ns) ≡ fieldBytes (rowAt k) z ++ bytesBy (rest (k + 1)) (drop (k + 1) ns)
+  pub bytes-next : bytesBy (rest s k) (drop k ns) ≡ fieldBytes (rowAt s k) z ++ bytesBy (rest s (k + 1)) (drop (k + 1) ns)
   unfolding fieldBytes
   bytes-next =
-      ap (λ (l : List Piece). bytesBy l (drop k ns)) (rest-next k h)
-      ∙ bytes-begun (rowAt k .4) (number (rowAt k .3) ∷ rest (k + 1)) (drop k ns)
-      ∙ ap (λ (l : List ℕ). kindBytes (rowAt k .4) ++ l)
-      (ap (bytesBy (number (rowAt k .3) ∷ rest (k + 1))) (numbers-next ns k g) ∙ bytes-number (rowAt k .3) (rest (k + 1)) z (drop (k + 1) ns))
-      ∙ sym (append-assoc (kindBytes (rowAt k .4)) (numberBytes (rowAt k .3) z) (bytesBy (rest (k + 1)) (drop (k + 1) ns)))
+      ap (λ (l : List Piece). bytesBy l (drop k ns)) (rest-next s k h)
+      ∙ bytes-begun (rowAt s k .4) (number (rowAt s k .3) ∷ rest s (k + 1)) (drop k ns)
+      ∙ ap (λ (l : List ℕ). kindBytes (rowAt s k .4) ++ l)
+      (ap (bytesBy (number (rowAt s k .3) ∷ rest s (k + 1))) (numbers-next ns k g) ∙ bytes-number (rowAt s k .3) (rest s (k + 1)) z (drop (k + 1) ns))
+      ∙ sym (append-assoc (kindBytes (rowAt s k .4)) (numberBytes (rowAt s k .3) z) (bytesBy (rest s (k + 1)) (drop (k + 1) ns)))
 
-  pub fits-next : fitting (rest k) k (drop k ns) ≡ cond (holds (rowAt k .3) z) (fitting (rest (k + 1)) (k + 1) (drop (k + 1) ns)) (Unfit k)
+  pub fits-next : fitting (rest s k) k (drop k ns) ≡ cond (holds (rowAt s k .3) z) (fitting (rest s (k + 1)) (k + 1) (drop (k + 1) ns)) (Unfit k)
   fits-next =
-      ap (λ (l : List Piece). fitting l k (drop k ns)) (rest-next k h)
-      ∙ fits-begun (rowAt k .4) (number (rowAt k .3) ∷ rest (k + 1)) k (drop k ns)
-      ∙ ap (fitting (number (rowAt k .3) ∷ rest (k + 1)) k) (numbers-next ns k g)
-      ∙ fits-number (rowAt k .3) (rest (k + 1)) k z (drop (k + 1) ns)
+      ap (λ (l : List Piece). fitting l k (drop k ns)) (rest-next s k h)
+      ∙ fits-begun (rowAt s k .4) (number (rowAt s k .3) ∷ rest s (k + 1)) k (drop k ns)
+      ∙ ap (fitting (number (rowAt s k .3) ∷ rest s (k + 1)) k) (numbers-next ns k g)
+      ∙ fits-number (rowAt s k .3) (rest s (k + 1)) k z (drop (k + 1) ns)
 
 -- ---- a kind, where there is one
 
@@ -167,6 +177,8 @@ read-begun (suc b) w l s at h =
     by true g = read-number w l s (at + 1) (omega arith)
     by false g = refl
 
-pub read-next : (s : List ℕ) (at k : ℕ) → k < count → at ≤ length s → readBy (rest k) (drop at s) ≡ onward (rest (k + 1)) s (partOf (rowAt k) s at)
+pub read-next : (shape : Shape) (s : List ℕ) (at k : ℕ) → k < countOf shape → at ≤ length s
+    → readBy (rest shape k) (drop at s) ≡ onward (rest shape (k + 1)) s (partOf (rowAt shape k) s at)
 unfolding partOf
-read-next s at k h g = ap (λ (l : List Piece). readBy l (drop at s)) (rest-next k h) ∙ read-begun (rowAt k .4) (rowAt k .3) (rest (k + 1)) s at g
+read-next shape s at k h g =
+    ap (λ (l : List Piece). readBy l (drop at s)) (rest-next shape k h) ∙ read-begun (rowAt shape k .4) (rowAt shape k .3) (rest shape (k + 1)) s at g

@@ -7,6 +7,7 @@ use lib.Dec.{ltb, leb, eqb}
 use lib.IntN.{ℤ}
 use lib.ListN.{length, getD, drop}
 use Rattle.request_fields.specs.declared.Field.{Field}
+use Rattle.request_fields.specs.declared.Shape.{Shape}
 use Rattle.request_fields.specs.declared.Width.{Width}
 use Rattle.request_fields.specs.Fields.{bytesIn}
 use Rattle.request_fields.specs.Rows.{rows}
@@ -24,8 +25,8 @@ piecesIn [] = []
 piecesIn (f ∷ fs) = begun (f .4) (number (f .3) ∷ piecesIn fs)
 
 -- the fields from field k on
-unfoldable pub rest : ℕ → List Piece
-rest k = piecesIn (drop k rows)
+unfoldable pub rest : Shape → ℕ → List Piece
+rest s k = piecesIn (drop k (rows s))
 
 -- ---- to bytes
 

@@ -2,6 +2,9 @@
 use request_fields::COUNT;
 use request_fields::Field;
 use request_fields::LENGTH;
+use request_fields::STAR_COUNT;
+use request_fields::STAR_LENGTH;
+use request_fields::Shape;
 use request_fields::Width;
 ghost use mathlib.Core.Path.{_≡_};
 ghost use mathlib.Core.Bool.{true};
@@ -9,11 +12,23 @@ ghost use Prim.Native.Nat.{_+_, _≤_, _<_};
 ghost use lib.IntN.{natAbs};
 ghost use lib.ListN.{length};
 ghost use lib.Seq.{sets};
-ghost use Rattle.request_fields.specs.Fields.{bytesIn, holds, count};
+ghost use Rattle.request_fields.specs.declared.Shape.the-variants.{Eclipse, Star};
+ghost use Rattle.request_fields.specs.Fields.{bytesIn, holds, countOf};
 ghost use Rattle.request_bytes.specs.Layout.{complement, signed, numberBytes, numberAt};
-ghost use Rattle.request_bytes.specs.Request.{putOf, bytesAfter, readingOf, gotOf, numbersAfter};
-ghost use Rattle.request_bytes.specs.PutLaws.{size, Laid};
+ghost use Rattle.request_bytes.specs.Request.{sizeFor, putFor, afterFor, readingFor, gotOf, numbersAfter};
+ghost use Rattle.request_bytes.specs.PutLaws.{Laid};
+ghost use Rattle.request_bytes.specs.GetLaws.{Read};
 ghost use Rattle.request_bytes.specs.Rows.{kindBytes, fieldBytes, kindStands, partOf};
+
+// How many bytes a request has.
+pub fn length_of(shape: Shape) -> usize
+    ensures { λ r. ⌜ r ≡ sizeFor shape ⌝ }
+{
+    match shape {
+        Shape::Eclipse => LENGTH,
+        Shape::Star => STAR_LENGTH,
+    }
+}
 
 // Whether the numbers were put; or the first that its bytes do not hold, counted from 0.
 pub enum Answer {
@@ -83,14 +98,15 @@ fn put_field(out: &mut [u8], at: usize, field: Field, n: i64) -> usize
 }
 
 // The bytes of the numbers, as far as these fit.
-fn lay(numbers: &[i64], out: &mut [u8]) -> Answer
-    requires { ⌜ (length (now numbers) ≡ count) × (length (now out) ≡ size) ⌝ }
-    ensures { λ r. ⌜ Laid (now (numbers .entry)) r (now (out .exit)) ⌝ }
+fn lay(shape: Shape, numbers: &[i64], out: &mut [u8]) -> Answer
+    requires { ⌜ (length (now numbers) ≡ countOf shape) × (length (now out) ≡ sizeFor shape) ⌝ }
+    ensures { λ r. ⌜ Laid shape (now (numbers .entry)) r (now (out .exit)) ⌝ }
 {
+    let count = request_fields::count_of(shape);
     let mut at = 0;
     let mut k = 0;
-    while k < COUNT {
-        let field = request_fields::field_at(k);
+    while k < count {
+        let field = request_fields::field_at(shape, k);
         let width = field.3;
         let n = numbers[k];
         let fits = request_fields::holds(width, n);
@@ -103,13 +119,26 @@ fn lay(numbers: &[i64], out: &mut [u8]) -> Answer
     Answer::Done
 }
 
-// The bytes of the numbers; or the first number that does not fit, and the bytes as they were. Any numbers.
+// The bytes of an eclipse's numbers; or the first number that does not fit, and the bytes as they were. Any numbers.
 pub fn put(numbers: &[i64; COUNT], out: &mut [u8; LENGTH]) -> Answer
-    ensures answer { λ r. ⌜ r ≡ putOf (now (numbers .entry)) ⌝ }
-    ensures bytes { λ r. ⌜ now (out .exit) ≡ bytesAfter (now (numbers .entry)) (now (out .entry)) ⌝ }
+    ensures answer { λ r. ⌜ r ≡ putFor Eclipse (now (numbers .entry)) ⌝ }
+    ensures bytes { λ r. ⌜ now (out .exit) ≡ afterFor Eclipse (now (numbers .entry)) (now (out .entry)) ⌝ }
 {
     let mut made = [0u8; LENGTH];
-    let answer = lay(numbers, &mut made);
+    let answer = lay(Shape::Eclipse, numbers, &mut made);
+    if let Answer::Done = answer {
+        *out = made;
+    }
+    answer
+}
+
+// The same of a star's.
+pub fn put_star(numbers: &[i64; STAR_COUNT], out: &mut [u8; STAR_LENGTH]) -> Answer
+    ensures answer { λ r. ⌜ r ≡ putFor Star (now (numbers .entry)) ⌝ }
+    ensures bytes { λ r. ⌜ now (out .exit) ≡ afterFor Star (now (numbers .entry)) (now (out .entry)) ⌝ }
+{
+    let mut made = [0u8; STAR_LENGTH];
+    let answer = lay(Shape::Star, numbers, &mut made);
     if let Answer::Done = answer {
         *out = made;
     }
@@ -182,16 +211,16 @@ fn part_at(s: &[u8], at: usize, field: Field) -> Part
     Part::Is(n, next)
 }
 
-// The numbers of the bytes; or that these are not of the shape, and the numbers as they were. Any bytes.
-pub fn get(bytes: &[u8], out: &mut [i64; COUNT]) -> Got
-    ensures answer { λ r. ⌜ r ≡ gotOf (readingOf (now (bytes .entry))) ⌝ }
-    ensures numbers { λ r. ⌜ now (out .exit) ≡ numbersAfter (readingOf (now (bytes .entry))) (now (out .entry)) ⌝ }
+// The numbers of the bytes, as far as these are of the shape.
+fn read(shape: Shape, bytes: &[u8], found: &mut [i64]) -> Got
+    requires { ⌜ length (now found) ≡ countOf shape ⌝ }
+    ensures { λ r. ⌜ Read shape (now (bytes .entry)) r (now (found .exit)) ⌝ }
 {
-    let mut found = [0i64; COUNT];
+    let count = request_fields::count_of(shape);
     let mut at = 0;
     let mut k = 0;
-    while k < COUNT {
-        let field = request_fields::field_at(k);
+    while k < count {
+        let field = request_fields::field_at(shape, k);
         let part = part_at(bytes, at, field);
         let Part::Is(n, next) = part else {
             return Got::Misshaped;
@@ -203,6 +232,31 @@ pub fn get(bytes: &[u8], out: &mut [i64; COUNT]) -> Got
     if at != bytes.len() {
         return Got::Misshaped;
     }
-    *out = found;
     Got::Numbers
+}
+
+// The numbers of an eclipse's bytes; or that these are not of the shape, and the numbers as they were. Any bytes.
+pub fn get(bytes: &[u8], out: &mut [i64; COUNT]) -> Got
+    ensures answer { λ r. ⌜ r ≡ gotOf (readingFor Eclipse (now (bytes .entry))) ⌝ }
+    ensures numbers { λ r. ⌜ now (out .exit) ≡ numbersAfter (readingFor Eclipse (now (bytes .entry))) (now (out .entry)) ⌝ }
+{
+    let mut found = [0i64; COUNT];
+    let got = read(Shape::Eclipse, bytes, &mut found);
+    if let Got::Numbers = got {
+        *out = found;
+    }
+    got
+}
+
+// The same of a star's.
+pub fn get_star(bytes: &[u8], out: &mut [i64; STAR_COUNT]) -> Got
+    ensures answer { λ r. ⌜ r ≡ gotOf (readingFor Star (now (bytes .entry))) ⌝ }
+    ensures numbers { λ r. ⌜ now (out .exit) ≡ numbersAfter (readingFor Star (now (bytes .entry))) (now (out .entry)) ⌝ }
+{
+    let mut found = [0i64; STAR_COUNT];
+    let got = read(Shape::Star, bytes, &mut found);
+    if let Got::Numbers = got {
+        *out = found;
+    }
+    got
 }

@@ -1,4 +1,4 @@
--- The numbers of a request, in document 01's order: their names, their units and their bytes.
+-- The numbers of a request in their order, an eclipse's or a star's: their names, their units and their bytes.
 -- Assumes nothing: these are definitions.
 use Prim.Native.Nat.{ℕ, _-_, _/_, _^_}
 use Prim.Native.String.{String}
@@ -7,6 +7,8 @@ use mathlib.Core.List.{List, [], _∷_, _++_}
 use lib.IntN.{ℤ, pos, negℤ}
 use lib.Signed.{leZ}
 use lib.ListN.{length}
+use Rattle.request_fields.specs.declared.Shape.{Shape}
+use Rattle.request_fields.specs.declared.Shape.the-variants as S
 use Rattle.request_fields.specs.declared.Width.{Width}
 use Rattle.request_fields.specs.declared.Width.the-variants as W
 
@@ -61,20 +63,32 @@ length8 s = number W.Signed4 s 8
 abbrev angle : String → Number
 angle s = number W.Signed4 s 6
 
--- "kind 02 and 22 signed 4-byte numbers"; coefficients are per hour, in the unit of their quantity
-abbrev elements : Record
+-- coefficients are per hour, in the unit of their quantity
+abbrev x : List Number
+x = length8 "x0" ∷ length8 "x1" ∷ length8 "x2" ∷ length8 "x3" ∷ []
+
+abbrev y : List Number
+y = length8 "y0" ∷ length8 "y1" ∷ length8 "y2" ∷ length8 "y3" ∷ []
+
+abbrev mu : List Number
+mu = angle "mu0" ∷ angle "mu1" ∷ angle "mu2" ∷ []
+
+-- "kind 02 and 22 signed 4-byte numbers"
+abbrev pub elements : Record
 elements =
     record {
       kind = 0x02;
       numbers =
-          length8 "x0" ∷ length8 "x1" ∷ length8 "x2" ∷ length8 "x3"
-          ∷ length8 "y0" ∷ length8 "y1" ∷ length8 "y2" ∷ length8 "y3"
-          ∷ angle "d0" ∷ angle "d1" ∷ angle "d2"
+          x ++ y ++ angle "d0" ∷ angle "d1" ∷ angle "d2"
           ∷ length8 "l10" ∷ length8 "l11" ∷ length8 "l12"
           ∷ length8 "l20" ∷ length8 "l21" ∷ length8 "l22"
-          ∷ angle "mu0" ∷ angle "mu1" ∷ angle "mu2"
-          ∷ length8 "tan f1" ∷ length8 "tan f2" ∷ [];
+          ∷ mu ++ length8 "tan f1" ∷ length8 "tan f2" ∷ [];
     }
+
+-- Document 02, wish 7: "The elements are x, y, d0 and μ, twelve numbers, places 0 to 11"; "L a lunar radius given with the request". DECISIONS:
+-- "kind 05 with the 12 elements and the radius (signed, 4 bytes each), then kind 03 and kind 04 as in an eclipse's: 79 bytes"
+abbrev pub starElements : Record
+starElements = record { kind = 0x05; numbers = x ++ y ++ angle "d0" ∷ mu ++ length8 "radius" ∷ [] }
 
 -- "kind 03 and number (unsigned, 2 bytes), latitude, longitude, height (signed, 4 each)"; a height is in metres. Document 02, wish 1:
 -- "ΔT in hundredths of a second"; "the station record in the program's input grows by 4 bytes at its end, signed"
@@ -92,9 +106,14 @@ station =
 abbrev window : Record
 window = record { kind = 0x04; numbers = number W.Signed2 "first" 0 ∷ number W.Signed2 "last" 0 ∷ number W.Unsigned2 "guard" 0 ∷ [] }
 
+-- in both requests
+abbrev pub alike : List Record
+alike = station ∷ window ∷ []
+
 -- "exactly 109 bytes, numbers big-endian: kind 02 ..; kind 03 ..; kind 04 .."; with ΔT and the guard 115
-abbrev pub layout : List Record
-layout = elements ∷ station ∷ window ∷ []
+abbrev pub layoutOf : Shape → List Record
+layoutOf S.Eclipse = elements ∷ alike
+layoutOf S.Star = starElements ∷ alike
 
 -- ---- of any layout
 
@@ -104,5 +123,13 @@ numbersOf [] = []
 numbersOf (r ∷ rs) = r .numbers ++ numbersOf rs
 
 -- how many a request has
+abbrev pub countOf : Shape → ℕ
+countOf s = length (numbersOf (layoutOf s))
+
+-- ---- an eclipse's
+
+abbrev pub layout : List Record
+layout = layoutOf S.Eclipse
+
 abbrev pub count : ℕ
-count = length (numbersOf layout)
+count = countOf S.Eclipse

@@ -1,35 +1,58 @@
 -- Laws of the rows: as many as there are numbers, one after the other.
-use mathlib.Core.Path.{_≡_, refl}
+use mathlib.Core.Path.{_≡_, refl, sym, ap, _∙_}
 use mathlib.Core.Bool.{Bool, true, false, _&&_}
-use mathlib.Core.List.{List, [], _∷_, map}
-use Prim.Native.Nat.{ℕ, zero, suc, _+_, _≤_, _<_}
+use mathlib.Core.List.{List, [], _∷_, _++_, map}
+use Prim.Native.Nat.{ℕ, zero, suc, _+_, _-_, _≤_, _<_}
 use native.Mathlib.Numerals.{add-one}
 use native.Mathlib.Omega.{arith}
 use borrow.Author.Tests.{leb-true}
 use lib.Dec.{T, leb}
-use lib.ListN.{length, getD, drop, drop-of-length-le}
-use lib.Seq.{drop-cons, length-take-le}
+use lib.ListN.{length, getD, drop, drop-of-length-le, List·getD-append}
+use lib.Seq.{drop-cons, length-take-le, getD-append-add}
 use Rattle.request_fields.specs.declared.Field.{Field}
-use Rattle.request_fields.specs.Fields.{Number, layout, numbersOf, count}
-use Rattle.request_fields.specs.Rows.{letters, rows, none, rowAt, nameOf}
+use Rattle.request_fields.specs.declared.Shape.{Shape}
+use Rattle.request_fields.specs.declared.Shape.the-variants as S
+use Rattle.request_fields.specs.Fields.{Number, layoutOf, numbersOf, countOf}
+use Rattle.request_fields.specs.Rows.{letters, rows, elementRows, alikeRows, none, rowIn, rowAt, nameOf}
 
-pub rows-count : length rows ≡ count
+pub rows-count : (s : Shape) → length (rows s) ≡ countOf s
 unfolding rows
-rows-count = refl
+rows-count S.Eclipse = refl
+rows-count S.Star = refl
 
-pub rows-next : (k : ℕ) → k < count → drop k rows ≡ rowAt k ∷ drop (k + 1) rows
-unfolding rowAt
-rows-next k h = rw (add-one, drop-cons rows k none (omega (arith, rows-count)))
+module _ (s : Shape) (k : ℕ) where
+  pub rows-next : k < countOf s → drop k (rows s) ≡ rowAt s k ∷ drop (k + 1) (rows s)
+  unfolding rowAt
+  rows-next h = rw (add-one, drop-cons (rows s) k none (omega (arith, rows-count s)))
 
-pub rows-end : (k : ℕ) → count ≤ k → drop k rows ≡ []
-rows-end k h = drop-of-length-le rows {i = k} (omega (arith, rows-count))
+  pub rows-end : countOf s ≤ k → drop k (rows s) ≡ []
+  rows-end h = drop-of-length-le (rows s) {i = k} (omega (arith, rows-count s))
+
+-- the elements' rows, and after them those of station and window
+pub rows-split : (s : Shape) → rows s ≡ elementRows s ++ alikeRows
+unfolding rows elementRows alikeRows
+rows-split S.Eclipse = refl
+rows-split S.Star = refl
+
+module _ (s : Shape) (k : ℕ) where
+  pub row-first : k < length (elementRows s) → rowIn (elementRows s) k ≡ rowAt s k
+  unfolding rowAt
+  row-first h = rw (rows-split s, List·getD-append (elementRows s) alikeRows none k h)
+
+  pub row-after : length (elementRows s) ≤ k → rowIn alikeRows (k - length (elementRows s)) ≡ rowAt s k
+  unfolding rowAt
+  row-after h =
+      let e : k ≡ length (elementRows s) + (k - length (elementRows s)) = omega arith in
+      sym (ap (λ (l : List Field). rowIn l k) (rows-split s) ∙ ap (rowIn (elementRows s ++ alikeRows)) e
+      ∙ getD-append-add (elementRows s) alikeRows (k - length (elementRows s)) none)
 
 -- ---- names
 
 -- the rows have the numbers' names
-pub names-are : map nameOf rows ≡ map (λ (n : Number). letters (n .name)) (numbersOf layout)
+pub names-are : (s : Shape) → map nameOf (rows s) ≡ map (λ (n : Number). letters (n .name)) (numbersOf (layoutOf s))
 unfolding rows
-names-are = refl
+names-are S.Eclipse = refl
+names-are S.Star = refl
 
 -- no name is longer than its room
 allRoom : List Field → Bool
@@ -46,9 +69,15 @@ room [] k t = omega arith
 room (f ∷ fs) zero t = leb-true (f .1) (length (f .0)) (both (leb (f .1) (length (f .0))) (allRoom fs) t .0)
 room (f ∷ fs) (suc k) t = room fs k (both (leb (f .1) (length (f .0))) (allRoom fs) t .1)
 
-pub name-room : (k : ℕ) → rowAt k .1 ≤ length (rowAt k .0)
-unfolding rowAt rows allRoom
-name-room k = room rows k tt
+all-room : (s : Shape) → T (allRoom (rows s))
+unfolding rows allRoom
+all-room S.Eclipse = tt
+all-room S.Star = tt
 
-pub name-length : (k : ℕ) → length (nameOf (rowAt k)) ≡ rowAt k .1
-name-length k = length-take-le (rowAt k .1) (rowAt k .0) (name-room k)
+module _ (s : Shape) (k : ℕ) where
+  pub name-room : rowAt s k .1 ≤ length (rowAt s k .0)
+  unfolding rowAt
+  name-room = room (rows s) k (all-room s)
+
+  pub name-length : length (nameOf (rowAt s k)) ≡ rowAt s k .1
+  name-length = length-take-le (rowAt s k .1) (rowAt s k .0) name-room

@@ -5,10 +5,12 @@ use Prim.Native.Char.{code}
 use Prim.Native.String.{String, [] as ε, _∷_ as _then_}
 use mathlib.Core.List.{List, [], _∷_, _++_, map}
 use lib.ListN.{length, getD, take, replicate}
+use Rattle.request_fields.specs.declared.Shape.{Shape}
+use Rattle.request_fields.specs.declared.Shape.the-variants as S
 use Rattle.request_fields.specs.declared.Width.{Width}
 use Rattle.request_fields.specs.declared.Width.the-variants as W
 use Rattle.request_fields.specs.declared.Field.{Field}
-use Rattle.request_fields.specs.Fields.{Number, Record, layout}
+use Rattle.request_fields.specs.Fields.{Number, Record, elements, starElements, alike, layoutOf}
 
 -- the bytes of some letters
 abbrev pub letters : String → List ℕ
@@ -34,22 +36,32 @@ abbrev pub rowsOf : List Record → List Field
 rowsOf [] = []
 rowsOf (r ∷ rs) = begun (r .kind) (r .numbers) ++ rowsOf rs
 
--- document 01's
-unfoldable pub rows : List Field
-rows = rowsOf layout
+unfoldable pub rows : Shape → List Field
+rows s = rowsOf (layoutOf s)
+
+-- those of the elements; of station and window, which follow both
+unfoldable pub elementRows : Shape → List Field
+elementRows S.Eclipse = rowsOf (elements ∷ [])
+elementRows S.Star = rowsOf (starElements ∷ [])
+
+unfoldable pub alikeRows : List Field
+alikeRows = rowsOf alike
 
 abbrev pub none : Field
 none = record { 0 = []; 1 = 0; 2 = 0; 3 = W.Unsigned2; 4 = 0 }
 
-unfoldable pub rowAt : ℕ → Field
-rowAt k = getD rows k none
+abbrev pub rowIn : List Field → ℕ → Field
+rowIn l k = getD l k none
+
+unfoldable pub rowAt : Shape → ℕ → Field
+rowAt s k = rowIn (rows s) k
 
 -- a field's name, how many decimals one unit has, its bytes
 abbrev pub nameOf : Field → List ℕ
 nameOf f = take (f .1) (f .0)
 
-abbrev pub decimalsOf : ℕ → ℕ
-decimalsOf k = rowAt k .2
+abbrev pub decimalsOf : Shape → ℕ → ℕ
+decimalsOf s k = rowAt s k .2
 
-abbrev pub widthOf : ℕ → Width
-widthOf k = rowAt k .3
+abbrev pub widthOf : Shape → ℕ → Width
+widthOf s k = rowAt s k .3

@@ -5,7 +5,8 @@ use mathlib.Core.List.{List, [], _∷_, _++_}
 use native.Mathlib.Omega.{arith}
 use lib.ListN.{length, getD}
 use Rattle.request_fields.specs.declared.Field.{Field}
-use Rattle.request_fields.specs.Fields.{count}
+use Rattle.request_fields.specs.declared.Shape.{Shape}
+use Rattle.request_fields.specs.Fields.{countOf}
 use Rattle.request_fields.specs.Rows.{rows, rowAt, nameOf, none}
 use Rattle.request_fields.specs.RowLaws.{rows-count}
 use Rattle.request_text.specs.declared.Fault.{Fault}
@@ -16,36 +17,35 @@ use Rattle.decimals.specs.TextLaws.{put-then}
 use Rattle.request_messages.specs.Messages.{lineOf, wordOf, nameAt, faultText, messageOf}
 
 -- a number past the last field has no name
-pub name-none : (k : ℕ) → count ≤ k → nameAt k ≡ []
+pub name-none : (shape : Shape) (k : ℕ) → countOf shape ≤ k → nameAt shape k ≡ []
 unfolding nameAt rowAt
-name-none k h = ap nameOf (past rows k none (omega (arith, rows-count)))
+name-none shape k h = ap nameOf (past (rows shape) k none (omega (arith, rows-count shape)))
   where
     past : (l : List Field) (k : ℕ) (d : Field) → length l ≤ k → getD l k d ≡ d
     past [] k d h = refl
     past (x ∷ l) zero d h = absurd (omega arith)
     past (x ∷ l) (suc k) d h = past l k d (omega arith)
 
-pub name-is : (k : ℕ) (f : Field) → f ≡ rowAt k → nameOf f ≡ nameAt k
+pub name-is : (shape : Shape) (k : ℕ) (f : Field) → f ≡ rowAt shape k → nameOf f ≡ nameAt shape k
 unfolding nameAt
-name-is k f e = ap nameOf e
+name-is shape k f e = ap nameOf e
 
 -- the same text in the same room
 pub put-as : (room old : List ℕ) (at : ℕ) (x y new : List ℕ) (r : ℕ) → room ≡ old → x ≡ y → Put room at x new r → Put old at y new r
 put-as room old at x y new r q e p = rw (← q, ← e) p
 
-module _ (l old : List ℕ) (at : ℕ) (new : List ℕ) (r : ℕ) where
-  pub put-unknown : (mid : List ℕ) (q : ℕ) → length old < 18446744073709551616 → Put old at (letters "unknown name ") mid q
-      → Put mid q (wordOf l) new r → Put old at (faultText Fault.Unknown l) new r
-  unfolding faultText
-  put-unknown mid q h p w = put-then old mid new at q r (letters "unknown name ") (wordOf l) h p w
-
+module _ (shape : Shape) (l old : List ℕ) (at : ℕ) (new : List ℕ) (r : ℕ) where
   -- what is wrong with a field
   abbrev Wrong : ℕ → List ℕ → Type 0
-  Wrong k wrong = Put old at (nameAt k ++ wrong) new r
+  Wrong k wrong = Put old at (nameAt shape k ++ wrong) new r
 
   -- each fault in its words
   abbrev Told : Fault → Type 0
-  Told f = Put old at (faultText f l) new r
+  Told f = Put old at (faultText shape f l) new r
+
+  pub put-unknown : Put old at (letters "unknown name " ++ wordOf l) new r → Told Fault.Unknown
+  unfolding faultText
+  put-unknown p = p
 
   module _ (k : ℕ) where
     pub put-not-number : Wrong k (letters " is not a number") → Told (Fault.NotNumber k)
@@ -72,11 +72,11 @@ module _ (l old : List ℕ) (at : ℕ) (new : List ℕ) (r : ℕ) where
   put-told f g e p = rw e p
 
 -- the parts of a message, one after the other
-pub put-parts : (text : List ℕ) (line : ℕ) (fault : Fault) (old one two three four new : List ℕ) (at p q t u r : ℕ)
+pub put-parts : (shape : Shape) (text : List ℕ) (line : ℕ) (fault : Fault) (old one two three four new : List ℕ) (at p q t u r : ℕ)
     → length old < 18446744073709551616 → Put old at (letters "line ") one p → Put one p (decimal line) two q → Put two q (letters ": ") three t
-    → Put three t (faultText fault (lineOf text line)) four u → Put four u (letters "\n") new r → Put old at (messageOf text line fault) new r
+    → Put three t (faultText shape fault (lineOf text line)) four u → Put four u (letters "\n") new r → Put old at (messageOf shape text line fault) new r
 unfolding messageOf
-put-parts text line fault old one two three four new at p q t u r h a b c d e =
+put-parts shape text line fault old one two three four new at p q t u r h a b c d e =
     let two-parts = put-then old one two at p q _ _ h a b in
     let three-parts = put-then old two three at q t _ _ h two-parts c in
     put-then old four new at u r _ _ h (put-then old three four at t u _ _ h three-parts d) e

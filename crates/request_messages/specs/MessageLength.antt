@@ -8,6 +8,8 @@ use borrow.Author.Tests.{leb-true}
 use lib.Dec.{T, leb}
 use lib.ListN.{length, getD, take, length-append, length-drop}
 use Rattle.request_fields.specs.declared.Field.{Field}
+use Rattle.request_fields.specs.declared.Shape.{Shape}
+use Rattle.request_fields.specs.declared.Shape.the-variants as S
 use Rattle.request_fields.specs.Rows.{rows, rowAt, nameOf, none}
 use Rattle.words.specs.declared.Class.the-variants as C
 use Rattle.words.specs.Text.{runOf, isIn, before, linesOf}
@@ -62,30 +64,35 @@ short (f ∷ fs) k t = by (leb (length (nameOf f)) 9) refl (λ j u. short fs j u
     by true e h (suc j) u = h j u
     by false e h j u = absurd u
 
-name-le : (k : ℕ) → length (nameAt k) ≤ 9
-unfolding nameAt rowAt rows allShort
-name-le k = short rows k tt
+all-short : (shape : Shape) → T (allShort (rows shape))
+unfolding rows allShort
+all-short S.Eclipse = tt
+all-short S.Star = tt
+
+name-le : (shape : Shape) (k : ℕ) → length (nameAt shape k) ≤ 9
+unfolding nameAt rowAt
+name-le shape k = short (rows shape) k (all-short shape)
 
 -- ---- a message
 
-of-le : (k : ℕ) (wrong l : List ℕ) → length wrong ≤ 50 → length (nameAt k ++ wrong) ≤ 59 + length l
-of-le k wrong l h = omega (arith, length-append (nameAt k) wrong, name-le k)
+of-le : (shape : Shape) (k : ℕ) (wrong l : List ℕ) → length wrong ≤ 50 → length (nameAt shape k ++ wrong) ≤ 59 + length l
+of-le shape k wrong l h = omega (arith, length-append (nameAt shape k) wrong, name-le shape k)
 
-fault-le : (f : Fault) (l : List ℕ) → length (faultText f l) ≤ 59 + length l
+fault-le : (shape : Shape) (f : Fault) (l : List ℕ) → length (faultText shape f l) ≤ 59 + length l
 unfolding faultText
-fault-le Fault.Unknown l = omega (arith, length-append (letters "unknown name ") (wordOf l), word-le l)
-fault-le (Fault.NotNumber k) l = of-le k (letters " is not a number") l (omega arith)
-fault-le (Fault.NotWhole k) l = of-le k (letters " has too many decimals for a whole number of units") l (omega arith)
-fault-le (Fault.Unfit k) l = of-le k (letters " is too large for its bytes") l (omega arith)
-fault-le (Fault.Twice k) l = of-le k (letters " is given twice") l (omega arith)
-fault-le (Fault.Missing k) l = of-le k (letters " is missing") l (omega arith)
+fault-le shape Fault.Unknown l = omega (arith, length-append (letters "unknown name ") (wordOf l), word-le l)
+fault-le shape (Fault.NotNumber k) l = of-le shape k (letters " is not a number") l (omega arith)
+fault-le shape (Fault.NotWhole k) l = of-le shape k (letters " has too many decimals for a whole number of units") l (omega arith)
+fault-le shape (Fault.Unfit k) l = of-le shape k (letters " is too large for its bytes") l (omega arith)
+fault-le shape (Fault.Twice k) l = of-le shape k (letters " is given twice") l (omega arith)
+fault-le shape (Fault.Missing k) l = of-le shape k (letters " is missing") l (omega arith)
 
-pub message-le : (text : List ℕ) (i : ℕ) (f : Fault) → i < 18446744073709551616 → length (messageOf text i f) ≤ 87 + length text
+pub message-le : (shape : Shape) (text : List ℕ) (i : ℕ) (f : Fault) → i < 18446744073709551616 → length (messageOf shape text i f) ≤ 87 + length text
 unfolding messageOf
-message-le text i f h =
+message-le shape text i f h =
     let number = letters "line " ++ decimal i in
     let start = number ++ letters ": " in
-    let wrong = faultText f (lineOf text i) in
+    let wrong = faultText shape f (lineOf text i) in
     omega (
       arith,
       length-append (letters "line ") (decimal i),
@@ -93,6 +100,6 @@ message-le text i f h =
       length-append start wrong,
       length-append (start ++ wrong) (letters "\n"),
       decimal-64 i h,
-      fault-le f (lineOf text i),
+      fault-le shape f (lineOf text i),
       line-le text (i - 1),
     )

@@ -3,6 +3,7 @@
 use Prim.Native.Nat.{ℕ, _-_}
 use mathlib.Core.List.{List, [], _++_}
 use lib.ListN.{getD, take}
+use Rattle.request_fields.specs.declared.Shape.{Shape}
 use Rattle.request_fields.specs.Rows.{rowAt, nameOf}
 use Rattle.words.specs.declared.Class.the-variants as C
 use Rattle.words.specs.Text.{runOf, linesOf}
@@ -21,19 +22,19 @@ unfoldable pub wordOf : List ℕ → List ℕ
 wordOf l = take (runOf C.Word (said l)) (said l)
 
 -- a field by its name; a number past the last one has none
-unfoldable pub nameAt : ℕ → List ℕ
-nameAt k = nameOf (rowAt k)
+unfoldable pub nameAt : Shape → ℕ → List ℕ
+nameAt shape k = nameOf (rowAt shape k)
 
 -- what is wrong with a line
-unfoldable pub faultText : Fault → List ℕ → List ℕ
-faultText Fault.Unknown l = letters "unknown name " ++ wordOf l
-faultText (Fault.NotNumber k) l = nameAt k ++ letters " is not a number"
-faultText (Fault.NotWhole k) l = nameAt k ++ letters " has too many decimals for a whole number of units"
-faultText (Fault.Unfit k) l = nameAt k ++ letters " is too large for its bytes"
-faultText (Fault.Twice k) l = nameAt k ++ letters " is given twice"
-faultText (Fault.Missing k) l = nameAt k ++ letters " is missing"
+unfoldable pub faultText : Shape → Fault → List ℕ → List ℕ
+faultText shape Fault.Unknown l = letters "unknown name " ++ wordOf l
+faultText shape (Fault.NotNumber k) l = nameAt shape k ++ letters " is not a number"
+faultText shape (Fault.NotWhole k) l = nameAt shape k ++ letters " has too many decimals for a whole number of units"
+faultText shape (Fault.Unfit k) l = nameAt shape k ++ letters " is too large for its bytes"
+faultText shape (Fault.Twice k) l = nameAt shape k ++ letters " is given twice"
+faultText shape (Fault.Missing k) l = nameAt shape k ++ letters " is missing"
 
 -- the message: one line of text
-unfoldable pub messageOf : List ℕ → ℕ → Fault → List ℕ
-messageOf text i fault =
-    letters "line " ++ decimal i ++ letters ": " ++ faultText fault (lineOf text i) ++ letters "\n"
+unfoldable pub messageOf : Shape → List ℕ → ℕ → Fault → List ℕ
+messageOf shape text i fault =
+    letters "line " ++ decimal i ++ letters ": " ++ faultText shape fault (lineOf text i) ++ letters "\n"

@@ -6,8 +6,8 @@ use native.Mathlib.Omega.{arith}
 use lib.ListN.{length, getD, take, drop}
 use Rattle.words.specs.declared.Class.the-variants as C
 use Rattle.words.specs.Text.{runOf, linesOf}
-use Rattle.words.specs.TextLaws.{rest-is, line-next, lines-end, lineAt}
-use Rattle.request_text.specs.Lines.{content, said}
+use Rattle.words.specs.TextLaws.{line-next, lines-end, lineAt}
+use Rattle.request_text.specs.Lines.{said}
 use Rattle.request_messages.specs.Messages.{lineOf, wordOf}
 
 -- a line of which nothing is said has no word
@@ -42,18 +42,8 @@ module _ (text : List ℕ) (line : ℕ) where
       pub seek-more : 1 < left → Seeking text line (left - 1) (start + n + 1)
       seek-more l = let z : left - 1 ≡ suc (left - 1 - 1) = omega arith in record { there = here ∙ ap nth z }
 
--- ---- the word of a line, cut out part by part
+-- ---- the word of a line, cut out of what it says
 
-module _ (l : List ℕ) (n gap letters : ℕ) where
-  abbrev cut : List ℕ
-  cut = take n l
-
-  abbrev rest : List ℕ
-  rest = take (length cut - gap) (drop gap cut)
-
-  pub word-cut : n ≡ runOf C.Said l → gap ≡ runOf C.Blank cut → letters ≡ runOf C.Word rest → take letters rest ≡ wordOf l
-  unfolding wordOf
-  word-cut p q r =
-      let c : cut ≡ content l = ap (λ k. take k l) p in
-      let t : rest ≡ said l = rest-is cut gap ∙ ap (λ k. drop k cut) q ∙ ap (λ s. drop (runOf C.Blank s) s) c in
-      ap (λ k. take k rest) r ∙ ap (λ s. take (runOf C.Word s) s) t
+pub word-cut : (l x : List ℕ) (letters : ℕ) → x ≡ said l → letters ≡ runOf C.Word x → take letters x ≡ wordOf l
+unfolding wordOf
+word-cut l x letters e r = ap (λ k. take k x) r ∙ ap (λ s. take (runOf C.Word s) s) e

@@ -1,31 +1,31 @@
 // The message of a typed request that is refused: the line, and what is wrong with it. A `put_` function stores a text at a place of a room,
 // as far as the room goes, and gives the place after it (`decimals`).
-use request_fields::COUNT;
+use request_fields::Shape;
 use request_text::Fault;
 use words::Class;
 ghost use mathlib.Core.List.{_++_};
-ghost use Rattle.decimals.specs.Texts.{Put};
-ghost use Rattle.request_text.specs.declared.Fault.the-variants.{Unknown};
+ghost use Rattle.decimals.specs.Texts.{letters, Put};
 ghost use Rattle.request_messages.specs.Messages.{lineOf, wordOf, nameAt, faultText, messageOf};
 
 // The name of a field.
-fn put_name(out: &mut [u8], at: usize, field: usize) -> usize
-    ensures { λ r. ⌜ Put (now (out .entry)) at (nameAt field) (now (out .exit)) r ⌝ }
+fn put_name(out: &mut [u8], at: usize, shape: Shape, field: usize) -> usize
+    ensures { λ r. ⌜ Put (now (out .entry)) at (nameAt shape field) (now (out .exit)) r ⌝ }
 {
-    if COUNT <= field {
+    let count = request_fields::count_of(shape);
+    if count <= field {
         return at;
     }
-    let row = request_fields::field_at(field);
+    let row = request_fields::field_at(shape, field);
     let name = row.0;
     let letters = row.1;
     decimals::put_text(out, at, &name[..letters])
 }
 
 // The name of a field, and what is wrong with it.
-fn put_of(out: &mut [u8], at: usize, field: usize, wrong: &[u8]) -> usize
-    ensures { λ r. ⌜ Put (now (out .entry)) at (nameAt field ++ now (wrong .entry)) (now (out .exit)) r ⌝ }
+fn put_of(out: &mut [u8], at: usize, shape: Shape, field: usize, wrong: &[u8]) -> usize
+    ensures { λ r. ⌜ Put (now (out .entry)) at (nameAt shape field ++ now (wrong .entry)) (now (out .exit)) r ⌝ }
 {
-    let next = put_name(out, at, field);
+    let next = put_name(out, at, shape, field);
     decimals::put_text(out, next, wrong)
 }
 
@@ -33,10 +33,7 @@ fn put_of(out: &mut [u8], at: usize, field: usize, wrong: &[u8]) -> usize
 fn put_word(out: &mut [u8], at: usize, line: &[u8]) -> usize
     ensures { λ r. ⌜ Put (now (out .entry)) at (wordOf (now (line .entry))) (now (out .exit)) r ⌝ }
 {
-    let length = words::run(line, Class::Said);
-    let content = &line[..length];
-    let gap = words::run(content, Class::Blank);
-    let said = &content[gap..];
+    let said = request_text::said(line);
     let letters = words::run(said, Class::Word);
     decimals::put_text(out, at, &said[..letters])
 }
@@ -60,38 +57,53 @@ fn put_word_of(out: &mut [u8], at: usize, text: &[u8], line: usize) -> usize
 }
 
 fn put_unknown(out: &mut [u8], at: usize, text: &[u8], line: usize) -> usize
-    ensures { λ r. ⌜ Put (now (out .entry)) at (faultText Unknown (lineOf (now (text .entry)) line)) (now (out .exit)) r ⌝ }
+    ensures { λ r. ⌜ Put (now (out .entry)) at (letters "unknown name " ++ wordOf (lineOf (now (text .entry)) line)) (now (out .exit)) r ⌝ }
 {
     let next = decimals::put_text(out, at, b"unknown name ");
     put_word_of(out, next, text, line)
 }
 
 // What is wrong with a line of the text.
-fn put_fault(out: &mut [u8], at: usize, text: &[u8], line: usize, fault: Fault) -> usize
-    ensures { λ r. ⌜ Put (now (out .entry)) at (faultText fault (lineOf (now (text .entry)) line)) (now (out .exit)) r ⌝ }
+fn put_fault(
+    out: &mut [u8],
+    at: usize,
+    shape: Shape,
+    text: &[u8],
+    line: usize,
+    fault: Fault,
+) -> usize
+    ensures { λ r. ⌜ Put (now (out .entry)) at (faultText shape fault (lineOf (now (text .entry)) line)) (now (out .exit)) r ⌝ }
 {
     match fault {
         Fault::Unknown => put_unknown(out, at, text, line),
-        Fault::NotNumber(field) => put_of(out, at, field, b" is not a number"),
+        Fault::NotNumber(field) => put_of(out, at, shape, field, b" is not a number"),
         Fault::NotWhole(field) => put_of(
             out,
             at,
+            shape,
             field,
             b" has too many decimals for a whole number of units",
         ),
-        Fault::Unfit(field) => put_of(out, at, field, b" is too large for its bytes"),
-        Fault::Twice(field) => put_of(out, at, field, b" is given twice"),
-        Fault::Missing(field) => put_of(out, at, field, b" is missing"),
+        Fault::Unfit(field) => put_of(out, at, shape, field, b" is too large for its bytes"),
+        Fault::Twice(field) => put_of(out, at, shape, field, b" is given twice"),
+        Fault::Missing(field) => put_of(out, at, shape, field, b" is missing"),
     }
 }
 
-// The message of a fault in a line of the text.
-pub fn put_message(out: &mut [u8], at: usize, text: &[u8], line: usize, fault: Fault) -> usize
-    ensures { λ r. ⌜ Put (now (out .entry)) at (messageOf (now (text .entry)) line fault) (now (out .exit)) r ⌝ }
+// The message of a fault in a line of the text, which is read as a request of the shape.
+pub fn put_message(
+    out: &mut [u8],
+    at: usize,
+    shape: Shape,
+    text: &[u8],
+    line: usize,
+    fault: Fault,
+) -> usize
+    ensures { λ r. ⌜ Put (now (out .entry)) at (messageOf shape (now (text .entry)) line fault) (now (out .exit)) r ⌝ }
 {
     let number = decimals::put_text(out, at, b"line ");
     let colon = decimals::put_number(out, number, line as u64);
     let wrong = decimals::put_text(out, colon, b": ");
-    let end = put_fault(out, wrong, text, line, fault);
+    let end = put_fault(out, wrong, shape, text, line, fault);
     decimals::put_byte(out, end, b'\n')
 }

@@ -7,9 +7,11 @@ use native.Mathlib.Omega.{arith}
 use native.Mathlib.Decide.{decLt}
 use lib.Dec.{eqb}
 use lib.IntN.{ℤ, pos}
-use lib.ListN.{length, getD, set, take, replicate, length-set, getD-replicate}
+use lib.ListN.{length, getD, set, take, replicate, length-set, length-replicate, getD-replicate}
 use lib.Seq.{getD-set-same, getD-set-other}
-use Rattle.request_fields.specs.Fields.{holds, count}
+use Rattle.request_fields.specs.declared.Shape.{Shape}
+use Rattle.request_fields.specs.declared.Shape.the-variants as S
+use Rattle.request_fields.specs.Fields.{holds, countOf}
 use Rattle.request_fields.specs.Rows.{rows, rowAt, widthOf}
 use Rattle.request_fields.specs.WidthLaws.{held-zero}
 use Rattle.words.specs.Text.{linesOf}
@@ -17,22 +19,22 @@ use Rattle.request_text.specs.declared.Line.{Line}
 use Rattle.request_text.specs.declared.Line.the-variants as L
 use Rattle.request_text.specs.declared.Noted.{Noted}
 use Rattle.request_text.specs.declared.Noted.the-variants as N
-use Rattle.request_text.specs.Lines.{meaningOf}
-use Rattle.request_text.specs.LineLaws.{meaning-in}
-use Rattle.request_text.specs.Typing.{InFields, notedOf, marksAfter, numbersAfter, missing, Typing, given, onward, required, untyped, readLines, typingOf}
-use Rattle.request_text.specs.TypingLaws.{read-end, read-line}
+use Rattle.request_text.specs.Lines.{said, meaningOf}
+use Rattle.request_text.specs.LineLaws.{InFields, meaning-in}
+use Rattle.request_text.specs.Typing.{notedOf, marksAfter, numbersAfter, missing, Typing, given, onward, required, untyped, readLines, typingOf}
+use Rattle.request_text.specs.TypingLaws.{read-end, read-line, untyped-is}
 
 -- ---- the numbers of a text fit their bytes
 
 -- as many numbers as a request has, each of which its bytes hold
-pub record Fit (ns : List ℤ) : Type 0 where
-  pub all : length ns ≡ count
-  pub each : (k : ℕ) → k < count → holds (widthOf k) (getD ns k (pos 0)) ≡ true
+pub record Fit (shape : Shape) (ns : List ℤ) : Type 0 where
+  pub all : length ns ≡ countOf shape
+  pub each : (k : ℕ) → k < countOf shape → holds (widthOf shape k) (getD ns k (pos 0)) ≡ true
 
-fit-set : (ns : List ℤ) (k : ℕ) (z : ℤ) → Fit ns → k < count → holds (widthOf k) z ≡ true → Fit (set ns k z)
-fit-set ns k z f l b = record { all = length-set ns k z ∙ f .all; each = by }
+fit-set : (shape : Shape) (ns : List ℤ) (k : ℕ) (z : ℤ) → Fit shape ns → k < countOf shape → holds (widthOf shape k) z ≡ true → Fit shape (set ns k z)
+fit-set shape ns k z f l b = record { all = length-set ns k z ∙ f .all; each = by }
   where
-    by : (j : ℕ) → j < count → holds (widthOf j) (getD (set ns k z) j (pos 0)) ≡ true
+    by : (j : ℕ) → j < countOf shape → holds (widthOf shape j) (getD (set ns k z) j (pos 0)) ≡ true
     by j h =
         elim (decLt j k) [
           | yes s ↦ rw (getD-set-other ns k j z (pos 0) (λ e. omega arith)) (f .each j h)
@@ -42,39 +44,49 @@ fit-set ns k z f l b = record { all = length-set ns k z ∙ f .all; each = by }
           ]
         ]
 
-fit-line : (line : Line) (marks : List ℕ) (ns : List ℤ) → InFields line → Fit ns → Fit (numbersAfter line marks ns)
-fit-line L.Nothing marks ns i f = f
-fit-line (L.Faulty x) marks ns i f = f
-fit-line (L.Given k z) marks ns i f = by (eqb (getD marks k 0) 0)
+fit-line : (shape : Shape) (s : List ℕ) (line : Line) (marks : List ℕ) (ns : List ℤ) → InFields shape s line → Fit shape ns → Fit shape (numbersAfter line marks ns)
+fit-line shape s L.Nothing marks ns i f = f
+fit-line shape s (L.Faulty x) marks ns i f = f
+fit-line shape s (L.Given k z) marks ns i f = by (eqb (getD marks k 0) 0)
   where
-    by : (b : Bool) → Fit (cond b (set ns k z) ns)
-    by true = fit-set ns k z f (i .0) (i .1)
+    by : (b : Bool) → Fit shape (cond b (set ns k z) ns)
+    by true = fit-set shape ns k z f (i .0) (i .2)
     by false = f
 
 -- a reading that gives numbers went on
-onward-taken : (m : Noted) (i : ℕ) (r : Typing) (ns : List ℤ) → onward m i r ≡ given ns → r ≡ given ns
+pub onward-taken : (m : Noted) (i : ℕ) (r : Typing) (ns : List ℤ) → onward m i r ≡ given ns → r ≡ given ns
 onward-taken N.Taken i r ns e = e
 onward-taken (N.Refused f) i r ns e = let z : _≡_ {A = ℕ} 0 1 = cc in absurd (omega arith)
 
 same-numbers : (a b : List ℤ) → given a ≡ given b → a ≡ b
 same-numbers a b e = cc
 
-lines-fit : (ls : List (List ℕ)) (i : ℕ) (ns : List ℤ) (marks : List ℕ) (out : List ℤ) → Fit ns → readLines ls i ns marks ≡ given out → Fit out
-lines-fit [] i ns marks out f e =
-    subst Fit (same-numbers ns out (onward-taken (missing 0 (take required marks)) i (given ns) out (sym (read-end i ns marks) ∙ e))) f
-lines-fit (l ∷ ls) i ns marks out f e =
-    let m = meaningOf l in
-    lines-fit ls (i + 1) (numbersAfter m marks ns) (marksAfter m marks) out (fit-line m marks ns (meaning-in l) f)
-    (onward-taken (notedOf m marks) i (readLines ls (i + 1) (numbersAfter m marks ns) (marksAfter m marks)) out (sym (read-line l ls i ns marks) ∙ e))
+lines-fit : (shape : Shape) (ls : List (List ℕ)) (i : ℕ) (ns : List ℤ) (marks : List ℕ) (out : List ℤ) → Fit shape ns → readLines shape ls i ns marks ≡ given out → Fit shape out
+lines-fit shape [] i ns marks out f e =
+    subst (Fit shape) (same-numbers ns out (onward-taken (missing 0 (take (required shape) marks)) i (given ns) out (sym (read-end shape i ns marks) ∙ e))) f
+lines-fit shape (l ∷ ls) i ns marks out f e =
+    let m = meaningOf shape l in
+    lines-fit shape ls (i + 1) (numbersAfter m marks ns) (marksAfter m marks) out (fit-line shape (said l) m marks ns (meaning-in shape l) f)
+    (onward-taken (notedOf m marks) i (readLines shape ls (i + 1) (numbersAfter m marks ns) (marksAfter m marks)) out (sym (read-line shape l ls i ns marks) ∙ e))
 
 -- zeros and the guard that is left out
-zeros-fit : Fit (replicate count (pos 0))
-zeros-fit = record { all = refl; each = λ k h. rw (getD-replicate count k (pos 0) (pos 0) h) (held-zero (widthOf k)) }
+zeros-fit : (shape : Shape) → Fit shape (replicate (countOf shape) (pos 0))
+zeros-fit shape =
+    record {
+      all = length-replicate (countOf shape) (pos 0);
+      each = λ k h. rw (getD-replicate (countOf shape) k (pos 0) (pos 0) h) (held-zero (widthOf shape k));
+    }
 
-untyped-fit : Fit untyped
+guard-fits : (shape : Shape) → (required shape < countOf shape) × (holds (widthOf shape (required shape)) (pos 16) ≡ true)
 unfolding holds rowAt rows
-untyped-fit = fit-set (replicate count (pos 0)) required (pos 16) zeros-fit (omega arith) refl
+guard-fits S.Eclipse = (omega arith, refl)
+guard-fits S.Star = (omega arith, refl)
 
-pub numbers-fit : (text : List ℕ) (ns : List ℤ) → typingOf text ≡ given ns → Fit ns
+untyped-fit : (shape : Shape) → Fit shape (untyped shape)
+untyped-fit shape =
+    subst (Fit shape) (untyped-is shape)
+    (fit-set shape (replicate (countOf shape) (pos 0)) (required shape) (pos 16) (zeros-fit shape) (guard-fits shape .0) (guard-fits shape .1))
+
+pub numbers-fit : (shape : Shape) (text : List ℕ) (ns : List ℤ) → typingOf shape text ≡ given ns → Fit shape ns
 unfolding typingOf
-numbers-fit text ns e = lines-fit (linesOf text) 1 untyped (replicate count 0) ns untyped-fit e
+numbers-fit shape text ns e = lines-fit shape (linesOf text) 1 (untyped shape) (replicate (countOf shape) 0) ns (untyped-fit shape) e

@@ -2,7 +2,10 @@ pub mod Names
 pub mod NameLaws
 pub mod Lines
 pub mod LineLaws
+pub mod Shapes
+pub mod ShapeLaws
 pub mod Typing
 pub mod TypingLaws
 pub mod FitLaws
+pub mod OneShape
 pub mod Examples

@@ -1,17 +1,18 @@
 -- Laws of what a line says.
 use mathlib.Core.Path.{_≡_, refl, sym, ap, _∙_}
 use mathlib.Core.Bool.{Bool, true, false, cond}
-use mathlib.Core.List.{List}
+use mathlib.Core.List.{List, []}
 use Prim.Native.Nat.{ℕ, _≤_, _<_}
 use native.Mathlib.Omega.{arith}
 use native.Mathlib.Decide.{decLt}
 use borrow.Author.Tests.{eq-eqb, ne-eqb}
 use lib.Dec.{eqb}
-use lib.IntN.{ℤ, pos, negℤ, natAbs}
-use lib.ListN.{length, take, drop}
+use lib.IntN.{pos, negℤ, natAbs}
+use lib.ListN.{length, getD, take, drop}
 use Rattle.numbers.specs.Order.{natAbs-opposite}
+use Rattle.request_fields.specs.declared.Shape.{Shape}
 use Rattle.request_fields.specs.declared.Width.{Width}
-use Rattle.request_fields.specs.Fields.{holds, count}
+use Rattle.request_fields.specs.Fields.{holds, countOf}
 use Rattle.request_fields.specs.Rows.{decimalsOf, widthOf}
 use Rattle.request_fields.specs.WidthLaws.{held, held-size, whole-small, held-not}
 use Rattle.words.specs.declared.Class.the-variants as C
@@ -26,10 +27,10 @@ use Rattle.request_text.specs.declared.Found.the-variants as F
 use Rattle.request_text.specs.declared.Fault.the-variants as Fault
 use Rattle.request_text.specs.declared.Line.{Line}
 use Rattle.request_text.specs.declared.Line.the-variants as L
-use Rattle.request_text.specs.Names.{names, findIn}
+use Rattle.request_text.specs.Names.{names, named, findIn}
 use Rattle.request_text.specs.NameLaws.{found-at}
 use Rattle.request_text.specs.Lines.{withSign, fitted, valueOf, valued, ofValue, ofFound, ofName, said, meaningOf}
-use Rattle.request_text.specs.Typing.{InFields}
+use Rattle.request_text.specs.Typing.{InRoom}
 
 -- ---- a number with its sign
 
@@ -72,100 +73,113 @@ fitted-capped k w minus n =
     ]
 
 -- what the units of a word make of it
-abbrev pub ofUnits : ℕ → ℕ → Units → Line
-ofUnits k minus (U.Is n) = fitted k (widthOf k) minus n
-ofUnits k minus U.NotWhole = L.Faulty (Fault.NotWhole k)
-ofUnits k minus U.NotNumber = L.Faulty (Fault.NotNumber k)
+abbrev pub ofUnits : Shape → ℕ → ℕ → Units → Line
+ofUnits shape k minus (U.Is n) = fitted k (widthOf shape k) minus n
+ofUnits shape k minus U.NotWhole = L.Faulty (Fault.NotWhole k)
+ofUnits shape k minus U.NotNumber = L.Faulty (Fault.NotNumber k)
 
-pub value-by : (k : ℕ) (w : List ℕ) → ofUnits k (startOf C.Minus w) (unitsOf (decimalsOf k) w) ≡ valueOf k w
+pub value-by : (shape : Shape) (k : ℕ) (w : List ℕ) → ofUnits shape k (startOf C.Minus w) (unitsOf (decimalsOf shape k) w) ≡ valueOf shape k w
 unfolding unitsOf valueOf
-value-by k w = by (isNumber w) (isWhole (decimalsOf k) w)
+value-by shape k w = by (isNumber w) (isWhole (decimalsOf shape k) w)
   where
-    by : (a b : Bool) → ofUnits k (startOf C.Minus w) (cond a (cond b (U.Is (capped (amount (decimalsOf k) w))) U.NotWhole) U.NotNumber)
-        ≡ cond a (cond b (fitted k (widthOf k) (startOf C.Minus w) (amount (decimalsOf k) w)) (L.Faulty (Fault.NotWhole k))) (L.Faulty (Fault.NotNumber k))
-    by true true = fitted-capped k (widthOf k) (startOf C.Minus w) (amount (decimalsOf k) w)
+    by : (a b : Bool) → ofUnits shape k (startOf C.Minus w) (cond a (cond b (U.Is (capped (amount (decimalsOf shape k) w))) U.NotWhole) U.NotNumber)
+        ≡ cond a (cond b (fitted k (widthOf shape k) (startOf C.Minus w) (amount (decimalsOf shape k) w)) (L.Faulty (Fault.NotWhole k))) (L.Faulty (Fault.NotNumber k))
+    by true true = fitted-capped k (widthOf shape k) (startOf C.Minus w) (amount (decimalsOf shape k) w)
     by true false = refl
     by false b = refl
 
 -- ---- a line
 
-module _ (k : ℕ) (s : List ℕ) (n : ℕ) (e : n ≡ runOf C.Word s) where
-  pub value-crowded : allOf C.Blank (part s n) ≡ false → L.Faulty (Fault.NotNumber k) ≡ ofValue k s
+module _ (shape : Shape) (k : ℕ) (s : List ℕ) (n : ℕ) (e : n ≡ runOf C.Word s) where
+  pub value-crowded : allOf C.Blank (part s n) ≡ false → L.Faulty (Fault.NotNumber k) ≡ ofValue shape k s
   unfolding ofValue
   value-crowded h = rw (← e, ← rest-is s n, h)
 
-  pub value-alone : allOf C.Blank (part s n) ≡ true → valueOf k (take n s) ≡ ofValue k s
+  pub value-alone : allOf C.Blank (part s n) ≡ true → valueOf shape k (take n s) ≡ ofValue shape k s
   unfolding ofValue
   value-alone h = rw (← e, ← rest-is s n, h)
 
-pub field-none : (s : List ℕ) → findIn names 0 s ≡ F.Nowhere → L.Faulty Fault.Unknown ≡ ofName s
+pub field-none : (shape : Shape) (s : List ℕ) → findIn (names shape) 0 s ≡ F.Nowhere → L.Faulty Fault.Unknown ≡ ofName shape s
 unfolding ofName
-field-none s e = ap (ofFound s) (sym e)
+field-none shape s e = ap (ofFound shape s) (sym e)
 
-pub field-at : (s : List ℕ) (k n gap : ℕ) → findIn names 0 s ≡ F.At k n → gap ≡ runOf C.Blank (part s n) → ofValue k (part (part s n) gap) ≡ ofName s
+pub field-at : (shape : Shape) (s : List ℕ) (k n gap : ℕ) → findIn (names shape) 0 s ≡ F.At k n → gap ≡ runOf C.Blank (part s n) → ofValue shape k (part (part s n) gap) ≡ ofName shape s
 unfolding ofName
-field-at s k n gap e g =
-    ap (ofValue k) (rest-is (part s n) gap ∙ ap (λ (i : ℕ). drop i (part s n)) g ∙ ap (λ (l : List ℕ). drop (runOf C.Blank l) l) (rest-is s n))
-    ∙ ap (ofFound s) (sym e)
+field-at shape s k n gap e g =
+    ap (ofValue shape k) (rest-is (part s n) gap ∙ ap (λ (i : ℕ). drop i (part s n)) g ∙ ap (λ (l : List ℕ). drop (runOf C.Blank l) l) (rest-is s n))
+    ∙ ap (ofFound shape s) (sym e)
 
 module _ (l : List ℕ) (n gap : ℕ) (e : n ≡ runOf C.Said l) (g : gap ≡ runOf C.Blank (take n l)) where
-  said-is : part (take n l) gap ≡ said l
+  pub said-is : part (take n l) gap ≡ said l
   said-is = rest-is (take n l) gap ∙ ap (λ (i : ℕ). drop i (take n l)) g ∙ ap (λ (i : ℕ). drop (runOf C.Blank (take i l)) (take i l)) e
 
-  pub meaning-none : length (part (take n l) gap) ≡ 0 → L.Nothing ≡ meaningOf l
+module _ (shape : Shape) (l x : List ℕ) (e : x ≡ said l) where
+  pub meaning-none : length x ≡ 0 → L.Nothing ≡ meaningOf shape l
   unfolding meaningOf
-  meaning-none z = rw (eq-eqb (length (said l)) 0 (ap length (sym said-is) ∙ z))
+  meaning-none z = rw (eq-eqb (length (said l)) 0 (ap length (sym e) ∙ z))
 
-  pub meaning-some : (length (part (take n l) gap) ≡ 0 → ⊥) → ofName (part (take n l) gap) ≡ meaningOf l
+  pub meaning-some : (length x ≡ 0 → ⊥) → ofName shape x ≡ meaningOf shape l
   unfolding meaningOf
-  meaning-some z = ap ofName said-is ∙ rw (ne-eqb (length (said l)) 0 (λ q. z (ap length said-is ∙ q)))
+  meaning-some z = ap (ofName shape) e ∙ rw (ne-eqb (length (said l)) 0 (λ q. z (ap length e ∙ q)))
 
--- ---- a line that gives a number gives one that its bytes hold
+-- ---- a line that gives a number
 
-pub in-fields : (line : Line) (k : ℕ) (z : ℤ) → InFields line → line ≡ L.Given k z → (k < count) × (natAbs z ≤ 4294967296)
-in-fields line k z i e =
-    let t : (k < count) × (holds (widthOf k) z ≡ true) = rw e at i in
-    (t .0, omega (arith, held-size (widthOf k) z (held (widthOf k) z (t .1)), whole-small (widthOf k)))
+-- of what is said: a number that is given is one of the request's, its name is said, and its bytes hold it
+abbrev pub InFields : Shape → List ℕ → Line → Type 0
+InFields shape s L.Nothing = Unit {0}
+InFields shape s (L.Faulty f) = Unit {0}
+InFields shape s (L.Given k z) = (k < countOf shape) × (named (getD (names shape) k []) s ≡ true) × (holds (widthOf shape k) z ≡ true)
 
-module _ (k : ℕ) (l : k < count) where
-  fitted-held : (minus n : ℕ) → InFields (fitted k (widthOf k) minus n)
+-- so it is small
+in-room : (shape : Shape) (s : List ℕ) (line : Line) → InFields shape s line → InRoom (countOf shape) line
+in-room shape s L.Nothing i = tt
+in-room shape s (L.Faulty f) i = tt
+in-room shape s (L.Given k z) i =
+    (i .0, omega (arith, held-size (widthOf shape k) z (held (widthOf shape k) z (i .2)), whole-small (widthOf shape k)))
+
+module _ (shape : Shape) (s : List ℕ) (k : ℕ) (l : k < countOf shape) (m : named (getD (names shape) k []) s ≡ true) where
+  fitted-held : (minus n : ℕ) → InFields shape s (fitted k (widthOf shape k) minus n)
   unfolding fitted
-  fitted-held minus n = by (holds (widthOf k) (withSign minus n)) refl
+  fitted-held minus n = by (holds (widthOf shape k) (withSign minus n)) refl
     where
-      by : (b : Bool) → holds (widthOf k) (withSign minus n) ≡ b → InFields (cond b (L.Given k (withSign minus n)) (L.Faulty (Fault.Unfit k)))
-      by true e = (l, e)
+      by : (b : Bool) → holds (widthOf shape k) (withSign minus n) ≡ b → InFields shape s (cond b (L.Given k (withSign minus n)) (L.Faulty (Fault.Unfit k)))
+      by true e = (l, m, e)
       by false e = tt
 
-  either : (b : Bool) (x y : Line) → InFields x → InFields y → InFields (cond b x y)
+  either : (b : Bool) (x y : Line) → InFields shape s x → InFields shape s y → InFields shape s (cond b x y)
   either true x y p q = p
   either false x y p q = q
 
-  value-in : (w : List ℕ) → InFields (valueOf k w)
+  value-in : (w : List ℕ) → InFields shape s (valueOf shape k w)
   unfolding valueOf
   value-in w =
-      either (isNumber w) (cond (isWhole (decimalsOf k) w) (fitted k (widthOf k) (startOf C.Minus w) (amount (decimalsOf k) w))
+      either (isNumber w) (cond (isWhole (decimalsOf shape k) w) (fitted k (widthOf shape k) (startOf C.Minus w) (amount (decimalsOf shape k) w))
       (L.Faulty (Fault.NotWhole k))) (L.Faulty (Fault.NotNumber k))
-      (either (isWhole (decimalsOf k) w) (fitted k (widthOf k) (startOf C.Minus w) (amount (decimalsOf k) w)) (L.Faulty (Fault.NotWhole k))
-      (fitted-held (startOf C.Minus w) (amount (decimalsOf k) w)) tt)
+      (either (isWhole (decimalsOf shape k) w) (fitted k (widthOf shape k) (startOf C.Minus w) (amount (decimalsOf shape k) w)) (L.Faulty (Fault.NotWhole k))
+      (fitted-held (startOf C.Minus w) (amount (decimalsOf shape k) w)) tt)
       tt
 
-  of-value-in : (s : List ℕ) → InFields (ofValue k s)
+  of-value-in : (v : List ℕ) → InFields shape s (ofValue shape k v)
   unfolding ofValue
-  of-value-in s = either (allOf C.Blank (drop (runOf C.Word s) s)) (valueOf k (take (runOf C.Word s) s)) (L.Faulty (Fault.NotNumber k))
-      (value-in (take (runOf C.Word s) s)) tt
+  of-value-in v = either (allOf C.Blank (drop (runOf C.Word v) v)) (valueOf shape k (take (runOf C.Word v) v)) (L.Faulty (Fault.NotNumber k))
+      (value-in (take (runOf C.Word v) v)) tt
 
-of-name-in : (s : List ℕ) → InFields (ofName s)
-unfolding ofName
-of-name-in s = by (findIn names 0 s) refl
-  where
-    by : (f : Found) → findIn names 0 s ≡ f → InFields (ofFound s f)
-    by F.Nowhere e = tt
-    by (F.At k n) e = of-value-in k (found-at s k n e .0) (valued (drop n s))
+module _ (shape : Shape) where
+  of-name-in : (s : List ℕ) → InFields shape s (ofName shape s)
+  unfolding ofName
+  of-name-in s = by (findIn (names shape) 0 s) refl
+    where
+      by : (f : Found) → findIn (names shape) 0 s ≡ f → InFields shape s (ofFound shape s f)
+      by F.Nowhere e = tt
+      by (F.At k n) e = let f = found-at shape s k n e in of-value-in shape s k (f .0) (f .2) (valued (drop n s))
 
-pub meaning-in : (l : List ℕ) → InFields (meaningOf l)
-unfolding meaningOf
-meaning-in l = by (eqb (length (said l)) 0)
-  where
-    by : (b : Bool) → InFields (cond b L.Nothing (ofName (said l)))
-    by true = tt
-    by false = of-name-in (said l)
+  pub meaning-in : (l : List ℕ) → InFields shape (said l) (meaningOf shape l)
+  unfolding meaningOf
+  meaning-in l = by (eqb (length (said l)) 0)
+    where
+      by : (b : Bool) → InFields shape (said l) (cond b L.Nothing (ofName shape (said l)))
+      by true = tt
+      by false = of-name-in (said l)
+
+  pub meaning-room : (l : List ℕ) (line : Line) (n : ℕ) → line ≡ meaningOf shape l → n ≡ countOf shape → InRoom n line
+  meaning-room l line n e c = rw (e, c) (in-room shape (said l) (meaningOf shape l) (meaning-in l))

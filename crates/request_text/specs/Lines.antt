@@ -6,6 +6,7 @@ use mathlib.Core.List.{List}
 use lib.Dec.{eqb}
 use lib.IntN.{ℤ, pos, negℤ}
 use lib.ListN.{length, take, drop}
+use Rattle.request_fields.specs.declared.Shape.{Shape}
 use Rattle.request_fields.specs.declared.Width.{Width}
 use Rattle.request_fields.specs.Fields.{holds}
 use Rattle.request_fields.specs.Rows.{decimalsOf, widthOf}
@@ -28,26 +29,26 @@ unfoldable pub fitted : ℕ → Width → ℕ → ℕ → Line
 fitted k w minus n = cond (holds w (withSign minus n)) (L.Given k (withSign minus n)) (L.Faulty (Fault.Unfit k))
 
 -- "a value that is no whole number of units is refused, not rounded"
-unfoldable pub valueOf : ℕ → List ℕ → Line
-valueOf k w =
+unfoldable pub valueOf : Shape → ℕ → List ℕ → Line
+valueOf shape k w =
     cond (isNumber w)
-    (cond (isWhole (decimalsOf k) w) (fitted k (widthOf k) (startOf C.Minus w) (amount (decimalsOf k) w)) (L.Faulty (Fault.NotWhole k)))
+    (cond (isWhole (decimalsOf shape k) w) (fitted k (widthOf shape k) (startOf C.Minus w) (amount (decimalsOf shape k) w)) (L.Faulty (Fault.NotWhole k)))
     (L.Faulty (Fault.NotNumber k))
 
 -- what follows a name: blanks, the value, and nothing but blanks
 abbrev pub valued : List ℕ → List ℕ
 valued s = drop (runOf C.Blank s) s
 
-unfoldable pub ofValue : ℕ → List ℕ → Line
-ofValue k s =
-    cond (allOf C.Blank (drop (runOf C.Word s) s)) (valueOf k (take (runOf C.Word s) s)) (L.Faulty (Fault.NotNumber k))
+unfoldable pub ofValue : Shape → ℕ → List ℕ → Line
+ofValue shape k s =
+    cond (allOf C.Blank (drop (runOf C.Word s) s)) (valueOf shape k (take (runOf C.Word s) s)) (L.Faulty (Fault.NotNumber k))
 
-abbrev pub ofFound : List ℕ → Found → Line
-ofFound said F.Nowhere = L.Faulty Fault.Unknown
-ofFound said (F.At k n) = ofValue k (valued (drop n said))
+abbrev pub ofFound : Shape → List ℕ → Found → Line
+ofFound shape said F.Nowhere = L.Faulty Fault.Unknown
+ofFound shape said (F.At k n) = ofValue shape k (valued (drop n said))
 
-unfoldable pub ofName : List ℕ → Line
-ofName said = ofFound said (findIn names 0 said)
+unfoldable pub ofName : Shape → List ℕ → Line
+ofName shape said = ofFound shape said (findIn (names shape) 0 said)
 
 -- "`#` starts a comment"; "one `name value` a line"
 abbrev pub content : List ℕ → List ℕ
@@ -56,5 +57,5 @@ content l = take (runOf C.Said l) l
 abbrev pub said : List ℕ → List ℕ
 said l = drop (runOf C.Blank (content l)) (content l)
 
-unfoldable pub meaningOf : List ℕ → Line
-meaningOf l = cond (eqb (length (said l)) 0) L.Nothing (ofName (said l))
+unfoldable pub meaningOf : Shape → List ℕ → Line
+meaningOf shape l = cond (eqb (length (said l)) 0) L.Nothing (ofName shape (said l))

@@ -2,14 +2,15 @@
 use mathlib.Core.Path.{_≡_, refl, sym, ap, _∙_}
 use mathlib.Core.Bool.{Bool, true, false, _&&_}
 use mathlib.Core.List.{List, [], _∷_, map}
-use Prim.Native.Nat.{ℕ, suc, _+_, _≤_, _<_}
+use Prim.Native.Nat.{ℕ, suc, _+_, _-_, _≤_, _<_}
 use native.Mathlib.Omega.{arith}
 use borrow.Author.Tests.{eq-eqb, ne-eqb}
 use lib.Dec.{eqb}
-use lib.ListN.{length, getD, drop}
+use lib.ListN.{length, getD, drop, length-map}
 use Rattle.request_fields.specs.declared.Field.{Field}
-use Rattle.request_fields.specs.Fields.{count}
-use Rattle.request_fields.specs.Rows.{rows, rowAt, nameOf}
+use Rattle.request_fields.specs.declared.Shape.{Shape}
+use Rattle.request_fields.specs.Fields.{Number, layoutOf, numbersOf, countOf}
+use Rattle.request_fields.specs.Rows.{letters, rows, rowAt, nameOf}
 use Rattle.request_fields.specs.RowLaws.{rows-next, rows-end, names-are}
 use Rattle.words.specs.declared.Class.the-variants as C
 use Rattle.words.specs.Text.{isIn}
@@ -80,48 +81,65 @@ find-hit : (n : List ℕ) (ns : List (List ℕ)) (k : ℕ) (said : List ℕ) →
 unfolding findIn
 find-hit n ns k said e = rw e
 
-find-miss : (n : List ℕ) (ns : List (List ℕ)) (k : ℕ) (said : List ℕ) → named n said ≡ false → findIn (n ∷ ns) k said ≡ findIn ns (k + 1) said
+pub find-miss : (n : List ℕ) (ns : List (List ℕ)) (k : ℕ) (said : List ℕ) → named n said ≡ false → findIn (n ∷ ns) k said ≡ findIn ns (k + 1) said
 unfolding findIn
 find-miss n ns k said e = rw e
 
-find-none : (k : ℕ) (said : List ℕ) → findIn [] k said ≡ F.Nowhere
+pub find-none : (k : ℕ) (said : List ℕ) → findIn [] k said ≡ F.Nowhere
 unfolding findIn
 find-none k said = refl
 
 -- the names before name k are not said
-pub record Finding (said : List ℕ) (k : ℕ) : Type 0 where
-  pub others : findIn names 0 said ≡ findIn (map nameOf (drop k rows)) k said
-  pub fields : k ≤ count
+pub record Finding (shape : Shape) (said : List ℕ) (k : ℕ) : Type 0 where
+  pub others : findIn (names shape) 0 said ≡ findIn (map nameOf (drop k (rows shape))) k said
+  pub fields : k ≤ countOf shape
 
-module _ (said : List ℕ) where
-  pub finding-start : Finding said 0
+module _ (shape : Shape) (said : List ℕ) where
+  pub finding-start : Finding shape said 0
   unfolding names
-  finding-start = record { others = ap (λ (l : List (List ℕ)). findIn l 0 said) (sym names-are); fields = omega arith }
+  finding-start = record { others = ap (λ (l : List (List ℕ)). findIn l 0 said) (sym (names-are shape)); fields = omega arith }
 
-  module _ (k : ℕ) (f : Finding said k) where
-    pub finding-none : count ≤ k → F.Nowhere ≡ findIn names 0 said
-    finding-none h = sym (f .others ∙ ap (λ (l : List Field). findIn (map nameOf l) k said) (rows-end k h) ∙ find-none k said)
+  module _ (k : ℕ) (f : Finding shape said k) where
+    pub finding-none : countOf shape ≤ k → F.Nowhere ≡ findIn (names shape) 0 said
+    finding-none h = sym (f .others ∙ ap (λ (l : List Field). findIn (map nameOf l) k said) (rows-end shape k h) ∙ find-none k said)
 
-    module _ (h : k < count) where
-      here : findIn names 0 said ≡ findIn (nameOf (rowAt k) ∷ map nameOf (drop (k + 1) rows)) k said
-      here = f .others ∙ ap (λ (l : List Field). findIn (map nameOf l) k said) (rows-next k h)
+    module _ (h : k < countOf shape) where
+      here : findIn (names shape) 0 said ≡ findIn (nameOf (rowAt shape k) ∷ map nameOf (drop (k + 1) (rows shape))) k said
+      here = f .others ∙ ap (λ (l : List Field). findIn (map nameOf l) k said) (rows-next shape k h)
 
-      pub finding-hit : (n : ℕ) → length (nameOf (rowAt k)) ≡ n → named (nameOf (rowAt k)) said ≡ true → F.At k n ≡ findIn names 0 said
-      finding-hit n e y = sym (here ∙ find-hit (nameOf (rowAt k)) (map nameOf (drop (k + 1) rows)) k said y ∙ ap (F.At k) e)
+      pub finding-hit : (n : ℕ) → length (nameOf (rowAt shape k)) ≡ n → named (nameOf (rowAt shape k)) said ≡ true → F.At k n ≡ findIn (names shape) 0 said
+      finding-hit n e y = sym (here ∙ find-hit (nameOf (rowAt shape k)) (map nameOf (drop (k + 1) (rows shape))) k said y ∙ ap (F.At k) e)
 
-      pub finding-more : named (nameOf (rowAt k)) said ≡ false → Finding said (k + 1)
-      finding-more y = record { others = here ∙ find-miss (nameOf (rowAt k)) (map nameOf (drop (k + 1) rows)) k said y; fields = omega arith }
+      pub finding-more : named (nameOf (rowAt shape k)) said ≡ false → Finding shape said (k + 1)
+      finding-more y = record { others = here ∙ find-miss (nameOf (rowAt shape k)) (map nameOf (drop (k + 1) (rows shape))) k said y; fields = omega arith }
 
--- a name that was found is one of them, and no longer than what is said
-find-at : (ns : List (List ℕ)) (j : ℕ) (said : List ℕ) (k n : ℕ) → findIn ns j said ≡ F.At k n → (k < j + length ns) × (n ≤ length said)
+-- a name that was found is one of them and is said, and is no longer than what is said
+record Hit (ns : List (List ℕ)) (j : ℕ) (said : List ℕ) (k n : ℕ) : Type 0 where
+  low : j ≤ k
+  high : k < j + length ns
+  told : named (getD ns (k - j) []) said ≡ true
+  short : n ≤ length said
+
+find-at : (ns : List (List ℕ)) (j : ℕ) (said : List ℕ) (k n : ℕ) → findIn ns j said ≡ F.At k n → Hit ns j said k n
 find-at [] j said k n e = let t = find-none j said in let z : _≡_ {A = ℕ} 0 1 = cc in absurd (omega arith)
 find-at (m ∷ ms) j said k n e = by (named m said) refl (λ q. find-at ms (j + 1) said k n q)
   where
-    by : (b : Bool) → named m said ≡ b → (findIn ms (j + 1) said ≡ F.At k n → (k < j + 1 + length ms) × (n ≤ length said))
-        → (k < j + suc (length ms)) × (n ≤ length said)
-    by true y go = let t = find-hit m ms j said y in let a : k ≡ j = cc in let b : n ≡ length m = cc in (omega arith, omega (arith, named-length m said y))
-    by false y go = let t = go (sym (find-miss m ms j said y) ∙ e) in (omega (arith, t .0), t .1)
+    by : (b : Bool) → named m said ≡ b → (findIn ms (j + 1) said ≡ F.At k n → Hit ms (j + 1) said k n) → Hit (m ∷ ms) j said k n
+    by true y go =
+        let t = find-hit m ms j said y in
+        let a : k ≡ j = cc in
+        let b : n ≡ length m = cc in
+        let c : k - j ≡ 0 = omega arith in
+        record { low = omega arith; high = omega arith; told = rw c y; short = omega (arith, named-length m said y) }
+    by false y go =
+        let t = go (sym (find-miss m ms j said y) ∙ e) in
+        let c : k - j ≡ suc (k - (j + 1)) = omega (arith, t .low) in
+        record { low = omega (arith, t .low); high = omega (arith, t .high); told = rw c (t .told); short = t .short }
 
-pub found-at : (said : List ℕ) (k n : ℕ) → findIn names 0 said ≡ F.At k n → (k < count) × (n ≤ length said)
+pub found-at : (shape : Shape) (said : List ℕ) (k n : ℕ) → findIn (names shape) 0 said ≡ F.At k n
+    → (k < countOf shape) × (n ≤ length said) × (named (getD (names shape) k []) said ≡ true)
 unfolding names
-found-at said k n e = let t = find-at names 0 said k n e in (omega (arith, t .0), t .1)
+found-at shape said k n e =
+    let t = find-at (names shape) 0 said k n e in
+    let z : k - 0 ≡ k = omega arith in
+    (omega (arith, t .high, length-map (numbersOf (layoutOf shape)) (λ (m : Number). letters (m .name))), t .short, rw z at (t .told))

@@ -5,15 +5,16 @@ use mathlib.Core.Bool.{Bool, true, false, cond, _&&_}
 use mathlib.Core.List.{List, [], _∷_, map}
 use lib.Dec.{eqb}
 use lib.ListN.{length}
-use Rattle.request_fields.specs.Fields.{Number, layout, numbersOf}
+use Rattle.request_fields.specs.declared.Shape.{Shape}
+use Rattle.request_fields.specs.Fields.{Number, layoutOf, numbersOf}
 use Rattle.request_fields.specs.Rows.{letters}
 use Rattle.words.specs.declared.Class.the-variants as C
 use Rattle.words.specs.Text.{isIn}
 use Rattle.request_text.specs.declared.Found.{Found}
 use Rattle.request_text.specs.declared.Found.the-variants as F
 
-unfoldable pub names : List (List ℕ)
-names = map (λ (n : Number). letters (n .name)) (numbersOf layout)
+unfoldable pub names : Shape → List (List ℕ)
+names shape = map (λ (n : Number). letters (n .name)) (numbersOf (layoutOf shape))
 
 -- what is said begins with the name, and a blank or nothing follows it
 unfoldable pub named : List ℕ → List ℕ → Bool

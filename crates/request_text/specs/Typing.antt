@@ -1,14 +1,13 @@
 -- A typed request: one `name value` a line, and the numbers that the lines give.
 -- Assumes nothing: these are definitions.
-use Prim.Native.Nat.{ℕ, _+_, _<_}
-use mathlib.Core.Path.{_≡_}
-use mathlib.Core.Bool.{true, cond}
+use Prim.Native.Nat.{ℕ, _+_, _-_, _≤_, _<_}
+use mathlib.Core.Bool.{cond}
 use mathlib.Core.List.{List, [], _∷_, _++_}
 use lib.Dec.{eqb}
-use lib.IntN.{ℤ, pos}
+use lib.IntN.{ℤ, pos, natAbs}
 use lib.ListN.{getD, set, take, replicate}
-use Rattle.request_fields.specs.Fields.{holds, count}
-use Rattle.request_fields.specs.Rows.{widthOf}
+use Rattle.request_fields.specs.declared.Shape.{Shape}
+use Rattle.request_fields.specs.Fields.{countOf}
 use Rattle.words.specs.Text.{linesOf}
 use Rattle.request_text.specs.declared.Fault.{Fault}
 use Rattle.request_text.specs.declared.Fault.the-variants as Fault
@@ -51,21 +50,23 @@ onward N.Taken i r = r
 onward (N.Refused f) i r = refused i f
 
 -- the fields before the guard must be typed
-abbrev pub required : ℕ
-required = 29
+abbrev pub required : Shape → ℕ
+required shape = countOf shape - 1
 
 -- the numbers where nothing is typed: the guard, the last, is 16 then
-abbrev pub untyped : List ℤ
-untyped = replicate required (pos 0) ++ pos 16 ∷ []
+abbrev pub untyped : Shape → List ℤ
+untyped shape = replicate (required shape) (pos 0) ++ pos 16 ∷ []
 
 -- the lines from line i on; after the last, no field that must be typed may be missing
-unfoldable pub readLines : List (List ℕ) → ℕ → List ℤ → List ℕ → Typing
-readLines [] i ns marks = onward (missing 0 (take required marks)) i (given ns)
-readLines (l ∷ ls) i ns marks =
-    onward (notedOf (meaningOf l) marks) i (readLines ls (i + 1) (numbersAfter (meaningOf l) marks ns) (marksAfter (meaningOf l) marks))
+unfoldable pub readLines : Shape → List (List ℕ) → ℕ → List ℤ → List ℕ → Typing
+readLines shape [] i ns marks = onward (missing 0 (take (required shape) marks)) i (given ns)
+readLines shape (l ∷ ls) i ns marks =
+    let line = meaningOf shape l in
+    onward (notedOf line marks) i (readLines shape ls (i + 1) (numbersAfter line marks ns) (marksAfter line marks))
 
-unfoldable pub typingOf : List ℕ → Typing
-typingOf text = readLines (linesOf text) 1 untyped (replicate count 0)
+-- a text, as one that asks about an eclipse or about a star
+unfoldable pub typingOf : Shape → List ℕ → Typing
+typingOf shape text = readLines shape (linesOf text) 1 (untyped shape) (replicate (countOf shape) 0)
 
 abbrev pub answerOf : Typing → Typed
 answerOf (given ns) = T.Numbers
@@ -76,8 +77,8 @@ abbrev pub numbersFrom : Typing → List ℤ → List ℤ
 numbersFrom (given ns) old = ns
 numbersFrom (refused i f) old = old
 
--- a line that gives a number gives one of the request's, and one that its bytes hold
-abbrev pub InFields : Line → Type 0
-InFields L.Nothing = Unit {0}
-InFields (L.Faulty f) = Unit {0}
-InFields (L.Given k z) = (k < count) × (holds (widthOf k) z ≡ true)
+-- a line that gives a number gives one of n, and of 32 bits
+abbrev pub InRoom : ℕ → Line → Type 0
+InRoom n L.Nothing = Unit {0}
+InRoom n (L.Faulty f) = Unit {0}
+InRoom n (L.Given k z) = (k < n) × (natAbs z ≤ 4294967296)

@@ -4,9 +4,11 @@ use mathlib.Core.List.{List, [], _∷_}
 use Prim.Native.Nat.{ℕ, _+_, _≤_, _<_}
 use native.Mathlib.Omega.{arith}
 use borrow.Author.Tests.{eq-eqb, ne-eqb}
-use lib.IntN.{ℤ}
-use lib.ListN.{length, getD, take, drop, set, replicate}
-use Rattle.request_fields.specs.Fields.{count}
+use lib.IntN.{ℤ, pos}
+use lib.ListN.{length, getD, take, drop, set, replicate, length-set, length-replicate}
+use Rattle.request_fields.specs.declared.Shape.{Shape}
+use Rattle.request_fields.specs.declared.Shape.the-variants as S
+use Rattle.request_fields.specs.Fields.{countOf}
 use Rattle.words.specs.declared.Class.the-variants as C
 use Rattle.words.specs.Text.{runOf, linesOf}
 use Rattle.words.specs.TextLaws.{from-here, from-end, lineAt, line-within, line-next, lines-end}
@@ -70,63 +72,86 @@ module _ (marks : List ℕ) (k : ℕ) (g : Given marks k) where
 
 -- ---- the lines one after the other
 
-pub read-end : (i : ℕ) (ns : List ℤ) (marks : List ℕ) → readLines [] i ns marks ≡ onward (missing 0 (take required marks)) i (given ns)
-unfolding readLines
-read-end i ns marks = refl
+module _ (shape : Shape) where
+  pub read-end : (i : ℕ) (ns : List ℤ) (marks : List ℕ) → readLines shape [] i ns marks ≡ onward (missing 0 (take (required shape) marks)) i (given ns)
+  unfolding readLines
+  read-end i ns marks = refl
 
-pub read-line : (l : List ℕ) (ls : List (List ℕ)) (i : ℕ) (ns : List ℤ) (marks : List ℕ)
-    → readLines (l ∷ ls) i ns marks
-    ≡ onward (notedOf (meaningOf l) marks) i (readLines ls (i + 1) (numbersAfter (meaningOf l) marks ns) (marksAfter (meaningOf l) marks))
-unfolding readLines
-read-line l ls i ns marks = refl
+  pub read-line : (l : List ℕ) (ls : List (List ℕ)) (i : ℕ) (ns : List ℤ) (marks : List ℕ)
+      → readLines shape (l ∷ ls) i ns marks
+      ≡ onward (notedOf (meaningOf shape l) marks) i
+      (readLines shape ls (i + 1) (numbersAfter (meaningOf shape l) marks ns) (marksAfter (meaningOf shape l) marks))
+  unfolding readLines
+  read-line l ls i ns marks = refl
+
+-- a request has numbers, and few
+pub count-small : (shape : Shape) → (1 ≤ countOf shape) × (countOf shape ≤ 30)
+count-small S.Eclipse = (omega arith, omega arith)
+count-small S.Star = (omega arith, omega arith)
+
+-- the guard is the last number
+pub untyped-is : (shape : Shape) → set (replicate (countOf shape) (pos 0)) (required shape) (pos 16) ≡ untyped shape
+untyped-is S.Eclipse = refl
+untyped-is S.Star = refl
 
 -- the lines before byte `at` were taken, and left these marks and numbers; the next is line i
-pub record Walked (text : List ℕ) (marks : List ℕ) (ns : List ℤ) (at i : ℕ) : Type 0 where
-  pub reading : typingOf text ≡ readLines (linesOf (drop at text)) i ns marks
+pub record Walked (shape : Shape) (text : List ℕ) (marks : List ℕ) (ns : List ℤ) (at i : ℕ) : Type 0 where
+  pub reading : typingOf shape text ≡ readLines shape (linesOf (drop at text)) i ns marks
   pub lines : i ≤ at + 1
   pub place : at ≤ length text + 1
-  pub marked : length marks ≡ count
-  pub fields : length ns ≡ count
+  pub marked : length marks ≡ countOf shape
+  pub fields : length ns ≡ countOf shape
 
-pub typing-start : (text : List ℕ) → Walked text (replicate count 0) untyped 0 1
+pub typing-start : (shape : Shape) (text marks : List ℕ) (ns : List ℤ) → marks ≡ replicate (countOf shape) 0 → ns ≡ replicate (countOf shape) (pos 0)
+    → Walked shape text marks (set ns (required shape) (pos 16)) 0 1
 unfolding typingOf
-typing-start text = record { reading = refl; lines = omega arith; place = omega arith; marked = refl; fields = refl }
+typing-start shape text marks ns m n =
+    record {
+      reading = rw (m, n, untyped-is shape);
+      lines = omega arith;
+      place = omega arith;
+      marked = ap length m ∙ length-replicate (countOf shape) 0;
+      fields = length-set ns (required shape) (pos 16) ∙ ap length n ∙ length-replicate (countOf shape) (pos 0);
+    }
 
-module _ (text marks : List ℕ) (ns : List ℤ) (at i : ℕ) (w : Walked text marks ns at i) where
-  -- what is promised of an answer and the numbers that are left
-  abbrev pub Answered : List ℤ → Typed → List ℤ → Type 0
-  Answered old r new = (r ≡ answerOf (typingOf text)) × (new ≡ numbersFrom (typingOf text) old)
+-- the answer, and the numbers where there is no fault
+pub record Read (shape : Shape) (text : List ℕ) (r : Typed) (found : List ℤ) : Type 0 where
+  pub answer : r ≡ answerOf (typingOf shape text)
+  pub all : r ≡ T.Numbers → typingOf shape text ≡ given found
 
-  answered : (old : List ℤ) (x : Typing) → typingOf text ≡ x → Answered old (answerOf x) (numbersFrom x old)
-  answered old x e = (ap answerOf (sym e), ap (λ (y : Typing). numbersFrom y old) (sym e))
+module _ (shape : Shape) (text marks : List ℕ) (ns : List ℤ) (at i : ℕ) (w : Walked shape text marks ns at i) where
+  read-fault : (f : Fault) (found : List ℤ) → typingOf shape text ≡ refused i f → Read shape text (T.Refused i f) found
+  read-fault f found e = record { answer = ap answerOf (sym e); all = λ q. let z : _≡_ {A = ℕ} 0 1 = cc in absurd (omega arith) }
 
-  at-end : length text ≤ at → typingOf text ≡ onward (missing 0 (take required marks)) i (given ns)
-  at-end h = w .reading ∙ ap (λ (l : List (List ℕ)). readLines l i ns marks) (lines-end text at h) ∙ read-end i ns marks
+  at-end : length text ≤ at → typingOf shape text ≡ onward (missing 0 (take (required shape) marks)) i (given ns)
+  at-end h = w .reading ∙ ap (λ (l : List (List ℕ)). readLines shape l i ns marks) (lines-end text at h) ∙ read-end shape i ns marks
 
-  pub end-missing : length text ≤ at → (old : List ℤ) (f : Fault) → missing 0 (take required marks) ≡ N.Refused f → Answered old (T.Refused i f) old
-  end-missing h old f e = answered old (refused i f) (at-end h ∙ ap (λ (m : Noted). onward m i (given ns)) e)
+  pub end-missing : length text ≤ at → (f : Fault) → missing 0 (take (required shape) marks) ≡ N.Refused f → Read shape text (T.Refused i f) ns
+  end-missing h f e = read-fault f ns (at-end h ∙ ap (λ (m : Noted). onward m i (given ns)) e)
 
-  pub end-all : length text ≤ at → (old : List ℤ) → missing 0 (take required marks) ≡ N.Taken → Answered old T.Numbers ns
-  end-all h old e = answered old (given ns) (at-end h ∙ ap (λ (m : Noted). onward m i (given ns)) e)
+  pub end-all : length text ≤ at → missing 0 (take (required shape) marks) ≡ N.Taken → Read shape text T.Numbers ns
+  end-all h e = let t = at-end h ∙ ap (λ (m : Noted). onward m i (given ns)) e in record { answer = ap answerOf (sym t); all = λ q. t }
 
   module _ (n : ℕ) (h : at < length text) (e : n ≡ runOf C.Line (drop at text)) where
     -- the line that stands there
     abbrev pub line : List ℕ
     line = lineAt text at n h e
 
+    abbrev pub told : Line
+    told = meaningOf shape line
+
     abbrev rest : Typing
-    rest = readLines (linesOf (drop (at + n + 1) text)) (i + 1) (numbersAfter (meaningOf line) marks ns) (marksAfter (meaningOf line) marks)
+    rest = readLines shape (linesOf (drop (at + n + 1) text)) (i + 1) (numbersAfter told marks ns) (marksAfter told marks)
 
-    at-line : typingOf text ≡ onward (notedOf (meaningOf line) marks) i rest
-    at-line = w .reading ∙ ap (λ (l : List (List ℕ)). readLines l i ns marks) (line-next text at n h e)
-        ∙ read-line line (linesOf (drop (at + n + 1) text)) i ns marks
+    at-line : typingOf shape text ≡ onward (notedOf told marks) i rest
+    at-line = w .reading ∙ ap (λ (l : List (List ℕ)). readLines shape l i ns marks) (line-next text at n h e)
+        ∙ read-line shape line (linesOf (drop (at + n + 1) text)) i ns marks
 
-    pub line-refused : (old : List ℤ) (f : Fault) → notedOf (meaningOf line) marks ≡ N.Refused f → Answered old (T.Refused i f) old
-    line-refused old f q = answered old (refused i f) (at-line ∙ ap (λ (m : Noted). onward m i rest) q)
+    pub line-refused : (f : Fault) (found : List ℤ) → notedOf told marks ≡ N.Refused f → Read shape text (T.Refused i f) found
+    line-refused f found q = read-fault f found (at-line ∙ ap (λ (m : Noted). onward m i rest) q)
 
-    pub line-taken : (new : List ℕ) (after : List ℤ) → notedOf (meaningOf line) marks ≡ N.Taken → new ≡ marksAfter (meaningOf line) marks → after
-        ≡ numbersAfter (meaningOf line) marks ns
-        → length new ≡ count → length after ≡ count → Walked text new after (at + n + 1) (i + 1)
+    pub line-taken : (new : List ℕ) (after : List ℤ) → notedOf told marks ≡ N.Taken → new ≡ marksAfter told marks → after ≡ numbersAfter told marks ns
+        → length new ≡ countOf shape → length after ≡ countOf shape → Walked shape text new after (at + n + 1) (i + 1)
     line-taken new after q p r lm la =
         record {
           reading = at-line ∙ ap (λ (m : Noted). onward m i rest) q ∙ rw (p, r);
@@ -135,3 +160,16 @@ module _ (text marks : List ℕ) (ns : List ℤ) (at i : ℕ) (w : Walked text m
           marked = lm;
           fields = la;
         }
+
+-- ---- what is promised
+
+module _ (shape : Shape) (text : List ℕ) (r : Typed) (found old : List ℤ) (l : Read shape text r found) where
+  pub numbers-typed : r ≡ T.Numbers → (r ≡ answerOf (typingOf shape text)) × (found ≡ numbersFrom (typingOf shape text) old)
+  numbers-typed e = (l .answer, rw (l .all e))
+
+  pub numbers-kept : (i : ℕ) (f : Fault) → r ≡ T.Refused i f → (r ≡ answerOf (typingOf shape text)) × (old ≡ numbersFrom (typingOf shape text) old)
+  numbers-kept i f e = (l .answer, by (typingOf shape text) (sym (l .answer) ∙ e))
+    where
+      by : (x : Typing) → answerOf x ≡ T.Refused i f → old ≡ numbersFrom x old
+      by (given ns) q = let z : _≡_ {A = ℕ} 0 1 = cc in absurd (omega arith)
+      by (refused j g) q = refl

@@ -1,17 +1,24 @@
-// A request that a person types: text with one `name value` a line, to the numbers of the request in whole units.
+// A request that a person types: text with one `name value` a line, to the numbers of the request in whole units. What it asks about is in `shapes`.
+pub mod shapes;
+
 use request_fields::COUNT;
+use request_fields::STAR_COUNT;
+use request_fields::Shape;
 use request_fields::Width;
 use words::Class;
 use words::Units;
 ghost use mathlib.Core.Path.{_≡_};
 ghost use Prim.Native.Nat.{_≤_, _<_};
-ghost use lib.ListN.{length};
-ghost use Rattle.request_fields.specs.Fields.{count};
+ghost use lib.IntN.{pos};
+ghost use lib.ListN.{length, replicate};
+ghost use Rattle.request_fields.specs.declared.Shape.the-variants.{Eclipse, Star};
+ghost use Rattle.request_fields.specs.Fields.{countOf};
 ghost use Rattle.request_text.specs.Names.{named, findIn, names};
-ghost use Rattle.request_text.specs.Lines.{withSign, fitted, valueOf, ofValue, ofName, meaningOf};
-ghost use Rattle.request_text.specs.Typing.{InFields, notedOf, marksAfter, numbersAfter, missing, typingOf, answerOf, numbersFrom};
+ghost use Rattle.request_text.specs.Lines.{withSign, fitted, valueOf, ofValue, ofName, said, meaningOf};
+ghost use Rattle.request_text.specs.Typing.{InRoom, notedOf, marksAfter, numbersAfter, missing, typingOf, answerOf, numbersFrom};
+ghost use Rattle.request_text.specs.TypingLaws.{Read};
 
-// Why a text is refused. A field is counted from 0, in document 01's order (`request_fields`).
+// Why a text is refused. A field is counted from 0, in the order of the request's numbers (`request_fields`).
 pub enum Fault {
     // a name that no field has
     Unknown,
@@ -54,9 +61,6 @@ pub enum Typed {
     Refused(usize, Fault),
 }
 
-// The numbers before the guard must be typed; the guard is 16 where it is left out.
-const REQUIRED: usize = 29;
-
 // ---- names
 
 // Whether what is said begins with the name, and a blank or nothing follows.
@@ -81,12 +85,13 @@ fn is_named(said: &[u8], name: &[u8]) -> bool
 }
 
 // The first field whose name is said.
-fn find(said: &[u8]) -> Found
-    ensures { λ r. ⌜ r ≡ findIn names 0 (now (said .entry)) ⌝ }
+fn find(shape: Shape, said: &[u8]) -> Found
+    ensures { λ r. ⌜ r ≡ findIn (names shape) 0 (now (said .entry)) ⌝ }
 {
+    let count = request_fields::count_of(shape);
     let mut k = 0;
-    while k < COUNT {
-        let field = request_fields::field_at(k);
+    while k < count {
+        let field = request_fields::field_at(shape, k);
         let name = field.0;
         let letters = field.1;
         if is_named(said, &name[..letters]) {
@@ -125,11 +130,11 @@ fn fit(field: usize, width: Width, minus: usize, n: usize) -> Line
 }
 
 // A word as the value of a field.
-fn value_of(field: usize, word: &[u8]) -> Line
-    requires { ⌜ field < count ⌝ }
-    ensures { λ r. ⌜ r ≡ valueOf field (now (word .entry)) ⌝ }
+fn value_of(shape: Shape, field: usize, word: &[u8]) -> Line
+    requires { ⌜ field < countOf shape ⌝ }
+    ensures { λ r. ⌜ r ≡ valueOf shape field (now (word .entry)) ⌝ }
 {
-    let row = request_fields::field_at(field);
+    let row = request_fields::field_at(shape, field);
     let decimals = row.2;
     let width = row.3;
     let minus = words::start(word, Class::Minus);
@@ -144,49 +149,56 @@ fn value_of(field: usize, word: &[u8]) -> Line
 // ---- lines
 
 // What stands after a name and its blanks: the value, and blanks alone.
-fn of_value(field: usize, s: &[u8]) -> Line
-    requires { ⌜ field < count ⌝ }
-    ensures { λ r. ⌜ r ≡ ofValue field (now (s .entry)) ⌝ }
+fn of_value(shape: Shape, field: usize, s: &[u8]) -> Line
+    requires { ⌜ field < countOf shape ⌝ }
+    ensures { λ r. ⌜ r ≡ ofValue shape field (now (s .entry)) ⌝ }
 {
     let length = words::run(s, Class::Word);
     let bare = words::all(&s[length..], Class::Blank);
     if !bare {
         return Line::Faulty(Fault::NotNumber(field));
     }
-    value_of(field, &s[..length])
+    value_of(shape, field, &s[..length])
 }
 
 // A line that says something.
-fn of_name(said: &[u8]) -> Line
-    ensures { λ r. ⌜ r ≡ ofName (now (said .entry)) ⌝ }
+fn of_name(shape: Shape, said: &[u8]) -> Line
+    ensures { λ r. ⌜ r ≡ ofName shape (now (said .entry)) ⌝ }
 {
-    let Found::At(field, length) = find(said) else {
+    let Found::At(field, length) = find(shape, said) else {
         return Line::Faulty(Fault::Unknown);
     };
     let after = &said[length..];
     let gap = words::run(after, Class::Blank);
-    of_value(field, &after[gap..])
+    of_value(shape, field, &after[gap..])
 }
 
-// What a line says.
-fn meaning(line: &[u8]) -> Line
-    ensures { λ r. ⌜ r ≡ meaningOf (now (line .entry)) ⌝ }
+// A line without its comment and the blanks before what it says.
+pub fn said(line: &[u8]) -> &[u8]
+    ensures { λ r. ⌜ now r ≡ said (now (line .entry)) ⌝ }
 {
     let length = words::run(line, Class::Said);
     let content = &line[..length];
     let gap = words::run(content, Class::Blank);
-    let said = &content[gap..];
-    if said.len() == 0 {
+    &content[gap..]
+}
+
+// What a line says.
+fn meaning(shape: Shape, line: &[u8]) -> Line
+    ensures { λ r. ⌜ r ≡ meaningOf shape (now (line .entry)) ⌝ }
+{
+    let words = said(line);
+    if words.len() == 0 {
         return Line::Nothing;
     }
-    of_name(said)
+    of_name(shape, words)
 }
 
 // ---- the text
 
 // Takes a line, if its field was not given before.
 fn note(line: Line, marks: &mut [u8], numbers: &mut [i64]) -> Noted
-    requires { ⌜ (length (now marks) ≡ count) × ((length (now numbers) ≡ count) × InFields line) ⌝ }
+    requires { ⌜ (length (now numbers) ≡ length (now marks)) × InRoom (length (now marks)) line ⌝ }
     ensures { λ r. ⌜ r ≡ notedOf line (now (marks .entry)) ⌝ }
     ensures { λ r. ⌜ now (marks .exit) ≡ marksAfter line (now (marks .entry)) ⌝ }
     ensures { λ r. ⌜ now (numbers .exit) ≡ numbersAfter line (now (marks .entry)) (now (numbers .entry)) ⌝ }
@@ -219,31 +231,57 @@ fn complete(marks: &[u8]) -> Noted
     Noted::Taken
 }
 
-// The numbers that a text gives, in whole units and in the order of the fields; or its first fault, and the numbers lent as they were.
-pub fn numbers(text: &[u8], out: &mut [i64; COUNT]) -> Typed
-    ensures { λ r. ⌜ r ≡ answerOf (typingOf (now (text .entry))) ⌝ }
-    ensures { λ r. ⌜ now (out .exit) ≡ numbersFrom (typingOf (now (text .entry))) (now (out .entry)) ⌝ }
+// The numbers that a text gives, as far as it has no fault. The numbers before the guard must be typed; the guard is 16 where it is left out.
+fn read(shape: Shape, text: &[u8], marks: &mut [u8], found: &mut [i64]) -> Typed
+    requires { ⌜ (now marks ≡ replicate (countOf shape) 0) × (now found ≡ replicate (countOf shape) (pos 0)) ⌝ }
+    ensures { λ r. ⌜ Read shape (now (text .entry)) r (now (found .exit)) ⌝ }
 {
-    let mut marks = [0u8; COUNT];
-    let mut found = [0i64; COUNT];
-    found[REQUIRED] = 16;
+    let required = request_fields::count_of(shape) - 1;
+    found[required] = 16;
     let mut at = 0;
     let mut line = 1;
     while at < text.len() {
         let length = words::run(&text[at..], Class::Line);
         let end = at + length;
-        let said = meaning(&text[at..end]);
-        let noted = note(said, &mut marks, &mut found);
+        let said = meaning(shape, &text[at..end]);
+        let noted = note(said, marks, found);
         if let Noted::Refused(fault) = noted {
             return Typed::Refused(line, fault);
         }
         at = end + 1;
         line += 1;
     }
-    let all = complete(&marks[..REQUIRED]);
+    let all = complete(&marks[..required]);
     if let Noted::Refused(fault) = all {
         return Typed::Refused(line, fault);
     }
-    *out = found;
     Typed::Numbers
+}
+
+// The numbers that a text gives of an eclipse, in whole units and in the order of the fields; or its first fault, and the numbers lent as they were.
+pub fn numbers(text: &[u8], out: &mut [i64; COUNT]) -> Typed
+    ensures { λ r. ⌜ r ≡ answerOf (typingOf Eclipse (now (text .entry))) ⌝ }
+    ensures { λ r. ⌜ now (out .exit) ≡ numbersFrom (typingOf Eclipse (now (text .entry))) (now (out .entry)) ⌝ }
+{
+    let mut marks = [0u8; COUNT];
+    let mut found = [0i64; COUNT];
+    let answer = read(Shape::Eclipse, text, &mut marks, &mut found);
+    if let Typed::Numbers = answer {
+        *out = found;
+    }
+    answer
+}
+
+// The same of a star.
+pub fn star_numbers(text: &[u8], out: &mut [i64; STAR_COUNT]) -> Typed
+    ensures { λ r. ⌜ r ≡ answerOf (typingOf Star (now (text .entry))) ⌝ }
+    ensures { λ r. ⌜ now (out .exit) ≡ numbersFrom (typingOf Star (now (text .entry))) (now (out .entry)) ⌝ }
+{
+    let mut marks = [0u8; STAR_COUNT];
+    let mut found = [0i64; STAR_COUNT];
+    let answer = read(Shape::Star, text, &mut marks, &mut found);
+    if let Typed::Numbers = answer {
+        *out = found;
+    }
+    answer
 }

@@ -8,16 +8,16 @@ use Rattle.refusals.specs.declared.Checked.{Checked}
 use Rattle.refusals.specs.declared.Checked.the-variants.{Within, Refused}
 use Rattle.refusals.specs.Refusals.{refusal, andThen}
 use Rattle.sine.specs.Room.{filled}
-use Rattle.requests.specs.declared.Request.{Request}
+use Rattle.requests.specs.declared.Occultation.{Occultation}
 use Rattle.requests.specs.Requests.{checked}
 
 -- "4 with place 901 where the lent room is shorter"
 unfoldable pub roomChecked : List ℕ → Checked
 roomChecked room = cond (leb 901 (length room)) Within (Refused (refusal 4 901))
 
--- "just ahead of the sheet's 4": after 1, 2, 3
-unfoldable pub admitted : Request → List ℕ → Checked
-admitted q room = andThen (checked q) (roomChecked room)
+-- "just ahead of the sheet's 4": after 1, 2, 13, 3
+unfoldable pub admitted : Occultation → List ℕ → Checked
+admitted o room = andThen (checked o) (roomChecked room)
 
 -- "each request fills 901 numbers of lent room .. once only the sheet's 4 can still refuse", "which alone leaves this room filled"
 abbrev pub sinesAfter : Checked → List ℕ → List ℕ

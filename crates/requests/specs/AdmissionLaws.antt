@@ -16,7 +16,7 @@ use Rattle.refusals.specs.RefusalLaws.{both-within}
 use Rattle.sine.specs.Table.{Sines}
 use Rattle.sine.specs.Room.{filled}
 use Rattle.sine.specs.RoomLaws.{filled-sines}
-use Rattle.requests.specs.declared.Request.{Request}
+use Rattle.requests.specs.declared.Occultation.{Occultation}
 use Rattle.requests.specs.Requests.{checked}
 use Rattle.requests.specs.RequestLaws.{InLimits, in-limits, never-room}
 use Rattle.requests.specs.Admission.{roomChecked, admitted, sinesAfter}
@@ -30,27 +30,27 @@ module _ (room : List ℕ) where
   unfolding roomChecked
   room-long h = rw (le-leb 901 (length room) h) (refl, refl)
 
-module _ (q : Request) (room : List ℕ) where
-  pub admitted-refused : (r : Refusal) → checked q ≡ C.Refused r → (C.Refused r ≡ admitted q room) × (room ≡ sinesAfter (admitted q room) room)
+module _ (o : Occultation) (room : List ℕ) where
+  pub admitted-refused : (r : Refusal) → checked o ≡ C.Refused r → (C.Refused r ≡ admitted o room) × (room ≡ sinesAfter (admitted o room) room)
   unfolding admitted
   admitted-refused r e = rw e (refl, refl)
 
-  pub admitted-room : checked q ≡ C.Within
-      → (roomChecked room ≡ admitted q room) × (sinesAfter (roomChecked room) room ≡ sinesAfter (admitted q room) room)
+  pub admitted-room : checked o ≡ C.Within
+      → (roomChecked room ≡ admitted o room) × (sinesAfter (roomChecked room) room ≡ sinesAfter (admitted o room) room)
   unfolding admitted
   admitted-room e = rw e (refl, refl)
 
-  checked-within : admitted q room ≡ C.Within → checked q ≡ C.Within
+  checked-within : admitted o room ≡ C.Within → checked o ≡ C.Within
   unfolding admitted
-  checked-within e = both-within (checked q) (roomChecked room) e .0
+  checked-within e = both-within (checked o) (roomChecked room) e .0
 
-  pub admitted-within : admitted q room ≡ C.Within → InLimits q × Sines (sinesAfter (admitted q room) room)
-  admitted-within e = (in-limits q (checked-within e), subst (λ (c : Checked). Sines (sinesAfter c room)) (sym e) (filled-sines room))
+  pub admitted-within : admitted o room ≡ C.Within → InLimits o × Sines (sinesAfter (admitted o room) room)
+  admitted-within e = (in-limits o (checked-within e), subst (λ (c : Checked). Sines (sinesAfter c room)) (sym e) (filled-sines room))
 
-  pub admitted-four : (r : Refusal) → admitted q room ≡ C.Refused r → r .number ≡ 4 → InLimits q
+  pub admitted-four : (r : Refusal) → admitted o room ≡ C.Refused r → r .number ≡ 4 → InLimits o
   unfolding admitted
-  admitted-four r e four = in-limits q (by (checked q) refl e)
+  admitted-four r e four = in-limits o (by (checked o) refl e)
     where
-      by : (c : Checked) → checked q ≡ c → andThen c (roomChecked room) ≡ C.Refused r → checked q ≡ C.Within
+      by : (c : Checked) → checked o ≡ c → andThen c (roomChecked room) ≡ C.Refused r → checked o ≡ C.Within
       by C.Within h e = h
-      by (C.Refused s) h e = absurd (never-room q r (h ∙ e) four)
+      by (C.Refused s) h e = absurd (never-room o r (h ∙ e) four)

@@ -1,9 +1,9 @@
 -- Laws of the mirror of a request.
 --   opposite-is, opposite-keeps   the opposite of a number up to `most`, any other
 --   opposite-twice, opposite-size back again; of the same size
---   checked-mirrored              it is refused as the request is, and within the limits if the request is
---   mirrored-twice                taken twice it gives the request back
---   mirrored-alike                within the limits, all ways of changing a sign give the same mirror
+--   checked-mirrored                  the mirror is refused as the first is, and within the limits if the first is
+--   request-twice, mirrored-twice     taken twice it gives the first back
+--   request-mirrored, mirrored-is     within the limits the signs are changed
 use mathlib.Core.Path.{_≡_, refl, sym, ap, _∙_}
 use mathlib.Core.Bool.{Bool, true, false, cond}
 use Prim.Native.Nat.{ℕ, _≤_, _<_}
@@ -14,13 +14,13 @@ use lib.IntN.{ℤ, negℤ, natAbs, negℤ-negℤ}
 use Rattle.numbers.specs.Limits.{_±_, outOfRange}
 use Rattle.numbers.specs.LimitsLaws.{range-opposite}
 use Rattle.numbers.specs.Order.{natAbs-opposite}
-use Rattle.refusals.specs.Refusals.{ofLimits}
 use Rattle.elements.specs.MirrorLaws as E
 use Rattle.station.specs.MirrorLaws as S
 use Rattle.requests.specs.declared.Request.{Request}
-use Rattle.requests.specs.Requests.{checked}
+use Rattle.requests.specs.declared.Occultation.{Occultation}
+use Rattle.requests.specs.Requests.{ofEclipse, checked}
 use Rattle.requests.specs.RequestLaws.{InLimits}
-use Rattle.requests.specs.Mirror.{mirroredRequest, opposite}
+use Rattle.requests.specs.Mirror.{mirroredRequest, mirroredOccultation, opposite}
 
 -- ---- one number
 module _ (most : ℕ) (z : ℤ) where
@@ -55,30 +55,27 @@ opposite-twice most z = by (leb (natAbs z) most) refl
     by true e = rw (natAbs-opposite z, e) (negℤ-negℤ z)
     by false e = rw e
 
--- ---- a request
-pub checked-mirrored : (most : ℕ) (q : Request) → checked (mirroredRequest (opposite most) q) ≡ checked q
+-- ---- a request, and what it asks for
+pub checked-mirrored : (most : ℕ) (o : Occultation) → checked (mirroredOccultation (opposite most) o) ≡ checked o
 unfolding checked
-checked-mirrored most q =
-    rw (E.mirrored-range (opposite most) (opposite-range most) (q .elements), S.mirrored-range (opposite most) (opposite-range most) (q .station))
+checked-mirrored most o =
+    rw (E.mirrored-checked (opposite most) (opposite-range most) (o .body), S.mirrored-range (opposite most) (opposite-range most) (o .station))
 
-pub mirrored-twice : (most : ℕ) (q : Request) → mirroredRequest (opposite most) (mirroredRequest (opposite most) q) ≡ q
-mirrored-twice most q =
-    let y = q .elements .axis .y in
-    let d = q .elements .axis .d in
-    rw (
-      opposite-twice most (y .c0),
-      opposite-twice most (y .c1),
-      opposite-twice most (y .c2),
-      opposite-twice most (y .c3),
-      opposite-twice most (d .c0),
-      opposite-twice most (d .c1),
-      opposite-twice most (d .c2),
-      opposite-twice most (q .station .latitude),
-    )
+pub request-twice : (most : ℕ) (q : Request) → mirroredRequest (opposite most) (mirroredRequest (opposite most) q) ≡ q
+request-twice most q = rw (E.elements-twice (opposite most) (opposite-twice most) (q .elements), opposite-twice most (q .station .latitude))
 
-pub mirrored-alike : (f g : ℤ → ℤ) → ((z : ℤ) → natAbs z ≤ 200000000 → f z ≡ g z) → (q : Request) → InLimits q → mirroredRequest f q ≡ mirroredRequest g q
-mirrored-alike f g h q i = rw (E.mirrored-alike f g h (q .elements) (i .elements), S.mirrored-alike f g h (q .station) (i .station))
+pub mirrored-twice : (most : ℕ) (o : Occultation) → mirroredOccultation (opposite most) (mirroredOccultation (opposite most) o) ≡ o
+mirrored-twice most o = rw (E.body-twice (opposite most) (opposite-twice most) (o .body), opposite-twice most (o .station .latitude))
 
--- the signs are changed
-pub mirrored-is : (most : ℕ) → 200000000 ≤ most → (q : Request) → InLimits q → mirroredRequest (opposite most) q ≡ mirroredRequest negℤ q
-mirrored-is most m q i = mirrored-alike (opposite most) negℤ (λ z h. opposite-is most z (omega arith)) q i
+-- within the limits the signs are changed, up to any `most`
+module _ (most : ℕ) (m : 200000000 ≤ most) where
+  is-opposite : (z : ℤ) → natAbs z ≤ 200000000 → opposite most z ≡ negℤ z
+  is-opposite z h = opposite-is most z (omega arith)
+
+  pub request-mirrored : (q : Request) → InLimits (ofEclipse q) → mirroredRequest (opposite most) q ≡ mirroredRequest negℤ q
+  request-mirrored q i =
+      rw (E.mirrored-alike (opposite most) negℤ is-opposite (q .elements) (i .body), S.mirrored-alike (opposite most) negℤ is-opposite (q .station) (i .station))
+
+  pub mirrored-is : (o : Occultation) → InLimits o → mirroredOccultation (opposite most) o ≡ mirroredOccultation negℤ o
+  mirrored-is o i =
+      rw (E.body-alike (opposite most) negℤ is-opposite (o .body) (i .body), S.mirrored-alike (opposite most) negℤ is-opposite (o .station) (i .station))

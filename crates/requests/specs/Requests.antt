@@ -1,15 +1,26 @@
--- A request: what it is refused for. Definitions only.
-use mathlib.Core.Bool.{Bool, cond, _&&_}
+-- Requests, the occultation that each asks for, and what it is refused for. Definitions only.
+use mathlib.Core.Bool.{Bool, false, cond, _&&_}
 use lib.IntN.{ℤ, pos}
 use lib.Signed.{leZ}
 use Rattle.refusals.specs.declared.Checked.{Checked}
 use Rattle.refusals.specs.declared.Checked.the-variants.{Within, Refused}
 use Rattle.refusals.specs.Refusals.{refusal, andThen}
-use Rattle.elements.specs.Elements.{elementsChecked}
+use Rattle.elements.specs.declared.Body.the-variants as B
+use Rattle.elements.specs.Stars.{bodyChecked}
 use Rattle.station.specs.Station.{stationChecked}
 use Rattle.requests.specs.declared.Window.{Window}
 use Rattle.requests.specs.declared.Request.{Request}
+use Rattle.requests.specs.declared.StarRequest.{StarRequest}
+use Rattle.requests.specs.declared.Occultation.{Occultation}
 use Rattle.requests.specs.Windows.{windowHolds}
+
+-- an eclipse is an occultation of the Sun
+abbrev pub ofEclipse : Request → Occultation
+ofEclipse q = record { body = B.Sun (q .elements); station = q .station; window = q .window; guard = q .guard; share = q .share }
+
+-- document 02, wish 7: "A star request has no way to ask for kind 31."
+abbrev pub ofStar : StarRequest → Occultation
+ofStar q = record { body = B.Star (q .star); station = q .station; window = q .window; guard = q .guard; share = false }
 
 -- "1 | window outside its range | 0"
 abbrev pub windowChecked : Window → Checked
@@ -23,8 +34,9 @@ guardHolds g = leZ (pos 16) g && leZ g (pos 1000)
 abbrev pub guardChecked : ℤ → Checked
 guardChecked g = cond (guardHolds g) Within (Refused (refusal 1 1))
 
--- "Requests: 10, 1, 2, 3, 4". Of these the numbers raise 1, then 2, an element's, then 3, a station value's
-unfoldable pub checked : Request → Checked
-checked q =
-    andThen (windowChecked (q .window))
-    (andThen (guardChecked (q .guard)) (andThen (elementsChecked (q .elements)) (stationChecked (q .station))))
+-- "Requests: 10, 1, 2, 3, 4". Of these the numbers raise 1, then 2, an element's, then 3, a station value's; document 02, wish 7:
+-- "13 with place 0 for the radius, after 2"
+unfoldable pub checked : Occultation → Checked
+checked o =
+    andThen (windowChecked (o .window))
+    (andThen (guardChecked (o .guard)) (andThen (bodyChecked (o .body)) (stationChecked (o .station))))

@@ -1,5 +1,5 @@
-// The room for table S: a request within its limits fills it, and 4 is given where it is shorter.
-use super::Request;
+// The room for table S: an occultation within its limits fills it, and 4 is given where it is shorter.
+use super::Occultation;
 use refusals::Checked;
 use refusals::Refusal;
 ghost use mathlib.Core.Path.{_≡_};
@@ -20,12 +20,12 @@ pub fn fill_sines(sines: &mut [u32]) -> Checked
     Checked::Within
 }
 
-// Whether only the sheet's 4 can still refuse a request, or the first of its refusals before that; the room is filled in the first case alone.
-pub fn admit(q: Request, sines: &mut [u32]) -> Checked
-    ensures answer { λ r. ⌜ r ≡ admitted q (now (sines .entry)) ⌝ }
-    ensures sines { λ r. ⌜ now (sines .exit) ≡ sinesAfter (admitted q (now (sines .entry))) (now (sines .entry)) ⌝ }
+// Whether only the sheet's 4 can still refuse it, or the first of its refusals before that; the room is filled in the first case alone.
+pub fn admit(o: Occultation, sines: &mut [u32]) -> Checked
+    ensures answer { λ r. ⌜ r ≡ admitted o (now (sines .entry)) ⌝ }
+    ensures sines { λ r. ⌜ now (sines .exit) ≡ sinesAfter (admitted o (now (sines .entry))) (now (sines .entry)) ⌝ }
 {
-    let c = super::check(q);
+    let c = super::check(o);
     if let Checked::Refused(refusal) = c {
         return Checked::Refused(refusal);
     }

@@ -1,14 +1,16 @@
-// A request: the elements of an eclipse, a station, a window of seconds, a guard, and whether a share is asked for. Its limits, and the
-// refusals 1, 2 and 3.
+// A request: the elements of an eclipse, a station, a window of seconds, a guard, and whether a share is asked for; or a star's. Both ask
+// for an occultation. Its limits, and the refusals 1, 2, 13 and 3.
 pub mod admission;
 
+use elements::Body;
 use refusals::Checked;
 use refusals::Refusal;
 ghost use mathlib.Core.Path.{_≡_};
 ghost use Prim.Native.Nat.{_<_};
 ghost use lib.IntN.{pos, _+ℤ_};
 ghost use Rattle.requests.specs.Windows.{inSpan, windowHolds, secondCount, nthSecond};
-ghost use Rattle.requests.specs.Requests.{guardHolds, checked};
+ghost use Rattle.requests.specs.Requests.{ofEclipse, ofStar, guardHolds, checked};
+ghost use Rattle.requests.specs.Shares.{sharing};
 ghost use Rattle.requests.specs.WindowLaws.{WindowHolds};
 
 // First and last second of the window, from the reference instant: -10,800 ≤ first ≤ last ≤ 10,800.
@@ -17,7 +19,7 @@ pub struct Window {
     pub last: i64,
 }
 
-// What a sheet is asked for: any numbers.
+// What the sheet of an eclipse is asked for: any numbers.
 pub struct Request {
     pub elements: elements::Elements,
     pub station: station::Station,
@@ -26,6 +28,68 @@ pub struct Request {
     pub guard: i64,
     // whether the sheet has the covered share at the closest second
     pub share: bool,
+}
+
+// What the sheet of a star is asked for: any numbers. It has no share.
+pub struct StarRequest {
+    pub star: elements::Star,
+    pub station: station::Station,
+    pub window: Window,
+    // as an eclipse's
+    pub guard: i64,
+}
+
+// What the Moon hides, where and when: of an eclipse or of a star.
+pub struct Occultation {
+    pub body: Body,
+    pub station: station::Station,
+    pub window: Window,
+    pub guard: i64,
+    // asked for of the Sun alone
+    pub share: bool,
+}
+
+pub fn of_eclipse(q: Request) -> Occultation
+    ensures { λ r. ⌜ r ≡ ofEclipse q ⌝ }
+{
+    let e = q.elements;
+    let body = Body::Sun(e);
+    let station = q.station;
+    let window = q.window;
+    Occultation {
+        body,
+        station,
+        window,
+        guard: q.guard,
+        share: q.share,
+    }
+}
+
+pub fn of_star(q: StarRequest) -> Occultation
+    ensures { λ r. ⌜ r ≡ ofStar q ⌝ }
+{
+    let s = q.star;
+    let body = Body::Star(s);
+    let station = q.station;
+    let window = q.window;
+    Occultation {
+        body,
+        station,
+        window,
+        guard: q.guard,
+        share: false,
+    }
+}
+
+// Whether the sheet has the covered share: a star's has none.
+pub fn shares(o: Occultation) -> bool
+    ensures { λ r. ⌜ r ≡ sharing o ⌝ }
+{
+    let body = o.body;
+    match body {
+        Body::Sun(_) => o.share,
+        Body::Star(_) => false,
+    }
 }
 
 // Whether a window may have that second.
@@ -47,11 +111,11 @@ fn guard_holds(g: i64) -> bool
     (16 <= g) & (g <= 1_000)
 }
 
-// Whether the request is within its limits, or the first of its refusals 1, 2, 3.
-pub fn check(q: Request) -> Checked
-    ensures { λ r. ⌜ r ≡ checked q ⌝ }
+// Whether it is within its limits, or the first of its refusals 1, 2, 13, 3.
+pub fn check(o: Occultation) -> Checked
+    ensures { λ r. ⌜ r ≡ checked o ⌝ }
 {
-    let w = q.window;
+    let w = o.window;
     let holds = window_holds(w);
     if !holds {
         return Checked::Refused(Refusal {
@@ -59,7 +123,7 @@ pub fn check(q: Request) -> Checked
             place: 0,
         });
     }
-    let g = q.guard;
+    let g = o.guard;
     let guarded = guard_holds(g);
     if !guarded {
         return Checked::Refused(Refusal {
@@ -67,12 +131,12 @@ pub fn check(q: Request) -> Checked
             place: 1,
         });
     }
-    let e = q.elements;
-    let of_elements = elements::check(e);
+    let body = o.body;
+    let of_elements = elements::stars::check_body(body);
     if let Checked::Refused(refusal) = of_elements {
         return Checked::Refused(refusal);
     }
-    let s = q.station;
+    let s = o.station;
     station::check(s)
 }
 

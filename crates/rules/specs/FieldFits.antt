@@ -1,17 +1,19 @@
 -- Fields that keep their rules fit their bytes.
-use Prim.Native.Nat.{ℕ, _<_}
+use Prim.Native.Nat.{ℕ, _≤_, _<_}
 use mathlib.Core.Path.{_≡_, refl, sym, ap, _∙_}
-use mathlib.Core.Bool.{Bool, true, false, _&&_, _||_}
+use mathlib.Core.Bool.{Bool, true, false, cond, _&&_, _||_}
 use native.Mathlib.Omega.{arith}
 use borrow.Author.Tests.{leb-true, eqb-true}
 use lib.Dec.{leb, ltb, eqb}
+use Rattle.phases.specs.declared.Phase.the-variants.{Star}
 use Rattle.kinds.specs.declared.Entry.{Entry}
 use Rattle.kinds.specs.declared.Kind.{Kind}
 use Rattle.kinds.specs.declared.Kind.the-variants as K
+use Rattle.kinds.specs.declared.Stage.{Stage}
 use Rattle.kinds.specs.declared.Progress.{Progress}
 use Rattle.kinds.specs.Kinds.{plain, table}
 use Rattle.kinds.specs.KindLaws.{plain-inv}
-use Rattle.kinds.specs.FieldRules.{guardHolds, headHolds, inWindow, isDirection, spanHolds}
+use Rattle.kinds.specs.FieldRules.{guardHolds, headHolds, inWindow, isDirection, isWithin, greatestMagnitude, spanHolds}
 use Rattle.records.specs.RecordTrip.{FitsIn}
 use Rattle.kinds.specs.TestLaws.{both}
 use Rattle.rules.specs.Rules.{start, fieldsHold, afterOf}
@@ -48,6 +50,13 @@ head-fits s f l g q =
     let d = leb-true g 1000 (both (leb 16 g) (leb g 1000) (w .1) .1) in
     (omega arith, omega arith, omega arith, omega arith)
 
+greatest-magnitude : (s : Stage) → greatestMagnitude s ≤ 1300000
+greatest-magnitude s = by (isWithin s Star)
+  where
+    by : (b : Bool) → cond b 0 1300000 ≤ 1300000
+    by true = omega arith
+    by false = omega arith
+
 zero : (x : ℕ) → eqb x 0 ≡ true → x ≡ 0
 zero x q = eqb-true x 0 q
 
@@ -73,8 +82,9 @@ kind-fits p (K.Open φ) a b c d h n q =
     record { a = y .0; b = y .1; c = zero c (u .2); d = zero d (u .3) }
 kind-fits p K.Closest a b c d h n q =
     let u = plain-inv _ n in
-    let x = both (inWindow p a) (leb b 1300000) q in
-    let m = leb-true b 1300000 (x .1) in
+    let x = both (inWindow p a) (leb b (greatestMagnitude (p .stage))) q in
+    let m = leb-true b (greatestMagnitude (p .stage)) (x .1) in
+    let most = greatest-magnitude (p .stage) in
     record { a = window-fits p a h (x .0); b = omega arith; c = zero c (u .2); d = zero d (u .3) }
 kind-fits p K.Share a b c d h n q =
     let u = plain-inv _ n in

@@ -4,6 +4,7 @@ use Prim.Native.Nat.{ℕ}
 use mathlib.Core.Bool.{Bool, cond, _&&_, _||_, not}
 use lib.Dec.{leb}
 use Rattle.phases.specs.declared.Phase.{Phase}
+use Rattle.phases.specs.declared.Phase.the-variants.{Star}
 use Rattle.refusals.specs.Refusals.{refusal}
 use Rattle.kinds.specs.declared.Kind.{Kind}
 use Rattle.kinds.specs.declared.Kind.the-variants as K
@@ -16,7 +17,8 @@ use Rattle.kinds.specs.declared.Entry.{Entry}
 use Rattle.rules.specs.declared.Judgement.{Judgement}
 use Rattle.rules.specs.declared.Judgement.the-variants.{Next, Broken}
 use Rattle.kinds.specs.Kinds.{table, plain}
-use Rattle.rules.specs.Order.{mayCome, isWithin, repeats}
+use Rattle.kinds.specs.FieldRules.{isWithin}
+use Rattle.rules.specs.Order.{mayCome, repeats}
 
 -- ---- how far a sheet has come
 
@@ -36,13 +38,17 @@ passed p φ to crossing = record { stage = S.Phase φ; first = p .first; last = 
 abbrev pub crossingKept : Progress → Phase → Crossing
 crossingKept p φ = cond (isWithin (p .stage) φ) (p .crossing) C.Neither
 
+-- document 02, wish 7: "8 for a sheet .. with a star entry and kind 31": closest after a star's entry is a stage of its own
+abbrev pub closestAfter : Stage → Stage
+closestAfter last = cond (isWithin last Star) S.StarClosest S.Closest
+
 abbrev pub afterKind : Progress → Entry → Kind → Progress
 afterKind p e K.Head = reached S.Head (e .b) (e .c)
 afterKind p e (K.Enter φ) = passed p φ (e .b) C.Enter
 afterKind p e (K.Leave φ) = passed p φ (e .b) C.Leave
 afterKind p e (K.Graze φ) = passed p φ (e .b) (crossingKept p φ)
 afterKind p e (K.Open φ) = passed p φ (e .b) (crossingKept p φ)
-afterKind p e K.Closest = reached S.Closest (p .first) (p .last)
+afterKind p e K.Closest = reached (closestAfter (p .stage)) (p .first) (p .last)
 afterKind p e K.Share = reached S.Share (p .first) (p .last)
 afterKind p e K.End = reached S.End (p .first) (p .last)
 

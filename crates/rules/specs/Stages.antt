@@ -7,7 +7,7 @@ use native.Mathlib.Omega.{arith}
 use borrow.Author.Tests.{leb-true, le-leb}
 use lib.Dec.{leb, eqb}
 use Rattle.phases.specs.declared.Phase.{Phase}
-use Rattle.phases.specs.declared.Phase.the-variants.{Penumbra, Central}
+use Rattle.phases.specs.PhaseLaws.{same-is}
 use Rattle.kinds.specs.declared.Kind.{Kind}
 use Rattle.kinds.specs.declared.Kind.the-variants as K
 use Rattle.kinds.specs.declared.Stage.{Stage}
@@ -18,9 +18,10 @@ use Rattle.kinds.specs.declared.Progress.{Progress}
 use Rattle.kinds.specs.declared.Entry.{Entry}
 use Rattle.kinds.specs.Kinds.{table}
 use Rattle.kinds.specs.TestLaws.{both}
-use Rattle.kinds.specs.FieldRules.{headHolds, spanHolds, openHolds, isDirection, closestHolds, shareHolds}
-use Rattle.rules.specs.Order.{mayCome, isWithin, repeats}
-use Rattle.rules.specs.Rules.{reached, passed, crossingKept, afterKind, phaseInOrder, kindInOrder}
+use Rattle.kinds.specs.FieldRules.{headHolds, spanHolds, openHolds, isDirection, isWithin, closestHolds, shareHolds}
+use Rattle.rules.specs.Order.{mayCome, repeats}
+use Rattle.rules.specs.OrderLaws.{own-phase}
+use Rattle.rules.specs.Rules.{reached, passed, crossingKept, closestAfter, afterKind, phaseInOrder, kindInOrder}
 
 -- ---- what a kind of a phase asks
 
@@ -70,6 +71,7 @@ orderAt p e k S.Start = false
 orderAt p e k S.Head = mayCome (p .stage) S.Head
 orderAt p e k (S.Phase φ) = phaseInOrder p φ (crossingOf k) (e .a)
 orderAt p e k S.Closest = mayCome (p .stage) S.Closest
+orderAt p e k S.StarClosest = false
 orderAt p e k S.Share = mayCome (p .stage) S.Share
 orderAt p e k S.End = mayCome (p .stage) S.End
 
@@ -78,6 +80,7 @@ ruleAt p e k S.Start = false
 ruleAt p e k S.Head = headHolds (e .a) (e .b) (e .c) (e .d)
 ruleAt p e k (S.Phase φ) = phaseHolds p k (e .a) (e .b) (e .c)
 ruleAt p e k S.Closest = closestHolds p (e .a) (e .b)
+ruleAt p e k S.StarClosest = false
 ruleAt p e k S.Share = shareHolds (e .a)
 ruleAt p e k S.End = true
 
@@ -85,7 +88,8 @@ abbrev pub afterAt : Progress → Entry → Kind → Stage → Progress
 afterAt p e k S.Start = reached S.Start (e .b) (e .c)
 afterAt p e k S.Head = reached S.Head (e .b) (e .c)
 afterAt p e k (S.Phase φ) = passed p φ (e .b) (crossingAfter (crossingOf k) (crossingKept p φ))
-afterAt p e k S.Closest = reached S.Closest (p .first) (p .last)
+afterAt p e k S.Closest = reached (closestAfter (p .stage)) (p .first) (p .last)
+afterAt p e k S.StarClosest = reached S.StarClosest (p .first) (p .last)
 afterAt p e k S.Share = reached S.Share (p .first) (p .last)
 afterAt p e k S.End = reached S.End (p .first) (p .last)
 
@@ -138,10 +142,9 @@ module _ (p : Progress) (e : Entry) where
 pub within-may : (s : Stage) (φ : Phase) → isWithin s φ ≡ true → mayCome s (S.Phase φ) ≡ true
 within-may S.Start φ e = e
 within-may S.Head φ e = refl
-within-may (S.Phase Penumbra) φ e = refl
-within-may (S.Phase Central) Penumbra e = e
-within-may (S.Phase Central) Central e = refl
+within-may (S.Phase φ) ψ e = rw (same-is φ ψ e) (own-phase ψ)
 within-may S.Closest φ e = e
+within-may S.StarClosest φ e = e
 within-may S.Share φ e = e
 within-may S.End φ e = e
 

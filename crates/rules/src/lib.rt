@@ -208,6 +208,7 @@ pub fn in_order(p: Progress, entry: Entry) -> bool
             phase_in_order(p, phase, crossing, entry.a)
         }
         Stage::Closest => order::closest_may_come(last),
+        Stage::StarClosest => false,
         Stage::Share => order::share_may_come(last),
         Stage::End => order::end_may_come(last),
     }
@@ -222,12 +223,14 @@ pub fn rule_holds(p: Progress, entry: Entry) -> bool
     let b = entry.b;
     let c = entry.c;
     let d = entry.d;
+    let last = p.stage;
     let stage = kinds::stage_of(kind);
     match stage {
         Stage::Start => false,
         Stage::Head => (1 <= a) & (a <= 999) & (b <= c) & (c <= 21600) & guard_holds(d),
         Stage::Phase(_) => phase_holds(p, kind, a, b, c),
-        Stage::Closest => in_window(p, a) & (b <= 1300000),
+        Stage::Closest => in_window(p, a) & (b <= order::greatest_magnitude(last)),
+        Stage::StarClosest => false,
         Stage::Share => a <= 1000000,
         Stage::End => true,
     }
@@ -240,6 +243,7 @@ pub fn after(p: Progress, entry: Entry) -> Progress
     let kind = entry.kind;
     let b = entry.b;
     let c = entry.c;
+    let last = p.stage;
     let stage = kinds::stage_of(kind);
     match stage {
         Stage::Start => reach(stage, b, c),
@@ -250,7 +254,11 @@ pub fn after(p: Progress, entry: Entry) -> Progress
             let now = crossing_after(crossing, kept);
             passed_to(p, phase, b, now)
         }
-        Stage::Closest => reach(stage, p.first, p.last),
+        Stage::Closest => {
+            let closest = order::closest_after(last);
+            reach(closest, p.first, p.last)
+        }
+        Stage::StarClosest => reach(stage, p.first, p.last),
         Stage::Share => reach(stage, p.first, p.last),
         Stage::End => reach(stage, p.first, p.last),
     }

@@ -3,22 +3,32 @@ use kinds::Crossing;
 use kinds::Stage;
 use phases::Phase;
 ghost use mathlib.Core.Path.{_≡_};
-ghost use Rattle.rules.specs.Order.{samePhase, phaseFollows, isWithin, mayCome};
+ghost use Rattle.phases.specs.Phases.{same};
+ghost use Rattle.kinds.specs.FieldRules.{isWithin, greatestMagnitude};
+ghost use Rattle.rules.specs.Order.{phaseFollows, mayCome};
 ghost use Rattle.rules.specs.Order as Order;
+ghost use Rattle.rules.specs.Rules.{closestAfter};
 ghost use Rattle.rules.specs.Stages.{crossingNumber};
 ghost use Rattle.kinds.specs.declared.Stage.the-variants as S;
 
 fn same_phase(last: Phase, phase: Phase) -> bool
-    ensures { λ r. ⌜ r ≡ samePhase last phase ⌝ }
+    ensures { λ r. ⌜ r ≡ same last phase ⌝ }
 {
     match last {
         Phase::Penumbra => match phase {
             Phase::Penumbra => true,
             Phase::Central => false,
+            Phase::Star => false,
         },
         Phase::Central => match phase {
             Phase::Penumbra => false,
             Phase::Central => true,
+            Phase::Star => false,
+        },
+        Phase::Star => match phase {
+            Phase::Penumbra => false,
+            Phase::Central => false,
+            Phase::Star => true,
         },
     }
 }
@@ -28,11 +38,13 @@ fn phase_follows(last: Phase, phase: Phase) -> bool
     ensures { λ r. ⌜ r ≡ phaseFollows last phase ⌝ }
 {
     match last {
-        Phase::Penumbra => true,
-        Phase::Central => match phase {
-            Phase::Penumbra => false,
+        Phase::Penumbra => match phase {
+            Phase::Penumbra => true,
             Phase::Central => true,
+            Phase::Star => false,
         },
+        Phase::Central => same_phase(last, phase),
+        Phase::Star => same_phase(last, phase),
     }
 }
 
@@ -45,6 +57,7 @@ pub fn is_within(last: Stage, phase: Phase) -> bool
         Stage::Head => false,
         Stage::Phase(of) => same_phase(of, phase),
         Stage::Closest => false,
+        Stage::StarClosest => false,
         Stage::Share => false,
         Stage::End => false,
     }
@@ -58,6 +71,7 @@ pub fn head_may_come(last: Stage) -> bool
         Stage::Head => false,
         Stage::Phase(_) => false,
         Stage::Closest => false,
+        Stage::StarClosest => false,
         Stage::Share => false,
         Stage::End => false,
     }
@@ -71,6 +85,7 @@ pub fn phase_may_come(last: Stage, phase: Phase) -> bool
         Stage::Head => true,
         Stage::Phase(of) => phase_follows(of, phase),
         Stage::Closest => false,
+        Stage::StarClosest => false,
         Stage::Share => false,
         Stage::End => false,
     }
@@ -84,6 +99,7 @@ pub fn closest_may_come(last: Stage) -> bool
         Stage::Head => true,
         Stage::Phase(_) => true,
         Stage::Closest => false,
+        Stage::StarClosest => false,
         Stage::Share => false,
         Stage::End => false,
     }
@@ -97,6 +113,7 @@ pub fn share_may_come(last: Stage) -> bool
         Stage::Head => false,
         Stage::Phase(_) => false,
         Stage::Closest => true,
+        Stage::StarClosest => false,
         Stage::Share => false,
         Stage::End => false,
     }
@@ -110,8 +127,31 @@ pub fn end_may_come(last: Stage) -> bool
         Stage::Head => false,
         Stage::Phase(_) => false,
         Stage::Closest => true,
+        Stage::StarClosest => true,
         Stage::Share => true,
         Stage::End => false,
+    }
+}
+
+// Closest, as a stage, after what came last.
+pub fn closest_after(last: Stage) -> Stage
+    ensures { λ r. ⌜ r ≡ closestAfter last ⌝ }
+{
+    if is_within(last, Phase::Star) {
+        Stage::StarClosest
+    } else {
+        Stage::Closest
+    }
+}
+
+// The most that a magnitude may be after what came last.
+pub fn greatest_magnitude(last: Stage) -> u32
+    ensures { λ r. ⌜ r ≡ greatestMagnitude last ⌝ }
+{
+    if is_within(last, Phase::Star) {
+        0
+    } else {
+        1_300_000
     }
 }
 

@@ -1,4 +1,4 @@
--- The exact answer at a second of a request, "From the same sines, cosines and station place", and what the states said of it mean. Definitions only.
+-- The exact answer at a second of an occultation, "From the same sines, cosines and station place", and what the states said of it mean. Definitions only.
 use Prim.Native.Nat.{ℕ, _+_}
 use lib.IntN.{ℤ, pos, natAbs}
 use Rattle.phases.specs.declared.Phase.{Phase}
@@ -8,27 +8,29 @@ use Rattle.geometry.specs.Shadow.{cone}
 use Rattle.geometry.specs.Exact as Exact
 use Rattle.shadow.specs.declared.Second.{Second}
 use Rattle.requests.specs.declared.Request.{Request}
+use Rattle.requests.specs.declared.Occultation.{Occultation}
+use Rattle.requests.specs.Requests.{ofEclipse}
 use Rattle.seconds.specs.declared.OneSecond.{OneSecond}
 use Rattle.seconds.specs.declared.OneSecond.the-variants.{Is, Refused}
 use Rattle.seconds.specs.Seconds.{momentAt}
 
 -- "Exactly inside: that distance is less than that L" (geometry, Exact)
-abbrev pub ExactlyInside : Request → Phase → ℤ → Type 0
-ExactlyInside q φ τ = Exact.ExactlyInside φ (momentAt q τ) (cone φ (q .elements))
+abbrev pub ExactlyInside : Occultation → Phase → ℤ → Type 0
+ExactlyInside o φ τ = Exact.ExactlyInside φ (momentAt o τ) (cone (o .body) φ)
 
 -- "within n units of it means a difference of at most n"
-abbrev pub WithinUnits : Request → ℕ → Phase → ℤ → Type 0
-WithinUnits q n φ τ = Exact.WithinUnits (pos n) φ (momentAt q τ) (cone φ (q .elements))
+abbrev pub WithinUnits : Occultation → ℕ → Phase → ℤ → Type 0
+WithinUnits o n φ τ = Exact.WithinUnits (pos n) φ (momentAt o τ) (cone (o .body) φ)
 
 -- document 02, wish 9: "Demand 3 then reads "within the guard plus 13" for 29"
-abbrev pub unsureUnits : Request → ℕ
-unsureUnits q = natAbs (q .guard) + 13
+abbrev pub unsureUnits : Occultation → ℕ
+unsureUnits o = natAbs (o .guard) + 13
 
 -- "Where our program says inside or outside, that is the exact answer. It says unsure only where the exact distance lies within 29 units of the
--- cone's edge": of the two states of a second that was answered
+-- cone's edge": of the two states of a second of an eclipse that was answered
 pub record SecondMeans (q : Request) (τ : ℤ) (x : Second) : Type 0 where
-  pub penumbra : SaidRightly (stateOf (x .penumbra)) (ExactlyInside q Penumbra τ) (WithinUnits q (unsureUnits q) Penumbra τ)
-  pub central : SaidRightly (stateOf (x .central)) (ExactlyInside q Central τ) (WithinUnits q (unsureUnits q) Central τ)
+  pub penumbra : SaidRightly (stateOf (x .penumbra)) (ExactlyInside (ofEclipse q) Penumbra τ) (WithinUnits (ofEclipse q) (unsureUnits (ofEclipse q)) Penumbra τ)
+  pub central : SaidRightly (stateOf (x .central)) (ExactlyInside (ofEclipse q) Central τ) (WithinUnits (ofEclipse q) (unsureUnits (ofEclipse q)) Central τ)
 
 abbrev pub AnswerMeans : Request → ℤ → OneSecond → Type 0
 AnswerMeans q τ (Is x) = SecondMeans q τ x

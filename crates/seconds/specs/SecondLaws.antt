@@ -1,6 +1,7 @@
--- What callers use of the seconds of a request within its limits.
+-- What callers use of the seconds of an occultation within its limits, and of one second of an eclipse.
 --   states-length                                      a byte for each second
---   direction-small, magnitude-small, closest-within, closest-size   what a reader asks of them
+--   direction-small, magnitude-small, closest-within   what a reader asks of them
+--   star-magnitude                                     of a star it is 0
 --   each-second                                        every second is said rightly
 --   means-answer                                       so is one that was answered
 --   second-outside, second-inside, second-is           the ways of an answer
@@ -10,6 +11,7 @@ use mathlib.Core.Bool.{Bool, true, false, cond}
 use mathlib.Core.List.{List}
 use Prim.Native.Nat.{ℕ, suc, _≤_, _<_}
 use native.Mathlib.Omega.{arith}
+use lib.Dec.{lit≤}
 use lib.IntN.{ℤ, pos, natAbs, _+ℤ_, _-ℤ_}
 use lib.ListN.{length}
 use lib.Signed.{leZ-yes}
@@ -25,7 +27,10 @@ use Rattle.refusals.specs.declared.Refusal.{Refusal}
 use Rattle.refusals.specs.declared.Checked.{Checked}
 use Rattle.refusals.specs.declared.Checked.the-variants as C
 use Rattle.refusals.specs.Refusals.{refusal}
-use Rattle.station.specs.declared.Place.{Place}
+use Rattle.elements.specs.declared.Body.{Body}
+use Rattle.elements.specs.declared.Body.the-variants as B
+use Rattle.elements.specs.Stars.{axisOf}
+use Rattle.elements.specs.StarLaws.{BodySizes}
 use Rattle.station.specs.Place.{placeOf}
 use Rattle.station.specs.Sizes.{PlaceSizes}
 use Rattle.station.specs.PlaceLaws.{place-sizes}
@@ -33,72 +38,84 @@ use Rattle.geometry.specs.Shadow.{cone, M}
 use Rattle.geometry.specs.Exact as Exact
 use Rattle.shadow.specs.SecondLaws.{state-at, states-true, magnitude-most, direction-near}
 use Rattle.requests.specs.declared.Request.{Request}
+use Rattle.requests.specs.declared.StarRequest.{StarRequest}
+use Rattle.requests.specs.declared.Occultation.{Occultation}
+use Rattle.requests.specs.Requests.{ofEclipse, ofStar}
 use Rattle.requests.specs.Windows.{inSpan, nthSecond, secondCount}
-use Rattle.requests.specs.WindowLaws.{in-span, each-length, second-size}
+use Rattle.requests.specs.WindowLaws.{in-span, each-length}
 use Rattle.requests.specs.RequestLaws.{InLimits, guard-is, guard-size}
 use Rattle.requests.specs.Admission.{admitted, sinesAfter}
 use Rattle.requests.specs.AdmissionLaws.{admitted-within}
 use Rattle.seconds.specs.declared.OneSecond.{OneSecond}
 use Rattle.seconds.specs.declared.OneSecond.the-variants as O
-use Rattle.seconds.specs.Seconds.{momentAt, stateAt, directionAt, magnitudeAt, statesOf, closestOf}
+use Rattle.seconds.specs.Seconds.{momentAt, stateAt, directionAt, magnitudeOf, magnitudeAt, statesOf, closestOf}
 use Rattle.seconds.specs.ClosestLaws.{closest-is}
 use Rattle.seconds.specs.OneSecond.{wholeSecond, secondBy, secondChecked, secondAnswer, secondSines}
 use Rattle.seconds.specs.Exact.{ExactlyInside, WithinUnits, unsureUnits, SecondMeans, AnswerMeans}
 
-pub states-length : (q : Request) (φ : Phase) → length (statesOf q φ) ≡ secondCount (q .window)
-states-length q φ = each-length (q .window) (λ τ. code (stateAt q φ τ))
+pub states-length : (o : Occultation) (φ : Phase) → length (statesOf o φ) ≡ secondCount (o .window)
+states-length o φ = each-length (o .window) (λ τ. code (stateAt o φ τ))
 
-pub direction-small : (q : Request) (τ : ℤ) → (directionAt q τ ≤ 3599) ⊎ (directionAt q τ ≡ 65535)
+pub direction-small : (o : Occultation) (τ : ℤ) → (directionAt o τ ≤ 3599) ⊎ (directionAt o τ ≡ 65535)
 unfolding directionAt
-direction-small q τ = direction-near (q .elements) (placeOf (q .station)) τ
+direction-small o τ = direction-near (axisOf (o .body)) (placeOf (o .station)) τ
 
-module _ (q : Request) (i : InLimits q) where
-  pub placed : PlaceSizes (placeOf (q .station))
-  placed = place-sizes (q .station) (i .station)
+module _ (o : Occultation) (i : InLimits o) where
+  pub placed : PlaceSizes (placeOf (o .station))
+  placed = place-sizes (o .station) (i .station)
 
   -- the guard, as the code reads it from its bits
-  pub guard-read : (toZ w64 (ofZ w64 (q .guard)) ≡ q .guard) × (natAbs (toZ w64 (ofZ w64 (q .guard))) ≤ 1000)
-  guard-read = let n = guard-size (i .guard) .1 in (read-back (q .guard) n tt, read-size (q .guard) 1000 n tt)
+  pub guard-read : (toZ w64 (ofZ w64 (o .guard)) ≡ o .guard) × (natAbs (toZ w64 (ofZ w64 (o .guard))) ≤ 1000)
+  guard-read = let n = guard-size (i .guard) .1 in (read-back (o .guard) n tt, read-size (o .guard) 1000 n tt)
 
-  pub closest-within : closestOf q < secondCount (q .window)
+  pub closest-within : closestOf o < secondCount (o .window)
   unfolding closestOf secondCount
   closest-within =
-      omega (arith, closest-is (λ k. M (momentAt q (nthSecond (q .window) k))) (natAbs (q .window .last -ℤ q .window .first)) .within)
-
-  pub closest-size : natAbs (nthSecond (q .window) (closestOf q)) ≤ 10800
-  closest-size = second-size (q .window) (i .window) (closestOf q) closest-within
+      omega (arith, closest-is (λ k. M (momentAt o (nthSecond (o .window) k))) (natAbs (o .window .last -ℤ o .window .first)) .within)
 
   module _ (τ : ℤ) (h : natAbs τ ≤ 10800) where
     -- "It never exceeds 1,300,000."
-    pub magnitude-small : magnitudeAt q τ ≤ 1300000
+    pub magnitude-small : magnitudeAt o τ ≤ 1300000
     unfolding magnitudeAt
-    magnitude-small = magnitude-most (q .elements) (i .elements) (placeOf (q .station)) placed τ h (q .guard)
+    magnitude-small = by (o .body) (i .body)
+      where
+        by : (b : Body) → BodySizes b → magnitudeOf (o .guard) b (placeOf (o .station)) τ ≤ 1300000
+        by (B.Sun e) z = magnitude-most e z (placeOf (o .station)) placed τ h (o .guard)
+        by (B.Star s) z = lit≤ tt
 
-    pub each-second : (φ : Phase) → SaidRightly (stateAt q φ τ) (ExactlyInside q φ τ) (WithinUnits q (unsureUnits q) φ τ)
+    pub each-second : (φ : Phase) → SaidRightly (stateAt o φ τ) (ExactlyInside o φ τ) (WithinUnits o (unsureUnits o) φ τ)
     unfolding stateAt
     each-second φ =
-        let m = states-true (q .elements) (i .elements) (placeOf (q .station)) placed τ h (q .guard) (≤ℤ-trans (leZ-yes tt) (i .guard .low)) φ in
-        let is = sym (state-at (q .guard) (q .elements) (placeOf (q .station)) φ τ) in
-        let Near : ℤ → Type 0 = λ n. Exact.WithinUnits n φ (momentAt q τ) (cone φ (q .elements)) in
+        let m = states-true (o .body) (i .body) (placeOf (o .station)) placed τ h (o .guard) (≤ℤ-trans (leZ-yes tt) (i .guard .low)) φ in
+        let is = sym (state-at (o .guard) (o .body) (placeOf (o .station)) φ τ) in
+        let Near : ℤ → Type 0 = λ n. Exact.WithinUnits n φ (momentAt o τ) (cone (o .body) φ) in
         record {
           inside-is = λ s. m .inside-is (is ∙ s);
           outside-is = λ s. m .outside-is (is ∙ s);
           unsure-is = λ s. subst (λ (g : ℤ). Near (g +ℤ pos 13)) (sym (guard-is (i .guard))) (m .unsure-is (is ∙ s));
         }
 
-    -- of the byte that was answered
-    said : (φ : Phase) → SaidRightly (stateOf (code (stateAt q φ τ))) (ExactlyInside q φ τ) (WithinUnits q (unsureUnits q) φ τ)
-    said φ = rw (state-of-code (stateAt q φ τ)) (each-second φ)
+-- document 02, wish 7: "closest carries magnitude 0"
+pub star-magnitude : (q : StarRequest) (τ : ℤ) → magnitudeAt (ofStar q) τ ≡ 0
+unfolding magnitudeAt
+star-magnitude q τ = refl
 
-    pub second-means : SecondMeans q τ (wholeSecond q τ)
-    second-means = record { penumbra = said Penumbra; central = said Central }
+-- ---- one second of an eclipse
+module _ (q : Request) (i : InLimits (ofEclipse q)) (τ : ℤ) (h : natAbs τ ≤ 10800) where
+  -- of the byte that was answered
+  said : (φ : Phase)
+      → SaidRightly (stateOf (code (stateAt (ofEclipse q) φ τ))) (ExactlyInside (ofEclipse q) φ τ) (WithinUnits (ofEclipse q) (unsureUnits (ofEclipse q)) φ τ)
+  said φ = rw (state-of-code (stateAt (ofEclipse q) φ τ)) (each-second (ofEclipse q) i τ h φ)
+
+  second-means : SecondMeans q τ (wholeSecond q τ)
+  second-means = record { penumbra = said Penumbra; central = said Central }
 
 module _ (q : Request) (τ : ℤ) (sines : List ℕ) where
   pub second-outside : inSpan τ ≡ false → secondChecked q τ sines ≡ C.Refused (refusal 1 0)
   unfolding secondChecked
   second-outside e = rw e
 
-  pub second-inside : inSpan τ ≡ true → secondChecked q τ sines ≡ admitted q sines
+  pub second-inside : inSpan τ ≡ true → secondChecked q τ sines ≡ admitted (ofEclipse q) sines
   unfolding secondChecked
   second-inside e = rw e
 
@@ -107,12 +124,12 @@ module _ (q : Request) (τ : ℤ) (sines : List ℕ) where
   unfolding secondAnswer secondChecked
   means-answer = by-span (inSpan τ) refl
     where
-      by-check : (c : Checked) → admitted q sines ≡ c → natAbs τ ≤ 10800 → AnswerMeans q τ (secondBy c q τ)
+      by-check : (c : Checked) → admitted (ofEclipse q) sines ≡ c → natAbs τ ≤ 10800 → AnswerMeans q τ (secondBy c q τ)
       by-check (C.Refused r) e h = tt
-      by-check C.Within e h = second-means q (admitted-within q sines e .0) τ h
+      by-check C.Within e h = second-means q (admitted-within (ofEclipse q) sines e .0) τ h
 
-      by-span : (b : Bool) → inSpan τ ≡ b → AnswerMeans q τ (secondBy (cond b (admitted q sines) (C.Refused (refusal 1 0))) q τ)
-      by-span true e = by-check (admitted q sines) refl (in-span τ e)
+      by-span : (b : Bool) → inSpan τ ≡ b → AnswerMeans q τ (secondBy (cond b (admitted (ofEclipse q) sines) (C.Refused (refusal 1 0))) q τ)
+      by-span true e = by-check (admitted (ofEclipse q) sines) refl (in-span τ e)
       by-span false e = tt
 
   -- what a check gives: the answer, the room, and what the answer means

@@ -1,15 +1,17 @@
-// The seconds of a request: the states of all of them with the closest, and all that is said of one.
+// The seconds of an occultation: the states of all of them with the closest, direction and magnitude; and all of one second of an eclipse.
+use elements::Body;
 use refusals::Checked;
 use refusals::Refusal;
+use requests::Occultation;
 use requests::Request;
 ghost use mathlib.Core.Path.{_≡_};
 ghost use Prim.Native.Nat.{_*_, _≤_};
 ghost use lib.IntN.{natAbs};
 ghost use lib.ListN.{length};
-ghost use Rattle.phases.specs.Phases.{eclipse};
 ghost use Rattle.sine.specs.Table.{Sines};
 ghost use Rattle.station.specs.Place.{placeOf};
 ghost use Rattle.requests.specs.Windows.{secondCount};
+ghost use Rattle.requests.specs.Requests.{ofEclipse};
 ghost use Rattle.requests.specs.RequestLaws.{InLimits};
 ghost use Rattle.seconds.specs.Seconds.{closestOf, directionAt, magnitudeAt};
 ghost use Rattle.seconds.specs.OneSecond.{wholeSecond, secondAnswer, secondSines};
@@ -23,24 +25,24 @@ pub enum OneSecond {
 }
 
 // The states of every second of the window, a byte each, phase after phase, in one pass; and the closest second, counted from 0.
-pub fn fill_states(table: &[u32], q: Request, place: station::Place, states: &mut [u8]) -> usize
-    requires { ⌜ (Sines (now table)) × (InLimits q) × (place ≡ placeOf (q .station)) × (length eclipse * secondCount (q .window) ≤ length (now states)) ⌝ }
-    ensures { λ r. ⌜ r ≡ closestOf q ⌝ }
-    ensures { λ r. ⌜ AllStates q (now (states .exit)) ⌝ }
+pub fn fill_states(table: &[u32], o: Occultation, place: station::Place, states: &mut [u8]) -> usize
+    requires { ⌜ (Sines (now table)) × (InLimits o) × (place ≡ placeOf (o .station)) × (2 * secondCount (o .window) ≤ length (now states)) ⌝ }
+    ensures { λ r. ⌜ r ≡ closestOf o ⌝ }
+    ensures { λ r. ⌜ AllStates o (now (states .exit)) ⌝ }
     ensures { λ r. ⌜ length (now (states .exit)) ≡ length (now (states .entry)) ⌝ }
 {
-    let e = q.elements;
-    let w = q.window;
+    let body = o.body;
+    let w = o.window;
     let n = requests::second_count(w);
     let mut best: usize = 0;
     let mut least: i64 = 9_000_000_000_000_000_000;
     let mut i: usize = 0;
     while i < n {
         let t = requests::nth_second(w, i);
-        let s = shadow::states_at(table, e, place, t, q.guard);
-        states[i] = s.penumbra;
-        let of_central = n + i;
-        states[of_central] = s.central;
+        let s = shadow::bodies::states_at(table, body, place, t, o.guard);
+        states[i] = s.first;
+        let of_second = n + i;
+        states[of_second] = s.second;
         let m = s.m;
         if m < least {
             best = i;
@@ -52,28 +54,32 @@ pub fn fill_states(table: &[u32], q: Request, place: station::Place, states: &mu
 }
 
 // The direction at a second.
-pub fn direction_at(table: &[u32], q: Request, place: station::Place, t: i64) -> u32
-    requires { ⌜ (Sines (now table)) × (InLimits q) × (place ≡ placeOf (q .station)) × (natAbs t ≤ 10800) ⌝ }
-    ensures { λ r. ⌜ r ≡ directionAt q t ⌝ }
+pub fn direction_at(table: &[u32], o: Occultation, place: station::Place, t: i64) -> u32
+    requires { ⌜ (Sines (now table)) × (InLimits o) × (place ≡ placeOf (o .station)) × (natAbs t ≤ 10800) ⌝ }
+    ensures { λ r. ⌜ r ≡ directionAt o t ⌝ }
 {
-    let e = q.elements;
-    let direction = shadow::direction_at(table, e, place, t);
+    let body = o.body;
+    let axis = elements::stars::axis_of(body);
+    let direction = shadow::bodies::direction_at(table, axis, place, t);
     direction as u32
 }
 
-// The magnitude at a second.
-pub fn magnitude_at(table: &[u32], q: Request, place: station::Place, t: i64) -> u32
-    requires { ⌜ (Sines (now table)) × (InLimits q) × (place ≡ placeOf (q .station)) × (natAbs t ≤ 10800) ⌝ }
-    ensures { λ r. ⌜ r ≡ magnitudeAt q t ⌝ }
+// The magnitude at a second: a star's is 0.
+pub fn magnitude_at(table: &[u32], o: Occultation, place: station::Place, t: i64) -> u32
+    requires { ⌜ (Sines (now table)) × (InLimits o) × (place ≡ placeOf (o .station)) × (natAbs t ≤ 10800) ⌝ }
+    ensures { λ r. ⌜ r ≡ magnitudeAt o t ⌝ }
 {
-    let e = q.elements;
-    let guard = q.guard;
-    shadow::magnitude_at(table, e, place, t, guard)
+    let body = o.body;
+    let guard = o.guard;
+    match body {
+        Body::Sun(e) => shadow::magnitude_at(table, e, place, t, guard),
+        Body::Star(_) => 0,
+    }
 }
 
-// One second of a request within its limits, with the sine table lent.
+// One second of an eclipse within its limits, with the sine table lent.
 fn second_within(table: &[u32], q: Request, t: i64) -> shadow::Second
-    requires { ⌜ (Sines (now table)) × (InLimits q) × (natAbs t ≤ 10800) ⌝ }
+    requires { ⌜ (Sines (now table)) × (InLimits (ofEclipse q)) × (natAbs t ≤ 10800) ⌝ }
     ensures { λ r. ⌜ r ≡ wholeSecond q t ⌝ }
 {
     let e = q.elements;
@@ -82,7 +88,7 @@ fn second_within(table: &[u32], q: Request, t: i64) -> shadow::Second
     shadow::second_at(table, e, place, t, q.guard)
 }
 
-// The shadow, the states, the magnitude and the direction at second t of a request, which may lie outside its window; `sines` is room for table S.
+// The shadow, the states, the magnitude and the direction at second t of an eclipse, which may lie outside its window; `sines` is room for table S.
 pub fn second(q: Request, t: i64, sines: &mut [u32]) -> OneSecond
     ensures answer { λ r. ⌜ r ≡ secondAnswer q t (now (sines .entry)) ⌝ }
     ensures sines { λ r. ⌜ now (sines .exit) ≡ secondSines q t (now (sines .entry)) ⌝ }
@@ -95,7 +101,8 @@ pub fn second(q: Request, t: i64, sines: &mut [u32]) -> OneSecond
             place: 0,
         });
     }
-    let c = requests::admission::admit(q, sines);
+    let o = requests::of_eclipse(q);
+    let c = requests::admission::admit(o, sines);
     if let Checked::Refused(refusal) = c {
         return OneSecond::Refused(refusal);
     }

@@ -11,6 +11,7 @@ use Rattle.phases.specs.States.{stateOf}
 use Rattle.sine.specs.Table.{S}
 use Rattle.numbers.specs.Code.{read-back, read-size}
 use Rattle.elements.specs.declared.Elements.{Elements}
+use Rattle.elements.specs.declared.Body.the-variants as B
 use Rattle.elements.specs.Sizes.{ElementSizes}
 use Rattle.station.specs.declared.Place.{Place}
 use Rattle.station.specs.Sizes.{PlaceSizes}
@@ -68,11 +69,11 @@ module _ (e : Elements) (z : ElementSizes e) (p : Place) (i : PlaceSizes p) (τ 
   pub magnitude-is : (guard : ℤ) (w : States) → IsStates guard e p τ w
       → magnitude (stateOf (w .central)) (read (s .l1)) (read (s .l2)) (read (s .m)) ≡ magnitudeAt guard e p τ
   magnitude-is guard w j =
-      rw (l1-is, l2-is, m-is, j .central, state-of-code (stateAt guard e p Central τ)) (sym (magnitude-at guard e p τ))
+      rw (l1-is, l2-is, m-is, j .central, state-of-code (stateAt guard (B.Sun e) p Central τ)) (sym (magnitude-at guard e p τ))
 
   -- what `direction` asks of them, and what it then gives
   pub direction-asks : (natAbs (read (s .u)) ≤ 1000000000) × (natAbs (read (s .v)) ≤ 1000000000)
   direction-asks = (read-size (s .u) 1000000000 (sizes .u) tt, read-size (s .v) 1000000000 (sizes .v) tt)
 
-  pub direction-is : direction S (read (s .u)) (read (s .v)) ≡ directionAt e p τ
-  direction-is = rw (u-is, v-is) (sym (direction-at e p τ))
+  pub direction-is : direction S (read (s .u)) (read (s .v)) ≡ directionAt (e .axis) p τ
+  direction-is = rw (u-is, v-is) (sym (direction-at (e .axis) p τ))

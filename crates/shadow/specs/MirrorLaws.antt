@@ -1,28 +1,43 @@
--- A mirrored second has the same states and the same magnitude.
-use mathlib.Core.Path.{_≡_}
-use Prim.Native.Nat.{ℕ}
+-- A mirrored second has the same states and, of an eclipse, the same magnitude.
+use mathlib.Core.Path.{_≡_, refl, ap}
 use lib.IntN.{ℤ, negℤ}
 use Rattle.phases.specs.declared.Phase.{Phase}
-use Rattle.phases.specs.declared.Phase.the-variants.{Penumbra, Central}
+use Rattle.phases.specs.declared.Phase.the-variants.{Penumbra, Central, Star}
+use Rattle.elements.specs.declared.Axis.{Axis}
 use Rattle.elements.specs.declared.Elements.{Elements}
-use Rattle.elements.specs.Mirror.{mirroredElements}
+use Rattle.elements.specs.declared.Body.{Body}
+use Rattle.elements.specs.declared.Body.the-variants as B
+use Rattle.elements.specs.Mirror.{mirroredElements, mirroredBody}
+use Rattle.elements.specs.MirrorLaws.{axis-mirrored}
+use Rattle.elements.specs.Stars.{axisOf}
 use Rattle.station.specs.declared.Place.{Place}
 use Rattle.station.specs.Mirror.{mirroredPlace}
-use Rattle.geometry.specs.Shadow.{moment}
-use Rattle.geometry.specs.MirrorLaws.{L-mirrored, M-mirrored}
+use Rattle.geometry.specs.Shadow.{momentOf, moment, cone, L, M}
+use Rattle.geometry.specs.MirrorLaws.{mirroredMoment, L-mirrored, M-mirrored}
 use Rattle.shadow.specs.Second.{stateAt, magnitudeAt}
 
-module _ (guard : ℤ) (e : Elements) (p : Place) (τ : ℤ) where
-  pub state-mirrored : (φ : Phase) → stateAt guard (mirroredElements negℤ e) (mirroredPlace p) φ τ ≡ stateAt guard e p φ τ
-  unfolding stateAt
-  state-mirrored Penumbra = rw (L-mirrored (moment e p τ) (e .penumbra), M-mirrored (moment e p τ))
-  state-mirrored Central = rw (L-mirrored (moment e p τ) (e .central), M-mirrored (moment e p τ))
+-- the moment of the mirrored body at the mirrored place
+pub moment-mirrored : (b : Body) (p : Place) (τ : ℤ) → momentOf (axisOf (mirroredBody negℤ b)) (mirroredPlace p) τ ≡ mirroredMoment (momentOf (axisOf b) p τ)
+moment-mirrored b p τ = ap (λ (a : Axis). momentOf a (mirroredPlace p) τ) (axis-mirrored b)
 
-  pub magnitude-mirrored : magnitudeAt guard (mirroredElements negℤ e) (mirroredPlace p) τ ≡ magnitudeAt guard e p τ
+-- the cones stay
+cone-mirrored : (b : Body) (φ : Phase) → cone (mirroredBody negℤ b) φ ≡ cone b φ
+cone-mirrored (B.Sun e) Penumbra = refl
+cone-mirrored (B.Sun e) Central = refl
+cone-mirrored (B.Sun e) Star = refl
+cone-mirrored (B.Star s) φ = refl
+
+module _ (guard : ℤ) (p : Place) (τ : ℤ) where
+  pub state-mirrored : (b : Body) (φ : Phase) → stateAt guard (mirroredBody negℤ b) (mirroredPlace p) φ τ ≡ stateAt guard b p φ τ
+  unfolding stateAt
+  state-mirrored b φ =
+      rw (moment-mirrored b p τ, cone-mirrored b φ, L-mirrored (momentOf (axisOf b) p τ) (cone b φ), M-mirrored (momentOf (axisOf b) p τ))
+
+  pub magnitude-mirrored : (e : Elements) → magnitudeAt guard (mirroredElements negℤ e) (mirroredPlace p) τ ≡ magnitudeAt guard e p τ
   unfolding magnitudeAt
-  magnitude-mirrored =
+  magnitude-mirrored e =
       rw (
-        state-mirrored Central,
+        state-mirrored (B.Sun e) Central,
         L-mirrored (moment e p τ) (e .penumbra),
         L-mirrored (moment e p τ) (e .central),
         M-mirrored (moment e p τ),

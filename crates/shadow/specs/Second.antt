@@ -1,34 +1,41 @@
 -- The states, the magnitude and the direction of a second of a request, under a guard (16 in document 01's rules).
 use mathlib.Core.Path.{_≡_}
-use Prim.Native.Nat.{ℕ, _≤_}
+use Prim.Native.Nat.{ℕ, zero, suc, _≤_, _<_}
 use lib.IntN.{ℤ, natAbs}
+use lib.ListN.{length, getD}
 use Rattle.phases.specs.States.{State, code}
 use Rattle.phases.specs.declared.Phase.{Phase}
 use Rattle.phases.specs.declared.Phase.the-variants.{Penumbra, Central}
+use Rattle.numbers.specs.Value.{Value}
 use Rattle.sine.specs.Table.{S}
+use Rattle.elements.specs.declared.Axis.{Axis}
 use Rattle.elements.specs.declared.Elements.{Elements}
+use Rattle.elements.specs.declared.Body.{Body}
+use Rattle.elements.specs.declared.Body.the-variants as B
+use Rattle.elements.specs.Stars.{axisOf}
 use Rattle.station.specs.declared.Place.{Place}
-use Rattle.geometry.specs.Shadow.{moment, cone, u, v, L, M, edge, state}
+use Rattle.geometry.specs.Shadow.{momentOf, moment, phasesOf, cone, u, v, L, M, edge, state}
 use Rattle.geometry.specs.Magnitude.{magnitude}
 use Rattle.geometry.specs.Direction.{direction}
 use Rattle.shadow.specs.declared.Shadow.{Shadow}
 use Rattle.shadow.specs.declared.States.{States}
+use Rattle.shadow.specs.declared.PhaseStates.{PhaseStates}
 use Rattle.shadow.specs.declared.Second.{Second}
 use Rattle.shadow.specs.Shadow.{IsShadow}
 
--- "Penumbra, with L = L1 and M = u²+v² .. Central: the same with L the size of L2."
-unfoldable pub stateAt : (guard : ℤ) (e : Elements) (p : Place) → Phase → (τ : ℤ) → State
-stateAt guard e p φ τ =
-    state guard (edge φ (L (moment e p τ) (cone φ e))) (M (moment e p τ))
+-- "Penumbra, with L = L1 and M = u²+v² .. Central: the same with L the size of L2."; document 02, wish 7: a star's "L a lunar radius"
+unfoldable pub stateAt : (guard : ℤ) (b : Body) (p : Place) → Phase → (τ : ℤ) → State
+stateAt guard b p φ τ =
+    state guard (edge φ (L (momentOf (axisOf b) p τ) (cone b φ))) (M (momentOf (axisOf b) p τ))
 
 -- "(L1-L2)/(L1+L2) if central is inside; otherwise (L1-root(M))/(L1+L2), and 0 if that is negative"
 unfoldable pub magnitudeAt : (guard : ℤ) (e : Elements) (p : Place) (τ : ℤ) → ℕ
 magnitudeAt guard e p τ =
-    magnitude (stateAt guard e p Central τ) (L (moment e p τ) (e .penumbra)) (L (moment e p τ) (e .central)) (M (moment e p τ))
+    magnitude (stateAt guard (B.Sun e) p Central τ) (L (moment e p τ) (e .penumbra)) (L (moment e p τ) (e .central)) (M (moment e p τ))
 
 -- "Direction in tenths of a degree, north through east", of u and v
-unfoldable pub directionAt : (e : Elements) (p : Place) (τ : ℤ) → ℕ
-directionAt e p τ = direction S (u (moment e p τ)) (v (moment e p τ))
+unfoldable pub directionAt : (a : Axis) (p : Place) (τ : ℤ) → ℕ
+directionAt a p τ = direction S (u (momentOf a p τ)) (v (momentOf a p τ))
 
 -- ---- what the code gives
 
@@ -46,16 +53,25 @@ pub record StatesOf (guard : ℤ) (s : Shadow) (r : States) : Type 0 where
   pub central : r .central ≡ code (state guard (edge Central (s .l2)) (s .m))
   pub m : r .m ≡ s .m
 
--- the states of a second, with its M
+-- the states of a second of an eclipse, with its M
 pub record IsStates (guard : ℤ) (e : Elements) (p : Place) (τ : ℤ) (r : States) : Type 0 where
-  pub penumbra : r .penumbra ≡ code (stateAt guard e p Penumbra τ)
-  pub central : r .central ≡ code (stateAt guard e p Central τ)
+  pub penumbra : r .penumbra ≡ code (stateAt guard (B.Sun e) p Penumbra τ)
+  pub central : r .central ≡ code (stateAt guard (B.Sun e) p Central τ)
   pub m : r .m ≡ M (moment e p τ)
 
--- all of a second
+-- the states of a second in the phases of its shadow, the k-th for the k-th of them
+abbrev pub nthState : PhaseStates → ℕ → ℕ
+nthState r zero = r .first
+nthState r (suc k) = r .second
+
+pub record ArePhaseStates (guard : ℤ) (b : Body) (p : Place) (τ : ℤ) (r : PhaseStates) : Type 0 where
+  pub state : (k : ℕ) → k < length (phasesOf b) → nthState r k ≡ code (stateAt guard b p (getD (phasesOf b) k Penumbra) τ)
+  pub m : Value (M (momentOf (axisOf b) p τ)) 1000000000000000000 (r .m)
+
+-- all of a second of an eclipse
 pub record IsSecond (guard : ℤ) (e : Elements) (p : Place) (τ : ℤ) (r : Second) : Type 0 where
   pub shadow : IsShadow e p τ (r .shadow)
-  pub penumbra : r .penumbra ≡ code (stateAt guard e p Penumbra τ)
-  pub central : r .central ≡ code (stateAt guard e p Central τ)
+  pub penumbra : r .penumbra ≡ code (stateAt guard (B.Sun e) p Penumbra τ)
+  pub central : r .central ≡ code (stateAt guard (B.Sun e) p Central τ)
   pub magnitude : r .magnitude ≡ magnitudeAt guard e p τ
-  pub direction : r .direction ≡ directionAt e p τ
+  pub direction : r .direction ≡ directionAt (e .axis) p τ

@@ -5,26 +5,41 @@
 --   magnitude-most, direction-near         "It never exceeds 1,300,000"; at most 3599, or 65,535
 --   states-true                            for every guard from 13 on the states are true of the exact values
 --   sure-under-less                        what is sure under a guard is sure, with the same answer, under every smaller one
+--   phases-few                             a shadow has at most two phases
 --   states-of-second                       the states of a shadow that is the second's
-use mathlib.Core.Path.{_≡_, refl, _∙_, ap, ap₂}
+--   phase-states, star-state               the states phase by phase, of an eclipse and of a star
+use mathlib.Core.Path.{_≡_, refl, sym, _∙_, ap, ap₂}
 use mathlib.Core.Logic.{_⊎_}
-use Prim.Native.Nat.{_≤_}
+use Prim.Native.Nat.{ℕ, zero, suc, _≤_, _<_}
 use native.Mathlib.Omega.{arith}
+use lib.Dec.{lit≤}
 use lib.IntN.{ℤ, pos, natAbs, _+ℤ_, _*ℤ_}
+use lib.ListN.{length, getD}
 use lib.Signed.{_≤ℤ_, _<ℤ_}
 use Rattle.phases.specs.States.{State, unsure, code}
 use Rattle.phases.specs.declared.Phase.{Phase}
-use Rattle.phases.specs.declared.Phase.the-variants.{Penumbra, Central}
+use Rattle.phases.specs.declared.Phase.the-variants.{Penumbra, Central, Star}
+use Rattle.numbers.specs.Parts.{sum}
+use Rattle.numbers.specs.Value.{Value}
+use Rattle.numbers.specs.Order.{zs}
 use Rattle.sine.specs.Table.{S}
+use Rattle.elements.specs.declared.Axis.{Axis}
 use Rattle.elements.specs.declared.Elements.{Elements}
+use Rattle.elements.specs.declared.Star as Occulted
+use Rattle.elements.specs.declared.Body.{Body}
+use Rattle.elements.specs.declared.Body.the-variants as B
 use Rattle.elements.specs.Sizes.{ElementSizes}
+use Rattle.elements.specs.Stars.{starAxis, axisOf}
+use Rattle.elements.specs.StarLaws.{BodySizes}
 use Rattle.station.specs.declared.Place.{Place}
 use Rattle.station.specs.Sizes.{PlaceSizes}
-use Rattle.geometry.specs.Shadow.{Moment, moment, cone, u, v, L, M, edge, state}
+use Rattle.geometry.specs.Shadow.{Moment, momentOf, moment, phasesOf, cone, u, v, L, M, edge, state}
 use Rattle.geometry.specs.Ranges.{MomentSizes}
 use Rattle.geometry.specs.Sizes.{u-size, v-size, M-size, L-size}
 use Rattle.geometry.specs.StateLaws.{guard-monotone}
-use Rattle.geometry.specs.States.{StatesMean, penumbra-sign, central-sign, penumbra-means, central-means}
+use Rattle.geometry.specs.States.{StatesMean, penumbra-sign, central-sign, states-mean}
+use Rattle.geometry.specs.Thirteen.{Thirteen, thirteen}
+use Rattle.geometry.specs.Cylinder.{cylinder-L}
 use Rattle.geometry.specs.Magnitude.{magnitude}
 use Rattle.geometry.specs.MagnitudeLaws.{L1-above, L2-narrow, magnitude-within}
 use Rattle.geometry.specs.Direction.{direction}
@@ -32,26 +47,32 @@ use Rattle.geometry.specs.DirectionLaws.{direction-limit}
 use Rattle.shadow.specs.declared.Shadow.{Shadow}
 use Rattle.shadow.specs.Shadow.{IsShadow}
 use Rattle.shadow.specs.declared.States.{States}
-use Rattle.shadow.specs.Second.{stateAt, magnitudeAt, directionAt, ShadowSizes, StatesOf, IsStates}
+use Rattle.shadow.specs.declared.PhaseStates.{PhaseStates}
+use Rattle.shadow.specs.Second.{stateAt, magnitudeAt, directionAt, ShadowSizes, StatesOf, IsStates, nthState, ArePhaseStates}
 
-pub state-at : (guard : ℤ) (e : Elements) (p : Place) (φ : Phase) (τ : ℤ)
-    → stateAt guard e p φ τ ≡ state guard (edge φ (L (moment e p τ) (cone φ e))) (M (moment e p τ))
+pub state-at : (guard : ℤ) (b : Body) (p : Place) (φ : Phase) (τ : ℤ)
+    → stateAt guard b p φ τ ≡ state guard (edge φ (L (momentOf (axisOf b) p τ) (cone b φ))) (M (momentOf (axisOf b) p τ))
 unfolding stateAt
-state-at guard e p φ τ = refl
+state-at guard b p φ τ = refl
 
 pub magnitude-at : (guard : ℤ) (e : Elements) (p : Place) (τ : ℤ)
     → magnitudeAt guard e p τ
-    ≡ magnitude (stateAt guard e p Central τ) (L (moment e p τ) (e .penumbra)) (L (moment e p τ) (e .central)) (M (moment e p τ))
+    ≡ magnitude (stateAt guard (B.Sun e) p Central τ) (L (moment e p τ) (e .penumbra)) (L (moment e p τ) (e .central)) (M (moment e p τ))
 unfolding magnitudeAt
 magnitude-at guard e p τ = refl
 
-pub direction-at : (e : Elements) (p : Place) (τ : ℤ) → directionAt e p τ ≡ direction S (u (moment e p τ)) (v (moment e p τ))
+pub direction-at : (a : Axis) (p : Place) (τ : ℤ) → directionAt a p τ ≡ direction S (u (momentOf a p τ)) (v (momentOf a p τ))
 unfolding directionAt
-direction-at e p τ = refl
+direction-at a p τ = refl
 
-pub direction-near : (e : Elements) (p : Place) (τ : ℤ) → (directionAt e p τ ≤ 3599) ⊎ (directionAt e p τ ≡ 65535)
+pub direction-near : (a : Axis) (p : Place) (τ : ℤ) → (directionAt a p τ ≤ 3599) ⊎ (directionAt a p τ ≡ 65535)
 unfolding directionAt
-direction-near e p τ = direction-limit S (u (moment e p τ)) (v (moment e p τ))
+direction-near a p τ = direction-limit S (u (momentOf a p τ)) (v (momentOf a p τ))
+
+-- a shadow has a phase, and at most two
+pub phases-few : (b : Body) → length (phasesOf b) ≤ 2
+phases-few (B.Sun e) = omega arith
+phases-few (B.Star s) = omega arith
 
 module _ (e : Elements) (z : ElementSizes e) (p : Place) (i : PlaceSizes p) (τ : ℤ) (h : natAbs τ ≤ 10800) where
   abbrev m : Moment
@@ -69,21 +90,7 @@ module _ (e : Elements) (z : ElementSizes e) (p : Place) (i : PlaceSizes p) (τ 
 
   pub magnitude-most : (guard : ℤ) → magnitudeAt guard e p τ ≤ 1300000
   unfolding magnitudeAt
-  magnitude-most guard = magnitude-within m moment-sizes (e .penumbra) (e .central) (z .penumbra) (z .low) (z .central) (stateAt guard e p Central τ) (M m)
-
-  -- the states are true of the exact values
-  pub states-true : (guard : ℤ) → pos 13 ≤ℤ guard → (φ : Phase) → StatesMean guard φ m (cone φ e)
-  states-true guard g Penumbra = penumbra-means m moment-sizes (e .penumbra) (z .penumbra) guard g (z .low)
-  states-true guard g Central = central-means m moment-sizes (e .central) (z .central) guard g
-
-  edge-sign : (φ : Phase) (f : ℤ) → pos 0 ≤ℤ f → pos 0 ≤ℤ (edge φ (L m (cone φ e)) +ℤ f)
-  edge-sign Penumbra f low = penumbra-sign m moment-sizes (e .penumbra) (z .penumbra) (z .low) f low
-  edge-sign Central f low = central-sign (L m (e .central)) f low
-
-  -- "whatever second is sure under a guard is sure, with the same answer, under every smaller one"
-  pub sure-under-less : (f g : ℤ) → pos 0 ≤ℤ f → f ≤ℤ g → (φ : Phase) (w : State) → (w ≡ unsure → ⊥) → stateAt g e p φ τ ≡ w → stateAt f e p φ τ ≡ w
-  unfolding stateAt
-  sure-under-less f g low small φ w sure is = guard-monotone f g (edge φ (L m (cone φ e))) (M m) small low (edge-sign φ f low) w sure is
+  magnitude-most guard = magnitude-within m moment-sizes (e .penumbra) (e .central) (z .penumbra) (z .low) (z .central) (stateAt guard (B.Sun e) p Central τ) (M m)
 
   pub shadow-sizes : {s : Shadow} → IsShadow e p τ s → ShadowSizes s
   shadow-sizes j =
@@ -95,6 +102,46 @@ module _ (e : Elements) (z : ElementSizes e) (p : Place) (i : PlaceSizes p) (τ 
         m = omega (arith, ap natAbs (j .m), M-size m moment-sizes);
       }
 
+-- ---- either body
+-- where L and a guard are together not negative: L1 is above 0, the size of L2 is not negative, and a star's L is its radius
+edge-sign : (b : Body) → BodySizes b → (p : Place) → PlaceSizes p → (τ : ℤ) → natAbs τ ≤ 10800 → (φ : Phase) (f : ℤ) → pos 0 ≤ℤ f
+    → pos 0 ≤ℤ (edge φ (L (momentOf (axisOf b) p τ) (cone b φ)) +ℤ f)
+edge-sign (B.Sun e) z p i τ h Penumbra f low = penumbra-sign (moment e p τ) (moment-sizes e z p i τ h) (e .penumbra) (z .penumbra) (z .low) f low
+edge-sign (B.Sun e) z p i τ h Central f low = central-sign (L (moment e p τ) (e .central)) f low
+edge-sign (B.Sun e) z p i τ h Star f low = penumbra-sign (moment e p τ) (moment-sizes e z p i τ h) (e .penumbra) (z .penumbra) (z .low) f low
+edge-sign (B.Star s) z p i τ h φ f low = rw (cylinder-L (momentOf (starAxis s) p τ) s) (by φ)
+  where
+    by : (φ : Phase) → pos 0 ≤ℤ (edge φ (s .radius) +ℤ f)
+    by Penumbra = omega (arith, zs, z .low, sum (s .radius) f .is)
+    by Central = central-sign (s .radius) f low
+    by Star = omega (arith, zs, z .low, sum (s .radius) f .is)
+
+-- a tangent is at most 0.005, a cylinder's 0
+pub tangent-small : (b : Body) → BodySizes b → (φ : Phase) → natAbs (cone b φ .tanf) ≤ 500000
+tangent-small (B.Sun e) z Penumbra = z .penumbra .tanf
+tangent-small (B.Sun e) z Central = z .central .tanf
+tangent-small (B.Sun e) z Star = z .penumbra .tanf
+tangent-small (B.Star s) z φ = lit≤ tt
+
+module _ (b : Body) (z : BodySizes b) (p : Place) (i : PlaceSizes p) (τ : ℤ) (h : natAbs τ ≤ 10800) where
+  abbrev there : Moment
+  there = momentOf (axisOf b) p τ
+
+  -- the states are true of the exact values
+  pub states-true : (guard : ℤ) → pos 13 ≤ℤ guard → (φ : Phase) → StatesMean guard φ there (cone b φ)
+  states-true guard g φ = states-mean there h (cone b φ) (tangent-small b z φ) φ guard g (edge-sign b z p i τ h φ guard (omega (arith, zs)))
+
+  -- "the distance less L, taken as a whole, within 13"
+  pub distance-known : (φ : Phase) → Thirteen φ there (cone b φ)
+  distance-known φ = thirteen there h (cone b φ) (tangent-small b z φ) φ
+
+  -- "whatever second is sure under a guard is sure, with the same answer, under every smaller one"
+  pub sure-under-less : (f g : ℤ) → pos 0 ≤ℤ f → f ≤ℤ g → (φ : Phase) (w : State) → (w ≡ unsure → ⊥) → stateAt g b p φ τ ≡ w → stateAt f b p φ τ ≡ w
+  unfolding stateAt
+  sure-under-less f g low small φ w sure is =
+      guard-monotone f g (edge φ (L there (cone b φ))) (M there) small low (edge-sign b z p i τ h φ f low) w sure is
+
+-- ---- a second's states
 -- the states of a shadow that is a second's are the second's
 pub states-of-second : {guard : ℤ} {e : Elements} {p : Place} {τ : ℤ} {s : Shadow} {r : States} → IsShadow e p τ s → StatesOf guard s r → IsStates guard e p τ r
 unfolding stateAt
@@ -104,3 +151,24 @@ states-of-second {guard} {e} {p} {τ} j k =
       central = k .central ∙ ap₂ (λ (l n : ℤ). code (state guard (edge Central l) n)) (j .l2) (j .m);
       m = k .m ∙ j .m;
     }
+
+-- an eclipse's, phase by phase
+pub phase-states : {guard : ℤ} {e : Elements} {p : Place} {τ : ℤ} {w : States} → IsStates guard e p τ w → (r : PhaseStates)
+    → r .first ≡ w .penumbra → r .second ≡ w .central → r .m ≡ w .m → natAbs (w .m) ≤ 1000000000000000000 → ArePhaseStates guard (B.Sun e) p τ r
+phase-states {guard} {e} {p} {τ} j r first second m size =
+    record { state = by; m = record { value = m ∙ j .m; size = omega (arith, ap natAbs m) } }
+  where
+    by : (k : ℕ) → k < length (phasesOf (B.Sun e)) → nthState r k ≡ code (stateAt guard (B.Sun e) p (getD (phasesOf (B.Sun e)) k Penumbra) τ)
+    by zero h = first ∙ j .penumbra
+    by (suc zero) h = second ∙ j .central
+    by (suc (suc k)) h = absurd (omega arith)
+
+-- a star's, of its one phase
+pub star-state : {guard : ℤ} {s : Occulted.Star} {p : Place} {τ : ℤ} (r : PhaseStates) → r .first ≡ code (state guard (s .radius) (M (momentOf (starAxis s) p τ)))
+    → Value (M (momentOf (starAxis s) p τ)) 1000000000000000000 (r .m) → ArePhaseStates guard (B.Star s) p τ r
+unfolding stateAt
+star-state {guard} {s} {p} {τ} r first m = record { state = by; m = m }
+  where
+    by : (k : ℕ) → k < length (phasesOf (B.Star s)) → nthState r k ≡ code (stateAt guard (B.Star s) p (getD (phasesOf (B.Star s)) k Penumbra) τ)
+    by zero h = first ∙ ap (λ (l : ℤ). code (state guard l (M (momentOf (starAxis s) p τ)))) (sym (cylinder-L (momentOf (starAxis s) p τ) s))
+    by (suc k) h = absurd (omega arith)

@@ -1,4 +1,5 @@
 // The shadow at one second: where the station is in it, and what is seen there.
+pub mod bodies;
 pub mod directions;
 
 ghost use mathlib.Core.Path.{_≡_};
@@ -13,7 +14,7 @@ ghost use Rattle.station.specs.Sizes.{PlaceSizes};
 ghost use Rattle.geometry.specs.Shadow.{state};
 ghost use Rattle.geometry.specs.Magnitude.{millionths, magnitude};
 ghost use Rattle.shadow.specs.Shadow.{IsOrientation, OrientationSizes, AreCoordinates, radiusAt, IsOffset, IsShadow};
-ghost use Rattle.shadow.specs.Second.{ShadowSizes, StatesOf, IsStates, IsSecond, magnitudeAt, directionAt};
+ghost use Rattle.shadow.specs.Second.{ShadowSizes, StatesOf, IsSecond, magnitudeAt};
 
 // How the shadow's axis stands to the station's meridian: sines and cosines of H and d, 10^-8, each ±100,000,000.
 pub struct Orientation {
@@ -63,7 +64,7 @@ pub struct Shadow {
     pub m: i64,
 }
 
-// The states of a second.
+// The states of a second of an eclipse.
 pub struct States {
     // of the penumbra: 0 outside, 1 inside, 2 unsure
     pub penumbra: u8,
@@ -73,7 +74,17 @@ pub struct States {
     pub m: i64,
 }
 
-// All that is said of a second.
+// The states of a second in the phases of its shadow.
+pub struct PhaseStates {
+    // of the first phase, the penumbra's or the star's: 0 outside, 1 inside, 2 unsure
+    pub first: u8,
+    // of the second, likewise; 0 where there is none
+    pub second: u8,
+    // M, by which the closest second is found
+    pub m: i64,
+}
+
+// All that is said of a second of an eclipse.
 pub struct Second {
     pub shadow: Shadow,
     // 0 outside, 1 inside, 2 unsure
@@ -233,31 +244,7 @@ fn states_of(guard: i64, s: Shadow) -> States
     }
 }
 
-// The states of a second and its M, with no direction and no magnitude: what a loop over seconds asks.
-pub fn states_at(
-    table: &[u32],
-    e: elements::Elements,
-    place: station::Place,
-    t: i64,
-    guard: i64,
-) -> States
-    requires { ⌜ (Sines (now table)) × (ElementSizes e) × (PlaceSizes place) × (natAbs t ≤ 10800) × (natAbs guard ≤ 1000) ⌝ }
-    ensures { λ r. ⌜ IsStates guard e place t r ⌝ }
-{
-    let s = shadow_at(table, e, place, t);
-    states_of(guard, s)
-}
-
-// The direction of the axis from the station at a second.
-pub fn direction_at(table: &[u32], e: elements::Elements, place: station::Place, t: i64) -> u16
-    requires { ⌜ (Sines (now table)) × (ElementSizes e) × (PlaceSizes place) × (natAbs t ≤ 10800) ⌝ }
-    ensures { λ r. ⌜ r ≡ directionAt e place t ⌝ }
-{
-    let s = shadow_at(table, e, place, t);
-    directions::direction(table, s.u, s.v)
-}
-
-// The magnitude at a second.
+// The magnitude at a second of an eclipse.
 pub fn magnitude_at(
     table: &[u32],
     e: elements::Elements,
@@ -273,7 +260,7 @@ pub fn magnitude_at(
     magnitude(s.l1, s.l2, s.m, w.central)
 }
 
-// All of a second.
+// All of a second of an eclipse.
 pub fn second_at(
     table: &[u32],
     e: elements::Elements,

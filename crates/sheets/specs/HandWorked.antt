@@ -27,7 +27,7 @@ listing-well =
     (well-first Penumbra 4800 16800 _
     (well-step _ (step-enter Penumbra 4800 16800 0 C.Neither 5399 5401 (omega arith) (omega arith) (omega arith) 2700 refl (omega arith) refl)
     (well-step _ (step-leave Penumbra 4800 16800 5401 C.Enter 16199 16201 (omega arith) (omega arith) (omega arith) 900 refl (omega arith) refl)
-    (well-later Penumbra Central 4800 16800 16201 C.Leave refl _
+    (well-later Penumbra Central 4800 16800 16201 C.Leave refl refl _
     (well-step _ (step-enter Central 4800 16800 0 C.Neither 10699 10701 (omega arith) (omega arith) (omega arith) 2700 refl (omega arith) refl)
     (well-step _ (step-leave Central 4800 16800 10701 C.Enter 10899 10901 (omega arith) (omega arith) (omega arith) 900 refl (omega arith) refl)
     (well-closest Central 4800 16800 10901 C.Leave 10800 1037735 (omega arith) (omega arith) (omega arith))))))))

@@ -10,4 +10,5 @@ pub mod GivenLaws
 pub mod StoredLaws
 pub mod HandedLaws
 pub mod WellFormedLaws
+pub mod StarSheets
 pub mod StandLaws

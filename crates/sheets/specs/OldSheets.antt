@@ -9,7 +9,7 @@ use borrow.Author.Tests.{lt-leb}
 use lib.Dec.{leb}
 use lib.ListN.{length, getD, length-append}
 use Rattle.phases.specs.declared.Phase.{Phase}
-use Rattle.phases.specs.declared.Phase.the-variants.{Penumbra, Central}
+use Rattle.phases.specs.declared.Phase.the-variants.{Penumbra, Central, Star}
 use Rattle.refusals.specs.Refusals.{refusal}
 use Rattle.kinds.specs.declared.Kind.{Kind}
 use Rattle.kinds.specs.declared.Kind.the-variants as K
@@ -58,6 +58,7 @@ guard-broken s long first large =
 first-kinds : (φ : Phase) → 16 ≤ base φ
 first-kinds Penumbra = omega arith
 first-kinds Central = omega arith
+first-kinds Star = omega arith
 
 -- what may follow a head
 follows : (f l : ℕ) (e : Entry) (k : Kind) → kindInOrder (reached S.Head f l) e k ≡ true → (16 ≤ codeOf k) × (2 ≤ sizeOf k)

@@ -3,12 +3,14 @@
 use Prim.Native.Nat.{ℕ, _≤_, _<_}
 use mathlib.Core.Path.{_≡_, refl, sym}
 use mathlib.Core.List.{List, [], _∷_}
-use mathlib.Core.Bool.{true, false, cond, _||_}
+use mathlib.Core.Bool.{Bool, true, false, cond, _&&_, _||_}
 use native.Mathlib.Omega.{arith}
-use borrow.Author.Tests.{le-leb, lt-ltb}
-use lib.Dec.{eqb}
+use borrow.Author.Tests.{leb-true, le-leb, lt-ltb}
+use lib.Dec.{leb, eqb}
 use Rattle.phases.specs.declared.Phase.{Phase}
-use Rattle.phases.specs.declared.Phase.the-variants.{Penumbra, Central}
+use Rattle.phases.specs.declared.Phase.the-variants.{Penumbra, Central, Star}
+use Rattle.phases.specs.Phases.{same}
+use Rattle.phases.specs.PhaseLaws.{same-own}
 use Rattle.kinds.specs.declared.Kind.{Kind}
 use Rattle.kinds.specs.declared.Kind.the-variants as K
 use Rattle.kinds.specs.declared.Entry.{Entry}
@@ -16,11 +18,12 @@ use Rattle.kinds.specs.declared.Stage.the-variants as S
 use Rattle.kinds.specs.declared.Crossing.{Crossing}
 use Rattle.kinds.specs.declared.Crossing.the-variants as C
 use Rattle.kinds.specs.declared.Progress.{Progress}
-use Rattle.kinds.specs.Kinds.{plain}
+use Rattle.kinds.specs.Kinds.{isEnd, plain}
 use Rattle.kinds.specs.Entries.{head, enter, leave, graze, opened, closest, share, end}
-use Rattle.kinds.specs.TestLaws.{distinct}
-use Rattle.rules.specs.Order.{samePhase, phaseFollows, repeats}
-use Rattle.kinds.specs.FieldRules.{isDirection, spanHolds}
+use Rattle.kinds.specs.TestLaws.{both, distinct}
+use Rattle.rules.specs.Order.{phaseFollows, repeats}
+use Rattle.kinds.specs.FieldRules.{inWindow, isDirection, spanHolds, greatestMagnitude}
+use Rattle.rules.specs.OrderLaws.{own-phase, end-may-come}
 use Rattle.rules.specs.Rules.{start, reached, phaseInOrder, inOrder, fieldsHold, afterOf}
 use Rattle.sheets.specs.WellFormed.{WellFormed, within, Step}
 
@@ -39,17 +42,9 @@ step-head s f l g a b c d m n =
       comes-to = refl;
     }
 
-same-phase : (φ : Phase) → samePhase φ φ ≡ true
-same-phase Penumbra = refl
-same-phase Central = refl
-
-own-phase : (φ : Phase) → phaseFollows φ φ ≡ true
-own-phase Penumbra = refl
-own-phase Central = refl
-
 module _ (φ : Phase) (f l u : ℕ) (t : Crossing) (a b : ℕ) (time : u ≤ a) (low : f ≤ a) (high : b ≤ l) where
   in-phase : (crossing : Crossing) → repeats t crossing ≡ false → phaseInOrder (within φ f l u t) φ crossing a ≡ true
-  in-phase crossing r = rw (own-phase φ, same-phase φ, le-leb u a time, r)
+  in-phase crossing r = rw (own-phase φ, same-own φ, le-leb u a time, r)
 
   span : a < b → spanHolds (within φ f l u t) a b ≡ true
   span h =
@@ -69,7 +64,7 @@ module _ (φ : Phase) (f l u : ℕ) (t : Crossing) (a b : ℕ) (time : u ≤ a) 
 
   pub step-graze : a < b → Step (within φ f l u t) (graze φ a b) (within φ f l b t)
   unfolding plain
-  step-graze h = record { order = in-phase C.Neither refl; fields = span h; goes-on = refl; comes-to = rw (same-phase φ) }
+  step-graze h = record { order = in-phase C.Neither refl; fields = span h; goes-on = refl; comes-to = rw (same-own φ) }
 
   pub step-open : a ≤ b → (eqb a f || eqb b l) ≡ true → Step (within φ f l u t) (opened φ a b) (within φ f l b t)
   unfolding plain
@@ -78,30 +73,67 @@ module _ (φ : Phase) (f l u : ℕ) (t : Crossing) (a b : ℕ) (time : u ≤ a) 
         order = in-phase C.Neither refl;
         fields = rw (le-leb f a low, le-leb a l (omega arith), le-leb f b (omega arith), le-leb b l high, le-leb a b h) g;
         goes-on = refl;
-        comes-to = rw (same-phase φ);
+        comes-to = rw (same-own φ);
       }
 
 -- ---- where a phase begins
 
--- what may come where nothing of the phase ψ came yet may come at p too, if p stands in the same window before that phase
+-- an entry that may come at q may come at p too, and there too what comes after it
+abbrev Comes : Progress → Progress → Entry → Type 0
+Comes p q e = inOrder q e ≡ true
+    → (inOrder p e ≡ true) × (fieldsHold q e ≡ true → fieldsHold p e ≡ true) × ((es : List Entry) → WellFormed (afterOf q e) es → WellFormed (afterOf p e) es)
+
+-- any that may come where nothing of the phase ψ came yet
 abbrev Before : Progress → Phase → ℕ → ℕ → Type 0
-Before p ψ f l = (k : Kind) (a b c d : ℕ) → let e : Entry = record { kind = k; a = a; b = b; c = c; d = d } in
-    inOrder (within ψ f l 0 C.Neither) e ≡ true
-    → (inOrder p e ≡ true) × (fieldsHold p e ≡ fieldsHold (within ψ f l 0 C.Neither) e) × (afterOf p e ≡ afterOf (within ψ f l 0 C.Neither) e)
+Before p ψ f l = (k : Kind) (a b c d : ℕ) → Comes p (within ψ f l 0 C.Neither) (record { kind = k; a = a; b = b; c = c; d = d })
 
 well-before : (p : Progress) (ψ : Phase) (f l : ℕ) → Before p ψ f l → (es : List Entry) → WellFormed (within ψ f l 0 C.Neither) es → WellFormed p es
 unfolding WellFormed
 well-before p ψ f l h [] w = w
 well-before p ψ f l h (e ∷ es) w =
     let x = h (e .kind) (e .a) (e .b) (e .c) (e .d) (w .0) in
-    (x .0, rw (x .1) (w .1), rw (x .2) (w .2))
+    (x .0, x .1 (w .1), rest (isEnd (e .kind)) (w .2))
+  where
+    rest : (b : Bool) → cond b (es ≡ []) (WellFormed (afterOf (within ψ f l 0 C.Neither) e) es) → cond b (es ≡ []) (WellFormed (afterOf p e) es)
+    rest true v = v
+    rest false v = h (e .kind) (e .a) (e .b) (e .c) (e .d) (w .0) .2 es v
 
 -- a graze or an open keeps the crossing of its phase: there is none yet
-no-crossing : (ψ φ : Phase) → cond (samePhase ψ φ) C.Neither C.Neither ≡ C.Neither
-no-crossing Penumbra Penumbra = refl
-no-crossing Penumbra Central = refl
-no-crossing Central Penumbra = refl
-no-crossing Central Central = refl
+no-crossing : (b : Bool) → cond b C.Neither C.Neither ≡ C.Neither
+no-crossing true = refl
+no-crossing false = refl
+
+-- what closes a sheet after a star's closest closes it after any
+star-closed : (f l : ℕ) (es : List Entry) → WellFormed (reached S.StarClosest f l) es → WellFormed (reached S.Closest f l) es
+unfolding WellFormed
+star-closed f l [] w = w
+star-closed f l (e ∷ es) w = by (e .kind) (e .a) (e .b) (e .c) (e .d) w
+  where
+    by : (k : Kind) (a b c d : ℕ) → let x : Entry = record { kind = k; a = a; b = b; c = c; d = d } in
+        WellFormed (reached S.StarClosest f l) (x ∷ es) → WellFormed (reached S.Closest f l) (x ∷ es)
+    by K.Head a b c d v = absurd (distinct (sym (v .0)))
+    by (K.Enter φ) a b c d v = absurd (distinct (sym (v .0)))
+    by (K.Leave φ) a b c d v = absurd (distinct (sym (v .0)))
+    by (K.Graze φ) a b c d v = absurd (distinct (sym (v .0)))
+    by (K.Open φ) a b c d v = absurd (distinct (sym (v .0)))
+    by K.Closest a b c d v = absurd (distinct (sym (v .0)))
+    by K.Share a b c d v = absurd (distinct (sym (v .0)))
+    by K.End a b c d v = v
+
+-- closest may come right after the head, and there its magnitude may be larger
+closest-first : (ψ : Phase) (f l a b c d : ℕ) → Comes (reached S.Head f l) (within ψ f l 0 C.Neither) (record { kind = K.Closest; a = a; b = b; c = c; d = d })
+closest-first Penumbra f l a b c d o = (refl, λ h. h, λ es v. v)
+closest-first Central f l a b c d o = (refl, λ h. h, λ es v. v)
+closest-first Star f l a b c d o =
+    let e : Entry = record { kind = K.Closest; a = a; b = b; c = c; d = d } in
+    (refl, larger (plain e) (inWindow (reached S.Head f l) a), star-closed f l)
+  where
+    larger : (x y : Bool) → (x && (y && leb b 0)) ≡ true → (x && (y && leb b 1300000)) ≡ true
+    larger x y h =
+        let u = both x (y && leb b 0) h in
+        let v = both y (leb b 0) (u .1) in
+        let z = leb-true b 0 (v .1) in
+        rw (u .0, v .0, le-leb b 1300000 (omega arith))
 
 -- after the head any phase may begin
 pub well-first : (ψ : Phase) (f l : ℕ) (es : List Entry) → WellFormed (within ψ f l 0 C.Neither) es → WellFormed (reached S.Head f l) es
@@ -109,43 +141,53 @@ well-first ψ f l es w = well-before (reached S.Head f l) ψ f l before es w
   where
     before : Before (reached S.Head f l) ψ f l
     before K.Head a b c d o = absurd (distinct (sym o))
-    before (K.Enter φ) a b c d o = (refl, refl, refl)
-    before (K.Leave φ) a b c d o = (refl, refl, refl)
-    before (K.Graze φ) a b c d o = (refl, refl, rw (no-crossing ψ φ))
-    before (K.Open φ) a b c d o = (refl, refl, rw (no-crossing ψ φ))
-    before K.Closest a b c d o = (refl, refl, refl)
+    before (K.Enter φ) a b c d o = (refl, λ h. h, λ es v. v)
+    before (K.Leave φ) a b c d o = (refl, λ h. h, λ es v. v)
+    before (K.Graze φ) a b c d o = (refl, λ h. h, λ es v. rw (no-crossing (same ψ φ)) at v)
+    before (K.Open φ) a b c d o = (refl, λ h. h, λ es v. rw (no-crossing (same ψ φ)) at v)
+    before K.Closest a b c d o = closest-first ψ f l a b c d o
     before K.Share a b c d o = absurd (distinct (sym o))
     before K.End a b c d o = absurd (distinct (sym o))
 
 -- after a phase a later one may begin, whatever came there
-pub well-later : (φ ψ : Phase) (f l u : ℕ) (t : Crossing) → phaseFollows ψ φ ≡ false → (es : List Entry) → WellFormed (within ψ f l 0 C.Neither) es →
-    WellFormed (within φ f l u t) es
-well-later Penumbra Penumbra f l u t n es w = absurd (distinct n)
-well-later Central Penumbra f l u t n es w = absurd (distinct n)
-well-later Central Central f l u t n es w = absurd (distinct n)
-well-later Penumbra Central f l u t n es w = well-before (within Penumbra f l u t) Central f l before es w
+pub well-later : (φ ψ : Phase) (f l u : ℕ) (t : Crossing) → phaseFollows φ ψ ≡ true → same φ ψ ≡ false → (es : List Entry)
+    → WellFormed (within ψ f l 0 C.Neither) es → WellFormed (within φ f l u t) es
+well-later Penumbra Penumbra f l u t m n es w = absurd (distinct n)
+well-later Penumbra Star f l u t m n es w = absurd (distinct (sym m))
+well-later Central Penumbra f l u t m n es w = absurd (distinct (sym m))
+well-later Central Central f l u t m n es w = absurd (distinct n)
+well-later Central Star f l u t m n es w = absurd (distinct (sym m))
+well-later Star Penumbra f l u t m n es w = absurd (distinct (sym m))
+well-later Star Central f l u t m n es w = absurd (distinct (sym m))
+well-later Star Star f l u t m n es w = absurd (distinct n)
+well-later Penumbra Central f l u t m n es w = well-before (within Penumbra f l u t) Central f l before es w
   where
     before : Before (within Penumbra f l u t) Central f l
     before K.Head a b c d o = absurd (distinct (sym o))
     before (K.Enter Penumbra) a b c d o = absurd (distinct (sym o))
-    before (K.Enter Central) a b c d o = (refl, refl, refl)
+    before (K.Enter Central) a b c d o = (refl, λ h. h, λ es v. v)
+    before (K.Enter Star) a b c d o = absurd (distinct (sym o))
     before (K.Leave Penumbra) a b c d o = absurd (distinct (sym o))
-    before (K.Leave Central) a b c d o = (refl, refl, refl)
+    before (K.Leave Central) a b c d o = (refl, λ h. h, λ es v. v)
+    before (K.Leave Star) a b c d o = absurd (distinct (sym o))
     before (K.Graze Penumbra) a b c d o = absurd (distinct (sym o))
-    before (K.Graze Central) a b c d o = (refl, refl, refl)
+    before (K.Graze Central) a b c d o = (refl, λ h. h, λ es v. v)
+    before (K.Graze Star) a b c d o = absurd (distinct (sym o))
     before (K.Open Penumbra) a b c d o = absurd (distinct (sym o))
-    before (K.Open Central) a b c d o = (refl, refl, refl)
-    before K.Closest a b c d o = (refl, refl, refl)
+    before (K.Open Central) a b c d o = (refl, λ h. h, λ es v. v)
+    before (K.Open Star) a b c d o = absurd (distinct (sym o))
+    before K.Closest a b c d o = (refl, λ h. h, λ es v. v)
     before K.Share a b c d o = absurd (distinct (sym o))
     before K.End a b c d o = absurd (distinct (sym o))
 
--- closest, the share if there is one, and end close it
-pub well-closest : (φ : Phase) (f l u : ℕ) (t : Crossing) (s g : ℕ) → f ≤ s → s ≤ l → g ≤ 1300000 → WellFormed (within φ f l u t) (closest s g ∷ end ∷ [])
+-- closest, the share if there is one, and end close it; after a star's entry the magnitude is 0, and there is no share
+pub well-closest : (φ : Phase) (f l u : ℕ) (t : Crossing) (s g : ℕ) → f ≤ s → s ≤ l → g ≤ greatestMagnitude (S.Phase φ)
+    → WellFormed (within φ f l u t) (closest s g ∷ end ∷ [])
 unfolding WellFormed plain
-well-closest φ f l u t s g a b c = (refl, rw (le-leb f s a, le-leb s l b, le-leb g 1300000 c), (refl, refl, refl))
+well-closest φ f l u t s g a b c = (refl, rw (le-leb f s a, le-leb s l b, le-leb g (greatestMagnitude (S.Phase φ)) c), (end-may-come φ, refl, refl))
 
-pub well-share : (φ : Phase) (f l u : ℕ) (t : Crossing) (s g covered : ℕ) → f ≤ s → s ≤ l → g ≤ 1300000 → covered ≤ 1000000
+pub well-share : (φ : Phase) (f l u : ℕ) (t : Crossing) (s g covered : ℕ) → same φ Star ≡ false → f ≤ s → s ≤ l → g ≤ 1300000 → covered ≤ 1000000
     → WellFormed (within φ f l u t) (closest s g ∷ share covered ∷ end ∷ [])
 unfolding WellFormed plain
-well-share φ f l u t s g covered a b c d =
-    (refl, rw (le-leb f s a, le-leb s l b, le-leb g 1300000 c), (refl, rw (le-leb covered 1000000 d), (refl, refl, refl)))
+well-share φ f l u t s g covered n a b c d =
+    rw n (refl, rw (le-leb f s a, le-leb s l b, le-leb g 1300000 c), (refl, rw (le-leb covered 1000000 d), (refl, refl, refl)))

@@ -133,9 +133,9 @@ fn put_sheets(out: &mut [u8], input: &[u8]) -> usize
 }
 
 fn main() {
-    let mut input = io::large_buffer();
+    let mut input = [0u8; 131072];
     let length = io::read_full(STDIN_FILENO, &mut input);
-    let mut lines = [0u8; 131072];
+    let mut lines = [0u8; 262144];
     let end = put_sheets(&mut lines, &input[..length]);
     let written = decimals::clipped(&lines, end);
     io::write_all(STDOUT_FILENO, &lines[..written]);

@@ -1,4 +1,5 @@
 pub mod Replies
+pub mod SheetLaws
 pub mod Second
 pub mod SecondLaws
 pub mod Shares

@@ -11,6 +11,7 @@ use Rattle.phases.specs.States.{stateOf, SaidRightly}
 use Rattle.refusals.specs.Refusals.{refusal}
 use Rattle.shadow.specs.declared.Second.{Second}
 use Rattle.requests.specs.declared.Request.{Request}
+use Rattle.requests.specs.Requests.{ofEclipse}
 use Rattle.seconds.specs.declared.OneSecond.{OneSecond}
 use Rattle.seconds.specs.declared.OneSecond.the-variants as O
 use Rattle.seconds.specs.OneSecond.{secondAnswer, secondSines}
@@ -55,8 +56,8 @@ numbersAfter (O.Refused r) old = old
 -- "Where our program says inside or outside, that is the exact answer. It says unsure only where the exact distance lies within 29 units of the
 -- cone's edge": of the fifth and the sixth number in the room
 pub record RoomMeans (q : Request) (τ : ℤ) (room : List ℤ) : Type 0 where
-  pub penumbra : SaidRightly (stateOf (natAbs (getD room 4 (pos 0)))) (ExactlyInside q Penumbra τ) (WithinUnits q (unsureUnits q) Penumbra τ)
-  pub central : SaidRightly (stateOf (natAbs (getD room 5 (pos 0)))) (ExactlyInside q Central τ) (WithinUnits q (unsureUnits q) Central τ)
+  pub penumbra : SaidRightly (stateOf (natAbs (getD room 4 (pos 0)))) (ExactlyInside (ofEclipse q) Penumbra τ) (WithinUnits (ofEclipse q) (unsureUnits (ofEclipse q)) Penumbra τ)
+  pub central : SaidRightly (stateOf (natAbs (getD room 5 (pos 0)))) (ExactlyInside (ofEclipse q) Central τ) (WithinUnits (ofEclipse q) (unsureUnits (ofEclipse q)) Central τ)
 
 abbrev pub GivenMeans : List ℕ → ℤ → OneSecond → List ℤ → Type 0
 GivenMeans request τ (O.Is x) room = RoomMeans (requestOf request) τ room

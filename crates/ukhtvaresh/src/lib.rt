@@ -9,10 +9,12 @@ mod roots;
 mod second;
 mod shares;
 mod spreadsheet;
+mod stars;
 
 ghost use mathlib.Core.Path.{_≡_};
 ghost use Rattle.sheets.specs.Sheets.{readWhole, roomAfter};
 ghost use Rattle.sheets.specs.Handed.{listWhole, bufferAfterList};
+ghost use Rattle.requests.specs.Requests.{ofEclipse};
 ghost use Rattle.circumstances.specs.Demand3.{Claimed};
 ghost use Rattle.input.specs.Input.{requestOf};
 ghost use Rattle.input.specs.Sheet.{answerTo, bufferFor, sinesFor};
@@ -86,7 +88,7 @@ pub extern "C" fn ukhtvaresh_sheet(
     ensures value { λ r. ⌜ now (value .exit) ≡ sheetReply (answerTo (now (request .entry)) (now (sines .entry)) (now (sheet .entry))) .value ⌝ }
     ensures buffer { λ r. ⌜ now (sheet .exit) ≡ bufferFor (now (request .entry)) (now (sines .entry)) (now (sheet .entry)) ⌝ }
     ensures sines { λ r. ⌜ now (sines .exit) ≡ sinesFor (now (request .entry)) (now (sines .entry)) ⌝ }
-    ensures demand3 { λ r. ⌜ Claimed (requestOf (now (request .entry))) (answerTo (now (request .entry)) (now (sines .entry)) (now (sheet .entry))) (now (sheet .exit)) ⌝ }
+    ensures demand3 { λ r. ⌜ Claimed (ofEclipse (requestOf (now (request .entry)))) (answerTo (now (request .entry)) (now (sines .entry)) (now (sheet .entry))) (now (sheet .exit)) ⌝ }
 {
     let answer = input::sheet(request, sines, sheet);
     let reply = sheet_reply(answer);

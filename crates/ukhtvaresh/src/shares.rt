@@ -2,6 +2,7 @@
 use super::Reply;
 use covered::OneShare;
 ghost use mathlib.Core.Path.{_≡_};
+ghost use Rattle.requests.specs.Requests.{ofEclipse};
 ghost use Rattle.requests.specs.Shares.{withShare};
 ghost use Rattle.circumstances.specs.Demand3.{Claimed};
 ghost use Rattle.covered.specs.Answer.{AnswerMeans};
@@ -23,7 +24,7 @@ pub extern "C" fn ukhtvaresh_sheet_and_share(
     ensures value { λ r. ⌜ now (value .exit) ≡ sheetReply (sharedAnswer (now (request .entry)) (now (sines .entry)) (now (sheet .entry))) .value ⌝ }
     ensures buffer { λ r. ⌜ now (sheet .exit) ≡ sharedBuffer (now (request .entry)) (now (sines .entry)) (now (sheet .entry)) ⌝ }
     ensures sines { λ r. ⌜ now (sines .exit) ≡ sharedSines (now (request .entry)) (now (sines .entry)) ⌝ }
-    ensures demand3 { λ r. ⌜ Claimed (withShare (requestOf (now (request .entry)))) (sharedAnswer (now (request .entry)) (now (sines .entry)) (now (sheet .entry))) (now (sheet .exit)) ⌝ }
+    ensures demand3 { λ r. ⌜ Claimed (ofEclipse (withShare (requestOf (now (request .entry))))) (sharedAnswer (now (request .entry)) (now (sines .entry)) (now (sheet .entry))) (now (sheet .exit)) ⌝ }
 {
     let answer = input::sheet_and_share(request, sines, sheet);
     let reply = super::sheet_reply(answer);

@@ -6,7 +6,7 @@ use crate::library::{self, Reply};
 use reference::mirror::mirror;
 use reference::random::Random;
 use reference::refusal::Refusal;
-use reference::room::{share_of_input, sheet_and_share_of_input, sheet_of_input};
+use reference::room::{share_of_input, sheet_and_share_of_input, sheet_of_input, star_of_input};
 use reference::sheet;
 use std::fmt::Debug;
 
@@ -56,6 +56,9 @@ pub const SHARED: Asked = Asked {
     ours: library::sheet_and_share,
     theirs: sheet_and_share_of_input,
 };
+
+/// Of a star request.
+pub const STAR: Asked = Asked { name: "ukhtvaresh_star", ours: library::star, theirs: star_of_input };
 
 pub fn sheet_both(random: &mut Random, asked: &Asked, request: &[u8], lent: usize, room: usize) -> Left<u8> {
     let old_sines = buffer(random, lent, |bits| bits as u32);

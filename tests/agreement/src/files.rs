@@ -1,12 +1,12 @@
 //! Year files to try: sheets one after the other, damaged in many ways.
 
-use crate::draws;
+use crate::sheets;
 use reference::random::Random;
 use reference::sheet;
 
 /// A well-formed sheet.
 pub fn whole_sheet(random: &mut Random) -> Vec<u8> {
-    let entries = draws::entries(random);
+    let entries = sheets::entries(random);
     let mut bytes = vec![0; 7 * entries.len()];
     let length = sheet::write(&entries, &mut bytes).expect("entries that keep all rules");
     bytes.truncate(length);
@@ -16,14 +16,15 @@ pub fn whole_sheet(random: &mut Random) -> Vec<u8> {
 /// An open entry of one second again and again, in which heads may stand; a sheet may begin before it, an end may follow.
 fn repeated(random: &mut Random) -> Vec<u8> {
     let [high, low] = (random.below(4) as u16 * 256 + random.below(4) as u16).to_be_bytes();
-    let kind = [0x13, 0x23][random.below(2) as usize];
+    let kind = [0x13, 0x23, 0x43][random.below(3) as usize];
     let mut bytes = Vec::new();
     if random.once_in(2) {
         bytes.extend([0x01, 0, 7, 0, 0, high, low, 0, 16]);
     }
     bytes.extend([kind, high, low, high, low].repeat(random.below(40) as usize));
     if random.once_in(2) {
-        bytes.extend([0x30, high, low, 0, 0, 0, 1, 0x7F]);
+        // a magnitude that an eclipse may have and a star may not
+        bytes.extend([0x30, high, low, 0, 0, 0, random.below(2) as u8, 0x7F]);
     }
     bytes
 }
@@ -54,7 +55,7 @@ pub fn file(random: &mut Random) -> Vec<u8> {
             0..=3 => file.extend(whole_sheet(random)),
             4 | 5 => {
                 let mut sheet = whole_sheet(random);
-                draws::damage(random, &mut sheet);
+                sheets::damage(random, &mut sheet);
                 file.extend(sheet);
             }
             6 => file.extend(repeated(random)),

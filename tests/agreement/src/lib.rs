@@ -6,3 +6,5 @@ pub mod draws;
 pub mod files;
 pub mod fits;
 pub mod library;
+pub mod sheets;
+pub mod stars;

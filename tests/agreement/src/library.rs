@@ -19,6 +19,15 @@ extern "C" {
         sheet_len: usize,
         value: *mut u64,
     ) -> u64;
+    fn ukhtvaresh_star(
+        request: *const u8,
+        request_len: usize,
+        sines: *mut u32,
+        sines_len: usize,
+        sheet: *mut u8,
+        sheet_len: usize,
+        value: *mut u64,
+    ) -> u64;
     fn ukhtvaresh_share(
         request: *const u8,
         request_len: usize,
@@ -99,10 +108,13 @@ pub type Reply = (u64, u64);
 /// What `value` holds before a call.
 const UNSET: u64 = 0xDEAD_BEEF_DEAD_BEEF;
 
-pub fn sheet(request: &[u8], sines: &mut [u32], sheet: &mut [u8]) -> Reply {
+type SheetExport = unsafe extern "C" fn(*const u8, usize, *mut u32, usize, *mut u8, usize, *mut u64) -> u64;
+
+/// The sheet that an export makes of a request.
+fn made(export: SheetExport, request: &[u8], sines: &mut [u32], sheet: &mut [u8]) -> Reply {
     let mut value = UNSET;
     let number = unsafe {
-        ukhtvaresh_sheet(
+        export(
             request.as_ptr(),
             request.len(),
             sines.as_mut_ptr(),
@@ -115,20 +127,17 @@ pub fn sheet(request: &[u8], sines: &mut [u32], sheet: &mut [u8]) -> Reply {
     (number, value)
 }
 
+pub fn sheet(request: &[u8], sines: &mut [u32], sheet: &mut [u8]) -> Reply {
+    made(ukhtvaresh_sheet, request, sines, sheet)
+}
+
 pub fn sheet_and_share(request: &[u8], sines: &mut [u32], sheet: &mut [u8]) -> Reply {
-    let mut value = UNSET;
-    let number = unsafe {
-        ukhtvaresh_sheet_and_share(
-            request.as_ptr(),
-            request.len(),
-            sines.as_mut_ptr(),
-            sines.len(),
-            sheet.as_mut_ptr(),
-            sheet.len(),
-            &mut value,
-        )
-    };
-    (number, value)
+    made(ukhtvaresh_sheet_and_share, request, sines, sheet)
+}
+
+/// The sheet of a star request.
+pub fn star(request: &[u8], sines: &mut [u32], sheet: &mut [u8]) -> Reply {
+    made(ukhtvaresh_star, request, sines, sheet)
 }
 
 pub fn share(request: &[u8], second: i64, sines: &mut [u32]) -> Reply {

@@ -12,8 +12,8 @@
 //!   is sure, 0 where the penumbra is surely left;
 //! - the mirror of each request; its sheet, with the share or without, and its seconds against the request's own, directions left out;
 //!   the mirror of the mirror;
-//! - sheets, whole and damaged, with a share and without, read and listed; and entries, whole and damaged, written; what was read is
-//!   written again, and the other way;
+//! - sheets, whole and damaged, of eclipses with a share and without and of stars, read and listed; and entries, whole and damaged,
+//!   written; what was read is written again, and the other way;
 //! - as many fits as sheets, within the tolerance and at its edge, with numbers changed, of other lengths;
 //! - as many roots as sheets, with their rounds, and those of all numbers up to 70,000.
 //!
@@ -26,6 +26,7 @@ use agreement::both::{
 use agreement::draws;
 use agreement::fits;
 use agreement::library::{self, Reply};
+use agreement::sheets;
 use reference::elements::FARTHEST;
 use reference::fit::judge;
 use reference::numbers::rounds;
@@ -272,12 +273,12 @@ fn share(random: &mut Random, count: &mut Count, covered: &mut Covered) {
 }
 
 fn sheet(random: &mut Random, counts: &mut Counts) {
-    let mut entries = draws::entries(random);
+    let mut entries = sheets::entries(random);
     let mut bytes = vec![0; 7 * entries.len()];
     let length = sheet::write(&entries, &mut bytes).expect("entries that keep all rules");
     bytes.truncate(length);
 
-    draws::damage(random, &mut bytes);
+    sheets::damage(random, &mut bytes);
     let room = match random.below(3) {
         // rooms that are no whole number of entries too
         0 => draws::room(random, entries.len()),
@@ -293,7 +294,7 @@ fn sheet(random: &mut Random, counts: &mut Counts) {
     let room = draws::room(random, needed);
     counts.listings.add(listing_both(random, &bytes, room).0 .0);
 
-    draws::damage_entries(random, &mut entries);
+    sheets::damage_entries(random, &mut entries);
     let room = if random.once_in(2) { draws::room(random, length) } else { 7 * entries.len() };
     let ((number, written), sheet) = write_both(random, &entries, room);
     counts.writes.add(number);

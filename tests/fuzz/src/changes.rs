@@ -1,7 +1,7 @@
 //! How inputs are changed: half by libFuzzer, half by changes that know what a sheet or a request is.
 
 use crate::requests::{give_shape, within_limits};
-use agreement::{draws, files};
+use agreement::{draws, files, sheets};
 use reference::elements::{Elements, Station};
 use reference::random::Random;
 use reference::request::Request;
@@ -41,17 +41,18 @@ pub unsafe fn mutate(
     head + changed.len()
 }
 
-pub use draws::damage as change_sheet;
+pub use crate::stars::change as change_star;
 pub use files::change as change_file;
+pub use sheets::damage as change_sheet;
 
 /// Entries are damaged as numbers.
 pub fn change_entries(random: &mut Random, bytes: &mut Vec<u8>) {
     let mut entries: Vec<u32> =
         bytes.chunks_exact(4).map(|b| u32::from_be_bytes([b[0], b[1], b[2], b[3]])).collect();
     if entries.len() < 10 {
-        entries = draws::entries(random);
+        entries = sheets::entries(random);
     }
-    draws::damage_entries(random, &mut entries);
+    sheets::damage_entries(random, &mut entries);
     *bytes = entries.iter().flat_map(|number| number.to_be_bytes()).collect();
 }
 

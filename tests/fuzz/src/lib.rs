@@ -6,6 +6,7 @@
 
 pub mod changes;
 pub mod requests;
+pub mod stars;
 
 use agreement::answers;
 use agreement::library::{self, MendReply, Reply};

@@ -4,6 +4,7 @@ use crate::{left, must_agree, must_come_back, old_byte, old_number, reply, room,
 use agreement::answers;
 use agreement::library::{self, Reply};
 use reference::elements::{Elements, Station, Window, ELEMENT_RANGES, FARTHEST, STATION_RANGES};
+use reference::refusal::Refusal;
 use reference::request::{Request, KIND_PLACES, REQUEST_LENGTH};
 use reference::room::{fill, share_of_input, SINES};
 use reference::shadow::GUARDS;
@@ -51,7 +52,8 @@ extern "C" {
     ) -> u64;
 }
 
-type SheetExport = unsafe extern "C" fn(*const u8, usize, *mut u32, usize, *mut u8, usize, *mut u64) -> u64;
+pub(crate) type SheetExport =
+    unsafe extern "C" fn(*const u8, usize, *mut u32, usize, *mut u8, usize, *mut u64) -> u64;
 
 /// The room for table S: 901 numbers, or another count where that bit of the byte before a request says so.
 pub const OTHER_SINES: u8 = 0x08;
@@ -95,23 +97,27 @@ pub const LEAVE_NUMBERS: u8 = 0x02;
 const SHORT: i64 = 600;
 
 /// A number of the range, itself where it is one.
-fn into_range(number: i64, range: &RangeInclusive<i64>) -> i64 {
+pub(crate) fn into_range(number: i64, range: &RangeInclusive<i64>) -> i64 {
     let count = range.end() - range.start() + 1;
     range.start() + (number - range.start()).rem_euclid(count)
 }
 
-fn into_ranges<const N: usize>(numbers: [i64; N], ranges: &[RangeInclusive<i64>; N]) -> [i64; N] {
+pub(crate) fn into_ranges<const N: usize>(numbers: [i64; N], ranges: &[RangeInclusive<i64>; N]) -> [i64; N] {
     std::array::from_fn(|field| into_range(numbers[field], &ranges[field]))
 }
 
-pub(crate) fn within_limits(request: &Request) -> Request {
-    let station = Station::from_fields(into_ranges(request.station.fields(), &STATION_RANGES));
+/// A window, both seconds brought into their range.
+pub(crate) fn window_within(window: Window) -> Window {
     let seconds = -FARTHEST..=FARTHEST;
-    let [a, b] = [request.window.first, request.window.last].map(|second| into_range(second, &seconds));
+    let [a, b] = [window.first, window.last].map(|second| into_range(second, &seconds));
+    Window { first: a.min(b), last: a.max(b) }
+}
+
+pub(crate) fn within_limits(request: &Request) -> Request {
     Request {
         elements: Elements::from_fields(into_ranges(request.elements.fields(), &ELEMENT_RANGES)),
-        station,
-        window: Window { first: a.min(b), last: a.max(b) },
+        station: Station::from_fields(into_ranges(request.station.fields(), &STATION_RANGES)),
+        window: window_within(request.window),
         guard: into_range(request.guard, &GUARDS),
         share: request.share,
     }
@@ -124,6 +130,15 @@ pub(crate) fn give_shape(bytes: &mut Vec<u8>) {
     }
 }
 
+/// Long windows are slow, and the fuzzer would stay with them: one input in sixteen has one, any change draws anew.
+pub(crate) fn short(window: Window, leave: u8, raw: &[u8]) -> Window {
+    let sum: u32 = raw.iter().copied().map(u32::from).sum();
+    if sum % 16 == u32::from(leave >> 4) {
+        return window;
+    }
+    Window { last: window.last.min(window.first + SHORT), ..window }
+}
+
 fn request(leave: u8, raw: &[u8]) -> Vec<u8> {
     let mut bytes = raw.to_vec();
     if leave & LEAVE_SHAPE == 0 {
@@ -133,12 +148,44 @@ fn request(leave: u8, raw: &[u8]) -> Vec<u8> {
     if leave & LEAVE_NUMBERS == 0 {
         request = within_limits(&request);
     }
-    // Long windows are slow, and the fuzzer would stay with them: one input in sixteen, any change draws anew.
-    let sum: u32 = raw.iter().copied().map(u32::from).sum();
-    if sum % 16 != u32::from(leave >> 4) {
-        request.window.last = request.window.last.min(request.window.first + SHORT);
-    }
+    request.window = short(request.window, leave, raw);
     request.to_bytes().expect("numbers no wider than they were").to_vec()
+}
+
+/// What makes sheets of requests: its name, the library's function, the guide's.
+pub(crate) struct Asked {
+    pub name: &'static str,
+    pub call: fn(&[u8], &mut [u32], &mut [u8]) -> Reply,
+    pub counted: SheetExport,
+}
+
+/// A request's sheet by the library, by its guide, and as it was found.
+pub(crate) fn sheets_agree(
+    asked: &Asked,
+    request: &[u8],
+    found: Result<Vec<u8>, Refusal>,
+    [near, far, leave]: Head,
+) {
+    let room = room(found.as_ref().map_or(0, Vec::len), near, far);
+    let rooms @ [lent, room] = [sines_room(leave, near, far), room];
+    let theirs = left_lent(lent, room, old_byte, |sines, room| {
+        reply(found.and_then(|bytes| fill(sines).and_then(|()| sheet::copy_into(&bytes, room))))
+    });
+    let ours = left_lent(lent, room, old_byte, |sines, room| (asked.call)(request, sines, room));
+    both_agree(asked.name, request, rooms, &ours, &theirs);
+    let guided = left_lent(lent, room, old_byte, |sines, room| {
+        let mut value = 0;
+        let (length, sines_len, room_len) = (request.len(), sines.len(), room.len());
+        let (sines, room) = (sines.as_mut_ptr(), room.as_mut_ptr());
+        let number = unsafe {
+            (asked.counted)(request.as_ptr(), length, sines, sines_len, room, room_len, &mut value)
+        };
+        (number, value)
+    });
+    both_agree(&format!("{} with counters", asked.name), request, rooms, &guided, &theirs);
+    if let (0, length) = ours.0.reply {
+        must_come_back(&ours.0.buffer[..length as usize]);
+    }
 }
 
 /// Bit of the byte before a request, for `sheet`: it is asked for with its share.
@@ -149,41 +196,26 @@ pub fn sheet(input: &[u8]) {
     let &[near, far, leave, ref raw @ ..] = input else { return };
     let request = request(leave, raw);
     let share = leave & WITH_SHARE != 0;
-    type Call = fn(&[u8], &mut [u32], &mut [u8]) -> Reply;
-    let (name, call, counted): (&str, Call, SheetExport) = if share {
-        ("ukhtvaresh_sheet_and_share", library::sheet_and_share, guide_sheet_and_share)
+    let asked = if share {
+        Asked {
+            name: "ukhtvaresh_sheet_and_share",
+            call: library::sheet_and_share,
+            counted: guide_sheet_and_share,
+        }
     } else {
-        ("ukhtvaresh_sheet", library::sheet, guide_sheet)
+        Asked { name: "ukhtvaresh_sheet", call: library::sheet, counted: guide_sheet }
     };
     // The sheet once, and only then the room, since the seconds of a window are most of the work.
     let found = Request::from_bytes(&request).and_then(|request| Request { share, ..request }.check());
     let found = found.map(|circumstances| sheet::bytes_of(&circumstances.records()));
-    let room = room(found.as_ref().map_or(0, Vec::len), near, far);
-    let rooms @ [lent, room] = [sines_room(leave, near, far), room];
-    let theirs = left_lent(lent, room, old_byte, |sines, room| {
-        reply(found.and_then(|bytes| fill(sines).and_then(|()| sheet::copy_into(&bytes, room))))
-    });
-    let ours = left_lent(lent, room, old_byte, |sines, room| call(&request, sines, room));
-    both_agree(name, &request, rooms, &ours, &theirs);
-    let guided = left_lent(lent, room, old_byte, |sines, room| {
-        let mut value = 0;
-        let (length, sines_len, room_len) = (request.len(), sines.len(), room.len());
-        let (sines, room) = (sines.as_mut_ptr(), room.as_mut_ptr());
-        let number =
-            unsafe { counted(request.as_ptr(), length, sines, sines_len, room, room_len, &mut value) };
-        (number, value)
-    });
-    both_agree(&format!("{name} with counters"), &request, rooms, &guided, &theirs);
-    if let (0, length) = ours.0.reply {
-        must_come_back(&ours.0.buffer[..length as usize]);
-    }
+    sheets_agree(&asked, &request, found, [near, far, leave]);
 }
 
 /// The same bit, for `second` and `share`: the second is left as it stands.
 pub const LEAVE_SECOND: u8 = 0x04;
 
 /// What stands before the request and its second: two bytes for the room, one for what is left as it stands.
-type Head = [u8; 3];
+pub(crate) type Head = [u8; 3];
 
 /// These, then eight bytes for the second, then the request.
 fn request_and_second(input: &[u8]) -> Option<(Head, Vec<u8>, i64)> {

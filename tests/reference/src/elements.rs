@@ -158,7 +158,8 @@ impl Window {
     }
 }
 
-fn first_outside(fields: &[i64], ranges: &[RangeInclusive<i64>]) -> Option<usize> {
+/// The first field outside its range.
+pub fn first_outside(fields: &[i64], ranges: &[RangeInclusive<i64>]) -> Option<usize> {
     fields.iter().zip(ranges).position(|(field, range)| !range.contains(field))
 }
 

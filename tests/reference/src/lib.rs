@@ -4,6 +4,8 @@
 //! 10^-8 of the Earth's equatorial radius, sines and tangents in 10^-8, angles in 10^-6 degree, time in
 //! whole seconds from the reference instant. East longitude is positive.
 
+pub mod axis;
+pub mod course;
 pub mod elements;
 pub mod entries;
 pub mod exact;
@@ -18,10 +20,13 @@ pub mod refusal;
 pub mod request;
 pub mod room;
 pub mod sample;
+pub mod sample_star;
 pub mod shadow;
 pub mod share;
 pub mod sheet;
 pub mod sine;
 pub mod sine_table;
+pub mod star;
 pub mod tables;
+pub mod tally;
 pub mod wide;

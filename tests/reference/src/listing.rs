@@ -3,41 +3,37 @@
 use crate::elements::FARTHEST;
 use crate::refusal::Refusal;
 use crate::request::Request;
-use crate::shadow::Phase;
-use crate::sheet::{records_of, Record, Role, CLOSEST, HEAD, SHARE};
-use std::fmt::Write;
+use crate::sheet::{records_of, Family, Record, Role};
+use crate::star::StarRequest;
 
-/// The room that program `sheet` lends.
+/// The room that programs `sheet` and `star_sheet` lend.
 pub const ROOM: usize = 65_536;
+
+/// The line of a record, if it has one.
+fn line(record: &Record) -> Option<String> {
+    let second = |field: u32| i64::from(field) - FARTHEST;
+    let [a, b, c, _] = record.fields;
+    let phase = match record.family() {
+        Family::Head => return Some(format!("station {a} from {} to {}", second(b), second(c))),
+        Family::Penumbra => "penumbra",
+        Family::Central => "central",
+        Family::Star => "star",
+        Family::Closest => return Some(format!("closest {} {b}", second(a))),
+        Family::Share => return Some(format!("share {a}")),
+        Family::End => return None,
+    };
+    let (from, to) = (second(a), second(b));
+    Some(match record.role()? {
+        Role::Enter => format!("enter {phase} {from} {to} {c}"),
+        Role::Leave => format!("leave {phase} {from} {to} {c}"),
+        Role::Graze => format!("graze {phase} {from} {to}"),
+        Role::Open => format!("open {phase} {from} {to}"),
+    })
+}
 
 /// The lines of records that keep all rules.
 pub fn listing(records: &[Record]) -> String {
-    let second = |field: u32| i64::from(field) - FARTHEST;
-    let mut text = String::new();
-    for record in records {
-        let [a, b, c, _] = record.fields;
-        let line = match (record.kind, record.role()) {
-            (_, Some((phase, role))) => {
-                let phase = match phase {
-                    Phase::Penumbra => "penumbra",
-                    Phase::Central => "central",
-                };
-                let (from, to) = (second(a), second(b));
-                match role {
-                    Role::Enter => format!("enter {phase} {from} {to} {c}"),
-                    Role::Leave => format!("leave {phase} {from} {to} {c}"),
-                    Role::Graze => format!("graze {phase} {from} {to}"),
-                    Role::Open => format!("open {phase} {from} {to}"),
-                }
-            }
-            (HEAD, None) => format!("station {a} from {} to {}", second(b), second(c)),
-            (CLOSEST, None) => format!("closest {} {b}", second(a)),
-            (SHARE, None) => format!("share {a}"),
-            _ => continue,
-        };
-        writeln!(text, "{line}").expect("a string takes all text");
-    }
-    text
+    records.iter().filter_map(line).map(|line| line + "\n").collect()
 }
 
 /// The sheet of a program's input, or its refusal: 10, 1, 2, 3, 4.
@@ -45,12 +41,26 @@ pub fn sheet_of_input(input: &[u8], buffer: &mut [u8]) -> Result<usize, Refusal>
     Request::from_bytes(input)?.sheet(buffer)
 }
 
-/// All that program `sheet` prints for an input.
-pub fn program(input: &[u8]) -> String {
+/// The sheet of a star's input, or its refusal: 10, 1, 2, 13, 3, 4.
+pub fn star_of_input(input: &[u8], buffer: &mut [u8]) -> Result<usize, Refusal> {
+    StarRequest::from_bytes(input)?.sheet(buffer)
+}
+
+/// The listing of the sheet that is written into the program's room, or the refusal.
+fn printed(write: impl FnOnce(&mut [u8]) -> Result<usize, Refusal>) -> String {
     let mut buffer = vec![0; ROOM];
-    let records = sheet_of_input(input, &mut buffer).and_then(|length| records_of(&buffer[..length]));
-    match records {
+    match write(&mut buffer).and_then(|length| records_of(&buffer[..length])) {
         Ok(records) => listing(&records),
         Err(refusal) => format!("{refusal}\n"),
     }
+}
+
+/// All that program `sheet` prints for an input.
+pub fn program(input: &[u8]) -> String {
+    printed(|buffer| sheet_of_input(input, buffer))
+}
+
+/// All that program `star_sheet` prints for an input.
+pub fn star_program(input: &[u8]) -> String {
+    printed(|buffer| star_of_input(input, buffer))
 }

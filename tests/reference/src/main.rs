@@ -1,11 +1,13 @@
 //! `reference sheet`: 115 bytes on standard input, the listing on standard output.
-//! `reference time N`: the same input, its sheet written N times; prints nanoseconds a sheet.
-//! `reference seconds`: the same input, a line `second L1 L2 M share` for each second of its window.
+//! `reference star`: the 79 bytes of a star request on standard input, the listing on standard output.
+//! `reference time N`: either input, its sheet written N times; prints nanoseconds a sheet.
+//! `reference seconds`: 115 bytes, a line `second L1 L2 M share` for each second of its window.
 //! `reference shares`: lines that begin with L1, L2 and M on standard input, a line `L1 L2 M share` for each.
 
-use reference::listing::{program, sheet_of_input, ROOM};
+use reference::listing::{program, sheet_of_input, star_of_input, star_program, ROOM};
 use reference::request::Request;
 use reference::share::share;
+use reference::star::STAR_LENGTH;
 use std::hint::black_box;
 use std::io::{read_to_string, stdin, stdout, Read, Write};
 use std::process::ExitCode;
@@ -41,13 +43,18 @@ fn main() -> ExitCode {
             stdin().read_to_end(&mut input).expect("standard input can be read");
             program(&input)
         }
+        ["star"] => {
+            stdin().read_to_end(&mut input).expect("standard input can be read");
+            star_program(&input)
+        }
         ["time", times] => {
             stdin().read_to_end(&mut input).expect("standard input can be read");
             let times: u32 = times.parse().expect("N is a number");
             let mut buffer = vec![0; ROOM];
+            let write = if input.len() == STAR_LENGTH { star_of_input } else { sheet_of_input };
             let start = Instant::now();
             for _ in 0..times {
-                let _ = black_box(sheet_of_input(black_box(&input), black_box(&mut buffer)));
+                let _ = black_box(write(black_box(&input), black_box(&mut buffer)));
             }
             format!("{}\n", start.elapsed().as_nanos() / u128::from(times.max(1)))
         }
@@ -57,7 +64,7 @@ fn main() -> ExitCode {
         }
         ["shares"] => shares(&read_to_string(stdin()).expect("text on standard input")),
         _ => {
-            eprintln!("usage: reference sheet | time N | seconds | shares");
+            eprintln!("usage: reference sheet | star | time N | seconds | shares");
             return ExitCode::FAILURE;
         }
     };

@@ -9,7 +9,7 @@ pub enum Refusal {
     Window,
     /// 1: the guard is outside its range (1).
     Guard,
-    /// 2: an element is outside its range; the first such field, 0..21.
+    /// 2: an element is outside its range; the first such field, 0..21, of a star 0..11.
     Element(usize),
     /// 3: a station value is outside its range; the first such field, 0..4.
     Station(usize),
@@ -29,6 +29,8 @@ pub enum Refusal {
     Shape,
     /// 11: a row of the tables of Sun and Moon is outside its distances; the first such row, 0..6.
     Row(usize),
+    /// 13: the radius of a star request is outside its range (0).
+    Radius,
     /// 17: a fit differs from the tabulated value by more than the tolerance; the first such hour, 0..6.
     Hour(usize),
     /// 18: the tolerance of a fit (0), or a tabulated value (the first such, 1..7), is outside its range.
@@ -49,6 +51,7 @@ impl Refusal {
             Refusal::After(_) => 9,
             Refusal::Shape => 10,
             Refusal::Row(_) => 11,
+            Refusal::Radius => 13,
             Refusal::Hour(_) => 17,
             Refusal::Given(_) => 18,
         }
@@ -56,7 +59,7 @@ impl Refusal {
 
     pub fn place(self) -> usize {
         match self {
-            Refusal::Window | Refusal::Shape => 0,
+            Refusal::Window | Refusal::Shape | Refusal::Radius => 0,
             Refusal::Guard => 1,
             Refusal::Element(place)
             | Refusal::Station(place)

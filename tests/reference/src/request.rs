@@ -1,11 +1,13 @@
 //! A request: elements, station, window and guard, and whether the share is asked for; its sheet.
 
 use crate::elements::{Elements, Station, Window, FARTHEST};
-use crate::entries::entries;
+use crate::entries::{entries, Entry};
 use crate::place::{place, Place};
 use crate::refusal::Refusal;
 use crate::shadow::{Phase, Shadow, State, GUARDS};
-use crate::sheet::{bytes_of, copy_into, Record, Role, CLOSEST, END, HEAD, SHARE};
+use crate::sheet::{
+    bytes_of, copy_into, Record, Role, CLOSEST, END, ENTER_CENTRAL, ENTER_PENUMBRA, HEAD, SHARE,
+};
 
 /// What is asked for; any numbers at all.
 #[derive(Clone, Copy, PartialEq, Eq, Debug)]
@@ -25,53 +27,73 @@ pub const REQUEST_LENGTH: usize = 115;
 /// Where the bytes of kind stand in it: 02, 03, 04.
 pub const KIND_PLACES: [usize; 3] = [0, 89, 108];
 
+/// The length of what ends every request, an eclipse's and a star's: kind 03 and number (unsigned, 2 bytes), latitude,
+/// longitude, height, ΔT (signed, 4 each); kind 04 and first, last (signed, 2 each), guard (unsigned, 2 bytes).
+pub const STATION_AND_WINDOW: usize = 26;
+
+/// Signed big-endian numbers of 4 bytes.
+pub fn signed<const N: usize>(bytes: &[u8]) -> [i64; N] {
+    let four = |at: usize| [bytes[at], bytes[at + 1], bytes[at + 2], bytes[at + 3]];
+    std::array::from_fn(|number| i32::from_be_bytes(four(4 * number)).into())
+}
+
+/// Station, window and guard of such bytes. Refused as 10 where their kinds are others.
+pub fn station_and_window(bytes: &[u8; STATION_AND_WINDOW]) -> Result<(Station, Window, i64), Refusal> {
+    if [bytes[0], bytes[19]] != [3, 4] {
+        return Err(Refusal::Shape);
+    }
+    let two = |at: usize| [bytes[at], bytes[at + 1]];
+    let [latitude, longitude, height, delta_t] = signed(&bytes[3..]);
+    let number = u16::from_be_bytes(two(1)).into();
+    let [first, last] = [20, 22].map(|at| i16::from_be_bytes(two(at)).into());
+    let station = Station { number, latitude, longitude, height, delta_t };
+    Ok((station, Window { first, last }, u16::from_be_bytes(two(24)).into()))
+}
+
+/// A request's bytes: the kind of its elements, their numbers, then station, window and guard; nothing if a number has no
+/// room in them.
+pub fn request_bytes(
+    kind: u8,
+    numbers: &[i64],
+    station: &Station,
+    window: &Window,
+    guard: i64,
+) -> Option<Vec<u8>> {
+    let mut bytes = vec![kind];
+    for number in numbers {
+        bytes.extend(i32::try_from(*number).ok()?.to_be_bytes());
+    }
+    bytes.push(3);
+    bytes.extend(u16::try_from(station.number).ok()?.to_be_bytes());
+    for field in &station.fields()[1..] {
+        bytes.extend(i32::try_from(*field).ok()?.to_be_bytes());
+    }
+    bytes.push(4);
+    for second in [window.first, window.last] {
+        bytes.extend(i16::try_from(second).ok()?.to_be_bytes());
+    }
+    bytes.extend(u16::try_from(guard).ok()?.to_be_bytes());
+    Some(bytes)
+}
+
 impl Request {
     /// From exactly 115 bytes, which never ask for the share: kind 02 and 22 signed 4-byte numbers; kind 03 and number (unsigned, 2 bytes),
     /// latitude, longitude, height, ΔT (signed, 4 each); kind 04 and first, last (signed, 2 each), guard (unsigned,
     /// 2 bytes); big-endian. Refused as 10 otherwise. Ranges are not looked at.
     pub fn from_bytes(bytes: &[u8]) -> Result<Request, Refusal> {
         let bytes: &[u8; REQUEST_LENGTH] = bytes.try_into().map_err(|_| Refusal::Shape)?;
-        if KIND_PLACES.map(|at| bytes[at]) != [2, 3, 4] {
+        let Some((elements, tail)) = bytes.split_last_chunk() else { return Err(Refusal::Shape) };
+        if elements[0] != 2 {
             return Err(Refusal::Shape);
         }
-        let two = |at: usize| [bytes[at], bytes[at + 1]];
-        let four = |at: usize| {
-            i64::from(i32::from_be_bytes([bytes[at], bytes[at + 1], bytes[at + 2], bytes[at + 3]]))
-        };
-        Ok(Request {
-            elements: Elements::from_fields(std::array::from_fn(|field| four(1 + 4 * field))),
-            station: Station {
-                number: u16::from_be_bytes(two(90)).into(),
-                latitude: four(92),
-                longitude: four(96),
-                height: four(100),
-                delta_t: four(104),
-            },
-            window: Window {
-                first: i16::from_be_bytes(two(109)).into(),
-                last: i16::from_be_bytes(two(111)).into(),
-            },
-            guard: u16::from_be_bytes(two(113)).into(),
-            share: false,
-        })
+        let (station, window, guard) = station_and_window(tail)?;
+        let elements = Elements::from_fields(signed(&elements[1..]));
+        Ok(Request { elements, station, window, guard, share: false })
     }
 
     /// The 115 bytes of a request but for its wish for the share, or nothing if a number has no room in them.
     pub fn to_bytes(&self) -> Option<[u8; REQUEST_LENGTH]> {
-        let mut bytes = vec![2];
-        for field in self.elements.fields() {
-            bytes.extend(i32::try_from(field).ok()?.to_be_bytes());
-        }
-        bytes.push(3);
-        bytes.extend(u16::try_from(self.station.number).ok()?.to_be_bytes());
-        for field in &self.station.fields()[1..] {
-            bytes.extend(i32::try_from(*field).ok()?.to_be_bytes());
-        }
-        bytes.push(4);
-        for second in [self.window.first, self.window.last] {
-            bytes.extend(i16::try_from(second).ok()?.to_be_bytes());
-        }
-        bytes.extend(u16::try_from(self.guard).ok()?.to_be_bytes());
+        let bytes = request_bytes(2, &self.elements.fields(), &self.station, &self.window, self.guard)?;
         bytes.try_into().ok()
     }
 
@@ -136,8 +158,9 @@ impl Circumstances {
         let (_, closest) = closest;
         let number = self.request.station.number as u32;
         let mut records = vec![Record::new(HEAD, [number, stored(first), stored(last), guard as u32])];
-        self.append_phase(&mut records, 0x10, &penumbra);
-        self.append_phase(&mut records, 0x20, &central);
+        let direction_at = |second| self.shadow(second).direction();
+        records.extend(phase_records(ENTER_PENUMBRA, first, &penumbra, direction_at));
+        records.extend(phase_records(ENTER_CENTRAL, first, &central, direction_at));
         let shadow = self.shadow(closest);
         let magnitude = shadow.magnitude(guard) as u32;
         records.push(Record::new(CLOSEST, [stored(closest), magnitude, 0, 0]));
@@ -147,22 +170,28 @@ impl Circumstances {
         records.push(Record::new(END, [0; 4]));
         records
     }
+}
 
-    fn append_phase(&self, records: &mut Vec<Record>, base: u32, states: &[State]) {
-        for entry in entries(self.request.window.first, states) {
-            let direction_at = |second| self.shadow(second).direction() as u32;
-            let (kind, direction) = match entry.role {
-                Role::Enter => (base, direction_at(entry.to)),
-                Role::Leave => (base + 1, direction_at(entry.from)),
-                Role::Graze => (base + 2, 0),
-                Role::Open => (base + 3, 0),
-            };
-            records.push(Record::new(kind, [stored(entry.from), stored(entry.to), direction, 0]));
-        }
-    }
+/// The records of a phase by time: its enter has the kind `base`, leave, graze and open follow.
+pub fn phase_records(
+    base: u32,
+    first: i64,
+    states: &[State],
+    direction_at: impl Fn(i64) -> i64,
+) -> Vec<Record> {
+    let record_of = |entry: Entry| {
+        let (kind, direction) = match entry.role {
+            Role::Enter => (base, direction_at(entry.to)),
+            Role::Leave => (base + 1, direction_at(entry.from)),
+            Role::Graze => (base + 2, 0),
+            Role::Open => (base + 3, 0),
+        };
+        Record::new(kind, [stored(entry.from), stored(entry.to), direction as u32, 0])
+    };
+    entries(first, states).into_iter().map(record_of).collect()
 }
 
 /// A second as a sheet stores it.
-fn stored(second: i64) -> u32 {
+pub fn stored(second: i64) -> u32 {
     (second + FARTHEST) as u32
 }

@@ -3,8 +3,9 @@
 use crate::elements::FARTHEST;
 use crate::refusal::Refusal;
 use crate::request::Request;
-use crate::sheet::{bytes_of, copy_into};
+use crate::sheet::{bytes_of, copy_into, Record};
 use crate::sine_table::S;
+use crate::star::StarRequest;
 
 /// How many numbers of it a request fills.
 pub const SINES: usize = 901;
@@ -33,10 +34,19 @@ pub fn sheet_and_share_of_input(
     sheet_for(Request { share: true, ..Request::from_bytes(input)? }, sines, buffer)
 }
 
+/// The sheet of a star's input, or its refusal: 10, 1, 2, 13, 3, then 4 as above.
+pub fn star_of_input(input: &[u8], sines: &mut [u32], buffer: &mut [u8]) -> Result<usize, Refusal> {
+    let records = StarRequest::from_bytes(input)?.check()?.records();
+    fill_and_write(&records, sines, buffer)
+}
+
 fn sheet_for(request: Request, sines: &mut [u32], buffer: &mut [u8]) -> Result<usize, Refusal> {
-    let circumstances = request.check()?;
+    fill_and_write(&request.check()?.records(), sines, buffer)
+}
+
+fn fill_and_write(records: &[Record], sines: &mut [u32], buffer: &mut [u8]) -> Result<usize, Refusal> {
     fill(sines)?;
-    copy_into(&bytes_of(&circumstances.records()), buffer)
+    copy_into(&bytes_of(records), buffer)
 }
 
 /// The share at a second of a program's input, also outside its window: 10, 1 for the window or the second, then for the guard, 2, 3,

@@ -1,10 +1,10 @@
 //! Requests to try: from the books, at random, at the limits, near the cone's edge, slow.
 
+pub use crate::axis::{beyond, put, put_along_edge, put_near_edge, slow_down, Axis};
 use crate::elements::{Elements, Station, Window, ELEMENT_RANGES, FARTHEST, STATION_RANGES};
 use crate::random::Random;
 use crate::request::Request;
 use crate::shadow::{Phase, Shadow, GUARD, GUARDS};
-use std::f64::consts::TAU;
 use std::ops::RangeInclusive;
 
 /// The request of document 01's hand-worked sheet.
@@ -47,7 +47,7 @@ pub enum Manner {
     Natural,
 }
 
-fn field(random: &mut Random, range: &RangeInclusive<i64>, manner: Manner) -> i64 {
+pub(crate) fn field(random: &mut Random, range: &RangeInclusive<i64>, manner: Manner) -> i64 {
     let (least, most) = (*range.start(), *range.end());
     let drawn = random.within(range);
     match manner {
@@ -77,6 +77,18 @@ pub fn draw(random: &mut Random, manner: Manner) -> Request {
         fields[14] = random.within(&(-1_500_000..=2_000_000));
         fields[17] = random.within(&ELEMENT_RANGES[17]);
     }
+    let (station, guard, second) = place_and_second(random);
+    Request {
+        elements: Elements::from_fields(fields),
+        station,
+        window: Window { first: second, last: second },
+        guard,
+        share: false,
+    }
+}
+
+/// A station, a guard and a second.
+pub(crate) fn place_and_second(random: &mut Random) -> (Station, i64, i64) {
     let place_manner = if random.once_in(2) { Manner::AtLimits } else { Manner::Anywhere };
     let [number, latitude, longitude, height] =
         [0, 1, 2, 3].map(|k| field(random, &STATION_RANGES[k], place_manner));
@@ -88,14 +100,7 @@ pub fn draw(random: &mut Random, manner: Manner) -> Request {
     let guard = guard(&mut own);
     let seconds = -FARTHEST..=FARTHEST;
     let second_manner = if random.once_in(4) { Manner::AtLimits } else { Manner::Anywhere };
-    let second = field(random, &seconds, second_manner);
-    Request {
-        elements: Elements::from_fields(fields),
-        station,
-        window: Window { first: second, last: second },
-        guard,
-        share: false,
-    }
+    (station, guard, field(random, &seconds, second_manner))
 }
 
 /// That of document 01 every other time, else at an end of the range or next to it, or anywhere.
@@ -110,82 +115,30 @@ fn guard(random: &mut Random) -> i64 {
     }
 }
 
-/// How far from the cone's edge: at most 40 units either way under document 01's guard, farther out by what another is more.
-pub fn beyond(random: &mut Random, guard: i64) -> i64 {
-    let drawn = random.within(&(-40..=40));
-    drawn + (guard - GUARD) * drawn.signum()
-}
-
 /// The shadow of a request within its ranges.
 pub fn shadow(request: &Request, second: i64) -> Shadow {
     request.check().expect("within its ranges").shadow(second)
 }
 
-/// Change x or y so that its value at a second moves by `shift`: the constant, and where that meets its
-/// limit the hourly change. False, and nothing changed, where neither has room.
-fn move_by(coefficients: &mut [i64; 4], second: i64, shift: i64) -> bool {
-    let wanted = coefficients[0] + shift;
-    let constant = wanted.clamp(*ELEMENT_RANGES[0].start(), *ELEMENT_RANGES[0].end());
-    let rest = wanted - constant;
-    let hourly = match (rest, second) {
-        (0, _) => coefficients[1],
-        (_, 0) => return false,
-        _ => coefficients[1] + rest * 3600 / second,
-    };
-    let possible = ELEMENT_RANGES[1].contains(&hourly);
-    if possible {
-        coefficients[0] = constant;
-        coefficients[1] = hourly;
+impl Axis for Request {
+    type Phase = Phase;
+
+    fn apart(&self, second: i64) -> (i64, i64) {
+        let now = shadow(self, second);
+        (now.u, now.v)
     }
-    possible
-}
 
-/// Put the axis at a distance of L plus `beyond` from the station at a second, in the direction `angle`
-/// (radians). False where the elements have no room for it.
-pub fn put(request: &mut Request, second: i64, phase: Phase, beyond: i64, angle: f64) -> bool {
-    let now = shadow(request, second);
-    let distance = (now.l(phase) + beyond).max(0) as f64;
-    let (sine, cosine) = angle.sin_cos();
-    let (u, v) = ((distance * sine).round() as i64, (distance * cosine).round() as i64);
-    let mut moved = *request;
-    let done = move_by(&mut moved.elements.x, second, u - now.u)
-        && move_by(&mut moved.elements.y, second, v - now.v);
-    if done {
-        *request = moved;
+    fn l(&self, second: i64, phase: Phase) -> i64 {
+        shadow(self, second).l(phase)
     }
-    done
-}
 
-/// Put the axis near the edge in any direction that the elements have room for, if there is one.
-pub fn put_near_edge(random: &mut Random, request: &mut Request, second: i64, phase: Phase) {
-    for _ in 0..12 {
-        let beyond = beyond(random, request.guard);
-        let angle = random.below(1 << 20) as f64 / (1 << 20) as f64 * TAU;
-        if put(request, second, phase, beyond, angle) {
-            return;
-        }
+    fn guard(&self) -> i64 {
+        self.guard
     }
-}
 
-/// Stop the axis over the station at a second, but for `u_rate` and `v_rate` units an hour.
-pub fn slow_down(request: &mut Request, second: i64, u_rate: i64, v_rate: i64) {
-    let (before, after) = ((second - 60).max(-FARTHEST), (second + 60).min(FARTHEST));
-    let (a, b) = (shadow(request, before), shadow(request, after));
-    let rate = |change: i64| change * 3600 / (after - before);
-    let range = &ELEMENT_RANGES[1];
-    let x1 = request.elements.x[1] - rate(b.u - a.u) + u_rate;
-    let y1 = request.elements.y[1] - rate(b.v - a.v) + v_rate;
-    request.elements.x[1] = x1.clamp(*range.start(), *range.end());
-    request.elements.y[1] = y1.clamp(*range.start(), *range.end());
-}
-
-/// Let the axis pass along the edge at a second: its way at right angles to the direction of the station,
-/// L plus `beyond` off. False where the elements have no room for it.
-pub fn put_along_edge(request: &mut Request, second: i64, phase: Phase, beyond: i64) -> bool {
-    let (before, after) = ((second - 60).max(-FARTHEST), (second + 60).min(FARTHEST));
-    let (a, b) = (shadow(request, before), shadow(request, after));
-    let angle = ((b.v - a.v) as f64).atan2(-(b.u - a.u) as f64);
-    put(request, second, phase, beyond, angle)
+    fn coefficients(&mut self) -> [&mut [i64; 4]; 2] {
+        [&mut self.elements.x, &mut self.elements.y]
+    }
 }
 
 /// Make the central cone come to a point near the station at a second: L2 becomes `size`, if l2 has room.
@@ -244,7 +197,12 @@ pub fn difficult(random: &mut Random) -> Request {
             put_near_edge(random, &mut request, second, Phase::Central);
         }
     }
-    let slow = matches!(sort, 10..=17);
+    request.window = window_about(random, second, matches!(sort, 10..=17));
+    request
+}
+
+/// A window about a second, mostly short.
+pub(crate) fn window_about(random: &mut Random, second: i64, slow: bool) -> Window {
     let width = match random.below(4000) {
         0 => 2 * FARTHEST,
         1..=20 => 300,
@@ -252,9 +210,8 @@ pub fn difficult(random: &mut Random) -> Request {
         201..=1500 => 12,
         _ => 2,
     };
-    request.window = Window {
+    Window {
         first: (second - random.within(&(0..=width))).max(-FARTHEST),
         last: (second + random.within(&(0..=width))).min(FARTHEST),
-    };
-    request
+    }
 }

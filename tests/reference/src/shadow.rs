@@ -52,14 +52,40 @@ pub struct Turned {
     pub cos_d: i64,
 }
 
+/// The station against the axis: ξ east, η north, ζ along the axis. Lengths.
+#[derive(Clone, Copy, PartialEq, Eq, Debug)]
+pub struct Seen {
+    pub xi: i64,
+    pub eta: i64,
+    pub zeta: i64,
+}
+
 impl Turned {
+    /// Of the local hour angle H and the declination d.
+    #[inline]
+    pub fn by(h: i64, d: i64) -> Turned {
+        let (sin_h, cos_h) = sine_cosine(h);
+        let (sin_d, cos_d) = sine_cosine(d);
+        Turned { sin_h, cos_h, sin_d, cos_d }
+    }
+
     /// The Earth's turn and the axis's declination at a second.
     #[inline]
     pub fn at(elements: &Elements, east: i64, second: i64) -> Turned {
-        let h = value_at(&elements.mu, second) + east;
-        let (sin_h, cos_h) = sine_cosine(h);
-        let (sin_d, cos_d) = sine_cosine(value_at(&elements.d, second));
-        Turned { sin_h, cos_h, sin_d, cos_d }
+        Turned::by(value_at(&elements.mu, second) + east, value_at(&elements.d, second))
+    }
+
+    /// Where the station is then.
+    #[inline]
+    pub fn station(&self, place: Place) -> Seen {
+        let Turned { sin_h, cos_h, sin_d, cos_d } = *self;
+        let Place { r, p } = place;
+        let q = near(r * cos_h, UNIT);
+        Seen {
+            xi: near(r * sin_h, UNIT),
+            eta: near(p * cos_d - q * sin_d, UNIT),
+            zeta: near(p * sin_d + q * cos_d, UNIT),
+        }
     }
 }
 
@@ -67,12 +93,7 @@ impl Shadow {
     /// The shadow at a second, for values within their ranges.
     #[inline]
     pub fn at(elements: &Elements, place: Place, east: i64, second: i64) -> Shadow {
-        let Turned { sin_h, cos_h, sin_d, cos_d } = Turned::at(elements, east, second);
-        let Place { r, p } = place;
-        let q = near(r * cos_h, UNIT);
-        let xi = near(r * sin_h, UNIT);
-        let eta = near(p * cos_d - q * sin_d, UNIT);
-        let zeta = near(p * sin_d + q * cos_d, UNIT);
+        let Seen { xi, eta, zeta } = Turned::at(elements, east, second).station(place);
         Shadow {
             u: value_at(&elements.x, second) - xi,
             v: value_at(&elements.y, second) - eta,

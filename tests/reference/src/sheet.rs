@@ -1,7 +1,7 @@
 //! The sheet: records as bytes, the reader and the writer of entries handed over.
 
 use crate::refusal::Refusal;
-use crate::shadow::{Phase, GUARDS};
+use crate::shadow::GUARDS;
 
 /// A record of a sheet: its kind and the numbers of its body in their order, 0 where a kind has fewer.
 /// Seconds are stored plus 10,800.
@@ -23,6 +23,10 @@ pub const ENTER_CENTRAL: u32 = 0x20;
 pub const LEAVE_CENTRAL: u32 = 0x21;
 pub const GRAZE_CENTRAL: u32 = 0x22;
 pub const OPEN_CENTRAL: u32 = 0x23;
+pub const ENTER_STAR: u32 = 0x40;
+pub const LEAVE_STAR: u32 = 0x41;
+pub const GRAZE_STAR: u32 = 0x42;
+pub const OPEN_STAR: u32 = 0x43;
 pub const CLOSEST: u32 = 0x30;
 pub const SHARE: u32 = 0x31;
 pub const END: u32 = 0x7F;
@@ -31,8 +35,12 @@ pub const END: u32 = 0x7F;
 fn widths(kind: u32) -> Option<&'static [usize]> {
     match kind {
         HEAD => Some(&[2, 2, 2, 2]),
-        ENTER_PENUMBRA | LEAVE_PENUMBRA | ENTER_CENTRAL | LEAVE_CENTRAL => Some(&[2, 2, 2]),
-        GRAZE_PENUMBRA | OPEN_PENUMBRA | GRAZE_CENTRAL | OPEN_CENTRAL => Some(&[2, 2]),
+        ENTER_PENUMBRA | LEAVE_PENUMBRA | ENTER_CENTRAL | LEAVE_CENTRAL | ENTER_STAR | LEAVE_STAR => {
+            Some(&[2, 2, 2])
+        }
+        GRAZE_PENUMBRA | OPEN_PENUMBRA | GRAZE_CENTRAL | OPEN_CENTRAL | GRAZE_STAR | OPEN_STAR => {
+            Some(&[2, 2])
+        }
         CLOSEST => Some(&[2, 4]),
         SHARE => Some(&[4]),
         END => Some(&[]),
@@ -40,12 +48,13 @@ fn widths(kind: u32) -> Option<&'static [usize]> {
     }
 }
 
-/// What a record is for.
+/// What a record is for, in the order of a sheet; penumbra and central are an eclipse's, and star stands in their place.
 #[derive(Clone, Copy, PartialEq, Eq, PartialOrd, Ord, Debug)]
-enum Family {
+pub enum Family {
     Head,
     Penumbra,
     Central,
+    Star,
     Closest,
     Share,
     End,
@@ -71,38 +80,34 @@ impl Record {
         [self.kind, a, b, c, d]
     }
 
-    /// The phase and what is said of it, for the records of a phase.
-    pub fn role(&self) -> Option<(Phase, Role)> {
-        let phase = match self.kind >> 4 {
-            1 => Phase::Penumbra,
-            2 => Phase::Central,
-            _ => return None,
-        };
-        let role = match self.kind & 15 {
-            0 => Role::Enter,
-            1 => Role::Leave,
-            2 => Role::Graze,
-            3 => Role::Open,
-            _ => return None,
-        };
-        Some((phase, role))
+    /// What is said of a phase, for the records of one.
+    pub fn role(&self) -> Option<Role> {
+        match self.family() {
+            Family::Penumbra | Family::Central | Family::Star => match self.kind & 15 {
+                0 => Some(Role::Enter),
+                1 => Some(Role::Leave),
+                2 => Some(Role::Graze),
+                _ => Some(Role::Open),
+            },
+            _ => None,
+        }
     }
 
-    fn family(&self) -> Family {
-        match self.role() {
-            Some((Phase::Penumbra, _)) => Family::Penumbra,
-            Some((Phase::Central, _)) => Family::Central,
-            None => match self.kind {
-                HEAD => Family::Head,
-                CLOSEST => Family::Closest,
-                SHARE => Family::Share,
-                _ => Family::End,
-            },
+    /// The family of a kind that is in the table.
+    pub fn family(&self) -> Family {
+        match self.kind {
+            HEAD => Family::Head,
+            ENTER_PENUMBRA..=OPEN_PENUMBRA => Family::Penumbra,
+            ENTER_CENTRAL..=OPEN_CENTRAL => Family::Central,
+            ENTER_STAR..=OPEN_STAR => Family::Star,
+            CLOSEST => Family::Closest,
+            SHARE => Family::Share,
+            _ => Family::End,
         }
     }
 
     fn is_contact(&self) -> bool {
-        matches!(self.role(), Some((_, Role::Enter | Role::Leave)))
+        matches!(self.role(), Some(Role::Enter | Role::Leave))
     }
 
     /// The bytes of a record whose kind is in the table and whose numbers fit.
@@ -121,10 +126,12 @@ impl Record {
         let family = self.family();
         let due = match family {
             Family::Head => false,
-            // The share may be left out, and stands nowhere else.
+            // The share may be left out, and stands nowhere else, and not in a star's sheet.
             Family::End => matches!(previous.family(), Family::Closest | Family::Share),
-            Family::Share => previous.family() == Family::Closest,
+            Family::Share => previous.family() == Family::Closest && !has_star(before),
             Family::Closest => previous.family() < Family::Closest,
+            // No star after an entry of an eclipse, and no such entry after a star.
+            Family::Star => matches!(previous.family(), Family::Head | Family::Star),
             Family::Penumbra | Family::Central => previous.family() <= family,
         };
         if !due || self.role().is_none() {
@@ -149,7 +156,7 @@ impl Record {
         let [_, first, last, _] = head.fields;
         let in_window = |second: u32| first <= second && second <= last;
         let kept = match self.role() {
-            Some((_, role)) => {
+            Some(role) => {
                 in_window(a)
                     && in_window(b)
                     && match role {
@@ -158,12 +165,17 @@ impl Record {
                         Role::Open => a <= b && (a == first || b == last),
                     }
             }
-            None if self.kind == CLOSEST => in_window(a) && b <= 1_300_000,
+            None if self.kind == CLOSEST => in_window(a) && b <= if has_star(before) { 0 } else { 1_300_000 },
             None if self.kind == SHARE => a <= 1_000_000,
             None => true,
         };
         unused_are_zero && kept
     }
+}
+
+/// Whether a star entry is among the records.
+fn has_star(records: &[Record]) -> bool {
+    records.iter().any(|record| record.family() == Family::Star)
 }
 
 /// The bytes of records that keep all rules.

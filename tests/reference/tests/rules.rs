@@ -494,7 +494,7 @@ fn old_sheets() {
     let (sheet, _) = hand_worked_sheet();
     let old = [&sheet[..7], &sheet[9..]].concat();
     assert_eq!((old.len(), records_of(&old)), (43, Err(Refusal::Field(0))));
-    for kind in [0x10, 0x11, 0x12, 0x13, 0x20, 0x21, 0x22, 0x23, 0x30] {
+    for kind in [0x10, 0x11, 0x12, 0x13, 0x20, 0x21, 0x22, 0x23, 0x30, 0x40, 0x41, 0x42, 0x43] {
         for second in 0..=21_600u16 {
             let [high, low] = second.to_be_bytes();
             let old = [&[1, 0, 1, 0, 0, 0x54, 0x60, kind, high, low], &[0; 8][..]].concat();

@@ -14,7 +14,7 @@ module _ (c : tie.After-enum-told) where
   abbrev start : tie.Start
   start = c .before .before .before .before .before .before .before .before
 
-  within : admitted (start .args .q) (start .args .sines .now) ≡ C.Within
+  within : admitted (start .args .o) (start .args .sines .now) ≡ C.Within
   within = sym (c .before .before .before .before .admit .ensures .0) ∙ c .enum-told .given .1
 
   filled : c .before .before .before .before .admit .last .1 .0 ≡ sinesAfter C.Within (start .args .sines .now)
@@ -35,7 +35,7 @@ returns c =
     let b = a .before .before .before .before in
     let known = c .before .c .given in
     let e = sym (a .admit .ensures .0) ∙ known .1 in
-    sheet-is (b .args .q) _ _ _ e _ _ _ refl refl (a .admit .ensures .1 ∙ ap (λ k. sinesAfter k (b .args .sines .now)) e)
+    sheet-is (b .args .o) _ _ _ e _ _ _ refl refl (a .admit .ensures .1 ∙ ap (λ k. sinesAfter k (b .args .sines .now)) e)
 
 enum-told : tie.Need-enum-told
 enum-told c = search needs
@@ -44,7 +44,7 @@ sheet-within-requires : tie.Need-sheet-within-requires
 sheet-within-requires c κs =
     let told = c .before .before in
     let a = start told in
-    let w = admitted-within (a .args .q) (a .args .sines .now) (within told) in
+    let w = admitted-within (a .args .o) (a .args .sines .now) (within told) in
     (rw (told .before .before .before .before .admit .ensures .1) (w .1), w .0)
 
 same-length-2 : tie.Need-same-length-2
@@ -57,7 +57,7 @@ returns-2 : tie.Need-returns-2
 returns-2 c =
     let s = c .before .before .sheet-within in
     let told = c .before .before .before .before .before in
-    sheet-is (start told .args .q) _ _ _ (within told) _ _ _ (s .ensures .0) (s .ensures .1) (filled told)
+    sheet-is (start told .args .o) _ _ _ (within told) _ _ _ (s .ensures .0) (s .ensures .1) (filled told)
 
 pub sheet-spec : {M : Type 1} → statement M
 sheet-spec =

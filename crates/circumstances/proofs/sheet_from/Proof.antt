@@ -12,7 +12,7 @@ use Rattle.circumstances.proofs.sheet_from.Statement.{statement}
 use Rattle.circumstances.proofs.sheet_from.Tie as tie
 
 need-is : (c : tie.After-closing-length)
-    → c .before .before .size-of .result + c .before .phases-length .result + c .closing-length .result ≡ length (sheetBytes (c .before .before .before .before .before .before .args .q))
+    → c .before .before .size-of .result + c .before .phases-length .result + c .closing-length .result ≡ length (sheetBytes (c .before .before .before .before .before .before .args .o))
 unfolding sheetBytes
 need-is c =
     omega (
@@ -20,7 +20,7 @@ need-is c =
       c .before .before .size-of .ensures .0,
       c .before .phases-length .ensures .0,
       c .closing-length .ensures .0,
-      sheet-length (courseOf (c .before .before .before .before .before .before .args .q)),
+      sheet-length (courseOf (c .before .before .before .before .before .before .args .o)),
     )
 
 size-of-requires : tie.Need-size-of-requires
@@ -41,7 +41,7 @@ add-need-2 c = search needs
 returns : tie.Need-returns
 returns c =
     let b = c .before .before .before .before .before .before .before in
-    room-short (b .args .q) (b .args .buf .now) _ (need-is (c .before)) (c .if1 .taken)
+    room-short (b .args .o) (b .args .buf .now) _ (need-is (c .before)) (c .if1 .taken)
 
 write-sheet-requires : tie.Need-write-sheet-requires
 write-sheet-requires c κs =
@@ -59,7 +59,7 @@ returns-2 c =
     let w = c .before .before in
     let s = w .before .before .before in
     let b = s .before .before .before .before .before .before in
-    room-enough (b .args .q) (b .args .buf .now) _ _ (w .write-sheet .ensures .0) (omega (arith, need-is s, w .before .before .if1 .left)) (w .write-sheet .ensures .1)
+    room-enough (b .args .o) (b .args .buf .now) _ _ (w .write-sheet .ensures .0) (omega (arith, need-is s, w .before .before .if1 .left)) (w .write-sheet .ensures .1)
 
 pub sheet-from-spec : {M : Type 1} → statement M
 sheet-from-spec =

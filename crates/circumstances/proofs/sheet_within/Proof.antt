@@ -5,8 +5,8 @@ use Prim.Native.Nat.{ℕ, _*_, _≤_}
 use native.Mathlib.Omega.{arith}
 use borrow.Author.Needs.{needs}
 use lib.ListN.{length, replicate, length-replicate}
-use Rattle.phases.specs.Phases.{eclipse}
-use Rattle.requests.specs.declared.Request.{Request}
+use Rattle.geometry.specs.Shadow.{phasesOf}
+use Rattle.requests.specs.declared.Occultation.{Occultation}
 use Rattle.requests.specs.Windows.{secondCount}
 use Rattle.requests.specs.WindowLaws.{seconds-few}
 use Rattle.requests.specs.RequestLaws.{InLimits}
@@ -15,8 +15,8 @@ use Rattle.circumstances.proofs.sheet_within.Statement.{statement}
 use Rattle.circumstances.proofs.sheet_within.Tie as tie
 
 -- an array of 43,202 bytes has room for both phases
-room : (q : Request) → InLimits q → length eclipse * secondCount (q .window) ≤ length (replicate {A = ℕ} 43202 0)
-room q i = omega (arith, seconds-few (q .window) (i .window), length-replicate {A = ℕ} 43202 0)
+room : (o : Occultation) → InLimits o → 2 * secondCount (o .window) ≤ length (replicate {A = ℕ} 43202 0)
+room o i = omega (arith, seconds-few (o .window) (i .window), length-replicate {A = ℕ} 43202 0)
 
 geocentric-requires : tie.Need-geocentric-requires
 geocentric-requires c κs = search needs
@@ -27,7 +27,7 @@ slice-aggregate-fill-states c = search needs
 fill-states-requires : tie.Need-fill-states-requires
 fill-states-requires c κs =
     let b = c .before .before .before .before .before in
-    (b .pre .0, b .pre .1, c .before .geocentric .ensures, room (b .args .q) (b .pre .1))
+    (b .pre .0, b .pre .1, c .before .geocentric .ensures, room (b .args .o) (b .pre .1))
 
 slice-aggregate-sheet-from : tie.Need-slice-aggregate-sheet-from
 slice-aggregate-sheet-from c = search needs
@@ -38,13 +38,13 @@ sheet-from-requires c κs =
     let g = f .before .before in
     let b = g .before .before .before .before in (
       (b .pre .0, b .pre .1, g .geocentric .ensures, f .fill-states .ensures .0),
-      (f .fill-states .ensures .1 .0, omega (arith, f .fill-states .ensures .1 .1, room (b .args .q) (b .pre .1))),
+      (f .fill-states .ensures .1 .0, omega (arith, f .fill-states .ensures .1 .1, room (b .args .o) (b .pre .1))),
     )
 
 same-length : tie.Need-same-length
 same-length c =
     let b = c .before .before .before .before .before .before .before .before .before .before .before .before in
-    ap length (c .before .before .sheet-from .ensures .1) ∙ buffer-length (b .args .q) (b .args .buf .now)
+    ap length (c .before .before .sheet-from .ensures .1) ∙ buffer-length (b .args .o) (b .args .buf .now)
 
 returns : tie.Need-returns
 returns c = (c .before .before .sheet-from .ensures .0, c .before .before .sheet-from .ensures .1)

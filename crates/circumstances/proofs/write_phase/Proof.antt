@@ -20,14 +20,14 @@ use Rattle.circumstances.proofs.write_phase.Statement.{statement}
 use Rattle.circumstances.proofs.write_phase.Tie as tie
 
 abbrev Inv-loop : tie.InvT-loop
-Inv-loop table q place phase states buf₀ start at₀ c₀ buf at c =
+Inv-loop table o place phase states buf₀ start at₀ c₀ buf at c =
     (c .at ≤ length states)
     × (length buf ≡ length buf₀)
     × (at + bytesNeeded phase (entriesFrom states (c .at)) ≡ start + bytesNeeded phase (entries states))
-    × (sets buf at (bytesOf (map (entryOf (courseOf q) phase) (entriesFrom states (c .at)))) ≡ sets buf₀ start (bytesOf (map (entryOf (courseOf q) phase) (entries states))))
+    × (sets buf at (bytesOf (map (entryOf (courseOf o) phase) (entriesFrom states (c .at)))) ≡ sets buf₀ start (bytesOf (map (entryOf (courseOf o) phase) (entries states))))
 
 abbrev μ-loop : tie.MeasureT-loop
-μ-loop table q place phase states buf₀ start at₀ c₀ buf at c = length states - c .at
+μ-loop table o place phase states buf₀ start at₀ c₀ buf at c = length states - c .at
 
 -- the step took the next entry
 onward : (c : tie.After-known-told Inv-loop μ-loop)
@@ -48,7 +48,7 @@ sizes c =
       ap (bytesNeeded (a .phase)) (onward k .rest),
       needed-cons (a .phase) e rest,
       ap (λ x. sizeOf (x .kind)) (c .entry-for .ensures),
-      ap sizeOf (kind-in (courseOf (a .q)) (a .phase) e),
+      ap sizeOf (kind-in (courseOf (a .o)) (a .phase) e),
     )
 
 ended : (c : tie.After-enum-told Inv-loop μ-loop) → entriesFrom (c .before .before .before .before .before .before .before .args .states .now) (c .before .before .before .loop .c .at) ≡ []
@@ -76,7 +76,7 @@ returns c =
     let a = c .before .before .before .before .before .before .before .args in
     let l = c .before .before .before .loop in (
       omega (arith, l .inv .2, ap (bytesNeeded (a .phase)) (ended c) ∙ needed-nil (a .phase)),
-      sym (stores-none (l .buf) (l .at)) ∙ sym (ap (λ es. sets (l .buf) (l .at) (bytesOf (map (entryOf (courseOf (a .q)) (a .phase)) es))) (ended c)) ∙ l .inv .3,
+      sym (stores-none (l .buf) (l .at)) ∙ sym (ap (λ es. sets (l .buf) (l .at) (bytesOf (map (entryOf (courseOf (a .o)) (a .phase)) es))) (ended c)) ∙ l .inv .3,
     )
 
 entry-for-requires : tie.Need-entry-for-requires Inv-loop μ-loop
@@ -107,9 +107,9 @@ loop-again c =
       ap length (p .1) ∙ length-sets (l .buf) (l .at) (bytes r) ∙ l .inv .1,
       omega (arith, p .0, sizes (c .before .before .before .before), l .inv .2),
       rw (p .0, p .1)
-          (sym (stores-entry r (map (entryOf (courseOf (a .q)) (a .phase)) rest) (l .buf) (l .at))
-          ∙ ap (λ x. sets (l .buf) (l .at) (bytesOf (x ∷ map (entryOf (courseOf (a .q)) (a .phase)) rest))) (c .before .before .before .before .entry-for .ensures)
-          ∙ sym (ap (λ es. sets (l .buf) (l .at) (bytesOf (map (entryOf (courseOf (a .q)) (a .phase)) es))) (o .rest))
+          (sym (stores-entry r (map (entryOf (courseOf (a .o)) (a .phase)) rest) (l .buf) (l .at))
+          ∙ ap (λ x. sets (l .buf) (l .at) (bytesOf (x ∷ map (entryOf (courseOf (a .o)) (a .phase)) rest))) (c .before .before .before .before .entry-for .ensures)
+          ∙ sym (ap (λ es. sets (l .buf) (l .at) (bytesOf (map (entryOf (courseOf (a .o)) (a .phase)) es))) (o .rest))
           ∙ l .inv .3),
     )
 

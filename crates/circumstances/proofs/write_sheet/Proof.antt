@@ -6,7 +6,7 @@ use native.Mathlib.Omega.{arith}
 use borrow.Author.Needs.{needs}
 use lib.ListN.{length}
 use lib.Seq.{length-sets}
-use Rattle.phases.specs.Phases.{eclipse}
+use Rattle.geometry.specs.Shadow.{phasesOf}
 use Rattle.kinds.specs.declared.Kind.the-variants as K
 use Rattle.kinds.specs.declared.Entry.{Entry}
 use Rattle.kinds.specs.Kinds.{sizeOf}
@@ -14,30 +14,30 @@ use Rattle.records.specs.Entries.{bytes, bytesOf}
 use Rattle.courses.specs.Courses.{entriesOf, closingEntries}
 use Rattle.courses.specs.Lengths.{head-size, sheet-length}
 use Rattle.courses.specs.Stores.{stores-sheet}
-use Rattle.requests.specs.declared.Request.{Request}
+use Rattle.requests.specs.declared.Occultation.{Occultation}
 use Rattle.circumstances.specs.Sheet.{courseOf, sheetBytes}
 use Rattle.circumstances.proofs.write_sheet.Statement.{statement}
 use Rattle.circumstances.proofs.write_sheet.Tie as tie
 
 -- the bytes of the phases' entries, and of those that close the sheet
-abbrev phases : Request → List ℕ
-phases q = bytesOf (entriesOf (courseOf q) eclipse)
+abbrev phases : Occultation → List ℕ
+phases o = bytesOf (entriesOf (courseOf o) (phasesOf (o .body)))
 
-abbrev closing : Request → List ℕ
-closing q = bytesOf (closingEntries (courseOf q))
+abbrev closing : Occultation → List ℕ
+closing o = bytesOf (closingEntries (courseOf o))
 
-sheet-is : (q : Request) → length (sheetBytes q) ≡ sizeOf K.Head + length (phases q) + length (closing q)
+sheet-is : (o : Occultation) → length (sheetBytes o) ≡ sizeOf K.Head + length (phases o) + length (closing o)
 unfolding sheetBytes
-sheet-is q = sheet-length (courseOf q)
+sheet-is o = sheet-length (courseOf o)
 
 -- ---- the places after them
 head-is : (c : tie.After-head-for) → sizeOf (c .head-for .result .kind) ≡ sizeOf K.Head
-head-is c = ap (λ (e : Entry). sizeOf (e .kind)) (c .head-for .ensures) ∙ head-size (courseOf (c .before .before .before .before .args .q))
+head-is c = ap (λ (e : Entry). sizeOf (e .kind)) (c .head-for .ensures) ∙ head-size (courseOf (c .before .before .before .before .args .o))
 
 after-head : (c : tie.After-put) → c .put .result ≡ sizeOf K.Head
 after-head c = omega (arith, c .put .ensures .0, head-is (c .before .before))
 
-after-phases : (c : tie.After-write-phases) → c .write-phases .result ≡ sizeOf K.Head + length (phases (c .before .before .before .before .before .before .before .before .before .before .args .q))
+after-phases : (c : tie.After-write-phases) → c .write-phases .result ≡ sizeOf K.Head + length (phases (c .before .before .before .before .before .before .before .before .before .before .args .o))
 after-phases c = omega (arith, c .write-phases .ensures .0, after-head (c .before .before .before .before))
 
 head-for-requires : tie.Need-head-for-requires
@@ -46,7 +46,7 @@ head-for-requires c κs = search needs
 put-requires : tie.Need-put-requires
 put-requires c κs =
     let b = c .before .before .before .before .before in
-    omega (arith, head-is (c .before), sheet-is (b .args .q), b .pre .1 .1)
+    omega (arith, head-is (c .before), sheet-is (b .args .o), b .pre .1 .1)
 
 write-phases-requires : tie.Need-write-phases-requires
 write-phases-requires c κs =
@@ -58,7 +58,7 @@ write-phases-requires c κs =
         omega (
           arith,
           after-head p,
-          sheet-is (b .args .q),
+          sheet-is (b .args .o),
           b .pre .1 .1,
           ap length (p .put .ensures .1),
           length-sets (b .args .buf .now) 0 (bytes (p .before .before .head-for .result)),
@@ -72,7 +72,7 @@ kept c =
     let p = c .before .before .before .before in
     let b = p .before .before .before .before .before .before in
     ap length (c .write-phases .ensures .1)
-    ∙ length-sets (p .put .last .0) (p .put .result) (phases (b .args .q))
+    ∙ length-sets (p .put .last .0) (p .put .result) (phases (b .args .o))
     ∙ ap length (p .put .ensures .1)
     ∙ length-sets (b .args .buf .now) 0 (bytes (p .before .before .head-for .result))
 
@@ -81,7 +81,7 @@ write-closing-requires c κs =
     let w = c .before .before .before in
     let b = w .before .before .before .before .before .before .before .before .before .before in (
       (b .pre .0 .0, b .pre .0 .1, b .pre .0 .2, b .pre .0 .3),
-      omega (arith, after-phases w, kept w, sheet-is (b .args .q), b .pre .1 .1),
+      omega (arith, after-phases w, kept w, sheet-is (b .args .o), b .pre .1 .1),
     )
 
 same-length : tie.Need-same-length
@@ -95,11 +95,11 @@ returns c =
     let p = w .before .before .before .before in
     let h = p .before .before in
     let b = h .before .before .before .before in
-    let q = b .args .q in (
-      omega (arith, l .write-closing .ensures .0, after-phases w, sheet-is q),
+    let o = b .args .o in (
+      omega (arith, l .write-closing .ensures .0, after-phases w, sheet-is o),
       rw (l .write-closing .ensures .1, w .write-phases .ensures .1, p .put .ensures .1, h .head-for .ensures)
-          (stores-sheet (courseOf q) (b .args .buf .now) (p .put .result) (w .write-phases .result)
-          (after-head p ∙ sym (head-size (courseOf q))) (w .write-phases .ensures .0)),
+          (stores-sheet (courseOf o) (b .args .buf .now) (p .put .result) (w .write-phases .result)
+          (after-head p ∙ sym (head-size (courseOf o))) (w .write-phases .ensures .0)),
     )
 
 pub write-sheet-spec : {M : Type 1} → statement M

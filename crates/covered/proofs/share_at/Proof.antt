@@ -1,38 +1,32 @@
 -- `covered::share_at` meets its contract: the share of the shadow there, whose L1, L2 and M are within their sizes. Assumes nothing.
-use mathlib.Core.Path.{sym, subst, _∙_}
+use mathlib.Core.Path.{sym, _∙_}
 use Rattle.numbers.specs.Code.{read-back, read-size}
-use Rattle.station.specs.Place.{placeOf}
-use Rattle.station.specs.Sizes.{PlaceSizes}
 use Rattle.shadow.specs.Shadow.{IsShadow}
-use Rattle.seconds.specs.SecondLaws.{placed}
 use Rattle.covered.specs.CoveredLaws.{share-at, sizes-at}
 use Rattle.covered.proofs.share_at.Statement.{statement}
 use Rattle.covered.proofs.share_at.Tie as tie
 
 shadow-at-requires : tie.Need-shadow-at-requires
 shadow-at-requires c κs =
-    let b = c .before .before in
-    let place = subst PlaceSizes (sym (b .pre .2)) (placed (b .args .q) (b .pre .1)) in
-    (b .pre .0, b .pre .1 .elements, place, read-size (b .args .t) 10800 (b .pre .3) tt)
+    let b = c .before in
+    (b .pre .0, b .pre .1, b .pre .2, read-size (b .args .t) 10800 (b .pre .3) tt)
 
-seen : (c : tie.After-shadow-at)
-    → let a = c .before .before .before .args in
-    IsShadow (a .q .elements) (placeOf (a .q .station)) (a .t) (c .shadow-at .result)
+seen : (c : tie.After-shadow-at) → let a = c .before .before .args in IsShadow (a .e) (a .place) (a .t) (c .shadow-at .result)
 seen c =
-    let b = c .before .before .before in
-    rw (read-back (b .args .t) (b .pre .3) tt, b .pre .2) at (c .shadow-at .ensures)
+    let b = c .before .before in
+    rw (read-back (b .args .t) (b .pre .3) tt) at (c .shadow-at .ensures)
 
 share-of-requires : tie.Need-share-of-requires
 share-of-requires c κs =
-    let b = c .before .before .before in
+    let b = c .before .before in
     let j = seen c in
-    rw (j .l1, j .l2, j .m) (sizes-at (b .args .q) (b .pre .1) (b .args .t) (b .pre .3))
+    rw (j .l1, j .l2, j .m) (sizes-at (b .args .e) (b .pre .1) (b .args .place) (b .pre .2) (b .args .t) (b .pre .3))
 
 returns : tie.Need-returns
 returns c =
-    let a = c .before .before .before .before .args in
+    let a = c .before .before .before .args in
     let j = seen (c .before) in
-    c .share-of .ensures ∙ rw (j .l1, j .l2, j .m) (sym (share-at (a .q) (a .t)))
+    c .share-of .ensures ∙ rw (j .l1, j .l2, j .m) (sym (share-at (a .e) (a .place) (a .t)))
 
 pub share-at-spec : {M : Type 1} → statement M
 share-at-spec = tie.close (tie.spec shadow-at-requires share-of-requires returns)

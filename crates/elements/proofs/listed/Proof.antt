@@ -1,17 +1,8 @@
 -- `elements::listed` meets its contract: each number is read back from its bits. Assumes nothing.
-use mathlib.Core.Path.{_≡_, refl, ap, _∙_}
-use mathlib.Core.List.{List, _∷_}
-use Prim.Native.Nat.{_<_, _^_}
-use lib.IntN.{ℤ}
-use lib.Signed.{mag}
-use mir.Syntax.{w64}
-use mir.Val.{toZ, ofZ}
-use Rattle.numbers.specs.Code.{read-result}
+use mathlib.Core.Path.{refl}
+use Rattle.elements.proofs.Lists.{cons-back}
 use Rattle.elements.proofs.listed.Statement.{statement}
 use Rattle.elements.proofs.listed.Tie as tie
-
-cons-back : (z : ℤ) {xs ys : List ℤ} → mag z < 2 ^ 63 → xs ≡ ys → toZ w64 (ofZ w64 z) ∷ xs ≡ z ∷ ys
-cons-back z {xs} {ys} h e = ap (λ (y : ℤ). y ∷ xs) (read-result z h) ∙ ap (λ (l : List ℤ). z ∷ l) e
 
 returns : tie.Need-returns
 returns c =

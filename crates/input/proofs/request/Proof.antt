@@ -1,17 +1,18 @@
--- `input::request` meets its contract: bytes of the shape have a request's numbers (`asked`); any other are refused. Assumes nothing.
+-- `input::request` meets its contract: bytes of the shape have a request's numbers (`held`); any other are refused. Assumes nothing.
 use mathlib.Core.Path.{sym, ap, _∙_}
 use native.Mathlib.Omega.{arith}
 use borrow.Author.Needs.{needs}
+use Rattle.request_fields.specs.declared.Shape.the-variants.{Eclipse}
 use Rattle.input.specs.declared.Input.the-variants as I
-use Rattle.input.specs.InputLaws.{Asked, asked, input-refused}
+use Rattle.input.specs.InputLaws.{Held, held, eclipse-held, input-refused}
 use Rattle.input.proofs.request.Statement.{statement}
 use Rattle.input.proofs.request.Tie as tie
 
 -- the numbers that the bytes have
-holds : (c : tie.After-enum-told) → Asked (c .before .before .before .before .before .args .input .now) (c .before .before .get .last .1 .0)
+holds : (c : tie.After-enum-told) → Held Eclipse (c .before .before .before .before .before .args .input .now) (c .before .before .get .last .1 .0)
 holds c =
     let g = c .before .before in
-    asked (g .before .before .before .args .input .now) _ _ (λ i. let b = g .before .before .shared-slice-known .given i in omega arith)
+    held Eclipse (g .before .before .before .args .input .now) _ _ (λ i. let b = g .before .before .shared-slice-known .given i in omega arith)
     (sym (g .get .ensures .0) ∙ c .enum-told .given .1) (g .get .ensures .1)
 
 get-requires : tie.Need-get-requires
@@ -30,7 +31,7 @@ enum-told-2 : tie.Need-enum-told-2
 enum-told-2 c = search needs
 
 returns : tie.Need-returns
-returns c = ap I.Is (c .request-from .ensures) ∙ sym (holds (c .before .before) .input)
+returns c = ap I.Is (c .request-from .ensures) ∙ sym (eclipse-held _ _ (holds (c .before .before)))
 
 returns-2 : tie.Need-returns-2
 returns-2 c = input-refused _ (sym (c .before .before .get .ensures .0) ∙ c .enum-told2 .given .1)

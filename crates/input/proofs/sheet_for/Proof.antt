@@ -1,6 +1,6 @@
--- `input::sheet_for` meets its contract: a request's own sheet; a shape that is refused leaves room and buffer alone. Assumes nothing.
+-- `input::sheet_for` meets its contract: the sheet of what is asked for; a shape that is refused leaves room and buffer alone. Assumes nothing.
 use borrow.Author.Needs.{needs}
-use Rattle.input.specs.SheetLaws.{of-request, of-refusal}
+use Rattle.input.specs.SheetLaws.{of-occultation, of-refusal}
 use Rattle.input.proofs.sheet_for.Statement.{statement}
 use Rattle.input.proofs.sheet_for.Tie as tie
 
@@ -23,7 +23,7 @@ returns : tie.Need-returns
 returns c =
     let made = c .before .before .before .before in
     let known = made .before .before .before .before .asked .given in
-    of-request _ _ _ (known .0 .0) _ _ _ (known .1) (made .sheet .ensures)
+    of-occultation _ _ _ (known .0 .0) _ _ _ (known .1) (made .sheet .ensures)
 
 returns-2 : tie.Need-returns-2
 returns-2 c = let known = c .before .asked2 .given in of-refusal _ _ _ (known .0 .0) (known .1)

@@ -1,7 +1,9 @@
 -- `kinds::kind_for` meets its contract. At a literal `kindFor` computes; a phase's four are its first and what stands behind it; else the
 -- number is none of them.
 use Rattle.kinds.specs.KindLaws.{no-kind}
-use Rattle.kinds.specs.Kinds.{kindFor}
+use Rattle.kinds.specs.Kinds.{base, kindFor}
+use Rattle.phases.specs.declared.Phase.{Phase}
+use Rattle.phases.specs.declared.Phase.the-variants.{Penumbra, Central, Star}
 use Rattle.kinds.specs.declared.Named.the-variants.{Unknown}
 use mathlib.Core.Path.{_≡_, sym, ap, _∙_}
 use native.Mathlib.Omega.{arith}
@@ -16,14 +18,21 @@ phase-kind-requires c κs = search needs
 phase-kind-requires-2 : tie.Need-phase-kind-requires-2
 phase-kind-requires-2 c κs = search needs
 
+phase-kind-requires-3 : tie.Need-phase-kind-requires-3
+phase-kind-requires-3 c κs = search needs
+
 again : (b x : ℕ) → b ≤ x → b + (x - b) ≡ x
 again b x h = omega arith
 
-absent : (x : ℕ) → (x ≡ 0x01 → ⊥) → (x ≡ 0x30 → ⊥) → (x ≡ 0x31 → ⊥) → (x ≡ 0x7f → ⊥) → ((y : ℕ) → y < 4 → x ≡ 0x10 + y → ⊥) → ((y : ℕ) → y < 4 → x ≡ 0x20 + y → ⊥)
-    → Unknown ≡ kindFor x
-absent x a i l k p c = sym (no-kind x a
-    (p 0 (omega arith)) (p 1 (omega arith)) (p 2 (omega arith)) (p 3 (omega arith))
-    (c 0 (omega arith)) (c 1 (omega arith)) (c 2 (omega arith)) (c 3 (omega arith)) i l k)
+-- a number of no literal arm, and of no phase's range, names none
+none : (c : tie.At-match-rest) → let x = c .before .args .code in
+    ((y : ℕ) → y < 4 → x ≡ 0x10 + y → ⊥) → ((y : ℕ) → y < 4 → x ≡ 0x20 + y → ⊥) → ((y : ℕ) → y < 4 → x ≡ 0x40 + y → ⊥) → Unknown ≡ kindFor x
+none c p q r = let l = c .match .rest in sym (no-kind _ (l .0 .0 .0 .1) (l .0 .0 .1) (l .0 .1) (l .1) each)
+  where
+    each : (φ : Phase) (y : ℕ) → y < 4 → c .before .args .code ≡ base φ + y → ⊥
+    each Penumbra = p
+    each Central = q
+    each Star = r
 
 returns : tie.Need-returns
 returns c = sym (ap kindFor (c .match .keys1))
@@ -44,13 +53,19 @@ returns-6 : tie.Need-returns-6
 returns-6 c = c .phase-kind2 .ensures ∙ ap kindFor (again 0x20 (c .before .before .before .before .before .before .args .code) (omega arith))
 
 returns-7 : tie.Need-returns-7
-returns-7 c = let r = c .before .match .rest in absent _ (r .0 .0 .0 .1) (r .0 .0 .1) (r .0 .1) (r .1) (λ y h e. omega arith) (λ y h e. omega arith)
+returns-7 c = c .phase-kind3 .ensures ∙ ap kindFor (again 0x40 (c .before .before .before .before .before .before .before .before .args .code) (omega arith))
 
 returns-8 : tie.Need-returns-8
-returns-8 c = let r = c .before .before .before .match .rest in absent _ (r .0 .0 .0 .1) (r .0 .0 .1) (r .0 .1) (r .1) (λ y h e. omega arith) (λ y h e. omega arith)
+returns-8 c = none (c .before) (λ y h e. omega arith) (λ y h e. omega arith) (λ y h e. omega arith)
 
 returns-9 : tie.Need-returns-9
-returns-9 c = let r = c .before .before .before .before .match .rest in absent _ (r .0 .0 .0 .1) (r .0 .0 .1) (r .0 .1) (r .1) (λ y h e. omega arith) (λ y h e. omega arith)
+returns-9 c = none (c .before .before .before) (λ y h e. omega arith) (λ y h e. omega arith) (λ y h e. omega arith)
+
+returns-10 : tie.Need-returns-10
+returns-10 c = none (c .before .before .before .before .before) (λ y h e. omega arith) (λ y h e. omega arith) (λ y h e. omega arith)
+
+returns-11 : tie.Need-returns-11
+returns-11 c = none (c .before .before .before .before .before .before) (λ y h e. omega arith) (λ y h e. omega arith) (λ y h e. omega arith)
 
 pub kind-for-spec : {M : Type 1} → statement M
 kind-for-spec =
@@ -58,6 +73,7 @@ kind-for-spec =
     (tie.spec
     phase-kind-requires
     phase-kind-requires-2
+    phase-kind-requires-3
     returns
     returns-2
     returns-3
@@ -66,4 +82,6 @@ kind-for-spec =
     returns-6
     returns-7
     returns-8
-    returns-9)
+    returns-9
+    returns-10
+    returns-11)

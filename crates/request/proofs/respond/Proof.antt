@@ -17,11 +17,17 @@ returns c =
     let lent = c .before .before .before .before .before .args in
     long-put _ (omega arith) (lent .out .now) (lent .message .now) _ _ (omega arith) (c .put-text .ensures)
 
+shape-of-requires : tie.Need-shape-of-requires
+shape-of-requires c κs = search needs
+
 encode-requires : tie.Need-encode-requires
 encode-requires c κs = search needs
 
 enum-told : tie.Need-enum-told
 enum-told c = search needs
+
+length-of-requires : tie.Need-length-of-requires
+length-of-requires c κs = search needs
 
 enum-known-answer : tie.Need-enum-known-answer
 enum-known-answer c = search needs
@@ -31,16 +37,18 @@ put-message-requires c κs = search needs
 
 returns-2 : tie.Need-returns-2
 returns-2 c =
-    let e = c .before .before .encode in
-    numbers-written _ (omega arith) (sym (c .enum-told .given .1) ∙ e .ensures .0)
-    _ (c .before .before .before .before .before .before .args .message .now) _ (e .ensures .1 .0)
+    let told = c .before in
+    let e = told .before .before .encode in
+    let asked = told .before .before .before .before in
+    numbers-written _ (omega arith) _ (asked .shape-of .ensures) (sym (told .enum-told .given .1) ∙ e .ensures .answer)
+    _ _ (asked .before .before .before .args .message .now) _ (c .length-of .ensures) (e .ensures .bytes)
 
 returns-3 : tie.Need-returns-3
 returns-3 c =
-    let lent = c .before .before .before .before .before .before .before .before .before .args in
-    let e = c .before .before .before .before .before .encode in
-    refused-put _ (omega arith) _ _ (sym (c .before .before .before .answer .given .1) ∙ e .ensures .0) (omega arith)
-    (e .last .1 .0) (lent .message .now) _ _ (omega arith) (c .put-message .ensures)
+    let e = c .before .before .before .before .before in
+    let asked = e .before .before in
+    refused-put _ (omega arith) _ (asked .shape-of .ensures) _ _ (sym (c .before .before .before .answer .given .1) ∙ e .encode .ensures .answer) (omega arith)
+    (e .encode .last .1 .1 .0) (asked .before .before .before .args .message .now) _ _ (omega arith) (c .put-message .ensures)
 
 pub respond-spec : {M : Type 1} → statement M
 respond-spec =
@@ -49,8 +57,10 @@ respond-spec =
     slice-aggregate-put-text
     put-text-requires
     returns
+    shape-of-requires
     encode-requires
     enum-told
+    length-of-requires
     enum-known-answer
     put-message-requires
     returns-2

@@ -3,7 +3,7 @@
 use mathlib.Core.Path.{_≡_, sym, ap, _∙_}
 use mathlib.Core.Bool.{Bool}
 use mathlib.Core.List.{List}
-use Prim.Native.Nat.{ℕ, _+_, _-_, _≤_}
+use Prim.Native.Nat.{ℕ, _+_, _-_, _≤_, _<_}
 use native.Mathlib.Omega.{arith}
 use borrow.Author.Needs.{needs}
 use borrow.Author.Tests.{not-true, not-false}
@@ -14,7 +14,8 @@ use mir.Syntax.{w64}
 use mir.Val.{toZ, ofZ}
 use Rattle.numbers.specs.Code.{read-result}
 use Rattle.request_fields.specs.declared.Field.{Field}
-use Rattle.request_fields.specs.Fields.{holds, count}
+use Rattle.request_fields.specs.declared.Shape.{Shape}
+use Rattle.request_fields.specs.Fields.{holds, countOf}
 use Rattle.request_fields.specs.Rows.{rowAt}
 use Rattle.request_bytes.specs.Rows.{fieldBytes}
 use Rattle.request_bytes.specs.PutLaws.{Putting, putting-start, putting-room, putting-unfit, putting-more, putting-end}
@@ -22,62 +23,75 @@ use Rattle.request_bytes.proofs.lay.Statement.{statement}
 use Rattle.request_bytes.proofs.lay.Tie as tie
 
 abbrev Inv-loop : tie.InvT-loop
-Inv-loop numbers out₀ at₀ k₀ out at k = Putting numbers out at k
+Inv-loop shape numbers out₀ count at₀ k₀ out at k = Putting shape numbers out at k
 
 abbrev μ-loop : tie.MeasureT-loop
-μ-loop numbers out₀ at₀ k₀ out at k = count - k
+μ-loop shape numbers out₀ count at₀ k₀ out at k = count - k
+
+-- number k is one of the request's
+short : (c : tie.In-loop Inv-loop μ-loop) → c .before .loop .k < countOf (c .before .before .before .before .args .shape)
+short c = omega (arith, c .loop-test .taken, c .before .before .count-of .ensures)
 
 -- number k, as it is handed over, and its field
 module _ (c : tie.After-n Inv-loop μ-loop) where
   abbrev loop : tie.At-loop Inv-loop μ-loop
   loop = c .before .before .before
 
+  abbrev start : tie.Start Inv-loop μ-loop
+  start = loop .before .before .before
+
+  abbrev shape : Shape
+  shape = start .args .shape
+
   abbrev n : ℤ
-  n = getD (loop .before .before .args .numbers .now) (loop .loop .k) (pos 0)
+  n = getD (start .args .numbers .now) (loop .loop .k) (pos 0)
 
   same : toZ w64 (ofZ w64 n) ≡ n
   same = read-result n (c .n .given)
 
-  field : c .before .field-at .result ≡ rowAt (loop .loop .k)
+  field : c .before .field-at .result ≡ rowAt shape (loop .loop .k)
   field = c .before .field-at .ensures
 
   -- what was tested
-  tested : (b : Bool) → holds (c .before .field-at .result .3) (toZ w64 (ofZ w64 n)) ≡ b → holds (rowAt (loop .loop .k) .3) n ≡ b
+  tested : (b : Bool) → holds (c .before .field-at .result .3) (toZ w64 (ofZ w64 n)) ≡ b → holds (rowAt shape (loop .loop .k) .3) n ≡ b
   tested b e = rw (← field, ← same) e
 
   -- its bytes
-  bytes : fieldBytes (c .before .field-at .result) (toZ w64 (ofZ w64 n)) ≡ fieldBytes (rowAt (loop .loop .k)) n
+  bytes : fieldBytes (c .before .field-at .result) (toZ w64 (ofZ w64 n)) ≡ fieldBytes (rowAt shape (loop .loop .k)) n
   bytes = ap (fieldBytes (c .before .field-at .result)) same ∙ ap (λ (f : Field). fieldBytes f n) field
 
   -- there is room for them
   room : loop .loop .at + length (fieldBytes (c .before .field-at .result) (toZ w64 (ofZ w64 n))) ≤ length (loop .loop .out)
   room =
       omega
-      (arith, ap (λ (l : List ℕ). length l) bytes, putting-room _ _ _ _ (loop .before .before .pre .0) (loop .loop .inv) (c .before .before .loop-test .taken))
+      (arith, ap (λ (l : List ℕ). length l) bytes, putting-room _ _ _ _ _ (start .pre .0) (loop .loop .inv) (short (c .before .before)))
+
+count-of-requires : tie.Need-count-of-requires Inv-loop μ-loop
+count-of-requires c κs = search needs
 
 loop-holds : tie.Need-loop-holds Inv-loop μ-loop
-loop-holds c = putting-start _ _ (c .before .pre .0) (c .before .pre .1)
+loop-holds c = putting-start _ _ _ (c .before .before .pre .0) (c .before .before .pre .1)
 
 field-at-requires : tie.Need-field-at-requires Inv-loop μ-loop
-field-at-requires c κs = c .loop-test .taken
+field-at-requires c κs = short c
 
 mul-n : tie.Need-mul-n Inv-loop μ-loop
-mul-n c = record { fits = omega (arith, c .before .loop-test .taken) }
+mul-n c = record { fits = omega (arith, short (c .before), c .before .before .before .before .before .pre .0) }
 
 shared-slice-copy-out-n : tie.Need-shared-slice-copy-out-n Inv-loop μ-loop
-shared-slice-copy-out-n c = omega (arith, c .before .loop-test .taken, c .before .before .before .before .pre .0)
+shared-slice-copy-out-n c = omega (arith, short (c .before), c .before .before .before .before .before .pre .0)
 
 holds-requires : tie.Need-holds-requires Inv-loop μ-loop
 holds-requires c κs = search needs
 
 same-length : tie.Need-same-length Inv-loop μ-loop
-same-length c = let l = c .before .before .before .before .before in l .loop .inv .room ∙ sym (l .before .before .pre .1)
+same-length c = let l = c .before .before .before .before .before in l .loop .inv .room ∙ sym (l .before .before .before .pre .1)
 
 returns : tie.Need-returns Inv-loop μ-loop
 returns c =
     let h = c .before in
     let l = loop (h .before) in
-    putting-unfit _ _ _ _ (l .before .before .pre .0) (l .loop .inv) (h .before .before .before .loop-test .taken)
+    putting-unfit _ _ _ _ _ (start (h .before) .pre .0) (l .loop .inv) (short (h .before .before .before))
     (tested (h .before) _ (sym (h .holds .ensures) ∙ not-true _ (c .if1 .taken)))
 
 put-field-requires : tie.Need-put-field-requires Inv-loop μ-loop
@@ -96,16 +110,16 @@ loop-again c =
     let p = c .before .before in
     let h = p .before .before .before in
     let l = loop (h .before) in
-    putting-more _ _ _ _ (l .before .before .pre .0) (l .loop .inv) (h .before .before .before .loop-test .taken) _ _
+    putting-more _ _ _ _ _ (start (h .before) .pre .0) (l .loop .inv) (short (h .before .before .before)) _ _
     (tested (h .before) _ (sym (h .holds .ensures) ∙ not-false _ (p .before .before .if1 .left)))
     (p .put-field .ensures .0 ∙ ap (λ (b : List ℕ). l .loop .at + length b) (bytes (h .before)))
     (p .put-field .ensures .1 ∙ ap (sets (l .loop .out) (l .loop .at)) (bytes (h .before)))
 
 same-length-2 : tie.Need-same-length-2 Inv-loop μ-loop
-same-length-2 c = c .before .loop .inv .room ∙ sym (c .before .before .before .pre .1)
+same-length-2 c = c .before .loop .inv .room ∙ sym (c .before .before .before .before .pre .1)
 
 returns-2 : tie.Need-returns-2 Inv-loop μ-loop
-returns-2 c = putting-end _ _ _ _ (c .before .before .before .pre .0) (c .before .loop .inv) (c .loop-test .left)
+returns-2 c = putting-end _ _ _ _ _ (c .before .before .before .before .pre .0) (c .before .loop .inv) (omega (arith, c .loop-test .left, c .before .before .count-of .ensures))
 
 pub lay-spec : {M : Type 1} → statement M
 lay-spec =
@@ -113,6 +127,7 @@ lay-spec =
     (tie.spec
     Inv-loop
     μ-loop
+    count-of-requires
     loop-holds
     field-at-requires
     mul-n

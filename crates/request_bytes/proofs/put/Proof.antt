@@ -17,10 +17,10 @@ enum-told-2 : tie.Need-enum-told-2
 enum-told-2 c = search needs
 
 returns : tie.Need-returns
-returns c = put-done _ _ _ _ (c .before .before .before .lay .ensures) (c .enum-told .given .1)
+returns c = put-done _ _ _ _ _ (c .before .before .before .lay .ensures) (c .enum-told .given .1)
 
 returns-2 : tie.Need-returns-2
-returns-2 c = put-unfit _ _ _ _ (c .before .before .before .lay .ensures) _ (c .enum-told2 .given .1)
+returns-2 c = put-unfit _ _ _ _ _ (c .before .before .before .lay .ensures) _ (c .enum-told2 .given .1)
 
 pub put-spec : {M : Type 1} → statement M
 put-spec =

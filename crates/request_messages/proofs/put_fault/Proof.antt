@@ -1,5 +1,5 @@
 -- `request_messages::put_fault` meets its contract: each arm has the words of its fault. Assumes nothing.
-use Rattle.request_messages.specs.MessageLaws.{put-told, put-not-number, put-not-whole, put-unfit, put-twice, put-missing}
+use Rattle.request_messages.specs.MessageLaws.{put-told, put-unknown, put-not-number, put-not-whole, put-unfit, put-twice, put-missing}
 use borrow.Author.Needs.{needs}
 use Rattle.request_messages.proofs.put_fault.Statement.{statement}
 use Rattle.request_messages.proofs.put_fault.Tie as tie
@@ -59,47 +59,47 @@ same-length : tie.Need-same-length
 same-length c = search needs
 
 returns : tie.Need-returns
-returns c = put-told _ _ _ _ _ _ _ (c .before .before .before .before .enum-told .given .1) (c .before .before .put-unknown .ensures)
+returns c = put-told _ _ _ _ _ _ _ _ (c .before .before .before .before .enum-told .given .1) (put-unknown _ _ _ _ _ _ (c .before .before .put-unknown .ensures))
 
 same-length-2 : tie.Need-same-length-2
 same-length-2 c = search needs
 
 returns-2 : tie.Need-returns-2
 returns-2 c =
-    put-told _ _ _ _ _ _ _ (c .before .before .before .before .before .before .fault .given .1)
-    (put-not-number _ _ _ _ _ _ (c .before .before .put-of .ensures))
+    put-told _ _ _ _ _ _ _ _ (c .before .before .before .before .before .before .fault .given .1)
+    (put-not-number _ _ _ _ _ _ _ (c .before .before .put-of .ensures))
 
 same-length-3 : tie.Need-same-length-3
 same-length-3 c = search needs
 
 returns-3 : tie.Need-returns-3
 returns-3 c =
-    put-told _ _ _ _ _ _ _ (c .before .before .before .before .before .before .fault2 .given .1)
-    (put-not-whole _ _ _ _ _ _ (c .before .before .put-of2 .ensures))
+    put-told _ _ _ _ _ _ _ _ (c .before .before .before .before .before .before .fault2 .given .1)
+    (put-not-whole _ _ _ _ _ _ _ (c .before .before .put-of2 .ensures))
 
 same-length-4 : tie.Need-same-length-4
 same-length-4 c = search needs
 
 returns-4 : tie.Need-returns-4
 returns-4 c =
-    put-told _ _ _ _ _ _ _ (c .before .before .before .before .before .before .fault3 .given .1)
-    (put-unfit _ _ _ _ _ _ (c .before .before .put-of3 .ensures))
+    put-told _ _ _ _ _ _ _ _ (c .before .before .before .before .before .before .fault3 .given .1)
+    (put-unfit _ _ _ _ _ _ _ (c .before .before .put-of3 .ensures))
 
 same-length-5 : tie.Need-same-length-5
 same-length-5 c = search needs
 
 returns-5 : tie.Need-returns-5
 returns-5 c =
-    put-told _ _ _ _ _ _ _ (c .before .before .before .before .before .before .fault4 .given .1)
-    (put-twice _ _ _ _ _ _ (c .before .before .put-of4 .ensures))
+    put-told _ _ _ _ _ _ _ _ (c .before .before .before .before .before .before .fault4 .given .1)
+    (put-twice _ _ _ _ _ _ _ (c .before .before .put-of4 .ensures))
 
 same-length-6 : tie.Need-same-length-6
 same-length-6 c = search needs
 
 returns-6 : tie.Need-returns-6
 returns-6 c =
-    put-told _ _ _ _ _ _ _ (c .before .before .before .before .before .before .fault5 .given .1)
-    (put-missing _ _ _ _ _ _ (c .before .before .put-of5 .ensures))
+    put-told _ _ _ _ _ _ _ _ (c .before .before .before .before .before .before .fault5 .given .1)
+    (put-missing _ _ _ _ _ _ _ (c .before .before .put-of5 .ensures))
 
 pub put-fault-spec : {M : Type 1} → statement M
 put-fault-spec =

@@ -35,7 +35,7 @@ returns c =
     let colon = fault .before .before .before .before in
     let number = colon .before .before .before .before .before in
     let start = number .before .before .before .before in
-    put-parts _ _ _ _ _ _ _ _ _ _ _ _ _ _ _ (omega arith) (start .put-text .ensures) (number .put-number .ensures) (colon .put-text2 .ensures)
+    put-parts _ _ _ _ _ _ _ _ _ _ _ _ _ _ _ _ (omega arith) (start .put-text .ensures) (number .put-number .ensures) (colon .put-text2 .ensures)
     (fault .put-fault .ensures) (c .before .before .put-byte .ensures)
 
 pub put-message-spec : {M : Type 1} → statement M

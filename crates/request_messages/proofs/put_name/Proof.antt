@@ -13,10 +13,13 @@ use Rattle.request_messages.proofs.put_name.Statement.{statement}
 use Rattle.request_messages.proofs.put_name.Tie as tie
 
 room : (c : tie.After-field-at) → c .field-at .result .1 ≤ length (c .field-at .result .0)
-room c = subst (λ (f : Field). f .1 ≤ length (f .0)) (sym (c .field-at .ensures)) (name-room _)
+room c = subst (λ (f : Field). f .1 ≤ length (f .0)) (sym (c .field-at .ensures)) (name-room _ _)
+
+count-of-requires : tie.Need-count-of-requires
+count-of-requires c κs = search needs
 
 returns : tie.Need-returns
-returns c = put-as _ _ _ _ _ _ _ refl (sym (name-none _ (c .if1 .taken))) (put-nil _ _ (omega arith))
+returns c = put-as _ _ _ _ _ _ _ refl (sym (name-none _ _ (omega (arith, c .if1 .taken, c .before .count-of .ensures)))) (put-nil _ _ (omega arith))
 
 field-at-requires : tie.Need-field-at-requires
 field-at-requires c κs = search needs
@@ -35,11 +38,11 @@ same-length c = search needs
 
 returns-2 : tie.Need-returns-2
 returns-2 c =
-    put-as _ _ _ _ _ _ _ refl (name-is _ _ (c .before .before .before .before .before .before .field-at .ensures))
+    put-as _ _ _ _ _ _ _ refl (name-is _ _ _ (c .before .before .before .before .before .before .field-at .ensures))
     (c .before .before .put-text .ensures)
 
 pub put-name-spec : {M : Type 1} → statement M
 put-name-spec =
     tie.close
     (tie.spec
-    returns field-at-requires array-share-prefix-name slice-aggregate-put-text put-text-requires same-length returns-2)
+    count-of-requires returns field-at-requires array-share-prefix-name slice-aggregate-put-text put-text-requires same-length returns-2)

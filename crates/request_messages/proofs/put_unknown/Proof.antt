@@ -1,6 +1,6 @@
 -- `request_messages::put_unknown` meets its contract: the words, then the word of the line. Assumes nothing.
 use native.Mathlib.Omega.{arith}
-use Rattle.request_messages.specs.MessageLaws.{put-unknown}
+use Rattle.decimals.specs.TextLaws.{put-then}
 use borrow.Author.Needs.{needs}
 use Rattle.request_messages.proofs.put_unknown.Statement.{statement}
 use Rattle.request_messages.proofs.put_unknown.Tie as tie
@@ -19,7 +19,7 @@ same-length c = search needs
 
 returns : tie.Need-returns
 returns c =
-    put-unknown _ _ _ _ _ _ _ (omega arith) (c .before .before .before .before .before .before .put-text .ensures)
+    put-then _ _ _ _ _ _ _ _ (omega arith) (c .before .before .before .before .before .before .put-text .ensures)
     (c .before .before .put-word-of .ensures)
 
 pub put-unknown-spec : {M : Type 1} → statement M

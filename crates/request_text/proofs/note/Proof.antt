@@ -1,18 +1,18 @@
 -- `request_text::note` meets its contract: each arm is a case of the definitions. Assumes nothing.
-use Prim.Native.Nat.{_≤_, _<_}
-use lib.IntN.{natAbs}
-use Rattle.numbers.specs.Code.{read-back}
-use Rattle.request_fields.specs.Fields.{count}
+use mathlib.Core.Path.{subst}
 use native.Mathlib.Omega.{arith}
+use lib.ListN.{length}
+use Rattle.numbers.specs.Code.{read-back}
+use Rattle.request_text.specs.declared.Line.the-variants as L
+use Rattle.request_text.specs.Typing.{InRoom}
 use Rattle.request_text.specs.TypingLaws.{note-nothing, note-faulty, note-twice, note-given}
-use Rattle.request_text.specs.LineLaws.{in-fields}
 use borrow.Author.Needs.{needs}
 use Rattle.request_text.proofs.note.Statement.{statement}
 use Rattle.request_text.proofs.note.Tie as tie
 
--- the field given is one of the request's
-field : (c : tie.After-known-told2) → (c .before .line2 .given .0 .0 < count) × (natAbs (c .before .line2 .given .0 .1 .0) ≤ 4294967296)
-field c = in-fields _ _ _ (c .before .before .before .pre .1 .1) (c .before .line2 .given .1)
+-- the field given is one of those marked
+field : (c : tie.After-known-told2) → InRoom (length (c .before .before .before .args .marks .now)) (L.Given (c .before .line2 .given .0 .0) (c .before .line2 .given .0 .1 .0))
+field c = subst (InRoom (length (c .before .before .before .args .marks .now))) (c .before .line2 .given .1) (c .before .before .before .pre .1)
 
 enum-told : tie.Need-enum-told
 enum-told c = search needs

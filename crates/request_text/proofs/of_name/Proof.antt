@@ -17,13 +17,13 @@ enum-told : tie.Need-enum-told
 enum-told c = search needs
 
 returns : tie.Need-returns
-returns c = field-none _ (sym (c .before .before .find .ensures) ∙ c .enum-told .given .1)
+returns c = field-none _ _ (sym (c .before .before .find .ensures) ∙ c .enum-told .given .1)
 
 sub-after : tie.Need-sub-after
-sub-after c = let h = found-at _ _ _ (sym (c .before .before .before .find .ensures) ∙ c .before .field .given .1) in omega arith
+sub-after c = let h = found-at _ _ _ _ (sym (c .before .before .before .find .ensures) ∙ c .before .field .given .1) in omega arith
 
 part-after-start : tie.Need-part-after-start
-part-after-start c = found-at _ _ _ (sym (c .before .before .before .find .ensures) ∙ c .before .field .given .1) .1
+part-after-start c = found-at _ _ _ _ (sym (c .before .before .before .find .ensures) ∙ c .before .field .given .1) .1
 
 part-after-end : tie.Need-part-after-end
 part-after-end c = search needs
@@ -41,12 +41,12 @@ part-of-value-end : tie.Need-part-of-value-end
 part-of-value-end c = search needs
 
 of-value-requires : tie.Need-of-value-requires
-of-value-requires c κs = found-at _ _ _
+of-value-requires c κs = found-at _ _ _ _
     (sym (c .before .before .before .before .before .before .find .ensures) ∙ c .before .before .before .before .field .given .1) .0
 
 returns-2 : tie.Need-returns-2
 returns-2 c = c .of-value .ensures
-    ∙ field-at _ _ _ _ (sym (c .before .before .before .before .before .before .before .find .ensures)
+    ∙ field-at _ _ _ _ _ (sym (c .before .before .before .before .before .before .before .find .ensures)
     ∙ c .before .before .before .before .before .field .given .1) (c .before .before .run .ensures .0)
 
 pub of-name-spec : {M : Type 1} → statement M

@@ -23,7 +23,7 @@ all-requires : tie.Need-all-requires
 all-requires c κs = search needs
 
 returns : tie.Need-returns
-returns c = value-crowded _ _ _ (c .before .before .before .run .ensures .0) (sym (c .before .all .ensures) ∙ not-true _ (c .if1 .taken))
+returns c = value-crowded _ _ _ _ (c .before .before .before .run .ensures .0) (sym (c .before .all .ensures) ∙ not-true _ (c .if1 .taken))
 
 slice-aggregate-value-of : tie.Need-slice-aggregate-value-of
 slice-aggregate-value-of c = sym (length-take-le _ _ (c .before .before .before .before .run .ensures .1))
@@ -33,7 +33,7 @@ value-of-requires c κs = search needs
 
 returns-2 : tie.Need-returns-2
 returns-2 c = c .value-of .ensures
-    ∙ value-alone _ _ _ (c .before .before .before .before .before .run .ensures .0)
+    ∙ value-alone _ _ _ _ (c .before .before .before .before .before .run .ensures .0)
     (sym (c .before .before .before .all .ensures) ∙ not-false _ (c .before .before .if1 .left))
 
 pub of-value-spec : {M : Type 1} → statement M

@@ -14,14 +14,15 @@ use Rattle.request_text.proofs.value_of.Tie as tie
 
 -- the units found decide
 told : (c : tie.After-units-in) (u : Units) → c .units-in .result ≡ u
-    → ofUnits (c .before .before .before .before .args .field) (c .before .start .result) u
-    ≡ valueOf (c .before .before .before .before .args .field) (c .before .before .before .before .args .word .now)
+    → ofUnits (c .before .before .before .before .args .shape) (c .before .before .before .before .args .field) (c .before .start .result) u
+    ≡ valueOf (c .before .before .before .before .args .shape) (c .before .before .before .before .args .field) (c .before .before .before .before .args .word .now)
 told c u e =
     let a = c .before .before .before .before .args in
-    ap (λ (x : Units). ofUnits (a .field) (c .before .start .result) x) (sym e ∙ c .units-in .ensures)
-    ∙ ap (λ (f : Field). ofUnits (a .field) (c .before .start .result) (unitsOf (f .2) (a .word .now))) (c .before .before .field-at .ensures)
-    ∙ ap (λ (m : ℕ). ofUnits (a .field) m (unitsOf (decimalsOf (a .field)) (a .word .now))) (c .before .start .ensures .0)
-    ∙ value-by _ _
+    let of = ofUnits (a .shape) (a .field) in
+    ap (of (c .before .start .result)) (sym e ∙ c .units-in .ensures)
+    ∙ ap (λ (f : Field). of (c .before .start .result) (unitsOf (f .2) (a .word .now))) (c .before .before .field-at .ensures)
+    ∙ ap (λ (m : ℕ). of m (unitsOf (decimalsOf (a .shape) (a .field)) (a .word .now))) (c .before .start .ensures .0)
+    ∙ value-by _ _ _
 
 field-at-requires : tie.Need-field-at-requires
 field-at-requires c κs = search needs

@@ -9,7 +9,7 @@ use Rattle.requests.specs.RequestLaws.{not-true, not-false, checked-wind
 use Rattle.requests.proofs.check.Statement.{statement}
 use Rattle.requests.proofs.check.Tie as tie
 
-holds : (c : tie.Else1) → windowHolds (c .before .before .before .args .q .window) ≡ true
+holds : (c : tie.Else1) → windowHolds (c .before .before .before .args .o .window) ≡ true
 holds c = sym (c .before .window-holds .ensures) ∙ not-false (c .before .window-holds .result) (c .if1 .left)
 
 window-holds-requires : tie.Need-window-holds-requires
@@ -17,53 +17,53 @@ window-holds-requires c κs = search needs
 
 returns : tie.Need-returns
 returns c =
-    let q = c .before .before .before .args .q in
-    sym (checked-window q (sym (c .before .window-holds .ensures) ∙ not-true (c .before .window-holds .result) (c .if1 .taken)))
+    let o = c .before .before .before .args .o in
+    sym (checked-window o (sym (c .before .window-holds .ensures) ∙ not-true (c .before .window-holds .result) (c .if1 .taken)))
 
 guard-holds-requires : tie.Need-guard-holds-requires
 guard-holds-requires c κs = search needs
 
 -- the guard is read back from its bits
-guard-is : (c : tie.After-guard-holds) → c .guard-holds .result ≡ guardHolds (c .before .before .before .before .before .args .q .guard)
+guard-is : (c : tie.After-guard-holds) → c .guard-holds .result ≡ guardHolds (c .before .before .before .before .before .args .o .guard)
 guard-is c =
-    let q = c .before .before .before .before .before .args .q in
-    c .guard-holds .ensures ∙ ap guardHolds (read-result (q .guard) (c .before .struct-told .given .1 .1 .1 .0 .1))
+    let o = c .before .before .before .before .before .args .o in
+    c .guard-holds .ensures ∙ ap guardHolds (read-result (o .guard) (c .before .struct-told .given .1 .1 .1 .0 .1))
 
-guarded : (c : tie.Else2) → guardHolds (c .before .before .before .before .before .before .args .q .guard) ≡ true
+guarded : (c : tie.Else2) → guardHolds (c .before .before .before .before .before .before .args .o .guard) ≡ true
 guarded c = sym (guard-is (c .before)) ∙ not-false (c .before .guard-holds .result) (c .if2 .left)
 
 returns-2 : tie.Need-returns-2
 returns-2 c =
     let e = c .before .before .before in
-    let q = e .before .before .before .args .q in
-    sym (checked-guard q (holds e) (sym (guard-is (c .before)) ∙ not-true (c .before .guard-holds .result) (c .if2 .taken)))
+    let o = e .before .before .before .args .o in
+    sym (checked-guard o (holds e) (sym (guard-is (c .before)) ∙ not-true (c .before .guard-holds .result) (c .if2 .taken)))
 
-check-requires : tie.Need-check-requires
-check-requires c κs = search needs
+check-body-requires : tie.Need-check-body-requires
+check-body-requires c κs = search needs
 
 enum-known-of-elements : tie.Need-enum-known-of-elements
 enum-known-of-elements c = search needs
 
 returns-3 : tie.Need-returns-3
 returns-3 c =
-    let g = c .before .before .before .before .before in
+    let g = c .before .before .before .before in
     let e = g .before .before .before in
-    let q = e .before .before .before .args .q in
-    sym (checked-element q (holds e) (guarded g) (sym (c .before .before .before .check .ensures) ∙ c .before .of-elements .given .1))
+    let o = e .before .before .before .args .o in
+    sym (checked-element o (holds e) (guarded g) (sym (c .before .before .before .check-body .ensures) ∙ c .before .of-elements .given .1))
 
 enum-told : tie.Need-enum-told
 enum-told c = search needs
 
-check-requires-2 : tie.Need-check-requires-2
-check-requires-2 c κs = search needs
+check-requires : tie.Need-check-requires
+check-requires c κs = search needs
 
 returns-4 : tie.Need-returns-4
 returns-4 c =
     let t = c .before .before in
-    let g = t .before .before .before .before in
+    let g = t .before .before .before in
     let e = g .before .before .before in
-    let q = e .before .before .before .args .q in
-    c .check2 .ensures ∙ sym (checked-station q (holds e) (guarded g) (sym (t .before .before .check .ensures) ∙ t .enum-told .given .1))
+    let o = e .before .before .before .args .o in
+    c .check .ensures ∙ sym (checked-station o (holds e) (guarded g) (sym (t .before .before .check-body .ensures) ∙ t .enum-told .given .1))
 
 pub check-spec : {M : Type 1} → statement M
 check-spec =
@@ -73,9 +73,9 @@ check-spec =
     returns
     guard-holds-requires
     returns-2
-    check-requires
+    check-body-requires
     enum-known-of-elements
     returns-3
     enum-told
-    check-requires-2
+    check-requires
     returns-4)

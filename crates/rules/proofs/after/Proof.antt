@@ -38,6 +38,9 @@ passed-to-requires c κs = search needs
 enum-told-3 : tie.Need-enum-told-3
 enum-told-3 c = search needs
 
+closest-after-requires : tie.Need-closest-after-requires
+closest-after-requires c κs = search needs
+
 reach-requires-3 : tie.Need-reach-requires-3
 reach-requires-3 c κs = search needs
 
@@ -53,6 +56,12 @@ enum-told-5 c = search needs
 reach-requires-5 : tie.Need-reach-requires-5
 reach-requires-5 c κs = search needs
 
+enum-told-6 : tie.Need-enum-told-6
+enum-told-6 c = search needs
+
+reach-requires-6 : tie.Need-reach-requires-6
+reach-requires-6 c κs = search needs
+
 returns : tie.Need-returns
 returns c = let a = c .before .before .before .before .args in rw (c .reach .ensures, c .before .enum-told .given .1) (after-by (a .p) (a .entry) _ (sym (c .before .enum-told .given .1) ∙ c .before .before .before .stage-of .ensures))
 
@@ -67,13 +76,20 @@ returns-3 c =
     (after-by (a .p) (a .entry) _ (sym (k .before .stage .given .1) ∙ k .before .before .before .stage-of .ensures))
 
 returns-4 : tie.Need-returns-4
-returns-4 c = let a = c .before .before .before .before .args in rw (c .reach3 .ensures, c .before .enum-told3 .given .1) (after-by (a .p) (a .entry) _ (sym (c .before .enum-told3 .given .1) ∙ c .before .before .before .stage-of .ensures))
+returns-4 c =
+    let k = c .before .before in
+    let a = k .before .before .before .args in
+    rw (c .reach3 .ensures, c .before .closest-after .ensures)
+    (after-by (a .p) (a .entry) _ (sym (k .enum-told3 .given .1) ∙ k .before .before .stage-of .ensures))
 
 returns-5 : tie.Need-returns-5
 returns-5 c = let a = c .before .before .before .before .args in rw (c .reach4 .ensures, c .before .enum-told4 .given .1) (after-by (a .p) (a .entry) _ (sym (c .before .enum-told4 .given .1) ∙ c .before .before .before .stage-of .ensures))
 
 returns-6 : tie.Need-returns-6
 returns-6 c = let a = c .before .before .before .before .args in rw (c .reach5 .ensures, c .before .enum-told5 .given .1) (after-by (a .p) (a .entry) _ (sym (c .before .enum-told5 .given .1) ∙ c .before .before .before .stage-of .ensures))
+
+returns-7 : tie.Need-returns-7
+returns-7 c = let a = c .before .before .before .before .args in rw (c .reach6 .ensures, c .before .enum-told6 .given .1) (after-by (a .p) (a .entry) _ (sym (c .before .enum-told6 .given .1) ∙ c .before .before .before .stage-of .ensures))
 
 pub after-spec : {M : Type 1} → statement M
 after-spec =
@@ -90,14 +106,18 @@ after-spec =
     crossing-after-requires
     passed-to-requires
     enum-told-3
+    closest-after-requires
     reach-requires-3
     enum-told-4
     reach-requires-4
     enum-told-5
     reach-requires-5
+    enum-told-6
+    reach-requires-6
     returns
     returns-2
     returns-3
     returns-4
     returns-5
-    returns-6)
+    returns-6
+    returns-7)

@@ -36,11 +36,14 @@ closest-may-come-requires c κs = search needs
 enum-told-4 : tie.Need-enum-told-4
 enum-told-4 c = search needs
 
+enum-told-5 : tie.Need-enum-told-5
+enum-told-5 c = search needs
+
 share-may-come-requires : tie.Need-share-may-come-requires
 share-may-come-requires c κs = search needs
 
-enum-told-5 : tie.Need-enum-told-5
-enum-told-5 c = search needs
+enum-told-6 : tie.Need-enum-told-6
+enum-told-6 c = search needs
 
 end-may-come-requires : tie.Need-end-may-come-requires
 end-may-come-requires c κs = search needs
@@ -62,10 +65,13 @@ returns-4 : tie.Need-returns-4
 returns-4 c = let a = c .before .before .before .before .args in c .closest-may-come .ensures ∙ order-by (a .p) (a .entry) _ (sym (c .before .enum-told3 .given .1) ∙ c .before .before .before .stage-of .ensures)
 
 returns-5 : tie.Need-returns-5
-returns-5 c = let a = c .before .before .before .before .args in c .share-may-come .ensures ∙ order-by (a .p) (a .entry) _ (sym (c .before .enum-told4 .given .1) ∙ c .before .before .before .stage-of .ensures)
+returns-5 c = let a = c .before .before .before .args in order-by (a .p) (a .entry) _ (sym (c .enum-told4 .given .1) ∙ c .before .before .stage-of .ensures)
 
 returns-6 : tie.Need-returns-6
-returns-6 c = let a = c .before .before .before .before .args in c .end-may-come .ensures ∙ order-by (a .p) (a .entry) _ (sym (c .before .enum-told5 .given .1) ∙ c .before .before .before .stage-of .ensures)
+returns-6 c = let a = c .before .before .before .before .args in c .share-may-come .ensures ∙ order-by (a .p) (a .entry) _ (sym (c .before .enum-told5 .given .1) ∙ c .before .before .before .stage-of .ensures)
+
+returns-7 : tie.Need-returns-7
+returns-7 c = let a = c .before .before .before .before .args in c .end-may-come .ensures ∙ order-by (a .p) (a .entry) _ (sym (c .before .enum-told6 .given .1) ∙ c .before .before .before .stage-of .ensures)
 
 pub in-order-spec : {M : Type 1} → statement M
 in-order-spec =
@@ -81,12 +87,14 @@ in-order-spec =
     enum-told-3
     closest-may-come-requires
     enum-told-4
-    share-may-come-requires
     enum-told-5
+    share-may-come-requires
+    enum-told-6
     end-may-come-requires
     returns
     returns-2
     returns-3
     returns-4
     returns-5
-    returns-6)
+    returns-6
+    returns-7)

@@ -1,21 +1,28 @@
 -- `seconds::direction_at` meets its contract: it is the direction of the shadow there. Assumes nothing.
-use mathlib.Core.Path.{sym, subst, ap₂, _∙_}
+use mathlib.Core.Path.{sym, subst, _∙_}
 use borrow.Author.Needs.{needs}
-use lib.IntN.{ℤ}
+use lib.Dec.{lit≤}
 use Rattle.numbers.specs.Code.{read-back, read-size}
-use Rattle.station.specs.declared.Place.{Place}
+use Rattle.elements.specs.Sizes.{wider-axis}
+use Rattle.elements.specs.StarLaws.{axis-sizes}
 use Rattle.station.specs.Sizes.{PlaceSizes}
-use Rattle.shadow.specs.Second as Shadow
 use Rattle.seconds.specs.Seconds.{directionAt}
 use Rattle.seconds.specs.SecondLaws.{placed}
 use Rattle.seconds.proofs.direction_at.Statement.{statement}
 use Rattle.seconds.proofs.direction_at.Tie as tie
 
+axis-of-requires : tie.Need-axis-of-requires
+axis-of-requires c κs = search needs
+
 direction-at-requires : tie.Need-direction-at-requires
 direction-at-requires c κs =
     let b = c .before .before in
-    let q = b .args .q in
-    (b .pre .0, b .pre .1 .elements, subst PlaceSizes (sym (b .pre .2)) (placed q (b .pre .1)), read-size (b .args .t) 10800 (b .pre .3) tt)
+    let o = b .args .o in (
+      b .pre .0,
+      rw (c .axis-of .ensures) (wider-axis (axis-sizes (o .body) (b .pre .1 .body)) (lit≤ tt)),
+      subst PlaceSizes (sym (b .pre .2)) (placed o (b .pre .1)),
+      read-size (b .args .t) 10800 (b .pre .3) tt,
+    )
 
 cast-result : tie.Need-cast-result
 cast-result c = search needs
@@ -24,8 +31,7 @@ returns : tie.Need-returns
 unfolding directionAt
 returns c =
     let b = c .before .before .before in
-    c .direction-at .ensures
-    ∙ ap₂ (λ (p : Place) (τ : ℤ). Shadow.directionAt (b .args .q .elements) p τ) (b .pre .2) (read-back (b .args .t) (b .pre .3) tt)
+    c .direction-at .ensures ∙ rw (c .before .axis-of .ensures, b .pre .2, read-back (b .args .t) (b .pre .3) tt)
 
 pub direction-at-spec : {M : Type 1} → statement M
-direction-at-spec = tie.close (tie.spec direction-at-requires cast-result returns)
+direction-at-spec = tie.close (tie.spec axis-of-requires direction-at-requires cast-result returns)

@@ -7,6 +7,7 @@ use mir.Syntax.{w64}
 use mir.ValLaws.{toZ-ofZ}
 use Rattle.numbers.specs.Code.{read-back, read-size}
 use Rattle.refusals.specs.declared.Checked.the-variants as C
+use Rattle.requests.specs.Requests.{ofEclipse}
 use Rattle.requests.specs.Windows.{inSpan}
 use Rattle.requests.specs.WindowLaws.{in-span}
 use Rattle.requests.specs.RequestLaws.{not-true, not-false}
@@ -25,16 +26,26 @@ t-is c = c .in-span .ensures ∙ ap inSpan (toZ-ofZ w64 (c .before .before .args
 spans : (c : tie.Else1) → inSpan (c .before .before .before .args .t) ≡ true
 spans c = sym (t-is (c .before)) ∙ not-false (c .before .in-span .result) (c .if1 .left)
 
+-- ---- the request and its room
+abbrev begun : tie.After-admit → tie.Start
+begun c = c .before .before .before .before .before .before
+
+answered : (c : tie.After-admit) → let b = begun c .args in c .admit .result ≡ admitted (ofEclipse (b .q)) (b .sines .now)
+answered c = rw (c .before .before .of-eclipse .ensures) at (c .admit .ensures .0)
+
+left-there : (c : tie.After-admit) → let b = begun c .args in c .admit .last .1 .0 ≡ sinesAfter (admitted (ofEclipse (b .q)) (b .sines .now)) (b .sines .now)
+left-there c = rw (c .before .before .of-eclipse .ensures) at (c .admit .ensures .1)
+
 -- ---- where the request was admitted
 module _ (c : tie.After-enum-told) where
   abbrev start : tie.Start
-  start = c .before .before .before .before .before .before .before .before .before
+  start = begun (c .before .before .before .before)
 
-  within : admitted (start .args .q) (start .args .sines .now) ≡ C.Within
-  within = sym (c .before .before .before .before .admit .ensures .0) ∙ c .enum-told .given .1
+  within : admitted (ofEclipse (start .args .q)) (start .args .sines .now) ≡ C.Within
+  within = sym (answered (c .before .before .before .before)) ∙ c .enum-told .given .1
 
   filled : c .before .before .before .before .admit .last .1 .0 ≡ sinesAfter C.Within (start .args .sines .now)
-  filled = c .before .before .before .before .admit .ensures .1 ∙ ap (λ k. sinesAfter k (start .args .sines .now)) within
+  filled = left-there (c .before .before .before .before) ∙ ap (λ k. sinesAfter k (start .args .sines .now)) within
 
 in-span-requires : tie.Need-in-span-requires
 in-span-requires c κs = search needs
@@ -44,6 +55,9 @@ returns c =
     let b = c .before .before .before in
     let out = sym (t-is (c .before)) ∙ not-true (c .before .in-span .result) (c .if1 .taken) in
     second-is (b .args .q) (b .args .t) _ _ (second-outside _ _ _ out) _ _ refl refl
+
+of-eclipse-requires : tie.Need-of-eclipse-requires
+of-eclipse-requires c κs = search needs
 
 admit-requires : tie.Need-admit-requires
 admit-requires c κs = search needs
@@ -57,11 +71,11 @@ same-length c = search needs
 returns-2 : tie.Need-returns-2
 returns-2 c =
     let a = c .before .before .before .before .before in
-    let b = a .before .before .before .before .before in
+    let b = begun a in
     let known = c .before .c .given in
-    let e = sym (a .admit .ensures .0) ∙ known .1 in
-    second-is (b .args .q) (b .args .t) _ _ (second-inside _ _ _ (spans (a .before .before)) ∙ e) _ _ refl
-    (a .admit .ensures .1 ∙ ap (λ k. sinesAfter k (b .args .sines .now)) e)
+    let e = sym (answered a) ∙ known .1 in
+    second-is (b .args .q) (b .args .t) _ _ (second-inside _ _ _ (spans (a .before .before .before)) ∙ e) _ _ refl
+    (left-there a ∙ ap (λ k. sinesAfter k (b .args .sines .now)) e)
 
 enum-told : tie.Need-enum-told
 enum-told c = search needs
@@ -69,9 +83,9 @@ enum-told c = search needs
 second-within-requires : tie.Need-second-within-requires
 second-within-requires c κs =
     let a = start (c .before) in
-    let w = admitted-within (a .args .q) (a .args .sines .now) (within (c .before)) in
-    let h = spans (c .before .before .before .before .before .before .before) in
-    (rw (c .before .before .before .before .before .admit .ensures .1) (w .1), w .0, read-size (a .args .t) 10800 (in-span (a .args .t) h) tt)
+    let w = admitted-within (ofEclipse (a .args .q)) (a .args .sines .now) (within (c .before)) in
+    let h = spans (c .before .before .before .before .before .before .before .before) in
+    (rw (left-there (c .before .before .before .before .before)) (w .1), w .0, read-size (a .args .t) 10800 (in-span (a .args .t) h) tt)
 
 same-length-2 : tie.Need-same-length-2
 same-length-2 c = search needs
@@ -80,7 +94,7 @@ returns-3 : tie.Need-returns-3
 returns-3 c =
     let told = c .before .before in
     let a = start told in
-    let h = spans (told .before .before .before .before .before .before) in
+    let h = spans (told .before .before .before .before .before .before .before) in
     second-is (a .args .q) (a .args .t) _ _ (second-inside _ _ _ h ∙ within told) _ _
     (ap O.Is (c .second-within .ensures ∙ ap (wholeSecond (a .args .q)) (read-back (a .args .t) (in-span (a .args .t) h) tt))) (filled told)
 
@@ -90,6 +104,7 @@ second-spec =
     (tie.spec
     in-span-requires
     returns
+    of-eclipse-requires
     admit-requires
     enum-known-c
     same-length

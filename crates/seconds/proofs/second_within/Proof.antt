@@ -7,6 +7,7 @@ use Rattle.station.specs.Sizes.{PlaceSizes}
 use Rattle.shadow.specs.declared.Second.{Second}
 use Rattle.shadow.specs.Second.{IsSecond}
 use Rattle.seconds.specs.Seconds.{stateAt, directionAt, magnitudeAt}
+use Rattle.requests.specs.Requests.{ofEclipse}
 use Rattle.seconds.specs.OneSecond.{wholeSecond}
 use Rattle.seconds.specs.SecondLaws.{placed, guard-read}
 use Rattle.requests.specs.declared.Request.{Request}
@@ -36,12 +37,12 @@ geocentric-requires c κs = search needs
 second-at-requires : tie.Need-second-at-requires
 second-at-requires c κs =
     let b = c .before .before .before .before .before in
-    (b .pre .0, b .pre .1 .elements, subst PlaceSizes (sym (c .before .geocentric .ensures)) (placed (b .args .q) (b .pre .1)), read-size (b .args .t) 10800 (b .pre .2) tt, guard-read (b .args .q) (b .pre .1) .1)
+    (b .pre .0, b .pre .1 .body, subst PlaceSizes (sym (c .before .geocentric .ensures)) (placed (ofEclipse (b .args .q)) (b .pre .1)), read-size (b .args .t) 10800 (b .pre .2) tt, guard-read (ofEclipse (b .args .q)) (b .pre .1) .1)
 
 returns : tie.Need-returns
 returns c =
     let b = c .before .before .before .before .before .before in
-    whole (b .args .q) (b .args .t) (c .second-at .result) (rw (guard-read (b .args .q) (b .pre .1) .0, read-back (b .args .t) (b .pre .2) tt, c .before .before .geocentric .ensures) at (c .second-at .ensures))
+    whole (b .args .q) (b .args .t) (c .second-at .result) (rw (guard-read (ofEclipse (b .args .q)) (b .pre .1) .0, read-back (b .args .t) (b .pre .2) tt, c .before .before .geocentric .ensures) at (c .second-at .ensures))
 
 pub second-within-spec : {M : Type 1} → statement M
 second-within-spec = tie.close (tie.spec geocentric-requires second-at-requires returns)

@@ -1,7 +1,7 @@
-//! `seeds FOLDER`: what the fuzzer starts from, in FOLDER/read, listing, sheet, second, share, write and mend: the requests and sheets that
-//! the repository holds, and some drawn as tests/agreement draws them.
+//! `seeds FOLDER`: what the fuzzer starts from, in FOLDER/read, listing, sheet, star, second, share, write and mend: the requests and sheets
+//! that the repository holds, and some drawn as tests/agreement draws them.
 
-use agreement::{draws, files};
+use agreement::{draws, files, sheets, stars};
 use fuzz::requests::{LEAVE_NUMBERS, LEAVE_SECOND, LEAVE_SHAPE, OTHER_SINES, WITH_SHARE};
 use reference::random::Random;
 use reference::request::REQUEST_LENGTH;
@@ -46,19 +46,23 @@ fn stored_requests() -> Vec<Vec<u8>> {
     files.iter().map(|file| stored(file)).chain(inputs).collect()
 }
 
+fn stored_stars() -> Vec<Vec<u8>> {
+    ["examples/potsdam1956.bin", "examples/kansas1949.bin"].map(stored).to_vec()
+}
+
 fn drawn_sheet(random: &mut Random) -> Vec<u8> {
-    let entries = draws::entries(random);
+    let entries = sheets::entries(random);
     let mut bytes = vec![0; 7 * entries.len()];
     let length = sheet::write(&entries, &mut bytes).expect("entries that keep all rules");
     bytes.truncate(length);
-    draws::damage(random, &mut bytes);
+    sheets::damage(random, &mut bytes);
     bytes
 }
 
 fn drawn_entries(random: &mut Random) -> Vec<u8> {
-    let mut entries = draws::entries(random);
+    let mut entries = sheets::entries(random);
     if random.once_in(2) {
-        draws::damage_entries(random, &mut entries);
+        sheets::damage_entries(random, &mut entries);
     }
     entries.iter().flat_map(|number| number.to_be_bytes()).collect()
 }
@@ -86,6 +90,9 @@ fn main() {
     let head = [ROOM[0], ROOM[1], LEAVE_SHAPE | LEAVE_NUMBERS];
     put(&sheet, &head, stored_requests(), "stored");
     put(&sheet, &head, (0..DRAWN).map(|_| draws::request(&mut random)), "drawn");
+    let star = folder.join("star");
+    put(&star, &head, stored_stars(), "stored");
+    put(&star, &head, (0..DRAWN).map(|_| stars::request(&mut random)), "drawn");
     let shared = [head[0], head[1], head[2] | WITH_SHARE];
     put(&sheet, &shared, stored_requests(), "shared");
     put(&sheet, &shared, (0..DRAWN).map(|_| draws::request(&mut random)), "shared_drawn");
@@ -93,6 +100,7 @@ fn main() {
     let others = [0x08, 0x10].map(|far| [ROOM[0], far, head[2] | OTHER_SINES]);
     for (head, from) in others.iter().zip(["short", "long"]) {
         put(&sheet, head, stored_requests(), from);
+        put(&star, head, stored_stars(), from);
     }
     let head = [head[0], head[1], head[2] | LEAVE_SECOND];
     for second in [folder.join("second"), folder.join("share")] {

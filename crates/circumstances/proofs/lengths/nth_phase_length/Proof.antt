@@ -7,7 +7,7 @@ use borrow.Author.Needs.{needs}
 use lib.ListN.{length, take, drop, getD}
 use Rattle.phases.specs.declared.Phase.{Phase}
 use Rattle.phases.specs.declared.Phase.the-variants.{Penumbra}
-use Rattle.phases.specs.Phases.{eclipse}
+use Rattle.geometry.specs.Shadow.{phasesOf}
 use Rattle.requests.specs.WindowLaws.{seconds-few}
 use Rattle.seconds.specs.Seconds.{statesOf}
 use Rattle.seconds.specs.SecondLaws.{states-length}
@@ -17,25 +17,29 @@ use Rattle.courses.specs.Lengths.{bytesNeeded}
 use Rattle.circumstances.proofs.lengths.nth_phase_length.Statement.{statement}
 use Rattle.circumstances.proofs.lengths.nth_phase_length.Tie as tie
 
+-- the phase that is asked for
+abbrev asked : tie.Start → Phase
+asked b = getD (phasesOf (b .args .o .body)) (b .args .k) Penumbra
+
 small : (c : tie.After-second-count) → (c .before .before .before .args .k * c .second-count .result ≤ c .second-count .result) × (c .second-count .result ≤ 21601)
 small c =
     let b = c .before .before .before in (
-      stretch-small (b .args .k) (c .second-count .result) (b .pre .3),
-      omega (arith, c .second-count .ensures, seconds-few (b .args .q .window) (b .pre .0 .window)),
+      stretch-small (b .args .k) (c .second-count .result) (b .args .o .body) (b .pre .3),
+      omega (arith, c .second-count .ensures, seconds-few (b .args .o .window) (b .pre .0 .window)),
     )
 
 stretch : (c : tie.After-second-count)
     → take (c .before .before .before .args .k * c .second-count .result + c .second-count .result - c .before .before .before .args .k * c .second-count .result) (drop (c .before .before .before .args .k * c .second-count .result) (c .before .before .before .args .states .now))
-    ≡ statesOf (c .before .before .before .args .q) (getD eclipse (c .before .before .before .args .k) Penumbra)
+    ≡ statesOf (c .before .before .before .args .o) (asked (c .before .before .before))
 stretch c =
     let b = c .before .before .before in
-    stretch-is (b .args .k) (c .second-count .result) (b .pre .3) (b .args .q) (b .args .states .now) (b .pre .1) (c .second-count .ensures)
+    stretch-is (b .args .k) (c .second-count .result) (b .args .o) (b .pre .3) (b .args .states .now) (b .pre .1) (c .second-count .ensures)
 
 second-count-requires : tie.Need-second-count-requires
 second-count-requires c κs = search needs
 
-eclipse-phase-requires : tie.Need-eclipse-phase-requires
-eclipse-phase-requires c κs = search needs
+nth-phase-requires : tie.Need-nth-phase-requires
+nth-phase-requires c κs = search needs
 
 mul-begin : tie.Need-mul-begin
 mul-begin c = let s = small (c .before) in record { fits = omega (arith, s .0, s .1) }
@@ -60,7 +64,7 @@ phase-length-requires c κs =
     omega (
       arith,
       ap length (stretch (c .before .before)),
-      states-length (b .args .q) (getD eclipse (b .args .k) Penumbra),
+      states-length (b .args .o) (asked b),
       c .before .before .second-count .ensures,
       small (c .before .before) .1,
     )
@@ -68,7 +72,7 @@ phase-length-requires c κs =
 returns : tie.Need-returns
 returns c =
     let s = c .before .before .before in (
-      c .phase-length .ensures .0 ∙ ap₂ (λ (φ : Phase) (l : List ℕ). bytesNeeded φ (entries l)) (c .before .before .eclipse-phase .ensures) (stretch s),
+      c .phase-length .ensures .0 ∙ ap₂ (λ (φ : Phase) (l : List ℕ). bytesNeeded φ (entries l)) (c .before .before .nth-phase .ensures) (stretch s),
       c .phase-length .ensures .1,
     )
 
@@ -77,7 +81,7 @@ nth-phase-length-spec =
     tie.close
     (tie.spec
     second-count-requires
-    eclipse-phase-requires
+    nth-phase-requires
     mul-begin
     add-end
     sub-phase-length

@@ -1,12 +1,9 @@
 -- `ukhtvaresh::shares::ukhtvaresh_sheet_and_share` meets its contract: the answer of the crate below, as numbers. Assumes nothing.
-use mathlib.Core.Path.{subst, ap, _∙_}
 use borrow.Author.Needs.{needs}
-use Rattle.circumstances.specs.declared.Answer.{Answer}
-use Rattle.circumstances.specs.Demand3.{Claimed}
+use Rattle.requests.specs.Requests.{ofEclipse}
 use Rattle.requests.specs.Shares.{withShare}
 use Rattle.input.specs.Input.{requestOf}
-use Rattle.ukhtvaresh.specs.declared.Reply.{Reply}
-use Rattle.ukhtvaresh.specs.Replies.{sheetReply}
+use Rattle.ukhtvaresh.specs.SheetLaws.{replied}
 use Rattle.ukhtvaresh.proofs.shares.ukhtvaresh_sheet_and_share.Statement.{statement}
 use Rattle.ukhtvaresh.proofs.shares.ukhtvaresh_sheet_and_share.Tie as tie
 
@@ -26,10 +23,7 @@ returns : tie.Need-returns
 returns c =
     let made = c .before .before .before .before .before in
     let request = made .before .before .before .before .before .before .args .request .now in
-    let p = made .sheet-and-share .ensures in
-    let e = c .sheet-reply .ensures ∙ ap sheetReply (p .0) in
-    let claimed = subst (λ (x : Answer). Claimed (withShare (requestOf request)) x (made .sheet-and-share .last .1 .1 .0)) (p .0) (p .1 .1 .1) in
-    (ap (λ (x : Reply). x .number) e, (ap (λ (x : Reply). x .value) e, (p .1 .0, (p .1 .1 .0, claimed))))
+    replied (ofEclipse (withShare (requestOf request))) (c .sheet-reply .ensures) (made .sheet-and-share .ensures)
 
 pub ukhtvaresh-sheet-and-share-spec : {M : Type 1} → statement M
 ukhtvaresh-sheet-and-share-spec =

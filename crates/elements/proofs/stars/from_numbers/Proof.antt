@@ -1,0 +1,48 @@
+-- `elements::stars::from_numbers` meets its contract: each part is read from its places. Assumes nothing.
+use lib.IntN.{pos}
+use lib.ListN.{getD}
+use borrow.Author.Needs.{needs}
+use Rattle.numbers.specs.Code.{read-result}
+use Rattle.elements.specs.Stars.{starOf}
+use Rattle.elements.proofs.stars.from_numbers.Statement.{statement}
+use Rattle.elements.proofs.stars.from_numbers.Tie as tie
+
+cubic-from-requires : tie.Need-cubic-from-requires
+cubic-from-requires c κs = search needs
+
+cubic-from-requires-2 : tie.Need-cubic-from-requires-2
+cubic-from-requires-2 c κs = search needs
+
+shared-slice-copy-out-d : tie.Need-shared-slice-copy-out-d
+shared-slice-copy-out-d c = search needs
+
+quadratic-from-requires : tie.Need-quadratic-from-requires
+quadratic-from-requires c κs = search needs
+
+shared-slice-copy-out-radius : tie.Need-shared-slice-copy-out-radius
+shared-slice-copy-out-radius c = search needs
+
+returns : tie.Need-returns
+unfolding starOf
+returns c =
+    let d = c .before .before in
+    let y = d .before in
+    let n = y .before .before .args .n .now in
+    rw (
+      y .before .cubic-from .ensures,
+      y .cubic-from2 .ensures,
+      read-result (getD n 8 (pos 0)) (d .d .given),
+      c .before .quadratic-from .ensures,
+      read-result (getD n 12 (pos 0)) (c .radius .given),
+    )
+
+pub from-numbers-spec : {M : Type 1} → statement M
+from-numbers-spec =
+    tie.close
+    (tie.spec
+    cubic-from-requires
+    cubic-from-requires-2
+    shared-slice-copy-out-d
+    quadratic-from-requires
+    shared-slice-copy-out-radius
+    returns)

@@ -1,0 +1,56 @@
+-- `input::stars::asked` meets its contract: bytes of the shape have a star request's numbers (`held`); any other are refused. Assumes nothing.
+use mathlib.Core.Path.{sym, ap, _∙_}
+use native.Mathlib.Omega.{arith}
+use borrow.Author.Needs.{needs}
+use Rattle.requests.specs.Requests.{ofStar}
+use Rattle.request_fields.specs.declared.Shape.the-variants.{Star}
+use Rattle.input.specs.declared.Asked.the-variants as A
+use Rattle.input.specs.InputLaws.{Held, held, star-held, star-refused}
+use Rattle.input.proofs.stars.asked.Statement.{statement}
+use Rattle.input.proofs.stars.asked.Tie as tie
+
+-- the numbers that the bytes have
+holds : (c : tie.After-enum-told) → Held Star (c .before .before .before .before .before .args .input .now) (c .before .before .get-star .last .1 .0)
+holds c =
+    let g = c .before .before in
+    held Star (g .before .before .before .args .input .now) _ _ (λ i. let b = g .before .before .shared-slice-known .given i in omega arith)
+    (sym (g .get-star .ensures .0) ∙ c .enum-told .given .1) (g .get-star .ensures .1)
+
+get-star-requires : tie.Need-get-star-requires
+get-star-requires c κs = search needs
+
+enum-told : tie.Need-enum-told
+enum-told c = search needs
+
+slice-aggregate-request-from : tie.Need-slice-aggregate-request-from
+slice-aggregate-request-from c = sym (holds (c .before) .small .all)
+
+request-from-requires : tie.Need-request-from-requires
+request-from-requires c κs = holds (c .before) .small
+
+of-star-requires : tie.Need-of-star-requires
+of-star-requires c κs = search needs
+
+enum-told-2 : tie.Need-enum-told-2
+enum-told-2 c = search needs
+
+returns : tie.Need-returns
+returns c =
+    let told = c .before .before .before in
+    ap A.Is (c .of-star .ensures ∙ ap ofStar (c .before .request-from .ensures)) ∙ sym (star-held _ _ (holds told))
+
+returns-2 : tie.Need-returns-2
+returns-2 c = star-refused _ (sym (c .before .before .get-star .ensures .0) ∙ c .enum-told2 .given .1)
+
+pub asked-spec : {M : Type 1} → statement M
+asked-spec =
+    tie.close
+    (tie.spec
+    get-star-requires
+    enum-told
+    slice-aggregate-request-from
+    request-from-requires
+    of-star-requires
+    enum-told-2
+    returns
+    returns-2)

@@ -1,0 +1,99 @@
+-- `request_text::shapes::shape_of` meets its contract: the lines passed do not name the radius (`Passed`). The measure is how many bytes are left. Assumes nothing.
+use mathlib.Core.Path.{_≡_, sym, ap, _∙_}
+use Prim.Native.Nat.{_+_, _-_, _≤_}
+use borrow.Author.Needs.{needs}
+use lib.ListN.{length, drop}
+use Rattle.words.specs.declared.Class.the-variants as C
+use Rattle.words.specs.Text.{runOf}
+use Rattle.words.specs.TextLaws.{rest-is, line-within}
+use Rattle.request_text.specs.ShapeLaws.{Passed, passed-none, passed-all, passed-hit, passed-more}
+use Rattle.request_text.proofs.shapes.shape_of.Statement.{statement}
+use Rattle.request_text.proofs.shapes.shape_of.Tie as tie
+
+abbrev Inv-loop : tie.InvT-loop
+Inv-loop text at₀ at = Passed text at
+
+abbrev μ-loop : tie.MeasureT-loop
+μ-loop text at₀ at = length text + 1 - at
+
+-- the line at the text's place
+module _ (c : tie.After-run Inv-loop μ-loop) where
+  abbrev loop : tie.In-loop Inv-loop μ-loop
+  loop = c .before .before
+
+  ran : c .run .result ≡ runOf C.Line (drop (loop .before .loop .at) (loop .before .before .before .args .text .now))
+  ran = c .run .ensures .0 ∙ ap (runOf C.Line) (rest-is (loop .before .before .before .args .text .now) (loop .before .loop .at))
+
+  inside : loop .before .loop .at + c .run .result ≤ length (loop .before .before .before .args .text .now)
+  inside = line-within _ _ _ (loop .loop-test .taken) ran
+
+loop-holds : tie.Need-loop-holds Inv-loop μ-loop
+loop-holds c = passed-none _
+
+sub-run : tie.Need-sub-run Inv-loop μ-loop
+sub-run c = search needs
+
+part-run-start : tie.Need-part-run-start Inv-loop μ-loop
+part-run-start c = search needs
+
+part-run-end : tie.Need-part-run-end Inv-loop μ-loop
+part-run-end c = search needs
+
+run-requires : tie.Need-run-requires Inv-loop μ-loop
+run-requires c κs = search needs
+
+add-end : tie.Need-add-end Inv-loop μ-loop
+add-end c = let i = inside c in search needs
+
+sub-names-radius : tie.Need-sub-names-radius Inv-loop μ-loop
+sub-names-radius c = search needs
+
+part-names-radius-start : tie.Need-part-names-radius-start Inv-loop μ-loop
+part-names-radius-start c = search needs
+
+part-names-radius-end : tie.Need-part-names-radius-end Inv-loop μ-loop
+part-names-radius-end c = inside c
+
+names-radius-requires : tie.Need-names-radius-requires Inv-loop μ-loop
+names-radius-requires c κs = search needs
+
+returns : tie.Need-returns Inv-loop μ-loop
+returns c =
+    let r = c .before .before .before in
+    passed-hit _ _ (loop r .before .loop .inv) _ (loop r .loop-test .taken) (ran r) (sym (c .before .names-radius .ensures) ∙ c .if1 .taken)
+
+add-at : tie.Need-add-at Inv-loop μ-loop
+add-at c = let i = inside (c .before .before .before) in search needs
+
+loop-less : tie.Need-loop-less Inv-loop μ-loop
+loop-less c = let i = inside (c .before .before .before) in search needs
+
+loop-again : tie.Need-loop-again Inv-loop μ-loop
+loop-again c =
+    let r = c .before .before .before in
+    passed-more _ _ (loop r .before .loop .inv) _ (loop r .loop-test .taken) (ran r) (sym (c .before .names-radius .ensures) ∙ c .if1 .left)
+
+returns-2 : tie.Need-returns-2 Inv-loop μ-loop
+returns-2 c = passed-all _ _ (c .before .loop .inv) (c .loop-test .left)
+
+pub shape-of-spec : {M : Type 1} → statement M
+shape-of-spec =
+    tie.close
+    (tie.spec
+    Inv-loop
+    μ-loop
+    loop-holds
+    sub-run
+    part-run-start
+    part-run-end
+    run-requires
+    add-end
+    sub-names-radius
+    part-names-radius-start
+    part-names-radius-end
+    names-radius-requires
+    returns
+    add-at
+    loop-less
+    loop-again
+    returns-2)

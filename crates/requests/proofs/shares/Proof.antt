@@ -1,0 +1,24 @@
+-- `requests::shares` meets its contract: of either body. Assumes nothing.
+use mathlib.Core.Path.{sym, ap}
+use borrow.Author.Needs.{needs}
+use Rattle.elements.specs.declared.Body.{Body}
+use Rattle.requests.specs.Shares.{sharingOf, sharing}
+use Rattle.requests.proofs.shares.Statement.{statement}
+use Rattle.requests.proofs.shares.Tie as tie
+
+enum-told : tie.Need-enum-told
+enum-told c = search needs
+
+enum-told-2 : tie.Need-enum-told-2
+enum-told-2 c = search needs
+
+returns : tie.Need-returns
+unfolding sharing
+returns c = sym (ap (λ (b : Body). sharingOf b (c .before .before .args .o .share)) (c .enum-told .given .1))
+
+returns-2 : tie.Need-returns-2
+unfolding sharing
+returns-2 c = sym (ap (λ (b : Body). sharingOf b (c .before .before .args .o .share)) (c .enum-told2 .given .1))
+
+pub shares-spec : {M : Type 1} → statement M
+shares-spec = tie.close (tie.spec enum-told enum-told-2 returns returns-2)

@@ -1,0 +1,106 @@
+// The shadow of what the Moon hides, the Sun or a star: its phases, their states at a second, and the direction of its axis.
+use super::PhaseStates;
+use elements::Body;
+use phases::Phase;
+ghost use mathlib.Core.Path.{_≡_};
+ghost use Prim.Native.Nat.{_≤_, _<_};
+ghost use lib.IntN.{natAbs};
+ghost use lib.ListN.{length, getD};
+ghost use Rattle.phases.specs.declared.Phase.the-variants.{Penumbra};
+ghost use Rattle.sine.specs.Table.{Sines};
+ghost use Rattle.elements.specs.declared.Body.the-variants as B;
+ghost use Rattle.elements.specs.Sizes.{AxisSizes, ElementSizes};
+ghost use Rattle.elements.specs.StarLaws.{StarSizes, BodySizes};
+ghost use Rattle.station.specs.Sizes.{PlaceSizes};
+ghost use Rattle.geometry.specs.Shadow.{phasesOf};
+ghost use Rattle.shadow.specs.Second.{ArePhaseStates, directionAt};
+
+// How many phases the shadow has.
+pub fn phase_count(body: Body) -> usize
+    ensures { λ r. ⌜ r ≡ length (phasesOf body) ⌝ }
+{
+    match body {
+        Body::Sun(_) => 2,
+        Body::Star(_) => 1,
+    }
+}
+
+// The k-th of them, from 0, in the order of a sheet.
+pub fn nth_phase(body: Body, k: usize) -> Phase
+    requires { ⌜ k < length (phasesOf body) ⌝ }
+    ensures { λ r. ⌜ r ≡ getD (phasesOf body) k Penumbra ⌝ }
+{
+    match body {
+        Body::Sun(_) => phases::eclipse_phase(k),
+        Body::Star(_) => Phase::Star,
+    }
+}
+
+// The states of a second of an eclipse and its M, with no direction and no magnitude.
+fn eclipse_states(
+    table: &[u32],
+    e: elements::Elements,
+    place: station::Place,
+    t: i64,
+    guard: i64,
+) -> PhaseStates
+    requires { ⌜ (Sines (now table)) × (ElementSizes e) × (PlaceSizes place) × (natAbs t ≤ 10800) × (natAbs guard ≤ 1000) ⌝ }
+    ensures { λ r. ⌜ ArePhaseStates guard (B.Sun e) place t r ⌝ }
+{
+    let s = super::shadow_at(table, e, place, t);
+    let w = super::states_of(guard, s);
+    PhaseStates {
+        first: w.penumbra,
+        second: w.central,
+        m: w.m,
+    }
+}
+
+// The state of a second of a star and its M.
+fn star_states(
+    table: &[u32],
+    s: elements::Star,
+    place: station::Place,
+    t: i64,
+    guard: i64,
+) -> PhaseStates
+    requires { ⌜ (Sines (now table)) × (StarSizes s) × (PlaceSizes place) × (natAbs t ≤ 10800) × (natAbs guard ≤ 1000) ⌝ }
+    ensures { λ r. ⌜ ArePhaseStates guard (B.Star s) place t r ⌝ }
+{
+    let axis = elements::stars::axis(s);
+    let o = super::offset_at(table, axis, place, t);
+    let radius = s.radius;
+    let m = o.m;
+    let first = super::state(guard, radius, m);
+    PhaseStates {
+        first,
+        second: 0,
+        m,
+    }
+}
+
+// The states of a second and its M: what a loop over seconds asks.
+pub fn states_at(
+    table: &[u32],
+    body: Body,
+    place: station::Place,
+    t: i64,
+    guard: i64,
+) -> PhaseStates
+    requires { ⌜ (Sines (now table)) × (BodySizes body) × (PlaceSizes place) × (natAbs t ≤ 10800) × (natAbs guard ≤ 1000) ⌝ }
+    ensures { λ r. ⌜ ArePhaseStates guard body place t r ⌝ }
+{
+    match body {
+        Body::Sun(e) => eclipse_states(table, e, place, t, guard),
+        Body::Star(s) => star_states(table, s, place, t, guard),
+    }
+}
+
+// The direction of the axis from the station at a second.
+pub fn direction_at(table: &[u32], axis: elements::Axis, place: station::Place, t: i64) -> u16
+    requires { ⌜ (Sines (now table)) × (AxisSizes 90000000 axis) × (PlaceSizes place) × (natAbs t ≤ 10800) ⌝ }
+    ensures { λ r. ⌜ r ≡ directionAt axis place t ⌝ }
+{
+    let o = super::offset_at(table, axis, place, t);
+    super::directions::direction(table, o.u, o.v)
+}
