@@ -22,8 +22,10 @@
  *    7  a field breaks a reader's rule               first byte of that record
  *    8  order broken                                 first byte of that record
  *    9  bytes after the end record                   first of them
- *   10  request, fit or tables not of their shape    0
+ *   10  request, fit, tables or doubles not of       0
+ *       their shape
  *   11  a row of the tables outside its distances    first such row, 0 to 6
+ *   12  a double that is not finite                  first such field, 0 to 21, 22 for the longitude
  *   13  the radius of a star request outside its     0
  *       range
  *   17  a fit differs from the tabulated value by    first such hour, 0 to 6 for -3 to 3
@@ -226,6 +228,28 @@ uint64_t ukhtvaresh_root(uint64_t n, uint64_t *rounds);
  * Refusal: 4, where a room is short, the room of `sheets` first; *kept is the length needed, and *noted is 0. */
 uint64_t ukhtvaresh_mend(const uint8_t *file, size_t file_len, uint8_t *sheets, size_t sheets_len, uint8_t *dropped,
                          size_t dropped_len, uint64_t *kept, uint64_t *noted);
+
+/* How many doubles the elements are, how many with the longitude, and how many whole numbers the rest of a survey is. */
+#define UKHTVARESH_ELEMENTS_LENGTH 22
+#define UKHTVARESH_DOUBLES_LENGTH 23
+#define UKHTVARESH_REST_LENGTH 7
+
+/* The contact sheet of a survey, at the start of `sheet`: the elements as 22 doubles in the order of a request, lengths in Earth radii, angles in
+ * degrees, tangents as they are; the longitude, east positive, in degrees where `hours` is 0, in hours of time, 15 degrees each, where it is
+ * 1; and in whole numbers, 7 of them, the rest: the station's number, latitude, height and delta T, first and last second, guard, as in a
+ * request. A double is read as the binary fraction that it exactly is, to the nearest whole unit, halves away from zero; then the sheet is
+ * that of the request in whole units. *value: its length in bytes. Lengths count numbers.
+ * Refusals, the first of them: 10 for other lengths, or another `hours` than 0 and 1; 1; 12; 2; 3 (a unit too large for 64 bits is outside its
+ * range); 4 with place 901 where sines_len is below that; 4. */
+uint64_t ukhtvaresh_sheet_of_doubles(const double *elements, size_t elements_len, double longitude, uint64_t hours,
+                                     const int64_t *rest, size_t rest_len, uint32_t *sines, size_t sines_len,
+                                     uint8_t *sheet, size_t sheet_len, uint64_t *value);
+
+/* The other way: 23 whole units, the elements and a longitude, as doubles at the start of `doubles`, the longitude in degrees, each by one
+ * division by 10^8 or, of angles, by 1,000,000. Read as above each gives its unit back, for every unit in its range. *value: 23.
+ * Refusals: 10 for another length than 23; 2 with the first element outside its range; 3 with place 2 for the longitude; 4 with place 23 where
+ * doubles_len is below that. Lengths count numbers. */
+uint64_t ukhtvaresh_doubles(const int64_t *units, size_t units_len, double *doubles, size_t doubles_len, uint64_t *value);
 
 #ifdef __cplusplus
 }

@@ -5,8 +5,8 @@ From the elements of an eclipse, a station, a window of seconds and a guard, `sh
 radius; `read` takes a sheet apart, `write` puts entries together as one, `listing` gives a sheet as text, `second` the shadow at one
 second and `share` the share at it. `mirror` gives the request beyond the equator, `fit` judges coefficients that a spreadsheet made
 of seven hourly values, `from_tables` makes elements from tables of Sun and Moon, `root` gives a square root with its rounds, `mend`
-takes the damaged parts out of a file of sheets. Each is a thin call of the proved function of the same name in libukhtvaresh.so,
-which the script `build` makes.
+takes the damaged parts out of a file of sheets, `sheet_of_doubles` makes the sheet of positions that come as doubles, `doubles` makes
+doubles of whole units. Each is a thin call of the proved function of the same name in libukhtvaresh.so, which the script `build` makes.
 
 Lengths are in 10^-8 of the Earth's equatorial radius, angles in 10^-6 degree, times in whole seconds of
 ephemeris time from the reference instant. East longitude is positive. "Document 01" is the paper whose rules the library keeps.
@@ -39,6 +39,7 @@ _WORDS = {
     9: "bytes after the end record",
     10: "request not of its shape",
     11: "a row of the tables outside its distances",
+    12: "a double that is not finite",
     13: "the radius of a star request outside its range",
     17: "a fit further from a tabulated value than the tolerance",
     18: "a tolerance or a tabulated value outside its range",
@@ -50,7 +51,7 @@ class Refused(Exception):
     """Why a request, a sheet, a list of entries or a fit is refused: number and place of document 01's table, and words.
 
     place: 1 is 0 for the window, 1 for the guard; 2, 3 the first such field; 4 the length needed; 5 to 9 the record's first
-    byte; 11 the row; 17 the first such hour, 0 to 6; 18 is 0 for the tolerance, 1 to 7 for the first such tabulated value;
+    byte; 11 the row; 12 the first such field, 22 for the longitude; 17 the first such hour, 0 to 6; 18 is 0 for the tolerance, 1 to 7 for the first such tabulated value;
     else 0.
     """
 
@@ -402,7 +403,10 @@ def _load() -> ctypes.CDLL:
     library.ukhtvaresh_from_tables.argtypes = [room, length, room, length, value]
     library.ukhtvaresh_root.argtypes = [ctypes.c_uint64, value]
     library.ukhtvaresh_mend.argtypes = [data, length, room, length, room, length, value, value]
-    names = "sheet sheet_and_share star second share mirror read write listing fit from_tables root mend"
+    survey = [room, length, ctypes.c_double, ctypes.c_uint64, room, length]
+    library.ukhtvaresh_sheet_of_doubles.argtypes = survey + [room, length, room, length, value]
+    library.ukhtvaresh_doubles.argtypes = [room, length, room, length, value]
+    names = "sheet sheet_and_share star second share mirror read write listing fit from_tables root mend sheet_of_doubles doubles"
     for name in names.split():
         getattr(library, "ukhtvaresh_" + name).restype = ctypes.c_uint64
     return library
@@ -705,3 +709,86 @@ def mend(file: bytes) -> Mended:
     sheets, dropped = bytearray(len(file)), bytearray(len(file) + 16)
     kept, noted = mend_into(file, sheets, dropped)
     return Mended(bytes(sheets[:kept]), [Stretch(*numbers) for numbers in struct.iter_unpack(">QQ", dropped[:noted])])
+
+
+# ---- positions as doubles
+
+
+@dataclass(frozen=True)
+class Degrees:
+    """A longitude in degrees, east positive."""
+
+    value: float
+
+
+@dataclass(frozen=True)
+class Hours:
+    """A longitude in hours of time, 15 degrees each, east positive."""
+
+    value: float
+
+
+Longitude = Union[Degrees, Hours]
+
+
+@dataclass(frozen=True)
+class Survey:
+    """What a sheet is asked for, as it was surveyed.
+
+    elements: 22 floats, also a numpy array of them, in the order of Elements; lengths in Earth radii, angles in degrees,
+    tangents as they are. A float is read as the binary fraction that it exactly is, to the nearest whole unit, halves away from
+    zero. The rest is in whole numbers, as in Station and Request.
+    """
+
+    elements: Sequence[float]
+    longitude: Longitude
+    number: int
+    latitude: int
+    height: int
+    delta_t: int
+    window: Window
+    guard: int = LEAST_GUARD
+
+
+def sheet_of_doubles_into(survey: Survey, buffer) -> int:
+    """Puts the contact sheet of a survey at the start of a writable buffer; gives its length: the sheet of the request in whole units.
+
+    The bytes past the sheet, and on refusal all bytes, keep what they held. Refusals, the first of them: 10 for another count
+    than 22; 1; 12 with the first float that is not finite; 2, 3 (a unit too large for 64 bits is outside its range); 4.
+    """
+    elements = [float(element) for element in survey.elements]
+    handed = (ctypes.c_double * (len(elements) + 1))(*elements)
+    hours = 1 if isinstance(survey.longitude, Hours) else 0
+    numbers = [survey.number, survey.latitude, survey.height, survey.delta_t, *astuple(survey.window), survey.guard]
+    rest = (ctypes.c_int64 * 7)(*(_signed(int(number)) for number in numbers))
+    marked = (float(survey.longitude.value), hours)
+    return _call("sheet_of_doubles", handed, len(elements), *marked, rest, 7, *_sines(), *_lent(buffer))
+
+
+def sheet_of_doubles(survey: Survey) -> bytes:
+    """The contact sheet of a survey. Refusals as sheet_of_doubles_into, but 4."""
+    return _whole(lambda buffer: sheet_of_doubles_into(survey, buffer))
+
+
+def doubles_into(units: Iterable[int], room) -> int:
+    """Puts 23 units, the elements and a longitude, as doubles at the start of `room`; gives 23. The longitude is in degrees.
+
+    `room` is a writable buffer of doubles: a numpy array of float64, an array.array("d"), a ctypes array of c_double. What lies past
+    the 23, and on refusal all of it, keeps what it held. Each double is one division by 10^8 or, of angles, by 1,000,000; read again
+    it gives its unit back, for every unit in its range. Refusals: 10 for another count than 23; 2; 3 with 2 for the longitude;
+    then 4 with 23.
+    """
+    view = memoryview(room)
+    if view.format.lstrip("<=@") != "d" or not view.c_contiguous:
+        raise TypeError("a room of doubles that follow each other")
+    numbers = [_signed(int(unit)) for unit in units]
+    handed = (ctypes.c_int64 * (len(numbers) + 1))(*numbers)
+    memory, length = _lent(view)
+    return _call("doubles", handed, len(numbers), memory, length // 8)
+
+
+def doubles(elements: Union[Elements, Iterable[int]], longitude: int) -> Tuple[List[float], Degrees]:
+    """Elements and a longitude in whole units as floats. Refusals: 10 for another count than 22; 2; 3 with 2 for the longitude."""
+    room = (ctypes.c_double * 23)()
+    doubles_into([*(astuple(elements) if isinstance(elements, Elements) else elements), longitude], room)
+    return list(room[:22]), Degrees(room[22])

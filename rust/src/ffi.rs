@@ -107,6 +107,26 @@ extern "C" {
         kept: *mut u64,
         noted: *mut u64,
     ) -> u64;
+    fn ukhtvaresh_sheet_of_doubles(
+        elements: *const f64,
+        elements_len: usize,
+        longitude: f64,
+        hours: u64,
+        rest: *const i64,
+        rest_len: usize,
+        sines: *mut u32,
+        sines_len: usize,
+        sheet: *mut u8,
+        sheet_len: usize,
+        value: *mut u64,
+    ) -> u64;
+    fn ukhtvaresh_doubles(
+        units: *const i64,
+        units_len: usize,
+        doubles: *mut f64,
+        doubles_len: usize,
+        value: *mut u64,
+    ) -> u64;
 }
 
 // The answer of a call: the length, the count or the share, or the refusal.
@@ -267,4 +287,40 @@ pub fn mend(file: &[u8], sheets: &mut [u8], dropped: &mut [u8]) -> Result<(usize
         )
     };
     answer(number, kept).map(|kept| (kept, noted as usize))
+}
+
+pub fn sheet_of_doubles(
+    elements: &[f64],
+    longitude: f64,
+    hours: u64,
+    rest: &[i64],
+    sheet: &mut [u8],
+) -> Result<usize, Refusal> {
+    let mut value = 0;
+    // SAFETY: as in `sheet`; the lengths of `elements`, `rest` and `sines` count numbers, as the library does.
+    let number = SINES.with_borrow_mut(|sines| unsafe {
+        ukhtvaresh_sheet_of_doubles(
+            elements.as_ptr(),
+            elements.len(),
+            longitude,
+            hours,
+            rest.as_ptr(),
+            rest.len(),
+            sines.as_mut_ptr(),
+            sines.len(),
+            sheet.as_mut_ptr(),
+            sheet.len(),
+            &mut value,
+        )
+    });
+    answer(number, value)
+}
+
+pub fn doubles(units: &[i64], doubles: &mut [f64]) -> Result<usize, Refusal> {
+    let mut value = 0;
+    // SAFETY: as in `sheet`; both lengths count numbers, as the library does.
+    let number = unsafe {
+        ukhtvaresh_doubles(units.as_ptr(), units.len(), doubles.as_mut_ptr(), doubles.len(), &mut value)
+    };
+    answer(number, value)
 }

@@ -5,8 +5,8 @@
 //! Moon's radius; [`read`] takes a sheet apart, [`write()`] puts entries together as one, [`listing`] gives a sheet as text, [`second`]
 //! the shadow at one second and [`share`] the share at it, [`mirror`] the request beyond the equator; [`fit`] judges coefficients that a
 //! spreadsheet made, [`from_tables`] makes elements from tables of Sun and Moon, [`root`] gives a square root with its rounds,
-//! [`mend()`] takes the damaged parts out of a file of sheets. Each is a thin call of the proved function of the same name in
-//! `libukhtvaresh.a`.
+//! [`mend()`] takes the damaged parts out of a file of sheets, [`sheet_of_doubles`] makes the sheet of positions that come as doubles,
+//! [`doubles()`] makes doubles of whole units. Each is a thin call of the proved function of the same name in `libukhtvaresh.a`.
 //!
 //! Lengths are in 10^-8 of the Earth's equatorial radius, angles in 10^-6 degree, times in whole seconds of
 //! ephemeris time from the reference instant. East longitude is positive. "Document 01" is the paper whose rules the library keeps.
@@ -43,6 +43,7 @@
 #![deny(unsafe_code)]
 #![warn(missing_docs)]
 
+mod doubles;
 mod entry;
 #[allow(unsafe_code)]
 mod ffi;
@@ -52,6 +53,7 @@ mod request;
 mod star;
 mod tables;
 
+pub use doubles::{doubles, doubles_into, sheet_of_doubles, sheet_of_doubles_vec, Longitude, Survey};
 pub use entry::{Entry, Phase};
 pub use mend::{mend, mend_into, Mended, Stretch};
 pub use refusal::Refusal;

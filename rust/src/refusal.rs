@@ -3,7 +3,7 @@ use std::fmt;
 
 /// Why a request, a sheet, a list of entries or a fit is refused.
 ///
-/// [`number`](Refusal::number) and [`place`](Refusal::place) are those of document 01's table of refusals; 11, 13, 17 and 18
+/// [`number`](Refusal::number) and [`place`](Refusal::place) are those of document 01's table of refusals; 11, 12, 13, 17 and 18
 /// are document 02's.
 #[derive(Clone, Copy, Debug, PartialEq, Eq, Hash)]
 pub enum Refusal {
@@ -59,6 +59,11 @@ pub enum Refusal {
         /// The first such row, 0 to 6.
         row: u64,
     },
+    /// 12: a double is not finite (document 02).
+    NotFinite {
+        /// The first such field, 0 to 21 in the order of [`Elements`](crate::Elements), 22 for the longitude.
+        field: u64,
+    },
     /// 13: the radius of a star request is outside its range (place 0; document 02).
     Radius,
     /// 17: a fit's value differs from the tabulated one by more than the tolerance.
@@ -74,7 +79,7 @@ pub enum Refusal {
 }
 
 impl Refusal {
-    /// The refusal's number, 1 to 11, 13, 17 or 18.
+    /// The refusal's number, 1 to 13, 17 or 18.
     pub fn number(self) -> u64 {
         match self {
             Refusal::Window | Refusal::Guard => 1,
@@ -88,6 +93,7 @@ impl Refusal {
             Refusal::After { .. } => 9,
             Refusal::Shape => 10,
             Refusal::Row { .. } => 11,
+            Refusal::NotFinite { .. } => 12,
             Refusal::Radius => 13,
             Refusal::Hour { .. } => 17,
             Refusal::Given { .. } => 18,
@@ -100,7 +106,7 @@ impl Refusal {
         match self {
             Refusal::Window | Refusal::Shape | Refusal::Radius => 0,
             Refusal::Guard => 1,
-            Refusal::Element { field } | Refusal::Station { field } => field,
+            Refusal::Element { field } | Refusal::Station { field } | Refusal::NotFinite { field } => field,
             Refusal::Room { needed } => needed,
             Refusal::Row { row } => row,
             Refusal::Hour { hour } => hour,
@@ -128,6 +134,7 @@ impl Refusal {
             9 => Refusal::After { at: place },
             10 => Refusal::Shape,
             11 => Refusal::Row { row: place },
+            12 => Refusal::NotFinite { field: place },
             13 => Refusal::Radius,
             17 => Refusal::Hour { hour: place },
             18 => Refusal::Given { place },
@@ -152,6 +159,7 @@ impl fmt::Display for Refusal {
             Refusal::Shape => "request not of its shape",
             Refusal::Row { .. } => "a row of the tables outside its distances",
             Refusal::Radius => "the radius of a star request outside its range",
+            Refusal::NotFinite { .. } => "a double that is not finite",
             Refusal::Hour { .. } => "a fit further from a tabulated value than the tolerance",
             Refusal::Given { .. } => "a tolerance or a tabulated value outside its range",
         };

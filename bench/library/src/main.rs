@@ -1,6 +1,7 @@
 //! `bench ROUNDS`: the compiled library and document 01 in plain Rust, timed in turns in one process; the best of all rounds of each.
 
 use agreement::library;
+use reference::doubles;
 use reference::elements::Window;
 use reference::listing::{sheet_of_input, star_of_input};
 use reference::random::Random;
@@ -271,6 +272,45 @@ fn files(rounds: usize, sheet: &[u8]) {
     }
 }
 
+/// Positions as doubles: 23 doubles that no sheet follows, since a station value is out of its range; and 23 units as doubles.
+fn positions(rounds: usize) {
+    let request = sample::kiev_1954();
+    let mut units = request.elements.fields().to_vec();
+    units.push(request.station.longitude);
+    let (mut a, mut b) = ([0.0; 23], [0.0; 23]);
+    let (ours, theirs) = best(
+        rounds,
+        2_000,
+        || _ = black_box(library::doubles(black_box(&units), &mut a)),
+        || _ = black_box(doubles::doubles(black_box(&units), &mut b)),
+    );
+    assert_eq!(a, b);
+    let line = |what: &str, ours: f64, theirs: f64| {
+        println!(
+            "{what}: library {:6.0} ns, reference {:6.0} ns, ratio {:.2}",
+            ours * 1e9,
+            theirs * 1e9,
+            ours / theirs
+        )
+    };
+    line("doubles, 23 units", ours, theirs);
+    let rest = [1_000, 0, 0, 0, 0, 0, 16];
+    let (mut sines, mut other) = ([0; 901], [0; 901]);
+    let (ours, theirs) = best(
+        rounds,
+        2_000,
+        || {
+            let reply = library::sheet_of_doubles(black_box(&a[..22]), a[22], 0, &rest, &mut sines, &mut []);
+            assert_eq!(black_box(reply), (3, 0))
+        },
+        || {
+            let answer = doubles::sheet(black_box(&b[..22]), b[22], 0, &rest, &mut other, &mut []);
+            assert_eq!(black_box(answer).map_err(|refusal| refusal.number()), Err(3))
+        },
+    );
+    line("23 doubles read", ours, theirs);
+}
+
 fn main() {
     let rounds = std::env::args().nth(1).map_or(100, |n| n.parse().expect("a number of rounds"));
     sheets(rounds);
@@ -289,4 +329,5 @@ fn main() {
     records(rounds, "drawn", &drawn_list(3_000), 20);
     roots(rounds);
     files(rounds, &hand);
+    positions(rounds);
 }

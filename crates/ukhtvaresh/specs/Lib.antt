@@ -8,3 +8,4 @@ pub mod Listing
 pub mod Fits
 pub mod TablesReply
 pub mod MendReply
+pub mod Positions

@@ -100,6 +100,26 @@ extern "C" {
         kept: *mut u64,
         noted: *mut u64,
     ) -> u64;
+    fn ukhtvaresh_sheet_of_doubles(
+        elements: *const f64,
+        elements_len: usize,
+        longitude: f64,
+        hours: u64,
+        rest: *const i64,
+        rest_len: usize,
+        sines: *mut u32,
+        sines_len: usize,
+        sheet: *mut u8,
+        sheet_len: usize,
+        value: *mut u64,
+    ) -> u64;
+    fn ukhtvaresh_doubles(
+        units: *const i64,
+        units_len: usize,
+        doubles: *mut f64,
+        doubles_len: usize,
+        value: *mut u64,
+    ) -> u64;
 }
 
 /// The number of the refusal, 0 for none; the length, the count or the place.
@@ -244,4 +264,39 @@ pub fn mend(file: &[u8], sheets: &mut [u8], dropped: &mut [u8]) -> MendReply {
         )
     };
     (number, kept, noted)
+}
+
+pub fn sheet_of_doubles(
+    elements: &[f64],
+    longitude: f64,
+    hours: u64,
+    rest: &[i64],
+    sines: &mut [u32],
+    sheet: &mut [u8],
+) -> Reply {
+    let mut value = UNSET;
+    let number = unsafe {
+        ukhtvaresh_sheet_of_doubles(
+            elements.as_ptr(),
+            elements.len(),
+            longitude,
+            hours,
+            rest.as_ptr(),
+            rest.len(),
+            sines.as_mut_ptr(),
+            sines.len(),
+            sheet.as_mut_ptr(),
+            sheet.len(),
+            &mut value,
+        )
+    };
+    (number, value)
+}
+
+pub fn doubles(units: &[i64], doubles: &mut [f64]) -> Reply {
+    let mut value = UNSET;
+    let number = unsafe {
+        ukhtvaresh_doubles(units.as_ptr(), units.len(), doubles.as_mut_ptr(), doubles.len(), &mut value)
+    };
+    (number, value)
 }

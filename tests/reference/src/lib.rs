@@ -6,6 +6,7 @@
 
 pub mod axis;
 pub mod course;
+pub mod doubles;
 pub mod elements;
 pub mod entries;
 pub mod exact;

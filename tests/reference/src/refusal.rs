@@ -29,6 +29,8 @@ pub enum Refusal {
     Shape,
     /// 11: a row of the tables of Sun and Moon is outside its distances; the first such row, 0..6.
     Row(usize),
+    /// 12: a double is not finite; the first such field, 0..22.
+    NotFinite(usize),
     /// 13: the radius of a star request is outside its range (0).
     Radius,
     /// 17: a fit differs from the tabulated value by more than the tolerance; the first such hour, 0..6.
@@ -51,6 +53,7 @@ impl Refusal {
             Refusal::After(_) => 9,
             Refusal::Shape => 10,
             Refusal::Row(_) => 11,
+            Refusal::NotFinite(_) => 12,
             Refusal::Radius => 13,
             Refusal::Hour(_) => 17,
             Refusal::Given(_) => 18,
@@ -70,6 +73,7 @@ impl Refusal {
             | Refusal::Order(place)
             | Refusal::After(place)
             | Refusal::Row(place)
+            | Refusal::NotFinite(place)
             | Refusal::Hour(place)
             | Refusal::Given(place) => place,
         }

@@ -1,0 +1,40 @@
+-- `doubles::read_longitude` meets its contract: each mark with its own scale. Assumes nothing.
+use mathlib.Core.Path.{_∙_, sym, ap}
+use borrow.Author.Needs.{needs}
+use Rattle.doubles.specs.declared.Longitude.{Longitude}
+use Rattle.doubles.specs.Doubles.{doubleIn, longitudeScale, readingOf}
+use Rattle.doubles.proofs.read_longitude.Statement.{statement}
+use Rattle.doubles.proofs.read_longitude.Tie as tie
+
+enum-known-longitude : tie.Need-enum-known-longitude
+enum-known-longitude c = search needs
+
+read-requires : tie.Need-read-requires
+read-requires c κs = search needs
+
+enum-known-longitude-2 : tie.Need-enum-known-longitude-2
+enum-known-longitude-2 c = search needs
+
+mul-read : tie.Need-mul-read
+mul-read c = search needs
+
+read-requires-2 : tie.Need-read-requires-2
+read-requires-2 c κs = search needs
+
+returns : tie.Need-returns
+returns c = c .read .ensures ∙ sym (ap (λ (l : Longitude). readingOf (longitudeScale l) (doubleIn l)) (c .before .before .longitude .given .1))
+
+returns-2 : tie.Need-returns-2
+returns-2 c = c .read2 .ensures ∙ sym (ap (λ (l : Longitude). readingOf (longitudeScale l) (doubleIn l)) (c .before .before .longitude2 .given .1))
+
+pub read-longitude-spec : {M : Type 1} → statement M
+read-longitude-spec =
+    tie.close
+    (tie.spec
+    enum-known-longitude
+    read-requires
+    enum-known-longitude-2
+    mul-read
+    read-requires-2
+    returns
+    returns-2)

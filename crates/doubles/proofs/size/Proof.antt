@@ -1,0 +1,35 @@
+-- `doubles::size` meets its contract: by the exponent field a double is its digits over a power of two, or too large (Field). Assumes nothing.
+use mathlib.Core.Path.{_∙_, ap}
+use Prim.Native.Nat.{ℕ, _^_, min}
+use borrow.Author.Needs.{needs}
+use Rattle.doubles.proofs.Field.{field-zero, field-usual, field-large}
+use Rattle.doubles.proofs.size.Statement.{statement}
+use Rattle.doubles.proofs.size.Tie as tie
+
+scaled-requires : tie.Need-scaled-requires
+scaled-requires c κs = search needs
+
+add-scaled : tie.Need-add-scaled
+add-scaled c = search needs
+
+scaled-requires-2 : tie.Need-scaled-requires-2
+scaled-requires-2 c κs = search needs
+
+returns : tie.Need-returns
+returns c =
+    let a = c .before .before .args in
+    c .scaled .ensures ∙ ap (λ (n : ℕ). min n (2 ^ 63)) (field-zero (a .scale) (a .digits) (a .field) (c .before .if1 .taken))
+
+returns-2 : tie.Need-returns-2
+returns-2 c =
+    let a = c .before .before .before .args in
+    c .scaled2 .ensures
+    ∙ ap (λ (n : ℕ). min n (2 ^ 63)) (field-usual (a .scale) (a .digits) (a .field) (c .before .before .if1 .left) (c .before .if2 .taken))
+
+returns-3 : tie.Need-returns-3
+returns-3 c =
+    let a = c .before .before .args in
+    field-large (a .scale) (a .digits) (a .field) (c .if2 .left) (c .before .before .pre .1)
+
+pub size-spec : {M : Type 1} → statement M
+size-spec = tie.close (tie.spec scaled-requires add-scaled scaled-requires-2 returns returns-2 returns-3)

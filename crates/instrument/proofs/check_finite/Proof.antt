@@ -1,0 +1,78 @@
+-- `instrument::check_finite` meets its contract: the elements, then the longitude. Assumes nothing.
+use mathlib.Core.Path.{_≡_, sym, ap, _∙_}
+use mathlib.Core.List.{List}
+use borrow.Author.Needs.{needs}
+use borrow.Author.Tests.{not-true, not-false}
+use lib.Ieee.{Float}
+use lib.Ieee.Scale.{finite}
+use Rattle.refusals.specs.declared.Checked.the-variants as C
+use Rattle.doubles.specs.Doubles.{doubleIn}
+use Rattle.instrument.specs.Instrument.{fields, firstNotFinite}
+use Rattle.instrument.specs.SearchLaws.{finite-element, finite-longitude, finite-all}
+use Rattle.instrument.proofs.check_finite.Statement.{statement}
+use Rattle.instrument.proofs.check_finite.Tie as tie
+
+-- what the search found, of the doubles of the struct
+found : (c : tie.After-first-not-finite) → firstNotFinite 0 (fields (c .before .before .before .args .d)) ≡ c .first-not-finite .result
+found c = sym (c .first-not-finite .ensures ∙ ap (λ (xs : List Float). firstNotFinite 0 xs) (c .before .before .listed .ensures))
+
+-- that of the longitude
+known : (c : tie.After-is-finite) → c .is-finite .result ≡ finite (doubleIn (c .before .before .before .before .before .before .before .args .longitude))
+known c = c .is-finite .ensures ∙ ap finite (c .before .double-in .ensures)
+
+none : (c : tie.After-enum-told) → firstNotFinite 0 (fields (c .before .before .before .before .before .args .d)) ≡ C.Within
+none c = found (c .before .before) ∙ c .enum-told .given .1
+
+listed-requires : tie.Need-listed-requires
+listed-requires c κs = search needs
+
+slice-aggregate-first-not-finite : tie.Need-slice-aggregate-first-not-finite
+slice-aggregate-first-not-finite c = search needs
+
+first-not-finite-requires : tie.Need-first-not-finite-requires
+first-not-finite-requires c κs = search needs
+
+enum-known-c : tie.Need-enum-known-c
+enum-known-c c = search needs
+
+returns : tie.Need-returns
+returns c =
+    let f = c .before .before .before in
+    let t = f .before .before .before in
+    sym (finite-element (t .args .d) (t .args .longitude) _ (found f ∙ c .before .c .given .1))
+
+enum-told : tie.Need-enum-told
+enum-told c = search needs
+
+double-in-requires : tie.Need-double-in-requires
+double-in-requires c κs = search needs
+
+is-finite-requires : tie.Need-is-finite-requires
+is-finite-requires c κs = search needs
+
+returns-2 : tie.Need-returns-2
+returns-2 c =
+    let w = c .before .before .before in
+    let t = w .before .before .before .before .before in
+    sym (finite-longitude (t .args .d) (t .args .longitude) (none w) (sym (known (c .before)) ∙ not-true (c .before .is-finite .result) (c .if1 .taken)))
+
+returns-3 : tie.Need-returns-3
+returns-3 c =
+    let w = c .before .before .before in
+    let t = w .before .before .before .before .before in
+    sym (finite-all (t .args .d) (t .args .longitude) (none w) (sym (known (c .before)) ∙ not-false (c .before .is-finite .result) (c .if1 .left)))
+
+pub check-finite-spec : {M : Type 1} → statement M
+check-finite-spec =
+    tie.close
+    (tie.spec
+    listed-requires
+    slice-aggregate-first-not-finite
+    first-not-finite-requires
+    enum-known-c
+    returns
+    enum-told
+    double-in-requires
+    is-finite-requires
+    returns-2
+    returns-3)

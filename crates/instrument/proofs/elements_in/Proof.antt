@@ -1,0 +1,44 @@
+-- `instrument::elements_in` meets its contract: the elements of the 22 units. Assumes nothing.
+use mathlib.Core.Path.{ap, _∙_}
+use mathlib.Core.List.{List, map}
+use borrow.Author.Needs.{needs}
+use lib.Ieee.{Float}
+use Rattle.elements.specs.Elements.{elementsOf}
+use Rattle.doubles.specs.Doubles.{held}
+use Rattle.instrument.specs.Instrument.{scales, unitsIn, elementsIn}
+use Rattle.instrument.specs.HeldElements.{heldElements}
+use Rattle.instrument.proofs.elements_in.Statement.{statement}
+use Rattle.instrument.proofs.elements_in.Tie as tie
+
+listed-requires : tie.Need-listed-requires
+listed-requires c κs = search needs
+
+slice-aggregate-units-in : tie.Need-slice-aggregate-units-in
+slice-aggregate-units-in c = search needs
+
+units-in-requires : tie.Need-units-in-requires
+units-in-requires c κs = search needs
+
+slice-aggregate-from-numbers : tie.Need-slice-aggregate-from-numbers
+slice-aggregate-from-numbers c = search needs
+
+from-numbers-requires : tie.Need-from-numbers-requires
+from-numbers-requires c κs = search needs
+
+returns : tie.Need-returns
+unfolding heldElements elementsIn elementsOf
+returns c =
+    let units = c .before .before in
+    c .from-numbers .ensures
+    ∙ ap elementsOf (units .units-in .ensures ∙ ap (λ (xs : List Float). map held (unitsIn scales xs)) (units .before .before .listed .ensures))
+
+pub elements-in-spec : {M : Type 1} → statement M
+elements-in-spec =
+    tie.close
+    (tie.spec
+    listed-requires
+    slice-aggregate-units-in
+    units-in-requires
+    slice-aggregate-from-numbers
+    from-numbers-requires
+    returns)

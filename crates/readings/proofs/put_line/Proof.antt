@@ -1,0 +1,56 @@
+-- `readings::put_line` meets its contract: three readings, one after the other. Assumes nothing.
+use mathlib.Core.Path.{ap}
+use native.Mathlib.Omega.{arith}
+use borrow.Author.Needs.{needs}
+use Rattle.decimals.specs.RowLaws.{joined, put-as}
+use Rattle.doubles.specs.declared.Reading.{Reading}
+use Rattle.readings.specs.Printed.{field, line}
+use Rattle.readings.proofs.put_line.Statement.{statement}
+use Rattle.readings.proofs.put_line.Tie as tie
+
+read-longitude-requires : tie.Need-read-longitude-requires
+read-longitude-requires c κs = search needs
+
+read-longitude-requires-2 : tie.Need-read-longitude-requires-2
+read-longitude-requires-2 c κs = search needs
+
+read-requires : tie.Need-read-requires
+read-requires c κs = search needs
+
+put-field-requires : tie.Need-put-field-requires
+put-field-requires c κs = search needs
+
+put-field-requires-2 : tie.Need-put-field-requires-2
+put-field-requires-2 c κs = search needs
+
+put-field-requires-3 : tie.Need-put-field-requires-3
+put-field-requires-3 c κs = search needs
+
+same-length : tie.Need-same-length
+same-length c = search needs
+
+returns : tie.Need-returns
+unfolding line
+returns c =
+    let third = c .before .before in
+    let second = third .before .before .before .before in
+    let first = second .before .before .before .before in
+    let lengths = first .before .before in
+    let hours = lengths .before in
+    joined (omega arith)
+    (joined (omega arith) (put-as _ _ _ _ _ _ (ap (λ (r : Reading). field r 32) (hours .before .read-longitude .ensures)) (first .put-field .ensures))
+    (put-as _ _ _ _ _ _ (ap (λ (r : Reading). field r 32) (hours .read-longitude2 .ensures)) (second .put-field2 .ensures)))
+    (put-as _ _ _ _ _ _ (ap (λ (r : Reading). field r 10) (lengths .read .ensures)) (third .put-field3 .ensures))
+
+pub put-line-spec : {M : Type 1} → statement M
+put-line-spec =
+    tie.close
+    (tie.spec
+    read-longitude-requires
+    read-longitude-requires-2
+    read-requires
+    put-field-requires
+    put-field-requires-2
+    put-field-requires-3
+    same-length
+    returns)

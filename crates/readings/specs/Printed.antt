@@ -1,0 +1,36 @@
+-- What the program prints: a line for each double of its input. Definitions only.
+use Prim.Native.Nat.{ℕ, _+_, _*_}
+use mathlib.Core.List.{List, [], _∷_, _++_}
+use lib.Ieee.{Float, binary64, ofBits}
+use Rattle.records.specs.Numbers.{fourAt}
+use Rattle.decimals.specs.Texts.{letters}
+use Rattle.decimals.specs.Decimals.{signed}
+use Rattle.decimals.specs.Rows.{eachPart}
+use Rattle.doubles.specs.declared.Reading.{Reading}
+use Rattle.doubles.specs.declared.Reading.the-variants.{Units, TooLarge, NotFinite}
+use Rattle.doubles.specs.declared.Longitude.{Longitude}
+use Rattle.doubles.specs.declared.Longitude.the-variants.{Degrees, Hours}
+use Rattle.doubles.specs.Doubles.{longitudeScale, readingOf}
+
+-- the number of eight bytes, the highest first
+abbrev pub eightAt : List ℕ → ℕ
+eightAt s = fourAt s 0 * 4294967296 + fourAt s 4
+
+abbrev pub readingText : Reading → List ℕ
+readingText (Units z) = signed z
+readingText TooLarge = letters "large"
+readingText NotFinite = letters "none"
+
+-- with a byte after it
+abbrev pub field : Reading → ℕ → List ℕ
+field r end = readingText r ++ end ∷ []
+
+-- as degrees, as hours of time, as a length, with spaces between them and an end of line
+unfoldable pub line : Float → List ℕ
+line x = (field (readingOf (longitudeScale (Degrees x)) x) 32 ++ field (readingOf (longitudeScale (Hours x)) x) 32) ++ field (readingOf 100_000_000 x) 10
+
+unfoldable pub recordLine : List ℕ → List ℕ
+recordLine s = line (ofBits binary64 (eightAt s))
+
+unfoldable pub printed : List ℕ → List ℕ
+printed input = eachPart 8 recordLine input

@@ -1,0 +1,5 @@
+pub mod Survey
+pub mod Handed
+pub mod HeldRequest
+pub mod SurveyLaws
+pub mod HandedLaws

@@ -1,0 +1,26 @@
+-- `ukhtvaresh::positions::ukhtvaresh_doubles` meets its contract: the answer of `instrument`, as numbers. Assumes nothing.
+use mathlib.Core.Path.{ap, _∙_}
+use borrow.Author.Needs.{needs}
+use Rattle.ukhtvaresh.specs.declared.Reply.{Reply}
+use Rattle.ukhtvaresh.specs.Positions.{doublesReply}
+use Rattle.ukhtvaresh.proofs.positions.ukhtvaresh_doubles.Statement.{statement}
+use Rattle.ukhtvaresh.proofs.positions.ukhtvaresh_doubles.Tie as tie
+
+write-requires : tie.Need-write-requires
+write-requires c κs = search needs
+
+doubles-reply-requires : tie.Need-doubles-reply-requires
+doubles-reply-requires c κs = search needs
+
+same-length : tie.Need-same-length
+same-length c = search needs
+
+returns : tie.Need-returns
+returns c =
+    let done = c .before .before .before .write in
+    let e = c .doubles-reply .ensures ∙ ap doublesReply (done .ensures .0) in
+    (ap (λ (x : Reply). x .number) e, (ap (λ (x : Reply). x .value) e, done .ensures .1))
+
+pub ukhtvaresh-doubles-spec : {M : Type 1} → statement M
+ukhtvaresh-doubles-spec =
+    tie.close (tie.spec write-requires doubles-reply-requires same-length returns)

@@ -1,0 +1,30 @@
+-- `ukhtvaresh::positions::ukhtvaresh_sheet_of_doubles` meets its contract: the answer of `survey`, as numbers. Assumes nothing.
+use borrow.Author.Needs.{needs}
+use Rattle.requests.specs.Requests.{ofEclipse}
+use Rattle.survey.specs.Survey.{requestOf}
+use Rattle.survey.specs.Handed.{surveyOf}
+use Rattle.ukhtvaresh.specs.SheetLaws.{replied}
+use Rattle.ukhtvaresh.proofs.positions.ukhtvaresh_sheet_of_doubles.Statement.{statement}
+use Rattle.ukhtvaresh.proofs.positions.ukhtvaresh_sheet_of_doubles.Tie as tie
+
+sheet-requires : tie.Need-sheet-requires
+sheet-requires c κs = search needs
+
+sheet-reply-requires : tie.Need-sheet-reply-requires
+sheet-reply-requires c κs = search needs
+
+same-length : tie.Need-same-length
+same-length c = search needs
+
+same-length-2 : tie.Need-same-length-2
+same-length-2 c = search needs
+
+returns : tie.Need-returns
+returns c =
+    let made = c .before .before .before .before .before in
+    let a = made .before .before .before .before .before .before .args in
+    replied (ofEclipse (requestOf (surveyOf (a .elements .now) (a .longitude) (a .hours) (a .rest .now)))) (c .sheet-reply .ensures) (made .sheet .ensures)
+
+pub ukhtvaresh-sheet-of-doubles-spec : {M : Type 1} → statement M
+ukhtvaresh-sheet-of-doubles-spec =
+    tie.close (tie.spec sheet-requires sheet-reply-requires same-length same-length-2 returns)
