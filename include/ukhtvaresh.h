@@ -3,8 +3,8 @@
  * Lengths are in 10^-8 of the Earth's equatorial radius, angles in 10^-6 degree, times in whole seconds of
  * ephemeris time from the reference instant. East longitude is positive.
  *
- * Each function but ukhtvaresh_root answers the number of the refusal, 0 for none. *value gets the length, the count or the share on
- * success, the refusal's place otherwise. Buffers are untouched on refusal; on success what lies past the result is. The room for
+ * Each function but ukhtvaresh_root answers the number of the refusal, 0 for none. *value gets the length, the count, the share or the
+ * station on success, the refusal's place otherwise. Buffers are untouched on refusal; on success what lies past the result is. The room for
  * the sine table, `sines`, alone is filled on some refusals too: see UKHTVARESH_SINES_LENGTH.
  * No function reads or writes outside the lengths it is given, and none keeps a pointer. A length of 0 is allowed,
  * with any pointer that is not null. A buffer that is written, *value among them, must not overlap any other.
@@ -13,7 +13,8 @@
  *    1  window or guard outside its range            0 window, 1 guard
  *    2  an element outside its range, or a           first such field, 0 to 21; of a star 0 to 11; of a fit 0 to 3
  *       coefficient of a fit
- *    3  a station value outside its range            first: 0 number, 1 latitude, 2 longitude, 3 height, 4 delta T
+ *    3  a station value outside its range            first: 0 number, 1 latitude, 2 longitude, 3 height, 4 delta T;
+ *       of a network's list                          ten times the list place, counted from 0, plus that
  *    4  the buffer is too short                      the length it needs (bytes; entries for ukhtvaresh_read);
  *       of the room for the sine table               901
  *    5  kind not in the table                        first byte of that record
@@ -22,16 +23,22 @@
  *    7  a field breaks a reader's rule               first byte of that record
  *    8  order broken                                 first byte of that record
  *    9  bytes after the end record                   first of them
- *   10  request, fit, tables or doubles not of       0
- *       their shape
+ *   10  request, fit, tables, doubles or network    0
+ *       not of their shape
  *   11  a row of the tables outside its distances    first such row, 0 to 6
  *   12  a double that is not finite                  first such field, 0 to 21, 22 for the longitude
  *   13  the radius of a star request outside its     0
  *       range
+ *   14  a station number already used in the list    first such list place, counted from 0
+ *   15  a clock neither 0 nor in the list            first such list place
+ *   16  a station whose chain of clocks never        first such list place
+ *       reaches 0
  *   17  a fit differs from the tabulated value by    first such hour, 0 to 6 for -3 to 3
  *       more than the tolerance
  *   18  the tolerance or a tabulated value of a      0 for the tolerance, 1 to 7 for the first such tabulated value
  *       fit outside its range
+ *   19  the list of a network is empty or has more   0
+ *       than 64 stations
  */
 #ifndef UKHTVARESH_H
 #define UKHTVARESH_H
@@ -250,6 +257,32 @@ uint64_t ukhtvaresh_sheet_of_doubles(const double *elements, size_t elements_len
  * Refusals: 10 for another length than 23; 2 with the first element outside its range; 3 with place 2 for the longitude; 4 with place 23 where
  * doubles_len is below that. Lengths count numbers. */
 uint64_t ukhtvaresh_doubles(const int64_t *units, size_t units_len, double *doubles, size_t doubles_len, uint64_t *value);
+
+/* A station of a network's list: what a request has of it, and the number of the station whose clock it follows, 0 being the antenna.
+ * An array of these is the memory that ukhtvaresh_network takes. */
+typedef struct ukhtvaresh_node {
+    int64_t number;    /* 1 to 999, each used once in the list */
+    int64_t latitude;  /* geodetic, 10^-6 degree, +-90,000,000 */
+    int64_t longitude; /* 10^-6 degree, +-180,000,000, east positive */
+    int64_t height;    /* metres, -500 to 9,000 */
+    int64_t delta_t;   /* hundredths of a second, -10,000 to 20,000 */
+    int64_t clock;     /* 0 or the number of a station in the list */
+} ukhtvaresh_node;
+
+/* How many numbers the eclipse of a network has: the 22 elements, first and last second of the window, guard, as in a request. */
+#define UKHTVARESH_ECLIPSE_LENGTH 25
+
+/* How many steps there are, and how many stations a list may have. */
+#define UKHTVARESH_STATIONS 64
+
+/* The whole network in one list: in `steps`, in list order, how many steps each station's clock is from the antenna, 1 if it follows 0,
+ * else one more than the station it follows, and 0 past the list. *value: the number of the station that sees the eclipse first, the
+ * one whose first enter penumbra, in the sheet that it gets alone, has the smallest "to"; the first in the list among equals, 0 if none
+ * enters. No sheet is written. stations_len counts stations, the other lengths numbers.
+ * Refusals, the first of them: 10 unless eclipse_len is 25 and steps_len 64; 19; 1; 2; 3; 14; 15; 16; 4 with place 901 where sines_len is
+ * below that. `sines` is filled on success only. */
+uint64_t ukhtvaresh_network(const int64_t *eclipse, size_t eclipse_len, const ukhtvaresh_node *stations, size_t stations_len,
+                            uint32_t *sines, size_t sines_len, uint64_t *steps, size_t steps_len, uint64_t *value);
 
 #ifdef __cplusplus
 }

@@ -6,7 +6,8 @@ radius; `read` takes a sheet apart, `write` puts entries together as one, `listi
 second and `share` the share at it. `mirror` gives the request beyond the equator, `fit` judges coefficients that a spreadsheet made
 of seven hourly values, `from_tables` makes elements from tables of Sun and Moon, `root` gives a square root with its rounds, `mend`
 takes the damaged parts out of a file of sheets, `sheet_of_doubles` makes the sheet of positions that come as doubles, `doubles` makes
-doubles of whole units. Each is a thin call of the proved function of the same name in libukhtvaresh.so, which the script `build` makes.
+doubles of whole units; `network` tells of a list of stations how far each clock is from the antenna and who sees the eclipse first. Each
+is a thin call of the proved function of the same name in libukhtvaresh.so, which the script `build` makes.
 
 Lengths are in 10^-8 of the Earth's equatorial radius, angles in 10^-6 degree, times in whole seconds of
 ephemeris time from the reference instant. East longitude is positive. "Document 01" is the paper whose rules the library keeps.
@@ -41,18 +42,22 @@ _WORDS = {
     11: "a row of the tables outside its distances",
     12: "a double that is not finite",
     13: "the radius of a star request outside its range",
+    14: "a station number already used in the list",
+    15: "a clock neither 0 nor in the list",
+    16: "a station whose chain of clocks never reaches 0",
     17: "a fit further from a tabulated value than the tolerance",
     18: "a tolerance or a tabulated value outside its range",
+    19: "a list of no station or of more than 64",
 }
 _GUARD_WORDS = "guard outside its range"  # of 1 with place 1
 
 
 class Refused(Exception):
-    """Why a request, a sheet, a list of entries or a fit is refused: number and place of document 01's table, and words.
+    """Why a request, a sheet, a list of entries, a fit or a network is refused: number and place of document 01's table, and words.
 
-    place: 1 is 0 for the window, 1 for the guard; 2, 3 the first such field; 4 the length needed; 5 to 9 the record's first
-    byte; 11 the row; 12 the first such field, 22 for the longitude; 17 the first such hour, 0 to 6; 18 is 0 for the tolerance, 1 to 7 for the first such tabulated value;
-    else 0.
+    place: 1 is 0 for the window, 1 for the guard; 2, 3 the first such field, 3 of a network ten times the list place plus that; 4 the
+    length needed; 5 to 9 the record's first byte; 11 the row; 12 the first such field, 22 for the longitude; 14 to 16 the first such list
+    place, counted from 0; 17 the first such hour, 0 to 6; 18 is 0 for the tolerance, 1 to 7 for the first such tabulated value; else 0.
     """
 
     def __init__(self, number: int, place: int):
@@ -406,7 +411,8 @@ def _load() -> ctypes.CDLL:
     survey = [room, length, ctypes.c_double, ctypes.c_uint64, room, length]
     library.ukhtvaresh_sheet_of_doubles.argtypes = survey + [room, length, room, length, value]
     library.ukhtvaresh_doubles.argtypes = [room, length, room, length, value]
-    names = "sheet sheet_and_share star second share mirror read write listing fit from_tables root mend sheet_of_doubles doubles"
+    library.ukhtvaresh_network.argtypes = [room, length, room, length, room, length, room, length, value]
+    names = "sheet sheet_and_share star second share mirror read write listing fit from_tables root mend sheet_of_doubles doubles network"
     for name in names.split():
         getattr(library, "ukhtvaresh_" + name).restype = ctypes.c_uint64
     return library
@@ -416,7 +422,7 @@ _library = _load()
 
 
 def _call(name: str, *arguments) -> int:
-    """The length, the count or the share that the library's function gives, or its refusal."""
+    """The length, the count, the share or the station that the library's function gives, or its refusal."""
     value = ctypes.c_uint64()
     number = getattr(_library, "ukhtvaresh_" + name)(*arguments, ctypes.byref(value))
     if number:
@@ -792,3 +798,59 @@ def doubles(elements: Union[Elements, Iterable[int]], longitude: int) -> Tuple[L
     room = (ctypes.c_double * 23)()
     doubles_into([*(astuple(elements) if isinstance(elements, Elements) else elements), longitude], room)
     return list(room[:22]), Degrees(room[22])
+
+
+# ---- the whole network in one list
+
+STATIONS = 64  # at most in a list
+
+
+@dataclass(frozen=True)
+class Node:
+    """A station of a network's list, and the number of the station whose clock it follows, 0 being the antenna."""
+
+    station: Station
+    clock: int
+
+
+@dataclass(frozen=True)
+class Network:
+    """What is said of a list.
+
+    steps: how many steps each station's clock is from the antenna, in the list's order: 1 if it follows 0, else one more than the
+    station it follows. first: the number of the station that sees the eclipse first, None if none enters.
+    """
+
+    steps: List[int]
+    first: Optional[int]
+
+
+class _Node(ctypes.Structure):
+    """A station as the library takes it, ukhtvaresh_node."""
+
+    _fields_ = [(name, ctypes.c_int64) for name in "number latitude longitude height delta_t clock".split()]
+
+
+def network_into(eclipse: Sequence[int], stations: Sequence[Node], steps) -> Optional[int]:
+    """Puts the steps of a list at `steps`, a ctypes array of 64 c_uint64, 0 past the list; gives the first station, or None.
+
+    eclipse: the 22 elements, first and last second of the window, guard. On refusal `steps` keeps what it held.
+    Refusals, the first of them: 10 for other lengths than 25 and 64, 19, 1, 2, 3, 14, 15, 16.
+    """
+    numbers = (ctypes.c_int64 * (len(eclipse) + 1))(*map(_signed, eclipse))
+    nodes = [_Node(*map(_signed, (*astuple(node.station), node.clock))) for node in stations]
+    lent = (_Node * (len(nodes) + 1))(*nodes)
+    number = _call("network", numbers, len(eclipse), lent, len(nodes), *_sines(), steps, len(steps))
+    return number or None
+
+
+def network(elements: Elements, window: Window, stations: Sequence[Node], guard: int = LEAST_GUARD) -> Network:
+    """How far the clocks of a list are from the antenna, and who sees the eclipse first.
+
+    The first is the station whose first Enter of the penumbra, in the sheet that it gets alone, has the smallest `to`, the first in the
+    list among equals. Refusals, the first of them: 19, 1, 2, 3, 14, 15, 16.
+    """
+    stations = list(stations)
+    steps = (ctypes.c_uint64 * STATIONS)()
+    first = network_into([*astuple(elements), *astuple(window), guard], stations, steps)
+    return Network(list(steps[: len(stations)]), first)

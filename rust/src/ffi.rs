@@ -1,10 +1,9 @@
 // The library's functions. All `unsafe` of this crate is here.
-//
 // Each function reads and writes only within the lengths it is given and keeps no pointer (include/ukhtvaresh.h).
-// It asks for pointers that are not null and for written memory that overlaps nothing else; a slice's pointer is
-// never null, also of an empty slice, and a mutable reference overlaps no other.
+// It asks for pointers that are not null and for written memory that overlaps nothing else; a slice's pointer is never null, also
+// of an empty slice, and a mutable reference overlaps no other.
 
-use crate::Refusal;
+use crate::{Node, Refusal};
 use std::cell::RefCell;
 
 extern "C" {
@@ -127,9 +126,20 @@ extern "C" {
         doubles_len: usize,
         value: *mut u64,
     ) -> u64;
+    fn ukhtvaresh_network(
+        eclipse: *const i64,
+        eclipse_len: usize,
+        stations: *const Node,
+        stations_len: usize,
+        sines: *mut u32,
+        sines_len: usize,
+        steps: *mut u64,
+        steps_len: usize,
+        value: *mut u64,
+    ) -> u64;
 }
 
-// The answer of a call: the length, the count or the share, or the refusal.
+// The answer of a call: the length, the count, the share or the station, or the refusal.
 fn answer(number: u64, value: u64) -> Result<usize, Refusal> {
     match number {
         0 => Ok(value as usize),
@@ -147,8 +157,7 @@ type SheetExport = unsafe extern "C" fn(*const u8, usize, *mut u32, usize, *mut 
 // The sheet that one of the three functions of these parameters makes of a request.
 fn made(export: SheetExport, request: &[u8], sheet: &mut [u8]) -> Result<usize, Refusal> {
     let mut value = 0;
-    // SAFETY: pointers and lengths are those of live slices; `sines`, `sheet` and `value` are borrowed mutably, so they
-    // overlap neither each other nor `request`.
+    // SAFETY: pointers and lengths are those of live slices; what is written is borrowed mutably, so it overlaps nothing else.
     let number = SINES.with_borrow_mut(|sines| unsafe {
         export(
             request.as_ptr(),
@@ -310,6 +319,26 @@ pub fn sheet_of_doubles(
             sines.len(),
             sheet.as_mut_ptr(),
             sheet.len(),
+            &mut value,
+        )
+    });
+    answer(number, value)
+}
+
+// The number of the station that sees the eclipse first, 0 for none.
+pub fn network(eclipse: &[i64], stations: &[Node], steps: &mut [u64]) -> Result<usize, Refusal> {
+    let mut value = 0;
+    // SAFETY: as in `made`; `Node` has the header's layout, and the length of `stations` counts its structs, the others numbers.
+    let number = SINES.with_borrow_mut(|sines| unsafe {
+        ukhtvaresh_network(
+            eclipse.as_ptr(),
+            eclipse.len(),
+            stations.as_ptr(),
+            stations.len(),
+            sines.as_mut_ptr(),
+            sines.len(),
+            steps.as_mut_ptr(),
+            steps.len(),
             &mut value,
         )
     });

@@ -6,7 +6,8 @@
 //! the shadow at one second and [`share`] the share at it, [`mirror`] the request beyond the equator; [`fit`] judges coefficients that a
 //! spreadsheet made, [`from_tables`] makes elements from tables of Sun and Moon, [`root`] gives a square root with its rounds,
 //! [`mend()`] takes the damaged parts out of a file of sheets, [`sheet_of_doubles`] makes the sheet of positions that come as doubles,
-//! [`doubles()`] makes doubles of whole units. Each is a thin call of the proved function of the same name in `libukhtvaresh.a`.
+//! [`doubles()`] makes doubles of whole units; [`network()`] tells of a list of stations how far each clock is from the antenna and who sees
+//! the eclipse first. Each is a thin call of the proved function of the same name in `libukhtvaresh.a`.
 //!
 //! Lengths are in 10^-8 of the Earth's equatorial radius, angles in 10^-6 degree, times in whole seconds of
 //! ephemeris time from the reference instant. East longitude is positive. "Document 01" is the paper whose rules the library keeps.
@@ -48,6 +49,7 @@ mod entry;
 #[allow(unsafe_code)]
 mod ffi;
 mod mend;
+mod network;
 mod refusal;
 mod request;
 mod star;
@@ -56,6 +58,7 @@ mod tables;
 pub use doubles::{doubles, doubles_into, sheet_of_doubles, sheet_of_doubles_vec, Longitude, Survey};
 pub use entry::{Entry, Phase};
 pub use mend::{mend, mend_into, Mended, Stretch};
+pub use network::{network, network_into, Eclipse, Network, Node, ECLIPSE_LENGTH, STATIONS};
 pub use refusal::Refusal;
 pub use request::{Elements, Request, Station, Window, LEAST_GUARD, REQUEST_LENGTH};
 pub use star::{star, star_vec, StarElements, StarRequest, STAR_REQUEST_LENGTH};

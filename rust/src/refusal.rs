@@ -1,9 +1,9 @@
 use std::error::Error;
 use std::fmt;
 
-/// Why a request, a sheet, a list of entries or a fit is refused.
+/// Why a request, a sheet, a list of entries, a fit or a network is refused.
 ///
-/// [`number`](Refusal::number) and [`place`](Refusal::place) are those of document 01's table of refusals; 11, 12, 13, 17 and 18
+/// [`number`](Refusal::number) and [`place`](Refusal::place) are those of document 01's table of refusals; 11 to 19
 /// are document 02's.
 #[derive(Clone, Copy, Debug, PartialEq, Eq, Hash)]
 pub enum Refusal {
@@ -19,7 +19,8 @@ pub enum Refusal {
     },
     /// 3: a station value is outside its range.
     Station {
-        /// The first such value: 0 number, 1 latitude, 2 longitude, 3 height, 4 ΔT.
+        /// The first such value: 0 number, 1 latitude, 2 longitude, 3 height, 4 ΔT; in a network's list ten times the list place,
+        /// counted from 0, plus that.
         field: u64,
     },
     /// 4: the sheet is longer than the buffer.
@@ -66,6 +67,21 @@ pub enum Refusal {
     },
     /// 13: the radius of a star request is outside its range (place 0; document 02).
     Radius,
+    /// 14: a station number is already used in a network's list (document 02).
+    Repeated {
+        /// The first such list place, counted from 0.
+        place: u64,
+    },
+    /// 15: a clock is neither 0 nor in a network's list (document 02).
+    Clock {
+        /// The first such list place.
+        place: u64,
+    },
+    /// 16: a station's chain of clocks never reaches 0 (document 02).
+    Chain {
+        /// The first such list place.
+        place: u64,
+    },
     /// 17: a fit's value differs from the tabulated one by more than the tolerance.
     Hour {
         /// The first such hour, 0 to 6 for -3 to 3.
@@ -76,10 +92,12 @@ pub enum Refusal {
         /// 0 for the tolerance, 1 to 7 for the first such tabulated value.
         place: u64,
     },
+    /// 19: a network's list is empty or has more than 64 stations (place 0; document 02).
+    List,
 }
 
 impl Refusal {
-    /// The refusal's number, 1 to 13, 17 or 18.
+    /// The refusal's number, 1 to 19.
     pub fn number(self) -> u64 {
         match self {
             Refusal::Window | Refusal::Guard => 1,
@@ -95,22 +113,29 @@ impl Refusal {
             Refusal::Row { .. } => 11,
             Refusal::NotFinite { .. } => 12,
             Refusal::Radius => 13,
+            Refusal::Repeated { .. } => 14,
+            Refusal::Clock { .. } => 15,
+            Refusal::Chain { .. } => 16,
             Refusal::Hour { .. } => 17,
             Refusal::Given { .. } => 18,
+            Refusal::List => 19,
         }
     }
 
-    /// The refusal's place: a field, a length, a byte, a row or an hour, as the number says; of 1 it is 0 for the window, 1 for the
-    /// guard; of 10 and 13 it is 0.
+    /// The refusal's place: a field, a length, a byte, a row, an hour or a list place, as the number says; of 1 it is 0 for the window,
+    /// 1 for the guard; of 10, 13 and 19 it is 0.
     pub fn place(self) -> u64 {
         match self {
-            Refusal::Window | Refusal::Shape | Refusal::Radius => 0,
+            Refusal::Window | Refusal::Shape | Refusal::Radius | Refusal::List => 0,
             Refusal::Guard => 1,
             Refusal::Element { field } | Refusal::Station { field } | Refusal::NotFinite { field } => field,
             Refusal::Room { needed } => needed,
             Refusal::Row { row } => row,
             Refusal::Hour { hour } => hour,
-            Refusal::Given { place } => place,
+            Refusal::Given { place }
+            | Refusal::Repeated { place }
+            | Refusal::Clock { place }
+            | Refusal::Chain { place } => place,
             Refusal::Kind { at }
             | Refusal::Ends { at }
             | Refusal::Field { at }
@@ -136,8 +161,12 @@ impl Refusal {
             11 => Refusal::Row { row: place },
             12 => Refusal::NotFinite { field: place },
             13 => Refusal::Radius,
+            14 => Refusal::Repeated { place },
+            15 => Refusal::Clock { place },
+            16 => Refusal::Chain { place },
             17 => Refusal::Hour { hour: place },
             18 => Refusal::Given { place },
+            19 => Refusal::List,
             _ => unreachable!("the library gives only numbers of the table"),
         }
     }
@@ -158,10 +187,14 @@ impl fmt::Display for Refusal {
             Refusal::After { .. } => "bytes after the end record",
             Refusal::Shape => "request not of its shape",
             Refusal::Row { .. } => "a row of the tables outside its distances",
-            Refusal::Radius => "the radius of a star request outside its range",
             Refusal::NotFinite { .. } => "a double that is not finite",
+            Refusal::Radius => "the radius of a star request outside its range",
+            Refusal::Repeated { .. } => "a station number already used in the list",
+            Refusal::Clock { .. } => "a clock neither 0 nor in the list",
+            Refusal::Chain { .. } => "a station whose chain of clocks never reaches 0",
             Refusal::Hour { .. } => "a fit further from a tabulated value than the tolerance",
             Refusal::Given { .. } => "a tolerance or a tabulated value outside its range",
+            Refusal::List => "a list of no station or of more than 64",
         };
         write!(f, "refused {} {}: {words}", self.number(), self.place())
     }

@@ -120,11 +120,7 @@ fn check(s: Star) -> Checked
 fn constant(c0: i64) -> Quadratic
     ensures { λ r. ⌜ r ≡ constant c0 ⌝ }
 {
-    Quadratic {
-        c0,
-        c1: 0,
-        c2: 0,
-    }
+    Quadratic { c0, c1: 0, c2: 0 }
 }
 
 // The axis: its declination is the star's at every second.

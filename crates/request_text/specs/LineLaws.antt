@@ -1,7 +1,7 @@
 -- Laws of what a line says.
 use mathlib.Core.Path.{_≡_, refl, sym, ap, _∙_}
 use mathlib.Core.Bool.{Bool, true, false, cond}
-use mathlib.Core.List.{List, []}
+use mathlib.Core.List.{List, [], _∷_}
 use Prim.Native.Nat.{ℕ, _≤_, _<_}
 use native.Mathlib.Omega.{arith}
 use native.Mathlib.Decide.{decLt}
@@ -163,6 +163,17 @@ module _ (shape : Shape) (s : List ℕ) (k : ℕ) (l : k < countOf shape) (m : n
   unfolding ofValue
   of-value-in v = either (allOf C.Blank (drop (runOf C.Word v) v)) (valueOf shape k (take (runOf C.Word v) v)) (L.Faulty (Fault.NotNumber k))
       (value-in (take (runOf C.Word v) v)) tt
+
+-- a value is small, whatever is said: the field's name is said in itself
+named-self : (n : List ℕ) → named n n ≡ true
+unfolding named
+named-self [] = refl
+named-self (x ∷ n) = rw (eq-eqb x x refl, named-self n)
+
+pub value-room : (shape : Shape) (k : ℕ) (w : List ℕ) → k < countOf shape → InRoom (countOf shape) (valueOf shape k w)
+value-room shape k w h =
+    let n = getD (names shape) k [] in
+    in-room shape n (valueOf shape k w) (value-in shape n k h (named-self n) w)
 
 module _ (shape : Shape) where
   of-name-in : (s : List ℕ) → InFields shape s (ofName shape s)

@@ -85,7 +85,7 @@ fn is_named(said: &[u8], name: &[u8]) -> bool
 }
 
 // The first field whose name is said.
-fn find(shape: Shape, said: &[u8]) -> Found
+pub fn find(shape: Shape, said: &[u8]) -> Found
     ensures { λ r. ⌜ r ≡ findIn (names shape) 0 (now (said .entry)) ⌝ }
 {
     let count = request_fields::count_of(shape);
@@ -129,8 +129,8 @@ fn fit(field: usize, width: Width, minus: usize, n: usize) -> Line
     Line::Given(field, value)
 }
 
-// A word as the value of a field.
-fn value_of(shape: Shape, field: usize, word: &[u8]) -> Line
+// A word as the value of a field. Like `note` it is for crates that read more than a request, and has a `requires`, so it is none of the public promises.
+pub fn value_of(shape: Shape, field: usize, word: &[u8]) -> Line
     requires { ⌜ field < countOf shape ⌝ }
     ensures { λ r. ⌜ r ≡ valueOf shape field (now (word .entry)) ⌝ }
 {
@@ -184,7 +184,7 @@ pub fn said(line: &[u8]) -> &[u8]
 }
 
 // What a line says.
-fn meaning(shape: Shape, line: &[u8]) -> Line
+pub fn meaning(shape: Shape, line: &[u8]) -> Line
     ensures { λ r. ⌜ r ≡ meaningOf shape (now (line .entry)) ⌝ }
 {
     let words = said(line);
@@ -197,7 +197,7 @@ fn meaning(shape: Shape, line: &[u8]) -> Line
 // ---- the text
 
 // Takes a line, if its field was not given before.
-fn note(line: Line, marks: &mut [u8], numbers: &mut [i64]) -> Noted
+pub fn note(line: Line, marks: &mut [u8], numbers: &mut [i64]) -> Noted
     requires { ⌜ (length (now numbers) ≡ length (now marks)) × InRoom (length (now marks)) line ⌝ }
     ensures { λ r. ⌜ r ≡ notedOf line (now (marks .entry)) ⌝ }
     ensures { λ r. ⌜ now (marks .exit) ≡ marksAfter line (now (marks .entry)) ⌝ }
@@ -218,7 +218,7 @@ fn note(line: Line, marks: &mut [u8], numbers: &mut [i64]) -> Noted
 }
 
 // Whether all these fields were given.
-fn complete(marks: &[u8]) -> Noted
+pub fn complete(marks: &[u8]) -> Noted
     ensures { λ r. ⌜ r ≡ missing 0 (now (marks .entry)) ⌝ }
 {
     let mut k = 0;

@@ -9,3 +9,4 @@ pub mod Fits
 pub mod TablesReply
 pub mod MendReply
 pub mod Positions
+pub mod NetworkReply

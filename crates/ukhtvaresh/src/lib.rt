@@ -1,5 +1,6 @@
 // The library for C and Rust: a request's sheet, a sheet read, entries written; in modules of their own one second of a request, its mirror, how
-// much of the Sun is gone, a sheet as text, a fit judged, elements from tables, a file mended, positions as doubles, and the rounds of the root.
+// much of the Sun is gone, a sheet as text, a fit judged, elements from tables, a file mended, positions as doubles, a network of stations,
+// and the rounds of the root.
 // Each function but the last answers the number of the refusal, 0 for none, and puts the length, the count or the refusal's place into `value`.
 mod from_tables;
 mod listing;
@@ -11,6 +12,7 @@ mod second;
 mod shares;
 mod spreadsheet;
 mod stars;
+mod stations;
 
 ghost use mathlib.Core.Path.{_≡_};
 ghost use Rattle.sheets.specs.Sheets.{readWhole, roomAfter};
@@ -23,9 +25,9 @@ ghost use Rattle.ukhtvaresh.specs.Replies.{refusedReply, sheetReply, rea
 
 // What a caller gets.
 pub struct Reply {
-    // number of the refusal, 1 to 10, of tables 11 too, of doubles 12, of a fit 17, 18; 0 for none
+    // number of the refusal, 1 to 10, of tables 11 too, of doubles 12, of a star 13, of a network 14, 15, 16, 19, of a fit 17, 18; 0 for none
     pub number: u64,
-    // length of the sheet, count of the entries or of the numbers, 0 for a fit; or the refusal's place
+    // length of the sheet, count of the entries or of the numbers, 0 for a fit, a network's first station; or the refusal's place
     pub value: u64,
 }
 

@@ -16,7 +16,7 @@ const PAST: usize = 64;
 pub type Left<T> = (Reply, Vec<T>);
 
 /// A buffer of `length` with canaries past its end, both from the same random numbers.
-fn buffer<T>(random: &mut Random, length: usize, number: impl Fn(u64) -> T) -> Vec<T> {
+pub fn buffer<T>(random: &mut Random, length: usize, number: impl Fn(u64) -> T) -> Vec<T> {
     (0..length + PAST).map(|_| number(random.bits())).collect()
 }
 

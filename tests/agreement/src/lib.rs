@@ -6,5 +6,6 @@ pub mod draws;
 pub mod files;
 pub mod fits;
 pub mod library;
+pub mod networks;
 pub mod sheets;
 pub mod stars;

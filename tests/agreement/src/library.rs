@@ -120,7 +120,23 @@ extern "C" {
         doubles_len: usize,
         value: *mut u64,
     ) -> u64;
+    fn ukhtvaresh_network(
+        eclipse: *const i64,
+        eclipse_len: usize,
+        stations: *const Node,
+        stations_len: usize,
+        sines: *mut u32,
+        sines_len: usize,
+        steps: *mut u64,
+        steps_len: usize,
+        value: *mut u64,
+    ) -> u64;
 }
+
+/// A station of a network's list, `ukhtvaresh_node`: number, latitude, longitude, height, ΔT, clock.
+#[repr(C)]
+#[derive(Clone, Copy, Debug)]
+pub struct Node(pub [i64; 6]);
 
 /// The number of the refusal, 0 for none; the length, the count or the place.
 pub type Reply = (u64, u64);
@@ -287,6 +303,25 @@ pub fn sheet_of_doubles(
             sines.len(),
             sheet.as_mut_ptr(),
             sheet.len(),
+            &mut value,
+        )
+    };
+    (number, value)
+}
+
+/// The steps of a network's clocks, and the station that sees the eclipse first.
+pub fn network(eclipse: &[i64], stations: &[Node], sines: &mut [u32], steps: &mut [u64]) -> Reply {
+    let mut value = UNSET;
+    let number = unsafe {
+        ukhtvaresh_network(
+            eclipse.as_ptr(),
+            eclipse.len(),
+            stations.as_ptr(),
+            stations.len(),
+            sines.as_mut_ptr(),
+            sines.len(),
+            steps.as_mut_ptr(),
+            steps.len(),
             &mut value,
         )
     };

@@ -41,6 +41,7 @@ pub unsafe fn mutate(
     head + changed.len()
 }
 
+pub use crate::networks::change as change_network;
 pub use crate::stars::change as change_star;
 pub use files::change as change_file;
 pub use sheets::damage as change_sheet;

@@ -5,6 +5,7 @@
 //! branches.
 
 pub mod changes;
+pub mod networks;
 pub mod requests;
 pub mod stars;
 

@@ -58,7 +58,7 @@ pub(crate) type SheetExport =
 /// The room for table S: 901 numbers, or another count where that bit of the byte before a request says so.
 pub const OTHER_SINES: u8 = 0x08;
 
-fn sines_room(leave: u8, near: u8, far: u8) -> usize {
+pub(crate) fn sines_room(leave: u8, near: u8, far: u8) -> usize {
     if leave & OTHER_SINES == 0 {
         return SINES;
     }
@@ -66,7 +66,7 @@ fn sines_room(leave: u8, near: u8, far: u8) -> usize {
 }
 
 /// What a call left that is lent this room too: its buffer, and this room.
-fn left_lent<T>(
+pub(crate) fn left_lent<T>(
     lent: usize,
     room: usize,
     old: fn(usize) -> T,
@@ -78,7 +78,7 @@ fn left_lent<T>(
     (left, Left { reply, buffer: sines })
 }
 
-fn both_agree<T: PartialEq + Debug>(
+pub(crate) fn both_agree<T: PartialEq + Debug>(
     what: &str,
     given: &[u8],
     [lent, room]: [usize; 2],
@@ -139,7 +139,7 @@ pub(crate) fn short(window: Window, leave: u8, raw: &[u8]) -> Window {
     Window { last: window.last.min(window.first + SHORT), ..window }
 }
 
-fn request(leave: u8, raw: &[u8]) -> Vec<u8> {
+pub(crate) fn request(leave: u8, raw: &[u8]) -> Vec<u8> {
     let mut bytes = raw.to_vec();
     if leave & LEAVE_SHAPE == 0 {
         give_shape(&mut bytes);

@@ -1,10 +1,13 @@
 //! `reference sheet`: 115 bytes on standard input, the listing on standard output.
 //! `reference star`: the 79 bytes of a star request on standard input, the listing on standard output.
+//! `reference network`: whole numbers on standard input, a line of 25 for the eclipse, then a line of six for each station; the steps and
+//! the first station on standard output.
 //! `reference time N`: either input, its sheet written N times; prints nanoseconds a sheet.
 //! `reference seconds`: 115 bytes, a line `second L1 L2 M share` for each second of its window.
 //! `reference shares`: lines that begin with L1, L2 and M on standard input, a line `L1 L2 M share` for each.
 
 use reference::listing::{program, sheet_of_input, star_of_input, star_program, ROOM};
+use reference::network;
 use reference::request::Request;
 use reference::share::share;
 use reference::star::STAR_LENGTH;
@@ -22,6 +25,17 @@ fn seconds(input: &[u8]) -> String {
         format!("{second} {} {} {} {}\n", shadow.l1, shadow.l2, shadow.m(), shadow.share())
     };
     circumstances.request().window.seconds().map(line_of).collect()
+}
+
+/// The answer to an eclipse and a list of stations in whole units.
+fn network_of(input: &str) -> String {
+    let numbers = |line: &str| -> Vec<i64> {
+        line.split_whitespace().map(|word| word.parse().expect("a number of 64 bits")).collect()
+    };
+    let mut lines = input.lines().map(numbers);
+    let eclipse = lines.next().unwrap_or_default();
+    let node_of = |six: Vec<i64>| network::Node::from_fields(six.try_into().expect("six numbers a station"));
+    network::program(&eclipse, &lines.map(node_of).collect::<Vec<_>>())
 }
 
 /// The same lines with their shares.
@@ -47,6 +61,7 @@ fn main() -> ExitCode {
             stdin().read_to_end(&mut input).expect("standard input can be read");
             star_program(&input)
         }
+        ["network"] => network_of(&read_to_string(stdin()).expect("text on standard input")),
         ["time", times] => {
             stdin().read_to_end(&mut input).expect("standard input can be read");
             let times: u32 = times.parse().expect("N is a number");
@@ -64,7 +79,7 @@ fn main() -> ExitCode {
         }
         ["shares"] => shares(&read_to_string(stdin()).expect("text on standard input")),
         _ => {
-            eprintln!("usage: reference sheet | star | time N | seconds | shares");
+            eprintln!("usage: reference sheet | star | network | time N | seconds | shares");
             return ExitCode::FAILURE;
         }
     };

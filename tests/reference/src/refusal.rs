@@ -11,7 +11,7 @@ pub enum Refusal {
     Guard,
     /// 2: an element is outside its range; the first such field, 0..21, of a star 0..11.
     Element(usize),
-    /// 3: a station value is outside its range; the first such field, 0..4.
+    /// 3: a station value is outside its range; the first such field, 0..4, in a network's list ten times the list place plus that.
     Station(usize),
     /// 4: the room is too short; the length or count it needs.
     Room(usize),
@@ -33,10 +33,18 @@ pub enum Refusal {
     NotFinite(usize),
     /// 13: the radius of a star request is outside its range (0).
     Radius,
+    /// 14: a station number of a network is already used; the first such list place.
+    Repeated(usize),
+    /// 15: a clock of a network is neither 0 nor in the list; the first such list place.
+    Clock(usize),
+    /// 16: a station of a network whose chain never reaches 0; the first such list place.
+    Chain(usize),
     /// 17: a fit differs from the tabulated value by more than the tolerance; the first such hour, 0..6.
     Hour(usize),
     /// 18: the tolerance of a fit (0), or a tabulated value (the first such, 1..7), is outside its range.
     Given(usize),
+    /// 19: the list of a network is empty or has more than 64 stations (0).
+    List,
 }
 
 impl Refusal {
@@ -55,14 +63,18 @@ impl Refusal {
             Refusal::Row(_) => 11,
             Refusal::NotFinite(_) => 12,
             Refusal::Radius => 13,
+            Refusal::Repeated(_) => 14,
+            Refusal::Clock(_) => 15,
+            Refusal::Chain(_) => 16,
             Refusal::Hour(_) => 17,
             Refusal::Given(_) => 18,
+            Refusal::List => 19,
         }
     }
 
     pub fn place(self) -> usize {
         match self {
-            Refusal::Window | Refusal::Shape | Refusal::Radius => 0,
+            Refusal::Window | Refusal::Shape | Refusal::Radius | Refusal::List => 0,
             Refusal::Guard => 1,
             Refusal::Element(place)
             | Refusal::Station(place)
@@ -74,6 +86,9 @@ impl Refusal {
             | Refusal::After(place)
             | Refusal::Row(place)
             | Refusal::NotFinite(place)
+            | Refusal::Repeated(place)
+            | Refusal::Clock(place)
+            | Refusal::Chain(place)
             | Refusal::Hour(place)
             | Refusal::Given(place) => place,
         }

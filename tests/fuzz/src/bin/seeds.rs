@@ -1,10 +1,12 @@
-//! `seeds FOLDER`: what the fuzzer starts from, in FOLDER/read, listing, sheet, star, second, share, write and mend: the requests and sheets
+//! `seeds FOLDER`: what the fuzzer starts from, in FOLDER/read, listing, sheet, star, second, share, network, write and mend: the requests and sheets
 //! that the repository holds, and some drawn as tests/agreement draws them.
 
 use agreement::{draws, files, sheets, stars};
+use fuzz::networks;
 use fuzz::requests::{LEAVE_NUMBERS, LEAVE_SECOND, LEAVE_SHAPE, OTHER_SINES, WITH_SHARE};
 use reference::random::Random;
 use reference::request::REQUEST_LENGTH;
+use reference::sample_network;
 use reference::sheet;
 use std::fs;
 use std::path::{Path, PathBuf};
@@ -93,6 +95,13 @@ fn main() {
     let star = folder.join("star");
     put(&star, &head, stored_stars(), "stored");
     put(&star, &head, (0..DRAWN).map(|_| stars::request(&mut random)), "drawn");
+    let network = folder.join("network");
+    put(
+        &network,
+        &head,
+        (0..DRAWN).filter_map(|_| networks::packed(&sample_network::draw(&mut random))),
+        "drawn",
+    );
     let shared = [head[0], head[1], head[2] | WITH_SHARE];
     put(&sheet, &shared, stored_requests(), "shared");
     put(&sheet, &shared, (0..DRAWN).map(|_| draws::request(&mut random)), "shared_drawn");

@@ -1,0 +1,83 @@
+-- `chains::next_steps` meets its contract: 1 at the antenna, else one more than what is known of the station followed.
+use native.Mathlib.Omega.{arith}
+use borrow.Author.Needs.{needs}
+use Prim.Native.Nat.{ℕ}
+use mathlib.Core.List.{List}
+use lib.ListN.{length, getD}
+use lib.IntN.{ℤ, pos}
+use mir.Syntax.{w64}
+use mir.Val.{ofZ}
+use mathlib.Core.Path.{_≡_, ap}
+use Rattle.chains.specs.First.{First}
+use Rattle.chains.specs.Bits.{zero-bits}
+use Rattle.chains.specs.Steps.{At}
+use Rattle.chains.specs.Laws.{placed, next-antenna, next-nowhere, next-unknown, next-known}
+use Rattle.chains.proofs.next_steps.Statement.{statement}
+use Rattle.chains.proofs.next_steps.Tie as tie
+use Rattle.chains.proofs.next_steps.Reads as reads
+use Rattle.chains.proofs.next_steps.Lts as lts
+use Rattle.chains.proofs.place.Reads as place-reads
+
+abbrev Start : Type 0
+Start = lts.Start (place-reads.Asked, place-reads.Learnt) reads.Pre reads.Post
+
+abbrev ns : Start → List ℤ
+ns c = c .args .numbers .now
+
+abbrev cs : Start → List ℤ
+cs c = c .args .clocks .now
+
+abbrev st : Start → List ℕ
+st c = c .args .steps .now
+
+-- where the clock's number stands first
+here : (c : lts.After-place (place-reads.Asked, place-reads.Learnt) reads.Pre reads.Post) → let b = c .before .before .before .before in First (At (ns b) (getD (cs b) (b .args .i) (pos 0))) (length (ns b)) (c .place .result)
+here c = let b = c .before .before .before .before in placed (ns b) (length (ns b)) (c .place .result) (getD (cs b) (b .args .i) (pos 0)) (record { sfits = c .before .before .x .given }) (c .place .ensures)
+
+other : (c : lts.Else1 (place-reads.Asked, place-reads.Learnt) reads.Pre reads.Post) → let b = c .before .before .before in getD (cs b) (b .args .i) (pos 0) ≡ pos 0 → ⊥
+other c e = c .if1 .left (ap (ofZ w64) e)
+
+mul-x : tie.Need-mul-x
+mul-x c = search needs
+
+shared-slice-copy-out-x : tie.Need-shared-slice-copy-out-x
+shared-slice-copy-out-x c = search needs
+
+returns : tie.Need-returns
+returns c = next-antenna (ns (c .before .before .before)) (cs (c .before .before .before)) (st (c .before .before .before)) (c .before .before .before .args .i) (c .before .before .before .pre .4) (c .before .before .before .pre .2) (zero-bits (record { sfits = c .before .x .given }) (c .if1 .taken))
+
+place-requires : tie.Need-place-requires
+place-requires c κs = search needs
+
+returns-2 : tie.Need-returns-2
+returns-2 c = let b = c .before .before .before .before .before in next-nowhere (ns b) (cs b) (b .args .i) (c .before .place .result) (here (c .before)) (other (c .before .before)) (st b) (b .pre .4) (c .if2 .taken)
+
+shared-slice-read-if3 : tie.Need-shared-slice-read-if3
+shared-slice-read-if3 c = search needs
+
+returns-3 : tie.Need-returns-3
+returns-3 c = let b = c .before .before .before .before .before .before .before in next-unknown (ns b) (cs b) (b .args .i) (c .before .before .before .place .result) (here (c .before .before .before)) (other (c .before .before .before .before)) (st b) (b .pre .4) (b .pre .3) (c .before .before .if2 .left) (c .if3 .taken)
+
+shared-slice-read-result : tie.Need-shared-slice-read-result
+shared-slice-read-result c = search needs
+
+add-result : tie.Need-add-result
+add-result c = let b = c .before .before .before .before .before .before .before .before in omega (arith, b .pre .4 (c .before .before .before .before .place .result))
+
+returns-4 : tie.Need-returns-4
+returns-4 c = let b = c .before .before .before .before .before .before .before .before in next-known (ns b) (cs b) (b .args .i) (c .before .before .before .before .place .result) (here (c .before .before .before .before)) (other (c .before .before .before .before .before)) (st b) (b .pre .4) (b .pre .2) (c .before .before .before .if2 .left) (c .before .if3 .left)
+
+pub next-steps-spec : {M : Type 1} → statement M
+next-steps-spec =
+    tie.close
+    (tie.spec
+    mul-x
+    shared-slice-copy-out-x
+    returns
+    place-requires
+    returns-2
+    shared-slice-read-if3
+    returns-3
+    shared-slice-read-result
+    add-result
+    returns-4)

@@ -1,0 +1,68 @@
+-- `chains::place` meets its contract: no place before i has x.
+use Rattle.chains.specs.Bits.{same-bits}
+use Prim.Native.Nat.{ℕ, _≤_, _<_, _-_}
+use native.Mathlib.Omega.{arith}
+use borrow.Author.Needs.{needs}
+use borrow.Author.Count.{below-more}
+use lib.ListN.{length, getD}
+use lib.IntN.{pos}
+use mir.Syntax.{w64}
+use mir.Val.{ofZ}
+use mathlib.Core.Path.{_≡_, ap}
+use Rattle.chains.proofs.place.Statement.{statement}
+use Rattle.chains.proofs.place.Tie as tie
+use Rattle.chains.proofs.place.Reads as reads
+use Rattle.chains.proofs.place.Lts as lts
+
+abbrev Inv-loop : tie.InvT-loop
+Inv-loop l x i₀ i = (i ≤ length l) × ((k : ℕ) → k < i → ofZ w64 (getD l k (pos 0)) ≡ x → ⊥)
+
+abbrev μ-loop : tie.MeasureT-loop
+μ-loop l x i₀ i = length l - i
+
+loop-holds : tie.Need-loop-holds Inv-loop μ-loop
+loop-holds c = search needs
+
+mul-if1 : tie.Need-mul-if1 Inv-loop μ-loop
+mul-if1 c = search needs
+
+shared-slice-copy-out-if1 : tie.Need-shared-slice-copy-out-if1 Inv-loop μ-loop
+shared-slice-copy-out-if1 c = search needs
+
+returns : tie.Need-returns Inv-loop μ-loop
+returns c = record {
+  within = search needs;
+  before = λ k l e. c .before .before .before .loop .inv .1 k l (ap (ofZ w64) e);
+  found = λ _. same-bits (record { sfits = c .before .if12 .given }) (c .before .before .before .before .fits .x) (c .if1 .taken);
+}
+
+add-i : tie.Need-add-i Inv-loop μ-loop
+add-i c = search needs
+
+loop-less : tie.Need-loop-less Inv-loop μ-loop
+loop-less c = search needs
+
+loop-again : tie.Need-loop-again Inv-loop μ-loop
+loop-again c = (search needs, below-more _ _ (c .before .before .before .loop .inv .1) (c .if1 .left))
+
+returns-2 : tie.Need-returns-2 Inv-loop μ-loop
+returns-2 c = record {
+  within = search needs;
+  before = λ k l e. c .before .loop .inv .1 k l (ap (ofZ w64) e);
+  found = λ l. absurd (omega arith);
+}
+
+pub place-spec : {M : Type 1} → statement M
+place-spec =
+    tie.close
+    (tie.spec
+    Inv-loop
+    μ-loop
+    loop-holds
+    mul-if1
+    shared-slice-copy-out-if1
+    returns
+    add-i
+    loop-less
+    loop-again
+    returns-2)

@@ -1,0 +1,46 @@
+-- `network::put_named` meets its contract: the lines of the stations, then the first. Assumes nothing.
+use mathlib.Core.Path.{sym, ap}
+use native.Mathlib.Omega.{arith}
+use lib.Seq.{length-take-le}
+use Rattle.decimals.specs.RowLaws.{joined, put-as}
+use Rattle.network.specs.Printed.{firstLine, namedText}
+use borrow.Author.Needs.{needs}
+use Rattle.network.proofs.put_named.Statement.{statement}
+use Rattle.network.proofs.put_named.Tie as tie
+
+first-tos-requires : tie.Need-first-tos-requires
+first-tos-requires c κs = search needs
+
+put-stations-requires : tie.Need-put-stations-requires
+put-stations-requires c κs = search needs
+
+array-share-prefix-tos : tie.Need-array-share-prefix-tos
+array-share-prefix-tos c = search needs
+
+slice-aggregate-put-first : tie.Need-slice-aggregate-put-first
+slice-aggregate-put-first c = sym (length-take-le _ _ (omega (arith, c .before .before .before .before .before .before .first-tos .ensures .0, c .before .before .before .before .before .before .before .before .before .before .pre)))
+
+put-first-requires : tie.Need-put-first-requires
+put-first-requires c κs = search needs
+
+same-length : tie.Need-same-length
+same-length c = search needs
+
+returns : tie.Need-returns
+unfolding namedText
+returns c =
+    let f = c .before .before .before .before .before .before .before .before .before in
+    let s = f .before .before .before .before in
+    joined (omega arith) (c .before .before .before .before .before .before .before .put-stations .ensures) (put-as _ _ _ _ _ _ (ap (firstLine (s .args .named)) (f .first-tos .ensures .1)) (c .before .before .put-first .ensures))
+
+pub put-named-spec : {M : Type 1} → statement M
+put-named-spec =
+    tie.close
+    (tie.spec
+    first-tos-requires
+    put-stations-requires
+    array-share-prefix-tos
+    slice-aggregate-put-first
+    put-first-requires
+    same-length
+    returns)

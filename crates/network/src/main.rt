@@ -1,0 +1,190 @@
+// Reads a typed network from standard input: the elements and the window as in a typed request, and a line a station. It prints each station with its
+// steps and the station that sees the eclipse first; or `refused`, number and place. A fault is told on standard error with its line, and nothing is
+// printed.
+use libc::STDERR_FILENO;
+use libc::STDIN_FILENO;
+use libc::STDOUT_FILENO;
+use network_text::Fault;
+use network_text::Typed;
+use networks::Answer;
+use networks::Eclipse;
+use nodes::Held;
+use request_fields::Shape;
+ghost use mathlib.Core.Path.{_≡_};
+ghost use mathlib.Core.List.{List};
+ghost use Prim.Native.Nat.{_≤_};
+ghost use lib.ListN.{length, take};
+ghost use Rattle.sine.specs.Table.{Sines};
+ghost use Rattle.nodes.specs.declared.Node.{Node};
+ghost use Rattle.nodes.specs.Nodes.{Holds};
+ghost use Rattle.networks.specs.CheckLaws.{AllWithin};
+ghost use Rattle.networks.specs.Network.{tosOf};
+ghost use Rattle.decimals.specs.Texts.{Put};
+ghost use Rattle.lines.specs.Lines.{refusalLine};
+ghost use Rattle.network.specs.Printed.{clockText, faultText, stationLine, stationLines, firstLine, namedText, answerText, zeros, output, error};
+
+// How many bytes go to standard output, and to standard error.
+struct Streams {
+    output: usize,
+    error: usize,
+}
+
+// ---- a fault
+
+fn put_clock(out: &mut [u8], line: usize) -> usize
+    ensures { λ r. ⌜ Put (now (out .entry)) 0 (clockText line) (now (out .exit)) r ⌝ }
+{
+    let number = decimals::put_text(out, 0, b"line ");
+    let wrong = decimals::put_number(out, number, line as u64);
+    decimals::put_text(out, wrong, b": clock is not a station's number\n")
+}
+
+// What is wrong with a line of the text.
+fn put_fault(out: &mut [u8], text: &[u8], line: usize, fault: Fault) -> usize
+    ensures { λ r. ⌜ Put (now (out .entry)) 0 (faultText (now (text .entry)) line fault) (now (out .exit)) r ⌝ }
+{
+    match fault {
+        Fault::Typed(wrong) => request_messages::put_message(
+            out,
+            0,
+            Shape::Eclipse,
+            text,
+            line,
+            wrong,
+        ),
+        Fault::Clock => put_clock(out, line),
+    }
+}
+
+// ---- the answer
+
+fn put_station(out: &mut [u8], at: usize, number: i64, steps: u64) -> usize
+    ensures { λ r. ⌜ Put (now (out .entry)) at (stationLine number steps) (now (out .exit)) r ⌝ }
+{
+    let word = decimals::put_text(out, at, b"station ");
+    let first = decimals::put_signed(out, word, number);
+    let middle = decimals::put_text(out, first, b" steps ");
+    let second = decimals::put_number(out, middle, steps);
+    decimals::put_byte(out, second, b'\n')
+}
+
+// A line for each station of the list.
+fn put_stations(out: &mut [u8], h: Held, steps: &[u64]) -> usize
+    requires { ⌜ (h .count ≤ 64) × (length (h .nodes) ≡ 64) × (length (now steps) ≡ 64) ⌝ }
+    ensures { λ r. ⌜ Put (now (out .entry)) 0 (stationLines (take (h .count) (h .nodes)) (now (steps .entry))) (now (out .exit)) r ⌝ }
+{
+    let n = h.count;
+    let mut at = 0;
+    let mut k: usize = 0;
+    while k < n {
+        let x = h.nodes[k];
+        let s = x.station;
+        let number = s.number;
+        let step = steps[k];
+        at = put_station(out, at, number, step);
+        k += 1;
+    }
+    at
+}
+
+// The station that sees the eclipse first, and when: by the "to" of each station's first enter, as it is stored.
+fn put_first(out: &mut [u8], at: usize, named: u64, tos: &[u32]) -> usize
+    ensures { λ r. ⌜ Put (now (out .entry)) at (firstLine named (now (tos .entry))) (now (out .exit)) r ⌝ }
+{
+    let best = chains::earliest(tos, 21_601);
+    let word = decimals::put_text(out, at, b"first ");
+    let end = decimals::put_number(out, word, named);
+    if tos.len() <= best {
+        return decimals::put_text(out, end, b"\n");
+    }
+    let to = tos[best];
+    let second = kinds::seconds::second_of(to);
+    let space = decimals::put_text(out, end, b" to ");
+    let last = decimals::put_signed(out, space, second);
+    decimals::put_text(out, last, b"\n")
+}
+
+// The lines of a list that has an answer.
+fn put_named(out: &mut [u8], named: u64, e: Eclipse, h: Held, table: &[u32], steps: &[u64]) -> usize
+    requires { ⌜ (Sines (now table)) × (h .count ≤ 64) × (length (h .nodes) ≡ 64) × (AllWithin e (take (h .count) (h .nodes))) × (length (now steps) ≡ 64) ⌝ }
+    ensures { λ r. ⌜ Put (now (out .entry)) 0 (namedText named (tosOf e (take (h .count) (h .nodes))) (take (h .count) (h .nodes)) (now (steps .entry))) (now (out .exit)) r ⌝ }
+{
+    let n = h.count;
+    let tos = networks::sight::first_tos(table, e, h, n);
+    let next = put_stations(out, h, steps);
+    put_first(out, next, named, &tos[..n])
+}
+
+fn put_refused(out: &mut [u8], refusal: refusals::Refusal) -> usize
+    ensures { λ r. ⌜ Put (now (out .entry)) 0 (refusalLine (refusal .number) (refusal .place)) (now (out .exit)) r ⌝ }
+{
+    let number = refusal.number as u64;
+    let place = refusal.place as u64;
+    lines::put_refusal_line(out, 0, number, place)
+}
+
+// What is printed of the eclipse's numbers and a list.
+fn put_answer(out: &mut [u8], eclipse: &[i64; 25], h: Held) -> usize
+    requires { ⌜ length (h .nodes) ≡ 64 ⌝ }
+    ensures { λ r. ⌜ ((l : List Node) → Holds h l → Put (now (out .entry)) 0 (answerText (zeros 901) (zeros 64) (now (eclipse .entry)) l) (now (out .exit)) r) ⌝ }
+{
+    let mut sines = [0u32; 901];
+    let mut steps = [0u64; 64];
+    let answer = networks::network(eclipse, h, &mut sines, &mut steps);
+    match answer {
+        Answer::Named(named) => {
+            let e = networks::eclipse_from(eclipse);
+            put_named(out, named, e, h, &sines, &steps)
+        }
+        Answer::Refused(refusal) => put_refused(out, refusal),
+    }
+}
+
+// What the program writes: the answer to a typed network, or what is wrong with it.
+fn respond(text: &[u8], out: &mut [u8], message: &mut [u8]) -> Streams
+    ensures { λ r. ⌜ Put (now (out .entry)) 0 (output (now (text .entry))) (now (out .exit)) (r .output) ⌝ }
+    ensures { λ r. ⌜ Put (now (message .entry)) 0 (error (now (text .entry))) (now (message .exit)) (r .error) ⌝ }
+{
+    if 65536 < text.len() {
+        let long = decimals::put_text(message, 0, b"the text has more than 65,536 bytes\n");
+        return Streams {
+            output: 0,
+            error: long,
+        };
+    }
+    let mut eclipse = [0i64; 25];
+    let reading = network_text::network(text, &mut eclipse);
+    let typed = reading.answer;
+    let held = reading.held;
+    match typed {
+        Typed::Network => {
+            let printed = put_answer(out, &eclipse, held);
+            Streams {
+                output: printed,
+                error: 0,
+            }
+        }
+        Typed::Refused(line, fault) => {
+            let told = put_fault(message, text, line, fault);
+            Streams {
+                output: 0,
+                error: told,
+            }
+        }
+    }
+}
+
+fn main() {
+    // a byte more than is taken, so that a longer text is seen
+    let mut text = [0u8; 65537];
+    let length = io::read_full(STDIN_FILENO, &mut text);
+    // 64 lines of `station 999 steps 64`, and one of `first 999 to -10800`
+    let mut lines = [0u8; 2048];
+    // no message is longer: its word is a part of the text
+    let mut message = [0u8; 65_623];
+    let streams = respond(&text[..length], &mut lines, &mut message);
+    let output = decimals::clipped(&lines, streams.output);
+    let error = decimals::clipped(&message, streams.error);
+    io::write_all(STDOUT_FILENO, &lines[..output]);
+    io::write_all(STDERR_FILENO, &message[..error]);
+}

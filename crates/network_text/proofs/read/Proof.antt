@@ -1,0 +1,232 @@
+-- `network_text::read` meets its contract: the lines passed were taken, so the reading is that of those left (`Walked`). The measure is how many bytes
+-- are left. Assumes nothing.
+use mathlib.Core.Path.{_≡_, sym, ap, subst, _∙_}
+use Prim.Native.Nat.{ℕ, _+_, _-_, _≤_}
+use borrow.Author.Needs.{needs}
+use native.Mathlib.Omega.{arith}
+use lib.ListN.{length, take, drop}
+use lib.Seq.{length-take-le}
+use Rattle.words.specs.declared.Class.the-variants as C
+use Rattle.words.specs.Text.{runOf}
+use Rattle.words.specs.TextLaws.{rest-is, line-within}
+use Rattle.network_text.specs.declared.Told.{Told}
+use Rattle.network_text.specs.Typing.{listedBy}
+use Rattle.network_text.specs.TypingLaws.{Taking, told-room, Walked, walked-start, walked-count, end-missing, end-all, told, line-refused, line-taken}
+use Rattle.network_text.proofs.read.Statement.{statement}
+use Rattle.network_text.proofs.read.Tie as tie
+
+abbrev Inv-loop : tie.InvT-loop
+Inv-loop text marks₀ found₀ held₀ at₀ line₀ marks found held at line = Walked text marks found held at line
+
+abbrev μ-loop : tie.MeasureT-loop
+μ-loop text marks₀ found₀ held₀ at₀ line₀ marks found held at line = length text + 1 - at
+
+-- a mark and a number for each field
+lent : (c : tie.Start Inv-loop μ-loop) → (length (c .args .marks .now) ≡ 30) × (length (c .args .found .now) ≡ 30)
+lent c = (ap length (c .pre .0), ap length (c .pre .1))
+
+module _ (c : tie.At-loop Inv-loop μ-loop) where
+  abbrev start : tie.Start Inv-loop μ-loop
+  start = c .before .before .before .before
+
+  walked : Walked (start .args .text .now) (c .loop .marks) (c .loop .found) (c .loop .held) (c .loop .at) (c .loop .line)
+  walked = c .loop .inv
+
+  -- nothing changes a length
+  same-marks : length (c .loop .marks) ≡ length (start .args .marks .now)
+  same-marks = walked .marked ∙ sym (lent (start) .0)
+
+  same-found : length (c .loop .found) ≡ length (start .args .found .now)
+  same-found = walked .fields ∙ sym (lent (start) .1)
+
+-- the line at the text's place
+module _ (c : tie.After-run Inv-loop μ-loop) where
+  abbrev loop : tie.In-loop Inv-loop μ-loop
+  loop = c .before .before
+
+  ran : c .run .result ≡ runOf C.Line (drop (loop .before .loop .at) (start (loop .before) .args .text .now))
+  ran = c .run .ensures .0 ∙ ap (runOf C.Line) (rest-is (start (loop .before) .args .text .now) (loop .before .loop .at))
+
+  inside : loop .before .loop .at + c .run .result ≤ length (start (loop .before) .args .text .now)
+  inside = line-within _ _ _ (loop .loop-test .taken) ran
+
+-- the line as it was taken
+module _ (c : tie.After-take Inv-loop μ-loop) where
+  abbrev at-run : tie.After-run Inv-loop μ-loop
+  at-run = c .before .before .before .before .before
+
+  took : Taking (told _ _ _ _ _ _ (walked (loop at-run .before)) (at-run .run .result) (loop at-run .loop-test .taken) (ran at-run))
+      (loop at-run .before .loop .held) (loop at-run .before .loop .marks) (loop at-run .before .loop .found)
+      (c .take .result .listed) (c .take .result .held) (c .take .last .1 .1 .0) (c .take .last .1 .1 .1 .0)
+  took = subst (λ (x : Told). Taking x (loop at-run .before .loop .held) (loop at-run .before .loop .marks) (loop at-run .before .loop .found)
+      (c .take .result .listed) (c .take .result .held) (c .take .last .1 .1 .0) (c .take .last .1 .1 .1 .0))
+      (c .before .before .before .tell .ensures) (c .take .ensures)
+
+-- where it was refused, and where not
+abbrev refused : tie.After-known-told Inv-loop μ-loop → tie.After-take Inv-loop μ-loop
+refused c = c .before .before .before .before .before .before .before
+
+abbrev taken : tie.After-enum-told Inv-loop μ-loop → tie.After-take Inv-loop μ-loop
+taken c = c .before .before .before .before .before .before
+
+slice-set-of-found : tie.Need-slice-set-of-found Inv-loop μ-loop
+slice-set-of-found c = let l = lent (c .before .before) in omega arith
+
+empty-requires : tie.Need-empty-requires Inv-loop μ-loop
+empty-requires c κs = search needs
+
+loop-holds : tie.Need-loop-holds Inv-loop μ-loop
+loop-holds c = let s = c .before .before .before in walked-start _ _ _ _ (s .pre .0) (s .pre .1) (c .empty .ensures)
+
+sub-run : tie.Need-sub-run Inv-loop μ-loop
+sub-run c = search needs
+
+part-run-start : tie.Need-part-run-start Inv-loop μ-loop
+part-run-start c = search needs
+
+part-run-end : tie.Need-part-run-end Inv-loop μ-loop
+part-run-end c = search needs
+
+run-requires : tie.Need-run-requires Inv-loop μ-loop
+run-requires c κs = search needs
+
+add-end : tie.Need-add-end Inv-loop μ-loop
+add-end c = let i = inside c in search needs
+
+sub-tell : tie.Need-sub-tell Inv-loop μ-loop
+sub-tell c = search needs
+
+part-tell-start : tie.Need-part-tell-start Inv-loop μ-loop
+part-tell-start c = search needs
+
+part-tell-end : tie.Need-part-tell-end Inv-loop μ-loop
+part-tell-end c = inside c
+
+tell-requires : tie.Need-tell-requires Inv-loop μ-loop
+tell-requires c κs = search needs
+
+take-requires : tie.Need-take-requires Inv-loop μ-loop
+take-requires c κs =
+    let r = c .before .before .before .before in
+    let l = loop r .before in
+    let i = inside r in
+    let w = walked l in (
+      w .fields ∙ sym (w .marked),
+      told-room _ _ _ (c .before .before .tell .ensures) (w .marked),
+      omega (arith, walked-count _ _ _ _ _ _ w, w .lines),
+    )
+
+enum-known-listed : tie.Need-enum-known-listed Inv-loop μ-loop
+enum-known-listed c = search needs
+
+same-length : tie.Need-same-length Inv-loop μ-loop
+same-length c = let n = refused c in n .take .kept .1 .1 .0 ∙ same-marks (loop (at-run n) .before)
+
+same-length-2 : tie.Need-same-length-2 Inv-loop μ-loop
+same-length-2 c = let n = refused c in n .take .kept .1 .1 .1 .0 ∙ same-found (loop (at-run n) .before)
+
+returns : tie.Need-returns Inv-loop μ-loop
+returns c =
+    let n = refused c in
+    let r = at-run n in
+    line-refused _ _ _ _ _ _ (walked (loop r .before)) _ (loop r .loop-test .taken) (ran r) _ _ _ (sym (took n .0 .0) ∙ c .before .listed .given .1)
+
+enum-told : tie.Need-enum-told Inv-loop μ-loop
+enum-told c = search needs
+
+add-at : tie.Need-add-at Inv-loop μ-loop
+add-at c = let i = inside (at-run (taken c)) in search needs
+
+add-line : tie.Need-add-line Inv-loop μ-loop
+add-line c =
+    let r = at-run (taken c) in
+    let i = inside r in
+    let w = walked (loop r .before) .lines in search needs
+
+loop-less : tie.Need-loop-less Inv-loop μ-loop
+loop-less c = let i = inside (at-run (taken c)) in search needs
+
+loop-again : tie.Need-loop-again Inv-loop μ-loop
+loop-again c =
+    let n = taken c in
+    let r = at-run n in
+    let w = walked (loop r .before) in
+    line-taken _ _ _ _ _ _ w _ (loop r .loop-test .taken) (ran r) _ _ _ (sym (took n .0 .0) ∙ c .enum-told .given .1) (took n .1 .0) (took n .1 .1) (took n .0 .1)
+    (n .take .kept .1 .1 .0 ∙ w .marked) (n .take .kept .1 .1 .1 .0 ∙ w .fields)
+
+slice-reshare-prefix-complete : tie.Need-slice-reshare-prefix-complete Inv-loop μ-loop
+slice-reshare-prefix-complete c = omega (arith, walked (c .before) .marked)
+
+slice-aggregate-complete : tie.Need-slice-aggregate-complete Inv-loop μ-loop
+slice-aggregate-complete c = let l = c .before .before in sym (length-take-le 29 (l .loop .marks) (omega (arith, walked l .marked)))
+
+complete-requires : tie.Need-complete-requires Inv-loop μ-loop
+complete-requires c κs = search needs
+
+enum-known-all : tie.Need-enum-known-all Inv-loop μ-loop
+enum-known-all c = search needs
+
+same-length-3 : tie.Need-same-length-3 Inv-loop μ-loop
+same-length-3 c = same-marks (c .before .before .before .before .before .before)
+
+same-length-4 : tie.Need-same-length-4 Inv-loop μ-loop
+same-length-4 c = same-found (c .before .before .before .before .before .before)
+
+returns-2 : tie.Need-returns-2 Inv-loop μ-loop
+returns-2 c =
+    let e = c .before .before .before in
+    end-missing _ _ _ _ _ _ (walked (e .before .before .before)) (e .before .before .loop-test .left) _ (ap listedBy (sym (e .complete .ensures) ∙ c .before .all .given .1))
+
+enum-told-2 : tie.Need-enum-told-2 Inv-loop μ-loop
+enum-told-2 c = search needs
+
+same-length-5 : tie.Need-same-length-5 Inv-loop μ-loop
+same-length-5 c = same-marks (c .before .before .before .before .before)
+
+same-length-6 : tie.Need-same-length-6 Inv-loop μ-loop
+same-length-6 c = same-found (c .before .before .before .before .before)
+
+returns-3 : tie.Need-returns-3 Inv-loop μ-loop
+returns-3 c =
+    let e = c .before .before in
+    end-all _ _ _ _ _ _ (walked (e .before .before .before)) (e .before .before .loop-test .left) (ap listedBy (sym (e .complete .ensures) ∙ c .enum-told2 .given .1))
+
+pub read-spec : {M : Type 1} → statement M
+read-spec =
+    tie.close
+    (tie.spec
+    Inv-loop
+    μ-loop
+    slice-set-of-found
+    empty-requires
+    loop-holds
+    sub-run
+    part-run-start
+    part-run-end
+    run-requires
+    add-end
+    sub-tell
+    part-tell-start
+    part-tell-end
+    tell-requires
+    take-requires
+    enum-known-listed
+    same-length
+    same-length-2
+    returns
+    enum-told
+    add-at
+    add-line
+    loop-less
+    loop-again
+    slice-reshare-prefix-complete
+    slice-aggregate-complete
+    complete-requires
+    enum-known-all
+    same-length-3
+    same-length-4
+    returns-2
+    enum-told-2
+    same-length-5
+    same-length-6
+    returns-3)

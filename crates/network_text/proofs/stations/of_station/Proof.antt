@@ -1,0 +1,175 @@
+-- `network_text::stations::of_station` meets its contract: the words passed gave the first numbers of the row (`Rowed`). The measure is how many words are left.
+-- Assumes nothing.
+use mathlib.Core.Path.{refl, sym, ap, _∙_}
+use Prim.Native.Nat.{_+_, _-_, _≤_}
+use borrow.Author.Needs.{needs}
+use borrow.Author.Tests.{not-true, not-false}
+use native.Mathlib.Omega.{arith}
+use lib.ListN.{length}
+use Rattle.numbers.specs.Code.{read-back}
+use Rattle.network_text.specs.declared.Told.the-variants as T
+use Rattle.network_text.specs.StationLaws.{word-small, Rowed, rowed-start, rowed-all, rowed-more, gap-within, word-within, rowed-turn, rowed-fault}
+use Rattle.network_text.proofs.stations.of_station.Statement.{statement}
+use Rattle.network_text.proofs.stations.of_station.Tie as tie
+
+abbrev Inv-loop : tie.InvT-loop
+Inv-loop s row₀ at₀ k₀ row at k = Rowed s row at k
+
+abbrev μ-loop : tie.MeasureT-loop
+μ-loop s row₀ at₀ k₀ row at k = 6 - k
+
+-- the blanks before a word, and the word, end within the line
+gap : (c : tie.After-run Inv-loop μ-loop) → c .before .before .before .loop .at + c .run .result ≤ length (c .before .before .before .before .before .args .s .now)
+gap c = gap-within _ _ _ _ (c .before .before .before .loop .inv) (c .before .before .loop-test .taken) _ (c .run .ensures .0)
+
+word : (c : tie.After-run2 Inv-loop μ-loop)
+    → c .before .before .before .before .before .loop .at + c .before .before .run .result + c .run2 .result
+    ≤ length (c .before .before .before .before .before .before .before .args .s .now)
+word c =
+    let r = c .before .before in
+    word-within _ _ _ _ (r .before .before .before .loop .inv) (r .before .before .loop-test .taken) _ (r .run .ensures .0) _ (c .run2 .ensures .0)
+
+loop-holds : tie.Need-loop-holds Inv-loop μ-loop
+loop-holds c = rowed-start _ _ refl
+
+sub-run : tie.Need-sub-run Inv-loop μ-loop
+sub-run c = omega (arith, c .before .loop .inv .place)
+
+part-run-start : tie.Need-part-run-start Inv-loop μ-loop
+part-run-start c = c .before .loop .inv .place
+
+part-run-end : tie.Need-part-run-end Inv-loop μ-loop
+part-run-end c = search needs
+
+run-requires : tie.Need-run-requires Inv-loop μ-loop
+run-requires c κs = search needs
+
+add-from : tie.Need-add-from Inv-loop μ-loop
+add-from c = let g = gap c in search needs
+
+sub-run-2 : tie.Need-sub-run-2 Inv-loop μ-loop
+sub-run-2 c = let g = gap c in search needs
+
+part-run-start-2 : tie.Need-part-run-start-2 Inv-loop μ-loop
+part-run-start-2 c = gap c
+
+part-run-end-2 : tie.Need-part-run-end-2 Inv-loop μ-loop
+part-run-end-2 c = search needs
+
+run-requires-2 : tie.Need-run-requires-2 Inv-loop μ-loop
+run-requires-2 c κs = search needs
+
+add-end : tie.Need-add-end Inv-loop μ-loop
+add-end c = let g = word c in search needs
+
+sub-word-of : tie.Need-sub-word-of Inv-loop μ-loop
+sub-word-of c = search needs
+
+part-word-of-start : tie.Need-part-word-of-start Inv-loop μ-loop
+part-word-of-start c = search needs
+
+part-word-of-end : tie.Need-part-word-of-end Inv-loop μ-loop
+part-word-of-end c = word c
+
+word-of-requires : tie.Need-word-of-requires Inv-loop μ-loop
+word-of-requires c κs = search needs
+
+enum-known-word : tie.Need-enum-known-word Inv-loop μ-loop
+enum-known-word c = search needs
+
+mul-row : tie.Need-mul-row Inv-loop μ-loop
+mul-row c = search needs
+
+array-set-from-row : tie.Need-array-set-from-row Inv-loop μ-loop
+array-set-from-row c = search needs
+
+enum-known-word-2 : tie.Need-enum-known-word-2 Inv-loop μ-loop
+enum-known-word-2 c = search needs
+
+returns : tie.Need-returns Inv-loop μ-loop
+returns c =
+    let w = c .before .before .before in
+    let two = w .before .before in
+    let one = two .before .before in
+    rowed-fault _ _ _ _ (one .before .before .before .loop .inv) (one .before .before .loop-test .taken) _ (one .run .ensures .0) _ (two .run2 .ensures .0)
+    _ (w .word-of .ensures) _ (c .before .word2 .given .1)
+
+add-k : tie.Need-add-k Inv-loop μ-loop
+add-k c = search needs
+
+loop-less : tie.Need-loop-less Inv-loop μ-loop
+loop-less c = search needs
+
+loop-again : tie.Need-loop-again Inv-loop μ-loop
+loop-again c =
+    let w = c .before .before .before in
+    let two = w .before .before in
+    let one = two .before .before in
+    let z = c .before .word .given .0 .0 in
+    rw (read-back z (word-small _ _ z (sym (w .word-of .ensures) ∙ c .before .word .given .1)) tt)
+    (rowed-turn _ _ _ _ (one .before .before .before .loop .inv) (one .before .before .loop-test .taken) _ (one .run .ensures .0) _ (two .run2 .ensures .0)
+    _ (w .word-of .ensures) z (c .before .word .given .1))
+
+sub-all : tie.Need-sub-all Inv-loop μ-loop
+sub-all c = omega (arith, c .before .loop .inv .place)
+
+part-all-start : tie.Need-part-all-start Inv-loop μ-loop
+part-all-start c = c .before .loop .inv .place
+
+part-all-end : tie.Need-part-all-end Inv-loop μ-loop
+part-all-end c = search needs
+
+all-requires : tie.Need-all-requires Inv-loop μ-loop
+all-requires c κs = search needs
+
+returns-2 : tie.Need-returns-2 Inv-loop μ-loop
+returns-2 c =
+    let a = c .before in
+    let l = a .before .before in
+    rowed-more _ _ _ _ (l .before .loop .inv) (l .loop-test .left) (sym (a .all .ensures) ∙ not-true _ (c .if1 .taken))
+
+node-of-requires : tie.Need-node-of-requires Inv-loop μ-loop
+node-of-requires c κs = search needs
+
+returns-3 : tie.Need-returns-3 Inv-loop μ-loop
+returns-3 c =
+    let a = c .before .before in
+    let l = a .before .before in
+    ap T.Station (c .node-of .ensures) ∙ rowed-all _ _ _ _ (l .before .loop .inv) (l .loop-test .left) (sym (a .all .ensures) ∙ not-false _ (c .before .if1 .left))
+
+pub of-station-spec : {M : Type 1} → statement M
+of-station-spec =
+    tie.close
+    (tie.spec
+    Inv-loop
+    μ-loop
+    loop-holds
+    sub-run
+    part-run-start
+    part-run-end
+    run-requires
+    add-from
+    sub-run-2
+    part-run-start-2
+    part-run-end-2
+    run-requires-2
+    add-end
+    sub-word-of
+    part-word-of-start
+    part-word-of-end
+    word-of-requires
+    enum-known-word
+    mul-row
+    array-set-from-row
+    enum-known-word-2
+    returns
+    add-k
+    loop-less
+    loop-again
+    sub-all
+    part-all-start
+    part-all-end
+    all-requires
+    returns-2
+    node-of-requires
+    returns-3)

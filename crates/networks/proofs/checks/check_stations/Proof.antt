@@ -1,0 +1,117 @@
+-- `networks::checks::check_stations` meets its contract: what the stations from i on are refused for is what all are. Assumes nothing.
+use mathlib.Core.Path.{_≡_, refl, sym, ap, _∙_, subst}
+use mathlib.Core.List.{List}
+use Prim.Native.Nat.{ℕ, _+_, _-_, _≤_, _<_}
+use native.Mathlib.Omega.{arith}
+use borrow.Author.Needs.{needs}
+use lib.ListN.{length, getD, take, drop}
+use lib.Seq.{getD-take, length-take-le}
+use Rattle.refusals.specs.declared.Checked.{Checked}
+use Rattle.station.specs.Station.{stationChecked}
+use Rattle.nodes.specs.declared.Node.{Node}
+use Rattle.nodes.specs.Held.{blankNode}
+use Rattle.networks.specs.Network.{stationsChecked}
+use Rattle.networks.specs.CheckLaws.{field-small, stations-refused, stations-more, stations-end}
+use Rattle.networks.proofs.checks.check_stations.Statement.{statement}
+use Rattle.networks.proofs.checks.check_stations.Tie as tie
+
+abbrev Inv-loop : tie.InvT-loop
+Inv-loop n h i₀ i = (i ≤ n) × (stationsChecked i (drop i (take n (h .nodes))) ≡ stationsChecked 0 (take n (h .nodes)))
+
+abbrev μ-loop : tie.MeasureT-loop
+μ-loop n h i₀ i = n - i
+
+-- ---- a station
+module _ (c : tie.After-check Inv-loop μ-loop) where
+  abbrev inside : tie.In-loop Inv-loop μ-loop
+  inside = c .before .before .before
+
+  abbrev start : tie.Start Inv-loop μ-loop
+  start = inside .before .before
+
+  abbrev i : ℕ
+  i = inside .before .loop .i
+
+  abbrev list : List Node
+  list = take (start .args .n) (start .args .t1 .nodes)
+
+  within : i < length list
+  within = omega (arith, inside .loop-test .taken, length-take-le (start .args .n) (start .args .t1 .nodes) (omega (arith, start .pre .0, start .pre .1)))
+
+  answered : stationChecked (getD list i blankNode .station) ≡ c .check .result
+  answered =
+      ap (λ (n : Node). stationChecked (n .station)) (getD-take (start .args .n) (start .args .t1 .nodes) i blankNode (inside .loop-test .taken))
+      ∙ sym (c .check .ensures)
+
+loop-holds : tie.Need-loop-holds Inv-loop μ-loop
+loop-holds c = (omega arith, refl)
+
+mul-x : tie.Need-mul-x Inv-loop μ-loop
+mul-x c = search needs
+
+element-copy-out-x : tie.Need-element-copy-out-x Inv-loop μ-loop
+element-copy-out-x c = search needs
+
+check-requires : tie.Need-check-requires Inv-loop μ-loop
+check-requires c κs = search needs
+
+enum-known-c : tie.Need-enum-known-c Inv-loop μ-loop
+enum-known-c c = search needs
+
+mul-place : tie.Need-mul-place Inv-loop μ-loop
+mul-place c = search needs
+
+add-place : tie.Need-add-place Inv-loop μ-loop
+add-place c =
+    let k = c .before .before .before .before in
+    let f = field-small _ _ (answered k ∙ c .before .before .c .given .1) in
+    record { fits = omega (arith, f, inside k .loop-test .taken, start k .pre .0) }
+
+returns : tie.Need-returns Inv-loop μ-loop
+returns c =
+    let k = c .before .before .before .before in
+    sym (stations-refused (list k) (i k) (within k) _ (answered k ∙ c .before .before .c .given .1)) ∙ inside k .before .loop .inv .1
+
+enum-told : tie.Need-enum-told Inv-loop μ-loop
+enum-told c = search needs
+
+add-i : tie.Need-add-i Inv-loop μ-loop
+add-i c = search needs
+
+loop-less : tie.Need-loop-less Inv-loop μ-loop
+loop-less c = search needs
+
+loop-again : tie.Need-loop-again Inv-loop μ-loop
+loop-again c =
+    let k = c .before .before in (
+      omega (arith, inside k .loop-test .taken),
+      sym (stations-more (list k) (i k) (within k) (answered k ∙ c .enum-told .given .1)) ∙ inside k .before .loop .inv .1,
+    )
+
+returns-2 : tie.Need-returns-2 Inv-loop μ-loop
+returns-2 c =
+    let l = c .before .loop in
+    let a = c .before .before in
+    sym (stations-end (take (a .args .n) (a .args .t1 .nodes)) (l .i)
+    (omega (arith, c .loop-test .left, length-take-le (a .args .n) (a .args .t1 .nodes) (omega (arith, a .pre .0, a .pre .1)))))
+    ∙ l .inv .1
+
+pub check-stations-spec : {M : Type 1} → statement M
+check-stations-spec =
+    tie.close
+    (tie.spec
+    Inv-loop
+    μ-loop
+    loop-holds
+    mul-x
+    element-copy-out-x
+    check-requires
+    enum-known-c
+    mul-place
+    add-place
+    returns
+    enum-told
+    add-i
+    loop-less
+    loop-again
+    returns-2)

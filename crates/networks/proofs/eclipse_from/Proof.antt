@@ -1,0 +1,44 @@
+-- `networks::eclipse_from` meets its contract: each number is read from its place. Assumes nothing.
+use lib.IntN.{pos}
+use lib.ListN.{getD}
+use borrow.Author.Needs.{needs}
+use Rattle.numbers.specs.Code.{read-result}
+use Rattle.networks.specs.Network.{eclipseOf}
+use Rattle.networks.proofs.eclipse_from.Statement.{statement}
+use Rattle.networks.proofs.eclipse_from.Tie as tie
+
+from-numbers-requires : tie.Need-from-numbers-requires
+from-numbers-requires c κs = search needs
+
+shared-slice-copy-out-first : tie.Need-shared-slice-copy-out-first
+shared-slice-copy-out-first c = search needs
+
+shared-slice-copy-out-last : tie.Need-shared-slice-copy-out-last
+shared-slice-copy-out-last c = search needs
+
+shared-slice-copy-out-guard : tie.Need-shared-slice-copy-out-guard
+shared-slice-copy-out-guard c = search needs
+
+returns : tie.Need-returns
+unfolding eclipseOf
+returns c =
+    let l = c .before in
+    let f = l .before in
+    let e = f .before in
+    let n = e .before .args .n .now in
+    rw (
+      e .from-numbers .ensures,
+      read-result (getD n 22 (pos 0)) (f .first .given),
+      read-result (getD n 23 (pos 0)) (l .last .given),
+      read-result (getD n 24 (pos 0)) (c .guard .given),
+    )
+
+pub eclipse-from-spec : {M : Type 1} → statement M
+eclipse-from-spec =
+    tie.close
+    (tie.spec
+    from-numbers-requires
+    shared-slice-copy-out-first
+    shared-slice-copy-out-last
+    shared-slice-copy-out-guard
+    returns)

@@ -1,0 +1,77 @@
+-- `networks::put_steps` meets its contract: the first i places have their steps. Assumes nothing.
+use mathlib.Core.Path.{_≡_, refl, sym, ap, _∙_, subst}
+use mathlib.Core.List.{List, []}
+use Prim.Native.Nat.{ℕ, _+_, _-_, _≤_, _<_}
+use native.Mathlib.Omega.{arith}
+use borrow.Author.Needs.{needs}
+use lib.ListN.{length, getD, take, set, length-set}
+use lib.Seq.{take-all}
+use Rattle.nodes.specs.Copy.{grow}
+use Rattle.networks.proofs.put_steps.Statement.{statement}
+use Rattle.networks.proofs.put_steps.Tie as tie
+
+abbrev Inv-loop : tie.InvT-loop
+Inv-loop told steps₀ i₀ steps i = (i ≤ 64) × (length steps ≡ 64) × (take i steps ≡ take i told)
+
+abbrev μ-loop : tie.MeasureT-loop
+μ-loop told steps₀ i₀ steps i = 64 - i
+
+loop-holds : tie.Need-loop-holds Inv-loop μ-loop
+loop-holds c = (omega arith, c .before .before .pre .1, refl)
+
+shared-slice-read-wide : tie.Need-shared-slice-read-wide Inv-loop μ-loop
+shared-slice-read-wide c = search needs
+
+wide-requires : tie.Need-wide-requires Inv-loop μ-loop
+wide-requires c κs = search needs
+
+mul-steps : tie.Need-mul-steps Inv-loop μ-loop
+mul-steps c = search needs
+
+slice-write-steps : tie.Need-slice-write-steps Inv-loop μ-loop
+slice-write-steps c = search needs
+
+add-i : tie.Need-add-i Inv-loop μ-loop
+add-i c = search needs
+
+loop-less : tie.Need-loop-less Inv-loop μ-loop
+loop-less c = search needs
+
+loop-again : tie.Need-loop-again Inv-loop μ-loop
+loop-again c =
+    let t = c .before .before in
+    let l = t .before .loop in
+    let s = t .before .before .before .before in (
+      omega (arith, t .loop-test .taken),
+      length-set (l .steps) (l .i) _ ∙ l .inv .1,
+      grow (s .args .told .now) (l .steps) (l .i) _ 0 (omega (arith, l .inv .1, t .loop-test .taken)) (omega (arith, s .pre .0, t .loop-test .taken)) (c .wide .ensures) (l .inv .2),
+    )
+
+same-length : tie.Need-same-length Inv-loop μ-loop
+same-length c = let s = c .before .before .before .before in c .before .loop .inv .1 ∙ sym (s .pre .1)
+
+returns : tie.Need-returns Inv-loop μ-loop
+returns c =
+    let l = c .before .loop in
+    let s = c .before .before .before .before in
+    let e : l .i ≡ 64 = omega (arith, l .inv .0, c .loop-test .left) in
+    sym (take-all 64 (l .steps) (omega (arith, l .inv .1)))
+    ∙ subst (λ (k : ℕ). take k (l .steps) ≡ take k (s .args .told .now)) e (l .inv .2)
+    ∙ take-all 64 (s .args .told .now) (omega (arith, s .pre .0))
+
+pub put-steps-spec : {M : Type 1} → statement M
+put-steps-spec =
+    tie.close
+    (tie.spec
+    Inv-loop
+    μ-loop
+    loop-holds
+    shared-slice-read-wide
+    wide-requires
+    mul-steps
+    slice-write-steps
+    add-i
+    loop-less
+    loop-again
+    same-length
+    returns)

@@ -1,0 +1,28 @@
+-- `ukhtvaresh::stations::told` meets its contract: the answer of `network`, as numbers. Assumes nothing.
+use mathlib.Core.Path.{ap, _∙_}
+use borrow.Author.Needs.{needs}
+use Rattle.ukhtvaresh.specs.declared.Reply.{Reply}
+use Rattle.ukhtvaresh.specs.NetworkReply.{networkReply}
+use Rattle.ukhtvaresh.proofs.stations.told.Statement.{statement}
+use Rattle.ukhtvaresh.proofs.stations.told.Tie as tie
+
+network-requires : tie.Need-network-requires
+network-requires c κs = c .before .before .before .before .pre
+
+network-reply-requires : tie.Need-network-reply-requires
+network-reply-requires c κs = search needs
+
+same-length : tie.Need-same-length
+same-length c = search needs
+
+same-length-2 : tie.Need-same-length-2
+same-length-2 c = search needs
+
+returns : tie.Need-returns
+returns c = λ l k.
+    let a = c .before .before .before .before .before .network .ensures l k in
+    let e = c .network-reply .ensures ∙ ap networkReply (a .answer) in
+    record { is-number = ap (λ (x : Reply). x .number) e; is-value = ap (λ (x : Reply). x .value) e; is-room = a .room; is-steps = a .told }
+
+pub told-spec : {M : Type 1} → statement M
+told-spec = tie.close (tie.spec network-requires network-reply-requires same-length same-length-2 returns)
