@@ -18,7 +18,7 @@ import subprocess
 import sys
 from pathlib import Path
 
-from request import FIELDS, LEFT_OUT, STATION, UNSIGNED2, typed, units
+from request import FIELDS, LEFT_OUT, STATION, UNSIGNED2, compare, typed, units
 
 TOP = Path(__file__).resolve().parent.parent
 PROGRAM = TOP / "target/bin/network"
@@ -217,23 +217,10 @@ def texts(count, seed):
         yield text(draw)
 
 
-def main():
-    count = int(sys.argv[1]) if len(sys.argv) > 1 else 1000
-    seed = int(sys.argv[2]) if len(sys.argv) > 2 else 1954
-    kinds = {}
-    for tried, given in enumerate(texts(count, seed), 1):
-        ran = subprocess.run([PROGRAM], input=given, capture_output=True)
-        wanted = answer(given)
-        if (ran.stdout, ran.stderr) != wanted:
-            sys.exit(f"text {tried}: {given!r}\nwrote  {ran.stdout!r} {ran.stderr!r}\nwanted {wanted[0]!r} {wanted[1]!r}")
-        kind = re.sub(rb"line \d+: ((tan f\d|delta t|[a-z0-9]+) (?=is|has))?", b"", wanted[1])
-        kind = re.sub(rb"(?s)(?<=unknown name) .*", b"", kind).decode().strip()
-        last = wanted[0].decode().split("\n")[-2:][0]
-        kind = kind or re.sub(r"(?<=first )[1-9].*", "a station", re.sub(r"(?<=refused) (\d+) .*", r" \1", last))
-        kinds[kind] = kinds.get(kind, 0) + 1
-    print(f"{tried} texts, no difference")
-    for kind, number in sorted(kinds.items(), key=lambda pair: -pair[1]):
-        print(f"  {number:6} {kind}")
+def kind_of(printed):
+    """What the last line says, but for the station and the place."""
+    last = printed.decode().split("\n")[-2:][0]
+    return re.sub(r"(?<=first )[1-9].*", "a station", re.sub(r"(?<=refused) (\d+) .*", r" \1", last))
 
 
 if __name__ == "__main__":
@@ -243,4 +230,4 @@ if __name__ == "__main__":
         except Fault as fault:
             sys.exit(fault.args[0].decode(errors="replace").rstrip())
     else:
-        main()
+        compare(PROGRAM, texts, answer, kind_of, 1000)

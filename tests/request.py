@@ -203,17 +203,18 @@ def texts(count, seed):
         yield text(draw)
 
 
-def main():
-    count = int(sys.argv[1]) if len(sys.argv) > 1 else 2000
+def compare(program, texts, answer, kind_of, most):
+    """Holds a program against `answer`, text by text, and tells how many there were of each kind. `most` texts unless one is typed."""
+    count = int(sys.argv[1]) if len(sys.argv) > 1 else most
     seed = int(sys.argv[2]) if len(sys.argv) > 2 else 1954
     kinds = {}
     for tried, given in enumerate(texts(count, seed), 1):
-        ran = subprocess.run([PROGRAM], input=given, capture_output=True)
+        ran = subprocess.run([program], input=given, capture_output=True)
         wanted = answer(given)
         if (ran.stdout, ran.stderr) != wanted:
             sys.exit(f"text {tried}: {given!r}\nwrote  {ran.stdout!r} {ran.stderr!r}\nwanted {wanted[0]!r} {wanted[1]!r}")
         kind = re.sub(rb"line \d+: ((tan f\d|delta t|[a-z0-9]+) (?=is|has))?", b"", wanted[1])
-        kind = re.sub(rb"(?s)(?<=unknown name) .*", b"", kind).decode().strip() or f"{len(wanted[0])} bytes"
+        kind = re.sub(rb"(?s)(?<=unknown name) .*", b"", kind).decode().strip() or kind_of(wanted[0])
         kinds[kind] = kinds.get(kind, 0) + 1
     print(f"{tried} texts, no difference")
     for kind, number in sorted(kinds.items(), key=lambda pair: -pair[1]):
@@ -221,4 +222,4 @@ def main():
 
 
 if __name__ == "__main__":
-    main()
+    compare(PROGRAM, texts, answer, lambda written: f"{len(written)} bytes", 2000)

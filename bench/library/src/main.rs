@@ -1,9 +1,11 @@
 //! `bench ROUNDS`: the compiled library and document 01 in plain Rust, timed in turns in one process; the best of all rounds of each.
 
 use agreement::library;
+use agreement::networks::stations;
 use reference::doubles;
 use reference::elements::Window;
 use reference::listing::{sheet_of_input, star_of_input};
+use reference::network::{network, Network, Node};
 use reference::random::Random;
 use reference::request::{Request, REQUEST_LENGTH};
 use reference::sample::{self, Manner};
@@ -97,6 +99,53 @@ fn stars(rounds: usize) {
                 ours / theirs
             );
         }
+    }
+}
+
+/// A list of eleven stations, one degree of latitude apart, each on the clock of the one before: the library, the reference, and the
+/// library's eleven sheets.
+fn networks(rounds: usize) {
+    let kiev = sample::kiev_1954();
+    let node = |place: i64| {
+        let mut station = kiev.station;
+        station.number = place + 1;
+        station.latitude += 1_000_000 * place;
+        Node { station, clock: place }
+    };
+    for seconds in [600, 6_000, 21_601] {
+        let nodes = (0..11).map(node).collect();
+        let asked = Network { elements: kiev.elements, window: window(seconds), guard: kiev.guard, nodes };
+        let (eclipse, list) = (asked.eclipse(), stations(&asked));
+        let requests: Vec<_> =
+            asked.nodes.iter().map(|node| in_window(&asked.request(node), seconds)).collect();
+        let (mut a, mut b, mut sines, mut other, mut sheet) =
+            ([0; 64], [0; 64], [0; 901], [0; 901], [0; 4096]);
+        let times = (20_000 / seconds).max(1) as usize;
+        let (ours, theirs) = best(
+            rounds,
+            times,
+            || _ = black_box(library::network(black_box(&eclipse), &list, &mut sines, &mut a)),
+            || _ = black_box(network(black_box(&eclipse), &asked.nodes, &mut other, &mut b)),
+        );
+        assert_eq!(a, b);
+        let (_, alone) = best(
+            rounds,
+            times,
+            || (),
+            || {
+                for request in &requests {
+                    _ = black_box(library::sheet(black_box(request), &mut sines, &mut sheet));
+                }
+            },
+        );
+        println!(
+            "network of eleven {seconds:6} s: library {:8.1} us, reference {:8.1} us, ratio {:.2}; eleven sheets {:8.1} us, ratio {:.2}",
+            ours * 1e6,
+            theirs * 1e6,
+            ours / theirs,
+            alone * 1e6,
+            ours / alone
+        );
     }
 }
 
@@ -315,6 +364,7 @@ fn main() {
     let rounds = std::env::args().nth(1).map_or(100, |n| n.parse().expect("a number of rounds"));
     sheets(rounds);
     stars(rounds);
+    networks(rounds);
     shares(rounds);
     let mut hand = [0; 45];
     sample::hand_worked().sheet(&mut hand).expect("room enough");
