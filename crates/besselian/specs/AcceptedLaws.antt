@@ -7,12 +7,11 @@ use native.Mathlib.Omega.{arith}
 use native.Mathlib.Nat.{mul-le-mul, lt-of-not-le}
 use lib.IntN.{ℤ, pos, natAbs, _+ℤ_, _*ℤ_}
 use lib.Signed.{leZ, _≤ℤ_}
-use Rattle.numbers.specs.Order.{≤-parts, leZ-true, both-ways}
+use Rattle.numbers.specs.Order.{≤-parts, square-natAbs, leZ-true, both-ways}
 use Rattle.numbers.specs.Ring.{_⊕_, _⊗_, v0, v1, v2, v3}
 use Rattle.numbers.specs.Cert.{leq, sq, _⊞_, certify}
 use Rattle.besselian.specs.declared.Row.{Row}
 use Rattle.besselian.specs.Exact.{_², Gx, Gy, Gz, N, between, level, moonDistance, sunDistance, accepted}
-use Rattle.besselian.specs.ErrorSteps.{square-natAbs}
 
 -- z² ≤ m² gives |z| ≤ m
 size-of-square : (z : ℤ) (m : ℕ) → z ² ≤ℤ pos (m * m) → natAbs z ≤ m

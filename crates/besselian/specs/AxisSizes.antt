@@ -1,13 +1,13 @@
 -- How large the numbers of an accepted row are.
 use mathlib.Core.Path.{_≡_, refl, ap}
 use mathlib.Core.List.{[], _∷_}
-use Prim.Native.Nat.{ℕ, _+_, _*_, _-_, _≤_, _<_}
+use Prim.Native.Nat.{ℕ, _+_, _*_, _≤_, _<_}
 use native.Mathlib.Omega.{arith}
 use native.Mathlib.Nat.{mul-le-mul, lt-of-not-le}
 use lib.IntN.{ℤ, pos, negℤ, natAbs, _+ℤ_, _-ℤ_, _*ℤ_}
 use lib.Signed.{_≤ℤ_, leZ-yes}
 use Rattle.numbers.specs.Parts.{sum, opposite}
-use Rattle.numbers.specs.Order.{≤-parts, le-natAbs, neg-natAbs, natAbs-sum, natAbs-minus}
+use Rattle.numbers.specs.Order.{≤-parts, le-natAbs, neg-natAbs, natAbs-sum, natAbs-minus, square-natAbs}
 use Rattle.numbers.specs.Ring.{num, _⊕_, _⊖_, _⊗_, opp, ring, v0, v1, v2, v3, v4, v5}
 use Rattle.numbers.specs.Cert.{leq, lit, sq, _⊞_, _⊠_, certify}
 use Rattle.numbers.specs.NearLaws.{near-error, near-size}
@@ -17,7 +17,7 @@ use Rattle.besselian.specs.declared.Row.{Row}
 use Rattle.besselian.specs.Exact.{_², Gx, Gy, Gz, P, N}
 use Rattle.besselian.specs.Rounded.{gx, gy, gz, flat, whole, r, R}
 use Rattle.besselian.specs.AcceptedLaws.{Accepted, moon-sizes, sun-sizes, sun-low}
-use Rattle.besselian.specs.ErrorSteps.{square-natAbs, square-error}
+use Rattle.besselian.specs.ErrorSteps.{square-error}
 
 -- s² ≤ (s − m)² + 2 A B, for |s| ≤ A and |m| ≤ B
 apart : (s m : ℤ) (A B : ℕ) → natAbs s ≤ A → natAbs m ≤ B → s ² ≤ℤ ((s -ℤ m) ² +ℤ pos 2 *ℤ (pos A *ℤ pos B))

@@ -1,17 +1,13 @@
 -- The steps of the errors, over any numbers: each is an equation, and the sizes of its terms.
-use mathlib.Core.Path.{_≡_, refl, ap}
+use mathlib.Core.Path.{ap}
 use mathlib.Core.List.{[], _∷_}
 use Prim.Native.Nat.{ℕ, _+_, _*_, _≤_}
 use native.Mathlib.Omega.{arith}
 use native.Mathlib.Nat.{mul-le-mul, mul-le-mul-left, le-trans}
-use lib.IntN.{ℤ, pos, negsuc, negℤ, natAbs, _+ℤ_, _-ℤ_, _*ℤ_}
+use lib.IntN.{ℤ, pos, negℤ, natAbs, _+ℤ_, _-ℤ_, _*ℤ_}
 use Rattle.numbers.specs.Parts.{sum, opposite}
 use Rattle.numbers.specs.Order.{natAbs-by, natAbs-sum, natAbs-minus, natAbs-product, natAbs-product-le}
 use Rattle.numbers.specs.Ring.{num, _⊕_, _⊖_, _⊗_, opp, ring, v0, v1, v2, v3, v4, v5, v6, v7, v8}
-
-pub square-natAbs : (z : ℤ) → z *ℤ z ≡ pos (natAbs z * natAbs z)
-square-natAbs (pos n) = refl
-square-natAbs (negsuc n) = refl
 
 -- G is 1000 g within 500: G² is 10^6 g² within 10^6 |g| + 250,000
 pub square-error : (G g : ℤ) → natAbs (pos 1000 *ℤ g -ℤ G) ≤ 500 → natAbs (G *ℤ G -ℤ pos 1000000 *ℤ (g *ℤ g)) ≤ 1000000 * natAbs g + 250000

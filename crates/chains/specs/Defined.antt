@@ -1,6 +1,6 @@
 -- The same as functions, so that an answer is given by an equation. That they are what `Steps` says is proved in `DefinedLaws` and `Meaning`.
 use Prim.Native.Nat.{ℕ, zero, suc}
-use mathlib.Core.Bool.{Bool, true, false, not, _&&_}
+use mathlib.Core.Bool.{Bool, true, false, cond, not, _&&_}
 use mathlib.Core.List.{List, [], _∷_}
 use lib.Dec.{eqb, ltb, leb}
 use lib.ListN.{length, getD}
@@ -12,14 +12,10 @@ eqZ (pos m) (negsuc n) = false
 eqZ (negsuc m) (pos n) = false
 eqZ (negsuc m) (negsuc n) = eqb m n
 
-abbrev pub pickN : Bool → ℕ → ℕ → ℕ
-pickN true a b = a
-pickN false a b = b
-
 -- the first number below n that passes the test t, or n
 unfoldable pub firstOf : (ℕ → Bool) → ℕ → ℕ
 firstOf t zero = 0
-firstOf t (suc n) = pickN (ltb (firstOf t n) n) (firstOf t n) (pickN (t n) n (suc n))
+firstOf t (suc n) = cond (ltb (firstOf t n) n) (firstOf t n) (cond (t n) n (suc n))
 
 -- the first place of x, or the length
 abbrev pub placeOf : List ℤ → ℤ → ℕ
@@ -39,7 +35,7 @@ more (suc n) = suc (suc n)
 
 unfoldable pub chain : List ℤ → List ℤ → ℕ → ℕ → ℕ
 chain ns cs zero i = 0
-chain ns cs (suc k) i = pickN (ltb i (length ns)) (pickN (eqZ (getD cs i (pos 0)) (pos 0)) 1 (more (chain ns cs k (placeOf ns (getD cs i (pos 0)))))) 0
+chain ns cs (suc k) i = cond (ltb i (length ns)) (cond (eqZ (getD cs i (pos 0)) (pos 0)) 1 (more (chain ns cs k (placeOf ns (getD cs i (pos 0)))))) 0
 
 -- no chain is longer than the list
 abbrev pub stepsAt : List ℤ → List ℤ → ℕ → ℕ

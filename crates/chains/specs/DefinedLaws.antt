@@ -7,18 +7,17 @@ use mathlib.Core.Path.{_≡_, refl, sym, ap, _∙_, subst}
 use Prim.Native.Nat.{ℕ, zero, suc, _+_, _<_, _≤_}
 use native.Mathlib.Omega.{arith}
 use native.Mathlib.Decide.{decLt, ℕ-discrete}
-use mathlib.Core.Bool.{Bool, true, false, not, _&&_}
+use mathlib.Core.Bool.{Bool, true, false, cond, not, _&&_}
 use mathlib.Core.List.{List, [], _∷_}
-use borrow.Author.Tests.{eqb-true, eqb-false, eq-eqb, ne-eqb, ltb-true, ltb-false, lt-ltb, le-ltb, leb-true, le-leb}
-use lib.Dec.{eqb, ltb, leb}
+use borrow.Author.Tests.{eqb-true, eq-eqb, ltb-true, ltb-false, lt-ltb, le-ltb, leb-true, le-leb}
+use lib.Dec.{ltb, leb}
 use lib.ListN.{length, getD, set, replicate, length-set, length-replicate}
-use lib.Seq.{getD-set-same}
 use lib.IntN.{ℤ, pos, negsuc}
 use Rattle.chains.specs.First.{First, first-one}
 use Rattle.chains.specs.Steps.{At, Repeats, Distinct, Stray, Steps, antenna, follows, Lost, StepsAre, Smallest}
 use Rattle.chains.specs.Search.{Sound, zeros}
 use Rattle.chains.specs.Laws.{distinct-one, steps-place, steps-one, zeros-set, sound-set, at-set, all-zero, distinct-from, steps-are-one}
-use Rattle.chains.specs.Defined.{eqZ, pickN, firstOf, placeOf, repeatB, strayB, more, chain, stepsAt, tab, stepsOf, lostB, firstRepeat, firstStray, firstLost, noneBelow, smallestB, earliestOf}
+use Rattle.chains.specs.Defined.{eqZ, firstOf, placeOf, repeatB, strayB, more, chain, stepsAt, tab, stepsOf, lostB, firstRepeat, firstStray, firstLost, noneBelow, smallestB, earliestOf}
 
 -- ---- equality of numbers, as a test
 pub eqZ-true : (x y : ℤ) → eqZ x y ≡ true → x ≡ y
@@ -46,7 +45,7 @@ eqZ-no x y n = go (eqZ x y) refl
 
 -- ---- the first place
 module _ (P : ℕ → Type 0) (t : ℕ → Bool) (N : ℕ) (yes-P : (k : ℕ) → k < N → t k ≡ true → P k) (P-yes : (k : ℕ) → k < N → P k → t k ≡ true) where
-  one-more : (n r : ℕ) (a b : Bool) → n < N → ltb r n ≡ a → t n ≡ b → First P n r → First P (suc n) (pickN a r (pickN b n (suc n)))
+  one-more : (n r : ℕ) (a b : Bool) → n < N → ltb r n ≡ a → t n ≡ b → First P n r → First P (suc n) (cond a r (cond b n (suc n)))
   one-more n r true b v e d p = let l : r < n = ltb-true r n e in record { within = omega arith; before = p .before; found = λ _. p .found l }
   one-more n r false true v e d p = let l : n ≤ r = ltb-false r n e in record { within = omega arith; before = λ k h. p .before k (omega arith); found = λ _. yes-P n v d }
   one-more n r false false v e d p = let l : n ≤ r = ltb-false r n e in record {
@@ -72,7 +71,7 @@ module _ (ns cs : List ℤ) where
   leader i = placeOf ns (getD cs i (pos 0))
 
   sound-go : (i c : ℕ) (a b : Bool) → ltb i (length ns) ≡ a → eqZ (getD cs i (pos 0)) (pos 0) ≡ b → ((c ≡ 0 → ⊥) → Steps ns cs (leader i) c)
-      → (pickN a (pickN b 1 (more c)) 0 ≡ 0 → ⊥) → Steps ns cs i (pickN a (pickN b 1 (more c)) 0)
+      → (cond a (cond b 1 (more c)) 0 ≡ 0 → ⊥) → Steps ns cs i (cond a (cond b 1 (more c)) 0)
   sound-go i c false b e d s h = absurd (h refl)
   sound-go i c true true e d s h = antenna (ltb-true i (length ns) e) (eqZ-true (getD cs i (pos 0)) (pos 0) d)
   sound-go i zero true false e d s h = absurd (h refl)

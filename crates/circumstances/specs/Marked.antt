@@ -10,13 +10,13 @@ use Rattle.sine.specs.Table.{factorial, numerator, denominator, common, term, s
 use Rattle.sine.specs.FirstQuadrant.{arc, sag, between, capped, firstQuadrant}
 use Rattle.sine.specs.Sine.{reduced, sineIn, sine, cosine}
 use Rattle.sine.specs.Examples.{sine-of-30, sine-of-least, sine-capped, cosine-of-180}
-use Rattle.elements.specs.declared.Elements.{Elements}
 use Rattle.elements.specs.Polynomial.{step, quadraticAt, cubicAt}
 use Rattle.station.specs.declared.Station.{Station}
 use Rattle.station.specs.Place.{under, W, C, Z, h, R, P, turnIn, ephemerisLongitude, placeOf}
 use Rattle.station.specs.Examples.{pole-R, pole-P, equator-R, equator-P}
 use Rattle.geometry.specs.Shadow.{H, q, ξ, η, ζ, u, v, L, state}
 use Rattle.geometry.specs.Direction.{direction}
+use Rattle.geometry.specs.Examples.{worked}
 use Rattle.shadow.specs.Second as Shadow
 use Rattle.shadow.specs.Examples.{direction-of-1-1, direction-of-0-minus-5}
 use Rattle.contacts.specs.Entries.{someBetween}
@@ -30,27 +30,13 @@ use Rattle.kinds.specs.StoredSeconds.{stored}
 use Rattle.courses.specs.Courses.{statesOf, phaseEntries}
 use Rattle.circumstances.specs.Sheet.{courseOf}
 
--- "x1 = 36,000,000, y0 = 99,664,768, l1 = 54,000,000, l2 = -1,000,000, μ1 = 15,000,000, tan f1 = 460,000, tan f2 = 458,000, all other elements 0"
-abbrev elements : Elements
-elements =
-    record {
-      axis = record {
-        x = record { c0 = pos 0; c1 = pos 36000000; c2 = pos 0; c3 = pos 0 };
-        y = record { c0 = pos 99664768; c1 = pos 0; c2 = pos 0; c3 = pos 0 };
-        d = record { c0 = pos 0; c1 = pos 0; c2 = pos 0 };
-        mu = record { c0 = pos 0; c1 = pos 15000000; c2 = pos 0 };
-      };
-      penumbra = record { l = record { c0 = pos 54000000; c1 = pos 0; c2 = pos 0 }; tanf = pos 460000 };
-      central = record { l = record { c0 = negsuc 999999; c1 = pos 0; c2 = pos 0 }; tanf = pos 458000 };
-    }
-
 -- "station 7, latitude 90,000,000, longitude 0, height 0"; document 02, wish 1: "a ΔT of 0 keeps its cases"
 abbrev pole : Station
 pole = record { number = pos 7; latitude = pos 90000000; longitude = pos 0; height = pos 0; deltat = pos 0 }
 
 -- document 02, wish 9: "the cases in document 01 use guard 16"; wish 4: "(the program never does)" ask for a share
 abbrev pub hand-worked : (first last : ℤ) → Request
-hand-worked first last = record { elements = elements; station = pole; window = record { first = first; last = last }; guard = pos 16; share = false }
+hand-worked first last = record { elements = worked; station = pole; window = record { first = first; last = last }; guard = pos 16; share = false }
 
 -- "window 5400..5400 gives open 5400 5400": the penumbra has that one entry, stored plus 10,800
 open-5400 : phaseEntries (courseOf (ofEclipse (hand-worked (pos 5400) (pos 5400)))) Penumbra ≡ opened Penumbra 16200 16200 ∷ []

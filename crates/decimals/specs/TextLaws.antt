@@ -9,6 +9,7 @@ use borrow.Author.Tests.{leb-true, leb-false}
 use lib.Dec.{leb}
 use lib.ListN.{length, length-append, length-drop, drop-of-length-le, set, take, drop}
 use lib.Seq.{sets, set-out, length-sets, take-all}
+use Rattle.numbers.specs.Stores.{sets-append}
 use Rattle.decimals.specs.Texts.{capped, Put}
 
 -- ---- the cap
@@ -49,12 +50,6 @@ capped-sum a b = by (is-capped a)
     by (high h e) = capped-high (capped a + b) (omega arith) ∙ sym (capped-high (a + b) (omega arith))
 
 -- ---- stores
-
-pub sets-append : (x y l : List ℕ) (i : ℕ) → sets l i (x ++ y) ≡ sets (sets l i x) (i + length x) y
-sets-append [] y l i = rw add-zero
-sets-append (a ∷ x) y l i =
-    let e : i + suc (length x) ≡ suc i + length x = omega arith in
-    rw e (sets-append x y (set l i a) (suc i))
 
 -- past the end nothing changes
 sets-past : (x l : List ℕ) (i : ℕ) → length l ≤ i → sets l i x ≡ l

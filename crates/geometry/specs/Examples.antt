@@ -47,7 +47,9 @@ unfolding state
 none-inside = refl
 
 -- ---- the hand-worked sheet: at the pole, at some seconds
-abbrev worked : Elements
+
+-- "x1 = 36,000,000, y0 = 99,664,768, l1 = 54,000,000, l2 = -1,000,000, μ1 = 15,000,000, tan f1 = 460,000, tan f2 = 458,000, all other elements 0"
+abbrev pub worked : Elements
 worked =
     record {
       axis = record {

@@ -3,35 +3,30 @@
 --   stations-..                             one station more
 --   clocks-..                               the ways of 14, 15, 16
 --   checked-..                              the ways of a check
-use mathlib.Core.Path.{_≡_, refl, sym, ap, _∙_, subst}
+use mathlib.Core.Path.{_≡_, refl, sym, ap, _∙_}
 use mathlib.Core.Bool.{Bool, true, false, cond, _&&_}
-use mathlib.Core.List.{List, [], _∷_, map}
+use mathlib.Core.List.{List, [], _∷_}
 use Prim.Native.Nat.{ℕ, zero, suc, _+_, _*_, _≤_, _<_}
 use native.Mathlib.Omega.{arith}
 use native.Mathlib.Numerals.{add-one}
 use native.Mathlib.Nat.{zero-add}
 use borrow.Author.Tests.{lt-ltb, le-ltb, ltb-false, le-leb, lt-leb, leb-true}
-use lib.Dec.{eqb, ltb, leb}
-use lib.IntN.{ℤ, pos}
-use lib.ListN.{length, getD, take, drop, drop-of-length-le}
+use lib.Dec.{ltb, leb}
+use lib.IntN.{ℤ}
+use lib.ListN.{length, getD, drop, drop-of-length-le}
 use lib.Seq.{drop-cons}
-use Rattle.numbers.specs.declared.Limits.{Limits}
-use Rattle.numbers.specs.declared.Limits.the-variants.{InRange, OutOfRange}
-use Rattle.numbers.specs.Limits.{Row, outOfRange, firstOutOfRange}
 use Rattle.refusals.specs.declared.Refusal.{Refusal}
 use Rattle.refusals.specs.declared.Checked.{Checked}
 use Rattle.refusals.specs.declared.Checked.the-variants as C
-use Rattle.refusals.specs.Refusals.{refusal, ofLimits, andThen}
-use Rattle.refusals.specs.RefusalLaws.{not-within, both-within}
+use Rattle.refusals.specs.Refusals.{refusal, andThen}
+use Rattle.refusals.specs.RefusalLaws.{not-within, both-within, then-within, then-refused}
 use Rattle.elements.specs.declared.Body.the-variants.{Sun}
 use Rattle.elements.specs.Stars.{bodyChecked}
-use Rattle.station.specs.declared.Station.{Station}
-use Rattle.station.specs.Station.{ranges, rangeOf, stationChecked}
+use Rattle.station.specs.Station.{stationChecked}
 use Rattle.requests.specs.declared.Occultation.{Occultation}
 use Rattle.requests.specs.Requests as Requests
 use Rattle.requests.specs.Requests.{ofEclipse, windowChecked, guardChecked}
-use Rattle.requests.specs.RequestLaws.{InLimits, in-limits}
-use Rattle.chains.specs.First.{First}
+use Rattle.requests.specs.RequestLaws.{InLimits, in-limits, checked-order}
 use Rattle.chains.specs.Defined.{firstRepeat, firstStray, firstLost}
 use Rattle.chains.specs.DefinedLaws.{first-repeat}
 use Rattle.nodes.specs.declared.Node.{Node}
@@ -44,50 +39,10 @@ use Rattle.networks.specs.Network.{requestOf, sizeChecked, eclipseChecke
 abbrev pub AllWithin : Eclipse → List Node → Type 0
 AllWithin e l = (i : ℕ) → i < length l → InLimits (ofEclipse (requestOf e (getD l i blankNode .station)))
 
--- ---- checks one after the other
-then-within : (c d : Checked) → c ≡ C.Within → andThen c d ≡ d
-then-within c d e = rw e
-
-then-refused : (c d : Checked) (r : Refusal) → c ≡ C.Refused r → andThen c d ≡ C.Refused r
-then-refused c d r e = rw e
-
-then-then : (a b c : Checked) → andThen (andThen a b) c ≡ andThen a (andThen b c)
-then-then C.Within b c = refl
-then-then (C.Refused r) b c = refl
-
+-- ten times the first place adds nothing
 at-first : (c : Checked) → atPlace 0 c ≡ c
 at-first C.Within = refl
 at-first (C.Refused r) = ap (λ (k : ℕ). C.Refused (refusal (r .number) k)) (zero-add (r .place))
-
--- ---- the field of a 3 is one of five
-out-within : (i : ℕ) (rs : List Row) (k : ℕ) → firstOutOfRange i rs ≡ OutOfRange k → k < i + length rs
-unfolding firstOutOfRange
-out-within i [] k e = absurd (subst isOut (sym e) tt)
-  where
-    isOut : Limits → Type 0
-    isOut InRange = ⊥
-    isOut (OutOfRange k) = Unit
-out-within i (r ∷ rs) k e = go (outOfRange r) e (out-within (suc i) rs k)
-  where
-    place : Limits → ℕ
-    place InRange = i
-    place (OutOfRange k) = k
-
-    go : (b : Bool) → cond b (OutOfRange i) (firstOutOfRange (suc i) rs) ≡ OutOfRange k → (firstOutOfRange (suc i) rs ≡ OutOfRange k → k < suc i + length rs) → k < i + length (r ∷ rs)
-    go true h rest = let z : i ≡ k = ap place h in omega arith
-    go false h rest = let z : k < suc i + length rs = rest h in omega arith
-
-out-place : (number : ℕ) (x : Limits) (r : Refusal) → ofLimits number x ≡ C.Refused r → x ≡ OutOfRange (r .place)
-out-place number InRange r e = absurd (not-within (sym e))
-out-place number (OutOfRange k) r e = ap OutOfRange (ap place e)
-  where
-    place : Checked → ℕ
-    place C.Within = 0
-    place (C.Refused q) = q .place
-
-pub field-small : (s : Station) (r : Refusal) → stationChecked s ≡ C.Refused r → r .place < 5
-unfolding rangeOf ranges
-field-small s r e = out-within 0 (ranges s) (r .place) (out-place 3 (rangeOf s) r e)
 
 -- ---- one station more
 module _ (l : List Node) (i : ℕ) (h : i < length l) where
@@ -188,8 +143,8 @@ module _ (e : Eclipse) (l : List Node) where
     sized = rw (le-leb 1 (length l) (omega arith), le-leb (length l) 64 high)
 
     pub checked-alone : (r : Refusal) → Requests.checked (alone 0) ≡ C.Refused r → checked e l ≡ C.Refused r
-    unfolding checked Requests.checked
-    checked-alone r h = then-within (sizeChecked l) _ sized ∙ go l low h
+    unfolding checked
+    checked-alone r h = then-within (sizeChecked l) _ sized ∙ go l low (sym (checked-order (alone 0)) ∙ h)
       where
         go : (k : List Node) → 0 < length k
             → andThen (windowChecked (e .window)) (andThen (guardChecked (e .guard)) (andThen (bodyChecked (Sun (e .elements))) (stationChecked (getD k 0 blankNode .station)))) ≡ C.Refused r
@@ -201,9 +156,9 @@ module _ (e : Eclipse) (l : List Node) where
 
     module _ (first : Requests.checked (alone 0) ≡ C.Within) where
       rest : checked e l ≡ andThen (stationsChecked 0 l) (clocksChecked (numbersOf l) (clocksOf l))
-      unfolding checked Requests.checked
+      unfolding checked
       rest =
-          let w = both-within (windowChecked (e .window)) _ first in
+          let w = both-within (windowChecked (e .window)) _ (sym (checked-order (alone 0)) ∙ first) in
           let g = both-within (guardChecked (e .guard)) _ (w .1) in
           let b = both-within (bodyChecked (Sun (e .elements))) _ (g .1) in
           then-within (sizeChecked l) _ sized ∙ rw (w .0, g .0, b .0)
@@ -236,8 +191,7 @@ module _ (e : Eclipse) (l : List Node) where
     clocks-accepted = parts .3
 
     pub all-within : AllWithin e l
-    unfolding Requests.checked
     all-within i h =
         let w = both-within (windowChecked (e .window)) _ (parts .1) in
         let g = both-within (guardChecked (e .guard)) _ (w .1) in
-        in-limits (alone i) (rw (w .0, g .0, g .1) (each-station 0 l (parts .2) i h))
+        in-limits (alone i) (checked-order (alone i) ∙ rw (w .0, g .0, g .1) (each-station 0 l (parts .2) i h))

@@ -8,6 +8,7 @@ pub mod Order
 pub mod Ring
 pub mod Cert
 pub mod Floor
+pub mod Stores
 pub mod NearLaws
 pub mod RootLaws
 pub mod RoundsLaws

@@ -1,5 +1,5 @@
--- Laws of ranges: `InRange` says that each number is in its range, what the search does at one place, and that a range of either sign
--- treats a number as it treats its opposite.
+-- Laws of ranges: `InRange` says that each number is in its range, `OutOfRange` gives a place of the list, what the search does at one
+-- place, and that a range of either sign treats a number as it treats its opposite.
 use mathlib.Core.Path.{_≡_, refl, sym, _∙_, ap, subst}
 use mathlib.Core.Bool.{Bool, true, false, cond, _||_}
 use mathlib.Core.List.{List, [], _∷_}
@@ -35,6 +35,21 @@ each-in-range i (r ∷ rs) e =
     go true b ea eb e rest = absurd (subst isInRange (sym e) tt)
     go false true ea eb e rest = absurd (subst isInRange (sym e) tt)
     go false false ea eb e rest = ((ltZ-false (r .value) (r .low) ea, ltZ-false (r .high) (r .value) eb), rest e)
+
+-- the place that is given is one of the list's
+pub out-within : (i : ℕ) (rs : List Row) (k : ℕ) → firstOutOfRange i rs ≡ OutOfRange k → k < i + length rs
+unfolding firstOutOfRange
+out-within i [] k e = absurd (subst isInRange e tt)
+out-within i (r ∷ rs) k e = go (outOfRange r) e (out-within (suc i) rs k)
+  where
+    place : Limits → ℕ
+    place InRange = i
+    place (OutOfRange k) = k
+
+    go : (b : Bool) → cond b (OutOfRange i) (firstOutOfRange (suc i) rs) ≡ OutOfRange k
+        → (firstOutOfRange (suc i) rs ≡ OutOfRange k → k < suc i + length rs) → k < i + length (r ∷ rs)
+    go true h rest = let z : i ≡ k = ap place h in omega arith
+    go false h rest = let z : k < suc i + length rs = rest h in omega arith
 
 -- what the search answers for numbers that are listed is what it answers for the list
 pub of-listed : {r : Limits} {xs ys : List ℤ} (ls hs : List ℤ) → r ≡ firstOutOfRange 0 (rows xs ls hs) → xs ≡ ys → r ≡ firstOutOfRange 0 (rows ys ls hs)

@@ -1,12 +1,12 @@
 -- Laws of entries as bytes and as numbers.
-use Prim.Native.Nat.{ℕ, suc, _+_, _*_}
+use Prim.Native.Nat.{ℕ, _+_, _*_}
 use mathlib.Core.Path.{_≡_, refl, sym, ap, _∙_}
 use mathlib.Core.List.{List, [], _∷_, _++_}
 use native.Mathlib.Omega.{arith}
-use native.Mathlib.Nat.{add-zero}
 use native.Mathlib.Numerals.{add-one}
 use lib.ListN.{length, length-append, set}
 use lib.Seq.{sets}
+use Rattle.numbers.specs.Stores.{sets-append}
 use Rattle.kinds.specs.declared.Width.{Width}
 use Rattle.kinds.specs.declared.Width.the-variants.{Absent, Two, Four}
 use Rattle.kinds.specs.declared.Widths.{Widths}
@@ -63,12 +63,6 @@ length-numbers [] = refl
 length-numbers (e ∷ es) = omega (arith, length-numbers es)
 
 -- ---- an entry put into a buffer
-
-pub sets-append : (x y l : List ℕ) (i : ℕ) → sets l i (x ++ y) ≡ sets (sets l i x) (i + length x) y
-sets-append [] y l i = rw add-zero
-sets-append (a ∷ x) y l i =
-    let e : i + suc (length x) ≡ suc i + length x = omega arith in
-    rw e (sets-append x y (set l i a) (suc i))
 
 -- a number, and what is put right behind it
 sets-number : (w : Width) (v : ℕ) (y l : List ℕ) (i j : ℕ) → j ≡ i + bytesIn w → sets (sets l i (number w v)) j y ≡ sets l i (number w v ++ y)

@@ -1,7 +1,6 @@
 -- What callers use of checks.
 use mathlib.Core.Path.{_≡_, refl, sym, subst, ap}
 use Prim.Native.Nat.{ℕ}
-use native.Mathlib.Omega.{arith}
 use Rattle.numbers.specs.declared.Limits.{Limits}
 use Rattle.numbers.specs.declared.Limits.the-variants.{InRange, OutOfRange}
 use Rattle.refusals.specs.declared.Refusal.{Refusal}
@@ -20,6 +19,22 @@ not-within e = subst isWithin (sym e) tt
 pub of-limits-within : (number : ℕ) (l : Limits) → ofLimits number l ≡ Within → l ≡ InRange
 of-limits-within number InRange e = refl
 of-limits-within number (OutOfRange k) e = absurd (not-within e)
+
+-- a refusal has the place of the number that is out of its range
+pub of-limits-refused : (number : ℕ) (l : Limits) (r : Refusal) → ofLimits number l ≡ Refused r → l ≡ OutOfRange (r .place)
+of-limits-refused number InRange r e = absurd (not-within (sym e))
+of-limits-refused number (OutOfRange k) r e = ap OutOfRange (ap place e)
+  where
+    place : Checked → ℕ
+    place Within = 0
+    place (Refused q) = q .place
+
+-- one check, and another where it finds nothing
+pub then-within : (c d : Checked) → c ≡ Within → andThen c d ≡ d
+then-within c d e = rw e
+
+pub then-refused : (c d : Checked) (r : Refusal) → c ≡ Refused r → andThen c d ≡ Refused r
+then-refused c d r e = rw e
 
 -- nothing is refused by both
 pub both-within : (c d : Checked) → andThen c d ≡ Within → (c ≡ Within) × (d ≡ Within)

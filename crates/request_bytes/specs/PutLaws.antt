@@ -1,14 +1,14 @@
 -- Laws of the numbers put one after the other (`Putting`).
 use mathlib.Core.Path.{_≡_, sym, ap, _∙_}
 use mathlib.Core.Bool.{true, false}
-use mathlib.Core.List.{List, [], _∷_, _++_, append-nil}
+use mathlib.Core.List.{List, _++_, append-nil}
 use Prim.Native.Nat.{ℕ, zero, suc, _+_, _≤_, _<_}
 use native.Mathlib.Omega.{arith}
-use native.Mathlib.Nat.{add-zero}
 use native.Mathlib.Decide.{decLt}
 use lib.IntN.{ℤ, pos}
-use lib.ListN.{length, getD, drop, set, length-append, drop-of-length-le}
+use lib.ListN.{length, getD, drop, length-append, drop-of-length-le}
 use lib.Seq.{sets, sets-eq, length-sets}
+use Rattle.numbers.specs.Stores.{sets-append}
 use Rattle.request_fields.specs.declared.Field.{Field}
 use Rattle.request_fields.specs.declared.Shape.{Shape}
 use Rattle.request_fields.specs.Fields.{bytesIn, holds, countOf}
@@ -24,11 +24,6 @@ use Rattle.request_bytes.specs.RowLaws.{rest-all, pieces-count, rest-end
 
 -- ---- bytes one after the other
 
-pub sets-append : (l : List ℕ) (i : ℕ) (a b : List ℕ) → sets l i (a ++ b) ≡ sets (sets l i a) (i + length a) b
-sets-append l i [] b = rw (add-zero i)
-sets-append l i (x ∷ a) b =
-    sets-append (set l i x) (suc i) a b ∙ ap (λ (k : ℕ). sets (sets (set l i x) (suc i) a) k b) (omega arith)
-
 sets-whole : (l b : List ℕ) → length l ≡ length b → sets l 0 b ≡ b
 sets-whole l b e = sets-eq b l 0 (omega arith) ∙ ap (λ (r : List ℕ). b ++ r) (drop-of-length-le l {i = 0 + length b} (omega arith)) ∙ append-nil b
 
@@ -40,7 +35,7 @@ field-length f z = length-append (kindBytes (f .4)) (numberBytes (f .3) z) ∙ o
 pub field-put : (f : Field) (z : ℤ) (out kinds new : List ℕ) (at start : ℕ) → start ≡ at + length (kindBytes (f .4)) → kinds ≡ sets out at (kindBytes (f .4))
     → new ≡ sets kinds start (numberBytes (f .3) z) → new ≡ sets out at (fieldBytes f z)
 unfolding fieldBytes
-field-put f z out kinds new at start e p q = q ∙ rw (p, e) (sym (sets-append out at (kindBytes (f .4)) (numberBytes (f .3) z)))
+field-put f z out kinds new at start e p q = q ∙ rw (p, e) (sym (sets-append (kindBytes (f .4)) (numberBytes (f .3) z) out at))
 
 -- ---- the numbers before number k are put, in the bytes before `at`
 
@@ -97,7 +92,7 @@ module _ (s : Shape) (ns : List ℤ) (made : List ℕ) (at k : ℕ) (e : length 
         rw (a, b)
         (record {
           fits = p .fits ∙ fits-next s ns k h (omega arith) ∙ rw t;
-          bytes = sym (sets-append made at field (left s ns (k + 1))) ∙ ap (sets made at) (sym next) ∙ p .bytes;
+          bytes = sym (sets-append field (left s ns (k + 1)) made at) ∙ ap (sets made at) (sym next) ∙ p .bytes;
           place = omega (arith, p .place, ap (λ (l : List ℕ). length l) next, length-append field (left s ns (k + 1)));
           room = length-sets made at field ∙ p .room;
           fields = omega arith;

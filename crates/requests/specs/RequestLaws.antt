@@ -2,8 +2,9 @@
 --   in-limits                what `Within` says of its window, its guard, its elements and its station
 --   guard-is, guard-size     a guard in its range
 --   never-room               the numbers raise no 4
+--   checked-order            a check's parts in their order
 --   checked-window, checked-guard, checked-element, checked-station   the ways of a check
-use mathlib.Core.Path.{_≡_, refl, sym, ap}
+use mathlib.Core.Path.{_≡_, refl, sym}
 use mathlib.Core.Bool.{Bool, true, false, cond, not, _&&_}
 use Prim.Native.Nat.{ℕ, _≤_}
 use native.Mathlib.Omega.{arith}
@@ -108,6 +109,10 @@ not-false false e = sym e
 
 -- ---- the ways of a check
 module _ (o : Occultation) where
+  pub checked-order : checked o ≡ andThen (windowChecked (o .window)) (andThen (guardChecked (o .guard)) (andThen (bodyChecked (o .body)) (stationChecked (o .station))))
+  unfolding checked
+  checked-order = refl
+
   pub checked-window : windowHolds (o .window) ≡ false → checked o ≡ C.Refused (refusal 1 0)
   unfolding checked
   checked-window eb = rw eb

@@ -7,13 +7,13 @@ use mathlib.Core.Bool.{true, false}
 use native.Mathlib.Omega.{arith}
 use lib.ListN.{length, length-append}
 use lib.Seq.{sets, length-sets}
+use Rattle.numbers.specs.Stores.{sets-append}
 use Rattle.refusals.specs.declared.Refusal.{Refusal}
 use Rattle.kinds.specs.declared.Entry.{Entry}
 use Rattle.kinds.specs.declared.Progress.{Progress}
 use Rattle.records.specs.declared.Record.{Record}
 use Rattle.records.specs.declared.Record.the-variants.{Is, Refused}
 use Rattle.kinds.specs.Kinds.{isEnd}
-use Rattle.records.specs.EntryLaws.{sets-append}
 use Rattle.rules.specs.Rules.{afterOf}
 use Rattle.sheets.specs.Sheets.{sheet, sheetFrom}
 use Rattle.sheets.specs.GivenLaws.{Went, from-inv}

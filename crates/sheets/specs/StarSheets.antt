@@ -32,6 +32,7 @@ use Rattle.sheets.specs.SheetLaws.{read-start}
 use Rattle.sheets.specs.StandLaws.{well-from}
 use Rattle.sheets.specs.StoredLaws.{stored-steady}
 use Rattle.sheets.specs.WellFormed.{WellFormed, within}
+use Rattle.sheets.specs.WellFormedLaws.{star-end}
 
 -- an entry of a star
 abbrev pub ofStar : Entry → Bool
@@ -70,17 +71,7 @@ star-follows Star b o = refl
 after-closest : (es : List Entry) (f l : ℕ) → WellFormed (reached S.StarClosest f l) es → AllBesideStar es
 unfolding WellFormed
 after-closest [] f l w = absurd w
-after-closest (e ∷ es) f l w = by (e .kind) (e .a) (e .b) (e .c) (e .d) w
-  where
-    by : (k : Kind) (a b c d : ℕ) → WellFormed (reached S.StarClosest f l) (entry k a b c d ∷ es) → AllBesideStar (entry k a b c d ∷ es)
-    by K.Head a b c d v = absurd (distinct (sym (v .0)))
-    by (K.Enter φ) a b c d v = absurd (distinct (sym (v .0)))
-    by (K.Leave φ) a b c d v = absurd (distinct (sym (v .0)))
-    by (K.Graze φ) a b c d v = absurd (distinct (sym (v .0)))
-    by (K.Open φ) a b c d v = absurd (distinct (sym (v .0)))
-    by K.Closest a b c d v = absurd (distinct (sym (v .0)))
-    by K.Share a b c d v = absurd (distinct (sym (v .0)))
-    by K.End a b c d v = (tt, rw (v .2) tt)
+after-closest (e ∷ es) f l w = let q = star-end f l e (w .0) in let none : es ≡ [] = rw q at (w .2) in rw (q, none) (tt, tt)
 
 after-star : (es : List Entry) (f l u : ℕ) (t : Crossing) → WellFormed (within Star f l u t) es → AllBesideStar es
 unfolding WellFormed

@@ -24,7 +24,7 @@ use Rattle.kinds.specs.TestLaws.{both, distinct}
 use Rattle.rules.specs.Order.{phaseFollows, repeats}
 use Rattle.kinds.specs.FieldRules.{inWindow, isDirection, spanHolds, greatestMagnitude}
 use Rattle.rules.specs.OrderLaws.{own-phase, end-may-come}
-use Rattle.rules.specs.Rules.{start, reached, phaseInOrder, inOrder, fieldsHold, afterOf}
+use Rattle.rules.specs.Rules.{start, reached, phaseInOrder, kindInOrder, inOrder, fieldsHold, afterOf}
 use Rattle.sheets.specs.WellFormed.{WellFormed, within, Step}
 
 pub well-step : {p q : Progress} {e : Entry} (es : List Entry) → Step p e q → WellFormed q es → WellFormed p (e ∷ es)
@@ -103,22 +103,25 @@ no-crossing : (b : Bool) → cond b C.Neither C.Neither ≡ C.Neither
 no-crossing true = refl
 no-crossing false = refl
 
+-- after a star's closest only end may come
+pub star-end : (f l : ℕ) (e : Entry) → inOrder (reached S.StarClosest f l) e ≡ true → e .kind ≡ K.End
+star-end f l e o = by (e .kind) o
+  where
+    by : (k : Kind) → kindInOrder (reached S.StarClosest f l) e k ≡ true → k ≡ K.End
+    by K.Head o = absurd (distinct (sym o))
+    by (K.Enter φ) o = absurd (distinct (sym o))
+    by (K.Leave φ) o = absurd (distinct (sym o))
+    by (K.Graze φ) o = absurd (distinct (sym o))
+    by (K.Open φ) o = absurd (distinct (sym o))
+    by K.Closest o = absurd (distinct (sym o))
+    by K.Share o = absurd (distinct (sym o))
+    by K.End o = refl
+
 -- what closes a sheet after a star's closest closes it after any
 star-closed : (f l : ℕ) (es : List Entry) → WellFormed (reached S.StarClosest f l) es → WellFormed (reached S.Closest f l) es
 unfolding WellFormed
 star-closed f l [] w = w
-star-closed f l (e ∷ es) w = by (e .kind) (e .a) (e .b) (e .c) (e .d) w
-  where
-    by : (k : Kind) (a b c d : ℕ) → let x : Entry = record { kind = k; a = a; b = b; c = c; d = d } in
-        WellFormed (reached S.StarClosest f l) (x ∷ es) → WellFormed (reached S.Closest f l) (x ∷ es)
-    by K.Head a b c d v = absurd (distinct (sym (v .0)))
-    by (K.Enter φ) a b c d v = absurd (distinct (sym (v .0)))
-    by (K.Leave φ) a b c d v = absurd (distinct (sym (v .0)))
-    by (K.Graze φ) a b c d v = absurd (distinct (sym (v .0)))
-    by (K.Open φ) a b c d v = absurd (distinct (sym (v .0)))
-    by K.Closest a b c d v = absurd (distinct (sym (v .0)))
-    by K.Share a b c d v = absurd (distinct (sym (v .0)))
-    by K.End a b c d v = v
+star-closed f l (e ∷ es) w = let q = star-end f l e (w .0) in rw q (rw q at w)
 
 -- closest may come right after the head, and there its magnitude may be larger
 closest-first : (ψ : Phase) (f l a b c d : ℕ) → Comes (reached S.Head f l) (within ψ f l 0 C.Neither) (record { kind = K.Closest; a = a; b = b; c = c; d = d })

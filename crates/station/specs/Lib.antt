@@ -1,4 +1,5 @@
 pub mod Station
+pub mod StationLaws
 pub mod Place
 pub mod Sizes
 pub mod PlaceLaws

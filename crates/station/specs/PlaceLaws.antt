@@ -7,7 +7,7 @@ use native.Mathlib.Nat.{mul-le-mul, lt-of-not-le}
 use lib.IntN.{ℤ, pos, negsuc, negℤ, natAbs, _+ℤ_, _*ℤ_}
 use lib.Signed.{_≤ℤ_, leZ-yes}
 use Rattle.numbers.specs.Parts.{sum, opposite}
-use Rattle.numbers.specs.Order.{zs, *ℤ-nonneg, ≤-parts, ≤ℤ-trans, le-natAbs, neg-natAbs, natAbs-sum, natAbs-minus, natAbs-product-le}
+use Rattle.numbers.specs.Order.{zs, *ℤ-nonneg, ≤-parts, ≤ℤ-trans, le-natAbs, neg-natAbs, natAbs-sum, natAbs-minus, square-natAbs, natAbs-product-le}
 use Rattle.numbers.specs.Ring.{num, _⊕_, _⊖_, _⊗_, opp, ring, v0, v1, v2}
 use Rattle.numbers.specs.Cert.{leq, lit, sq, _⊞_, _⊠_, certify}
 use Rattle.numbers.specs.Units.{one}
@@ -21,10 +21,6 @@ use Rattle.sine.specs.SizeLaws.{square-sum}
 use Rattle.station.specs.declared.Station.{Station}
 use Rattle.station.specs.Place.{equatorialRadius, E, under, W, C, Z, h, R, P, turnIn, ephemerisLongitude, placeOf}
 use Rattle.station.specs.Sizes.{StationSizes, PlaceSizes}
-
-square-natAbs : (z : ℤ) → z *ℤ z ≡ pos (natAbs z * natAbs z)
-square-natAbs (pos n) = refl
-square-natAbs (negsuc n) = refl
 
 nonneg-natAbs : (z : ℤ) → pos 0 ≤ℤ z → z ≡ pos (natAbs z)
 nonneg-natAbs (pos n) l = refl

@@ -18,6 +18,7 @@ use Rattle.station.specs.Sizes.{station-sizes}
 use Rattle.requests.specs.declared.Request.{Request}
 use Rattle.requests.specs.declared.Occultation.{Occultation}
 use Rattle.requests.specs.Requests.{ofEclipse, windowChecked, guardChecked, checked}
+use Rattle.requests.specs.RequestLaws.{checked-order}
 use Rattle.requests.specs.AdmissionLaws.{admitted-refused}
 use Rattle.circumstances.specs.declared.Answer.{Answer}
 use Rattle.circumstances.specs.declared.Answer.the-variants as A
@@ -43,13 +44,13 @@ station-held s = rw (row-held (row (s .longitude) (negℤ (pos 180000000)) (pos 
 -- ---- the request: refused alike, and within its limits the same
 module _ (q : Request) where
   pub checked-alike : checked (ofEclipse (heldRequest q)) ≡ checked (ofEclipse q)
-  unfolding checked heldRequest
-  checked-alike = rw (checked-held (q .elements), station-held (q .station))
+  unfolding heldRequest
+  checked-alike = rw (checked-order (ofEclipse (heldRequest q)), checked-order (ofEclipse q), checked-held (q .elements), station-held (q .station))
 
   pub same-within : checked (ofEclipse q) ≡ C.Within → heldRequest q ≡ q
-  unfolding checked heldRequest
+  unfolding heldRequest
   same-within e =
-      let after-window = both-within (windowChecked (q .window)) _ e in
+      let after-window = both-within (windowChecked (q .window)) _ (sym (checked-order (ofEclipse q)) ∙ e) in
       let after-guard = both-within (guardChecked (q .guard)) _ (after-window .1) in
       let both = both-within (elementsChecked (q .elements)) (stationChecked (q .station)) (after-guard .1) in
       let sizes = station-sizes (q .station) (of-limits-within 3 (S.rangeOf (q .station)) (both .1)) in

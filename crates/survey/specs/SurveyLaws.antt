@@ -18,6 +18,7 @@ use Rattle.requests.specs.declared.Request.{Request}
 use Rattle.requests.specs.declared.Occultation.{Occultation}
 use Rattle.requests.specs.Windows.{windowHolds}
 use Rattle.requests.specs.Requests.{ofEclipse, guardHolds, windowChecked, guardChecked, checked}
+use Rattle.requests.specs.RequestLaws.{checked-order}
 use Rattle.circumstances.specs.declared.Answer.{Answer}
 use Rattle.circumstances.specs.declared.Answer.the-variants as A
 use Rattle.circumstances.specs.Demand3.{Claimed}
@@ -33,8 +34,7 @@ spanned w g next = andThen (cond w C.Within (C.Refused (refusal 1 0))) (andThen 
 
 span-first : (q : Request) (next : Checked)
     → andThen (windowChecked (q .window)) (andThen (guardChecked (q .guard)) next) ≡ cond (eqb (numberIn (checked (ofEclipse q))) 1) (checked (ofEclipse q)) next
-unfolding checked
-span-first q next = go (windowHolds (q .window)) (guardHolds (q .guard)) (E.rangeOf (q .elements)) (S.rangeOf (q .station))
+span-first q next = rw (checked-order (ofEclipse q)) (go (windowHolds (q .window)) (guardHolds (q .guard)) (E.rangeOf (q .elements)) (S.rangeOf (q .station)))
   where
     go : (w g : Bool) (x y : Limits)
         → let rest = spanned w g (andThen (ofLimits 2 x) (ofLimits 3 y)) in spanned w g next ≡ cond (eqb (numberIn rest) 1) rest next

@@ -11,6 +11,7 @@ use lib.Dec.{leb, eqb}
 use lib.IntN.{ℤ}
 use lib.ListN.{length, drop, set, length-append}
 use lib.Seq.{sets, sets-eq}
+use Rattle.numbers.specs.Stores.{sets-append}
 use Rattle.refusals.specs.declared.Refusal.{Refusal}
 use Rattle.refusals.specs.Refusals.{refusal}
 use Rattle.besselian.specs.declared.Besselian.{Besselian}
@@ -82,11 +83,6 @@ eight-stores l at b =
     let e7 : at + 7 ≡ suc (suc (suc (suc (suc (suc (suc at)))))) = omega arith in
     rw (e1, e2, e3, e4, e5, e6, e7) refl
 
-sets-append : (l : List ℤ) (i : ℕ) (a b : List ℤ) → sets l i (a ++ b) ≡ sets (sets l i a) (i + length a) b
-sets-append l i [] b = rw (add-zero i)
-sets-append l i (x ∷ a) b =
-    sets-append (set l i x) (suc i) a b ∙ ap (λ (k : ℕ). sets (sets (set l i x) (suc i) a) k b) (omega arith)
-
 values-last : (n : List ℤ) (k : ℕ) → valuesOf n k ++ eight (elementsOf (rowAt n k)) ≡ valuesOf n (k + 1)
 unfolding valuesOf
 values-last n k = rw (add-one k) refl
@@ -95,7 +91,7 @@ pub one-more : (old n : List ℤ) (k : ℕ)
     → sets (sets old 0 (valuesOf n k)) (8 * k) (eight (elementsOf (rowAt n k))) ≡ sets old 0 (valuesOf n (k + 1))
 one-more old n k =
     ap (λ (i : ℕ). sets (sets old 0 (valuesOf n k)) i (eight (elementsOf (rowAt n k)))) (omega (arith, length-values n k))
-    ∙ sym (sets-append old 0 (valuesOf n k) (eight (elementsOf (rowAt n k))))
+    ∙ sym (sets-append (valuesOf n k) (eight (elementsOf (rowAt n k))) old 0)
     ∙ ap (sets old 0) (values-last n k)
 
 pub all-stored : (n old : List ℤ) → 56 ≤ length old → sets old 0 (valuesOf n 7) ≡ valuesOf n 7 ++ drop 56 old

@@ -1,17 +1,17 @@
 -- `networks::checks::check_stations` meets its contract: what the stations from i on are refused for is what all are. Assumes nothing.
-use mathlib.Core.Path.{_≡_, refl, sym, ap, _∙_, subst}
+use mathlib.Core.Path.{_≡_, refl, sym, ap, _∙_}
 use mathlib.Core.List.{List}
-use Prim.Native.Nat.{ℕ, _+_, _-_, _≤_, _<_}
+use Prim.Native.Nat.{ℕ, _-_, _≤_, _<_}
 use native.Mathlib.Omega.{arith}
 use borrow.Author.Needs.{needs}
 use lib.ListN.{length, getD, take, drop}
 use lib.Seq.{getD-take, length-take-le}
-use Rattle.refusals.specs.declared.Checked.{Checked}
 use Rattle.station.specs.Station.{stationChecked}
+use Rattle.station.specs.StationLaws.{field-small}
 use Rattle.nodes.specs.declared.Node.{Node}
 use Rattle.nodes.specs.Held.{blankNode}
 use Rattle.networks.specs.Network.{stationsChecked}
-use Rattle.networks.specs.CheckLaws.{field-small, stations-refused, stations-more, stations-end}
+use Rattle.networks.specs.CheckLaws.{stations-refused, stations-more, stations-end}
 use Rattle.networks.proofs.checks.check_stations.Statement.{statement}
 use Rattle.networks.proofs.checks.check_stations.Tie as tie
 
