@@ -1,5 +1,6 @@
 //! `bench ROUNDS`: the compiled library and document 01 in plain Rust, timed in turns in one process; the best of all rounds of each.
 
+use agreement::draws;
 use agreement::library;
 use agreement::networks::stations;
 use reference::doubles;
@@ -10,6 +11,7 @@ use reference::random::Random;
 use reference::request::{Request, REQUEST_LENGTH};
 use reference::sample::{self, Manner};
 use reference::sample_star;
+use reference::shadow::Phase;
 use reference::sheet;
 use reference::star::StarRequest;
 use std::hint::black_box;
@@ -62,13 +64,64 @@ fn sheets(rounds: usize) {
             );
             assert_eq!(a, b);
             println!(
-                "sheet, {name:11} {seconds:6} s: library {:8.1} us, reference {:8.1} us, ratio {:.2}",
+                "sheet, {name:11} {seconds:6} s: library {:8.1} us, reference {:8.1} us, ratio {:.4}",
                 ours * 1e6,
                 theirs * 1e6,
                 ours / theirs
             );
         }
     }
+}
+
+/// Requests of a kind over ±10,800 s: the least, the median, nine of ten and the largest of the ratios of times, each pair timed in turns.
+fn drawn(rounds: usize, name: &str, count: usize, mut draw: impl FnMut(&mut Random) -> Request) {
+    let mut random = Random::new(7);
+    let mut ratios: Vec<(f64, f64)> = (0..count)
+        .map(|_| {
+            let bytes = in_window(&draw(&mut random), 21_601);
+            let (mut a, mut b, mut sines) = (vec![0; 800_000], vec![0; 800_000], [0; 901]);
+            let (ours, theirs) = best(
+                rounds.min(5),
+                1,
+                || _ = black_box(library::sheet(black_box(&bytes), &mut sines, &mut a)),
+                || _ = black_box(sheet_of_input(black_box(&bytes), &mut b)),
+            );
+            assert_eq!(a, b);
+            (ours / theirs, ours)
+        })
+        .collect();
+    ratios.sort_by(|a, b| a.0.total_cmp(&b.0));
+    let at = |place: usize| ratios[place.min(count - 1)];
+    println!(
+        "sheets, {name:22} {count} of 21601 s: ratios {:.4} least, {:.4} median, {:.4} of nine in ten, {:.4} largest; median {:.1} us",
+        at(0).0,
+        at(count / 2).0,
+        at(count * 9 / 10).0,
+        at(count).0,
+        at(count / 2).1 * 1e6
+    );
+}
+
+/// Requests drawn in the manners that make much or little work.
+fn kinds(rounds: usize) {
+    drawn(rounds, "natural", 200, |random| sample::draw(random, Manner::Natural));
+    drawn(rounds, "anywhere", 100, |random| sample::draw(random, Manner::Anywhere));
+    drawn(rounds, "at the limits", 100, |random| sample::draw(random, Manner::AtLimits));
+    drawn(rounds, "edges, slow, at a pole", 200, draws::arranged);
+    // the axis stands still over a pole: no second can be skipped
+    drawn(rounds, "standing still", 5, |random| {
+        let mut request = sample::hand_worked();
+        sample::slow_down(&mut request, 0, 0, 0);
+        request.guard = 16 + random.below(16) as i64;
+        request
+    });
+    // and at the penumbra's edge
+    drawn(rounds, "still at the edge", 5, |random| {
+        let mut request = sample::hand_worked();
+        sample::slow_down(&mut request, 0, 0, 0);
+        sample::put_near_edge(random, &mut request, 0, Phase::Penumbra);
+        request
+    });
 }
 
 /// The sheets of stars.
@@ -93,7 +146,7 @@ fn stars(rounds: usize) {
             );
             assert_eq!(a, b);
             println!(
-                "star, {name:13} {seconds:6} s: library {:8.1} us, reference {:8.1} us, ratio {:.2}",
+                "star, {name:13} {seconds:6} s: library {:8.1} us, reference {:8.1} us, ratio {:.4}",
                 ours * 1e6,
                 theirs * 1e6,
                 ours / theirs
@@ -139,7 +192,7 @@ fn networks(rounds: usize) {
             },
         );
         println!(
-            "network of eleven {seconds:6} s: library {:8.1} us, reference {:8.1} us, ratio {:.2}; eleven sheets {:8.1} us, ratio {:.2}",
+            "network of eleven {seconds:6} s: library {:8.1} us, reference {:8.1} us, ratio {:.4}; eleven sheets {:8.1} us, ratio {:.2}",
             ours * 1e6,
             theirs * 1e6,
             ours / theirs,
@@ -363,6 +416,7 @@ fn positions(rounds: usize) {
 fn main() {
     let rounds = std::env::args().nth(1).map_or(100, |n| n.parse().expect("a number of rounds"));
     sheets(rounds);
+    kinds(rounds);
     stars(rounds);
     networks(rounds);
     shares(rounds);

@@ -18,7 +18,8 @@ use Rattle.requests.specs.Admission.{admitted, sinesAfter}
 use Rattle.requests.specs.AdmissionLaws.{admitted-within, admitted-four}
 use Rattle.circumstances.specs.declared.Answer.{Answer}
 use Rattle.circumstances.specs.declared.Answer.the-variants as A
-use Rattle.circumstances.specs.Sheet.{sheetBytes, answerWithin, bufferWithin, answerBy, bufferBy, sheetAnswer, sheetBuffer, sheetSines}
+use Rattle.writing.specs.Sheet.{sheetBytes}
+use Rattle.circumstances.specs.Sheet.{answerWithin, bufferWithin, answerBy, bufferBy, sheetAnswer, sheetBuffer, sheetSines}
 use Rattle.courses.specs.Stores.{stores-start}
 use Rattle.circumstances.specs.Demand3.{Claimed}
 use Rattle.circumstances.specs.CourseSound.{said, demand3}

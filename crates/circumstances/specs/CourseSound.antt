@@ -34,7 +34,7 @@ use Rattle.courses.specs.Demand3.{EachSecond, Demand3}
 use Rattle.courses.specs.Sound.{InOrder, Sound}
 use Rattle.courses.specs.SheetLaws.{eclipse-in-order, star-in-order, no-star-in-eclipse, kept-sheet}
 use Rattle.courses.specs.Demand3Laws.{changes-once, ends-exact, turns-alternate}
-use Rattle.circumstances.specs.Sheet.{shareOf, courseOf, sheetBytes}
+use Rattle.writing.specs.Sheet.{shareOf, courseOf, sheetBytes}
 use Rattle.circumstances.specs.Demand3.{exactAnswers}
 
 module _ (o : Occultation) (i : InLimits o) where

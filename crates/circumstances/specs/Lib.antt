@@ -4,5 +4,4 @@ pub mod Demand3
 pub mod Marked
 -- laws, for callers and for the proofs
 pub mod CourseSound
-pub mod NamedSecondLaws
 pub mod Claims

@@ -1,54 +1,17 @@
--- The sheet of an occultation, the answer, and what a caller's buffer holds afterwards. Definitions only.
+-- The answer to an occultation, and what a caller's buffer holds afterwards. Definitions only.
 use mathlib.Core.Bool.{cond}
 use mathlib.Core.List.{List, _++_}
 use Prim.Native.Nat.{ℕ}
 use lib.Dec.{leb}
-use lib.IntN.{ℤ, natAbs}
 use lib.ListN.{length, drop}
-use Rattle.geometry.specs.Shadow.{phasesOf}
 use Rattle.refusals.specs.declared.Checked.{Checked}
 use Rattle.refusals.specs.declared.Checked.the-variants as C
 use Rattle.refusals.specs.Refusals.{refusal}
-use Rattle.elements.specs.declared.Body.{Body}
-use Rattle.elements.specs.declared.Body.the-variants as B
-use Rattle.station.specs.declared.Place.{Place}
-use Rattle.station.specs.Place.{placeOf}
 use Rattle.requests.specs.declared.Occultation.{Occultation}
-use Rattle.requests.specs.Shares.{sharing}
 use Rattle.requests.specs.Admission.{admitted, sinesAfter}
-use Rattle.seconds.specs.Seconds.{stateAt, directionAt, magnitudeAt, closestOf}
-use Rattle.covered.specs.Covered.{shareAt}
-use Rattle.records.specs.Entries.{bytesOf}
-use Rattle.courses.specs.Courses.{Course, sheetOf}
+use Rattle.writing.specs.Sheet.{sheetBytes}
 use Rattle.circumstances.specs.declared.Answer.{Answer}
 use Rattle.circumstances.specs.declared.Answer.the-variants as A
-
--- the covered share at second τ; a star has none
-abbrev pub shareOf : Body → Place → ℤ → ℕ
-shareOf (B.Sun e) p τ = shareAt e p τ
-shareOf (B.Star s) p τ = 0
-
--- what is said of each second
-abbrev pub courseOf : Occultation → Course
-courseOf o =
-    record {
-      station = natAbs (o .station .number);
-      window = o .window;
-      guard = natAbs (o .guard);
-      phases = phasesOf (o .body);
-      state = stateAt o;
-      direction = directionAt o;
-      closest = closestOf o;
-      magnitude = magnitudeAt o;
-      sharing = sharing o;
-      share = shareOf (o .body) (placeOf (o .station));
-    }
-
--- its sheet
-unfoldable pub sheetBytes : Occultation → List ℕ
-sheetBytes o = bytesOf (sheetOf (courseOf o))
-
--- ---- the answer and the buffer
 
 -- "4 | sheet longer than the buffer | the length it needs"
 abbrev pub answerWithin : Occultation → List ℕ → Answer

@@ -1,12 +1,13 @@
-// Entries of one phase, from the state of each second of a window.
-// A state is a byte: 0 outside, 1 inside, any other unsure. Seconds are counted from the window's first, which is 0.
-// `step` is an inner function, for the crates above: it names no phase, no shadow and no byte of a sheet.
+// Entries of one phase, from the states of the seconds of a window, which are stored as runs (`runs`).
+// A state is 0 outside, 1 inside, any other unsure. Seconds are counted from the window's first, which is 0.
+// `step` is an inner function, for the crates above: it names no shadow and no byte of a sheet.
 ghost use mathlib.Core.Path.{_≡_};
 ghost use mathlib.Core.List.{[], _∷_};
 ghost use Prim.Native.Nat.{_+_, _≤_, _<_};
 ghost use lib.ListN.{length};
+ghost use Rattle.runs.specs.Runs.{decoded, Whole};
 ghost use Rattle.contacts.specs.Entries.{between, side};
-ghost use Rattle.contacts.specs.Step.{Stepped};
+ghost use Rattle.contacts.specs.Step.{At, Stepped};
 
 // Enter, leave, graze and open are the paper's words. An enter and a leave are contacts; a graze and an open claim none.
 // from, to: seconds of the window, 0 to its length less 1.
@@ -21,6 +22,8 @@ pub enum Entry {
 
 pub struct Cursor {
     pub at: usize, // the second to look at next, 0 (at the start) to the window's length
+    pub run: usize, // the place of its run in the bytes
+    pub was: u8, // the state of the second before it; at the start, any
 }
 
 pub enum Next {
@@ -50,73 +53,93 @@ fn entry_between(was: u8, is: u8, from: usize, to: usize) -> Entry
     Entry::Leave { from, to }
 }
 
-// The next entry, where the second before `at` is sure.
-fn after_sure(states: &[u8], at: usize) -> Next
-    requires { ⌜ (0 < at) × (at ≤ length (now states)) ⌝ }
-    ensures { λ r. ⌜ Stepped (now (states .entry)) at r ⌝ }
+// The next entry, where the second before the cursor is sure.
+fn after_sure(runs: &[u8], phase: usize, c: Cursor) -> Next
+    requires { ⌜ (0 < c .at) × (length (decoded phase (now runs)) ≤ 21601) × At phase (now runs) c ⌝ }
+    ensures { λ r. ⌜ Stepped phase (now (runs .entry)) (c .at) r ⌝ }
 {
-    let was = side_of(states[at - 1]);
-    let mut i = at;
+    let was = side_of(c.was);
+    let mut i = c.at;
+    let mut run = c.run;
     let to = 'seconds: loop {
-        if i == states.len() {
+        if run == runs.len() {
             return Next::Done;
         }
-        if 1 < states[i] {
+        let here = runs::run_at(runs, run, phase);
+        if 1 < here.state {
             // an unsure spell: the first sure second ends the search at once
-            let mut j = i + 1;
-            while j < states.len() {
-                if states[j] <= 1 {
+            let mut j = i + here.seconds;
+            run = here.after;
+            while run < runs.len() {
+                let next = runs::run_at(runs, run, phase);
+                if next.state <= 1 {
                     break 'seconds j;
                 }
-                j += 1;
+                j += next.seconds;
+                run = next.after;
             }
             let from = i - 1;
             let to = j - 1;
-            return Next::Found(Entry::Open { from, to }, Cursor { at: j });
+            return Next::Found(Entry::Open { from, to }, Cursor { at: j, run, was: 2 });
         }
-        if states[i] != was {
+        if here.state != was {
             break 'seconds i;
         }
-        i += 1;
+        i += here.seconds;
+        run = here.after;
     };
+    // the rest of the run of `to` adds nothing
     let from = i - 1;
-    let found = entry_between(was, states[to], from, to);
-    let after = to + 1;
-    Next::Found(found, Cursor { at: after })
+    let last = runs::run_at(runs, run, phase);
+    let found = entry_between(was, last.state, from, to);
+    let end = to + last.seconds;
+    let after = Cursor {
+        at: end,
+        run: last.after,
+        was: last.state,
+    };
+    Next::Found(found, after)
 }
 
 // The first entry.
-fn first_entry(states: &[u8]) -> Next
-    ensures { λ r. ⌜ Stepped (now (states .entry)) 0 r ⌝ }
+fn first_entry(runs: &[u8], phase: usize) -> Next
+    requires { ⌜ (length (decoded phase (now runs)) ≤ 21601) × Whole (now runs) ⌝ }
+    ensures { λ r. ⌜ Stepped phase (now (runs .entry)) 0 r ⌝ }
 {
     let mut i = 0;
-    while i < states.len() {
-        if states[i] <= 1 {
+    let mut run = 0;
+    while run < runs.len() {
+        let here = runs::run_at(runs, run, phase);
+        let next = i + here.seconds;
+        if here.state <= 1 {
+            let after = Cursor {
+                at: next,
+                run: here.after,
+                was: here.state,
+            };
             if i == 0 {
-                return after_sure(states, 1);
+                return after_sure(runs, phase, after);
             }
-            let after = i + 1;
-            return Next::Found(Entry::Open { from: 0, to: i }, Cursor { at: after });
+            return Next::Found(Entry::Open { from: 0, to: i }, after);
         }
-        i += 1;
+        i = next;
+        run = here.after;
     }
     if i == 0 {
         return Next::Done;
     }
     let to = i - 1;
-    Next::Found(Entry::Open { from: 0, to }, Cursor { at: i })
+    Next::Found(Entry::Open { from: 0, to }, Cursor { at: i, run, was: 2 })
 }
 
-// The next entry at a cursor, with the cursor after it. The first cursor is at 0; any other is one that a step gave.
-pub fn step(states: &[u8], c: Cursor) -> Next
-    ensures { λ r. ⌜ Stepped (now (states .entry)) (c .at) r ⌝ }
+// The next entry at a cursor, with the cursor after it, of the first phase (0) or the second.
+// The first cursor is at 0, 0; any other is one that a step gave.
+pub fn step(runs: &[u8], phase: usize, c: Cursor) -> Next
+    requires { ⌜ (length (decoded phase (now runs)) ≤ 21601) × At phase (now runs) c ⌝ }
+    ensures { λ r. ⌜ Stepped phase (now (runs .entry)) (c .at) r ⌝ }
 {
-    let at = c.at;
-    if at == 0 {
-        return first_entry(states);
+    if c.at == 0 {
+        return first_entry(runs, phase);
     }
-    if states.len() < at {
-        return Next::Done;
-    }
-    after_sure(states, at)
+    after_sure(runs, phase, c)
 }

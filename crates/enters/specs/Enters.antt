@@ -1,5 +1,6 @@
 -- The first enter of the penumbra on a station's sheet. Definitions only. Document 02, wish 10: "the station whose first *enter* penumbra has the
 -- smallest "to"", "each enter is that of the sheet the station gets alone, with room enough".
+use mathlib.Core.Bool.{Bool, true, false}
 use mathlib.Core.List.{List, [], _∷_}
 use Prim.Native.Nat.{ℕ}
 use Rattle.phases.specs.declared.Phase.the-variants.{Penumbra}
@@ -8,7 +9,7 @@ use Rattle.contacts.specs.declared.Entry.{Entry}
 use Rattle.contacts.specs.declared.Entry.the-variants.{Enter, Leave, Graze, Open}
 use Rattle.courses.specs.Courses.{sheetOf}
 use Rattle.courses.specs.Demand3.{entriesIn}
-use Rattle.circumstances.specs.Sheet.{courseOf}
+use Rattle.writing.specs.Sheet.{courseOf}
 
 -- after every second that a window may have, as it is stored
 abbrev pub never : ℕ
@@ -21,6 +22,12 @@ firstEnter (Enter from to ∷ es) = to
 firstEnter (Leave from to ∷ es) = firstEnter es
 firstEnter (Graze from to ∷ es) = firstEnter es
 firstEnter (Open from to ∷ es) = firstEnter es
+
+abbrev pub isEnter : Entry → Bool
+isEnter (Enter from to) = true
+isEnter (Leave from to) = false
+isEnter (Graze from to) = false
+isEnter (Open from to) = false
 
 -- that of the penumbra's entries on the sheet (courses, `sheetOf` and `entriesIn`), as it is stored
 unfoldable pub firstTo : Occultation → ℕ

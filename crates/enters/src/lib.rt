@@ -1,60 +1,66 @@
-// The first enter of the penumbra at one station: the seconds are asked one after the other, and no sheet is written. These are inner
-// functions, for the crate above, and have a `requires`.
+// The first enter of the penumbra at one station: its entries are stepped through up to it, and no sheet is written. These are inner functions,
+// for the crate above, and have a `requires`.
 ghost use mathlib.Core.Path.{_≡_};
-ghost use Prim.Native.Nat.{_≤_};
-ghost use lib.IntN.{natAbs};
-ghost use Rattle.phases.specs.declared.Phase.the-variants.{Penumbra};
-ghost use Rattle.phases.specs.States.{code};
+ghost use mathlib.Core.List.{map};
+ghost use lib.ListN.{length};
 ghost use Rattle.sine.specs.Table.{Sines};
-ghost use Rattle.elements.specs.declared.Body.the-variants as B;
-ghost use Rattle.elements.specs.Sizes.{ElementSizes};
-ghost use Rattle.station.specs.Sizes.{PlaceSizes};
-ghost use Rattle.station.specs.Place.{placeOf};
-ghost use Rattle.shadow.specs.Second.{stateAt};
 ghost use Rattle.requests.specs.Requests.{ofEclipse};
 ghost use Rattle.requests.specs.RequestLaws.{InLimits};
-ghost use Rattle.enters.specs.Enters.{firstTo};
+ghost use Rattle.requests.specs.Windows.{secondCount};
+ghost use Rattle.requests.specs.WindowLaws.{WindowHolds};
+ghost use Rattle.runs.specs.Runs.{decoded, Whole};
+ghost use Rattle.contacts.specs.Entries.{entries};
+ghost use Rattle.contacts.specs.Shifted.{shifted};
+ghost use Rattle.kinds.specs.StoredSeconds.{stored};
+ghost use Rattle.enters.specs.Enters.{isEnter, firstEnter, firstTo};
 
-// The state of the penumbra at second t: 0 outside, 1 inside, 2 unsure. Nothing of the central phase is computed.
-fn penumbra_at(
-    table: &[u32],
-    e: elements::Elements,
-    place: station::Place,
-    t: i64,
-    guard: i64,
-) -> u8
-    requires { ⌜ (Sines (now table)) × (ElementSizes e) × (PlaceSizes place) × (natAbs t ≤ 10800) × (natAbs guard ≤ 1000) ⌝ }
-    ensures { λ r. ⌜ r ≡ code (stateAt guard (B.Sun e) place Penumbra t) ⌝ }
+// Whether an entry is an enter.
+fn is_enter(entry: contacts::Entry) -> bool
+    ensures { λ r. ⌜ r ≡ isEnter entry ⌝ }
 {
-    let axis = e.axis;
-    let penumbra = e.penumbra;
-    let o = shadow::offset_at(table, axis, place, t);
-    let l = shadow::radius_at(penumbra, o.zeta, t);
-    shadow::state(guard, l, o.m)
+    match entry {
+        contacts::Entry::Enter { from: _, to: _ } => true,
+        contacts::Entry::Leave { from: _, to: _ } => false,
+        contacts::Entry::Graze { from: _, to: _ } => false,
+        contacts::Entry::Open { from: _, to: _ } => false,
+    }
 }
 
-// The "to" of the first enter of the penumbra on the sheet of an eclipse, as it is stored, or 21,601 where the sheet has none: the first second
-// that is inside, of those after one that is outside.
+// The "to" of the first enter of the first phase of a window, as it is stored, or 21,601 where there is none.
+fn first_enter(w: requests::Window, runs: &[u8]) -> u32
+    requires { ⌜ (WindowHolds w) × (Whole (now runs)) × (length (decoded 0 (now runs)) ≡ secondCount w) ⌝ }
+    ensures { λ r. ⌜ r ≡ firstEnter (map (shifted (stored (w .first))) (entries (decoded 0 (now (runs .entry))))) ⌝ }
+{
+    let mut c = contacts::Cursor {
+        at: 0,
+        run: 0,
+        was: 0,
+    };
+    loop {
+        let contacts::Next::Found(entry, next) = contacts::step(runs, 0, c) else {
+            return 21_601;
+        };
+        let enters = is_enter(entry);
+        if enters {
+            let to = writing::entries::to_of(entry);
+            let t = requests::nth_second(w, to);
+            return kinds::seconds::store_second(t);
+        }
+        c = next;
+    }
+}
+
+// The "to" of the first enter of the penumbra on the sheet of an eclipse, as it is stored, or 21,601 where the sheet has none.
 pub fn first_to(table: &[u32], q: requests::Request) -> u32
     requires { ⌜ (Sines (now table)) × (InLimits (ofEclipse q)) ⌝ }
     ensures { λ r. ⌜ r ≡ firstTo (ofEclipse q) ⌝ }
 {
-    let e = q.elements;
+    let o = requests::of_eclipse(q);
     let s = q.station;
     let w = q.window;
     let place = station::geocentric(table, s);
-    let n = requests::second_count(w);
-    let mut outside = false;
-    let mut k: usize = 0;
-    while k < n {
-        let t = requests::nth_second(w, k);
-        let state = penumbra_at(table, e, place, t, q.guard);
-        let enters = outside & (state == 1);
-        if enters {
-            return kinds::seconds::store_second(t);
-        }
-        outside = outside | (state == 0);
-        k += 1;
-    }
-    21_601
+    let mut runs = [0u8; 21601];
+    let known = bisection::fill(table, o, place, &mut runs);
+    let count = known.count;
+    first_enter(w, &runs[..count])
 }

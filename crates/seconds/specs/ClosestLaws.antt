@@ -1,15 +1,16 @@
--- The closest second, and the search for it.
+-- The closest second.
 --   closest-is    what `closestTo` finds is the closest
---   Least         the closest so far, with its M; `least-start`, `least-new`, `least-same` go on by a second
-use mathlib.Core.Path.{_≡_, refl, sym, subst, ap, _∙_}
+--   closest-one   there is one such second
+use mathlib.Core.Path.{_≡_, refl, sym}
 use mathlib.Core.Bool.{Bool, true, false, cond}
 use mathlib.Core.Logic.{⊎-elim}
-use Prim.Native.Nat.{ℕ, zero, suc, _+_, _≤_, _<_}
+use Prim.Native.Nat.{ℕ, zero, suc, _≤_, _<_}
 use native.Mathlib.Omega.{arith}
 use native.Mathlib.Nat.{eq-or-lt-of-le}
-use lib.IntN.{ℤ, pos}
+use lib.IntN.{ℤ}
 use lib.Signed.{ltZ, _≤ℤ_, _<ℤ_, clashℤ}
 use Rattle.numbers.specs.Order.{zs, ltZ-true, ltZ-false, ≤ℤ-trans, <ℤ-≤}
+use Rattle.sine.specs.SineLaws.{either}
 use Rattle.seconds.specs.Closest.{IsClosest, closestTo}
 
 pub closest-is : (m : ℕ → ℤ) (n : ℕ) → IsClosest m n (closestTo m n)
@@ -43,41 +44,12 @@ closest-is m (suc n) = go (ltZ (m (suc n)) (m (closestTo m n))) refl (closest-is
           earliest = i .earliest;
         }
 
--- ---- the closest so far: of the seconds before i, with its M; before the first, a number above each M
-pub record Least (m : ℕ → ℤ) (i best : ℕ) (least : ℤ) : Type 0 where
-  pub none : i ≡ 0 → least ≡ pos 9000000000000000000
-  pub some : (j : ℕ) → i ≡ suc j → (best ≡ closestTo m j) × (least ≡ m best)
+-- there is one such second
+not-before : (m : ℕ → ℤ) (n c d : ℕ) → IsClosest m n c → IsClosest m n d → c < d → ⊥
+not-before m n c d i j h = clashℤ (j .earliest c h) (i .smallest d (j .within))
 
-pub least-start : (m : ℕ → ℤ) → Least m 0 0 (pos 9000000000000000000)
-least-start m = record { none = λ e. refl; some = λ j e. absurd (omega arith) }
-
-module _ (m : ℕ → ℤ) where
-  -- the test against the closest so far is the test that the definition makes
-  tested : (i best : ℕ) (least : ℤ) (b : Bool) → Least m (suc i) best least → ltZ (m (suc i)) least ≡ b → ltZ (m (suc i)) (m (closestTo m i)) ≡ b
-  tested i best least b d t =
-      let s = d .some i refl in
-      ap (λ (y : ℤ). ltZ (m (suc i)) y) (ap m (sym (s .0)) ∙ sym (s .1)) ∙ t
-
-  -- a second that is less than the least so far
-  pub least-new : (i best : ℕ) (least : ℤ) → Least m i best least → ltZ (m i) least ≡ true → Least m (i + 1) i (m i)
-  unfolding closestTo
-  least-new zero best least d t = record { none = λ e. absurd (omega arith); some = λ j e. (let z : j ≡ 0 = omega arith in rw z, refl) }
-  least-new (suc i) best least d t =
-      record {
-        none = λ e. absurd (omega arith);
-        some = λ j e. (let z : j ≡ suc i = omega arith in rw (z, tested i best least true d t), refl);
-      }
-
-  -- one that is not, and is not the first
-  pub least-same : (i best : ℕ) (least : ℤ) → Least m i best least → ltZ (m i) least ≡ false → m i <ℤ pos 9000000000000000000
-      → Least m (i + 1) best least
-  unfolding closestTo
-  least-same zero best least d t h = absurd (clashℤ h (subst (λ (y : ℤ). y ≤ℤ m 0) (d .none refl) (ltZ-false (m 0) least t)))
-  least-same (suc i) best least d t h =
-      record {
-        none = λ e. absurd (omega arith);
-        some = λ j e.
-            let z : j ≡ suc i = omega arith in
-            let s = d .some i refl in
-            (s .0 ∙ rw (z, tested i best least false d t), s .1);
-      }
+pub closest-one : (m : ℕ → ℤ) (n c d : ℕ) → IsClosest m n c → IsClosest m n d → c ≡ d
+closest-one m n c d i j =
+    ⊎-elim (λ (h : c < d). absurd (not-before m n c d i j h))
+    (λ (h : d ≤ c). ⊎-elim (λ (e : d ≡ c). sym e) (λ (l : d < c). absurd (not-before m n d c j i l)) (eq-or-lt-of-le h))
+    (either d c)

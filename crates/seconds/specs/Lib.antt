@@ -7,6 +7,6 @@ pub mod Errors
 pub mod Guards
 -- laws, for callers
 pub mod ClosestLaws
-pub mod Filled
+pub mod AllStates
 pub mod SecondLaws
 pub mod MirrorLaws

@@ -1,56 +1,24 @@
-// The seconds of an occultation: the states of all of them with the closest, direction and magnitude; and all of one second of an eclipse.
+// The seconds of an occultation: direction and magnitude at one of them; and all of one second of an eclipse.
 use elements::Body;
 use refusals::Checked;
 use refusals::Refusal;
 use requests::Occultation;
 use requests::Request;
 ghost use mathlib.Core.Path.{_≡_};
-ghost use Prim.Native.Nat.{_*_, _≤_};
+ghost use Prim.Native.Nat.{_≤_};
 ghost use lib.IntN.{natAbs};
-ghost use lib.ListN.{length};
 ghost use Rattle.sine.specs.Table.{Sines};
 ghost use Rattle.station.specs.Place.{placeOf};
-ghost use Rattle.requests.specs.Windows.{secondCount};
 ghost use Rattle.requests.specs.Requests.{ofEclipse};
 ghost use Rattle.requests.specs.RequestLaws.{InLimits};
-ghost use Rattle.seconds.specs.Seconds.{closestOf, directionAt, magnitudeAt};
+ghost use Rattle.seconds.specs.Seconds.{directionAt, magnitudeAt};
 ghost use Rattle.seconds.specs.OneSecond.{wholeSecond, secondAnswer, secondSines};
 ghost use Rattle.seconds.specs.Exact.{AnswerMeans};
-ghost use Rattle.seconds.specs.Filled.{AllStates};
 
 // All of one second, or why there is none.
 pub enum OneSecond {
     Is(shadow::Second),
     Refused(Refusal),
-}
-
-// The states of every second of the window, a byte each, phase after phase, in one pass; and the closest second, counted from 0.
-pub fn fill_states(table: &[u32], o: Occultation, place: station::Place, states: &mut [u8]) -> usize
-    requires { ⌜ (Sines (now table)) × (InLimits o) × (place ≡ placeOf (o .station)) × (2 * secondCount (o .window) ≤ length (now states)) ⌝ }
-    ensures { λ r. ⌜ r ≡ closestOf o ⌝ }
-    ensures { λ r. ⌜ AllStates o (now (states .exit)) ⌝ }
-    ensures { λ r. ⌜ length (now (states .exit)) ≡ length (now (states .entry)) ⌝ }
-{
-    let body = o.body;
-    let w = o.window;
-    let n = requests::second_count(w);
-    let mut best: usize = 0;
-    let mut least: i64 = 9_000_000_000_000_000_000;
-    let mut i: usize = 0;
-    while i < n {
-        let t = requests::nth_second(w, i);
-        let s = shadow::bodies::states_at(table, body, place, t, o.guard);
-        states[i] = s.first;
-        let of_second = n + i;
-        states[of_second] = s.second;
-        let m = s.m;
-        if m < least {
-            best = i;
-            least = m;
-        }
-        i += 1;
-    }
-    best
 }
 
 // The direction at a second.

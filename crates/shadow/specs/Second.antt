@@ -2,10 +2,10 @@
 use mathlib.Core.Path.{_≡_}
 use Prim.Native.Nat.{ℕ, zero, suc, _≤_, _<_}
 use lib.IntN.{ℤ, natAbs}
-use lib.ListN.{length, getD}
+use lib.ListN.{getD}
 use Rattle.phases.specs.States.{State, code}
 use Rattle.phases.specs.declared.Phase.{Phase}
-use Rattle.phases.specs.declared.Phase.the-variants.{Penumbra, Central}
+use Rattle.phases.specs.declared.Phase.the-variants.{Penumbra, Central, Star}
 use Rattle.numbers.specs.Value.{Value}
 use Rattle.sine.specs.Table.{S}
 use Rattle.elements.specs.declared.Axis.{Axis}
@@ -19,7 +19,7 @@ use Rattle.geometry.specs.Magnitude.{magnitude}
 use Rattle.geometry.specs.Direction.{direction}
 use Rattle.shadow.specs.declared.Shadow.{Shadow}
 use Rattle.shadow.specs.declared.States.{States}
-use Rattle.shadow.specs.declared.PhaseStates.{PhaseStates}
+use Rattle.shadow.specs.declared.Sample.{Sample}
 use Rattle.shadow.specs.declared.Second.{Second}
 use Rattle.shadow.specs.Shadow.{IsShadow}
 
@@ -59,14 +59,21 @@ pub record IsStates (guard : ℤ) (e : Elements) (p : Place) (τ : ℤ) (r : Sta
   pub central : r .central ≡ code (stateAt guard (B.Sun e) p Central τ)
   pub m : r .m ≡ M (moment e p τ)
 
--- the states of a second in the phases of its shadow, the k-th for the k-th of them
-abbrev pub nthState : PhaseStates → ℕ → ℕ
-nthState r zero = r .first
-nthState r (suc k) = r .second
+-- the k-th phase of a shadow, in the order of its sheet; a star's one phase stands for the second too
+abbrev pub phaseIn : Body → ℕ → Phase
+phaseIn b k = getD (phasesOf b) k Star
 
-pub record ArePhaseStates (guard : ℤ) (b : Body) (p : Place) (τ : ℤ) (r : PhaseStates) : Type 0 where
-  pub state : (k : ℕ) → k < length (phasesOf b) → nthState r k ≡ code (stateAt guard b p (getD (phasesOf b) k Penumbra) τ)
+-- L of the k-th phase
+abbrev pub radiusIn : Sample → ℕ → ℤ
+radiusIn r zero = r .first
+radiusIn r (suc k) = r .second
+
+-- the shadow in its phases, letter by letter
+pub record IsSample (b : Body) (p : Place) (τ : ℤ) (r : Sample) : Type 0 where
+  pub u : Value (u (momentOf (axisOf b) p τ)) 602170000 (r .u)
+  pub v : Value (v (momentOf (axisOf b) p τ)) 703170000 (r .v)
   pub m : Value (M (momentOf (axisOf b) p τ)) 1000000000000000000 (r .m)
+  pub radius : (k : ℕ) → k < 2 → Value (L (momentOf (axisOf b) p τ) (cone b (phaseIn b k))) 600000000 (radiusIn r k)
 
 -- all of a second of an eclipse
 pub record IsSecond (guard : ℤ) (e : Elements) (p : Place) (τ : ℤ) (r : Second) : Type 0 where

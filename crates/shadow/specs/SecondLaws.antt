@@ -7,21 +7,24 @@
 --   sure-under-less                        what is sure under a guard is sure, with the same answer, under every smaller one
 --   phases-few                             a shadow has at most two phases
 --   states-of-second                       the states of a shadow that is the second's
---   phase-states, star-state               the states phase by phase, of an eclipse and of a star
-use mathlib.Core.Path.{_≡_, refl, sym, _∙_, ap, ap₂}
+--   eclipse-sample, star-sample            the shadow in its phases, of an eclipse and of a star
+--   edge-size                              where the edge of a phase is: the size of L
+use mathlib.Core.Path.{_≡_, refl, sym, subst, _∙_, ap, ap₂}
+use mathlib.Core.List.{[], _∷_}
 use mathlib.Core.Logic.{_⊎_}
 use Prim.Native.Nat.{ℕ, zero, suc, _≤_, _<_}
 use native.Mathlib.Omega.{arith}
 use lib.Dec.{lit≤}
 use lib.IntN.{ℤ, pos, natAbs, _+ℤ_, _*ℤ_}
-use lib.ListN.{length, getD}
+use lib.ListN.{length}
 use lib.Signed.{_≤ℤ_, _<ℤ_}
 use Rattle.phases.specs.States.{State, unsure, code}
 use Rattle.phases.specs.declared.Phase.{Phase}
 use Rattle.phases.specs.declared.Phase.the-variants.{Penumbra, Central, Star}
-use Rattle.numbers.specs.Parts.{sum}
+use Rattle.numbers.specs.Parts.{same, sum}
 use Rattle.numbers.specs.Value.{Value}
-use Rattle.numbers.specs.Order.{zs}
+use Rattle.numbers.specs.Order.{zs, nonneg, natAbs-parts, natAbs-between}
+use Rattle.numbers.specs.Ring.{num, _⊕_, ring, v0}
 use Rattle.sine.specs.Table.{S}
 use Rattle.elements.specs.declared.Axis.{Axis}
 use Rattle.elements.specs.declared.Elements.{Elements}
@@ -29,8 +32,8 @@ use Rattle.elements.specs.declared.Star as Occulted
 use Rattle.elements.specs.declared.Body.{Body}
 use Rattle.elements.specs.declared.Body.the-variants as B
 use Rattle.elements.specs.Sizes.{ElementSizes}
-use Rattle.elements.specs.Stars.{starAxis, axisOf}
-use Rattle.elements.specs.StarLaws.{BodySizes}
+use Rattle.elements.specs.Stars.{starAxis, cylinderOf, axisOf}
+use Rattle.elements.specs.StarLaws.{StarSizes, BodySizes}
 use Rattle.station.specs.declared.Place.{Place}
 use Rattle.station.specs.Sizes.{PlaceSizes}
 use Rattle.geometry.specs.Shadow.{Moment, momentOf, moment, phasesOf, cone, u, v, L, M, edge, state}
@@ -47,8 +50,8 @@ use Rattle.geometry.specs.DirectionLaws.{direction-limit}
 use Rattle.shadow.specs.declared.Shadow.{Shadow}
 use Rattle.shadow.specs.Shadow.{IsShadow}
 use Rattle.shadow.specs.declared.States.{States}
-use Rattle.shadow.specs.declared.PhaseStates.{PhaseStates}
-use Rattle.shadow.specs.Second.{stateAt, magnitudeAt, directionAt, ShadowSizes, StatesOf, IsStates, nthState, ArePhaseStates}
+use Rattle.shadow.specs.declared.Sample.{Sample}
+use Rattle.shadow.specs.Second.{stateAt, magnitudeAt, directionAt, ShadowSizes, StatesOf, IsStates, phaseIn, radiusIn, IsSample}
 
 pub state-at : (guard : ℤ) (b : Body) (p : Place) (φ : Phase) (τ : ℤ)
     → stateAt guard b p φ τ ≡ state guard (edge φ (L (momentOf (axisOf b) p τ) (cone b φ))) (M (momentOf (axisOf b) p τ))
@@ -152,23 +155,53 @@ states-of-second {guard} {e} {p} {τ} j k =
       m = k .m ∙ j .m;
     }
 
--- an eclipse's, phase by phase
-pub phase-states : {guard : ℤ} {e : Elements} {p : Place} {τ : ℤ} {w : States} → IsStates guard e p τ w → (r : PhaseStates)
-    → r .first ≡ w .penumbra → r .second ≡ w .central → r .m ≡ w .m → natAbs (w .m) ≤ 1000000000000000000 → ArePhaseStates guard (B.Sun e) p τ r
-phase-states {guard} {e} {p} {τ} j r first second m size =
-    record { state = by; m = record { value = m ∙ j .m; size = omega (arith, ap natAbs m) } }
+-- ---- the shadow in its phases
+-- an eclipse's, from its shadow
+pub eclipse-sample : (e : Elements) → ElementSizes e → (p : Place) → PlaceSizes p → (τ : ℤ) → natAbs τ ≤ 10800 → {s : Shadow} → IsShadow e p τ s
+    → (r : Sample) → r .u ≡ s .u → r .v ≡ s .v → r .m ≡ s .m → r .first ≡ s .l1 → r .second ≡ s .l2 → IsSample (B.Sun e) p τ r
+eclipse-sample e z p i τ h {s} j r eu ev em e1 e2 =
+    let o = moment-sizes e z p i τ h in
+    let n = moment e p τ in
+    record {
+      u = record { value = eu ∙ j .u; size = omega (arith, ap natAbs (eu ∙ j .u), u-size n o) };
+      v = record { value = ev ∙ j .v; size = omega (arith, ap natAbs (ev ∙ j .v), v-size n o) };
+      m = record { value = em ∙ j .m; size = omega (arith, ap natAbs (em ∙ j .m), M-size n o) };
+      radius = by;
+    }
   where
-    by : (k : ℕ) → k < length (phasesOf (B.Sun e)) → nthState r k ≡ code (stateAt guard (B.Sun e) p (getD (phasesOf (B.Sun e)) k Penumbra) τ)
-    by zero h = first ∙ j .penumbra
-    by (suc zero) h = second ∙ j .central
-    by (suc (suc k)) h = absurd (omega arith)
+    by : (k : ℕ) → k < 2 → Value (L (moment e p τ) (cone (B.Sun e) (phaseIn (B.Sun e) k))) 600000000 (radiusIn r k)
+    by zero l = record { value = e1 ∙ j .l1; size = omega (arith, ap natAbs (e1 ∙ j .l1), L-size (moment e p τ) (moment-sizes e z p i τ h) (e .penumbra) (z .penumbra)) }
+    by (suc zero) l = record { value = e2 ∙ j .l2; size = omega (arith, ap natAbs (e2 ∙ j .l2), L-size (moment e p τ) (moment-sizes e z p i τ h) (e .central) (z .central)) }
+    by (suc (suc k)) l = absurd (omega arith)
 
--- a star's, of its one phase
-pub star-state : {guard : ℤ} {s : Occulted.Star} {p : Place} {τ : ℤ} (r : PhaseStates) → r .first ≡ code (state guard (s .radius) (M (momentOf (starAxis s) p τ)))
-    → Value (M (momentOf (starAxis s) p τ)) 1000000000000000000 (r .m) → ArePhaseStates guard (B.Star s) p τ r
-unfolding stateAt
-star-state {guard} {s} {p} {τ} r first m = record { state = by; m = m }
+-- a star's, from the axis and the radius
+pub star-sample : (s : Occulted.Star) → StarSizes s → (p : Place) (τ : ℤ) (r : Sample)
+    → Value (u (momentOf (starAxis s) p τ)) 602170000 (r .u) → Value (v (momentOf (starAxis s) p τ)) 703170000 (r .v)
+    → Value (M (momentOf (starAxis s) p τ)) 1000000000000000000 (r .m) → r .first ≡ s .radius → r .second ≡ s .radius → IsSample (B.Star s) p τ r
+star-sample s z p τ r hu hv hm e1 e2 = record { u = hu; v = hv; m = hm; radius = by }
   where
-    by : (k : ℕ) → k < length (phasesOf (B.Star s)) → nthState r k ≡ code (stateAt guard (B.Star s) p (getD (phasesOf (B.Star s)) k Penumbra) τ)
-    by zero h = first ∙ ap (λ (l : ℤ). code (state guard l (M (momentOf (starAxis s) p τ)))) (sym (cylinder-L (momentOf (starAxis s) p τ) s))
-    by (suc k) h = absurd (omega arith)
+    is : (x : ℤ) → x ≡ s .radius → Value (L (momentOf (starAxis s) p τ) (cylinderOf s)) 600000000 x
+    is x e =
+        record {
+          value = e ∙ sym (cylinder-L (momentOf (starAxis s) p τ) s);
+          size = omega (arith, ap natAbs e, natAbs-between (s .radius) 27200000 (z .low) (z .high));
+        }
+
+    by : (k : ℕ) → k < 2 → Value (L (momentOf (starAxis s) p τ) (cylinderOf s)) 600000000 (radiusIn r k)
+    by zero l = is (r .first) e1
+    by (suc k) l = is (r .second) e2
+
+-- where the edge is: the size of L, in every phase of either body
+pub edge-size : (b : Body) → BodySizes b → (p : Place) → PlaceSizes p → (τ : ℤ) → natAbs τ ≤ 10800 → (φ : Phase)
+    → edge φ (L (momentOf (axisOf b) p τ) (cone b φ)) ≡ pos (natAbs (L (momentOf (axisOf b) p τ) (cone b φ)))
+edge-size b z p i τ h φ = by φ (L (momentOf (axisOf b) p τ) (cone b φ)) (edge-sign b z p i τ h φ (pos 0) (omega (arith, zs)))
+  where
+    natural : (x : ℤ) → pos 0 ≤ℤ (x +ℤ pos 0) → x ≡ pos (natAbs x)
+    natural x l =
+        let h : pos 0 ≤ℤ x = subst (λ (z : ℤ). pos 0 ≤ℤ z) (ring (x ∷ []) (v0 ⊕ num 0) v0 tt) l in
+        sym (same (pos (natAbs x)) x (omega (arith, natAbs-parts x, nonneg h)))
+
+    by : (φ : Phase) (x : ℤ) → pos 0 ≤ℤ (edge φ x +ℤ pos 0) → edge φ x ≡ pos (natAbs x)
+    by Penumbra x l = natural x l
+    by Central x l = refl
+    by Star x l = natural x l

@@ -1,5 +1,5 @@
-// The shadow of what the Moon hides, the Sun or a star: its phases, their states at a second, and the direction of its axis.
-use super::PhaseStates;
+// The shadow of what the Moon hides, the Sun or a star: its phases, what it is at a second, and the direction of its axis.
+use super::Sample;
 use elements::Body;
 use phases::Phase;
 ghost use mathlib.Core.Path.{_≡_};
@@ -13,7 +13,7 @@ ghost use Rattle.elements.specs.Sizes.{AxisSizes, ElementSizes};
 ghost use Rattle.elements.specs.StarLaws.{StarSizes, BodySizes};
 ghost use Rattle.station.specs.Sizes.{PlaceSizes};
 ghost use Rattle.geometry.specs.Shadow.{phasesOf};
-ghost use Rattle.shadow.specs.Second.{ArePhaseStates, directionAt};
+ghost use Rattle.shadow.specs.Second.{IsSample, directionAt};
 
 // How many phases the shadow has.
 pub fn phase_count(body: Body) -> usize
@@ -36,63 +36,46 @@ pub fn nth_phase(body: Body, k: usize) -> Phase
     }
 }
 
-// The states of a second of an eclipse and its M, with no direction and no magnitude.
-fn eclipse_states(
-    table: &[u32],
-    e: elements::Elements,
-    place: station::Place,
-    t: i64,
-    guard: i64,
-) -> PhaseStates
-    requires { ⌜ (Sines (now table)) × (ElementSizes e) × (PlaceSizes place) × (natAbs t ≤ 10800) × (natAbs guard ≤ 1000) ⌝ }
-    ensures { λ r. ⌜ ArePhaseStates guard (B.Sun e) place t r ⌝ }
+// The shadow of an eclipse at second t, in its two phases.
+fn eclipse_sample(table: &[u32], e: elements::Elements, place: station::Place, t: i64) -> Sample
+    requires { ⌜ (Sines (now table)) × (ElementSizes e) × (PlaceSizes place) × (natAbs t ≤ 10800) ⌝ }
+    ensures { λ r. ⌜ IsSample (B.Sun e) place t r ⌝ }
 {
     let s = super::shadow_at(table, e, place, t);
-    let w = super::states_of(guard, s);
-    PhaseStates {
-        first: w.penumbra,
-        second: w.central,
-        m: w.m,
+    Sample {
+        u: s.u,
+        v: s.v,
+        m: s.m,
+        first: s.l1,
+        second: s.l2,
     }
 }
 
-// The state of a second of a star and its M.
-fn star_states(
-    table: &[u32],
-    s: elements::Star,
-    place: station::Place,
-    t: i64,
-    guard: i64,
-) -> PhaseStates
-    requires { ⌜ (Sines (now table)) × (StarSizes s) × (PlaceSizes place) × (natAbs t ≤ 10800) × (natAbs guard ≤ 1000) ⌝ }
-    ensures { λ r. ⌜ ArePhaseStates guard (B.Star s) place t r ⌝ }
+// The shadow of a star at second t: its one phase stands for both.
+fn star_sample(table: &[u32], s: elements::Star, place: station::Place, t: i64) -> Sample
+    requires { ⌜ (Sines (now table)) × (StarSizes s) × (PlaceSizes place) × (natAbs t ≤ 10800) ⌝ }
+    ensures { λ r. ⌜ IsSample (B.Star s) place t r ⌝ }
 {
     let axis = elements::stars::axis(s);
     let o = super::offset_at(table, axis, place, t);
     let radius = s.radius;
-    let m = o.m;
-    let first = super::state(guard, radius, m);
-    PhaseStates {
-        first,
-        second: 0,
-        m,
+    Sample {
+        u: o.u,
+        v: o.v,
+        m: o.m,
+        first: radius,
+        second: radius,
     }
 }
 
-// The states of a second and its M: what a loop over seconds asks.
-pub fn states_at(
-    table: &[u32],
-    body: Body,
-    place: station::Place,
-    t: i64,
-    guard: i64,
-) -> PhaseStates
-    requires { ⌜ (Sines (now table)) × (BodySizes body) × (PlaceSizes place) × (natAbs t ≤ 10800) × (natAbs guard ≤ 1000) ⌝ }
-    ensures { λ r. ⌜ ArePhaseStates guard body place t r ⌝ }
+// The shadow at second t, in its phases.
+pub fn sample_at(table: &[u32], body: Body, place: station::Place, t: i64) -> Sample
+    requires { ⌜ (Sines (now table)) × (BodySizes body) × (PlaceSizes place) × (natAbs t ≤ 10800) ⌝ }
+    ensures { λ r. ⌜ IsSample body place t r ⌝ }
 {
     match body {
-        Body::Sun(e) => eclipse_states(table, e, place, t, guard),
-        Body::Star(s) => star_states(table, s, place, t, guard),
+        Body::Sun(e) => eclipse_sample(table, e, place, t),
+        Body::Star(s) => star_sample(table, s, place, t),
     }
 }
 

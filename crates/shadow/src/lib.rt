@@ -74,14 +74,18 @@ pub struct States {
     pub m: i64,
 }
 
-// The states of a second in the phases of its shadow.
-pub struct PhaseStates {
-    // of the first phase, the penumbra's or the star's: 0 outside, 1 inside, 2 unsure
-    pub first: u8,
-    // of the second, likewise; 0 where there is none
-    pub second: u8,
-    // M, by which the closest second is found
+// The shadow at a second in its phases, of an eclipse or of a star, the same unit.
+pub struct Sample {
+    // u, the axis from the station, to the east, ±602,170,000
+    pub u: i64,
+    // v, the same to the north, ±703,170,000
+    pub v: i64,
+    // M = u² + v², 0 to 1,000,000,000,000,000,000
     pub m: i64,
+    // L of the first phase, the penumbra's or the star's, ±600,000,000
+    pub first: i64,
+    // L of the second, with its sign; the star's again where there is no second
+    pub second: i64,
 }
 
 // All that is said of a second of an eclipse.

@@ -1,6 +1,6 @@
 -- What the program prints: a line for each list of up to six states.
 -- Assumes nothing: these are definitions.
-use Prim.Native.Nat.{ℕ, zero, suc, _/_, _%_, _^_}
+use Prim.Native.Nat.{ℕ, zero, suc, _/_, _%_, _^_, _≤_, _<_}
 use mathlib.Core.List.{List, [], _∷_, _++_, flatMap}
 use lib.ListN.{length, getD}
 use Rattle.contacts.specs.declared.Entry.{Entry}
@@ -14,6 +14,10 @@ use Rattle.decimals.specs.Rows.{rows}
 abbrev pub statesOf : ℕ → ℕ → List ℕ
 statesOf zero number = []
 statesOf (suc n) number = number % 3 ∷ statesOf n (number / 3)
+
+-- few states, each 0, 1 or 2
+abbrev pub States : List ℕ → Type 0
+States states = (length states ≤ 6) × ((i : ℕ) → i < length states → getD states i 0 ≤ 2)
 
 -- the letter of its kind, and its two seconds
 unfoldable pub span : List ℕ → ℕ → ℕ → List ℕ

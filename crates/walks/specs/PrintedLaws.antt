@@ -3,7 +3,9 @@ use Prim.Native.Nat.{ℕ, zero, suc, _/_, _%_, _≤_, _<_}
 use mathlib.Core.Path.{_≡_, refl, sym, ap, _∙_}
 use mathlib.Core.List.{List, [], _∷_, _++_, flatMap}
 use native.Mathlib.Omega.{arith}
-use lib.ListN.{length, take}
+use lib.ListN.{length, getD, take}
+use Rattle.runs.specs.Runs.{decoded, Whole}
+use Rattle.runs.specs.RunsLaws.{singles}
 use Rattle.contacts.specs.declared.Entry.{Entry}
 use Rattle.contacts.specs.Entries.{entries}
 use Rattle.contacts.specs.Step.{entriesFrom}
@@ -11,13 +13,33 @@ use Rattle.contacts.specs.StepLaws.{all-at-start}
 use Rattle.decimals.specs.Decimals.{decimal}
 use Rattle.decimals.specs.Texts.{letters, Put}
 use Rattle.decimals.specs.TextLaws.{put-then, Putting, putting-start, putting-turn, putting-end}
-use Rattle.walks.specs.Printed.{statesOf, span, entryText, digits, entriesText, line}
+use Rattle.walks.specs.Printed.{statesOf, States, span, entryText, digits, entriesText, line}
 
 -- the first n of more states are the n states of the same number
 pub first-states : (n m number : ℕ) → n ≤ m → take n (statesOf m number) ≡ statesOf n number
 first-states zero m number h = refl
 first-states (suc n) zero number h = absurd (omega arith)
 first-states (suc n) (suc m) number h = ap (λ s. number % 3 ∷ s) (first-states n m (number / 3) (omega arith))
+
+-- and are states
+digits-small : (n number i : ℕ) → i < n → getD (statesOf n number) i 0 ≤ 2
+digits-small zero number i h = absurd (omega arith)
+digits-small (suc n) number zero h = omega arith
+digits-small (suc n) number (suc i) h = digits-small n (number / 3) i (omega arith)
+
+how-many : (n number : ℕ) → length (statesOf n number) ≡ n
+how-many zero number = refl
+how-many (suc n) number = ap suc (how-many n (number / 3))
+
+pub are-states : (n number : ℕ) → n ≤ 6 → States (statesOf n number)
+are-states n number h = (omega (arith, how-many n number), λ i l. digits-small n number i (omega (arith, how-many n number)))
+
+-- as bytes they are runs of one second
+pub as-runs : (s : List ℕ) → States s → Whole s × (decoded 0 s ≡ s)
+as-runs s h = singles s (λ i l. omega (arith, h .1 i l))
+
+pub few-seconds : (s : List ℕ) → States s → length (decoded 0 s) ≤ 21601
+few-seconds s h = omega (arith, h .0, ap length (as-runs s h .1))
 
 module _ (old : List ℕ) (short : length old < 18446744073709551616) (at : ℕ) where
   pub put-parts : (word : List ℕ) (from to : ℕ) (a b c new : List ℕ) (p q r s : ℕ) → Put old at word a p → Put a p (decimal from) b q
@@ -36,21 +58,21 @@ module _ (old : List ℕ) (short : length old < 18446744073709551616) (at : ℕ)
 
 -- the entries before those that are left at a cursor are put
 abbrev pub Walking : List ℕ → List ℕ → ℕ → List ℕ → ℕ → ℕ → Type 0
-Walking states old start out at cursor = Putting old start (entriesText states) out at (flatMap entryText (entriesFrom states cursor))
+Walking states old start out at cursor = Putting old start (entriesText states) out at (flatMap entryText (entriesFrom (decoded 0 states) cursor))
 
 module _ (states old : List ℕ) (start : ℕ) where
-  pub walking-start : start < 18446744073709551616 → length old < 18446744073709551616 → Walking states old start old start 0
+  pub walking-start : States states → start < 18446744073709551616 → length old < 18446744073709551616 → Walking states old start old start 0
   unfolding entriesText
-  walking-start h g = rw (all-at-start states) (putting-start old start (flatMap entryText (entries states)) h g)
+  walking-start s h g = rw (as-runs states s .1, all-at-start states) (putting-start old start (flatMap entryText (entries states)) h g)
 
   module _ (out : List ℕ) (at cursor : ℕ) (f : Walking states old start out at cursor) where
-    pub walking-turn : (e : Entry) (next : ℕ) → entriesFrom states cursor ≡ e ∷ entriesFrom states next → (new : List ℕ) (r : ℕ)
+    pub walking-turn : (e : Entry) (next : ℕ) → entriesFrom (decoded 0 states) cursor ≡ e ∷ entriesFrom (decoded 0 states) next → (new : List ℕ) (r : ℕ)
         → Put out at (entryText e) new r → Walking states old start new r next
     unfolding flatMap
     walking-turn e next q new r p =
-        putting-turn old start (entriesText states) out at (entryText e) (flatMap entryText (entriesFrom states next)) new r
+        putting-turn old start (entriesText states) out at (entryText e) (flatMap entryText (entriesFrom (decoded 0 states) next)) new r
         (rw q at f) p
 
-    pub walking-end : entriesFrom states cursor ≡ [] → Put old start (entriesText states) out at
+    pub walking-end : entriesFrom (decoded 0 states) cursor ≡ [] → Put old start (entriesText states) out at
     unfolding flatMap
     walking-end q = putting-end old start (entriesText states) out at (rw q at f)

@@ -5,7 +5,7 @@ ghost use mathlib.Core.Path.{_≡_};
 ghost use Prim.Native.Nat.{_≤_, _%_, _^_};
 ghost use Rattle.decimals.specs.Decimals.{decimal};
 ghost use Rattle.decimals.specs.Texts.{Put};
-ghost use Rattle.walks.specs.Printed.{statesOf, span, entryText, digits, entriesText, line, lines, printed};
+ghost use Rattle.walks.specs.Printed.{statesOf, States, span, entryText, digits, entriesText, line, lines, printed};
 
 // A word and two seconds.
 fn put_span(out: &mut [u8], at: usize, word: &[u8], from: usize, to: usize) -> usize
@@ -28,14 +28,19 @@ fn put_entry(out: &mut [u8], at: usize, entry: contacts::Entry) -> usize
     }
 }
 
-// A step for each entry.
+// A step for each entry. The states, as bytes, are runs of one second.
 fn put_entries(out: &mut [u8], start: usize, states: &[u8]) -> usize
+    requires { ⌜ States (now states) ⌝ }
     ensures { λ r. ⌜ Put (now (out .entry)) start (entriesText (now (states .entry))) (now (out .exit)) r ⌝ }
 {
     let mut at = start;
-    let mut c = contacts::Cursor { at: 0 };
+    let mut c = contacts::Cursor {
+        at: 0,
+        run: 0,
+        was: 0,
+    };
     loop {
-        let contacts::Next::Found(found, after) = contacts::step(states, c) else {
+        let contacts::Next::Found(found, after) = contacts::step(states, 0, c) else {
             return at;
         };
         at = put_entry(out, at, found);
@@ -63,6 +68,7 @@ fn put_states(out: &mut [u8], start: usize, states: &[u8]) -> usize
 }
 
 fn put_window(out: &mut [u8], start: usize, states: &[u8]) -> usize
+    requires { ⌜ States (now states) ⌝ }
     ensures { λ r. ⌜ Put (now (out .entry)) start (line (now (states .entry))) (now (out .exit)) r ⌝ }
 {
     let middle = put_states(out, start, states);

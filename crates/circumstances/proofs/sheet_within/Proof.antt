@@ -1,11 +1,11 @@
 -- `circumstances::sheet_within` meets its contract: the place is the station's, the array holds the states of the window's seconds, and
 -- `sheet_from` does the rest. Assumes nothing.
-use mathlib.Core.Path.{ap, _∙_}
-use Prim.Native.Nat.{ℕ, _*_, _≤_}
+use mathlib.Core.Path.{sym, ap, _∙_}
+use lib.Seq.{length-take-le}
+use Prim.Native.Nat.{ℕ, _≤_}
 use native.Mathlib.Omega.{arith}
 use borrow.Author.Needs.{needs}
 use lib.ListN.{length, replicate, length-replicate}
-use Rattle.geometry.specs.Shadow.{phasesOf}
 use Rattle.requests.specs.declared.Occultation.{Occultation}
 use Rattle.requests.specs.Windows.{secondCount}
 use Rattle.requests.specs.WindowLaws.{seconds-few}
@@ -14,31 +14,36 @@ use Rattle.circumstances.specs.Claims.{buffer-length}
 use Rattle.circumstances.proofs.sheet_within.Statement.{statement}
 use Rattle.circumstances.proofs.sheet_within.Tie as tie
 
--- an array of 43,202 bytes has room for both phases
-room : (o : Occultation) → InLimits o → 2 * secondCount (o .window) ≤ length (replicate {A = ℕ} 43202 0)
-room o i = omega (arith, seconds-few (o .window) (i .window), length-replicate {A = ℕ} 43202 0)
+-- an array of 21,601 bytes has room for every window
+room : (o : Occultation) → InLimits o → secondCount (o .window) ≤ length (replicate {A = ℕ} 21601 0)
+room o i = omega (arith, seconds-few (o .window) (i .window), length-replicate {A = ℕ} 21601 0)
 
 geocentric-requires : tie.Need-geocentric-requires
 geocentric-requires c κs = search needs
 
-slice-aggregate-fill-states : tie.Need-slice-aggregate-fill-states
-slice-aggregate-fill-states c = search needs
+slice-aggregate-fill : tie.Need-slice-aggregate-fill
+slice-aggregate-fill c = search needs
 
-fill-states-requires : tie.Need-fill-states-requires
-fill-states-requires c κs =
+fill-requires : tie.Need-fill-requires
+fill-requires c κs =
     let b = c .before .before .before .before .before in
     (b .pre .0, b .pre .1, c .before .geocentric .ensures, room (b .args .o) (b .pre .1))
 
+array-share-prefix-runs : tie.Need-array-share-prefix-runs
+array-share-prefix-runs c = c .before .fill .ensures .0 .count
+
 slice-aggregate-sheet-from : tie.Need-slice-aggregate-sheet-from
-slice-aggregate-sheet-from c = search needs
+slice-aggregate-sheet-from c =
+    let f = c .before .before in
+    sym (length-take-le (f .fill .result .count) (f .fill .last .1 .1 .1 .0) (f .fill .ensures .0 .count))
 
 sheet-from-requires : tie.Need-sheet-from-requires
 sheet-from-requires c κs =
     let f = c .before .before .before in
     let g = f .before .before in
     let b = g .before .before .before .before in (
-      (b .pre .0, b .pre .1, g .geocentric .ensures, f .fill-states .ensures .0),
-      (f .fill-states .ensures .1 .0, omega (arith, f .fill-states .ensures .1 .1, room (b .args .o) (b .pre .1))),
+      (b .pre .0, b .pre .1, g .geocentric .ensures, f .fill .ensures .0 .closest),
+      f .fill .ensures .0 .states,
     )
 
 same-length : tie.Need-same-length
@@ -54,8 +59,9 @@ sheet-within-spec =
     tie.close
     (tie.spec
     geocentric-requires
-    slice-aggregate-fill-states
-    fill-states-requires
+    slice-aggregate-fill
+    fill-requires
+    array-share-prefix-runs
     slice-aggregate-sheet-from
     sheet-from-requires
     same-length

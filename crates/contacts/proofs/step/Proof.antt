@@ -1,25 +1,21 @@
--- By where the cursor is: at the start, past the window, after a second of it.
+-- By where the cursor is: at the start, after a second.
 use borrow.Author.Needs.{needs}
-use native.Mathlib.Omega.{arith}
-use Rattle.contacts.proofs.Seconds.{from-past, done}
 use Rattle.contacts.proofs.step.Statement.{statement}
 use Rattle.contacts.proofs.step.Tie as tie
 
 first-entry-requires : tie.Need-first-entry-requires
-first-entry-requires c κs = search needs
+first-entry-requires c κs =
+    let p = c .before .before .before .pre in
+    (p .0, rw (p .1 .start (c .if1 .taken)) at (p .1 .stands .whole))
 
 returns : tie.Need-returns
 returns c = rw (c .before .if1 .taken) (c .first-entry .ensures)
 
-returns-2 : tie.Need-returns-2
-returns-2 c = done _ _ (from-past _ _ (omega arith) (omega arith))
-
 after-sure-requires : tie.Need-after-sure-requires
 after-sure-requires c κs = search needs
 
-returns-3 : tie.Need-returns-3
-returns-3 c = search needs
+returns-2 : tie.Need-returns-2
+returns-2 c = search needs
 
 pub step-spec : {M : Type 1} → statement M
-step-spec =
-    tie.close (tie.spec first-entry-requires returns returns-2 after-sure-requires returns-3)
+step-spec = tie.close (tie.spec first-entry-requires returns after-sure-requires returns-2)

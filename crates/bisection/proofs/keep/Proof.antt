@@ -1,0 +1,42 @@
+-- `bisection::keep` meets its contract. Assumes nothing.
+use mathlib.Core.Path.{ap}
+use native.Mathlib.Omega.{arith}
+use borrow.Author.Needs.{needs}
+use Rattle.numbers.specs.Code.{read-back, read-size}
+use Rattle.runs.specs.declared.Filled.{Filled}
+use Rattle.bisection.proofs.keep.Statement.{statement}
+use Rattle.bisection.proofs.keep.Tie as tie
+
+pair-of-requires : tie.Need-pair-of-requires
+pair-of-requires c κs = let a = c .before in (read-size (a .args .guard) 1000 (a .pre .0 .0) tt, a .pre .0 .1)
+
+push-requires : tie.Need-push-requires
+push-requires c κs =
+    let a = c .before .before .before in
+    let p = a .pre .1 in
+    (c .before .pair-of .ensures .small, p .0, omega (arith, p .1), p .2, p .3)
+
+closer-requires : tie.Need-closer-requires
+closer-requires c κs =
+    let a = c .before .before .before .before .before .before .before in
+    (a .pre .0 .2, read-size (a .args .s .m) 1000000000000000000 (a .pre .0 .1 .m) tt)
+
+same-length : tie.Need-same-length
+same-length c = c .before .before .before .before .push .ensures .0 .same
+
+returns : tie.Need-returns
+returns c =
+    let x = c .before .before .before .before in
+    let y = x .before .before in
+    let a = y .before .before in
+    let e = c .closer .ensures in
+    record {
+      pair = y .pair-of .result;
+      is = rw (read-back (a .args .guard) (a .pre .0 .0) tt) at (y .pair-of .ensures);
+      pushed = rw (e .0) (x .push .ensures .0);
+      short = omega (arith, ap (λ (f : Filled). f .count) (e .0), x .push .ensures .1);
+      closer = rw (read-back (a .args .s .m) (a .pre .0 .1 .m) tt) at (e .1);
+    }
+
+pub keep-spec : {M : Type 1} → statement M
+keep-spec = tie.close (tie.spec pair-of-requires push-requires closer-requires same-length returns)

@@ -1,0 +1,73 @@
+-- The states of the seconds of a window, of two phases in one list of bytes. Definitions only.
+-- A run is a spell of seconds that have the same two states. Its first byte holds the states, in its lower four bits, and in its upper
+-- four how long it is: at 0 it is one second, in one byte; at 1 + h a second byte n follows, and it is h * 256 + n seconds.
+use Prim.Native.Nat.{ℕ, zero, suc, _+_, _*_, _/_, _%_, _≤_, _<_}
+use mathlib.Core.Path.{_≡_}
+use mathlib.Core.List.{List, [], _∷_, _++_}
+use lib.ListN.{length, getD, take, drop, replicate}
+use Rattle.runs.specs.declared.Run.{Run}
+use Rattle.runs.specs.declared.Filled.{Filled}
+
+-- the state of the first phase (0) or the second that a run's first byte holds: 0 outside, 1 inside, any other unsure
+abbrev pub stateIn : ℕ → ℕ → ℕ
+stateIn zero b = b % 4
+stateIn (suc k) b = b / 4 % 4
+
+-- the upper four bits of a first byte
+abbrev pub high : ℕ → ℕ
+high b = b / 16
+
+-- the seconds of a run, by the upper bits of its first byte and by the byte after that
+abbrev pub secondsOf : ℕ → ℕ → ℕ
+secondsOf zero n = 1
+secondsOf (suc h) n = h * 256 + n
+
+-- the bytes of a run, by the upper bits of its first byte
+abbrev pub bytesOf : ℕ → ℕ
+bytesOf zero = 1
+bytesOf (suc h) = 2
+
+-- what follows a run, by the upper bits of its first byte: what follows one byte, or two
+abbrev pub following : ℕ → List ℕ → List ℕ → List ℕ
+following zero one two = one
+following (suc h) one two = two
+
+-- the states of phase k, one a second. (A second byte that is missing is taken for 0.)
+unfoldable pub decoded : ℕ → List ℕ → List ℕ
+decoded k [] = []
+decoded k (b ∷ []) = replicate (secondsOf (high b) 0) (stateIn k b)
+decoded k (b ∷ n ∷ s) = replicate (secondsOf (high b) n) (stateIn k b) ++ following (high b) (decoded k (n ∷ s)) (decoded k s)
+
+-- the bytes are whole runs, each of one second at least
+pub data Whole : List ℕ → Type 0 where
+  none : Whole []
+  one : {b : ℕ} {s : List ℕ} → high b ≡ 0 → Whole s → Whole (b ∷ s)
+  more : {b n : ℕ} {s : List ℕ} → 0 < high b → 0 < secondsOf (high b) n → Whole s → Whole (b ∷ n ∷ s)
+
+-- the run at place i of the bytes, as phase k sees it
+pub record RunAt (k : ℕ) (bytes : List ℕ) (i : ℕ) (r : Run) : Type 0 where
+  pub states : decoded k (drop i bytes) ≡ replicate (r .seconds) (r .state) ++ decoded k (drop (r .after) bytes)
+  pub some : 0 < r .seconds
+  pub further : i < r .after
+  pub within : r .after ≤ length bytes
+  pub whole : Whole (drop (r .after) bytes)
+
+-- the first `count` bytes are whole runs, the last of them, if there is one, at place `last`
+pub record Ends (bytes : List ℕ) (f : Filled) : Type 0 where
+  pub within : f .count ≤ length bytes
+  pub whole : Whole (take (f .count) bytes)
+  pub before : 0 < f .count → Whole (take (f .last) bytes)
+  pub size : 0 < f .count → f .count ≡ f .last + bytesOf (high (getD bytes (f .last) 0))
+
+-- n seconds more, of a pair's states, after those of the runs in the first `count` bytes
+pub record Pushed (old new : List ℕ) (count pair n : ℕ) (r : Filled) : Type 0 where
+  pub same : length new ≡ length old
+  pub ends : Ends new r
+  pub states : (k : ℕ) → decoded k (take (r .count) new) ≡ decoded k (take count old) ++ replicate n (stateIn k pair)
+
+-- the last run has a pair's states, and is r seconds long with n more, which one run can be
+pub record Longer (bytes : List ℕ) (f : Filled) (pair n r : ℕ) : Type 0 where
+  pub some : 0 < f .count
+  pub alike : getD bytes (f .last) 0 % 16 ≡ pair
+  pub seconds : r ≡ secondsOf (high (getD bytes (f .last) 0)) (getD bytes (f .last + 1) 0) + n
+  pub most : r ≤ 3839

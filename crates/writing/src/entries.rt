@@ -1,0 +1,120 @@
+// Entries as they stand in a sheet, made from the seconds that they name. These are inner functions of the crate, and have a `requires`.
+use elements::Body;
+use kinds::Entry;
+use phases::Phase;
+use requests::Occultation;
+use station::Place;
+ghost use mathlib.Core.Path.{_≡_};
+ghost use Prim.Native.Nat.{_≤_, _<_};
+ghost use lib.IntN.{natAbs};
+ghost use Rattle.sine.specs.Table.{Sines};
+ghost use Rattle.station.specs.Place.{placeOf};
+ghost use Rattle.requests.specs.Windows.{secondCount};
+ghost use Rattle.requests.specs.RequestLaws.{InLimits};
+ghost use Rattle.seconds.specs.Seconds.{closestOf};
+ghost use Rattle.contacts.specs.Entries.{from, to};
+ghost use Rattle.courses.specs.Courses.{entryOf, headEntry, closestEntry, shareEntry};
+ghost use Rattle.writing.specs.Sheet.{shareOf, courseOf};
+
+// The earlier second of an entry of a phase, counted from the window's first.
+fn from_of(entry: contacts::Entry) -> usize
+    ensures { λ r. ⌜ r ≡ from entry ⌝ }
+{
+    match entry {
+        contacts::Entry::Enter { from, to: _ } => from,
+        contacts::Entry::Leave { from, to: _ } => from,
+        contacts::Entry::Graze { from, to: _ } => from,
+        contacts::Entry::Open { from, to: _ } => from,
+    }
+}
+
+// The later one.
+pub fn to_of(entry: contacts::Entry) -> usize
+    ensures { λ r. ⌜ r ≡ to entry ⌝ }
+{
+    match entry {
+        contacts::Entry::Enter { from: _, to } => to,
+        contacts::Entry::Leave { from: _, to } => to,
+        contacts::Entry::Graze { from: _, to } => to,
+        contacts::Entry::Open { from: _, to } => to,
+    }
+}
+
+// An entry of a phase, with its direction: at the later second of an enter, at the earlier of a leave.
+pub fn entry_for(
+    table: &[u32],
+    o: Occultation,
+    place: Place,
+    phase: Phase,
+    entry: contacts::Entry,
+) -> Entry
+    requires { ⌜ (Sines (now table)) × (InLimits o) × (place ≡ placeOf (o .station)) × (from entry < secondCount (o .window)) × (to entry < secondCount (o .window)) ⌝ }
+    ensures { λ r. ⌜ r ≡ entryOf (courseOf o) phase entry ⌝ }
+{
+    let w = o.window;
+    let earlier = requests::nth_second(w, from_of(entry));
+    let later = requests::nth_second(w, to_of(entry));
+    let from = kinds::seconds::store_second(earlier);
+    let to = kinds::seconds::store_second(later);
+    match entry {
+        contacts::Entry::Enter { from: _, to: _ } => {
+            let direction = seconds::direction_at(table, o, place, later);
+            kinds::entries::enter(phase, from, to, direction)
+        }
+        contacts::Entry::Leave { from: _, to: _ } => {
+            let direction = seconds::direction_at(table, o, place, earlier);
+            kinds::entries::leave(phase, from, to, direction)
+        }
+        contacts::Entry::Graze { from: _, to: _ } => kinds::entries::graze(phase, from, to),
+        contacts::Entry::Open { from: _, to: _ } => kinds::entries::open(phase, from, to),
+    }
+}
+
+// The head of the sheet.
+pub fn head_for(o: Occultation) -> Entry
+    requires { ⌜ InLimits o ⌝ }
+    ensures { λ r. ⌜ r ≡ headEntry (courseOf o) ⌝ }
+{
+    let s = o.station;
+    let w = o.window;
+    let station = s.number as u32;
+    let first = kinds::seconds::store_second(w.first);
+    let last = kinds::seconds::store_second(w.last);
+    let guard = o.guard as u32;
+    kinds::entries::head(station, first, last, guard)
+}
+
+// The closest second, counted from the window's first, with its magnitude.
+pub fn closest_for(table: &[u32], o: Occultation, place: Place, k: usize) -> Entry
+    requires { ⌜ (Sines (now table)) × (InLimits o) × (place ≡ placeOf (o .station)) × (k ≡ closestOf o) ⌝ }
+    ensures { λ r. ⌜ r ≡ closestEntry (courseOf o) ⌝ }
+{
+    let w = o.window;
+    let t = requests::nth_second(w, k);
+    let second = kinds::seconds::store_second(t);
+    let magnitude = seconds::magnitude_at(table, o, place, t);
+    kinds::entries::closest(second, magnitude)
+}
+
+// The covered share at a second; a star has none.
+fn share_at(table: &[u32], o: Occultation, place: Place, t: i64) -> u32
+    requires { ⌜ (Sines (now table)) × (InLimits o) × (place ≡ placeOf (o .station)) × (natAbs t ≤ 10800) ⌝ }
+    ensures { λ r. ⌜ r ≡ shareOf (o .body) place t ⌝ }
+{
+    let body = o.body;
+    match body {
+        Body::Sun(e) => covered::share_at(table, e, place, t),
+        Body::Star(_) => 0,
+    }
+}
+
+// The share at the closest second.
+pub fn share_for(table: &[u32], o: Occultation, place: Place, k: usize) -> Entry
+    requires { ⌜ (Sines (now table)) × (InLimits o) × (place ≡ placeOf (o .station)) × (k ≡ closestOf o) ⌝ }
+    ensures { λ r. ⌜ r ≡ shareEntry (courseOf o) ⌝ }
+{
+    let w = o.window;
+    let t = requests::nth_second(w, k);
+    let share = share_at(table, o, place, t);
+    kinds::entries::share(share)
+}
