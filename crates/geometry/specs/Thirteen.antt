@@ -57,10 +57,10 @@ reach D p q x y a ha hx hy h =
     (lit 10000 ⊠ leq (r ⊗ r) (num 7 ⊗ v0 ⊗ (num 7 ⊗ v0)) (squares-of-size (p -ℤ x) (7 * D) hx)
     ⊞ lit 2500 ⊠ leq (s ⊗ s) (num 15 ⊗ v0 ⊗ (num 15 ⊗ v0)) (squares-of-size (pos 2 *ℤ (q -ℤ y)) (15 * D) twice) ⊞ lit 176 ⊠ sq v0) tt)
 
-by-contra-< : (a b : ℤ) → (b ≤ℤ a → ⊥) → a <ℤ b
+pub by-contra-< : (a b : ℤ) → (b ≤ℤ a → ⊥) → a <ℤ b
 by-contra-< a b f = ⊎-elim (λ (h : b ≤ℤ a). absurd (f h)) (λ h. h) (≤ℤ-total b a)
 
-apart-sym : (a b : ℤ) → natAbs (a -ℤ b) ≡ natAbs (b -ℤ a)
+pub apart-sym : (a b : ℤ) → natAbs (a -ℤ b) ≡ natAbs (b -ℤ a)
 apart-sym a b = ap natAbs (ring (a ∷ b ∷ []) (v0 ⊖ v1) (opp (v1 ⊖ v0)) tt) ∙ natAbs-opposite (b -ℤ a)
 
 module _ {D : ℕ} {u v r E N K : ℤ} (a : Approximate D u v r E N K) where
@@ -133,7 +133,7 @@ sizes-apart y z =
     let k : natAbs z ≤ natAbs (y -ℤ z) + natAbs y = omega (arith, natAbs-sum (z -ℤ y) y, ap natAbs (-ℤ-+ℤ-cancel z y), apart-sym z y) in
     natAbs-by (pos a -ℤ pos b) (omega (arith, p, n)) (omega (arith, p, n))
 
-edge-apart : (φ : Phase) (d : ℕ) (l K : ℤ) → natAbs (pos d *ℤ edge φ l -ℤ edge φ K) ≤ natAbs (pos d *ℤ l -ℤ K)
+pub edge-apart : (φ : Phase) (d : ℕ) (l K : ℤ) → natAbs (pos d *ℤ edge φ l -ℤ edge φ K) ≤ natAbs (pos d *ℤ l -ℤ K)
 edge-apart Penumbra d l K = omega arith
 edge-apart Star d l K = omega arith
 edge-apart Central d l K = omega (arith, sizes-apart (pos d *ℤ l) K, ap (λ (n : ℕ). natAbs (pos n -ℤ pos (natAbs K))) (natAbs-product (pos d) l))
