@@ -1,0 +1,152 @@
+#!/usr/bin/env python3
+"""Holds the clock times of Python against those of the page, and both against the rules of docs/CLOCK.md in exact fractions.
+
+    python3 tests/clock_times.py [QUESTIONS] [SEED]         wants node; the library's listings too, if it is built
+"""
+
+import datetime
+import json
+import random
+import re
+import subprocess
+import sys
+from fractions import Fraction
+from pathlib import Path
+
+TOP = Path(__file__).resolve().parent.parent
+sys.path.append(str(TOP / "python"))
+import clock  # noqa: E402
+
+
+def typed_instant(draw):
+    """Words of an instant, most of them good."""
+    date = datetime.date.fromordinal(draw.randint(datetime.date(1583, 1, 1).toordinal(), datetime.date(9999, 12, 31).toordinal()))
+    day = f"{date.year:04}-{date.month:02}-{date.day:02}"
+    time = draw.choice([f"{draw.randrange(24):02}:{draw.randrange(60):02}:{draw.randrange(60):02}", "00:00:00", "23:59:59", "12:00:00"])
+    time += draw.choice(["", "", ".0", f".{draw.randrange(10)}", f".{draw.randrange(100):02}"])
+    words = f"{day}{draw.choice([' ', ' ', '  ', chr(9), ' ' + chr(13)])}{time} {draw.choice(['ET', 'UT'])}"
+    if draw.random() < 0.3:
+        wrong = ["1582-12-31 00:00:00 ET", "1583-01-01 00:00:00 ET", "2017-02-29 00:00:00 ET", "2000-02-29 00:00:00 UT", "1900-02-29 00:00:00 UT"]
+        wrong += ["2017-8-21 18:00:00 ET", "2017-08-21 24:00:00 ET", "2017-08-21 18:60:00 ET", "2017-08-21 18:00:60 UT", "2017-00-10 18:00:00 UT"]
+        wrong += ["2017-13-10 18:00:00 UT", "2017-04-31 18:00:00 UT", "2017-04-00 18:00:00 UT", "2017-08-21 18:00 ET", "2017-08-21 18:00:00", ""]
+        wrong += ["2017-08-21T18:00:00 ET", "2017-08-21 18:00:00ET", "2017-08-21 18:00:00. ET", "2017-08-21 18:00:00.123 ET", "2017-08-21 18:00:00 TT"]
+        wrong += ["2017-08-21 18:00:00 et", "２017-08-21 18:00:00 ET", "2017-08-21 18:00:00 ET x", "-2017-08-21 18:00:00 ET", "2017-08-21 18:00:00 UTC"]
+        words = draw.choice(wrong)
+    if draw.random() < 0.1:
+        at = draw.randrange(len(words) + 1)
+        words = words[:at] + draw.choice("0123456789-:. ETU#x") + words[at + draw.randrange(2) :]
+    return words
+
+
+def typed_text(draw):
+    """A text with lines of an instant, and of other names."""
+    others = ["x0 1", "", "# instant 2017-08-21 18:00:00 ET", "instants 1", "station 7", "  \t", "Instant 1", "instant# 1", "\r"]
+    lines = [draw.choice(others) for _ in range(draw.randrange(6))]
+    for _ in range(draw.choice([0, 1, 1, 1, 2, 3])):
+        line = draw.choice(["", " ", "\t"]) + "instant" + draw.choice([" ", " ", "\t", "", "  "]) + typed_instant(draw)
+        lines.insert(draw.randint(0, len(lines)), line + draw.choice(["", "", "\r", " ", " # a comment", "#"]))
+    return "\n".join(lines) + draw.choice(["", "\n"])
+
+
+def in_python(question):
+    name, *given = question
+    if name == "instant":
+        read = clock.Instant.read(given[0].encode())
+        return None if read is None else str(read)
+    if name == "split":
+        try:
+            instant, rest = clock.split(given[0].encode())
+        except clock.Malformed as wrong:
+            return [wrong.line, wrong.wrong]
+        return [None if instant is None else str(instant), rest.decode()]
+    instant = clock.Instant.read(given[0].encode())
+    if name == "times":
+        return {scale.value: list(pair) for scale, pair in clock.times(instant, *given[1:]).items()}
+    return {scale.value: time for scale, time in clock.nearest(instant, *given[1:]).items()}
+
+
+def seconds_of(printed):
+    """Seconds from 0h of the instant's day."""
+    hours, minutes, seconds, tenth, day = re.fullmatch(r"([01]\d|2[0-3]):([0-5]\d):([0-5]\d)\.(\d)([+-]1d)?", printed).groups()
+    days = int(day[:-1]) if day else 0
+    return days * 86400 + int(hours) * 3600 + int(minutes) * 60 + int(seconds) + Fraction(int(tenth), 10)
+
+
+def judge(question, answer):
+    """The rules: a time of each known scale, a contact between its two times, and these no farther off than a tenth."""
+    name, words, delta_t, *seconds = question
+    instant = clock.Instant.read(words.encode())
+    own = instant.scale.value
+    assert list(answer) == ([own] if delta_t == 0 else ["ET", "UT"])
+    for scale, given in answer.items():
+        less = 0 if scale == own else (1 if scale == "UT" else -1) * Fraction(delta_t, 100)
+        exact = [Fraction(instant.hundredths, 100) + second - less for second in seconds]
+        if name == "times":
+            earlier, later = map(seconds_of, given)
+            assert exact[0] - Fraction(1, 10) < earlier <= exact[0] and exact[1] <= later < exact[1] + Fraction(1, 10)
+        else:
+            off = seconds_of(given) - exact[0]
+            assert -Fraction(1, 20) < off <= Fraction(1, 20)
+
+
+def asked_of_page(questions):
+    lines = "".join(json.dumps(question) + "\n" for question in questions)
+    ran = subprocess.run(["node", TOP / "web/test/clock.mjs"], input=lines.encode(), stdout=subprocess.PIPE, check=True)
+    return [json.loads(line) for line in ran.stdout.decode().splitlines()]
+
+
+def listings():
+    """The listing with clock times of each example, by Python and by the page."""
+    import ukhtvaresh
+
+    questions, wanted = [], []
+    for line in (TOP / "examples/instants.txt").read_text().splitlines():
+        if line.startswith("#"):
+            continue
+        name, words = line.split(" ", 1)
+        request = (TOP / f"examples/{name}.bin").read_bytes()
+        star = request[0] == 5
+        kind = ukhtvaresh.StarRequest if star else ukhtvaresh.Request
+        delta_t = kind.from_bytes(request).station.delta_t
+        sheet = (ukhtvaresh.star if star else ukhtvaresh.sheet_and_share)(request)
+        entries = []
+        for entry in ukhtvaresh.read(sheet):
+            fields = {key.rstrip("_"): value for key, value in vars(entry).items() if key != "phase"}
+            entries.append({"name": type(entry).__name__.lower(), **fields})
+        questions.append(["listing", words, delta_t, ukhtvaresh.listing(sheet), entries])
+        wanted.append(clock.listing(sheet, clock.Instant.read(words.encode()), delta_t))
+    for given, want in zip(asked_of_page(questions), wanted):
+        if given != want:
+            sys.exit(f"page\n{given}\npython\n{want}")
+    return len(wanted)
+
+
+def main():
+    count = int(sys.argv[1]) if len(sys.argv) > 1 else 20000
+    draw = random.Random(int(sys.argv[2]) if len(sys.argv) > 2 else 1954)
+    questions = []
+    while len(questions) < count:
+        words = typed_instant(draw)
+        kind = draw.choice(["instant", "split", "times", "nearest"])
+        if kind == "split":
+            questions.append([kind, typed_text(draw)])
+        elif kind == "instant":
+            questions.append([kind, words])
+        elif clock.Instant.read(words.encode()) is not None:
+            delta_t = draw.choice([0, draw.randint(-10000, 20000), 6880, draw.choice([-10000, 20000])])
+            second = draw.choice([draw.randint(-10800, 10800), -10800, 10800, 0])
+            later = [] if kind == "nearest" else [min(10800, second + draw.choice([1, 1, 2, 100]))]
+            questions.append([kind, words, delta_t, second, *later])
+    for question, given in zip(questions, asked_of_page(questions)):
+        wanted = in_python(question)
+        if given != wanted:
+            sys.exit(f"{question}\npage   {given}\npython {wanted}")
+        if question[0] in ("times", "nearest"):
+            judge(question, given)
+    print(f"{len(questions)} questions, no difference")
+    if (TOP / "target/staticlib/libukhtvaresh.so").is_file():
+        print(f"{listings()} listings, no difference")
+
+
+if __name__ == "__main__":
+    main()

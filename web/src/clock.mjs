@@ -1,0 +1,111 @@
+// Seconds of a sheet as times of day, by the rules of docs/CLOCK.md. Whole numbers throughout: hundredths of a second, printed as tenths.
+
+const DAY = 864_000; // tenths
+const FIRST_YEAR = 1583;
+const FORM = /^(\d{4})-(\d{2})-(\d{2})[ \t\r]+(\d{2}):(\d{2}):(\d{2})(?:\.(\d{1,2}))?[ \t\r]+(ET|UT)$/;
+
+function daysIn(year, month) {
+  const leap = year % 4 === 0 && (year % 100 !== 0 || year % 400 === 0);
+  return [31, leap ? 29 : 28, 31, 30, 31, 30, 31, 31, 30, 31, 30, 31][month - 1];
+}
+
+// The instant that the words are, `2017-08-21 18:00:00 ET`, or null. `hundredths` counts from 0h of its day.
+export function readInstant(words) {
+  const form = FORM.exec(words);
+  if (!form) return null;
+  const [year, month, day, hours, minutes, seconds] = form.slice(1, 7).map(Number);
+  if (year < FIRST_YEAR || month < 1 || month > 12 || day < 1 || day > daysIn(year, month)) return null;
+  if (hours > 23 || minutes > 59 || seconds > 59) return null;
+  const decimals = Number((form[7] ?? "").padEnd(2, "0"));
+  return { year, month, day, hundredths: ((hours * 60 + minutes) * 60 + seconds) * 100 + decimals, scale: form[8] };
+}
+
+export const dateOf = (instant) => `${digits(instant.year, 4)}-${digits(instant.month)}-${digits(instant.day)}`;
+
+export function instantText(instant) {
+  const seconds = Math.floor(instant.hundredths / 100);
+  const time = `${timeOf(seconds)}.${digits(instant.hundredths % 100)}`;
+  return `${dateOf(instant)} ${time} ${instant.scale}`;
+}
+
+const digits = (number, count = 2) => String(number).padStart(count, "0");
+const timeOf = (seconds) =>
+  `${digits(Math.floor(seconds / 3600))}:${digits(Math.floor(seconds / 60) % 60)}:${digits(seconds % 60)}`;
+
+// What a line says without its comment and the blanks around it.
+export const saidIn = (line) => line.split("#")[0].replace(/^[ \t\r]+|[ \t\r]+$/g, "");
+
+// Whether what is said begins with the name, and a blank or nothing follows.
+export const isNamed = (said, name) => said.startsWith(name) && /^([ \t\r]|$)/.test(said.slice(name.length));
+
+// The instant of a typed text or null, the text with every line of that name empty, and the first fault in such a line or null.
+export function splitInstant(text) {
+  let instant = null;
+  let fault = null;
+  const lines = text.split("\n");
+  lines.forEach((line, at) => {
+    const said = saidIn(line);
+    if (!isNamed(said, "instant")) return;
+    lines[at] = "";
+    const read = readInstant(said.slice("instant".length).replace(/^[ \t\r]+/, ""));
+    if (read === null) fault ??= { line: at + 1, name: "instant", wrong: "is not a date and time" };
+    else if (instant !== null) fault ??= { line: at + 1, name: "instant", wrong: "is given twice" };
+    instant ??= read;
+  });
+  return { instant, rest: lines.join("\n"), fault };
+}
+
+// The time of a second in each scale that is known, ephemeris time first.
+function hundredthsAt(instant, deltaT, second) {
+  const own = instant.hundredths + 100 * second;
+  if (deltaT === 0) return { [instant.scale]: own };
+  if (instant.scale === "ET") return { ET: own, UT: own - deltaT };
+  return { ET: own + deltaT, UT: own };
+}
+
+export function printed(tenths) {
+  const days = Math.floor(tenths / DAY);
+  const rest = tenths - days * DAY;
+  const day = days === 0 ? "" : days > 0 ? `+${days}d` : `${days}d`;
+  return `${timeOf(Math.floor(rest / 10))}.${rest % 10}${day}`;
+}
+
+const inEach = (hundredths, print) =>
+  Object.fromEntries(Object.entries(hundredths).map(([scale, n]) => [scale, print(n, scale)]));
+
+// Two times of day in each scale, rounded outward: what lies between the seconds lies between the times.
+export function times(instant, deltaT, from, to) {
+  const later = hundredthsAt(instant, deltaT, to);
+  return inEach(hundredthsAt(instant, deltaT, from), (n, scale) => [
+    printed(Math.floor(n / 10)),
+    printed(Math.ceil(later[scale] / 10)),
+  ]);
+}
+
+// The time of day of a second in each scale, to the nearest tenth, halves up.
+export function nearest(instant, deltaT, second) {
+  return inEach(hundredthsAt(instant, deltaT, second), (n) => printed(Math.floor((n + 5) / 10)));
+}
+
+// Hundredths from 0h of the instant's day, in universal time where it is known: what the curve's axis counts.
+export function axisTime(instant, deltaT, second) {
+  const known = hundredthsAt(instant, deltaT, second);
+  return known.UT ?? known.ET;
+}
+
+// The listing of a sheet with clock times. `entries` are those of the sheet, `listing` its own text.
+export function listingWithTimes(listing, entries, instant, deltaT) {
+  const added = (known) =>
+    Object.entries(known)
+      .map(([scale, time]) => ` ${scale} ${[time].flat().join(" ")}`)
+      .join("");
+  const lines = listing.trimEnd().split("\n");
+  const shown = lines.map((line, at) => {
+    const entry = entries[at];
+    if (entry.name === "head") return `${line}\ninstant ${instantText(instant)}`;
+    if (entry.name === "closest") return line + added(nearest(instant, deltaT, entry.second));
+    if (entry.name === "share") return line;
+    return line + added(times(instant, deltaT, entry.from, entry.to));
+  });
+  return shown.map((line) => `${line}\n`).join("");
+}

@@ -1,0 +1,134 @@
+// The proved library, compiled to WebAssembly. Each call lends memory behind the library's own, as include/ukhtvaresh.h says.
+// Pointers are numbers, lengths and 64-bit values BigInt.
+
+export class Refused extends Error {
+  constructor(number, place) {
+    super(`refused ${number} ${place}`);
+    this.number = number;
+    this.place = place;
+  }
+}
+
+const SINES = 901; // numbers of the sine table
+const SHEET = 65_536; // bytes of the longest sheet, as of the program `sheet`
+const ENTRIES = Math.ceil(SHEET / 5); // no record but the end has fewer bytes
+const TEXT = 6 * SHEET;
+const STORED = 10_800; // a second is stored plus this
+const NO_DIRECTION = 65_535;
+
+const STATES = ["outside", "inside", "unsure"];
+const PHASES = { 0x10: "penumbra", 0x20: "central", 0x40: "star" };
+const OF_PHASE = ["enter", "leave", "graze", "open"];
+
+function entryOf([kind, a, b, c, d]) {
+  if (kind === 0x01) return { name: "head", station: a, first: b - STORED, last: c - STORED, guard: d };
+  if (kind === 0x30) return { name: "closest", second: a - STORED, magnitude: b };
+  if (kind === 0x31) return { name: "share", share: a };
+  if (kind === 0x7f) return { name: "end" };
+  const name = OF_PHASE[kind & 0x0f];
+  const entry = { name, phase: PHASES[kind & 0xf0], from: a - STORED, to: b - STORED };
+  if (name === "enter" || name === "leave") entry.direction = c === NO_DIRECTION ? null : c;
+  return entry;
+}
+
+export async function loadLibrary(wasm) {
+  const { instance } = await WebAssembly.instantiate(wasm, {});
+  const { memory, __heap_base: base } = instance.exports;
+
+  // rooms one after the other, each on a multiple of 8
+  let next = Math.ceil(base.value / 8) * 8;
+  const room = (bytes) => {
+    const at = next;
+    next += Math.ceil(bytes / 8) * 8;
+    return at;
+  };
+  const request = room(128);
+  const sines = room(4 * SINES);
+  const value = room(8);
+  const shadow = room(8 * 8);
+  const sheet = room(SHEET);
+  const entries = room(20 * ENTRIES);
+  const text = room(TEXT);
+  const missing = Math.ceil(next / 65_536) - memory.buffer.byteLength / 65_536;
+  if (missing > 0) memory.grow(missing);
+
+  const put = (at, bytes) => new Uint8Array(memory.buffer, at, bytes.length).set(bytes);
+  const taken = (at, length) => new Uint8Array(memory.buffer, at, length).slice();
+
+  // Calls a function and gives its value, or throws its refusal.
+  function call(name, ...words) {
+    const number = instance.exports[`ukhtvaresh_${name}`](...words, value);
+    const given = Number(new DataView(memory.buffer).getBigUint64(value, true));
+    if (number !== 0n) throw new Refused(Number(number), given);
+    return given;
+  }
+
+  function sheetBy(name, bytes) {
+    put(request, bytes);
+    return taken(sheet, call(name, request, BigInt(bytes.length), sines, BigInt(SINES), sheet, BigInt(SHEET)));
+  }
+
+  return {
+    sheet: (bytes) => sheetBy("sheet", bytes),
+    sheetAndShare: (bytes) => sheetBy("sheet_and_share", bytes),
+    star: (bytes) => sheetBy("star", bytes),
+
+    // The shadow at a second of an eclipse's request.
+    second(bytes, second) {
+      put(request, bytes);
+      call("second", request, BigInt(bytes.length), BigInt(second), sines, BigInt(SINES), shadow, 8n);
+      const [u, v, l1, l2, penumbra, central, magnitude, direction] = Array.from(
+        new BigInt64Array(memory.buffer, shadow, 8),
+        Number,
+      );
+      return { second, u, v, l1, l2, penumbra: STATES[penumbra], central: STATES[central], magnitude, direction };
+    },
+
+    // The covered share at a second, in millionths.
+    share(bytes, second) {
+      put(request, bytes);
+      return call("share", request, BigInt(bytes.length), BigInt(second), sines, BigInt(SINES));
+    },
+
+    // The entries of a sheet.
+    read(bytes) {
+      put(sheet, bytes);
+      const count = call("read", sheet, BigInt(bytes.length), entries, BigInt(5 * ENTRIES));
+      const numbers = new Uint32Array(memory.buffer, entries, 5 * count);
+      return Array.from({ length: count }, (_, k) => entryOf(numbers.subarray(5 * k, 5 * k + 5)));
+    },
+
+    listing(bytes) {
+      put(sheet, bytes);
+      return new TextDecoder().decode(taken(text, call("listing", sheet, BigInt(bytes.length), text, BigInt(TEXT))));
+    },
+  };
+}
+
+// The proved program `request`, compiled to WebAssembly: a typed text in, the bytes of a request or a line of its fault out.
+// Every call is a run of the program from its start.
+export async function loadRequest(wasm) {
+  const module = await WebAssembly.compile(wasm);
+  return function run(input) {
+    let at = 0;
+    const written = { 1: [], 2: [] };
+    let memory;
+    const env = {
+      read(_descriptor, pointer, length) {
+        const part = input.subarray(at, at + Number(length));
+        new Uint8Array(memory.buffer, pointer, part.length).set(part);
+        at += part.length;
+        return BigInt(part.length);
+      },
+      write(descriptor, pointer, length) {
+        for (const byte of new Uint8Array(memory.buffer, pointer, Number(length))) written[descriptor].push(byte);
+        return length;
+      },
+    };
+    const instance = new WebAssembly.Instance(module, { env });
+    memory = instance.exports.memory;
+    instance.exports.main();
+    const errorBytes = Uint8Array.from(written[2]);
+    return { output: Uint8Array.from(written[1]), errorBytes, error: new TextDecoder().decode(errorBytes) };
+  };
+}

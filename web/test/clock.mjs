@@ -1,0 +1,19 @@
+// Answers questions about clock times, one JSON list a line, by web/src/clock.mjs: `tests/clock_times.py` compares with Python's.
+import { readFileSync } from "node:fs";
+import { instantText, listingWithTimes, nearest, readInstant, splitInstant, times } from "../src/clock.mjs";
+
+const shown = (instant) => (instant === null ? null : instantText(instant));
+const ANSWERS = {
+  instant: (words) => shown(readInstant(words)),
+  split(text) {
+    const { instant, rest, fault } = splitInstant(text);
+    return fault ? [fault.line, `${fault.name} ${fault.wrong}`] : [shown(instant), rest];
+  },
+  times: (words, deltaT, from, to) => times(readInstant(words), deltaT, from, to),
+  nearest: (words, deltaT, second) => nearest(readInstant(words), deltaT, second),
+  listing: (words, deltaT, listing, entries) => listingWithTimes(listing, entries, readInstant(words), deltaT),
+};
+for (const line of readFileSync(0, "utf8").trimEnd().split("\n")) {
+  const [name, ...given] = JSON.parse(line);
+  console.log(JSON.stringify(ANSWERS[name](...given)));
+}
