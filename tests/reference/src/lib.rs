@@ -30,6 +30,7 @@ pub mod sheet;
 pub mod sine;
 pub mod sine_table;
 pub mod star;
+pub mod stream;
 pub mod tables;
 pub mod tally;
 pub mod wide;

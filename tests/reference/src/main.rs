@@ -2,6 +2,7 @@
 //! `reference star`: the 79 bytes of a star request on standard input, the listing on standard output.
 //! `reference network`: whole numbers on standard input, a line of 25 for the eclipse, then a line of six for each station; the steps and
 //! the first station on standard output.
+//! `reference stream`: requests one after the other on standard input, their sheets on standard output, refusals on standard error.
 //! `reference time N`: either input, its sheet written N times; prints nanoseconds a sheet.
 //! `reference seconds`: 115 bytes, a line `second L1 L2 M share` for each second of its window.
 //! `reference shares`: lines that begin with L1, L2 and M on standard input, a line `L1 L2 M share` for each.
@@ -11,6 +12,7 @@ use reference::network;
 use reference::request::Request;
 use reference::share::share;
 use reference::star::STAR_LENGTH;
+use reference::stream::stream;
 use std::hint::black_box;
 use std::io::{read_to_string, stdin, stdout, Read, Write};
 use std::process::ExitCode;
@@ -61,6 +63,13 @@ fn main() -> ExitCode {
             stdin().read_to_end(&mut input).expect("standard input can be read");
             star_program(&input)
         }
+        ["stream"] => {
+            stdin().read_to_end(&mut input).expect("standard input can be read");
+            let (sheets, told) = stream(&input);
+            stdout().write_all(&sheets).expect("standard output can be written");
+            eprint!("{told}");
+            return ExitCode::SUCCESS;
+        }
         ["network"] => network_of(&read_to_string(stdin()).expect("text on standard input")),
         ["time", times] => {
             stdin().read_to_end(&mut input).expect("standard input can be read");
@@ -79,7 +88,7 @@ fn main() -> ExitCode {
         }
         ["shares"] => shares(&read_to_string(stdin()).expect("text on standard input")),
         _ => {
-            eprintln!("usage: reference sheet | star | network | time N | seconds | shares");
+            eprintln!("usage: reference sheet | star | stream | network | time N | seconds | shares");
             return ExitCode::FAILURE;
         }
     };

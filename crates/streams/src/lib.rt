@@ -1,0 +1,128 @@
+// Requests that follow each other, eclipses' and stars': how many bytes the next one has, and what one of them is answered.
+use circumstances::Answer;
+use refusals::Refusal;
+use request_fields::LENGTH;
+use request_fields::STAR_LENGTH;
+ghost use mathlib.Core.Path.{_≡_};
+ghost use Prim.Native.Nat.{_≤_};
+ghost use Rattle.decimals.specs.Texts.{Put, Counts};
+ghost use Rattle.answers.specs.Answers.{Begins};
+ghost use Rattle.streams.specs.Streams.{sizeFrom, isStar, answerFor, roomFor, tableFor, sheetFor, toldLine, stopLine, isShape, refusalTold, toldFor, stopsFor};
+
+// What goes out for a request, and whether another may follow.
+pub struct Answered {
+    // bytes of the sheet's room, to standard output
+    pub output: usize,
+    // bytes of the line's room, to standard error; more than the room has where the room is shorter than the text
+    pub error: usize,
+    // the bytes were no request's, so where the next one begins is not known
+    pub stops: bool,
+}
+
+// How many bytes the request has that begins with this one; 1 where none does.
+pub fn size_from(first: u8) -> usize
+    ensures size { λ r. ⌜ r ≡ sizeFrom first ⌝ }
+    ensures most { λ r. ⌜ (1 ≤ r) × (r ≤ 115) ⌝ }
+{
+    if first == 0x02 {
+        return LENGTH;
+    }
+    if first == 0x05 {
+        return STAR_LENGTH;
+    }
+    1
+}
+
+fn is_star(request: &[u8]) -> bool
+    ensures { λ r. ⌜ r ≡ isStar (now (request .entry)) ⌝ }
+{
+    if request.len() == 0 {
+        return false;
+    }
+    request[0] == 0x05
+}
+
+// The sheet of a request, by its first byte.
+fn answer(request: &[u8], sines: &mut [u32], room: &mut [u8]) -> Answer
+    ensures answer { λ r. ⌜ r ≡ answerFor (now (request .entry)) (now (sines .entry)) (now (room .entry)) ⌝ }
+    ensures sheet { λ r. ⌜ now (room .exit) ≡ roomFor (now (request .entry)) (now (sines .entry)) (now (room .entry)) ⌝ }
+    ensures sines { λ r. ⌜ now (sines .exit) ≡ tableFor (now (request .entry)) (now (sines .entry)) ⌝ }
+{
+    if is_star(request) {
+        return input::stars::sheet(request, sines, room);
+    }
+    input::sheet(request, sines, room)
+}
+
+fn is_shape(refusal: Refusal) -> bool
+    ensures { λ r. ⌜ r ≡ isShape refusal ⌝ }
+{
+    refusal.number == 10
+}
+
+// Which request was refused, and why.
+fn put_line(out: &mut [u8], count: u64, refusal: Refusal) -> usize
+    ensures { λ r. ⌜ Put (now (out .entry)) 0 (toldLine count refusal) (now (out .exit)) r ⌝ }
+{
+    let number = refusal.number as u64;
+    let place = refusal.place as u64;
+    let word = decimals::put_text(out, 0, b"request ");
+    let counted = decimals::put_number(out, word, count);
+    let next = decimals::put_text(out, counted, b": ");
+    lines::put_refusal_line(out, next, number, place)
+}
+
+// Where the stream stops.
+fn put_stop(out: &mut [u8], start: usize, at: u64) -> usize
+    ensures { λ r. ⌜ Put (now (out .entry)) start (stopLine at) (now (out .exit)) r ⌝ }
+{
+    let word = decimals::put_text(out, start, b"stopped at byte ");
+    let number = decimals::put_number(out, word, at);
+    decimals::put_text(out, number, b"\n")
+}
+
+fn put_refusal(out: &mut [u8], count: u64, at: u64, refusal: Refusal) -> usize
+    ensures { λ r. ⌜ Put (now (out .entry)) 0 (refusalTold count at refusal) (now (out .exit)) r ⌝ }
+{
+    let end = put_line(out, count, refusal);
+    if is_shape(refusal) {
+        return put_stop(out, end, at);
+    }
+    end
+}
+
+// Request `count` of a stream, which begins at byte `at`: its sheet at the start of the room, with `sines` for table S; or what is told of its refusal
+// from the start of `line` on, as far as that goes. Any bytes, any rooms.
+pub fn step(
+    request: &[u8],
+    count: u64,
+    at: u64,
+    sines: &mut [u32],
+    room: &mut [u8],
+    line: &mut [u8],
+) -> Answered
+    ensures output { λ r. ⌜ Begins (r .output) (now (room .exit)) (sheetFor (now (request .entry)) (now (sines .entry)) (now (room .entry))) ⌝ }
+    ensures error { λ r. ⌜ Put (now (line .entry)) 0 (toldFor count at (now (request .entry)) (now (sines .entry)) (now (room .entry))) (now (line .exit)) (r .error) ⌝ }
+    ensures stops { λ r. ⌜ r .stops ≡ stopsFor (now (request .entry)) (now (sines .entry)) (now (room .entry)) ⌝ }
+    ensures sheet { λ r. ⌜ now (room .exit) ≡ roomFor (now (request .entry)) (now (sines .entry)) (now (room .entry)) ⌝ }
+    ensures sines { λ r. ⌜ now (sines .exit) ≡ tableFor (now (request .entry)) (now (sines .entry)) ⌝ }
+    ensures counts { λ r. ⌜ Counts (r .output) (now (room .exit)) ⌝ }
+{
+    let answer = answer(request, sines, room);
+    match answer {
+        Answer::Written(written) => Answered {
+            output: written,
+            error: 0,
+            stops: false,
+        },
+        Answer::Refused(refusal) => {
+            let end = put_refusal(line, count, at, refusal);
+            let stops = is_shape(refusal);
+            Answered {
+                output: 0,
+                error: end,
+                stops,
+            }
+        }
+    }
+}
