@@ -156,6 +156,22 @@ enum {
 uint64_t ukhtvaresh_second(const uint8_t *request, size_t request_len, int64_t second, uint32_t *sines, size_t sines_len,
                            int64_t *shadow, size_t shadow_len, uint64_t *value);
 
+/* The numbers of one second of a star, in `shadow`: see ukhtvaresh_star_second. */
+enum {
+    UKHTVARESH_STAR_U,         /* axis less station, to the east: the Moon's centre from the star, +-602,170,000 */
+    UKHTVARESH_STAR_V,         /* the same to the north, +-703,170,000 */
+    UKHTVARESH_STAR_L,         /* the Moon's radius, as in the request */
+    UKHTVARESH_STAR_STATE,     /* 0 outside, 1 inside, 2 unsure: within the guard plus 13 units of the cylinder's edge */
+    UKHTVARESH_STAR_DIRECTION, /* tenths of a degree, north through east, 0 to 3599, or 65,535 for none */
+    UKHTVARESH_STAR_NUMBERS    /* how many: 5 */
+};
+
+/* The shadow at a second of a star request, -10,800 to 10,800, also outside its window. *value: 5.
+ * Refusals: 10; 1 for the window or the second, then for the guard; 2 with place 0 to 11; 13; 3; 4 with place 901 where sines_len is below that;
+ * 4 with place 5 where shadow_len is below 5. The lengths count numbers. */
+uint64_t ukhtvaresh_star_second(const uint8_t *request, size_t request_len, int64_t second, uint32_t *sines,
+                                size_t sines_len, int64_t *shadow, size_t shadow_len, uint64_t *value);
+
 /* The mirror of a request, at the start of `mirrored`: all y and d coefficients and the latitude with the other sign, nothing
  * else changed. *value: 115. Any numbers: -2^31, which has no opposite in its bytes, stays as it is.
  * The sheet of the mirror of a request within the limits has the same entries, of the same seconds, magnitude, share and length;

@@ -1,8 +1,8 @@
 """Seconds of a sheet as times of day, by the rules of docs/CLOCK.md.
 
-An instant, the date and time of τ = 0, is carried beside a request and is no part of its bytes. `Instant.read` takes its typed form, `split`
-takes its line out of a typed request, `times` and `nearest` print seconds, `listing` is the sheet's listing with clock times. Everything
-is in whole numbers.
+An instant, the date and time of τ = 0, is carried beside a request and is no part of its bytes. `Instant.read` takes its typed form, `instant_in`
+finds it in a typed request, `times` and `nearest` print seconds, `listing` is the sheet's listing with clock times. Everything is in whole
+numbers.
 
     python3 python/clock.py < REQUEST.txt
     python3 python/clock.py "2017-08-21 18:00:00 ET" < examples/hopkinsville2017.txt
@@ -21,7 +21,6 @@ from typing import Dict, Optional, Tuple
 
 _DAY = 864_000  # tenths
 _FIRST_YEAR = 1583
-_LONGEST = 65_536  # bytes of a typed text that `request` takes
 _FORM = re.compile(
     rb"([0-9]{4})-([0-9]{2})-([0-9]{2})[ \t\r]+([0-9]{2}):([0-9]{2}):([0-9]{2})(?:\.([0-9]{1,2}))?[ \t\r]+(ET|UT)"
 )
@@ -84,29 +83,13 @@ class Instant:
         return f"{self.year:04}-{self.month:02}-{self.day:02} {time} {self.scale.value}"
 
 
-def _split(text: bytes) -> Tuple[Optional[Instant], bytes, Optional[Malformed]]:
-    """The instant, the text with every line of that name empty, and the first fault in such a line."""
-    found, fault, lines = None, None, text.split(b"\n")
-    for count, line in enumerate(lines, 1):
+def instant_in(text: bytes) -> Optional[Instant]:
+    """The instant of a typed text that `request` takes, or None: what its line of that name says."""
+    for line in text.split(b"\n"):
         said = line.split(b"#")[0].strip(b" \t\r")
-        if not _NAMED.match(said):
-            continue
-        lines[count - 1] = b""
-        instant = Instant.read(said[len(b"instant") :].strip(b" \t\r"))
-        if instant is None:
-            fault = fault or Malformed(count, "instant is not a date and time")
-        elif found is not None:
-            fault = fault or Malformed(count, "instant is given twice")
-        found = found or instant
-    return found, b"\n".join(lines), fault
-
-
-def split(text: bytes) -> Tuple[Optional[Instant], bytes]:
-    """The instant of a typed text, if a line has one, and the text with that line empty; Malformed with the first line at fault."""
-    found, rest, fault = _split(text)
-    if fault is not None:
-        raise fault
-    return found, rest
+        if _NAMED.match(said):
+            return Instant.read(said[len(b"instant") :].strip(b" \t\r"))
+    return None
 
 
 def _hundredths(instant: Instant, delta_t: int, second: int) -> Dict[Scale, int]:
@@ -164,16 +147,13 @@ _REQUEST = Path(__file__).resolve().parent.parent / "target" / "bin" / "request"
 
 def encoded(text: bytes) -> Tuple[Optional[Instant], bytes]:
     """The instant and the bytes of a typed request, these by the program `request`; Malformed with the first line at fault."""
-    instant, rest, fault = (None, text, None) if len(text) > _LONGEST else _split(text)
-    ran = subprocess.run([_REQUEST], input=rest, capture_output=True, check=False)
+    ran = subprocess.run([_REQUEST], input=text, capture_output=True, check=False)
     told = re.fullmatch(r"line (\d+): (.*)\n", ran.stderr.decode(errors="replace"), re.DOTALL)
-    if told and (fault is None or int(told[1]) < fault.line):
+    if told:
         raise Malformed(int(told[1]), told[2])
-    if fault is not None:
-        raise fault
     if not ran.stdout:
         raise ValueError(ran.stderr.decode(errors="replace").strip() or "request wrote nothing")
-    return instant, ran.stdout
+    return instant_in(text), ran.stdout
 
 
 def main() -> None:

@@ -24,14 +24,18 @@ from ukhtvaresh import (
     Share,
     StarElements,
     StarRequest,
+    StarSecond,
+    State,
     Station,
     Window,
     listing,
     mend,
     read,
+    second,
     sheet,
     star,
     star_into,
+    star_second,
     write,
     write_into,
 )
@@ -116,6 +120,37 @@ class Stars(unittest.TestCase):
         self.assertEqual(read(star(request.to_bytes()))[1], Graze(STAR, -17, 17))
         request = replace(OVER_THE_POLE, window=Window(2725, 2730))
         self.assertEqual(read(star(request.to_bytes()))[1], Open(STAR, 2725, 2726))
+
+    def test_seconds_over_the_pole(self):
+        request = OVER_THE_POLE.to_bytes()
+        outside = dict.fromkeys((-10_800, -2726, 2726, 10_800), State.OUTSIDE)
+        states = outside | dict.fromkeys((-2724, 2724), State.INSIDE) | dict.fromkeys((-2725, 2725), State.UNSURE)
+        for at, state in states.items():
+            direction = 2700 if at < 0 else 900
+            self.assertEqual(star_second(request, at), StarSecond(10_000 * at, 0, 27_250_000, state, direction))
+        self.assertEqual(star_second(request, 0), StarSecond(0, 0, 27_250_000, State.INSIDE, None))
+        for at in (-10_801, 10_801, 2**70, -(2**70)):
+            self.refuses(1, 0, star_second, request, at)
+        refused = replace(OVER_THE_POLE, station=replace(OVER_THE_POLE.station, height=9_001))
+        self.refuses(3, 3, star_second, refused.to_bytes(), 0)
+        refused = replace(refused, radius=0)
+        self.refuses(13, 0, star_second, refused.to_bytes(), 0)
+        refused = replace(refused, elements=replace(refused.elements, d0=30_000_001))
+        self.refuses(2, 8, star_second, refused.to_bytes(), 0)
+        refused = replace(refused, guard=15)
+        self.refuses(1, 1, star_second, refused.to_bytes(), 0)
+        self.refuses(1, 0, star_second, refused.to_bytes(), 10_801)
+        self.refuses(10, 0, star_second, example("moscow1954.bin"), 0)
+        self.refuses(10, 0, second, request, 0)
+
+    def test_seconds_as_on_the_sheets(self):
+        for name in ("potsdam1956", "kansas1949"):
+            request = example(name + ".bin")
+            _, enter, leave, _, _ = read(star(request))
+            states = [star_second(request, at).state for at in (enter.from_, enter.to, leave.from_, leave.to)]
+            self.assertEqual(states, [State.OUTSIDE, State.INSIDE, State.INSIDE, State.OUTSIDE])
+            self.assertEqual(star_second(request, enter.to).direction, enter.direction)
+            self.assertEqual(star_second(request, leave.from_).direction, leave.direction)
 
     def test_requests_refused_in_order(self):
         short = replace(OVER_THE_POLE, window=Window(0, 10))

@@ -3,7 +3,7 @@
 From the elements of an eclipse, a station, a window of seconds and a guard, `sheet` makes the station's contact sheet,
 `sheet_and_share` the same with the covered share of the Sun's disc; `star` makes that of a star from its elements and the Moon's
 radius; `read` takes a sheet apart, `write` puts entries together as one, `listing` gives a sheet as text, `second` the shadow at one
-second and `share` the share at it. `mirror` gives the request beyond the equator, `fit` judges coefficients that a spreadsheet made
+second, `star_second` that of a star, and `share` the share at a second. `mirror` gives the request beyond the equator, `fit` judges coefficients that a spreadsheet made
 of seven hourly values, `from_tables` makes elements from tables of Sun and Moon, `root` gives a square root with its rounds, `mend`
 takes the damaged parts out of a file of sheets, `sheet_of_doubles` makes the sheet of positions that come as doubles, `doubles` makes
 doubles of whole units; `network` tells of a list of stations how far each clock is from the antenna and who sees the eclipse first. Each
@@ -382,6 +382,17 @@ class Second:
     direction: Optional[int]  # tenths of a degree, None where u and v are 0
 
 
+@dataclass(frozen=True)
+class StarSecond:
+    """The shadow of a star at one second."""
+
+    u: int  # axis less station, to the east: the Moon's centre from the star
+    v: int  # the same to the north
+    radius: int  # the Moon's
+    state: State  # inside, the star is hidden
+    direction: Optional[int]  # tenths of a degree, None where u and v are 0
+
+
 # ---- the library
 
 
@@ -400,6 +411,7 @@ def _load() -> ctypes.CDLL:
     library.ukhtvaresh_star.argtypes = library.ukhtvaresh_sheet.argtypes
     library.ukhtvaresh_share.argtypes = [data, length, ctypes.c_int64, room, length, value]
     library.ukhtvaresh_second.argtypes = [data, length, ctypes.c_int64, room, length, room, length, value]
+    library.ukhtvaresh_star_second.argtypes = library.ukhtvaresh_second.argtypes
     library.ukhtvaresh_mirror.argtypes = [data, length, room, length, value]
     library.ukhtvaresh_read.argtypes = [data, length, room, length, value]
     library.ukhtvaresh_write.argtypes = [room, length, room, length, value]
@@ -412,7 +424,7 @@ def _load() -> ctypes.CDLL:
     library.ukhtvaresh_sheet_of_doubles.argtypes = survey + [room, length, room, length, value]
     library.ukhtvaresh_doubles.argtypes = [room, length, room, length, value]
     library.ukhtvaresh_network.argtypes = [room, length, room, length, room, length, room, length, value]
-    names = "sheet sheet_and_share star second share mirror read write listing fit from_tables root mend sheet_of_doubles doubles network"
+    names = "sheet sheet_and_share star second star_second share mirror read write listing fit from_tables root mend sheet_of_doubles doubles network"
     for name in names.split():
         getattr(library, "ukhtvaresh_" + name).restype = ctypes.c_uint64
     return library
@@ -529,6 +541,18 @@ def second(request: bytes, second: int) -> Second:
     _call("second", request, len(request), _signed(second), *_sines(), shadow, 8)
     u, v, l1, l2, penumbra, central, magnitude, direction = shadow
     return Second(u, v, l1, l2, State(penumbra), State(central), magnitude, _direction(direction))
+
+
+def star_second(request: bytes, second: int) -> StarSecond:
+    """The shadow at a second of a star request, -10,800 to 10,800, also outside its window.
+
+    Refusals, the first of them: 10, 1 (for the window or the second, then for the guard), 2, 13, 3.
+    """
+    request = bytes(request)
+    shadow = (ctypes.c_int64 * 5)()
+    _call("star_second", request, len(request), _signed(second), *_sines(), shadow, 5)
+    u, v, radius, state, direction = shadow
+    return StarSecond(u, v, radius, State(state), _direction(direction))
 
 
 def mirror(request: bytes) -> bytes:

@@ -2,9 +2,10 @@
 """Holds the clock times of Python against those of the page, and both against the rules of docs/CLOCK.md in exact fractions.
 
     python3 tests/clock_times.py [QUESTIONS] [SEED]         wants node; the library's listings too, if it is built
+    python3 tests/clock_times.py program [TEXTS] [SEED]     the program `times` against Python (`rt check times request`; the library, as
+                                                            python/clock.py wants it)
 """
 
-import datetime
 import json
 import random
 import re
@@ -16,26 +17,7 @@ from pathlib import Path
 TOP = Path(__file__).resolve().parent.parent
 sys.path.append(str(TOP / "python"))
 import clock  # noqa: E402
-
-
-def typed_instant(draw):
-    """Words of an instant, most of them good."""
-    date = datetime.date.fromordinal(draw.randint(datetime.date(1583, 1, 1).toordinal(), datetime.date(9999, 12, 31).toordinal()))
-    day = f"{date.year:04}-{date.month:02}-{date.day:02}"
-    time = draw.choice([f"{draw.randrange(24):02}:{draw.randrange(60):02}:{draw.randrange(60):02}", "00:00:00", "23:59:59", "12:00:00"])
-    time += draw.choice(["", "", ".0", f".{draw.randrange(10)}", f".{draw.randrange(100):02}"])
-    words = f"{day}{draw.choice([' ', ' ', '  ', chr(9), ' ' + chr(13)])}{time} {draw.choice(['ET', 'UT'])}"
-    if draw.random() < 0.3:
-        wrong = ["1582-12-31 00:00:00 ET", "1583-01-01 00:00:00 ET", "2017-02-29 00:00:00 ET", "2000-02-29 00:00:00 UT", "1900-02-29 00:00:00 UT"]
-        wrong += ["2017-8-21 18:00:00 ET", "2017-08-21 24:00:00 ET", "2017-08-21 18:60:00 ET", "2017-08-21 18:00:60 UT", "2017-00-10 18:00:00 UT"]
-        wrong += ["2017-13-10 18:00:00 UT", "2017-04-31 18:00:00 UT", "2017-04-00 18:00:00 UT", "2017-08-21 18:00 ET", "2017-08-21 18:00:00", ""]
-        wrong += ["2017-08-21T18:00:00 ET", "2017-08-21 18:00:00ET", "2017-08-21 18:00:00. ET", "2017-08-21 18:00:00.123 ET", "2017-08-21 18:00:00 TT"]
-        wrong += ["2017-08-21 18:00:00 et", "２017-08-21 18:00:00 ET", "2017-08-21 18:00:00 ET x", "-2017-08-21 18:00:00 ET", "2017-08-21 18:00:00 UTC"]
-        words = draw.choice(wrong)
-    if draw.random() < 0.1:
-        at = draw.randrange(len(words) + 1)
-        words = words[:at] + draw.choice("0123456789-:. ETU#x") + words[at + draw.randrange(2) :]
-    return words
+from request import instant_line, is_instant, typed_instant  # noqa: E402
 
 
 def typed_text(draw):
@@ -43,8 +25,7 @@ def typed_text(draw):
     others = ["x0 1", "", "# instant 2017-08-21 18:00:00 ET", "instants 1", "station 7", "  \t", "Instant 1", "instant# 1", "\r"]
     lines = [draw.choice(others) for _ in range(draw.randrange(6))]
     for _ in range(draw.choice([0, 1, 1, 1, 2, 3])):
-        line = draw.choice(["", " ", "\t"]) + "instant" + draw.choice([" ", " ", "\t", "", "  "]) + typed_instant(draw)
-        lines.insert(draw.randint(0, len(lines)), line + draw.choice(["", "", "\r", " ", " # a comment", "#"]))
+        lines.insert(draw.randint(0, len(lines)), instant_line(draw))
     return "\n".join(lines) + draw.choice(["", "\n"])
 
 
@@ -52,13 +33,11 @@ def in_python(question):
     name, *given = question
     if name == "instant":
         read = clock.Instant.read(given[0].encode())
+        assert (read is not None) == is_instant(given[0].encode())
         return None if read is None else str(read)
-    if name == "split":
-        try:
-            instant, rest = clock.split(given[0].encode())
-        except clock.Malformed as wrong:
-            return [wrong.line, wrong.wrong]
-        return [None if instant is None else str(instant), rest.decode()]
+    if name == "text":
+        read = clock.instant_in(given[0].encode())
+        return None if read is None else str(read)
     instant = clock.Instant.read(given[0].encode())
     if name == "times":
         return {scale.value: list(pair) for scale, pair in clock.times(instant, *given[1:]).items()}
@@ -121,14 +100,70 @@ def listings():
     return len(wanted)
 
 
+# ---- the program `times`
+
+PROGRAM = TOP / "target/bin/times"
+EXAMPLES = ["hopkinsville2017", "moscow1954", "kiev1954", "potsdam1956", "kansas1949"]
+
+
+def typed_request(draw):
+    """An example's text with another ΔT and window, most with one instant among its lines, some with a fault or a refusal."""
+    values = {"delta t": draw.choice(["0", "68.8", "-100", "200", f"{draw.randint(-10000, 20000) / 100:.2f}", "200.01"])}
+    first = draw.choice([-10800, draw.randint(-10800, 10800), -5400])
+    values["first"], values["last"] = str(first), str(min(10800, first + draw.choice([0, 1, 600, 7200, 21600])))
+    if draw.random() < 0.05:
+        values["latitude"] = draw.choice(["90.000001", "north"])
+    lines = []
+    for line in (TOP / f"examples/{draw.choice(EXAMPLES)}.txt").read_text().splitlines():
+        name = next((name for name in values if re.match(rf"{name}\s", line)), None)
+        lines.append(f"{name} {values[name]}" if name else line)
+    for _ in range(draw.choice([0, 1, 1, 1, 1, 1, 1, 1, 2])):
+        lines.insert(draw.randint(0, len(lines)), "instant " + typed_instant(draw))
+    return ("\n".join(lines) + "\n").encode()
+
+
+def by_python(text):
+    """What `times` is to write: standard output and standard error."""
+    import ukhtvaresh
+
+    try:
+        instant, request = clock.encoded(text)
+    except clock.Malformed as wrong:
+        return "", f"{wrong}\n"
+    star = request[0] == 5
+    try:
+        sheet = (ukhtvaresh.star if star else ukhtvaresh.sheet)(request)
+    except ukhtvaresh.Refused as refused:
+        return f"refused {refused.number} {refused.place}\n", ""
+    if instant is None:
+        return ukhtvaresh.listing(sheet), ""
+    kind = ukhtvaresh.StarRequest if star else ukhtvaresh.Request
+    return clock.listing(sheet, instant, kind.from_bytes(request).station.delta_t), ""
+
+
+def program(count, draw):
+    timed = 0
+    for _ in range(count):
+        text = typed_request(draw)
+        ran = subprocess.run([PROGRAM], input=text, capture_output=True, check=False)
+        given, wanted = (ran.stdout.decode(), ran.stderr.decode()), by_python(text)
+        if given != wanted:
+            sys.exit(f"{text.decode()}\ntimes  {given}\npython {wanted}")
+        timed += "\ninstant " in wanted[0]
+    print(f"{count} texts, {timed} listings with times, no difference")
+
+
 def main():
+    if sys.argv[1:2] == ["program"]:
+        program(int(sys.argv[2]) if len(sys.argv) > 2 else 500, random.Random(int(sys.argv[3]) if len(sys.argv) > 3 else 1954))
+        return
     count = int(sys.argv[1]) if len(sys.argv) > 1 else 20000
     draw = random.Random(int(sys.argv[2]) if len(sys.argv) > 2 else 1954)
     questions = []
     while len(questions) < count:
         words = typed_instant(draw)
-        kind = draw.choice(["instant", "split", "times", "nearest"])
-        if kind == "split":
+        kind = draw.choice(["instant", "text", "times", "nearest"])
+        if kind == "text":
             questions.append([kind, typed_text(draw)])
         elif kind == "instant":
             questions.append([kind, words])

@@ -4,6 +4,7 @@
     rt check request && python3 tests/request.py [TEXTS] [SEED]
 """
 
+import datetime
 import random
 import re
 import struct
@@ -35,6 +36,7 @@ STAR_FIELDS = LENGTHS + [(name, 6, SIGNED4) for name in "d0 mu0 mu1 mu2".split()
 FORMS = {len(FIELDS): (2, ">B22iBHiiiiBhhH"), len(STAR_FIELDS): (5, ">B13iBHiiiiBhhH")}
 LEFT_OUT = {"guard": 16}  # what stands for a name that need not be typed
 NUMBER = re.compile(rb"[+-]?([0-9]+\.?[0-9]*|\.[0-9]+)")
+INSTANT = re.compile(rb"(\d{4})-(\d\d)-(\d\d)[ \t\r]+(\d\d):(\d\d):(\d\d)(\.\d\d?)?[ \t\r]+(ET|UT)")
 
 
 def units(word, places, bounds):
@@ -50,6 +52,17 @@ def units(word, places, bounds):
     if not bounds[0] <= value <= bounds[1]:
         return None, "is too large for its bytes"
     return value, None
+
+
+def is_instant(words):
+    """Whether the words are a date and time, by Python's own calendar."""
+    form = INSTANT.fullmatch(words)
+    if not form:
+        return False
+    try:
+        return datetime.datetime(*(int(form[k]) for k in range(1, 7))).year >= 1583
+    except ValueError:
+        return False
 
 
 def packed(n):
@@ -71,6 +84,7 @@ def answer(text):
     if lines[-1] == b"":
         lines.pop()
     given = {}
+    instants = 0
     for count, line in enumerate(lines, 1):
 
         def refused(message):
@@ -78,6 +92,13 @@ def answer(text):
 
         said = line.split(b"#")[0].strip(b" \t\r")
         if not said:
+            continue
+        if re.match(rb"instant(?![^ \t\r])", said):
+            if not is_instant(said[len(b"instant") :].strip(b" \t\r")):
+                return refused(b"instant is not a date and time")
+            instants += 1
+            if instants == 2:
+                return refused(b"instant is given twice")
             continue
         for name, places, bounds in fields:
             rest = said[len(name) :]
@@ -124,6 +145,37 @@ def typed(draw, name, places, bounds):
     return f"{before}{name}{space}{sign}{whole}{point}{decimals}{after}"
 
 
+def typed_instant(draw):
+    """Words of an instant, most of them good."""
+    date = datetime.date.fromordinal(draw.randint(datetime.date(1583, 1, 1).toordinal(), datetime.date(9999, 12, 31).toordinal()))
+    day = f"{date.year:04}-{date.month:02}-{date.day:02}"
+    time = draw.choice([f"{draw.randrange(24):02}:{draw.randrange(60):02}:{draw.randrange(60):02}", "00:00:00", "23:59:59", "12:00:00"])
+    time += draw.choice(["", "", ".0", f".{draw.randrange(10)}", f".{draw.randrange(100):02}"])
+    words = f"{day}{draw.choice([' ', ' ', '  ', chr(9), ' ' + chr(13)])}{time} {draw.choice(['ET', 'UT'])}"
+    if draw.random() < 0.3:
+        words = draw.choice(ODD_INSTANTS)
+    if draw.random() < 0.1:
+        at = draw.randrange(len(words) + 1)
+        words = words[:at] + draw.choice("0123456789-:. ETU#x") + words[at + draw.randrange(2) :]
+    return words
+
+
+# ends of the calendar and of the day, leap days, and forms that are not quite it
+ODD_INSTANTS = [
+    *("1582-12-31 00:00:00 ET", "1583-01-01 00:00:00 ET", "2017-02-29 00:00:00 ET", "2000-02-29 00:00:00 UT", "1900-02-29 00:00:00 UT"),
+    *("2017-8-21 18:00:00 ET", "2017-08-21 24:00:00 ET", "2017-08-21 18:60:00 ET", "2017-08-21 18:00:60 UT", "2017-00-10 18:00:00 UT"),
+    *("2017-13-10 18:00:00 UT", "2017-04-31 18:00:00 UT", "2017-04-00 18:00:00 UT", "2017-08-21 18:00 ET", "2017-08-21 18:00:00", ""),
+    *("2017-08-21T18:00:00 ET", "2017-08-21 18:00:00ET", "2017-08-21 18:00:00. ET", "2017-08-21 18:00:00.123 ET", "2017-08-21 18:00:00 TT"),
+    *("2017-08-21 18:00:00 et", "２017-08-21 18:00:00 ET", "2017-08-21 18:00:00 ET x", "-2017-08-21 18:00:00 ET", "2017-08-21 18:00:00 UTC"),
+    *("9999-12-31 23:59:59.99 UT", "2024-02-29 00:00:00 UT", "2100-02-29 00:00:00 UT", "0000-01-01 00:00:00 ET", "2017-08-21 18:00:00.5x UT"),
+]
+
+
+def instant_line(draw):
+    words = draw.choice([" ", " ", "\t", "  ", ""]) + typed_instant(draw)
+    return draw.choice(["", "", " ", "\t"]) + "instant" + words + draw.choice(["", "", "", "\r", " ", " # a comment", "#"])
+
+
 def text(draw):
     fields = draw.choice([FIELDS, STAR_FIELDS])
     lines = [typed(draw, *field) for field in fields]
@@ -133,13 +185,15 @@ def text(draw):
         draw.shuffle(lines)
     for extra in range(draw.choice([0, 0, 1, 5])):
         lines.insert(draw.randint(0, len(lines)), draw.choice(["", "# a comment", "   ", "\t# x0 1", "#"]))
+    for _ in range(draw.choice([0, 0, 0, 1, 1, 1, 1, 2])):
+        lines.insert(draw.randint(0, len(lines)), instant_line(draw))
     fault = draw.random()
     if fault < 0.1:
         lines.pop(draw.randrange(len(lines)))
     elif fault < 0.2:
         lines.insert(draw.randint(0, len(lines)), draw.choice(lines))
     elif fault < 0.25:
-        others = ["x4 0", "tanf1 0", "X0 1", "x0", "tan  f1 1", "latitude55", "last 1 2", "-", "=", "d1 0", "radius 0", "radius", "radius#"]
+        others = ["x4 0", "tanf1 0", "X0 1", "x0", "tan  f1 1", "latitude55", "last 1 2", "-", "=", "d1 0", "radius 0", "radius", "radius#", "instants 1", "Instant"]
         lines.insert(draw.randint(0, len(lines)), draw.choice(others))
     made = bytearray("\n".join(lines).encode() + draw.choice([b"\n", b"\n", b"", b"\n\n"]))
     if fault > 0.8:
@@ -185,6 +239,27 @@ def shapes():
         yield "\n".join(star + [line])
 
 
+def instants():
+    """An eclipse and a star with an instant at every kind of place: good, each odd one, doubled; and with another fault before or behind it."""
+    good = "instant 2017-08-21 18:00:00 ET"
+    for fields in FIELDS, STAR_FIELDS:
+        plain = ["%s %s" % (name, 1) for name, _, _ in fields]
+        for place in 0, 12, len(plain):
+            for line in [good, good + "#", "\t" + good + "\r", "instant", "instant#", "# " + good, "instants 1", "Instant 1", "instant\t" + good[8:]]:
+                yield "\n".join(plain[:place] + [line] + plain[place:])
+            for odd in ODD_INSTANTS:
+                yield "\n".join(plain[:place] + [f"instant {odd}"] + plain[place:])
+            for second in good, "instant", "instant x", good + " x":
+                yield "\n".join(plain[:place] + [good, second] + plain[place:])
+                yield "\n".join([second] + plain[:place] + [good] + plain[place:])
+            for fault in "bogus 1", "x0", "x0 1":
+                for first, then in (fault, "instant"), ("instant", fault), (good, fault), (fault, good):
+                    yield "\n".join(plain[:place] + [first, then] + plain[place:])
+        # a missing name is told last
+        yield "\n".join(plain[1:] + [good])
+        yield "\n".join(plain[1:] + ["instant"])
+
+
 def texts(count, seed):
     draw = random.Random(seed)
     yield b""
@@ -197,7 +272,7 @@ def texts(count, seed):
     yield b"x0 1\n\x00\xff 1"
     # nothing but the guard
     yield b"guard 17\n"
-    for made in *faults(FIELDS), *faults(STAR_FIELDS), *shapes():
+    for made in *faults(FIELDS), *faults(STAR_FIELDS), *shapes(), *instants():
         yield made.encode()
     for _ in range(count):
         yield text(draw)

@@ -52,6 +52,16 @@ extern "C" {
         shadow_len: usize,
         value: *mut u64,
     ) -> u64;
+    fn ukhtvaresh_star_second(
+        request: *const u8,
+        request_len: usize,
+        second: i64,
+        sines: *mut u32,
+        sines_len: usize,
+        shadow: *mut i64,
+        shadow_len: usize,
+        value: *mut u64,
+    ) -> u64;
     fn ukhtvaresh_mirror(
         request: *const u8,
         request_len: usize,
@@ -194,10 +204,27 @@ pub fn share(request: &[u8], second: i64) -> Result<usize, Refusal> {
 }
 
 pub fn second(request: &[u8], second: i64, shadow: &mut [i64]) -> Result<usize, Refusal> {
+    shadow_at(ukhtvaresh_second, request, second, shadow)
+}
+
+pub fn star_second(request: &[u8], second: i64, shadow: &mut [i64]) -> Result<usize, Refusal> {
+    shadow_at(ukhtvaresh_star_second, request, second, shadow)
+}
+
+type SecondExport =
+    unsafe extern "C" fn(*const u8, usize, i64, *mut u32, usize, *mut i64, usize, *mut u64) -> u64;
+
+// The numbers of one second of a request.
+fn shadow_at(
+    export: SecondExport,
+    request: &[u8],
+    second: i64,
+    shadow: &mut [i64],
+) -> Result<usize, Refusal> {
     let mut value = 0;
     // SAFETY: as in `made`; the lengths of `sines` and `shadow` count numbers, as the library does.
     let number = SINES.with_borrow_mut(|sines| unsafe {
-        ukhtvaresh_second(
+        export(
             request.as_ptr(),
             request.len(),
             second,

@@ -3,7 +3,7 @@
 //! From the elements of an eclipse, a station, a window of seconds and a guard, [`sheet`] makes the station's contact sheet,
 //! [`sheet_and_share`] the same with the covered share of the Sun's disc; [`star()`] makes that of a star from its elements and the
 //! Moon's radius; [`read`] takes a sheet apart, [`write()`] puts entries together as one, [`listing`] gives a sheet as text, [`second`]
-//! the shadow at one second and [`share`] the share at it, [`mirror`] the request beyond the equator; [`fit`] judges coefficients that a
+//! the shadow at one second, [`star_second`] that of a star, and [`share`] the share at a second, [`mirror`] the request beyond the equator; [`fit`] judges coefficients that a
 //! spreadsheet made, [`from_tables`] makes elements from tables of Sun and Moon, [`root`] gives a square root with its rounds,
 //! [`mend()`] takes the damaged parts out of a file of sheets, [`sheet_of_doubles`] makes the sheet of positions that come as doubles,
 //! [`doubles()`] makes doubles of whole units; [`network()`] tells of a list of stations how far each clock is from the antenna and who sees
@@ -61,7 +61,7 @@ pub use mend::{mend, mend_into, Mended, Stretch};
 pub use network::{network, network_into, Eclipse, Network, Node, ECLIPSE_LENGTH, STATIONS};
 pub use refusal::Refusal;
 pub use request::{Elements, Request, Station, Window, LEAST_GUARD, REQUEST_LENGTH};
-pub use star::{star, star_vec, StarElements, StarRequest, STAR_REQUEST_LENGTH};
+pub use star::{star, star_second, star_vec, StarElements, StarRequest, StarSecond, STAR_REQUEST_LENGTH};
 pub use tables::{from_tables, from_tables_into, Besselian, Position, Row, ROWS};
 
 /// The state of a station in a shadow at a second. Sure and unsure are document 01's words.

@@ -1,5 +1,6 @@
+use crate::entry::direction;
 use crate::request::{further, further_bytes, numbers, signed4};
-use crate::{ffi, whole, Refusal, Station, Window, LEAST_GUARD};
+use crate::{ffi, state, whole, Refusal, State, Station, Window, LEAST_GUARD};
 
 /// The length of a star request in bytes.
 pub const STAR_REQUEST_LENGTH: usize = 79;
@@ -125,4 +126,38 @@ pub fn star(request: &[u8], buffer: &mut [u8]) -> Result<usize, Refusal> {
 /// The same sheet. Refusals as [`star`], but 4.
 pub fn star_vec(request: &[u8]) -> Result<Vec<u8>, Refusal> {
     whole(|buffer| ffi::star(request, buffer))
+}
+
+/// The shadow of a star at one second.
+#[derive(Clone, Copy, Debug, PartialEq, Eq, Hash)]
+pub struct StarSecond {
+    /// Axis less station, to the east: the Moon's centre from the star.
+    pub u: i64,
+    /// Axis less station, to the north.
+    pub v: i64,
+    /// The Moon's radius.
+    pub radius: i64,
+    /// The station in the cylinder: inside, the star is hidden.
+    pub state: State,
+    /// Direction, tenths of a degree, north through east, 0 to 3,599; `None` where u and v are 0.
+    pub direction: Option<u16>,
+}
+
+/// The shadow at a second of a star request, -10,800 to 10,800, also outside its window.
+///
+/// Refusals, the first of them: 10, 1 (for the window or the second, then for the guard), 2, 13, 3.
+///
+/// ```
+/// use ukhtvaresh::{star_second, Refusal, State};
+///
+/// let potsdam = include_bytes!("../../examples/potsdam1956.bin");
+/// assert_eq!(star_second(potsdam, 19)?.state, State::Outside);
+/// assert_eq!(star_second(potsdam, 20)?.direction, Some(3065)); // hidden, as on the sheet
+/// # Ok::<(), Refusal>(())
+/// ```
+pub fn star_second(request: &[u8], second: i64) -> Result<StarSecond, Refusal> {
+    let mut shadow = [0; 5];
+    ffi::star_second(request, second, &mut shadow)?;
+    let [u, v, radius, phase, towards] = shadow;
+    Ok(StarSecond { u, v, radius, state: state(phase), direction: direction(towards as u32) })
 }

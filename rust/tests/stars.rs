@@ -4,8 +4,9 @@ use std::fs;
 use std::path::Path;
 
 use ukhtvaresh::{
-    listing, mend, read, sheet_vec, star, star_vec, write, write_vec, Entry, Phase, Refusal, Request,
-    StarElements, StarRequest, Station, Window, LEAST_GUARD, STAR_REQUEST_LENGTH,
+    listing, mend, read, second, sheet_vec, star, star_second, star_vec, write, write_vec, Entry, Phase,
+    Refusal, Request, StarElements, StarRequest, StarSecond, State, Station, Window, LEAST_GUARD,
+    STAR_REQUEST_LENGTH,
 };
 use Phase::{Central, Penumbra, Star};
 
@@ -101,6 +102,63 @@ fn grazes_and_opens() {
     request.window = Window { first: 2725, last: 2730 };
     let found = read(&star_vec(&bytes(&request)).expect("a sheet")).expect("entries");
     assert_eq!(found[1], Entry::Open { phase: Star, from: 2725, to: 2726 });
+}
+
+#[test]
+fn seconds_over_the_pole() {
+    let request = bytes(&over_the_pole());
+    for (at, state) in [
+        (-10_800, State::Outside),
+        (-2726, State::Outside),
+        (-2725, State::Unsure),
+        (-2724, State::Inside),
+        (2724, State::Inside),
+        (2725, State::Unsure),
+        (10_800, State::Outside),
+    ] {
+        let direction = Some(if at < 0 { 2700 } else { 900 });
+        let expected = StarSecond { u: 10_000 * at, v: 0, radius: 27_250_000, state, direction };
+        assert_eq!(star_second(&request, at), Ok(expected));
+    }
+    let axis = StarSecond { u: 0, v: 0, radius: 27_250_000, state: State::Inside, direction: None };
+    assert_eq!(star_second(&request, 0), Ok(axis));
+    for at in [-10_801, 10_801, i64::MIN, i64::MAX] {
+        assert_eq!(star_second(&request, at), Err(Refusal::Window));
+    }
+    let mut refused = over_the_pole();
+    refused.station.height = 9_001;
+    assert_eq!(star_second(&bytes(&refused), 0), Err(Refusal::Station { field: 3 }));
+    refused.radius = 27_300_001;
+    assert_eq!(star_second(&bytes(&refused), 0), Err(Refusal::Radius));
+    refused.elements.d0 = 30_000_001;
+    assert_eq!(star_second(&bytes(&refused), 0), Err(Refusal::Element { field: 8 }));
+    refused.guard = 15;
+    assert_eq!(star_second(&bytes(&refused), 0), Err(Refusal::Guard));
+    assert_eq!(star_second(&bytes(&refused), 10_801), Err(Refusal::Window));
+    assert_eq!(star_second(&bytes(&refused)[1..], 10_801), Err(Refusal::Shape));
+    assert_eq!(star_second(&example("moscow1954.bin"), 0), Err(Refusal::Shape));
+    assert_eq!(second(&request, 0), Err(Refusal::Shape));
+}
+
+#[test]
+fn seconds_as_on_the_sheets() {
+    for name in ["potsdam1956", "kansas1949"] {
+        let request = example(&format!("{name}.bin"));
+        for entry in read(&star_vec(&request).expect("a sheet")).expect("entries") {
+            let (from, to, states, towards) = match entry {
+                Entry::Enter { from, to, direction, .. } => {
+                    (from, to, (State::Outside, State::Inside), (to, direction))
+                }
+                Entry::Leave { from, to, direction, .. } => {
+                    (from, to, (State::Inside, State::Outside), (from, direction))
+                }
+                _ => continue,
+            };
+            let at = |second| star_second(&request, second).expect("a second");
+            assert_eq!((at(from).state, at(to).state), states);
+            assert_eq!(at(towards.0).direction, towards.1);
+        }
+    }
 }
 
 // The ranges of the twelve elements and of the radius.

@@ -1,10 +1,9 @@
 // From a typed text to what the page shows: the rows of the sheet with their seconds, or what is wrong and where.
 // The proved program `request` reads the text, the proved library does the rest.
-import { splitInstant, times, nearest } from "./clock.mjs";
+import { instantIn, times, nearest } from "./clock.mjs";
 import { Refused } from "./library.mjs";
-import { STAR_KIND, numbersOf, axisRequest, fieldsOf, lineNaming } from "./fields.mjs";
+import { STAR_KIND, numbersOf, fieldsOf, lineNaming } from "./fields.mjs";
 
-const LONGEST = 65_536; // bytes of a text that `request` takes
 const SAMPLES = 400; // seconds of the curve at most
 
 // A fault of a text: { line, name, wrong }, name and wrong as `request` words them.
@@ -16,15 +15,10 @@ function typedFault(error) {
   return { line: Number(told[1]), name: words[1], wrong: words[2] };
 }
 
-// The bytes of a typed text and its instant, or its first fault.
+// The bytes of a typed text and its instant, or its first fault: both as `request` tells.
 function encoded(request, text) {
-  const bytes = new TextEncoder().encode(text);
-  const { instant, rest, fault } =
-    bytes.length > LONGEST ? { instant: null, rest: text, fault: null } : splitInstant(text);
-  const { output, error } = request(new TextEncoder().encode(rest));
-  const told = error === "" ? null : typedFault(error);
-  const first = told && (!fault || told.line < fault.line) ? told : fault;
-  return first ? { fault: first } : { bytes: output, instant };
+  const { output, error } = request(new TextEncoder().encode(text));
+  return error === "" ? { bytes: output, instant: instantIn(text) } : { fault: typedFault(error) };
 }
 
 // The second of an entry at which its picture is drawn: where its direction is taken, the middle of a spell that has none.
@@ -45,21 +39,19 @@ function unsureIn(entry, { first, last }, isSure) {
 }
 
 // The numbers of a second that a picture is drawn from: the Moon's centre from the Sun's or the star's, u to the east and v to the
-// north, and the radii of both. null where the library has none.
-function place(library, bytes, numbers, entry, second) {
-  if (!numbers.star) {
-    const at = library.second(bytes, second);
-    return { u: at.u, v: at.v, sun: (at.l1 + at.l2) / 2, moon: (at.l1 - at.l2) / 2, total: at.l2 < 0 };
+// north, and the radii of both.
+function place(library, bytes, star, second) {
+  if (star) {
+    const { u, v, radius } = library.starSecond(bytes, second);
+    return { u, v, sun: 0, moon: radius, total: false };
   }
-  const axis = axisRequest(bytes);
-  if (axis) {
-    const { u, v } = library.second(axis, second);
-    return { u, v, sun: 0, moon: numbers.radius, total: false };
-  }
-  // beyond 25 degrees of declination: at a contact the distance is the radius, and the sheet has the direction
-  if (entry.direction === undefined || entry.direction === null) return null;
-  const angle = (entry.direction * Math.PI) / 1800;
-  return { u: numbers.radius * Math.sin(angle), v: numbers.radius * Math.cos(angle), sun: 0, moon: numbers.radius, total: false };
+  const { u, v, l1, l2 } = library.second(bytes, second);
+  return { u, v, sun: (l1 + l2) / 2, moon: (l1 - l2) / 2, total: l2 < 0 };
+}
+
+// The state of a phase at a second.
+function stateAt(library, bytes, phase, second) {
+  return phase === "star" ? library.starSecond(bytes, second).state : library.second(bytes, second)[phase];
 }
 
 // Magnitude and share along the window of an eclipse.
@@ -101,8 +93,8 @@ function sheetOf(library, bytes, instant) {
       entry,
       second,
       clock,
-      unsure: unsureIn(entry, head, (at) => !numbers.star && library.second(bytes, at)[entry.phase] !== "unsure"),
-      place: place(library, bytes, numbers, entry, second),
+      unsure: unsureIn(entry, head, (at) => stateAt(library, bytes, entry.phase, at) !== "unsure"),
+      place: place(library, bytes, numbers.star, second),
     };
   });
   return {

@@ -38,21 +38,10 @@ export const saidIn = (line) => line.split("#")[0].replace(/^[ \t\r]+|[ \t\r]+$/
 // Whether what is said begins with the name, and a blank or nothing follows.
 export const isNamed = (said, name) => said.startsWith(name) && /^([ \t\r]|$)/.test(said.slice(name.length));
 
-// The instant of a typed text or null, the text with every line of that name empty, and the first fault in such a line or null.
-export function splitInstant(text) {
-  let instant = null;
-  let fault = null;
-  const lines = text.split("\n");
-  lines.forEach((line, at) => {
-    const said = saidIn(line);
-    if (!isNamed(said, "instant")) return;
-    lines[at] = "";
-    const read = readInstant(said.slice("instant".length).replace(/^[ \t\r]+/, ""));
-    if (read === null) fault ??= { line: at + 1, name: "instant", wrong: "is not a date and time" };
-    else if (instant !== null) fault ??= { line: at + 1, name: "instant", wrong: "is given twice" };
-    instant ??= read;
-  });
-  return { instant, rest: lines.join("\n"), fault };
+// The instant of a typed text that `request` takes, or null: what its line of that name says.
+export function instantIn(text) {
+  const said = text.split("\n").map(saidIn).find((line) => isNamed(line, "instant"));
+  return said === undefined ? null : readInstant(said.slice("instant".length).replace(/^[ \t\r]+/, ""));
 }
 
 // The time of a second in each scale that is known, ephemeris time first.

@@ -71,26 +71,6 @@ export function numbersOf(bytes) {
   return numbers;
 }
 
-// An eclipse's request with the axis, station and window of a star's, or null where the star's declination is beyond an eclipse's
-// range. Its u and v at a second are the star's, which no cone has a part in; its cones are of no account.
-export function axisRequest(bytes) {
-  const numbers = numbersOf(bytes);
-  if (Math.abs(numbers.d0) > 25_000_000) return null;
-  const cones = { l10: 50_000_000, "tan f1": 400_000, "tan f2": 400_000 };
-  const out = new DataView(new ArrayBuffer(115));
-  let at = 0;
-  [[2, ECLIPSE], [3, STATION], [4, WINDOW]].forEach(([kind, record]) => {
-    out.setUint8(at++, kind);
-    for (const [name, , width] of record) {
-      const number = numbers[name] ?? cones[name] ?? 0;
-      if (width === 4) out.setInt32(at, number);
-      else out.setUint16(at, number & 0xffff);
-      at += width;
-    }
-  });
-  return new Uint8Array(out.buffer);
-}
-
 // The fields that a refusal of a request is about.
 export function fieldsOf({ number, place }, star) {
   if (number === 1) return place === 1 ? [WINDOW[2]] : WINDOW.slice(0, 2);

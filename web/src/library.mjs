@@ -68,6 +68,13 @@ export async function loadLibrary(wasm) {
     return taken(sheet, call(name, request, BigInt(bytes.length), sines, BigInt(SINES), sheet, BigInt(SHEET)));
   }
 
+  // The numbers of a second, so many of them.
+  function numbersAt(name, bytes, second, count) {
+    put(request, bytes);
+    call(name, request, BigInt(bytes.length), BigInt(second), sines, BigInt(SINES), shadow, BigInt(count));
+    return Array.from(new BigInt64Array(memory.buffer, shadow, count), Number);
+  }
+
   return {
     sheet: (bytes) => sheetBy("sheet", bytes),
     sheetAndShare: (bytes) => sheetBy("sheet_and_share", bytes),
@@ -75,13 +82,14 @@ export async function loadLibrary(wasm) {
 
     // The shadow at a second of an eclipse's request.
     second(bytes, second) {
-      put(request, bytes);
-      call("second", request, BigInt(bytes.length), BigInt(second), sines, BigInt(SINES), shadow, 8n);
-      const [u, v, l1, l2, penumbra, central, magnitude, direction] = Array.from(
-        new BigInt64Array(memory.buffer, shadow, 8),
-        Number,
-      );
+      const [u, v, l1, l2, penumbra, central, magnitude, direction] = numbersAt("second", bytes, second, 8);
       return { second, u, v, l1, l2, penumbra: STATES[penumbra], central: STATES[central], magnitude, direction };
+    },
+
+    // The shadow at a second of a star's.
+    starSecond(bytes, second) {
+      const [u, v, radius, state, direction] = numbersAt("star_second", bytes, second, 5);
+      return { second, u, v, radius, state: STATES[state], direction };
     },
 
     // The covered share at a second, in millionths.

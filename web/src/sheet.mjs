@@ -79,8 +79,7 @@ function captionOf(row, { instant, numbers }) {
 
 function picturesOf(sheet) {
   const said = TEXTS.sheet;
-  const drawn = sheet.rows.filter((row) => row.place);
-  const figures = drawn.slice(0, PICTURES).map((row) => {
+  const figures = sheet.rows.slice(0, PICTURES).map((row) => {
     const [title] = wordsOf(row, sheet);
     const time = captionOf(row, sheet);
     return html(
@@ -91,8 +90,8 @@ function picturesOf(sheet) {
     );
   });
   const notes = [sheet.numbers.star ? said.picturesHintStar : said.picturesHint];
-  if (drawn.length < sheet.rows.length) notes.push(said.noClosest);
-  if (drawn.length > PICTURES) notes.push(said.morePictures(drawn.length - PICTURES));
+  const more = sheet.rows.length - PICTURES;
+  if (more > 0) notes.push(said.morePictures(more));
   return html(
     "section",
     {},

@@ -57,8 +57,6 @@ export const TEXTS = {
     pictures: "As on the sky",
     picturesHint: "North up, east to the left. The wedge shows where on the Sun's edge the Moon's touches it.",
     picturesHintStar: "North up, east to the left; the Moon stands still and the star goes behind it.",
-    noClosest:
-      "The closest second has no picture: the library has the numbers of a second up to 25\u00b0 of declination only.",
     morePictures: (count) => `and ${count} more`,
     curve: "Magnitude and covered share",
     legend: { magnitude: "magnitude", share: "covered share of the disc" },

@@ -1,14 +1,11 @@
 // Answers questions about clock times, one JSON list a line, by web/src/clock.mjs: `tests/clock_times.py` compares with Python's.
 import { readFileSync } from "node:fs";
-import { instantText, listingWithTimes, nearest, readInstant, splitInstant, times } from "../src/clock.mjs";
+import { instantIn, instantText, listingWithTimes, nearest, readInstant, times } from "../src/clock.mjs";
 
 const shown = (instant) => (instant === null ? null : instantText(instant));
 const ANSWERS = {
   instant: (words) => shown(readInstant(words)),
-  split(text) {
-    const { instant, rest, fault } = splitInstant(text);
-    return fault ? [fault.line, `${fault.name} ${fault.wrong}`] : [shown(instant), rest];
-  },
+  text: (text) => shown(instantIn(text)),
   times: (words, deltaT, from, to) => times(readInstant(words), deltaT, from, to),
   nearest: (words, deltaT, second) => nearest(readInstant(words), deltaT, second),
   listing: (words, deltaT, listing, entries) => listingWithTimes(listing, entries, readInstant(words), deltaT),

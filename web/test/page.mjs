@@ -199,13 +199,12 @@ await check("a place that the shadow misses: no contact, and nothing is covered"
   assert.match(await text("#sheet"), /there is no contact/);
   assert.match(await text("#sheet tbody"), /nothing of the Sun is covered/);
 });
-await check("stars: no curve; beyond 25° the closest second has no picture, and that is said", async () => {
+await check("stars: no curve, and a picture of each row, beyond 25° of declination too", async () => {
   await example("potsdam1956");
   assert.equal((await texts("#sheet figure")).length, 3);
   assert.equal(await page.run(`document.querySelector(".graph")`), null);
   await example("kansas1949");
-  assert.equal((await texts("#sheet figure")).length, 2);
-  assert.match(await text("#sheet"), /closest second has no picture/);
+  assert.equal((await texts("#sheet figure")).length, 3);
 });
 await check("without an instant there are seconds alone", async () => {
   await example("hopkinsville2017");

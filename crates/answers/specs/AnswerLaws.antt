@@ -3,6 +3,7 @@ use mathlib.Core.Path.{_≡_, refl, sym, ap, subst, _∙_}
 use mathlib.Core.List.{List, []}
 use Prim.Native.Nat.{ℕ, _≤_}
 use native.Mathlib.Omega.{arith}
+use lib.IntN.{ℤ, pos}
 use lib.ListN.{length, take}
 use lib.Seq.{length-take-le}
 use Rattle.refusals.specs.declared.Refusal.{Refusal}
@@ -12,9 +13,13 @@ use Rattle.input.specs.Sheet.{answerTo, bufferFor, sinesFor, starAnswer, starBu
 use Rattle.input.specs.SheetLaws.{written-fits, star-fits as star-written}
 use Rattle.decimals.specs.Texts.{Put, Counts}
 use Rattle.decimals.specs.TextLaws.{put-nil}
+use Rattle.input.specs.Input.{deltaOf, starDelta}
+use Rattle.clock.specs.declared.Clock.{Clock}
+use Rattle.clock.specs.declared.Clock.the-variants.{Off}
 use Rattle.lines.specs.Lines.{refusalLine}
-use Rattle.listings.specs.Listings.{told, printed}
-use Rattle.answers.specs.Answers.{Begins, textBy, answerText, starText, storedBy, sheetStored, errorBy, errorLine}
+use Rattle.listings.specs.Listings.{timed, printed}
+use Rattle.listings.specs.ListingLaws.{timed-off}
+use Rattle.answers.specs.Answers.{Begins, textBy, answerText, starText, timedBy, timedText, starTimedText, storedBy, sheetStored, errorBy, errorLine}
 
 -- what was written fits the room
 abbrev pub Fits : Answer → List ℕ → Type 0
@@ -26,12 +31,17 @@ Fits (A.Refused r) room = Unit {0}
 pub fits-written : (a : Answer) (room : List ℕ) (n : ℕ) → a ≡ A.Written n → Fits a room → n ≤ length room
 fits-written a room n e f = subst (λ (b : Answer). Fits b room) e f
 
-module _ (a : Answer) (room old new : List ℕ) (r : ℕ) where
-  pub put-written : (n : ℕ) → a ≡ A.Written n → Put old 0 (printed (told (take n room))) new r → Put old 0 (textBy a room) new r
+module _ (k : Clock) (d : ℤ) (a : Answer) (room old new : List ℕ) (r : ℕ) where
+  pub put-written : (n : ℕ) → a ≡ A.Written n → Put old 0 (printed (timed k d (take n room))) new r → Put old 0 (timedBy k d a room) new r
   put-written n e p = rw e p
 
-  pub put-refused : (x : Refusal) → a ≡ A.Refused x → Put old 0 (refusalLine (x .number) (x .place)) new r → Put old 0 (textBy a room) new r
+  pub put-refused : (x : Refusal) → a ≡ A.Refused x → Put old 0 (refusalLine (x .number) (x .place)) new r → Put old 0 (timedBy k d a room) new r
   put-refused x e p = rw e p
+
+-- with no clock
+off : (a : Answer) (room : List ℕ) → timedBy Off (pos 0) a room ≡ textBy a room
+off (A.Written n) room = ap printed (timed-off (pos 0) (take n room))
+off (A.Refused r) room = refl
 
 -- ---- what a star request's bytes are answered
 
@@ -44,9 +54,13 @@ module _ (request sines room : List ℕ) (a : Answer) (is : a ≡ starAnswer req
       by (A.Written n) e = omega (arith, star-written request sines room n (sym e), l)
       by (A.Refused r) e = tt
 
-  pub star-text : textBy a left ≡ starText request sines room
+  pub star-text : timedBy Off (pos 0) a left ≡ starText request sines room
   unfolding starText
-  star-text = rw (is, by-rule)
+  star-text = off a left ∙ rw (is, by-rule)
+
+  pub star-timed : (k : Clock) (d : ℤ) → d ≡ starDelta request → timedBy k d a left ≡ starTimedText k request sines room
+  unfolding starTimedText
+  star-timed k d e = rw (is, by-rule, e)
 
 -- ---- what an eclipse's bytes are answered
 
@@ -59,9 +73,13 @@ module _ (request sines room : List ℕ) (a : Answer) (is : a ≡ answerTo reque
       by (A.Written n) e = omega (arith, written-fits request sines room n (sym e), l)
       by (A.Refused r) e = tt
 
-  pub text-is : textBy a left ≡ answerText request sines room
+  pub text-is : timedBy Off (pos 0) a left ≡ answerText request sines room
   unfolding answerText
-  text-is = rw (is, by-rule)
+  text-is = off a left ∙ rw (is, by-rule)
+
+  pub timed-is : (k : Clock) (d : ℤ) → d ≡ deltaOf request → timedBy k d a left ≡ timedText k request sines room
+  unfolding timedText
+  timed-is k d e = rw (is, by-rule, e)
 
   stored-is : storedBy a left ≡ sheetStored request sines room
   unfolding sheetStored

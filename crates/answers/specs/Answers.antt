@@ -3,12 +3,15 @@
 use mathlib.Core.Path.{_≡_}
 use mathlib.Core.List.{List, []}
 use Prim.Native.Nat.{ℕ}
+use lib.IntN.{ℤ}
 use lib.ListN.{length, take}
 use Rattle.circumstances.specs.declared.Answer.{Answer}
 use Rattle.circumstances.specs.declared.Answer.the-variants as A
 use Rattle.input.specs.Sheet.{answerTo, bufferFor, starAnswer, starBuffer}
+use Rattle.input.specs.Input.{deltaOf, starDelta}
+use Rattle.clock.specs.declared.Clock.{Clock}
 use Rattle.lines.specs.Lines.{refusalLine}
-use Rattle.listings.specs.Listings.{told, printed}
+use Rattle.listings.specs.Listings.{told, timed, printed}
 
 -- the listing of the bytes that the sheet has in the room; or "A refusal prints `refused`, number, place."
 abbrev pub textBy : Answer → List ℕ → List ℕ
@@ -21,6 +24,19 @@ answerText request sines room = textBy (answerTo request sines room) (bufferFor 
 -- of a star request's bytes
 unfoldable pub starText : (request sines room : List ℕ) → List ℕ
 starText request sines room = textBy (starAnswer request sines room) (starBuffer request sines room)
+
+-- ---- with clock times
+
+-- the same, with times by the clock and the station's ΔT
+abbrev pub timedBy : Clock → ℤ → Answer → List ℕ → List ℕ
+timedBy k d (A.Written n) room = printed (timed k d (take n room))
+timedBy k d (A.Refused r) room = refusalLine (r .number) (r .place)
+
+unfoldable pub timedText : Clock → (request sines room : List ℕ) → List ℕ
+timedText k request sines room = timedBy k (deltaOf request) (answerTo request sines room) (bufferFor request sines room)
+
+unfoldable pub starTimedText : Clock → (request sines room : List ℕ) → List ℕ
+starTimedText k request sines room = timedBy k (starDelta request) (starAnswer request sines room) (starBuffer request sines room)
 
 -- ---- the sheet as it is stored
 

@@ -12,8 +12,8 @@ use native.Mathlib.Nat.{eq-zero-or-pos, eq-or-lt-of-le}
 use lib.IntN.{ℤ, pos, negℤ, natAbs, _+ℤ_, _-ℤ_, _*ℤ_, negℤ-negℤ}
 use Rattle.numbers.specs.Order.{natAbs-opposite}
 use Rattle.numbers.specs.Ring.{num, _⊕_, _⊖_, _⊗_, opp, ring, v0, v1, v2}
-use Rattle.sine.specs.Table.{S}
-use Rattle.sine.specs.TableLaws.{entry-900}
+use Rattle.sine_table.specs.Table.{S}
+use Rattle.sine_table.specs.TableLaws.{entry-900}
 use Rattle.sine.specs.FirstQuadrant.{firstQuadrant}
 use Rattle.sine.specs.Sine.{sine}
 use Rattle.sine.specs.SineLaws.{either, sine-first, sine-above, cosine-above, sine-second}

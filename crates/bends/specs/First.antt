@@ -14,11 +14,11 @@ use Rattle.numbers.specs.Ring.{num, _⊕_, _⊖_, _⊗_, opp, ring, v0, v1, v2,
 use Rattle.numbers.specs.Cert.{leq, lit, sq, _⊞_, _⊠_, certify}
 use Rattle.numbers.specs.Near.{near}
 use Rattle.numbers.specs.NearLaws.{near-error, near-pos, near-zero}
-use Rattle.sine.specs.Table.{S}
-use Rattle.sine.specs.TableLaws.{entry-small}
+use Rattle.sine_table.specs.Table.{S}
+use Rattle.sine_table.specs.TableLaws.{entry-small}
 use Rattle.sine.specs.FirstQuadrant.{arc, sag, between, capped, firstQuadrant}
 use Rattle.sine.specs.FirstQuadrantLaws.{first-is}
-use Rattle.sine.specs.Rising.{S-rises}
+use Rattle.sine_table.specs.Rising.{S-rises}
 use Rattle.bends.specs.Table.{closes, ends, step-small, cap, entry-899, entry-1}
 use Rattle.bends.specs.Rule.{Step, step-along}
 use Rattle.bends.specs.Cell.{Cell}

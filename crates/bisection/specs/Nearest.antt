@@ -12,6 +12,7 @@ use Rattle.numbers.specs.Order.{zs, ≤ℤ-trans, ≤ℤ-<ℤ-trans, <ℤ-≤}
 use Rattle.sine.specs.SineLaws.{either}
 use Rattle.seconds.specs.Closest.{IsClosest, closestTo}
 use Rattle.seconds.specs.ClosestLaws.{closest-is, closest-one}
+use Rattle.gaps.specs.Gaps.{Later}
 
 -- of the seconds 0 to i: each has more than `limit`, or no less than the least, and more if it is earlier
 abbrev pub Each : (ℕ → ℤ) → ℤ → ℕ → ℤ → ℕ → Type 0
@@ -21,10 +22,6 @@ pub record Nearest (m : ℕ → ℤ) (limit : ℤ) (i best : ℕ) (least : ℤ) 
   pub is : least ≡ m best
   pub small : best ≤ i
   pub each : (τ : ℕ) → τ ≤ i → Each m limit best least τ
-
--- the seconds between two computed ones have more than `limit`
-abbrev pub Later : (ℕ → ℤ) → ℤ → ℕ → ℕ → Type 0
-Later m limit i j = (τ : ℕ) → i < τ → τ < j → limit <ℤ m τ
 
 module _ (m : ℕ → ℤ) (limit : ℤ) where
   pub nearest-start : (least : ℤ) → least ≡ m 0 → Nearest m limit 0 0 least

@@ -1,52 +1,40 @@
 // The states of a window's seconds, from the few that need computing: between two computed seconds the station's path is so nearly straight that
 // its chord shows the states of all between. Where it does not, the second in the middle is computed, and both halves are looked at.
 // `fill` is an inner function, for the crates above, and has a `requires`, as those that it calls have.
-mod clear;
-mod reach;
-
 use requests::Occultation;
 use runs::Filled;
 use shadow::Sample;
 use station::Place;
 ghost use mathlib.Core.Path.{_≡_};
-ghost use Prim.Native.Nat.{_+_, _-_, _≤_, _<_};
+ghost use mathlib.Core.List.{List};
+ghost use Prim.Native.Nat.{ℕ, _+_, _-_, _≤_, _<_};
 ghost use lib.IntN.{natAbs};
 ghost use lib.ListN.{length};
-ghost use Rattle.sine.specs.Table.{Sines};
+ghost use Rattle.sine_table.specs.Table.{Sines};
 ghost use Rattle.station.specs.Place.{placeOf};
 ghost use Rattle.requests.specs.Windows.{secondCount};
 ghost use Rattle.requests.specs.RequestLaws.{InLimits};
 ghost use Rattle.runs.specs.Runs.{Ends};
-ghost use Rattle.bisection.specs.Samples.{IsAt, SampleSizes, IsPair};
-ghost use Rattle.bisection.specs.Kept.{filled, Closer, Stored, Kept, Found};
+ghost use Rattle.gaps.specs.Samples.{IsAt, SampleSizes};
+ghost use Rattle.bisection.specs.Kept.{IsPair, Closer, Stored, Kept, All, Found};
+ghost use Rattle.approach.specs.Spread.{Spread};
 
 // What is known of the seconds so far.
 pub struct Tally {
-    // how many bytes their runs take
-    pub count: usize,
-    // the place of the last run
-    pub last: usize,
+    // their states, as runs
+    pub filled: Filled,
     // the closest of them, counted from the window's first
     pub best: usize,
     // its M
     pub least: i64,
 }
 
-// A second of the window, counted from its first, and its M.
-pub struct Low {
-    pub second: usize,
-    pub m: i64,
-}
-
-// The shadow at second k of the window.
-fn sample_of(table: &[u32], o: Occultation, place: Place, k: usize) -> Sample
-    requires { ⌜ (Sines (now table)) × (InLimits o) × (place ≡ placeOf (o .station)) × (k < secondCount (o .window)) ⌝ }
-    ensures { λ r. ⌜ IsAt o k r ⌝ }
-{
-    let w = o.window;
-    let body = o.body;
-    let t = requests::nth_second(w, k);
-    shadow::bodies::sample_at(table, body, place, t)
+// What is known of all seconds.
+pub struct Known {
+    // how many bytes their runs take
+    pub count: usize,
+    // the closest of them, counted from the window's first
+    pub best: usize,
 }
 
 // The states of both phases under a guard, as they stand in a run.
@@ -62,26 +50,22 @@ fn pair_of(guard: i64, s: Sample) -> u8
     runs::pair(first, second)
 }
 
-// The closer of the closest so far and second j, whose M is m, the earlier of equals; and where the runs end now.
+// The closer of the closest so far and second j, whose M is m, the earlier of equals; and the runs as they are now.
 fn closer(t: Tally, f: Filled, j: usize, m: i64) -> Tally
     requires { ⌜ (natAbs (t .least) ≤ 1000000000000000000) × (natAbs m ≤ 1000000000000000000) ⌝ }
-    ensures { λ r. ⌜ (filled r ≡ f) × (Closer t j m r) ⌝ }
+    ensures { λ r. ⌜ (r .filled ≡ f) × (Closer t j m r) ⌝ }
 {
-    let count = f.count;
-    let last = f.last;
     let best = t.best;
     let least = t.least;
     if m < least {
         return Tally {
-            count,
-            last,
+            filled: f,
             best: j,
             least: m,
         };
     }
     Tally {
-        count,
-        last,
+        filled: f,
         best,
         least,
     }
@@ -90,14 +74,11 @@ fn closer(t: Tally, f: Filled, j: usize, m: i64) -> Tally
 // The h seconds up to second j get the states that s shows at j.
 fn keep(guard: i64, runs: &mut [u8], t: Tally, h: usize, j: usize, s: Sample) -> Tally
     requires { ⌜ (natAbs guard ≤ 1000) × (SampleSizes s) × (natAbs (t .least) ≤ 1000000000000000000) ⌝ }
-    requires { ⌜ (1 ≤ h) × (h ≤ 2048) × (t .count + h ≤ length (now runs)) × (Ends (now runs) (filled t)) ⌝ }
+    requires { ⌜ (1 ≤ h) × (h ≤ 2048) × (t .filled .count + t .filled .seconds ≤ length (now runs)) × (Ends (now runs) (t .filled)) ⌝ }
     ensures { λ r. ⌜ Stored guard s h j (now (runs .entry)) t (now (runs .exit)) r ⌝ }
 {
     let pair = pair_of(guard, s);
-    let before = Filled {
-        count: t.count,
-        last: t.last,
-    };
+    let before = t.filled;
     let after = runs::push(runs, before, pair, h);
     closer(t, after, j, s.m)
 }
@@ -122,11 +103,28 @@ fn each_second(
     let mut t = start;
     let mut k = i + 1;
     while k < j {
-        let s = sample_of(table, o, place, k);
+        let s = approach::sample_of(table, o, place, k);
         t = keep(o.guard, runs, t, 1, k, s);
         k += 1;
     }
     keep(o.guard, runs, t, 1, j, b)
+}
+
+// How many seconds between the shadows a and b are computed one by one: sixteen and fewer. Where both are as close as some second is, within the
+// guard, none between could be skipped, and a hundred and twenty-eight are.
+fn leaf(guard: i64, near: u64, a: Sample, b: Sample) -> usize
+    requires { ⌜ (natAbs guard ≤ 1000) × (near ≤ 1000000001) ⌝ }
+    ensures { λ r. ⌜ 16 ≤ r ⌝ }
+{
+    let w = near as i64 + guard;
+    let limit = w * w;
+    if limit < a.m {
+        return 16;
+    }
+    if limit < b.m {
+        return 16;
+    }
+    128
 }
 
 // The seconds after i up to j, from the shadows a at i and b at j.
@@ -148,43 +146,119 @@ fn between(
     ensures { λ r. ⌜ length (now (runs .exit)) ≡ length (now (runs .entry)) ⌝ }
 {
     let h = j - i;
-    let shown = clear::clear(o.guard, near, a, b, h);
+    let shown = gaps::clear(o.guard, near, a, b, h);
     if shown {
         return keep(o.guard, runs, t, h, j, b);
     }
-    if h <= 16 {
+    let few = leaf(o.guard, near, a, b);
+    if h <= few {
         return each_second(table, o, place, near, runs, t, i, j, b);
     }
     let m = i + h / 2;
-    let s = sample_of(table, o, place, m);
+    let s = approach::sample_of(table, o, place, m);
     let half = between(table, o, place, near, runs, t, i, a, m, s);
     between(table, o, place, near, runs, half, m, s, j, b)
 }
 
-// The states of all seconds of the window as runs, at the start of the buffer, and the closest second.
-pub fn fill(table: &[u32], o: Occultation, place: Place, runs: &mut [u8]) -> Tally
-    requires { ⌜ (Sines (now table)) × (InLimits o) × (place ≡ placeOf (o .station)) × (secondCount (o .window) ≤ length (now runs)) ⌝ }
-    ensures { λ r. ⌜ Found o (now (runs .exit)) r ⌝ }
-    ensures { λ r. ⌜ length (now (runs .exit)) ≡ length (now (runs .entry)) ⌝ }
+// Second 0, whose shadow is a: the first of the runs, and the closest so far.
+fn first(o: Occultation, a: Sample) -> Tally
+    requires { ⌜ (InLimits o) × (IsAt o 0 a) ⌝ }
+    ensures { λ r. ⌜ ((near : ℕ) (runs : List ℕ) → Kept o near 0 runs r) ⌝ }
 {
-    let w = o.window;
-    let n = requests::second_count(w);
-    let a = sample_of(table, o, place, 0);
-    let none = Tally {
+    let pair = pair_of(o.guard, a);
+    let filled = Filled {
         count: 0,
-        last: 0,
+        pair,
+        seconds: 1,
+    };
+    Tally {
+        filled,
         best: 0,
         least: a.m,
-    };
-    let t = keep(o.guard, runs, none, 1, 0, a);
+    }
+}
+
+// The seconds of a window of n under a hundred, after second 0: each is computed.
+fn few_seconds(
+    table: &[u32],
+    o: Occultation,
+    place: Place,
+    runs: &mut [u8],
+    t: Tally,
+    n: usize,
+) -> Tally
+    requires { ⌜ (Sines (now table)) × (InLimits o) × (place ≡ placeOf (o .station)) × (n ≡ secondCount (o .window)) ⌝ }
+    requires { ⌜ (secondCount (o .window) ≤ length (now runs)) × (Kept o 1000000000 0 (now runs) t) ⌝ }
+    ensures { λ r. ⌜ Kept o 1000000000 (n - 1) (now (runs .exit)) r ⌝ }
+    ensures { λ r. ⌜ length (now (runs .exit)) ≡ length (now (runs .entry)) ⌝ }
+{
     if n == 1 {
         return t;
     }
     let j = n - 1;
-    let b = sample_of(table, o, place, j);
-    if n < 100 {
-        return each_second(table, o, place, 1_000_000_000, runs, t, 0, j, b);
+    let b = approach::sample_of(table, o, place, j);
+    each_second(table, o, place, 1_000_000_000, runs, t, 0, j, b)
+}
+
+// The seconds of a window of n after second 0, stretch by stretch between the shadows that are there.
+fn stretches(
+    table: &[u32],
+    o: Occultation,
+    place: Place,
+    near: u64,
+    runs: &mut [u8],
+    start: Tally,
+    shadows: [Sample; 17],
+    n: usize,
+) -> Tally
+    requires { ⌜ (Sines (now table)) × (InLimits o) × (place ≡ placeOf (o .station)) × (near ≤ 1000000001) × (n ≡ secondCount (o .window)) × (99 < n) × (Spread o n shadows) ⌝ }
+    requires { ⌜ (secondCount (o .window) ≤ length (now runs)) × (Kept o near 0 (now runs) start) ⌝ }
+    ensures { λ r. ⌜ Kept o near (n - 1) (now (runs .exit)) r ⌝ }
+    ensures { λ r. ⌜ length (now (runs .exit)) ≡ length (now (runs .entry)) ⌝ }
+{
+    let mut t = start;
+    let mut k: usize = 0;
+    while k < 16 {
+        let next = k + 1;
+        let i = approach::stop(n, k);
+        let j = approach::stop(n, next);
+        let a = shadows[k];
+        let b = shadows[next];
+        t = between(table, o, place, near, runs, t, i, a, j, b);
+        k = next;
     }
-    let near = reach::reach(table, o, place, n);
-    between(table, o, place, near, runs, t, 0, a, j, b)
+    t
+}
+
+// All seconds of the window, the last run not stored yet.
+fn all_seconds(table: &[u32], o: Occultation, place: Place, runs: &mut [u8]) -> Tally
+    requires { ⌜ (Sines (now table)) × (InLimits o) × (place ≡ placeOf (o .station)) × (secondCount (o .window) ≤ length (now runs)) ⌝ }
+    ensures { λ r. ⌜ All o (now (runs .exit)) r ⌝ }
+    ensures { λ r. ⌜ length (now (runs .exit)) ≡ length (now (runs .entry)) ⌝ }
+{
+    let w = o.window;
+    let n = requests::second_count(w);
+    let a = approach::sample_of(table, o, place, 0);
+    let t = first(o, a);
+    if n < 100 {
+        return few_seconds(table, o, place, runs, t, n);
+    }
+    let shadows = approach::spread(table, o, place, n, a);
+    let near = approach::reach(table, o, place, n, shadows);
+    stretches(table, o, place, near, runs, t, shadows, n)
+}
+
+// The states of all seconds of the window as runs, at the start of the buffer, and the closest second.
+pub fn fill(table: &[u32], o: Occultation, place: Place, runs: &mut [u8]) -> Known
+    requires { ⌜ (Sines (now table)) × (InLimits o) × (place ≡ placeOf (o .station)) × (secondCount (o .window) ≤ length (now runs)) ⌝ }
+    ensures { λ r. ⌜ Found o (now (runs .exit)) r ⌝ }
+    ensures { λ r. ⌜ length (now (runs .exit)) ≡ length (now (runs .entry)) ⌝ }
+{
+    let t = all_seconds(table, o, place, runs);
+    let filled = t.filled;
+    let count = runs::write(runs, filled);
+    Known {
+        count,
+        best: t.best,
+    }
 }

@@ -74,11 +74,15 @@ fn put_cases(out: &mut [u8], input: &[u8]) -> usize
     at
 }
 
+// 550 answers; a text that is longer is cut.
+fn text_room() -> [u8; 400_000] {
+    [0u8; 400_000]
+}
+
 fn main() {
     let mut input = io::large_buffer();
     let length = io::read_full(STDIN_FILENO, &mut input);
-    // 550 answers; a text that is longer is cut
-    let mut text = [0u8; 400_000];
+    let mut text = text_room();
     let end = put_cases(&mut text, &input[..length]);
     let written = decimals::clipped(&text, end);
     io::write_all(STDOUT_FILENO, &text[..written]);

@@ -5,7 +5,7 @@
 use mathlib.Core.Path.{_≡_, refl, _∙_, ap, ap₂}
 use mathlib.Core.List.{[], _∷_}
 use mathlib.Core.Logic.{_⊎_, ⊎-elim}
-use Prim.Native.Nat.{ℕ, _+_, _*_, _≤_, _<_}
+use Prim.Native.Nat.{ℕ, _+_, _-_, _*_, _≤_, _<_}
 use native.Mathlib.Omega.{arith}
 use lib.IntN.{ℤ, pos, negsuc, negℤ, natAbs, _+ℤ_, _-ℤ_, _*ℤ_}
 use lib.Signed.{_≤ℤ_, _<ℤ_, clashℤ}
@@ -23,9 +23,13 @@ use Rattle.geometry.specs.StateLaws.{state-edge}
 use Rattle.chords.specs.Clear.{Between, farther, nearer}
 use Rattle.chords.specs.Path.{between, L-chord}
 
+-- how far the path may leave the chord of two seconds in a row, with the radius, in units; that of h seconds h² times as far
+abbrev pub sagitta : ℕ
+sagitta = 30
+
 -- the guard for two seconds h apart, where one second has the guard G
 abbrev pub wide : ℤ → ℤ → ℤ
-wide G h = G +ℤ pos 30 *ℤ (h *ℤ h)
+wide G h = G +ℤ pos sagitta *ℤ (h *ℤ h)
 
 -- the ends (p, q) and (x, y) are so far out that a quarter of the square of their chord less is more than w²
 pub record Far (w p q x y : ℤ) : Type 0 where
@@ -42,7 +46,7 @@ module _ (G : ℤ) (G0 : pos 0 ≤ℤ G) {I J p q x y f g : ℤ} (b : Between I 
         let e = I ∷ J ∷ r ∷ s ∷ t ∷ w ∷ G ∷ [] in
         let z = v0 ⊕ v1 in
         let A = num 8 ⊗ (v4 ⊕ v6) ⊕ num 215 ⊗ (z ⊗ z) in
-        let W = v6 ⊕ num 30 ⊗ (z ⊗ z) in
+        let W = v6 ⊕ num sagitta ⊗ (z ⊗ z) in
         let Z = leq (num 1) z (b .some) in
         by-contra (pos 8 *ℤ (t +ℤ G) +ℤ pos 215 *ℤ ((I +ℤ J) *ℤ (I +ℤ J))) (pos 8 *ℤ w)
         (λ l.
@@ -52,7 +56,7 @@ module _ (G : ℤ) (G0 : pos 0 ≤ℤ G) {I J p q x y f g : ℤ} (b : Between I 
         (leq (num 8 ⊗ (z ⊗ v4)) (num 8 ⊗ (v1 ⊗ v2 ⊕ v0 ⊗ v3) ⊕ num 10 ⊗ (z ⊗ z ⊗ z)) above
         ⊞ lit 8 ⊠ leq (num 0) v1 (b .end) ⊠ leq (v2 ⊕ W) v5 hr
         ⊞ lit 8 ⊠ leq (num 0) v0 (b .start) ⊠ leq (v3 ⊕ W) v5 hs
-        ⊞ lit 15 ⊠ (Z ⊞ lit 1) ⊠ sq z) tt))
+        ⊞ lit (8 * sagitta - 225) ⊠ (Z ⊞ lit 1) ⊠ sq z) tt))
 
     pub skip-outside : state G t (f ² +ℤ g ²) ≡ States.outside
     skip-outside =
@@ -71,7 +75,7 @@ module _ (G : ℤ) (G0 : pos 0 ≤ℤ G) {I J p q x y f g : ℤ} (b : Between I 
       let e = I ∷ J ∷ a ∷ w ∷ G ∷ [] in
       let z = v0 ⊕ v1 in
       farther b a w ha
-      (certify 0 e (num 8 ⊗ v2 ⊕ num 215 ⊗ (z ⊗ z)) (num 8 ⊗ v3) (lit 8 ⊠ leq (v2 ⊕ (v4 ⊕ num 30 ⊗ (z ⊗ z))) v3 hw ⊞ lit 8 ⊠ leq (num 0) v4 G0 ⊞ lit 25 ⊠ sq z) tt)
+      (certify 0 e (num 8 ⊗ v2 ⊕ num 215 ⊗ (z ⊗ z)) (num 8 ⊗ v3) (lit 8 ⊠ leq (v2 ⊕ (v4 ⊕ num sagitta ⊗ (z ⊗ z))) v3 hw ⊞ lit 8 ⊠ leq (num 0) v4 G0 ⊞ lit (8 * sagitta - 215) ⊠ sq z) tt)
       (far .start) (far .end)
 
   -- t is at most 10 H³/8 below the chord's
@@ -85,7 +89,7 @@ module _ (G : ℤ) (G0 : pos 0 ≤ℤ G) {I J p q x y f g : ℤ} (b : Between I 
       state-edge G t (f ² +ℤ g ²) States.inside
       (nearer b r s t G w hr hs
       (certify 0 e (num 8 ⊗ v3 ⊕ num 8 ⊕ num 225 ⊗ (z ⊗ z)) (num 8 ⊗ v2)
-      (lit 8 ⊠ leq (v3 ⊕ num 30 ⊗ (z ⊗ z)) v2 hw ⊞ lit 15 ⊠ Z ⊠ Z ⊞ lit 30 ⊠ Z ⊞ lit 7) tt)
+      (lit 8 ⊠ leq (v3 ⊕ num sagitta ⊗ (z ⊗ z)) v2 hw ⊞ lit (8 * sagitta - 225) ⊠ (Z ⊠ Z ⊞ lit 2 ⊠ Z) ⊞ lit (8 * sagitta - 233)) tt)
       below hp hx)
 
 -- ---- the radii, by their sizes: from how far L is from its chord, in H-ths

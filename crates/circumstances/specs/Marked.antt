@@ -6,7 +6,7 @@ use lib.IntN.{ℤ, pos, negsuc}
 use Rattle.numbers.specs.Near.{near}
 use Rattle.numbers.specs.Root.{root}
 use Rattle.numbers.specs.Examples.{near-half, near-half-below, near-past-half-below}
-use Rattle.sine.specs.Table.{factorial, numerator, denominator, common, term, series, S}
+use Rattle.sine_table.specs.Table.{factorial, numerator, denominator, common, term, series, S}
 use Rattle.sine.specs.FirstQuadrant.{arc, sag, between, capped, firstQuadrant}
 use Rattle.sine.specs.Sine.{reduced, sineIn, sine, cosine}
 use Rattle.sine.specs.Examples.{sine-of-30, sine-of-least, sine-capped, cosine-of-180}
@@ -19,7 +19,7 @@ use Rattle.geometry.specs.Direction.{direction}
 use Rattle.geometry.specs.Examples.{worked}
 use Rattle.shadow.specs.Second as Shadow
 use Rattle.shadow.specs.Examples.{direction-of-1-1, direction-of-0-minus-5}
-use Rattle.contacts.specs.Entries.{someBetween}
+use Rattle.contact_entries.specs.Entries.{someBetween}
 use Rattle.phases.specs.declared.Phase.the-variants.{Penumbra}
 use Rattle.requests.specs.declared.Request.{Request}
 use Rattle.requests.specs.Requests.{ofEclipse}

@@ -4,7 +4,7 @@ use refusals::Refusal;
 use requests::Occultation;
 use station::Place;
 ghost use mathlib.Core.Path.{_≡_};
-ghost use Rattle.sine.specs.Table.{Sines};
+ghost use Rattle.sine_table.specs.Table.{Sines};
 ghost use Rattle.station.specs.Place.{placeOf};
 ghost use Rattle.requests.specs.RequestLaws.{InLimits};
 ghost use Rattle.seconds.specs.Seconds.{closestOf};

@@ -12,12 +12,12 @@ use Rattle.runs.specs.declared.Run.{Run}
 use Rattle.runs.specs.Runs.{decoded, RunAt}
 use Rattle.runs.specs.RunsLaws.{decoded-none}
 use Rattle.contacts.specs.declared.Cursor.{Cursor}
-use Rattle.contacts.specs.declared.Entry.{Entry}
-use Rattle.contacts.specs.declared.Entry.the-variants.{Enter, Leave, Graze, Open}
+use Rattle.contact_entries.specs.declared.Entry.{Entry}
+use Rattle.contact_entries.specs.declared.Entry.the-variants.{Enter, Leave, Graze, Open}
 use Rattle.contacts.specs.declared.Next.{Next}
 use Rattle.contacts.specs.declared.Next.the-variants.{Found, Done}
-use Rattle.contacts.specs.Entries.{sure, unsure, Last, none, last, state, side, if-so, between, atSecond, atEnd, walk, from, to, someBetween}
-use Rattle.contacts.specs.BetweenLaws.{between-some, between-none}
+use Rattle.contact_entries.specs.Entries.{sure, unsure, Last, none, last, state, side, if-so, between, atSecond, atEnd, walk, from, to, someBetween}
+use Rattle.contact_entries.specs.BetweenLaws.{between-some, between-none}
 use Rattle.contacts.specs.Step.{entriesFrom, lastBefore, Stands, At, Stepped}
 
 -- a byte's state

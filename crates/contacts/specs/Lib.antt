@@ -1,20 +1,3 @@
--- The rules, and what a step promises.
-pub mod Entries
+-- What a step promises, and its laws.
 pub mod Step
--- The rules in document 01's own words, and exact answers.
-pub mod CalledFor
-pub mod Exact
--- Laws, each in a file with its statement first.
-pub mod CalledForLaws
-pub mod Ordered
-pub mod Alternate
-pub mod WellFormed
-pub mod ExactLaws
-pub mod Ends
-pub mod Changes
-pub mod Shifted
 pub mod StepLaws
--- What the laws are proved by.
-pub mod AllLaws
-pub mod BetweenLaws
-pub mod Induction

@@ -8,8 +8,8 @@ use Rattle.runs.specs.Runs.{decoded, Whole}
 use Rattle.contacts.specs.declared.Cursor.{Cursor}
 use Rattle.contacts.specs.declared.Next.{Next}
 use Rattle.contacts.specs.declared.Next.the-variants.{Found, Done}
-use Rattle.contacts.specs.declared.Entry.{Entry}
-use Rattle.contacts.specs.Entries.{entries, from, to}
+use Rattle.contact_entries.specs.declared.Entry.{Entry}
+use Rattle.contact_entries.specs.Entries.{entries, from, to}
 use Rattle.contacts.specs.Step.{entriesFrom, At, stepped, Stepped}
 
 pub all-at-start : (s : List ℕ) → entriesFrom s 0 ≡ entries s

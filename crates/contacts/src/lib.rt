@@ -1,24 +1,14 @@
 // Entries of one phase, from the states of the seconds of a window, which are stored as runs (`runs`).
 // A state is 0 outside, 1 inside, any other unsure. Seconds are counted from the window's first, which is 0.
-// `step` is an inner function, for the crates above: it names no shadow and no byte of a sheet.
+// What the entries are, and what holds of them, is `contact_entries`. `step` is an inner function, for the crates above: it names no shadow and no byte of a sheet.
+use contact_entries::Entry;
 ghost use mathlib.Core.Path.{_≡_};
 ghost use mathlib.Core.List.{[], _∷_};
 ghost use Prim.Native.Nat.{_+_, _≤_, _<_};
 ghost use lib.ListN.{length};
 ghost use Rattle.runs.specs.Runs.{decoded, Whole};
-ghost use Rattle.contacts.specs.Entries.{between, side};
+ghost use Rattle.contact_entries.specs.Entries.{between, side};
 ghost use Rattle.contacts.specs.Step.{At, Stepped};
-
-// Enter, leave, graze and open are the paper's words. An enter and a leave are contacts; a graze and an open claim none.
-// from, to: seconds of the window, 0 to its length less 1.
-pub enum Entry {
-    // two sure seconds, from < to
-    Enter { from: usize, to: usize },
-    Leave { from: usize, to: usize },
-    Graze { from: usize, to: usize },
-    // an end of the window and the nearest sure second, or both ends, from <= to
-    Open { from: usize, to: usize },
-}
 
 pub struct Cursor {
     pub at: usize, // the second to look at next, 0 (at the start) to the window's length

@@ -7,9 +7,9 @@ use Rattle.phases.specs.declared.Phase.{Phase}
 use Rattle.phases.specs.States.{State, code}
 use Rattle.requests.specs.declared.Window.{Window}
 use Rattle.requests.specs.Windows.{nthSecond, eachSecond}
-use Rattle.contacts.specs.declared.Entry as Contact
-use Rattle.contacts.specs.declared.Entry.the-variants as C
-use Rattle.contacts.specs.Entries.{entries}
+use Rattle.contact_entries.specs.declared.Entry as Contact
+use Rattle.contact_entries.specs.declared.Entry.the-variants as C
+use Rattle.contact_entries.specs.Entries.{entries}
 use Rattle.kinds.specs.declared.Entry.{Entry}
 use Rattle.kinds.specs.Entries.{head, enter, leave, graze, opened, closest, share, end}
 use Rattle.kinds.specs.StoredSeconds.{stored}

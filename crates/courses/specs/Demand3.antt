@@ -17,10 +17,10 @@ use Rattle.phases.specs.declared.Phase.{Phase}
 use Rattle.phases.specs.Phases.{same, Listed}
 use Rattle.phases.specs.States.{SaidRightly}
 use Rattle.requests.specs.Windows.{InWindow}
-use Rattle.contacts.specs.declared.Entry as Contact
-use Rattle.contacts.specs.declared.Entry.the-variants as C
-use Rattle.contacts.specs.Entries.{if-so, All}
-use Rattle.contacts.specs.Exact.{Change, howMany, ExactEnds, neither, Alternate}
+use Rattle.contact_entries.specs.declared.Entry as Contact
+use Rattle.contact_entries.specs.declared.Entry.the-variants as C
+use Rattle.contact_entries.specs.Entries.{if-so, All}
+use Rattle.contact_entries.specs.Exact.{Change, howMany, ExactEnds, neither, Alternate}
 use Rattle.kinds.specs.declared.Kind.{Kind}
 use Rattle.kinds.specs.declared.Kind.the-variants as K
 use Rattle.kinds.specs.declared.Entry.{Entry}

@@ -18,15 +18,15 @@ use Rattle.phases.specs.States.{SaidRightly, code}
 use Rattle.phases.specs.PhaseLaws.{same-is, code-inside, code-outside}
 use Rattle.requests.specs.Windows.{InWindow, secondCount}
 use Rattle.requests.specs.WindowLaws.{second-in, next-second, not-last}
-use Rattle.contacts.specs.declared.Entry as Contact
-use Rattle.contacts.specs.declared.Entry.the-variants as C
-use Rattle.contacts.specs.Entries.{entries, All}
-use Rattle.contacts.specs.Exact.{Agrees, Change, howMany, ExactEnds, neither, Alternate}
-use Rattle.contacts.specs.ExactLaws.{agrees-by-bytes}
-use Rattle.contacts.specs.Changes.{each-change-in-one}
-use Rattle.contacts.specs.Ends.{each-end-exact}
-use Rattle.contacts.specs.Alternate.{alternate}
-use Rattle.contacts.specs.Shifted.{shifted, how-many-shifted, alternate-shifted, ends-shifted}
+use Rattle.contact_entries.specs.declared.Entry as Contact
+use Rattle.contact_entries.specs.declared.Entry.the-variants as C
+use Rattle.contact_entries.specs.Entries.{entries, All}
+use Rattle.contact_entries.specs.Exact.{Agrees, Change, howMany, ExactEnds, neither, Alternate}
+use Rattle.contact_entries.specs.ExactLaws.{agrees-by-bytes}
+use Rattle.contact_entries.specs.Changes.{each-change-in-one}
+use Rattle.contact_entries.specs.Ends.{each-end-exact}
+use Rattle.contact_entries.specs.Alternate.{alternate}
+use Rattle.contact_entries.specs.Shifted.{shifted, how-many-shifted, alternate-shifted, ends-shifted}
 use Rattle.kinds.specs.declared.Entry.{Entry}
 use Rattle.kinds.specs.Entries.{end}
 use Rattle.kinds.specs.StoredSeconds.{stored, secondOf}

@@ -5,9 +5,9 @@ use Prim.Native.Nat.{ℕ, _+_}
 use lib.IntN.{ℤ}
 use lib.ListN.{length}
 use Rattle.phases.specs.declared.Phase.{Phase}
-use Rattle.contacts.specs.declared.Entry as Contact
-use Rattle.contacts.specs.declared.Entry.the-variants as C
-use Rattle.contacts.specs.Entries.{entries}
+use Rattle.contact_entries.specs.declared.Entry as Contact
+use Rattle.contact_entries.specs.declared.Entry.the-variants as C
+use Rattle.contact_entries.specs.Entries.{entries}
 use Rattle.kinds.specs.declared.Kind.{Kind}
 use Rattle.kinds.specs.declared.Kind.the-variants as K
 use Rattle.kinds.specs.declared.Entry.{Entry}

@@ -6,9 +6,9 @@ use Prim.Native.Nat.{ℕ, _+_, _≤_}
 use native.Mathlib.Omega.{arith}
 use lib.ListN.{length, length-append}
 use Rattle.phases.specs.declared.Phase.{Phase}
-use Rattle.contacts.specs.declared.Entry as Contact
-use Rattle.contacts.specs.declared.Entry.the-variants as C
-use Rattle.contacts.specs.Entries.{entries}
+use Rattle.contact_entries.specs.declared.Entry as Contact
+use Rattle.contact_entries.specs.declared.Entry.the-variants as C
+use Rattle.contact_entries.specs.Entries.{entries}
 use Rattle.kinds.specs.declared.Kind.{Kind}
 use Rattle.kinds.specs.declared.Kind.the-variants as K
 use Rattle.kinds.specs.declared.Entry.{Entry}

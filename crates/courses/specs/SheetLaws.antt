@@ -19,19 +19,19 @@ use Rattle.phases.specs.Phases.{eclipse, star, same, Listed}
 use Rattle.phases.specs.PhaseLaws.{same-is}
 use Rattle.requests.specs.Windows.{secondCount}
 use Rattle.requests.specs.WindowLaws.{last-is, second-in}
-use Rattle.contacts.specs.declared.Entry as Contact
-use Rattle.contacts.specs.declared.Entry.the-variants as K
-use Rattle.contacts.specs.Entries as CE
-use Rattle.contacts.specs.Exact.{Turn, neither, entered, left, Alternate}
-use Rattle.contacts.specs.Ordered.{Ordered, ordered}
-use Rattle.contacts.specs.Alternate.{alternate}
-use Rattle.contacts.specs.WellFormed as CW
+use Rattle.contact_entries.specs.declared.Entry as Contact
+use Rattle.contact_entries.specs.declared.Entry.the-variants as K
+use Rattle.contact_entries.specs.Entries as CE
+use Rattle.contact_entries.specs.Exact.{Turn, neither, entered, left, Alternate}
+use Rattle.contact_entries.specs.Ordered.{Ordered, ordered}
+use Rattle.contact_entries.specs.Alternate.{alternate}
+use Rattle.contact_entries.specs.WellFormed as CW
 use Rattle.kinds.specs.declared.Entry.{Entry}
 use Rattle.kinds.specs.declared.Stage.the-variants as S
 use Rattle.kinds.specs.declared.Crossing.{Crossing}
 use Rattle.kinds.specs.declared.Crossing.the-variants as C
 use Rattle.kinds.specs.Entries.{end}
-use Rattle.rules.specs.Order.{repeats}
+use Rattle.order.specs.Order.{repeats}
 use Rattle.kinds.specs.FieldRules.{isDirection, greatestMagnitude}
 use Rattle.kinds.specs.TestLaws.{distinct}
 use Rattle.rules.specs.Rules.{start}

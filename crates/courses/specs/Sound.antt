@@ -10,7 +10,7 @@ use Rattle.phases.specs.declared.Phase.the-variants.{Star}
 use Rattle.phases.specs.Phases.{same, Listed, times}
 use Rattle.requests.specs.Windows.{InWindow, secondCount}
 use Rattle.requests.specs.WindowLaws.{WindowHolds}
-use Rattle.rules.specs.Order.{phaseFollows}
+use Rattle.order.specs.Order.{phaseFollows}
 use Rattle.courses.specs.Courses.{Course, second}
 
 -- each phase stands before the next in the order of a sheet: entries of the next, another one, may follow its own

@@ -5,6 +5,7 @@ use Prim.Native.Nat.{ℕ}
 use lib.IntN.{ℤ}
 use Rattle.share.specs.Share.{share}
 use Rattle.requests.specs.declared.Request.{Request}
+use Rattle.requests.specs.Requests.{ofEclipse}
 use Rattle.seconds.specs.declared.OneSecond.{OneSecond}
 use Rattle.seconds.specs.declared.OneSecond.the-variants as S
 use Rattle.seconds.specs.OneSecond.{secondAnswer}
@@ -18,7 +19,7 @@ shareBy (S.Is x) = Is (share (x .shadow .l1) (x .shadow .l2) (x .shadow .m))
 shareBy (S.Refused r) = Refused r
 
 unfoldable pub shareAnswer : Request → ℤ → (sines : List ℕ) → OneShare
-shareAnswer q τ sines = shareBy (secondAnswer q τ sines)
+shareAnswer q τ sines = shareBy (secondAnswer (ofEclipse q) τ sines)
 
 -- a share that is answered is the second's, and means what is said of it (Covered)
 abbrev pub AnswerMeans : Request → ℤ → OneShare → Type 0

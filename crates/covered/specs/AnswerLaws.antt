@@ -34,20 +34,20 @@ AnsweredSizes (S.Refused r) = Unit
 
 module _ (q : Request) (τ : ℤ) (sines : List ℕ) where
   -- what holds of the refusals, and of the second of a request within its limits, holds of the answer
-  either : (P : OneSecond → Type 0) → ((r : Refusal) → P (S.Refused r)) → (InLimits (ofEclipse q) → natAbs τ ≤ 10800 → P (secondBy C.Within q τ))
-      → P (secondAnswer q τ sines)
+  either : (P : OneSecond → Type 0) → ((r : Refusal) → P (S.Refused r)) → (InLimits (ofEclipse q) → natAbs τ ≤ 10800 → P (secondBy C.Within (ofEclipse q) τ))
+      → P (secondAnswer (ofEclipse q) τ sines)
   unfolding secondAnswer
   either P refused within = by-span (inSpan τ) refl
     where
-      by-check : (c : Checked) → admitted (ofEclipse q) sines ≡ c → natAbs τ ≤ 10800 → P (secondBy c q τ)
+      by-check : (c : Checked) → admitted (ofEclipse q) sines ≡ c → natAbs τ ≤ 10800 → P (secondBy c (ofEclipse q) τ)
       by-check (C.Refused r) e h = refused r
       by-check C.Within e h = within (admitted-within (ofEclipse q) sines e .0) h
 
-      by-span : (b : Bool) → inSpan τ ≡ b → P (secondBy (secondChecked q τ sines) q τ)
-      by-span true e = rw (second-inside q τ sines e) (by-check (admitted (ofEclipse q) sines) refl (in-span τ e))
-      by-span false e = rw (second-outside q τ sines e) (refused (refusal 1 0))
+      by-span : (b : Bool) → inSpan τ ≡ b → P (secondBy (secondChecked (ofEclipse q) τ sines) (ofEclipse q) τ)
+      by-span true e = rw (second-inside (ofEclipse q) τ sines e) (by-check (admitted (ofEclipse q) sines) refl (in-span τ e))
+      by-span false e = rw (second-outside (ofEclipse q) τ sines e) (refused (refusal 1 0))
 
-  pub answered-sizes : AnsweredSizes (secondAnswer q τ sines)
+  pub answered-sizes : AnsweredSizes (secondAnswer (ofEclipse q) τ sines)
   answered-sizes = either AnsweredSizes (λ r. tt) (λ i h. sizes-at (q .elements) (i .body) (placeOf (q .station)) (placed (ofEclipse q) i) τ h)
 
   pub means-answer : AnswerMeans q τ (shareAnswer q τ sines)
@@ -58,6 +58,6 @@ module _ (q : Request) (τ : ℤ) (sines : List ℕ) where
       let is = share-at (q .elements) (placeOf (q .station)) τ in
       (sym is, rw (← is) (share-means q i τ h)))
 
-  pub share-by : {x : OneSecond} → x ≡ secondAnswer q τ sines → shareBy x ≡ shareAnswer q τ sines
+  pub share-by : {x : OneSecond} → x ≡ secondAnswer (ofEclipse q) τ sines → shareBy x ≡ shareAnswer q τ sines
   unfolding shareAnswer
   share-by e = ap shareBy e

@@ -5,10 +5,11 @@ use seconds::OneSecond;
 ghost use mathlib.Core.Path.{_≡_};
 ghost use Prim.Native.Nat.{_≤_};
 ghost use lib.IntN.{natAbs};
-ghost use Rattle.sine.specs.Table.{Sines};
+ghost use Rattle.sine_table.specs.Table.{Sines};
 ghost use Rattle.share.specs.Share.{share, Sizes};
 ghost use Rattle.elements.specs.Sizes.{ElementSizes};
 ghost use Rattle.station.specs.Sizes.{PlaceSizes};
+ghost use Rattle.requests.specs.Requests.{ofEclipse};
 ghost use Rattle.seconds.specs.OneSecond.{secondSines};
 ghost use Rattle.covered.specs.Covered.{shareAt};
 ghost use Rattle.covered.specs.Answer.{shareBy, shareAnswer, AnswerMeans};
@@ -56,9 +57,10 @@ pub fn of_second(second: OneSecond) -> OneShare
 // The share at second t of a request; t may lie outside its window. Refused as the second is; `sines` is room for table S.
 pub fn share(q: Request, t: i64, sines: &mut [u32]) -> OneShare
     ensures answer { λ r. ⌜ r ≡ shareAnswer q t (now (sines .entry)) ⌝ }
-    ensures sines { λ r. ⌜ now (sines .exit) ≡ secondSines q t (now (sines .entry)) ⌝ }
+    ensures sines { λ r. ⌜ now (sines .exit) ≡ secondSines (ofEclipse q) t (now (sines .entry)) ⌝ }
     ensures means { λ r. ⌜ AnswerMeans q t r ⌝ }
 {
-    let second = seconds::second(q, t, sines);
+    let o = requests::of_eclipse(q);
+    let second = seconds::second(o, t, sines);
     of_second(second)
 }

@@ -12,10 +12,10 @@ use Rattle.requests.specs.declared.Request.{Request}
 use Rattle.requests.specs.Requests.{ofEclipse}
 use Rattle.requests.specs.RequestLaws.{InLimits}
 use Rattle.seconds.specs.Seconds as Seconds
-use Rattle.contacts.specs.declared.Entry.{Entry}
-use Rattle.contacts.specs.declared.Entry.the-variants.{Enter, Leave, Graze, Open}
-use Rattle.contacts.specs.Entries.{to, entries}
-use Rattle.contacts.specs.Shifted.{shifted}
+use Rattle.contact_entries.specs.declared.Entry.{Entry}
+use Rattle.contact_entries.specs.declared.Entry.the-variants.{Enter, Leave, Graze, Open}
+use Rattle.contact_entries.specs.Entries.{to, entries}
+use Rattle.contact_entries.specs.Shifted.{shifted}
 use Rattle.kinds.specs.StoredSeconds.{stored}
 use Rattle.courses.specs.Courses.{statesOf}
 use Rattle.courses.specs.Demand3Laws.{entries-in-sheet}

@@ -5,8 +5,8 @@ use mathlib.Core.List.{List, [], _∷_}
 use Prim.Native.Nat.{ℕ}
 use Rattle.phases.specs.declared.Phase.the-variants.{Penumbra}
 use Rattle.requests.specs.declared.Occultation.{Occultation}
-use Rattle.contacts.specs.declared.Entry.{Entry}
-use Rattle.contacts.specs.declared.Entry.the-variants.{Enter, Leave, Graze, Open}
+use Rattle.contact_entries.specs.declared.Entry.{Entry}
+use Rattle.contact_entries.specs.declared.Entry.the-variants.{Enter, Leave, Graze, Open}
 use Rattle.courses.specs.Courses.{sheetOf}
 use Rattle.courses.specs.Demand3.{entriesIn}
 use Rattle.writing.specs.Sheet.{courseOf}

@@ -3,26 +3,26 @@
 ghost use mathlib.Core.Path.{_≡_};
 ghost use mathlib.Core.List.{map};
 ghost use lib.ListN.{length};
-ghost use Rattle.sine.specs.Table.{Sines};
+ghost use Rattle.sine_table.specs.Table.{Sines};
 ghost use Rattle.requests.specs.Requests.{ofEclipse};
 ghost use Rattle.requests.specs.RequestLaws.{InLimits};
 ghost use Rattle.requests.specs.Windows.{secondCount};
 ghost use Rattle.requests.specs.WindowLaws.{WindowHolds};
 ghost use Rattle.runs.specs.Runs.{decoded, Whole};
-ghost use Rattle.contacts.specs.Entries.{entries};
-ghost use Rattle.contacts.specs.Shifted.{shifted};
+ghost use Rattle.contact_entries.specs.Entries.{entries};
+ghost use Rattle.contact_entries.specs.Shifted.{shifted};
 ghost use Rattle.kinds.specs.StoredSeconds.{stored};
 ghost use Rattle.enters.specs.Enters.{isEnter, firstEnter, firstTo};
 
 // Whether an entry is an enter.
-fn is_enter(entry: contacts::Entry) -> bool
+fn is_enter(entry: contact_entries::Entry) -> bool
     ensures { λ r. ⌜ r ≡ isEnter entry ⌝ }
 {
     match entry {
-        contacts::Entry::Enter { from: _, to: _ } => true,
-        contacts::Entry::Leave { from: _, to: _ } => false,
-        contacts::Entry::Graze { from: _, to: _ } => false,
-        contacts::Entry::Open { from: _, to: _ } => false,
+        contact_entries::Entry::Enter { from: _, to: _ } => true,
+        contact_entries::Entry::Leave { from: _, to: _ } => false,
+        contact_entries::Entry::Graze { from: _, to: _ } => false,
+        contact_entries::Entry::Open { from: _, to: _ } => false,
     }
 }
 

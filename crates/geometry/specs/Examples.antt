@@ -8,7 +8,7 @@ use Rattle.phases.specs.declared.Phase.{Phase}
 use Rattle.phases.specs.declared.Phase.the-variants.{Penumbra, Central}
 use Rattle.numbers.specs.Near.{near}
 use Rattle.numbers.specs.Root.{root}
-use Rattle.sine.specs.Table.{factorial, numerator, denominator, common, term, series, S}
+use Rattle.sine_table.specs.Table.{factorial, numerator, denominator, common, term, series, S}
 use Rattle.sine.specs.FirstQuadrant.{arc, sag, between, capped, firstQuadrant}
 use Rattle.sine.specs.Sine.{reduced, sineIn, sine, cosine}
 use Rattle.elements.specs.declared.Elements.{Elements}

@@ -69,8 +69,8 @@ fn put_list(out: &mut [u8], start: usize, list: &[u32]) -> usize
 {
     let mut long = long_buffer();
     let mut short = short_buffer();
-    let written = sheets::handed::write(list, &mut long);
-    let cut = sheets::handed::write(list, &mut short);
+    let written = handed::write(list, &mut long);
+    let cut = handed::write(list, &mut short);
     let middle = put_answer(out, start, b"written ", written);
     let end = put_answer(out, middle, b" short ", cut);
     let line = decimals::put_byte(out, end, b'\n');
@@ -121,10 +121,20 @@ fn put_lists(out: &mut [u8], input: &[u8]) -> usize
     at
 }
 
+// The lists.
+fn input_room() -> [u8; 98304] {
+    [0u8; 98304]
+}
+
+// Their answers; a text that is longer is cut.
+fn lines_room() -> [u8; 655360] {
+    [0u8; 655360]
+}
+
 fn main() {
-    let mut input = [0u8; 98304];
+    let mut input = input_room();
     let length = io::read_full(STDIN_FILENO, &mut input);
-    let mut lines = [0u8; 655360];
+    let mut lines = lines_room();
     let end = put_lists(&mut lines, &input[..length]);
     let written = decimals::clipped(&lines, end);
     io::write_all(STDOUT_FILENO, &lines[..written]);

@@ -87,3 +87,15 @@ starAsked s = starBy (readingFor S.Star s)
 -- the request that was asked for, where there is one
 unfoldable pub starRequestOf : List ℕ → StarRequest
 starRequestOf s = starFrom (numbersAfter (readingFor S.Star s) [])
+
+-- ---- the station's ΔT, in hundredths of a second; 0 where nothing is asked for
+
+abbrev pub deltaFor : Asked → ℤ
+deltaFor (A.Is o) = o .station .deltat
+deltaFor (A.Refused r) = pos 0
+
+unfoldable pub deltaOf : List ℕ → ℤ
+deltaOf s = deltaFor (eclipseAsked (inputOf s))
+
+unfoldable pub starDelta : List ℕ → ℤ
+starDelta s = deltaFor (starAsked s)

@@ -56,7 +56,7 @@ module _ (i : Asked) (sines old : List ℕ) where
 
 -- of an input whose request, where there is one, is q
 module _ (i : Input) (q : Request) (is : (p : Request) → i ≡ I.Is p → p ≡ q) (shape : (x : Refusal) → i ≡ I.Refused x → x ≡ refusal 10 0) where
-  asked-is : (o : Occultation) → eclipseAsked i ≡ W.Is o → o ≡ ofEclipse q
+  pub asked-is : (o : Occultation) → eclipseAsked i ≡ W.Is o → o ≡ ofEclipse q
   asked-is o e = by i refl e
     where
       by : (j : Input) → i ≡ j → eclipseAsked j ≡ W.Is o → o ≡ ofEclipse q

@@ -8,7 +8,7 @@ ghost use mathlib.Core.Path.{_≡_};
 ghost use Prim.Native.Nat.{_+_, _≤_};
 ghost use lib.ListN.{length};
 ghost use Rattle.circumstances.specs.Demand3.{Claimed};
-ghost use Rattle.input.specs.Input.{stationFrom, windowFrom, requestFrom, requestOf, inputOf, sharing, eclipseAsked};
+ghost use Rattle.input.specs.Input.{stationFrom, windowFrom, requestFrom, requestOf, inputOf, sharing, eclipseAsked, deltaFor, deltaOf};
 ghost use Rattle.input.specs.InputLaws.{Small};
 ghost use Rattle.input.specs.Sheet.{answerTo, bufferFor, sinesFor, sharedAnswer, sharedBuffer, sharedSines};
 ghost use Rattle.input.specs.SheetLaws.{Made};
@@ -98,7 +98,7 @@ pub fn request(input: &[u8]) -> Input
 // ---- the sheet
 
 // What the bytes of an eclipse ask for.
-fn of_eclipse(input: Input) -> Asked
+pub fn of_eclipse(input: Input) -> Asked
     ensures { λ r. ⌜ r ≡ eclipseAsked input ⌝ }
 {
     match input {
@@ -159,4 +159,26 @@ pub fn sheet_and_share(input: &[u8], sines: &mut [u32], buf: &mut [u8]) -> circu
 {
     let asked = of_eclipse(with_share(request(input)));
     sheet_for(asked, sines, buf)
+}
+
+// ---- the station's ΔT, for those who print times
+
+fn deltat_of(asked: Asked) -> i64
+    ensures { λ r. ⌜ r ≡ deltaFor asked ⌝ }
+{
+    match asked {
+        Asked::Is(o) => {
+            let s = o.station;
+            s.deltat
+        }
+        Asked::Refused(_) => 0,
+    }
+}
+
+// The ΔT of the bytes' station, in hundredths of a second; 0 where they are misshaped. Any bytes.
+pub fn deltat(input: &[u8]) -> i64
+    ensures { λ r. ⌜ r ≡ deltaOf (now (input .entry)) ⌝ }
+{
+    let asked = of_eclipse(request(input));
+    deltat_of(asked)
 }

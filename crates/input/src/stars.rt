@@ -6,7 +6,7 @@ ghost use mathlib.Core.Path.{_≡_};
 ghost use Rattle.requests.specs.Requests.{ofStar};
 ghost use Rattle.request_fields.specs.declared.Shape.the-variants.{Star};
 ghost use Rattle.circumstances.specs.Demand3.{Claimed};
-ghost use Rattle.input.specs.Input.{starFrom, starAsked, starRequestOf};
+ghost use Rattle.input.specs.Input.{starFrom, starAsked, starRequestOf, starDelta};
 ghost use Rattle.input.specs.InputLaws.{Small};
 ghost use Rattle.input.specs.Sheet.{starAnswer, starBuffer, starSines};
 
@@ -28,7 +28,7 @@ fn request_from(n: &[i64]) -> StarRequest
 }
 
 // What the bytes ask for, or refusal 10. Any bytes.
-fn asked(input: &[u8]) -> Asked
+pub fn asked(input: &[u8]) -> Asked
     ensures { λ r. ⌜ r ≡ starAsked (now (input .entry)) ⌝ }
 {
     let mut numbers = [0i64; request_fields::STAR_COUNT];
@@ -54,4 +54,12 @@ pub fn sheet(input: &[u8], sines: &mut [u32], buf: &mut [u8]) -> circumstances::
 {
     let wish = asked(input);
     super::sheet_for(wish, sines, buf)
+}
+
+// The ΔT of the bytes' station, in hundredths of a second; 0 where they are misshaped. Any bytes.
+pub fn deltat(input: &[u8]) -> i64
+    ensures { λ r. ⌜ r ≡ starDelta (now (input .entry)) ⌝ }
+{
+    let wish = asked(input);
+    super::deltat_of(wish)
 }

@@ -1,18 +1,20 @@
 -- A line put part by part.
 use Prim.Native.Nat.{ℕ, _<_}
 use mathlib.Core.Path.{_≡_}
+use mathlib.Core.Bool.{true, false}
 use mathlib.Core.List.{List, [], _∷_, _++_}
 use lib.IntN.{ℤ}
 use lib.ListN.{length}
 use Rattle.refusals.specs.declared.Refusal.{Refusal}
 use Rattle.kinds.specs.declared.Kind.{Kind}
 use Rattle.kinds.specs.declared.Entry.{Entry}
+use Rattle.kinds.specs.Kinds.{isEnd}
 use Rattle.sheets.specs.declared.Extent.{Extent}
 use Rattle.sheets.specs.declared.Extent.the-variants as X
 use Rattle.decimals.specs.Texts.{letters, Put}
-use Rattle.decimals.specs.TextLaws.{put-then}
+use Rattle.decimals.specs.TextLaws.{put-nil, put-then}
 use Rattle.decimals.specs.Patterns.{filled}
-use Rattle.lines.specs.Lines.{lineFor, lineOf, numbered, refusalText, refusalLine, extentText}
+use Rattle.lines.specs.Lines.{textFor, textOf, endFor, lineOf, numbered, refusalText, refusalLine, extentText}
 
 -- a pattern filled with the same numbers
 module _ (s old : List ℕ) (at : ℕ) (new : List ℕ) (r : ℕ) where
@@ -36,11 +38,26 @@ pub put-four : (old one two third new : List ℕ) (at p q t r : ℕ) (x y z w : 
 put-four old one two third new at p q t r x y z w h f g k m =
     put-then old third new at t r (x ++ y ++ z) w h (put-three old one two third at p q t x y z h f g k) m
 
--- the line of an entry is that of its kind
+-- the text of an entry is that of its kind
 pub put-kind : (e : Entry) (k : Kind) → e .kind ≡ k → (old : List ℕ) (at : ℕ) (new : List ℕ) (r : ℕ)
-    → Put old at (lineFor k (e .a) (e .b) (e .c)) new r → Put old at (lineOf e) new r
-unfolding lineOf
+    → Put old at (textFor k (e .a) (e .b) (e .c)) new r → Put old at (textOf e) new r
+unfolding textOf
 put-kind e k q old at new r p = rw q p
+
+-- the end of its line, by the test for the end record
+module _ (k : Kind) (old : List ℕ) (at : ℕ) where
+  pub put-no-end : isEnd k ≡ true → at < 18446744073709551616 → Put old at (endFor k) old at
+  unfolding endFor
+  put-no-end b h = rw b (put-nil old at h)
+
+  pub put-line-end : isEnd k ≡ false → (new : List ℕ) (r : ℕ) → Put old at (letters "\n") new r → Put old at (endFor k) new r
+  unfolding endFor
+  put-line-end b new r p = rw b p
+
+pub put-line : (e : Entry) (old mid new : List ℕ) (at r q : ℕ) → length old < 18446744073709551616
+    → Put old at (textOf e) mid r → Put mid r (endFor (e .kind)) new q → Put old at (lineOf e) new q
+unfolding lineOf
+put-line e old mid new at r q h p w = put-then old mid new at r q (textOf e) (endFor (e .kind)) h p w
 
 pub put-refused : (number place : ℕ) (old : List ℕ) (at : ℕ) (new : List ℕ) (r : ℕ)
     → Put old at (numbered (letters "refused ") number place) new r → Put old at (refusalText number place) new r

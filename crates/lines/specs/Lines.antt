@@ -1,7 +1,8 @@
--- The lines of a listing, as bytes: document 01, "The hand-worked sheet". In a pattern # stands for a number.
+-- The lines of a listing, as bytes: document 01, "The hand-worked sheet". In a pattern # stands for a number. Up to `textOf` a line has no end.
 -- Assumes nothing: these are definitions.
 use Prim.Native.Nat.{ℕ}
 use Prim.Native.String.{String}
+use mathlib.Core.Bool.{cond}
 use mathlib.Core.List.{List, [], _∷_, _++_}
 use lib.IntN.{pos}
 use Rattle.phases.specs.declared.Phase.{Phase}
@@ -9,6 +10,7 @@ use Rattle.phases.specs.declared.Phase.the-variants.{Penumbra, Central, Star}
 use Rattle.kinds.specs.declared.Kind.{Kind}
 use Rattle.kinds.specs.declared.Kind.the-variants.{Head, Enter, Leave, Graze, Open, Closest, Share, End}
 use Rattle.kinds.specs.declared.Entry.{Entry}
+use Rattle.kinds.specs.Kinds.{isEnd}
 use Rattle.kinds.specs.StoredSeconds.{secondOf}
 use Rattle.sheets.specs.declared.Extent.{Extent}
 use Rattle.sheets.specs.declared.Extent.the-variants as X
@@ -24,37 +26,45 @@ nameOf Star = "star"
 
 -- "a head line": the station and its window
 abbrev pub headLine : ℕ → ℕ → ℕ → List ℕ
-headLine station first last = filled (pos station ∷ secondOf first ∷ secondOf last ∷ []) 0 (letters "station # from # to #\n")
+headLine station first last = filled (pos station ∷ secondOf first ∷ secondOf last ∷ []) 0 (letters "station # from # to #")
 
 -- "then each entry with from, to, direction"
 abbrev pub contactLine : List ℕ → Phase → ℕ → ℕ → ℕ → List ℕ
-contactLine word φ from to direction = word ++ letters (nameOf φ) ++ filled (secondOf from ∷ secondOf to ∷ pos direction ∷ []) 0 (letters " # # #\n")
+contactLine word φ from to direction = word ++ letters (nameOf φ) ++ filled (secondOf from ∷ secondOf to ∷ pos direction ∷ []) 0 (letters " # # #")
 
 -- "The words `graze` and `open` replace `enter` with no direction."
 abbrev pub unsureLine : List ℕ → Phase → ℕ → ℕ → List ℕ
-unsureLine word φ from to = word ++ letters (nameOf φ) ++ filled (secondOf from ∷ secondOf to ∷ []) 0 (letters " # #\n")
+unsureLine word φ from to = word ++ letters (nameOf φ) ++ filled (secondOf from ∷ secondOf to ∷ []) 0 (letters " # #")
 
 -- "last the closest second with magnitude"
 abbrev pub closestLine : ℕ → ℕ → List ℕ
-closestLine second magnitude = filled (secondOf second ∷ pos magnitude ∷ []) 0 (letters "closest # #\n")
+closestLine second magnitude = filled (secondOf second ∷ pos magnitude ∷ []) 0 (letters "closest # #")
 
 -- document 02, wish 4, as the others have it: a word and the share
 abbrev pub shareLine : ℕ → List ℕ
-shareLine covered = filled (pos covered ∷ []) 0 (letters "share #\n")
+shareLine covered = filled (pos covered ∷ []) 0 (letters "share #")
 
--- the line of a kind with its first three fields; the end record has none
-abbrev pub lineFor : Kind → ℕ → ℕ → ℕ → List ℕ
-lineFor Head a b c = headLine a b c
-lineFor (Enter φ) a b c = contactLine (letters "enter ") φ a b c
-lineFor (Leave φ) a b c = contactLine (letters "leave ") φ a b c
-lineFor (Graze φ) a b c = unsureLine (letters "graze ") φ a b
-lineFor (Open φ) a b c = unsureLine (letters "open ") φ a b
-lineFor Closest a b c = closestLine a b
-lineFor Share a b c = shareLine a
-lineFor End a b c = []
+-- the text of a kind's line with its first three fields; the end record has none
+abbrev pub textFor : Kind → ℕ → ℕ → ℕ → List ℕ
+textFor Head a b c = headLine a b c
+textFor (Enter φ) a b c = contactLine (letters "enter ") φ a b c
+textFor (Leave φ) a b c = contactLine (letters "leave ") φ a b c
+textFor (Graze φ) a b c = unsureLine (letters "graze ") φ a b
+textFor (Open φ) a b c = unsureLine (letters "open ") φ a b
+textFor Closest a b c = closestLine a b
+textFor Share a b c = shareLine a
+textFor End a b c = []
 
+unfoldable pub textOf : Entry → List ℕ
+textOf e = textFor (e .kind) (e .a) (e .b) (e .c)
+
+-- the end of a kind's line; the end record has no line
+unfoldable pub endFor : Kind → List ℕ
+endFor k = cond (isEnd k) [] (letters "\n")
+
+-- the line of an entry
 unfoldable pub lineOf : Entry → List ℕ
-lineOf e = lineFor (e .kind) (e .a) (e .b) (e .c)
+lineOf e = textOf e ++ endFor (e .kind)
 
 -- the lines of some entries
 unfoldable pub linesOf : List Entry → List ℕ

@@ -6,7 +6,7 @@ use phases::Phase;
 use sheets::Extent;
 ghost use mathlib.Core.List.{_++_};
 ghost use Rattle.decimals.specs.Texts.{letters, Put};
-ghost use Rattle.lines.specs.Lines.{nameOf, headLine, contactLine, unsureLine, closestLine, shareLine, lineOf, numbered, refusalText, refusalLine, extentText};
+ghost use Rattle.lines.specs.Lines.{nameOf, headLine, contactLine, unsureLine, closestLine, shareLine, textOf, endFor, lineOf, numbered, refusalText, refusalLine, extentText};
 
 fn put_phase(out: &mut [u8], at: usize, phase: Phase) -> usize
     ensures { λ r. ⌜ Put (now (out .entry)) at (letters (nameOf phase)) (now (out .exit)) r ⌝ }
@@ -26,7 +26,7 @@ fn put_head(out: &mut [u8], at: usize, station: u32, first: u32, last: u32) -> u
     let from = kinds::seconds::second_of(first);
     let to = kinds::seconds::second_of(last);
     let numbers = [number, from, to];
-    decimals::put_filled(out, at, b"station # from # to #\n", &numbers)
+    decimals::put_filled(out, at, b"station # from # to #", &numbers)
 }
 
 // An enter or a leave: "each entry with from, to, direction".
@@ -47,7 +47,7 @@ fn put_contact(
     let end = kinds::seconds::second_of(to);
     let angle = direction as i64;
     let numbers = [start, end, angle];
-    decimals::put_filled(out, next, b" # # #\n", &numbers)
+    decimals::put_filled(out, next, b" # # #", &numbers)
 }
 
 // A graze or an open: "with no direction".
@@ -59,7 +59,7 @@ fn put_unsure(out: &mut [u8], at: usize, word: &[u8], phase: Phase, from: u32, t
     let start = kinds::seconds::second_of(from);
     let end = kinds::seconds::second_of(to);
     let numbers = [start, end];
-    decimals::put_filled(out, next, b" # #\n", &numbers)
+    decimals::put_filled(out, next, b" # #", &numbers)
 }
 
 // "last the closest second with magnitude"
@@ -69,7 +69,7 @@ fn put_closest(out: &mut [u8], at: usize, second: u32, magnitude: u32) -> usize
     let when = kinds::seconds::second_of(second);
     let millionths = magnitude as i64;
     let numbers = [when, millionths];
-    decimals::put_filled(out, at, b"closest # #\n", &numbers)
+    decimals::put_filled(out, at, b"closest # #", &numbers)
 }
 
 // The covered share in millionths.
@@ -78,12 +78,12 @@ fn put_share(out: &mut [u8], at: usize, share: u32) -> usize
 {
     let millionths = share as i64;
     let numbers = [millionths];
-    decimals::put_filled(out, at, b"share #\n", &numbers)
+    decimals::put_filled(out, at, b"share #", &numbers)
 }
 
-// The line of an entry. A new kind is an arm here and a row of `lineFor`.
-pub fn put_entry(out: &mut [u8], at: usize, entry: Entry) -> usize
-    ensures { λ r. ⌜ Put (now (out .entry)) at (lineOf entry) (now (out .exit)) r ⌝ }
+// The text of an entry's line, without its end. A new kind is an arm here and a row of `textFor`.
+pub fn put_entry_text(out: &mut [u8], at: usize, entry: Entry) -> usize
+    ensures { λ r. ⌜ Put (now (out .entry)) at (textOf entry) (now (out .exit)) r ⌝ }
 {
     let kind = entry.kind;
     let a = entry.a;
@@ -99,6 +99,25 @@ pub fn put_entry(out: &mut [u8], at: usize, entry: Entry) -> usize
         Kind::Share => put_share(out, at, a),
         Kind::End => at,
     }
+}
+
+// The end of a kind's line; the end record has no line.
+pub fn put_end(out: &mut [u8], at: usize, kind: Kind) -> usize
+    ensures { λ r. ⌜ Put (now (out .entry)) at (endFor kind) (now (out .exit)) r ⌝ }
+{
+    if kinds::is_end(kind) {
+        return at;
+    }
+    decimals::put_byte(out, at, b'\n')
+}
+
+// The line of an entry.
+pub fn put_entry(out: &mut [u8], at: usize, entry: Entry) -> usize
+    ensures { λ r. ⌜ Put (now (out .entry)) at (lineOf entry) (now (out .exit)) r ⌝ }
+{
+    let end = put_entry_text(out, at, entry);
+    let kind = entry.kind;
+    put_end(out, end, kind)
 }
 
 // A word and two numbers.

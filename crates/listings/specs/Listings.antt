@@ -2,7 +2,10 @@
 -- Assumes nothing: these are definitions.
 use Prim.Native.Nat.{ℕ}
 use mathlib.Core.List.{List}
+use lib.IntN.{ℤ}
 use Rattle.sheets.specs.Sheets.{Sheet, sheet, refused, readWhole}
+use Rattle.clock.specs.declared.Clock.{Clock}
+use Rattle.clock.specs.Clock.{timedLines}
 use Rattle.lines.specs.Lines.{linesOf, refusalLine}
 use Rattle.listings.specs.Answers.{Told, text, withheld}
 
@@ -14,6 +17,14 @@ listingOf (refused r) = withheld r
 -- the listing of the sheet that some bytes are
 unfoldable pub told : List ℕ → Told
 told bytes = listingOf (readWhole bytes)
+
+-- docs/CLOCK.md: with clock times "it is the sheet's own listing", its lines by the clock and the station's ΔT
+abbrev pub timedOf : Clock → ℤ → Sheet → Told
+timedOf k d (sheet es n) = text (timedLines k d es)
+timedOf k d (refused r) = withheld r
+
+unfoldable pub timed : Clock → ℤ → List ℕ → Told
+timed k d bytes = timedOf k d (readWhole bytes)
 
 -- "A refusal prints `refused`, number, place."
 abbrev pub printed : Told → List ℕ

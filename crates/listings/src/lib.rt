@@ -1,4 +1,5 @@
-// The listing of a sheet as text, as document 01 has it: a line an entry.
+// The listing of a sheet as text, as document 01 has it: a line an entry; and with clock times.
+use clock::Clock;
 use records::Record;
 use refusals::Refusal;
 use sheets::Extent;
@@ -8,7 +9,7 @@ ghost use Rattle.sheets.specs.Sheets.{readSheet};
 ghost use Rattle.decimals.specs.Texts.{Put};
 ghost use Rattle.lines.specs.Lines.{refusalLine};
 ghost use Rattle.listings.specs.Answers.{text, answered, roomWith};
-ghost use Rattle.listings.specs.Listings.{listingOf, told, printed};
+ghost use Rattle.listings.specs.Listings.{listingOf, told, timed, printed};
 ghost use Rattle.listings.specs.ListingLaws.{IsSheet, Laid};
 
 // How many bytes a text has that was written, or why none was.
@@ -17,10 +18,10 @@ pub enum Text {
     Refused(Refusal),
 }
 
-// The lines of the sheet that `sheet` begins with, from `start` on, as far as the room goes.
-fn put_lines(sheet: &[u8], out: &mut [u8], start: usize) -> usize
+// The lines of the sheet that `sheet` begins with, by the clock, from `start` on, as far as the room goes.
+fn put_lines(sheet: &[u8], out: &mut [u8], start: usize, clock: Clock, deltat: i64) -> usize
     requires { ⌜ IsSheet (readSheet (now sheet)) ⌝ }
-    ensures { λ r. ⌜ Laid (readSheet (now (sheet .entry))) (now (out .entry)) start (now (out .exit)) r ⌝ }
+    ensures { λ r. ⌜ Laid clock deltat (readSheet (now (sheet .entry))) (now (out .entry)) start (now (out .exit)) r ⌝ }
 {
     let mut from = 0;
     let mut at = start;
@@ -28,7 +29,7 @@ fn put_lines(sheet: &[u8], out: &mut [u8], start: usize) -> usize
         let Record::Is(entry, next) = records::bytes::record_at(sheet, from) else {
             return at;
         };
-        at = lines::put_entry(out, at, entry);
+        at = clock::put_entry(out, at, entry, clock, deltat);
         let kind = entry.kind;
         if kinds::is_end(kind) {
             return at;
@@ -44,14 +45,14 @@ fn lay(sheet: &[u8], out: &mut [u8]) -> Text
     ensures { λ r. ⌜ now (out .exit) ≡ roomWith (listingOf (readSheet (now (sheet .entry)))) (now (out .entry)) ⌝ }
 {
     let mut none = [0u8; 0];
-    let need = put_lines(sheet, &mut none, 0);
+    let need = put_lines(sheet, &mut none, 0, Clock::Off, 0);
     if out.len() < need {
         return Text::Refused(Refusal {
             number: 4,
             place: need,
         });
     }
-    put_lines(sheet, out, 0);
+    put_lines(sheet, out, 0, Clock::Off, 0);
     Text::Written(need)
 }
 
@@ -78,10 +79,16 @@ fn put_refused(out: &mut [u8], at: usize, refusal: Refusal) -> usize
     lines::put_refusal_line(out, at, number, place)
 }
 
-// What program `listing` prints of some bytes: the listing of the sheet that they are, or the line of their refusal. It stands
-// at a place of the room, as far as the room goes; and the place after it.
-pub fn put_listing(out: &mut [u8], at: usize, sheet: &[u8]) -> usize
-    ensures { λ r. ⌜ Put (now (out .entry)) at (printed (told (now (sheet .entry)))) (now (out .exit)) r ⌝ }
+// What is printed of some bytes: the listing of the sheet that they are, with times by the clock, or the line of their refusal. It stands at a
+// place of the room, as far as the room goes; and the place after it. `deltat` is the station's ΔT in hundredths of a second.
+pub fn put_timed_listing(
+    out: &mut [u8],
+    at: usize,
+    sheet: &[u8],
+    clock: Clock,
+    deltat: i64,
+) -> usize
+    ensures { λ r. ⌜ Put (now (out .entry)) at (printed (timed clock deltat (now (sheet .entry)))) (now (out .exit)) r ⌝ }
 {
     let found = sheets::extent_of_sheet(sheet);
     match found {
@@ -89,8 +96,15 @@ pub fn put_listing(out: &mut [u8], at: usize, sheet: &[u8]) -> usize
         Extent::Sheet {
             entries: _,
             length: _,
-        } => put_lines(sheet, out, at),
+        } => put_lines(sheet, out, at, clock, deltat),
     }
+}
+
+// What program `listing` prints of some bytes: the same with no times.
+pub fn put_listing(out: &mut [u8], at: usize, sheet: &[u8]) -> usize
+    ensures { λ r. ⌜ Put (now (out .entry)) at (printed (told (now (sheet .entry)))) (now (out .exit)) r ⌝ }
+{
+    put_timed_listing(out, at, sheet, Clock::Off, 0)
 }
 
 // The line of a refusal, at the room's start, and how long it is; or 4, and the room as it was.

@@ -18,7 +18,7 @@ use Rattle.records.specs.EntryLaws.{bytes-nil, length-bytes-cons}
 use Rattle.records.specs.RecordLaws.{record-bounds}
 use Rattle.kinds.specs.declared.Stage.{Stage}
 use Rattle.kinds.specs.declared.Stage.the-variants as S
-use Rattle.rules.specs.Order.{closestCame, closestOrShareCame}
+use Rattle.order.specs.Order.{closestCame, closestOrShareCame}
 use Rattle.rules.specs.Rules.{start, afterKind, afterOf, kindInOrder}
 use Rattle.sheets.specs.Sheets.{Sheet, sheet, refused, storedAt, readSheet}
 use Rattle.sheets.specs.SheetLaws.{read-start}

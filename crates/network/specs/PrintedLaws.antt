@@ -7,8 +7,8 @@ use borrow.Author.Tests.{lt-ltb, le-ltb}
 use lib.IntN.{ℤ}
 use lib.ListN.{length, getD, take}
 use lib.Seq.{getD-take, length-take-le}
-use Rattle.sine.specs.Table.{Sines}
-use Rattle.sine.specs.RoomLaws.{filled-sines}
+use Rattle.sine_table.specs.Table.{Sines}
+use Rattle.sine_table.specs.RoomLaws.{filled-sines}
 use Rattle.refusals.specs.declared.Refusal.{Refusal}
 use Rattle.refusals.specs.declared.Checked.{Checked}
 use Rattle.refusals.specs.declared.Checked.the-variants as C

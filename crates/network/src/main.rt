@@ -14,7 +14,7 @@ ghost use mathlib.Core.Path.{_≡_};
 ghost use mathlib.Core.List.{List};
 ghost use Prim.Native.Nat.{_≤_};
 ghost use lib.ListN.{length, take};
-ghost use Rattle.sine.specs.Table.{Sines};
+ghost use Rattle.sine_table.specs.Table.{Sines};
 ghost use Rattle.nodes.specs.declared.Node.{Node};
 ghost use Rattle.nodes.specs.Nodes.{Holds};
 ghost use Rattle.networks.specs.CheckLaws.{AllWithin};
@@ -174,14 +174,22 @@ fn respond(text: &[u8], out: &mut [u8], message: &mut [u8]) -> Streams
     }
 }
 
+// A byte more than is taken, so that a longer text is seen.
+fn text_room() -> [u8; 65537] {
+    [0u8; 65537]
+}
+
+// No message is longer: its word is a part of the text.
+fn message_room() -> [u8; 65_623] {
+    [0u8; 65_623]
+}
+
 fn main() {
-    // a byte more than is taken, so that a longer text is seen
-    let mut text = [0u8; 65537];
+    let mut text = text_room();
     let length = io::read_full(STDIN_FILENO, &mut text);
     // 64 lines of `station 999 steps 64`, and one of `first 999 to -10800`
     let mut lines = [0u8; 2048];
-    // no message is longer: its word is a part of the text
-    let mut message = [0u8; 65_623];
+    let mut message = message_room();
     let streams = respond(&text[..length], &mut lines, &mut message);
     let output = decimals::clipped(&lines, streams.output);
     let error = decimals::clipped(&message, streams.error);

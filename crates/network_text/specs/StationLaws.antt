@@ -16,7 +16,7 @@ use Rattle.words.specs.TextLaws.{rest-is, run-le}
 use Rattle.request_text.specs.declared.Fault as R
 use Rattle.request_text.specs.declared.Line.{Line}
 use Rattle.request_text.specs.declared.Line.the-variants as L
-use Rattle.request_text.specs.Lines.{valueOf}
+use Rattle.request_text.specs.Lines.{valueOf, wordIn, afterWord}
 use Rattle.request_text.specs.LineLaws.{value-room}
 use Rattle.request_text.specs.Typing.{InRoom}
 use Rattle.network_text.specs.declared.Fault.{Fault}
@@ -25,7 +25,7 @@ use Rattle.network_text.specs.declared.Word.{Word}
 use Rattle.network_text.specs.declared.Word.the-variants as W
 use Rattle.network_text.specs.declared.Told.{Told}
 use Rattle.network_text.specs.declared.Told.the-variants as T
-use Rattle.network_text.specs.Stations.{fieldOf, faultOf, byValue, wordOf, amountOf, onward, wordIn, afterWord, nodeOf, wordsFrom, stationOf}
+use Rattle.network_text.specs.Stations.{fieldOf, faultOf, byValue, wordOf, amountOf, onward, nodeOf, wordsFrom, stationOf}
 
 -- ---- the number of a request that a word is
 

@@ -5,15 +5,15 @@ use mathlib.Core.Bool.{cond}
 use mathlib.Core.List.{List, [], _∷_, _++_}
 use lib.Dec.{eqb, ltb}
 use lib.IntN.{ℤ, pos}
-use lib.ListN.{getD, take, drop}
+use lib.ListN.{getD}
 use Rattle.nodes.specs.declared.Node.{Node}
 use Rattle.request_fields.specs.declared.Shape.the-variants as S
 use Rattle.words.specs.declared.Class.the-variants as C
-use Rattle.words.specs.Text.{runOf, allOf}
+use Rattle.words.specs.Text.{allOf}
 use Rattle.request_text.specs.declared.Fault as R
 use Rattle.request_text.specs.declared.Line.{Line}
 use Rattle.request_text.specs.declared.Line.the-variants as L
-use Rattle.request_text.specs.Lines.{valueOf, valued}
+use Rattle.request_text.specs.Lines.{valueOf, wordIn, afterWord}
 use Rattle.network_text.specs.declared.Fault.{Fault}
 use Rattle.network_text.specs.declared.Fault.the-variants as F
 use Rattle.network_text.specs.declared.Word.{Word}
@@ -45,13 +45,6 @@ amountOf (W.Faulty f) = pos 0
 abbrev pub onward : Word → Told → Told
 onward (W.Is z) r = r
 onward (W.Faulty f) r = T.Faulty f
-
--- the first word of a text, empty where there is none, and what stands after it
-abbrev pub wordIn : List ℕ → List ℕ
-wordIn s = take (runOf C.Word (valued s)) (valued s)
-
-abbrev pub afterWord : List ℕ → List ℕ
-afterWord s = drop (runOf C.Word (valued s)) (valued s)
 
 abbrev pub nodeOf : List ℤ → Node
 nodeOf vs =

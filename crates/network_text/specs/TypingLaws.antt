@@ -23,7 +23,7 @@ use Rattle.request_text.specs.declared.Found.{Found}
 use Rattle.request_text.specs.declared.Found.the-variants as F
 use Rattle.request_text.specs.declared.Noted.{Noted}
 use Rattle.request_text.specs.Names.{names, findIn}
-use Rattle.request_text.specs.Lines.{said, meaningOf}
+use Rattle.request_text.specs.Lines.{said, wordIn, afterWord, meaningOf}
 use Rattle.request_text.specs.LineLaws.{meaning-room}
 use Rattle.request_text.specs.Typing as typing
 use Rattle.request_text.specs.TypingLaws.{Noting}
@@ -148,7 +148,7 @@ module _ (m : ℕ) where
   words-room : (n k : ℕ) (vs : List ℤ) (s : List ℕ) → InRoom m (station.wordsFrom n k vs s)
   unfolding station.wordsFrom
   words-room zero k vs s = either (allOf C.Blank s) _ _ tt tt
-  words-room (suc n) k vs s = onward-room (station.wordOf k (station.wordIn s)) _ (words-room n (k + 1) _ (station.afterWord s))
+  words-room (suc n) k vs s = onward-room (station.wordOf k (wordIn s)) _ (words-room n (k + 1) _ (afterWord s))
 
   station-room : (s : List ℕ) → InRoom m (stationOf s)
   unfolding station.stationOf

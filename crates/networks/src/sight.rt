@@ -4,7 +4,7 @@ use nodes::Held;
 ghost use mathlib.Core.Path.{_≡_};
 ghost use Prim.Native.Nat.{_≤_};
 ghost use lib.ListN.{length, take};
-ghost use Rattle.sine.specs.Table.{Sines};
+ghost use Rattle.sine_table.specs.Table.{Sines};
 ghost use Rattle.networks.specs.Network.{tosOf, named};
 ghost use Rattle.networks.specs.CheckLaws.{AllWithin};
 

@@ -6,7 +6,7 @@ ghost use mathlib.Core.Path.{_≡_};
 ghost use Prim.Native.Nat.{_+_, _≤_};
 ghost use lib.ListN.{length};
 ghost use Rattle.request_bytes.specs.Layout.{signed};
-ghost use Rattle.sine.specs.Table.{Sines};
+ghost use Rattle.sine_table.specs.Table.{Sines};
 ghost use Rattle.station.specs.Sizes.{StationSizes};
 ghost use Rattle.decimals.specs.Texts.{Put};
 ghost use Rattle.places.specs.Printed.{numberAt, placeLine, refusedLine, stationLine, recordLine, printed};
@@ -95,7 +95,7 @@ fn put_stations(out: &mut [u8], table: &[u32], input: &[u8]) -> usize
 
 fn main() {
     let mut table = [0u32; 901];
-    sine::fill(&mut table);
+    sine_table::fill(&mut table);
     let mut input = io::buffer();
     let length = io::read_full(STDIN_FILENO, &mut input);
     // 512 lines of 46 bytes at most

@@ -87,11 +87,15 @@ fn put_doubles(out: &mut [u8], input: &[u8]) -> usize
     at
 }
 
+// 2048 lines of 63 bytes at most.
+fn lines_room() -> [u8; 131072] {
+    [0u8; 131072]
+}
+
 fn main() {
     let mut input = [0u8; 16384];
     let length = io::read_full(STDIN_FILENO, &mut input);
-    // 2048 lines of 63 bytes at most
-    let mut lines = [0u8; 131072];
+    let mut lines = lines_room();
     let end = put_doubles(&mut lines, &input[..length]);
     let written = decimals::clipped(&lines, end);
     io::write_all(STDOUT_FILENO, &lines[..written]);

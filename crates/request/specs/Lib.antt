@@ -1,4 +1,2 @@
-pub mod Encoded
-pub mod EncodedLaws
 pub mod Streams
 pub mod StreamLaws

@@ -12,7 +12,7 @@ use Rattle.words.specs.Text.{runOf, linesOf}
 use Rattle.words.specs.Numbers.{appended, isNumber, isWhole, amount}
 use Rattle.request_text.specs.Names.{names, named, findIn}
 use Rattle.request_text.specs.Shapes.{shapeIn, shapeOf}
-use Rattle.request_text.specs.Lines.{withSign, fitted, valueOf, ofValue, ofName, meaningOf}
+use Rattle.request_text.specs.Lines.{withSign, fitted, valueOf, ofValue, ofName, meaningOf, numberIn}
 
 abbrev lines : List String
 lines =
@@ -33,6 +33,12 @@ pub star-meanings : map (λ (l : String). meaningOf S.Star (letters l)) ("radius
     ≡ L.Given 12 (pos 27228100) ∷ L.Given 9 (pos 359144993) ∷ L.Given 20 (pos 100) ∷ L.Faulty Fault.Unknown ∷ []
 unfolding holds rows rowAt runOf linesOf appended isNumber isWhole amount names named findIn withSign fitted valueOf ofValue ofName meaningOf
 star-meanings = refl
+
+-- a line that names the instant gives no number; a name that only begins so is no name
+pub instant-lines : map (λ (l : String). numberIn S.Eclipse (letters l)) ("instant 2017-08-21 18:00:00 ET" ∷ "\tinstant# x" ∷ "instants 1" ∷ "x0 1" ∷ [])
+    ≡ L.Nothing ∷ L.Nothing ∷ L.Faulty Fault.Unknown ∷ L.Given 0 (pos 100000000) ∷ []
+unfolding holds rows rowAt runOf linesOf appended isNumber isWhole amount names named findIn withSign fitted valueOf ofValue ofName meaningOf numberIn
+instant-lines = refl
 
 pub shapes : map (λ (t : String). shapeOf (letters t)) ("x0 1\n\tradius\n" ∷ "x0 1 # radius 2\nradiuses 1\n" ∷ []) ≡ S.Star ∷ S.Eclipse ∷ []
 unfolding shapeOf shapeIn runOf linesOf named

@@ -19,8 +19,8 @@ use Rattle.request_text.specs.declared.Line.{Line}
 use Rattle.request_text.specs.declared.Line.the-variants as L
 use Rattle.request_text.specs.declared.Noted.{Noted}
 use Rattle.request_text.specs.declared.Noted.the-variants as N
-use Rattle.request_text.specs.Lines.{said, meaningOf}
-use Rattle.request_text.specs.LineLaws.{InFields, meaning-in}
+use Rattle.request_text.specs.Lines.{said, numberIn}
+use Rattle.request_text.specs.LineLaws.{InFields, number-in}
 use Rattle.request_text.specs.Typing.{notedOf, marksAfter, numbersAfter, missing, Typing, given, onward, required, untyped, readLines, typingOf}
 use Rattle.request_text.specs.TypingLaws.{read-end, read-line, untyped-is}
 
@@ -65,8 +65,8 @@ lines-fit : (shape : Shape) (ls : List (List ℕ)) (i : ℕ) (ns : List ℤ) (ma
 lines-fit shape [] i ns marks out f e =
     subst (Fit shape) (same-numbers ns out (onward-taken (missing 0 (take (required shape) marks)) i (given ns) out (sym (read-end shape i ns marks) ∙ e))) f
 lines-fit shape (l ∷ ls) i ns marks out f e =
-    let m = meaningOf shape l in
-    lines-fit shape ls (i + 1) (numbersAfter m marks ns) (marksAfter m marks) out (fit-line shape (said l) m marks ns (meaning-in shape l) f)
+    let m = numberIn shape l in
+    lines-fit shape ls (i + 1) (numbersAfter m marks ns) (marksAfter m marks) out (fit-line shape (said l) m marks ns (number-in shape l) f)
     (onward-taken (notedOf m marks) i (readLines shape ls (i + 1) (numbersAfter m marks ns) (marksAfter m marks)) out (sym (read-line shape l ls i ns marks) ∙ e))
 
 -- zeros and the guard that is left out

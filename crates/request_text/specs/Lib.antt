@@ -8,4 +8,5 @@ pub mod Typing
 pub mod TypingLaws
 pub mod FitLaws
 pub mod OneShape
+pub mod Beside
 pub mod Examples

@@ -29,7 +29,7 @@ use Rattle.request_text.specs.declared.Line.{Line}
 use Rattle.request_text.specs.declared.Line.the-variants as L
 use Rattle.request_text.specs.Names.{names, named, findIn}
 use Rattle.request_text.specs.NameLaws.{found-at}
-use Rattle.request_text.specs.Lines.{withSign, fitted, valueOf, valued, ofValue, ofFound, ofName, said, meaningOf}
+use Rattle.request_text.specs.Lines.{withSign, fitted, valueOf, valued, ofValue, ofFound, ofName, said, meaningOf, namesInstant, numberIn}
 use Rattle.request_text.specs.Typing.{InRoom}
 
 -- ---- a number with its sign
@@ -194,3 +194,23 @@ module _ (shape : Shape) where
 
   pub meaning-room : (l : List ℕ) (line : Line) (n : ℕ) → line ≡ meaningOf shape l → n ≡ countOf shape → InRoom n line
   meaning-room l line n e c = rw (e, c) (in-room shape (said l) (meaningOf shape l) (meaning-in l))
+
+  -- ---- a line of a request
+  pub number-in : (l : List ℕ) → InFields shape (said l) (numberIn shape l)
+  unfolding numberIn
+  number-in l = by (namesInstant l)
+    where
+      by : (b : Bool) → InFields shape (said l) (cond b L.Nothing (meaningOf shape l))
+      by true = tt
+      by false = meaning-in l
+
+  pub number-room : (l : List ℕ) (line : Line) (n : ℕ) → line ≡ numberIn shape l → n ≡ countOf shape → InRoom n line
+  number-room l line n e c = rw (e, c) (in-room shape (said l) (numberIn shape l) (number-in l))
+
+  pub number-none : (l : List ℕ) → namesInstant l ≡ true → L.Nothing ≡ numberIn shape l
+  unfolding numberIn
+  number-none l e = rw e
+
+  pub number-said : (l : List ℕ) → namesInstant l ≡ false → meaningOf shape l ≡ numberIn shape l
+  unfolding numberIn
+  number-said l e = rw e

@@ -1,7 +1,7 @@
 -- What a line of a typed request says: a number of the request and its value in whole units.
 -- Assumes nothing: these are definitions.
 use Prim.Native.Nat.{ℕ}
-use mathlib.Core.Bool.{cond}
+use mathlib.Core.Bool.{Bool, cond}
 use mathlib.Core.List.{List}
 use lib.Dec.{eqb}
 use lib.IntN.{ℤ, pos, negℤ}
@@ -9,7 +9,7 @@ use lib.ListN.{length, take, drop}
 use Rattle.request_fields.specs.declared.Shape.{Shape}
 use Rattle.request_fields.specs.declared.Width.{Width}
 use Rattle.request_fields.specs.Fields.{holds}
-use Rattle.request_fields.specs.Rows.{decimalsOf, widthOf}
+use Rattle.request_fields.specs.Rows.{letters, decimalsOf, widthOf}
 use Rattle.words.specs.declared.Class.the-variants as C
 use Rattle.words.specs.Text.{runOf, allOf, startOf}
 use Rattle.words.specs.Numbers.{isNumber, isWhole, amount}
@@ -18,7 +18,7 @@ use Rattle.request_text.specs.declared.Found.the-variants as F
 use Rattle.request_text.specs.declared.Fault.the-variants as Fault
 use Rattle.request_text.specs.declared.Line.{Line}
 use Rattle.request_text.specs.declared.Line.the-variants as L
-use Rattle.request_text.specs.Names.{names, findIn}
+use Rattle.request_text.specs.Names.{names, named, findIn}
 
 -- n, below zero where `minus` is 1
 unfoldable pub withSign : ℕ → ℕ → ℤ
@@ -38,6 +38,13 @@ valueOf shape k w =
 -- what follows a name: blanks, the value, and nothing but blanks
 abbrev pub valued : List ℕ → List ℕ
 valued s = drop (runOf C.Blank s) s
+
+-- the first word of a text, empty where there is none, and what stands after it
+abbrev pub wordIn : List ℕ → List ℕ
+wordIn s = take (runOf C.Word (valued s)) (valued s)
+
+abbrev pub afterWord : List ℕ → List ℕ
+afterWord s = drop (runOf C.Word (valued s)) (valued s)
 
 unfoldable pub ofValue : Shape → ℕ → List ℕ → Line
 ofValue shape k s =
@@ -59,3 +66,10 @@ said l = drop (runOf C.Blank (content l)) (content l)
 
 unfoldable pub meaningOf : Shape → List ℕ → Line
 meaningOf shape l = cond (eqb (length (said l)) 0) L.Nothing (ofName shape (said l))
+
+-- a line named `instant` gives the date and time of second 0, which is no number of the request: it is read by itself (`instants`)
+abbrev pub namesInstant : List ℕ → Bool
+namesInstant l = named (letters "instant") (said l)
+
+unfoldable pub numberIn : Shape → List ℕ → Line
+numberIn shape l = cond (namesInstant l) L.Nothing (meaningOf shape l)

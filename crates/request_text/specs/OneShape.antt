@@ -23,8 +23,8 @@ use Rattle.request_text.specs.declared.Noted.{Noted}
 use Rattle.request_text.specs.declared.Noted.the-variants as N
 use Rattle.request_text.specs.Names.{names, named, findIn}
 use Rattle.request_text.specs.NameLaws.{find-none, find-miss, named-length}
-use Rattle.request_text.specs.Lines.{said, meaningOf}
-use Rattle.request_text.specs.LineLaws.{InFields, meaning-some, meaning-in, field-none}
+use Rattle.request_text.specs.Lines.{said, numberIn}
+use Rattle.request_text.specs.LineLaws.{InFields, meaning-some, number-in, number-said, field-none}
 use Rattle.request_text.specs.Shapes.{shapeIn, shapeOf}
 use Rattle.request_text.specs.ShapeLaws.{shape-none, shape-hit, shape-miss}
 use Rattle.request_text.specs.Typing.{notedOf, marksAfter, numbersAfter, missing, Typing, given, refused, onward, untyped, readLines, typingOf}
@@ -66,10 +66,19 @@ nowhere ((c ∷ n) ∷ ns) k (x ∷ s) t e = by (eqb c 114) refl t (λ u. nowher
     by true q u go = absurd u
     by false q u go = find-miss (c ∷ n) ns k (x ∷ s) (rw (ne-eqb x c (λ r. eqb-false c 114 q (sym r ∙ x-is)))) ∙ go u
 
-unknown : (l : List ℕ) → named radius (said l) ≡ true → meaningOf S.Eclipse l ≡ L.Faulty Fault.Unknown
+-- and no instant
+pub no-instant : (s : List ℕ) → named (letters "radius") s ≡ true → named (letters "instant") s ≡ false
+unfolding named
+no-instant [] e = refl
+no-instant (x ∷ s) e =
+    let r : x ≡ 114 = eqb-true x 114 (both (eqb x 114) (named (letters "adius") s) e .0) in
+    rw (ne-eqb x 105 (λ q. omega arith))
+
+unknown : (l : List ℕ) → named radius (said l) ≡ true → numberIn S.Eclipse l ≡ L.Faulty Fault.Unknown
 unknown l e =
     sym (field-none S.Eclipse (said l) (nowhere (names S.Eclipse) 0 (said l) all-others e)
-    ∙ meaning-some S.Eclipse l (said l) refl (λ q. omega (arith, named-length radius (said l) e)))
+    ∙ meaning-some S.Eclipse l (said l) refl (λ q. omega (arith, named-length radius (said l) e))
+    ∙ number-said S.Eclipse l (no-instant (said l) e))
 
 eclipse-lines : (ls : List (List ℕ)) (i : ℕ) (ns : List ℤ) (marks : List ℕ) (out : List ℤ) → readLines S.Eclipse ls i ns marks ≡ given out
     → shapeIn ls ≡ S.Eclipse
@@ -77,7 +86,7 @@ eclipse-lines [] i ns marks out e = shape-none
 eclipse-lines (l ∷ ls) i ns marks out e = by (named radius (said l)) refl (λ q. eclipse-lines ls (i + 1) _ _ out q)
   where
     m : Line
-    m = meaningOf S.Eclipse l
+    m = numberIn S.Eclipse l
 
     rest : Typing
     rest = readLines S.Eclipse ls (i + 1) (numbersAfter m marks ns) (marksAfter m marks)
@@ -136,7 +145,7 @@ star-lines [] i ns marks out u e = by (missing 0 (take 20 marks)) refl (sym (rea
 star-lines (l ∷ ls) i ns marks out u e = by (named radius (said l)) refl (λ v q. star-lines ls (i + 1) _ _ out v q)
   where
     m : Line
-    m = meaningOf S.Star l
+    m = numberIn S.Star l
 
     rest : Typing
     rest = readLines S.Star ls (i + 1) (numbersAfter m marks ns) (marksAfter m marks)
@@ -145,7 +154,7 @@ star-lines (l ∷ ls) i ns marks out u e = by (named radius (said l)) refl (λ v
     by true y go = shape-hit l ls y
     by false y go =
         shape-miss l ls y
-        ∙ go (unmarked m (said l) marks (meaning-in S.Star l) y u) (onward-taken (notedOf m marks) i rest out (sym (read-line S.Star l ls i ns marks) ∙ e))
+        ∙ go (unmarked m (said l) marks (number-in S.Star l) y u) (onward-taken (notedOf m marks) i rest out (sym (read-line S.Star l ls i ns marks) ∙ e))
 
 -- ---- the theorem
 

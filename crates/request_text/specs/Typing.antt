@@ -17,7 +17,7 @@ use Rattle.request_text.specs.declared.Noted.{Noted}
 use Rattle.request_text.specs.declared.Noted.the-variants as N
 use Rattle.request_text.specs.declared.Typed.{Typed}
 use Rattle.request_text.specs.declared.Typed.the-variants as T
-use Rattle.request_text.specs.Lines.{meaningOf}
+use Rattle.request_text.specs.Lines.{numberIn}
 
 -- a line is taken, but not where its name was given before: a field that was given is marked 1
 abbrev pub notedOf : Line → List ℕ → Noted
@@ -61,7 +61,7 @@ untyped shape = replicate (required shape) (pos 0) ++ pos 16 ∷ []
 unfoldable pub readLines : Shape → List (List ℕ) → ℕ → List ℤ → List ℕ → Typing
 readLines shape [] i ns marks = onward (missing 0 (take (required shape) marks)) i (given ns)
 readLines shape (l ∷ ls) i ns marks =
-    let line = meaningOf shape l in
+    let line = numberIn shape l in
     onward (notedOf line marks) i (readLines shape ls (i + 1) (numbersAfter line marks ns) (marksAfter line marks))
 
 -- a text, as one that asks about an eclipse or about a star

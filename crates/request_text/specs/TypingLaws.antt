@@ -20,7 +20,7 @@ use Rattle.request_text.specs.declared.Noted.{Noted}
 use Rattle.request_text.specs.declared.Noted.the-variants as N
 use Rattle.request_text.specs.declared.Typed.{Typed}
 use Rattle.request_text.specs.declared.Typed.the-variants as T
-use Rattle.request_text.specs.Lines.{meaningOf}
+use Rattle.request_text.specs.Lines.{numberIn}
 use Rattle.request_text.specs.Typing.{notedOf, marksAfter, numbersAfter, missing, Typing, given, refused, onward, required, untyped, readLines, typingOf, answerOf, numbersFrom}
 
 -- ---- the fields given so far
@@ -79,8 +79,8 @@ module _ (shape : Shape) where
 
   pub read-line : (l : List ℕ) (ls : List (List ℕ)) (i : ℕ) (ns : List ℤ) (marks : List ℕ)
       → readLines shape (l ∷ ls) i ns marks
-      ≡ onward (notedOf (meaningOf shape l) marks) i
-      (readLines shape ls (i + 1) (numbersAfter (meaningOf shape l) marks ns) (marksAfter (meaningOf shape l) marks))
+      ≡ onward (notedOf (numberIn shape l) marks) i
+      (readLines shape ls (i + 1) (numbersAfter (numberIn shape l) marks ns) (marksAfter (numberIn shape l) marks))
   unfolding readLines
   read-line l ls i ns marks = refl
 
@@ -138,7 +138,7 @@ module _ (shape : Shape) (text marks : List ℕ) (ns : List ℤ) (at i : ℕ) (w
     line = lineAt text at n h e
 
     abbrev pub told : Line
-    told = meaningOf shape line
+    told = numberIn shape line
 
     abbrev rest : Typing
     rest = readLines shape (linesOf (drop (at + n + 1) text)) (i + 1) (numbersAfter told marks ns) (marksAfter told marks)

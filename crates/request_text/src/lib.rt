@@ -1,4 +1,6 @@
-// A request that a person types: text with one `name value` a line, to the numbers of the request in whole units. What it asks about is in `shapes`.
+// A request that a person types: text with one `name value` a line, to the numbers of the request in whole units. What it asks about is in `shapes`,
+// what a line gives a request in `beside`.
+pub mod beside;
 pub mod shapes;
 
 use request_fields::COUNT;
@@ -243,8 +245,8 @@ fn read(shape: Shape, text: &[u8], marks: &mut [u8], found: &mut [i64]) -> Typed
     while at < text.len() {
         let length = words::run(&text[at..], Class::Line);
         let end = at + length;
-        let said = meaning(shape, &text[at..end]);
-        let noted = note(said, marks, found);
+        let given = beside::number_in(shape, &text[at..end]);
+        let noted = note(given, marks, found);
         if let Noted::Refused(fault) = noted {
             return Typed::Refused(line, fault);
         }

@@ -7,7 +7,7 @@ use lib.ListN.{length}
 use Rattle.refusals.specs.declared.Checked.{Checked}
 use Rattle.refusals.specs.declared.Checked.the-variants.{Within, Refused}
 use Rattle.refusals.specs.Refusals.{refusal, andThen}
-use Rattle.sine.specs.Room.{filled}
+use Rattle.sine_table.specs.Room.{filled}
 use Rattle.requests.specs.declared.Occultation.{Occultation}
 use Rattle.requests.specs.Requests.{checked}
 

@@ -13,9 +13,9 @@ use Rattle.refusals.specs.declared.Checked.{Checked}
 use Rattle.refusals.specs.declared.Checked.the-variants as C
 use Rattle.refusals.specs.Refusals.{refusal, andThen}
 use Rattle.refusals.specs.RefusalLaws.{both-within}
-use Rattle.sine.specs.Table.{Sines}
-use Rattle.sine.specs.Room.{filled}
-use Rattle.sine.specs.RoomLaws.{filled-sines}
+use Rattle.sine_table.specs.Table.{Sines}
+use Rattle.sine_table.specs.Room.{filled}
+use Rattle.sine_table.specs.RoomLaws.{filled-sines}
 use Rattle.requests.specs.declared.Occultation.{Occultation}
 use Rattle.requests.specs.Requests.{checked}
 use Rattle.requests.specs.RequestLaws.{InLimits, in-limits, never-room}

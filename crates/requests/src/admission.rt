@@ -16,7 +16,7 @@ pub fn fill_sines(sines: &mut [u32]) -> Checked
             place: 901,
         });
     }
-    sine::fill(sines);
+    sine_table::fill(sines);
     Checked::Within
 }
 

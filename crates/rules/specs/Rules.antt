@@ -4,7 +4,6 @@ use Prim.Native.Nat.{ℕ}
 use mathlib.Core.Bool.{Bool, cond, _&&_, _||_, not}
 use lib.Dec.{leb}
 use Rattle.phases.specs.declared.Phase.{Phase}
-use Rattle.phases.specs.declared.Phase.the-variants.{Star}
 use Rattle.refusals.specs.Refusals.{refusal}
 use Rattle.kinds.specs.declared.Kind.{Kind}
 use Rattle.kinds.specs.declared.Kind.the-variants as K
@@ -18,7 +17,7 @@ use Rattle.rules.specs.declared.Judgement.{Judgement}
 use Rattle.rules.specs.declared.Judgement.the-variants.{Next, Broken}
 use Rattle.kinds.specs.Kinds.{table, plain}
 use Rattle.kinds.specs.FieldRules.{isWithin}
-use Rattle.rules.specs.Order.{mayCome, repeats}
+use Rattle.order.specs.Order.{mayCome, closestAfter, repeats}
 
 -- ---- how far a sheet has come
 
@@ -37,10 +36,6 @@ passed p φ to crossing = record { stage = S.Phase φ; first = p .first; last = 
 -- "grazes and opens passed over": the crossing that stands when one of the phase came
 abbrev pub crossingKept : Progress → Phase → Crossing
 crossingKept p φ = cond (isWithin (p .stage) φ) (p .crossing) C.Neither
-
--- document 02, wish 7: "8 for a sheet .. with a star entry and kind 31": closest after a star's entry is a stage of its own
-abbrev pub closestAfter : Stage → Stage
-closestAfter last = cond (isWithin last Star) S.StarClosest S.Closest
 
 abbrev pub afterKind : Progress → Entry → Kind → Progress
 afterKind p e K.Head = reached S.Head (e .b) (e .c)

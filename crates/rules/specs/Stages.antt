@@ -2,10 +2,10 @@
 -- rules. Callers go by `Rules`.
 use Prim.Native.Nat.{ℕ, _≤_}
 use mathlib.Core.Path.{_≡_, refl, sym, ap, _∙_}
-use mathlib.Core.Bool.{Bool, true, false, cond, and-true, not, _&&_}
+use mathlib.Core.Bool.{Bool, true, false, cond, and-true, _&&_}
 use native.Mathlib.Omega.{arith}
 use borrow.Author.Tests.{leb-true, le-leb}
-use lib.Dec.{leb, eqb}
+use lib.Dec.{leb}
 use Rattle.phases.specs.declared.Phase.{Phase}
 use Rattle.phases.specs.PhaseLaws.{same-is}
 use Rattle.kinds.specs.declared.Kind.{Kind}
@@ -19,9 +19,9 @@ use Rattle.kinds.specs.declared.Entry.{Entry}
 use Rattle.kinds.specs.Kinds.{table}
 use Rattle.kinds.specs.TestLaws.{both}
 use Rattle.kinds.specs.FieldRules.{headHolds, spanHolds, openHolds, isDirection, isWithin, closestHolds, shareHolds}
-use Rattle.rules.specs.Order.{mayCome, repeats}
-use Rattle.rules.specs.OrderLaws.{own-phase}
-use Rattle.rules.specs.Rules.{reached, passed, crossingKept, closestAfter, afterKind, phaseInOrder, kindInOrder}
+use Rattle.order.specs.Order.{mayCome, closestAfter}
+use Rattle.order.specs.OrderLaws.{own-phase}
+use Rattle.rules.specs.Rules.{reached, passed, crossingKept, afterKind, phaseInOrder, kindInOrder}
 
 -- ---- what a kind of a phase asks
 
@@ -147,23 +147,6 @@ within-may S.Closest φ e = e
 within-may S.StarClosest φ e = e
 within-may S.Share φ e = e
 within-may S.End φ e = e
-
--- a crossing as a number: two that repeat have the same, and it is not that of none
-abbrev pub crossingNumber : Crossing → ℕ
-crossingNumber C.Neither = 0
-crossingNumber C.Enter = 1
-crossingNumber C.Leave = 2
-
-pub repeats-number : (last c : Crossing) → (eqb (crossingNumber c) (crossingNumber last) && not (eqb (crossingNumber c) 0)) ≡ repeats last c
-repeats-number C.Neither C.Neither = refl
-repeats-number C.Neither C.Enter = refl
-repeats-number C.Neither C.Leave = refl
-repeats-number C.Enter C.Neither = refl
-repeats-number C.Enter C.Enter = refl
-repeats-number C.Enter C.Leave = refl
-repeats-number C.Leave C.Neither = refl
-repeats-number C.Leave C.Enter = refl
-repeats-number C.Leave C.Leave = refl
 
 -- what lies from the first second to the last lies within both ways
 same : (x y : Bool) → (x ≡ true → y ≡ true) → (y ≡ true → x ≡ true) → x ≡ y

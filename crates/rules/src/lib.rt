@@ -1,5 +1,4 @@
 // The rules of order and of fields. Reader and writer both go by `in_order`, `rule_holds` and `after`; `judge` puts the three together.
-mod order;
 
 use kinds::Crossing;
 use kinds::Entry;

@@ -4,7 +4,7 @@
 use Prim.Native.Nat.{ℕ, zero, suc, _+_, _*_, _/_, _%_, _≤_, _<_}
 use mathlib.Core.Path.{_≡_}
 use mathlib.Core.List.{List, [], _∷_, _++_}
-use lib.ListN.{length, getD, take, drop, replicate}
+use lib.ListN.{length, take, drop, replicate}
 use Rattle.runs.specs.declared.Run.{Run}
 use Rattle.runs.specs.declared.Filled.{Filled}
 
@@ -21,11 +21,6 @@ high b = b / 16
 abbrev pub secondsOf : ℕ → ℕ → ℕ
 secondsOf zero n = 1
 secondsOf (suc h) n = h * 256 + n
-
--- the bytes of a run, by the upper bits of its first byte
-abbrev pub bytesOf : ℕ → ℕ
-bytesOf zero = 1
-bytesOf (suc h) = 2
 
 -- what follows a run, by the upper bits of its first byte: what follows one byte, or two
 abbrev pub following : ℕ → List ℕ → List ℕ → List ℕ
@@ -52,22 +47,27 @@ pub record RunAt (k : ℕ) (bytes : List ℕ) (i : ℕ) (r : Run) : Type 0 where
   pub within : r .after ≤ length bytes
   pub whole : Whole (drop (r .after) bytes)
 
--- the first `count` bytes are whole runs, the last of them, if there is one, at place `last`
-pub record Ends (bytes : List ℕ) (f : Filled) : Type 0 where
-  pub within : f .count ≤ length bytes
-  pub whole : Whole (take (f .count) bytes)
-  pub before : 0 < f .count → Whole (take (f .last) bytes)
-  pub size : 0 < f .count → f .count ≡ f .last + bytesOf (high (getD bytes (f .last) 0))
+-- the states of phase k that the runs so far say, one a second: those stored in the first `count` bytes, then the last
+abbrev pub told : ℕ → List ℕ → Filled → List ℕ
+told k bytes f = decoded k (take (f .count) bytes) ++ replicate (f .seconds) (stateIn k (f .pair))
 
--- n seconds more, of a pair's states, after those of the runs in the first `count` bytes
-pub record Pushed (old new : List ℕ) (count pair n : ℕ) (r : Filled) : Type 0 where
+-- the first `count` bytes are whole runs, and the last run is one that can be stored
+pub record Ends (bytes : List ℕ) (f : Filled) : Type 0 where
+  pub whole : Whole (take (f .count) bytes)
+  pub pair : f .pair < 16
+  pub some : 1 ≤ f .seconds
+  pub most : f .seconds ≤ 3839
+
+-- a run of n seconds, of a pair's states, stored after those in the first `count` bytes; r is the place after it
+pub record Written (old : List ℕ) (count pair n : ℕ) (new : List ℕ) (r : ℕ) : Type 0 where
+  pub same : length new ≡ length old
+  pub whole : Whole (take r new)
+  pub states : (k : ℕ) → decoded k (take r new) ≡ decoded k (take count old) ++ replicate n (stateIn k pair)
+  pub short : r ≤ count + n
+
+-- n seconds more, of a pair's states, after the runs so far
+pub record Pushed (old : List ℕ) (f : Filled) (pair n : ℕ) (new : List ℕ) (r : Filled) : Type 0 where
   pub same : length new ≡ length old
   pub ends : Ends new r
-  pub states : (k : ℕ) → decoded k (take (r .count) new) ≡ decoded k (take count old) ++ replicate n (stateIn k pair)
-
--- the last run has a pair's states, and is r seconds long with n more, which one run can be
-pub record Longer (bytes : List ℕ) (f : Filled) (pair n r : ℕ) : Type 0 where
-  pub some : 0 < f .count
-  pub alike : getD bytes (f .last) 0 % 16 ≡ pair
-  pub seconds : r ≡ secondsOf (high (getD bytes (f .last) 0)) (getD bytes (f .last + 1) 0) + n
-  pub most : r ≤ 3839
+  pub states : (k : ℕ) → told k new r ≡ told k old f ++ replicate n (stateIn k pair)
+  pub short : r .count + r .seconds ≤ f .count + f .seconds + n

@@ -1,15 +1,13 @@
--- Runs one after another; the run at a place; the last run; seconds put after others.
+-- Runs one after another; the run at a place; a run stored after others; seconds more.
 use Prim.Native.Nat.{ℕ, zero, suc, _+_, _-_, _*_, _/_, _%_, _≤_, _<_}
 use mathlib.Core.Path.{_≡_, refl, sym, ap, ap₂, _∙_}
 use mathlib.Core.List.{List, [], _∷_, _++_, append-assoc, append-nil}
-use mathlib.Core.Logic.{⊎-elim}
 use native.Mathlib.Omega.{arith}
-use native.Mathlib.Nat.{eq-or-lt-of-le}
 use native.Mathlib.Numerals.{add-one, unary-clauses}
 use lib.ListN.{length, getD, take, drop, set, replicate, length-set, length-drop, replicate-append-replicate}
-use lib.Seq.{drop-cons, append-snoc, take-suc, take-suc-set, take-set-le, getD-set-same, getD-set-other}
+use lib.Seq.{drop-cons, append-snoc, take-suc-set}
 use Rattle.runs.specs.declared.Filled.{Filled}
-use Rattle.runs.specs.Runs.{stateIn, high, secondsOf, bytesOf, following, decoded, Whole, none, one, more, RunAt, Ends, Pushed, Longer}
+use Rattle.runs.specs.Runs.{stateIn, high, secondsOf, following, decoded, Whole, none, one, more, RunAt, Ends, Written, Pushed}
 
 -- the definitions, case by case
 pub first-state : (k b : ℕ) → k ≡ 0 → b % 4 ≡ stateIn k b
@@ -22,24 +20,6 @@ second-state (suc k) b n = refl
 pub seconds-more : (h n : ℕ) → 0 < h → secondsOf h n ≡ (h - 1) * 256 + n
 seconds-more zero n p = absurd (omega arith)
 seconds-more (suc h) n p = simp unary-clauses
-
-pub seconds-one : (h n : ℕ) → h ≡ 0 → 1 ≡ secondsOf h n
-seconds-one h n e = rw e
-
-pub seconds-most : (h n : ℕ) → h ≤ 15 → n ≤ 255 → secondsOf h n ≤ 3839
-seconds-most zero n p q = omega arith
-seconds-most (suc h) n p q = omega arith
-
-bytes-more : (h : ℕ) → 0 < h → bytesOf h ≡ 2
-bytes-more zero p = absurd (omega arith)
-bytes-more (suc h) p = refl
-
-bytes-one : (h : ℕ) → h ≡ 0 → bytesOf h ≡ 1
-bytes-one h e = rw e
-
-bytes-some : (h : ℕ) → 0 < bytesOf h
-bytes-some zero = omega arith
-bytes-some (suc h) = omega arith
 
 same-states : (k b pair : ℕ) → b % 16 ≡ pair → stateIn k b ≡ stateIn k pair
 same-states zero b pair e = omega arith
@@ -141,126 +121,67 @@ module _ (k : ℕ) (bytes : List ℕ) (i : ℕ) (l : i < length bytes) (w : Whol
         whole = both .1;
       }
 
--- no run yet
-pub ends-none : (bytes : List ℕ) (last : ℕ) → Ends bytes (record { count = 0; last = last })
-ends-none bytes last =
-    record { within = omega arith; whole = none; before = λ p. absurd (omega arith); size = λ p. absurd (omega arith) }
-
--- the last run
-module _ (bytes : List ℕ) (f : Filled) (e : Ends bytes f) (some : 0 < f .count) where
-  abbrev begins : ℕ
-  begins = getD bytes (f .last) 0
-
-  abbrev second : ℕ
-  second = getD bytes (f .last + 1) 0
-
-  pub last-there : f .last < f .count
-  last-there = omega (arith, e .size some, bytes-some (high begins))
-
-  last-run : (k : ℕ)
-      → decoded k (take (f .count) bytes) ≡ decoded k (take (f .last) bytes) ++ replicate (secondsOf (high begins) second) (stateIn k begins)
-  last-run k = ⊎-elim short long (eq-or-lt-of-le least)
-    where
-      least : 0 ≤ high begins
-      least = omega arith
-
-      after : (run : List ℕ) → take (f .count) bytes ≡ take (f .last) bytes ++ run
-          → decoded k (take (f .count) bytes) ≡ decoded k (take (f .last) bytes) ++ decoded k run
-      after run t = ap (decoded k) t ∙ decoded-append k (e .before some) run
-
-      there : f .last < length bytes
-      there = omega (arith, last-there, e .within)
-
-      short : 0 ≡ high begins
-          → decoded k (take (f .count) bytes) ≡ decoded k (take (f .last) bytes) ++ replicate (secondsOf (high begins) second) (stateIn k begins)
-      short z =
-          let n : f .count ≡ suc (f .last) = omega (arith, e .size some, bytes-one (high begins) (sym z)) in
-          after (begins ∷ []) (ap (λ (j : ℕ). take j bytes) n ∙ take-suc bytes (f .last) 0 there)
-          ∙ ap (λ (u : List ℕ). decoded k (take (f .last) bytes) ++ u) (decoded-one k begins [] (sym z) ∙ rw (sym z, decoded-none k))
-
-      long : 0 < high begins
-          → decoded k (take (f .count) bytes) ≡ decoded k (take (f .last) bytes) ++ replicate (secondsOf (high begins) second) (stateIn k begins)
-      long p =
-          let n : f .count ≡ suc (f .last + 1) = omega (arith, e .size some, bytes-more (high begins) p) in
-          let taken : take (f .count) bytes ≡ take (f .last) bytes ++ begins ∷ second ∷ [] =
-          ap (λ (j : ℕ). take j bytes) n
-          ∙ take-suc bytes (f .last + 1) 0 (omega (arith, e .within))
-          ∙ ap (λ (j : ℕ). take j bytes ++ second ∷ []) (add-one (f .last))
-          ∙ ap (λ (u : List ℕ). u ++ second ∷ []) (take-suc bytes (f .last) 0 there)
-          ∙ append-snoc (take (f .last) bytes) begins (second ∷ []) in
-          after (begins ∷ second ∷ []) taken
-          ∙ ap (λ (u : List ℕ). decoded k (take (f .last) bytes) ++ u) (decoded-more k begins second [] p ∙ rw (decoded-none k, append-nil))
-
-  -- put anew, with n seconds more
-  pub pushed-longer : {new : List ℕ} {pair n s : ℕ} {r : Filled} → Longer bytes f pair n s → Pushed bytes new (f .last) pair s r
-      → Pushed bytes new (f .count) pair n r
-  pushed-longer {new} {pair} {n} {s} {r} l p = record { same = p .same; ends = p .ends; states = states }
-    where
-      states : (k : ℕ) → decoded k (take (r .count) new) ≡ decoded k (take (f .count) bytes) ++ replicate n (stateIn k pair)
-      states k =
-          let a = decoded k (take (f .last) bytes) in
-          let m = secondsOf (high begins) second in
-          let x = stateIn k pair in
-          p .states k
-          ∙ ap (λ (j : ℕ). a ++ replicate j x) (l .seconds)
-          ∙ ap (λ (u : List ℕ). a ++ u) (sym (replicate-append-replicate m n x))
-          ∙ sym (append-assoc a (replicate m x) (replicate n x))
-          ∙ ap (λ (u : List ℕ). u ++ replicate n x)
-          (ap (λ (y : ℕ). a ++ replicate m y) (sym (same-states k begins pair (l .alike))) ∙ sym (last-run k))
-
 -- a run after others
 module _ (old : List ℕ) (at pair n : ℕ) (small : pair < 16) (w : Whole (take at old)) where
-  put-after : (new run : List ℕ) (count : ℕ) → length new ≡ length old → count ≤ length old → take at new ≡ take at old
-      → take count new ≡ take at old ++ run → Whole run → count ≡ at + bytesOf (high (getD new at 0))
-      → ((k : ℕ) → decoded k run ≡ replicate n (stateIn k pair)) → Pushed old new at pair n (record { count = count; last = at })
-  put-after new run count same room left e v size states =
+  put-after : (new run : List ℕ) (r : ℕ) → length new ≡ length old → r ≤ at + n → take r new ≡ take at old ++ run → Whole run
+      → ((k : ℕ) → decoded k run ≡ replicate n (stateIn k pair)) → Written old at pair n new r
+  put-after new run r same short e v states =
       record {
         same = same;
-        ends = record {
-          within = omega arith;
-          whole = rw e (whole-append w v);
-          before = λ p. rw left w;
-          size = λ p. size;
-        };
+        whole = rw e (whole-append w v);
         states = λ k. ap (decoded k) e ∙ decoded-append k w run ∙ ap (λ (u : List ℕ). decoded k (take at old) ++ u) (states k);
+        short = short;
       }
 
-  pub pushed-one : n ≡ 1 → at < length old → Pushed old (set old at pair) at pair n (record { count = at + 1; last = at })
-  pushed-one e room =
+  pub written-one : n ≡ 1 → at < length old → Written old at pair n (set old at pair) (at + 1)
+  written-one e room =
       let z : high pair ≡ 0 = omega arith in
-      put-after (set old at pair) (pair ∷ []) (at + 1) (length-set old at pair) (omega arith) (take-set-le at old at pair (omega arith))
+      put-after (set old at pair) (pair ∷ []) (at + 1) (length-set old at pair) (omega arith)
       (rw add-one (take-suc-set old at pair room))
       (one z none)
-      (rw (getD-set-same old at pair 0 room, z))
       (λ k. decoded-one k pair [] z ∙ rw (e, decoded-none k))
 
-  pub pushed-two : 1 ≤ n → at + 2 ≤ length old → (b m : ℕ) → b ≡ pair + (n / 256 + 1) * 16 → m ≡ n % 256
-      → Pushed old (set (set old at b) (at + 1) m) at pair n (record { count = at + 1 + 1; last = at })
-  pushed-two some room b m p q =
+  pub written-two : 2 ≤ n → at + 2 ≤ length old → (b m : ℕ) → b ≡ pair + (n / 256 + 1) * 16 → m ≡ n % 256
+      → Written old at pair n (set (set old at b) (at + 1) m) (at + 1 + 1)
+  written-two some room b m p q =
       let z : 0 < high b = omega arith in
       let f : secondsOf (high b) m ≡ n = seconds-more (high b) m z ∙ (omega arith) in
-      put-after new (b ∷ m ∷ []) (at + 1 + 1) (length-set (set old at b) (at + 1) m ∙ length-set old at b) (omega arith) left
+      put-after (set (set old at b) (at + 1) m) (b ∷ m ∷ []) (at + 1 + 1) (length-set (set old at b) (at + 1) m ∙ length-set old at b) (omega arith)
       taken
       (more z (rw f (omega arith)) none)
-      size
       (λ k. decoded-more k b m [] z ∙ rw (decoded-none k, f, append-nil, same-states k b pair (omega arith)))
     where
-      new : List ℕ
-      new = set (set old at b) (at + 1) m
-
-      left : take at new ≡ take at old
-      left = take-set-le at (set old at b) (at + 1) m (omega arith) ∙ take-set-le at old at b (omega arith)
-
-      first-is : getD new at 0 ≡ b
-      first-is = getD-set-other (set old at b) (at + 1) at m 0 (λ (h : at ≡ at + 1). omega arith) ∙ getD-set-same old at b 0 (omega arith)
-
-      size : at + 1 + 1 ≡ at + bytesOf (high (getD new at 0))
-      size = omega (arith, ap (λ (x : ℕ). bytesOf (high x)) first-is, bytes-more (high b) (omega arith))
-
-      taken : take (at + 1 + 1) new ≡ take at old ++ b ∷ m ∷ []
+      taken : take (at + 1 + 1) (set (set old at b) (at + 1) m) ≡ take at old ++ b ∷ m ∷ []
       taken =
-          ap (λ (j : ℕ). take j new) (add-one (at + 1))
+          ap (λ (j : ℕ). take j (set (set old at b) (at + 1) m)) (add-one (at + 1))
           ∙ take-suc-set (set old at b) (at + 1) m (omega (arith, length-set old at b))
           ∙ ap (λ (j : ℕ). take j (set old at b) ++ m ∷ []) (add-one at)
           ∙ ap (λ (u : List ℕ). u ++ m ∷ []) (take-suc-set old at b (omega arith))
           ∙ append-snoc (take at old) b (m ∷ [])
+
+-- n seconds more: the last run gets longer; or it was stored, and another follows it
+module _ (old : List ℕ) (f : Filled) (e : Ends old f) (pair n : ℕ) (small : pair < 16) (some : 1 ≤ n) (few : n ≤ 3839) where
+  pub pushed-longer : f .pair ≡ pair → f .seconds + n ≤ 3839
+      → Pushed old f pair n old (record { count = f .count; pair = pair; seconds = f .seconds + n })
+  pushed-longer alike most =
+      record {
+        same = refl;
+        ends = record { whole = e .whole; pair = small; some = omega arith; most = most };
+        states = λ k.
+            let a = decoded k (take (f .count) old) in
+            let x = stateIn k pair in
+            ap (λ (u : List ℕ). a ++ u) (sym (replicate-append-replicate (f .seconds) n x))
+            ∙ sym (append-assoc a (replicate (f .seconds) x) (replicate n x))
+            ∙ ap (λ (p : ℕ). (a ++ replicate (f .seconds) (stateIn k p)) ++ replicate n x) (sym alike);
+        short = omega arith;
+      }
+
+  pub pushed-after : {new : List ℕ} {r : ℕ} → Written old (f .count) (f .pair) (f .seconds) new r
+      → Pushed old f pair n new (record { count = r; pair = pair; seconds = n })
+  pushed-after w =
+      record {
+        same = w .same;
+        ends = record { whole = w .whole; pair = small; some = some; most = few };
+        states = λ k. ap (λ (u : List ℕ). u ++ replicate n (stateIn k pair)) (w .states k);
+        short = omega (arith, w .short);
+      }

@@ -3,7 +3,7 @@
 ghost use mathlib.Core.Path.{_≡_};
 ghost use Prim.Native.Nat.{_+_, _≤_, _<_};
 ghost use lib.ListN.{length, take, drop};
-ghost use Rattle.runs.specs.Runs.{stateIn, high, secondsOf, Whole, RunAt, Ends, Pushed, Longer};
+ghost use Rattle.runs.specs.Runs.{stateIn, secondsOf, Whole, RunAt, Ends, Written, Pushed};
 
 // A run as one phase sees it.
 pub struct Run {
@@ -12,10 +12,11 @@ pub struct Run {
     pub after: usize, // the place after it in the bytes
 }
 
-// Where the runs so far end.
+// The runs so far: those that are stored, and the last, which is not stored yet since it may get longer.
 pub struct Filled {
-    pub count: usize, // how many bytes they take
-    pub last: usize, // the place of the last, any where there is none
+    pub count: usize, // how many bytes the stored ones take
+    pub pair: u8, // the states of the last
+    pub seconds: usize, // how long the last is, 1 to 3839
 }
 
 // The states of two phases, in the lower bits of a run's first byte.
@@ -47,67 +48,54 @@ fn seconds_of(high: u8, low: u8) -> usize
     (wide(high) - 1) * 256 + wide(low)
 }
 
-// The seconds of a run, by its first byte and the byte after that.
-fn lasting(first: u8, low: u8) -> usize
-    ensures { λ r. ⌜ (r ≡ secondsOf (high first) low) × (r ≤ 3839) ⌝ }
-{
-    let high = first / 16;
-    if high == 0 { 1 } else { seconds_of(high, low) }
-}
-
-// Puts a run of n seconds at a place, in two bytes.
-fn put(runs: &mut [u8], at: usize, pair: u8, n: usize) -> Filled
-    requires { ⌜ (pair < 16) × (1 ≤ n) × (n ≤ 3839) × (at + 2 ≤ length (now runs)) × (Whole (take at (now runs))) ⌝ }
-    ensures { λ r. ⌜ (Pushed (now (runs .entry)) (now (runs .exit)) at pair n r) × (r .count ≡ at + 2) ⌝ }
+// Puts a run of n seconds at a place, in two bytes; the place after it.
+fn put(runs: &mut [u8], at: usize, pair: u8, n: usize) -> usize
+    requires { ⌜ (pair < 16) × (2 ≤ n) × (n ≤ 3839) × (at + 2 ≤ length (now runs)) × (Whole (take at (now runs))) ⌝ }
+    ensures { λ r. ⌜ Written (now (runs .entry)) at pair n (now (runs .exit)) r ⌝ }
 {
     let high = n / 256 + 1;
     let low = n % 256;
     let next = at + 1;
     runs[at] = pair + high as u8 * 16;
     runs[next] = low as u8;
-    let count = next + 1;
-    Filled { count, last: at }
+    next + 1
 }
 
-// How long the last run is with n seconds more; 0 where there is none, or it has other states, or would be too long.
-fn longer(runs: &[u8], f: Filled, pair: u8, n: usize) -> usize
-    requires { ⌜ (n ≤ 3839) × (f .count < length (now runs)) × (Ends (now runs) f) ⌝ }
-    ensures { λ r. ⌜ (0 < r → Longer (now (runs .entry)) f pair n r) ⌝ }
+// Stores the last run after the others: in one byte if it is one second, else in two. The place after it.
+pub fn write(runs: &mut [u8], f: Filled) -> usize
+    requires { ⌜ (f .count + f .seconds ≤ length (now runs)) × (Ends (now runs) f) ⌝ }
+    ensures { λ r. ⌜ Written (now (runs .entry)) (f .count) (f .pair) (f .seconds) (now (runs .exit)) r ⌝ }
 {
-    if f.count == 0 {
-        return 0;
+    let at = f.count;
+    if f.seconds == 1 {
+        runs[at] = f.pair;
+        return at + 1;
     }
-    let last = f.last;
-    let first = runs[last];
-    if first % 16 != pair {
-        return 0;
-    }
-    let seconds = lasting(first, runs[last + 1]) + n;
-    if seconds > 3839 {
-        return 0;
-    }
-    seconds
+    put(runs, at, f.pair, f.seconds)
 }
 
-// Puts n seconds more after the runs so far: the last run gets longer, or another follows it.
+// n seconds more: the last run gets longer, or it is stored and another follows it.
 pub fn push(runs: &mut [u8], f: Filled, pair: u8, n: usize) -> Filled
-    requires { ⌜ (pair < 16) × (1 ≤ n) × (n ≤ 3839) × (f .count + n ≤ length (now runs)) × (Ends (now runs) f) ⌝ }
-    ensures { λ r. ⌜ (Pushed (now (runs .entry)) (now (runs .exit)) (f .count) pair n r) × (r .count ≤ f .count + n) ⌝ }
+    requires { ⌜ (pair < 16) × (1 ≤ n) × (n ≤ 3839) × (f .count + f .seconds ≤ length (now runs)) × (Ends (now runs) f) ⌝ }
+    ensures { λ r. ⌜ Pushed (now (runs .entry)) f pair n (now (runs .exit)) r ⌝ }
 {
-    let seconds = longer(runs, f, pair, n);
-    if seconds > 0 {
-        return put(runs, f.last, pair, seconds);
-    }
     let count = f.count;
-    if n == 1 {
-        runs[count] = pair;
-        let next = count + 1;
-        return Filled {
-            count: next,
-            last: count,
-        };
+    if f.pair == pair {
+        let seconds = f.seconds + n;
+        if seconds <= 3839 {
+            return Filled {
+                count,
+                pair,
+                seconds,
+            };
+        }
     }
-    put(runs, count, pair, n)
+    let next = write(runs, f);
+    Filled {
+        count: next,
+        pair,
+        seconds: n,
+    }
 }
 
 // The run at place i, as the first phase (0) or the second sees it.

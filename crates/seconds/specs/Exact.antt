@@ -2,17 +2,15 @@
 use Prim.Native.Nat.{ℕ, _+_}
 use lib.IntN.{ℤ, pos, natAbs}
 use Rattle.phases.specs.declared.Phase.{Phase}
-use Rattle.phases.specs.declared.Phase.the-variants.{Penumbra, Central}
 use Rattle.phases.specs.States.{stateOf, SaidRightly}
 use Rattle.geometry.specs.Shadow.{cone}
 use Rattle.geometry.specs.Exact as Exact
 use Rattle.shadow.specs.declared.Second.{Second}
-use Rattle.requests.specs.declared.Request.{Request}
 use Rattle.requests.specs.declared.Occultation.{Occultation}
-use Rattle.requests.specs.Requests.{ofEclipse}
 use Rattle.seconds.specs.declared.OneSecond.{OneSecond}
 use Rattle.seconds.specs.declared.OneSecond.the-variants.{Is, Refused}
 use Rattle.seconds.specs.Seconds.{momentAt}
+use Rattle.seconds.specs.OneSecond.{firstPhase, secondPhase}
 
 -- "Exactly inside: that distance is less than that L" (geometry, Exact)
 abbrev pub ExactlyInside : Occultation → Phase → ℤ → Type 0
@@ -27,11 +25,11 @@ abbrev pub unsureUnits : Occultation → ℕ
 unsureUnits o = natAbs (o .guard) + 13
 
 -- "Where our program says inside or outside, that is the exact answer. It says unsure only where the exact distance lies within 29 units of the
--- cone's edge": of the two states of a second of an eclipse that was answered
-pub record SecondMeans (q : Request) (τ : ℤ) (x : Second) : Type 0 where
-  pub penumbra : SaidRightly (stateOf (x .penumbra)) (ExactlyInside (ofEclipse q) Penumbra τ) (WithinUnits (ofEclipse q) (unsureUnits (ofEclipse q)) Penumbra τ)
-  pub central : SaidRightly (stateOf (x .central)) (ExactlyInside (ofEclipse q) Central τ) (WithinUnits (ofEclipse q) (unsureUnits (ofEclipse q)) Central τ)
+-- cone's edge": of the two states of a second that was answered
+pub record SecondMeans (o : Occultation) (τ : ℤ) (x : Second) : Type 0 where
+  pub penumbra : SaidRightly (stateOf (x .penumbra)) (ExactlyInside o (firstPhase o) τ) (WithinUnits o (unsureUnits o) (firstPhase o) τ)
+  pub central : SaidRightly (stateOf (x .central)) (ExactlyInside o (secondPhase o) τ) (WithinUnits o (unsureUnits o) (secondPhase o) τ)
 
-abbrev pub AnswerMeans : Request → ℤ → OneSecond → Type 0
-AnswerMeans q τ (Is x) = SecondMeans q τ x
-AnswerMeans q τ (Refused r) = Unit
+abbrev pub AnswerMeans : Occultation → ℤ → OneSecond → Type 0
+AnswerMeans o τ (Is x) = SecondMeans o τ x
+AnswerMeans o τ (Refused r) = Unit

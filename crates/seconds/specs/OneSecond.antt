@@ -1,51 +1,79 @@
--- One second of a request: its shadow, states, magnitude and direction, or the refusal. Definitions only.
+-- One second of an occultation: its shadow, states, magnitude and direction, or the refusal. Definitions only.
+use mathlib.Core.Path.{_≡_}
 use mathlib.Core.Bool.{cond}
 use mathlib.Core.List.{List}
 use Prim.Native.Nat.{ℕ}
 use lib.IntN.{ℤ}
-use Rattle.phases.specs.declared.Phase.the-variants.{Penumbra, Central}
+use Rattle.phases.specs.declared.Phase.{Phase}
+use Rattle.phases.specs.declared.Phase.the-variants as P
 use Rattle.phases.specs.States.{code}
 use Rattle.refusals.specs.declared.Checked.{Checked}
 use Rattle.refusals.specs.declared.Checked.the-variants as C
 use Rattle.refusals.specs.Refusals.{refusal}
-use Rattle.geometry.specs.Shadow.{u, v, L, M}
+use Rattle.elements.specs.declared.Star.{Star}
+use Rattle.elements.specs.declared.Body.the-variants as B
+use Rattle.elements.specs.Stars.{starAxis, cylinderOf}
+use Rattle.station.specs.declared.Place.{Place}
+use Rattle.geometry.specs.Shadow.{momentOf, cone, u, v, L, M}
 use Rattle.shadow.specs.declared.Second.{Second}
-use Rattle.requests.specs.declared.Request.{Request}
-use Rattle.requests.specs.Requests.{ofEclipse}
+use Rattle.shadow.specs.Second as Shadow
+use Rattle.shadow.specs.Second.{phaseIn}
+use Rattle.requests.specs.declared.Occultation.{Occultation}
 use Rattle.requests.specs.Windows.{inSpan}
 use Rattle.requests.specs.Admission.{admitted, sinesAfter}
 use Rattle.seconds.specs.declared.OneSecond.{OneSecond}
 use Rattle.seconds.specs.declared.OneSecond.the-variants as O
 use Rattle.seconds.specs.Seconds.{momentAt, stateAt, directionAt, magnitudeAt}
 
+-- penumbra and central of an eclipse; a star's one phase stands for both (shadow, Second)
+abbrev pub firstPhase : Occultation → Phase
+firstPhase o = phaseIn (o .body) 0
+
+abbrev pub secondPhase : Occultation → Phase
+secondPhase o = phaseIn (o .body) 1
+
 -- all of a second, number by number
-abbrev pub wholeSecond : Request → ℤ → Second
-wholeSecond q τ =
+abbrev pub wholeSecond : Occultation → ℤ → Second
+wholeSecond o τ =
     record {
       shadow = record {
-        u = u (momentAt (ofEclipse q) τ);
-        v = v (momentAt (ofEclipse q) τ);
-        l1 = L (momentAt (ofEclipse q) τ) (q .elements .penumbra);
-        l2 = L (momentAt (ofEclipse q) τ) (q .elements .central);
-        m = M (momentAt (ofEclipse q) τ);
+        u = u (momentAt o τ);
+        v = v (momentAt o τ);
+        l1 = L (momentAt o τ) (cone (o .body) (firstPhase o));
+        l2 = L (momentAt o τ) (cone (o .body) (secondPhase o));
+        m = M (momentAt o τ);
       };
-      penumbra = code (stateAt (ofEclipse q) Penumbra τ);
-      central = code (stateAt (ofEclipse q) Central τ);
-      magnitude = magnitudeAt (ofEclipse q) τ;
-      direction = directionAt (ofEclipse q) τ;
+      penumbra = code (stateAt o (firstPhase o) τ);
+      central = code (stateAt o (secondPhase o) τ);
+      magnitude = magnitudeAt o τ;
+      direction = directionAt o τ;
     }
 
-abbrev pub secondBy : Checked → Request → ℤ → OneSecond
-secondBy (C.Refused r) q τ = O.Refused r
-secondBy C.Within q τ = O.Is (wholeSecond q τ)
+abbrev pub secondBy : Checked → Occultation → ℤ → OneSecond
+secondBy (C.Refused r) o τ = O.Refused r
+secondBy C.Within o τ = O.Is (wholeSecond o τ)
 
 -- "1 | window outside its range | 0" too for a second outside -10,800..10,800; then the refusals of the request and of its room for table S
-unfoldable pub secondChecked : Request → ℤ → List ℕ → Checked
-secondChecked q τ sines = cond (inSpan τ) (admitted (ofEclipse q) sines) (C.Refused (refusal 1 0))
+unfoldable pub secondChecked : Occultation → ℤ → List ℕ → Checked
+secondChecked o τ sines = cond (inSpan τ) (admitted o sines) (C.Refused (refusal 1 0))
 
-unfoldable pub secondAnswer : Request → ℤ → List ℕ → OneSecond
-secondAnswer q τ sines = secondBy (secondChecked q τ sines) q τ
+unfoldable pub secondAnswer : Occultation → ℤ → List ℕ → OneSecond
+secondAnswer o τ sines = secondBy (secondChecked o τ sines) o τ
 
 -- that room afterwards
-unfoldable pub secondSines : Request → ℤ → List ℕ → List ℕ
-secondSines q τ sines = sinesAfter (secondChecked q τ sines) sines
+unfoldable pub secondSines : Occultation → ℤ → List ℕ → List ℕ
+secondSines o τ sines = sinesAfter (secondChecked o τ sines) sines
+
+-- ---- what the code gives
+
+-- all of a second of a star
+pub record IsStarSecond (guard : ℤ) (s : Star) (p : Place) (τ : ℤ) (r : Second) : Type 0 where
+  pub u : r .shadow .u ≡ u (momentOf (starAxis s) p τ)
+  pub v : r .shadow .v ≡ v (momentOf (starAxis s) p τ)
+  pub l1 : r .shadow .l1 ≡ L (momentOf (starAxis s) p τ) (cylinderOf s)
+  pub l2 : r .shadow .l2 ≡ L (momentOf (starAxis s) p τ) (cylinderOf s)
+  pub m : r .shadow .m ≡ M (momentOf (starAxis s) p τ)
+  pub penumbra : r .penumbra ≡ code (Shadow.stateAt guard (B.Star s) p P.Star τ)
+  pub central : r .central ≡ code (Shadow.stateAt guard (B.Star s) p P.Star τ)
+  pub magnitude : r .magnitude ≡ 0
+  pub direction : r .direction ≡ Shadow.directionAt (starAxis s) p τ

@@ -1,4 +1,4 @@
--- What callers use of the seconds of an occultation within its limits, and of one second of an eclipse.
+-- What callers use of the seconds of an occultation within its limits, and of one second.
 --   states-length                                      a byte for each second
 --   direction-small, magnitude-small, closest-within   what a reader asks of them
 --   star-magnitude                                     of a star it is 0
@@ -20,7 +20,6 @@ use mir.Val.{toZ, ofZ}
 use Rattle.numbers.specs.Order.{≤ℤ-trans}
 use Rattle.numbers.specs.Code.{read-back, read-size}
 use Rattle.phases.specs.declared.Phase.{Phase}
-use Rattle.phases.specs.declared.Phase.the-variants.{Penumbra, Central}
 use Rattle.phases.specs.States.{State, stateOf, code, SaidRightly}
 use Rattle.phases.specs.PhaseLaws.{state-of-code}
 use Rattle.refusals.specs.declared.Refusal.{Refusal}
@@ -37,10 +36,9 @@ use Rattle.station.specs.PlaceLaws.{place-sizes}
 use Rattle.geometry.specs.Shadow.{cone, M}
 use Rattle.geometry.specs.Exact as Exact
 use Rattle.shadow.specs.SecondLaws.{state-at, states-true, magnitude-most, direction-near}
-use Rattle.requests.specs.declared.Request.{Request}
 use Rattle.requests.specs.declared.StarRequest.{StarRequest}
 use Rattle.requests.specs.declared.Occultation.{Occultation}
-use Rattle.requests.specs.Requests.{ofEclipse, ofStar}
+use Rattle.requests.specs.Requests.{ofStar}
 use Rattle.requests.specs.Windows.{inSpan, nthSecond, secondCount}
 use Rattle.requests.specs.WindowLaws.{in-span, each-length}
 use Rattle.requests.specs.RequestLaws.{InLimits, guard-is, guard-size}
@@ -50,7 +48,7 @@ use Rattle.seconds.specs.declared.OneSecond.{OneSecond}
 use Rattle.seconds.specs.declared.OneSecond.the-variants as O
 use Rattle.seconds.specs.Seconds.{momentAt, stateAt, directionAt, magnitudeOf, magnitudeAt, statesOf, closestOf}
 use Rattle.seconds.specs.ClosestLaws.{closest-is}
-use Rattle.seconds.specs.OneSecond.{wholeSecond, secondBy, secondChecked, secondAnswer, secondSines}
+use Rattle.seconds.specs.OneSecond.{firstPhase, secondPhase, wholeSecond, secondBy, secondChecked, secondAnswer, secondSines}
 use Rattle.seconds.specs.Exact.{ExactlyInside, WithinUnits, unsureUnits, SecondMeans, AnswerMeans}
 
 pub states-length : (o : Occultation) (φ : Phase) → length (statesOf o φ) ≡ secondCount (o .window)
@@ -100,42 +98,41 @@ pub star-magnitude : (q : StarRequest) (τ : ℤ) → magnitudeAt (ofStar q) τ 
 unfolding magnitudeAt
 star-magnitude q τ = refl
 
--- ---- one second of an eclipse
-module _ (q : Request) (i : InLimits (ofEclipse q)) (τ : ℤ) (h : natAbs τ ≤ 10800) where
+-- ---- one second
+module _ (o : Occultation) (i : InLimits o) (τ : ℤ) (h : natAbs τ ≤ 10800) where
   -- of the byte that was answered
-  said : (φ : Phase)
-      → SaidRightly (stateOf (code (stateAt (ofEclipse q) φ τ))) (ExactlyInside (ofEclipse q) φ τ) (WithinUnits (ofEclipse q) (unsureUnits (ofEclipse q)) φ τ)
-  said φ = rw (state-of-code (stateAt (ofEclipse q) φ τ)) (each-second (ofEclipse q) i τ h φ)
+  said : (φ : Phase) → SaidRightly (stateOf (code (stateAt o φ τ))) (ExactlyInside o φ τ) (WithinUnits o (unsureUnits o) φ τ)
+  said φ = rw (state-of-code (stateAt o φ τ)) (each-second o i τ h φ)
 
-  second-means : SecondMeans q τ (wholeSecond q τ)
-  second-means = record { penumbra = said Penumbra; central = said Central }
+  second-means : SecondMeans o τ (wholeSecond o τ)
+  second-means = record { penumbra = said (firstPhase o); central = said (secondPhase o) }
 
-module _ (q : Request) (τ : ℤ) (sines : List ℕ) where
-  pub second-outside : inSpan τ ≡ false → secondChecked q τ sines ≡ C.Refused (refusal 1 0)
+module _ (o : Occultation) (τ : ℤ) (sines : List ℕ) where
+  pub second-outside : inSpan τ ≡ false → secondChecked o τ sines ≡ C.Refused (refusal 1 0)
   unfolding secondChecked
   second-outside e = rw e
 
-  pub second-inside : inSpan τ ≡ true → secondChecked q τ sines ≡ admitted (ofEclipse q) sines
+  pub second-inside : inSpan τ ≡ true → secondChecked o τ sines ≡ admitted o sines
   unfolding secondChecked
   second-inside e = rw e
 
   -- what was answered means what it says
-  pub means-answer : AnswerMeans q τ (secondAnswer q τ sines)
+  pub means-answer : AnswerMeans o τ (secondAnswer o τ sines)
   unfolding secondAnswer secondChecked
   means-answer = by-span (inSpan τ) refl
     where
-      by-check : (c : Checked) → admitted (ofEclipse q) sines ≡ c → natAbs τ ≤ 10800 → AnswerMeans q τ (secondBy c q τ)
+      by-check : (c : Checked) → admitted o sines ≡ c → natAbs τ ≤ 10800 → AnswerMeans o τ (secondBy c o τ)
       by-check (C.Refused r) e h = tt
-      by-check C.Within e h = second-means q (admitted-within (ofEclipse q) sines e .0) τ h
+      by-check C.Within e h = second-means o (admitted-within o sines e .0) τ h
 
-      by-span : (b : Bool) → inSpan τ ≡ b → AnswerMeans q τ (secondBy (cond b (admitted (ofEclipse q) sines) (C.Refused (refusal 1 0))) q τ)
-      by-span true e = by-check (admitted (ofEclipse q) sines) refl (in-span τ e)
+      by-span : (b : Bool) → inSpan τ ≡ b → AnswerMeans o τ (secondBy (cond b (admitted o sines) (C.Refused (refusal 1 0))) o τ)
+      by-span true e = by-check (admitted o sines) refl (in-span τ e)
       by-span false e = tt
 
   -- what a check gives: the answer, the room, and what the answer means
-  pub second-is : (c : Checked) → secondChecked q τ sines ≡ c → (r : OneSecond) (new : List ℕ) → r ≡ secondBy c q τ → new ≡ sinesAfter c sines
-      → (r ≡ secondAnswer q τ sines) × ((new ≡ secondSines q τ sines) × AnswerMeans q τ r)
+  pub second-is : (c : Checked) → secondChecked o τ sines ≡ c → (r : OneSecond) (new : List ℕ) → r ≡ secondBy c o τ → new ≡ sinesAfter c sines
+      → (r ≡ secondAnswer o τ sines) × ((new ≡ secondSines o τ sines) × AnswerMeans o τ r)
   unfolding secondAnswer secondSines
   second-is c e r new er en =
-      let a : r ≡ secondAnswer q τ sines = er ∙ ap (λ (k : Checked). secondBy k q τ) (sym e) in
-      (a, (en ∙ ap (λ (k : Checked). sinesAfter k sines) (sym e), subst (AnswerMeans q τ) (sym a) means-answer))
+      let a : r ≡ secondAnswer o τ sines = er ∙ ap (λ (k : Checked). secondBy k o τ) (sym e) in
+      (a, (en ∙ ap (λ (k : Checked). sinesAfter k sines) (sym e), subst (AnswerMeans o τ) (sym a) means-answer))

@@ -1,18 +1,18 @@
-// The seconds of an occultation: direction and magnitude at one of them; and all of one second of an eclipse.
+// The seconds of an occultation: direction and magnitude at one of them; and all of one second.
 use elements::Body;
 use refusals::Checked;
 use refusals::Refusal;
 use requests::Occultation;
-use requests::Request;
 ghost use mathlib.Core.Path.{_≡_};
 ghost use Prim.Native.Nat.{_≤_};
 ghost use lib.IntN.{natAbs};
-ghost use Rattle.sine.specs.Table.{Sines};
+ghost use Rattle.sine_table.specs.Table.{Sines};
+ghost use Rattle.elements.specs.StarLaws.{StarSizes};
 ghost use Rattle.station.specs.Place.{placeOf};
-ghost use Rattle.requests.specs.Requests.{ofEclipse};
+ghost use Rattle.station.specs.Sizes.{PlaceSizes};
 ghost use Rattle.requests.specs.RequestLaws.{InLimits};
 ghost use Rattle.seconds.specs.Seconds.{directionAt, magnitudeAt};
-ghost use Rattle.seconds.specs.OneSecond.{wholeSecond, secondAnswer, secondSines};
+ghost use Rattle.seconds.specs.OneSecond.{IsStarSecond, wholeSecond, secondAnswer, secondSines};
 ghost use Rattle.seconds.specs.Exact.{AnswerMeans};
 
 // All of one second, or why there is none.
@@ -45,22 +45,57 @@ pub fn magnitude_at(table: &[u32], o: Occultation, place: station::Place, t: i64
     }
 }
 
-// One second of an eclipse within its limits, with the sine table lent.
-fn second_within(table: &[u32], q: Request, t: i64) -> shadow::Second
-    requires { ⌜ (Sines (now table)) × (InLimits (ofEclipse q)) × (natAbs t ≤ 10800) ⌝ }
-    ensures { λ r. ⌜ r ≡ wholeSecond q t ⌝ }
+// All of a second of a star, whose one phase stands for both.
+fn star_second(
+    table: &[u32],
+    star: elements::Star,
+    place: station::Place,
+    t: i64,
+    guard: i64,
+) -> shadow::Second
+    requires { ⌜ (Sines (now table)) × (StarSizes star) × (PlaceSizes place) × (natAbs t ≤ 10800) × (natAbs guard ≤ 1000) ⌝ }
+    ensures { λ r. ⌜ IsStarSecond guard star place t r ⌝ }
 {
-    let e = q.elements;
-    let s = q.station;
-    let place = station::geocentric(table, s);
-    shadow::second_at(table, e, place, t, q.guard)
+    let body = Body::Star(star);
+    let x = shadow::bodies::sample_at(table, body, place, t);
+    let radius = x.first;
+    let state = shadow::state(guard, radius, x.m);
+    let direction = shadow::directions::direction(table, x.u, x.v);
+    shadow::Second {
+        shadow: shadow::Shadow {
+            u: x.u,
+            v: x.v,
+            l1: radius,
+            l2: radius,
+            m: x.m,
+        },
+        penumbra: state,
+        central: state,
+        magnitude: 0,
+        direction,
+    }
 }
 
-// The shadow, the states, the magnitude and the direction at second t of an eclipse, which may lie outside its window; `sines` is room for table S.
-pub fn second(q: Request, t: i64, sines: &mut [u32]) -> OneSecond
-    ensures answer { λ r. ⌜ r ≡ secondAnswer q t (now (sines .entry)) ⌝ }
-    ensures sines { λ r. ⌜ now (sines .exit) ≡ secondSines q t (now (sines .entry)) ⌝ }
-    ensures means { λ r. ⌜ AnswerMeans q t r ⌝ }
+// One second of an occultation within its limits, with the sine table lent.
+fn second_within(table: &[u32], o: Occultation, t: i64) -> shadow::Second
+    requires { ⌜ (Sines (now table)) × (InLimits o) × (natAbs t ≤ 10800) ⌝ }
+    ensures { λ r. ⌜ r ≡ wholeSecond o t ⌝ }
+{
+    let s = o.station;
+    let place = station::geocentric(table, s);
+    let body = o.body;
+    let guard = o.guard;
+    match body {
+        Body::Sun(e) => shadow::second_at(table, e, place, t, guard),
+        Body::Star(star) => star_second(table, star, place, t, guard),
+    }
+}
+
+// The shadow, the states, the magnitude and the direction at second t of an occultation, which may lie outside its window; `sines` is room for table S.
+pub fn second(o: Occultation, t: i64, sines: &mut [u32]) -> OneSecond
+    ensures answer { λ r. ⌜ r ≡ secondAnswer o t (now (sines .entry)) ⌝ }
+    ensures sines { λ r. ⌜ now (sines .exit) ≡ secondSines o t (now (sines .entry)) ⌝ }
+    ensures means { λ r. ⌜ AnswerMeans o t r ⌝ }
 {
     let inside = requests::in_span(t);
     if !inside {
@@ -69,11 +104,10 @@ pub fn second(q: Request, t: i64, sines: &mut [u32]) -> OneSecond
             place: 0,
         });
     }
-    let o = requests::of_eclipse(q);
     let c = requests::admission::admit(o, sines);
     if let Checked::Refused(refusal) = c {
         return OneSecond::Refused(refusal);
     }
-    let x = second_within(sines, q, t);
+    let x = second_within(sines, o, t);
     OneSecond::Is(x)
 }

@@ -8,7 +8,7 @@ use mir.Val.{toZ, ofZ}
 use Rattle.phases.specs.PhaseLaws.{state-of-code}
 use Rattle.phases.specs.declared.Phase.the-variants.{Central}
 use Rattle.phases.specs.States.{stateOf}
-use Rattle.sine.specs.Table.{S}
+use Rattle.sine_table.specs.Table.{S}
 use Rattle.numbers.specs.Code.{read-back, read-size}
 use Rattle.elements.specs.declared.Elements.{Elements}
 use Rattle.elements.specs.declared.Body.the-variants as B

@@ -1,9 +1,9 @@
 -- Rows that document 01 gives, for its own table.
 use mathlib.Core.Path.{_≡_}
 use lib.IntN.{pos, negsuc}
-use Rattle.sine.specs.Table.{S}
-use Rattle.sine.specs.TableLaws.{entry-0}
-use Rattle.sine.specs.Rising.{S-rises}
+use Rattle.sine_table.specs.Table.{S}
+use Rattle.sine_table.specs.TableLaws.{entry-0}
+use Rattle.sine_table.specs.Rising.{S-rises}
 use Rattle.geometry.specs.Direction.{direction}
 use Rattle.geometry.specs.DirectionLaws.{Rising, direction-diagonal, direction-south}
 

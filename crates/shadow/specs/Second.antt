@@ -7,7 +7,7 @@ use Rattle.phases.specs.States.{State, code}
 use Rattle.phases.specs.declared.Phase.{Phase}
 use Rattle.phases.specs.declared.Phase.the-variants.{Penumbra, Central, Star}
 use Rattle.numbers.specs.Value.{Value}
-use Rattle.sine.specs.Table.{S}
+use Rattle.sine_table.specs.Table.{S}
 use Rattle.elements.specs.declared.Axis.{Axis}
 use Rattle.elements.specs.declared.Elements.{Elements}
 use Rattle.elements.specs.declared.Body.{Body}

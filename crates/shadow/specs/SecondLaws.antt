@@ -25,7 +25,7 @@ use Rattle.numbers.specs.Parts.{same, sum}
 use Rattle.numbers.specs.Value.{Value}
 use Rattle.numbers.specs.Order.{zs, nonneg, natAbs-parts, natAbs-between}
 use Rattle.numbers.specs.Ring.{num, _⊕_, ring, v0}
-use Rattle.sine.specs.Table.{S}
+use Rattle.sine_table.specs.Table.{S}
 use Rattle.elements.specs.declared.Axis.{Axis}
 use Rattle.elements.specs.declared.Elements.{Elements}
 use Rattle.elements.specs.declared.Star as Occulted

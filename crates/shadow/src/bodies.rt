@@ -7,7 +7,7 @@ ghost use Prim.Native.Nat.{_≤_, _<_};
 ghost use lib.IntN.{natAbs};
 ghost use lib.ListN.{length, getD};
 ghost use Rattle.phases.specs.declared.Phase.the-variants.{Penumbra};
-ghost use Rattle.sine.specs.Table.{Sines};
+ghost use Rattle.sine_table.specs.Table.{Sines};
 ghost use Rattle.elements.specs.declared.Body.the-variants as B;
 ghost use Rattle.elements.specs.Sizes.{AxisSizes, ElementSizes};
 ghost use Rattle.elements.specs.StarLaws.{StarSizes, BodySizes};

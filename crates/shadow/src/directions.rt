@@ -2,7 +2,7 @@
 ghost use mathlib.Core.Path.{_≡_};
 ghost use Prim.Native.Nat.{_≤_};
 ghost use lib.IntN.{pos, natAbs};
-ghost use Rattle.sine.specs.Table.{S, Sines};
+ghost use Rattle.sine_table.specs.Table.{S, Sines};
 ghost use Rattle.geometry.specs.Direction.{quarter, direction};
 
 fn wide(x: u32) -> u64
@@ -21,8 +21,8 @@ fn quarter(table: &[u32], u: u64, v: u64) -> u16
     let mut high = 900;
     while low + 1 < high {
         let k = (low + high) / 2;
-        let rising = wide(sine::entry(table, k));
-        let falling = wide(sine::entry(table, 900 - k));
+        let rising = wide(sine_table::entry(table, k));
+        let falling = wide(sine_table::entry(table, 900 - k));
         if v * rising <= u * falling {
             low = k;
         } else {

@@ -8,7 +8,7 @@ ghost use lib.IntN.{pos, natAbs, _*ℤ_};
 ghost use lib.Signed.{_≤ℤ_, _<ℤ_};
 ghost use Rattle.phases.specs.States.{code, stateOf};
 ghost use Rattle.numbers.specs.Value.{Value};
-ghost use Rattle.sine.specs.Table.{Sines};
+ghost use Rattle.sine_table.specs.Table.{Sines};
 ghost use Rattle.elements.specs.Sizes.{AxisSizes, ConeSizes, ElementSizes};
 ghost use Rattle.station.specs.Sizes.{PlaceSizes};
 ghost use Rattle.geometry.specs.Shadow.{state};
@@ -88,14 +88,15 @@ pub struct Sample {
     pub second: i64,
 }
 
-// All that is said of a second of an eclipse.
+// All that is said of a second of an eclipse; of a star's too, whose one phase stands for both.
 pub struct Second {
+    // a star's: v ±703,170,000, L1 and L2 both the Moon's radius, 27,200,000 to 27,300,000
     pub shadow: Shadow,
     // 0 outside, 1 inside, 2 unsure
     pub penumbra: u8,
     // likewise
     pub central: u8,
-    // millionths, 0 to 1,300,000
+    // millionths, 0 to 1,300,000; a star's 0
     pub magnitude: u32,
     // of the axis from the station, tenths of a degree, north through east: 0 to 3599, or 65,535 where u = v = 0
     pub direction: u16,

@@ -5,6 +5,7 @@ use mathlib.Core.List.{List, [], _∷_}
 use lib.IntN.{pos}
 use lib.ListN.{replicate}
 use Rattle.shadow.specs.declared.Second.{Second}
+use Rattle.requests.specs.Requests.{ofEclipse}
 use Rattle.seconds.specs.declared.OneSecond.{OneSecond}
 use Rattle.seconds.specs.declared.OneSecond.the-variants as O
 use Rattle.seconds.specs.OneSecond.{secondAnswer}
@@ -39,7 +40,7 @@ answerLine (O.Refused r) = refusalLine (r .number) (r .place)
 
 -- what is said of the first second; for table S there is room
 abbrev pub firstOf : Input → OneSecond
-firstOf (I.Is q) = secondAnswer q (q .window .first) (replicate 901 0)
+firstOf (I.Is q) = secondAnswer (ofEclipse q) (q .window .first) (replicate 901 0)
 firstOf (I.Refused r) = O.Refused r
 
 -- the line of a request's 115 bytes

@@ -48,8 +48,9 @@ fn first_of(request: &[u8]) -> OneSecond
     match asked {
         Input::Is(q) => {
             let w = q.window;
+            let o = requests::of_eclipse(q);
             let mut sines = [0u32; 901];
-            seconds::second(q, w.first, &mut sines)
+            seconds::second(o, w.first, &mut sines)
         }
         Input::Refused(refusal) => OneSecond::Refused(refusal),
     }

@@ -25,8 +25,8 @@ use Rattle.kinds.specs.declared.Progress.{Progress}
 use Rattle.kinds.specs.Kinds.{table, plain}
 use Rattle.kinds.specs.FieldRules.{isWithin, inWindow}
 use Rattle.kinds.specs.TestLaws.{both, distinct}
-use Rattle.rules.specs.Order.{phaseFollows, nothingCame, mayCome}
-use Rattle.rules.specs.Rules.{start, reached, closestAfter}
+use Rattle.order.specs.Order.{phaseFollows, nothingCame, mayCome, closestAfter}
+use Rattle.rules.specs.Rules.{start, reached}
 use Rattle.sheets.specs.Sheets.{sheet, storedAt, readSheet}
 use Rattle.sheets.specs.SheetLaws.{read-start}
 use Rattle.sheets.specs.StandLaws.{well-from}

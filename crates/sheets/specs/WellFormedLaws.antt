@@ -21,9 +21,9 @@ use Rattle.kinds.specs.declared.Progress.{Progress}
 use Rattle.kinds.specs.Kinds.{isEnd, plain}
 use Rattle.kinds.specs.Entries.{head, enter, leave, graze, opened, closest, share, end}
 use Rattle.kinds.specs.TestLaws.{both, distinct}
-use Rattle.rules.specs.Order.{phaseFollows, repeats}
+use Rattle.order.specs.Order.{phaseFollows, repeats}
 use Rattle.kinds.specs.FieldRules.{inWindow, isDirection, spanHolds, greatestMagnitude}
-use Rattle.rules.specs.OrderLaws.{own-phase, end-may-come}
+use Rattle.order.specs.OrderLaws.{own-phase, end-may-come}
 use Rattle.rules.specs.Rules.{start, reached, phaseInOrder, kindInOrder, inOrder, fieldsHold, afterOf}
 use Rattle.sheets.specs.WellFormed.{WellFormed, within, Step}
 

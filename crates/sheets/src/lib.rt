@@ -1,8 +1,6 @@
-// Sheets: records one after the other, by the rules of document 01; read from bytes here, written from entries in `handed`.
+// Sheets: records one after the other, by the rules of document 01; read from bytes here, written from entries in the crate `handed`.
 // An entry handed over, or given to a reader's caller, is five numbers: the kind, then the kind's fields in their order, 0 for what it
 // does not use.
-pub mod handed;
-
 use kinds::Entry;
 use kinds::Named;
 use records::Body;
@@ -24,7 +22,7 @@ pub enum Extent {
 }
 
 // A broken rule's refusal, passed on.
-fn broken(judged: Judgement) -> Extent
+pub fn broken(judged: Judgement) -> Extent
     ensures { λ r. ⌜ r ≡ brokenOf judged ⌝ }
 {
     match judged {

@@ -2,7 +2,7 @@
 use mathlib.Core.Path.{_≡_, refl}
 use lib.IntN.{pos, negsuc}
 use Rattle.numbers.specs.Near.{near}
-use Rattle.sine.specs.Table.{factorial, numerator, denominator, common, term, series, S}
+use Rattle.sine_table.specs.Table.{factorial, numerator, denominator, common, term, series, S}
 use Rattle.sine.specs.FirstQuadrant.{arc, sag, between, capped, firstQuadrant}
 use Rattle.sine.specs.Sine.{reduced, sineIn, sine, cosine}
 

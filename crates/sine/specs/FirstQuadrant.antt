@@ -4,7 +4,7 @@ use Prim.Native.Nat.{ℕ, _-_, _*_, _/_, _%_}
 use lib.IntN.{ℤ, pos, _+ℤ_, _-ℤ_, _*ℤ_}
 use lib.Signed.{leZ}
 use Rattle.numbers.specs.Near.{near}
-use Rattle.sine.specs.Table.{S}
+use Rattle.sine_table.specs.Table.{S}
 
 -- "Let r = near(b·17,453,293/10^7)": the arc of b millionths of a degree
 unfoldable pub arc : ℕ → ℤ

@@ -17,8 +17,8 @@ use lib.Signed.{leZ-yes}
 use Rattle.numbers.specs.Parts.{same, sum, opposite}
 use Rattle.numbers.specs.Near.{near}
 use Rattle.numbers.specs.NearLaws.{near-pos, near-zero}
-use Rattle.sine.specs.Table.{S}
-use Rattle.sine.specs.TableLaws.{entry-0, entry-900, entry-small, entry-least}
+use Rattle.sine_table.specs.Table.{S}
+use Rattle.sine_table.specs.TableLaws.{entry-0, entry-900, entry-small, entry-least}
 use Rattle.sine.specs.FirstQuadrant.{arc, sag, between, capped, firstQuadrant}
 
 -- near of natural numbers, by its law

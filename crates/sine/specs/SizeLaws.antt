@@ -8,8 +8,8 @@ use native.Mathlib.Omega.{arith}
 use native.Mathlib.Nat.{mul-le-mul, eq-or-lt-of-le}
 use lib.IntN.{ℤ, pos, negsuc, natAbs}
 use Rattle.numbers.specs.Order.{natAbs-opposite}
-use Rattle.sine.specs.Table.{S}
-use Rattle.sine.specs.TableLaws.{entry-low, entry-squares, entry-squares-less}
+use Rattle.sine_table.specs.Table.{S}
+use Rattle.sine_table.specs.TableLaws.{entry-low, entry-squares, entry-squares-less}
 use Rattle.sine.specs.FirstQuadrant.{firstQuadrant}
 use Rattle.sine.specs.FirstQuadrantLaws.{first-least, first-most}
 use Rattle.sine.specs.Sine.{sine, cosine}

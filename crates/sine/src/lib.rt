@@ -1,64 +1,12 @@
-// Sine and cosine. Angles are in units of 10^-6 degree, sines and cosines in units of 10^-8.
-mod differences;
+// Sine and cosine, from a lent table S (`sine_table`). Angles are in units of 10^-6 degree, sines and cosines in units of 10^-8.
 pub mod turns;
 
 ghost use mathlib.Core.Path.{_≡_};
-ghost use Prim.Native.Nat.{_≤_, _<_};
+ghost use Prim.Native.Nat.{_≤_};
 ghost use lib.IntN.{pos, natAbs};
-ghost use lib.ListN.{length};
-ghost use Rattle.sine.specs.Table.{Entry, Sines};
-ghost use Rattle.sine.specs.Room.{filled, Gives};
+ghost use Rattle.sine_table.specs.Table.{Sines};
 ghost use Rattle.sine.specs.FirstQuadrant.{firstQuadrant};
 ghost use Rattle.sine.specs.Sine.{IsReduced, IsSine, IsCosine};
-
-// The second differences of table S, to be lent to `sum_up`: an array is made anew wherever it is named.
-fn second_differences() -> [i16; 899]
-    ensures { λ r. ⌜ Gives 0 (pos 0) (pos 174_533) r ⌝ }
-{
-    differences::SECOND_DIFFERENCES
-}
-
-fn wide_signed(x: i16) -> i64
-    ensures { λ r. ⌜ r ≡ x ⌝ }
-{
-    x as i64
-}
-
-// Entry after entry, from the first two: the step to the next one grows by a second difference.
-fn sum_up(differences: &[i16], room: &mut [u32])
-    requires { ⌜ (Gives 0 (pos 0) (pos 174_533) (now differences)) × (901 ≤ length (now room)) ⌝ }
-    ensures { λ r. ⌜ now (room .exit) ≡ filled (now (room .entry)) ⌝ }
-{
-    let mut entry = differences::FIRST;
-    let mut step = differences::SECOND - differences::FIRST;
-    let mut k: usize = 0;
-    while k < 899 {
-        room[k] = entry as u32;
-        entry += step;
-        step += wide_signed(differences[k]);
-        k += 1;
-    }
-    room[899] = entry as u32;
-    room[900] = (entry + step) as u32;
-}
-
-// Table S in the first 901 numbers of the room lent; what lies past them stays.
-pub fn fill(room: &mut [u32])
-    requires { ⌜ 901 ≤ length (now room) ⌝ }
-    ensures room { λ r. ⌜ now (room .exit) ≡ filled (now (room .entry)) ⌝ }
-    ensures sines { λ r. ⌜ Sines (now (room .exit)) ⌝ }
-{
-    let differences = second_differences();
-    sum_up(&differences, room);
-}
-
-// Entry k of a lent table.
-pub fn entry(table: &[u32], k: usize) -> u32
-    requires { ⌜ (Sines (now table)) × (k < 901) ⌝ }
-    ensures { λ r. ⌜ Entry k r ⌝ }
-{
-    table[k]
-}
 
 fn wide(x: u32) -> u64
     ensures { λ r. ⌜ r ≡ x ⌝ }
@@ -78,8 +26,8 @@ fn first_quadrant(table: &[u32], a: u64) -> i64
     let r = numbers::near_unsigned(arc, 10_000_000);
     let square = r * r;
     let w = numbers::near_unsigned(square, 200_000_000);
-    let s = wide(entry(table, k));
-    let c = wide(entry(table, 900 - k));
+    let s = wide(sine_table::entry(table, k));
+    let c = wide(sine_table::entry(table, 900 - k));
     let gain = c * r;
     let loss = s * w;
     let step = numbers::near_unsigned(gain - loss, 100_000_000);

@@ -1,7 +1,7 @@
 // Sine and cosine as document 01 has them: they call each other, the angle falling by a quarter turn.
 ghost use Prim.Native.Nat.{_≤_};
 ghost use lib.IntN.{pos};
-ghost use Rattle.sine.specs.Table.{Sines};
+ghost use Rattle.sine_table.specs.Table.{Sines};
 ghost use Rattle.sine.specs.Sine.{IsSine, IsCosine};
 
 // The sine of an angle from 0 to 360 degrees.

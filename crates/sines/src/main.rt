@@ -5,14 +5,14 @@ ghost use mathlib.Core.Path.{_≡_};
 ghost use Prim.Native.Nat.{_+_, _≤_, _<_};
 ghost use lib.IntN.{pos, natAbs, _-ℤ_};
 ghost use Rattle.numbers.specs.Value.{Value};
-ghost use Rattle.sine.specs.Table.{Sines};
+ghost use Rattle.sine_table.specs.Table.{Sines};
 ghost use Rattle.decimals.specs.Texts.{Put};
 ghost use Rattle.sines.specs.Printed.{angle, line, lines, printed};
 
 fn main() {
     let mut table = [0u32; 901];
-    sine::fill(&mut table);
-    let mut text = [0u8; 65536];
+    sine_table::fill(&mut table);
+    let mut text = io::large_buffer();
     let end = put_all(&mut text, &table);
     let written = decimals::clipped(&text, end);
     io::write_all(STDOUT_FILENO, &text[..written]);

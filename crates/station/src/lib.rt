@@ -3,7 +3,7 @@ ghost use mathlib.Core.Path.{_≡_};
 ghost use Prim.Native.Nat.{_≤_, _+_, _*_};
 ghost use lib.IntN.{natAbs};
 ghost use Rattle.numbers.specs.Value.{Value};
-ghost use Rattle.sine.specs.Table.{Sines};
+ghost use Rattle.sine_table.specs.Table.{Sines};
 ghost use Rattle.station.specs.Station.{fields, rangeOf, stationChecked};
 ghost use Rattle.station.specs.Sizes.{StationSizes};
 ghost use Rattle.station.specs.Place.{C, ephemerisLongitude, placeOf};

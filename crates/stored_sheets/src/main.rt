@@ -72,7 +72,7 @@ fn put_written(out: &mut [u8], start: usize, numbers: &[u32], sheet: &[u8]) -> u
     ensures { λ r. ⌜ Put (now (out .entry)) start (writtenLine (readWhole (now (sheet .entry)))) (now (out .exit)) r ⌝ }
 {
     let mut space = io::buffer();
-    let answer = sheets::handed::write(numbers, &mut space);
+    let answer = handed::write(numbers, &mut space);
     let at = put_answer(out, start, b" written ", answer);
     let Extent::Sheet { entries: _, length } = answer else {
         return at;
@@ -132,10 +132,20 @@ fn put_sheets(out: &mut [u8], input: &[u8]) -> usize
     at
 }
 
+// The sheets.
+fn input_room() -> [u8; 131072] {
+    [0u8; 131072]
+}
+
+// Their answers; a text that is longer is cut.
+fn lines_room() -> [u8; 262144] {
+    [0u8; 262144]
+}
+
 fn main() {
-    let mut input = [0u8; 131072];
+    let mut input = input_room();
     let length = io::read_full(STDIN_FILENO, &mut input);
-    let mut lines = [0u8; 262144];
+    let mut lines = lines_room();
     let end = put_sheets(&mut lines, &input[..length]);
     let written = decimals::clipped(&lines, end);
     io::write_all(STDOUT_FILENO, &lines[..written]);

@@ -244,12 +244,20 @@ fn respond(text: &[u8], out: &mut [u8], message: &mut [u8]) -> Streams
     Streams { output, error }
 }
 
+// A byte more than is taken, so that a longer text is seen.
+fn text_room() -> [u8; 65537] {
+    [0u8; 65537]
+}
+
+// An accepted row takes 33 bytes at least, and its line 78 at most.
+fn lines_room() -> [u8; 160_000] {
+    [0u8; 160_000]
+}
+
 fn main() {
-    // a byte more than is taken, so that a longer text is seen
-    let mut text = [0u8; 65537];
+    let mut text = text_room();
     let length = io::read_full(STDIN_FILENO, &mut text);
-    // an accepted row takes 33 bytes at least, and its line 78 at most
-    let mut lines = [0u8; 160_000];
+    let mut lines = lines_room();
     let mut message = [0u8; 128];
     let streams = respond(&text[..length], &mut lines, &mut message);
     let output = streams.output;

@@ -10,7 +10,7 @@ use Rattle.phases.specs.declared.Phase.{Phase}
 use Rattle.phases.specs.declared.Phase.the-variants.{Penumbra, Central, Star}
 use Rattle.numbers.specs.Order.{natAbs-product}
 use Rattle.numbers.specs.Ring.{var, num, _⊕_, _⊖_, _⊗_, ring, v0, v1, v2, v3, v4, v5, v6, v7, v8, v9}
-use Rattle.sine.specs.Table.{factorial}
+use Rattle.sine_table.specs.Table.{factorial}
 use Rattle.sine.specs.Sine.{sine, cosine}
 use Rattle.elements.specs.declared.Cone.{Cone}
 use Rattle.station.specs.Place.{placeOf}

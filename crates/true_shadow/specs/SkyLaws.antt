@@ -15,9 +15,9 @@ use Rattle.numbers.specs.Cert.{leq, certify}
 use Rattle.numbers.specs.Units.{hour}
 use Rattle.numbers.specs.Near.{near}
 use Rattle.numbers.specs.NearLaws.{near-error}
-use Rattle.sine.specs.Table.{factorial, numerator, denominator, common as tableCommon, term, series, S}
+use Rattle.sine_table.specs.Table.{factorial, numerator, denominator, common as tableCommon, term, series, S}
 use Rattle.sine.specs.FirstQuadrantLaws.{first-most}
-use Rattle.sine.specs.Computed.{upTo, at-upTo}
+use Rattle.sine_table.specs.Computed.{upTo, at-upTo}
 use Rattle.sine.specs.Sine.{sine, cosine}
 use Rattle.sine.specs.SineLaws.{sine-first, sine-size, cosine-size}
 use Rattle.sine.specs.OppositeLaws.{sine-opposite}

@@ -15,9 +15,9 @@ use lib.IntN.{ℤ, pos, natAbs, _-ℤ_, _*ℤ_}
 use Rattle.numbers.specs.Order.{natAbs-product}
 use Rattle.numbers.specs.Ring.{var, _⊕_, _⊖_, _⊗_, ring, v0, v1, v2, v3, v4, v5, v6, v7, v8, v9}
 use Rattle.numbers.specs.Near.{near}
-use Rattle.sine.specs.Table.{factorial, numerator, denominator as tableDenominator, common as tableCommon, term as tableTerm, series, S}
+use Rattle.sine_table.specs.Table.{factorial, numerator, denominator as tableDenominator, common as tableCommon, term as tableTerm, series, S}
 use Rattle.sine.specs.FirstQuadrant.{arc, sag, between, capped, firstQuadrant}
-use Rattle.sine.specs.Computed.{both}
+use Rattle.sine_table.specs.Computed.{both}
 use Rattle.sine.specs.Sine.{reduced, sineIn, sine}
 use Rattle.true_sine.specs.Series.{denominator, common, term, sineSeries, cosineSeries, sineQuarter, cosineQuarter, trueSine, trueCosine}
 use Rattle.true_sine.specs.Angles.{arcOf, restCommon, sineRest, cosineRest, angleCommon, sineAt, cosineAt}

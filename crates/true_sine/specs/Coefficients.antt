@@ -8,7 +8,7 @@ use lib.IntN.{ℤ, pos, negℤ, _+ℤ_, _*ℤ_}
 use Rattle.numbers.specs.Parts.{same, sum, opposite}
 use Rattle.numbers.specs.Laws.{one-*ℤ}
 use Rattle.numbers.specs.Ring.{var, num, _⊕_, _⊖_, _⊗_, opp, ring}
-use Rattle.sine.specs.Table.{factorial, numerator}
+use Rattle.sine_table.specs.Table.{factorial, numerator}
 use Rattle.true_sine.specs.Series.{denominator, term, sineSeries, cosineSeries}
 use Rattle.true_sine.specs.Lists.{worth, moved, turned, worth-moved, worth-turned, spread, spread-worth}
 

@@ -13,9 +13,9 @@ use Rattle.numbers.specs.Ring.{num, _⊖_, _⊗_, opp, v0, v1, v2}
 use Rattle.numbers.specs.Cert.{fact, leq, less, lit, _⊞_, _⊠_, certify}
 use Rattle.numbers.specs.Near.{near}
 use Rattle.numbers.specs.NearLaws.{near-error}
-use Rattle.sine.specs.Table.{S}
+use Rattle.sine_table.specs.Table.{S}
 use Rattle.sine.specs.FirstQuadrant.{arc, sag, between, capped, firstQuadrant}
-use Rattle.sine.specs.Computed.{both, both-left, both-right}
+use Rattle.sine_table.specs.Computed.{both, both-left, both-right}
 use Rattle.true_sine.specs.Lists.{worth, moved, worth-moved}
 use Rattle.true_sine.specs.Cell.{tight, low, Rounded, cell, topped}
 

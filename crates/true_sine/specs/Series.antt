@@ -2,7 +2,7 @@
 -- sine has them at its tenths. Definitions only.
 use Prim.Native.Nat.{ℕ, zero, suc, _-_, _*_, _/_, _%_, _^_, _≤_}
 use lib.IntN.{ℤ, pos, negℤ, natAbs, _+ℤ_, _-ℤ_, _*ℤ_}
-use Rattle.sine.specs.Table.{factorial, numerator}
+use Rattle.sine_table.specs.Table.{factorial, numerator}
 use Rattle.sine.specs.Sine.{reduced}
 
 -- a millionths of a degree are a·π/180,000,000, "with π taken as 3.14159265358979323846": numerator a over denominator

@@ -6,8 +6,8 @@ use Prim.Native.Nat.{ℕ, _-_, _*_, _≤_, _<_}
 use lib.Dec.{T, leb, leb→le}
 use lib.IntN.{ℤ, pos, negℤ}
 use Rattle.numbers.specs.Near.{near}
-use Rattle.sine.specs.Table.{factorial, numerator, denominator as tableDenominator, common as tableCommon, term as tableTerm, series, S}
-use Rattle.sine.specs.Computed.{upTo, at-upTo}
+use Rattle.sine_table.specs.Table.{factorial, numerator, denominator as tableDenominator, common as tableCommon, term as tableTerm, series, S}
+use Rattle.sine_table.specs.Computed.{upTo, at-upTo}
 use Rattle.true_sine.specs.Series.{denominator, common}
 use Rattle.true_sine.specs.Lists.{carry, moved, turned, added, product, size}
 use Rattle.true_sine.specs.Coefficients.{sines, cosines, complements}

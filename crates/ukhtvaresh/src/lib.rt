@@ -21,63 +21,7 @@ ghost use Rattle.requests.specs.Requests.{ofEclipse};
 ghost use Rattle.circumstances.specs.Demand3.{Claimed};
 ghost use Rattle.input.specs.Input.{requestOf};
 ghost use Rattle.input.specs.Sheet.{answerTo, bufferFor, sinesFor};
-ghost use Rattle.ukhtvaresh.specs.Replies.{refusedReply, sheetReply, readGiven, readReply, writeGiven, writeReply};
-
-// What a caller gets.
-pub struct Reply {
-    // number of the refusal, 1 to 10, of tables 11 too, of doubles 12, of a star 13, of a network 14, 15, 16, 19, of a fit 17, 18; 0 for none
-    pub number: u64,
-    // length of the sheet, count of the entries or of the numbers, 0 for a fit, a network's first station; or the refusal's place
-    pub value: u64,
-}
-
-// ---- the answers of the crates below, as numbers
-
-fn refused(refusal: refusals::Refusal) -> Reply
-    ensures { λ r. ⌜ r ≡ refusedReply refusal ⌝ }
-{
-    let number = refusal.number as u64;
-    let value = refusal.place as u64;
-    Reply { number, value }
-}
-
-fn sheet_reply(answer: circumstances::Answer) -> Reply
-    ensures { λ r. ⌜ r ≡ sheetReply answer ⌝ }
-{
-    match answer {
-        circumstances::Answer::Written(length) => {
-            let value = length as u64;
-            Reply { number: 0, value }
-        }
-        circumstances::Answer::Refused(refusal) => refused(refusal),
-    }
-}
-
-fn read_reply(extent: sheets::Extent) -> Reply
-    ensures { λ r. ⌜ r ≡ readReply extent ⌝ }
-{
-    match extent {
-        sheets::Extent::Sheet { entries, length: _ } => {
-            let value = entries as u64;
-            Reply { number: 0, value }
-        }
-        sheets::Extent::Refused(refusal) => refused(refusal),
-    }
-}
-
-fn write_reply(extent: sheets::Extent) -> Reply
-    ensures { λ r. ⌜ r ≡ writeReply extent ⌝ }
-{
-    match extent {
-        sheets::Extent::Sheet { entries: _, length } => {
-            let value = length as u64;
-            Reply { number: 0, value }
-        }
-        sheets::Extent::Refused(refusal) => refused(refusal),
-    }
-}
-
-// ---- exported
+ghost use Rattle.replies.specs.Replies.{sheetReply, readGiven, readReply, writeGiven, writeReply};
 
 // The contact sheet of a request of 115 bytes, in the caller's buffer; value: its length. `sines` is room for table S.
 #[no_mangle]
@@ -94,7 +38,7 @@ pub extern "C" fn ukhtvaresh_sheet(
     ensures demand3 { λ r. ⌜ Claimed (ofEclipse (requestOf (now (request .entry)))) (answerTo (now (request .entry)) (now (sines .entry)) (now (sheet .entry))) (now (sheet .exit)) ⌝ }
 {
     let answer = input::sheet(request, sines, sheet);
-    let reply = sheet_reply(answer);
+    let reply = replies::sheet_reply(answer);
     *value = reply.value;
     reply.number
 }
@@ -107,7 +51,7 @@ pub extern "C" fn ukhtvaresh_read(sheet: &[u8], entries: &mut [u32], value: &mut
     ensures room { λ r. ⌜ now (entries .exit) ≡ roomAfter (readWhole (now (sheet .entry))) (now (entries .entry)) ⌝ }
 {
     let extent = sheets::read(sheet, entries);
-    let reply = read_reply(extent);
+    let reply = replies::read_reply(extent);
     *value = reply.value;
     reply.number
 }
@@ -119,8 +63,8 @@ pub extern "C" fn ukhtvaresh_write(entries: &[u32], sheet: &mut [u8], value: &mu
     ensures value { λ r. ⌜ now (value .exit) ≡ writeReply (writeGiven (now (entries .entry)) (now (sheet .entry))) .value ⌝ }
     ensures buffer { λ r. ⌜ now (sheet .exit) ≡ bufferAfterList (listWhole (now (entries .entry))) (now (sheet .entry)) ⌝ }
 {
-    let extent = sheets::handed::write(entries, sheet);
-    let reply = write_reply(extent);
+    let extent = handed::write(entries, sheet);
+    let reply = replies::write_reply(extent);
     *value = reply.value;
     reply.number
 }

@@ -1,40 +1,6 @@
 // The year file mended, for C and Rust.
 ghost use mathlib.Core.Path.{_≡_};
-ghost use Rattle.ukhtvaresh.specs.MendReply.{mendGiven, mendReply, sheetsAfter, droppedAfter};
-
-// What a caller gets.
-pub struct MendReply {
-    // number of the refusal, 4; 0 for none
-    pub number: u64,
-    // bytes written into the sheets' room; or the refusal's place, the length needed
-    pub kept: u64,
-    // bytes written into the other room; 0 on refusal
-    pub noted: u64,
-}
-
-fn mend_reply(answer: mending::Answer) -> MendReply
-    ensures { λ r. ⌜ r ≡ mendReply answer ⌝ }
-{
-    match answer {
-        mending::Answer::Mended { kept, noted } => {
-            let bytes = kept as u64;
-            let noted_bytes = noted as u64;
-            MendReply {
-                number: 0,
-                kept: bytes,
-                noted: noted_bytes,
-            }
-        }
-        mending::Answer::Refused(refusal) => {
-            let reply = super::refused(refusal);
-            MendReply {
-                number: reply.number,
-                kept: reply.value,
-                noted: 0,
-            }
-        }
-    }
-}
+ghost use Rattle.replies.specs.MendReply.{mendGiven, mendReply, sheetsAfter, droppedAfter};
 
 // Mends a file of sheets: those kept in the one room, each unbroken stretch of dropped bytes, 16 bytes each, in the other; kept, noted:
 // how many bytes each room has of them.
@@ -53,7 +19,7 @@ pub extern "C" fn ukhtvaresh_mend(
     ensures dropped { λ r. ⌜ now (dropped .exit) ≡ droppedAfter (now (file .entry)) (now (sheets .entry)) (now (dropped .entry)) ⌝ }
 {
     let answer = mending::mend(file, sheets, dropped);
-    let reply = mend_reply(answer);
+    let reply = replies::mend_reply(answer);
     *kept = reply.kept;
     *noted = reply.noted;
     reply.number

@@ -1,6 +1,4 @@
 // Positions as doubles, for C and Rust: a survey's sheet, and whole units as doubles.
-use super::Reply;
-use instrument::writing::Answer;
 ghost use mathlib.Core.Path.{_≡_};
 ghost use lib.ListN.{length};
 ghost use Rattle.requests.specs.Requests.{ofEclipse};
@@ -8,8 +6,8 @@ ghost use Rattle.circumstances.specs.Demand3.{Claimed};
 ghost use Rattle.instrument.specs.Writing as Writing;
 ghost use Rattle.survey.specs.Survey.{requestOf};
 ghost use Rattle.survey.specs.Handed.{surveyOf, handedOf, answerTo, bufferFor, sinesFor};
-ghost use Rattle.ukhtvaresh.specs.Replies.{sheetReply};
-ghost use Rattle.ukhtvaresh.specs.Positions.{doublesReply};
+ghost use Rattle.replies.specs.Replies.{sheetReply};
+ghost use Rattle.replies.specs.Positions.{doublesReply};
 
 // The contact sheet of elements and a longitude in doubles, in the caller's buffer; value: its length. `hours` is 0 for a longitude in degrees, 1
 // for one in hours of time; `rest` is number, latitude, height, ΔT, first, last, guard in whole numbers; `sines` is room for table S.
@@ -30,21 +28,9 @@ pub extern "C" fn ukhtvaresh_sheet_of_doubles(
     ensures demand3 { λ r. ⌜ Claimed (ofEclipse (requestOf (surveyOf (now (elements .entry)) longitude hours (now (rest .entry))))) (answerTo (handedOf (now (elements .entry)) longitude hours (now (rest .entry))) (now (sines .entry)) (now (sheet .entry))) (now (sheet .exit)) ⌝ }
 {
     let answer = survey::handed::sheet(elements, longitude, hours, rest, sines, sheet);
-    let reply = super::sheet_reply(answer);
+    let reply = replies::sheet_reply(answer);
     *value = reply.value;
     reply.number
-}
-
-fn doubles_reply(answer: Answer) -> Reply
-    ensures { λ r. ⌜ r ≡ doublesReply answer ⌝ }
-{
-    match answer {
-        Answer::Made => Reply {
-            number: 0,
-            value: 23,
-        },
-        Answer::Refused(refusal) => super::refused(refusal),
-    }
 }
 
 // The 22 elements and a longitude in whole units as doubles, the longitude in degrees; value: 23.
@@ -56,7 +42,7 @@ pub extern "C" fn ukhtvaresh_doubles(units: &[i64], doubles: &mut [f64], value: 
     ensures back { λ r. ⌜ Writing.Claimed (Writing.answerTo (now (units .entry)) (length (now (doubles .entry)))) (now (units .entry)) (now (doubles .exit)) ⌝ }
 {
     let answer = instrument::writing::write(units, doubles);
-    let reply = doubles_reply(answer);
+    let reply = replies::doubles_reply(answer);
     *value = reply.value;
     reply.number
 }

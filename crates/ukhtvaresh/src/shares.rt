@@ -1,16 +1,17 @@
 // How much of the Sun is gone, for C and Rust: in a sheet, and at one second.
-use super::Reply;
-use covered::OneShare;
+use request_fields::Shape;
 ghost use mathlib.Core.Path.{_≡_};
 ghost use Rattle.requests.specs.Requests.{ofEclipse};
 ghost use Rattle.requests.specs.Shares.{withShare};
 ghost use Rattle.circumstances.specs.Demand3.{Claimed};
 ghost use Rattle.covered.specs.Answer.{AnswerMeans};
+ghost use Rattle.request_fields.specs.declared.Shape.the-variants.{Eclipse};
 ghost use Rattle.input.specs.Input.{inputOf, requestOf};
 ghost use Rattle.input.specs.Sheet.{sharedAnswer, sharedBuffer, sharedSines};
-ghost use Rattle.ukhtvaresh.specs.Replies.{sheetReply};
-ghost use Rattle.ukhtvaresh.specs.Second.{sinesAsked};
-ghost use Rattle.ukhtvaresh.specs.Shares.{shareAsked, shareReply};
+ghost use Rattle.replies.specs.Replies.{sheetReply};
+ghost use Rattle.second_replies.specs.Second.{wish, sinesAsked};
+ghost use Rattle.replies.specs.Shares.{shareReply};
+ghost use Rattle.second_replies.specs.Shares.{shareAsked};
 
 // The contact sheet of a request of 115 bytes with the covered share after the closest second; value: its length. `sines` is room for table S.
 #[no_mangle]
@@ -27,21 +28,9 @@ pub extern "C" fn ukhtvaresh_sheet_and_share(
     ensures demand3 { λ r. ⌜ Claimed (ofEclipse (withShare (requestOf (now (request .entry))))) (sharedAnswer (now (request .entry)) (now (sines .entry)) (now (sheet .entry))) (now (sheet .exit)) ⌝ }
 {
     let answer = input::sheet_and_share(request, sines, sheet);
-    let reply = super::sheet_reply(answer);
+    let reply = replies::sheet_reply(answer);
     *value = reply.value;
     reply.number
-}
-
-fn share_reply(share: OneShare) -> Reply
-    ensures { λ r. ⌜ r ≡ shareReply share ⌝ }
-{
-    match share {
-        OneShare::Is(millionths) => {
-            let value = millionths as u64;
-            Reply { number: 0, value }
-        }
-        OneShare::Refused(refusal) => super::refused(refusal),
-    }
 }
 
 // The covered share of the Sun's disc at one second of a request of 115 bytes, which may lie outside its window; value: the share in millionths.
@@ -55,12 +44,13 @@ pub extern "C" fn ukhtvaresh_share(
 ) -> u64
     ensures number { λ r. ⌜ r ≡ shareReply (shareAsked (inputOf (now (request .entry))) second (now (sines .entry))) .number ⌝ }
     ensures value { λ r. ⌜ now (value .exit) ≡ shareReply (shareAsked (inputOf (now (request .entry))) second (now (sines .entry))) .value ⌝ }
-    ensures sines { λ r. ⌜ now (sines .exit) ≡ sinesAsked (inputOf (now (request .entry))) second (now (sines .entry)) ⌝ }
+    ensures sines { λ r. ⌜ now (sines .exit) ≡ sinesAsked (wish Eclipse (now (request .entry))) second (now (sines .entry)) ⌝ }
     ensures means { λ r. ⌜ AnswerMeans (requestOf (now (request .entry))) second (shareAsked (inputOf (now (request .entry))) second (now (sines .entry))) ⌝ }
 {
-    let found = super::second::asked(request, second, sines);
+    let shape = Shape::Eclipse;
+    let found = second_replies::asked(shape, request, second, sines);
     let share = covered::of_second(found);
-    let reply = share_reply(share);
+    let reply = replies::share_reply(share);
     *value = reply.value;
     reply.number
 }

@@ -1,20 +1,7 @@
 // A fit from the spreadsheet, for C and Rust.
-use super::Reply;
 ghost use mathlib.Core.Path.{_≡_};
 ghost use Rattle.fits.specs.Fits.{fitOf};
-ghost use Rattle.ukhtvaresh.specs.Fits.{fitReply};
-
-fn fit_reply(answer: fits::Answer) -> Reply
-    ensures { λ r. ⌜ r ≡ fitReply answer ⌝ }
-{
-    match answer {
-        fits::Answer::Accepted => Reply {
-            number: 0,
-            value: 0,
-        },
-        fits::Answer::Refused(refusal) => super::refused(refusal),
-    }
-}
+ghost use Rattle.replies.specs.Fits.{fitReply};
 
 // Whether four coefficients may stand for seven tabulated hourly values, hours -3 to 3, within a tolerance; value: 0.
 #[no_mangle]
@@ -28,7 +15,7 @@ pub extern "C" fn ukhtvaresh_fit(
     ensures value { λ r. ⌜ now (value .exit) ≡ fitReply (fitOf (now (coefficients .entry)) (now (tabulated .entry)) tolerance) .value ⌝ }
 {
     let answer = fits::fit(coefficients, tabulated, tolerance);
-    let reply = fit_reply(answer);
+    let reply = replies::fit_reply(answer);
     *value = reply.value;
     reply.number
 }

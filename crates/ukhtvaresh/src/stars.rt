@@ -4,7 +4,7 @@ ghost use Rattle.requests.specs.Requests.{ofStar};
 ghost use Rattle.circumstances.specs.Demand3.{Claimed};
 ghost use Rattle.input.specs.Input.{starRequestOf};
 ghost use Rattle.input.specs.Sheet.{starAnswer, starBuffer, starSines};
-ghost use Rattle.ukhtvaresh.specs.Replies.{sheetReply};
+ghost use Rattle.replies.specs.Replies.{sheetReply};
 
 // The contact sheet of a star request of 79 bytes, in the caller's buffer; value: its length. `sines` is room for table S.
 #[no_mangle]
@@ -21,7 +21,7 @@ pub extern "C" fn ukhtvaresh_star(
     ensures demand3 { λ r. ⌜ Claimed (ofStar (starRequestOf (now (request .entry)))) (starAnswer (now (request .entry)) (now (sines .entry)) (now (sheet .entry))) (now (sheet .exit)) ⌝ }
 {
     let answer = input::stars::sheet(request, sines, sheet);
-    let reply = super::sheet_reply(answer);
+    let reply = replies::sheet_reply(answer);
     *value = reply.value;
     reply.number
 }

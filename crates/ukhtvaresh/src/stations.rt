@@ -1,5 +1,4 @@
 // The whole network in one list, for C and Rust.
-use super::Reply;
 use nodes::Held;
 use nodes::Node;
 ghost use mathlib.Core.Path.{_≡_};
@@ -8,19 +7,7 @@ ghost use lib.ListN.{length};
 ghost use Rattle.nodes.specs.declared.Node.{Node};
 ghost use Rattle.nodes.specs.Nodes.{Holds};
 ghost use Rattle.networks.specs.Network.{answerTo, sinesFor, stepsFor};
-ghost use Rattle.ukhtvaresh.specs.NetworkReply.{networkReply, Told};
-
-fn network_reply(answer: networks::Answer) -> Reply
-    ensures { λ r. ⌜ r ≡ networkReply answer ⌝ }
-{
-    match answer {
-        networks::Answer::Named(station) => Reply {
-            number: 0,
-            value: station,
-        },
-        networks::Answer::Refused(refusal) => super::refused(refusal),
-    }
-}
+ghost use Rattle.replies.specs.NetworkReply.{networkReply, Told};
 
 // The answer to a list that is held.
 fn told(eclipse: &[i64], h: Held, sines: &mut [u32], steps: &mut [u64], value: &mut u64) -> u64
@@ -28,7 +15,7 @@ fn told(eclipse: &[i64], h: Held, sines: &mut [u32], steps: &mut [u64], value: &
     ensures { λ r. ⌜ ((l : List Node) → Holds h l → Told (now (eclipse .entry)) l (now (sines .entry)) (now (steps .entry)) r (now (sines .exit)) (now (steps .exit)) (now (value .exit))) ⌝ }
 {
     let answer = networks::network(eclipse, h, sines, steps);
-    let reply = network_reply(answer);
+    let reply = replies::network_reply(answer);
     *value = reply.value;
     reply.number
 }

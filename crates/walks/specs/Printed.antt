@@ -3,9 +3,9 @@
 use Prim.Native.Nat.{ℕ, zero, suc, _/_, _%_, _^_, _≤_, _<_}
 use mathlib.Core.List.{List, [], _∷_, _++_, flatMap}
 use lib.ListN.{length, getD}
-use Rattle.contacts.specs.declared.Entry.{Entry}
-use Rattle.contacts.specs.declared.Entry.the-variants.{Enter, Leave, Graze, Open}
-use Rattle.contacts.specs.Entries.{entries}
+use Rattle.contact_entries.specs.declared.Entry.{Entry}
+use Rattle.contact_entries.specs.declared.Entry.the-variants.{Enter, Leave, Graze, Open}
+use Rattle.contact_entries.specs.Entries.{entries}
 use Rattle.decimals.specs.Decimals.{decimal}
 use Rattle.decimals.specs.Texts.{letters}
 use Rattle.decimals.specs.Rows.{rows}

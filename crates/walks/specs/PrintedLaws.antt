@@ -6,8 +6,8 @@ use native.Mathlib.Omega.{arith}
 use lib.ListN.{length, getD, take}
 use Rattle.runs.specs.Runs.{decoded, Whole}
 use Rattle.runs.specs.RunsLaws.{singles}
-use Rattle.contacts.specs.declared.Entry.{Entry}
-use Rattle.contacts.specs.Entries.{entries}
+use Rattle.contact_entries.specs.declared.Entry.{Entry}
+use Rattle.contact_entries.specs.Entries.{entries}
 use Rattle.contacts.specs.Step.{entriesFrom}
 use Rattle.contacts.specs.StepLaws.{all-at-start}
 use Rattle.decimals.specs.Decimals.{decimal}

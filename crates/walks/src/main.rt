@@ -17,14 +17,14 @@ fn put_span(out: &mut [u8], at: usize, word: &[u8], from: usize, to: usize) -> u
     decimals::put_number(out, next, to as u64)
 }
 
-fn put_entry(out: &mut [u8], at: usize, entry: contacts::Entry) -> usize
+fn put_entry(out: &mut [u8], at: usize, entry: contact_entries::Entry) -> usize
     ensures { λ r. ⌜ Put (now (out .entry)) at (entryText entry) (now (out .exit)) r ⌝ }
 {
     match entry {
-        contacts::Entry::Enter { from, to } => put_span(out, at, b" e", from, to),
-        contacts::Entry::Leave { from, to } => put_span(out, at, b" l", from, to),
-        contacts::Entry::Graze { from, to } => put_span(out, at, b" g", from, to),
-        contacts::Entry::Open { from, to } => put_span(out, at, b" o", from, to),
+        contact_entries::Entry::Enter { from, to } => put_span(out, at, b" e", from, to),
+        contact_entries::Entry::Leave { from, to } => put_span(out, at, b" l", from, to),
+        contact_entries::Entry::Graze { from, to } => put_span(out, at, b" g", from, to),
+        contact_entries::Entry::Open { from, to } => put_span(out, at, b" o", from, to),
     }
 }
 

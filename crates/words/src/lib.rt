@@ -82,13 +82,15 @@ pub fn start(s: &[u8], class: Class) -> usize
 
 // ---- numbers
 
-fn byte_or_zero(s: &[u8], at: usize) -> u8
+// The byte at a place of a text, a zero where it ends before.
+pub fn byte_or_zero(s: &[u8], at: usize) -> u8
     ensures { λ r. ⌜ r ≡ getD (now (s .entry)) at 48 ⌝ }
 {
     if at < s.len() { s[at] } else { b'0' }
 }
 
-fn digit_of(x: u8) -> usize
+// The digit that a byte is; of any other byte the number means nothing.
+pub fn digit_of(x: u8) -> usize
     ensures { λ r. ⌜ r ≡ x - 48 ⌝ }
 {
     let code = x as usize;

@@ -7,36 +7,36 @@ use station::Place;
 ghost use mathlib.Core.Path.{_≡_};
 ghost use Prim.Native.Nat.{_≤_, _<_};
 ghost use lib.IntN.{natAbs};
-ghost use Rattle.sine.specs.Table.{Sines};
+ghost use Rattle.sine_table.specs.Table.{Sines};
 ghost use Rattle.station.specs.Place.{placeOf};
 ghost use Rattle.requests.specs.Windows.{secondCount};
 ghost use Rattle.requests.specs.RequestLaws.{InLimits};
 ghost use Rattle.seconds.specs.Seconds.{closestOf};
-ghost use Rattle.contacts.specs.Entries.{from, to};
+ghost use Rattle.contact_entries.specs.Entries.{from, to};
 ghost use Rattle.courses.specs.Courses.{entryOf, headEntry, closestEntry, shareEntry};
 ghost use Rattle.writing.specs.Sheet.{shareOf, courseOf};
 
 // The earlier second of an entry of a phase, counted from the window's first.
-fn from_of(entry: contacts::Entry) -> usize
+fn from_of(entry: contact_entries::Entry) -> usize
     ensures { λ r. ⌜ r ≡ from entry ⌝ }
 {
     match entry {
-        contacts::Entry::Enter { from, to: _ } => from,
-        contacts::Entry::Leave { from, to: _ } => from,
-        contacts::Entry::Graze { from, to: _ } => from,
-        contacts::Entry::Open { from, to: _ } => from,
+        contact_entries::Entry::Enter { from, to: _ } => from,
+        contact_entries::Entry::Leave { from, to: _ } => from,
+        contact_entries::Entry::Graze { from, to: _ } => from,
+        contact_entries::Entry::Open { from, to: _ } => from,
     }
 }
 
 // The later one.
-pub fn to_of(entry: contacts::Entry) -> usize
+pub fn to_of(entry: contact_entries::Entry) -> usize
     ensures { λ r. ⌜ r ≡ to entry ⌝ }
 {
     match entry {
-        contacts::Entry::Enter { from: _, to } => to,
-        contacts::Entry::Leave { from: _, to } => to,
-        contacts::Entry::Graze { from: _, to } => to,
-        contacts::Entry::Open { from: _, to } => to,
+        contact_entries::Entry::Enter { from: _, to } => to,
+        contact_entries::Entry::Leave { from: _, to } => to,
+        contact_entries::Entry::Graze { from: _, to } => to,
+        contact_entries::Entry::Open { from: _, to } => to,
     }
 }
 
@@ -46,7 +46,7 @@ pub fn entry_for(
     o: Occultation,
     place: Place,
     phase: Phase,
-    entry: contacts::Entry,
+    entry: contact_entries::Entry,
 ) -> Entry
     requires { ⌜ (Sines (now table)) × (InLimits o) × (place ≡ placeOf (o .station)) × (from entry < secondCount (o .window)) × (to entry < secondCount (o .window)) ⌝ }
     ensures { λ r. ⌜ r ≡ entryOf (courseOf o) phase entry ⌝ }
@@ -57,16 +57,16 @@ pub fn entry_for(
     let from = kinds::seconds::store_second(earlier);
     let to = kinds::seconds::store_second(later);
     match entry {
-        contacts::Entry::Enter { from: _, to: _ } => {
+        contact_entries::Entry::Enter { from: _, to: _ } => {
             let direction = seconds::direction_at(table, o, place, later);
             kinds::entries::enter(phase, from, to, direction)
         }
-        contacts::Entry::Leave { from: _, to: _ } => {
+        contact_entries::Entry::Leave { from: _, to: _ } => {
             let direction = seconds::direction_at(table, o, place, earlier);
             kinds::entries::leave(phase, from, to, direction)
         }
-        contacts::Entry::Graze { from: _, to: _ } => kinds::entries::graze(phase, from, to),
-        contacts::Entry::Open { from: _, to: _ } => kinds::entries::open(phase, from, to),
+        contact_entries::Entry::Graze { from: _, to: _ } => kinds::entries::graze(phase, from, to),
+        contact_entries::Entry::Open { from: _, to: _ } => kinds::entries::open(phase, from, to),
     }
 }
 

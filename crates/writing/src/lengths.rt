@@ -11,21 +11,21 @@ ghost use Rattle.requests.specs.RequestLaws.{InLimits};
 ghost use Rattle.seconds.specs.Seconds.{statesOf};
 ghost use Rattle.runs.specs.Runs.{decoded, Whole};
 ghost use Rattle.seconds.specs.AllStates.{AllStates};
-ghost use Rattle.contacts.specs.Entries.{entries};
+ghost use Rattle.contact_entries.specs.Entries.{entries};
 ghost use Rattle.records.specs.Entries.{bytesOf};
 ghost use Rattle.courses.specs.Courses.{entriesOf, closingEntries};
 ghost use Rattle.courses.specs.Lengths.{kindIn, bytesNeeded};
 ghost use Rattle.writing.specs.Sheet.{courseOf, sheetBytes};
 
 // The kind of an entry of a phase.
-fn kind_in(phase: Phase, entry: contacts::Entry) -> Kind
+fn kind_in(phase: Phase, entry: contact_entries::Entry) -> Kind
     ensures { λ r. ⌜ r ≡ kindIn phase entry ⌝ }
 {
     match entry {
-        contacts::Entry::Enter { from: _, to: _ } => Kind::Enter(phase),
-        contacts::Entry::Leave { from: _, to: _ } => Kind::Leave(phase),
-        contacts::Entry::Graze { from: _, to: _ } => Kind::Graze(phase),
-        contacts::Entry::Open { from: _, to: _ } => Kind::Open(phase),
+        contact_entries::Entry::Enter { from: _, to: _ } => Kind::Enter(phase),
+        contact_entries::Entry::Leave { from: _, to: _ } => Kind::Leave(phase),
+        contact_entries::Entry::Graze { from: _, to: _ } => Kind::Graze(phase),
+        contact_entries::Entry::Open { from: _, to: _ } => Kind::Open(phase),
     }
 }
 

@@ -7,6 +7,7 @@ use reference::request::Request;
 use reference::room;
 use reference::shadow::{Phase, State};
 use reference::sheet::{copy_into, records_of};
+use reference::star::StarRequest;
 
 /// The eight numbers of one second, from a room for table S: 10, 1, 2, 3, 4 for that room, 4 for the numbers' own.
 pub fn second(request: &[u8], second: i64, sines: &mut [u32], shadow: &mut [i64]) -> Result<usize, Refusal> {
@@ -33,6 +34,19 @@ pub fn second(request: &[u8], second: i64, sines: &mut [u32], shadow: &mut [i64]
     ];
     shadow.get_mut(..8).ok_or(Refusal::Room(8))?.copy_from_slice(&numbers);
     Ok(8)
+}
+
+/// The five numbers of one second of a star, likewise: 10, 1, 2, 13, 3, 4 for the room for table S, 4 for the numbers' own.
+pub fn star_second(
+    request: &[u8],
+    second: i64,
+    sines: &mut [u32],
+    shadow: &mut [i64],
+) -> Result<usize, Refusal> {
+    let numbers = StarRequest::from_bytes(request)?.second(second)?;
+    room::fill(sines)?;
+    shadow.get_mut(..5).ok_or(Refusal::Room(5))?.copy_from_slice(&numbers);
+    Ok(5)
 }
 
 /// The listing of a sheet as bytes of text.

@@ -74,17 +74,39 @@ pub fn sheet_both(random: &mut Random, asked: &Asked, request: &[u8], lent: usiz
     ours
 }
 
-pub fn second_both(random: &mut Random, request: &[u8], second: i64, lent: usize, room: usize) -> Left<i64> {
+/// What one second of a request is asked by.
+pub struct Moment {
+    name: &'static str,
+    ours: fn(&[u8], i64, &mut [u32], &mut [i64]) -> library::Reply,
+    theirs: fn(&[u8], i64, &mut [u32], &mut [i64]) -> Result<usize, Refusal>,
+}
+
+/// Of an eclipse.
+pub const SECOND: Moment =
+    Moment { name: "ukhtvaresh_second", ours: library::second, theirs: answers::second };
+
+/// Of a star.
+pub const STAR_SECOND: Moment =
+    Moment { name: "ukhtvaresh_star_second", ours: library::star_second, theirs: answers::star_second };
+
+pub fn second_both(
+    random: &mut Random,
+    asked: &Moment,
+    request: &[u8],
+    second: i64,
+    lent: usize,
+    room: usize,
+) -> Left<i64> {
     let old_sines = buffer(random, lent, |bits| bits as u32);
     let old = buffer(random, room, |bits| bits as i64);
     let (mut ours, mut our_sines) = (((0, 0), old.clone()), old_sines.clone());
-    ours.0 = library::second(request, second, &mut our_sines[..lent], &mut ours.1[..room]);
+    ours.0 = (asked.ours)(request, second, &mut our_sines[..lent], &mut ours.1[..room]);
     let (mut theirs, mut their_sines) = (((0, 0), old), old_sines);
-    let made = answers::second(request, second, &mut their_sines[..lent], &mut theirs.1[..room]);
+    let made = (asked.theirs)(request, second, &mut their_sines[..lent], &mut theirs.1[..room]);
     theirs.0 = reply(made, |count| count as u64);
-    must_agree("ukhtvaresh_second", &(request, second, lent, room), &ours, &theirs);
+    must_agree(asked.name, &(request, second, lent, room), &ours, &theirs);
     let sines = ((ours.0, our_sines), (theirs.0, their_sines));
-    must_agree("the sines of ukhtvaresh_second", &(request, second, lent, room), &sines.0, &sines.1);
+    must_agree(&format!("the sines of {}", asked.name), &(request, second, lent, room), &sines.0, &sines.1);
     ours
 }
 

@@ -46,6 +46,16 @@ extern "C" {
         shadow_len: usize,
         value: *mut u64,
     ) -> u64;
+    fn ukhtvaresh_star_second(
+        request: *const u8,
+        request_len: usize,
+        second: i64,
+        sines: *mut u32,
+        sines_len: usize,
+        shadow: *mut i64,
+        shadow_len: usize,
+        value: *mut u64,
+    ) -> u64;
     fn ukhtvaresh_mirror(
         request: *const u8,
         request_len: usize,
@@ -185,9 +195,28 @@ pub fn share(request: &[u8], second: i64, sines: &mut [u32]) -> Reply {
 }
 
 pub fn second(request: &[u8], second: i64, sines: &mut [u32], shadow: &mut [i64]) -> Reply {
+    shadow_at(ukhtvaresh_second, request, second, sines, shadow)
+}
+
+/// One second of a star request.
+pub fn star_second(request: &[u8], second: i64, sines: &mut [u32], shadow: &mut [i64]) -> Reply {
+    shadow_at(ukhtvaresh_star_second, request, second, sines, shadow)
+}
+
+type SecondExport =
+    unsafe extern "C" fn(*const u8, usize, i64, *mut u32, usize, *mut i64, usize, *mut u64) -> u64;
+
+/// The numbers that an export gives of one second of a request.
+fn shadow_at(
+    export: SecondExport,
+    request: &[u8],
+    second: i64,
+    sines: &mut [u32],
+    shadow: &mut [i64],
+) -> Reply {
     let mut value = UNSET;
     let number = unsafe {
-        ukhtvaresh_second(
+        export(
             request.as_ptr(),
             request.len(),
             second,

@@ -21,7 +21,7 @@
 
 use agreement::both::{
     listing_both, mirror_both, must_agree, read_both, reply, second_both, share_both, sheet_both, write_both,
-    Asked, Left, PLAIN, SHARED,
+    Asked, Left, PLAIN, SECOND, SHARED,
 };
 use agreement::draws;
 use agreement::fits;
@@ -240,14 +240,9 @@ fn request(random: &mut Random, counts: &mut Counts, kinds: &mut [u64; 128], wit
     let lent = draws::sines_room(random);
     count.add(sheet_both(random, &asked, &request, lent, room).0 .0);
     for _ in 0..8 {
-        let second = if random.once_in(20) {
-            [-FARTHEST - 1, FARTHEST + 1, i64::MIN, i64::MAX, random.bits() as i64][random.below(5) as usize]
-        } else {
-            random.within(&(-FARTHEST..=FARTHEST))
-        };
-        let room = if random.once_in(8) { random.below(8) as usize } else { 8 + random.below(4) as usize };
-        let lent = draws::sines_room(random);
-        counts.seconds.add(second_both(random, &request, second, lent, room).0 .0);
+        let second = draws::second(random);
+        let (room, lent) = (draws::numbers_room(random, 8), draws::sines_room(random));
+        counts.seconds.add(second_both(random, &SECOND, &request, second, lent, room).0 .0);
         let lent = draws::sines_room(random);
         counts.shares.add(share_both(random, &request, second, lent).0 .0);
     }

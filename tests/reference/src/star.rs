@@ -1,6 +1,6 @@
 //! Document 02, wish 7: a star behind the Moon. The shadow is a cylinder, so its radius at the station is the Moon's own.
 
-use crate::elements::{first_outside, value_at, Station, Window, ELEMENT_RANGES};
+use crate::elements::{first_outside, value_at, Station, Window, ELEMENT_RANGES, FARTHEST};
 use crate::place::{place, Place};
 use crate::refusal::Refusal;
 use crate::request::{phase_records, request_bytes, signed, station_and_window, stored};
@@ -108,6 +108,21 @@ impl StarRequest {
         self.station.check()?;
         let place = place(self.station.latitude, self.station.height);
         Ok(Occultation { request: *self, place, east: self.station.east() })
+    }
+
+    /// The five numbers of one second, in or outside the window: u, v, L, the state (0 outside, 1 inside, 2 unsure) and the direction.
+    /// Refused as 1 for the second too, 2, 13 or 3.
+    pub fn second(&self, second: i64) -> Result<[i64; 5], Refusal> {
+        if !(-FARTHEST..=FARTHEST).contains(&second) {
+            return Err(Refusal::Window);
+        }
+        let found = self.check()?.shadow(second);
+        let state = match found.state(self.guard) {
+            State::Outside => 0,
+            State::Inside => 1,
+            State::Unsure => 2,
+        };
+        Ok([found.u, found.v, found.l, state, found.direction()])
     }
 
     /// Write the sheet at the start of the buffer and give its length, or refuse as 1, 2, 13, 3 or 4 and leave the buffer

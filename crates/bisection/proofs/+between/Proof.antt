@@ -7,14 +7,16 @@ use borrow.Fn.Kinds.{In}
 use borrow.Fn.PlainCycle.{Measures, is, falls, and}
 use Rattle.requests.specs.WindowLaws.{seconds-few}
 use Rattle.seconds.specs.SecondLaws.{guard-read}
-use Rattle.bisection.specs.KeptLaws.{sample-sizes, gap-passed, kept-more}
+use Rattle.gaps.specs.Gaps.{sample-sizes, gap-passed}
+use Rattle.bisection.specs.KeptLaws.{kept-more}
 use Rattle.bisection.proofs.between.Reads as between
 use Rattle.bisection.proofs.between.Kinds as between-kinds
 use Rattle.bisection.proofs.+between.Lts-between as between-lts
-use Rattle.bisection.proofs.clear.clear.Reads as clear-reads
+use Rattle.gaps.proofs.clear.Reads as clear-reads
 use Rattle.bisection.proofs.each_second.Reads as each-second-reads
+use Rattle.bisection.proofs.leaf.Reads as leaf-reads
 use Rattle.bisection.proofs.keep.Reads as keep-reads
-use Rattle.bisection.proofs.sample_of.Reads as sample-of-reads
+use Rattle.approach.proofs.sample_of.Reads as sample-of-reads
 use Rattle.bisection.proofs.+between.{statement}
 use Rattle.bisection.proofs.+between.Tie.{close}
 
@@ -27,50 +29,34 @@ between-at t = and 2 between-kinds.ps (is 2 between-kinds.ps μ-between t) betwe
 abbrev between-below : ℕ → In 2 between-kinds.ps
 between-below t = and 2 between-kinds.ps (falls 2 between-kinds.ps _<_ μ-between t) between.Pre
 
-between-sub-h : (t : ℕ) → between-lts.Need-sub-h (
+-- what the callees ask and give
+abbrev claims : ℕ → between-lts.Claims
+claims t = (
   clear-reads.Asked,
   clear-reads.Learnt,
   keep-reads.Asked,
   keep-reads.Learnt,
+  leaf-reads.Asked,
+  leaf-reads.Learnt,
   each-second-reads.Asked,
   each-second-reads.Learnt,
   sample-of-reads.Asked,
   sample-of-reads.Learnt,
   between-below t,
   between.Post,
-) (between-at t) between.Post
+)
+
+between-sub-h : (t : ℕ) → between-lts.Need-sub-h (claims t) (between-at t) between.Post
 between-sub-h t c = omega (arith, c .before .before .pre .1 .0 .4)
 
-between-clear-requires : (t : ℕ) → between-lts.Need-clear-requires (
-  clear-reads.Asked,
-  clear-reads.Learnt,
-  keep-reads.Asked,
-  keep-reads.Learnt,
-  each-second-reads.Asked,
-  each-second-reads.Learnt,
-  sample-of-reads.Asked,
-  sample-of-reads.Learnt,
-  between-below t,
-  between.Post,
-) (between-at t) between.Post
+between-clear-requires : (t : ℕ) → between-lts.Need-clear-requires (claims t) (between-at t) between.Post
 between-clear-requires t c κs =
     let s = c .before .before .before in
     let o = s .args .o in
     let p = s .pre .1 .0 in
     (guard-read o (p .1) .1, p .3, sample-sizes o (s .args .i) (p .6), sample-sizes o (s .args .j) (p .7))
 
-between-keep-requires : (t : ℕ) → between-lts.Need-keep-requires (
-  clear-reads.Asked,
-  clear-reads.Learnt,
-  keep-reads.Asked,
-  keep-reads.Learnt,
-  each-second-reads.Asked,
-  each-second-reads.Learnt,
-  sample-of-reads.Asked,
-  sample-of-reads.Learnt,
-  between-below t,
-  between.Post,
-) (between-at t) between.Post
+between-keep-requires : (t : ℕ) → between-lts.Need-keep-requires (claims t) (between-at t) between.Post
 between-keep-requires t c κs =
     let s = c .before .before .before .before .before .before .before in
     let o = s .args .o in
@@ -82,32 +68,10 @@ between-keep-requires t c κs =
       (omega (arith, p .4), passed .short, omega (arith, p .4, p .5, g .few, s .pre .1 .1 .0), g .ends),
     )
 
-between-same-length : (t : ℕ) → between-lts.Need-same-length (
-  clear-reads.Asked,
-  clear-reads.Learnt,
-  keep-reads.Asked,
-  keep-reads.Learnt,
-  each-second-reads.Asked,
-  each-second-reads.Learnt,
-  sample-of-reads.Asked,
-  sample-of-reads.Learnt,
-  between-below t,
-  between.Post,
-) (between-at t) between.Post
+between-same-length : (t : ℕ) → between-lts.Need-same-length (claims t) (between-at t) between.Post
 between-same-length t c = c .before .before .keep .ensures .pushed .same
 
-between-returns : (t : ℕ) → between-lts.Need-returns (
-  clear-reads.Asked,
-  clear-reads.Learnt,
-  keep-reads.Asked,
-  keep-reads.Learnt,
-  each-second-reads.Asked,
-  each-second-reads.Learnt,
-  sample-of-reads.Asked,
-  sample-of-reads.Learnt,
-  between-below t,
-  between.Post,
-) (between-at t) between.Post
+between-returns : (t : ℕ) → between-lts.Need-returns (claims t) (between-at t) between.Post
 between-returns t c =
     let s = c .before .before .before .before .before .before .before .before .before .before in
     let a = s .args in
@@ -118,168 +82,66 @@ between-returns t c =
     let gap = gap-passed (a .o) (p .1) (a .near) (a .i) (a .j) (p .4) (p .5) (a .a) (a .b) (p .6) (p .7) (passed (c .before .before .before .before .before .if1 .taken)) in
     (kept-more (a .o) (p .1) (a .near) (s .pre .1 .1 .1) (a .j) (p .4) (p .5) gap (a .b) (p .7) refl st, st .pushed .same)
 
-between-each-second-requires : (t : ℕ) → between-lts.Need-each-second-requires (
-  clear-reads.Asked,
-  clear-reads.Learnt,
-  keep-reads.Asked,
-  keep-reads.Learnt,
-  each-second-reads.Asked,
-  each-second-reads.Learnt,
-  sample-of-reads.Asked,
-  sample-of-reads.Learnt,
-  between-below t,
-  between.Post,
-) (between-at t) between.Post
+between-leaf-requires : (t : ℕ) → between-lts.Need-leaf-requires (claims t) (between-at t) between.Post
+between-leaf-requires t c κs =
+    let s = c .before .before .before .before .before .before in
+    let p = s .pre .1 .0 in
+    (guard-read (s .args .o) (p .1) .1, p .3)
+
+between-each-second-requires : (t : ℕ) → between-lts.Need-each-second-requires (claims t) (between-at t) between.Post
 between-each-second-requires t c κs =
-    let s = c .before .before .before .before .before .before .before in
+    let s = c .before .before .before .before .before .before .before .before .before in
     let p = s .pre .1 .0 in
     ((p .0, p .1, p .2, p .4, p .5, p .7), s .pre .1 .1)
 
-between-same-length-2 : (t : ℕ) → between-lts.Need-same-length-2 (
-  clear-reads.Asked,
-  clear-reads.Learnt,
-  keep-reads.Asked,
-  keep-reads.Learnt,
-  each-second-reads.Asked,
-  each-second-reads.Learnt,
-  sample-of-reads.Asked,
-  sample-of-reads.Learnt,
-  between-below t,
-  between.Post,
-) (between-at t) between.Post
+between-same-length-2 : (t : ℕ) → between-lts.Need-same-length-2 (claims t) (between-at t) between.Post
 between-same-length-2 t c = c .before .before .each-second .ensures .1
 
-between-returns-2 : (t : ℕ) → between-lts.Need-returns-2 (
-  clear-reads.Asked,
-  clear-reads.Learnt,
-  keep-reads.Asked,
-  keep-reads.Learnt,
-  each-second-reads.Asked,
-  each-second-reads.Learnt,
-  sample-of-reads.Asked,
-  sample-of-reads.Learnt,
-  between-below t,
-  between.Post,
-) (between-at t) between.Post
+between-returns-2 : (t : ℕ) → between-lts.Need-returns-2 (claims t) (between-at t) between.Post
 between-returns-2 t c = c .before .before .each-second .ensures
 
-between-add-m : (t : ℕ) → between-lts.Need-add-m (
-  clear-reads.Asked,
-  clear-reads.Learnt,
-  keep-reads.Asked,
-  keep-reads.Learnt,
-  each-second-reads.Asked,
-  each-second-reads.Learnt,
-  sample-of-reads.Asked,
-  sample-of-reads.Learnt,
-  between-below t,
-  between.Post,
-) (between-at t) between.Post
+between-add-m : (t : ℕ) → between-lts.Need-add-m (claims t) (between-at t) between.Post
 between-add-m t c =
-    let s = c .before .before .before .before .before .before in
+    let s = c .before .before .before .before .before .before .before .before in
     omega (arith, s .pre .1 .0 .5, seconds-few (s .args .o .window) (s .pre .1 .0 .1 .window))
 
-between-sample-of-requires : (t : ℕ) → between-lts.Need-sample-of-requires (
-  clear-reads.Asked,
-  clear-reads.Learnt,
-  keep-reads.Asked,
-  keep-reads.Learnt,
-  each-second-reads.Asked,
-  each-second-reads.Learnt,
-  sample-of-reads.Asked,
-  sample-of-reads.Learnt,
-  between-below t,
-  between.Post,
-) (between-at t) between.Post
+between-sample-of-requires : (t : ℕ) → between-lts.Need-sample-of-requires (claims t) (between-at t) between.Post
 between-sample-of-requires t c κs =
-    let s = c .before .before .before .before .before .before in
+    let s = c .before .before .before .before .before .before .before .before in
     let p = s .pre .1 .0 in
     (p .0, p .1, p .2, omega (arith, p .4, p .5))
 
-between-between-requires : (t : ℕ) → between-lts.Need-between-requires (
-  clear-reads.Asked,
-  clear-reads.Learnt,
-  keep-reads.Asked,
-  keep-reads.Learnt,
-  each-second-reads.Asked,
-  each-second-reads.Learnt,
-  sample-of-reads.Asked,
-  sample-of-reads.Learnt,
-  between-below t,
-  between.Post,
-) (between-at t) between.Post
+between-between-requires : (t : ℕ) → between-lts.Need-between-requires (claims t) (between-at t) between.Post
 between-between-requires t c κs =
-    let s = c .before .before .before .before .before .before .before .before in
+    let s = c .before .before .before .before .before .before .before .before .before .before in
     let p = s .pre .1 .0 in
-    let h = c .before .before .if2 .left in (
-      omega (arith, s .pre .0, h),
-      ((p .0, p .1, p .2, p .3, omega (arith, h), omega (arith, p .4, p .5), p .6, c .before .sample-of .ensures), s .pre .1 .1),
+    let h = c .before .before .if2 .left in
+    let few = c .before .before .before .leaf .ensures in (
+      omega (arith, s .pre .0, h, few),
+      ((p .0, p .1, p .2, p .3, omega (arith, h, few), omega (arith, p .4, p .5), p .6, c .before .sample-of .ensures), s .pre .1 .1),
     )
 
-between-between-requires-2 : (t : ℕ) → between-lts.Need-between-requires-2 (
-  clear-reads.Asked,
-  clear-reads.Learnt,
-  keep-reads.Asked,
-  keep-reads.Learnt,
-  each-second-reads.Asked,
-  each-second-reads.Learnt,
-  sample-of-reads.Asked,
-  sample-of-reads.Learnt,
-  between-below t,
-  between.Post,
-) (between-at t) between.Post
+between-between-requires-2 : (t : ℕ) → between-lts.Need-between-requires-2 (claims t) (between-at t) between.Post
 between-between-requires-2 t c κs =
-    let s = c .before .before .before .before .before .before .before .before .before .before .before .before in
+    let s = c .before .before .before .before .before .before .before .before .before .before .before .before .before .before in
     let p = s .pre .1 .0 in
     let h = c .before .before .before .before .before .before .if2 .left in
+    let few = c .before .before .before .before .before .before .before .leaf .ensures in
     let e = c .before .before .before .between .ensures in (
-      omega (arith, s .pre .0, h),
-      ((p .0, p .1, p .2, p .3, omega (arith, h), p .5, c .before .before .before .before .before .sample-of .ensures, p .7), (omega (arith, e .1, s .pre .1 .1 .0), e .0)),
+      omega (arith, s .pre .0, h, few),
+      ((p .0, p .1, p .2, p .3, omega (arith, h, few), p .5, c .before .before .before .before .before .sample-of .ensures, p .7), (omega (arith, e .1, s .pre .1 .1 .0), e .0)),
     )
 
-between-same-length-3 : (t : ℕ) → between-lts.Need-same-length-3 (
-  clear-reads.Asked,
-  clear-reads.Learnt,
-  keep-reads.Asked,
-  keep-reads.Learnt,
-  each-second-reads.Asked,
-  each-second-reads.Learnt,
-  sample-of-reads.Asked,
-  sample-of-reads.Learnt,
-  between-below t,
-  between.Post,
-) (between-at t) between.Post
+between-same-length-3 : (t : ℕ) → between-lts.Need-same-length-3 (claims t) (between-at t) between.Post
 between-same-length-3 t c = c .before .before .between2 .ensures .1 ∙ c .before .before .before .before .before .before .between .ensures .1
 
-between-returns-3 : (t : ℕ) → between-lts.Need-returns-3 (
-  clear-reads.Asked,
-  clear-reads.Learnt,
-  keep-reads.Asked,
-  keep-reads.Learnt,
-  each-second-reads.Asked,
-  each-second-reads.Learnt,
-  sample-of-reads.Asked,
-  sample-of-reads.Learnt,
-  between-below t,
-  between.Post,
-) (between-at t) between.Post
+between-returns-3 : (t : ℕ) → between-lts.Need-returns-3 (claims t) (between-at t) between.Post
 between-returns-3 t c =
     let e = c .before .before .between2 .ensures in
     (e .0, e .1 ∙ c .before .before .before .before .before .before .between .ensures .1)
 
 pub +between-spec : {M : Type 1} → statement M
-+between-spec = close μ-between λ t. between-lts.spec (
-  clear-reads.Asked,
-  clear-reads.Learnt,
-  keep-reads.Asked,
-  keep-reads.Learnt,
-  each-second-reads.Asked,
-  each-second-reads.Learnt,
-  sample-of-reads.Asked,
-  sample-of-reads.Learnt,
-  between-below t,
-  between.Post,
-)
++between-spec = close μ-between λ t. between-lts.spec (claims t)
     (between-at t)
     between.Post
     (between-sub-h t)
@@ -287,6 +149,7 @@ pub +between-spec : {M : Type 1} → statement M
     (between-keep-requires t)
     (between-same-length t)
     (between-returns t)
+    (between-leaf-requires t)
     (between-each-second-requires t)
     (between-same-length-2 t)
     (between-returns-2 t)

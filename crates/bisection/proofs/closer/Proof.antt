@@ -1,5 +1,5 @@
 -- `bisection::closer` meets its contract. Assumes nothing.
-use mathlib.Core.Path.{_≡_, refl}
+use mathlib.Core.Path.{refl}
 use mathlib.Core.List.{[], _∷_}
 use mathlib.Core.Logic.{inl, inr}
 use Rattle.numbers.specs.Code.{arg, Within, whole, ends, _▹_, read-back, taken-<, left-<}

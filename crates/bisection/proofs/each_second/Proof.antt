@@ -12,9 +12,10 @@ use Rattle.requests.specs.RequestLaws.{InLimits}
 use Rattle.shadow.specs.declared.Sample.{Sample}
 use Rattle.seconds.specs.SecondLaws.{guard-read}
 use Rattle.bisection.specs.declared.Tally.{Tally}
-use Rattle.bisection.specs.Samples.{IsAt}
+use Rattle.gaps.specs.Samples.{IsAt}
 use Rattle.bisection.specs.Kept.{Kept, Stored}
-use Rattle.bisection.specs.KeptLaws.{sample-sizes, gap-none, kept-more}
+use Rattle.gaps.specs.Gaps.{sample-sizes, gap-none}
+use Rattle.bisection.specs.KeptLaws.{kept-more}
 use Rattle.bisection.proofs.each_second.Statement.{statement}
 use Rattle.bisection.proofs.each_second.Tie as tie
 

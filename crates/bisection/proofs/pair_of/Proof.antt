@@ -10,7 +10,7 @@ use Rattle.geometry.specs.Shadow.{state}
 use Rattle.shadow.specs.declared.Sample.{Sample}
 use Rattle.shadow.specs.Second.{radiusIn}
 use Rattle.runs.specs.Runs.{stateIn}
-use Rattle.bisection.specs.Samples.{size}
+use Rattle.gaps.specs.Samples.{size}
 use Rattle.bisection.proofs.pair_of.Statement.{statement}
 use Rattle.bisection.proofs.pair_of.Tie as tie
 
@@ -75,10 +75,12 @@ state-requires-2 c κs =
 
 pair-requires : tie.Need-pair-requires
 pair-requires c κs =
-    let a = start2 (c .before .before) .args in (
-      omega (arith, first-is (c .before), code-limit (state (a .guard) (size (a .s .first)) (a .s .m))),
-      omega (arith, second-is c, code-limit (state (a .guard) (size (a .s .second)) (a .s .m))),
-    )
+    let a = start2 (c .before .before) .args in
+    let p = first-is (c .before) in
+    let q = second-is c in
+    let x = code-limit (state (a .guard) (size (a .s .first)) (a .s .m)) in
+    let y = code-limit (state (a .guard) (size (a .s .second)) (a .s .m)) in
+    (omega arith, omega arith)
 
 both : (guard : ℤ) (s : Sample) (r first second : ℕ) → stateIn 0 r ≡ first → stateIn 1 r ≡ second
     → first ≡ code (state guard (size (s .first)) (s .m)) → second ≡ code (state guard (size (s .second)) (s .m))

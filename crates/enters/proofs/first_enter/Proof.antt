@@ -10,8 +10,8 @@ use Rattle.numbers.specs.Code.{read-back, read-size}
 use Rattle.requests.specs.Windows.{secondCount}
 use Rattle.requests.specs.WindowLaws.{seconds-few, second-size}
 use Rattle.runs.specs.Runs.{decoded}
-use Rattle.contacts.specs.Entries.{to, entries}
-use Rattle.contacts.specs.Shifted.{shifted}
+use Rattle.contact_entries.specs.Entries.{to, entries}
+use Rattle.contact_entries.specs.Shifted.{shifted}
 use Rattle.contacts.specs.Step.{entriesFrom, At}
 use Rattle.contacts.specs.StepLaws.{all-at-start, at-start, Took, took, none-left}
 use Rattle.kinds.specs.StoredSeconds.{stored}

@@ -15,8 +15,8 @@ use Rattle.requests.specs.RequestLaws.{InLimits}
 use Rattle.runs.specs.Runs.{decoded}
 use Rattle.seconds.specs.Seconds.{statesOf}
 use Rattle.seconds.specs.SecondLaws.{states-length}
-use Rattle.contacts.specs.Entries.{entries}
-use Rattle.contacts.specs.Shifted.{shifted}
+use Rattle.contact_entries.specs.Entries.{entries}
+use Rattle.contact_entries.specs.Shifted.{shifted}
 use Rattle.kinds.specs.StoredSeconds.{stored}
 use Rattle.enters.specs.Enters.{firstEnter}
 use Rattle.enters.specs.EnterLaws.{first-to-is}

@@ -2,6 +2,9 @@
 -- The sheet was read before, so each record is there.
 use Prim.Native.Nat.{_-_}
 use mathlib.Core.Path.{_≡_, sym, _∙_}
+use mir.Syntax.{w64}
+use mir.Val.{toZ}
+use mir.ValLaws.{toZ-ofZ}
 use native.Mathlib.Omega.{arith}
 use lib.ListN.{length}
 use Rattle.records.specs.declared.Record.the-variants.{Is}
@@ -12,10 +15,10 @@ use Rattle.listings.proofs.put_lines.Statement.{statement}
 use Rattle.listings.proofs.put_lines.Tie as tie
 
 abbrev Inv-loop : tie.InvT-loop
-Inv-loop sheet out₀ start from₀ at₀ out from at = Laying sheet out₀ start out from at
+Inv-loop sheet out₀ start clock deltat from₀ at₀ out from at = Laying clock (toZ w64 deltat) sheet out₀ start out from at
 
 abbrev μ-loop : tie.MeasureT-loop
-μ-loop sheet out₀ start from₀ at₀ out from at = length sheet - from
+μ-loop sheet out₀ start clock deltat from₀ at₀ out from at = length sheet - from
 
 -- the record that was read
 took : (c : tie.After-known-told Inv-loop μ-loop)
@@ -23,7 +26,7 @@ took : (c : tie.After-known-told Inv-loop μ-loop)
 took c = sym (c .before .before .before .record-at .ensures) ∙ c .before .entry .given .1
 
 loop-holds : tie.Need-loop-holds Inv-loop μ-loop
-loop-holds c = laying-start _ _ _ (omega arith) (omega arith) (c .before .before .pre)
+loop-holds c = laying-start _ _ _ _ _ (omega arith) (omega arith) (c .before .before .pre)
 
 record-at-requires : tie.Need-record-at-requires Inv-loop μ-loop
 record-at-requires c κs = search needs
@@ -38,7 +41,7 @@ same-length : tie.Need-same-length Inv-loop μ-loop
 same-length c = c .before .before .before .loop .inv .putting .same
 
 returns : tie.Need-returns Inv-loop μ-loop
-returns c = absurd (laying-never _ _ _ _ _ _ (c .before .before .before .loop .inv) _ (sym (c .before .before .record-at .ensures) ∙ c .enum-told .given .1))
+returns c = absurd (laying-never _ _ _ _ _ _ _ _ (c .before .before .before .loop .inv) _ (sym (c .before .before .record-at .ensures) ∙ c .enum-told .given .1))
 
 put-entry-requires : tie.Need-put-entry-requires Inv-loop μ-loop
 put-entry-requires c κs = search needs
@@ -47,16 +50,20 @@ is-end-requires : tie.Need-is-end-requires Inv-loop μ-loop
 is-end-requires c κs = search needs
 
 same-length-2 : tie.Need-same-length-2 Inv-loop μ-loop
-same-length-2 c = let t = c .before .before .before .before .before .before in laying-same _ _ _ _ _ _ (t .before .before .before .before .loop .inv) _ _ (took t) _ _ (c .before .before .before .before .put-entry .ensures)
+same-length-2 c = let t = c .before .before .before .before .before .before in laying-same _ _ _ _ _ _ _ _ (t .before .before .before .before .loop .inv) _ _ (took t) _ _ (c .before .before .before .before .put-entry .ensures)
 
 returns-2 : tie.Need-returns-2 Inv-loop μ-loop
-returns-2 c = let t = c .before .before .before .before .before .before in laying-end _ _ _ _ _ _ (t .before .before .before .before .loop .inv) _ _ (took t) _ _ (c .before .before .before .before .put-entry .ensures) (sym (c .before .is-end .ensures) ∙ c .if1 .taken)
+returns-2 c =
+    let t = c .before .before .before .before .before .before in
+    let a = t .before .before .before .before .before .before .before in
+    rw (toZ-ofZ w64 (a .args .deltat) (a .fits .deltat)) at
+    (laying-end _ _ _ _ _ _ _ _ (t .before .before .before .before .loop .inv) _ _ (took t) _ _ (c .before .before .before .before .put-entry .ensures) (sym (c .before .is-end .ensures) ∙ c .if1 .taken))
 
 loop-less : tie.Need-loop-less Inv-loop μ-loop
-loop-less c = let t = c .before .before .before .before .before .before in let b = laying-bounds _ _ _ _ _ _ (t .before .before .before .before .loop .inv) _ _ (took t) _ _ (c .before .before .before .before .put-entry .ensures) in omega arith
+loop-less c = let t = c .before .before .before .before .before .before in let b = laying-bounds _ _ _ _ _ _ _ _ (t .before .before .before .before .loop .inv) _ _ (took t) _ _ (c .before .before .before .before .put-entry .ensures) in omega arith
 
 loop-again : tie.Need-loop-again Inv-loop μ-loop
-loop-again c = let t = c .before .before .before .before .before .before in laying-more _ _ _ _ _ _ (t .before .before .before .before .loop .inv) _ _ (took t) _ _ (c .before .before .before .before .put-entry .ensures) (sym (c .before .is-end .ensures) ∙ c .if1 .left)
+loop-again c = let t = c .before .before .before .before .before .before in laying-more _ _ _ _ _ _ _ _ (t .before .before .before .before .loop .inv) _ _ (took t) _ _ (c .before .before .before .before .put-entry .ensures) (sym (c .before .is-end .ensures) ∙ c .if1 .left)
 
 pub put-lines-spec : {M : Type 1} → statement M
 put-lines-spec =

@@ -5,7 +5,7 @@ use mathlib.Core.List.{List}
 use Prim.Native.Nat.{_≤_}
 use native.Mathlib.Omega.{arith}
 use lib.ListN.{take}
-use Rattle.sine.specs.Table.{Sines}
+use Rattle.sine_table.specs.Table.{Sines}
 use Rattle.nodes.specs.declared.Node.{Node}
 use Rattle.nodes.specs.declared.Held.{Held}
 use Rattle.nodes.specs.Nodes.{Holds}

@@ -5,8 +5,8 @@ use Prim.Native.Nat.{ℕ, _+_, _-_, _≤_, _<_}
 use native.Mathlib.Omega.{arith}
 use borrow.Author.Needs.{needs}
 use lib.ListN.{length, take}
-use Rattle.sine.specs.Table.{Sines}
-use Rattle.sine.specs.RoomLaws.{filled-sines}
+use Rattle.sine_table.specs.Table.{Sines}
+use Rattle.sine_table.specs.RoomLaws.{filled-sines}
 use Rattle.refusals.specs.declared.Checked.{Checked}
 use Rattle.refusals.specs.declared.Checked.the-variants as C
 use Rattle.refusals.specs.Refusals.{andThen}

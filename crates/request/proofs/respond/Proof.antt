@@ -1,67 +1,30 @@
 -- `request::respond` meets its contract: the bytes and no message, or a message and no bytes. Assumes nothing.
 use mathlib.Core.Path.{sym, _∙_}
-use native.Mathlib.Omega.{arith}
-use Rattle.request.specs.StreamLaws.{long-put, refused-put, numbers-written}
+use Rattle.typed_requests.specs.RoomLaws.{bytes-first, message-first}
+use Rattle.request.specs.StreamLaws.{request-out, message-out}
 use borrow.Author.Needs.{needs}
 use Rattle.request.proofs.respond.Statement.{statement}
 use Rattle.request.proofs.respond.Tie as tie
 
-slice-aggregate-put-text : tie.Need-slice-aggregate-put-text
-slice-aggregate-put-text c = search needs
-
-put-text-requires : tie.Need-put-text-requires
-put-text-requires c κs = search needs
-
-returns : tie.Need-returns
-returns c =
-    let lent = c .before .before .before .before .before .args in
-    long-put _ (omega arith) (lent .out .now) (lent .message .now) _ _ (omega arith) (c .put-text .ensures)
-
-shape-of-requires : tie.Need-shape-of-requires
-shape-of-requires c κs = search needs
-
-encode-requires : tie.Need-encode-requires
-encode-requires c κs = search needs
-
-enum-told : tie.Need-enum-told
-enum-told c = search needs
-
-length-of-requires : tie.Need-length-of-requires
-length-of-requires c κs = search needs
+read-requires : tie.Need-read-requires
+read-requires c κs = search needs
 
 enum-known-answer : tie.Need-enum-known-answer
 enum-known-answer c = search needs
 
-put-message-requires : tie.Need-put-message-requires
-put-message-requires c κs = search needs
+enum-known-answer-2 : tie.Need-enum-known-answer-2
+enum-known-answer-2 c = search needs
+
+returns : tie.Need-returns
+returns c =
+    let read = c .before .before .before in
+    request-out (read .read .last .1 .1 .0) (bytes-first _ _ _ _ _ (sym (c .before .answer .given .1) ∙ read .read .ensures .0) (read .read .ensures .1 .0))
 
 returns-2 : tie.Need-returns-2
 returns-2 c =
-    let told = c .before in
-    let e = told .before .before .encode in
-    let asked = told .before .before .before .before in
-    numbers-written _ (omega arith) _ (asked .shape-of .ensures) (sym (told .enum-told .given .1) ∙ e .ensures .answer)
-    _ _ (asked .before .before .before .args .message .now) _ (c .length-of .ensures) (e .ensures .bytes)
-
-returns-3 : tie.Need-returns-3
-returns-3 c =
-    let e = c .before .before .before .before .before in
-    let asked = e .before .before in
-    refused-put _ (omega arith) _ (asked .shape-of .ensures) _ _ (sym (c .before .before .before .answer .given .1) ∙ e .encode .ensures .answer) (omega arith)
-    (e .encode .last .1 .1 .0) (asked .before .before .before .args .message .now) _ _ (omega arith) (c .put-message .ensures)
+    let read = c .before .before .before in
+    message-out (read .read .last .1 .0) (message-first _ _ _ _ (sym (c .before .answer2 .given .1) ∙ read .read .ensures .0) (read .read .ensures .1 .1))
 
 pub respond-spec : {M : Type 1} → statement M
 respond-spec =
-    tie.close
-    (tie.spec
-    slice-aggregate-put-text
-    put-text-requires
-    returns
-    shape-of-requires
-    encode-requires
-    enum-told
-    length-of-requires
-    enum-known-answer
-    put-message-requires
-    returns-2
-    returns-3)
+    tie.close (tie.spec read-requires enum-known-answer enum-known-answer-2 returns returns-2)

@@ -12,7 +12,7 @@ use Rattle.words.specs.declared.Class.the-variants as C
 use Rattle.words.specs.Text.{runOf}
 use Rattle.words.specs.TextLaws.{rest-is, line-within}
 use Rattle.request_text.specs.declared.Line.{Line}
-use Rattle.request_text.specs.LineLaws.{meaning-room}
+use Rattle.request_text.specs.LineLaws.{number-room}
 use Rattle.request_text.specs.Typing.{missing, required}
 use Rattle.request_text.specs.TypingLaws.{Noting, count-small, Walked, typing-start, end-missing, end-all, told, line-refused, line-taken}
 use Rattle.request_text.proofs.read.Statement.{statement}
@@ -61,7 +61,7 @@ module _ (c : tie.After-note Inv-loop μ-loop) where
   noted : Noting (told _ _ _ _ _ _ (walked (loop at-run .before)) (at-run .run .result) (loop at-run .loop-test .taken) (ran at-run))
       (loop at-run .before .loop .marks) (loop at-run .before .loop .found) (c .note .result) (c .note .last .1 .0) (c .note .last .1 .1 .0)
   noted = subst (λ (l : Line). Noting l (loop at-run .before .loop .marks) (loop at-run .before .loop .found) (c .note .result) (c .note .last .1 .0)
-      (c .note .last .1 .1 .0)) (c .before .before .before .meaning .ensures) (c .note .ensures)
+      (c .note .last .1 .1 .0)) (c .before .before .before .number-in .ensures) (c .note .ensures)
 
 -- what was asked of the marks
 completed : (c : tie.After-complete Inv-loop μ-loop)
@@ -104,22 +104,22 @@ run-requires c κs = search needs
 add-end : tie.Need-add-end Inv-loop μ-loop
 add-end c = let i = inside c in search needs
 
-sub-meaning : tie.Need-sub-meaning Inv-loop μ-loop
-sub-meaning c = search needs
+sub-number-in : tie.Need-sub-number-in Inv-loop μ-loop
+sub-number-in c = search needs
 
-part-meaning-start : tie.Need-part-meaning-start Inv-loop μ-loop
-part-meaning-start c = search needs
+part-number-in-start : tie.Need-part-number-in-start Inv-loop μ-loop
+part-number-in-start c = search needs
 
-part-meaning-end : tie.Need-part-meaning-end Inv-loop μ-loop
-part-meaning-end c = inside c
+part-number-in-end : tie.Need-part-number-in-end Inv-loop μ-loop
+part-number-in-end c = inside c
 
-meaning-requires : tie.Need-meaning-requires Inv-loop μ-loop
-meaning-requires c κs = search needs
+number-in-requires : tie.Need-number-in-requires Inv-loop μ-loop
+number-in-requires c κs = search needs
 
 note-requires : tie.Need-note-requires Inv-loop μ-loop
 note-requires c κs =
     let l = loop (c .before .before .before .before) .before in
-    (walked l .fields ∙ sym (walked l .marked), meaning-room _ _ _ _ (c .before .before .meaning .ensures) (walked l .marked))
+    (walked l .fields ∙ sym (walked l .marked), number-room _ _ _ _ (c .before .before .number-in .ensures) (walked l .marked))
 
 enum-known-noted : tie.Need-enum-known-noted Inv-loop μ-loop
 enum-known-noted c = search needs
@@ -218,10 +218,10 @@ read-spec =
     part-run-end
     run-requires
     add-end
-    sub-meaning
-    part-meaning-start
-    part-meaning-end
-    meaning-requires
+    sub-number-in
+    part-number-in-start
+    part-number-in-end
+    number-in-requires
     note-requires
     enum-known-noted
     same-length

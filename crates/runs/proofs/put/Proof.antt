@@ -3,7 +3,7 @@ use borrow.Author.Needs.{needs}
 use mathlib.Core.Path.{refl}
 use native.Mathlib.Omega.{arith}
 use lib.ListN.{length-set}
-use Rattle.runs.specs.RunsLaws.{pushed-two}
+use Rattle.runs.specs.RunsLaws.{written-two}
 use Rattle.runs.proofs.put.Statement.{statement}
 use Rattle.runs.proofs.put.Tie as tie
 
@@ -31,14 +31,14 @@ cast-runs-2 c = search needs
 slice-write-runs-2 : tie.Need-slice-write-runs-2
 slice-write-runs-2 c = simp length-set (omega (arith, c .pre .3))
 
-add-count : tie.Need-add-count
-add-count c = search needs
+add-result : tie.Need-add-result
+add-result c = search needs
 
 same-length : tie.Need-same-length
 same-length c = search needs
 
 returns : tie.Need-returns
-returns c = let p = c .pre in (pushed-two _ _ _ _ (p .0) (p .4) (p .1) (p .3) _ _ refl refl, omega arith)
+returns c = let p = c .pre in written-two _ _ _ _ (p .0) (p .4) (p .1) (p .3) _ _ refl refl
 
 pub put-spec : {M : Type 1} → statement M
 put-spec =
@@ -52,6 +52,6 @@ put-spec =
     slice-write-runs
     cast-runs-2
     slice-write-runs-2
-    add-count
+    add-result
     same-length
     returns)

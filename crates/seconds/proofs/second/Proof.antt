@@ -7,7 +7,6 @@ use mir.Syntax.{w64}
 use mir.ValLaws.{toZ-ofZ}
 use Rattle.numbers.specs.Code.{read-back, read-size}
 use Rattle.refusals.specs.declared.Checked.the-variants as C
-use Rattle.requests.specs.Requests.{ofEclipse}
 use Rattle.requests.specs.Windows.{inSpan}
 use Rattle.requests.specs.WindowLaws.{in-span}
 use Rattle.requests.specs.RequestLaws.{not-true, not-false}
@@ -28,24 +27,18 @@ spans c = sym (t-is (c .before)) ∙ not-false (c .before .in-span .result) (c .
 
 -- ---- the request and its room
 abbrev begun : tie.After-admit → tie.Start
-begun c = c .before .before .before .before .before .before
-
-answered : (c : tie.After-admit) → let b = begun c .args in c .admit .result ≡ admitted (ofEclipse (b .q)) (b .sines .now)
-answered c = rw (c .before .before .of-eclipse .ensures) at (c .admit .ensures .0)
-
-left-there : (c : tie.After-admit) → let b = begun c .args in c .admit .last .1 .0 ≡ sinesAfter (admitted (ofEclipse (b .q)) (b .sines .now)) (b .sines .now)
-left-there c = rw (c .before .before .of-eclipse .ensures) at (c .admit .ensures .1)
+begun c = c .before .before .before .before .before
 
 -- ---- where the request was admitted
 module _ (c : tie.After-enum-told) where
   abbrev start : tie.Start
   start = begun (c .before .before .before .before)
 
-  within : admitted (ofEclipse (start .args .q)) (start .args .sines .now) ≡ C.Within
-  within = sym (answered (c .before .before .before .before)) ∙ c .enum-told .given .1
+  within : admitted (start .args .o) (start .args .sines .now) ≡ C.Within
+  within = sym (c .before .before .before .before .admit .ensures .0) ∙ c .enum-told .given .1
 
   filled : c .before .before .before .before .admit .last .1 .0 ≡ sinesAfter C.Within (start .args .sines .now)
-  filled = left-there (c .before .before .before .before) ∙ ap (λ k. sinesAfter k (start .args .sines .now)) within
+  filled = c .before .before .before .before .admit .ensures .1 ∙ ap (λ k. sinesAfter k (start .args .sines .now)) within
 
 in-span-requires : tie.Need-in-span-requires
 in-span-requires c κs = search needs
@@ -54,10 +47,7 @@ returns : tie.Need-returns
 returns c =
     let b = c .before .before .before in
     let out = sym (t-is (c .before)) ∙ not-true (c .before .in-span .result) (c .if1 .taken) in
-    second-is (b .args .q) (b .args .t) _ _ (second-outside _ _ _ out) _ _ refl refl
-
-of-eclipse-requires : tie.Need-of-eclipse-requires
-of-eclipse-requires c κs = search needs
+    second-is (b .args .o) (b .args .t) _ _ (second-outside _ _ _ out) _ _ refl refl
 
 admit-requires : tie.Need-admit-requires
 admit-requires c κs = search needs
@@ -73,9 +63,9 @@ returns-2 c =
     let a = c .before .before .before .before .before in
     let b = begun a in
     let known = c .before .c .given in
-    let e = sym (answered a) ∙ known .1 in
-    second-is (b .args .q) (b .args .t) _ _ (second-inside _ _ _ (spans (a .before .before .before)) ∙ e) _ _ refl
-    (left-there a ∙ ap (λ k. sinesAfter k (b .args .sines .now)) e)
+    let e = sym (a .admit .ensures .0) ∙ known .1 in
+    second-is (b .args .o) (b .args .t) _ _ (second-inside _ _ _ (spans (a .before .before)) ∙ e) _ _ refl
+    (a .admit .ensures .1 ∙ ap (λ k. sinesAfter k (b .args .sines .now)) e)
 
 enum-told : tie.Need-enum-told
 enum-told c = search needs
@@ -83,9 +73,9 @@ enum-told c = search needs
 second-within-requires : tie.Need-second-within-requires
 second-within-requires c κs =
     let a = start (c .before) in
-    let w = admitted-within (ofEclipse (a .args .q)) (a .args .sines .now) (within (c .before)) in
-    let h = spans (c .before .before .before .before .before .before .before .before) in
-    (rw (left-there (c .before .before .before .before .before)) (w .1), w .0, read-size (a .args .t) 10800 (in-span (a .args .t) h) tt)
+    let w = admitted-within (a .args .o) (a .args .sines .now) (within (c .before)) in
+    let h = spans (c .before .before .before .before .before .before .before) in
+    (rw (c .before .before .before .before .before .admit .ensures .1) (w .1), w .0, read-size (a .args .t) 10800 (in-span (a .args .t) h) tt)
 
 same-length-2 : tie.Need-same-length-2
 same-length-2 c = search needs
@@ -94,9 +84,9 @@ returns-3 : tie.Need-returns-3
 returns-3 c =
     let told = c .before .before in
     let a = start told in
-    let h = spans (told .before .before .before .before .before .before .before) in
-    second-is (a .args .q) (a .args .t) _ _ (second-inside _ _ _ h ∙ within told) _ _
-    (ap O.Is (c .second-within .ensures ∙ ap (wholeSecond (a .args .q)) (read-back (a .args .t) (in-span (a .args .t) h) tt))) (filled told)
+    let h = spans (told .before .before .before .before .before .before) in
+    second-is (a .args .o) (a .args .t) _ _ (second-inside _ _ _ h ∙ within told) _ _
+    (ap O.Is (c .second-within .ensures ∙ ap (wholeSecond (a .args .o)) (read-back (a .args .t) (in-span (a .args .t) h) tt))) (filled told)
 
 pub second-spec : {M : Type 1} → statement M
 second-spec =
@@ -104,7 +94,6 @@ second-spec =
     (tie.spec
     in-span-requires
     returns
-    of-eclipse-requires
     admit-requires
     enum-known-c
     same-length

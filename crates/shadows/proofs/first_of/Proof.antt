@@ -1,5 +1,5 @@
 -- `shadows::first_of` meets its contract: input of the shape is its request, and its first second is asked; any other is refused.
-use mathlib.Core.Path.{refl, sym, ap, _∙_}
+use mathlib.Core.Path.{refl, sym, ap, ap₂, _∙_}
 use lib.ListN.{replicate}
 use Rattle.decimals.specs.RowLaws.{given}
 use Rattle.seconds.specs.OneSecond.{secondAnswer}
@@ -14,6 +14,9 @@ request-requires c κs = search needs
 enum-known-asked : tie.Need-enum-known-asked
 enum-known-asked c = search needs
 
+of-eclipse-requires : tie.Need-of-eclipse-requires
+of-eclipse-requires c κs = search needs
+
 slice-aggregate-second : tie.Need-slice-aggregate-second
 slice-aggregate-second c = search needs
 
@@ -26,10 +29,10 @@ enum-known-asked-2 c = search needs
 returns : tie.Need-returns
 returns c =
     let s = c .before in
-    let asked = s .before .before .before .before .before in
+    let asked = s .before .before .before .before .before .before in
     let known = asked .asked .given in
     s .second .ensures .0
-    ∙ ap (λ τ. secondAnswer (known .0 .0) τ (replicate 901 0)) (given (s .before .struct-told .given .0 .1) refl)
+    ∙ ap₂ (λ o τ. secondAnswer o τ (replicate 901 0)) (s .before .before .before .of-eclipse .ensures) (given (s .before .struct-told .given .0 .1) refl)
     ∙ ap firstOf (sym (known .1) ∙ asked .before .before .request .ensures)
 
 returns-2 : tie.Need-returns-2
@@ -41,6 +44,7 @@ first-of-spec =
     (tie.spec
     request-requires
     enum-known-asked
+    of-eclipse-requires
     slice-aggregate-second
     second-requires
     enum-known-asked-2

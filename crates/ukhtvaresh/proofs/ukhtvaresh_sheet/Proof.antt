@@ -2,7 +2,7 @@
 use borrow.Author.Needs.{needs}
 use Rattle.requests.specs.Requests.{ofEclipse}
 use Rattle.input.specs.Input.{requestOf}
-use Rattle.ukhtvaresh.specs.SheetLaws.{replied}
+use Rattle.replies.specs.SheetLaws.{replied}
 use Rattle.ukhtvaresh.proofs.ukhtvaresh_sheet.Statement.{statement}
 use Rattle.ukhtvaresh.proofs.ukhtvaresh_sheet.Tie as tie
 

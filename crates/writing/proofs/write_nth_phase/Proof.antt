@@ -13,7 +13,7 @@ use Rattle.requests.specs.declared.Occultation.{Occultation}
 use Rattle.runs.specs.Runs.{decoded}
 use Rattle.seconds.specs.Seconds as Seconds
 use Rattle.seconds.specs.SecondLaws.{states-length}
-use Rattle.contacts.specs.Entries.{entries}
+use Rattle.contact_entries.specs.Entries.{entries}
 use Rattle.records.specs.Entries.{bytesOf}
 use Rattle.courses.specs.Courses.{statesOf, entryOf, phaseEntries}
 use Rattle.courses.specs.Lengths.{bytesNeeded, phase-length}

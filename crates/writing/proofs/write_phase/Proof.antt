@@ -7,7 +7,7 @@ use native.Mathlib.Omega.{arith}
 use borrow.Author.Needs.{needs}
 use lib.ListN.{length}
 use lib.Seq.{sets, length-sets}
-use Rattle.contacts.specs.Entries.{entries}
+use Rattle.contact_entries.specs.Entries.{entries}
 use Rattle.runs.specs.Runs.{decoded}
 use Rattle.requests.specs.WindowLaws.{seconds-few}
 use Rattle.contacts.specs.Step.{entriesFrom, At}

@@ -40,7 +40,7 @@ fn more((rounded, exact): (i64, Wide)) -> f64 {
 }
 
 fn second_of(request: &StarRequest, second: i64) -> Second {
-    StarRequest::second(&request.checked().expect("within its ranges"), second)
+    <StarRequest as Course>::second(&request.checked().expect("within its ranges"), second)
 }
 
 /// How far the distance less L is off.

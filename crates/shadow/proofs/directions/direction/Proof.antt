@@ -11,7 +11,7 @@ use mir.Syntax.{w16, w64}
 use mir.Val.{Fits, toZ, ofZ}
 use Rattle.numbers.specs.Order.{zs, <ℤ-≤, ≤ℤ-antisym}
 use Rattle.numbers.specs.Code.{Code, arg, lit, Within, whole, ends, _▹_, unsigned, taken-<, left-<, read-back, read-size}
-use Rattle.sine.specs.Table.{S}
+use Rattle.sine_table.specs.Table.{S}
 use Rattle.geometry.specs.Direction.{quarter, direction}
 use Rattle.geometry.specs.DirectionLaws.{quarter-le, direction-first, direction-second, direction-third, direction-fourth, direction-none}
 use Rattle.shadow.proofs.directions.direction.Statement.{statement}

@@ -9,9 +9,9 @@ use lib.IntN.{pos}
 use mir.Syntax.{w64}
 use mir.Val.{Fits}
 use Rattle.numbers.specs.Order.{zs}
-use Rattle.sine.specs.Table.{S}
-use Rattle.sine.specs.TableLaws.{entry-0}
-use Rattle.sine.specs.Rising.{S-rises}
+use Rattle.sine_table.specs.Table.{S}
+use Rattle.sine_table.specs.TableLaws.{entry-0}
+use Rattle.sine_table.specs.Rising.{S-rises}
 use Rattle.geometry.specs.Direction.{Largest, quarter}
 use Rattle.geometry.specs.DirectionLaws.{largest-unique, quarter-is}
 use Rattle.shadow.proofs.directions.quarter.Statement.{statement}

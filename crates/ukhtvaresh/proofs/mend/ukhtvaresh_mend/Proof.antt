@@ -1,8 +1,8 @@
 -- `ukhtvaresh::mend::ukhtvaresh_mend` meets its contract: the answer of the crate below, as numbers. Assumes nothing.
 use mathlib.Core.Path.{ap, _∙_}
 use Rattle.mending.specs.Mending.{kept, notes, roomAfter}
-use Rattle.ukhtvaresh.specs.declared.mend.MendReply.{MendReply}
-use Rattle.ukhtvaresh.specs.MendReply.{mendReply}
+use Rattle.replies.specs.declared.MendReply.{MendReply}
+use Rattle.replies.specs.MendReply.{mendReply}
 use borrow.Author.Needs.{needs}
 use Rattle.ukhtvaresh.proofs.mend.ukhtvaresh_mend.Statement.{statement}
 use Rattle.ukhtvaresh.proofs.mend.ukhtvaresh_mend.Tie as tie

@@ -3,7 +3,7 @@ use borrow.Author.Needs.{needs}
 use Rattle.requests.specs.Requests.{ofEclipse}
 use Rattle.survey.specs.Survey.{requestOf}
 use Rattle.survey.specs.Handed.{surveyOf}
-use Rattle.ukhtvaresh.specs.SheetLaws.{replied}
+use Rattle.replies.specs.SheetLaws.{replied}
 use Rattle.ukhtvaresh.proofs.positions.ukhtvaresh_sheet_of_doubles.Statement.{statement}
 use Rattle.ukhtvaresh.proofs.positions.ukhtvaresh_sheet_of_doubles.Tie as tie
 

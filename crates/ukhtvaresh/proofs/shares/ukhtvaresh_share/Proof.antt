@@ -3,13 +3,14 @@ use mathlib.Core.Path.{_≡_, sym, subst, ap, _∙_}
 use borrow.Author.Needs.{needs}
 use mir.Syntax.{w64}
 use mir.ValLaws.{toZ-ofZ}
+use Rattle.request_fields.specs.declared.Shape.the-variants.{Eclipse}
 use Rattle.input.specs.Input.{inputOf}
-use Rattle.ukhtvaresh.specs.declared.Reply.{Reply}
+use Rattle.replies.specs.declared.Reply.{Reply}
 use Rattle.covered.specs.Answer.{shareBy}
 use Rattle.covered.specs.AnswerLaws.{AnsweredSizes}
-use Rattle.ukhtvaresh.specs.Second.{secondAsked, sinesAsked}
-use Rattle.ukhtvaresh.specs.Shares.{shareReply}
-use Rattle.ukhtvaresh.specs.ShareLaws.{asked-sizes, asked-means}
+use Rattle.second_replies.specs.Second.{wish, secondAsked, sinesAsked}
+use Rattle.replies.specs.Shares.{shareReply}
+use Rattle.second_replies.specs.ShareLaws.{asked-sizes, asked-means}
 use Rattle.ukhtvaresh.proofs.shares.ukhtvaresh_share.Statement.{statement}
 use Rattle.ukhtvaresh.proofs.shares.ukhtvaresh_share.Tie as tie
 
@@ -21,10 +22,10 @@ module _ (c : tie.After-asked) where
   start = c .before .before .before .before
 
   -- what is asked for, second being read back from its bits
-  found-is : c .asked .result ≡ secondAsked (inputOf (start .args .request .now)) (start .args .second) (start .args .sines .now)
+  found-is : c .asked .result ≡ secondAsked (wish Eclipse (start .args .request .now)) (start .args .second) (start .args .sines .now)
   found-is =
       c .asked .ensures .0
-      ∙ ap (λ τ. secondAsked (inputOf (start .args .request .now)) τ (start .args .sines .now)) (toZ-ofZ w64 (start .args .second) (start .fits .second))
+      ∙ ap (λ τ. secondAsked (wish Eclipse (start .args .request .now)) τ (start .args .sines .now)) (toZ-ofZ w64 (start .args .second) (start .fits .second))
 
 of-second-requires : tie.Need-of-second-requires
 of-second-requires c κs =
@@ -44,7 +45,7 @@ returns c =
     let a = start got .args in
     let e = c .share-reply .ensures ∙ ap shareReply (c .before .of-second .ensures ∙ ap shareBy (found-is got)) in
     let left = got .asked .ensures .1
-    ∙ ap (λ τ. sinesAsked (inputOf (a .request .now)) τ (a .sines .now)) (toZ-ofZ w64 (a .second) (start got .fits .second)) in
+    ∙ ap (λ τ. sinesAsked (wish Eclipse (a .request .now)) τ (a .sines .now)) (toZ-ofZ w64 (a .second) (start got .fits .second)) in
     (ap (λ (x : Reply). x .number) e, (ap (λ (x : Reply). x .value) e, (left, asked-means (a .request .now) (a .second) (a .sines .now))))
 
 pub ukhtvaresh-share-spec : {M : Type 1} → statement M

@@ -44,7 +44,7 @@ use Rattle.nodes.specs.Held.{least64, heldOf}
 use Rattle.nodes.specs.Nodes.{Holds}
 use Rattle.nodes.specs.HeldLaws.{held-holds}
 use Rattle.networks.specs.Network.{answerTo, sinesFor, stepsFor}
-use Rattle.ukhtvaresh.specs.NetworkReply.{networkReply, Told}
+use Rattle.replies.specs.NetworkReply.{networkReply, Told}
 use Rattle.nodes.proofs.Node as T
 use Rattle.nodes.proofs.Held as S
 use Rattle.nodes.proofs.Held.Laws as S′

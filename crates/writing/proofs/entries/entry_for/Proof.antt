@@ -12,9 +12,9 @@ use Rattle.phases.specs.declared.Phase.{Phase}
 use Rattle.requests.specs.declared.Occultation.{Occultation}
 use Rattle.requests.specs.Windows.{secondCount}
 use Rattle.seconds.specs.Seconds.{directionAt}
-use Rattle.contacts.specs.declared.Entry as Contact
-use Rattle.contacts.specs.declared.Entry.the-variants as K
-use Rattle.contacts.specs.Entries.{from, to}
+use Rattle.contact_entries.specs.declared.Entry as Contact
+use Rattle.contact_entries.specs.declared.Entry.the-variants as K
+use Rattle.contact_entries.specs.Entries.{from, to}
 use Rattle.kinds.specs.declared.Entry.{Entry}
 use Rattle.kinds.specs.Entries.{enter, leave, graze, opened}
 use Rattle.kinds.specs.StoredSeconds.{stored}

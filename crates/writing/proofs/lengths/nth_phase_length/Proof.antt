@@ -10,7 +10,7 @@ use Rattle.phases.specs.declared.Phase.the-variants.{Penumbra}
 use Rattle.geometry.specs.Shadow.{phasesOf}
 use Rattle.requests.specs.WindowLaws.{seconds-few}
 use Rattle.seconds.specs.SecondLaws.{states-length}
-use Rattle.contacts.specs.Entries.{entries}
+use Rattle.contact_entries.specs.Entries.{entries}
 use Rattle.courses.specs.Lengths.{bytesNeeded}
 use Rattle.writing.proofs.lengths.nth_phase_length.Statement.{statement}
 use Rattle.writing.proofs.lengths.nth_phase_length.Tie as tie

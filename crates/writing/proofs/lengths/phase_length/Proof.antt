@@ -4,7 +4,7 @@ use Prim.Native.Nat.{_+_, _-_, _*_, _≤_}
 use native.Mathlib.Omega.{arith}
 use borrow.Author.Needs.{needs}
 use lib.ListN.{length}
-use Rattle.contacts.specs.Entries.{entries}
+use Rattle.contact_entries.specs.Entries.{entries}
 use Rattle.runs.specs.Runs.{decoded}
 use Rattle.contacts.specs.Step.{entriesFrom, At}
 use Rattle.contacts.specs.StepLaws.{all-at-start, at-start, Took, took, none-left}

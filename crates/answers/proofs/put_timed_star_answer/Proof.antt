@@ -1,0 +1,46 @@
+-- `answers::put_timed_star_answer` meets its contract: the text is that of the answer, the bytes that it left and the request's ΔT.
+use mathlib.Core.Path.{_∙_}
+use native.Mathlib.Omega.{arith}
+use Rattle.numbers.specs.Code.{read-result}
+use Rattle.answers.specs.AnswerLaws.{star-fits, star-timed}
+use borrow.Author.Needs.{needs}
+use Rattle.answers.proofs.put_timed_star_answer.Statement.{statement}
+use Rattle.answers.proofs.put_timed_star_answer.Tie as tie
+
+deltat-requires : tie.Need-deltat-requires
+deltat-requires c κs = search needs
+
+sheet-requires : tie.Need-sheet-requires
+sheet-requires c κs = search needs
+
+put-text-requires : tie.Need-put-text-requires
+put-text-requires c κs = let m = c .before .before .before .before .before .before in star-fits _ _ _ _ (m .sheet .ensures .0) _ (m .sheet .ensures .1 .0) (omega arith)
+
+same-length : tie.Need-same-length
+same-length c = search needs
+
+same-length-2 : tie.Need-same-length-2
+same-length-2 c = search needs
+
+same-length-3 : tie.Need-same-length-3
+same-length-3 c = search needs
+
+returns : tie.Need-returns
+returns c =
+    let m = c .before .before .before .before .before .before .before .before .before in
+    let d = m .before .before .before .deltat in
+    let a = m .before .before .before .before .before .before .before .before .args in
+    let t = star-timed _ _ _ _ (m .sheet .ensures .0) _ (m .sheet .ensures .1 .0) (a .clock) _ (read-result (d .result) (d .ok) ∙ d .ensures) in
+    (rw (← t) (c .before .before .put-text .ensures), (m .sheet .ensures .1 .0, m .sheet .ensures .1 .1 .0))
+
+pub put-timed-star-answer-spec : {M : Type 1} → statement M
+put-timed-star-answer-spec =
+    tie.close
+    (tie.spec
+    deltat-requires
+    sheet-requires
+    put-text-requires
+    same-length
+    same-length-2
+    same-length-3
+    returns)

@@ -1,0 +1,21 @@
+-- `approach::square_of` meets its contract. Assumes nothing.
+use mathlib.Core.Path.{_∙_}
+use borrow.Author.Needs.{needs}
+use Rattle.numbers.specs.Code.{read-back, read-size}
+use Rattle.gaps.specs.Samples.{squareAt}
+use Rattle.approach.proofs.square_of.Statement.{statement}
+use Rattle.approach.proofs.square_of.Tie as tie
+
+offset-of-requires : tie.Need-offset-of-requires
+offset-of-requires c κs = search needs
+
+returns : tie.Need-returns
+unfolding squareAt
+returns c =
+    let x = c .before in
+    let e = x .offset-of .ensures in
+    let m = x .offset-of .result .m in
+    record { value = read-back m (e .m .size) tt ∙ e .m .value; size = read-size m 1000000000000000000 (e .m .size) tt }
+
+pub square-of-spec : {M : Type 1} → statement M
+square-of-spec = tie.close (tie.spec offset-of-requires returns)

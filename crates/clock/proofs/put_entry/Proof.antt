@@ -1,0 +1,54 @@
+-- `clock::put_entry` meets its contract: the line by the clock.
+use mathlib.Core.Path.{_≡_, ap}
+use mir.Syntax.{w64}
+use mir.Val.{toZ, ofZ}
+use mir.ValLaws.{toZ-ofZ}
+use Rattle.decimals.specs.RowLaws.{put-as}
+use Rattle.clock.specs.Clock.{timedLine}
+use Rattle.clock.specs.ClockLaws.{line-off, line-at}
+use borrow.Author.Needs.{needs}
+use Rattle.clock.proofs.put_entry.Statement.{statement}
+use Rattle.clock.proofs.put_entry.Tie as tie
+
+read : (c : tie.Start) → toZ w64 (ofZ w64 (c .args .deltat)) ≡ c .args .deltat
+read c = toZ-ofZ w64 (c .args .deltat) (c .fits .deltat)
+
+enum-told : tie.Need-enum-told
+enum-told c = search needs
+
+put-entry-requires : tie.Need-put-entry-requires
+put-entry-requires c κs = search needs
+
+enum-known-clock : tie.Need-enum-known-clock
+enum-known-clock c = search needs
+
+put-timed-requires : tie.Need-put-timed-requires
+put-timed-requires c κs = search needs
+
+same-length : tie.Need-same-length
+same-length c = search needs
+
+returns : tie.Need-returns
+returns c = line-off _ _ _ _ _ _ _ (c .before .before .before .before .enum-told .given .1) (c .before .before .put-entry .ensures)
+
+same-length-2 : tie.Need-same-length-2
+same-length-2 c = search needs
+
+returns-2 : tie.Need-returns-2
+returns-2 c =
+    let a = c .before .before .before .before .before .before .before .before .args in
+    put-as _ _ _ _ _ _ (ap (λ d. timedLine (a .clock) d (a .entry)) (read (c .before .before .before .before .before .before .before .before)))
+    (line-at _ _ _ _ _ _ _ _ (c .before .before .before .before .before .clock .given .1) (c .before .before .put-timed .ensures))
+
+pub put-entry-spec : {M : Type 1} → statement M
+put-entry-spec =
+    tie.close
+    (tie.spec
+    enum-told
+    put-entry-requires
+    enum-known-clock
+    put-timed-requires
+    same-length
+    returns
+    same-length-2
+    returns-2)

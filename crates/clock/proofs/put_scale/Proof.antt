@@ -1,0 +1,56 @@
+-- `clock::put_scale` meets its contract: the scale's name and its times, or nothing, by the test.
+use mathlib.Core.Path.{_≡_, sym, ap, _∙_}
+use native.Mathlib.Omega.{arith}
+use mir.Syntax.{w64}
+use mir.Val.{toZ, ofZ}
+use mir.ValLaws.{toZ-ofZ}
+use Rattle.decimals.specs.RowLaws.{put-as, joined}
+use Rattle.clock.specs.Clock.{scaleText}
+use Rattle.clock.specs.ClockLaws.{scale-shown, scale-hidden}
+use borrow.Author.Needs.{needs}
+use Rattle.clock.proofs.put_scale.Statement.{statement}
+use Rattle.clock.proofs.put_scale.Tie as tie
+
+read : (c : tie.Start) → toZ w64 (ofZ w64 (c .args .deltat)) ≡ c .args .deltat
+read c = toZ-ofZ w64 (c .args .deltat) (c .fits .deltat)
+
+shows-requires : tie.Need-shows-requires
+shows-requires c κs = search needs
+
+put-byte-requires : tie.Need-put-byte-requires
+put-byte-requires c κs = search needs
+
+put-name-requires : tie.Need-put-name-requires
+put-name-requires c κs = search needs
+
+put-times-requires : tie.Need-put-times-requires
+put-times-requires c κs = search needs
+
+same-length : tie.Need-same-length
+same-length c = search needs
+
+returns : tie.Need-returns
+returns c =
+    let t = c .before .before .before .before .before .before .before .before .before .before .before .before in
+    let a = t .before .before .before .args in
+    put-as _ _ _ _ _ _ (ap (λ d. scaleText (a .shown) (a .i) d (a .seconds)) (read (t .before .before .before)))
+    (scale-shown _ _ _ _ _ _ (sym (t .before .shows .ensures) ∙ t .if1 .taken) _ _
+    (joined (omega arith) (joined (omega arith) (c .before .before .before .before .before .before .before .before .before .before .put-byte .ensures) (c .before .before .before .before .before .before .put-name .ensures)) (c .before .before .put-times .ensures)))
+
+returns-2 : tie.Need-returns-2
+returns-2 c =
+    let a = c .before .before .before .args in
+    put-as _ _ _ _ _ _ (ap (λ d. scaleText (a .shown) (a .i) d (a .seconds)) (read (c .before .before .before)))
+    (scale-hidden _ _ _ _ _ _ (sym (c .before .shows .ensures) ∙ c .if1 .left) (omega arith))
+
+pub put-scale-spec : {M : Type 1} → statement M
+put-scale-spec =
+    tie.close
+    (tie.spec
+    shows-requires
+    put-byte-requires
+    put-name-requires
+    put-times-requires
+    same-length
+    returns
+    returns-2)

@@ -1,0 +1,33 @@
+-- `clock::put_scales` meets its contract: one scale after the other.
+use mathlib.Core.Path.{_≡_, ap}
+use native.Mathlib.Omega.{arith}
+use mir.Syntax.{w64}
+use mir.Val.{toZ, ofZ}
+use mir.ValLaws.{toZ-ofZ}
+use Rattle.decimals.specs.RowLaws.{put-as, joined}
+use Rattle.clock.specs.Clock.{scalesText}
+use borrow.Author.Needs.{needs}
+use Rattle.clock.proofs.put_scales.Statement.{statement}
+use Rattle.clock.proofs.put_scales.Tie as tie
+
+read : (c : tie.Start) → toZ w64 (ofZ w64 (c .args .deltat)) ≡ c .args .deltat
+read c = toZ-ofZ w64 (c .args .deltat) (c .fits .deltat)
+
+put-scale-requires : tie.Need-put-scale-requires
+put-scale-requires c κs = search needs
+
+put-scale-requires-2 : tie.Need-put-scale-requires-2
+put-scale-requires-2 c κs = search needs
+
+same-length : tie.Need-same-length
+same-length c = search needs
+
+returns : tie.Need-returns
+unfolding scalesText
+returns c =
+    let a = c .before .before .before .before .before .before .before .before .before .args in
+    put-as _ _ _ _ _ _ (ap (λ d. scalesText (a .i) d (a .seconds)) (read (c .before .before .before .before .before .before .before .before .before)))
+    (joined (omega arith) (c .before .before .before .before .before .before .put-scale .ensures) (c .before .before .put-scale2 .ensures))
+
+pub put-scales-spec : {M : Type 1} → statement M
+put-scales-spec = tie.close (tie.spec put-scale-requires put-scale-requires-2 same-length returns)

@@ -1,0 +1,62 @@
+-- `clock::put_second` meets its contract: a blank, then the time of the hundredths and what is added.
+use mathlib.Core.Path.{_≡_, ap, _∙_}
+use mathlib.Core.List.{[], _∷_, _++_}
+use native.Mathlib.Omega.{arith}
+use lib.IntN.{pos, _+ℤ_}
+use mir.Syntax.{w64}
+use mir.Val.{toZ, ofZ}
+use mir.ValLaws.{toZ-ofZ}
+use Rattle.numbers.specs.Near.{floorZ}
+use Rattle.numbers.specs.Code.{Code, arg, add, Within, whole, ends, _▹_, fits, runs, within}
+use Rattle.kinds.specs.StoredSeconds.{secondOf}
+use Rattle.decimals.specs.Texts.{letters}
+use Rattle.decimals.specs.RowLaws.{put-as, joined}
+use Rattle.times_of_day.specs.Times.{timeText}
+use Rattle.clock.specs.Clock.{timeIn}
+use borrow.Author.Needs.{needs}
+use Rattle.clock.proofs.put_second.Statement.{statement}
+use Rattle.clock.proofs.put_second.Tie as tie
+
+read : (c : tie.Start) → toZ w64 (ofZ w64 (c .args .deltat)) ≡ c .args .deltat
+read c = toZ-ofZ w64 (c .args .deltat) (c .fits .deltat)
+
+bounds : (t : tie.After-time-in) → Within (whole (t .time-in .result) ∷ whole (t .before .before .args .more) ∷ []) (429506469499 ∷ 9 ∷ [])
+bounds t = t .time-in .ensures .size ▹ t .before .before .pre .1 ▹ ends
+
+abbrev both : Code
+both = add (arg 0) (arg 1)
+
+time-in-requires : tie.Need-time-in-requires
+time-in-requires c κs = search needs
+
+put-byte-requires : tie.Need-put-byte-requires
+put-byte-requires c κs = search needs
+
+add-put-time : tie.Need-add-put-time
+add-put-time c = fits (bounds (c .before .before .before .before .before)) both tt
+
+put-time-requires : tie.Need-put-time-requires
+put-time-requires c κs = within (bounds (c .before .before .before .before .before)) both 860000000000 tt
+
+same-length : tie.Need-same-length
+same-length c = search needs
+
+returns : tie.Need-returns
+returns c =
+    let t = c .before .before .before .before .before .before .before .before in
+    let a = t .before .before .args in
+    put-as _ _ _ _ _ _
+    (ap (λ z. letters " " ++ timeText (floorZ z (pos 10)))
+    (runs (bounds t) both tt ∙ ap (λ n. n +ℤ a .more) (t .time-in .ensures .value ∙ ap (λ d. timeIn (a .shown) (a .i) d (secondOf (a .stored))) (read (t .before .before)))))
+    (joined (omega arith) (c .before .before .before .before .before .before .put-byte .ensures) (c .before .before .put-time .ensures))
+
+pub put-second-spec : {M : Type 1} → statement M
+put-second-spec =
+    tie.close
+    (tie.spec
+    time-in-requires
+    put-byte-requires
+    add-put-time
+    put-time-requires
+    same-length
+    returns)

@@ -1,0 +1,52 @@
+-- `clock::put_timed` meets its contract: the text, what follows it, the end of the line.
+use mathlib.Core.Path.{_≡_, ap, _∙_}
+use mathlib.Core.List.{_++_}
+use native.Mathlib.Omega.{arith}
+use mir.Syntax.{w64}
+use mir.Val.{toZ, ofZ}
+use mir.ValLaws.{toZ-ofZ}
+use Rattle.numbers.specs.Code.{read-result}
+use Rattle.decimals.specs.RowLaws.{put-as, joined}
+use Rattle.lines.specs.Lines.{textOf, endFor}
+use Rattle.clock.specs.Clock.{known, behind}
+use borrow.Author.Needs.{needs}
+use Rattle.clock.proofs.put_timed.Statement.{statement}
+use Rattle.clock.proofs.put_timed.Tie as tie
+
+read : (c : tie.Start) → toZ w64 (ofZ w64 (c .args .deltat)) ≡ c .args .deltat
+read c = toZ-ofZ w64 (c .args .deltat) (c .fits .deltat)
+
+known-requires : tie.Need-known-requires
+known-requires c κs = search needs
+
+put-entry-text-requires : tie.Need-put-entry-text-requires
+put-entry-text-requires c κs = search needs
+
+put-behind-requires : tie.Need-put-behind-requires
+put-behind-requires c κs = search needs
+
+put-end-requires : tie.Need-put-end-requires
+put-end-requires c κs = search needs
+
+same-length : tie.Need-same-length
+same-length c = search needs
+
+returns : tie.Need-returns
+returns c =
+    let k = c .before .before .before .before .before .before .before .before .before .before .before .before in
+    let a = k .before .before .args in
+    put-as _ _ _ _ _ _
+    (ap (λ d. textOf (a .entry) ++ behind (a .i) d (a .entry) ++ endFor (a .entry .kind))
+    (read-result (k .known .result) (k .known .ok) ∙ k .known .ensures .value ∙ ap known (read (k .before .before))))
+    (joined (omega arith) (joined (omega arith) (c .before .before .before .before .before .before .before .before .before .before .put-entry-text .ensures) (c .before .before .before .before .before .before .put-behind .ensures)) (c .before .before .put-end .ensures))
+
+pub put-timed-spec : {M : Type 1} → statement M
+put-timed-spec =
+    tie.close
+    (tie.spec
+    known-requires
+    put-entry-text-requires
+    put-behind-requires
+    put-end-requires
+    same-length
+    returns)

@@ -1,0 +1,62 @@
+-- `clock::put_times` meets its contract: each arm has the times of its seconds.
+use mathlib.Core.Path.{_≡_, ap}
+use native.Mathlib.Omega.{arith}
+use mir.Syntax.{w64}
+use mir.Val.{toZ, ofZ}
+use mir.ValLaws.{toZ-ofZ}
+use Rattle.decimals.specs.RowLaws.{put-as}
+use Rattle.clock.specs.Clock.{timesIn}
+use Rattle.clock.specs.ClockLaws.{times-of-moment, times-of-contact}
+use borrow.Author.Needs.{needs}
+use Rattle.clock.proofs.put_times.Statement.{statement}
+use Rattle.clock.proofs.put_times.Tie as tie
+
+read : (c : tie.Start) → toZ w64 (ofZ w64 (c .args .deltat)) ≡ c .args .deltat
+read c = toZ-ofZ w64 (c .args .deltat) (c .fits .deltat)
+
+enum-known-seconds : tie.Need-enum-known-seconds
+enum-known-seconds c = search needs
+
+put-second-requires : tie.Need-put-second-requires
+put-second-requires c κs = search needs
+
+enum-known-seconds-2 : tie.Need-enum-known-seconds-2
+enum-known-seconds-2 c = search needs
+
+put-second-requires-2 : tie.Need-put-second-requires-2
+put-second-requires-2 c κs = search needs
+
+put-second-requires-3 : tie.Need-put-second-requires-3
+put-second-requires-3 c κs = search needs
+
+same-length : tie.Need-same-length
+same-length c = search needs
+
+returns : tie.Need-returns
+returns c =
+    let a = c .before .before .before .before .before .before .before .before .args in
+    put-as _ _ _ _ _ _ (ap (λ d. timesIn (a .shown) (a .i) d (a .seconds)) (read (c .before .before .before .before .before .before .before .before)))
+    (times-of-moment _ _ _ _ _ _ (c .before .before .before .before .before .seconds .given .1) _ _ (c .before .before .put-second .ensures))
+
+same-length-2 : tie.Need-same-length-2
+same-length-2 c = search needs
+
+returns-2 : tie.Need-returns-2
+returns-2 c =
+    let a = c .before .before .before .before .before .before .before .before .before .before .before .before .args in
+    put-as _ _ _ _ _ _ (ap (λ d. timesIn (a .shown) (a .i) d (a .seconds)) (read (c .before .before .before .before .before .before .before .before .before .before .before .before)))
+    (times-of-contact _ _ _ _ _ _ _ (c .before .before .before .before .before .before .before .before .before .seconds2 .given .1) _ _ _ _ (omega arith) (c .before .before .before .before .before .before .put-second2 .ensures) (c .before .before .put-second3 .ensures))
+
+pub put-times-spec : {M : Type 1} → statement M
+put-times-spec =
+    tie.close
+    (tie.spec
+    enum-known-seconds
+    put-second-requires
+    enum-known-seconds-2
+    put-second-requires-2
+    put-second-requires-3
+    same-length
+    returns
+    same-length-2
+    returns-2)

@@ -1,0 +1,137 @@
+-- `handed::extent_of_leading_entries` meets its contract. As `extent_of_leading_sheet`, along the entries of the list.
+use Rattle.sheets.proofs.Counting.{Counting, count-refused, count-broken, count-end, count-more}
+use Rattle.sheets.specs.Handed.{handedAt, listSheet}
+use Rattle.sheets.specs.SheetLaws.{list-start, extent-start}
+use Rattle.sheets.specs.HandedLaws.{handed-bounds}
+use Rattle.sheets.specs.Passes.{refusedOf, brokenOf}
+use Rattle.rules.specs.Rules.{judgedAs, judgementOf}
+use Rattle.records.specs.declared.Record.the-variants.{Is}
+use Rattle.rules.specs.declared.Judgement.the-variants.{Next}
+use lib.ListN.{length}
+use native.Mathlib.Omega.{arith}
+use Prim.Native.Nat.{_+_, _-_, _*_, _≤_}
+use mathlib.Core.Path.{_≡_, sym, ap, _∙_}
+use borrow.Author.Needs.{needs}
+use Rattle.handed.proofs.extent_of_leading_entries.Statement.{statement}
+use Rattle.handed.proofs.extent_of_leading_entries.Tie as tie
+
+abbrev Inv-loop : tie.InvT-loop
+Inv-loop l p₀ place₀ n₀ p place n = (n * 5 ≤ length l) × (place ≤ n * 17) × Counting (handedAt l) (length l) (listSheet l) p n place
+
+abbrev μ-loop : tie.MeasureT-loop
+μ-loop l p₀ place₀ n₀ p place n = length l - n
+
+begun-requires : tie.Need-begun-requires Inv-loop μ-loop
+begun-requires c κs = search needs
+
+loop-holds : tie.Need-loop-holds Inv-loop μ-loop
+loop-holds c = (omega arith, omega arith, record { is = rw (c .begun .ensures) (extent-start _ _ (list-start _)) })
+
+handed-at-requires : tie.Need-handed-at-requires Inv-loop μ-loop
+handed-at-requires c κs = omega arith
+
+enum-known-given : tie.Need-enum-known-given Inv-loop μ-loop
+enum-known-given c = search needs
+
+enum-told : tie.Need-enum-told Inv-loop μ-loop
+enum-told c = search needs
+
+refused-requires : tie.Need-refused-requires Inv-loop μ-loop
+refused-requires c κs = search needs
+
+returns : tie.Need-returns Inv-loop μ-loop
+returns c = c .refused .ensures ∙ ap refusedOf (c .before .enum-told .given .1) ∙ count-refused (c .before .before .before .before .loop .inv .2) _
+    (sym (c .before .before .before .handed-at .ensures) ∙ c .before .enum-told .given .1)
+
+is-plain-requires : tie.Need-is-plain-requires Inv-loop μ-loop
+is-plain-requires c κs = search needs
+
+judge-requires : tie.Need-judge-requires Inv-loop μ-loop
+judge-requires c κs = search needs
+
+enum-known-judged : tie.Need-enum-known-judged Inv-loop μ-loop
+enum-known-judged c = search needs
+
+enum-told-2 : tie.Need-enum-told-2 Inv-loop μ-loop
+enum-told-2 c = search needs
+
+broken-requires : tie.Need-broken-requires Inv-loop μ-loop
+broken-requires c κs = search needs
+
+there : (c : tie.After-known-told Inv-loop μ-loop)
+    → handedAt (c .before .before .before .before .before .before .before .args .l .now) (c .before .before .before .before .loop .n)
+    (c .before .before .before .before .loop .place) ≡ Is (c .before .given .given .0 .0) (c .before .given .given .0 .1 .0)
+there c = sym (c .before .before .before .handed-at .ensures) ∙ c .before .given .given .1
+
+bounds : (c : tie.After-known-told Inv-loop μ-loop) →
+    (c .before .before .before .before .loop .n * 5 + 5 ≤ length (c .before .before .before .before .before .before .before .args .l .now)) ×
+    (c .before .given .given .0 .1 .0 ≤ c .before .before .before .before .loop .place + 17)
+bounds c = let b = handed-bounds _ _ _ _ _ (there c) in (b .0, b .2)
+
+judgement : (c : tie.After-judge Inv-loop μ-loop) → judgementOf (c .before .before .before .before .before .before .loop .p)
+    (c .before .before .before .before .before .before .loop .place) (c .before .before .before .given .given .0 .0) ≡ c .judge .result
+judgement c = ap (λ b. judgedAs b (c .before .before .before .before .before .before .loop .p)
+    (c .before .before .before .before .before .before .loop .place) (c .before .before .before .given .given .0 .0))
+    (sym (c .before .is-plain .ensures)) ∙ sym (c .judge .ensures)
+
+took : (c : tie.After-known-told2 Inv-loop μ-loop)
+    → judgementOf (c .before .before .before .before .before .before .before .before .before .loop .p)
+    (c .before .before .before .before .before .before .before .before .before .loop .place)
+    (c .before .before .before .before .before .before .given .given .0 .0) ≡ Next (c .before .judged .given .0 .0)
+took c = judgement (c .before .before .before) ∙ c .before .judged .given .1
+
+returns-2 : tie.Need-returns-2 Inv-loop μ-loop
+returns-2 c = c .broken .ensures ∙ ap brokenOf (c .before .enum-told2 .given .1) ∙ count-broken
+    (c .before .before .before .before .before .before .before .before .before .loop .inv .2) _ _ (there (c .before .before .before .before .before))
+    _ (judgement (c .before .before .before) ∙ c .before .enum-told2 .given .1)
+
+is-end-requires : tie.Need-is-end-requires Inv-loop μ-loop
+is-end-requires c κs = search needs
+
+add-handed : tie.Need-add-handed Inv-loop μ-loop
+add-handed c = let b = bounds (c .before .before .before .before .before .before .before) in omega arith
+
+returns-3 : tie.Need-returns-3 Inv-loop μ-loop
+returns-3 c = count-end (c .before .before .before .before .before .before .before .before .before .before .before .loop .inv .2) _ _
+    (there (c .before .before .before .before .before .before .before)) _ (took (c .before .before)) (sym (c .before .is-end .ensures) ∙ c .if1 .taken)
+
+add-n : tie.Need-add-n Inv-loop μ-loop
+add-n c = let b = bounds (c .before .before .before .before .before .before .before) in omega arith
+
+loop-less : tie.Need-loop-less Inv-loop μ-loop
+loop-less c = let b = bounds (c .before .before .before .before .before .before .before) in omega arith
+
+loop-again : tie.Need-loop-again Inv-loop μ-loop
+loop-again c = let b = bounds (c .before .before .before .before .before .before .before) in (
+  omega arith,
+  omega arith,
+  count-more (c .before .before .before .before .before .before .before .before .before .before .before .loop .inv .2) _ _
+      (there (c .before .before .before .before .before .before .before)) _ (took (c .before .before))
+      (sym (c .before .is-end .ensures) ∙ c .if1 .left) (omega arith),
+)
+
+pub extent-of-leading-entries-spec : {M : Type 1} → statement M
+extent-of-leading-entries-spec =
+    tie.close
+    (tie.spec
+    Inv-loop
+    μ-loop
+    begun-requires
+    loop-holds
+    handed-at-requires
+    enum-known-given
+    enum-told
+    refused-requires
+    returns
+    is-plain-requires
+    judge-requires
+    enum-known-judged
+    enum-told-2
+    broken-requires
+    returns-2
+    is-end-requires
+    add-handed
+    returns-3
+    add-n
+    loop-less
+    loop-again)

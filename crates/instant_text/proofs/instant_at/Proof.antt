@@ -1,0 +1,26 @@
+-- `instant_text::instant_at` meets its contract: each field is what its word gives. Assumes nothing.
+use Rattle.instant_text.specs.Instants.{instantAt}
+use borrow.Author.Needs.{needs}
+use Rattle.instant_text.proofs.instant_at.Statement.{statement}
+use Rattle.instant_text.proofs.instant_at.Tie as tie
+
+year-of-requires : tie.Need-year-of-requires
+year-of-requires c κs = search needs
+
+two-at-requires : tie.Need-two-at-requires
+two-at-requires c κs = search needs
+
+two-at-requires-2 : tie.Need-two-at-requires-2
+two-at-requires-2 c κs = search needs
+
+hundredths-of-requires : tie.Need-hundredths-of-requires
+hundredths-of-requires c κs = search needs
+
+returns : tie.Need-returns
+unfolding instantAt
+returns c = rw (← c .hundredths-of .ensures, ← c .before .two-at2 .ensures .0, ← c .before .before .two-at .ensures .0, ← c .before .before .before .year-of .ensures)
+
+pub instant-at-spec : {M : Type 1} → statement M
+instant-at-spec =
+    tie.close
+    (tie.spec year-of-requires two-at-requires two-at-requires-2 hundredths-of-requires returns)

@@ -1,0 +1,28 @@
+-- `instant_text::is_time` meets its contract: the same tests. Assumes nothing.
+use Rattle.instant_text.specs.Instants.{isTime}
+use borrow.Author.Needs.{needs}
+use Rattle.instant_text.proofs.is_time.Statement.{statement}
+use Rattle.instant_text.proofs.is_time.Tie as tie
+
+time-form-requires : tie.Need-time-form-requires
+time-form-requires c κs = search needs
+
+two-at-requires : tie.Need-two-at-requires
+two-at-requires c κs = search needs
+
+two-at-requires-2 : tie.Need-two-at-requires-2
+two-at-requires-2 c κs = search needs
+
+two-at-requires-3 : tie.Need-two-at-requires-3
+two-at-requires-3 c κs = search needs
+
+returns : tie.Need-returns
+unfolding isTime
+returns c =
+    let hours = c .before .before in
+    rw (hours .before .time-form .ensures, hours .two-at .ensures .0, c .before .two-at2 .ensures .0, c .two-at3 .ensures .0)
+
+pub is-time-spec : {M : Type 1} → statement M
+is-time-spec =
+    tie.close
+    (tie.spec time-form-requires two-at-requires two-at-requires-2 two-at-requires-3 returns)

@@ -1,0 +1,30 @@
+-- `instant_text::texts::taken` meets its contract: each arm is a case of its definition. Assumes nothing.
+use borrow.Author.Needs.{needs}
+use Rattle.instant_text.proofs.texts.taken.Statement.{statement}
+use Rattle.instant_text.proofs.texts.taken.Tie as tie
+
+enum-told : tie.Need-enum-told
+enum-told c = search needs
+
+enum-known-read : tie.Need-enum-known-read
+enum-known-read c = search needs
+
+enum-told-2 : tie.Need-enum-told-2
+enum-told-2 c = search needs
+
+enum-told-3 : tie.Need-enum-told-3
+enum-told-3 c = search needs
+
+returns : tie.Need-returns
+returns c = rw (c .enum-told .given .1)
+
+returns-2 : tie.Need-returns-2
+returns-2 c = rw (c .before .before .before .read .given .1, c .enum-told2 .given .1)
+
+returns-3 : tie.Need-returns-3
+returns-3 c = rw (c .before .before .before .read .given .1, c .enum-told3 .given .1)
+
+pub taken-spec : {M : Type 1} → statement M
+taken-spec =
+    tie.close
+    (tie.spec enum-told enum-known-read enum-told-2 enum-told-3 returns returns-2 returns-3)

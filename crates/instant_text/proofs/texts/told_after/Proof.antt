@@ -1,0 +1,46 @@
+-- `instant_text::texts::told_after` meets its contract: a fault stays; a line that names the instant is read. Assumes nothing.
+use mathlib.Core.Path.{sym, _∙_}
+use Rattle.instant_text.specs.ToldLaws.{told-given, told-same}
+use borrow.Author.Needs.{needs}
+use Rattle.instant_text.proofs.texts.told_after.Statement.{statement}
+use Rattle.instant_text.proofs.texts.told_after.Tie as tie
+
+enum-known-told : tie.Need-enum-known-told
+enum-known-told c = search needs
+
+enum-told : tie.Need-enum-told
+enum-told c = search needs
+
+returns : tie.Need-returns
+returns c = search needs
+
+names-instant-requires : tie.Need-names-instant-requires
+names-instant-requires c κs = search needs
+
+read-after-requires : tie.Need-read-after-requires
+read-after-requires c κs = sym (c .before .names-instant .ensures) ∙ c .if1 .taken
+
+taken-requires : tie.Need-taken-requires
+taken-requires c κs = search needs
+
+returns-2 : tie.Need-returns-2
+returns-2 c =
+    let named = c .before .before .before in
+    c .taken .ensures
+    ∙ told-given _ _ _ _ (named .before .before .told .given .1) _ (sym (named .names-instant .ensures) ∙ c .before .before .if1 .taken) (c .before .read-after .ensures)
+
+returns-3 : tie.Need-returns-3
+returns-3 c = told-same _ _ _ _ (c .before .before .before .told .given .1) (sym (c .before .names-instant .ensures) ∙ c .if1 .left)
+
+pub told-after-spec : {M : Type 1} → statement M
+told-after-spec =
+    tie.close
+    (tie.spec
+    enum-known-told
+    enum-told
+    returns
+    names-instant-requires
+    read-after-requires
+    taken-requires
+    returns-2
+    returns-3)

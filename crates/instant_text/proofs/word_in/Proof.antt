@@ -1,0 +1,40 @@
+-- `instant_text::word_in` meets its contract: blanks, and the word. Assumes nothing.
+use mathlib.Core.Path.{sym}
+use lib.Seq.{length-take-le}
+use Rattle.instant_text.specs.InstantLaws.{word-is}
+use borrow.Author.Needs.{needs}
+use Rattle.instant_text.proofs.word_in.Statement.{statement}
+use Rattle.instant_text.proofs.word_in.Tie as tie
+
+run-requires : tie.Need-run-requires
+run-requires c κs = search needs
+
+sub-rest : tie.Need-sub-rest
+sub-rest c = search needs
+
+part-rest-start : tie.Need-part-rest-start
+part-rest-start c = search needs
+
+part-rest-end : tie.Need-part-rest-end
+part-rest-end c = search needs
+
+run-requires-2 : tie.Need-run-requires-2
+run-requires-2 c κs = search needs
+
+slice-aggregate-result : tie.Need-slice-aggregate-result
+slice-aggregate-result c = sym (length-take-le _ _ (c .before .run2 .ensures .1))
+
+returns : tie.Need-returns
+returns c = word-is _ _ _ (c .before .before .before .run .ensures .0) (c .before .run2 .ensures .0)
+
+pub word-in-spec : {M : Type 1} → statement M
+word-in-spec =
+    tie.close
+    (tie.spec
+    run-requires
+    sub-rest
+    part-rest-start
+    part-rest-end
+    run-requires-2
+    slice-aggregate-result
+    returns)

@@ -1,0 +1,201 @@
+// The instant that a person types with a request: the date and time of τ = 0, in ephemeris or universal time (docs/CLOCK.md). The words of one are
+// read here, a text's in `texts`.
+mod forms;
+pub mod texts;
+
+use instants::Instant;
+use instants::Scale;
+use words::Class;
+ghost use mathlib.Core.Path.{_≡_};
+ghost use Rattle.request_text.specs.Lines.{wordIn, afterWord};
+ghost use Rattle.instant_text.specs.Instants.{isLeap, daysIn, isDay, yearOf, isDate, timeForm, isTime, hundredthsOf, instantAt, inScale, scaled, timed, instantOf};
+
+// What words are read as.
+pub enum Reading {
+    Is(Instant),
+    // no date and time
+    Malformed,
+}
+
+// The instant of a text, if it has one.
+pub enum Reference {
+    Nothing,
+    At(Instant),
+}
+
+// Why a line that names the instant is refused.
+pub enum Wrong {
+    // it is no date and time
+    Malformed,
+    // one was given before
+    Twice,
+}
+
+// What a text says of the instant: one or none; or the first line at fault, counted from 1, and the fault.
+pub enum Told {
+    Is(Reference),
+    Refused(usize, Wrong),
+}
+
+// ---- the Gregorian calendar
+
+fn is_leap(year: u64) -> bool
+    ensures { λ r. ⌜ r ≡ isLeap year ⌝ }
+{
+    (year % 4 == 0) & ((year % 100 != 0) | (year % 400 == 0))
+}
+
+fn days_in(year: u64, month: u64) -> u64
+    ensures { λ r. ⌜ r ≡ daysIn year month ⌝ }
+{
+    if month == 2 {
+        if is_leap(year) {
+            return 29;
+        }
+        return 28;
+    }
+    if (month == 4) | (month == 6) | (month == 9) | (month == 11) {
+        return 30;
+    }
+    31
+}
+
+fn is_day(year: u64, month: u64, day: u64) -> bool
+    ensures { λ r. ⌜ r ≡ isDay year month day ⌝ }
+{
+    let last = days_in(year, month);
+    (1583 <= year) & (1 <= month) & (month <= 12) & (1 <= day) & (day <= last)
+}
+
+// ---- date, time and scale
+
+fn year_of(word: &[u8]) -> u64
+    ensures { λ r. ⌜ r ≡ yearOf (now (word .entry)) ⌝ }
+{
+    100 * forms::two_at(word, 0) + forms::two_at(word, 2)
+}
+
+fn is_date(word: &[u8]) -> bool
+    ensures { λ r. ⌜ r ≡ isDate (now (word .entry)) ⌝ }
+{
+    let form = forms::has_form(word, b"0000-00-00");
+    let year = year_of(word);
+    let month = forms::two_at(word, 5);
+    let day = forms::two_at(word, 8);
+    form & is_day(year, month, day)
+}
+
+fn time_form(word: &[u8]) -> bool
+    ensures { λ r. ⌜ r ≡ timeForm (now (word .entry)) ⌝ }
+{
+    let plain = forms::has_form(word, b"00:00:00");
+    let tenths = forms::has_form(word, b"00:00:00.0");
+    plain | tenths | forms::has_form(word, b"00:00:00.00")
+}
+
+fn is_time(word: &[u8]) -> bool
+    ensures { λ r. ⌜ r ≡ isTime (now (word .entry)) ⌝ }
+{
+    let form = time_form(word);
+    let hours = forms::two_at(word, 0);
+    let minutes = forms::two_at(word, 3);
+    let seconds = forms::two_at(word, 6);
+    form & (hours <= 23) & (minutes <= 59) & (seconds <= 59)
+}
+
+// Hundredths of a second from 0h.
+fn hundredths_of(word: &[u8]) -> u64
+    ensures { λ r. ⌜ r ≡ hundredthsOf (now (word .entry)) ⌝ }
+{
+    let hours = forms::two_at(word, 0);
+    let minutes = forms::two_at(word, 3);
+    let seconds = forms::two_at(word, 6);
+    let decimals = forms::two_at(word, 9);
+    100 * (3600 * hours + 60 * minutes + seconds) + decimals
+}
+
+// ---- the words
+
+// The first word after blanks.
+fn word_in(s: &[u8]) -> &[u8]
+    ensures { λ r. ⌜ now r ≡ wordIn (now (s .entry)) ⌝ }
+{
+    let gap = words::run(s, Class::Blank);
+    let rest = &s[gap..];
+    let length = words::run(rest, Class::Word);
+    &rest[..length]
+}
+
+// What stands after it.
+fn after_word(s: &[u8]) -> &[u8]
+    ensures { λ r. ⌜ now r ≡ afterWord (now (s .entry)) ⌝ }
+{
+    let gap = words::run(s, Class::Blank);
+    let rest = &s[gap..];
+    let length = words::run(rest, Class::Word);
+    &rest[length..]
+}
+
+fn instant_at(date: &[u8], time: &[u8], scale: Scale) -> Instant
+    ensures { λ r. ⌜ r ≡ instantAt (now (date .entry)) (now (time .entry)) scale ⌝ }
+{
+    let year = year_of(date);
+    let month = forms::two_at(date, 5);
+    let day = forms::two_at(date, 8);
+    let hundredths = hundredths_of(time);
+    Instant {
+        year,
+        month,
+        day,
+        hundredths,
+        scale,
+    }
+}
+
+// An instant by the word of its scale.
+fn in_scale(date: &[u8], time: &[u8], word: &[u8]) -> Reading
+    ensures { λ r. ⌜ r ≡ inScale (now (date .entry)) (now (time .entry)) (now (word .entry)) ⌝ }
+{
+    if forms::has_form(word, b"ET") {
+        return Reading::Is(instant_at(date, time, Scale::Ephemeris));
+    }
+    if forms::has_form(word, b"UT") {
+        return Reading::Is(instant_at(date, time, Scale::Universal));
+    }
+    Reading::Malformed
+}
+
+// What stands after the time: the scale, and blanks alone behind.
+fn scaled(date: &[u8], time: &[u8], s: &[u8]) -> Reading
+    ensures { λ r. ⌜ r ≡ scaled (now (date .entry)) (now (time .entry)) (now (s .entry)) ⌝ }
+{
+    let bare = words::all(after_word(s), Class::Blank);
+    if !bare {
+        return Reading::Malformed;
+    }
+    in_scale(date, time, word_in(s))
+}
+
+// What stands after the date: the time and the scale.
+fn timed(date: &[u8], s: &[u8]) -> Reading
+    ensures { λ r. ⌜ r ≡ timed (now (date .entry)) (now (s .entry)) ⌝ }
+{
+    let time = word_in(s);
+    let is = is_time(time);
+    if !is {
+        return Reading::Malformed;
+    }
+    scaled(date, time, after_word(s))
+}
+
+// The instant that words are: `2017-08-21 18:00:00 ET`.
+pub fn read(s: &[u8]) -> Reading
+    ensures { λ r. ⌜ r ≡ instantOf (now (s .entry)) ⌝ }
+{
+    let date = word_in(s);
+    let is = is_date(date);
+    if !is {
+        return Reading::Malformed;
+    }
+    timed(date, after_word(s))
+}

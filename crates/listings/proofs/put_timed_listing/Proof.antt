@@ -1,0 +1,55 @@
+-- `listings::put_timed_listing` meets its contract: the line of the reader's refusal, or the lines of the sheet that it found.
+use mathlib.Core.Path.{sym, _∙_}
+use mir.Syntax.{w64}
+use mir.ValLaws.{toZ-ofZ}
+use Rattle.listings.specs.ListingLaws.{whole-sheet, refused-printed, sheet-printed}
+use borrow.Author.Needs.{needs}
+use Rattle.listings.proofs.put_timed_listing.Statement.{statement}
+use Rattle.listings.proofs.put_timed_listing.Tie as tie
+
+extent-of-sheet-requires : tie.Need-extent-of-sheet-requires
+extent-of-sheet-requires c κs = search needs
+
+enum-known-found : tie.Need-enum-known-found
+enum-known-found c = search needs
+
+put-refused-requires : tie.Need-put-refused-requires
+put-refused-requires c κs = search needs
+
+enum-told : tie.Need-enum-told
+enum-told c = search needs
+
+put-lines-requires : tie.Need-put-lines-requires
+put-lines-requires c κs = whole-sheet _ _ _ (sym (c .before .enum-told .given .1) ∙ c .before .before .before .extent-of-sheet .ensures)
+
+same-length : tie.Need-same-length
+same-length c = search needs
+
+returns : tie.Need-returns
+returns c =
+    let f = c .before .before .before .before .before in
+    refused-printed _ _ _ _ _ _ _ _ (sym (f .found .given .1) ∙ f .before .before .extent-of-sheet .ensures) (c .before .before .put-refused .ensures)
+
+same-length-2 : tie.Need-same-length-2
+same-length-2 c = search needs
+
+returns-2 : tie.Need-returns-2
+returns-2 c =
+    let f = c .before .before .before .before in
+    let a = f .before .before .before .before .before in
+    sheet-printed _ _ _ _ _ _ _ _ _ (sym (f .enum-told .given .1) ∙ f .before .before .extent-of-sheet .ensures)
+    (rw (toZ-ofZ w64 (a .args .deltat) (a .fits .deltat)) at (c .before .before .put-lines .ensures))
+
+pub put-timed-listing-spec : {M : Type 1} → statement M
+put-timed-listing-spec =
+    tie.close
+    (tie.spec
+    extent-of-sheet-requires
+    enum-known-found
+    put-refused-requires
+    enum-told
+    put-lines-requires
+    same-length
+    returns
+    same-length-2
+    returns-2)

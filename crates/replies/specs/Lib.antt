@@ -1,0 +1,9 @@
+pub mod Replies
+pub mod SheetLaws
+pub mod Shares
+pub mod Listing
+pub mod Fits
+pub mod TablesReply
+pub mod MendReply
+pub mod Positions
+pub mod NetworkReply

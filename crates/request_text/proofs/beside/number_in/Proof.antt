@@ -1,0 +1,21 @@
+-- `request_text::beside::number_in` meets its contract: a line that names the instant gives nothing, any other what it says. Assumes nothing.
+use mathlib.Core.Path.{sym, _∙_}
+use Rattle.request_text.specs.LineLaws.{number-none, number-said}
+use borrow.Author.Needs.{needs}
+use Rattle.request_text.proofs.beside.number_in.Statement.{statement}
+use Rattle.request_text.proofs.beside.number_in.Tie as tie
+
+names-instant-requires : tie.Need-names-instant-requires
+names-instant-requires c κs = search needs
+
+returns : tie.Need-returns
+returns c = number-none _ _ (sym (c .before .names-instant .ensures) ∙ c .if1 .taken)
+
+meaning-requires : tie.Need-meaning-requires
+meaning-requires c κs = search needs
+
+returns-2 : tie.Need-returns-2
+returns-2 c = c .meaning .ensures ∙ number-said _ _ (sym (c .before .before .names-instant .ensures) ∙ c .before .if1 .left)
+
+pub number-in-spec : {M : Type 1} → statement M
+number-in-spec = tie.close (tie.spec names-instant-requires returns meaning-requires returns-2)

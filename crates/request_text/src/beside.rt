@@ -1,0 +1,22 @@
+// A line of a typed request: one that names the instant is read beside the numbers (`instants`) and gives none.
+use super::Line;
+use request_fields::Shape;
+ghost use mathlib.Core.Path.{_≡_};
+ghost use Rattle.request_text.specs.Lines.{namesInstant, numberIn};
+
+// Whether a line names the instant.
+pub fn names_instant(line: &[u8]) -> bool
+    ensures { λ r. ⌜ r ≡ namesInstant (now (line .entry)) ⌝ }
+{
+    super::is_named(super::said(line), b"instant")
+}
+
+// The number that a line gives, or its fault.
+pub fn number_in(shape: Shape, line: &[u8]) -> Line
+    ensures { λ r. ⌜ r ≡ numberIn shape (now (line .entry)) ⌝ }
+{
+    if names_instant(line) {
+        return Line::Nothing;
+    }
+    super::meaning(shape, line)
+}

@@ -1,0 +1,55 @@
+-- `second_replies::asked` meets its contract: bytes of the shape are what they ask for, any other are refused before the room is touched. Assumes nothing.
+use mathlib.Core.Path.{sym, ap, ap₂, _∙_}
+use mir.Syntax.{w64}
+use mir.ValLaws.{toZ-ofZ}
+use borrow.Author.Needs.{needs}
+use Rattle.second_replies.specs.Second.{secondAsked, sinesAsked}
+use Rattle.second_replies.proofs.asked.Statement.{statement}
+use Rattle.second_replies.proofs.asked.Tie as tie
+
+wish-requires : tie.Need-wish-requires
+wish-requires c κs = search needs
+
+enum-known-given : tie.Need-enum-known-given
+enum-known-given c = search needs
+
+second-requires : tie.Need-second-requires
+second-requires c κs = search needs
+
+enum-known-given-2 : tie.Need-enum-known-given-2
+enum-known-given-2 c = search needs
+
+same-length : tie.Need-same-length
+same-length c = search needs
+
+returns : tie.Need-returns
+returns c =
+    let given = c .before .before .before .before .before in
+    let start = given .before .before .before .before .before in
+    let s = c .before .before .second .ensures in
+    let input = sym (given .given .given .1) ∙ given .before .before .wish .ensures in
+    let t = toZ-ofZ w64 (start .args .second) (start .fits .second) in (
+      s .0 ∙ ap₂ (λ i τ. secondAsked i τ (start .args .sines .now)) input t,
+      s .1 .0 ∙ ap₂ (λ i τ. sinesAsked i τ (start .args .sines .now)) input t,
+    )
+
+returns-2 : tie.Need-returns-2
+returns-2 c =
+    let given = c .before in
+    let start = given .before .before .before .before .before in
+    let input = sym (given .given2 .given .1) ∙ given .before .before .wish .ensures in (
+      ap (λ i. secondAsked i (start .args .second) (start .args .sines .now)) input,
+      ap (λ i. sinesAsked i (start .args .second) (start .args .sines .now)) input,
+    )
+
+pub asked-spec : {M : Type 1} → statement M
+asked-spec =
+    tie.close
+    (tie.spec
+    wish-requires
+    enum-known-given
+    second-requires
+    enum-known-given-2
+    same-length
+    returns
+    returns-2)

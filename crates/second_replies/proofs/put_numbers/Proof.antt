@@ -1,0 +1,48 @@
+-- `second_replies::put_numbers` meets its contract, shape by shape. Assumes nothing.
+use mathlib.Core.Path.{sym, ap, _∙_}
+use borrow.Author.Needs.{needs}
+use Rattle.seconds.specs.declared.OneSecond.the-variants.{Is}
+use Rattle.second_replies.specs.Second.{numbersAfter}
+use Rattle.second_replies.proofs.put_numbers.Statement.{statement}
+use Rattle.second_replies.proofs.put_numbers.Tie as tie
+
+enum-told : tie.Need-enum-told
+enum-told c = search needs
+
+put-eclipse-requires : tie.Need-put-eclipse-requires
+put-eclipse-requires c κs = rw (c .before .enum-told .given .1) at (c .before .before .before .pre)
+
+enum-told-2 : tie.Need-enum-told-2
+enum-told-2 c = search needs
+
+put-star-requires : tie.Need-put-star-requires
+put-star-requires c κs = rw (c .before .enum-told2 .given .1) at (c .before .before .before .pre)
+
+same-length : tie.Need-same-length
+same-length c = search needs
+
+returns : tie.Need-returns
+returns c =
+    let a = c .before .before .before .before .before .args in
+    c .before .put-eclipse .ensures ∙ sym (ap (λ s. numbersAfter s (Is (a .second)) (a .room .now)) (c .before .before .before .enum-told .given .1))
+
+same-length-2 : tie.Need-same-length-2
+same-length-2 c = search needs
+
+returns-2 : tie.Need-returns-2
+returns-2 c =
+    let a = c .before .before .before .before .before .args in
+    c .before .put-star .ensures ∙ sym (ap (λ s. numbersAfter s (Is (a .second)) (a .room .now)) (c .before .before .before .enum-told2 .given .1))
+
+pub put-numbers-spec : {M : Type 1} → statement M
+put-numbers-spec =
+    tie.close
+    (tie.spec
+    enum-told
+    put-eclipse-requires
+    enum-told-2
+    put-star-requires
+    same-length
+    returns
+    same-length-2
+    returns-2)

@@ -1,0 +1,112 @@
+-- `second_replies::second` meets its contract: the second as it is asked for, judged by its room, and stored where it is given. Assumes nothing.
+use mathlib.Core.Path.{_≡_, sym, ap, ap₂, _∙_}
+use borrow.Author.Needs.{needs}
+use lib.ListN.{length}
+use mir.Syntax.{w64}
+use mir.Val.{toZ, ofZ}
+use mir.ValLaws.{toZ-ofZ}
+use Rattle.seconds.specs.declared.OneSecond.{OneSecond}
+use Rattle.second_replies.specs.Second.{wish, secondAsked, sinesAsked, numberCount, secondInto, secondGiven, secondReply, numbersAfter}
+use Rattle.second_replies.specs.SecondLaws.{second-fits, given-means}
+use Rattle.second_replies.proofs.second.Statement.{statement}
+use Rattle.second_replies.proofs.second.Tie as tie
+
+-- ---- where the room was judged
+module _ (c : tie.After-in-room) where
+  abbrev asked : tie.After-asked
+  asked = c .before .before .before .before
+
+  abbrev start : tie.Start
+  start = asked .before .before .before .before
+
+  -- second is read back from its bits
+  second-is : toZ w64 (ofZ w64 (start .args .second)) ≡ start .args .second
+  second-is = toZ-ofZ w64 (start .args .second) (start .fits .second)
+
+  -- what is given, by its definition
+  abbrev given : OneSecond
+  given = secondGiven (start .args .shape) (start .args .request .now) (start .args .second) (start .args .sines .now) (start .args .shadow .now)
+
+  found-is : asked .asked .result ≡ secondAsked (wish (start .args .shape) (start .args .request .now)) (start .args .second) (start .args .sines .now)
+  found-is = asked .asked .ensures .0 ∙ ap (λ τ. secondAsked (wish (start .args .shape) (start .args .request .now)) τ (start .args .sines .now)) second-is
+
+  given-is : c .in-room .result ≡ given
+  unfolding secondGiven
+  given-is = c .in-room .ensures ∙ ap₂ (λ n s. secondInto n (length (start .args .shadow .now)) s) (c .before .number-count .ensures) found-is
+
+  -- the room for table S
+  sines-is : asked .asked .last .1 .1 .1 .0 ≡ sinesAsked (wish (start .args .shape) (start .args .request .now)) (start .args .second) (start .args .sines .now)
+  sines-is = asked .asked .ensures .1 ∙ ap (λ τ. sinesAsked (wish (start .args .shape) (start .args .request .now)) τ (start .args .sines .now)) second-is
+
+-- and the reply to it
+reply-is : (c : tie.After-second-reply) → c .second-reply .result ≡ secondReply (start (c .before) .args .shape) (given (c .before))
+reply-is c = c .second-reply .ensures ∙ ap (secondReply (start (c .before) .args .shape)) (given-is (c .before))
+
+asked-requires : tie.Need-asked-requires
+asked-requires c κs = search needs
+
+number-count-requires : tie.Need-number-count-requires
+number-count-requires c κs = search needs
+
+in-room-requires : tie.Need-in-room-requires
+in-room-requires c κs = search needs
+
+second-reply-requires : tie.Need-second-reply-requires
+second-reply-requires c κs = search needs
+
+enum-known-given : tie.Need-enum-known-given
+enum-known-given c = search needs
+
+put-numbers-requires : tie.Need-put-numbers-requires
+unfolding secondGiven
+put-numbers-requires c κs =
+    let got = c .before .before .before .before .before in
+    let known = c .before .before .given .given in
+    let a = start got .args in
+    second-fits (numberCount (a .shape)) (length (a .shadow .now)) (known .0 .0) (secondAsked (wish (a .shape) (a .request .now)) (a .second) (a .sines .now))
+    (sym (given-is got) ∙ known .1)
+
+enum-told : tie.Need-enum-told
+enum-told c = search needs
+
+same-length : tie.Need-same-length
+same-length c = search needs
+
+same-length-2 : tie.Need-same-length-2
+same-length-2 c = search needs
+
+returns : tie.Need-returns
+returns c =
+    let replied = c .before .before .before .before .before .before in
+    let got = replied .before in
+    let a = start got .args in
+    let room = c .before .put-numbers .ensures ∙ ap (λ x. numbersAfter (a .shape) x (a .shadow .now)) (sym (c .before .before .before .before .given .given .1) ∙ given-is got) in
+    (reply-is replied, (room, (sines-is got, given-means (a .shape) (a .request .now) (a .second) (a .sines .now) (a .shadow .now) _ room)))
+
+same-length-3 : tie.Need-same-length-3
+same-length-3 c = search needs
+
+returns-2 : tie.Need-returns-2
+returns-2 c =
+    let replied = c .before .before in
+    let got = replied .before in
+    let a = start got .args in
+    let room = ap (λ x. numbersAfter (a .shape) x (a .shadow .now)) (sym (c .enum-told .given .1) ∙ given-is got) in
+    (reply-is replied, (room, (sines-is got, given-means (a .shape) (a .request .now) (a .second) (a .sines .now) (a .shadow .now) (a .shadow .now) room)))
+
+pub second-spec : {M : Type 1} → statement M
+second-spec =
+    tie.close
+    (tie.spec
+    asked-requires
+    number-count-requires
+    in-room-requires
+    second-reply-requires
+    enum-known-given
+    put-numbers-requires
+    enum-told
+    same-length
+    same-length-2
+    returns
+    same-length-3
+    returns-2)

@@ -1,0 +1,45 @@
+-- `second_replies::wish` meets its contract, shape by shape. Assumes nothing.
+use mathlib.Core.Path.{sym, ap, _∙_}
+use borrow.Author.Needs.{needs}
+use Rattle.input.specs.Input.{eclipseAsked}
+use Rattle.second_replies.specs.Second.{wish}
+use Rattle.second_replies.proofs.wish.Statement.{statement}
+use Rattle.second_replies.proofs.wish.Tie as tie
+
+enum-told : tie.Need-enum-told
+enum-told c = search needs
+
+request-requires : tie.Need-request-requires
+request-requires c κs = search needs
+
+of-eclipse-requires : tie.Need-of-eclipse-requires
+of-eclipse-requires c κs = search needs
+
+enum-told-2 : tie.Need-enum-told-2
+enum-told-2 c = search needs
+
+asked-requires : tie.Need-asked-requires
+asked-requires c κs = search needs
+
+returns : tie.Need-returns
+returns c =
+    let a = c .before .before .before .before .before .args in
+    c .of-eclipse .ensures ∙ ap eclipseAsked (c .before .request .ensures)
+    ∙ sym (ap (λ s. wish s (a .request .now)) (c .before .before .enum-told .given .1))
+
+returns-2 : tie.Need-returns-2
+returns-2 c =
+    let a = c .before .before .before .before .args in
+    c .asked .ensures ∙ sym (ap (λ s. wish s (a .request .now)) (c .before .enum-told2 .given .1))
+
+pub wish-spec : {M : Type 1} → statement M
+wish-spec =
+    tie.close
+    (tie.spec
+    enum-told
+    request-requires
+    of-eclipse-requires
+    enum-told-2
+    asked-requires
+    returns
+    returns-2)

@@ -1,0 +1,73 @@
+-- `times::respond` meets its contract: the bytes of a text that is taken are those of its request, and what is printed is the answer to them; or a
+-- message and nothing else. Assumes nothing.
+use mathlib.Core.Path.{sym, _∙_}
+use Rattle.typed_requests.specs.RoomLaws.{bytes-first, message-first}
+use Rattle.times.specs.PrintedLaws.{listing-out, message-out}
+use borrow.Author.Needs.{needs}
+use Rattle.times.proofs.respond.Statement.{statement}
+use Rattle.times.proofs.respond.Tie as tie
+
+read-requires : tie.Need-read-requires
+read-requires c κs = search needs
+
+enum-known-answer : tie.Need-enum-known-answer
+enum-known-answer c = search needs
+
+clock-of-requires : tie.Need-clock-of-requires
+clock-of-requires c κs = search needs
+
+array-share-prefix-bytes : tie.Need-array-share-prefix-bytes
+array-share-prefix-bytes c =
+    let read = c .before .before .before .before .read in
+    bytes-first _ _ _ _ _ (sym (c .before .before .answer .given .1) ∙ read .ensures .0) (read .ensures .1 .0) .counts .0
+
+slice-aggregate-put-text : tie.Need-slice-aggregate-put-text
+slice-aggregate-put-text c =
+    let read = c .before .before .before .before .before .read in
+    bytes-first _ _ _ _ _ (sym (c .before .before .before .answer .given .1) ∙ read .ensures .0) (read .ensures .1 .0) .counts .1
+
+put-text-requires : tie.Need-put-text-requires
+put-text-requires c κs = search needs
+
+enum-known-answer-2 : tie.Need-enum-known-answer-2
+enum-known-answer-2 c = search needs
+
+same-length : tie.Need-same-length
+same-length c = search needs
+
+same-length-2 : tie.Need-same-length-2
+same-length-2 c = search needs
+
+same-length-3 : tie.Need-same-length-3
+same-length-3 c = search needs
+
+returns : tie.Need-returns
+returns c =
+    let put = c .before .before .before .before .before .before in
+    let clock = put .before .before .before .before .before in
+    let answer = clock .before .before in
+    let read = answer .before .before .read in
+    listing-out (bytes-first _ _ _ _ _ (sym (answer .answer .given .1) ∙ read .ensures .0) (read .ensures .1 .0)) _ _ _ _ (read .last .1 .1 .0) _ _ (clock .clock-of .ensures)
+    (put .put-text .ensures)
+
+returns-2 : tie.Need-returns-2
+returns-2 c =
+    let read = c .before .before .before .read in
+    message-out (message-first _ _ _ _ (sym (c .before .answer2 .given .1) ∙ read .ensures .0) (read .ensures .1 .1)) _ _ _
+
+pub respond-spec : {M : Type 1} → statement M
+respond-spec =
+    tie.close
+    (tie.spec
+    read-requires
+    enum-known-answer
+    clock-of-requires
+    array-share-prefix-bytes
+    slice-aggregate-put-text
+    put-text-requires
+    enum-known-answer-2
+    same-length
+    same-length-2
+    same-length-3
+    returns
+    returns-2)

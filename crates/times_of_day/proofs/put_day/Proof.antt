@@ -1,0 +1,59 @@
+-- `times_of_day::put_day` meets its contract: each way out is the day by the tests that led there.
+use mathlib.Core.Path.{_≡_, ap}
+use native.Mathlib.Omega.{arith}
+use mir.Syntax.{w64}
+use mir.Val.{toZ, ofZ}
+use mir.ValLaws.{toZ-ofZ}
+use Rattle.numbers.specs.Order.{ltZ-true, ltZ-false}
+use Rattle.decimals.specs.RowLaws.{put-as}
+use Rattle.times_of_day.specs.Times.{dayText}
+use Rattle.times_of_day.specs.TimeLaws.{day-before, day-after, same-day}
+use borrow.Author.Needs.{needs}
+use Rattle.times_of_day.proofs.put_day.Statement.{statement}
+use Rattle.times_of_day.proofs.put_day.Tie as tie
+
+read : (c : tie.Start) → toZ w64 (ofZ w64 (c .args .day)) ≡ c .args .day
+read c = toZ-ofZ w64 (c .args .day) (c .fits .day)
+
+put-days-requires : tie.Need-put-days-requires
+put-days-requires c κs = search needs
+
+same-length : tie.Need-same-length
+same-length c = search needs
+
+returns : tie.Need-returns
+returns c =
+    put-as _ _ _ _ _ _ (ap dayText (read (c .before .before .before .before .before .before)))
+    (day-before _ _ _ (ltZ-true _ _ (c .before .before .before .before .if1 .taken)) _ _ (c .before .before .put-days .ensures))
+
+put-byte-requires : tie.Need-put-byte-requires
+put-byte-requires c κs = search needs
+
+put-days-requires-2 : tie.Need-put-days-requires-2
+put-days-requires-2 c κs = search needs
+
+same-length-2 : tie.Need-same-length-2
+same-length-2 c = search needs
+
+returns-2 : tie.Need-returns-2
+returns-2 c =
+    put-as _ _ _ _ _ _ (ap dayText (read (c .before .before .before .before .before .before .before .before .before .before .before)))
+    (day-after _ _ _ (ltZ-true _ _ (c .before .before .before .before .before .before .before .before .if2 .taken)) _ _ _ _ (omega arith) (c .before .before .before .before .before .before .put-byte .ensures) (c .before .before .put-days2 .ensures))
+
+returns-3 : tie.Need-returns-3
+returns-3 c =
+    put-as _ _ _ _ _ _ (ap dayText (read (c .before .before .before)))
+    (same-day _ _ _ (ltZ-false _ _ (c .before .if1 .left)) (ltZ-false _ _ (c .if2 .left)) (omega arith))
+
+pub put-day-spec : {M : Type 1} → statement M
+put-day-spec =
+    tie.close
+    (tie.spec
+    put-days-requires
+    same-length
+    returns
+    put-byte-requires
+    put-days-requires-2
+    same-length-2
+    returns-2
+    returns-3)

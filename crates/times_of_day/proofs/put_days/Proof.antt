@@ -1,0 +1,33 @@
+-- `times_of_day::put_days` meets its contract: the number, then its letter.
+use native.Mathlib.Omega.{arith}
+use Rattle.decimals.specs.Decimals.{signed}
+use Rattle.decimals.specs.Texts.{letters}
+use Rattle.decimals.specs.RowLaws.{put-as, joined}
+use mathlib.Core.List.{_++_}
+use mathlib.Core.Path.{_≡_, ap}
+use mir.Syntax.{w64}
+use mir.Val.{toZ, ofZ}
+use mir.ValLaws.{toZ-ofZ}
+use borrow.Author.Needs.{needs}
+use Rattle.times_of_day.proofs.put_days.Statement.{statement}
+use Rattle.times_of_day.proofs.put_days.Tie as tie
+
+read : (c : tie.Start) → toZ w64 (ofZ w64 (c .args .day)) ≡ c .args .day
+read c = toZ-ofZ w64 (c .args .day) (c .fits .day)
+
+put-signed-requires : tie.Need-put-signed-requires
+put-signed-requires c κs = search needs
+
+put-byte-requires : tie.Need-put-byte-requires
+put-byte-requires c κs = search needs
+
+same-length : tie.Need-same-length
+same-length c = search needs
+
+returns : tie.Need-returns
+returns c =
+    put-as _ _ _ _ _ _ (ap (λ z. signed z ++ letters "d") (read (c .before .before .before .before .before .before .before .before .before)))
+    (joined (omega arith) (c .before .before .before .before .before .before .put-signed .ensures) (c .before .before .put-byte .ensures))
+
+pub put-days-spec : {M : Type 1} → statement M
+put-days-spec = tie.close (tie.spec put-signed-requires put-byte-requires same-length returns)

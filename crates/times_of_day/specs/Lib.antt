@@ -1,0 +1,4 @@
+pub mod Times
+pub mod Reading
+pub mod TimeLaws
+pub mod Printed

@@ -1,0 +1,98 @@
+-- `typed_requests::read` meets its contract: the bytes and the instant, or the message of the first fault. Assumes nothing.
+use mathlib.Core.Path.{sym, _∙_}
+use native.Mathlib.Omega.{arith}
+use Rattle.typed_requests.specs.MeaningLaws.{long-told, number-told, instant-told, bytes-put}
+use borrow.Author.Needs.{needs}
+use Rattle.typed_requests.proofs.read.Statement.{statement}
+use Rattle.typed_requests.proofs.read.Tie as tie
+
+slice-aggregate-put-text : tie.Need-slice-aggregate-put-text
+slice-aggregate-put-text c = search needs
+
+put-text-requires : tie.Need-put-text-requires
+put-text-requires c κs = search needs
+
+returns : tie.Need-returns
+returns c =
+    let lent = c .before .before .before .before .before .args in
+    long-told _ (omega arith) (lent .out .now) (lent .message .now) _ _ (omega arith) (c .put-text .ensures)
+
+shape-of-requires : tie.Need-shape-of-requires
+shape-of-requires c κs = search needs
+
+encode-requires : tie.Need-encode-requires
+encode-requires c κs = search needs
+
+told-in-requires : tie.Need-told-in-requires
+told-in-requires c κs = search needs
+
+first-of-requires : tie.Need-first-of-requires
+first-of-requires c κs = search needs
+
+enum-known-first : tie.Need-enum-known-first
+enum-known-first c = search needs
+
+length-of-requires : tie.Need-length-of-requires
+length-of-requires c κs = search needs
+
+enum-known-first-2 : tie.Need-enum-known-first-2
+enum-known-first-2 c = search needs
+
+put-message-requires : tie.Need-put-message-requires
+put-message-requires c κs = search needs
+
+enum-known-first-3 : tie.Need-enum-known-first-3
+enum-known-first-3 c = search needs
+
+put-instant-requires : tie.Need-put-instant-requires
+put-instant-requires c κs = search needs
+
+returns-2 : tie.Need-returns-2
+returns-2 c =
+    let found = c .before .before .before .before in
+    let made = found .before .before in
+    let asked = made .before .before .before in
+    bytes-put _ (omega arith) _ (asked .shape-of .ensures) _ (made .encode .ensures .answer) _ (found .before .told-in .ensures)
+    _ (sym (c .before .before .first .given .1) ∙ found .first-of .ensures) _ _ _ (asked .before .before .before .args .message .now) (c .length-of .ensures)
+    (made .encode .ensures .bytes)
+
+returns-3 : tie.Need-returns-3
+returns-3 c =
+    let found = c .before .before .before .before .before in
+    let made = found .before .before in
+    let asked = made .before .before .before in
+    let lent = asked .before .before .before .args in
+    number-told _ (omega arith) _ (asked .shape-of .ensures) _ (made .encode .ensures .answer) _ (found .before .told-in .ensures)
+    _ _ (sym (c .before .before .before .first2 .given .1) ∙ found .first-of .ensures) (omega arith) (lent .out .now) (lent .message .now) _ _ (omega arith)
+    (c .put-message .ensures)
+
+returns-4 : tie.Need-returns-4
+returns-4 c =
+    let found = c .before .before .before .before .before in
+    let made = found .before .before in
+    let asked = made .before .before .before in
+    let lent = asked .before .before .before .args in
+    instant-told _ (omega arith) _ (asked .shape-of .ensures) _ (made .encode .ensures .answer) _ (found .before .told-in .ensures)
+    _ _ (sym (c .before .before .before .first3 .given .1) ∙ found .first-of .ensures) (omega arith) (lent .out .now) (lent .message .now) _ _ (omega arith)
+    (c .put-instant .ensures)
+
+pub read-spec : {M : Type 1} → statement M
+read-spec =
+    tie.close
+    (tie.spec
+    slice-aggregate-put-text
+    put-text-requires
+    returns
+    shape-of-requires
+    encode-requires
+    told-in-requires
+    first-of-requires
+    enum-known-first
+    length-of-requires
+    enum-known-first-2
+    put-message-requires
+    enum-known-first-3
+    put-instant-requires
+    returns-2
+    returns-3
+    returns-4)

@@ -1,0 +1,10 @@
+pub mod Encoded
+pub mod EncodedLaws
+pub mod Messages
+pub mod MessageLaws
+pub mod Meaning
+pub mod MeaningLaws
+pub mod Asked
+pub mod RoomLaws
+pub mod ReadBack
+pub mod SameRequest
