@@ -16,7 +16,8 @@ use Rattle.instant_text.specs.declared.Reference.the-variants as Ref
 use Rattle.instant_text.specs.declared.Told.{Told}
 use Rattle.instant_text.specs.declared.Told.the-variants as T
 use Rattle.instant_text.specs.Forms.{hasForm, twoAt}
-use Rattle.instant_text.specs.Instants.{isLeap, daysIn, isDay, isDate, timeForm, isTime, hundredthsOf, instantAt, inScale, scaled, timed, instantOf}
+use Rattle.instants.specs.Calendar.{isLeap, daysIn, isDay}
+use Rattle.instant_text.specs.Instants.{isDate, timeForm, isTime, hundredthsOf, instantAt, inScale, scaled, timed, instantOf}
 use Rattle.instant_text.specs.Told.{toldBy, toldIn}
 
 abbrev day : ℕ → ℕ → ℕ → ℕ → Scale → Instant

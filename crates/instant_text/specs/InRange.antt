@@ -22,7 +22,8 @@ use Rattle.instant_text.specs.declared.Told.{Told}
 use Rattle.instant_text.specs.declared.Told.the-variants as T
 use Rattle.instant_text.specs.Forms.{fits, hasForm, digitAt, twoAt}
 use Rattle.instant_text.specs.FormLaws.{both}
-use Rattle.instant_text.specs.Instants.{daysIn, isDay, yearOf, isDate, timeForm, isTime, hundredthsOf, instantAt, inScale, scaled, timed, instantOf}
+use Rattle.instants.specs.Calendar.{daysIn, isDay}
+use Rattle.instant_text.specs.Instants.{yearOf, isDate, timeForm, isTime, hundredthsOf, instantAt, inScale, scaled, timed, instantOf}
 use Rattle.instant_text.specs.Told.{afterName, taken, toldAfter, toldBy, toldIn}
 
 pub record InRange (x : Instant) : Type 0 where

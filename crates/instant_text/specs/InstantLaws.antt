@@ -1,10 +1,8 @@
 -- The words of an instant one after the other, as they are read.
 use mathlib.Core.Path.{_≡_, refl, sym, ap, _∙_}
-use mathlib.Core.Bool.{Bool, true, false, cond, _||_}
+use mathlib.Core.Bool.{Bool, true, false, cond}
 use mathlib.Core.List.{List}
 use Prim.Native.Nat.{ℕ}
-use borrow.Author.Tests.{eq-eqb, ne-eqb}
-use lib.Dec.{eqb}
 use lib.ListN.{take, drop}
 use Rattle.request_fields.specs.Rows.{letters}
 use Rattle.words.specs.declared.Class.the-variants as C
@@ -15,26 +13,7 @@ use Rattle.request_text.specs.Lines.{valued, wordIn, afterWord}
 use Rattle.instants.specs.declared.Scale.the-variants as S
 use Rattle.instant_text.specs.declared.Reading.the-variants as R
 use Rattle.instant_text.specs.Forms.{hasForm}
-use Rattle.instant_text.specs.Instants.{isLeap, daysIn, isDate, isTime, instantAt, inScale, scaled, timed, instantOf}
-
--- ---- how many days a month has
-
-module _ (y m : ℕ) where
-  pub leap-february : m ≡ 2 → isLeap y ≡ true → 29 ≡ daysIn y m
-  unfolding daysIn
-  leap-february e l = rw (eq-eqb m 2 e, l)
-
-  pub february : m ≡ 2 → isLeap y ≡ false → 28 ≡ daysIn y m
-  unfolding daysIn
-  february e l = rw (eq-eqb m 2 e, l)
-
-  pub short-month : (m ≡ 2 → ⊥) → (eqb m 4 || eqb m 6 || eqb m 9 || eqb m 11) ≡ true → 30 ≡ daysIn y m
-  unfolding daysIn
-  short-month h e = rw (ne-eqb m 2 h, e)
-
-  pub long-month : (m ≡ 2 → ⊥) → (eqb m 4 || eqb m 6 || eqb m 9 || eqb m 11) ≡ false → 31 ≡ daysIn y m
-  unfolding daysIn
-  long-month h e = rw (ne-eqb m 2 h, e)
+use Rattle.instant_text.specs.Instants.{isDate, isTime, instantAt, inScale, scaled, timed, instantOf}
 
 -- ---- a word, as it is cut out of a slice
 

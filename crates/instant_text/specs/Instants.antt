@@ -1,9 +1,9 @@
 -- The instant that is typed: the date and time of second 0. The table of docs/CLOCK.md, "The instant as it is typed".
 -- Assumes nothing: these are definitions.
-use Prim.Native.Nat.{ℕ, _+_, _*_, _%_}
-use mathlib.Core.Bool.{Bool, cond, not, _&&_, _||_}
+use Prim.Native.Nat.{ℕ, _+_, _*_}
+use mathlib.Core.Bool.{Bool, cond, _&&_, _||_}
 use mathlib.Core.List.{List}
-use lib.Dec.{leb, eqb}
+use lib.Dec.{leb}
 use Rattle.request_fields.specs.Rows.{letters}
 use Rattle.words.specs.declared.Class.the-variants as C
 use Rattle.words.specs.Text.{allOf}
@@ -11,22 +11,10 @@ use Rattle.request_text.specs.Lines.{wordIn, afterWord}
 use Rattle.instants.specs.declared.Scale.{Scale}
 use Rattle.instants.specs.declared.Scale.the-variants as S
 use Rattle.instants.specs.declared.Instant.{Instant}
+use Rattle.instants.specs.Calendar.{isDay}
 use Rattle.instant_text.specs.declared.Reading.{Reading}
 use Rattle.instant_text.specs.declared.Reading.the-variants as R
 use Rattle.instant_text.specs.Forms.{hasForm, twoAt}
-
--- ---- the Gregorian calendar
-
--- every fourth year is a leap year, but of those that end a century only every fourth
-unfoldable pub isLeap : ℕ → Bool
-isLeap y = eqb (y % 4) 0 && (not (eqb (y % 100) 0) || eqb (y % 400) 0)
-
-unfoldable pub daysIn : ℕ → ℕ → ℕ
-daysIn y m = cond (eqb m 2) (cond (isLeap y) 29 28) (cond (eqb m 4 || eqb m 6 || eqb m 9 || eqb m 11) 30 31)
-
--- "a day of the Gregorian calendar, from the year 1583 on"
-unfoldable pub isDay : ℕ → ℕ → ℕ → Bool
-isDay y m d = leb 1583 y && leb 1 m && leb m 12 && leb 1 d && leb d (daysIn y m)
 
 -- ---- date, time and scale
 

@@ -8,7 +8,7 @@ use instants::Scale;
 use words::Class;
 ghost use mathlib.Core.Path.{_≡_};
 ghost use Rattle.request_text.specs.Lines.{wordIn, afterWord};
-ghost use Rattle.instant_text.specs.Instants.{isLeap, daysIn, isDay, yearOf, isDate, timeForm, isTime, hundredthsOf, instantAt, inScale, scaled, timed, instantOf};
+ghost use Rattle.instant_text.specs.Instants.{yearOf, isDate, timeForm, isTime, hundredthsOf, instantAt, inScale, scaled, timed, instantOf};
 
 // What words are read as.
 pub enum Reading {
@@ -37,36 +37,6 @@ pub enum Told {
     Refused(usize, Wrong),
 }
 
-// ---- the Gregorian calendar
-
-fn is_leap(year: u64) -> bool
-    ensures { λ r. ⌜ r ≡ isLeap year ⌝ }
-{
-    (year % 4 == 0) & ((year % 100 != 0) | (year % 400 == 0))
-}
-
-fn days_in(year: u64, month: u64) -> u64
-    ensures { λ r. ⌜ r ≡ daysIn year month ⌝ }
-{
-    if month == 2 {
-        if is_leap(year) {
-            return 29;
-        }
-        return 28;
-    }
-    if (month == 4) | (month == 6) | (month == 9) | (month == 11) {
-        return 30;
-    }
-    31
-}
-
-fn is_day(year: u64, month: u64, day: u64) -> bool
-    ensures { λ r. ⌜ r ≡ isDay year month day ⌝ }
-{
-    let last = days_in(year, month);
-    (1583 <= year) & (1 <= month) & (month <= 12) & (1 <= day) & (day <= last)
-}
-
 // ---- date, time and scale
 
 fn year_of(word: &[u8]) -> u64
@@ -82,7 +52,7 @@ fn is_date(word: &[u8]) -> bool
     let year = year_of(word);
     let month = forms::two_at(word, 5);
     let day = forms::two_at(word, 8);
-    form & is_day(year, month, day)
+    form & instants::is_day(year, month, day)
 }
 
 fn time_form(word: &[u8]) -> bool

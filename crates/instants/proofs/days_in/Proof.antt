@@ -1,9 +1,9 @@
--- `instant_text::days_in` meets its contract: by the month, and in February by the year. Assumes nothing.
+-- `instants::days_in` meets its contract: by the month, and in February by the year. Assumes nothing.
 use mathlib.Core.Path.{sym, _∙_}
-use Rattle.instant_text.specs.InstantLaws.{leap-february, february, short-month, long-month}
+use Rattle.instants.specs.CalendarLaws.{leap-february, february, short-month, long-month}
 use borrow.Author.Needs.{needs}
-use Rattle.instant_text.proofs.days_in.Statement.{statement}
-use Rattle.instant_text.proofs.days_in.Tie as tie
+use Rattle.instants.proofs.days_in.Statement.{statement}
+use Rattle.instants.proofs.days_in.Tie as tie
 
 is-leap-requires : tie.Need-is-leap-requires
 is-leap-requires c κs = search needs

@@ -1,8 +1,8 @@
--- `instant_text::is_day` meets its contract: the same tests. Assumes nothing.
-use Rattle.instant_text.specs.Instants.{isDay}
+-- `instants::is_day` meets its contract: the same tests. Assumes nothing.
+use Rattle.instants.specs.Calendar.{isDay}
 use borrow.Author.Needs.{needs}
-use Rattle.instant_text.proofs.is_day.Statement.{statement}
-use Rattle.instant_text.proofs.is_day.Tie as tie
+use Rattle.instants.proofs.is_day.Statement.{statement}
+use Rattle.instants.proofs.is_day.Tie as tie
 
 days-in-requires : tie.Need-days-in-requires
 days-in-requires c κs = search needs
