@@ -14,8 +14,8 @@ use Rattle.input.specs.SheetLaws.{written-fits, star-fits as star-written}
 use Rattle.decimals.specs.Texts.{Put, Counts}
 use Rattle.decimals.specs.TextLaws.{put-nil}
 use Rattle.input.specs.Input.{deltaOf, starDelta}
-use Rattle.clock.specs.declared.Clock.{Clock}
-use Rattle.clock.specs.declared.Clock.the-variants.{Off}
+use Rattle.instants.specs.declared.Reference.{Reference}
+use Rattle.instants.specs.declared.Reference.the-variants as R
 use Rattle.lines.specs.Lines.{refusalLine}
 use Rattle.listings.specs.Listings.{timed, printed}
 use Rattle.listings.specs.ListingLaws.{timed-off}
@@ -31,7 +31,7 @@ Fits (A.Refused r) room = Unit {0}
 pub fits-written : (a : Answer) (room : List ℕ) (n : ℕ) → a ≡ A.Written n → Fits a room → n ≤ length room
 fits-written a room n e f = subst (λ (b : Answer). Fits b room) e f
 
-module _ (k : Clock) (d : ℤ) (a : Answer) (room old new : List ℕ) (r : ℕ) where
+module _ (k : Reference) (d : ℤ) (a : Answer) (room old new : List ℕ) (r : ℕ) where
   pub put-written : (n : ℕ) → a ≡ A.Written n → Put old 0 (printed (timed k d (take n room))) new r → Put old 0 (timedBy k d a room) new r
   put-written n e p = rw e p
 
@@ -39,7 +39,7 @@ module _ (k : Clock) (d : ℤ) (a : Answer) (room old new : List ℕ) (r : ℕ) 
   put-refused x e p = rw e p
 
 -- with no clock
-off : (a : Answer) (room : List ℕ) → timedBy Off (pos 0) a room ≡ textBy a room
+off : (a : Answer) (room : List ℕ) → timedBy R.Nothing (pos 0) a room ≡ textBy a room
 off (A.Written n) room = ap printed (timed-off (pos 0) (take n room))
 off (A.Refused r) room = refl
 
@@ -54,11 +54,11 @@ module _ (request sines room : List ℕ) (a : Answer) (is : a ≡ starAnswer req
       by (A.Written n) e = omega (arith, star-written request sines room n (sym e), l)
       by (A.Refused r) e = tt
 
-  pub star-text : timedBy Off (pos 0) a left ≡ starText request sines room
+  pub star-text : timedBy R.Nothing (pos 0) a left ≡ starText request sines room
   unfolding starText
   star-text = off a left ∙ rw (is, by-rule)
 
-  pub star-timed : (k : Clock) (d : ℤ) → d ≡ starDelta request → timedBy k d a left ≡ starTimedText k request sines room
+  pub star-timed : (k : Reference) (d : ℤ) → d ≡ starDelta request → timedBy k d a left ≡ starTimedText k request sines room
   unfolding starTimedText
   star-timed k d e = rw (is, by-rule, e)
 
@@ -73,11 +73,11 @@ module _ (request sines room : List ℕ) (a : Answer) (is : a ≡ answerTo reque
       by (A.Written n) e = omega (arith, written-fits request sines room n (sym e), l)
       by (A.Refused r) e = tt
 
-  pub text-is : timedBy Off (pos 0) a left ≡ answerText request sines room
+  pub text-is : timedBy R.Nothing (pos 0) a left ≡ answerText request sines room
   unfolding answerText
   text-is = off a left ∙ rw (is, by-rule)
 
-  pub timed-is : (k : Clock) (d : ℤ) → d ≡ deltaOf request → timedBy k d a left ≡ timedText k request sines room
+  pub timed-is : (k : Reference) (d : ℤ) → d ≡ deltaOf request → timedBy k d a left ≡ timedText k request sines room
   unfolding timedText
   timed-is k d e = rw (is, by-rule, e)
 

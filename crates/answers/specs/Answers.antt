@@ -9,7 +9,7 @@ use Rattle.circumstances.specs.declared.Answer.{Answer}
 use Rattle.circumstances.specs.declared.Answer.the-variants as A
 use Rattle.input.specs.Sheet.{answerTo, bufferFor, starAnswer, starBuffer}
 use Rattle.input.specs.Input.{deltaOf, starDelta}
-use Rattle.clock.specs.declared.Clock.{Clock}
+use Rattle.instants.specs.declared.Reference.{Reference}
 use Rattle.lines.specs.Lines.{refusalLine}
 use Rattle.listings.specs.Listings.{told, timed, printed}
 
@@ -28,14 +28,14 @@ starText request sines room = textBy (starAnswer request sines room) (starBuffer
 -- ---- with clock times
 
 -- the same, with times by the clock and the station's ΔT
-abbrev pub timedBy : Clock → ℤ → Answer → List ℕ → List ℕ
+abbrev pub timedBy : Reference → ℤ → Answer → List ℕ → List ℕ
 timedBy k d (A.Written n) room = printed (timed k d (take n room))
 timedBy k d (A.Refused r) room = refusalLine (r .number) (r .place)
 
-unfoldable pub timedText : Clock → (request sines room : List ℕ) → List ℕ
+unfoldable pub timedText : Reference → (request sines room : List ℕ) → List ℕ
 timedText k request sines room = timedBy k (deltaOf request) (answerTo request sines room) (bufferFor request sines room)
 
-unfoldable pub starTimedText : Clock → (request sines room : List ℕ) → List ℕ
+unfoldable pub starTimedText : Reference → (request sines room : List ℕ) → List ℕ
 starTimedText k request sines room = timedBy k (starDelta request) (starAnswer request sines room) (starBuffer request sines room)
 
 -- ---- the sheet as it is stored

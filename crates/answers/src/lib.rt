@@ -1,6 +1,6 @@
 // The answer to a request's bytes as text: the listing of its sheet, or the line of its refusal; and as a stored sheet, with that line apart.
 use circumstances::Answer;
-use clock::Clock;
+use instants::Reference;
 use listings::Text;
 use refusals::Refusal;
 ghost use mathlib.Core.Path.{_≡_};
@@ -29,16 +29,16 @@ fn put_refused(refusal: Refusal, out: &mut [u8]) -> usize
 }
 
 // The text of an answer whose sheet stands at the room's start, by the clock.
-fn put_text(answer: Answer, room: &[u8], out: &mut [u8], clock: Clock, deltat: i64) -> usize
+fn put_text(answer: Answer, room: &[u8], out: &mut [u8], reference: Reference, deltat: i64) -> usize
     requires { ⌜ Fits answer (now room) ⌝ }
-    ensures { λ r. ⌜ Put (now (out .entry)) 0 (timedBy clock deltat answer (now (room .entry))) (now (out .exit)) r ⌝ }
+    ensures { λ r. ⌜ Put (now (out .entry)) 0 (timedBy reference deltat answer (now (room .entry))) (now (out .exit)) r ⌝ }
 {
     match answer {
         Answer::Written(written) => listings::put_timed_listing(
             out,
             0,
             &room[..written],
-            clock,
+            reference,
             deltat,
         ),
         Answer::Refused(refusal) => put_refused(refusal, out),
@@ -52,7 +52,7 @@ pub fn put_answer(request: &[u8], sines: &mut [u32], room: &mut [u8], out: &mut 
     ensures sines { λ r. ⌜ now (sines .exit) ≡ sinesFor (now (request .entry)) (now (sines .entry)) ⌝ }
 {
     let answer = input::sheet(request, sines, room);
-    put_text(answer, room, out, Clock::Off, 0)
+    put_text(answer, room, out, Reference::Nothing, 0)
 }
 
 // The same of a star request.
@@ -62,41 +62,41 @@ pub fn put_star_answer(request: &[u8], sines: &mut [u32], room: &mut [u8], out: 
     ensures sines { λ r. ⌜ now (sines .exit) ≡ starSines (now (request .entry)) (now (sines .entry)) ⌝ }
 {
     let answer = input::stars::sheet(request, sines, room);
-    put_text(answer, room, out, Clock::Off, 0)
+    put_text(answer, room, out, Reference::Nothing, 0)
 }
 
 // The same as `put_answer` with times by the clock and the ΔT of the request's station.
 pub fn put_timed_answer(
     request: &[u8],
-    clock: Clock,
+    reference: Reference,
     sines: &mut [u32],
     room: &mut [u8],
     out: &mut [u8],
 ) -> usize
-    ensures text { λ r. ⌜ Put (now (out .entry)) 0 (timedText clock (now (request .entry)) (now (sines .entry)) (now (room .entry))) (now (out .exit)) r ⌝ }
+    ensures text { λ r. ⌜ Put (now (out .entry)) 0 (timedText reference (now (request .entry)) (now (sines .entry)) (now (room .entry))) (now (out .exit)) r ⌝ }
     ensures sheet { λ r. ⌜ now (room .exit) ≡ bufferFor (now (request .entry)) (now (sines .entry)) (now (room .entry)) ⌝ }
     ensures sines { λ r. ⌜ now (sines .exit) ≡ sinesFor (now (request .entry)) (now (sines .entry)) ⌝ }
 {
     let deltat = input::deltat(request);
     let answer = input::sheet(request, sines, room);
-    put_text(answer, room, out, clock, deltat)
+    put_text(answer, room, out, reference, deltat)
 }
 
 // The same of a star request.
 pub fn put_timed_star_answer(
     request: &[u8],
-    clock: Clock,
+    reference: Reference,
     sines: &mut [u32],
     room: &mut [u8],
     out: &mut [u8],
 ) -> usize
-    ensures text { λ r. ⌜ Put (now (out .entry)) 0 (starTimedText clock (now (request .entry)) (now (sines .entry)) (now (room .entry))) (now (out .exit)) r ⌝ }
+    ensures text { λ r. ⌜ Put (now (out .entry)) 0 (starTimedText reference (now (request .entry)) (now (sines .entry)) (now (room .entry))) (now (out .exit)) r ⌝ }
     ensures sheet { λ r. ⌜ now (room .exit) ≡ starBuffer (now (request .entry)) (now (sines .entry)) (now (room .entry)) ⌝ }
     ensures sines { λ r. ⌜ now (sines .exit) ≡ starSines (now (request .entry)) (now (sines .entry)) ⌝ }
 {
     let deltat = input::stars::deltat(request);
     let answer = input::stars::sheet(request, sines, room);
-    put_text(answer, room, out, clock, deltat)
+    put_text(answer, room, out, reference, deltat)
 }
 
 // The same as `put_answer` where `out` holds the text, and how long it is; or 4, which is of `out` alone, and `out` as it was. What is refused of the
@@ -109,14 +109,14 @@ pub fn answer(request: &[u8], sines: &mut [u32], room: &mut [u8], out: &mut [u8]
 {
     let answer = input::sheet(request, sines, room);
     let mut none = [0u8; 0];
-    let need = put_text(answer, room, &mut none, Clock::Off, 0);
+    let need = put_text(answer, room, &mut none, Reference::Nothing, 0);
     if out.len() < need {
         return Text::Refused(Refusal {
             number: 4,
             place: need,
         });
     }
-    put_text(answer, room, out, Clock::Off, 0);
+    put_text(answer, room, out, Reference::Nothing, 0);
     Text::Written(need)
 }
 

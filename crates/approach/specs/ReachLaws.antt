@@ -14,18 +14,13 @@ use Rattle.numbers.specs.Root.{IsRoot, root}
 use Rattle.numbers.specs.RootLaws.{root-is}
 use Rattle.geometry.specs.Sizes.{M-nonneg}
 use Rattle.shadow.specs.declared.Sample.{Sample}
-use Rattle.requests.specs.declared.Window.{Window}
+use Rattle.windows.specs.declared.Window.{Window}
 use Rattle.requests.specs.declared.Occultation.{Occultation}
-use Rattle.requests.specs.Windows.{nthSecond, secondCount}
+use Rattle.windows.specs.Windows.{nthSecond, secondCount}
 use Rattle.seconds.specs.Seconds.{momentAt}
 use Rattle.gaps.specs.Samples.{IsAt, squareAt}
 use Rattle.approach.specs.declared.Low.{Low}
 use Rattle.approach.specs.Reach.{Seen, OneOf, Reached}
-
--- a window has a second
-pub seconds-some : (w : Window) → 0 < secondCount w
-unfolding secondCount
-seconds-some w = omega arith
 
 pub square-nonneg : (o : Occultation) (k : ℕ) → pos 0 ≤ℤ squareAt o k
 unfolding squareAt

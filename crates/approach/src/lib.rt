@@ -12,7 +12,7 @@ ghost use Rattle.sine_table.specs.Table.{Sines};
 ghost use Rattle.elements.specs.Stars.{axisOf};
 ghost use Rattle.station.specs.Place.{placeOf};
 ghost use Rattle.shadow.specs.Shadow.{IsOffset};
-ghost use Rattle.requests.specs.Windows.{nthSecond, secondCount};
+ghost use Rattle.windows.specs.Windows.{nthSecond, secondCount};
 ghost use Rattle.requests.specs.RequestLaws.{InLimits};
 ghost use Rattle.gaps.specs.Samples.{IsAt, squareAt};
 ghost use Rattle.approach.specs.Spread.{stop, Spread, SquareSizes, OneStop};
@@ -31,7 +31,7 @@ pub fn sample_of(table: &[u32], o: Occultation, place: Place, k: usize) -> Sampl
 {
     let w = o.window;
     let body = o.body;
-    let t = requests::nth_second(w, k);
+    let t = windows::nth_second(w, k);
     shadow::bodies::sample_at(table, body, place, t)
 }
 
@@ -43,7 +43,7 @@ fn offset_of(table: &[u32], o: Occultation, place: Place, k: usize) -> Offset
     let w = o.window;
     let body = o.body;
     let axis = elements::stars::axis_of(body);
-    let t = requests::nth_second(w, k);
+    let t = windows::nth_second(w, k);
     shadow::offset_at(table, axis, place, t)
 }
 

@@ -7,7 +7,8 @@ use native.Mathlib.Omega.{arith}
 use native.Mathlib.Nat.{mul-le-mul, lt-of-not-le}
 use lib.IntN.{ℤ, pos, natAbs, _+ℤ_, _*ℤ_}
 use lib.Signed.{leZ, _≤ℤ_}
-use Rattle.numbers.specs.Order.{≤-parts, square-natAbs, leZ-true, both-ways}
+use Rattle.numbers.specs.Order.{≤-parts, square-natAbs, leZ-true}
+use Rattle.numbers.specs.Tests.{both}
 use Rattle.numbers.specs.Ring.{_⊕_, _⊗_, v0, v1, v2, v3}
 use Rattle.numbers.specs.Cert.{leq, sq, _⊞_, certify}
 use Rattle.besselian.specs.declared.Row.{Row}
@@ -29,16 +30,11 @@ three a b c m h =
       size-of-square c m (certify 0 e (v2 ⊗ v2) v3 (H ⊞ sq v0 ⊞ sq v1) tt),
     )
 
--- both halves of a test
-halves : (s t : Bool) → s && t ≡ true → (s ≡ true) × (t ≡ true)
-halves true t e = (refl, e)
-halves false t e = absurd (both-ways e refl)
-
 between-true : (x y z low high : ℤ) → between x y z low high ≡ true → (low ² ≤ℤ (x ² +ℤ y ² +ℤ z ²)) × ((x ² +ℤ y ² +ℤ z ²) ≤ℤ (high ²))
 unfolding between
 between-true x y z low high e =
     let s = x ² +ℤ y ² +ℤ z ² in
-    let h = halves (leZ (low ²) s) (leZ s (high ²)) e in
+    let h = both (leZ (low ²) s) (leZ s (high ²)) e in
     (leZ-true (low ²) s (h .0), leZ-true s (high ²) (h .1))
 
 between-sizes : (x y z low : ℤ) (m : ℕ) → between x y z low (pos m) ≡ true → (natAbs x ≤ m) × (natAbs y ≤ m) × (natAbs z ≤ m)
@@ -53,8 +49,8 @@ module _ (p : Row) where
   pub accepted-is : accepted p ≡ true → Accepted
   unfolding accepted level
   accepted-is e =
-      let a = halves (moonDistance p) (sunDistance p && level (Gx p) (Gy p) (Gz p)) e in
-      let b = halves (sunDistance p) (level (Gx p) (Gy p) (Gz p)) (a .1) in
+      let a = both (moonDistance p) (sunDistance p && level (Gx p) (Gy p) (Gz p)) e in
+      let b = both (sunDistance p) (level (Gx p) (Gy p) (Gz p)) (a .1) in
       record { moon = a .0; sun = b .0; sine = leZ-true (pos 10000 *ℤ (Gz p ²)) (pos 1849 *ℤ N p) (b .1) }
 
   -- the coordinates of the Moon and of the Sun, and the Sun's least distance

@@ -1,5 +1,4 @@
--- the closest second, what is known of the seconds so far
-pub mod Nearest
-pub mod Kept
+-- what is known of all seconds
+pub mod Found
 -- what follows
-pub mod KeptLaws
+pub mod FoundLaws

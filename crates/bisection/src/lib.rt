@@ -2,32 +2,21 @@
 // its chord shows the states of all between. Where it does not, the second in the middle is computed, and both halves are looked at.
 // `fill` is an inner function, for the crates above, and has a `requires`, as those that it calls have.
 use requests::Occultation;
-use runs::Filled;
 use shadow::Sample;
 use station::Place;
+use tallies::Tally;
 ghost use mathlib.Core.Path.{_≡_};
-ghost use mathlib.Core.List.{List};
-ghost use Prim.Native.Nat.{ℕ, _+_, _-_, _≤_, _<_};
+ghost use Prim.Native.Nat.{_-_, _≤_, _<_};
 ghost use lib.IntN.{natAbs};
 ghost use lib.ListN.{length};
 ghost use Rattle.sine_table.specs.Table.{Sines};
 ghost use Rattle.station.specs.Place.{placeOf};
-ghost use Rattle.requests.specs.Windows.{secondCount};
+ghost use Rattle.windows.specs.Windows.{secondCount};
 ghost use Rattle.requests.specs.RequestLaws.{InLimits};
-ghost use Rattle.runs.specs.Runs.{Ends};
-ghost use Rattle.gaps.specs.Samples.{IsAt, SampleSizes};
-ghost use Rattle.bisection.specs.Kept.{IsPair, Closer, Stored, Kept, All, Found};
+ghost use Rattle.gaps.specs.Samples.{IsAt};
 ghost use Rattle.approach.specs.Spread.{Spread};
-
-// What is known of the seconds so far.
-pub struct Tally {
-    // their states, as runs
-    pub filled: Filled,
-    // the closest of them, counted from the window's first
-    pub best: usize,
-    // its M
-    pub least: i64,
-}
+ghost use Rattle.tallies.specs.Kept.{Kept};
+ghost use Rattle.bisection.specs.Found.{All, Found};
 
 // What is known of all seconds.
 pub struct Known {
@@ -35,52 +24,6 @@ pub struct Known {
     pub count: usize,
     // the closest of them, counted from the window's first
     pub best: usize,
-}
-
-// The states of both phases under a guard, as they stand in a run.
-fn pair_of(guard: i64, s: Sample) -> u8
-    requires { ⌜ (natAbs guard ≤ 1000) × (SampleSizes s) ⌝ }
-    ensures { λ r. ⌜ IsPair guard s r ⌝ }
-{
-    let m = s.m;
-    let k = numbers::abs(s.first);
-    let n = numbers::abs(s.second);
-    let first = shadow::state(guard, k, m);
-    let second = shadow::state(guard, n, m);
-    runs::pair(first, second)
-}
-
-// The closer of the closest so far and second j, whose M is m, the earlier of equals; and the runs as they are now.
-fn closer(t: Tally, f: Filled, j: usize, m: i64) -> Tally
-    requires { ⌜ (natAbs (t .least) ≤ 1000000000000000000) × (natAbs m ≤ 1000000000000000000) ⌝ }
-    ensures { λ r. ⌜ (r .filled ≡ f) × (Closer t j m r) ⌝ }
-{
-    let best = t.best;
-    let least = t.least;
-    if m < least {
-        return Tally {
-            filled: f,
-            best: j,
-            least: m,
-        };
-    }
-    Tally {
-        filled: f,
-        best,
-        least,
-    }
-}
-
-// The h seconds up to second j get the states that s shows at j.
-fn keep(guard: i64, runs: &mut [u8], t: Tally, h: usize, j: usize, s: Sample) -> Tally
-    requires { ⌜ (natAbs guard ≤ 1000) × (SampleSizes s) × (natAbs (t .least) ≤ 1000000000000000000) ⌝ }
-    requires { ⌜ (1 ≤ h) × (h ≤ 2048) × (t .filled .count + t .filled .seconds ≤ length (now runs)) × (Ends (now runs) (t .filled)) ⌝ }
-    ensures { λ r. ⌜ Stored guard s h j (now (runs .entry)) t (now (runs .exit)) r ⌝ }
-{
-    let pair = pair_of(guard, s);
-    let before = t.filled;
-    let after = runs::push(runs, before, pair, h);
-    closer(t, after, j, s.m)
 }
 
 // The seconds after i up to j, each computed; b is the shadow at j.
@@ -104,10 +47,10 @@ fn each_second(
     let mut k = i + 1;
     while k < j {
         let s = approach::sample_of(table, o, place, k);
-        t = keep(o.guard, runs, t, 1, k, s);
+        t = tallies::keep(o.guard, runs, t, 1, k, s);
         k += 1;
     }
-    keep(o.guard, runs, t, 1, j, b)
+    tallies::keep(o.guard, runs, t, 1, j, b)
 }
 
 // How many seconds between the shadows a and b are computed one by one: sixteen and fewer. Where both are as close as some second is, within the
@@ -148,7 +91,7 @@ fn between(
     let h = j - i;
     let shown = gaps::clear(o.guard, near, a, b, h);
     if shown {
-        return keep(o.guard, runs, t, h, j, b);
+        return tallies::keep(o.guard, runs, t, h, j, b);
     }
     let few = leaf(o.guard, near, a, b);
     if h <= few {
@@ -158,24 +101,6 @@ fn between(
     let s = approach::sample_of(table, o, place, m);
     let half = between(table, o, place, near, runs, t, i, a, m, s);
     between(table, o, place, near, runs, half, m, s, j, b)
-}
-
-// Second 0, whose shadow is a: the first of the runs, and the closest so far.
-fn first(o: Occultation, a: Sample) -> Tally
-    requires { ⌜ (InLimits o) × (IsAt o 0 a) ⌝ }
-    ensures { λ r. ⌜ ((near : ℕ) (runs : List ℕ) → Kept o near 0 runs r) ⌝ }
-{
-    let pair = pair_of(o.guard, a);
-    let filled = Filled {
-        count: 0,
-        pair,
-        seconds: 1,
-    };
-    Tally {
-        filled,
-        best: 0,
-        least: a.m,
-    }
 }
 
 // The seconds of a window of n under a hundred, after second 0: each is computed.
@@ -237,9 +162,9 @@ fn all_seconds(table: &[u32], o: Occultation, place: Place, runs: &mut [u8]) -> 
     ensures { λ r. ⌜ length (now (runs .exit)) ≡ length (now (runs .entry)) ⌝ }
 {
     let w = o.window;
-    let n = requests::second_count(w);
+    let n = windows::second_count(w);
     let a = approach::sample_of(table, o, place, 0);
-    let t = first(o, a);
+    let t = tallies::first(o, a);
     if n < 100 {
         return few_seconds(table, o, place, runs, t, n);
     }

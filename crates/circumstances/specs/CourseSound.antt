@@ -18,7 +18,7 @@ use Rattle.station.specs.declared.Place.{Place}
 use Rattle.station.specs.Place.{placeOf}
 use Rattle.geometry.specs.Shadow.{phasesOf}
 use Rattle.requests.specs.declared.Occultation.{Occultation}
-use Rattle.requests.specs.WindowLaws.{in-window-size}
+use Rattle.windows.specs.WindowLaws.{in-window-size}
 use Rattle.requests.specs.RequestLaws.{InLimits, guard-size}
 use Rattle.requests.specs.Shares.{sharingOf, sharing}
 use Rattle.seconds.specs.Seconds.{magnitudeOf, magnitudeAt}

@@ -23,7 +23,7 @@ use Rattle.contact_entries.specs.Entries.{someBetween}
 use Rattle.phases.specs.declared.Phase.the-variants.{Penumbra}
 use Rattle.requests.specs.declared.Request.{Request}
 use Rattle.requests.specs.Requests.{ofEclipse}
-use Rattle.requests.specs.Windows.{secondCount, eachSecond}
+use Rattle.windows.specs.Windows.{secondCount, eachSecond}
 use Rattle.seconds.specs.Seconds.{stateAt}
 use Rattle.kinds.specs.Entries.{opened}
 use Rattle.kinds.specs.StoredSeconds.{stored}

@@ -16,12 +16,12 @@ use Rattle.instants.specs.declared.Instant.{Instant}
 use Rattle.decimals.specs.Texts.{letters}
 use Rattle.lines.specs.Lines.{textOf, endFor, lineOf}
 use Rattle.times_of_day.specs.Times.{two, secondsText, timeText}
-use Rattle.clock.specs.declared.Clock.{Clock}
-use Rattle.clock.specs.declared.Clock.the-variants.{Off, At}
+use Rattle.instants.specs.declared.Reference.{Reference}
+use Rattle.instants.specs.declared.Reference.the-variants as R
 use Rattle.clock.specs.declared.Seconds.{Seconds}
 use Rattle.clock.specs.declared.Seconds.the-variants.{Moment, Contact}
 use Rattle.clock.specs.declared.Shown.{Shown}
-use Rattle.clock.specs.declared.Shown.the-variants.{Nothing, Reference, Times}
+use Rattle.clock.specs.declared.Shown.the-variants.{Nothing, InstantLine, Times}
 
 -- ---- from a second to times of day
 
@@ -103,7 +103,7 @@ scalesText i d s = scaleText Ephemeris i d s ++ scaleText Universal i d s
 
 -- "two times for an entry with from and to, one for the closest second, none for a share"; "After the head line stands `instant ..`"
 abbrev pub shownFor : Kind → ℕ → ℕ → Shown
-shownFor Head a b = Reference
+shownFor Head a b = InstantLine
 shownFor (Enter φ) a b = Times (Contact a b)
 shownFor (Leave φ) a b = Times (Contact a b)
 shownFor (Graze φ) a b = Times (Contact a b)
@@ -115,17 +115,17 @@ shownFor End a b = Nothing
 -- what follows an entry's text
 abbrev pub shownText : Instant → ℤ → Shown → List ℕ
 shownText i d Nothing = []
-shownText i d Reference = letters "\ninstant " ++ instantText i
+shownText i d InstantLine = letters "\ninstant " ++ instantText i
 shownText i d (Times s) = scalesText i d s
 
 unfoldable pub behind : Instant → ℤ → Entry → List ℕ
 behind i d e = shownText i d (shownFor (e .kind) (e .a) (e .b))
 
 -- an entry's line; with an instant, what follows stands before its end
-unfoldable pub timedLine : Clock → ℤ → Entry → List ℕ
-timedLine Off d e = lineOf e
-timedLine (At i) d e = textOf e ++ behind i (known d) e ++ endFor (e .kind)
+unfoldable pub timedLine : Reference → ℤ → Entry → List ℕ
+timedLine R.Nothing d e = lineOf e
+timedLine (R.At i) d e = textOf e ++ behind i (known d) e ++ endFor (e .kind)
 
-unfoldable pub timedLines : Clock → ℤ → List Entry → List ℕ
+unfoldable pub timedLines : Reference → ℤ → List Entry → List ℕ
 timedLines k d [] = []
 timedLines k d (e ∷ es) = timedLine k d e ++ timedLines k d es

@@ -20,8 +20,8 @@ use Rattle.decimals.specs.Texts.{letters, Put}
 use Rattle.decimals.specs.TextLaws.{put-nil}
 use Rattle.decimals.specs.RowLaws.{joined}
 use Rattle.lines.specs.Lines.{textOf, endFor, lineOf, linesOf}
-use Rattle.clock.specs.declared.Clock.{Clock}
-use Rattle.clock.specs.declared.Clock.the-variants.{Off, At}
+use Rattle.instants.specs.declared.Reference.{Reference}
+use Rattle.instants.specs.declared.Reference.the-variants as R
 use Rattle.clock.specs.declared.Seconds.{Seconds}
 use Rattle.clock.specs.declared.Seconds.the-variants.{Moment, Contact}
 use Rattle.clock.specs.declared.Shown.{Shown}
@@ -61,26 +61,26 @@ unfolding behind
 behind-shown i d e x q y w old at new r p = rw (← q, w) p
 
 -- the line by the clock
-module _ (k : Clock) (d : ℤ) (e : Entry) (old : List ℕ) (at : ℕ) (new : List ℕ) (r : ℕ) where
-  pub line-off : k ≡ Off → Put old at (lineOf e) new r → Put old at (timedLine k d e) new r
+module _ (k : Reference) (d : ℤ) (e : Entry) (old : List ℕ) (at : ℕ) (new : List ℕ) (r : ℕ) where
+  pub line-off : k ≡ R.Nothing → Put old at (lineOf e) new r → Put old at (timedLine k d e) new r
   unfolding timedLine
   line-off q p = rw q p
 
-  pub line-at : (i : Instant) → k ≡ At i → Put old at (textOf e ++ behind i (known d) e ++ endFor (e .kind)) new r → Put old at (timedLine k d e) new r
+  pub line-at : (i : Instant) → k ≡ R.At i → Put old at (textOf e ++ behind i (known d) e ++ endFor (e .kind)) new r → Put old at (timedLine k d e) new r
   unfolding timedLine
   line-at i q p = rw q p
 
 -- the lines, as a loop puts them
-pub lines-nil : (k : Clock) (d : ℤ) → timedLines k d [] ≡ []
+pub lines-nil : (k : Reference) (d : ℤ) → timedLines k d [] ≡ []
 unfolding timedLines
 lines-nil k d = refl
 
-pub lines-cons : (k : Clock) (d : ℤ) (e : Entry) (es : List Entry) → timedLines k d (e ∷ es) ≡ timedLine k d e ++ timedLines k d es
+pub lines-cons : (k : Reference) (d : ℤ) (e : Entry) (es : List Entry) → timedLines k d (e ∷ es) ≡ timedLine k d e ++ timedLines k d es
 unfolding timedLines
 lines-cons k d e es = refl
 
 -- with no clock they are document 01's
-pub lines-off : (d : ℤ) (es : List Entry) → timedLines Off d es ≡ linesOf es
+pub lines-off : (d : ℤ) (es : List Entry) → timedLines R.Nothing d es ≡ linesOf es
 unfolding timedLines timedLine linesOf
 lines-off d [] = refl
 lines-off d (e ∷ es) = ap (λ x. lineOf e ++ x) (lines-off d es)

@@ -3,6 +3,7 @@
 mod scales;
 
 use instants::Instant;
+use instants::Reference;
 use instants::Scale;
 use kinds::Entry;
 use kinds::Kind;
@@ -17,12 +18,6 @@ ghost use Rattle.lines.specs.Lines.{textOf, endFor};
 ghost use Rattle.times_of_day.specs.Times.{timeText};
 ghost use Rattle.clock.specs.Clock.{timeIn, known, nameOf, dateText, instantText, timesIn, scaleText, scalesText, shownFor, behind, timedLine};
 
-// Whether times are shown: the instant from which they are counted.
-pub enum Clock {
-    Off,
-    At(Instant),
-}
-
 // Stored seconds that are shown as times.
 pub enum Seconds {
     // to the nearest tenth
@@ -34,7 +29,7 @@ pub enum Seconds {
 // What follows an entry's text: the line of the instant, or times.
 pub enum Shown {
     Nothing,
-    Reference,
+    InstantLine,
     Times(Seconds),
 }
 
@@ -162,7 +157,7 @@ fn shown_for(kind: Kind, a: u32, b: u32) -> Shown
     ensures { λ r. ⌜ r ≡ shownFor kind a b ⌝ }
 {
     match kind {
-        Kind::Head => Shown::Reference,
+        Kind::Head => Shown::InstantLine,
         Kind::Enter(_) => Shown::Times(Seconds::Contact(a, b)),
         Kind::Leave(_) => Shown::Times(Seconds::Contact(a, b)),
         Kind::Graze(_) => Shown::Times(Seconds::Contact(a, b)),
@@ -184,7 +179,7 @@ fn put_behind(out: &mut [u8], at: usize, i: Instant, deltat: i64, entry: Entry) 
     let shown = shown_for(kind, a, b);
     match shown {
         Shown::Nothing => at,
-        Shown::Reference => put_instant_line(out, at, i),
+        Shown::InstantLine => put_instant_line(out, at, i),
         Shown::Times(seconds) => put_scales(out, at, i, deltat, seconds),
     }
 }
@@ -201,11 +196,17 @@ fn put_timed(out: &mut [u8], at: usize, entry: Entry, i: Instant, deltat: i64) -
 }
 
 // The line of an entry with its times; `deltat` is the station's, in hundredths of a second. Any instant, any ΔT.
-pub fn put_entry(out: &mut [u8], at: usize, entry: Entry, clock: Clock, deltat: i64) -> usize
-    ensures { λ r. ⌜ Put (now (out .entry)) at (timedLine clock deltat entry) (now (out .exit)) r ⌝ }
+pub fn put_entry(
+    out: &mut [u8],
+    at: usize,
+    entry: Entry,
+    reference: Reference,
+    deltat: i64,
+) -> usize
+    ensures { λ r. ⌜ Put (now (out .entry)) at (timedLine reference deltat entry) (now (out .exit)) r ⌝ }
 {
-    match clock {
-        Clock::Off => lines::put_entry(out, at, entry),
-        Clock::At(i) => put_timed(out, at, entry, i, deltat),
+    match reference {
+        Reference::Nothing => lines::put_entry(out, at, entry),
+        Reference::At(i) => put_timed(out, at, entry, i, deltat),
     }
 }

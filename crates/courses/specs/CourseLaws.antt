@@ -6,8 +6,8 @@ use Prim.Native.Nat.{ℕ, _+_, _<_}
 use lib.ListN.{length, getD}
 use Rattle.phases.specs.declared.Phase.{Phase}
 use Rattle.phases.specs.States.{code}
-use Rattle.requests.specs.Windows.{secondCount}
-use Rattle.requests.specs.WindowLaws.{low-second, each-length, each-at}
+use Rattle.windows.specs.Windows.{secondCount}
+use Rattle.windows.specs.WindowLaws.{low-second, each-length, each-at}
 use Rattle.kinds.specs.StoredSeconds.{stored, secondOf}
 use Rattle.kinds.specs.StoredSecondLaws.{stored-later, second-stored}
 use Rattle.courses.specs.Courses.{Course, second, statesOf}

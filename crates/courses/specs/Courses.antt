@@ -5,8 +5,8 @@ use Prim.Native.Nat.{ℕ}
 use lib.IntN.{ℤ}
 use Rattle.phases.specs.declared.Phase.{Phase}
 use Rattle.phases.specs.States.{State, code}
-use Rattle.requests.specs.declared.Window.{Window}
-use Rattle.requests.specs.Windows.{nthSecond, eachSecond}
+use Rattle.windows.specs.declared.Window.{Window}
+use Rattle.windows.specs.Windows.{nthSecond, eachSecond}
 use Rattle.contact_entries.specs.declared.Entry as Contact
 use Rattle.contact_entries.specs.declared.Entry.the-variants as C
 use Rattle.contact_entries.specs.Entries.{entries}

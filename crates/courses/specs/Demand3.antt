@@ -16,7 +16,7 @@ use lib.IntN.{ℤ}
 use Rattle.phases.specs.declared.Phase.{Phase}
 use Rattle.phases.specs.Phases.{same, Listed}
 use Rattle.phases.specs.States.{SaidRightly}
-use Rattle.requests.specs.Windows.{InWindow}
+use Rattle.windows.specs.Windows.{InWindow}
 use Rattle.contact_entries.specs.declared.Entry as Contact
 use Rattle.contact_entries.specs.declared.Entry.the-variants as C
 use Rattle.contact_entries.specs.Entries.{if-so, All}

@@ -16,8 +16,8 @@ use Rattle.phases.specs.declared.Phase.{Phase}
 use Rattle.phases.specs.Phases.{same, one-if, Listed, times}
 use Rattle.phases.specs.States.{SaidRightly, code}
 use Rattle.phases.specs.PhaseLaws.{same-is, code-inside, code-outside}
-use Rattle.requests.specs.Windows.{InWindow, secondCount}
-use Rattle.requests.specs.WindowLaws.{second-in, next-second, not-last}
+use Rattle.windows.specs.Windows.{InWindow, secondCount}
+use Rattle.windows.specs.WindowLaws.{second-in, next-second, not-last}
 use Rattle.contact_entries.specs.declared.Entry as Contact
 use Rattle.contact_entries.specs.declared.Entry.the-variants as C
 use Rattle.contact_entries.specs.Entries.{entries, All}

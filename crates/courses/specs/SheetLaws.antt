@@ -17,8 +17,8 @@ use Rattle.phases.specs.declared.Phase.{Phase}
 use Rattle.phases.specs.declared.Phase.the-variants.{Penumbra, Star}
 use Rattle.phases.specs.Phases.{eclipse, star, same, Listed}
 use Rattle.phases.specs.PhaseLaws.{same-is}
-use Rattle.requests.specs.Windows.{secondCount}
-use Rattle.requests.specs.WindowLaws.{last-is, second-in}
+use Rattle.windows.specs.Windows.{secondCount}
+use Rattle.windows.specs.WindowLaws.{last-is, second-in}
 use Rattle.contact_entries.specs.declared.Entry as Contact
 use Rattle.contact_entries.specs.declared.Entry.the-variants as K
 use Rattle.contact_entries.specs.Entries as CE
@@ -33,7 +33,7 @@ use Rattle.kinds.specs.declared.Crossing.the-variants as C
 use Rattle.kinds.specs.Entries.{end}
 use Rattle.order.specs.Order.{repeats}
 use Rattle.kinds.specs.FieldRules.{isDirection, greatestMagnitude}
-use Rattle.kinds.specs.TestLaws.{distinct}
+use Rattle.numbers.specs.Tests.{distinct}
 use Rattle.rules.specs.Rules.{start}
 use Rattle.kinds.specs.StoredSeconds.{stored}
 use Rattle.kinds.specs.StoredSecondLaws.{stored-is}

@@ -8,8 +8,8 @@ use lib.IntN.{ℤ}
 use Rattle.phases.specs.declared.Phase.{Phase}
 use Rattle.phases.specs.declared.Phase.the-variants.{Star}
 use Rattle.phases.specs.Phases.{same, Listed, times}
-use Rattle.requests.specs.Windows.{InWindow, secondCount}
-use Rattle.requests.specs.WindowLaws.{WindowHolds}
+use Rattle.windows.specs.Windows.{InWindow, secondCount}
+use Rattle.windows.specs.WindowLaws.{WindowHolds}
 use Rattle.order.specs.Order.{phaseFollows}
 use Rattle.courses.specs.Courses.{Course, second}
 

@@ -15,8 +15,8 @@ use Rattle.share.specs.Share.{Sizes}
 use Rattle.station.specs.Place.{placeOf}
 use Rattle.requests.specs.declared.Request.{Request}
 use Rattle.requests.specs.Requests.{ofEclipse}
-use Rattle.requests.specs.Windows.{inSpan}
-use Rattle.requests.specs.WindowLaws.{in-span}
+use Rattle.windows.specs.Windows.{inSpan}
+use Rattle.windows.specs.WindowLaws.{in-span}
 use Rattle.requests.specs.RequestLaws.{InLimits}
 use Rattle.requests.specs.Admission.{admitted}
 use Rattle.requests.specs.AdmissionLaws.{admitted-within}

@@ -12,7 +12,7 @@ use Rattle.station.specs.Place.{placeOf}
 use Rattle.geometry.specs.Shadow.{moment, L, M}
 use Rattle.requests.specs.declared.Request.{Request}
 use Rattle.requests.specs.Requests.{ofEclipse}
-use Rattle.requests.specs.Windows.{InWindow}
+use Rattle.windows.specs.Windows.{InWindow}
 use Rattle.requests.specs.RequestLaws.{InLimits}
 use Rattle.seconds.specs.Seconds.{momentAt, stateAt}
 

@@ -30,7 +30,7 @@ use Rattle.shadow.specs.Second as Shadow
 use Rattle.shadow.specs.SecondLaws.{state-at, moment-sizes}
 use Rattle.requests.specs.declared.Request.{Request}
 use Rattle.requests.specs.Requests.{ofEclipse}
-use Rattle.requests.specs.WindowLaws.{in-window-size}
+use Rattle.windows.specs.WindowLaws.{in-window-size}
 use Rattle.requests.specs.RequestLaws.{InLimits}
 use Rattle.seconds.specs.Seconds.{stateAt}
 use Rattle.seconds.specs.SecondLaws.{placed}

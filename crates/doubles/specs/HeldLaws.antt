@@ -14,6 +14,7 @@ use lib.Dec.{T, leb, ltb, leb→le}
 use lib.IntN.{ℤ, pos, negsuc, natAbs}
 use lib.ListN.{getD}
 use lib.Signed.{ltZ, _≤ℤ_, _<ℤ_}
+use mir.Facts.{and-yes}
 use lib.Ieee.{Float, nan, inf, fin}
 use Rattle.numbers.specs.Limits.{Row, row, outOfRange, firstOutOfRange, EachInRange}
 use Rattle.numbers.specs.Order.{≤-parts, parts-<, natAbs-parts, natAbs-by}
@@ -41,13 +42,9 @@ heldRow r = row (held (r .value)) (r .low) (r .high)
 abbrev pub narrow : Row → Bool
 narrow r = leb (natAbs (r .low)) 1000000000 && leb (natAbs (r .high)) 1000000000
 
-pub both : (a b : Bool) → T (a && b) → T a × T b
-both true b t = (tt, t)
-both false b t = absurd t
-
 ends : (r : Row) → T (narrow r) → (natAbs (r .low) ≤ 1000000000) × (natAbs (r .high) ≤ 1000000000)
 ends r t =
-    let p = both (leb (natAbs (r .low)) 1000000000) (leb (natAbs (r .high)) 1000000000) t in
+    let p = and-yes (leb (natAbs (r .low)) 1000000000) (leb (natAbs (r .high)) 1000000000) t in
     (leb→le (natAbs (r .low)) 1000000000 (p .0), leb→le (natAbs (r .high)) 1000000000 (p .1))
 
 either : (a b : Bool) → T a ⊎ T b → (a || b) ≡ true
@@ -91,17 +88,17 @@ pub ranges-held : (i : ℕ) (rs : List Row) → T (allNarrow rs) → firstOutOfR
 unfolding firstOutOfRange
 ranges-held i [] t = refl
 ranges-held i (r ∷ rs) t =
-    let n = both (narrow r) (allNarrow rs) t in
+    let n = and-yes (narrow r) (allNarrow rs) t in
     rw (row-held r (n .0), ranges-held (suc i) rs (n .1))
 
 pub in-ranges-held : (rs : List Row) → T (allNarrow rs) → EachInRange rs → map heldRow rs ≡ rs
 in-ranges-held [] t e = refl
 in-ranges-held (r ∷ rs) t e =
-    let n = both (narrow r) (allNarrow rs) t in
+    let n = and-yes (narrow r) (allNarrow rs) t in
     let s = in-range-size r (n .0) (e .0) in
     ap₂ (λ (z : ℤ) (qs : List Row). row z (r .low) (r .high) ∷ qs) (held-small (r .value) (omega arith)) (in-ranges-held rs (n .1) (e .1))
 
 pub in-ranges-sizes : (rs : List Row) → T (allNarrow rs) → EachInRange rs → (k : ℕ) → natAbs (getD (map (λ r. r .value) rs) k (pos 0)) ≤ 1000000000
 in-ranges-sizes [] t e k = omega arith
-in-ranges-sizes (r ∷ rs) t e zero = in-range-size r (both (narrow r) (allNarrow rs) t .0) (e .0)
-in-ranges-sizes (r ∷ rs) t e (suc k) = in-ranges-sizes rs (both (narrow r) (allNarrow rs) t .1) (e .1) k
+in-ranges-sizes (r ∷ rs) t e zero = in-range-size r (and-yes (narrow r) (allNarrow rs) t .0) (e .0)
+in-ranges-sizes (r ∷ rs) t e (suc k) = in-ranges-sizes rs (and-yes (narrow r) (allNarrow rs) t .1) (e .1) k

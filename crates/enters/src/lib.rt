@@ -6,8 +6,8 @@ ghost use lib.ListN.{length};
 ghost use Rattle.sine_table.specs.Table.{Sines};
 ghost use Rattle.requests.specs.Requests.{ofEclipse};
 ghost use Rattle.requests.specs.RequestLaws.{InLimits};
-ghost use Rattle.requests.specs.Windows.{secondCount};
-ghost use Rattle.requests.specs.WindowLaws.{WindowHolds};
+ghost use Rattle.windows.specs.Windows.{secondCount};
+ghost use Rattle.windows.specs.WindowLaws.{WindowHolds};
 ghost use Rattle.runs.specs.Runs.{decoded, Whole};
 ghost use Rattle.contact_entries.specs.Entries.{entries};
 ghost use Rattle.contact_entries.specs.Shifted.{shifted};
@@ -27,7 +27,7 @@ fn is_enter(entry: contact_entries::Entry) -> bool
 }
 
 // The "to" of the first enter of the first phase of a window, as it is stored, or 21,601 where there is none.
-fn first_enter(w: requests::Window, runs: &[u8]) -> u32
+fn first_enter(w: windows::Window, runs: &[u8]) -> u32
     requires { ⌜ (WindowHolds w) × (Whole (now runs)) × (length (decoded 0 (now runs)) ≡ secondCount w) ⌝ }
     ensures { λ r. ⌜ r ≡ firstEnter (map (shifted (stored (w .first))) (entries (decoded 0 (now (runs .entry))))) ⌝ }
 {
@@ -43,7 +43,7 @@ fn first_enter(w: requests::Window, runs: &[u8]) -> u32
         let enters = is_enter(entry);
         if enters {
             let to = writing::entries::to_of(entry);
-            let t = requests::nth_second(w, to);
+            let t = windows::nth_second(w, to);
             return kinds::seconds::store_second(t);
         }
         c = next;

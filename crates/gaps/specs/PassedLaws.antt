@@ -25,8 +25,8 @@ use Rattle.shadow.specs.Second.{phaseIn, radiusIn, IsSample}
 use Rattle.shadow.specs.Second as Shadow
 use Rattle.shadow.specs.SecondLaws.{state-at, edge-size}
 use Rattle.requests.specs.declared.Occultation.{Occultation}
-use Rattle.requests.specs.Windows.{nthSecond, secondCount}
-use Rattle.requests.specs.WindowLaws.{second-size}
+use Rattle.windows.specs.Windows.{nthSecond, secondCount}
+use Rattle.windows.specs.WindowLaws.{second-size}
 use Rattle.requests.specs.RequestLaws.{InLimits}
 use Rattle.seconds.specs.Seconds.{stateAt}
 use Rattle.seconds.specs.SecondLaws.{placed}

@@ -13,7 +13,7 @@ use native.Mathlib.Nat.{le-antisymm, lt-of-not-le, eq-or-lt-of-le}
 use lib.IntN.{ℤ, pos, negsuc, negℤ, _*ℤ_, *ℤ-zero}
 use lib.Signed.{ltZ, leZ, _≤ℤ_, _<ℤ_, leZ-yes, ltZ-yes, clashℤ}
 use Rattle.numbers.specs.Order.{zs, <ℤ-≤, leZ-true, leZ-false, *ℤ-nonneg}
-use Rattle.geometry.specs.Tests.{yes-≤, no-≤, yes-<, no-<, both, not-left, not-right}
+use Rattle.numbers.specs.Tests.{yes-≤, no-≤, yes-<, no-<, together, not-left, not-right}
 use Rattle.geometry.specs.Direction.{Largest, reaches, largest, quarter, direction}
 
 -- ---- one quarter
@@ -75,20 +75,20 @@ module _ (S : ℕ → ℕ) {u v : ℤ} where
   -- north through east
   pub direction-first : pos 0 ≤ℤ u → pos 0 <ℤ v → direction S u v ≡ quarter S u v
   unfolding direction
-  direction-first h k = rw (both (yes-≤ h) (yes-< k))
+  direction-first h k = rw (together (yes-≤ h) (yes-< k))
 
   pub direction-second : pos 0 <ℤ u → v ≤ℤ pos 0 → direction S u v ≡ 900 + quarter S (negℤ v) u
   unfolding direction
-  direction-second h k = rw (not-right (leZ (pos 0) u) (no-< k), both (yes-< h) (yes-≤ k))
+  direction-second h k = rw (not-right (leZ (pos 0) u) (no-< k), together (yes-< h) (yes-≤ k))
 
   pub direction-third : u ≤ℤ pos 0 → v <ℤ pos 0 → direction S u v ≡ 1800 + quarter S (negℤ u) (negℤ v)
   unfolding direction
-  direction-third h k = rw (not-right (leZ (pos 0) u) (no-< (<ℤ-≤ k)), not-left (leZ v (pos 0)) (no-< h), both (yes-≤ h) (yes-< k))
+  direction-third h k = rw (not-right (leZ (pos 0) u) (no-< (<ℤ-≤ k)), not-left (leZ v (pos 0)) (no-< h), together (yes-≤ h) (yes-< k))
 
   pub direction-fourth : u <ℤ pos 0 → pos 0 ≤ℤ v → direction S u v ≡ 2700 + quarter S v (negℤ u)
   unfolding direction
   direction-fourth h k =
-      rw (not-left (ltZ (pos 0) v) (no-≤ h), not-left (leZ v (pos 0)) (no-< (<ℤ-≤ h)), not-right (leZ u (pos 0)) (no-< k), both (yes-< h) (yes-≤ k))
+      rw (not-left (ltZ (pos 0) v) (no-≤ h), not-left (leZ v (pos 0)) (no-< (<ℤ-≤ h)), not-right (leZ u (pos 0)) (no-< k), together (yes-< h) (yes-≤ k))
 
 pub direction-none : (S : ℕ → ℕ) → direction S (pos 0) (pos 0) ≡ 65535
 unfolding direction

@@ -11,7 +11,6 @@ pub mod Thirteen
 pub mod States
 pub mod Cylinder
 -- laws of the definitions, for callers
-pub mod Tests
 pub mod StateLaws
 pub mod ExactLaws
 pub mod Ranges

@@ -9,7 +9,7 @@ use Rattle.elements.specs.Elements.{elementsOf}
 use Rattle.elements.specs.Stars.{starOf}
 use Rattle.station.specs.declared.Station.{Station}
 use Rattle.refusals.specs.Refusals.{refusal}
-use Rattle.requests.specs.declared.Window.{Window}
+use Rattle.windows.specs.declared.Window.{Window}
 use Rattle.requests.specs.declared.Request.{Request}
 use Rattle.requests.specs.declared.StarRequest.{StarRequest}
 use Rattle.requests.specs.Requests.{ofEclipse, ofStar}

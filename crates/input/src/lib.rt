@@ -50,13 +50,13 @@ fn station_from(n: &[i64], at: usize) -> station::Station
 }
 
 // The window whose two numbers stand from place `at` on.
-fn window_from(n: &[i64], at: usize) -> requests::Window
+fn window_from(n: &[i64], at: usize) -> windows::Window
     requires { ⌜ at + 2 ≤ length (now n) ⌝ }
     ensures { λ r. ⌜ r ≡ windowFrom at (now (n .entry)) ⌝ }
 {
     let first = n[at];
     let last = n[at + 1];
-    requests::Window { first, last }
+    windows::Window { first, last }
 }
 
 // The request of its numbers, in document 01's order.

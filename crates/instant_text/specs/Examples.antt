@@ -12,7 +12,7 @@ use Rattle.instants.specs.declared.Instant.{Instant}
 use Rattle.instant_text.specs.declared.Reading.{Reading}
 use Rattle.instant_text.specs.declared.Reading.the-variants as R
 use Rattle.instant_text.specs.declared.Wrong.the-variants as Wrong
-use Rattle.instant_text.specs.declared.Reference.the-variants as Ref
+use Rattle.instants.specs.declared.Reference.the-variants as Ref
 use Rattle.instant_text.specs.declared.Told.{Told}
 use Rattle.instant_text.specs.declared.Told.the-variants as T
 use Rattle.instant_text.specs.Forms.{hasForm, twoAt}

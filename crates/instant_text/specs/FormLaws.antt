@@ -5,6 +5,7 @@ use mathlib.Core.List.{List, [], _∷_}
 use Prim.Native.Nat.{ℕ, zero, suc, _+_, _≤_, _<_}
 use native.Mathlib.Omega.{arith}
 use lib.ListN.{length, getD, drop}
+use Rattle.numbers.specs.Tests.{both}
 use Rattle.words.specs.TextLaws.{from-here, from-end}
 use Rattle.instant_text.specs.Forms.{fits, hasForm}
 
@@ -21,10 +22,6 @@ form-not p x ps w e = rw e
 form-none : hasForm [] [] ≡ true
 unfolding hasForm
 form-none = refl
-
-pub both : (a b : Bool) → (a && b) ≡ true → (a ≡ true) × (b ≡ true)
-both true b e = (refl, e)
-both false b e = let z : _≡_ {A = ℕ} 0 1 = cc in absurd (omega arith)
 
 -- a word that has a form is as long
 pub form-length : (form word : List ℕ) → hasForm form word ≡ true → length word ≡ length form

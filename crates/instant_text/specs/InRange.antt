@@ -16,12 +16,12 @@ use Rattle.instants.specs.declared.Scale.the-variants as S
 use Rattle.instants.specs.declared.Instant.{Instant}
 use Rattle.instant_text.specs.declared.Reading.{Reading}
 use Rattle.instant_text.specs.declared.Reading.the-variants as R
-use Rattle.instant_text.specs.declared.Reference.{Reference}
-use Rattle.instant_text.specs.declared.Reference.the-variants as Ref
+use Rattle.instants.specs.declared.Reference.{Reference}
+use Rattle.instants.specs.declared.Reference.the-variants as Ref
 use Rattle.instant_text.specs.declared.Told.{Told}
 use Rattle.instant_text.specs.declared.Told.the-variants as T
 use Rattle.instant_text.specs.Forms.{fits, hasForm, digitAt, twoAt}
-use Rattle.instant_text.specs.FormLaws.{both}
+use Rattle.numbers.specs.Tests.{both}
 use Rattle.instants.specs.Calendar.{daysIn, isDay}
 use Rattle.instant_text.specs.Instants.{yearOf, isDate, timeForm, isTime, hundredthsOf, instantAt, inScale, scaled, timed, instantOf}
 use Rattle.instant_text.specs.Told.{afterName, taken, toldAfter, toldBy, toldIn}

@@ -10,8 +10,8 @@ use Rattle.request_text.specs.Lines.{said, namesInstant}
 use Rattle.instant_text.specs.declared.Reading.{Reading}
 use Rattle.instant_text.specs.declared.Reading.the-variants as R
 use Rattle.instant_text.specs.declared.Wrong.the-variants as Wrong
-use Rattle.instant_text.specs.declared.Reference.{Reference}
-use Rattle.instant_text.specs.declared.Reference.the-variants as Ref
+use Rattle.instants.specs.declared.Reference.{Reference}
+use Rattle.instants.specs.declared.Reference.the-variants as Ref
 use Rattle.instant_text.specs.declared.Told.{Told}
 use Rattle.instant_text.specs.declared.Told.the-variants as T
 use Rattle.instant_text.specs.Instants.{instantOf}

@@ -14,8 +14,8 @@ use Rattle.request_text.specs.Lines.{said, namesInstant}
 use Rattle.request_text.specs.NameLaws.{named-length}
 use Rattle.request_text.specs.Beside.{emptied, emptied-not}
 use Rattle.instant_text.specs.declared.Reading.{Reading}
-use Rattle.instant_text.specs.declared.Reference.{Reference}
-use Rattle.instant_text.specs.declared.Reference.the-variants as Ref
+use Rattle.instants.specs.declared.Reference.{Reference}
+use Rattle.instants.specs.declared.Reference.the-variants as Ref
 use Rattle.instant_text.specs.declared.Told.{Told}
 use Rattle.instant_text.specs.declared.Told.the-variants as T
 use Rattle.instant_text.specs.Instants.{instantOf}

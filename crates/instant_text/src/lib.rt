@@ -4,6 +4,7 @@ mod forms;
 pub mod texts;
 
 use instants::Instant;
+use instants::Reference;
 use instants::Scale;
 use words::Class;
 ghost use mathlib.Core.Path.{_≡_};
@@ -15,12 +16,6 @@ pub enum Reading {
     Is(Instant),
     // no date and time
     Malformed,
-}
-
-// The instant of a text, if it has one.
-pub enum Reference {
-    Nothing,
-    At(Instant),
 }
 
 // Why a line that names the instant is refused.

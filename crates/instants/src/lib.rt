@@ -17,6 +17,12 @@ pub struct Instant {
     pub scale: Scale,
 }
 
+// The instant of a text or for a listing, if there is one.
+pub enum Reference {
+    Nothing,
+    At(Instant),
+}
+
 // ---- the Gregorian calendar
 
 fn is_leap(year: u64) -> bool

@@ -7,9 +7,9 @@ use native.Mathlib.Omega.{arith}
 use lib.Dec.{T, leb, leb→le}
 use lib.IntN.{ℤ, pos}
 use lib.ListN.{length, getD}
+use mir.Facts.{and-yes}
 use lib.Ieee.{Float, nan}
 use Rattle.doubles.specs.Doubles.{unitsOf, doubleOf}
-use Rattle.doubles.specs.HeldLaws.{both}
 use Rattle.instrument.specs.Instrument.{scales, unitsIn}
 use Rattle.instrument.specs.Writing.{doublesIn}
 
@@ -24,9 +24,9 @@ allScales (s ∷ ss) = isScale s && allScales ss
 scale-at : (ss : List ℕ) → T (allScales ss) → (k : ℕ) → k < length ss → (2048 ≤ getD ss k 0) × (getD ss k 0 ≤ 100000000)
 scale-at [] t k h = absurd (omega arith)
 scale-at (s ∷ ss) t zero h =
-    let p = both (leb 2048 s) (leb s 100000000) (both (isScale s) (allScales ss) t .0) in
+    let p = and-yes (leb 2048 s) (leb s 100000000) (and-yes (isScale s) (allScales ss) t .0) in
     (leb→le 2048 s (p .0), leb→le s 100000000 (p .1))
-scale-at (s ∷ ss) t (suc k) h = scale-at ss (both (isScale s) (allScales ss) t .1) k (omega arith)
+scale-at (s ∷ ss) t (suc k) h = scale-at ss (and-yes (isScale s) (allScales ss) t .1) k (omega arith)
 
 pub scale-in : (k : ℕ) → k < 23 → (2048 ≤ getD scales k 0) × (getD scales k 0 ≤ 100000000)
 scale-in k h = scale-at scales tt k h

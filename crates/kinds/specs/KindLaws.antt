@@ -14,7 +14,7 @@ use Rattle.kinds.specs.declared.Width.{Width}
 use Rattle.kinds.specs.declared.Width.the-variants.{Absent, Two, Four}
 use Rattle.kinds.specs.declared.Entry.{Entry}
 use Rattle.kinds.specs.declared.Named.the-variants.{Is, Unknown}
-use Rattle.kinds.specs.TestLaws.{both, distinct}
+use Rattle.numbers.specs.Tests.{both, distinct}
 use Rattle.kinds.specs.Kinds.{base, codeOf, kinds, among, kindFor, widthsOf, bytesIn, sizeOf, isEnd, unused, plain}
 
 -- a number that is no phase's kind and none of the others names none

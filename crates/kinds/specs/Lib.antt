@@ -4,4 +4,3 @@ pub mod Kinds
 pub mod KindLaws
 pub mod StoredSeconds
 pub mod StoredSecondLaws
-pub mod TestLaws

@@ -1,12 +1,11 @@
 // The table of kinds, as document 01 has it: what an entry is; the byte of a kind, the widths of its fields, how long its record is.
-// The modules: the entries by name, and stored seconds.
-pub mod entries;
+// Module `seconds` has stored seconds.
 pub mod seconds;
 
 use phases::Phase;
 ghost use mathlib.Core.Path.{_≡_};
 ghost use Prim.Native.Nat.{_+_, _≤_};
-ghost use Rattle.kinds.specs.Kinds.{base, table, codeOf, kindFor, bytesIn, fields, widthsOf, sizeOf, isEnd, unused, plain};
+ghost use Rattle.kinds.specs.Kinds.{base, table, codeOf, kindFor, fields, widthsOf, sizeOf, isEnd, unused, plain};
 
 // The kinds of the table. Enter, leave, graze, open and closest are document 01's words.
 // A new kind is a case here and a row of `table` and `kinds`, and in the code an arm of `kind_for`, `code_of`, `widths_of`, `size_of`,
@@ -167,17 +166,6 @@ pub fn widths_of(kind: Kind) -> Widths
         Kind::Closest => fields(Width::Two, Width::Four, Width::Absent, Width::Absent),
         Kind::Share => fields(Width::Four, Width::Absent, Width::Absent, Width::Absent),
         Kind::End => fields(Width::Absent, Width::Absent, Width::Absent, Width::Absent),
-    }
-}
-
-// How many bytes a field of that width has.
-pub fn bytes_in(width: Width) -> usize
-    ensures { λ r. ⌜ (r ≡ bytesIn width) × (r ≤ 4) ⌝ }
-{
-    match width {
-        Width::Absent => 0,
-        Width::Two => 2,
-        Width::Four => 4,
     }
 }
 

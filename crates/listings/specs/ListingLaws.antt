@@ -23,8 +23,8 @@ use Rattle.decimals.specs.Texts.{Put}
 use Rattle.decimals.specs.TextLaws.{Putting, putting-start, putting-turn, putting-end}
 use Rattle.listings.specs.declared.Text.{Text}
 use Rattle.listings.specs.declared.Text.the-variants as T
-use Rattle.clock.specs.declared.Clock.{Clock}
-use Rattle.clock.specs.declared.Clock.the-variants.{Off}
+use Rattle.instants.specs.declared.Reference.{Reference}
+use Rattle.instants.specs.declared.Reference.the-variants as R
 use Rattle.clock.specs.Clock.{timedLine, timedLines}
 use Rattle.clock.specs.ClockLaws.{lines-nil, lines-cons, lines-off}
 use Rattle.lines.specs.Lines.{linesOf, refusalLine}
@@ -37,14 +37,14 @@ IsSheet (refused r) = ⊥
 IsSheet (sheet es n) = Unit
 
 -- its lines by a clock are put at a place
-abbrev pub Laid : Clock → ℤ → Sheet → List ℕ → ℕ → List ℕ → ℕ → Type 0
+abbrev pub Laid : Reference → ℤ → Sheet → List ℕ → ℕ → List ℕ → ℕ → Type 0
 Laid k d (refused x) old at new r = ⊥
 Laid k d (sheet es n) old at new r = Put old at (timedLines k d es) new r
 
 -- ---- the loop
 
 -- the lines of the records before `from` are put, up to `at`
-pub record Laying (k : Clock) (d : ℤ) (s old : List ℕ) (begin : ℕ) (out : List ℕ) (from at : ℕ) : Type 0 where
+pub record Laying (k : Reference) (d : ℤ) (s old : List ℕ) (begin : ℕ) (out : List ℕ) (from at : ℕ) : Type 0 where
   pub p : Progress
   pub n : ℕ
   pub all : List Entry
@@ -57,7 +57,7 @@ pub record Laying (k : Clock) (d : ℤ) (s old : List ℕ) (begin : ℕ) (out : 
   pub within : from ≤ length s
   pub putting : Putting old begin (timedLines k d all) out at (timedLines k d es)
 
-pub laying-start : (k : Clock) (d : ℤ) (s out : List ℕ) (at : ℕ) → at < 18446744073709551616 → length out < 18446744073709551616 → IsSheet (readSheet s)
+pub laying-start : (k : Reference) (d : ℤ) (s out : List ℕ) (at : ℕ) → at < 18446744073709551616 → length out < 18446744073709551616 → IsSheet (readSheet s)
     → Laying k d s out at out 0 at
 laying-start k d s out at f l h = by (readSheet s) refl h
   where
@@ -78,7 +78,7 @@ laying-start k d s out at f l h = by (readSheet s) refl h
           putting = putting-start out at (timedLines k d es) f l;
         }
 
-module _ (k : Clock) (d : ℤ) (s old : List ℕ) (begin : ℕ) (out : List ℕ) (from at : ℕ) (f : Laying k d s old begin out from at) where
+module _ (k : Reference) (d : ℤ) (s old : List ℕ) (begin : ℕ) (out : List ℕ) (from at : ℕ) (f : Laying k d s old begin out from at) where
   first : Went (storedAt s) (length s - f .n) (f .p) (f .n) from (f .es) (f .len)
   first = from-inv (storedAt s) (length s - f .n) (f .p) (f .n) from (f .es) (f .len) (f .left)
 
@@ -132,19 +132,19 @@ module _ (k : Clock) (d : ℤ) (s old : List ℕ) (begin : ℕ) (out : List ℕ)
 
 -- ---- measured, then put
 
-module _ (w : Sheet) (none after old : List ℕ) (need : ℕ) (m : Laid Off (pos 0) w none 0 after need) (h : length old < 18446744073709551615) where
+module _ (w : Sheet) (none after old : List ℕ) (need : ℕ) (m : Laid R.Nothing (pos 0) w none 0 after need) (h : length old < 18446744073709551615) where
   pub sheet-short : length old < need → (T.Refused (refusal 4 need) ≡ answered (length old) (listingOf w)) × (old ≡ roomWith (listingOf w) old)
   sheet-short g = by w m
     where
-      by : (v : Sheet) → Laid Off (pos 0) v none 0 after need → (T.Refused (refusal 4 need) ≡ answered (length old) (listingOf v)) × (old ≡ roomWith (listingOf v) old)
+      by : (v : Sheet) → Laid R.Nothing (pos 0) v none 0 after need → (T.Refused (refusal 4 need) ≡ answered (length old) (listingOf v)) × (old ≡ roomWith (listingOf v) old)
       by (refused r) q = absurd q
       by (sheet es n) q = text-short (linesOf es) none after old need (rw (lines-off (pos 0)) at q) h g
 
-  pub sheet-full : need ≤ length old → (new : List ℕ) (r : ℕ) → Laid Off (pos 0) w old 0 new r
+  pub sheet-full : need ≤ length old → (new : List ℕ) (r : ℕ) → Laid R.Nothing (pos 0) w old 0 new r
       → (T.Written need ≡ answered (length old) (listingOf w)) × (new ≡ roomWith (listingOf w) old)
   sheet-full g new r d = by w m d
     where
-      by : (v : Sheet) → Laid Off (pos 0) v none 0 after need → Laid Off (pos 0) v old 0 new r
+      by : (v : Sheet) → Laid R.Nothing (pos 0) v none 0 after need → Laid R.Nothing (pos 0) v old 0 new r
           → (T.Written need ≡ answered (length old) (listingOf v)) × (new ≡ roomWith (listingOf v) old)
       by (refused x) q d = absurd q
       by (sheet es n) q d = text-full (linesOf es) none after old need (rw (lines-off (pos 0)) at q) h g new r (rw (lines-off (pos 0)) at d)
@@ -167,7 +167,7 @@ whole-told s m n old new r q a b = rw (whole-same s m n q) (a, b)
 
 -- ---- what is printed
 
-module _ (k : Clock) (d : ℤ) (s old : List ℕ) (at : ℕ) (new : List ℕ) (q : ℕ) where
+module _ (k : Reference) (d : ℤ) (s old : List ℕ) (at : ℕ) (new : List ℕ) (q : ℕ) where
   pub refused-printed : (r : Refusal) → X.Refused r ≡ extentOf (readWhole s) → Put old at (refusalLine (r .number) (r .place)) new q
       → Put old at (printed (timed k d s)) new q
   unfolding timed
@@ -182,10 +182,10 @@ module _ (k : Clock) (d : ℤ) (s old : List ℕ) (at : ℕ) (new : List ℕ) (q
       by (sheet es j) p = p
 
 -- with no clock it is the sheet's own listing
-pub timed-off : (d : ℤ) (s : List ℕ) → timed Off d s ≡ told s
+pub timed-off : (d : ℤ) (s : List ℕ) → timed R.Nothing d s ≡ told s
 unfolding timed told
 timed-off d s = by (readWhole s)
   where
-    by : (w : Sheet) → timedOf Off d w ≡ listingOf w
+    by : (w : Sheet) → timedOf R.Nothing d w ≡ listingOf w
     by (refused r) = refl
     by (sheet es n) = ap text (lines-off d es)

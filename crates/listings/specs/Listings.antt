@@ -4,7 +4,7 @@ use Prim.Native.Nat.{ℕ}
 use mathlib.Core.List.{List}
 use lib.IntN.{ℤ}
 use Rattle.sheets.specs.Sheets.{Sheet, sheet, refused, readWhole}
-use Rattle.clock.specs.declared.Clock.{Clock}
+use Rattle.instants.specs.declared.Reference.{Reference}
 use Rattle.clock.specs.Clock.{timedLines}
 use Rattle.lines.specs.Lines.{linesOf, refusalLine}
 use Rattle.listings.specs.Answers.{Told, text, withheld}
@@ -19,11 +19,11 @@ unfoldable pub told : List ℕ → Told
 told bytes = listingOf (readWhole bytes)
 
 -- docs/CLOCK.md: with clock times "it is the sheet's own listing", its lines by the clock and the station's ΔT
-abbrev pub timedOf : Clock → ℤ → Sheet → Told
+abbrev pub timedOf : Reference → ℤ → Sheet → Told
 timedOf k d (sheet es n) = text (timedLines k d es)
 timedOf k d (refused r) = withheld r
 
-unfoldable pub timed : Clock → ℤ → List ℕ → Told
+unfoldable pub timed : Reference → ℤ → List ℕ → Told
 timed k d bytes = timedOf k d (readWhole bytes)
 
 -- "A refusal prints `refused`, number, place."

@@ -1,5 +1,5 @@
 // The listing of a sheet as text, as document 01 has it: a line an entry; and with clock times.
-use clock::Clock;
+use instants::Reference;
 use records::Record;
 use refusals::Refusal;
 use sheets::Extent;
@@ -19,9 +19,9 @@ pub enum Text {
 }
 
 // The lines of the sheet that `sheet` begins with, by the clock, from `start` on, as far as the room goes.
-fn put_lines(sheet: &[u8], out: &mut [u8], start: usize, clock: Clock, deltat: i64) -> usize
+fn put_lines(sheet: &[u8], out: &mut [u8], start: usize, reference: Reference, deltat: i64) -> usize
     requires { ⌜ IsSheet (readSheet (now sheet)) ⌝ }
-    ensures { λ r. ⌜ Laid clock deltat (readSheet (now (sheet .entry))) (now (out .entry)) start (now (out .exit)) r ⌝ }
+    ensures { λ r. ⌜ Laid reference deltat (readSheet (now (sheet .entry))) (now (out .entry)) start (now (out .exit)) r ⌝ }
 {
     let mut from = 0;
     let mut at = start;
@@ -29,7 +29,7 @@ fn put_lines(sheet: &[u8], out: &mut [u8], start: usize, clock: Clock, deltat: i
         let Record::Is(entry, next) = records::bytes::record_at(sheet, from) else {
             return at;
         };
-        at = clock::put_entry(out, at, entry, clock, deltat);
+        at = clock::put_entry(out, at, entry, reference, deltat);
         let kind = entry.kind;
         if kinds::is_end(kind) {
             return at;
@@ -45,14 +45,14 @@ fn lay(sheet: &[u8], out: &mut [u8]) -> Text
     ensures { λ r. ⌜ now (out .exit) ≡ roomWith (listingOf (readSheet (now (sheet .entry)))) (now (out .entry)) ⌝ }
 {
     let mut none = [0u8; 0];
-    let need = put_lines(sheet, &mut none, 0, Clock::Off, 0);
+    let need = put_lines(sheet, &mut none, 0, Reference::Nothing, 0);
     if out.len() < need {
         return Text::Refused(Refusal {
             number: 4,
             place: need,
         });
     }
-    put_lines(sheet, out, 0, Clock::Off, 0);
+    put_lines(sheet, out, 0, Reference::Nothing, 0);
     Text::Written(need)
 }
 
@@ -85,10 +85,10 @@ pub fn put_timed_listing(
     out: &mut [u8],
     at: usize,
     sheet: &[u8],
-    clock: Clock,
+    reference: Reference,
     deltat: i64,
 ) -> usize
-    ensures { λ r. ⌜ Put (now (out .entry)) at (printed (timed clock deltat (now (sheet .entry)))) (now (out .exit)) r ⌝ }
+    ensures { λ r. ⌜ Put (now (out .entry)) at (printed (timed reference deltat (now (sheet .entry)))) (now (out .exit)) r ⌝ }
 {
     let found = sheets::extent_of_sheet(sheet);
     match found {
@@ -96,7 +96,7 @@ pub fn put_timed_listing(
         Extent::Sheet {
             entries: _,
             length: _,
-        } => put_lines(sheet, out, at, clock, deltat),
+        } => put_lines(sheet, out, at, reference, deltat),
     }
 }
 
@@ -104,7 +104,7 @@ pub fn put_timed_listing(
 pub fn put_listing(out: &mut [u8], at: usize, sheet: &[u8]) -> usize
     ensures { λ r. ⌜ Put (now (out .entry)) at (printed (told (now (sheet .entry)))) (now (out .exit)) r ⌝ }
 {
-    put_timed_listing(out, at, sheet, Clock::Off, 0)
+    put_timed_listing(out, at, sheet, Reference::Nothing, 0)
 }
 
 // The line of a refusal, at the room's start, and how long it is; or 4, and the room as it was.

@@ -20,7 +20,7 @@ use Rattle.kinds.specs.declared.Stage.the-variants as S
 use Rattle.kinds.specs.declared.Crossing.the-variants as C
 use Rattle.kinds.specs.Entries.{opened}
 use Rattle.kinds.specs.FieldRules.{inWindow, openHolds}
-use Rattle.kinds.specs.TestLaws.{both}
+use Rattle.numbers.specs.Tests.{both}
 use Rattle.kinds.specs.Kinds.{codeOf, kindFor, sizeOf, plain}
 use Rattle.records.specs.declared.Record.the-variants.{Is}
 use Rattle.records.specs.Numbers.{twoAt}

@@ -12,7 +12,7 @@ use Rattle.kinds.specs.declared.Kind.the-variants as K
 use Rattle.kinds.specs.declared.Progress.{Progress}
 use Rattle.kinds.specs.Kinds.{isEnd, sizeOf}
 use Rattle.kinds.specs.KindLaws.{size-small}
-use Rattle.kinds.specs.TestLaws.{distinct}
+use Rattle.numbers.specs.Tests.{distinct}
 use Rattle.records.specs.Entries.{bytesOf}
 use Rattle.records.specs.EntryLaws.{bytes-nil, length-bytes-cons}
 use Rattle.records.specs.RecordLaws.{record-bounds}

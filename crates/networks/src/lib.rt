@@ -19,7 +19,7 @@ ghost use Rattle.networks.specs.AnswerLaws.{Answered, Answers};
 // What all stations of the list look at.
 pub struct Eclipse {
     pub elements: elements::Elements,
-    pub window: requests::Window,
+    pub window: windows::Window,
     // as a request's
     pub guard: i64,
 }
@@ -39,7 +39,7 @@ pub fn eclipse_from(n: &[i64]) -> Eclipse
     let first = n[22];
     let last = n[23];
     let guard = n[24];
-    let window = requests::Window { first, last };
+    let window = windows::Window { first, last };
     Eclipse {
         elements,
         window,

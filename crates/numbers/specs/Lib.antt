@@ -5,6 +5,7 @@ pub mod Rounds
 pub mod Parts
 pub mod Laws
 pub mod Order
+pub mod Tests
 pub mod Ring
 pub mod Cert
 pub mod Floor

@@ -5,9 +5,10 @@ use Prim.Native.Nat.{ℕ, _≤_}
 use native.Mathlib.Omega.{arith}
 use lib.ListN.{length, take}
 use Rattle.decimals.specs.Texts.{Counts}
-use Rattle.instant_text.specs.declared.Reference.{Reference}
+use Rattle.instants.specs.declared.Reference.{Reference}
 use Rattle.typed_requests.specs.RoomLaws.{Bytes, Message}
-use Rattle.request.specs.Streams.{outputOf, errorOf}
+use Rattle.typed_requests.specs.Meaning.{errorOf}
+use Rattle.request.specs.Streams.{outputOf}
 
 -- what `respond` promises: n bytes go out of the request's room, r of the message's
 abbrev Promised : List ℕ → ℕ → List ℕ → List ℕ → ℕ → Type 0

@@ -1,4 +1,4 @@
--- What the program writes of a typed request: its bytes, or why there are none.
+-- What the program writes of a typed request: its bytes. What is wrong with the text: typed_requests, Meaning.
 -- Assumes nothing: these are definitions.
 use mathlib.Core.List.{List, []}
 use Prim.Native.Nat.{ℕ}
@@ -12,11 +12,3 @@ outputBy (refused message) = []
 
 abbrev pub outputOf : List ℕ → List ℕ
 outputOf text = outputBy (meaningOf text)
-
--- to standard error: nothing, or what is wrong with the text
-abbrev pub errorBy : Meaning → List ℕ
-errorBy (asked shape ns x) = []
-errorBy (refused message) = message
-
-abbrev pub errorOf : List ℕ → List ℕ
-errorOf text = errorBy (meaningOf text)

@@ -9,7 +9,8 @@ use typed_requests::MESSAGE;
 ghost use mathlib.Core.Path.{_≡_};
 ghost use lib.ListN.{take};
 ghost use Rattle.decimals.specs.Texts.{Counts};
-ghost use Rattle.request.specs.Streams.{outputOf, errorOf};
+ghost use Rattle.typed_requests.specs.Meaning.{errorOf};
+ghost use Rattle.request.specs.Streams.{outputOf};
 
 // How many bytes go out: of the request to standard output, of the message's room to standard error.
 struct Streams {

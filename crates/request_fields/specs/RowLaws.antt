@@ -5,8 +5,8 @@ use mathlib.Core.List.{List, [], _∷_, _++_, map}
 use Prim.Native.Nat.{ℕ, zero, suc, _+_, _-_, _≤_, _<_}
 use native.Mathlib.Numerals.{add-one}
 use native.Mathlib.Omega.{arith}
-use borrow.Author.Tests.{leb-true}
-use lib.Dec.{T, leb}
+use lib.Dec.{T, leb, leb→le}
+use mir.Facts.{and-yes}
 use lib.ListN.{length, getD, drop, drop-of-length-le, List·getD-append}
 use lib.Seq.{drop-cons, length-take-le, getD-append-add}
 use Rattle.request_fields.specs.declared.Field.{Field}
@@ -59,15 +59,11 @@ allRoom : List Field → Bool
 allRoom [] = true
 allRoom (f ∷ fs) = leb (f .1) (length (f .0)) && allRoom fs
 
-both : (a b : Bool) → T (a && b) → (a ≡ true) × T b
-both true b t = (refl, t)
-both false b t = absurd t
-
 room : (l : List Field) (k : ℕ) → T (allRoom l) → getD l k none .1 ≤ length (getD l k none .0)
 unfolding allRoom
 room [] k t = omega arith
-room (f ∷ fs) zero t = leb-true (f .1) (length (f .0)) (both (leb (f .1) (length (f .0))) (allRoom fs) t .0)
-room (f ∷ fs) (suc k) t = room fs k (both (leb (f .1) (length (f .0))) (allRoom fs) t .1)
+room (f ∷ fs) zero t = leb→le (f .1) (length (f .0)) (and-yes (leb (f .1) (length (f .0))) (allRoom fs) t .0)
+room (f ∷ fs) (suc k) t = room fs k (and-yes (leb (f .1) (length (f .0))) (allRoom fs) t .1)
 
 all-room : (s : Shape) → T (allRoom (rows s))
 unfolding rows allRoom

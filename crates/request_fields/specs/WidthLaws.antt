@@ -5,7 +5,8 @@ use Prim.Native.Nat.{ℕ, _≤_, _<_}
 use native.Mathlib.Omega.{arith}
 use lib.IntN.{ℤ, pos, negℤ, natAbs}
 use lib.Signed.{leZ, _≤ℤ_}
-use Rattle.numbers.specs.Order.{zs, natAbs-by, leZ-true, leZ-false}
+use Rattle.numbers.specs.Order.{zs, natAbs-by, leZ-true}
+use Rattle.numbers.specs.Tests.{both, together, yes-≤}
 use Rattle.request_fields.specs.declared.Width.{Width}
 use Rattle.request_fields.specs.declared.Width.the-variants as W
 use Rattle.request_fields.specs.Fields.{wholeOf, lowestOf, highestOf, holds}
@@ -17,23 +18,13 @@ pub record Held (w : Width) (z : ℤ) : Type 0 where
 
 pub held : (w : Width) (z : ℤ) → holds w z ≡ true → Held w z
 unfolding holds
-held w z e = by (leZ (negℤ (pos (lowestOf w))) z) (leZ z (pos (highestOf w))) refl refl e
-  where
-    by : (a b : Bool) → leZ (negℤ (pos (lowestOf w))) z ≡ a → leZ z (pos (highestOf w)) ≡ b → (a && b) ≡ true → Held w z
-    by true true p q t = record { low = leZ-true _ _ p; high = leZ-true _ _ q }
-    by true false p q t = let x : _≡_ {A = ℕ} 0 1 = cc in absurd (omega arith)
-    by false b p q t = let x : _≡_ {A = ℕ} 0 1 = cc in absurd (omega arith)
+held w z e =
+    let p = both (leZ (negℤ (pos (lowestOf w))) z) (leZ z (pos (highestOf w))) e in
+    record { low = leZ-true _ _ (p .0); high = leZ-true _ _ (p .1) }
 
 pub holding : (w : Width) (z : ℤ) → Held w z → holds w z ≡ true
 unfolding holds
-holding w z h = rw (yes _ _ (h .low), yes _ _ (h .high))
-  where
-    yes : (a b : ℤ) → a ≤ℤ b → leZ a b ≡ true
-    yes a b l = by (leZ a b) refl
-      where
-        by : (t : Bool) → leZ a b ≡ t → t ≡ true
-        by true e = refl
-        by false e = let g = leZ-false a b e in absurd (omega (arith, zs))
+holding w z h = together (yes-≤ (h .low)) (yes-≤ (h .high))
 
 -- it is less than as many as there are
 pub held-size : (w : Width) (z : ℤ) → Held w z → natAbs z < wholeOf w

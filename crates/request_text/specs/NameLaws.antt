@@ -7,6 +7,7 @@ use native.Mathlib.Omega.{arith}
 use borrow.Author.Tests.{eq-eqb, ne-eqb}
 use lib.Dec.{eqb}
 use lib.ListN.{length, getD, drop, length-map}
+use Rattle.numbers.specs.Tests.{both}
 use Rattle.request_fields.specs.declared.Field.{Field}
 use Rattle.request_fields.specs.declared.Shape.{Shape}
 use Rattle.request_fields.specs.Fields.{Number, layoutOf, numbersOf, countOf}
@@ -69,11 +70,7 @@ pub named-length : (name said : List ℕ) → named name said ≡ true → lengt
 unfolding named
 named-length [] said e = omega arith
 named-length (n ∷ ns) [] e = let z : _≡_ {A = ℕ} 0 1 = cc in absurd (omega arith)
-named-length (n ∷ ns) (x ∷ s) e = let h = named-length ns s (rest (named ns s) (eqb x n) e) in omega arith
-  where
-    rest : (b a : Bool) → (a && b) ≡ true → b ≡ true
-    rest b true q = q
-    rest b false q = let z : _≡_ {A = ℕ} 0 1 = cc in absurd (omega arith)
+named-length (n ∷ ns) (x ∷ s) e = let h = named-length ns s (both (eqb x n) (named ns s) e .1) in omega arith
 
 -- ---- a list of names
 

@@ -10,6 +10,7 @@ use lib.Dec.{T, eqb}
 use lib.IntN.{ℤ}
 use lib.ListN.{length, getD, set, take, replicate, length-set}
 use lib.Seq.{getD-set-other, getD-take, length-take-le}
+use Rattle.numbers.specs.Tests.{both}
 use Rattle.request_fields.specs.declared.Shape.{Shape}
 use Rattle.request_fields.specs.declared.Shape.the-variants as S
 use Rattle.request_fields.specs.Fields.{countOf}
@@ -45,10 +46,6 @@ others ((c ∷ n) ∷ ns) = not (eqb c 114) && others ns
 all-others : T (others (names S.Eclipse))
 unfolding others names
 all-others = tt
-
-both : (a b : Bool) → (a && b) ≡ true → (a ≡ true) × (b ≡ true)
-both true b e = (refl, e)
-both false b e = let z : _≡_ {A = ℕ} 0 1 = cc in absurd (omega arith)
 
 -- so where the radius is said none of them is
 nowhere : (ns : List (List ℕ)) (k : ℕ) (s : List ℕ) → T (others ns) → named radius s ≡ true → findIn ns k s ≡ F.Nowhere

@@ -11,7 +11,8 @@ use native.Mathlib.Omega.{arith}
 use lib.IntN.{ℤ, pos, natAbs}
 use lib.Signed.{leZ, leZ-yes, _≤ℤ_}
 use Rattle.numbers.specs.Parts.{same}
-use Rattle.numbers.specs.Order.{≤-parts, ≤ℤ-trans, leZ-true, both-ways, natAbs-parts, natAbs-between, nonneg}
+use Rattle.numbers.specs.Order.{≤-parts, ≤ℤ-trans, leZ-true, natAbs-parts, natAbs-between, nonneg}
+use Rattle.numbers.specs.Tests.{both}
 use Rattle.numbers.specs.declared.Limits.{Limits}
 use Rattle.numbers.specs.declared.Limits.the-variants.{InRange, OutOfRange}
 use Rattle.refusals.specs.declared.Refusal.{Refusal}
@@ -28,8 +29,8 @@ use Rattle.station.specs.Station as S
 use Rattle.station.specs.Station.{stationChecked}
 use Rattle.station.specs.Sizes.{StationSizes, station-sizes}
 use Rattle.requests.specs.declared.Occultation.{Occultation}
-use Rattle.requests.specs.Windows.{windowHolds}
-use Rattle.requests.specs.WindowLaws.{WindowHolds, window-holds}
+use Rattle.windows.specs.Windows.{windowHolds}
+use Rattle.windows.specs.WindowLaws.{WindowHolds, window-holds}
 use Rattle.requests.specs.Requests.{windowChecked, guardHolds, guardChecked, checked}
 
 pub record GuardHolds (g : ℤ) : Type 0 where
@@ -38,12 +39,9 @@ pub record GuardHolds (g : ℤ) : Type 0 where
 
 pub guard-holds : (g : ℤ) → guardHolds g ≡ true → GuardHolds g
 unfolding guardHolds
-guard-holds g e = go (leZ (pos 16) g) (leZ g (pos 1000)) refl refl e
-  where
-    go : (a b : Bool) → leZ (pos 16) g ≡ a → leZ g (pos 1000) ≡ b → (a && b) ≡ true → GuardHolds g
-    go true true ea eb e = record { low = leZ-true (pos 16) g ea; high = leZ-true g (pos 1000) eb }
-    go true false ea eb e = absurd (both-ways e refl)
-    go false b ea eb e = absurd (both-ways e refl)
+guard-holds g e =
+    let p = both (leZ (pos 16) g) (leZ g (pos 1000)) e in
+    record { low = leZ-true (pos 16) g (p .0); high = leZ-true g (pos 1000) (p .1) }
 
 -- a guard in its range is a natural number
 pub guard-is : {g : ℤ} → GuardHolds g → pos (natAbs g) ≡ g

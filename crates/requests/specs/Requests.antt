@@ -8,11 +8,11 @@ use Rattle.refusals.specs.Refusals.{refusal, andThen}
 use Rattle.elements.specs.declared.Body.the-variants as B
 use Rattle.elements.specs.Stars.{bodyChecked}
 use Rattle.station.specs.Station.{stationChecked}
-use Rattle.requests.specs.declared.Window.{Window}
+use Rattle.windows.specs.declared.Window.{Window}
 use Rattle.requests.specs.declared.Request.{Request}
 use Rattle.requests.specs.declared.StarRequest.{StarRequest}
 use Rattle.requests.specs.declared.Occultation.{Occultation}
-use Rattle.requests.specs.Windows.{windowHolds}
+use Rattle.windows.specs.Windows.{windowHolds}
 
 -- an eclipse is an occultation of the Sun
 abbrev pub ofEclipse : Request → Occultation

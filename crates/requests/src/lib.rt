@@ -5,19 +5,10 @@ pub mod admission;
 use elements::Body;
 use refusals::Checked;
 use refusals::Refusal;
+use windows::Window;
 ghost use mathlib.Core.Path.{_≡_};
-ghost use Prim.Native.Nat.{_<_};
-ghost use lib.IntN.{pos, _+ℤ_};
-ghost use Rattle.requests.specs.Windows.{inSpan, windowHolds, secondCount, nthSecond};
 ghost use Rattle.requests.specs.Requests.{ofEclipse, ofStar, guardHolds, checked};
 ghost use Rattle.requests.specs.Shares.{sharing};
-ghost use Rattle.requests.specs.WindowLaws.{WindowHolds};
-
-// First and last second of the window, from the reference instant: -10,800 ≤ first ≤ last ≤ 10,800.
-pub struct Window {
-    pub first: i64,
-    pub last: i64,
-}
 
 // What the sheet of an eclipse is asked for: any numbers.
 pub struct Request {
@@ -92,19 +83,6 @@ pub fn shares(o: Occultation) -> bool
     }
 }
 
-// Whether a window may have that second.
-pub fn in_span(t: i64) -> bool
-    ensures { λ r. ⌜ r ≡ inSpan t ⌝ }
-{
-    (-10_800 <= t) & (t <= 10_800)
-}
-
-fn window_holds(w: Window) -> bool
-    ensures { λ r. ⌜ r ≡ windowHolds w ⌝ }
-{
-    (-10_800 <= w.first) & ((w.first <= w.last) & (w.last <= 10_800))
-}
-
 fn guard_holds(g: i64) -> bool
     ensures { λ r. ⌜ r ≡ guardHolds g ⌝ }
 {
@@ -116,7 +94,7 @@ pub fn check(o: Occultation) -> Checked
     ensures { λ r. ⌜ r ≡ checked o ⌝ }
 {
     let w = o.window;
-    let holds = window_holds(w);
+    let holds = windows::window_holds(w);
     if !holds {
         return Checked::Refused(Refusal {
             number: 1,
@@ -138,20 +116,4 @@ pub fn check(o: Occultation) -> Checked
     }
     let s = o.station;
     station::check(s)
-}
-
-// How many seconds the window has, first and last among them.
-pub fn second_count(w: Window) -> usize
-    requires { ⌜ WindowHolds w ⌝ }
-    ensures { λ r. ⌜ r ≡ secondCount w ⌝ }
-{
-    (w.last - w.first) as usize + 1
-}
-
-// The k-th second of the window, counted from 0.
-pub fn nth_second(w: Window, k: usize) -> i64
-    requires { ⌜ (WindowHolds w) × (k < secondCount w) ⌝ }
-    ensures { λ r. ⌜ r ≡ nthSecond w k ⌝ }
-{
-    w.first + k as i64
 }

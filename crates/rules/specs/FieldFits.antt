@@ -15,7 +15,7 @@ use Rattle.kinds.specs.Kinds.{plain, table}
 use Rattle.kinds.specs.KindLaws.{plain-inv}
 use Rattle.kinds.specs.FieldRules.{guardHolds, headHolds, inWindow, isDirection, isWithin, greatestMagnitude, spanHolds}
 use Rattle.records.specs.RecordTrip.{FitsIn}
-use Rattle.kinds.specs.TestLaws.{both}
+use Rattle.numbers.specs.Tests.{both}
 use Rattle.rules.specs.Rules.{start, fieldsHold, afterOf}
 
 -- a window that its head had accepted: seconds fit two bytes

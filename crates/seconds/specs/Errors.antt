@@ -10,8 +10,8 @@ use Rattle.geometry.specs.Errors.{u-error, v-error, L-error}
 use Rattle.geometry.specs.Thirteen.{Thirteen}
 use Rattle.shadow.specs.SecondLaws.{tangent-small, distance-known}
 use Rattle.requests.specs.declared.Occultation.{Occultation}
-use Rattle.requests.specs.Windows.{InWindow}
-use Rattle.requests.specs.WindowLaws.{in-window-size}
+use Rattle.windows.specs.Windows.{InWindow}
+use Rattle.windows.specs.WindowLaws.{in-window-size}
 use Rattle.requests.specs.RequestLaws.{InLimits}
 use Rattle.seconds.specs.Seconds.{momentAt}
 use Rattle.seconds.specs.SecondLaws.{placed}

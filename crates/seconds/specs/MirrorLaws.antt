@@ -14,7 +14,7 @@ use Rattle.geometry.specs.MirrorLaws as G
 use Rattle.geometry.specs.MirrorLaws.{mirroredMoment}
 use Rattle.shadow.specs.MirrorLaws as Shadow
 use Rattle.requests.specs.declared.Occultation.{Occultation}
-use Rattle.requests.specs.Windows.{nthSecond}
+use Rattle.windows.specs.Windows.{nthSecond}
 use Rattle.requests.specs.Mirror.{mirroredOccultation}
 use Rattle.seconds.specs.Seconds.{momentAt, stateAt, magnitudeOf, magnitudeAt, closestOf}
 use Rattle.seconds.specs.Closest.{closestTo}

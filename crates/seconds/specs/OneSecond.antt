@@ -19,7 +19,7 @@ use Rattle.shadow.specs.declared.Second.{Second}
 use Rattle.shadow.specs.Second as Shadow
 use Rattle.shadow.specs.Second.{phaseIn}
 use Rattle.requests.specs.declared.Occultation.{Occultation}
-use Rattle.requests.specs.Windows.{inSpan}
+use Rattle.windows.specs.Windows.{inSpan}
 use Rattle.requests.specs.Admission.{admitted, sinesAfter}
 use Rattle.seconds.specs.declared.OneSecond.{OneSecond}
 use Rattle.seconds.specs.declared.OneSecond.the-variants as O

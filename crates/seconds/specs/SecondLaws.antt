@@ -39,8 +39,8 @@ use Rattle.shadow.specs.SecondLaws.{state-at, states-true, magnitude-most, dire
 use Rattle.requests.specs.declared.StarRequest.{StarRequest}
 use Rattle.requests.specs.declared.Occultation.{Occultation}
 use Rattle.requests.specs.Requests.{ofStar}
-use Rattle.requests.specs.Windows.{inSpan, nthSecond, secondCount}
-use Rattle.requests.specs.WindowLaws.{in-span, each-length}
+use Rattle.windows.specs.Windows.{inSpan, nthSecond, secondCount}
+use Rattle.windows.specs.WindowLaws.{in-span, each-length}
 use Rattle.requests.specs.RequestLaws.{InLimits, guard-is, guard-size}
 use Rattle.requests.specs.Admission.{admitted, sinesAfter}
 use Rattle.requests.specs.AdmissionLaws.{admitted-within}

@@ -12,7 +12,7 @@ use Rattle.station.specs.Place.{placeOf}
 use Rattle.geometry.specs.Shadow.{Moment, momentOf, M}
 use Rattle.shadow.specs.Second as Shadow
 use Rattle.requests.specs.declared.Occultation.{Occultation}
-use Rattle.requests.specs.Windows.{nthSecond, eachSecond}
+use Rattle.windows.specs.Windows.{nthSecond, eachSecond}
 use Rattle.seconds.specs.Closest.{closestTo}
 
 -- what the shadow at second τ is made of

@@ -97,7 +97,7 @@ pub fn second(o: Occultation, t: i64, sines: &mut [u32]) -> OneSecond
     ensures sines { λ r. ⌜ now (sines .exit) ≡ secondSines o t (now (sines .entry)) ⌝ }
     ensures means { λ r. ⌜ AnswerMeans o t r ⌝ }
 {
-    let inside = requests::in_span(t);
+    let inside = windows::in_span(t);
     if !inside {
         return OneSecond::Refused(Refusal {
             number: 1,

@@ -15,7 +15,7 @@ use Rattle.sheets.specs.declared.Extent.the-variants as X
 use Rattle.kinds.specs.Kinds.{isEnd}
 use Rattle.rules.specs.Rules.{inOrder, fieldsHold, afterOf, judgementOf}
 use Rattle.rules.specs.RuleLaws.{next-inv}
-use Rattle.kinds.specs.TestLaws.{distinct}
+use Rattle.numbers.specs.Tests.{distinct}
 use Rattle.sheets.specs.Sheets.{Sheet, sheet, refused, more, onward, sheetFrom, ofJudgement, judged}
 use Rattle.sheets.specs.Passes.{extent}
 

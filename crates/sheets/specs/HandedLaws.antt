@@ -21,7 +21,7 @@ use Rattle.kinds.specs.Kinds.{codeOf, kindFor, sizeOf, isEnd, plain, table}
 use Rattle.kinds.specs.KindLaws.{kind-code, kind-inv, size-small}
 use Rattle.records.specs.Entries.{numbers, numbersOf}
 use Rattle.records.specs.EntryLaws.{numbers-nil, numbers-cons}
-use Rattle.kinds.specs.TestLaws.{both}
+use Rattle.numbers.specs.Tests.{both}
 use Rattle.rules.specs.Rules.{afterOf}
 use Rattle.sheets.specs.Handed.{numbered, ofNamed, handedAt}
 use Rattle.sheets.specs.StandLaws.{Stand, Steady}

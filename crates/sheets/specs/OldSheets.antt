@@ -17,7 +17,7 @@ use Rattle.kinds.specs.declared.Entry.{Entry}
 use Rattle.kinds.specs.declared.Stage.the-variants as S
 use Rattle.kinds.specs.FieldRules.{guardHolds}
 use Rattle.kinds.specs.Kinds.{base, codeOf, widthsOf, sizeOf, plain}
-use Rattle.kinds.specs.TestLaws.{distinct}
+use Rattle.numbers.specs.Tests.{distinct, not-right}
 use Rattle.records.specs.declared.Byte.the-variants as Byte
 use Rattle.records.specs.declared.Body.the-variants as Body
 use Rattle.records.specs.declared.Record.the-variants.{Is}
@@ -38,19 +38,15 @@ oldHead station first last = 0x01 ∷ (two station ++ (two first ++ two last))
 
 -- ---- a head whose guard is too large
 
-neither : (a b : Bool) → b ≡ false → (a && b) ≡ false
-neither true b e = e
-neither false b e = refl
-
 guard-broken : (s : List ℕ) → 9 ≤ length s → getD s 0 0 ≡ 0x01 → 4 ≤ getD s 7 0 → readSheet s ≡ refused (refusal 7 0)
 unfolding readSheet
 guard-broken s long first large =
     let e = entryAt K.Head s 1 in
     let got : recordAt s 0 ≡ Is e 9 =
     sym (by-body s 0 0x01 K.Head (Body.Is e) (byte-there s 0 (omega arith) ∙ ap Byte.Is first) refl (body-whole s 0 K.Head (omega arith))) in
-    let d : guardHolds (e .d) ≡ false = neither (leb 16 (e .d)) (leb (e .d) 1000) (lt-leb (e .d) 1000 (omega arith)) in
+    let d : guardHolds (e .d) ≡ false = not-right (leb 16 (e .d)) (lt-leb (e .d) 1000 (omega arith)) in
     let others = leb 1 (e .a) && leb (e .a) 999 && leb (e .b) (e .c) && leb (e .c) 21600 in
-    let bad : fieldsHold start e ≡ false = neither (plain e) (others && guardHolds (e .d)) (neither others (guardHolds (e .d)) d) in
+    let bad : fieldsHold start e ≡ false = not-right (plain e) (not-right others d) in
     from-broken (storedAt s) (length s) start 0 0 e 9 got (refusal 7 0) (judged-unsound start 0 e refl bad)
 
 -- ---- an old sheet

@@ -24,7 +24,7 @@ use Rattle.kinds.specs.declared.Crossing.the-variants as C
 use Rattle.kinds.specs.declared.Progress.{Progress}
 use Rattle.kinds.specs.Kinds.{table, plain}
 use Rattle.kinds.specs.FieldRules.{isWithin, inWindow}
-use Rattle.kinds.specs.TestLaws.{both, distinct}
+use Rattle.numbers.specs.Tests.{both, distinct}
 use Rattle.order.specs.Order.{phaseFollows, nothingCame, mayCome, closestAfter}
 use Rattle.rules.specs.Rules.{start, reached}
 use Rattle.sheets.specs.Sheets.{sheet, storedAt, readSheet}

@@ -20,7 +20,7 @@ use Rattle.kinds.specs.declared.Crossing.the-variants as C
 use Rattle.kinds.specs.declared.Progress.{Progress}
 use Rattle.kinds.specs.Kinds.{isEnd, plain}
 use Rattle.kinds.specs.Entries.{head, enter, leave, graze, opened, closest, share, end}
-use Rattle.kinds.specs.TestLaws.{both, distinct}
+use Rattle.numbers.specs.Tests.{both, distinct}
 use Rattle.order.specs.Order.{phaseFollows, repeats}
 use Rattle.kinds.specs.FieldRules.{inWindow, isDirection, spanHolds, greatestMagnitude}
 use Rattle.order.specs.OrderLaws.{own-phase, end-may-come}

@@ -66,7 +66,7 @@ pub fn extent_of_leading_sheet(s: &[u8]) -> Extent
                 place: at,
             });
         }
-        if !rules::rule_holds(p, entry) {
+        if !field_rules::rule_holds(p, entry) {
             return Extent::Refused(Refusal {
                 number: 7,
                 place: at,

@@ -21,7 +21,7 @@ use Rattle.elements.specs.Stars.{starRangeOf, radiusRangeOf, bodyChecked}
 use Rattle.station.specs.Station.{rangeOf as placed}
 use Rattle.requests.specs.declared.Occultation.{Occultation}
 use Rattle.requests.specs.Requests.{ofEclipse, ofStar, guardHolds, checked}
-use Rattle.requests.specs.Windows.{windowHolds}
+use Rattle.windows.specs.Windows.{windowHolds}
 use Rattle.requests.specs.Admission.{roomChecked, admitted}
 use Rattle.writing.specs.Sheet.{sheetBytes}
 use Rattle.circumstances.specs.declared.Answer.the-variants as A

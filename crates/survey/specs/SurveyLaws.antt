@@ -16,7 +16,7 @@ use Rattle.elements.specs.Elements as E
 use Rattle.station.specs.Station as S
 use Rattle.requests.specs.declared.Request.{Request}
 use Rattle.requests.specs.declared.Occultation.{Occultation}
-use Rattle.requests.specs.Windows.{windowHolds}
+use Rattle.windows.specs.Windows.{windowHolds}
 use Rattle.requests.specs.Requests.{ofEclipse, guardHolds, windowChecked, guardChecked, checked}
 use Rattle.requests.specs.RequestLaws.{checked-order}
 use Rattle.circumstances.specs.declared.Answer.{Answer}

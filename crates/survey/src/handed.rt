@@ -2,7 +2,7 @@
 use super::Survey;
 use doubles::Longitude;
 use refusals::Refusal;
-use requests::Window;
+use windows::Window;
 ghost use mathlib.Core.Path.{_≡_};
 ghost use Rattle.requests.specs.Requests.{ofEclipse};
 ghost use Rattle.circumstances.specs.Demand3.{Claimed};

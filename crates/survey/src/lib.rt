@@ -6,7 +6,7 @@ use instrument::ElementDoubles;
 use refusals::Checked;
 use requests::Occultation;
 use requests::Request;
-use requests::Window;
+use windows::Window;
 ghost use mathlib.Core.Path.{_≡_};
 ghost use lib.Dec.{eqb};
 ghost use Rattle.refusals.specs.RefusalLaws.{numberIn};

@@ -7,13 +7,13 @@ use borrow.Author.Tests.{eq-eqb, ne-eqb}
 use lib.ListN.{length, take}
 use Rattle.decimals.specs.Texts.{Put, Counts}
 use Rattle.decimals.specs.TextLaws.{put-nil}
-use Rattle.instant_text.specs.declared.Reference.{Reference}
-use Rattle.clock.specs.declared.Clock.{Clock}
+use Rattle.instants.specs.declared.Reference.{Reference}
+use Rattle.typed_requests.specs.Meaning.{errorOf}
 use Rattle.typed_requests.specs.RoomLaws.{Bytes, Message}
 use Rattle.answers.specs.Answers.{timedText, starTimedText}
-use Rattle.times.specs.Printed.{clockOf, textBy, outputOf, errorOf}
+use Rattle.times.specs.Printed.{textBy, outputOf}
 
-module _ (k : Clock) (request sines room : List ℕ) {old new : List ℕ} {r : ℕ} where
+module _ (k : Reference) (request sines room : List ℕ) {old new : List ℕ} {r : ℕ} where
   pub star-put : length request ≡ 79 → Put old 0 (starTimedText k request sines room) new r → Put old 0 (textBy k request sines room) new r
   unfolding textBy
   star-put e p = rw (eq-eqb (length request) 79 e) p
@@ -27,9 +27,9 @@ abbrev Promised : (text sines room old new message : List ℕ) → ℕ → ℕ �
 Promised text sines room old new message output error =
     Put old 0 (outputOf text sines room) new output × ((take error message ≡ errorOf text) × Counts error message)
 
-pub listing-out : {text : List ℕ} {n : ℕ} {x : Reference} {bytes : List ℕ} → Bytes text n x bytes → (sines room old new message : List ℕ) (r : ℕ) (k : Clock)
-    → k ≡ clockOf x → Put old 0 (textBy k (take n bytes) sines room) new r → Promised text sines room old new message r 0
-listing-out b sines room old new message r k e p = rw (b .is) (rw (e, b .bytes) at p, (refl, (omega arith, refl)))
+pub listing-out : {text : List ℕ} {n : ℕ} {x : Reference} {bytes : List ℕ} → Bytes text n x bytes → (sines room old new message : List ℕ) (r : ℕ)
+    → Put old 0 (textBy x (take n bytes) sines room) new r → Promised text sines room old new message r 0
+listing-out b sines room old new message r p = rw (b .is) (rw (b .bytes) at p, (refl, (omega arith, refl)))
 
 pub message-out : {text : List ℕ} {n : ℕ} {message : List ℕ} → Message text n message → (sines room old : List ℕ) → Promised text sines room old old message 0 n
 message-out m sines room old = rw (m .is) (put-nil old 0 (omega arith), (m .bytes, m .counts))

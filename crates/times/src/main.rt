@@ -2,8 +2,7 @@
 // times (docs/CLOCK.md). A refusal is printed as `sheet` prints it; a fault of the text is told on standard error with its line.
 use answers::put_timed_answer;
 use answers::put_timed_star_answer;
-use clock::Clock;
-use instant_text::Reference;
+use instants::Reference;
 use libc::STDERR_FILENO;
 use libc::STDIN_FILENO;
 use libc::STDOUT_FILENO;
@@ -14,7 +13,8 @@ use typed_requests::MESSAGE;
 ghost use mathlib.Core.Path.{_≡_};
 ghost use lib.ListN.{take};
 ghost use Rattle.decimals.specs.Texts.{Put, Counts};
-ghost use Rattle.times.specs.Printed.{clockOf, textBy, outputOf, errorOf};
+ghost use Rattle.typed_requests.specs.Meaning.{errorOf};
+ghost use Rattle.times.specs.Printed.{textBy, outputOf};
 
 // How many bytes of each room go out; of the text's more than the room has where the text is longer.
 struct Streams {
@@ -22,30 +22,20 @@ struct Streams {
     error: usize,
 }
 
-// Times are shown where there is an instant.
-fn clock_of(reference: Reference) -> Clock
-    ensures { λ r. ⌜ r ≡ clockOf reference ⌝ }
-{
-    match reference {
-        Reference::Nothing => Clock::Off,
-        Reference::At(instant) => Clock::At(instant),
-    }
-}
-
-// The answer to a request's bytes, a star's by their number.
+// The answer to a request's bytes, a star's by their number. Times are shown where there is an instant.
 fn put_text(
     request: &[u8],
-    clock: Clock,
+    reference: Reference,
     sines: &mut [u32],
     room: &mut [u8],
     out: &mut [u8],
 ) -> usize
-    ensures { λ r. ⌜ Put (now (out .entry)) 0 (textBy clock (now (request .entry)) (now (sines .entry)) (now (room .entry))) (now (out .exit)) r ⌝ }
+    ensures { λ r. ⌜ Put (now (out .entry)) 0 (textBy reference (now (request .entry)) (now (sines .entry)) (now (room .entry))) (now (out .exit)) r ⌝ }
 {
     if request.len() == STAR_LENGTH {
-        return put_timed_star_answer(request, clock, sines, room, out);
+        return put_timed_star_answer(request, reference, sines, room, out);
     }
-    put_timed_answer(request, clock, sines, room, out)
+    put_timed_answer(request, reference, sines, room, out)
 }
 
 // What the program writes: the listing or the refusal of a typed request; or what is wrong with the text.
@@ -64,8 +54,7 @@ fn respond(
     let answer = typed_requests::read(text, &mut bytes, message);
     match answer {
         Answer::Request(length, reference) => {
-            let clock = clock_of(reference);
-            let end = put_text(&bytes[..length], clock, sines, room, out);
+            let end = put_text(&bytes[..length], reference, sines, room, out);
             Streams {
                 output: end,
                 error: 0,

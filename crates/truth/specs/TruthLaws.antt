@@ -21,8 +21,8 @@ use Rattle.station.specs.Place.{placeOf}
 use Rattle.geometry.specs.Shadow.{cone}
 use Rattle.shadow.specs.SecondLaws.{state-at, tangent-small}
 use Rattle.requests.specs.declared.Occultation.{Occultation}
-use Rattle.requests.specs.Windows.{InWindow}
-use Rattle.requests.specs.WindowLaws.{in-window-size}
+use Rattle.windows.specs.Windows.{InWindow}
+use Rattle.windows.specs.WindowLaws.{in-window-size}
 use Rattle.requests.specs.RequestLaws.{InLimits}
 use Rattle.requests.specs.Admission.{admitted}
 use Rattle.requests.specs.AdmissionLaws.{admitted-within}

@@ -16,8 +16,8 @@ use Rattle.request_text.specs.Typing.{Typing, given, typingOf}
 use Rattle.request_text.specs.Typing as typing
 use Rattle.request_text.specs.FitLaws.{Fit, numbers-fit}
 use Rattle.instants.specs.declared.Instant.{Instant}
-use Rattle.instant_text.specs.declared.Reference.{Reference}
-use Rattle.instant_text.specs.declared.Reference.the-variants as Ref
+use Rattle.instants.specs.declared.Reference.{Reference}
+use Rattle.instants.specs.declared.Reference.the-variants as Ref
 use Rattle.instant_text.specs.declared.Told.{Told}
 use Rattle.instant_text.specs.declared.Told.the-variants as T
 use Rattle.instant_text.specs.Told.{toldIn}

@@ -1,7 +1,7 @@
 -- What a typed text is: a request and its instant, or what is wrong with it.
 -- Assumes nothing: these are definitions.
 use mathlib.Core.Bool.{Bool, cond}
-use mathlib.Core.List.{List, _++_}
+use mathlib.Core.List.{List, [], _++_}
 use Prim.Native.Nat.{ℕ}
 use lib.Dec.{ltb}
 use lib.IntN.{ℤ}
@@ -11,7 +11,7 @@ use Rattle.request_bytes.specs.Request.{sizeFor, bytesFor}
 use Rattle.request_text.specs.Shapes.{shapeOf}
 use Rattle.request_text.specs.Typing.{Typing, given, typingOf}
 use Rattle.request_text.specs.Typing as typing
-use Rattle.instant_text.specs.declared.Reference.{Reference}
+use Rattle.instants.specs.declared.Reference.{Reference}
 use Rattle.instant_text.specs.declared.Told.{Told}
 use Rattle.instant_text.specs.declared.Told.the-variants as T
 use Rattle.instant_text.specs.Told.{toldIn}
@@ -57,3 +57,12 @@ bytesAfter (refused message) old = old
 abbrev pub messageAfter : Meaning → List ℕ → List ℕ
 messageAfter (asked shape ns x) old = old
 messageAfter (refused message) old = message ++ drop (length message) old
+
+-- ---- what a program tells of a text on standard error: nothing, or what is wrong with it
+
+abbrev pub errorBy : Meaning → List ℕ
+errorBy (asked shape ns x) = []
+errorBy (refused message) = message
+
+abbrev pub errorOf : List ℕ → List ℕ
+errorOf text = errorBy (meaningOf text)

@@ -19,7 +19,7 @@ use Rattle.request_text.specs.Shapes.{shapeOf}
 use Rattle.request_text.specs.Typing.{Typing, given, typingOf}
 use Rattle.request_text.specs.Typing as typing
 use Rattle.instant_text.specs.declared.Wrong.{Wrong}
-use Rattle.instant_text.specs.declared.Reference.{Reference}
+use Rattle.instants.specs.declared.Reference.{Reference}
 use Rattle.instant_text.specs.declared.Told.{Told}
 use Rattle.instant_text.specs.declared.Told.the-variants as T
 use Rattle.instant_text.specs.Told.{toldIn}

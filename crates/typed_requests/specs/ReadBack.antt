@@ -6,7 +6,7 @@ use lib.IntN.{ℤ}
 use Rattle.request_fields.specs.declared.Shape.{Shape}
 use Rattle.request_bytes.specs.Request.{bytesFor}
 use Rattle.request_text.specs.Typing.{given}
-use Rattle.instant_text.specs.declared.Reference.{Reference}
+use Rattle.instants.specs.declared.Reference.{Reference}
 use Rattle.typed_requests.specs.Encoded.{ReadAs}
 use Rattle.typed_requests.specs.EncodedLaws.{fit-read}
 use Rattle.typed_requests.specs.Meaning.{asked, meaningOf}

@@ -9,7 +9,7 @@ use lib.Seq.{take-at}
 use Rattle.request_fields.specs.declared.Shape.{Shape}
 use Rattle.request_bytes.specs.Request.{sizeFor, bytesFor}
 use Rattle.decimals.specs.Texts.{Counts}
-use Rattle.instant_text.specs.declared.Reference.{Reference}
+use Rattle.instants.specs.declared.Reference.{Reference}
 use Rattle.typed_requests.specs.declared.Answer.the-variants as A
 use Rattle.typed_requests.specs.Meaning.{Meaning, asked, refused, meaningOf, answerOf, bytesAfter, messageAfter}
 use Rattle.typed_requests.specs.Asked.{asked-size}

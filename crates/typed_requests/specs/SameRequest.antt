@@ -7,8 +7,8 @@ use lib.ListN.{length}
 use Rattle.request_fields.specs.declared.Shape.{Shape}
 use Rattle.words.specs.Text.{linesOf}
 use Rattle.request_text.specs.Beside.{emptied, typing-emptied, shape-emptied}
-use Rattle.instant_text.specs.declared.Reference.{Reference}
-use Rattle.instant_text.specs.declared.Reference.the-variants as Ref
+use Rattle.instants.specs.declared.Reference.{Reference}
+use Rattle.instants.specs.declared.Reference.the-variants as Ref
 use Rattle.instant_text.specs.ToldLaws.{told-emptied}
 use Rattle.typed_requests.specs.Meaning.{asked, meaningOf}
 use Rattle.typed_requests.specs.Asked.{asked-gives, gives-asked}

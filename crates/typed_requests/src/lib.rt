@@ -3,9 +3,9 @@
 mod encoding;
 mod messages;
 
-use instant_text::Reference;
 use instant_text::Told;
 use instant_text::Wrong;
+use instants::Reference;
 use request_fields::LENGTH;
 use request_text::Fault;
 use request_text::Typed;

@@ -7,8 +7,8 @@ use mir.Syntax.{w64}
 use mir.Val.{toZ, ofZ}
 use Rattle.numbers.specs.Code.{read-back}
 use Rattle.requests.specs.declared.Occultation.{Occultation}
-use Rattle.requests.specs.Windows.{nthSecond, secondCount}
-use Rattle.requests.specs.WindowLaws.{second-size}
+use Rattle.windows.specs.Windows.{nthSecond, secondCount}
+use Rattle.windows.specs.WindowLaws.{second-size}
 use Rattle.requests.specs.RequestLaws.{InLimits}
 use Rattle.seconds.specs.Seconds.{closestOf}
 use Rattle.seconds.specs.SecondLaws.{closest-within}

@@ -1,6 +1,7 @@
 // Entries as they stand in a sheet, made from the seconds that they name. These are inner functions of the crate, and have a `requires`.
 use elements::Body;
 use kinds::Entry;
+use kinds::Kind;
 use phases::Phase;
 use requests::Occultation;
 use station::Place;
@@ -9,7 +10,7 @@ ghost use Prim.Native.Nat.{_≤_, _<_};
 ghost use lib.IntN.{natAbs};
 ghost use Rattle.sine_table.specs.Table.{Sines};
 ghost use Rattle.station.specs.Place.{placeOf};
-ghost use Rattle.requests.specs.Windows.{secondCount};
+ghost use Rattle.windows.specs.Windows.{secondCount};
 ghost use Rattle.requests.specs.RequestLaws.{InLimits};
 ghost use Rattle.seconds.specs.Seconds.{closestOf};
 ghost use Rattle.contact_entries.specs.Entries.{from, to};
@@ -52,21 +53,53 @@ pub fn entry_for(
     ensures { λ r. ⌜ r ≡ entryOf (courseOf o) phase entry ⌝ }
 {
     let w = o.window;
-    let earlier = requests::nth_second(w, from_of(entry));
-    let later = requests::nth_second(w, to_of(entry));
+    let earlier = windows::nth_second(w, from_of(entry));
+    let later = windows::nth_second(w, to_of(entry));
     let from = kinds::seconds::store_second(earlier);
     let to = kinds::seconds::store_second(later);
     match entry {
         contact_entries::Entry::Enter { from: _, to: _ } => {
             let direction = seconds::direction_at(table, o, place, later);
-            kinds::entries::enter(phase, from, to, direction)
+            let kind = Kind::Enter(phase);
+            Entry {
+                kind,
+                a: from,
+                b: to,
+                c: direction,
+                d: 0,
+            }
         }
         contact_entries::Entry::Leave { from: _, to: _ } => {
             let direction = seconds::direction_at(table, o, place, earlier);
-            kinds::entries::leave(phase, from, to, direction)
+            let kind = Kind::Leave(phase);
+            Entry {
+                kind,
+                a: from,
+                b: to,
+                c: direction,
+                d: 0,
+            }
         }
-        contact_entries::Entry::Graze { from: _, to: _ } => kinds::entries::graze(phase, from, to),
-        contact_entries::Entry::Open { from: _, to: _ } => kinds::entries::open(phase, from, to),
+        contact_entries::Entry::Graze { from: _, to: _ } => {
+            let kind = Kind::Graze(phase);
+            Entry {
+                kind,
+                a: from,
+                b: to,
+                c: 0,
+                d: 0,
+            }
+        }
+        contact_entries::Entry::Open { from: _, to: _ } => {
+            let kind = Kind::Open(phase);
+            Entry {
+                kind,
+                a: from,
+                b: to,
+                c: 0,
+                d: 0,
+            }
+        }
     }
 }
 
@@ -81,7 +114,14 @@ pub fn head_for(o: Occultation) -> Entry
     let first = kinds::seconds::store_second(w.first);
     let last = kinds::seconds::store_second(w.last);
     let guard = o.guard as u32;
-    kinds::entries::head(station, first, last, guard)
+    let kind = Kind::Head;
+    Entry {
+        kind,
+        a: station,
+        b: first,
+        c: last,
+        d: guard,
+    }
 }
 
 // The closest second, counted from the window's first, with its magnitude.
@@ -90,10 +130,17 @@ pub fn closest_for(table: &[u32], o: Occultation, place: Place, k: usize) -> Ent
     ensures { λ r. ⌜ r ≡ closestEntry (courseOf o) ⌝ }
 {
     let w = o.window;
-    let t = requests::nth_second(w, k);
+    let t = windows::nth_second(w, k);
     let second = kinds::seconds::store_second(t);
     let magnitude = seconds::magnitude_at(table, o, place, t);
-    kinds::entries::closest(second, magnitude)
+    let kind = Kind::Closest;
+    Entry {
+        kind,
+        a: second,
+        b: magnitude,
+        c: 0,
+        d: 0,
+    }
 }
 
 // The covered share at a second; a star has none.
@@ -114,7 +161,14 @@ pub fn share_for(table: &[u32], o: Occultation, place: Place, k: usize) -> Entry
     ensures { λ r. ⌜ r ≡ shareEntry (courseOf o) ⌝ }
 {
     let w = o.window;
-    let t = requests::nth_second(w, k);
+    let t = windows::nth_second(w, k);
     let share = share_at(table, o, place, t);
-    kinds::entries::share(share)
+    let kind = Kind::Share;
+    Entry {
+        kind,
+        a: share,
+        b: 0,
+        c: 0,
+        d: 0,
+    }
 }

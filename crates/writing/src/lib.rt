@@ -3,6 +3,8 @@
 pub mod entries;
 pub mod lengths;
 
+use kinds::Entry;
+use kinds::Kind;
 use phases::Phase;
 use requests::Occultation;
 use station::Place;
@@ -15,7 +17,7 @@ ghost use Rattle.phases.specs.declared.Phase.the-variants.{Penumbra};
 ghost use Rattle.geometry.specs.Shadow.{phasesOf};
 ghost use Rattle.sine_table.specs.Table.{Sines};
 ghost use Rattle.station.specs.Place.{placeOf};
-ghost use Rattle.requests.specs.Windows.{secondCount};
+ghost use Rattle.windows.specs.Windows.{secondCount};
 ghost use Rattle.requests.specs.RequestLaws.{InLimits};
 ghost use Rattle.runs.specs.Runs.{decoded, Whole};
 ghost use Rattle.seconds.specs.Seconds.{closestOf};
@@ -120,7 +122,14 @@ fn write_closing(
     ensures { λ r. ⌜ now (buf .exit) ≡ sets (now (buf .entry)) start (bytesOf (closingEntries (courseOf o))) ⌝ }
 {
     let last = entries::closest_for(table, o, place, closest);
-    let end = kinds::entries::end();
+    let kind = Kind::End;
+    let end = Entry {
+        kind,
+        a: 0,
+        b: 0,
+        c: 0,
+        d: 0,
+    };
     let after_closest = records::bytes::put(buf, start, last);
     let shared = requests::shares(o);
     if shared {

@@ -30,7 +30,7 @@ returns c =
     let m = c .before .before .before .before .before .before .before .before .before in
     let d = m .before .before .before .deltat in
     let a = m .before .before .before .before .before .before .before .before .args in
-    let t = star-timed _ _ _ _ (m .sheet .ensures .0) _ (m .sheet .ensures .1 .0) (a .clock) _ (read-result (d .result) (d .ok) ∙ d .ensures) in
+    let t = star-timed _ _ _ _ (m .sheet .ensures .0) _ (m .sheet .ensures .1 .0) (a .reference) _ (read-result (d .result) (d .ok) ∙ d .ensures) in
     (rw (← t) (c .before .before .put-text .ensures), (m .sheet .ensures .1 .0, m .sheet .ensures .1 .1 .0))
 
 pub put-timed-star-answer-spec : {M : Type 1} → statement M

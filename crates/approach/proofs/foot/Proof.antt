@@ -10,7 +10,7 @@ use Rattle.numbers.specs.Cert.{less, lit, _⊞_, certify}
 use Rattle.numbers.specs.Order.{+ℤ-nonneg, square-nonneg}
 use Rattle.numbers.specs.Code as K
 use Rattle.numbers.specs.Code.{Code, arg, add, sub, mul, Within, whole, ends, _▹_, fits, within, unsigned, taken-<, left-<}
-use Rattle.requests.specs.WindowLaws.{seconds-few}
+use Rattle.windows.specs.WindowLaws.{seconds-few}
 use Rattle.approach.proofs.foot.Statement.{statement}
 use Rattle.approach.proofs.foot.Tie as tie
 

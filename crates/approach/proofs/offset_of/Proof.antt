@@ -9,7 +9,7 @@ use Rattle.numbers.specs.Code.{read-back, read-size}
 use Rattle.elements.specs.Sizes.{wider-axis}
 use Rattle.elements.specs.StarLaws.{axis-sizes}
 use Rattle.station.specs.Sizes.{PlaceSizes}
-use Rattle.requests.specs.WindowLaws.{second-size}
+use Rattle.windows.specs.WindowLaws.{second-size}
 use Rattle.seconds.specs.SecondLaws.{placed}
 use Rattle.approach.proofs.offset_of.Statement.{statement}
 use Rattle.approach.proofs.offset_of.Tie as tie

@@ -8,7 +8,7 @@ use borrow.Author.Needs.{needs}
 use lib.IntN.{natAbs}
 use Rattle.numbers.specs.Code.{arg, Within, whole, ends, _▹_, unsigned, read-back, read-size}
 use Rattle.numbers.specs.Root.{root}
-use Rattle.requests.specs.WindowLaws.{seconds-few}
+use Rattle.windows.specs.WindowLaws.{seconds-few}
 use Rattle.approach.specs.Reach.{Seen}
 use Rattle.approach.specs.ReachLaws.{seen-nonneg, seen-one, seen-root}
 use Rattle.approach.specs.SpreadLaws.{square-sizes, stop-seen}

@@ -5,7 +5,7 @@ use native.Mathlib.Omega.{arith}
 use lib.IntN.{natAbs}
 use Rattle.numbers.specs.Code.{read-back, read-size}
 use Rattle.station.specs.Sizes.{PlaceSizes}
-use Rattle.requests.specs.WindowLaws.{second-size}
+use Rattle.windows.specs.WindowLaws.{second-size}
 use Rattle.seconds.specs.SecondLaws.{placed}
 use Rattle.approach.proofs.sample_of.Statement.{statement}
 use Rattle.approach.proofs.sample_of.Tie as tie

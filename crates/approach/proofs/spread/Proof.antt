@@ -4,9 +4,9 @@ use mathlib.Core.Path.{_≡_, refl, _∙_}
 use native.Mathlib.Omega.{arith}
 use borrow.Author.Needs.{needs}
 use lib.ListN.{length, length-set}
-use Rattle.requests.specs.WindowLaws.{seconds-few}
+use Rattle.windows.specs.WindowLaws.{seconds-few}
 use Rattle.approach.specs.Spread.{SpreadTo}
-use Rattle.approach.specs.ReachLaws.{seconds-some}
+use Rattle.windows.specs.WindowLaws.{seconds-some}
 use Rattle.approach.specs.SpreadLaws.{stop-first, stop-in, spread-more}
 use Rattle.approach.proofs.spread.Statement.{statement}
 use Rattle.approach.proofs.spread.Tie as tie

@@ -5,17 +5,17 @@ use mathlib.Core.Path.{refl, _∙_}
 use native.Mathlib.Omega.{arith}
 use borrow.Fn.Kinds.{In}
 use borrow.Fn.PlainCycle.{Measures, is, falls, and}
-use Rattle.requests.specs.WindowLaws.{seconds-few}
+use Rattle.windows.specs.WindowLaws.{seconds-few}
 use Rattle.seconds.specs.SecondLaws.{guard-read}
 use Rattle.gaps.specs.Gaps.{sample-sizes, gap-passed}
-use Rattle.bisection.specs.KeptLaws.{kept-more}
+use Rattle.tallies.specs.KeptLaws.{kept-more}
 use Rattle.bisection.proofs.between.Reads as between
 use Rattle.bisection.proofs.between.Kinds as between-kinds
 use Rattle.bisection.proofs.+between.Lts-between as between-lts
 use Rattle.gaps.proofs.clear.Reads as clear-reads
 use Rattle.bisection.proofs.each_second.Reads as each-second-reads
 use Rattle.bisection.proofs.leaf.Reads as leaf-reads
-use Rattle.bisection.proofs.keep.Reads as keep-reads
+use Rattle.tallies.proofs.keep.Reads as keep-reads
 use Rattle.approach.proofs.sample_of.Reads as sample-of-reads
 use Rattle.bisection.proofs.+between.{statement}
 use Rattle.bisection.proofs.+between.Tie.{close}

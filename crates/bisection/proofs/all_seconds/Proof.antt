@@ -3,9 +3,10 @@ use Prim.Native.Nat.{ℕ, _-_}
 use mathlib.Core.Path.{subst}
 use native.Mathlib.Omega.{arith}
 use borrow.Author.Needs.{needs}
-use Rattle.bisection.specs.Kept.{Kept}
+use Rattle.tallies.specs.Kept.{Kept}
 use Rattle.approach.specs.Reach.{Reached}
-use Rattle.approach.specs.ReachLaws.{seconds-some, reached-far}
+use Rattle.windows.specs.WindowLaws.{seconds-some}
+use Rattle.approach.specs.ReachLaws.{reached-far}
 use Rattle.bisection.proofs.all_seconds.Statement.{statement}
 use Rattle.bisection.proofs.all_seconds.Tie as tie
 

@@ -6,16 +6,16 @@ use native.Mathlib.Omega.{arith}
 use borrow.Author.Needs.{needs}
 use lib.ListN.{length}
 use Rattle.requests.specs.declared.Occultation.{Occultation}
-use Rattle.requests.specs.Windows.{secondCount}
-use Rattle.requests.specs.WindowLaws.{seconds-few}
+use Rattle.windows.specs.Windows.{secondCount}
+use Rattle.windows.specs.WindowLaws.{seconds-few}
 use Rattle.requests.specs.RequestLaws.{InLimits}
 use Rattle.shadow.specs.declared.Sample.{Sample}
 use Rattle.seconds.specs.SecondLaws.{guard-read}
-use Rattle.bisection.specs.declared.Tally.{Tally}
+use Rattle.tallies.specs.declared.Tally.{Tally}
 use Rattle.gaps.specs.Samples.{IsAt}
-use Rattle.bisection.specs.Kept.{Kept, Stored}
+use Rattle.tallies.specs.Kept.{Kept, Stored}
 use Rattle.gaps.specs.Gaps.{sample-sizes, gap-none}
-use Rattle.bisection.specs.KeptLaws.{kept-more}
+use Rattle.tallies.specs.KeptLaws.{kept-more}
 use Rattle.bisection.proofs.each_second.Statement.{statement}
 use Rattle.bisection.proofs.each_second.Tie as tie
 

@@ -3,7 +3,7 @@ use Prim.Native.Nat.{_-_, _≤_}
 use mathlib.Core.Path.{_≡_, refl}
 use native.Mathlib.Omega.{arith}
 use borrow.Author.Needs.{needs}
-use Rattle.approach.specs.ReachLaws.{seconds-some}
+use Rattle.windows.specs.WindowLaws.{seconds-some}
 use Rattle.bisection.proofs.few_seconds.Statement.{statement}
 use Rattle.bisection.proofs.few_seconds.Tie as tie
 

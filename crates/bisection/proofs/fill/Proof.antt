@@ -2,8 +2,8 @@
 use mathlib.Core.Path.{_∙_}
 use borrow.Author.Needs.{needs}
 use native.Mathlib.Omega.{arith}
-use Rattle.approach.specs.ReachLaws.{seconds-some}
-use Rattle.bisection.specs.KeptLaws.{found-of}
+use Rattle.windows.specs.WindowLaws.{seconds-some}
+use Rattle.bisection.specs.FoundLaws.{found-of}
 use Rattle.bisection.proofs.fill.Statement.{statement}
 use Rattle.bisection.proofs.fill.Tie as tie
 

@@ -4,9 +4,9 @@ use mathlib.Core.Path.{_≡_, refl, sym, ap, subst, _∙_}
 use native.Mathlib.Omega.{arith}
 use borrow.Author.Needs.{needs}
 use lib.ListN.{length, getD}
-use Rattle.requests.specs.WindowLaws.{seconds-few}
+use Rattle.windows.specs.WindowLaws.{seconds-few}
 use Rattle.gaps.specs.Samples.{IsAt}
-use Rattle.bisection.specs.Kept.{Kept}
+use Rattle.tallies.specs.Kept.{Kept}
 use Rattle.approach.specs.Spread.{stop, blank}
 use Rattle.approach.specs.SpreadLaws.{stop-first, stop-last, stop-in, stop-rises}
 use Rattle.bisection.proofs.stretches.Statement.{statement}

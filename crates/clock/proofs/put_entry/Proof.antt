@@ -19,8 +19,8 @@ enum-told c = search needs
 put-entry-requires : tie.Need-put-entry-requires
 put-entry-requires c κs = search needs
 
-enum-known-clock : tie.Need-enum-known-clock
-enum-known-clock c = search needs
+enum-known-reference : tie.Need-enum-known-reference
+enum-known-reference c = search needs
 
 put-timed-requires : tie.Need-put-timed-requires
 put-timed-requires c κs = search needs
@@ -37,8 +37,8 @@ same-length-2 c = search needs
 returns-2 : tie.Need-returns-2
 returns-2 c =
     let a = c .before .before .before .before .before .before .before .before .args in
-    put-as _ _ _ _ _ _ (ap (λ d. timedLine (a .clock) d (a .entry)) (read (c .before .before .before .before .before .before .before .before)))
-    (line-at _ _ _ _ _ _ _ _ (c .before .before .before .before .before .clock .given .1) (c .before .before .put-timed .ensures))
+    put-as _ _ _ _ _ _ (ap (λ d. timedLine (a .reference) d (a .entry)) (read (c .before .before .before .before .before .before .before .before)))
+    (line-at _ _ _ _ _ _ _ _ (c .before .before .before .before .before .reference .given .1) (c .before .before .put-timed .ensures))
 
 pub put-entry-spec : {M : Type 1} → statement M
 put-entry-spec =
@@ -46,7 +46,7 @@ put-entry-spec =
     (tie.spec
     enum-told
     put-entry-requires
-    enum-known-clock
+    enum-known-reference
     put-timed-requires
     same-length
     returns

@@ -7,8 +7,8 @@ use borrow.Author.Needs.{needs}
 use lib.IntN.{natAbs}
 use lib.ListN.{length}
 use Rattle.numbers.specs.Code.{read-back, read-size}
-use Rattle.requests.specs.Windows.{secondCount}
-use Rattle.requests.specs.WindowLaws.{seconds-few, second-size}
+use Rattle.windows.specs.Windows.{secondCount}
+use Rattle.windows.specs.WindowLaws.{seconds-few, second-size}
 use Rattle.runs.specs.Runs.{decoded}
 use Rattle.contact_entries.specs.Entries.{to, entries}
 use Rattle.contact_entries.specs.Shifted.{shifted}

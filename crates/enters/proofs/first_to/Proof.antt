@@ -9,8 +9,8 @@ use lib.Seq.{length-take-le}
 use Rattle.phases.specs.declared.Phase.the-variants.{Penumbra}
 use Rattle.requests.specs.declared.Request.{Request}
 use Rattle.requests.specs.Requests.{ofEclipse}
-use Rattle.requests.specs.Windows.{secondCount}
-use Rattle.requests.specs.WindowLaws.{seconds-few}
+use Rattle.windows.specs.Windows.{secondCount}
+use Rattle.windows.specs.WindowLaws.{seconds-few}
 use Rattle.requests.specs.RequestLaws.{InLimits}
 use Rattle.runs.specs.Runs.{decoded}
 use Rattle.seconds.specs.Seconds.{statesOf}

@@ -15,10 +15,10 @@ use Rattle.listings.proofs.put_lines.Statement.{statement}
 use Rattle.listings.proofs.put_lines.Tie as tie
 
 abbrev Inv-loop : tie.InvT-loop
-Inv-loop sheet out₀ start clock deltat from₀ at₀ out from at = Laying clock (toZ w64 deltat) sheet out₀ start out from at
+Inv-loop sheet out₀ start reference deltat from₀ at₀ out from at = Laying reference (toZ w64 deltat) sheet out₀ start out from at
 
 abbrev μ-loop : tie.MeasureT-loop
-μ-loop sheet out₀ start clock deltat from₀ at₀ out from at = length sheet - from
+μ-loop sheet out₀ start reference deltat from₀ at₀ out from at = length sheet - from
 
 -- the record that was read
 took : (c : tie.After-known-told Inv-loop μ-loop)

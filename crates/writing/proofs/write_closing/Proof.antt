@@ -33,18 +33,15 @@ three l l1 l2 l3 i j k x y z a b c ex ey ez first second third = rw (← ex, ←
 closest-is : (c : tie.After-closest-for) → sizeOf (c .closest-for .result .kind) ≡ sizeOf K.Closest
 closest-is c = ap (λ (e : Entry). sizeOf (e .kind)) (c .closest-for .ensures) ∙ closest-size (courseOf (c .before .before .before .args .o))
 
-after-closest : (c : tie.After-put) → c .put .result ≡ c .before .before .before .before .before .before .args .start + sizeOf K.Closest
-after-closest c = omega (arith, c .put .ensures .0, closest-is (c .before .before .before))
+after-closest : (c : tie.After-put) → c .put .result ≡ c .before .before .before .before .before .args .start + sizeOf K.Closest
+after-closest c = omega (arith, c .put .ensures .0, closest-is (c .before .before))
 
 -- the buffer's length stays
-kept : (c : tie.After-put) → length (c .put .last .0) ≡ length (c .before .before .before .before .before .before .args .buf .now)
-kept c = ap length (c .put .ensures .1) ∙ length-sets (c .before .before .before .before .before .before .args .buf .now) _ (bytes (c .before .before .before .closest-for .result))
+kept : (c : tie.After-put) → length (c .put .last .0) ≡ length (c .before .before .before .before .before .args .buf .now)
+kept c = ap length (c .put .ensures .1) ∙ length-sets (c .before .before .before .before .before .args .buf .now) _ (bytes (c .before .before .closest-for .result))
 
 closest-for-requires : tie.Need-closest-for-requires
 closest-for-requires c κs = search needs
-
-end-requires : tie.Need-end-requires
-end-requires c κs = search needs
 
 -- there is room for closest and end at least
 least : (b : tie.Start) → b .args .start + sizeOf K.Closest + sizeOf K.End ≤ length (b .args .buf .now)
@@ -56,7 +53,7 @@ least b =
 
 put-requires : tie.Need-put-requires
 put-requires c κs =
-    let d = c .before .before in
+    let d = c .before in
     omega (arith, closest-is d, least (d .before .before .before))
 
 shares-requires : tie.Need-shares-requires
@@ -66,7 +63,7 @@ share-for-requires : tie.Need-share-for-requires
 share-for-requires c κs = search needs
 
 share-is : (c : tie.After-share-for) → sizeOf (c .share-for .result .kind) ≡ sizeOf K.Share
-share-is c = ap (λ (e : Entry). sizeOf (e .kind)) (c .share-for .ensures) ∙ share-size (courseOf (c .before .before .before .before .before .before .before .before .before .before .before .args .o))
+share-is c = ap (λ (e : Entry). sizeOf (e .kind)) (c .share-for .ensures) ∙ share-size (courseOf (c .before .before .before .before .before .before .before .before .before .before .args .o))
 
 -- with a share
 module _ (c : tie.After-share-for) where
@@ -74,7 +71,7 @@ module _ (c : tie.After-share-for) where
   first = c .before .before .before .before .before
 
   abbrev base : tie.Start
-  base = first .before .before .before .before .before .before
+  base = first .before .before .before .before .before
 
   asked : sharing (base .args .o) ≡ true
   asked = sym (c .before .before .shares .ensures) ∙ c .before .if1 .taken
@@ -98,7 +95,6 @@ put-requires-3 c κs =
       room s,
       ap length (p .put2 .ensures .1),
       length-sets (first s .put .last .0) (first s .put .result) (bytes (s .share-for .result)),
-      ap (λ (e : Entry). sizeOf (e .kind)) (first s .before .before .end .ensures),
     )
 
 same-length : tie.Need-same-length
@@ -111,11 +107,10 @@ returns c =
     let s = p .before .before in
     let f = first s in
     let o = base s .args .o in
-    let e = f .before .before .end .ensures in
-    let d = f .before .before .before in (
-      omega (arith, r .put3 .ensures .0, p .put2 .ensures .0, share-is s, after-closest f, ap (λ (x : Entry). sizeOf (x .kind)) e, shared-length (courseOf o) (asked s)),
+    let d = f .before .before in (
+      omega (arith, r .put3 .ensures .0, p .put2 .ensures .0, share-is s, after-closest f, shared-length (courseOf o) (asked s)),
       three (base s .args .buf .now) (f .put .last .0) (p .put2 .last .0) _ _ _ _ _ _ _ (closestEntry (courseOf o)) (shareEntry (courseOf o)) end
-          (d .closest-for .ensures) (s .share-for .ensures) e (f .put .ensures .1) (p .put2 .ensures .1) (r .put3 .ensures .1)
+          (d .closest-for .ensures) (s .share-for .ensures) refl (f .put .ensures .1) (p .put2 .ensures .1) (r .put3 .ensures .1)
           ∙ (stores-shared (courseOf o) (asked s) (base s .args .buf .now) (base s .args .start) (f .put .result) (p .put2 .result)
           (after-closest f ∙ ap (λ (n : ℕ). base s .args .start + n) (sym (closest-size (courseOf o))))
           (p .put2 .ensures .0 ∙ ap (λ (n : ℕ). f .put .result + n) (share-is s ∙ sym (share-size (courseOf o))))),
@@ -124,7 +119,7 @@ returns c =
 put-requires-4 : tie.Need-put-requires-4
 put-requires-4 c κs =
     let f = c .before .before .before .before .before in
-    omega (arith, after-closest f, kept f, least (f .before .before .before .before .before .before), ap (λ (e : Entry). sizeOf (e .kind)) (f .before .before .end .ensures))
+    omega (arith, after-closest f, kept f, least (f .before .before .before .before .before))
 
 same-length-2 : tie.Need-same-length-2
 same-length-2 c = search needs
@@ -135,12 +130,11 @@ returns-2 c =
     let i = r .before .before in
     let f = i .before .before .before .before in
     let plain = sym (i .before .shares .ensures) ∙ i .if1 .left in
-    let d = f .before .before .before in
+    let d = f .before .before in
     let b = d .before .before .before in
-    let o = b .args .o in
-    let e = f .before .before .end .ensures in (
-      omega (arith, r .put4 .ensures .0, after-closest f, ap (λ (x : Entry). sizeOf (x .kind)) e, plain-length (courseOf o) plain),
-      two (b .args .buf .now) (f .put .last .0) _ _ _ _ _ (closestEntry (courseOf o)) end (d .closest-for .ensures) e (f .put .ensures .1) (r .put4 .ensures .1)
+    let o = b .args .o in (
+      omega (arith, r .put4 .ensures .0, after-closest f, plain-length (courseOf o) plain),
+      two (b .args .buf .now) (f .put .last .0) _ _ _ _ _ (closestEntry (courseOf o)) end (d .closest-for .ensures) refl (f .put .ensures .1) (r .put4 .ensures .1)
           ∙ (stores-plain (courseOf o) plain (b .args .buf .now) (b .args .start) (f .put .result)
           (after-closest f ∙ ap (λ (n : ℕ). b .args .start + n) (sym (closest-size (courseOf o))))),
     )
@@ -150,7 +144,6 @@ write-closing-spec =
     tie.close
     (tie.spec
     closest-for-requires
-    end-requires
     put-requires
     shares-requires
     share-for-requires

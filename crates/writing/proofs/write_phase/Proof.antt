@@ -9,7 +9,7 @@ use lib.ListN.{length}
 use lib.Seq.{sets, length-sets}
 use Rattle.contact_entries.specs.Entries.{entries}
 use Rattle.runs.specs.Runs.{decoded}
-use Rattle.requests.specs.WindowLaws.{seconds-few}
+use Rattle.windows.specs.WindowLaws.{seconds-few}
 use Rattle.contacts.specs.Step.{entriesFrom, At}
 use Rattle.contacts.specs.StepLaws.{all-at-start, at-start, Took, took, none-left}
 use Rattle.kinds.specs.Kinds.{sizeOf}

@@ -3,7 +3,7 @@ use Prim.Native.Nat.{_+_, _-_}
 use mathlib.Core.Path.{_≡_, sym, ap, _∙_}
 use native.Mathlib.Omega.{arith}
 use Rattle.kinds.specs.declared.Named.the-variants as Named
-use Rattle.kinds.specs.TestLaws.{distinct}
+use Rattle.numbers.specs.Tests.{distinct}
 use Rattle.mending.specs.Repeats.{Again, again-none}
 use borrow.Author.Needs.{needs}
 use Rattle.mending.proofs.repeats.is_again.Statement.{statement}

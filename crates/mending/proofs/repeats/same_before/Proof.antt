@@ -4,7 +4,7 @@ use mathlib.Core.Path.{_≡_, refl, sym}
 use native.Mathlib.Omega.{arith}
 use native.Mathlib.Decide.{decLt}
 use lib.ListN.{getD}
-use Rattle.kinds.specs.TestLaws.{distinct}
+use Rattle.numbers.specs.Tests.{distinct}
 use Rattle.mending.proofs.repeats.same_before.Statement.{statement}
 use Rattle.mending.proofs.repeats.same_before.Tie as tie
 

@@ -29,16 +29,13 @@ magnitude-at-requires c κs =
     let b = c .before .before .before .before in
     (b .pre .0, b .pre .1, b .pre .2, read-size (c .before .nth-second .result) 10800 (small (c .before)) tt)
 
-closest-requires : tie.Need-closest-requires
-closest-requires c κs = search needs
-
 returns : tie.Need-returns
 unfolding closestEntry
 returns c =
-    let b = c .before .before .before .before .before .before in
-    let n = c .before .before .before in
+    let b = c .before .before .before .before .before in
+    let n = c .before .before in
     let t = closest-read (b .args .o) (b .pre .1) (b .pre .3) (n .nth-second .ensures) in
-    c .closest .ensures ∙ rw (c .before .before .store-second .ensures .0, c .before .magnitude-at .ensures, t)
+    rw (c .before .store-second .ensures .0, c .magnitude-at .ensures, t)
 
 pub closest-for-spec : {M : Type 1} → statement M
-closest-for-spec = tie.close (tie.spec nth-second-requires store-second-requires magnitude-at-requires closest-requires returns)
+closest-for-spec = tie.close (tie.spec nth-second-requires store-second-requires magnitude-at-requires returns)

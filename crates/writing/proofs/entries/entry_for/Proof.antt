@@ -10,7 +10,7 @@ use mir.Val.{toZ, ofZ}
 use Rattle.numbers.specs.Code.{read-size}
 use Rattle.phases.specs.declared.Phase.{Phase}
 use Rattle.requests.specs.declared.Occultation.{Occultation}
-use Rattle.requests.specs.Windows.{secondCount}
+use Rattle.windows.specs.Windows.{secondCount}
 use Rattle.seconds.specs.Seconds.{directionAt}
 use Rattle.contact_entries.specs.declared.Entry as Contact
 use Rattle.contact_entries.specs.declared.Entry.the-variants as K
@@ -100,9 +100,6 @@ direction-at-requires c κs =
     let b = n .before .before .before .before .before .before in
     (b .pre .0, b .pre .1, b .pre .2, read-size (n .nth-second2 .result) 10800 (later-small n) tt)
 
-enter-requires : tie.Need-enter-requires
-enter-requires c κs = search needs
-
 enum-told-2 : tie.Need-enum-told-2
 enum-told-2 c = search needs
 
@@ -112,46 +109,35 @@ direction-at-requires-2 c κs =
     let b = n .before .before .before .before in
     (b .pre .0, b .pre .1, b .pre .2, read-size (n .nth-second .result) 10800 (earlier-small n) tt)
 
-leave-requires : tie.Need-leave-requires
-leave-requires c κs = search needs
-
 enum-told-3 : tie.Need-enum-told-3
 enum-told-3 c = search needs
-
-graze-requires : tie.Need-graze-requires
-graze-requires c κs = search needs
 
 enum-told-4 : tie.Need-enum-told-4
 enum-told-4 c = search needs
 
-open-requires : tie.Need-open-requires
-open-requires c κs = search needs
-
 returns : tie.Need-returns
 returns c =
-    let s = c .before .before .before .before in
+    let s = c .before .before .before in
     let a = s .before .before .before .before .before .before .before .before .args in
-    c .enter .ensures
-    ∙ enter-is (a .o) (a .phase) (from-is s) (to-is s) (c .before .before .enum-told .given .1) (c .before .direction-at .ensures ∙ ap (directionAt (a .o)) (later-is (s .before .before)))
+    enter-is (a .o) (a .phase) (from-is s) (to-is s) (c .before .enum-told .given .1) (c .direction-at .ensures ∙ ap (directionAt (a .o)) (later-is (s .before .before)))
 
 returns-2 : tie.Need-returns-2
 returns-2 c =
-    let s = c .before .before .before .before in
+    let s = c .before .before .before in
     let a = s .before .before .before .before .before .before .before .before .args in
-    c .leave .ensures
-    ∙ leave-is (a .o) (a .phase) (from-is s) (to-is s) (c .before .before .enum-told2 .given .1) (c .before .direction-at2 .ensures ∙ ap (directionAt (a .o)) (earlier-is (s .before .before .before .before)))
+    leave-is (a .o) (a .phase) (from-is s) (to-is s) (c .before .enum-told2 .given .1) (c .direction-at2 .ensures ∙ ap (directionAt (a .o)) (earlier-is (s .before .before .before .before)))
 
 returns-3 : tie.Need-returns-3
 returns-3 c =
-    let s = c .before .before .before in
+    let s = c .before .before in
     let a = s .before .before .before .before .before .before .before .before .args in
-    c .graze .ensures ∙ graze-is (a .o) (a .phase) (from-is s) (to-is s) (c .before .enum-told3 .given .1)
+    graze-is (a .o) (a .phase) (from-is s) (to-is s) (c .enum-told3 .given .1)
 
 returns-4 : tie.Need-returns-4
 returns-4 c =
-    let s = c .before .before .before in
+    let s = c .before .before in
     let a = s .before .before .before .before .before .before .before .before .args in
-    c .«open» .ensures ∙ open-is (a .o) (a .phase) (from-is s) (to-is s) (c .before .enum-told4 .given .1)
+    open-is (a .o) (a .phase) (from-is s) (to-is s) (c .enum-told4 .given .1)
 
 pub entry-for-spec : {M : Type 1} → statement M
 entry-for-spec =
@@ -165,14 +151,10 @@ entry-for-spec =
     store-second-requires-2
     enum-told
     direction-at-requires
-    enter-requires
     enum-told-2
     direction-at-requires-2
-    leave-requires
     enum-told-3
-    graze-requires
     enum-told-4
-    open-requires
     returns
     returns-2
     returns-3

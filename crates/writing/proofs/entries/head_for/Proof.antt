@@ -9,7 +9,7 @@ use lib.Signed.{leZ-yes}
 use Rattle.numbers.specs.Order.{≤ℤ-trans, natAbs-between}
 use Rattle.numbers.specs.Code.{arg, Within, whole, ends, _▹_, within, unsigned, read-back, read-size}
 use Rattle.requests.specs.declared.Occultation.{Occultation}
-use Rattle.requests.specs.WindowLaws.{window-sizes}
+use Rattle.windows.specs.WindowLaws.{window-sizes}
 use Rattle.requests.specs.RequestLaws.{InLimits, guard-size}
 use Rattle.courses.specs.Courses.{headEntry}
 use Rattle.writing.proofs.entries.head_for.Statement.{statement}
@@ -40,24 +40,20 @@ cast-guard c =
     let w : Within (whole (b .args .o .guard) ∷ []) (1000 ∷ []) = guard-size (b .pre .guard) .1 ▹ ends in
     (unsigned w (arg 0) tt (≤ℤ-trans (leZ-yes tt) (b .pre .guard .low)) .0, record { fits = omega (arith, within w (arg 0) 1000 tt) })
 
-head-requires : tie.Need-head-requires
-head-requires c κs = search needs
-
 returns : tie.Need-returns
 unfolding headEntry
 returns c =
-    let b = c .before .before .before .before .before .before .before .before .before .before .before in
+    let b = c .before .before .before .before .before .before .before .before .before .before in
     let o = b .args .o in
     let s = window-sizes (o .window) (b .pre .window) in
-    c .head .ensures
-    ∙ rw (
+    rw (
       read-back (o .station .number) (number-size o (b .pre)) tt,
-      c .before .before .before .before .before .store-second .ensures .0,
-      c .before .before .before .store-second2 .ensures .0,
+      c .before .before .before .before .store-second .ensures .0,
+      c .before .before .store-second2 .ensures .0,
       read-back (o .window .first) (s .0) tt,
       read-back (o .window .last) (s .1) tt,
       read-back (o .guard) (guard-size (b .pre .guard) .1) tt,
     )
 
 pub head-for-spec : {M : Type 1} → statement M
-head-for-spec = tie.close (tie.spec cast-station store-second-requires store-second-requires-2 cast-guard head-requires returns)
+head-for-spec = tie.close (tie.spec cast-station store-second-requires store-second-requires-2 cast-guard returns)

@@ -26,16 +26,13 @@ share-at-requires c κs =
     let b = c .before .before .before in
     (b .pre .0, b .pre .1, b .pre .2, read-size (c .nth-second .result) 10800 (small c) tt)
 
-share-requires : tie.Need-share-requires
-share-requires c κs = search needs
-
 returns : tie.Need-returns
 unfolding shareEntry
 returns c =
-    let n = c .before .before in
+    let n = c .before in
     let b = n .before .before .before in
     let t = closest-read (b .args .o) (b .pre .1) (b .pre .3) (n .nth-second .ensures) in
-    c .share .ensures ∙ rw (c .before .share-at .ensures, t, b .pre .2)
+    rw (c .share-at .ensures, t, b .pre .2)
 
 pub share-for-spec : {M : Type 1} → statement M
-share-for-spec = tie.close (tie.spec nth-second-requires share-at-requires share-requires returns)
+share-for-spec = tie.close (tie.spec nth-second-requires share-at-requires returns)

@@ -8,7 +8,7 @@ use lib.ListN.{length, getD}
 use Rattle.phases.specs.declared.Phase.{Phase}
 use Rattle.phases.specs.declared.Phase.the-variants.{Penumbra}
 use Rattle.geometry.specs.Shadow.{phasesOf}
-use Rattle.requests.specs.WindowLaws.{seconds-few}
+use Rattle.windows.specs.WindowLaws.{seconds-few}
 use Rattle.seconds.specs.SecondLaws.{states-length}
 use Rattle.contact_entries.specs.Entries.{entries}
 use Rattle.courses.specs.Lengths.{bytesNeeded}
