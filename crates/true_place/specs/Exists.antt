@@ -13,7 +13,8 @@ use Rattle.numbers.specs.Order.{<-parts, ≤ℤ-trans, ≤ℤ-total, by-contra,
 use Rattle.numbers.specs.Ring.{num, _⊕_, _⊖_, _⊗_, opp, v0, v1, v2, v3}
 use Rattle.numbers.specs.Cert.{fact, leq, less, lit, sq, _⊞_, _⊠_, certify, certify-<}
 use Rattle.numbers.specs.Root.{IsRoot}
-use Rattle.true_sine.specs.Series.{common, trueSine, trueCosine}
+use Rattle.sine_series.specs.Series.{common}
+use Rattle.true_sine.specs.TrueSine.{trueSine, trueCosine}
 use Rattle.true_sine.specs.Circle.{circle}
 use Rattle.true_place.specs.TruePlace.{underTrue, TrueC}
 use Rattle.true_place.specs.Sizes.{times}

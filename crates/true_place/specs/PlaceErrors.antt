@@ -18,7 +18,8 @@ use Rattle.sine.specs.Sine.{sine, cosine}
 use Rattle.sine.specs.SineLaws.{sine-size, cosine-size}
 use Rattle.sine.specs.SizeLaws.{square-sum}
 use Rattle.station.specs.Place.{equatorialRadius, E, C, Z, h, R, P}
-use Rattle.true_sine.specs.Series.{common, trueSine, trueCosine}
+use Rattle.sine_series.specs.Series.{common}
+use Rattle.true_sine.specs.TrueSine.{trueSine, trueCosine}
 use Rattle.true_sine.specs.EveryAngle.{sine-everywhere, cosine-everywhere}
 use Rattle.true_sine.specs.Circle as True
 use Rattle.true_place.specs.TruePlace.{underTrue, TrueC, placeCommon, trueR, trueP, PlaceClose}

@@ -3,7 +3,8 @@
 use Prim.Native.Nat.{ℕ, _*_, _≤_}
 use lib.IntN.{ℤ, pos, natAbs, _+ℤ_, _-ℤ_, _*ℤ_}
 use Rattle.station.specs.Place as Rule
-use Rattle.true_sine.specs.Series.{common, trueSine, trueCosine}
+use Rattle.sine_series.specs.Series.{common}
+use Rattle.true_sine.specs.TrueSine.{trueSine, trueCosine}
 
 -- Krasovsky's spheroid, E as document 01 gives it. "With s, c the sine and cosine of latitude", true ones over `common`: c² + E·s², over 10^8·common²
 unfoldable pub underTrue : (latitude : ℤ) → ℤ

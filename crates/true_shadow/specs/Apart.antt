@@ -16,7 +16,7 @@ use Rattle.elements.specs.declared.Cone.{Cone}
 use Rattle.station.specs.Place.{placeOf}
 use Rattle.geometry.specs.Shadow.{H, d, edge}
 use Rattle.geometry.specs.Exact.{D, exact-x, exact-y, exact-l, exact-q, exact-ξ, exact-η, exact-ζ, exact-term, exact-u, exact-v, exact-L}
-use Rattle.true_sine.specs.Series.{denominator, common}
+use Rattle.sine_series.specs.Series.{denominator, common}
 use Rattle.true_sine.specs.Angles.{angleCommon, restCommon}
 use Rattle.true_place.specs.TruePlace.{placeCommon}
 use Rattle.true_place.specs.Latitude.{up}

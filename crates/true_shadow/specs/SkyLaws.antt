@@ -29,7 +29,8 @@ use Rattle.station.specs.Sizes.{StationSizes}
 use Rattle.geometry.specs.Shadow.{H, d}
 use Rattle.geometry.specs.Exact.{_³, exact-quadratic}
 use Rattle.geometry.specs.PolynomialError.{quadratic-error}
-use Rattle.true_sine.specs.Series.{common, trueSine, trueCosine}
+use Rattle.sine_series.specs.Series.{common}
+use Rattle.true_sine.specs.TrueSine.{trueSine, trueCosine}
 use Rattle.true_sine.specs.EveryAngle.{sine-everywhere, cosine-everywhere}
 use Rattle.true_sine.specs.AngleLaws.{sine-angle, cosine-angle}
 use Rattle.true_sine.specs.Circle.{circle}

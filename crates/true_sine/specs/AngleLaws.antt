@@ -13,7 +13,8 @@ use Rattle.numbers.specs.Ring.{num, _⊕_, _⊖_, _⊗_, opp, ring, v0, v1, v2,
 use Rattle.numbers.specs.Cert.{fact, leq, lit, _⊞_, _⊠_, certify}
 use Rattle.sine.specs.Sine.{sine, cosine}
 use Rattle.sine.specs.SineLaws.{sine-size, cosine-size}
-use Rattle.true_sine.specs.Series.{denominator, common, trueSine, trueCosine, Within}
+use Rattle.sine_series.specs.Series.{denominator, common}
+use Rattle.true_sine.specs.TrueSine.{trueSine, trueCosine, Within}
 use Rattle.true_sine.specs.Angles.{arcOf, restCommon, sineRest, cosineRest, angleCommon, sineAt, cosineAt}
 use Rattle.true_sine.specs.EveryAngle.{sine-everywhere, cosine-everywhere}
 

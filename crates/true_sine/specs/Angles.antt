@@ -2,7 +2,8 @@
 -- sin(z + w) = sin z·cos w + cos z·sin w and cos(z + w) = cos z·cos w - sin z·sin w, with the series of z and those of w.
 use Prim.Native.Nat.{ℕ, _*_}
 use lib.IntN.{ℤ, pos, _+ℤ_, _-ℤ_, _*ℤ_}
-use Rattle.true_sine.specs.Series.{denominator, common, trueSine, trueCosine}
+use Rattle.sine_series.specs.Series.{denominator, common}
+use Rattle.true_sine.specs.TrueSine.{trueSine, trueCosine}
 
 -- w f-ths of a millionth of a degree are x = w·π/(180,000,000·f): arc w over the denominator times f
 unfoldable pub arcOf : ℤ → ℤ

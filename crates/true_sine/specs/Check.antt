@@ -19,9 +19,10 @@ use Rattle.sine_table.specs.Table.{factorial, numerator, denominator as tableDe
 use Rattle.sine.specs.FirstQuadrant.{arc, sag, between, capped, firstQuadrant}
 use Rattle.sine_table.specs.Computed.{both}
 use Rattle.sine.specs.Sine.{reduced, sineIn, sine}
-use Rattle.true_sine.specs.Series.{denominator, common, term, sineSeries, cosineSeries, sineQuarter, cosineQuarter, trueSine, trueCosine}
+use Rattle.sine_series.specs.Series.{denominator, common, term, sineSeries, cosineSeries}
+use Rattle.true_sine.specs.TrueSine.{sineQuarter, cosineQuarter, trueSine, trueCosine}
 use Rattle.true_sine.specs.Angles.{arcOf, restCommon, sineRest, cosineRest, angleCommon, sineAt, cosineAt}
-use Rattle.true_sine.specs.Coefficients.{power}
+use Rattle.sine_series.specs.Coefficients.{power}
 
 -- ---- the series of the table
 

@@ -7,10 +7,11 @@ use native.Mathlib.Omega.{arith}
 use lib.IntN.{ℤ, pos, negℤ, natAbs, _+ℤ_, _-ℤ_, _*ℤ_}
 use Rattle.numbers.specs.Ring.{num, _⊕_, _⊖_, _⊗_, opp, ring, v0, v1, v2}
 use Rattle.sine.specs.Sine.{reduced}
-use Rattle.true_sine.specs.Series.{common, sineSeries, cosineSeries, sineQuarter, cosineQuarter, trueSine, trueCosine}
-use Rattle.true_sine.specs.Lists.{worth, added, product, worth-added, worth-product, worth-size}
-use Rattle.true_sine.specs.Coefficients.{sines, cosines, sine-worth, cosine-worth}
-use Rattle.true_sine.specs.Tests.{circles, circles-small}
+use Rattle.sine_series.specs.Series.{common, sineSeries, cosineSeries}
+use Rattle.true_sine.specs.TrueSine.{sineQuarter, cosineQuarter, trueSine, trueCosine}
+use Rattle.sine_series.specs.Lists.{worth, added, product, worth-added, worth-product, worth-size}
+use Rattle.sine_series.specs.Coefficients.{sines, cosines, sine-worth, cosine-worth}
+use Rattle.sine_series.specs.Tests.{circles, circles-small}
 
 constant-worth : (c x : ℤ) → worth (c ∷ []) x ≡ c
 unfolding worth

@@ -14,11 +14,12 @@ use Rattle.sine.specs.FirstQuadrant.{firstQuadrant}
 use Rattle.sine.specs.FirstQuadrantLaws.{first-zero}
 use Rattle.sine.specs.Sine.{reduced, sine, cosine}
 use Rattle.sine.specs.SineLaws.{reduced-below, sine-first, cosine-first, sine-above, cosine-above, sine-reduced, cosine-reduced}
-use Rattle.true_sine.specs.Series.{common, sineSeries, cosineSeries, sineQuarter, cosineQuarter, trueSine, trueCosine, TwoUnits, Within}
-use Rattle.true_sine.specs.Lists.{worth, size, worth-added, worth-size}
-use Rattle.true_sine.specs.Coefficients.{sines, complements, sine-worth, complement-worth}
-use Rattle.true_sine.specs.First.{first-close}
-use Rattle.true_sine.specs.Tests.{sine-nodes, gaps, gaps-small}
+use Rattle.sine_series.specs.Series.{common, sineSeries, cosineSeries}
+use Rattle.true_sine.specs.TrueSine.{sineQuarter, cosineQuarter, trueSine, trueCosine, TwoUnits, Within}
+use Rattle.sine_series.specs.Lists.{worth, size, worth-added, worth-size}
+use Rattle.sine_series.specs.Coefficients.{sines, complements, sine-worth, complement-worth}
+use Rattle.sine_series.specs.First.{first-close}
+use Rattle.sine_series.specs.Tests.{sine-nodes, gaps, gaps-small}
 
 -- ---- from 0 to 90 degrees
 

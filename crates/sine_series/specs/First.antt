@@ -16,8 +16,8 @@ use Rattle.numbers.specs.NearLaws.{near-error}
 use Rattle.sine_table.specs.Table.{S}
 use Rattle.sine.specs.FirstQuadrant.{arc, sag, between, capped, firstQuadrant}
 use Rattle.sine_table.specs.Computed.{both, both-left, both-right}
-use Rattle.true_sine.specs.Lists.{worth, moved, worth-moved}
-use Rattle.true_sine.specs.Cell.{tight, low, Rounded, cell, topped}
+use Rattle.sine_series.specs.Lists.{worth, moved, worth-moved}
+use Rattle.sine_series.specs.Cell.{tight, low, Rounded, cell, topped}
 
 -- ---- the cap
 

@@ -9,8 +9,8 @@ use Rattle.numbers.specs.Parts.{same, sum, opposite}
 use Rattle.numbers.specs.Laws.{one-*ℤ}
 use Rattle.numbers.specs.Ring.{var, num, _⊕_, _⊖_, _⊗_, opp, ring}
 use Rattle.sine_table.specs.Table.{factorial, numerator}
-use Rattle.true_sine.specs.Series.{denominator, term, sineSeries, cosineSeries}
-use Rattle.true_sine.specs.Lists.{worth, moved, turned, worth-moved, worth-turned, spread, spread-worth}
+use Rattle.sine_series.specs.Series.{denominator, term, sineSeries, cosineSeries}
+use Rattle.sine_series.specs.Lists.{worth, moved, turned, worth-moved, worth-turned, spread, spread-worth}
 
 -- the coefficient of a^n, but for its sign
 unfoldable pub part : ℕ → ℕ

@@ -15,7 +15,7 @@ use Rattle.numbers.specs.Parts.{posP, negP, opposite}
 use Rattle.numbers.specs.Order.{parts-≤, ≤ℤ-trans, le-natAbs, natAbs-sum, natAbs-minus, natAbs-opposite, natAbs-product, natAbs-product-le}
 use Rattle.numbers.specs.Ring.{Expr, var, num, _⊕_, _⊖_, _⊗_, opp, ring, v0, v1, v2, v3, v4, v5, v6, v7, v8, v9}
 use Rattle.numbers.specs.Cert.{leq, lit, _⊞_, _⊠_, certify}
-use Rattle.true_sine.specs.Lists.{worth, size, worth-size}
+use Rattle.sine_series.specs.Lists.{worth, size, worth-size}
 
 -- what entry k is off; what 17,453,293·10^-15 times entry 900-k is off the slope q1; what the square of that, times entry k, is off the bend 2·q2
 abbrev pub entryOff : ℤ → ℤ → ℤ → ℤ

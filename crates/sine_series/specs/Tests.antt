@@ -8,11 +8,11 @@ use lib.IntN.{ℤ, pos, negℤ}
 use Rattle.numbers.specs.Near.{near}
 use Rattle.sine_table.specs.Table.{factorial, numerator, denominator as tableDenominator, common as tableCommon, term as tableTerm, series, S}
 use Rattle.sine_table.specs.Computed.{upTo, at-upTo}
-use Rattle.true_sine.specs.Series.{denominator, common}
-use Rattle.true_sine.specs.Lists.{carry, moved, turned, added, product, size}
-use Rattle.true_sine.specs.Coefficients.{sines, cosines, complements}
-use Rattle.true_sine.specs.Cell.{off, tight, low}
-use Rattle.true_sine.specs.First.{node, from}
+use Rattle.sine_series.specs.Series.{denominator, common}
+use Rattle.sine_series.specs.Lists.{carry, moved, turned, added, product, size}
+use Rattle.sine_series.specs.Coefficients.{sines, cosines, complements}
+use Rattle.sine_series.specs.Cell.{off, tight, low}
+use Rattle.sine_series.specs.First.{node, from}
 
 unfoldable passes : List ℤ → ℕ → Bool
 unfolding near factorial numerator tableDenominator tableCommon tableTerm series S denominator common carry moved size off tight low node
