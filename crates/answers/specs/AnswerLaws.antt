@@ -1,35 +1,32 @@
 -- The ways of an answer: what is put, and what is stored.
 use mathlib.Core.Path.{_≡_, refl, sym, ap, subst, _∙_}
 use mathlib.Core.List.{List, []}
-use Prim.Native.Nat.{ℕ, _≤_}
+use Prim.Native.Nat.{ℕ, _≤_, _<_}
 use native.Mathlib.Omega.{arith}
 use lib.IntN.{ℤ, pos}
 use lib.ListN.{length, take}
 use lib.Seq.{length-take-le}
 use Rattle.refusals.specs.declared.Refusal.{Refusal}
+use Rattle.refusals.specs.Refusals.{refusal}
 use Rattle.circumstances.specs.declared.Answer.{Answer}
 use Rattle.circumstances.specs.declared.Answer.the-variants as A
-use Rattle.input.specs.Sheet.{answerTo, bufferFor, sinesFor, starAnswer, starBuffer}
-use Rattle.input.specs.SheetLaws.{written-fits, star-fits as star-written}
+use Rattle.request_sheets.specs.Sheet.{answerTo, bufferFor, sinesFor, starAnswer, starBuffer, Begins, storedBy, sheetStored}
+use Rattle.request_sheets.specs.SheetLaws.{fits-written, fits}
 use Rattle.decimals.specs.Texts.{Put, Counts}
 use Rattle.decimals.specs.TextLaws.{put-nil}
 use Rattle.input.specs.Input.{deltaOf, starDelta}
 use Rattle.instants.specs.declared.Reference.{Reference}
 use Rattle.instants.specs.declared.Reference.the-variants as R
 use Rattle.lines.specs.Lines.{refusalLine}
+use Rattle.listings.specs.declared.Text.{Text}
+use Rattle.listings.specs.declared.Text.the-variants as T
+use Rattle.listings.specs.Answers.{text, answered, roomWith}
+use Rattle.listings.specs.AnswerLaws.{text-short, text-full}
 use Rattle.listings.specs.Listings.{timed, printed}
 use Rattle.listings.specs.ListingLaws.{timed-off}
-use Rattle.answers.specs.Answers.{Begins, textBy, answerText, starText, timedBy, timedText, starTimedText, storedBy, sheetStored, errorBy, errorLine}
-
--- what was written fits the room
-abbrev pub Fits : Answer → List ℕ → Type 0
-Fits (A.Written n) room = n ≤ length room
-Fits (A.Refused r) room = Unit {0}
+use Rattle.answers.specs.Answers.{textBy, answerText, starText, timedBy, timedText, starTimedText, errorBy, errorLine}
 
 -- ---- an answer and the bytes that it left
-
-pub fits-written : (a : Answer) (room : List ℕ) (n : ℕ) → a ≡ A.Written n → Fits a room → n ≤ length room
-fits-written a room n e f = subst (λ (b : Answer). Fits b room) e f
 
 module _ (k : Reference) (d : ℤ) (a : Answer) (room old new : List ℕ) (r : ℕ) where
   pub put-written : (n : ℕ) → a ≡ A.Written n → Put old 0 (printed (timed k d (take n room))) new r → Put old 0 (timedBy k d a room) new r
@@ -47,13 +44,6 @@ off (A.Refused r) room = refl
 
 module _ (request sines room : List ℕ) (a : Answer) (is : a ≡ starAnswer request sines room)
     (left : List ℕ) (by-rule : left ≡ starBuffer request sines room) where
-  pub star-fits : length left ≡ length room → Fits a left
-  star-fits l = by a is
-    where
-      by : (b : Answer) → b ≡ starAnswer request sines room → Fits b left
-      by (A.Written n) e = omega (arith, star-written request sines room n (sym e), l)
-      by (A.Refused r) e = tt
-
   pub star-text : timedBy R.Nothing (pos 0) a left ≡ starText request sines room
   unfolding starText
   star-text = off a left ∙ rw (is, by-rule)
@@ -66,13 +56,6 @@ module _ (request sines room : List ℕ) (a : Answer) (is : a ≡ starAnswer req
 
 module _ (request sines room : List ℕ) (a : Answer) (is : a ≡ answerTo request sines room)
     (left : List ℕ) (by-rule : left ≡ bufferFor request sines room) where
-  pub fits : length left ≡ length room → Fits a left
-  fits l = by a is
-    where
-      by : (b : Answer) → b ≡ answerTo request sines room → Fits b left
-      by (A.Written n) e = omega (arith, written-fits request sines room n (sym e), l)
-      by (A.Refused r) e = tt
-
   pub text-is : timedBy R.Nothing (pos 0) a left ≡ answerText request sines room
   unfolding answerText
   text-is = off a left ∙ rw (is, by-rule)
@@ -98,7 +81,7 @@ module _ (request sines room : List ℕ) (a : Answer) (is : a ≡ answerTo reque
 
     pub stored-written : (n : ℕ) → a ≡ A.Written n → length left ≡ length room → (line : List ℕ) → Promised n line line 0
     stored-written n e l line =
-        let h : n ≤ length left = fits-written a left n e (fits l) in
+        let h : n ≤ length left = fits-written a left n e (fits request sines room a is left l) in
         let t : take n left ≡ sheetStored request sines room = ap (λ (b : Answer). storedBy b left) (sym e) ∙ stored-is in
         let u : [] ≡ errorLine request sines room = ap errorBy (sym e) ∙ error-is in
         let k = sym (length-take-le n left h) in
@@ -110,3 +93,21 @@ module _ (request sines room : List ℕ) (a : Answer) (is : a ≡ answerTo reque
         let t : [] ≡ sheetStored request sines room = ap (λ (b : Answer). storedBy b left) (sym e) ∙ stored-is in
         let u : refusalLine (x .number) (x .place) ≡ errorLine request sines room = ap errorBy (sym e) ∙ error-is in
         (record { count = ap length t; bytes = t }, (rw (← u) p, (by-rule, (by-fill, (omega arith, refl)))))
+
+    -- ---- what `answer` promises: its answer, the text's room, and what the other rooms hold
+    abbrev PromisedText : Text → (out new : List ℕ) → Type 0
+    PromisedText r out new = (r ≡ answered (length out) (text (answerText request sines room)))
+        × ((new ≡ roomWith (text (answerText request sines room)) out) × ((left ≡ bufferFor request sines room) × (full ≡ sinesFor request sines)))
+
+    -- the text was measured in a room of no bytes; no slice fills the memory
+    module _ (none after out : List ℕ) (need : ℕ) (m : Put none 0 (timedBy R.Nothing (pos 0) a left) after need) (h : length out < 18446744073709551615) where
+      measured : Put none 0 (answerText request sines room) after need
+      measured = subst (λ (t : List ℕ). Put none 0 t after need) text-is m
+
+      pub short-told : length out < need → PromisedText (T.Refused (refusal 4 need)) out out
+      short-told g = let s = text-short (answerText request sines room) none after out need measured h g in (s .0, (s .1, (by-rule, by-fill)))
+
+      pub full-told : need ≤ length out → (new : List ℕ) (r : ℕ) → Put out 0 (timedBy R.Nothing (pos 0) a left) new r → PromisedText (T.Written need) out new
+      full-told g new r p =
+          let s = text-full (answerText request sines room) none after out need measured h g new r (subst (λ (t : List ℕ). Put out 0 t new r) text-is p) in
+          (s .0, (s .1, (by-rule, by-fill)))

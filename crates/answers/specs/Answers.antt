@@ -1,13 +1,12 @@
 -- The answer to a request's bytes, given a room for table S and one for its sheet: as text, and as it is stored.
--- Assumes nothing: these are definitions. The answer, and what it leaves in the rooms: input, Sheet.
-use mathlib.Core.Path.{_≡_}
+-- Assumes nothing: these are definitions. The answer, and what it leaves in the rooms: request_sheets, Sheet.
 use mathlib.Core.List.{List, []}
 use Prim.Native.Nat.{ℕ}
 use lib.IntN.{ℤ}
-use lib.ListN.{length, take}
+use lib.ListN.{take}
 use Rattle.circumstances.specs.declared.Answer.{Answer}
 use Rattle.circumstances.specs.declared.Answer.the-variants as A
-use Rattle.input.specs.Sheet.{answerTo, bufferFor, starAnswer, starBuffer}
+use Rattle.request_sheets.specs.Sheet.{answerTo, bufferFor, starAnswer, starBuffer}
 use Rattle.input.specs.Input.{deltaOf, starDelta}
 use Rattle.instants.specs.declared.Reference.{Reference}
 use Rattle.lines.specs.Lines.{refusalLine}
@@ -38,20 +37,7 @@ timedText k request sines room = timedBy k (deltaOf request) (answerTo request s
 unfoldable pub starTimedText : Reference → (request sines room : List ℕ) → List ℕ
 starTimedText k request sines room = timedBy k (starDelta request) (starAnswer request sines room) (starBuffer request sines room)
 
--- ---- the sheet as it is stored
-
--- the first n bytes of a room are some text
-pub record Begins (n : ℕ) (room text : List ℕ) : Type 0 where
-  pub count : n ≡ length text
-  pub bytes : take n room ≡ text
-
--- to standard output: the bytes that the sheet has in the room, or nothing
-abbrev pub storedBy : Answer → List ℕ → List ℕ
-storedBy (A.Written n) room = take n room
-storedBy (A.Refused r) room = []
-
-unfoldable pub sheetStored : (request sines room : List ℕ) → List ℕ
-sheetStored request sines room = storedBy (answerTo request sines room) (bufferFor request sines room)
+-- ---- beside the sheet as it is stored
 
 -- to standard error: nothing, or the line of the refusal
 abbrev pub errorBy : Answer → List ℕ

@@ -5,12 +5,12 @@ use listings::Text;
 use refusals::Refusal;
 ghost use mathlib.Core.Path.{_≡_};
 ghost use lib.ListN.{length};
-ghost use Rattle.input.specs.Sheet.{bufferFor, sinesFor, starBuffer, starSines};
+ghost use Rattle.request_sheets.specs.Sheet.{bufferFor, sinesFor, starBuffer, starSines, Begins, sheetStored};
+ghost use Rattle.request_sheets.specs.SheetLaws.{Fits};
 ghost use Rattle.decimals.specs.Texts.{Put, Counts};
 ghost use Rattle.lines.specs.Lines.{refusalLine};
 ghost use Rattle.listings.specs.Answers.{text, answered, roomWith};
-ghost use Rattle.answers.specs.Answers.{timedBy, answerText, starText, timedText, starTimedText, Begins, sheetStored, errorLine};
-ghost use Rattle.answers.specs.AnswerLaws.{Fits};
+ghost use Rattle.answers.specs.Answers.{timedBy, answerText, starText, timedText, starTimedText, errorLine};
 
 // How many bytes of each room go out.
 pub struct Streams {
@@ -51,7 +51,7 @@ pub fn put_answer(request: &[u8], sines: &mut [u32], room: &mut [u8], out: &mut 
     ensures sheet { λ r. ⌜ now (room .exit) ≡ bufferFor (now (request .entry)) (now (sines .entry)) (now (room .entry)) ⌝ }
     ensures sines { λ r. ⌜ now (sines .exit) ≡ sinesFor (now (request .entry)) (now (sines .entry)) ⌝ }
 {
-    let answer = input::sheet(request, sines, room);
+    let answer = request_sheets::sheet(request, sines, room);
     put_text(answer, room, out, Reference::Nothing, 0)
 }
 
@@ -61,7 +61,7 @@ pub fn put_star_answer(request: &[u8], sines: &mut [u32], room: &mut [u8], out: 
     ensures sheet { λ r. ⌜ now (room .exit) ≡ starBuffer (now (request .entry)) (now (sines .entry)) (now (room .entry)) ⌝ }
     ensures sines { λ r. ⌜ now (sines .exit) ≡ starSines (now (request .entry)) (now (sines .entry)) ⌝ }
 {
-    let answer = input::stars::sheet(request, sines, room);
+    let answer = request_sheets::star_sheet(request, sines, room);
     put_text(answer, room, out, Reference::Nothing, 0)
 }
 
@@ -78,7 +78,7 @@ pub fn put_timed_answer(
     ensures sines { λ r. ⌜ now (sines .exit) ≡ sinesFor (now (request .entry)) (now (sines .entry)) ⌝ }
 {
     let deltat = input::deltat(request);
-    let answer = input::sheet(request, sines, room);
+    let answer = request_sheets::sheet(request, sines, room);
     put_text(answer, room, out, reference, deltat)
 }
 
@@ -95,7 +95,7 @@ pub fn put_timed_star_answer(
     ensures sines { λ r. ⌜ now (sines .exit) ≡ starSines (now (request .entry)) (now (sines .entry)) ⌝ }
 {
     let deltat = input::stars::deltat(request);
-    let answer = input::stars::sheet(request, sines, room);
+    let answer = request_sheets::star_sheet(request, sines, room);
     put_text(answer, room, out, reference, deltat)
 }
 
@@ -107,7 +107,7 @@ pub fn answer(request: &[u8], sines: &mut [u32], room: &mut [u8], out: &mut [u8]
     ensures sheet { λ r. ⌜ now (room .exit) ≡ bufferFor (now (request .entry)) (now (sines .entry)) (now (room .entry)) ⌝ }
     ensures sines { λ r. ⌜ now (sines .exit) ≡ sinesFor (now (request .entry)) (now (sines .entry)) ⌝ }
 {
-    let answer = input::sheet(request, sines, room);
+    let answer = request_sheets::sheet(request, sines, room);
     let mut none = [0u8; 0];
     let need = put_text(answer, room, &mut none, Reference::Nothing, 0);
     if out.len() < need {
@@ -128,7 +128,7 @@ pub fn stored(request: &[u8], sines: &mut [u32], room: &mut [u8], line: &mut [u8
     ensures sines { λ r. ⌜ now (sines .exit) ≡ sinesFor (now (request .entry)) (now (sines .entry)) ⌝ }
     ensures counts { λ r. ⌜ Counts (r .output) (now (room .exit)) ⌝ }
 {
-    let answer = input::sheet(request, sines, room);
+    let answer = request_sheets::sheet(request, sines, room);
     match answer {
         Answer::Written(written) => Streams {
             output: written,

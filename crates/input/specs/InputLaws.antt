@@ -1,5 +1,5 @@
 -- Laws of the program's input.
-use mathlib.Core.Path.{_≡_, refl, ap}
+use mathlib.Core.Path.{_≡_, refl, sym, ap, _∙_}
 use mathlib.Core.List.{List, [], _∷_}
 use Prim.Native.Nat.{ℕ, zero, suc, _≤_, _<_}
 use native.Mathlib.Omega.{arith}
@@ -11,7 +11,7 @@ use Rattle.refusals.specs.declared.Refusal.{Refusal}
 use Rattle.refusals.specs.Refusals.{refusal}
 use Rattle.requests.specs.declared.Request.{Request}
 use Rattle.requests.specs.declared.Occultation.{Occultation}
-use Rattle.requests.specs.Requests.{ofStar}
+use Rattle.requests.specs.Requests.{ofEclipse, ofStar}
 use Rattle.request_fields.specs.declared.Shape.{Shape}
 use Rattle.request_fields.specs.declared.Shape.the-variants as S
 use Rattle.request_fields.specs.Fields.{countOf}
@@ -20,9 +20,10 @@ use Rattle.request_bytes.specs.Layout.{Reading, numbers, misshaped}
 use Rattle.request_bytes.specs.NumberLaws.{Bytes}
 use Rattle.request_bytes.specs.Request.{readingFor, readingOf, gotOf, numbersAfter}
 use Rattle.request_bytes.specs.RoundTrip.{write-back, numbers-small}
+use Rattle.input.specs.declared.Input.{Input}
 use Rattle.input.specs.declared.Input.the-variants as I
 use Rattle.input.specs.declared.Asked.the-variants as A
-use Rattle.input.specs.Input.{number, requestFrom, starFrom, inputBy, inputOf, requestOf, starBy, starAsked, starRequestOf}
+use Rattle.input.specs.Input.{number, requestFrom, starFrom, inputBy, inputOf, requestOf, eclipseAsked, starBy, starAsked, starRequestOf}
 
 -- as many numbers as a request has, each of at most 32 bits
 pub record Small (shape : Shape) (ns : List ℤ) : Type 0 where
@@ -84,6 +85,24 @@ shape-is s r e = by (readingOf s) e
     by : (x : Reading) → inputBy x ≡ I.Refused r → r ≡ refusal 10 0
     by (numbers ms) f = let z : _≡_ {A = ℕ} 0 1 = cc in absurd (omega arith)
     by misshaped f = cc
+
+-- ---- what an eclipse's bytes ask for
+module _ (i : Input) where
+  -- of an input whose request, where there is one, is q
+  pub asked-is : (q : Request) → ((p : Request) → i ≡ I.Is p → p ≡ q) → (o : Occultation) → eclipseAsked i ≡ A.Is o → o ≡ ofEclipse q
+  asked-is q is o e = by i refl e
+    where
+      by : (j : Input) → i ≡ j → eclipseAsked j ≡ A.Is o → o ≡ ofEclipse q
+      by (I.Is p) f g = let h : ofEclipse p ≡ o = cc in sym h ∙ ap ofEclipse (is p f)
+      by (I.Refused x) f g = let z : _≡_ {A = ℕ} 0 1 = cc in absurd (omega arith)
+
+  -- of one that is refused for its shape only
+  pub asked-shape : ((x : Refusal) → i ≡ I.Refused x → x ≡ refusal 10 0) → (x : Refusal) → eclipseAsked i ≡ A.Refused x → x ≡ refusal 10 0
+  asked-shape shape x e = by i refl e
+    where
+      by : (j : Input) → i ≡ j → eclipseAsked j ≡ A.Refused x → x ≡ refusal 10 0
+      by (I.Is p) f g = let z : _≡_ {A = ℕ} 0 1 = cc in absurd (omega arith)
+      by (I.Refused y) f g = let h : y ≡ x = cc in sym h ∙ shape y f
 
 -- ---- a star's bytes
 pub star-refused : (s : List ℕ) → gotOf (readingFor S.Star s) ≡ G.Misshaped → A.Refused (refusal 10 0) ≡ starAsked s

@@ -1,4 +1,4 @@
-// The sheet of a request's bytes: an eclipse's here, a star's in module `stars`.
+// The request that bytes hold: an eclipse's here, a star's in module `stars`.
 pub mod stars;
 
 use refusals::Refusal;
@@ -7,13 +7,8 @@ use requests::Request;
 ghost use mathlib.Core.Path.{_≡_};
 ghost use Prim.Native.Nat.{_+_, _≤_};
 ghost use lib.ListN.{length};
-ghost use Rattle.circumstances.specs.Demand3.{Claimed};
-ghost use Rattle.input.specs.Input.{stationFrom, windowFrom, requestFrom, requestOf, inputOf, sharing, eclipseAsked, deltaFor, deltaOf};
+ghost use Rattle.input.specs.Input.{stationFrom, windowFrom, requestFrom, inputOf, sharing, eclipseAsked, deltaFor, deltaOf};
 ghost use Rattle.input.specs.InputLaws.{Small};
-ghost use Rattle.input.specs.Sheet.{answerTo, bufferFor, sinesFor, sharedAnswer, sharedBuffer, sharedSines};
-ghost use Rattle.input.specs.SheetLaws.{Made};
-ghost use Rattle.requests.specs.Requests.{ofEclipse};
-ghost use Rattle.requests.specs.Shares.{withShare};
 ghost use Rattle.request_fields.specs.declared.Shape.the-variants.{Eclipse};
 
 // What the bytes of an eclipse hold, or the refusal of their shape.
@@ -95,7 +90,7 @@ pub fn request(input: &[u8]) -> Input
     }
 }
 
-// ---- the sheet
+// ---- what it asks for
 
 // What the bytes of an eclipse ask for.
 pub fn of_eclipse(input: Input) -> Asked
@@ -107,29 +102,8 @@ pub fn of_eclipse(input: Input) -> Asked
     }
 }
 
-// The sheet of what is asked for.
-fn sheet_for(asked: Asked, sines: &mut [u32], buf: &mut [u8]) -> circumstances::Answer
-    ensures { λ r. ⌜ Made asked (now (sines .entry)) (now (buf .entry)) r (now (buf .exit)) (now (sines .exit)) ⌝ }
-{
-    match asked {
-        Asked::Is(o) => circumstances::sheet(o, sines, buf),
-        Asked::Refused(refusal) => circumstances::Answer::Refused(refusal),
-    }
-}
-
-// The contact sheet of the program's input, in the caller's buffer; `sines` is room for table S. Any bytes, any room, any buffer.
-pub fn sheet(input: &[u8], sines: &mut [u32], buf: &mut [u8]) -> circumstances::Answer
-    ensures answer { λ r. ⌜ r ≡ answerTo (now (input .entry)) (now (sines .entry)) (now (buf .entry)) ⌝ }
-    ensures buffer { λ r. ⌜ now (buf .exit) ≡ bufferFor (now (input .entry)) (now (sines .entry)) (now (buf .entry)) ⌝ }
-    ensures sines { λ r. ⌜ now (sines .exit) ≡ sinesFor (now (input .entry)) (now (sines .entry)) ⌝ }
-    ensures demand3 { λ r. ⌜ Claimed (ofEclipse (requestOf (now (input .entry)))) r (now (buf .exit)) ⌝ }
-{
-    let asked = of_eclipse(request(input));
-    sheet_for(asked, sines, buf)
-}
-
 // The same, with a share asked for.
-fn with_share(asked: Input) -> Input
+pub fn with_share(asked: Input) -> Input
     ensures { λ r. ⌜ r ≡ sharing asked ⌝ }
 {
     match asked {
@@ -148,17 +122,6 @@ fn with_share(asked: Input) -> Input
         }
         Input::Refused(refusal) => Input::Refused(refusal),
     }
-}
-
-// The sheet of the same request with the covered share after the closest second.
-pub fn sheet_and_share(input: &[u8], sines: &mut [u32], buf: &mut [u8]) -> circumstances::Answer
-    ensures answer { λ r. ⌜ r ≡ sharedAnswer (now (input .entry)) (now (sines .entry)) (now (buf .entry)) ⌝ }
-    ensures buffer { λ r. ⌜ now (buf .exit) ≡ sharedBuffer (now (input .entry)) (now (sines .entry)) (now (buf .entry)) ⌝ }
-    ensures sines { λ r. ⌜ now (sines .exit) ≡ sharedSines (now (input .entry)) (now (sines .entry)) ⌝ }
-    ensures demand3 { λ r. ⌜ Claimed (ofEclipse (withShare (requestOf (now (input .entry))))) r (now (buf .exit)) ⌝ }
-{
-    let asked = of_eclipse(with_share(request(input)));
-    sheet_for(asked, sines, buf)
 }
 
 // ---- the station's ΔT, for those who print times

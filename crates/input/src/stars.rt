@@ -1,14 +1,11 @@
-// The sheet of a star request's bytes.
+// The star request that bytes hold.
 use super::Asked;
 use refusals::Refusal;
 use requests::StarRequest;
 ghost use mathlib.Core.Path.{_≡_};
-ghost use Rattle.requests.specs.Requests.{ofStar};
 ghost use Rattle.request_fields.specs.declared.Shape.the-variants.{Star};
-ghost use Rattle.circumstances.specs.Demand3.{Claimed};
-ghost use Rattle.input.specs.Input.{starFrom, starAsked, starRequestOf, starDelta};
+ghost use Rattle.input.specs.Input.{starFrom, starAsked, starDelta};
 ghost use Rattle.input.specs.InputLaws.{Small};
-ghost use Rattle.input.specs.Sheet.{starAnswer, starBuffer, starSines};
 
 // The request of its numbers.
 fn request_from(n: &[i64]) -> StarRequest
@@ -43,17 +40,6 @@ pub fn asked(input: &[u8]) -> Asked
             place: 0,
         }),
     }
-}
-
-// The contact sheet of a star, in the caller's buffer; `sines` is room for table S. Any bytes, any room, any buffer.
-pub fn sheet(input: &[u8], sines: &mut [u32], buf: &mut [u8]) -> circumstances::Answer
-    ensures answer { λ r. ⌜ r ≡ starAnswer (now (input .entry)) (now (sines .entry)) (now (buf .entry)) ⌝ }
-    ensures buffer { λ r. ⌜ now (buf .exit) ≡ starBuffer (now (input .entry)) (now (sines .entry)) (now (buf .entry)) ⌝ }
-    ensures sines { λ r. ⌜ now (sines .exit) ≡ starSines (now (input .entry)) (now (sines .entry)) ⌝ }
-    ensures demand3 { λ r. ⌜ Claimed (ofStar (starRequestOf (now (input .entry)))) r (now (buf .exit)) ⌝ }
-{
-    let wish = asked(input);
-    super::sheet_for(wish, sines, buf)
 }
 
 // The ΔT of the bytes' station, in hundredths of a second; 0 where they are misshaped. Any bytes.

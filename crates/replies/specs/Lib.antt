@@ -1,5 +1,6 @@
 pub mod Replies
 pub mod SheetLaws
+pub mod Seconds
 pub mod Shares
 pub mod Listing
 pub mod Fits

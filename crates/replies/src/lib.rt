@@ -6,6 +6,7 @@ ghost use Rattle.replies.specs.TablesReply.{tablesReply};
 ghost use Rattle.replies.specs.Listing.{listingReply};
 ghost use Rattle.replies.specs.MendReply.{mendReply};
 ghost use Rattle.replies.specs.Positions.{doublesReply};
+ghost use Rattle.replies.specs.Seconds.{secondReply};
 ghost use Rattle.replies.specs.Shares.{shareReply};
 ghost use Rattle.replies.specs.Fits.{fitReply};
 ghost use Rattle.replies.specs.NetworkReply.{networkReply};
@@ -129,6 +130,19 @@ pub fn doubles_reply(answer: instrument::writing::Answer) -> Reply
             value: 23,
         },
         instrument::writing::Answer::Refused(refusal) => refused(refusal),
+    }
+}
+
+// Of a second with so many numbers.
+pub fn second_reply(count: u64, second: seconds::OneSecond) -> Reply
+    ensures { λ r. ⌜ r ≡ secondReply count second ⌝ }
+{
+    match second {
+        seconds::OneSecond::Is(_) => Reply {
+            number: 0,
+            value: count,
+        },
+        seconds::OneSecond::Refused(refusal) => refused(refusal),
     }
 }
 

@@ -1,5 +1,4 @@
--- What a caller from outside gets of one second of a request, an eclipse's or a star's: the refusal's number and place, or 0 and its numbers in
--- the room lent. Assumes nothing: these are definitions.
+-- One second of a request's bytes, an eclipse's or a star's: the second and its numbers in the room lent, or the refusal. Assumes nothing: these are definitions.
 use mathlib.Core.Bool.{cond}
 use mathlib.Core.List.{List, [], _∷_, _++_}
 use Prim.Native.Nat.{ℕ}
@@ -24,8 +23,6 @@ use Rattle.request_fields.specs.declared.Shape.the-variants.{Eclipse, Star}
 use Rattle.input.specs.declared.Asked.{Asked}
 use Rattle.input.specs.declared.Asked.the-variants as W
 use Rattle.input.specs.Input.{inputOf, requestOf, eclipseAsked, starAsked, starRequestOf}
-use Rattle.replies.specs.declared.Reply.{Reply}
-use Rattle.replies.specs.Replies.{refusedReply}
 
 -- what bytes of that shape ask for, or 10
 abbrev pub wish : Shape → (request : List ℕ) → Asked
@@ -68,10 +65,6 @@ secondInto n k (O.Refused r) = O.Refused r
 
 unfoldable pub secondGiven : Shape → (request : List ℕ) → ℤ → (sines : List ℕ) → List ℤ → OneSecond
 secondGiven shape request τ sines room = secondInto (numberCount shape) (length room) (secondAsked (wish shape request) τ sines)
-
-abbrev pub secondReply : Shape → OneSecond → Reply
-secondReply shape (O.Is x) = record { number = 0; value = numberCount shape }
-secondReply shape (O.Refused r) = refusedReply r
 
 -- "After any refusal the buffer holds its old bytes; after success the bytes past the sheet do": so too numbers
 abbrev pub numbersAfter : Shape → OneSecond → List ℤ → List ℤ

@@ -1,5 +1,5 @@
 -- Laws of a second and the room for its numbers.
-use mathlib.Core.Path.{_≡_, refl, subst, ap}
+use mathlib.Core.Path.{_≡_, refl, subst}
 use mathlib.Core.List.{List}
 use mathlib.Core.Bool.{Bool, true, false, cond}
 use Prim.Native.Nat.{ℕ, _≤_, _<_}
@@ -22,10 +22,8 @@ use Rattle.request_fields.specs.declared.Shape.the-variants.{Eclipse, Star}
 use Rattle.input.specs.declared.Asked.{Asked}
 use Rattle.input.specs.declared.Asked.the-variants as W
 use Rattle.input.specs.Input.{inputOf, requestOf, starRequestOf}
-use Rattle.input.specs.InputLaws.{request-is, shape-is, star-request-is}
-use Rattle.input.specs.SheetLaws.{asked-is}
-use Rattle.replies.specs.declared.Reply.{Reply}
-use Rattle.second_replies.specs.Second.{wish, secondAsked, sinesAsked, numberCount, secondInto, secondGiven, secondReply, numbersAfter, NumbersMean, GivenMeans}
+use Rattle.input.specs.InputLaws.{request-is, asked-is, star-request-is}
+use Rattle.second_replies.specs.Second.{wish, secondAsked, numberCount, secondInto, secondGiven, numbersAfter, NumbersMean, GivenMeans}
 
 module _ (n k : ℕ) (x : Second) where
   pub second-short : k < n → secondInto n k (O.Is x) ≡ O.Refused (refusal 4 n)
@@ -51,7 +49,7 @@ wished Eclipse request = ofEclipse (requestOf request)
 wished Star request = ofStar (starRequestOf request)
 
 wish-is : (shape : Shape) (request : List ℕ) (o : Occultation) → wish shape request ≡ W.Is o → o ≡ wished shape request
-wish-is Eclipse request o e = asked-is (inputOf request) (requestOf request) (request-is request) (shape-is request) o e
+wish-is Eclipse request o e = asked-is (inputOf request) (requestOf request) (request-is request) o e
 wish-is Star request o e = star-request-is request o e
 
 numbers-mean : (shape : Shape) (request : List ℕ) (τ : ℤ) (x : Second) (old : List ℤ) → SecondMeans (wished shape request) τ x
@@ -79,22 +77,3 @@ given-means shape request τ sines old room e = rw e (by-wish (wish shape reques
             by-fit true = numbers-mean shape request τ x old m
             by-fit false = tt
     by-wish (W.Refused r) f = tt
-
--- ---- as numbers
-
--- what a second's function promises
-abbrev pub Replied : Shape → (request sines : List ℕ) (old : List ℤ) → ℤ → Reply → (new : List ℤ) (left : List ℕ) → Type 0
-Replied shape request sines old τ reply new left =
-    let given = secondGiven shape request τ sines old in
-    (reply ≡ secondReply shape given)
-    × ((new ≡ numbersAfter shape given old) × ((left ≡ sinesAsked (wish shape request) τ sines) × GivenMeans shape request τ given new))
-
--- and the export over it, where the second is read back from its bits
-pub second-replied : (shape : Shape) (request sines : List ℕ) (old : List ℤ) {t τ : ℤ} {reply : Reply} {new : List ℤ} {left : List ℕ} → t ≡ τ
-    → Replied shape request sines old t reply new left → let given = secondGiven shape request τ sines old in
-    (reply .number ≡ secondReply shape given .number)
-    × ((reply .value ≡ secondReply shape given .value)
-    × ((new ≡ numbersAfter shape given old) × ((left ≡ sinesAsked (wish shape request) τ sines) × GivenMeans shape request τ given new)))
-second-replied shape request sines old {reply = reply} {new = new} {left = left} e p =
-    let r = subst (λ (x : ℤ). Replied shape request sines old x reply new left) e p in
-    (ap (λ (x : Reply). x .number) (r .0), (ap (λ (x : Reply). x .value) (r .0), r .1))

@@ -1,7 +1,6 @@
 // One second of a request, an eclipse's or a star's, and its numbers.
 use input::Asked;
 use refusals::Refusal;
-use replies::Reply;
 use request_fields::Shape;
 use seconds::OneSecond;
 ghost use mathlib.Core.Path.{_≡_};
@@ -9,7 +8,7 @@ ghost use Prim.Native.Nat.{_≤_};
 ghost use lib.ListN.{length};
 ghost use Rattle.seconds.specs.declared.OneSecond.the-variants.{Is};
 ghost use Rattle.request_fields.specs.declared.Shape.the-variants.{Eclipse, Star};
-ghost use Rattle.second_replies.specs.Second.{wish, secondAsked, sinesAsked, numberCount, secondInto, secondGiven, secondReply, numbersAfter, GivenMeans};
+ghost use Rattle.second_replies.specs.Second.{wish, secondAsked, sinesAsked, numberCount, secondInto, secondGiven, numbersAfter, GivenMeans};
 
 // What bytes of that shape ask for, or refusal 10.
 fn wish(shape: Shape, request: &[u8]) -> Asked
@@ -57,18 +56,6 @@ fn in_room(count: usize, room: usize, second: OneSecond) -> OneSecond
         });
     }
     second
-}
-
-fn second_reply(shape: Shape, second: OneSecond) -> Reply
-    ensures { λ r. ⌜ r ≡ secondReply shape second ⌝ }
-{
-    match second {
-        OneSecond::Is(_) => {
-            let value = number_count(shape) as u64;
-            Reply { number: 0, value }
-        }
-        OneSecond::Refused(refusal) => replies::refused(refusal),
-    }
 }
 
 // The eight numbers of an eclipse's second at the start of the room.
@@ -124,15 +111,16 @@ fn put_numbers(shape: Shape, room: &mut [i64], second: shadow::Second)
     }
 }
 
-// One second of a request of that shape, which may lie outside its window: its numbers at the start of the room; `sines` is room for table S.
+// One second of a request of that shape, which may lie outside its window, and its numbers at the start of the room; or why not, and the room as
+// it was. `sines` is room for table S.
 pub fn second(
     shape: Shape,
     request: &[u8],
     second: i64,
     sines: &mut [u32],
     shadow: &mut [i64],
-) -> Reply
-    ensures reply { λ r. ⌜ r ≡ secondReply shape (secondGiven shape (now (request .entry)) second (now (sines .entry)) (now (shadow .entry))) ⌝ }
+) -> OneSecond
+    ensures given { λ r. ⌜ r ≡ secondGiven shape (now (request .entry)) second (now (sines .entry)) (now (shadow .entry)) ⌝ }
     ensures numbers { λ r. ⌜ now (shadow .exit) ≡ numbersAfter shape (secondGiven shape (now (request .entry)) second (now (sines .entry)) (now (shadow .entry))) (now (shadow .entry)) ⌝ }
     ensures sines { λ r. ⌜ now (sines .exit) ≡ sinesAsked (wish shape (now (request .entry))) second (now (sines .entry)) ⌝ }
     ensures means { λ r. ⌜ GivenMeans shape (now (request .entry)) second (secondGiven shape (now (request .entry)) second (now (sines .entry)) (now (shadow .entry))) (now (shadow .exit)) ⌝ }
@@ -141,9 +129,8 @@ pub fn second(
     let count = number_count(shape);
     let room = shadow.len();
     let given = in_room(count, room, found);
-    let reply = second_reply(shape, given);
     if let OneSecond::Is(numbers) = given {
         put_numbers(shape, shadow, numbers);
     }
-    reply
+    given
 }

@@ -35,7 +35,7 @@ use Rattle.request_bytes.specs.Request.{piecesFor, sizeFor, bytesFor, readingFo
 use Rattle.request_bytes.specs.RoundTrip.{write-back}
 use Rattle.request_bytes.specs.RowLaws.{pieces-count}
 use Rattle.input.specs.Input.{requestFrom, starFrom, inputOf, starAsked}
-use Rattle.input.specs.Sheet.{answerTo, starAnswer}
+use Rattle.request_sheets.specs.Sheet.{answerTo, starAnswer}
 use Rattle.streams.specs.Streams.{starKind, sizeFrom, isStar, answerFor, isShape, stopsBy, stopsFor, isMisshaped, wrongShape}
 use Rattle.streams.specs.StreamLaws.{eclipse-size, star-size}
 

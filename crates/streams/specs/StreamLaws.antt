@@ -10,11 +10,10 @@ use lib.Seq.{length-take-le}
 use Rattle.refusals.specs.declared.Refusal.{Refusal}
 use Rattle.circumstances.specs.declared.Answer.{Answer}
 use Rattle.circumstances.specs.declared.Answer.the-variants as A
-use Rattle.input.specs.Sheet.{answerTo, bufferFor, sinesFor, starAnswer, starBuffer, starSines}
+use Rattle.request_sheets.specs.Sheet.{answerTo, bufferFor, sinesFor, starAnswer, starBuffer, starSines, Begins, storedBy}
+use Rattle.request_sheets.specs.SheetLaws.{Fits, fits-written, fits, star-fits}
 use Rattle.decimals.specs.Texts.{Put, Counts}
 use Rattle.decimals.specs.TextLaws.{put-nil, put-then}
-use Rattle.answers.specs.Answers.{Begins, storedBy}
-use Rattle.answers.specs.AnswerLaws.{Fits, fits-written, fits, star-fits}
 use Rattle.streams.specs.Streams.{eclipseKind, starKind, sizeFrom, isStar, answerFor, roomFor, tableFor, sheetFor, toldLine, stopLine, isShape, refusalTold, toldBy, toldFor, stopsBy, stopsFor}
 
 -- ---- the first byte
@@ -54,14 +53,12 @@ module _ (s sines room : List ℕ) where
     eclipse-way e p q t = rw e (p, (q, t))
 
     any-fits : length left ≡ length room → AnswerIs a left table → Fits a left
-    unfolding answerFor roomFor
+    unfolding answerFor
     any-fits l m = by (isStar s) refl
       where
         by : (b : Bool) → isStar s ≡ b → Fits a left
-        by true e = let p : a ≡ starAnswer s sines room = rw e at (m .0) in let q : left ≡ starBuffer s sines room = rw e at (m .1 .0) in
-            star-fits s sines room a p left q l
-        by false e = let p : a ≡ answerTo s sines room = rw e at (m .0) in let q : left ≡ bufferFor s sines room = rw e at (m .1 .0) in
-            fits s sines room a p left q l
+        by true e = star-fits s sines room a (rw e at (m .0)) left l
+        by false e = fits s sines room a (rw e at (m .0)) left l
 
     -- ---- what `step` promises of request `count` at byte `at`: n bytes of the sheet's room, r of the line's, and whether the stream stops
     module _ (count at : ℕ) where

@@ -12,11 +12,10 @@ use Rattle.request_fields.specs.Fields.{elements, starElements}
 use Rattle.request_fields.specs.declared.Shape.the-variants as S
 use Rattle.request_bytes.specs.Layout.{Reading, numbers, misshaped}
 use Rattle.request_bytes.specs.Request.{sizeFor, readingFor}
-use Rattle.input.specs.Sheet.{answerTo, bufferFor, sinesFor, starAnswer, starBuffer, starSines}
+use Rattle.request_sheets.specs.Sheet.{answerTo, bufferFor, sinesFor, starAnswer, starBuffer, starSines, storedBy}
 use Rattle.decimals.specs.Decimals.{decimal}
 use Rattle.decimals.specs.Texts.{letters}
 use Rattle.lines.specs.Lines.{refusalLine}
-use Rattle.answers.specs.Answers.{storedBy}
 
 -- ---- where a request ends
 

@@ -6,7 +6,7 @@ use request_fields::STAR_LENGTH;
 ghost use mathlib.Core.Path.{_≡_};
 ghost use Prim.Native.Nat.{_≤_};
 ghost use Rattle.decimals.specs.Texts.{Put, Counts};
-ghost use Rattle.answers.specs.Answers.{Begins};
+ghost use Rattle.request_sheets.specs.Sheet.{Begins};
 ghost use Rattle.streams.specs.Streams.{sizeFrom, isStar, answerFor, roomFor, tableFor, sheetFor, toldLine, stopLine, isShape, refusalTold, toldFor, stopsFor};
 
 // What goes out for a request, and whether another may follow.
@@ -49,9 +49,9 @@ fn answer(request: &[u8], sines: &mut [u32], room: &mut [u8]) -> Answer
     ensures sines { λ r. ⌜ now (sines .exit) ≡ tableFor (now (request .entry)) (now (sines .entry)) ⌝ }
 {
     if is_star(request) {
-        return input::stars::sheet(request, sines, room);
+        return request_sheets::star_sheet(request, sines, room);
     }
-    input::sheet(request, sines, room)
+    request_sheets::sheet(request, sines, room)
 }
 
 fn is_shape(refusal: Refusal) -> bool

@@ -20,7 +20,7 @@ ghost use Rattle.sheets.specs.Handed.{listWhole, bufferAfterList};
 ghost use Rattle.requests.specs.Requests.{ofEclipse};
 ghost use Rattle.circumstances.specs.Demand3.{Claimed};
 ghost use Rattle.input.specs.Input.{requestOf};
-ghost use Rattle.input.specs.Sheet.{answerTo, bufferFor, sinesFor};
+ghost use Rattle.request_sheets.specs.Sheet.{answerTo, bufferFor, sinesFor};
 ghost use Rattle.replies.specs.Replies.{sheetReply, readGiven, readReply, writeGiven, writeReply};
 
 // The contact sheet of a request of 115 bytes, in the caller's buffer; value: its length. `sines` is room for table S.
@@ -37,7 +37,7 @@ pub extern "C" fn ukhtvaresh_sheet(
     ensures sines { λ r. ⌜ now (sines .exit) ≡ sinesFor (now (request .entry)) (now (sines .entry)) ⌝ }
     ensures demand3 { λ r. ⌜ Claimed (ofEclipse (requestOf (now (request .entry)))) (answerTo (now (request .entry)) (now (sines .entry)) (now (sheet .entry))) (now (sheet .exit)) ⌝ }
 {
-    let answer = input::sheet(request, sines, sheet);
+    let answer = request_sheets::sheet(request, sines, sheet);
     let reply = replies::sheet_reply(answer);
     *value = reply.value;
     reply.number

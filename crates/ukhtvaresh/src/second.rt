@@ -2,7 +2,8 @@
 use request_fields::Shape;
 ghost use mathlib.Core.Path.{_≡_};
 ghost use Rattle.request_fields.specs.declared.Shape.the-variants.{Eclipse, Star};
-ghost use Rattle.second_replies.specs.Second.{wish, sinesAsked, secondGiven, secondReply, numbersAfter, GivenMeans};
+ghost use Rattle.second_replies.specs.Second.{wish, sinesAsked, secondGiven, numbersAfter, GivenMeans};
+ghost use Rattle.replies.specs.Seconds.{secondReply};
 
 // The shadow at one second of a request of 115 bytes, which may lie outside its window: u, v, L1, L2, the states of penumbra and
 // central cone (0 outside, 1 inside, 2 unsure), magnitude, direction; value: 8. `sines` is room for table S.
@@ -14,14 +15,15 @@ pub extern "C" fn ukhtvaresh_second(
     shadow: &mut [i64],
     value: &mut u64,
 ) -> u64
-    ensures number { λ r. ⌜ r ≡ secondReply Eclipse (secondGiven Eclipse (now (request .entry)) second (now (sines .entry)) (now (shadow .entry))) .number ⌝ }
-    ensures value { λ r. ⌜ now (value .exit) ≡ secondReply Eclipse (secondGiven Eclipse (now (request .entry)) second (now (sines .entry)) (now (shadow .entry))) .value ⌝ }
+    ensures number { λ r. ⌜ r ≡ secondReply 8 (secondGiven Eclipse (now (request .entry)) second (now (sines .entry)) (now (shadow .entry))) .number ⌝ }
+    ensures value { λ r. ⌜ now (value .exit) ≡ secondReply 8 (secondGiven Eclipse (now (request .entry)) second (now (sines .entry)) (now (shadow .entry))) .value ⌝ }
     ensures buffer { λ r. ⌜ now (shadow .exit) ≡ numbersAfter Eclipse (secondGiven Eclipse (now (request .entry)) second (now (sines .entry)) (now (shadow .entry))) (now (shadow .entry)) ⌝ }
     ensures sines { λ r. ⌜ now (sines .exit) ≡ sinesAsked (wish Eclipse (now (request .entry))) second (now (sines .entry)) ⌝ }
     ensures means { λ r. ⌜ GivenMeans Eclipse (now (request .entry)) second (secondGiven Eclipse (now (request .entry)) second (now (sines .entry)) (now (shadow .entry))) (now (shadow .exit)) ⌝ }
 {
     let shape = Shape::Eclipse;
-    let reply = second_replies::second(shape, request, second, sines, shadow);
+    let given = second_replies::second(shape, request, second, sines, shadow);
+    let reply = replies::second_reply(8, given);
     *value = reply.value;
     reply.number
 }
@@ -36,14 +38,15 @@ pub extern "C" fn ukhtvaresh_star_second(
     shadow: &mut [i64],
     value: &mut u64,
 ) -> u64
-    ensures number { λ r. ⌜ r ≡ secondReply Star (secondGiven Star (now (request .entry)) second (now (sines .entry)) (now (shadow .entry))) .number ⌝ }
-    ensures value { λ r. ⌜ now (value .exit) ≡ secondReply Star (secondGiven Star (now (request .entry)) second (now (sines .entry)) (now (shadow .entry))) .value ⌝ }
+    ensures number { λ r. ⌜ r ≡ secondReply 5 (secondGiven Star (now (request .entry)) second (now (sines .entry)) (now (shadow .entry))) .number ⌝ }
+    ensures value { λ r. ⌜ now (value .exit) ≡ secondReply 5 (secondGiven Star (now (request .entry)) second (now (sines .entry)) (now (shadow .entry))) .value ⌝ }
     ensures buffer { λ r. ⌜ now (shadow .exit) ≡ numbersAfter Star (secondGiven Star (now (request .entry)) second (now (sines .entry)) (now (shadow .entry))) (now (shadow .entry)) ⌝ }
     ensures sines { λ r. ⌜ now (sines .exit) ≡ sinesAsked (wish Star (now (request .entry))) second (now (sines .entry)) ⌝ }
     ensures means { λ r. ⌜ GivenMeans Star (now (request .entry)) second (secondGiven Star (now (request .entry)) second (now (sines .entry)) (now (shadow .entry))) (now (shadow .exit)) ⌝ }
 {
     let shape = Shape::Star;
-    let reply = second_replies::second(shape, request, second, sines, shadow);
+    let given = second_replies::second(shape, request, second, sines, shadow);
+    let reply = replies::second_reply(5, given);
     *value = reply.value;
     reply.number
 }

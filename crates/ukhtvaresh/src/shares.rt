@@ -7,7 +7,7 @@ ghost use Rattle.circumstances.specs.Demand3.{Claimed};
 ghost use Rattle.covered.specs.Answer.{AnswerMeans};
 ghost use Rattle.request_fields.specs.declared.Shape.the-variants.{Eclipse};
 ghost use Rattle.input.specs.Input.{inputOf, requestOf};
-ghost use Rattle.input.specs.Sheet.{sharedAnswer, sharedBuffer, sharedSines};
+ghost use Rattle.request_sheets.specs.Sheet.{sharedAnswer, sharedBuffer, sharedSines};
 ghost use Rattle.replies.specs.Replies.{sheetReply};
 ghost use Rattle.second_replies.specs.Second.{wish, sinesAsked};
 ghost use Rattle.replies.specs.Shares.{shareReply};
@@ -27,7 +27,7 @@ pub extern "C" fn ukhtvaresh_sheet_and_share(
     ensures sines { λ r. ⌜ now (sines .exit) ≡ sharedSines (now (request .entry)) (now (sines .entry)) ⌝ }
     ensures demand3 { λ r. ⌜ Claimed (ofEclipse (withShare (requestOf (now (request .entry))))) (sharedAnswer (now (request .entry)) (now (sines .entry)) (now (sheet .entry))) (now (sheet .exit)) ⌝ }
 {
-    let answer = input::sheet_and_share(request, sines, sheet);
+    let answer = request_sheets::sheet_and_share(request, sines, sheet);
     let reply = replies::sheet_reply(answer);
     *value = reply.value;
     reply.number

@@ -2,8 +2,8 @@
 use Prim.Native.Nat.{_<_}
 use native.Mathlib.Omega.{arith}
 use lib.ListN.{length}
-use Rattle.listings.specs.AnswerLaws.{text-short, text-full}
-use Rattle.answers.specs.AnswerLaws.{fits, text-is}
+use Rattle.request_sheets.specs.SheetLaws.{fits}
+use Rattle.answers.specs.AnswerLaws.{short-told, full-told}
 use borrow.Author.Needs.{needs}
 use Rattle.answers.proofs.answer.Statement.{statement}
 use Rattle.answers.proofs.answer.Tie as tie
@@ -19,7 +19,7 @@ slice-aggregate-put-text : tie.Need-slice-aggregate-put-text
 slice-aggregate-put-text c = search needs
 
 put-text-requires : tie.Need-put-text-requires
-put-text-requires c κs = let m = c .before .before .before .before .before .before in fits _ _ _ _ (m .sheet .ensures .0) _ (m .sheet .ensures .1 .0) (omega arith)
+put-text-requires c κs = let m = c .before .before .before .before .before .before in fits _ _ _ _ (m .sheet .ensures .0) _ (omega arith)
 
 same-length : tie.Need-same-length
 same-length c = search needs
@@ -30,13 +30,11 @@ same-length-2 c = search needs
 returns : tie.Need-returns
 returns c =
     let m = c .before .before .before .before .before .before .before .before .before in
-    let a = m .before .before .before .before .before .before .before .args in
-    let t = text-is (a .request .now) (a .sines .now) (a .room .now) _ (m .sheet .ensures .0) _ (m .sheet .ensures .1 .0) in
-    let s = text-short _ _ _ (a .out .now) _ (c .before .before .put-text .ensures) (short (m .before .before .before)) (c .if1 .taken) in
-    rw (← t) (s .0, (s .1, (m .sheet .ensures .1 .0, m .sheet .ensures .1 .1 .0)))
+    let s = m .sheet .ensures in
+    short-told _ _ _ _ (s .0) _ (s .1 .0) _ (s .1 .1 .0) _ _ _ _ (c .before .before .put-text .ensures) (short (m .before .before .before)) (c .if1 .taken)
 
 put-text-requires-2 : tie.Need-put-text-requires-2
-put-text-requires-2 c κs = let m = c .before .before .before .before .before .before .before .before .before .before .before in fits _ _ _ _ (m .sheet .ensures .0) _ (m .sheet .ensures .1 .0) (omega arith)
+put-text-requires-2 c κs = let m = c .before .before .before .before .before .before .before .before .before .before .before in fits _ _ _ _ (m .sheet .ensures .0) _ (omega arith)
 
 same-length-3 : tie.Need-same-length-3
 same-length-3 c = search needs
@@ -51,10 +49,9 @@ returns-2 : tie.Need-returns-2
 returns-2 c =
     let n = c .before .before .before .before .before in
     let m = c .before .before .before .before .before .before .before .before .before .before .before .before .before .before in
-    let a = m .before .before .before .before .before .before .before .args in
-    let t = text-is (a .request .now) (a .sines .now) (a .room .now) _ (m .sheet .ensures .0) _ (m .sheet .ensures .1 .0) in
-    let s = text-full _ _ _ (a .out .now) _ (n .before .before .put-text .ensures) (short (m .before .before .before)) (n .if1 .left) _ _ (c .before .before .put-text2 .ensures) in
-    rw (← t) (s .0, (s .1, (m .sheet .ensures .1 .0, m .sheet .ensures .1 .1 .0)))
+    let s = m .sheet .ensures in
+    full-told _ _ _ _ (s .0) _ (s .1 .0) _ (s .1 .1 .0) _ _ _ _ (n .before .before .put-text .ensures) (short (m .before .before .before)) (n .if1 .left)
+    _ _ (c .before .before .put-text2 .ensures)
 
 pub answer-spec : {M : Type 1} → statement M
 answer-spec =

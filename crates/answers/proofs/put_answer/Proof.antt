@@ -1,6 +1,7 @@
 -- `answers::put_answer` meets its contract: the text is that of the answer and the bytes that it left.
 use native.Mathlib.Omega.{arith}
-use Rattle.answers.specs.AnswerLaws.{fits, text-is}
+use Rattle.request_sheets.specs.SheetLaws.{fits}
+use Rattle.answers.specs.AnswerLaws.{text-is}
 use borrow.Author.Needs.{needs}
 use Rattle.answers.proofs.put_answer.Statement.{statement}
 use Rattle.answers.proofs.put_answer.Tie as tie
@@ -9,7 +10,7 @@ sheet-requires : tie.Need-sheet-requires
 sheet-requires c κs = search needs
 
 put-text-requires : tie.Need-put-text-requires
-put-text-requires c κs = let m = c .before .before .before .before .before .before in fits _ _ _ _ (m .sheet .ensures .0) _ (m .sheet .ensures .1 .0) (omega arith)
+put-text-requires c κs = let m = c .before .before .before .before .before .before in fits _ _ _ _ (m .sheet .ensures .0) _ (omega arith)
 
 same-length : tie.Need-same-length
 same-length c = search needs

@@ -2,7 +2,8 @@
 use mathlib.Core.Path.{_∙_}
 use native.Mathlib.Omega.{arith}
 use Rattle.numbers.specs.Code.{read-result}
-use Rattle.answers.specs.AnswerLaws.{fits, timed-is}
+use Rattle.request_sheets.specs.SheetLaws.{fits}
+use Rattle.answers.specs.AnswerLaws.{timed-is}
 use borrow.Author.Needs.{needs}
 use Rattle.answers.proofs.put_timed_answer.Statement.{statement}
 use Rattle.answers.proofs.put_timed_answer.Tie as tie
@@ -14,7 +15,7 @@ sheet-requires : tie.Need-sheet-requires
 sheet-requires c κs = search needs
 
 put-text-requires : tie.Need-put-text-requires
-put-text-requires c κs = let m = c .before .before .before .before .before .before in fits _ _ _ _ (m .sheet .ensures .0) _ (m .sheet .ensures .1 .0) (omega arith)
+put-text-requires c κs = let m = c .before .before .before .before .before .before in fits _ _ _ _ (m .sheet .ensures .0) _ (omega arith)
 
 same-length : tie.Need-same-length
 same-length c = search needs

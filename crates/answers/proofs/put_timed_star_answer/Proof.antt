@@ -2,7 +2,8 @@
 use mathlib.Core.Path.{_∙_}
 use native.Mathlib.Omega.{arith}
 use Rattle.numbers.specs.Code.{read-result}
-use Rattle.answers.specs.AnswerLaws.{star-fits, star-timed}
+use Rattle.request_sheets.specs.SheetLaws.{star-fits}
+use Rattle.answers.specs.AnswerLaws.{star-timed}
 use borrow.Author.Needs.{needs}
 use Rattle.answers.proofs.put_timed_star_answer.Statement.{statement}
 use Rattle.answers.proofs.put_timed_star_answer.Tie as tie
@@ -10,11 +11,11 @@ use Rattle.answers.proofs.put_timed_star_answer.Tie as tie
 deltat-requires : tie.Need-deltat-requires
 deltat-requires c κs = search needs
 
-sheet-requires : tie.Need-sheet-requires
-sheet-requires c κs = search needs
+star-sheet-requires : tie.Need-star-sheet-requires
+star-sheet-requires c κs = search needs
 
 put-text-requires : tie.Need-put-text-requires
-put-text-requires c κs = let m = c .before .before .before .before .before .before in star-fits _ _ _ _ (m .sheet .ensures .0) _ (m .sheet .ensures .1 .0) (omega arith)
+put-text-requires c κs = let m = c .before .before .before .before .before .before in star-fits _ _ _ _ (m .star-sheet .ensures .0) _ (omega arith)
 
 same-length : tie.Need-same-length
 same-length c = search needs
@@ -30,15 +31,15 @@ returns c =
     let m = c .before .before .before .before .before .before .before .before .before in
     let d = m .before .before .before .deltat in
     let a = m .before .before .before .before .before .before .before .before .args in
-    let t = star-timed _ _ _ _ (m .sheet .ensures .0) _ (m .sheet .ensures .1 .0) (a .reference) _ (read-result (d .result) (d .ok) ∙ d .ensures) in
-    (rw (← t) (c .before .before .put-text .ensures), (m .sheet .ensures .1 .0, m .sheet .ensures .1 .1 .0))
+    let t = star-timed _ _ _ _ (m .star-sheet .ensures .0) _ (m .star-sheet .ensures .1 .0) (a .reference) _ (read-result (d .result) (d .ok) ∙ d .ensures) in
+    (rw (← t) (c .before .before .put-text .ensures), (m .star-sheet .ensures .1 .0, m .star-sheet .ensures .1 .1 .0))
 
 pub put-timed-star-answer-spec : {M : Type 1} → statement M
 put-timed-star-answer-spec =
     tie.close
     (tie.spec
     deltat-requires
-    sheet-requires
+    star-sheet-requires
     put-text-requires
     same-length
     same-length-2

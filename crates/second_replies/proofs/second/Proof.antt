@@ -6,7 +6,7 @@ use mir.Syntax.{w64}
 use mir.Val.{toZ, ofZ}
 use mir.ValLaws.{toZ-ofZ}
 use Rattle.seconds.specs.declared.OneSecond.{OneSecond}
-use Rattle.second_replies.specs.Second.{wish, secondAsked, sinesAsked, numberCount, secondInto, secondGiven, secondReply, numbersAfter}
+use Rattle.second_replies.specs.Second.{wish, secondAsked, sinesAsked, numberCount, secondInto, secondGiven, numbersAfter}
 use Rattle.second_replies.specs.SecondLaws.{second-fits, given-means}
 use Rattle.second_replies.proofs.second.Statement.{statement}
 use Rattle.second_replies.proofs.second.Tie as tie
@@ -38,10 +38,6 @@ module _ (c : tie.After-in-room) where
   sines-is : asked .asked .last .1 .1 .1 .0 ≡ sinesAsked (wish (start .args .shape) (start .args .request .now)) (start .args .second) (start .args .sines .now)
   sines-is = asked .asked .ensures .1 ∙ ap (λ τ. sinesAsked (wish (start .args .shape) (start .args .request .now)) τ (start .args .sines .now)) second-is
 
--- and the reply to it
-reply-is : (c : tie.After-second-reply) → c .second-reply .result ≡ secondReply (start (c .before) .args .shape) (given (c .before))
-reply-is c = c .second-reply .ensures ∙ ap (secondReply (start (c .before) .args .shape)) (given-is (c .before))
-
 asked-requires : tie.Need-asked-requires
 asked-requires c κs = search needs
 
@@ -51,16 +47,13 @@ number-count-requires c κs = search needs
 in-room-requires : tie.Need-in-room-requires
 in-room-requires c κs = search needs
 
-second-reply-requires : tie.Need-second-reply-requires
-second-reply-requires c κs = search needs
-
 enum-known-given : tie.Need-enum-known-given
 enum-known-given c = search needs
 
 put-numbers-requires : tie.Need-put-numbers-requires
 unfolding secondGiven
 put-numbers-requires c κs =
-    let got = c .before .before .before .before .before in
+    let got = c .before .before .before .before in
     let known = c .before .before .given .given in
     let a = start got .args in
     second-fits (numberCount (a .shape)) (length (a .shadow .now)) (known .0 .0) (secondAsked (wish (a .shape) (a .request .now)) (a .second) (a .sines .now))
@@ -77,22 +70,21 @@ same-length-2 c = search needs
 
 returns : tie.Need-returns
 returns c =
-    let replied = c .before .before .before .before .before .before in
-    let got = replied .before in
+    let got = c .before .before .before .before .before .before in
     let a = start got .args in
-    let room = c .before .put-numbers .ensures ∙ ap (λ x. numbersAfter (a .shape) x (a .shadow .now)) (sym (c .before .before .before .before .given .given .1) ∙ given-is got) in
-    (reply-is replied, (room, (sines-is got, given-means (a .shape) (a .request .now) (a .second) (a .sines .now) (a .shadow .now) _ room)))
+    let is = sym (c .before .before .before .before .given .given .1) ∙ given-is got in
+    let room = c .before .put-numbers .ensures ∙ ap (λ x. numbersAfter (a .shape) x (a .shadow .now)) is in
+    (is, (room, (sines-is got, given-means (a .shape) (a .request .now) (a .second) (a .sines .now) (a .shadow .now) _ room)))
 
 same-length-3 : tie.Need-same-length-3
 same-length-3 c = search needs
 
 returns-2 : tie.Need-returns-2
 returns-2 c =
-    let replied = c .before .before in
-    let got = replied .before in
+    let got = c .before .before in
     let a = start got .args in
     let room = ap (λ x. numbersAfter (a .shape) x (a .shadow .now)) (sym (c .enum-told .given .1) ∙ given-is got) in
-    (reply-is replied, (room, (sines-is got, given-means (a .shape) (a .request .now) (a .second) (a .sines .now) (a .shadow .now) (a .shadow .now) room)))
+    (given-is got, (room, (sines-is got, given-means (a .shape) (a .request .now) (a .second) (a .sines .now) (a .shadow .now) (a .shadow .now) room)))
 
 pub second-spec : {M : Type 1} → statement M
 second-spec =
@@ -101,7 +93,6 @@ second-spec =
     asked-requires
     number-count-requires
     in-room-requires
-    second-reply-requires
     enum-known-given
     put-numbers-requires
     enum-told

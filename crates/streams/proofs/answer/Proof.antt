@@ -8,8 +8,8 @@ use Rattle.streams.proofs.answer.Tie as tie
 is-star-requires : tie.Need-is-star-requires
 is-star-requires c κs = search needs
 
-sheet-requires : tie.Need-sheet-requires
-sheet-requires c κs = search needs
+star-sheet-requires : tie.Need-star-sheet-requires
+star-sheet-requires c κs = search needs
 
 same-length : tie.Need-same-length
 same-length c = search needs
@@ -19,12 +19,12 @@ same-length-2 c = search needs
 
 returns : tie.Need-returns
 returns c =
-    let m = c .before .before .before .before .sheet .ensures in
+    let m = c .before .before .before .before .star-sheet .ensures in
     let t = c .before .before .before .before .before .before .before in
     star-way _ _ _ _ _ _ (sym (t .before .is-star .ensures) ∙ t .if1 .taken) (m .0) (m .1 .0) (m .1 .1 .0)
 
-sheet-requires-2 : tie.Need-sheet-requires-2
-sheet-requires-2 c κs = search needs
+sheet-requires : tie.Need-sheet-requires
+sheet-requires c κs = search needs
 
 same-length-3 : tie.Need-same-length-3
 same-length-3 c = search needs
@@ -34,7 +34,7 @@ same-length-4 c = search needs
 
 returns-2 : tie.Need-returns-2
 returns-2 c =
-    let m = c .before .before .before .before .sheet2 .ensures in
+    let m = c .before .before .before .before .sheet .ensures in
     let t = c .before .before .before .before .before .before .before in
     eclipse-way _ _ _ _ _ _ (sym (t .before .is-star .ensures) ∙ t .if1 .left) (m .0) (m .1 .0) (m .1 .1 .0)
 
@@ -43,11 +43,11 @@ answer-spec =
     tie.close
     (tie.spec
     is-star-requires
-    sheet-requires
+    star-sheet-requires
     same-length
     same-length-2
     returns
-    sheet-requires-2
+    sheet-requires
     same-length-3
     same-length-4
     returns-2)

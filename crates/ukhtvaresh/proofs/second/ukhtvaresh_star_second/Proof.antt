@@ -3,12 +3,15 @@ use borrow.Author.Needs.{needs}
 use mir.Syntax.{w64}
 use mir.ValLaws.{toZ-ofZ}
 use Rattle.request_fields.specs.declared.Shape.the-variants.{Star}
-use Rattle.second_replies.specs.SecondLaws.{second-replied}
+use Rattle.ukhtvaresh.proofs.Seconds.{second-replied}
 use Rattle.ukhtvaresh.proofs.second.ukhtvaresh_star_second.Statement.{statement}
 use Rattle.ukhtvaresh.proofs.second.ukhtvaresh_star_second.Tie as tie
 
 second-requires : tie.Need-second-requires
 second-requires c κs = search needs
+
+second-reply-requires : tie.Need-second-reply-requires
+second-reply-requires c κs = search needs
 
 same-length : tie.Need-same-length
 same-length c = search needs
@@ -18,10 +21,11 @@ same-length-2 c = search needs
 
 returns : tie.Need-returns
 returns c =
-    let said = c .before .before .before in
+    let said = c .before .before .before .before in
     let start = said .before .before .before .before .before in
     let a = start .args in
-    second-replied Star (a .request .now) (a .sines .now) (a .shadow .now) (toZ-ofZ w64 (a .second) (start .fits .second)) (said .second .ensures)
+    second-replied Star (a .request .now) (a .sines .now) (a .shadow .now) 5 (toZ-ofZ w64 (a .second) (start .fits .second)) (c .second-reply .ensures)
+    (said .second .ensures)
 
 pub ukhtvaresh-star-second-spec : {M : Type 1} → statement M
-ukhtvaresh-star-second-spec = tie.close (tie.spec second-requires same-length same-length-2 returns)
+ukhtvaresh-star-second-spec = tie.close (tie.spec second-requires second-reply-requires same-length same-length-2 returns)

@@ -6,8 +6,8 @@ use Rattle.replies.specs.SheetLaws.{replied}
 use Rattle.ukhtvaresh.proofs.stars.ukhtvaresh_star.Statement.{statement}
 use Rattle.ukhtvaresh.proofs.stars.ukhtvaresh_star.Tie as tie
 
-sheet-requires : tie.Need-sheet-requires
-sheet-requires c κs = search needs
+star-sheet-requires : tie.Need-star-sheet-requires
+star-sheet-requires c κs = search needs
 
 sheet-reply-requires : tie.Need-sheet-reply-requires
 sheet-reply-requires c κs = search needs
@@ -22,8 +22,8 @@ returns : tie.Need-returns
 returns c =
     let made = c .before .before .before .before .before in
     let request = made .before .before .before .before .before .before .args .request .now in
-    replied (ofStar (starRequestOf request)) (c .sheet-reply .ensures) (made .sheet .ensures)
+    replied (ofStar (starRequestOf request)) (c .sheet-reply .ensures) (made .star-sheet .ensures)
 
 pub ukhtvaresh-star-spec : {M : Type 1} → statement M
 ukhtvaresh-star-spec =
-    tie.close (tie.spec sheet-requires sheet-reply-requires same-length same-length-2 returns)
+    tie.close (tie.spec star-sheet-requires sheet-reply-requires same-length same-length-2 returns)

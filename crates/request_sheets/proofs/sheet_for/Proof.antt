@@ -1,8 +1,8 @@
--- `input::sheet_for` meets its contract: the sheet of what is asked for; a shape that is refused leaves room and buffer alone. Assumes nothing.
+-- `request_sheets::sheet_for` meets its contract: the sheet of what is asked for; a shape that is refused leaves room and buffer alone. Assumes nothing.
 use borrow.Author.Needs.{needs}
-use Rattle.input.specs.SheetLaws.{of-occultation, of-refusal}
-use Rattle.input.proofs.sheet_for.Statement.{statement}
-use Rattle.input.proofs.sheet_for.Tie as tie
+use Rattle.request_sheets.specs.SheetLaws.{of-occultation, of-refusal}
+use Rattle.request_sheets.proofs.sheet_for.Statement.{statement}
+use Rattle.request_sheets.proofs.sheet_for.Tie as tie
 
 enum-known-asked : tie.Need-enum-known-asked
 enum-known-asked c = search needs

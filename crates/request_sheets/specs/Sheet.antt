@@ -1,13 +1,15 @@
 -- The sheet of the program's input: the answer, and what the buffer and the room for table S hold afterwards.
 -- Assumes nothing: these are definitions.
-use mathlib.Core.List.{List}
+use mathlib.Core.Path.{_≡_}
+use mathlib.Core.List.{List, []}
 use Prim.Native.Nat.{ℕ}
+use lib.ListN.{length, take}
 use Rattle.circumstances.specs.declared.Answer.{Answer}
 use Rattle.circumstances.specs.declared.Answer.the-variants as A
 use Rattle.circumstances.specs.Sheet.{sheetAnswer, sheetBuffer, sheetSines}
 use Rattle.input.specs.declared.Asked.{Asked}
 use Rattle.input.specs.declared.Asked.the-variants as W
 use Rattle.input.specs.Input.{inputOf, sharing, eclipseAsked, starAsked}
 
 -- "Requests: 10, 1, 2, 3, 4": the shape comes first
 abbrev pub answerBy : Asked → (sines old : List ℕ) → Answer
@@ -54,3 +56,18 @@ starBuffer input sines old = bufferBy (starAsked input) sines old
 
 unfoldable pub starSines : (input sines : List ℕ) → List ℕ
 starSines input sines = sinesBy (starAsked input) sines
+
+-- ---- the sheet as it is stored
+
+-- the first n bytes of a room are some text
+pub record Begins (n : ℕ) (room text : List ℕ) : Type 0 where
+  pub count : n ≡ length text
+  pub bytes : take n room ≡ text
+
+-- to standard output: the bytes that the sheet has in the room, or nothing
+abbrev pub storedBy : Answer → List ℕ → List ℕ
+storedBy (A.Written n) room = take n room
+storedBy (A.Refused r) room = []
+
+unfoldable pub sheetStored : (input sines old : List ℕ) → List ℕ
+sheetStored input sines old = storedBy (answerTo input sines old) (bufferFor input sines old)

@@ -1,10 +1,10 @@
--- `input::sheet_and_share` meets its contract: it is the sheet of that request with a share asked for. Assumes nothing.
+-- `request_sheets::sheet_and_share` meets its contract: it is the sheet of that request with a share asked for. Assumes nothing.
 use mathlib.Core.Path.{ap, _∙_}
 use borrow.Author.Needs.{needs}
 use Rattle.input.specs.Input.{sharing, eclipseAsked}
-use Rattle.input.specs.SheetLaws.{promised-shared}
-use Rattle.input.proofs.sheet_and_share.Statement.{statement}
-use Rattle.input.proofs.sheet_and_share.Tie as tie
+use Rattle.request_sheets.specs.SheetLaws.{promised-shared}
+use Rattle.request_sheets.proofs.sheet_and_share.Statement.{statement}
+use Rattle.request_sheets.proofs.sheet_and_share.Tie as tie
 
 request-requires : tie.Need-request-requires
 request-requires c κs = search needs

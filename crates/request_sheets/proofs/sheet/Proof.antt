@@ -1,10 +1,10 @@
--- `input::sheet` meets its contract: it is the sheet of the request that the bytes hold. Assumes nothing.
+-- `request_sheets::sheet` meets its contract: it is the sheet of the request that the bytes hold. Assumes nothing.
 use mathlib.Core.Path.{ap, _∙_}
 use borrow.Author.Needs.{needs}
 use Rattle.input.specs.Input.{eclipseAsked}
-use Rattle.input.specs.SheetLaws.{promised}
-use Rattle.input.proofs.sheet.Statement.{statement}
-use Rattle.input.proofs.sheet.Tie as tie
+use Rattle.request_sheets.specs.SheetLaws.{promised}
+use Rattle.request_sheets.proofs.sheet.Statement.{statement}
+use Rattle.request_sheets.proofs.sheet.Tie as tie
 
 request-requires : tie.Need-request-requires
 request-requires c κs = search needs

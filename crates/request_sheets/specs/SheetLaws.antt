@@ -15,13 +15,13 @@ use Rattle.circumstances.specs.declared.Answer.the-variants as A
 use Rattle.circumstances.specs.Sheet.{sheetAnswer, sheetBuffer, sheetSines}
 use Rattle.circumstances.specs.Demand3.{Claimed}
 use Rattle.circumstances.specs.Claims as Claims
 use Rattle.input.specs.declared.Input.{Input}
 use Rattle.input.specs.declared.Input.the-variants as I
 use Rattle.input.specs.declared.Asked.{Asked}
 use Rattle.input.specs.declared.Asked.the-variants as W
 use Rattle.input.specs.Input.{inputOf, requestOf, sharing, eclipseAsked, starAsked, starRequestOf}
-use Rattle.input.specs.InputLaws.{request-is, shape-is, star-request-is, star-shape-is}
-use Rattle.input.specs.Sheet.{answerBy, answerTo, bufferBy, bufferFor, sinesBy, sinesFor, sharedAnswer, sharedBuffer, sharedSines, starAnswer, starBuffer, starSines}
+use Rattle.input.specs.InputLaws.{request-is, shape-is, asked-is, asked-shape, star-request-is, star-shape-is}
+use Rattle.request_sheets.specs.Sheet.{answerBy, answerTo, bufferBy, bufferFor, sinesBy, sinesFor, sharedAnswer, sharedBuffer, sharedSines, starAnswer, starBuffer, starSines}
 
 -- ---- the sheet of what was asked for
 
@@ -56,23 +56,9 @@ module _ (i : Asked) (sines old : List ℕ) where
 
 -- of an input whose request, where there is one, is q
 module _ (i : Input) (q : Request) (is : (p : Request) → i ≡ I.Is p → p ≡ q) (shape : (x : Refusal) → i ≡ I.Refused x → x ≡ refusal 10 0) where
-  pub asked-is : (o : Occultation) → eclipseAsked i ≡ W.Is o → o ≡ ofEclipse q
-  asked-is o e = by i refl e
-    where
-      by : (j : Input) → i ≡ j → eclipseAsked j ≡ W.Is o → o ≡ ofEclipse q
-      by (I.Is p) f g = let h : ofEclipse p ≡ o = cc in sym h ∙ ap ofEclipse (is p f)
-      by (I.Refused x) f g = let z : _≡_ {A = ℕ} 0 1 = cc in absurd (omega arith)
-
-  asked-shape : (x : Refusal) → eclipseAsked i ≡ W.Refused x → x ≡ refusal 10 0
-  asked-shape x e = by i refl e
-    where
-      by : (j : Input) → i ≡ j → eclipseAsked j ≡ W.Refused x → x ≡ refusal 10 0
-      by (I.Is p) f g = let z : _≡_ {A = ℕ} 0 1 = cc in absurd (omega arith)
-      by (I.Refused y) f g = let h : y ≡ x = cc in sym h ∙ shape y f
-
   claimed-eclipse : (sines old : List ℕ) (r : Answer) (new : List ℕ) → r ≡ answerBy (eclipseAsked i) sines old → ClaimedBy (eclipseAsked i) r new
       → Claimed (ofEclipse q) r new
-  claimed-eclipse sines old r new e c = claimed (eclipseAsked i) sines old (ofEclipse q) asked-is asked-shape r new e c
+  claimed-eclipse sines old r new e c = claimed (eclipseAsked i) sines old (ofEclipse q) (asked-is i q is) (asked-shape i shape) r new e c
 
 abbrev pub Promised : (input sines old : List ℕ) → Answer → (new room : List ℕ) → Type 0
 Promised s sines old r new room = (r ≡ answerTo s sines old)
@@ -117,15 +103,26 @@ module _ (s sines old : List ℕ) where
       (m .0, (m .1 .0, (m .1 .1 .0, claimed (starAsked s) sines old (ofStar (starRequestOf s)) (star-request-is s) (star-shape-is s) r new (m .0) (m .1 .1 .1))))
 
 -- ---- what was written fits
-fits-by : (i : Asked) (sines old : List ℕ) (n : ℕ) → answerBy i sines old ≡ A.Written n → n ≤ length old
-fits-by (W.Is o) sines old n f = Claims.written-fits o sines old n f
-fits-by (W.Refused r) sines old n f = let z : _≡_ {A = ℕ} 0 1 = cc in absurd (omega arith)
 
-module _ (s sines old : List ℕ) (n : ℕ) where
-  pub written-fits : answerTo s sines old ≡ A.Written n → n ≤ length old
+-- the room
+abbrev pub Fits : Answer → List ℕ → Type 0
+Fits (A.Written n) room = n ≤ length room
+Fits (A.Refused r) room = Unit {0}
+
+pub fits-written : (a : Answer) (room : List ℕ) (n : ℕ) → a ≡ A.Written n → Fits a room → n ≤ length room
+fits-written a room n e f = subst (λ (b : Answer). Fits b room) e f
+
+fits-by : (i : Asked) (sines old : List ℕ) (a : Answer) → a ≡ answerBy i sines old → (left : List ℕ) → length left ≡ length old → Fits a left
+fits-by (W.Is o) sines old (A.Written n) e left l = omega (arith, Claims.written-fits o sines old n (sym e), l)
+fits-by (W.Is o) sines old (A.Refused r) e left l = tt
+fits-by (W.Refused x) sines old (A.Written n) e left l = let z : _≡_ {A = ℕ} 0 1 = cc in absurd (omega arith)
+fits-by (W.Refused x) sines old (A.Refused r) e left l = tt
+
+module _ (s sines old : List ℕ) (a : Answer) where
+  pub fits : a ≡ answerTo s sines old → (left : List ℕ) → length left ≡ length old → Fits a left
   unfolding answerTo
-  written-fits e = fits-by (eclipseAsked (inputOf s)) sines old n e
+  fits e left l = fits-by (eclipseAsked (inputOf s)) sines old a e left l
 
-  pub star-fits : starAnswer s sines old ≡ A.Written n → n ≤ length old
+  pub star-fits : a ≡ starAnswer s sines old → (left : List ℕ) → length left ≡ length old → Fits a left
   unfolding starAnswer
-  star-fits e = fits-by (starAsked s) sines old n e
+  star-fits e left l = fits-by (starAsked s) sines old a e left l

@@ -1,0 +1,2 @@
+-- what several proofs use
+pub mod Seconds
