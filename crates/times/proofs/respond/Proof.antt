@@ -13,18 +13,15 @@ read-requires c κs = search needs
 enum-known-answer : tie.Need-enum-known-answer
 enum-known-answer c = search needs
 
-clock-of-requires : tie.Need-clock-of-requires
-clock-of-requires c κs = search needs
-
 array-share-prefix-bytes : tie.Need-array-share-prefix-bytes
 array-share-prefix-bytes c =
-    let read = c .before .before .before .before .read in
-    bytes-first _ _ _ _ _ (sym (c .before .before .answer .given .1) ∙ read .ensures .0) (read .ensures .1 .0) .counts .0
+    let read = c .before .before .before .read in
+    bytes-first _ _ _ _ _ (sym (c .before .answer .given .1) ∙ read .ensures .0) (read .ensures .1 .0) .counts .0
 
 slice-aggregate-put-text : tie.Need-slice-aggregate-put-text
 slice-aggregate-put-text c =
-    let read = c .before .before .before .before .before .read in
-    bytes-first _ _ _ _ _ (sym (c .before .before .before .answer .given .1) ∙ read .ensures .0) (read .ensures .1 .0) .counts .1
+    let read = c .before .before .before .before .read in
+    bytes-first _ _ _ _ _ (sym (c .before .before .answer .given .1) ∙ read .ensures .0) (read .ensures .1 .0) .counts .1
 
 put-text-requires : tie.Need-put-text-requires
 put-text-requires c κs = search needs
@@ -44,11 +41,9 @@ same-length-3 c = search needs
 returns : tie.Need-returns
 returns c =
     let put = c .before .before .before .before .before .before in
-    let clock = put .before .before .before .before .before in
-    let answer = clock .before .before in
+    let answer = put .before .before .before .before .before .before in
     let read = answer .before .before .read in
-    listing-out (bytes-first _ _ _ _ _ (sym (answer .answer .given .1) ∙ read .ensures .0) (read .ensures .1 .0)) _ _ _ _ (read .last .1 .1 .0) _ _ (clock .clock-of .ensures)
-    (put .put-text .ensures)
+    listing-out (bytes-first _ _ _ _ _ (sym (answer .answer .given .1) ∙ read .ensures .0) (read .ensures .1 .0)) _ _ _ _ (read .last .1 .1 .0) _ (put .put-text .ensures)
 
 returns-2 : tie.Need-returns-2
 returns-2 c =
@@ -61,7 +56,6 @@ respond-spec =
     (tie.spec
     read-requires
     enum-known-answer
-    clock-of-requires
     array-share-prefix-bytes
     slice-aggregate-put-text
     put-text-requires
