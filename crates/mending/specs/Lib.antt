@@ -5,6 +5,5 @@ pub mod StepLaws
 pub mod StretchLaws
 pub mod NoteLaws
 pub mod KeptLaws
-pub mod Repeats
 pub mod WalkLaws
 pub mod AnswerLaws

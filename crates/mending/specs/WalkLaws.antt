@@ -14,14 +14,10 @@ use Rattle.sheets.specs.Sheets.{Sheet, sheet, refused, readSheet, extentOf}
 use Rattle.sheets.specs.SheetLaws.{extent-inv, extent-refused}
 use Rattle.decimals.specs.Texts.{Put}
 use Rattle.decimals.specs.TextLaws.{Putting, putting-start, putting-turn, putting-end}
+use Rattle.repeats.specs.Leading.{leading, NoneBefore}
+use Rattle.repeats.specs.BoundLaws.{sheet-bounds}
 use Rattle.mending.specs.Mending.{Step, keep, lose, steps, keptIn, kept, Stretch, ended, stretchesIn, stretches, noteOf, notesOf, notes}
-use Rattle.mending.specs.StepLaws.{sheet-bounds, steps-nil, steps-keep, steps-lose}
-use Rattle.mending.specs.Repeats.{leading}
-
--- no sheet begins at the n places before `at`
-pub record NoneBefore (file : List ℕ) (at n : ℕ) : Type 0 where
-  pub within : n ≤ at
-  pub none : (i : ℕ) → i < at → at ≤ i + n → leading (readSheet (drop i file)) ≡ 0
+use Rattle.mending.specs.StepLaws.{steps-nil, steps-keep, steps-lose}
 
 -- the walk stands at `at`, `lost` bytes were dropped right before it, and what was kept and noted so far is put up to k and m
 pub record Walking (file sheets₀ dropped₀ sheets dropped : List ℕ) (at lost k m : ℕ) : Type 0 where
@@ -116,20 +112,3 @@ module _ (file sheets₀ dropped₀ sheets dropped : List ℕ) (at lost k m : �
     pub walking-noted : (new : List ℕ) (m' : ℕ) → Put dropped m (notesOf (ended at lost)) new m' → Put dropped₀ 0 (notes file) new m'
     unfolding stretchesIn
     walking-noted new m' p = f .noting .rest new m' (rw over p)
-
--- ---- what the reader tells of the bytes from a place on
-
-part-all : (file : List ℕ) (at : ℕ) → take (length file - at) (drop at file) ≡ drop at file
-part-all file at = take-all (length file - at) (drop at file) (omega (arith, length-drop at file))
-
-pub found-one : (file : List ℕ) (at k n : ℕ) → X.Sheet k n ≡ extentOf (readSheet (take (length file - at) (drop at file)))
-    → n ≡ leading (readSheet (drop at file))
-found-one file at k n q =
-    let s = take (length file - at) (drop at file) in
-    sym (ap leading (extent-inv (readSheet s) k n q .1)) ∙ ap (λ x. leading (readSheet x)) (part-all file at)
-
-pub found-none : (file : List ℕ) (at : ℕ) (r : Refusal) → X.Refused r ≡ extentOf (readSheet (take (length file - at) (drop at file)))
-    → 0 ≡ leading (readSheet (drop at file))
-found-none file at r q =
-    let s = take (length file - at) (drop at file) in
-    sym (ap leading (extent-refused (readSheet s) r q)) ∙ ap (λ x. leading (readSheet x)) (part-all file at)

@@ -1,17 +1,11 @@
 // Mending the year file (document 02, wish 11): the sheets that were kept, and each stretch of dropped bytes, apart.
 mod notes;
-mod repeats;
 
 use refusals::Refusal;
-use sheets::Extent;
 ghost use mathlib.Core.Path.{_≡_};
-ghost use Prim.Native.Nat.{_≤_};
-ghost use lib.ListN.{length, drop};
-ghost use Rattle.sheets.specs.Sheets.{readSheet};
+ghost use lib.ListN.{length};
 ghost use Rattle.decimals.specs.Texts.{Put};
 ghost use Rattle.mending.specs.Mending.{kept, notes, answerTo, roomAfter};
-ghost use Rattle.mending.specs.Repeats.{leading};
-ghost use Rattle.mending.specs.WalkLaws.{NoneBefore};
 
 // How many bytes were written into each room, or why none was.
 pub enum Answer {
@@ -25,22 +19,6 @@ struct Ends {
     noted: usize,
 }
 
-// How long the sheet is that begins at a place; 0 where none does. `lost` bytes were dropped right before it.
-fn sheet_at(file: &[u8], at: usize, lost: usize) -> usize
-    requires { ⌜ at ≤ length (now file) ⌝ }
-    requires { ⌜ NoneBefore (now file) at lost ⌝ }
-    ensures { λ r. ⌜ r ≡ leading (readSheet (drop at (now (file .entry)))) ⌝ }
-{
-    if repeats::is_again(file, at, lost) {
-        return 0;
-    }
-    let found = sheets::extent_of_leading_sheet(&file[at..]);
-    match found {
-        Extent::Sheet { entries: _, length } => length,
-        Extent::Refused(_) => 0,
-    }
-}
-
 // The walk: what is kept into the one room, what is noted into the other, as far as each goes.
 fn walk(file: &[u8], sheets: &mut [u8], dropped: &mut [u8]) -> Ends
     ensures kept { λ r. ⌜ Put (now (sheets .entry)) 0 (kept (now (file .entry))) (now (sheets .exit)) (r .kept) ⌝ }
@@ -51,7 +29,7 @@ fn walk(file: &[u8], sheets: &mut [u8], dropped: &mut [u8]) -> Ends
     let mut kept = 0;
     let mut noted = 0;
     while at < file.len() {
-        let length = sheet_at(file, at, lost);
+        let length = repeats::sheet_at(file, at, lost);
         if length == 0 {
             at += 1;
             lost += 1;

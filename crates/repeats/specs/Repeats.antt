@@ -6,7 +6,7 @@ use mathlib.Core.Path.{_≡_, refl, sym, ap, _∙_}
 use mathlib.Core.List.{List, [], _∷_, _++_, append-assoc}
 use mathlib.Core.Bool.{true, false, _&&_, _||_}
 use native.Mathlib.Omega.{arith}
-use native.Mathlib.Nat.{add-zero}
+use native.Mathlib.Nat.{add-zero, add-assoc}
 use borrow.Author.Tests.{leb-true}
 use lib.Dec.{leb, eqb}
 use lib.ListN.{length, take, drop, getD, length-append, length-drop, take-append-drop}
@@ -37,27 +37,27 @@ use Rattle.sheets.specs.StoredLaws.{stored-steady, stand-bytes}
 use Rattle.sheets.specs.RoundTrip.{read-back}
 use Rattle.sheets.specs.WellFormed.{WellFormed}
 use Rattle.sheets.specs.WellFormedLaws.{well-step, step-open}
-use Rattle.mending.specs.StepLaws.{sheet-bounds}
-
--- how long the sheet is that some bytes begin with; 0 where they begin with none
-abbrev pub leading : Sheet → ℕ
-leading (sheet es n) = n
-leading (refused r) = 0
+use Rattle.repeats.specs.Leading.{leading}
+use Rattle.repeats.specs.BoundLaws.{sheet-bounds}
 
 -- the 14 bytes at a place stand 5 bytes before it too
 abbrev pub SameBefore : List ℕ → ℕ → Type 0
 SameBefore file at = (i : ℕ) → i < 14 → getD file (at - 5 + i) 0 ≡ getD file (at + i) 0
 
--- they are a head, and an open entry from and to one second
+-- an open entry from and to one second stands at a place
+pub record OpenOnce (file : List ℕ) (at : ℕ) : Type 0 where
+  pub phase : Phase
+  pub kind : kindFor (getD file at 0) ≡ Named.Is (K.Open phase)
+  pub high : getD file (at + 1) 0 ≡ getD file (at + 3) 0
+  pub low : getD file (at + 2) 0 ≡ getD file (at + 4) 0
+
+-- the 14 bytes are a head, and such an entry
 pub record Again (file : List ℕ) (at : ℕ) : Type 0 where
   pub back : 5 ≤ at
   pub long : at + 14 ≤ length file
   pub same : SameBefore file at
   pub head : getD file at 0 ≡ 0x01
-  pub phase : Phase
-  pub opens : kindFor (getD file (at + 9) 0) ≡ Named.Is (K.Open phase)
-  pub high : getD file (at + 10) 0 ≡ getD file (at + 12) 0
-  pub low : getD file (at + 11) 0 ≡ getD file (at + 13) 0
+  pub opens : OpenOnce file (at + 9)
 
 -- ---- the entry once more keeps the rules
 
@@ -115,7 +115,7 @@ module _ (file : List ℕ) (at : ℕ) (b : Bytes file) (g : Again file at) where
   second = twoAt here 10
 
   entry : Entry
-  entry = opened (g .phase) second second
+  entry = opened (g .opens .phase) second second
 
   is-head : (h : Entry) (n : ℕ) → recordAt here 0 ≡ Is h n → h ≡ head-entry
   unfolding head-entry
@@ -129,10 +129,12 @@ module _ (file : List ℕ) (at : ℕ) (b : Bytes file) (g : Again file at) where
   unfolding entry second
   is-open x n q =
       let t = record-inv here 9 x n q in
-      let e : Named.Is (x .kind) ≡ Named.Is (K.Open (g .phase)) = sym (t .named) ∙ ap kindFor (at-here 9) ∙ g .opens in
-      let k : x .kind ≡ K.Open (g .phase) = cc in
-      let u : getD here 12 0 ≡ getD here 10 0 = at-here 12 ∙ sym (g .high) ∙ sym (at-here 10) in
-      let v : getD here 13 0 ≡ getD here 11 0 = at-here 13 ∙ sym (g .low) ∙ sym (at-here 11) in
+      let e : Named.Is (x .kind) ≡ Named.Is (K.Open (g .opens .phase)) = sym (t .named) ∙ ap kindFor (at-here 9) ∙ g .opens .kind in
+      let k : x .kind ≡ K.Open (g .opens .phase) = cc in
+      let same : (i j : ℕ) → getD file (at + 9 + i) 0 ≡ getD file (at + 9 + j) 0 → getD here (9 + j) 0 ≡ getD here (9 + i) 0 =
+      λ i j h. at-here (9 + j) ∙ sym (rw (add-assoc at 9 i, add-assoc at 9 j) at h) ∙ sym (at-here (9 + i)) in
+      let u : getD here 12 0 ≡ getD here 10 0 = same 1 3 (g .opens .high) in
+      let v : getD here 13 0 ≡ getD here 11 0 = same 2 4 (g .opens .low) in
       t .is ∙ ap (λ y. entryAt y here 10) k ∙ rw (u, v)
 
   begins : (es : List Entry) → WellFormed start es → Stand (storedAt here) 0 0 es → (tail : List Entry) × (es ≡ head-entry ∷ entry ∷ tail)
@@ -158,7 +160,7 @@ module _ (file : List ℕ) (at : ℕ) (b : Bytes file) (g : Again file at) where
 
     well : WellFormed start (head-entry ∷ entry ∷ entry ∷ tail)
     unfolding WellFormed head-entry entry
-    well = let w = stands .0 in (w .0, w .1, once-more (head-entry .b) (head-entry .c) second (g .phase) tail (w .2))
+    well = let w = stands .0 in (w .0, w .1, once-more (head-entry .b) (head-entry .c) second (g .opens .phase) tail (w .2))
 
     sizes : (sizeOf (head-entry .kind) ≡ 9) × (sizeOf (entry .kind) ≡ 5)
     unfolding head-entry entry

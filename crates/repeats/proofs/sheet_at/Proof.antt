@@ -1,9 +1,9 @@
--- `mending::sheet_at` meets its contract: what was read already begins no sheet; else the reader tells.
+-- `repeats::sheet_at` meets its contract: what was read already begins no sheet; else the reader tells.
 use mathlib.Core.Path.{sym, _∙_}
-use Rattle.mending.specs.WalkLaws.{found-one, found-none}
+use Rattle.repeats.specs.Leading.{found-one, found-none}
 use borrow.Author.Needs.{needs}
-use Rattle.mending.proofs.sheet_at.Statement.{statement}
-use Rattle.mending.proofs.sheet_at.Tie as tie
+use Rattle.repeats.proofs.sheet_at.Statement.{statement}
+use Rattle.repeats.proofs.sheet_at.Tie as tie
 
 is-again-requires : tie.Need-is-again-requires
 is-again-requires c κs = search needs

@@ -1,12 +1,12 @@
--- `mending::repeats::same_before` meets its contract: what was compared so far is the same.
+-- `repeats::same_before` meets its contract: what was compared so far is the same.
 use Prim.Native.Nat.{ℕ, _+_, _-_, _≤_, _<_}
 use mathlib.Core.Path.{_≡_, refl, sym}
 use native.Mathlib.Omega.{arith}
 use native.Mathlib.Decide.{decLt}
 use lib.ListN.{getD}
 use Rattle.kinds.specs.TestLaws.{distinct}
-use Rattle.mending.proofs.repeats.same_before.Statement.{statement}
-use Rattle.mending.proofs.repeats.same_before.Tie as tie
+use Rattle.repeats.proofs.same_before.Statement.{statement}
+use Rattle.repeats.proofs.same_before.Tie as tie
 
 abbrev Inv-loop : tie.InvT-loop
 Inv-loop file at start i₀ i = (i ≤ 14) × (start ≡ at - 5) × ((j : ℕ) → j < i → getD file (at - 5 + j) 0 ≡ getD file (at + j) 0)
