@@ -108,9 +108,7 @@ fn mended(file: &[u8], sheets: &mut [u8], notes: &mut [u8], text: &mut [u8]) -> 
     }
 }
 
-fn room() -> [u8; 196608]
-    ensures { λ r. ⌜ 196608 ≡ length r ⌝ }
-{
+fn room() -> [u8; 196608] {
     [0; 196608]
 }
 
