@@ -13,13 +13,14 @@ use lib.Seq.{take-suc-set, drop-drop}
 use Rattle.words.specs.declared.Class.the-variants as C
 use Rattle.words.specs.Text.{isIn, runOf, before}
 use Rattle.words.specs.TextLaws.{run-in, run-out, run-nil, run-le, rest-is}
-use Rattle.table_elements.specs.declared.Fault.{Fault}
-use Rattle.table_elements.specs.declared.Fault.the-variants as F
-use Rattle.table_elements.specs.declared.Number.{Number}
-use Rattle.table_elements.specs.declared.Number.the-variants as N
-use Rattle.table_elements.specs.declared.Line.{Line}
-use Rattle.table_elements.specs.declared.Line.the-variants as L
-use Rattle.table_elements.specs.Reading.{numberOf, wordsOf, Said, nothing, row, faulty, whole, saidBy, contentOf, lineOf, linesOf}
+use Rattle.typed_rows.specs.declared.Fault.{Fault}
+use Rattle.typed_rows.specs.declared.Fault.the-variants as F
+use Rattle.typed_rows.specs.declared.Number.{Number}
+use Rattle.typed_rows.specs.declared.Number.the-variants as N
+use Rattle.typed_rows.specs.declared.Word.{Word}
+use Rattle.typed_rows.specs.declared.Line.{Line}
+use Rattle.typed_rows.specs.declared.Line.the-variants as L
+use Rattle.typed_rows.specs.Reading.{numberOf, wordsOf, Said, nothing, row, faulty, whole, saidBy, contentOf, lineOf, linesOf}
 
 -- what a line says, without its numbers
 abbrev pub answerOf : Said → Line
@@ -35,6 +36,19 @@ lineWith k = cond (eqb k 0) L.Nothing (cond (eqb k 6) L.Row (L.Faulty F.Fewer))
 abbrev pub faultOf : Number → Line
 faultOf (N.Is z) = L.Nothing
 faultOf (N.Faulty f) = L.Faulty f
+
+-- the next word from a place on
+abbrev pub nextWord : List ℕ → ℕ → Word
+nextWord s at =
+    let from = at + runOf C.Blank (drop at s) in
+    record { from = from; end = from + runOf C.Word (drop from s) }
+
+pub next-is : (s : List ℕ) (at gap size : ℕ) → gap ≡ runOf C.Blank (take (length s - at) (drop at s))
+    → size ≡ runOf C.Word (take (length s - (at + gap)) (drop (at + gap) s)) → _≡_ {A = Word} (record { from = at + gap; end = at + gap + size }) (nextWord s at)
+next-is s at gap size e q =
+    let g : gap ≡ runOf C.Blank (drop at s) = e ∙ ap (runOf C.Blank) (rest-is s at) in
+    let w : size ≡ runOf C.Word (drop (at + gap) s) = q ∙ ap (runOf C.Word) (rest-is s (at + gap)) in
+    rw (w, g)
 
 -- the numbers of a line follow those at the start of a room
 pub record Stored (s : Said) (start : ℕ) (old new : List ℤ) : Type 0 where
@@ -145,76 +159,87 @@ module _ (line content : List ℕ) (old : List ℤ) (start : ℕ) where
         left = rw e;
       }
 
-  module _ (numbers : List ℤ) (at column : ℕ) (f : Taking line content old numbers start at column) (gap : ℕ)
-      (lead : gap ≡ runOf C.Blank (take (length content - at) (drop at content))) where
-    g : gap ≡ runOf C.Blank (drop at content)
-    g = lead ∙ ap (runOf C.Blank) (rest-is content at)
+  module _ (numbers : List ℤ) (at column : ℕ) (f : Taking line content old numbers start at column) (w : Word) (is : w ≡ nextWord content at) where
+    size : ℕ
+    size = runOf C.Word (drop (w .from) content)
 
-    pub gap-within : at + gap ≤ length content
-    gap-within = omega (arith, f .within, g, run-le C.Blank (drop at content), length-drop at content)
+    from-is : w .from ≡ at + runOf C.Blank (drop at content)
+    from-is = ap (λ x. x .from) is
 
-    module _ (size : ℕ) (word : size ≡ runOf C.Word (take (length content - (at + gap)) (drop (at + gap) content))) where
-      s : size ≡ runOf C.Word (drop (at + gap) content)
-      s = word ∙ ap (runOf C.Word) (rest-is content (at + gap))
+    end-is : w .end ≡ w .from + size
+    unfolding size
+    end-is = ap (λ x. x .end) is ∙ ap (λ k. k + runOf C.Word (drop k content)) (sym from-is)
 
-      rest : drop (at + gap) content ≡ drop (runOf C.Blank (drop at content)) (drop at content)
-      rest = sym (drop-drop gap at content) ∙ ap (λ k. drop k (drop at content)) g
+    rest : drop (w .from) content ≡ drop (runOf C.Blank (drop at content)) (drop at content)
+    rest = ap (λ k. drop k content) from-is ∙ sym (drop-drop (runOf C.Blank (drop at content)) at content)
 
-      pub word-within : at + gap + size ≤ length content
-      word-within = omega (arith, gap-within, s, run-le C.Word (drop (at + gap) content), length-drop (at + gap) content)
+    size-is : size ≡ runOf C.Word (drop (w .from) content)
+    unfolding size
+    size-is = refl
 
-      abbrev more : ℕ
-      more = f .fuel - 1
+    pub word-within : (at ≤ w .from) × (w .from ≤ w .end) × (w .end ≤ length content)
+    word-within =
+        let a = run-le C.Blank (drop at content) in
+        let b = length-drop at content in
+        let c = run-le C.Word (drop (w .from) content) in
+        let d = length-drop (w .from) content in
+        (omega (arith, from-is), omega (arith, end-is), omega (arith, f .within, from-is, end-is, size-is))
 
-      fuelled : f .fuel ≡ suc more
-      fuelled = omega (arith, f .enough, f .within)
+    abbrev more : ℕ
+    more = f .fuel - 1
 
-      -- no word is left
-      pub taking-end : size ≡ 0 → (lineWith column ≡ answerOf (lineOf line)) × Stored (lineOf line) start old numbers
-      taking-end h =
-          let e : whole (f .ns) ≡ lineOf line =
-          sym (said-nil (f .ns)) ∙ ap (saidBy (f .ns)) (sym (ap (λ k. wordsOf k (drop at content)) fuelled ∙ words-none more (drop at content) (drop (at + gap) content) size rest s h)) ∙ f .left in (
-            ap lineWith (sym (f .count)) ∙ answer-whole (f .ns) ∙ ap answerOf e,
-            rw (← e) (store-whole (f .ns) start old numbers (ap (λ k. take (start + k) numbers) (f .count) ∙ f .stored)),
-          )
+    fuelled : f .fuel ≡ suc more
+    fuelled = omega (arith, f .enough, f .within)
 
-      module _ (h : 0 < size) (number : Number) (is : number ≡ numberOf (take (at + gap + size - (at + gap)) (drop (at + gap) content))) where
-        q : number ≡ numberOf (take size (drop (at + gap) content))
-        q = let k : at + gap + size - (at + gap) ≡ size = omega arith in is ∙ ap (λ j. numberOf (take j (drop (at + gap) content))) k
+    -- no word is left
+    pub taking-end : w .from ≡ w .end → (lineWith column ≡ answerOf (lineOf line)) × Stored (lineOf line) start old numbers
+    taking-end h =
+        let e : whole (f .ns) ≡ lineOf line =
+        sym (said-nil (f .ns)) ∙ ap (saidBy (f .ns)) (sym (ap (λ k. wordsOf k (drop at content)) fuelled ∙ words-none more (drop at content) (drop (w .from) content) size rest size-is (omega (arith, end-is)))) ∙ f .left in (
+          ap lineWith (sym (f .count)) ∙ answer-whole (f .ns) ∙ ap answerOf e,
+          rw (← e) (store-whole (f .ns) start old numbers (ap (λ k. take (start + k) numbers) (f .count) ∙ f .stored)),
+        )
 
-        next : wordsOf (f .fuel) (drop at content) ≡ take size (drop (at + gap) content) ∷ wordsOf more (drop size (drop (at + gap) content))
-        next = ap (λ k. wordsOf k (drop at content)) fuelled ∙ words-next more (drop at content) (drop (at + gap) content) size rest s h
+    module _ (h : w .from ≡ w .end → ⊥) (number : Number) (said : number ≡ numberOf (take (w .end - w .from) (drop (w .from) content))) where
+      some : 0 < size
+      some = omega (arith, h, end-is)
 
-        pub taking-faulty : (x : Fault) → number ≡ N.Faulty x → (faultOf number ≡ answerOf (lineOf line)) × Stored (lineOf line) start old numbers
-        taking-faulty x e =
-            let t : lineOf line ≡ faulty x = sym (f .left) ∙ ap (saidBy (f .ns)) next ∙ said-faulty (f .ns) _ _ x (sym q ∙ e) in
-            (ap faultOf e ∙ sym (ap answerOf t), stored-faulty t)
+      q : number ≡ numberOf (take size (drop (w .from) content))
+      q = let k : w .end - w .from ≡ size = omega (arith, end-is) in said ∙ ap (λ j. numberOf (take j (drop (w .from) content))) k
 
-        module _ (z : ℤ) (e : number ≡ N.Is z) where
-          pub taking-more : column ≡ 6 → (L.Faulty F.More ≡ answerOf (lineOf line)) × Stored (lineOf line) start old numbers
-          taking-more c =
-              let t : lineOf line ≡ faulty F.More = sym (f .left) ∙ ap (saidBy (f .ns)) next ∙ said-more (f .ns) _ _ z (sym q ∙ e) (omega (arith, f .count)) in
-              (sym (ap answerOf t), stored-faulty t)
+      next : wordsOf (f .fuel) (drop at content) ≡ take size (drop (w .from) content) ∷ wordsOf more (drop size (drop (w .from) content))
+      next = ap (λ k. wordsOf k (drop at content)) fuelled ∙ words-next more (drop at content) (drop (w .from) content) size rest size-is some
 
-          pub taking-turn : (column ≡ 6 → ⊥) → start + 6 ≤ length old → Taking line content old (set numbers (start + column) z) start (at + gap + size) (column + 1)
-          taking-turn c room =
-              let low : column < 6 = omega (arith, f .few, c) in
-              record {
-                fuel = more;
-                ns = f .ns ++ (z ∷ []);
-                count = length-append (f .ns) (z ∷ []) ∙ omega (arith, f .count);
-                few = omega arith;
-                within = word-within;
-                enough = omega (arith, f .enough, f .within);
-                same = length-set numbers (start + column) z ∙ f .same;
-                stored =
-                    let k : start + (column + 1) ≡ suc (start + column) = omega arith in
-                    ap (λ j. take j (set numbers (start + column) z)) k ∙ take-suc-set numbers (start + column) z (omega (arith, f .same))
-                    ∙ ap (λ l. l ++ (z ∷ [])) (f .stored) ∙ append-assoc (take start old) (f .ns) (z ∷ []);
-                left =
-                    ap (λ l. saidBy (f .ns ++ (z ∷ [])) (wordsOf more l)) (sym (drop-drop size (at + gap) content))
-                    ∙ sym (said-next (f .ns) _ _ z (sym q ∙ e) (omega (arith, f .count))) ∙ ap (saidBy (f .ns)) (sym next) ∙ f .left;
-              }
+      pub taking-faulty : (x : Fault) → number ≡ N.Faulty x → (faultOf number ≡ answerOf (lineOf line)) × Stored (lineOf line) start old numbers
+      taking-faulty x e =
+          let t : lineOf line ≡ faulty x = sym (f .left) ∙ ap (saidBy (f .ns)) next ∙ said-faulty (f .ns) _ _ x (sym q ∙ e) in
+          (ap faultOf e ∙ sym (ap answerOf t), stored-faulty t)
+
+      module _ (z : ℤ) (e : number ≡ N.Is z) where
+        pub taking-more : column ≡ 6 → (L.Faulty F.More ≡ answerOf (lineOf line)) × Stored (lineOf line) start old numbers
+        taking-more c =
+            let t : lineOf line ≡ faulty F.More = sym (f .left) ∙ ap (saidBy (f .ns)) next ∙ said-more (f .ns) _ _ z (sym q ∙ e) (omega (arith, f .count)) in
+            (sym (ap answerOf t), stored-faulty t)
+
+        pub taking-turn : (column ≡ 6 → ⊥) → start + 6 ≤ length old → Taking line content old (set numbers (start + column) z) start (w .end) (column + 1)
+        taking-turn c room =
+            let low : column < 6 = omega (arith, f .few, c) in
+            record {
+              fuel = more;
+              ns = f .ns ++ (z ∷ []);
+              count = length-append (f .ns) (z ∷ []) ∙ omega (arith, f .count);
+              few = omega arith;
+              within = word-within .2;
+              enough = omega (arith, f .enough, word-within, end-is, some);
+              same = length-set numbers (start + column) z ∙ f .same;
+              stored =
+                  let k : start + (column + 1) ≡ suc (start + column) = omega arith in
+                  ap (λ j. take j (set numbers (start + column) z)) k ∙ take-suc-set numbers (start + column) z (omega (arith, f .same))
+                  ∙ ap (λ l. l ++ (z ∷ [])) (f .stored) ∙ append-assoc (take start old) (f .ns) (z ∷ []);
+              left =
+                  ap (λ l. saidBy (f .ns ++ (z ∷ [])) (wordsOf more l)) (ap (λ k. drop k content) end-is ∙ sym (drop-drop size (w .from) content))
+                  ∙ sym (said-next (f .ns) _ _ z (sym q ∙ e) (omega (arith, f .count))) ∙ ap (saidBy (f .ns)) (sym next) ∙ f .left;
+            }
 
 -- ---- the lines of a text
 

@@ -1,12 +1,12 @@
--- `table_elements::number_of` meets its contract: what stands after the minus decides.
-use Rattle.table_elements.specs.NumberLaws.{number-none, number-other, number-large, number-is}
+-- `typed_rows::number_of` meets its contract: what stands after the minus decides.
+use Rattle.typed_rows.specs.NumberLaws.{number-none, number-other, number-large, number-is}
 use Rattle.numbers.specs.Code.{read-result}
 use borrow.Author.Tests.{not-true, not-false}
 use mathlib.Core.Path.{_∙_, sym}
 use native.Mathlib.Omega.{arith}
 use borrow.Author.Needs.{needs}
-use Rattle.table_elements.proofs.number_of.Statement.{statement}
-use Rattle.table_elements.proofs.number_of.Tie as tie
+use Rattle.typed_rows.proofs.number_of.Statement.{statement}
+use Rattle.typed_rows.proofs.number_of.Tie as tie
 
 start-requires : tie.Need-start-requires
 start-requires c κs = search needs

@@ -1,7 +1,7 @@
--- `table_elements::line_with` meets its contract, case by case.
+-- `typed_rows::line_with` meets its contract, case by case.
 use borrow.Author.Tests.{eq-eqb, ne-eqb}
-use Rattle.table_elements.proofs.line_with.Statement.{statement}
-use Rattle.table_elements.proofs.line_with.Tie as tie
+use Rattle.typed_rows.proofs.line_with.Statement.{statement}
+use Rattle.typed_rows.proofs.line_with.Tie as tie
 
 returns : tie.Need-returns
 returns c = rw (eq-eqb _ _ (c .if1 .taken))

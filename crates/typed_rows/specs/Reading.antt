@@ -8,10 +8,10 @@ use lib.IntN.{ℤ, pos, _-ℤ_}
 use lib.ListN.{length, take, drop}
 use Rattle.words.specs.declared.Class.the-variants as C
 use Rattle.words.specs.Text.{isIn, runOf, allOf, startOf, before}
-use Rattle.table_elements.specs.declared.Fault.{Fault}
-use Rattle.table_elements.specs.declared.Fault.the-variants as F
-use Rattle.table_elements.specs.declared.Number.{Number}
-use Rattle.table_elements.specs.declared.Number.the-variants as N
+use Rattle.typed_rows.specs.declared.Fault.{Fault}
+use Rattle.typed_rows.specs.declared.Fault.the-variants as F
+use Rattle.typed_rows.specs.declared.Number.{Number}
+use Rattle.typed_rows.specs.declared.Number.the-variants as N
 
 -- ---- a number
 

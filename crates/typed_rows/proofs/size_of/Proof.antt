@@ -1,10 +1,10 @@
--- `table_elements::size_of` meets its contract: the digits that are left give the number.
+-- `typed_rows::size_of` meets its contract: the digits that are left give the number.
 use borrow.Author.Needs.{needs}
-use Rattle.table_elements.specs.NumberLaws.{Appending, appending-start, appending-turn, appending-end}
+use Rattle.typed_rows.specs.NumberLaws.{Appending, appending-start, appending-turn, appending-end}
 use lib.ListN.{length}
 use Prim.Native.Nat.{_-_}
-use Rattle.table_elements.proofs.size_of.Statement.{statement}
-use Rattle.table_elements.proofs.size_of.Tie as tie
+use Rattle.typed_rows.proofs.size_of.Statement.{statement}
+use Rattle.typed_rows.proofs.size_of.Tie as tie
 
 abbrev Inv-loop : tie.InvT-loop
 Inv-loop digits n₀ i₀ n i = Appending digits n i

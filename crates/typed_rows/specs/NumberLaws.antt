@@ -14,9 +14,9 @@ use lib.IntN.{ℤ, pos, natAbs, _-ℤ_}
 use Rattle.words.specs.declared.Class.the-variants as C
 use Rattle.words.specs.Text.{allOf, startOf}
 use Rattle.words.specs.TextLaws.{rest-is}
-use Rattle.table_elements.specs.declared.Fault.the-variants as F
-use Rattle.table_elements.specs.declared.Number.the-variants as N
-use Rattle.table_elements.specs.Reading.{appended, digitsOf, isWhole, withSign, numberOf}
+use Rattle.typed_rows.specs.declared.Fault.the-variants as F
+use Rattle.typed_rows.specs.declared.Number.the-variants as N
+use Rattle.typed_rows.specs.Reading.{appended, digitsOf, isWhole, withSign, numberOf}
 
 -- a number, or 2^63 where it is above that
 unfoldable pub capped : ℕ → ℕ

@@ -1,4 +1,4 @@
--- `table_elements::with_sign` meets its contract: a number below 2^63 has its opposite in 64 bits.
+-- `typed_rows::with_sign` meets its contract: a number below 2^63 has its opposite in 64 bits.
 use Rattle.numbers.specs.Code.{Code, arg, lit, sub, Within, raw, ends, _▹_, fits, runs, count-is, count-size}
 use lib.IntN.{ℤ, pos, _-ℤ_}
 use borrow.Author.Tests.{eq-eqb, ne-eqb}
@@ -6,8 +6,8 @@ use Prim.Native.Nat.{ℕ, _≤_}
 use mathlib.Core.List.{[], _∷_}
 use mathlib.Core.Path.{ap, _∙_}
 use borrow.Author.Needs.{needs}
-use Rattle.table_elements.proofs.with_sign.Statement.{statement}
-use Rattle.table_elements.proofs.with_sign.Tie as tie
+use Rattle.typed_rows.proofs.with_sign.Statement.{statement}
+use Rattle.typed_rows.proofs.with_sign.Tie as tie
 
 bounds : (n : ℕ) → n ≤ 9223372036854775807 → Within (raw n ∷ []) (9223372036854775807 ∷ [])
 bounds n h = count-size n h tt ▹ ends

@@ -1,10 +1,10 @@
--- `table_elements::with_digit` meets its contract: the longer number, or the cap where it is more.
-use Rattle.table_elements.specs.NumberLaws.{capped-high, digit-low}
+-- `typed_rows::with_digit` meets its contract: the longer number, or the cap where it is more.
+use Rattle.typed_rows.specs.NumberLaws.{capped-high, digit-low}
 use mathlib.Core.Path.{sym}
 use native.Mathlib.Omega.{arith}
 use borrow.Author.Needs.{needs}
-use Rattle.table_elements.proofs.with_digit.Statement.{statement}
-use Rattle.table_elements.proofs.with_digit.Tie as tie
+use Rattle.typed_rows.proofs.with_digit.Statement.{statement}
+use Rattle.typed_rows.proofs.with_digit.Tie as tie
 
 returns : tie.Need-returns
 returns c = sym (capped-high _ (omega arith))

@@ -1,9 +1,9 @@
--- `table_elements::fault_of` meets its contract, case by case.
-use Rattle.table_elements.specs.ReadingLaws.{faultOf}
+-- `typed_rows::fault_of` meets its contract, case by case.
+use Rattle.typed_rows.specs.ReadingLaws.{faultOf}
 use mathlib.Core.Path.{sym, ap}
 use borrow.Author.Needs.{needs}
-use Rattle.table_elements.proofs.fault_of.Statement.{statement}
-use Rattle.table_elements.proofs.fault_of.Tie as tie
+use Rattle.typed_rows.proofs.fault_of.Statement.{statement}
+use Rattle.typed_rows.proofs.fault_of.Tie as tie
 
 enum-told : tie.Need-enum-told
 enum-told c = search needs
