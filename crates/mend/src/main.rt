@@ -9,7 +9,7 @@ ghost use lib.ListN.{length, take};
 ghost use Rattle.decimals.specs.Texts.{Put, Counts};
 ghost use Rattle.decimals.specs.Rows.{eachPart};
 ghost use Rattle.lines.specs.Lines.{refusalLine};
-ghost use Rattle.mending.specs.Claims.{eightAt};
+ghost use Rattle.kept_sheets.specs.Claims.{eightAt};
 ghost use Rattle.mend.specs.Printed.{noteLine, tooLong, output, error};
 
 // How many bytes of each room go out.

@@ -1,9 +1,9 @@
--- `mending::notes::put_two` meets its contract: one half after the other.
+-- `kept_sheets::notes::put_two` meets its contract: one half after the other.
 use native.Mathlib.Omega.{arith}
 use Rattle.decimals.specs.TextLaws.{put-then}
 use borrow.Author.Needs.{needs}
-use Rattle.mending.proofs.notes.put_two.Statement.{statement}
-use Rattle.mending.proofs.notes.put_two.Tie as tie
+use Rattle.kept_sheets.proofs.notes.put_two.Statement.{statement}
+use Rattle.kept_sheets.proofs.notes.put_two.Tie as tie
 
 cast-high : tie.Need-cast-high
 cast-high c = search needs

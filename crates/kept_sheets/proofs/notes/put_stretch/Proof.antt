@@ -1,10 +1,10 @@
--- `mending::notes::put_stretch` meets its contract: nothing for no bytes; else the start, then the length.
+-- `kept_sheets::notes::put_stretch` meets its contract: nothing for no bytes; else the start, then the length.
 use native.Mathlib.Omega.{arith}
 use Rattle.decimals.specs.TextLaws.{put-nil, put-then}
-use Rattle.mending.specs.NoteLaws.{ended-none, ended-note}
+use Rattle.kept_sheets.specs.NoteLaws.{ended-none, ended-note}
 use borrow.Author.Needs.{needs}
-use Rattle.mending.proofs.notes.put_stretch.Statement.{statement}
-use Rattle.mending.proofs.notes.put_stretch.Tie as tie
+use Rattle.kept_sheets.proofs.notes.put_stretch.Statement.{statement}
+use Rattle.kept_sheets.proofs.notes.put_stretch.Tie as tie
 
 returns : tie.Need-returns
 returns c = let a = c .before .before .args in rw (ended-none (a .end) (a .lost) (c .if1 .taken)) (put-nil _ _ (omega arith))

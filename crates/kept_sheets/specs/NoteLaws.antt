@@ -8,10 +8,10 @@ use lib.Seq.{drop-at}
 use Rattle.kinds.specs.declared.Width.the-variants.{Four}
 use Rattle.records.specs.Numbers.{four, fourAt}
 use Rattle.records.specs.NumberLaws.{number-back}
-use Rattle.mending.specs.Mending.{Stretch, steps, ended, stretches, eight, noteOf, notesOf, notes}
-use Rattle.mending.specs.Claims.{Apart, eightAt, readNotes}
-use Rattle.mending.specs.StepLaws.{walked}
-use Rattle.mending.specs.StretchLaws.{few}
+use Rattle.kept_sheets.specs.Walk.{Stretch, steps, ended, stretches, eight, noteOf, notesOf, notes}
+use Rattle.kept_sheets.specs.Claims.{Apart, eightAt, readNotes}
+use Rattle.kept_sheets.specs.StepLaws.{walked}
+use Rattle.kept_sheets.specs.StretchLaws.{few}
 
 -- ---- how many bytes
 

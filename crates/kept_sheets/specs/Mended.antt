@@ -1,4 +1,4 @@
--- What holds of a mended file, whatever it is (document 02, wish 11). The walk is that of `Mending`; `Claims` has the other words.
+-- What holds of a mended file, whatever it is (document 02, wish 11). The walk is that of `Walk`; `Claims` has the other words.
 use Prim.Native.Nat.{ℕ, _+_, _/_, _<_}
 use mathlib.Core.Path.{_≡_, refl, sym, ap, _∙_}
 use mathlib.Core.List.{List, [], _∷_, _++_}
@@ -15,12 +15,12 @@ use Rattle.sheets.specs.Sheets.{sheet, readSheet}
 use Rattle.sheets.specs.RoundTrip.{Reads}
 use Rattle.sheets.specs.WellFormed.{WellFormed}
 use Rattle.sheets.specs.OldSheets.{oldHead, old-refused, old-whole-refused}
-use Rattle.mending.specs.Mending.{Step, lose, steps, keptIn, kept, stretchesIn, stretches, notes}
-use Rattle.mending.specs.Claims.{lost, readNotes, Apart, placesFrom, placesOf, droppedAt, spanned, joined, AllSheets, Arrives, Met}
-use Rattle.mending.specs.StepLaws.{walked, steps-lose}
-use Rattle.mending.specs.StretchLaws.{all-spanned, counted, apart, places, begun}
-use Rattle.mending.specs.NoteLaws.{length-notes, notes-read}
-use Rattle.mending.specs.KeptLaws.{written-kept, written-whole, sheets-written, kept-written, arrived-keeps, arrived-drops, met}
+use Rattle.kept_sheets.specs.Walk.{Step, lose, steps, keptIn, kept, stretchesIn, stretches, notes}
+use Rattle.kept_sheets.specs.Claims.{lost, readNotes, Apart, placesFrom, placesOf, droppedAt, spanned, joined, AllSheets, Arrives, Met}
+use Rattle.kept_sheets.specs.StepLaws.{walked, steps-lose}
+use Rattle.kept_sheets.specs.StretchLaws.{all-spanned, counted, apart, places, begun}
+use Rattle.kept_sheets.specs.NoteLaws.{length-notes, notes-read}
+use Rattle.kept_sheets.specs.KeptLaws.{written-kept, written-whole, sheets-written, kept-written, arrived-keeps, arrived-drops, met}
 
 -- "Kept bytes and dropped bytes together are the input's length, each counted from its own list"
 pub whole : (file : List ℕ) → length (kept file) + lost (stretches file) ≡ length file

@@ -1,12 +1,12 @@
--- `mending::walk` meets its contract: what is left of the file, kept and noted, gives what is to be left in the rooms (`Walking`).
+-- `kept_sheets::walk` meets its contract: what is left of the file, kept and noted, gives what is to be left in the rooms (`Walking`).
 use Prim.Native.Nat.{_+_, _-_, _≤_, _<_}
 use mathlib.Core.Path.{_≡_, sym, _∙_}
 use native.Mathlib.Omega.{arith}
 use lib.ListN.{length}
 use borrow.Author.Needs.{needs}
-use Rattle.mending.specs.WalkLaws.{Walking, walking-start, walking-lose, walking-bounds, walking-keep, walking-kept, walking-noted}
-use Rattle.mending.proofs.walk.Statement.{statement}
-use Rattle.mending.proofs.walk.Tie as tie
+use Rattle.kept_sheets.specs.WalkLaws.{Walking, walking-start, walking-lose, walking-bounds, walking-keep, walking-kept, walking-noted}
+use Rattle.kept_sheets.proofs.walk.Statement.{statement}
+use Rattle.kept_sheets.proofs.walk.Tie as tie
 
 abbrev Inv-loop : tie.InvT-loop
 Inv-loop file sheets₀ dropped₀ at₀ lost₀ kept₀ noted₀ sheets dropped at lost kept noted = Walking file sheets₀ dropped₀ sheets dropped at lost kept noted

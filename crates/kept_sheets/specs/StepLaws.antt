@@ -8,7 +8,7 @@ use Rattle.refusals.specs.declared.Refusal.{Refusal}
 use Rattle.kinds.specs.declared.Entry.{Entry}
 use Rattle.sheets.specs.Sheets.{Sheet, sheet, refused, readSheet}
 use Rattle.repeats.specs.BoundLaws.{sheet-bounds}
-use Rattle.mending.specs.Mending.{Step, keep, lose, stepFrom, walk, steps}
+use Rattle.kept_sheets.specs.Walk.{Step, keep, lose, stepFrom, walk, steps}
 
 -- ---- how the walk goes on
 

@@ -1,9 +1,9 @@
--- `mending::notes::put_four` meets its contract: one half after the other.
+-- `kept_sheets::notes::put_four` meets its contract: one half after the other.
 use native.Mathlib.Omega.{arith}
 use Rattle.decimals.specs.TextLaws.{put-then}
 use borrow.Author.Needs.{needs}
-use Rattle.mending.proofs.notes.put_four.Statement.{statement}
-use Rattle.mending.proofs.notes.put_four.Tie as tie
+use Rattle.kept_sheets.proofs.notes.put_four.Statement.{statement}
+use Rattle.kept_sheets.proofs.notes.put_four.Tie as tie
 
 put-two-requires : tie.Need-put-two-requires
 put-two-requires c κs = search needs

@@ -18,9 +18,9 @@ use Rattle.sheets.specs.StoredLaws.{stored-steady, stand-bytes}
 use Rattle.sheets.specs.RoundTrip.{read-back, reads-well, reads-bytes}
 use Rattle.sheets.specs.WellFormed.{WellFormed}
 use Rattle.repeats.specs.BoundLaws.{sheet-bounds}
-use Rattle.mending.specs.Mending.{Step, keep, lose, steps, keptIn, kept, stretchesIn}
-use Rattle.mending.specs.Claims.{droppedAt, spanned, joined, AllSheets, Arrives, Met, arrived, inside}
-use Rattle.mending.specs.StepLaws.{Walked, at-end, kept-one, lost-one, steps-nil, steps-keep, steps-lose}
+use Rattle.kept_sheets.specs.Walk.{Step, keep, lose, steps, keptIn, kept, stretchesIn}
+use Rattle.kept_sheets.specs.Claims.{droppedAt, spanned, joined, AllSheets, Arrives, Met, arrived, inside}
+use Rattle.kept_sheets.specs.StepLaws.{Walked, at-end, kept-one, lost-one, steps-nil, steps-keep, steps-lose}
 
 -- ---- the bytes of well-formed entries, one list behind the other
 

@@ -1,9 +1,9 @@
--- `mending::notes::put_eight` meets its contract: one half after the other.
+-- `kept_sheets::notes::put_eight` meets its contract: one half after the other.
 use native.Mathlib.Omega.{arith}
 use Rattle.decimals.specs.TextLaws.{put-then}
 use borrow.Author.Needs.{needs}
-use Rattle.mending.proofs.notes.put_eight.Statement.{statement}
-use Rattle.mending.proofs.notes.put_eight.Tie as tie
+use Rattle.kept_sheets.proofs.notes.put_eight.Statement.{statement}
+use Rattle.kept_sheets.proofs.notes.put_eight.Tie as tie
 
 put-four-requires : tie.Need-put-four-requires
 put-four-requires c κs = search needs

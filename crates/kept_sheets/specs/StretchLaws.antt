@@ -8,9 +8,9 @@ use native.Mathlib.Numerals.{add-one}
 use lib.ListN.{length, take, drop, length-append, length-drop}
 use lib.Seq.{length-take-le}
 use Rattle.repeats.specs.BoundLaws.{sheet-bounds}
-use Rattle.mending.specs.Mending.{Step, keep, lose, steps, keptIn, Stretch, ended, stretchesIn}
-use Rattle.mending.specs.Claims.{lost, Apart, placesFrom, placesOf, droppedAt, spanned}
-use Rattle.mending.specs.StepLaws.{Walked, at-end, kept-one, lost-one}
+use Rattle.kept_sheets.specs.Walk.{Step, keep, lose, steps, keptIn, Stretch, ended, stretchesIn}
+use Rattle.kept_sheets.specs.Claims.{lost, Apart, placesFrom, placesOf, droppedAt, spanned}
+use Rattle.kept_sheets.specs.StepLaws.{Walked, at-end, kept-one, lost-one}
 
 -- ---- counted
 

@@ -9,7 +9,7 @@ use Rattle.records.specs.Numbers.{fourAt}
 use Rattle.records.specs.NumberLaws.{Bytes}
 use Rattle.sheets.specs.Sheets.{sheet, readSheet}
 use Rattle.sheets.specs.RoundTrip.{Reads}
-use Rattle.mending.specs.Mending.{Step, keep, lose, steps, Stretch}
+use Rattle.kept_sheets.specs.Walk.{Step, keep, lose, steps, Stretch}
 
 -- how many bytes the stretches say were dropped
 unfoldable pub lost : List Stretch → ℕ

@@ -2,7 +2,7 @@
 ghost use Prim.Native.Nat.{_≤_};
 ghost use Rattle.records.specs.Numbers.{two, four};
 ghost use Rattle.decimals.specs.Texts.{Put};
-ghost use Rattle.mending.specs.Mending.{eight, ended, notesOf};
+ghost use Rattle.kept_sheets.specs.Walk.{eight, ended, notesOf};
 
 fn put_two(out: &mut [u8], at: usize, v: u64) -> usize
     ensures { λ r. ⌜ Put (now (out .entry)) at (two v) (now (out .exit)) r ⌝ }

@@ -16,8 +16,8 @@ use Rattle.decimals.specs.Texts.{Put}
 use Rattle.decimals.specs.TextLaws.{Putting, putting-start, putting-turn, putting-end}
 use Rattle.repeats.specs.Leading.{leading, NoneBefore}
 use Rattle.repeats.specs.BoundLaws.{sheet-bounds}
-use Rattle.mending.specs.Mending.{Step, keep, lose, steps, keptIn, kept, Stretch, ended, stretchesIn, stretches, noteOf, notesOf, notes}
-use Rattle.mending.specs.StepLaws.{steps-nil, steps-keep, steps-lose}
+use Rattle.kept_sheets.specs.Walk.{Step, keep, lose, steps, keptIn, kept, Stretch, ended, stretchesIn, stretches, noteOf, notesOf, notes}
+use Rattle.kept_sheets.specs.StepLaws.{steps-nil, steps-keep, steps-lose}
 
 -- the walk stands at `at`, `lost` bytes were dropped right before it, and what was kept and noted so far is put up to k and m
 pub record Walking (file sheets₀ dropped₀ sheets dropped : List ℕ) (at lost k m : ℕ) : Type 0 where
