@@ -1,17 +1,20 @@
 -- Laws of ranges: the search answers `InRange` where each number is in its range; numbers that share a range, each by its place.
 use mathlib.Core.Path.{_≡_, refl, sym, ap, _∙_}
-use mathlib.Core.Bool.{Bool, true, false}
+use mathlib.Core.Bool.{Bool, true, false, cond}
 use mathlib.Core.List.{List, [], _∷_, map}
-use Prim.Native.Nat.{ℕ, zero, suc, _<_}
+use Prim.Native.Nat.{ℕ, zero, suc, _+_, _<_}
 use native.Mathlib.Omega.{arith}
-use lib.IntN.{ℤ, pos}
+use native.Mathlib.Numerals.{add-one}
+use lib.IntN.{ℤ, pos, negℤ}
 use lib.Signed.{ltZ, _≤ℤ_, clashℤ}
-use lib.ListN.{length, getD, replicate}
+use lib.ListN.{length, getD, replicate, length-map}
 use lib.Seq.{ext-getD}
-use Rattle.numbers.specs.declared.Limits.the-variants.{InRange}
-use Rattle.numbers.specs.Limits.{Row, row, firstOutOfRange, EachInRange, rows}
+use Rattle.numbers.specs.declared.Limits.{Limits}
+use Rattle.numbers.specs.declared.Limits.the-variants.{InRange, OutOfRange}
+use Rattle.numbers.specs.Limits.{Row, row, _±_, outOfRange, firstOutOfRange, EachInRange, rows}
+use Rattle.numbers.specs.LimitsLaws.{out-within}
 use Rattle.numbers.specs.Order.{ltZ-true}
-use Rattle.fits.specs.Fits.{hours}
+use Rattle.fits.specs.Fits.{hours, givenRanges}
 
 not-below : (x y : ℤ) → y ≤ℤ x → ltZ x y ≡ false
 not-below x y h = by (ltZ x y) refl
@@ -41,6 +44,53 @@ module _ (l u : ℤ) where
   pub alike-each : (xs : List ℤ) → ((k : ℕ) → k < length xs → (l ≤ℤ getD xs k (pos 0)) × (getD xs k (pos 0) ≤ℤ u)) → EachInRange (map (λ x. row x l u) xs)
   alike-each [] e = tt
   alike-each (x ∷ xs) e = (e 0 (omega arith), alike-each xs (λ k h. e (suc k) (omega arith)))
+
+-- a place counted from one less
+abbrev pub further : Limits → Limits
+further InRange = InRange
+further (OutOfRange i) = OutOfRange (i + 1)
+
+counted-on : (i : ℕ) (rs : List Row) → firstOutOfRange (suc i) rs ≡ further (firstOutOfRange i rs)
+unfolding firstOutOfRange
+counted-on i [] = refl
+counted-on i (r ∷ rs) = by (outOfRange r) (counted-on (suc i) rs)
+  where
+    by : (b : Bool) → firstOutOfRange (suc (suc i)) rs ≡ further (firstOutOfRange (suc i) rs)
+        → cond b (OutOfRange (suc i)) (firstOutOfRange (suc (suc i)) rs) ≡ further (cond b (OutOfRange i) (firstOutOfRange (suc i) rs))
+    by true e = ap OutOfRange (sym (add-one i))
+    by false e = e
+
+-- the tabulated values alone, as the code has them
+abbrev tabulatedRanges : List ℤ → List Row
+tabulatedRanges ts = rows ts (replicate 7 (negℤ (pos 1000000000))) (replicate 7 (pos 1000000000))
+
+tabulated-are : (ts : List ℤ) → length ts ≡ 7 → firstOutOfRange 0 (tabulatedRanges ts) ≡ firstOutOfRange 0 (map (λ t. t ± 1000000000) ts)
+tabulated-are ts seven = ap (firstOutOfRange 0) (rows-alike (negℤ (pos 1000000000)) (pos 1000000000) 7 ts seven)
+
+pub place-within : (ts : List ℤ) → length ts ≡ 7 → (r : Limits) → r ≡ firstOutOfRange 0 (tabulatedRanges ts) → (k : ℕ) → r ≡ OutOfRange k → k < 7
+place-within ts seven r e k q =
+    let h = out-within 0 (map (λ t. t ± 1000000000) ts) k (sym (e ∙ tabulated-are ts seven) ∙ q) in
+    omega (arith, length-map ts (λ t. t ± 1000000000))
+
+-- the tolerance, then the tabulated values
+module _ (tolerance : ℤ) (ts : List ℤ) where
+  pub given-low : ltZ tolerance (pos 0) ≡ true → OutOfRange 0 ≡ firstOutOfRange 0 (givenRanges tolerance ts)
+  unfolding givenRanges firstOutOfRange
+  given-low a = rw a
+
+  module _ (a : ltZ tolerance (pos 0) ≡ false) where
+    pub given-high : ltZ (pos 1000) tolerance ≡ true → OutOfRange 0 ≡ firstOutOfRange 0 (givenRanges tolerance ts)
+    unfolding givenRanges firstOutOfRange
+    given-high b = rw (a, b)
+
+    past : ltZ (pos 1000) tolerance ≡ false → firstOutOfRange 0 (givenRanges tolerance ts) ≡ firstOutOfRange 1 (map (λ t. t ± 1000000000) ts)
+    unfolding givenRanges firstOutOfRange
+    past b = rw (a, b)
+
+    pub given-after : ltZ (pos 1000) tolerance ≡ false → length ts ≡ 7 → (r : Limits) → r ≡ firstOutOfRange 0 (tabulatedRanges ts)
+        → further r ≡ firstOutOfRange 0 (givenRanges tolerance ts)
+    given-after b seven r e =
+        ap further (e ∙ tabulated-are ts seven) ∙ sym (counted-on 0 (map (λ t. t ± 1000000000) ts)) ∙ sym (past b)
 
 -- a list of seven numbers, one an hour
 pub seven-at : (f : ℕ → ℤ) (i : ℕ) → i < 7 → getD (map f hours) i (pos 0) ≡ f i

@@ -26,19 +26,19 @@ fn given_in_range(tabulated: &[i64], tolerance: i64) -> numbers::Limits
     requires { ⌜ length (now tabulated) ≡ 7 ⌝ }
     ensures { λ r. ⌜ r ≡ firstOutOfRange 0 (givenRanges tolerance (now (tabulated .entry))) ⌝ }
 {
-    let t0 = tabulated[0];
-    let t1 = tabulated[1];
-    let t2 = tabulated[2];
-    let t3 = tabulated[3];
-    let t4 = tabulated[4];
-    let t5 = tabulated[5];
-    let t6 = tabulated[6];
-    let values = [tolerance, t0, t1, t2, t3, t4, t5, t6];
-    let mut lows = [-1_000_000_000; 8];
-    lows[0] = 0;
-    let mut highs = [1_000_000_000; 8];
-    highs[0] = 1000;
-    numbers::first_out_of_range(&values, &lows, &highs)
+    if tolerance < 0 {
+        return numbers::Limits::OutOfRange(0);
+    }
+    if 1000 < tolerance {
+        return numbers::Limits::OutOfRange(0);
+    }
+    let lows = [-1_000_000_000; 7];
+    let highs = [1_000_000_000; 7];
+    let found = numbers::first_out_of_range(tabulated, &lows, &highs);
+    let numbers::Limits::OutOfRange(i) = found else {
+        return found;
+    };
+    numbers::Limits::OutOfRange(i + 1)
 }
 
 // The ranges of x: ±200,000,000; ±100,000,000; ±100,000; ±10,000.

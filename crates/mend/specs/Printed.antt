@@ -10,8 +10,9 @@ use Rattle.decimals.specs.Texts.{letters}
 use Rattle.lines.specs.Lines.{refusalLine}
 use Rattle.mending.specs.declared.Answer.{Answer}
 use Rattle.mending.specs.declared.Answer.the-variants.{Mended, Refused}
-use Rattle.mending.specs.Mending.{Stretch, kept, stretches, answerTo}
-use Rattle.mending.specs.Claims.{eightAt}
+use Rattle.kept_sheets.specs.Walk.{Stretch, kept, stretches}
+use Rattle.mending.specs.Mending.{answerTo}
+use Rattle.kept_sheets.specs.Claims.{eightAt}
 
 -- `dropped START LENGTH`
 unfoldable pub droppedLine : ℕ → ℕ → List ℕ

@@ -13,10 +13,11 @@ use Rattle.decimals.specs.RowLaws.{put-as}
 use Rattle.lines.specs.Lines.{refusalLine}
 use Rattle.mending.specs.declared.Answer.{Answer}
 use Rattle.mending.specs.declared.Answer.the-variants.{Mended, Refused}
-use Rattle.mending.specs.Mending.{Stretch, kept, stretches, noteOf, notesOf, notes, answerTo, roomAfter}
-use Rattle.mending.specs.Claims.{Apart, eightAt}
-use Rattle.mending.specs.Mended.{in-order}
-use Rattle.mending.specs.NoteLaws.{length-notes, first-back, second-back}
+use Rattle.kept_sheets.specs.Walk.{Stretch, kept, stretches, noteOf, notesOf, notes}
+use Rattle.mending.specs.Mending.{answerTo, roomAfter}
+use Rattle.kept_sheets.specs.Claims.{Apart, eightAt}
+use Rattle.kept_sheets.specs.Mended.{in-order}
+use Rattle.kept_sheets.specs.NoteLaws.{length-notes, first-back, second-back}
 use Rattle.mending.specs.AnswerLaws.{mended-inv}
 use Rattle.mend.specs.Printed.{droppedLine, linesOf, noteLine, tooLong, output, error}
 

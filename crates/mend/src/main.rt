@@ -9,7 +9,7 @@ ghost use lib.ListN.{length, take};
 ghost use Rattle.decimals.specs.Texts.{Put, Counts};
 ghost use Rattle.decimals.specs.Rows.{eachPart};
 ghost use Rattle.lines.specs.Lines.{refusalLine};
-ghost use Rattle.mending.specs.Claims.{eightAt};
+ghost use Rattle.kept_sheets.specs.Claims.{eightAt};
 ghost use Rattle.mend.specs.Printed.{noteLine, tooLong, output, error};
 
 // How many bytes of each room go out.
@@ -108,9 +108,7 @@ fn mended(file: &[u8], sheets: &mut [u8], notes: &mut [u8], text: &mut [u8]) -> 
     }
 }
 
-fn room() -> [u8; 196608]
-    ensures { λ r. ⌜ 196608 ≡ length r ⌝ }
-{
+fn room() -> [u8; 196608] {
     [0; 196608]
 }
 

@@ -13,9 +13,10 @@ use Rattle.refusals.specs.Refusals.{refusal}
 use Rattle.decimals.specs.Texts.{capped, Put}
 use Rattle.decimals.specs.TextLaws.{capped-low}
 use Rattle.mending.specs.declared.Answer.the-variants.{Mended, Refused}
-use Rattle.mending.specs.Mending.{kept, notes, stretches, answerTo, roomAfter}
-use Rattle.mending.specs.Mended.{whole}
-use Rattle.mending.specs.NoteLaws.{notes-fit}
+use Rattle.kept_sheets.specs.Walk.{kept, notes, stretches}
+use Rattle.mending.specs.Mending.{answerTo, roomAfter}
+use Rattle.kept_sheets.specs.Mended.{whole}
+use Rattle.kept_sheets.specs.NoteLaws.{notes-fit}
 
 measured : (none text new : List ℕ) (r : ℕ) → Put none 0 text new r → length text < 18446744073709551616 → r ≡ length text
 measured none text new r p h = p .place ∙ ap capped (zero-add (length text)) ∙ capped-low (length text) h

@@ -1,10 +1,2 @@
 pub mod Mending
-pub mod Mended
-pub mod Claims
-pub mod StepLaws
-pub mod StretchLaws
-pub mod NoteLaws
-pub mod KeptLaws
-pub mod Repeats
-pub mod WalkLaws
 pub mod AnswerLaws

@@ -5,7 +5,8 @@ use Prim.Native.Nat.{ℕ}
 use lib.ListN.{length}
 use Rattle.mending.specs.declared.Answer.{Answer}
 use Rattle.mending.specs.declared.Answer.the-variants.{Mended, Refused}
-use Rattle.mending.specs.Mending.{kept, notes, answerTo, roomAfter}
+use Rattle.kept_sheets.specs.Walk.{kept, notes}
+use Rattle.mending.specs.Mending.{answerTo, roomAfter}
 use Rattle.replies.specs.declared.MendReply.{MendReply}
 
 -- what a file is answered in two rooms, and the rooms afterwards

@@ -38,19 +38,24 @@ pub record Again (w : Sheet) (l s : List ℕ) : Type 0 where
   pub bytes : bytesOf es ≡ s
   pub fits : n ≤ 4096
 
+-- an answer is a sheet's extent, and as many bytes are the sheet's
+pub record Same (answer : Extent) (written s : List ℕ) : Type 0 where
+  pub never : (r : Refusal) → answer ≡ X.Refused r → ⊥
+  pub bytes : (k n end : ℕ) → answer ≡ X.Sheet k n → end ≡ min n (length written) → take end written ≡ s
+
 module _ {w : Sheet} {l s : List ℕ} (g : Again w l s) where
   -- the writer accepts them
   pub again-answer : (k : ℕ) → k ≡ 4096 → writeInto k (listWhole l) ≡ extentOf w
   again-answer k e = rw (g .is, g .accepted, e, le-leb (g .n) 4096 (g .fits))
 
-  pub again-refused : (r : Refusal) → X.Refused r ≡ extentOf w → ⊥
+  again-refused : (r : Refusal) → X.Refused r ≡ extentOf w → ⊥
   again-refused r q =
       let t : X.Refused r ≡ X.Sheet (length (g .es)) (g .n) = q ∙ ap extentOf (g .is) in
       let z : _≡_ {A = ℕ} 0 1 = cc in
       omega arith
 
   -- and writes the same bytes
-  pub again-bytes : (buf after : List ℕ) (k n end : ℕ) → length buf ≡ 4096 → X.Sheet k n ≡ extentOf w → after ≡ bufferAfterList (listWhole l) buf
+  again-bytes : (buf after : List ℕ) (k n end : ℕ) → length buf ≡ 4096 → X.Sheet k n ≡ extentOf w → after ≡ bufferAfterList (listWhole l) buf
       → end ≡ min n (length after) → take end after ≡ s
   again-bytes buf after k n end h q a m =
       let t : X.Sheet k n ≡ X.Sheet (length (g .es)) (g .n) = q ∙ ap extentOf (g .is) in
@@ -62,6 +67,11 @@ module _ {w : Sheet} {l s : List ℕ} (g : Again w l s) where
       let v = list-well l (g .es) (g .n) (g .accepted) in
       let all : end ≡ g .n = m ∙ ap (λ k. min k (length after)) e ∙ min-eq-left (omega (arith, ap length b, length-append written rest, v .2)) in
       ap (λ k. take k after) all ∙ ap (take (g .n)) b ∙ take-at written rest (g .n) (sym (v .2)) ∙ g .bytes
+
+  pub again-same : (buf after : List ℕ) (answer : Extent) → length buf ≡ 4096 → answer ≡ extentOf w → after ≡ bufferAfterList (listWhole l) buf
+      → Same answer after s
+  again-same buf after answer h q a =
+      record { never = λ r e. again-refused r (sym e ∙ q); bytes = λ k n end e m. again-bytes buf after k n end h (sym e ∙ q) a m }
 
 -- an entry has 17 bytes at most
 few : (es : List Entry) → length (bytesOf es) ≤ 17 * length es
@@ -130,10 +140,12 @@ module _ (old : List ℕ) (short : length old < 18446744073709551616) (at : ℕ)
   unfolding threeAnswers answerText
   put-three x y z a b c new p q s r f g h k = joined short (joined short (joined short f g) h) k
 
-  pub put-written : (w : Sheet) (e : Extent) (a new : List ℕ) (p r : ℕ) → e ≡ extentOf w → Put old at (letters " written " ++ extentText e) a p
-      → Put a p (letters " same\n") new r → Put old at (writtenLine w) new r
+  pub put-written : (numbers : List ℕ) (w : Sheet) (e : Extent) (a b new : List ℕ) (p q r : ℕ) → e ≡ extentOf w → Put old at (entriesText numbers) a p
+      → Put a p (letters " written " ++ extentText e) b q → Put b q (letters " same\n") new r → Put old at (entriesText numbers ++ writtenLine w) new r
   unfolding writtenLine answerText
-  put-written w e a new p r q f g = joined short (put-as _ _ old at a p (ap (λ x. letters " written " ++ extentText x) q) f) g
+  put-written numbers w e a b new p q r is f g h =
+      let l : length a < 18446744073709551616 = omega (arith, put-same old at (entriesText numbers) a p f) in
+      joined short f (joined l (put-as _ _ a p b q (ap (λ x. letters " written " ++ extentText x) is) g) h)
 
   module _ (s : List ℕ) (x y z : Extent) (a : List ℕ) (p : ℕ) (put : Put old at (threeAnswers x y z) a p) where
     pub answers : (k m : ℕ) → k ≡ 320 → m ≡ 19 → x ≡ extentOf (readSheet s) → y ≡ readInto k (readWhole s) → z ≡ readInto m (readWhole s)
@@ -145,9 +157,7 @@ module _ (old : List ℕ) (short : length old < 18446744073709551616) (at : ℕ)
   unfolding sheetText
   put-bad s new r e h p = joined short p (rw e (put-nil new r h))
 
-  pub put-good : (s numbers a b new : List ℕ) (p q r : ℕ) → Good s numbers → Put old at (answersLine s) a p → Put a p (entriesText numbers) b q
-      → Put b q (writtenLine (readWhole s)) new r → Put old at (sheetText s) new r
+  pub put-good : (s numbers a new : List ℕ) (p r : ℕ) → Good s numbers → Put old at (answersLine s) a p
+      → Put a p (entriesText numbers ++ writtenLine (readWhole s)) new r → Put old at (sheetText s) new r
   unfolding sheetText
-  put-good s numbers a b new p q r g f h k =
-      let l : length a < 18446744073709551616 = omega (arith, put-same old at (answersLine s) a p f) in
-      joined short f (rw (g .text) (joined l h k))
+  put-good s numbers a new p r g f h = joined short f (rw (g .text) h)

@@ -9,11 +9,11 @@ ghost use mathlib.Core.List.{_++_};
 ghost use Prim.Native.Nat.{_+_, _*_, _≤_};
 ghost use lib.IntN.{pos};
 ghost use lib.ListN.{length};
-ghost use Rattle.sheets.specs.Sheets.{readWhole};
-ghost use Rattle.decimals.specs.Texts.{Put};
+ghost use Rattle.sheets.specs.Sheets.{readWhole, readInto};
+ghost use Rattle.decimals.specs.Texts.{letters, Put};
 ghost use Rattle.lines.specs.Lines.{extentText};
 ghost use Rattle.stored_sheets.specs.Printed.{threeAnswers, entryLine, entriesText, writtenLine, sheetText, printed};
-ghost use Rattle.stored_sheets.specs.PrintedLaws.{Again};
+ghost use Rattle.stored_sheets.specs.PrintedLaws.{Again, Same};
 
 // A word, then an answer.
 fn put_answer(out: &mut [u8], at: usize, word: &[u8], answer: Extent) -> usize
@@ -66,22 +66,39 @@ fn put_entries(out: &mut [u8], start: usize, numbers: &[u32]) -> usize
     at
 }
 
-// Writes the entries again, and tells whether that gives the sheet.
-fn put_written(out: &mut [u8], start: usize, numbers: &[u32], sheet: &[u8]) -> usize
-    requires { ⌜ Again (readWhole (now sheet)) (now numbers) (now sheet) ⌝ }
-    ensures { λ r. ⌜ Put (now (out .entry)) start (writtenLine (readWhole (now (sheet .entry)))) (now (out .exit)) r ⌝ }
+// That the bytes of an answer are a sheet's.
+fn put_same(out: &mut [u8], at: usize, answer: Extent, written: &[u8], sheet: &[u8]) -> usize
+    requires { ⌜ Same answer (now written) (now sheet) ⌝ }
+    ensures { λ r. ⌜ Put (now (out .entry)) at (letters " same\n") (now (out .exit)) r ⌝ }
 {
-    let mut space = io::buffer();
-    let answer = handed::write(numbers, &mut space);
-    let at = put_answer(out, start, b" written ", answer);
     let Extent::Sheet { entries: _, length } = answer else {
         return at;
     };
-    let end = decimals::clipped(&space, length);
-    if check::same(&space[..end], sheet) {
+    let end = decimals::clipped(written, length);
+    if check::same(&written[..end], sheet) {
         return decimals::put_text(out, at, b" same\n");
     }
     decimals::put_byte(out, at, b'\n')
+}
+
+// The entries; writes them again, and tells whether that gives the sheet.
+fn put_written(out: &mut [u8], start: usize, numbers: &[u32], sheet: &[u8]) -> usize
+    requires { ⌜ Again (readWhole (now sheet)) (now numbers) (now sheet) ⌝ }
+    ensures { λ r. ⌜ Put (now (out .entry)) start (entriesText (now (numbers .entry)) ++ writtenLine (readWhole (now (sheet .entry)))) (now (out .exit)) r ⌝ }
+{
+    let line = put_entries(out, start, numbers);
+    let mut space = io::buffer();
+    let answer = handed::write(numbers, &mut space);
+    let at = put_answer(out, line, b" written ", answer);
+    put_same(out, at, answer, &space, sheet)
+}
+
+// The answer where there is room for three entries.
+fn read_short(sheet: &[u8]) -> Extent
+    ensures { λ r. ⌜ r ≡ readInto 19 (readWhole (now (sheet .entry))) ⌝ }
+{
+    let mut three = [0u32; 19];
+    sheets::read(sheet, &mut three)
 }
 
 fn room_for_64() -> [u32; 320]
@@ -90,27 +107,19 @@ fn room_for_64() -> [u32; 320]
     [0; 320]
 }
 
-fn room_for_three() -> [u32; 19]
-    ensures { λ r. ⌜ 19 ≡ length r ⌝ }
-{
-    [0; 19]
-}
-
 fn put_sheet(out: &mut [u8], start: usize, sheet: &[u8]) -> usize
     ensures { λ r. ⌜ Put (now (out .entry)) start (sheetText (now (sheet .entry))) (now (out .exit)) r ⌝ }
 {
     let mut room = room_for_64();
-    let mut three = room_for_three();
     let begins = sheets::extent_of_leading_sheet(sheet);
     let is = sheets::read(sheet, &mut room);
-    let short = sheets::read(sheet, &mut three);
+    let short = read_short(sheet);
     let line = put_answers(out, start, begins, is, short);
     let Extent::Sheet { entries, length: _ } = is else {
         return line;
     };
     let numbers = entries * 5;
-    let at = put_entries(out, line, &room[..numbers]);
-    put_written(out, at, &room[..numbers], sheet)
+    put_written(out, line, &room[..numbers], sheet)
 }
 
 // The text of each sheet of the input.

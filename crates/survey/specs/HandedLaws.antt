@@ -14,12 +14,15 @@ use Rattle.requests.specs.Requests.{ofEclipse}
 use Rattle.circumstances.specs.declared.Answer.{Answer}
 use Rattle.circumstances.specs.declared.Answer.the-variants as A
 use Rattle.circumstances.specs.Demand3.{Claimed}
+use Rattle.doubles.specs.declared.Longitude.{Longitude}
 use Rattle.doubles.specs.declared.Longitude.the-variants.{Degrees, Hours}
+use Rattle.instrument.specs.declared.ElementDoubles.{ElementDoubles}
+use Rattle.instrument.specs.Instrument.{doublesOf}
 use Rattle.survey.specs.declared.Survey.{Survey}
 use Rattle.survey.specs.declared.handed.Handed.{Handed}
 use Rattle.survey.specs.declared.handed.Handed.the-variants as H
 use Rattle.survey.specs.Survey.{requestOf}
-use Rattle.survey.specs.Handed.{marked, surveyOf, isOfShape, handedOf, notOfShape, answerTo, bufferFor, sinesFor}
+use Rattle.survey.specs.Handed.{marked, number, surveyOf, isOfShape, handedOf, notOfShape, answerTo, bufferFor, sinesFor}
 use Rattle.survey.specs.SurveyLaws.{SurveyPromised}
 
 pub marked-degrees : (hours : ℕ) (x : Float) → hours ≡ 0 → Degrees x ≡ marked hours x
@@ -28,6 +31,16 @@ marked-degrees hours x e = rw e
 pub marked-hours : (hours : ℕ) (x : Float) → (hours ≡ 0 → ⊥) → Hours x ≡ marked hours x
 marked-hours zero x n = absurd (n refl)
 marked-hours (suc k) x n = refl
+
+-- a survey by its parts
+pub by-parts : (xs : List Float) (x : Float) (hours : ℕ) (rest : List ℤ) {elements : ElementDoubles} {longitude : Longitude} {a b c d e f g : ℤ}
+    → elements ≡ doublesOf xs → longitude ≡ marked hours x → a ≡ number rest 0 → b ≡ number rest 1 → c ≡ number rest 2 → d ≡ number rest 3
+    → e ≡ number rest 4 → f ≡ number rest 5 → g ≡ number rest 6
+    → _≡_ {A = Survey}
+    (record { elements = elements; longitude = longitude; number = a; latitude = b; height = c; deltat = d; window = record { first = e; last = f }; guard = g })
+    (surveyOf xs x hours rest)
+unfolding surveyOf
+by-parts xs x hours rest p q i j k l m n o = rw (p, q, i, j, k, l, m, n, o)
 
 -- ---- the ways
 module _ (xs : List Float) (x : Float) (hours : ℕ) (rest : List ℤ) where

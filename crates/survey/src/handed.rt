@@ -4,6 +4,7 @@ use doubles::Longitude;
 use refusals::Refusal;
 use windows::Window;
 ghost use mathlib.Core.Path.{_≡_};
+ghost use lib.ListN.{length};
 ghost use Rattle.requests.specs.Requests.{ofEclipse};
 ghost use Rattle.circumstances.specs.Demand3.{Claimed};
 ghost use Rattle.survey.specs.Survey.{requestOf};
@@ -36,6 +37,33 @@ fn not_of_shape() -> Handed
 }
 
 // The survey of 22 doubles, a longitude and its mark, 0 or 1, and the rest: number, latitude, height, ΔT, first, last, guard.
+fn survey_of(elements: &[f64], longitude: f64, hours: u64, rest: &[i64]) -> Survey
+    requires { ⌜ (length (now elements) ≡ 22) × (length (now rest) ≡ 7) ⌝ }
+    ensures { λ r. ⌜ r ≡ surveyOf (now (elements .entry)) longitude hours (now (rest .entry)) ⌝ }
+{
+    let elements = instrument::from_doubles(elements);
+    let longitude = marked(hours, longitude);
+    let number = rest[0];
+    let latitude = rest[1];
+    let height = rest[2];
+    let deltat = rest[3];
+    let first = rest[4];
+    let last = rest[5];
+    let guard = rest[6];
+    let window = Window { first, last };
+    Survey {
+        elements,
+        longitude,
+        number,
+        latitude,
+        height,
+        deltat,
+        window,
+        guard,
+    }
+}
+
+// The same, where the numbers are of that shape.
 fn survey(elements: &[f64], longitude: f64, hours: u64, rest: &[i64]) -> Handed
     ensures { λ r. ⌜ r ≡ handedOf (now (elements .entry)) longitude hours (now (rest .entry)) ⌝ }
 {
@@ -48,26 +76,8 @@ fn survey(elements: &[f64], longitude: f64, hours: u64, rest: &[i64]) -> Handed
     if 1 < hours {
         return not_of_shape();
     }
-    let elements = instrument::from_doubles(elements);
-    let longitude = marked(hours, longitude);
-    let number = rest[0];
-    let latitude = rest[1];
-    let height = rest[2];
-    let deltat = rest[3];
-    let first = rest[4];
-    let last = rest[5];
-    let guard = rest[6];
-    let window = Window { first, last };
-    Handed::Is(Survey {
-        elements,
-        longitude,
-        number,
-        latitude,
-        height,
-        deltat,
-        window,
-        guard,
-    })
+    let s = survey_of(elements, longitude, hours, rest);
+    Handed::Is(s)
 }
 
 // The contact sheet of such a survey, in the caller's buffer; `sines` is room for table S.

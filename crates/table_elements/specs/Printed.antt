@@ -14,9 +14,9 @@ use Rattle.lines.specs.Lines.{refusalLine}
 use Rattle.tables.specs.declared.Answer.{Answer}
 use Rattle.tables.specs.declared.Answer.the-variants.{Made, Refused}
 use Rattle.tables.specs.Tables.{answerTo, valuesOf}
-use Rattle.table_elements.specs.declared.Fault.{Fault}
-use Rattle.table_elements.specs.declared.Fault.the-variants as F
-use Rattle.table_elements.specs.Reading.{Said, nothing, row, faulty, lineOf, linesOf}
+use Rattle.typed_rows.specs.declared.Fault.{Fault}
+use Rattle.typed_rows.specs.declared.Fault.the-variants as F
+use Rattle.typed_rows.specs.Reading.{Said, nothing, row, faulty, lineOf, linesOf}
 
 -- seven lines of eight values
 unfoldable pub valuesText : List ℤ → List ℕ

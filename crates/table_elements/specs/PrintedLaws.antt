@@ -18,15 +18,17 @@ use Rattle.lines.specs.Lines.{refusalLine}
 use Rattle.tables.specs.declared.Answer.{Answer}
 use Rattle.tables.specs.declared.Answer.the-variants.{Made, Refused}
 use Rattle.tables.specs.Tables.{answerTo, valuesOf, valuesAfter}
-use Rattle.table_elements.specs.declared.Fault.{Fault}
-use Rattle.table_elements.specs.declared.Fault.the-variants as F
-use Rattle.table_elements.specs.declared.Line.{Line}
-use Rattle.table_elements.specs.declared.Line.the-variants as L
-use Rattle.table_elements.specs.Reading.{Said, nothing, row, faulty, lineOf, linesOf}
+use Rattle.table_elements.specs.declared.Read.{Read}
+use Rattle.table_elements.specs.declared.Read.the-variants as R
+use Rattle.typed_rows.specs.declared.Fault.{Fault}
+use Rattle.typed_rows.specs.declared.Fault.the-variants as F
+use Rattle.typed_rows.specs.declared.Line.{Line}
+use Rattle.typed_rows.specs.declared.Line.the-variants as L
+use Rattle.typed_rows.specs.Reading.{Said, nothing, row, faulty, lineOf, linesOf}
 use Rattle.words.specs.declared.Class.the-variants as C
 use Rattle.words.specs.Text.{runOf}
 use Rattle.words.specs.TextLaws.{rest-is}
-use Rattle.table_elements.specs.ReadingLaws.{answerOf, Stored, Left, line-within, next-line}
+use Rattle.typed_rows.specs.ReadingLaws.{answerOf, Stored, Left, line-within, next-line}
 use Rattle.table_elements.specs.Printed.{valuesText, tableText, messageOf, faultLine, Streams, told, first, ofLine, readLines, printed}
 
 -- what a line adds to the output, where it is that row, from 0, of its table; and the rows of the table after it
@@ -39,6 +41,15 @@ abbrev pub rowsAfter : Line → ℕ → ℕ
 rowsAfter L.Row k = cond (eqb k 6) 0 (k + 1)
 rowsAfter L.Nothing k = k
 rowsAfter (L.Faulty f) k = k
+
+-- how many bytes the tables of a text take, and what is told of its fault
+abbrev pub outputOf : Read → ℕ
+outputOf (R.Whole o) = o
+outputOf (R.Faulty o k f) = o
+
+abbrev pub errorOf : Read → List ℕ
+errorOf (R.Whole o) = []
+errorOf (R.Faulty o k f) = faultLine k f
 
 -- ---- a table
 

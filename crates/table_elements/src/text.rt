@@ -1,6 +1,6 @@
 // What is written of a table, and of a fault. A `put_` function stores it at a place of a room, as far as the room goes, and gives
 // the place after it (`decimals`).
-use super::Fault;
+use typed_rows::Fault;
 ghost use mathlib.Core.Path.{_≡_};
 ghost use lib.ListN.{length};
 ghost use Rattle.decimals.specs.Texts.{Put};

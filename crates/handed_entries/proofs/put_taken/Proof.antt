@@ -1,15 +1,17 @@
 -- `handed_entries::put_taken` meets its contract: the first numbers of the room are those of the bytes.
 use Rattle.handed_entries.specs.Printed.{listText}
 use Rattle.decimals.specs.RowLaws.{put-as}
+use lib.ListN.{length-replicate}
 use lib.Seq.{length-take-le}
 use native.Mathlib.Omega.{arith}
 use mathlib.Core.Path.{sym, ap}
+use Prim.Native.Nat.{ℕ}
 use borrow.Author.Needs.{needs}
 use Rattle.handed_entries.proofs.put_taken.Statement.{statement}
 use Rattle.handed_entries.proofs.put_taken.Tie as tie
 
 slice-aggregate-take : tie.Need-slice-aggregate-take
-slice-aggregate-take c = search needs
+slice-aggregate-take c = sym (length-replicate {A = ℕ} 65536 0)
 
 take-requires : tie.Need-take-requires
 take-requires c κs = search needs

@@ -3,7 +3,7 @@ use Prim.Native.Nat.{_<_}
 use mathlib.Core.Path.{refl}
 use native.Mathlib.Omega.{arith}
 use lib.ListN.{length}
-use Rattle.mending.specs.Mending.{kept, notes}
+use Rattle.kept_sheets.specs.Walk.{kept, notes}
 use Rattle.mending.specs.AnswerLaws.{kept-long, notes-long, sheets-short, dropped-short, both-hold, put-whole}
 use borrow.Author.Needs.{needs}
 use Rattle.mending.proofs.mend.Statement.{statement}

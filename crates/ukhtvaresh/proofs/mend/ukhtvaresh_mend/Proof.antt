@@ -1,6 +1,7 @@
 -- `ukhtvaresh::mend::ukhtvaresh_mend` meets its contract: the answer of the crate below, as numbers. Assumes nothing.
 use mathlib.Core.Path.{ap, _∙_}
-use Rattle.mending.specs.Mending.{kept, notes, roomAfter}
+use Rattle.kept_sheets.specs.Walk.{kept, notes}
+use Rattle.mending.specs.Mending.{roomAfter}
 use Rattle.replies.specs.declared.MendReply.{MendReply}
 use Rattle.replies.specs.MendReply.{mendReply}
 use borrow.Author.Needs.{needs}

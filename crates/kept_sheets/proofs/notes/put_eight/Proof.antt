@@ -1,0 +1,22 @@
+-- `kept_sheets::notes::put_eight` meets its contract: one half after the other.
+use native.Mathlib.Omega.{arith}
+use Rattle.decimals.specs.TextLaws.{put-then}
+use borrow.Author.Needs.{needs}
+use Rattle.kept_sheets.proofs.notes.put_eight.Statement.{statement}
+use Rattle.kept_sheets.proofs.notes.put_eight.Tie as tie
+
+put-four-requires : tie.Need-put-four-requires
+put-four-requires c κs = search needs
+
+put-four-requires-2 : tie.Need-put-four-requires-2
+put-four-requires-2 c κs = search needs
+
+same-length : tie.Need-same-length
+same-length c = search needs
+
+returns : tie.Need-returns
+returns c =
+    put-then _ _ _ _ _ _ _ _ (omega arith) (c .before .before .before .before .before .before .put-four .ensures) (c .before .before .put-four2 .ensures)
+
+pub put-eight-spec : {M : Type 1} → statement M
+put-eight-spec = tie.close (tie.spec put-four-requires put-four-requires-2 same-length returns)

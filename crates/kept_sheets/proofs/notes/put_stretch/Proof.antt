@@ -1,0 +1,34 @@
+-- `kept_sheets::notes::put_stretch` meets its contract: nothing for no bytes; else the start, then the length.
+use native.Mathlib.Omega.{arith}
+use Rattle.decimals.specs.TextLaws.{put-nil, put-then}
+use Rattle.kept_sheets.specs.NoteLaws.{ended-none, ended-note}
+use borrow.Author.Needs.{needs}
+use Rattle.kept_sheets.proofs.notes.put_stretch.Statement.{statement}
+use Rattle.kept_sheets.proofs.notes.put_stretch.Tie as tie
+
+returns : tie.Need-returns
+returns c = let a = c .before .before .args in rw (ended-none (a .end) (a .lost) (c .if1 .taken)) (put-nil _ _ (omega arith))
+
+sub-start : tie.Need-sub-start
+sub-start c = search needs
+
+put-eight-requires : tie.Need-put-eight-requires
+put-eight-requires c κs = search needs
+
+put-eight-requires-2 : tie.Need-put-eight-requires-2
+put-eight-requires-2 c κs = search needs
+
+same-length : tie.Need-same-length
+same-length c = search needs
+
+returns-2 : tie.Need-returns-2
+returns-2 c =
+    let t = c .before .before .before .before .before .before .before .before in
+    let a = t .before .before .args in
+    rw (ended-note (a .end) (a .lost) (t .if1 .left))
+    (put-then _ _ _ _ _ _ _ _ (omega arith) (c .before .before .before .before .before .before .put-eight .ensures) (c .before .before .put-eight2 .ensures))
+
+pub put-stretch-spec : {M : Type 1} → statement M
+put-stretch-spec =
+    tie.close
+    (tie.spec returns sub-start put-eight-requires put-eight-requires-2 same-length returns-2)

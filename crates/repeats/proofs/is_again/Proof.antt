@@ -1,0 +1,68 @@
+-- `repeats::is_again` meets its contract: what was found makes up `Again`, and none began 5 bytes before.
+use Prim.Native.Nat.{_-_}
+use mathlib.Core.Path.{sym}
+use native.Mathlib.Omega.{arith}
+use borrow.Author.Tests.{not-false}
+use Rattle.numbers.specs.Tests.{distinct}
+use Rattle.repeats.specs.Repeats.{Again, again-none}
+use borrow.Author.Needs.{needs}
+use Rattle.repeats.proofs.is_again.Statement.{statement}
+use Rattle.repeats.proofs.is_again.Tie as tie
+
+returns : tie.Need-returns
+returns c = λ e. absurd (distinct (sym e))
+
+sub-if2 : tie.Need-sub-if2
+sub-if2 c = search needs
+
+returns-2 : tie.Need-returns-2
+returns-2 c = λ e. absurd (distinct (sym e))
+
+shared-slice-read-if3 : tie.Need-shared-slice-read-if3
+shared-slice-read-if3 c = search needs
+
+returns-3 : tie.Need-returns-3
+returns-3 c = λ e. absurd (distinct (sym e))
+
+add-opens-once : tie.Need-add-opens-once
+add-opens-once c = search needs
+
+opens-once-requires : tie.Need-opens-once-requires
+opens-once-requires c κs = search needs
+
+returns-4 : tie.Need-returns-4
+returns-4 c = λ e. absurd (distinct (sym e))
+
+same-before-requires : tie.Need-same-before-requires
+same-before-requires c κs = search needs
+
+returns-5 : tie.Need-returns-5
+returns-5 c =
+    let opens = c .before .before in
+    let started = opens .before .before .before .before .before .before in
+    let file = started .args .file .now in
+    let at = started .args .at in
+    let before = started .pre .1 in λ e.
+    let again : Again file at = record {
+      back = omega (arith, before .within);
+      long = omega arith;
+      same = c .same-before .ensures e;
+      head = opens .before .if3 .left;
+      opens = opens .opens-once .ensures (not-false _ (c .before .if4 .left));
+    } in
+    again-none file at (λ i. omega (arith, opens .before .before .shared-slice-known2 .given i)) again (before .none (at - 5) (omega arith) (omega arith))
+
+pub is-again-spec : {M : Type 1} → statement M
+is-again-spec =
+    tie.close
+    (tie.spec
+    returns
+    sub-if2
+    returns-2
+    shared-slice-read-if3
+    returns-3
+    add-opens-once
+    opens-once-requires
+    returns-4
+    same-before-requires
+    returns-5)

@@ -1,0 +1,59 @@
+-- `survey::handed::survey_of` meets its contract: each number read back from its bits. Assumes nothing.
+use Rattle.numbers.specs.Code.{read-result}
+use Rattle.survey.specs.Handed.{number}
+use Rattle.survey.specs.HandedLaws.{by-parts}
+use borrow.Author.Needs.{needs}
+use Rattle.survey.proofs.handed.survey_of.Statement.{statement}
+use Rattle.survey.proofs.handed.survey_of.Tie as tie
+
+from-doubles-requires : tie.Need-from-doubles-requires
+from-doubles-requires c κs = search needs
+
+marked-requires : tie.Need-marked-requires
+marked-requires c κs = search needs
+
+shared-slice-copy-out-number : tie.Need-shared-slice-copy-out-number
+shared-slice-copy-out-number c = search needs
+
+shared-slice-copy-out-latitude : tie.Need-shared-slice-copy-out-latitude
+shared-slice-copy-out-latitude c = search needs
+
+shared-slice-copy-out-height : tie.Need-shared-slice-copy-out-height
+shared-slice-copy-out-height c = search needs
+
+shared-slice-copy-out-deltat : tie.Need-shared-slice-copy-out-deltat
+shared-slice-copy-out-deltat c = search needs
+
+shared-slice-copy-out-first : tie.Need-shared-slice-copy-out-first
+shared-slice-copy-out-first c = search needs
+
+shared-slice-copy-out-last : tie.Need-shared-slice-copy-out-last
+shared-slice-copy-out-last c = search needs
+
+shared-slice-copy-out-guard : tie.Need-shared-slice-copy-out-guard
+shared-slice-copy-out-guard c = search needs
+
+returns : tie.Need-returns
+returns c =
+    let made = c .before .before .before .before .before .before .before in
+    let a = made .before .before .before .args in
+    let rest = a .rest .now in
+    by-parts (a .elements .now) (a .longitude) (a .hours) rest (made .before .from-doubles .ensures) (made .marked .ensures)
+    (read-result (number rest 0) (c .before .before .before .before .before .before .number .given)) (read-result (number rest 1) (c .before .before .before .before .before .latitude .given))
+    (read-result (number rest 2) (c .before .before .before .before .height .given)) (read-result (number rest 3) (c .before .before .before .deltat .given))
+    (read-result (number rest 4) (c .before .before .first .given)) (read-result (number rest 5) (c .before .last .given)) (read-result (number rest 6) (c .guard .given))
+
+pub survey-of-spec : {M : Type 1} → statement M
+survey-of-spec =
+    tie.close
+    (tie.spec
+    from-doubles-requires
+    marked-requires
+    shared-slice-copy-out-number
+    shared-slice-copy-out-latitude
+    shared-slice-copy-out-height
+    shared-slice-copy-out-deltat
+    shared-slice-copy-out-first
+    shared-slice-copy-out-last
+    shared-slice-copy-out-guard
+    returns)

@@ -1,0 +1,21 @@
+-- `typed_rows::fault_of` meets its contract, case by case.
+use Rattle.typed_rows.specs.ReadingLaws.{faultOf}
+use mathlib.Core.Path.{sym, ap}
+use borrow.Author.Needs.{needs}
+use Rattle.typed_rows.proofs.fault_of.Statement.{statement}
+use Rattle.typed_rows.proofs.fault_of.Tie as tie
+
+enum-told : tie.Need-enum-told
+enum-told c = search needs
+
+enum-known-number : tie.Need-enum-known-number
+enum-known-number c = search needs
+
+returns : tie.Need-returns
+returns c = sym (ap faultOf (c .enum-told .given .1))
+
+returns-2 : tie.Need-returns-2
+returns-2 c = sym (ap faultOf (c .before .number .given .1))
+
+pub fault-of-spec : {M : Type 1} → statement M
+fault-of-spec = tie.close (tie.spec enum-told enum-known-number returns returns-2)

@@ -1,0 +1,48 @@
+-- `typed_rows::size_of` meets its contract: the digits that are left give the number.
+use borrow.Author.Needs.{needs}
+use Rattle.typed_rows.specs.NumberLaws.{Appending, appending-start, appending-turn, appending-end}
+use lib.ListN.{length}
+use Prim.Native.Nat.{_-_}
+use Rattle.typed_rows.proofs.size_of.Statement.{statement}
+use Rattle.typed_rows.proofs.size_of.Tie as tie
+
+abbrev Inv-loop : tie.InvT-loop
+Inv-loop digits n₀ i₀ n i = Appending digits n i
+
+abbrev μ-loop : tie.MeasureT-loop
+μ-loop digits n₀ i₀ n i = length digits - i
+
+loop-holds : tie.Need-loop-holds Inv-loop μ-loop
+loop-holds c = appending-start _
+
+shared-slice-read-with-digit : tie.Need-shared-slice-read-with-digit Inv-loop μ-loop
+shared-slice-read-with-digit c = search needs
+
+with-digit-requires : tie.Need-with-digit-requires Inv-loop μ-loop
+with-digit-requires c κs = c .before .before .loop .inv .small
+
+add-i : tie.Need-add-i Inv-loop μ-loop
+add-i c = search needs
+
+loop-less : tie.Need-loop-less Inv-loop μ-loop
+loop-less c = search needs
+
+loop-again : tie.Need-loop-again Inv-loop μ-loop
+loop-again c = appending-turn _ _ _ (c .before .before .before .loop .inv) (c .before .before .loop-test .taken) _ (c .with-digit .ensures)
+
+returns : tie.Need-returns Inv-loop μ-loop
+returns c = appending-end _ _ _ (c .before .loop .inv) (c .loop-test .left)
+
+pub size-of-spec : {M : Type 1} → statement M
+size-of-spec =
+    tie.close
+    (tie.spec
+    Inv-loop
+    μ-loop
+    loop-holds
+    shared-slice-read-with-digit
+    with-digit-requires
+    add-i
+    loop-less
+    loop-again
+    returns)
