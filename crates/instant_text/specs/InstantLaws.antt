@@ -1,8 +1,9 @@
 -- The words of an instant one after the other, as they are read.
 use mathlib.Core.Path.{_≡_, refl, sym, ap, _∙_}
-use mathlib.Core.Bool.{Bool, true, false, cond}
+use mathlib.Core.Bool.{Bool, true, false, cond, _&&_}
 use mathlib.Core.List.{List}
 use Prim.Native.Nat.{ℕ}
+use native.Mathlib.Omega.{arith}
 use lib.ListN.{take, drop}
 use Rattle.request_fields.specs.Rows.{letters}
 use Rattle.words.specs.declared.Class.the-variants as C
@@ -45,29 +46,29 @@ module _ (date time word : List ℕ) where
   unfolding inScale
   scale-none e u = rw (e, u)
 
-module _ (date time s : List ℕ) where
-  pub scale-crowded : allOf C.Blank (afterWord s) ≡ false → R.Malformed ≡ scaled date time s
-  unfolding scaled
-  scale-crowded e = rw e
+-- the words are read one after the other, and tested together
+module _ (s date after time scale behind : List ℕ) (a b c : Bool) (d : date ≡ wordIn s) (f : after ≡ afterWord s) (t : time ≡ wordIn after)
+    (g : scale ≡ afterWord after) (h : behind ≡ afterWord scale) (x : a ≡ isDate date) (y : b ≡ isTime time) (z : c ≡ allOf C.Blank behind) where
+  tested : cond a (cond b (cond c (inScale date time (wordIn scale)) R.Malformed) R.Malformed) R.Malformed ≡ instantOf s
+  unfolding instantOf timed scaled
+  tested = rw (x, y, z, h, g, t, f, d)
 
-  pub scale-alone : allOf C.Blank (afterWord s) ≡ true → inScale date time (wordIn s) ≡ scaled date time s
-  unfolding scaled
-  scale-alone e = rw e
+  pub read-not : (a && b && c) ≡ false → R.Malformed ≡ instantOf s
+  read-not e = by a b c e ∙ tested
+    where
+      by : (a b c : Bool) → (a && b && c) ≡ false
+          → R.Malformed ≡ cond a (cond b (cond c (inScale date time (wordIn scale)) R.Malformed) R.Malformed) R.Malformed
+      by false b c e = refl
+      by true false c e = refl
+      by true true false e = refl
+      by true true true e = absurd (let q : _≡_ {A = ℕ} 0 1 = cc in omega arith)
 
-module _ (date s : List ℕ) where
-  pub time-not : isTime (wordIn s) ≡ false → R.Malformed ≡ timed date s
-  unfolding timed
-  time-not e = rw e
-
-  pub time-is : isTime (wordIn s) ≡ true → scaled date (wordIn s) (afterWord s) ≡ timed date s
-  unfolding timed
-  time-is e = rw e
-
-module _ (s : List ℕ) where
-  pub date-not : isDate (wordIn s) ≡ false → R.Malformed ≡ instantOf s
-  unfolding instantOf
-  date-not e = rw e
-
-  pub date-is : isDate (wordIn s) ≡ true → timed (wordIn s) (afterWord s) ≡ instantOf s
-  unfolding instantOf
-  date-is e = rw e
+  pub read-is : (a && b && c) ≡ true → inScale date time (wordIn scale) ≡ instantOf s
+  read-is e = by a b c e ∙ tested
+    where
+      by : (a b c : Bool) → (a && b && c) ≡ true
+          → inScale date time (wordIn scale) ≡ cond a (cond b (cond c (inScale date time (wordIn scale)) R.Malformed) R.Malformed) R.Malformed
+      by true true true e = refl
+      by true true false e = absurd (let q : _≡_ {A = ℕ} 0 1 = cc in omega arith)
+      by true false c e = absurd (let q : _≡_ {A = ℕ} 0 1 = cc in omega arith)
+      by false b c e = absurd (let q : _≡_ {A = ℕ} 0 1 = cc in omega arith)

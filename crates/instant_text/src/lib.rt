@@ -9,7 +9,7 @@ use instants::Scale;
 use words::Class;
 ghost use mathlib.Core.Path.{_≡_};
 ghost use Rattle.request_text.specs.Lines.{wordIn, afterWord};
-ghost use Rattle.instant_text.specs.Instants.{yearOf, isDate, timeForm, isTime, hundredthsOf, instantAt, inScale, scaled, timed, instantOf};
+ghost use Rattle.instant_text.specs.Instants.{yearOf, isDate, timeForm, isTime, hundredthsOf, instantAt, inScale, instantOf};
 
 // What words are read as.
 pub enum Reading {
@@ -130,37 +130,18 @@ fn in_scale(date: &[u8], time: &[u8], word: &[u8]) -> Reading
     Reading::Malformed
 }
 
-// What stands after the time: the scale, and blanks alone behind.
-fn scaled(date: &[u8], time: &[u8], s: &[u8]) -> Reading
-    ensures { λ r. ⌜ r ≡ scaled (now (date .entry)) (now (time .entry)) (now (s .entry)) ⌝ }
-{
-    let bare = words::all(after_word(s), Class::Blank);
-    if !bare {
-        return Reading::Malformed;
-    }
-    in_scale(date, time, word_in(s))
-}
-
-// What stands after the date: the time and the scale.
-fn timed(date: &[u8], s: &[u8]) -> Reading
-    ensures { λ r. ⌜ r ≡ timed (now (date .entry)) (now (s .entry)) ⌝ }
-{
-    let time = word_in(s);
-    let is = is_time(time);
-    if !is {
-        return Reading::Malformed;
-    }
-    scaled(date, time, after_word(s))
-}
-
-// The instant that words are: `2017-08-21 18:00:00 ET`.
+// The instant that words are: `2017-08-21 18:00:00 ET`, and blanks alone behind.
 pub fn read(s: &[u8]) -> Reading
     ensures { λ r. ⌜ r ≡ instantOf (now (s .entry)) ⌝ }
 {
     let date = word_in(s);
-    let is = is_date(date);
-    if !is {
+    let timed = after_word(s);
+    let time = word_in(timed);
+    let scaled = after_word(timed);
+    let bare = words::all(after_word(scaled), Class::Blank);
+    let right = is_date(date) & is_time(time) & bare;
+    if !right {
         return Reading::Malformed;
     }
-    timed(date, after_word(s))
+    in_scale(date, time, word_in(scaled))
 }

@@ -2,9 +2,10 @@
 // The typed text and the bytes of a request are both read and written by it.
 ghost use mathlib.Core.Path.{_≡_};
 ghost use Prim.Native.Nat.{_<_};
+ghost use lib.ListN.{length};
 ghost use Rattle.request_fields.specs.Fields.{bytesIn, holds, countOf};
-ghost use Rattle.request_fields.specs.Rows.{elementRows, alikeRows, rowIn, rowAt};
-ghost use Rattle.request_fields.specs.declared.Shape.the-variants.{Eclipse, Star};
+ghost use Rattle.request_fields.specs.Rows.{rowIn, rowAt};
+ghost use Rattle.request_fields.specs.Table.{tables, widthFrom, nameFrom, fieldFrom, fieldsIn};
 
 // What a request asks about: an eclipse, or a star behind the Moon.
 pub enum Shape {
@@ -32,60 +33,53 @@ pub enum Width {
 // its bytes; and the kind of the record that begins with it, or 0 where none does.
 pub struct Field(pub [u8; 9], pub usize, pub usize, pub Width, pub u8);
 
-// The elements of an eclipse.
-const ECLIPSE: [Field; 22] = [
-    Field(*b"x0       ", 2, 8, Width::Signed4, 0x02),
-    Field(*b"x1       ", 2, 8, Width::Signed4, 0),
-    Field(*b"x2       ", 2, 8, Width::Signed4, 0),
-    Field(*b"x3       ", 2, 8, Width::Signed4, 0),
-    Field(*b"y0       ", 2, 8, Width::Signed4, 0),
-    Field(*b"y1       ", 2, 8, Width::Signed4, 0),
-    Field(*b"y2       ", 2, 8, Width::Signed4, 0),
-    Field(*b"y3       ", 2, 8, Width::Signed4, 0),
-    Field(*b"d0       ", 2, 6, Width::Signed4, 0),
-    Field(*b"d1       ", 2, 6, Width::Signed4, 0),
-    Field(*b"d2       ", 2, 6, Width::Signed4, 0),
-    Field(*b"l10      ", 3, 8, Width::Signed4, 0),
-    Field(*b"l11      ", 3, 8, Width::Signed4, 0),
-    Field(*b"l12      ", 3, 8, Width::Signed4, 0),
-    Field(*b"l20      ", 3, 8, Width::Signed4, 0),
-    Field(*b"l21      ", 3, 8, Width::Signed4, 0),
-    Field(*b"l22      ", 3, 8, Width::Signed4, 0),
-    Field(*b"mu0      ", 3, 6, Width::Signed4, 0),
-    Field(*b"mu1      ", 3, 6, Width::Signed4, 0),
-    Field(*b"mu2      ", 3, 6, Width::Signed4, 0),
-    Field(*b"tan f1   ", 6, 8, Width::Signed4, 0),
-    Field(*b"tan f2   ", 6, 8, Width::Signed4, 0),
-];
-
-// The elements of a star, and the Moon's radius.
-const STAR: [Field; 13] = [
-    Field(*b"x0       ", 2, 8, Width::Signed4, 0x05),
-    Field(*b"x1       ", 2, 8, Width::Signed4, 0),
-    Field(*b"x2       ", 2, 8, Width::Signed4, 0),
-    Field(*b"x3       ", 2, 8, Width::Signed4, 0),
-    Field(*b"y0       ", 2, 8, Width::Signed4, 0),
-    Field(*b"y1       ", 2, 8, Width::Signed4, 0),
-    Field(*b"y2       ", 2, 8, Width::Signed4, 0),
-    Field(*b"y3       ", 2, 8, Width::Signed4, 0),
-    Field(*b"d0       ", 2, 6, Width::Signed4, 0),
-    Field(*b"mu0      ", 3, 6, Width::Signed4, 0),
-    Field(*b"mu1      ", 3, 6, Width::Signed4, 0),
-    Field(*b"mu2      ", 3, 6, Width::Signed4, 0),
-    Field(*b"radius   ", 6, 8, Width::Signed4, 0),
-];
-
-// Station and window, which follow both.
-const ALIKE: [Field; 8] = [
-    Field(*b"station  ", 7, 0, Width::Unsigned2, 0x03),
-    Field(*b"latitude ", 8, 6, Width::Signed4, 0),
-    Field(*b"longitude", 9, 6, Width::Signed4, 0),
-    Field(*b"height   ", 6, 0, Width::Signed4, 0),
-    Field(*b"delta t  ", 7, 2, Width::Signed4, 0),
-    Field(*b"first    ", 5, 0, Width::Signed2, 0x04),
-    Field(*b"last     ", 4, 0, Width::Signed2, 0),
-    Field(*b"guard    ", 5, 0, Width::Unsigned2, 0),
-];
+// The elements of an eclipse; those of a star, and the Moon's radius; station and window, which follow both. A row has thirteen bytes: a name with
+// blanks after it, how long it is, how many decimals one unit has, its bytes (4 and 2 signed, u two unsigned), and the kind of the record that begins
+// with it, or 0 where none does.
+const TABLE: [u8; 559] = *b"\
+    x0       2842\
+    x1       2840\
+    x2       2840\
+    x3       2840\
+    y0       2840\
+    y1       2840\
+    y2       2840\
+    y3       2840\
+    d0       2640\
+    d1       2640\
+    d2       2640\
+    l10      3840\
+    l11      3840\
+    l12      3840\
+    l20      3840\
+    l21      3840\
+    l22      3840\
+    mu0      3640\
+    mu1      3640\
+    mu2      3640\
+    tan f1   6840\
+    tan f2   6840\
+    x0       2845\
+    x1       2840\
+    x2       2840\
+    x3       2840\
+    y0       2840\
+    y1       2840\
+    y2       2840\
+    y3       2840\
+    d0       2640\
+    mu0      3640\
+    mu1      3640\
+    mu2      3640\
+    radius   6840\
+    station  70u3\
+    latitude 8640\
+    longitude9640\
+    height   6040\
+    delta t  7240\
+    first    5024\
+    last     4020\
+    guard    50u0";
 
 // How many numbers a request has.
 pub fn count_of(shape: Shape) -> usize
@@ -97,29 +91,70 @@ pub fn count_of(shape: Shape) -> usize
     }
 }
 
-// Number k of an eclipse's elements, of a star's, of station and window.
-fn eclipse_at(k: usize) -> Field
-    requires { ⌜ k < 22 ⌝ }
-    ensures { λ r. ⌜ r ≡ rowIn (elementRows Eclipse) k ⌝ }
+// The table, to be lent to `field_from`: an array is made anew wherever it is named.
+fn table() -> [u8; 559]
+    ensures { λ r. ⌜ fieldsIn 43 r ≡ tables ⌝ }
 {
-    let fields = ECLIPSE;
-    fields[k]
+    TABLE
 }
 
-fn star_at(k: usize) -> Field
-    requires { ⌜ k < 13 ⌝ }
-    ensures { λ r. ⌜ r ≡ rowIn (elementRows Star) k ⌝ }
+// Where number k of a request stands in the table.
+fn row_of(shape: Shape, k: usize) -> usize
+    requires { ⌜ k < countOf shape ⌝ }
+    ensures { λ r. ⌜ (r < 43) × (rowIn tables r ≡ rowAt shape k) ⌝ }
 {
-    let fields = STAR;
-    fields[k]
+    match shape {
+        Shape::Eclipse => {
+            if k < 22 {
+                return k;
+            }
+            k + 13
+        }
+        Shape::Star => k + 22,
+    }
 }
 
-fn alike_at(k: usize) -> Field
-    requires { ⌜ k < 8 ⌝ }
-    ensures { λ r. ⌜ r ≡ rowIn alikeRows k ⌝ }
+fn width_from(letter: u8) -> Width
+    ensures { λ r. ⌜ r ≡ widthFrom letter ⌝ }
 {
-    let fields = ALIKE;
-    fields[k]
+    if letter == b'u' {
+        return Width::Unsigned2;
+    }
+    if letter == b'2' {
+        return Width::Signed2;
+    }
+    Width::Signed4
+}
+
+// The name in a row, with its blanks.
+fn name_from(row: &[u8]) -> [u8; 9]
+    requires { ⌜ length (now row) ≡ 13 ⌝ }
+    ensures { λ r. ⌜ r ≡ nameFrom (now (row .entry)) ⌝ }
+{
+    [
+        row[0],
+        row[1],
+        row[2],
+        row[3],
+        row[4],
+        row[5],
+        row[6],
+        row[7],
+        row[8],
+    ]
+}
+
+// A number of a request from its row. A digit is 48 and its value.
+fn field_from(row: &[u8]) -> Field
+    requires { ⌜ length (now row) ≡ 13 ⌝ }
+    ensures { λ r. ⌜ r ≡ fieldFrom (now (row .entry)) ⌝ }
+{
+    let name = name_from(row);
+    let letters = (row[9] % 16) as usize;
+    let decimals = (row[10] % 16) as usize;
+    let width = width_from(row[11]);
+    let kind = row[12] % 16;
+    Field(name, letters, decimals, width, kind)
 }
 
 // Number k of a request. It is for crates that go through the numbers, and has a `requires`, so it is none of the public promises.
@@ -127,20 +162,9 @@ pub fn field_at(shape: Shape, k: usize) -> Field
     requires { ⌜ k < countOf shape ⌝ }
     ensures { λ r. ⌜ r ≡ rowAt shape k ⌝ }
 {
-    match shape {
-        Shape::Eclipse => {
-            if k < 22 {
-                return eclipse_at(k);
-            }
-            alike_at(k - 22)
-        }
-        Shape::Star => {
-            if k < 13 {
-                return star_at(k);
-            }
-            alike_at(k - 13)
-        }
-    }
+    let at = 13 * row_of(shape, k);
+    let table = table();
+    field_from(&table[at..at + 13])
 }
 
 // How many bytes a number has.

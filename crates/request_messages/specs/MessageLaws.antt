@@ -72,11 +72,12 @@ module _ (shape : Shape) (l old : List ℕ) (at : ℕ) (new : List ℕ) (r : ℕ
   put-told f g e p = rw e p
 
 -- the parts of a message, one after the other
-pub put-parts : (shape : Shape) (text : List ℕ) (line : ℕ) (fault : Fault) (old one two three four new : List ℕ) (at p q t u r : ℕ)
-    → length old < 18446744073709551616 → Put old at (letters "line ") one p → Put one p (decimal line) two q → Put two q (letters ": ") three t
-    → Put three t (faultText shape fault (lineOf text line)) four u → Put four u (letters "\n") new r → Put old at (messageOf shape text line fault) new r
+pub put-parts : (shape : Shape) (text : List ℕ) (line : ℕ) (fault : Fault) (l old one two three four new : List ℕ) (at p q t u r : ℕ)
+    → length old < 18446744073709551616 → l ≡ lineOf text line → Put old at (letters "line ") one p → Put one p (decimal line) two q
+    → Put two q (letters ": ") three t → Put three t (faultText shape fault l) four u → Put four u (letters "\n") new r
+    → Put old at (messageOf shape text line fault) new r
 unfolding messageOf
-put-parts shape text line fault old one two three four new at p q t u r h a b c d e =
+put-parts shape text line fault l old one two three four new at p q t u r h is a b c d e =
     let two-parts = put-then old one two at p q _ _ h a b in
     let three-parts = put-then old two three at q t _ _ h two-parts c in
-    put-then old four new at u r _ _ h (put-then old three four at t u _ _ h three-parts d) e
+    rw (← is) (put-then old four new at u r _ _ h (put-then old three four at t u _ _ h three-parts d) e)

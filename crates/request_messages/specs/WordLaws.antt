@@ -10,11 +10,6 @@ use Rattle.words.specs.TextLaws.{line-next, lines-end, lineAt}
 use Rattle.request_text.specs.Lines.{said}
 use Rattle.request_messages.specs.Messages.{lineOf, wordOf}
 
--- a line of which nothing is said has no word
-word-nil : wordOf [] ≡ []
-unfolding wordOf runOf
-word-nil = refl
-
 -- ---- the lines passed: what is looked for is a line of the rest
 
 pub record Seeking (text : List ℕ) (line left start : ℕ) : Type 0 where
@@ -25,8 +20,8 @@ module _ (text : List ℕ) (line : ℕ) where
   seek-start = record { there = refl }
 
   module _ (left start : ℕ) (s : Seeking text line left start) where
-    pub seek-end : length text ≤ start → wordOf (lineOf text line) ≡ []
-    seek-end h = ap wordOf (s .there ∙ ap (λ (ls : List (List ℕ)). getD ls (left - 1) []) (lines-end text start h)) ∙ word-nil
+    pub seek-end : length text ≤ start → lineOf text line ≡ []
+    seek-end h = s .there ∙ ap (λ (ls : List (List ℕ)). getD ls (left - 1) []) (lines-end text start h)
 
     module _ (n : ℕ) (h : start < length text) (e : n ≡ runOf C.Line (drop start text)) where
       -- the lines that are left, by their number from 0 on

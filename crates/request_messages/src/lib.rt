@@ -3,6 +3,7 @@
 use request_fields::Shape;
 use request_text::Fault;
 use words::Class;
+ghost use mathlib.Core.Path.{_≡_};
 ghost use mathlib.Core.List.{_++_};
 ghost use Rattle.decimals.specs.Texts.{letters, Put};
 ghost use Rattle.request_messages.specs.Messages.{lineOf, wordOf, nameAt, faultText, messageOf};
@@ -29,18 +30,9 @@ fn put_of(out: &mut [u8], at: usize, shape: Shape, field: usize, wrong: &[u8]) -
     decimals::put_text(out, next, wrong)
 }
 
-// The first word of a line.
-fn put_word(out: &mut [u8], at: usize, line: &[u8]) -> usize
-    ensures { λ r. ⌜ Put (now (out .entry)) at (wordOf (now (line .entry))) (now (out .exit)) r ⌝ }
-{
-    let said = request_text::said(line);
-    let letters = words::run(said, Class::Word);
-    decimals::put_text(out, at, &said[..letters])
-}
-
-// The first word of a line of the text.
-fn put_word_of(out: &mut [u8], at: usize, text: &[u8], line: usize) -> usize
-    ensures { λ r. ⌜ Put (now (out .entry)) at (wordOf (lineOf (now (text .entry)) line)) (now (out .exit)) r ⌝ }
+// A line of the text, counted from 1; one that it does not have is empty.
+fn line_of(text: &[u8], line: usize) -> &[u8]
+    ensures { λ r. ⌜ now r ≡ lineOf (now (text .entry)) line ⌝ }
 {
     let mut left = line;
     let mut start = 0;
@@ -48,34 +40,30 @@ fn put_word_of(out: &mut [u8], at: usize, text: &[u8], line: usize) -> usize
         let length = words::run(&text[start..], Class::Line);
         let end = start + length;
         if left <= 1 {
-            return put_word(out, at, &text[start..end]);
+            return &text[start..end];
         }
         left -= 1;
         start = end + 1;
     }
-    at
+    &text[..0]
 }
 
-fn put_unknown(out: &mut [u8], at: usize, text: &[u8], line: usize) -> usize
-    ensures { λ r. ⌜ Put (now (out .entry)) at (letters "unknown name " ++ wordOf (lineOf (now (text .entry)) line)) (now (out .exit)) r ⌝ }
+// A name that no field has: the first word of a line.
+fn put_unknown(out: &mut [u8], at: usize, line: &[u8]) -> usize
+    ensures { λ r. ⌜ Put (now (out .entry)) at (letters "unknown name " ++ wordOf (now (line .entry))) (now (out .exit)) r ⌝ }
 {
     let next = decimals::put_text(out, at, b"unknown name ");
-    put_word_of(out, next, text, line)
+    let said = request_text::said(line);
+    let letters = words::run(said, Class::Word);
+    decimals::put_text(out, next, &said[..letters])
 }
 
-// What is wrong with a line of the text.
-fn put_fault(
-    out: &mut [u8],
-    at: usize,
-    shape: Shape,
-    text: &[u8],
-    line: usize,
-    fault: Fault,
-) -> usize
-    ensures { λ r. ⌜ Put (now (out .entry)) at (faultText shape fault (lineOf (now (text .entry)) line)) (now (out .exit)) r ⌝ }
+// What is wrong with a line.
+fn put_fault(out: &mut [u8], at: usize, shape: Shape, line: &[u8], fault: Fault) -> usize
+    ensures { λ r. ⌜ Put (now (out .entry)) at (faultText shape fault (now (line .entry))) (now (out .exit)) r ⌝ }
 {
     match fault {
-        Fault::Unknown => put_unknown(out, at, text, line),
+        Fault::Unknown => put_unknown(out, at, line),
         Fault::NotNumber(field) => put_of(out, at, shape, field, b" is not a number"),
         Fault::NotWhole(field) => put_of(
             out,
@@ -104,6 +92,6 @@ pub fn put_message(
     let number = decimals::put_text(out, at, b"line ");
     let colon = decimals::put_number(out, number, line as u64);
     let wrong = decimals::put_text(out, colon, b": ");
-    let end = put_fault(out, wrong, shape, text, line, fault);
+    let end = put_fault(out, wrong, shape, line_of(text, line), fault);
     decimals::put_byte(out, end, b'\n')
 }

@@ -18,6 +18,10 @@ use Rattle.tables.specs.declared.Answer.the-variants.{Made, Refused}
 abbrev pub number : List ℤ → ℕ → ℤ
 number n k = getD n k (pos 0)
 
+-- a row of six numbers
+abbrev pub rowFrom : List ℤ → Row
+rowFrom n = record { sunx = number n 0; suny = number n 1; sunz = number n 2; moonx = number n 3; moony = number n 4; moonz = number n 5 }
+
 -- "Take seven hourly rows of the Sun's and the Moon's apparent place as rectangular coordinates in whole units": row i of the numbers
 unfoldable pub rowAt : List ℤ → ℕ → Row
 rowAt n i =

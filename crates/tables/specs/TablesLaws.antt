@@ -2,15 +2,15 @@
 use mathlib.Core.Path.{_≡_, refl, sym, ap, subst, _∙_}
 use mathlib.Core.Bool.{Bool, true, false}
 use mathlib.Core.List.{List, [], _∷_, _++_, append-assoc}
-use Prim.Native.Nat.{ℕ, zero, suc, _+_, _*_, _≤_, _<_}
+use Prim.Native.Nat.{ℕ, zero, suc, _+_, _-_, _*_, _≤_, _<_}
 use native.Mathlib.Omega.{arith}
 use native.Mathlib.Nat.{add-zero, zero-add, suc-add}
 use native.Mathlib.Numerals.{add-one}
 use borrow.Author.Tests.{leb-true, leb-false, le-leb, lt-leb, eqb-true, eqb-false, eq-eqb, ne-eqb}
 use lib.Dec.{leb, eqb}
-use lib.IntN.{ℤ}
-use lib.ListN.{length, drop, set, length-append}
-use lib.Seq.{sets, sets-eq}
+use lib.IntN.{ℤ, pos}
+use lib.ListN.{length, take, drop, set, length-append}
+use lib.Seq.{sets, sets-eq, getD-take, getD-drop}
 use Rattle.numbers.specs.Stores.{sets-append}
 use Rattle.refusals.specs.declared.Refusal.{Refusal}
 use Rattle.refusals.specs.Refusals.{refusal}
@@ -23,7 +23,29 @@ use Rattle.tables.specs.declared.Verdict.{Verdict}
 use Rattle.tables.specs.declared.Verdict.the-variants as Rows
 use Rattle.tables.specs.declared.Answer.{Answer}
 use Rattle.tables.specs.declared.Answer.the-variants.{Made, Refused}
-use Rattle.tables.specs.Tables.{number, rowAt, firstRefused, answerTo, eight, valuesOf, valuesAfter, elementsAt, Claimed}
+use Rattle.tables.specs.Tables.{number, rowFrom, rowAt, firstRefused, answerTo, eight, valuesOf, valuesAfter, elementsAt, Claimed}
+
+-- ---- a row
+
+-- six numbers from place 6i on
+module _ (n : List ℤ) (i : ℕ) where
+  abbrev six : List ℤ
+  six = take (6 * i + 6 - 6 * i) (drop (6 * i) n)
+
+  at : (k : ℕ) → k < 6 → number six k ≡ number n (6 * i + k)
+  at k h = getD-take (6 * i + 6 - 6 * i) (drop (6 * i) n) k (pos 0) (omega arith) ∙ getD-drop (6 * i) n k (pos 0)
+
+  pub row-in : rowFrom six ≡ rowAt n i
+  unfolding rowAt
+  row-in =
+      rw (
+        at 0 (omega arith) ∙ ap (number n) (add-zero (6 * i)),
+        at 1 (omega arith),
+        at 2 (omega arith),
+        at 3 (omega arith),
+        at 4 (omega arith),
+        at 5 (omega arith),
+      )
 
 -- ---- the first row that is refused
 
@@ -68,20 +90,21 @@ unfolding valuesOf
 length-values n zero = refl
 length-values n (suc k) = omega (arith, length-append (valuesOf n k) (eight (elementsOf (rowAt n k))), length-values n k)
 
--- eight stores one after the other
-pub eight-stores : (l : List ℤ) (at : ℕ) (b : Besselian)
-    → set (set (set (set (set (set (set (set l at (b .x)) (at + 1) (b .y)) (at + 2) (b .sind)) (at + 3) (b .cosd)) (at + 4) (b .tanf1)) (at + 5)
-    (b .tanf2)) (at + 6) (b .l1)) (at + 7) (b .l2)
-    ≡ sets l at (eight b)
-eight-stores l at b =
+-- four stores one after the other
+pub four-stores : (l : List ℤ) (at : ℕ) (a b c d : ℤ)
+    → set (set (set (set l at a) (at + 1) b) (at + 2) c) (at + 3) d ≡ sets l at (a ∷ b ∷ c ∷ d ∷ [])
+four-stores l at a b c d =
     let e1 : at + 1 ≡ suc at = omega arith in
     let e2 : at + 2 ≡ suc (suc at) = omega arith in
     let e3 : at + 3 ≡ suc (suc (suc at)) = omega arith in
-    let e4 : at + 4 ≡ suc (suc (suc (suc at))) = omega arith in
-    let e5 : at + 5 ≡ suc (suc (suc (suc (suc at)))) = omega arith in
-    let e6 : at + 6 ≡ suc (suc (suc (suc (suc (suc at))))) = omega arith in
-    let e7 : at + 7 ≡ suc (suc (suc (suc (suc (suc (suc at)))))) = omega arith in
-    rw (e1, e2, e3, e4, e5, e6, e7) refl
+    rw (e1, e2, e3) refl
+
+-- and four right behind them
+pub eight-stored : (l four all : List ℤ) (at : ℕ) (b : Besselian) → four ≡ sets l at (b .x ∷ b .y ∷ b .sind ∷ b .cosd ∷ [])
+    → all ≡ sets four (at + 4) (b .tanf1 ∷ b .tanf2 ∷ b .l1 ∷ b .l2 ∷ []) → all ≡ sets l at (eight b)
+eight-stored l four all at b p q =
+    q ∙ ap (λ (m : List ℤ). sets m (at + 4) (b .tanf1 ∷ b .tanf2 ∷ b .l1 ∷ b .l2 ∷ [])) p
+    ∙ sym (sets-append (b .x ∷ b .y ∷ b .sind ∷ b .cosd ∷ []) (b .tanf1 ∷ b .tanf2 ∷ b .l1 ∷ b .l2 ∷ []) l at)
 
 values-last : (n : List ℤ) (k : ℕ) → valuesOf n k ++ eight (elementsOf (rowAt n k)) ≡ valuesOf n (k + 1)
 unfolding valuesOf

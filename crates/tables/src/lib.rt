@@ -2,6 +2,7 @@
 use refusals::Refusal;
 ghost use mathlib.Core.Path.{_≡_};
 ghost use Prim.Native.Nat.{_+_, _*_, _≤_, _<_};
+ghost use mathlib.Core.List.{[], _∷_};
 ghost use lib.ListN.{length};
 ghost use lib.Seq.{sets};
 ghost use Rattle.tables.specs.declared.Verdict.the-variants.{Whole};
@@ -26,12 +27,13 @@ fn row_at(rows: &[i64], i: usize) -> besselian::Row
     ensures { λ r. ⌜ r ≡ rowAt (now (rows .entry)) i ⌝ }
 {
     let at = 6 * i;
-    let sunx = rows[at];
-    let suny = rows[at + 1];
-    let sunz = rows[at + 2];
-    let moonx = rows[at + 3];
-    let moony = rows[at + 4];
-    let moonz = rows[at + 5];
+    let row = &rows[at..at + 6];
+    let sunx = row[0];
+    let suny = row[1];
+    let sunz = row[2];
+    let moonx = row[3];
+    let moony = row[4];
+    let moonz = row[5];
     besselian::Row {
         sunx,
         suny,
@@ -86,27 +88,24 @@ fn judged(rows: &[i64], room: usize) -> Answer
     }
 }
 
+// Four values, from place `at` on.
+fn store_four(values: &mut [i64], at: usize, a: i64, b: i64, c: i64, d: i64)
+    requires { ⌜ at + 4 ≤ length (now values) ⌝ }
+    ensures { λ r. ⌜ now (values .exit) ≡ sets (now (values .entry)) at (a ∷ b ∷ c ∷ d ∷ []) ⌝ }
+{
+    values[at] = a;
+    values[at + 1] = b;
+    values[at + 2] = c;
+    values[at + 3] = d;
+}
+
 // The eight values of a row, from place `at` on.
 fn store(values: &mut [i64], at: usize, b: besselian::Besselian)
     requires { ⌜ at + 8 ≤ length (now values) ⌝ }
     ensures { λ r. ⌜ now (values .exit) ≡ sets (now (values .entry)) at (eight b) ⌝ }
 {
-    let x = b.x;
-    let y = b.y;
-    let sind = b.sind;
-    let cosd = b.cosd;
-    let tanf1 = b.tanf1;
-    let tanf2 = b.tanf2;
-    let l1 = b.l1;
-    let l2 = b.l2;
-    values[at] = x;
-    values[at + 1] = y;
-    values[at + 2] = sind;
-    values[at + 3] = cosd;
-    values[at + 4] = tanf1;
-    values[at + 5] = tanf2;
-    values[at + 6] = l1;
-    values[at + 7] = l2;
+    store_four(values, at, b.x, b.y, b.sind, b.cosd);
+    store_four(values, at + 4, b.tanf1, b.tanf2, b.l1, b.l2);
 }
 
 // The values of all rows.

@@ -1,127 +1,54 @@
--- `tables::store` meets its contract: eight stores from `at` on; each number is read back from its bits. Assumes nothing.
-use native.Mathlib.Omega.{arith}
+-- `tables::store` meets its contract: the second four right behind the first; each number is read back from its bits. Assumes nothing.
+use mathlib.Core.Path.{_≡_, _∙_}
+use mathlib.Core.List.{List, [], _∷_}
+use Prim.Native.Nat.{ℕ, _+_, _<_, _^_}
 use borrow.Author.Needs.{needs}
-use lib.ListN.{length-set}
+use lib.IntN.{ℤ}
+use lib.Signed.{mag}
+use lib.Seq.{sets}
+use mir.Syntax.{w64}
+use mir.Val.{toZ, ofZ}
 use Rattle.numbers.specs.Code.{read-result}
-use Rattle.tables.specs.TablesLaws.{eight-stores}
+use Rattle.tables.specs.TablesLaws.{eight-stored}
 use Rattle.tables.proofs.store.Statement.{statement}
 use Rattle.tables.proofs.store.Tie as tie
 
-mul-x : tie.Need-mul-x
-mul-x c = search needs
+store-four-requires : tie.Need-store-four-requires
+store-four-requires c κs = search needs
 
-slice-set-from-x : tie.Need-slice-set-from-x
-slice-set-from-x c = omega (arith, c .before .before .before .before .before .before .before .before .pre)
+add-store-four : tie.Need-add-store-four
+add-store-four c = search needs
 
-add-y : tie.Need-add-y
-add-y c = record { fits = omega (arith, c .before .before .before .before .before .before .before .before .pre) }
-
-mul-y : tie.Need-mul-y
-mul-y c = search needs
-
-slice-set-from-y : tie.Need-slice-set-from-y
-slice-set-from-y c = simp length-set (omega (arith, c .before .before .before .before .before .before .before .before .pre))
-
-add-sind : tie.Need-add-sind
-add-sind c = record { fits = omega (arith, c .before .before .before .before .before .before .before .before .pre) }
-
-mul-sind : tie.Need-mul-sind
-mul-sind c = search needs
-
-slice-set-from-sind : tie.Need-slice-set-from-sind
-slice-set-from-sind c = simp length-set (omega (arith, c .before .before .before .before .before .before .before .before .pre))
-
-add-cosd : tie.Need-add-cosd
-add-cosd c = record { fits = omega (arith, c .before .before .before .before .before .before .before .before .pre) }
-
-mul-cosd : tie.Need-mul-cosd
-mul-cosd c = search needs
-
-slice-set-from-cosd : tie.Need-slice-set-from-cosd
-slice-set-from-cosd c = simp length-set (omega (arith, c .before .before .before .before .before .before .before .before .pre))
-
-add-tanf1 : tie.Need-add-tanf1
-add-tanf1 c = record { fits = omega (arith, c .before .before .before .before .before .before .before .before .pre) }
-
-mul-tanf1 : tie.Need-mul-tanf1
-mul-tanf1 c = search needs
-
-slice-set-from-tanf1 : tie.Need-slice-set-from-tanf1
-slice-set-from-tanf1 c = simp length-set (omega (arith, c .before .before .before .before .before .before .before .before .pre))
-
-add-tanf2 : tie.Need-add-tanf2
-add-tanf2 c = record { fits = omega (arith, c .before .before .before .before .before .before .before .before .pre) }
-
-mul-tanf2 : tie.Need-mul-tanf2
-mul-tanf2 c = search needs
-
-slice-set-from-tanf2 : tie.Need-slice-set-from-tanf2
-slice-set-from-tanf2 c = simp length-set (omega (arith, c .before .before .before .before .before .before .before .before .pre))
-
-add-l1 : tie.Need-add-l1
-add-l1 c = record { fits = omega (arith, c .before .before .before .before .before .before .before .before .pre) }
-
-mul-l1 : tie.Need-mul-l1
-mul-l1 c = search needs
-
-slice-set-from-l1 : tie.Need-slice-set-from-l1
-slice-set-from-l1 c = simp length-set (omega (arith, c .before .before .before .before .before .before .before .before .pre))
-
-add-l2 : tie.Need-add-l2
-add-l2 c = record { fits = omega (arith, c .before .before .before .before .before .before .before .before .pre) }
-
-mul-l2 : tie.Need-mul-l2
-mul-l2 c = search needs
-
-slice-set-from-l2 : tie.Need-slice-set-from-l2
-slice-set-from-l2 c = simp length-set (omega (arith, c .before .before .before .before .before .before .before .before .pre))
+store-four-requires-2 : tie.Need-store-four-requires-2
+store-four-requires-2 c κs = search needs
 
 same-length : tie.Need-same-length
-same-length c = simp length-set
+same-length c = search needs
+
+abbrev bits : ℤ → ℤ
+bits z = toZ w64 (ofZ w64 z)
+
+stored : (l new : List ℤ) (at : ℕ) (a b c d : ℤ) → mag a < 2 ^ 63 → mag b < 2 ^ 63 → mag c < 2 ^ 63 → mag d < 2 ^ 63
+    → new ≡ sets l at (bits a ∷ bits b ∷ bits c ∷ bits d ∷ []) → new ≡ sets l at (a ∷ b ∷ c ∷ d ∷ [])
+stored l new at a b c d h i j k e = e ∙ rw (read-result a h, read-result b i, read-result c j, read-result d k)
 
 returns : tie.Need-returns
 returns c =
-    let s = c .before .before .before .before .before .before .before .before in
+    let first = c .before .before .before .before .before .before .before .before in
+    let s = first .before .before .before .before .before .before in
+    let l = s .args .values .now in
+    let at = s .args .at in
     let b = s .args .b in
-    let told = c .struct-told8 .given in
-    rw (
-      read-result (b .x) (told .0 .1),
-      read-result (b .y) (told .1 .0 .1),
-      read-result (b .sind) (told .1 .1 .0 .1),
-      read-result (b .cosd) (told .1 .1 .1 .0 .1),
-      read-result (b .tanf1) (told .1 .1 .1 .1 .0 .1),
-      read-result (b .tanf2) (told .1 .1 .1 .1 .1 .0 .1),
-      read-result (b .l1) (told .1 .1 .1 .1 .1 .1 .0 .1),
-      read-result (b .l2) (told .1 .1 .1 .1 .1 .1 .1 .0 .1),
-    )
-    (eight-stores (s .args .values .now) (s .args .at) b)
+    let four = first .store-four .last .0 in
+    let all = c .before .store-four2 .last .0 in
+    let told = c .before .before .struct-told8 .given in
+    eight-stored l four all at b
+    (stored l four at (b .x) (b .y) (b .sind) (b .cosd) (told .0 .1) (told .1 .0 .1) (told .1 .1 .0 .1) (told .1 .1 .1 .0 .1)
+    (first .store-four .ensures))
+    (stored four all (at + 4) (b .tanf1) (b .tanf2) (b .l1) (b .l2) (told .1 .1 .1 .1 .0 .1) (told .1 .1 .1 .1 .1 .0 .1)
+    (told .1 .1 .1 .1 .1 .1 .0 .1) (told .1 .1 .1 .1 .1 .1 .1 .0 .1) (c .before .store-four2 .ensures))
 
 pub store-spec : {M : Type 1} → statement M
 store-spec =
     tie.close
-    (tie.spec
-    mul-x
-    slice-set-from-x
-    add-y
-    mul-y
-    slice-set-from-y
-    add-sind
-    mul-sind
-    slice-set-from-sind
-    add-cosd
-    mul-cosd
-    slice-set-from-cosd
-    add-tanf1
-    mul-tanf1
-    slice-set-from-tanf1
-    add-tanf2
-    mul-tanf2
-    slice-set-from-tanf2
-    add-l1
-    mul-l1
-    slice-set-from-l1
-    add-l2
-    mul-l2
-    slice-set-from-l2
-    same-length
-    returns)
+    (tie.spec store-four-requires add-store-four store-four-requires-2 same-length returns)

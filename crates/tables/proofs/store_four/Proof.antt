@@ -1,0 +1,68 @@
+-- `tables::store_four` meets its contract: four stores from `at` on. Assumes nothing.
+use native.Mathlib.Omega.{arith}
+use borrow.Author.Needs.{needs}
+use mir.Syntax.{w64}
+use mir.ValLaws.{toZ-ofZ}
+use lib.ListN.{length-set}
+use Rattle.tables.specs.TablesLaws.{four-stores}
+use Rattle.tables.proofs.store_four.Statement.{statement}
+use Rattle.tables.proofs.store_four.Tie as tie
+
+mul-a : tie.Need-mul-a
+mul-a c = search needs
+
+slice-set-from-a : tie.Need-slice-set-from-a
+slice-set-from-a c = search needs
+
+add-b : tie.Need-add-b
+add-b c = search needs
+
+mul-b : tie.Need-mul-b
+mul-b c = search needs
+
+slice-set-from-b : tie.Need-slice-set-from-b
+slice-set-from-b c = simp length-set (omega arith)
+
+add-c : tie.Need-add-c
+add-c c = search needs
+
+mul-c : tie.Need-mul-c
+mul-c c = search needs
+
+slice-set-from-c : tie.Need-slice-set-from-c
+slice-set-from-c c = simp length-set (omega arith)
+
+add-d : tie.Need-add-d
+add-d c = search needs
+
+mul-d : tie.Need-mul-d
+mul-d c = search needs
+
+slice-set-from-d : tie.Need-slice-set-from-d
+slice-set-from-d c = simp length-set (omega arith)
+
+same-length : tie.Need-same-length
+same-length c = search needs
+
+returns : tie.Need-returns
+returns c =
+    rw (toZ-ofZ w64 _ (c .fits .a), toZ-ofZ w64 _ (c .fits .b), toZ-ofZ w64 _ (c .fits .c), toZ-ofZ w64 _ (c .fits .d))
+    (four-stores (c .args .values .now) (c .args .at) (c .args .a) (c .args .b) (c .args .c) (c .args .d))
+
+pub store-four-spec : {M : Type 1} → statement M
+store-four-spec =
+    tie.close
+    (tie.spec
+    mul-a
+    slice-set-from-a
+    add-b
+    mul-b
+    slice-set-from-b
+    add-c
+    mul-c
+    slice-set-from-c
+    add-d
+    mul-d
+    slice-set-from-d
+    same-length
+    returns)
