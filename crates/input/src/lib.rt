@@ -7,7 +7,7 @@ use requests::Request;
 ghost use mathlib.Core.Path.{_≡_};
 ghost use Prim.Native.Nat.{_+_, _≤_};
 ghost use lib.ListN.{length};
-ghost use Rattle.input.specs.Input.{stationFrom, windowFrom, requestFrom, inputOf, sharing, eclipseAsked, deltaFor, deltaOf};
+ghost use Rattle.input.specs.Input.{stationFrom, windowFrom, requestFrom, inputOf, sharing, eclipseAsked, deltaOf};
 ghost use Rattle.input.specs.InputLaws.{Small};
 ghost use Rattle.request_fields.specs.declared.Shape.the-variants.{Eclipse};
 
@@ -108,16 +108,8 @@ pub fn with_share(asked: Input) -> Input
 {
     match asked {
         Input::Is(q) => {
-            let elements = q.elements;
-            let station = q.station;
-            let window = q.window;
-            let wish = Request {
-                elements,
-                station,
-                window,
-                guard: q.guard,
-                share: true,
-            };
+            let mut wish = q;
+            wish.share = true;
             Input::Is(wish)
         }
         Input::Refused(refusal) => Input::Refused(refusal),
@@ -126,22 +118,16 @@ pub fn with_share(asked: Input) -> Input
 
 // ---- the station's ΔT, for those who print times
 
-fn deltat_of(asked: Asked) -> i64
-    ensures { λ r. ⌜ r ≡ deltaFor asked ⌝ }
-{
-    match asked {
-        Asked::Is(o) => {
-            let s = o.station;
-            s.deltat
-        }
-        Asked::Refused(_) => 0,
-    }
-}
-
 // The ΔT of the bytes' station, in hundredths of a second; 0 where they are misshaped. Any bytes.
 pub fn deltat(input: &[u8]) -> i64
     ensures { λ r. ⌜ r ≡ deltaOf (now (input .entry)) ⌝ }
 {
-    let asked = of_eclipse(request(input));
-    deltat_of(asked)
+    let asked = request(input);
+    match asked {
+        Input::Is(q) => {
+            let s = q.station;
+            s.deltat
+        }
+        Input::Refused(_) => 0,
+    }
 }

@@ -47,5 +47,11 @@ pub fn deltat(input: &[u8]) -> i64
     ensures { λ r. ⌜ r ≡ starDelta (now (input .entry)) ⌝ }
 {
     let wish = asked(input);
-    super::deltat_of(wish)
+    match wish {
+        Asked::Is(o) => {
+            let s = o.station;
+            s.deltat
+        }
+        Asked::Refused(_) => 0,
+    }
 }

@@ -1,5 +1,5 @@
 -- `input::deltat` meets its contract: it is the ΔT of what the bytes ask for.
-use mathlib.Core.Path.{ap, _∙_}
+use mathlib.Core.Path.{sym, ap, _∙_}
 use Rattle.numbers.specs.Code.{read-result}
 use Rattle.input.specs.Input.{eclipseAsked, deltaFor, deltaOf}
 use borrow.Author.Needs.{needs}
@@ -9,17 +9,22 @@ use Rattle.input.proofs.deltat.Tie as tie
 request-requires : tie.Need-request-requires
 request-requires c κs = search needs
 
-of-eclipse-requires : tie.Need-of-eclipse-requires
-of-eclipse-requires c κs = search needs
+enum-known-asked : tie.Need-enum-known-asked
+enum-known-asked c = search needs
 
-deltat-of-requires : tie.Need-deltat-of-requires
-deltat-of-requires c κs = search needs
+enum-told : tie.Need-enum-told
+enum-told c = search needs
 
 returns : tie.Need-returns
 unfolding deltaOf
 returns c =
-    read-result (c .deltat-of .result) (c .deltat-of .ok) ∙ c .deltat-of .ensures
-    ∙ ap deltaFor (c .before .of-eclipse .ensures ∙ ap eclipseAsked (c .before .before .request .ensures))
+    let known = c .before .before .before in
+    read-result _ (c .struct-told .given .1 .1 .1 .1 .0 .1)
+    ∙ ap (λ i. deltaFor (eclipseAsked i)) (sym (known .asked .given .1) ∙ known .before .before .request .ensures)
+
+returns-2 : tie.Need-returns-2
+unfolding deltaOf
+returns-2 c = ap (λ i. deltaFor (eclipseAsked i)) (sym (c .enum-told .given .1) ∙ c .before .before .request .ensures)
 
 pub deltat-spec : {M : Type 1} → statement M
-deltat-spec = tie.close (tie.spec request-requires of-eclipse-requires deltat-of-requires returns)
+deltat-spec = tie.close (tie.spec request-requires enum-known-asked enum-told returns returns-2)

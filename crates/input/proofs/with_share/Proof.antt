@@ -1,6 +1,5 @@
--- `input::with_share` meets its contract: all else is copied. Assumes nothing.
+-- `input::with_share` meets its contract: all else stays as it is. Assumes nothing.
 use borrow.Author.Needs.{needs}
-use Rattle.numbers.specs.Code.{read-result}
 use Rattle.input.proofs.with_share.Statement.{statement}
 use Rattle.input.proofs.with_share.Tie as tie
 
@@ -11,9 +10,7 @@ enum-known-asked-2 : tie.Need-enum-known-asked-2
 enum-known-asked-2 c = search needs
 
 returns : tie.Need-returns
-returns c =
-    let known = c .before .before .before .before .before .asked .given in
-    rw (read-result (known .0 .0 .guard) (c .struct-told .given .1 .1 .1 .0 .1), known .1)
+returns c = rw (c .before .asked .given .1)
 
 returns-2 : tie.Need-returns-2
 returns-2 c = rw (c .before .asked2 .given .1)

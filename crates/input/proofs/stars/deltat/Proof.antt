@@ -1,5 +1,5 @@
 -- `input::stars::deltat` meets its contract: it is the ΔT of what the bytes ask for.
-use mathlib.Core.Path.{ap, _∙_}
+use mathlib.Core.Path.{sym, ap, _∙_}
 use Rattle.numbers.specs.Code.{read-result}
 use Rattle.input.specs.Input.{deltaFor, starDelta}
 use borrow.Author.Needs.{needs}
@@ -9,12 +9,21 @@ use Rattle.input.proofs.stars.deltat.Tie as tie
 asked-requires : tie.Need-asked-requires
 asked-requires c κs = search needs
 
-deltat-of-requires : tie.Need-deltat-of-requires
-deltat-of-requires c κs = search needs
+enum-known-wish : tie.Need-enum-known-wish
+enum-known-wish c = search needs
+
+enum-told : tie.Need-enum-told
+enum-told c = search needs
 
 returns : tie.Need-returns
 unfolding starDelta
-returns c = read-result (c .deltat-of .result) (c .deltat-of .ok) ∙ c .deltat-of .ensures ∙ ap deltaFor (c .before .asked .ensures)
+returns c =
+    let known = c .before .before .before in
+    read-result _ (c .struct-told .given .1 .1 .1 .1 .0 .1) ∙ ap deltaFor (sym (known .wish .given .1) ∙ known .before .before .asked .ensures)
+
+returns-2 : tie.Need-returns-2
+unfolding starDelta
+returns-2 c = ap deltaFor (sym (c .enum-told .given .1) ∙ c .before .before .asked .ensures)
 
 pub deltat-spec : {M : Type 1} → statement M
-deltat-spec = tie.close (tie.spec asked-requires deltat-of-requires returns)
+deltat-spec = tie.close (tie.spec asked-requires enum-known-wish enum-told returns returns-2)
