@@ -19,12 +19,13 @@ use Rattle.chains.specs.Defined.{earliestOf}
 use Rattle.nodes.specs.declared.Node.{Node}
 use Rattle.nodes.specs.Held.{blankNode}
 use Rattle.nodes.specs.Nodes.{numberOf}
-use Rattle.networks.specs.declared.Eclipse.{Eclipse}
-use Rattle.networks.specs.CheckLaws.{AllWithin, at-most, all-within}
+use Rattle.network_checks.specs.declared.Eclipse.{Eclipse}
+use Rattle.network_checks.specs.CheckLaws.{AllWithin, at-most, all-within}
 use Rattle.networks.specs.declared.Answer.{Answer}
 use Rattle.networks.specs.declared.Answer.the-variants as A
 use Rattle.networks.specs.Network as network
-use Rattle.networks.specs.Network.{eclipseOf, tosOf, shapeChecked, checked, admitted, answerTo, stepsFor, sinesFor}
+use Rattle.network_checks.specs.Checks.{eclipseOf, checked}
+use Rattle.networks.specs.Network.{tosOf, shapeChecked, admitted, answerTo, stepsFor, sinesFor}
 use Rattle.enters.specs.Enters.{never}
 use Rattle.decimals.specs.Decimals.{decimal, signed}
 use Rattle.decimals.specs.Rows.{rows}

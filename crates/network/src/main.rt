@@ -4,10 +4,10 @@
 use libc::STDERR_FILENO;
 use libc::STDIN_FILENO;
 use libc::STDOUT_FILENO;
+use network_checks::Eclipse;
 use network_text::Fault;
 use network_text::Typed;
 use networks::Answer;
-use networks::Eclipse;
 use nodes::Held;
 use request_fields::Shape;
 ghost use mathlib.Core.Path.{_≡_};
@@ -17,7 +17,7 @@ ghost use lib.ListN.{length, take};
 ghost use Rattle.sine_table.specs.Table.{Sines};
 ghost use Rattle.nodes.specs.declared.Node.{Node};
 ghost use Rattle.nodes.specs.Nodes.{Holds};
-ghost use Rattle.networks.specs.CheckLaws.{AllWithin};
+ghost use Rattle.network_checks.specs.CheckLaws.{AllWithin};
 ghost use Rattle.networks.specs.Network.{tosOf};
 ghost use Rattle.decimals.specs.Texts.{Put};
 ghost use Rattle.lines.specs.Lines.{refusalLine};
@@ -133,7 +133,7 @@ fn put_answer(out: &mut [u8], eclipse: &[i64; 25], h: Held) -> usize
     let answer = networks::network(eclipse, h, &mut sines, &mut steps);
     match answer {
         Answer::Named(named) => {
-            let e = networks::eclipse_from(eclipse);
+            let e = network_checks::eclipse_from(eclipse);
             put_named(out, named, e, h, &sines, &steps)
         }
         Answer::Refused(refusal) => put_refused(out, refusal),
