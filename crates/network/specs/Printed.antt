@@ -13,7 +13,8 @@ use Rattle.nodes.specs.Held.{blankNode}
 use Rattle.nodes.specs.Nodes.{numberOf}
 use Rattle.networks.specs.declared.Answer.{Answer}
 use Rattle.networks.specs.declared.Answer.the-variants as A
-use Rattle.networks.specs.Network.{eclipseOf, tosOf, answerTo, stepsFor}
+use Rattle.network_checks.specs.Checks.{eclipseOf}
+use Rattle.networks.specs.Network.{tosOf, answerTo, stepsFor}
 use Rattle.enters.specs.Enters.{never}
 use Rattle.decimals.specs.Decimals.{decimal, signed}
 use Rattle.decimals.specs.Rows.{rows}

@@ -1,7 +1,7 @@
 -- What is printed, part by part.
 use Prim.Native.Nat.{ℕ, _≤_, _<_}
 use mathlib.Core.Path.{_≡_, refl, sym, ap, subst, _∙_}
-use mathlib.Core.List.{List, [], _++_}
+use mathlib.Core.List.{List, [], _∷_, _++_}
 use native.Mathlib.Omega.{arith}
 use borrow.Author.Tests.{lt-ltb, le-ltb}
 use lib.IntN.{ℤ}
@@ -19,14 +19,16 @@ use Rattle.chains.specs.Defined.{earliestOf}
 use Rattle.nodes.specs.declared.Node.{Node}
 use Rattle.nodes.specs.Held.{blankNode}
 use Rattle.nodes.specs.Nodes.{numberOf}
-use Rattle.networks.specs.declared.Eclipse.{Eclipse}
-use Rattle.networks.specs.CheckLaws.{AllWithin, at-most, all-within}
+use Rattle.network_checks.specs.declared.Eclipse.{Eclipse}
+use Rattle.network_checks.specs.CheckLaws.{AllWithin, at-most, all-within}
 use Rattle.networks.specs.declared.Answer.{Answer}
 use Rattle.networks.specs.declared.Answer.the-variants as A
 use Rattle.networks.specs.Network as network
-use Rattle.networks.specs.Network.{eclipseOf, tosOf, shapeChecked, checked, admitted, answerTo, stepsFor, sinesFor}
+use Rattle.network_checks.specs.Checks.{eclipseOf, checked}
+use Rattle.networks.specs.Network.{tosOf, shapeChecked, admitted, answerTo, stepsFor, sinesFor}
 use Rattle.enters.specs.Enters.{never}
 use Rattle.decimals.specs.Decimals.{decimal, signed}
+use Rattle.decimals.specs.Patterns.{piece, filled}
 use Rattle.decimals.specs.Rows.{rows}
 use Rattle.decimals.specs.Texts.{letters, Put}
 use Rattle.decimals.specs.RowLaws.{put-as, joined}
@@ -52,7 +54,15 @@ pub lines-all : (nodes : List Node) (n : ℕ) (ss : List ℕ) → n ≤ length n
 unfolding stationLines
 lines-all nodes n ss h = ap (rows (lineAt nodes n ss)) (sym (length-take-le n nodes h))
 
+pub station-filled : (z : ℤ) → filled (z ∷ []) 0 (letters "station # steps ") ≡ letters "station " ++ signed z ++ letters " steps "
+unfolding filled piece
+station-filled z = refl
+
 -- ---- the first
+
+to-filled : (z : ℤ) → filled (z ∷ []) 0 (letters " to #\n") ≡ letters " to " ++ signed z ++ letters "\n"
+unfolding filled piece
+to-filled z = refl
 
 module _ (tos : List ℕ) (named best : ℕ) (e : best ≡ earliestOf tos never) where
   first-by : (letters "first " ++ decimal named) ++ toText tos best ≡ firstLine named tos
@@ -65,9 +75,8 @@ module _ (tos : List ℕ) (named best : ℕ) (e : best ≡ earliestOf tos never)
       none : toText tos best ≡ letters "\n"
       none = rw (le-ltb best (length tos) h)
 
-  pub first-some : best < length tos → (z : ℤ) → z ≡ secondOf (getD tos best 0)
-      → (letters "first " ++ decimal named) ++ (letters " to " ++ signed z ++ letters "\n") ≡ firstLine named tos
-  first-some h z q = sym (ap (λ t. (letters "first " ++ decimal named) ++ t) some) ∙ first-by
+  pub first-some : best < length tos → (z : ℤ) → z ≡ secondOf (getD tos best 0) → (letters "first " ++ decimal named) ++ filled (z ∷ []) 0 (letters " to #\n") ≡ firstLine named tos
+  first-some h z q = ap (λ t. (letters "first " ++ decimal named) ++ t) (to-filled z ∙ sym some) ∙ first-by
     where
       some : toText tos best ≡ letters " to " ++ signed z ++ letters "\n"
       some = rw (lt-ltb best (length tos) h, q)

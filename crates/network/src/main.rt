@@ -4,10 +4,10 @@
 use libc::STDERR_FILENO;
 use libc::STDIN_FILENO;
 use libc::STDOUT_FILENO;
+use network_checks::Eclipse;
 use network_text::Fault;
 use network_text::Typed;
 use networks::Answer;
-use networks::Eclipse;
 use nodes::Held;
 use request_fields::Shape;
 ghost use mathlib.Core.Path.{_≡_};
@@ -17,7 +17,7 @@ ghost use lib.ListN.{length, take};
 ghost use Rattle.sine_table.specs.Table.{Sines};
 ghost use Rattle.nodes.specs.declared.Node.{Node};
 ghost use Rattle.nodes.specs.Nodes.{Holds};
-ghost use Rattle.networks.specs.CheckLaws.{AllWithin};
+ghost use Rattle.network_checks.specs.CheckLaws.{AllWithin};
 ghost use Rattle.networks.specs.Network.{tosOf};
 ghost use Rattle.decimals.specs.Texts.{Put};
 ghost use Rattle.lines.specs.Lines.{refusalLine};
@@ -61,11 +61,10 @@ fn put_fault(out: &mut [u8], text: &[u8], line: usize, fault: Fault) -> usize
 fn put_station(out: &mut [u8], at: usize, number: i64, steps: u64) -> usize
     ensures { λ r. ⌜ Put (now (out .entry)) at (stationLine number steps) (now (out .exit)) r ⌝ }
 {
-    let word = decimals::put_text(out, at, b"station ");
-    let first = decimals::put_signed(out, word, number);
-    let middle = decimals::put_text(out, first, b" steps ");
-    let second = decimals::put_number(out, middle, steps);
-    decimals::put_byte(out, second, b'\n')
+    let numbers = [number];
+    let middle = decimals::put_filled(out, at, b"station # steps ", &numbers);
+    let end = decimals::put_number(out, middle, steps);
+    decimals::put_byte(out, end, b'\n')
 }
 
 // A line for each station of the list.
@@ -95,13 +94,11 @@ fn put_first(out: &mut [u8], at: usize, named: u64, tos: &[u32]) -> usize
     let word = decimals::put_text(out, at, b"first ");
     let end = decimals::put_number(out, word, named);
     if tos.len() <= best {
-        return decimals::put_text(out, end, b"\n");
+        return decimals::put_byte(out, end, b'\n');
     }
     let to = tos[best];
-    let second = kinds::seconds::second_of(to);
-    let space = decimals::put_text(out, end, b" to ");
-    let last = decimals::put_signed(out, space, second);
-    decimals::put_text(out, last, b"\n")
+    let numbers = [kinds::seconds::second_of(to)];
+    decimals::put_filled(out, end, b" to #\n", &numbers)
 }
 
 // The lines of a list that has an answer.
@@ -133,7 +130,7 @@ fn put_answer(out: &mut [u8], eclipse: &[i64; 25], h: Held) -> usize
     let answer = networks::network(eclipse, h, &mut sines, &mut steps);
     match answer {
         Answer::Named(named) => {
-            let e = networks::eclipse_from(eclipse);
+            let e = network_checks::eclipse_from(eclipse);
             put_named(out, named, e, h, &sines, &steps)
         }
         Answer::Refused(refusal) => put_refused(out, refusal),

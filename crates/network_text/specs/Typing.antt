@@ -16,21 +16,24 @@ use Rattle.network_text.specs.declared.Fault.{Fault}
 use Rattle.network_text.specs.declared.Fault.the-variants as Fault
 use Rattle.network_text.specs.declared.Told.{Told}
 use Rattle.network_text.specs.declared.Told.the-variants as T
-use Rattle.network_text.specs.declared.Listed.{Listed}
-use Rattle.network_text.specs.declared.Listed.the-variants as L
 use Rattle.network_text.specs.declared.Typed.{Typed}
 use Rattle.network_text.specs.declared.Typed.the-variants as A
 use Rattle.network_text.specs.Lines.{toldOf}
 
+-- whether a line is taken
+pub data Listed : Type 0 where
+  taken : Listed
+  faulty : Fault → Listed
+
 -- a number is taken as in a typed request (`request_text`, Typing)
 abbrev pub listedBy : Noted → Listed
-listedBy N.Taken = L.Taken
-listedBy (N.Refused f) = L.Refused (Fault.Typed f)
+listedBy N.Taken = taken
+listedBy (N.Refused f) = faulty (Fault.Typed f)
 
 abbrev pub notedOf : Told → List ℕ → Listed
 notedOf (T.Request line) marks = listedBy (typing.notedOf line marks)
-notedOf (T.Station n) marks = L.Taken
-notedOf (T.Faulty f) marks = L.Refused f
+notedOf (T.Station n) marks = taken
+notedOf (T.Faulty f) marks = faulty f
 
 abbrev pub marksAfter : Told → List ℕ → List ℕ
 marksAfter (T.Request line) marks = typing.marksAfter line marks
@@ -54,8 +57,8 @@ pub data Typing : Type 0 where
   refused : ℕ → Fault → Typing
 
 abbrev pub onward : Listed → ℕ → Typing → Typing
-onward L.Taken i r = r
-onward (L.Refused f) i r = refused i f
+onward taken i r = r
+onward (faulty f) i r = refused i f
 
 -- the lines from line i on; after the last, no number of elements and window may be missing, but the guard
 unfoldable pub readLines : List (List ℕ) → ℕ → List ℤ → List ℕ → List Node → Typing

@@ -32,14 +32,13 @@ use Rattle.network_text.specs.declared.Word.{Word}
 use Rattle.network_text.specs.declared.Word.the-variants as W
 use Rattle.network_text.specs.declared.Told.{Told}
 use Rattle.network_text.specs.declared.Told.the-variants as T
-use Rattle.network_text.specs.declared.Listed.{Listed}
-use Rattle.network_text.specs.declared.Listed.the-variants as L
+use Rattle.network_text.specs.declared.Reading.{Reading}
 use Rattle.network_text.specs.declared.Typed.{Typed}
 use Rattle.network_text.specs.declared.Typed.the-variants as A
 use Rattle.network_text.specs.Stations as station
 use Rattle.network_text.specs.Stations.{stationOf}
 use Rattle.network_text.specs.Lines.{byName, toldOf}
-use Rattle.network_text.specs.Typing.{listedBy, notedOf, marksAfter, numbersAfter, nodesAfter, Typing, given, refused, onward, readLines, marksBefore, typingOf, eclipseIn, answerOf, held, heldFrom, numbersFrom}
+use Rattle.network_text.specs.Typing.{Listed, taken, faulty, listedBy, notedOf, marksAfter, numbersAfter, nodesAfter, Typing, given, refused, onward, readLines, marksBefore, typingOf, eclipseIn, answerOf, held, heldFrom, numbersFrom}
 
 -- ---- the list
 
@@ -112,21 +111,31 @@ nodes-more (T.Request line) l = omega arith
 nodes-more (T.Station n) l = omega (arith, length-append l (n ∷ []))
 nodes-more (T.Faulty f) l = omega arith
 
--- what taking a line answers, and the stations, marks and numbers after it
-abbrev pub Taking : Told → Held → List ℕ → List ℤ → Listed → Held → List ℕ → List ℤ → Type 0
-Taking told h marks ns r g new after =
-    ((r ≡ notedOf told marks) × (g ≡ heldAfter told h)) × ((new ≡ marksAfter told marks) × (after ≡ numbersAfter told marks ns))
+-- what taking line i answers, and the stations, marks and numbers after it
+abbrev pub answerBy : Listed → ℕ → Typed
+answerBy taken i = A.Network
+answerBy (faulty f) i = A.Refused i f
 
-module _ (told : Told) (h : Held) (marks : List ℕ) (ns : List ℤ) where
-  pub take-number : (line : Line) (noted : Noted) (r : Listed) (new : List ℕ) (after : List ℤ) → told ≡ T.Request line → Noting line marks ns noted new after
-      → r ≡ listedBy noted → Taking told h marks ns r h new after
-  take-number line noted r new after e n q = rw e ((q ∙ ap listedBy (n .0), refl), n .1)
+abbrev pub takenOf : Told → ℕ → List ℕ → Held → Reading
+takenOf told i marks h = record { answer = answerBy (notedOf told marks) i; held = heldAfter told h }
 
-  pub take-station : (n : Node) (g : Held) → told ≡ T.Station n → g ≡ addOf h n → Taking told h marks ns L.Taken g marks ns
-  take-station n g e q = rw e ((refl, q), (refl, refl))
+abbrev Taking : Told → ℕ → Held → List ℕ → List ℤ → Reading → List ℕ → List ℤ → Type 0
+Taking told i h marks ns r new after = (r ≡ takenOf told i marks h) × ((new ≡ marksAfter told marks) × (after ≡ numbersAfter told marks ns))
 
-  pub take-faulty : (f : Fault) → told ≡ T.Faulty f → Taking told h marks ns (L.Refused f) h marks ns
-  take-faulty f e = rw e ((refl, refl), (refl, refl))
+module _ (l : List ℕ) (told : Told) (is : told ≡ toldOf l) (i : ℕ) (h : Held) (marks : List ℕ) (ns : List ℤ) where
+  as-told : (x : Told) (r : Reading) (new : List ℕ) (after : List ℤ) → told ≡ x → Taking x i h marks ns r new after → Taking (toldOf l) i h marks ns r new after
+  as-told x r new after e t = subst (λ (y : Told). Taking y i h marks ns r new after) (sym e ∙ is) t
+
+  pub take-number : (line : Line) → told ≡ T.Request line → (noted : Noted) (new : List ℕ) (after : List ℤ) → Noting line marks ns noted new after
+      → (answer : Typed) → answer ≡ answerBy (listedBy noted) i → Taking (toldOf l) i h marks ns (record { answer = answer; held = h }) new after
+  take-number line e noted new after n answer q =
+      as-told (T.Request line) _ new after e (ap (λ (a : Typed). record { answer = a; held = h }) (q ∙ ap (λ (m : Noted). answerBy (listedBy m) i) (n .0)), n .1)
+
+  pub take-station : (n : Node) (g : Held) → told ≡ T.Station n → g ≡ addOf h n → Taking (toldOf l) i h marks ns (record { answer = A.Network; held = g }) marks ns
+  take-station n g e q = as-told (T.Station n) _ marks ns e (ap (λ (x : Held). record { answer = A.Network; held = x }) q, (refl, refl))
+
+  pub take-faulty : (f : Fault) → told ≡ T.Faulty f → Taking (toldOf l) i h marks ns (record { answer = A.Refused i f; held = h }) marks ns
+  take-faulty f e = as-told (T.Faulty f) _ marks ns e (refl, (refl, refl))
 
 -- ---- a line that gives a number
 
@@ -208,33 +217,27 @@ walked-start text marks ns h m n e =
 pub walked-count : (text marks : List ℕ) (ns : List ℤ) (h : Held) (at i : ℕ) → Walked text marks ns h at i → h .count < i
 walked-count text marks ns h at i w = omega (arith, w .few, ap (λ (g : Held). g .count) (w .holding), held-holds (w .nodes) .count)
 
--- the answer; and where there is no fault, the numbers and the stations
-pub record Read (text : List ℕ) (r : Typed) (h : Held) (found : List ℤ) : Type 0 where
-  pub answer : r ≡ answerOf (typingOf text)
-  pub all : r ≡ A.Network → (h ≡ heldFrom (typingOf text)) × ((old : List ℤ) → eclipseIn found ≡ numbersFrom (typingOf text) old)
-  pub fields : r ≡ A.Network → length found ≡ 30
+-- a text without a fault, its numbers and its stations
+pub record Whole (text : List ℕ) (h : Held) (found : List ℤ) : Type 0 where
+  pub nodes : List Node
+  pub holding : h ≡ held nodes
+  pub reading : typingOf text ≡ given found nodes
 
-read-given : (text : List ℕ) (ns : List ℤ) (l : List Node) (h : Held) → typingOf text ≡ given ns l → h ≡ held l → length ns ≡ 30 → Read text A.Network h ns
-unfolding heldFrom
-read-given text ns l h t e n = record { answer = ap answerOf (sym t); all = λ q. (rw t e, λ old. rw t); fields = λ q. n }
-
-read-refused : (text : List ℕ) (i : ℕ) (f : Fault) (h : Held) (found : List ℤ) → typingOf text ≡ refused i f → Read text (A.Refused i f) h found
-read-refused text i f h found t =
-    record {
-      answer = ap answerOf (sym t);
-      all = λ q. let z : _≡_ {A = ℕ} 0 1 = cc in absurd (omega arith);
-      fields = λ q. let z : _≡_ {A = ℕ} 0 1 = cc in absurd (omega arith);
-    }
+abbrev pub Read : List ℕ → Typed → Held → List ℤ → Type 0
+Read text A.Network h found = Whole text h found
+Read text (A.Refused i f) h found = typingOf text ≡ refused i f
 
 module _ (text marks : List ℕ) (ns : List ℤ) (h : Held) (at i : ℕ) (w : Walked text marks ns h at i) where
   at-end : length text ≤ at → typingOf text ≡ onward (listedBy (typing.missing 0 (take 29 marks))) i (given ns (w .nodes))
   at-end e = w .reading ∙ ap (λ (x : List (List ℕ)). readLines x i ns marks (w .nodes)) (lines-end text at e) ∙ read-end i ns marks (w .nodes)
 
-  pub end-missing : length text ≤ at → (f : Fault) → listedBy (typing.missing 0 (take 29 marks)) ≡ L.Refused f → Read text (A.Refused i f) h ns
-  end-missing e f q = read-refused text i f h ns (at-end e ∙ ap (λ (m : Listed). onward m i (given ns (w .nodes))) q)
-
-  pub end-all : length text ≤ at → listedBy (typing.missing 0 (take 29 marks)) ≡ L.Taken → Read text A.Network h ns
-  end-all e q = read-given text ns (w .nodes) h (at-end e ∙ ap (λ (m : Listed). onward m i (given ns (w .nodes))) q) (w .holding) (w .fields)
+  -- by what its marks answer
+  pub read-end-by : length text ≤ at → (answer : Typed) → answer ≡ answerBy (listedBy (typing.missing 0 (take 29 marks))) i → Read text answer h ns
+  read-end-by e answer q = subst (λ (a : Typed). Read text a h ns) (sym q) (by (listedBy (typing.missing 0 (take 29 marks))) (at-end e))
+    where
+      by : (m : Listed) → typingOf text ≡ onward m i (given ns (w .nodes)) → Read text (answerBy m i) h ns
+      by taken t = record { nodes = w .nodes; holding = w .holding; reading = t }
+      by (faulty f) t = t
 
   module _ (n : ℕ) (b : at < length text) (e : n ≡ runOf C.Line (drop at text)) where
     abbrev pub told : Told
@@ -247,15 +250,26 @@ module _ (text marks : List ℕ) (ns : List ℤ) (h : Held) (at i : ℕ) (w : Wa
     at-line = w .reading ∙ ap (λ (x : List (List ℕ)). readLines x i ns marks (w .nodes)) (line-next text at n b e)
         ∙ read-line (lineAt text at n b e) (linesOf (drop (at + n + 1) text)) i ns marks (w .nodes)
 
-    pub line-refused : (f : Fault) (g : Held) (found : List ℤ) → notedOf told marks ≡ L.Refused f → Read text (A.Refused i f) g found
-    line-refused f g found q = read-refused text i f g found (at-line ∙ ap (λ (m : Listed). onward m i rest) q)
+    -- by what taking it answers
+    pub line-refused : (j : ℕ) (f : Fault) → A.Refused j f ≡ answerBy (notedOf told marks) i → typingOf text ≡ refused j f
+    line-refused j f e = at-line ∙ by (notedOf told marks) e
+      where
+        by : (m : Listed) → A.Refused j f ≡ answerBy m i → onward m i rest ≡ refused j f
+        by taken q = let z : _≡_ {A = ℕ} 0 1 = cc in absurd (omega arith)
+        by (faulty g) q =
+            let k : j ≡ i = cc in
+            let s : f ≡ g = cc in rw (k, s)
 
-    pub line-taken : (new : List ℕ) (after : List ℤ) (g : Held) → notedOf told marks ≡ L.Taken → new ≡ marksAfter told marks → after ≡ numbersAfter told marks ns
-        → g ≡ heldAfter told h → length new ≡ 30 → length after ≡ 30 → Walked text new after g (at + n + 1) (i + 1)
-    line-taken new after g q p r s lm la =
+    listed : (m : Listed) → A.Network ≡ answerBy m i → m ≡ taken
+    listed taken q = refl
+    listed (faulty f) q = let z : _≡_ {A = ℕ} 0 1 = cc in absurd (omega arith)
+
+    pub line-taken : (new : List ℕ) (after : List ℤ) (g : Held) → A.Network ≡ answerBy (notedOf told marks) i → g ≡ heldAfter told h
+        → new ≡ marksAfter told marks → after ≡ numbersAfter told marks ns → length new ≡ 30 → length after ≡ 30 → Walked text new after g (at + n + 1) (i + 1)
+    line-taken new after g q s p r lm la =
         record {
           nodes = nodesAfter told (w .nodes);
-          reading = at-line ∙ ap (λ (m : Listed). onward m i rest) q ∙ rw (p, r);
+          reading = at-line ∙ ap (λ (m : Listed). onward m i rest) (listed (notedOf told marks) q) ∙ rw (p, r);
           holding = s ∙ ap (heldAfter told) (w .holding) ∙ held-after told (w .nodes);
           few = omega (arith, w .few, nodes-more told (w .nodes));
           lines = omega (arith, w .lines);
@@ -275,11 +289,8 @@ module _ (text : List ℕ) (r : Typed) (h : Held) (found old : List ℤ) (l : Re
   Promised g new = ((r ≡ answerOf (typingOf text)) × (g ≡ heldFrom (typingOf text))) × (new ≡ numbersFrom (typingOf text) old)
 
   pub network-typed : r ≡ A.Network → (new : List ℤ) → new ≡ eclipseIn found → Promised h new
-  network-typed e new q = ((l .answer, l .all e .0), q ∙ l .all e .1 old)
+  unfolding heldFrom
+  network-typed e new q = let w = subst (λ (x : Typed). Read text x h found) e l in rw (e, w .reading) ((refl, w .holding), q)
 
   pub network-refused : (i : ℕ) (f : Fault) → r ≡ A.Refused i f → Promised (emptyOf 0) old
-  network-refused i f e = ((l .answer, by (typingOf text) (sym (l .answer) ∙ e) .0), by (typingOf text) (sym (l .answer) ∙ e) .1)
-    where
-      by : (x : Typing) → answerOf x ≡ A.Refused i f → (emptyOf 0 ≡ heldFrom x) × (old ≡ numbersFrom x old)
-      by (given ns l) q = let z : _≡_ {A = ℕ} 0 1 = cc in absurd (omega arith)
-      by (refused j g) q = (no-stations j g, refl)
+  network-refused i f e = let t = subst (λ (x : Typed). Read text x h found) e l in rw (e, t) ((refl, no-stations i f), refl)

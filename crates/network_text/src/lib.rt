@@ -11,12 +11,12 @@ use request_text::Line;
 use request_text::Noted;
 use words::Class;
 ghost use mathlib.Core.Path.{_≡_};
-ghost use Prim.Native.Nat.{_<_, _≤_};
+ghost use Prim.Native.Nat.{_<_};
 ghost use lib.IntN.{pos};
 ghost use lib.ListN.{length, replicate};
 ghost use Rattle.network_text.specs.Lines.{toldOf};
-ghost use Rattle.network_text.specs.Typing.{listedBy, notedOf, marksAfter, numbersAfter, marksBefore, typingOf, eclipseIn, answerOf, heldFrom, numbersFrom};
-ghost use Rattle.network_text.specs.TypingLaws.{InRoom, addOf, heldAfter, Read};
+ghost use Rattle.network_text.specs.Typing.{listedBy, marksAfter, numbersAfter, marksBefore, typingOf, eclipseIn, answerOf, heldFrom, numbersFrom};
+ghost use Rattle.network_text.specs.TypingLaws.{addOf, answerBy, takenOf, Read};
 ghost use Rattle.network_text.specs.EclipseLaws.{placeOf};
 
 // Why a text is refused.
@@ -42,12 +42,6 @@ pub enum Told {
     Faulty(Fault),
 }
 
-// Whether a line was taken.
-pub enum Listed {
-    Taken,
-    Refused(Fault),
-}
-
 // All numbers and stations; or the line, counted from 1, and its fault. A missing name has the line after the last.
 pub enum Typed {
     Network,
@@ -58,12 +52,6 @@ pub enum Typed {
 pub struct Reading {
     pub answer: Typed,
     pub held: Held,
-}
-
-// What was made of a line, and the stations after it.
-struct Step {
-    listed: Listed,
-    held: Held,
 }
 
 // The numbers of a request that no line of the list gives: those of a station, which has a line of its own.
@@ -142,37 +130,38 @@ fn add(h: Held, n: Node) -> Held
     }
 }
 
-fn listed_by(noted: Noted) -> Listed
-    ensures { λ r. ⌜ r ≡ listedBy noted ⌝ }
+// What a number that was noted at line i answers.
+fn noted_at(i: usize, noted: Noted) -> Typed
+    ensures { λ r. ⌜ r ≡ answerBy (listedBy noted) i ⌝ }
 {
-    match noted {
-        Noted::Taken => Listed::Taken,
-        Noted::Refused(fault) => Listed::Refused(Fault::Typed(fault)),
+    if let Noted::Refused(fault) = noted {
+        return Typed::Refused(i, Fault::Typed(fault));
     }
+    Typed::Network
 }
 
-// Takes a line: a number, if it was not given before, or a station.
-fn take(told: Told, h: Held, marks: &mut [u8], numbers: &mut [i64]) -> Step
-    requires { ⌜ (length (now numbers) ≡ length (now marks)) × InRoom (length (now marks)) told × (h .count < 18446744073709551615) ⌝ }
-    ensures { λ r. ⌜ (r .listed ≡ notedOf told (now (marks .entry))) × (r .held ≡ heldAfter told h) ⌝ }
-    ensures { λ r. ⌜ now (marks .exit) ≡ marksAfter told (now (marks .entry)) ⌝ }
-    ensures { λ r. ⌜ now (numbers .exit) ≡ numbersAfter told (now (marks .entry)) (now (numbers .entry)) ⌝ }
+// Takes line i: a number, if it was not given before, or a station.
+fn take(line: &[u8], i: usize, h: Held, marks: &mut [u8], numbers: &mut [i64]) -> Reading
+    requires { ⌜ (length (now marks) ≡ 30) × (length (now numbers) ≡ 30) × (h .count < 18446744073709551615) ⌝ }
+    ensures { λ r. ⌜ r ≡ takenOf (toldOf (now (line .entry))) i (now (marks .entry)) h ⌝ }
+    ensures { λ r. ⌜ now (marks .exit) ≡ marksAfter (toldOf (now (line .entry))) (now (marks .entry)) ⌝ }
+    ensures { λ r. ⌜ now (numbers .exit) ≡ numbersAfter (toldOf (now (line .entry))) (now (marks .entry)) (now (numbers .entry)) ⌝ }
 {
-    match told {
-        Told::Request(line) => {
-            let noted = request_text::note(line, marks, numbers);
-            let listed = listed_by(noted);
-            Step { listed, held: h }
+    match tell(line) {
+        Told::Request(said) => {
+            let noted = request_text::note(said, marks, numbers);
+            let answer = noted_at(i, noted);
+            Reading { answer, held: h }
         }
         Told::Station(node) => {
             let held = add(h, node);
-            Step {
-                listed: Listed::Taken,
+            Reading {
+                answer: Typed::Network,
                 held,
             }
         }
-        Told::Faulty(fault) => Step {
-            listed: Listed::Refused(fault),
+        Told::Faulty(fault) => Reading {
+            answer: Typed::Refused(i, fault),
             held: h,
         },
     }
@@ -190,31 +179,18 @@ fn read(text: &[u8], marks: &mut [u8], found: &mut [i64]) -> Reading
     while at < text.len() {
         let length = words::run(&text[at..], Class::Line);
         let end = at + length;
-        let told = tell(&text[at..end]);
-        let step = take(told, held, marks, found);
-        let listed = step.listed;
-        let next = step.held;
-        if let Listed::Refused(fault) = listed {
-            return Reading {
-                answer: Typed::Refused(line, fault),
-                held: next,
-            };
+        let reading = take(&text[at..end], line, held, marks, found);
+        let answer = reading.answer;
+        if let Typed::Refused(_, _) = answer {
+            return reading;
         }
-        held = next;
+        held = reading.held;
         at = end + 1;
         line += 1;
     }
     let all = request_text::complete(&marks[..29]);
-    if let Noted::Refused(fault) = all {
-        return Reading {
-            answer: Typed::Refused(line, Fault::Typed(fault)),
-            held,
-        };
-    }
-    Reading {
-        answer: Typed::Network,
-        held,
-    }
+    let answer = noted_at(line, all);
+    Reading { answer, held }
 }
 
 // Where number k of the eclipse stands among those of a request: before the station's five, or after them.

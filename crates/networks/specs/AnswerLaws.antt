@@ -1,8 +1,8 @@
 -- The answer by its check, and the ways of it.
 use mathlib.Core.Path.{_≡_, refl, sym, ap, _∙_, subst}
+use mathlib.Core.Bool.{true, false, _&&_}
 use mathlib.Core.List.{List}
 use Prim.Native.Nat.{ℕ}
-use borrow.Author.Tests.{eq-eqb, ne-eqb}
 use lib.Dec.{eqb}
 use lib.IntN.{ℤ}
 use lib.ListN.{length}
@@ -14,10 +14,11 @@ use Rattle.requests.specs.Admission.{roomChecked, sinesAfter}
 use Rattle.chains.specs.Defined.{stepsOf}
 use Rattle.nodes.specs.declared.Node.{Node}
 use Rattle.nodes.specs.Nodes.{numbersOf, clocksOf}
-use Rattle.networks.specs.declared.Eclipse.{Eclipse}
+use Rattle.network_checks.specs.declared.Eclipse.{Eclipse}
 use Rattle.networks.specs.declared.Answer.{Answer}
 use Rattle.networks.specs.declared.Answer.the-variants as A
-use Rattle.networks.specs.Network.{eclipseOf, shapeChecked, checked, admitted, named, answerBy, answerTo, stepsAfter, stepsFor, sinesFor}
+use Rattle.network_checks.specs.Checks.{eclipseOf, checked}
+use Rattle.networks.specs.Network.{shapeChecked, admitted, named, answerBy, answerTo, stepsAfter, stepsFor, sinesFor}
 
 -- what a check gives: the answer, the room for table S, the steps
 pub record By (c : Checked) (e : Eclipse) (l : List Node) (sines steps : List ℕ) (r : Answer) (sines′ steps′ : List ℕ) : Type 0 where
@@ -58,25 +59,15 @@ pub record Answers (ns : List ℤ) (l : List Node) (sines steps : List ℕ) (r :
   pub told : steps′ ≡ stepsFor ns l sines steps
 
 module _ (ns : List ℤ) (l : List Node) (sines steps : List ℕ) where
-  pub other-numbers : (length ns ≡ 25 → ⊥) → admitted ns l sines steps ≡ C.Refused (refusal 10 0)
+  pub other-shape : (eqb (length ns) 25 && eqb (length steps) 64) ≡ false → admitted ns l sines steps ≡ C.Refused (refusal 10 0)
   unfolding admitted
-  other-numbers h = rw (ne-eqb (length ns) 25 h)
+  other-shape h = rw h
 
-  module _ (a : length ns ≡ 25) where
-    pub other-steps : (length steps ≡ 64 → ⊥) → admitted ns l sines steps ≡ C.Refused (refusal 10 0)
-    unfolding admitted
-    other-steps h = rw (eq-eqb (length ns) 25 a, ne-eqb (length steps) 64 h)
-
-    pub shaped : length steps ≡ 64 → admitted ns l sines steps ≡ andThen (checked (eclipseOf ns) l) (roomChecked sines)
-    unfolding admitted
-    shaped h = rw (eq-eqb (length ns) 25 a, eq-eqb (length steps) 64 h)
+  pub shaped : (eqb (length ns) 25 && eqb (length steps) 64) ≡ true → admitted ns l sines steps ≡ andThen (checked (eclipseOf ns) l) (roomChecked sines)
+  unfolding admitted
+  shaped h = rw h
 
   pub by-admitted : (c : Checked) → admitted ns l sines steps ≡ c → {r : Answer} {sines′ steps′ : List ℕ} → By c (eclipseOf ns) l sines steps r sines′ steps′
       → Answers ns l sines steps r sines′ steps′
   unfolding answerTo sinesFor stepsFor
   by-admitted c h b = record { answer = rw h (b .answer); room = rw h (b .room); told = rw h (b .told) }
-
-  pub answers : (e : Eclipse) → e ≡ eclipseOf ns → length ns ≡ 25 → length steps ≡ 64 → {r : Answer} {sines′ steps′ : List ℕ} → Answered e l sines steps r sines′ steps′
-      → Answers ns l sines steps r sines′ steps′
-  answers e is a b {r = r} {sines′ = s} {steps′ = t} f =
-      by-admitted (andThen (checked (eclipseOf ns) l) (roomChecked sines)) (shaped a b) (subst (λ (x : Eclipse). Answered x l sines steps r s t) is f)

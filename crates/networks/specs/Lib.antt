@@ -2,6 +2,5 @@
 pub mod Network
 -- what holds of them
 pub mod Meaning
-pub mod CheckLaws
 pub mod AnswerLaws
 pub mod SightLaws

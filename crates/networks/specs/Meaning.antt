@@ -11,9 +11,9 @@ use Rattle.chains.specs.DefinedLaws.{first-lost}
 use Rattle.chains.specs.Meaning.{Accepted, accepted}
 use Rattle.nodes.specs.declared.Node.{Node}
 use Rattle.nodes.specs.Nodes.{numberOf, numbersOf, clocksOf}
-use Rattle.networks.specs.declared.Eclipse.{Eclipse}
-use Rattle.networks.specs.Network.{checked}
-use Rattle.networks.specs.CheckLaws.{at-most, once, accepted-14, accepted-16, clocks-accepted}
+use Rattle.network_checks.specs.declared.Eclipse.{Eclipse}
+use Rattle.network_checks.specs.Checks.{checked}
+use Rattle.network_checks.specs.CheckLaws.{at-most, once, accepted-14, accepted-16, clocks-accepted}
 
 pub steps-accepted : (e : Eclipse) (l : List Node) → checked e l ≡ C.Within → Accepted (numbersOf l) (clocksOf l) (stepsOf (numbersOf l) (clocksOf l))
 steps-accepted e l ok =

@@ -13,7 +13,7 @@ use Rattle.nodes.specs.declared.Node.{Node}
 use Rattle.nodes.specs.Held.{blankNode}
 use Rattle.nodes.specs.Nodes.{numberOf, numbersOf}
 use Rattle.enters.specs.Enters.{never}
-use Rattle.networks.specs.declared.Eclipse.{Eclipse}
+use Rattle.network_checks.specs.declared.Eclipse.{Eclipse}
 use Rattle.networks.specs.Network.{toOf, tosOf, named}
 
 past : {A : Type 0} (l : List A) (i : ℕ) (d : A) → length l ≤ i → getD l i d ≡ d

@@ -1,6 +1,5 @@
 // The whole network in one list: the steps of each station's clock from the antenna, and the station that sees the eclipse first. The list is taken
 // as a value (crate `nodes`).
-pub mod checks;
 pub mod sight;
 
 use nodes::Held;
@@ -13,59 +12,13 @@ ghost use lib.ListN.{length, take};
 ghost use Rattle.chains.specs.Defined.{firstRepeat, stepsOf};
 ghost use Rattle.nodes.specs.declared.Node.{Node};
 ghost use Rattle.nodes.specs.Nodes.{numbersOf, clocksOf, Holds};
-ghost use Rattle.networks.specs.Network.{eclipseOf, requestOf};
+ghost use Rattle.network_checks.specs.Checks.{eclipseOf};
 ghost use Rattle.networks.specs.AnswerLaws.{Answered, Answers};
-
-// What all stations of the list look at.
-pub struct Eclipse {
-    pub elements: elements::Elements,
-    pub window: windows::Window,
-    // as a request's
-    pub guard: i64,
-}
 
 // The number of the station that sees the eclipse first, 0 for none, or why the list has no answer.
 pub enum Answer {
     Named(u64),
     Refused(Refusal),
-}
-
-// The eclipse of 25 numbers: the 22 elements, the window's first and last second, the guard.
-pub fn eclipse_from(n: &[i64]) -> Eclipse
-    requires { ⌜ length (now n) ≡ 25 ⌝ }
-    ensures { λ r. ⌜ r ≡ eclipseOf (now (n .entry)) ⌝ }
-{
-    let elements = elements::from_numbers(n);
-    let first = n[22];
-    let last = n[23];
-    let guard = n[24];
-    let window = windows::Window { first, last };
-    Eclipse {
-        elements,
-        window,
-        guard,
-    }
-}
-
-// The request that a station would send alone.
-fn request(e: Eclipse, s: station::Station) -> requests::Request
-    ensures { λ r. ⌜ r ≡ requestOf e s ⌝ }
-{
-    let elements = e.elements;
-    let window = e.window;
-    requests::Request {
-        elements,
-        station: s,
-        window,
-        guard: e.guard,
-        share: false,
-    }
-}
-
-fn wide(step: u8) -> u64
-    ensures { λ r. ⌜ r ≡ step ⌝ }
-{
-    step as u64
 }
 
 // 64 steps, as the caller's numbers.
@@ -75,7 +28,8 @@ fn put_steps(told: &[u8], steps: &mut [u64])
 {
     let mut i: usize = 0;
     while i < 64 {
-        steps[i] = wide(told[i]);
+        let step = told[i];
+        steps[i] = step as u64;
         i += 1;
     }
 }
@@ -93,12 +47,13 @@ fn tell_steps(h: Held, steps: &mut [u64])
     put_steps(&told, steps);
 }
 
-// The answer to a list within room for its steps.
-fn name(e: Eclipse, h: Held, sines: &mut [u32], steps: &mut [u64]) -> Answer
-    requires { ⌜ (length (h .nodes) ≡ 64) × (length (now steps) ≡ 64) ⌝ }
-    ensures { λ r. ⌜ ((l : List Node) → Holds h l → Answered e l (now (sines .entry)) (now (steps .entry)) r (now (sines .exit)) (now (steps .exit))) ⌝ }
+// The answer to numbers and steps of the right lengths.
+fn name(eclipse: &[i64], h: Held, sines: &mut [u32], steps: &mut [u64]) -> Answer
+    requires { ⌜ (length (now eclipse) ≡ 25) × (length (h .nodes) ≡ 64) × (length (now steps) ≡ 64) ⌝ }
+    ensures { λ r. ⌜ ((l : List Node) → Holds h l → Answered (eclipseOf (now (eclipse .entry))) l (now (sines .entry)) (now (steps .entry)) r (now (sines .exit)) (now (steps .exit))) ⌝ }
 {
-    let c = checks::check(e, h);
+    let e = network_checks::eclipse_from(eclipse);
+    let c = network_checks::check(e, h);
     if let Checked::Refused(refusal) = c {
         return Answer::Refused(refusal);
     }
@@ -106,8 +61,8 @@ fn name(e: Eclipse, h: Held, sines: &mut [u32], steps: &mut [u64]) -> Answer
     if let Checked::Refused(refusal) = room {
         return Answer::Refused(refusal);
     }
-    let station = sight::first_seen(sines, e, h);
     tell_steps(h, steps);
+    let station = sight::first_seen(sines, e, h);
     Answer::Named(station)
 }
 
@@ -116,18 +71,12 @@ pub fn network(eclipse: &[i64], h: Held, sines: &mut [u32], steps: &mut [u64]) -
     requires { ⌜ length (h .nodes) ≡ 64 ⌝ }
     ensures { λ r. ⌜ ((l : List Node) → Holds h l → Answers (now (eclipse .entry)) l (now (sines .entry)) (now (steps .entry)) r (now (sines .exit)) (now (steps .exit))) ⌝ }
 {
-    if eclipse.len() != 25 {
+    let shaped = (eclipse.len() == 25) & (steps.len() == 64);
+    if !shaped {
         return Answer::Refused(Refusal {
             number: 10,
             place: 0,
         });
     }
-    if steps.len() != 64 {
-        return Answer::Refused(Refusal {
-            number: 10,
-            place: 0,
-        });
-    }
-    let e = eclipse_from(eclipse);
-    name(e, h, sines, steps)
+    name(eclipse, h, sines, steps)
 }

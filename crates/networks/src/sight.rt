@@ -1,12 +1,12 @@
 // Which station sees the eclipse first.
-use super::Eclipse;
+use network_checks::Eclipse;
 use nodes::Held;
 ghost use mathlib.Core.Path.{_≡_};
 ghost use Prim.Native.Nat.{_≤_};
 ghost use lib.ListN.{length, take};
 ghost use Rattle.sine_table.specs.Table.{Sines};
+ghost use Rattle.network_checks.specs.CheckLaws.{AllWithin};
 ghost use Rattle.networks.specs.Network.{tosOf, named};
-ghost use Rattle.networks.specs.CheckLaws.{AllWithin};
 
 // The "to" of the first enter of each of n stations, as it is stored, or 21,601 where it has none.
 pub fn first_tos(table: &[u32], e: Eclipse, h: Held, n: usize) -> [u32; 64]
@@ -18,7 +18,7 @@ pub fn first_tos(table: &[u32], e: Eclipse, h: Held, n: usize) -> [u32; 64]
     while i < n {
         let x = h.nodes[i];
         let s = x.station;
-        let q = super::request(e, s);
+        let q = network_checks::request(e, s);
         let to = enters::first_to(table, q);
         tos[i] = to;
         i += 1;

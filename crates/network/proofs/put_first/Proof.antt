@@ -5,14 +5,19 @@ use Prim.Native.Nat.{_<_}
 use lib.ListN.{length}
 use Rattle.numbers.specs.Code.{read-result}
 use Rattle.decimals.specs.RowLaws.{joined, put-as}
-use Rattle.decimals.specs.TextLaws.{put-same}
 use Rattle.network.specs.PrintedLaws.{first-none, first-some}
 use borrow.Author.Needs.{needs}
 use Rattle.network.proofs.put_first.Statement.{statement}
 use Rattle.network.proofs.put_first.Tie as tie
 
+abbrev found : tie.After-put-text → tie.After-earliest
+found c = c .before .before .before
+
+abbrev word : tie.After-put-number → tie.After-put-text
+word n = n .before .before .before .before
+
 -- a room's length is one of 64 bits
-fits : (c : tie.After-put-text) → length (c .before .before .before .before .before .before .args .out .now) < 18446744073709551616
+fits : (c : tie.After-put-text) → length (found c .before .before .before .args .out .now) < 18446744073709551616
 fits c = omega arith
 
 earliest-requires : tie.Need-earliest-requires
@@ -27,21 +32,21 @@ put-text-requires c κs = search needs
 put-number-requires : tie.Need-put-number-requires
 put-number-requires c κs = search needs
 
-slice-aggregate-put-text-2 : tie.Need-slice-aggregate-put-text-2
-slice-aggregate-put-text-2 c = search needs
-
-put-text-requires-2 : tie.Need-put-text-requires-2
-put-text-requires-2 c κs = search needs
+put-byte-requires : tie.Need-put-byte-requires
+put-byte-requires c κs = search needs
 
 same-length : tie.Need-same-length
 same-length c = search needs
 
 returns : tie.Need-returns
 returns c =
-    let word = c .before .before .before .before .before .before .before .before .before .before .before .before in
-    let h = fits word in
-    put-as _ _ _ _ _ _ (first-none _ _ _ (c .before .before .before .before .before .before .before .before .before .before .before .before .before .before .before .earliest .ensures) (c .before .before .before .before .before .if1 .taken))
-    (joined h (joined h (word .put-text .ensures) (c .before .before .before .before .before .before .before .before .put-number .ensures)) (c .before .before .put-text2 .ensures))
+    let b = c .before .before in
+    let t = b .before .before in
+    let n = t .before .before .before in
+    let w = word n in
+    let h = fits w in
+    put-as _ _ _ _ _ _ (first-none _ _ _ (found w .earliest .ensures) (t .if1 .taken))
+    (joined h (joined h (w .put-text .ensures) (n .put-number .ensures)) (b .put-byte .ensures))
 
 mul-to : tie.Need-mul-to
 mul-to c = search needs
@@ -52,32 +57,29 @@ shared-slice-read-to c = search needs
 second-of-requires : tie.Need-second-of-requires
 second-of-requires c κs = search needs
 
-slice-aggregate-put-text-3 : tie.Need-slice-aggregate-put-text-3
-slice-aggregate-put-text-3 c = search needs
+slice-aggregate-put-filled : tie.Need-slice-aggregate-put-filled
+slice-aggregate-put-filled c = search needs
 
-put-text-requires-3 : tie.Need-put-text-requires-3
-put-text-requires-3 c κs = search needs
+slice-aggregate-put-filled-2 : tie.Need-slice-aggregate-put-filled-2
+slice-aggregate-put-filled-2 c = search needs
 
-put-signed-requires : tie.Need-put-signed-requires
-put-signed-requires c κs = search needs
-
-slice-aggregate-put-text-4 : tie.Need-slice-aggregate-put-text-4
-slice-aggregate-put-text-4 c = search needs
-
-put-text-requires-4 : tie.Need-put-text-requires-4
-put-text-requires-4 c κs = search needs
+put-filled-requires : tie.Need-put-filled-requires
+put-filled-requires c κs = search needs
 
 same-length-2 : tie.Need-same-length-2
 same-length-2 c = search needs
 
 returns-2 : tie.Need-returns-2
 returns-2 c =
-    let word = c .before .before .before .before .before .before .before .before .before .before .before .before .before .before .before .before .before .before .before .before .before .before .before in
-    let h = fits word in
-    let named = joined h (word .put-text .ensures) (c .before .before .before .before .before .before .before .before .before .before .before .before .before .before .before .before .before .before .before .put-number .ensures) in
-    let g : length (c .before .before .before .before .before .before .before .before .before .before .before .before .before .before .before .before .before .before .before .put-number .last .0) < 18446744073709551616 = omega (arith, h, put-same _ _ _ _ _ named) in
-    put-as _ _ _ _ _ _ (first-some _ _ _ (c .before .before .before .before .before .before .before .before .before .before .before .before .before .before .before .before .before .before .before .before .before .before .before .before .before .before .earliest .ensures) (omega (arith, c .before .before .before .before .before .before .before .before .before .before .before .before .before .before .before .before .if1 .left)) _ (read-result (c .before .before .before .before .before .before .before .before .before .before .before .before .before .before .second-of .result) (c .before .before .before .before .before .before .before .before .before .before .before .before .before .before .second-of .ok) ∙ c .before .before .before .before .before .before .before .before .before .before .before .before .before .before .second-of .ensures))
-    (joined h named (joined g (joined g (c .before .before .before .before .before .before .before .before .before .before .before .put-text3 .ensures) (c .before .before .before .before .before .before .before .put-signed .ensures)) (c .before .before .put-text4 .ensures)))
+    let f = c .before .before in
+    let s = f .before .before .before .before in
+    let t = s .before .before in
+    let n = t .before .before .before in
+    let w = word n in
+    let h = fits w in
+    put-as _ _ _ _ _ _
+    (first-some _ _ _ (found w .earliest .ensures) (omega (arith, t .if1 .left)) _ (read-result (s .second-of .result) (s .second-of .ok) ∙ s .second-of .ensures))
+    (joined h (joined h (w .put-text .ensures) (n .put-number .ensures)) (f .put-filled .ensures))
 
 pub put-first-spec : {M : Type 1} → statement M
 put-first-spec =
@@ -87,17 +89,14 @@ put-first-spec =
     slice-aggregate-put-text
     put-text-requires
     put-number-requires
-    slice-aggregate-put-text-2
-    put-text-requires-2
+    put-byte-requires
     same-length
     returns
     mul-to
     shared-slice-read-to
     second-of-requires
-    slice-aggregate-put-text-3
-    put-text-requires-3
-    put-signed-requires
-    slice-aggregate-put-text-4
-    put-text-requires-4
+    slice-aggregate-put-filled
+    slice-aggregate-put-filled-2
+    put-filled-requires
     same-length-2
     returns-2)

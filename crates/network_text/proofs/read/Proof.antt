@@ -6,12 +6,15 @@ use borrow.Author.Needs.{needs}
 use native.Mathlib.Omega.{arith}
 use lib.ListN.{length, take, drop}
 use lib.Seq.{length-take-le}
+use Rattle.request_text.specs.declared.Noted.{Noted}
 use Rattle.words.specs.declared.Class.the-variants as C
 use Rattle.words.specs.Text.{runOf}
 use Rattle.words.specs.TextLaws.{rest-is, line-within}
 use Rattle.network_text.specs.declared.Told.{Told}
-use Rattle.network_text.specs.Typing.{listedBy}
-use Rattle.network_text.specs.TypingLaws.{Taking, told-room, Walked, walked-start, walked-count, end-missing, end-all, told, line-refused, line-taken}
+use Rattle.network_text.specs.declared.Typed.{Typed}
+use Rattle.network_text.specs.declared.Reading.{Reading}
+use Rattle.network_text.specs.Typing.{listedBy, notedOf}
+use Rattle.network_text.specs.TypingLaws.{heldAfter, answerBy, Walked, walked-start, walked-count, Read, read-end-by, told, line-refused, line-taken}
 use Rattle.network_text.proofs.read.Statement.{statement}
 use Rattle.network_text.proofs.read.Tie as tie
 
@@ -53,20 +56,22 @@ module _ (c : tie.After-run Inv-loop μ-loop) where
 -- the line as it was taken
 module _ (c : tie.After-take Inv-loop μ-loop) where
   abbrev at-run : tie.After-run Inv-loop μ-loop
-  at-run = c .before .before .before .before .before
+  at-run = c .before .before .before .before
 
-  took : Taking (told _ _ _ _ _ _ (walked (loop at-run .before)) (at-run .run .result) (loop at-run .loop-test .taken) (ran at-run))
-      (loop at-run .before .loop .held) (loop at-run .before .loop .marks) (loop at-run .before .loop .found)
-      (c .take .result .listed) (c .take .result .held) (c .take .last .1 .1 .0) (c .take .last .1 .1 .1 .0)
-  took = subst (λ (x : Told). Taking x (loop at-run .before .loop .held) (loop at-run .before .loop .marks) (loop at-run .before .loop .found)
-      (c .take .result .listed) (c .take .result .held) (c .take .last .1 .1 .0) (c .take .last .1 .1 .1 .0))
-      (c .before .before .before .tell .ensures) (c .take .ensures)
+  abbrev line : Told
+  line = told _ _ _ _ _ _ (walked (loop at-run .before)) (at-run .run .result) (loop at-run .loop-test .taken) (ran at-run)
+
+  answered : c .take .result .answer ≡ answerBy (notedOf line (loop at-run .before .loop .marks)) (loop at-run .before .loop .line)
+  answered = ap (λ (x : Reading). x .answer) (c .take .ensures .0)
+
+  stations : c .take .result .held ≡ heldAfter line (loop at-run .before .loop .held)
+  stations = ap (λ (x : Reading). x .held) (c .take .ensures .0)
 
 -- where it was refused, and where not
-abbrev refused : tie.After-known-told Inv-loop μ-loop → tie.After-take Inv-loop μ-loop
-refused c = c .before .before .before .before .before .before .before
+abbrev refused : tie.After-enum-told Inv-loop μ-loop → tie.After-take Inv-loop μ-loop
+refused c = c .before .before .before .before .before
 
-abbrev taken : tie.After-enum-told Inv-loop μ-loop → tie.After-take Inv-loop μ-loop
+abbrev taken : tie.After-held Inv-loop μ-loop → tie.After-take Inv-loop μ-loop
 taken c = c .before .before .before .before .before .before
 
 slice-set-of-found : tie.Need-slice-set-of-found Inv-loop μ-loop
@@ -93,46 +98,41 @@ run-requires c κs = search needs
 add-end : tie.Need-add-end Inv-loop μ-loop
 add-end c = let i = inside c in search needs
 
-sub-tell : tie.Need-sub-tell Inv-loop μ-loop
-sub-tell c = search needs
+sub-take : tie.Need-sub-take Inv-loop μ-loop
+sub-take c = search needs
 
-part-tell-start : tie.Need-part-tell-start Inv-loop μ-loop
-part-tell-start c = search needs
+part-take-start : tie.Need-part-take-start Inv-loop μ-loop
+part-take-start c = search needs
 
-part-tell-end : tie.Need-part-tell-end Inv-loop μ-loop
-part-tell-end c = inside c
-
-tell-requires : tie.Need-tell-requires Inv-loop μ-loop
-tell-requires c κs = search needs
+part-take-end : tie.Need-part-take-end Inv-loop μ-loop
+part-take-end c = inside c
 
 take-requires : tie.Need-take-requires Inv-loop μ-loop
 take-requires c κs =
-    let r = c .before .before .before .before in
-    let l = loop r .before in
+    let r = c .before .before .before in
     let i = inside r in
-    let w = walked l in (
-      w .fields ∙ sym (w .marked),
-      told-room _ _ _ (c .before .before .tell .ensures) (w .marked),
-      omega (arith, walked-count _ _ _ _ _ _ w, w .lines),
-    )
+    let w = walked (loop r .before) in
+    (w .marked, w .fields, omega (arith, walked-count _ _ _ _ _ _ w, w .lines))
 
-enum-known-listed : tie.Need-enum-known-listed Inv-loop μ-loop
-enum-known-listed c = search needs
+enum-told : tie.Need-enum-told Inv-loop μ-loop
+enum-told c = search needs
 
 same-length : tie.Need-same-length Inv-loop μ-loop
-same-length c = let n = refused c in n .take .kept .1 .1 .0 ∙ same-marks (loop (at-run n) .before)
+same-length c = let n = refused c in n .take .kept .1 .1 .1 .0 ∙ same-marks (loop (at-run n) .before)
 
 same-length-2 : tie.Need-same-length-2 Inv-loop μ-loop
-same-length-2 c = let n = refused c in n .take .kept .1 .1 .1 .0 ∙ same-found (loop (at-run n) .before)
+same-length-2 c = let n = refused c in n .take .kept .1 .1 .1 .1 .0 ∙ same-found (loop (at-run n) .before)
 
 returns : tie.Need-returns Inv-loop μ-loop
 returns c =
     let n = refused c in
     let r = at-run n in
-    line-refused _ _ _ _ _ _ (walked (loop r .before)) _ (loop r .loop-test .taken) (ran r) _ _ _ (sym (took n .0 .0) ∙ c .before .listed .given .1)
+    let e = c .enum-told .given .1 in
+    subst (λ (x : Typed). Read (start (loop r .before) .args .text .now) x (n .take .result .held) (n .take .last .1 .1 .1 .1 .0)) (sym e)
+    (line-refused _ _ _ _ _ _ (walked (loop r .before)) _ (loop r .loop-test .taken) (ran r) _ _ (sym e ∙ answered n))
 
-enum-told : tie.Need-enum-told Inv-loop μ-loop
-enum-told c = search needs
+enum-told-2 : tie.Need-enum-told-2 Inv-loop μ-loop
+enum-told-2 c = search needs
 
 add-at : tie.Need-add-at Inv-loop μ-loop
 add-at c = let i = inside (at-run (taken c)) in search needs
@@ -151,8 +151,8 @@ loop-again c =
     let n = taken c in
     let r = at-run n in
     let w = walked (loop r .before) in
-    line-taken _ _ _ _ _ _ w _ (loop r .loop-test .taken) (ran r) _ _ _ (sym (took n .0 .0) ∙ c .enum-told .given .1) (took n .1 .0) (took n .1 .1) (took n .0 .1)
-    (n .take .kept .1 .1 .0 ∙ w .marked) (n .take .kept .1 .1 .1 .0 ∙ w .fields)
+    line-taken _ _ _ _ _ _ w _ (loop r .loop-test .taken) (ran r) _ _ _ (sym (c .before .enum-told2 .given .1) ∙ answered n) (stations n)
+    (n .take .ensures .1 .0) (n .take .ensures .1 .1) (n .take .kept .1 .1 .1 .0 ∙ w .marked) (n .take .kept .1 .1 .1 .1 .0 ∙ w .fields)
 
 slice-reshare-prefix-complete : tie.Need-slice-reshare-prefix-complete Inv-loop μ-loop
 slice-reshare-prefix-complete c = omega (arith, walked (c .before) .marked)
@@ -163,33 +163,20 @@ slice-aggregate-complete c = let l = c .before .before in sym (length-take-le 29
 complete-requires : tie.Need-complete-requires Inv-loop μ-loop
 complete-requires c κs = search needs
 
-enum-known-all : tie.Need-enum-known-all Inv-loop μ-loop
-enum-known-all c = search needs
+noted-at-requires : tie.Need-noted-at-requires Inv-loop μ-loop
+noted-at-requires c κs = search needs
 
 same-length-3 : tie.Need-same-length-3 Inv-loop μ-loop
-same-length-3 c = same-marks (c .before .before .before .before .before .before)
+same-length-3 c = same-marks (c .before .before .before .before)
 
 same-length-4 : tie.Need-same-length-4 Inv-loop μ-loop
-same-length-4 c = same-found (c .before .before .before .before .before .before)
+same-length-4 c = same-found (c .before .before .before .before)
 
 returns-2 : tie.Need-returns-2 Inv-loop μ-loop
 returns-2 c =
-    let e = c .before .before .before in
-    end-missing _ _ _ _ _ _ (walked (e .before .before .before)) (e .before .before .loop-test .left) _ (ap listedBy (sym (e .complete .ensures) ∙ c .before .all .given .1))
-
-enum-told-2 : tie.Need-enum-told-2 Inv-loop μ-loop
-enum-told-2 c = search needs
-
-same-length-5 : tie.Need-same-length-5 Inv-loop μ-loop
-same-length-5 c = same-marks (c .before .before .before .before .before)
-
-same-length-6 : tie.Need-same-length-6 Inv-loop μ-loop
-same-length-6 c = same-found (c .before .before .before .before .before)
-
-returns-3 : tie.Need-returns-3 Inv-loop μ-loop
-returns-3 c =
-    let e = c .before .before in
-    end-all _ _ _ _ _ _ (walked (e .before .before .before)) (e .before .before .loop-test .left) (ap listedBy (sym (e .complete .ensures) ∙ c .enum-told2 .given .1))
+    let e = c .before in
+    let l = e .before .before in
+    read-end-by _ _ _ _ _ _ (walked (l .before)) (l .loop-test .left) _ (c .noted-at .ensures ∙ ap (λ (m : Noted). answerBy (listedBy m) (l .before .loop .line)) (e .complete .ensures))
 
 pub read-spec : {M : Type 1} → statement M
 read-spec =
@@ -205,16 +192,15 @@ read-spec =
     part-run-end
     run-requires
     add-end
-    sub-tell
-    part-tell-start
-    part-tell-end
-    tell-requires
+    sub-take
+    part-take-start
+    part-take-end
     take-requires
-    enum-known-listed
+    enum-told
     same-length
     same-length-2
     returns
-    enum-told
+    enum-told-2
     add-at
     add-line
     loop-less
@@ -222,11 +208,7 @@ read-spec =
     slice-reshare-prefix-complete
     slice-aggregate-complete
     complete-requires
-    enum-known-all
+    noted-at-requires
     same-length-3
     same-length-4
-    returns-2
-    enum-told-2
-    same-length-5
-    same-length-6
-    returns-3)
+    returns-2)

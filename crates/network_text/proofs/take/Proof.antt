@@ -1,30 +1,38 @@
 -- `network_text::take` meets its contract: each arm is a case of the definitions. Assumes nothing.
-use mathlib.Core.Path.{subst}
+use mathlib.Core.Path.{sym, subst, _∙_}
 use borrow.Author.Needs.{needs}
 use lib.ListN.{length}
-use Rattle.network_text.specs.TypingLaws.{InRoom, take-number, take-station, take-faulty}
+use Rattle.network_text.specs.TypingLaws.{InRoom, told-room, take-number, take-station, take-faulty}
 use Rattle.network_text.proofs.take.Statement.{statement}
 use Rattle.network_text.proofs.take.Tie as tie
 
-enum-known-told : tie.Need-enum-known-told
-enum-known-told c = search needs
+abbrev start : tie.After-tell → tie.Start
+start t = t .before .before .before
+
+tell-requires : tie.Need-tell-requires
+tell-requires c κs = search needs
+
+enum-known-said : tie.Need-enum-known-said
+enum-known-said c = search needs
 
 note-requires : tie.Need-note-requires
 note-requires c κs =
-    let s = c .before .before .before .before .before .before in
-    (s .pre .0, subst (InRoom (length (s .args .marks .now))) (c .before .before .before .told .given .1) (s .pre .1))
+    let r = c .before .before .before in
+    let t = r .before .before in
+    let s = start t in
+    (s .pre .1 ∙ sym (s .pre .0), subst (InRoom (length (s .args .marks .now))) (r .said .given .1) (told-room _ _ _ (t .tell .ensures) (s .pre .0)))
 
-listed-by-requires : tie.Need-listed-by-requires
-listed-by-requires c κs = search needs
+noted-at-requires : tie.Need-noted-at-requires
+noted-at-requires c κs = search needs
 
-enum-known-told-2 : tie.Need-enum-known-told-2
-enum-known-told-2 c = search needs
+enum-known-node : tie.Need-enum-known-node
+enum-known-node c = search needs
 
 add-requires : tie.Need-add-requires
 add-requires c κs = search needs
 
-enum-known-told-3 : tie.Need-enum-known-told-3
-enum-known-told-3 c = search needs
+enum-known-fault : tie.Need-enum-known-fault
+enum-known-fault c = search needs
 
 same-length : tie.Need-same-length
 same-length c = search needs
@@ -35,24 +43,30 @@ same-length-2 c = search needs
 returns : tie.Need-returns
 returns c =
     let n = c .before .before .before .before in
-    take-number _ _ _ _ _ _ _ _ _ (n .before .before .before .before .told .given .1) (n .note .ensures) (c .listed-by .ensures)
+    let r = n .before .before .before .before in
+    take-number _ _ (r .before .before .tell .ensures) _ _ _ _ _ (r .said .given .1) _ _ _ (n .note .ensures) _ (c .noted-at .ensures)
 
 returns-2 : tie.Need-returns-2
-returns-2 c = take-station _ _ _ _ _ _ (c .before .before .told2 .given .1) (c .add .ensures)
+returns-2 c =
+    let r = c .before .before in
+    take-station _ _ (r .before .before .tell .ensures) _ _ _ _ _ _ (r .node .given .1) (c .add .ensures)
 
 returns-3 : tie.Need-returns-3
-returns-3 c = take-faulty _ _ _ _ _ (c .before .told3 .given .1)
+returns-3 c =
+    let r = c .before in
+    take-faulty _ _ (r .before .before .tell .ensures) _ _ _ _ _ (r .fault .given .1)
 
 pub take-spec : {M : Type 1} → statement M
 take-spec =
     tie.close
     (tie.spec
-    enum-known-told
+    tell-requires
+    enum-known-said
     note-requires
-    listed-by-requires
-    enum-known-told-2
+    noted-at-requires
+    enum-known-node
     add-requires
-    enum-known-told-3
+    enum-known-fault
     same-length
     same-length-2
     returns

@@ -16,31 +16,42 @@ use Rattle.nodes.specs.declared.Node.{Node}
 use Rattle.nodes.specs.declared.Held.{Held}
 use Rattle.nodes.specs.Nodes.{numbersOf, clocksOf, Holds}
 use Rattle.nodes.specs.HeldLaws.{some-list, listed}
-use Rattle.networks.specs.Network.{checked, named}
-use Rattle.networks.specs.CheckLaws.{AllWithin, all-within, at-most, once, accepted-14, clocks-accepted}
-use Rattle.networks.specs.AnswerLaws.{by-refused, by-room, by-named}
+use Rattle.network_checks.specs.declared.Eclipse.{Eclipse}
+use Rattle.network_checks.specs.Checks.{eclipseOf, checked}
+use Rattle.networks.specs.declared.Answer.{Answer}
+use Rattle.networks.specs.Network.{named}
+use Rattle.network_checks.specs.CheckLaws.{AllWithin, all-within, at-most, once, accepted-14, clocks-accepted}
+use Rattle.networks.specs.AnswerLaws.{Answered, by-refused, by-room, by-named}
 use Rattle.networks.proofs.name.Statement.{statement}
 use Rattle.networks.proofs.name.Tie as tie
 
 abbrev start : tie.After-check → tie.Start
-start a = a .before .before .before
+start a = a .before .before .before .before
+
+abbrev eclipse : tie.After-check → Eclipse
+eclipse a = a .before .eclipse-from .result
+
+-- that of the numbers
+given : (a : tie.After-check) {l : List Node} {sines steps sines′ steps′ : List ℕ} {r : Answer} → Answered (eclipse a) l sines steps r sines′ steps′
+    → Answered (eclipseOf (start a .args .eclipse .now)) l sines steps r sines′ steps′
+given a {l = l} {sines = s} {steps = t} {sines′ = s′} {steps′ = t′} {r = r} f = subst (λ (x : Eclipse). Answered x l s t r s′ t′) (a .before .eclipse-from .ensures) f
 
 -- ---- the list is not refused
 module _ (t : tie.After-enum-told) where
   abbrev held : Held
   held = start (t .before .before) .args .h
 
-  accepted : (l : List Node) → Holds held l → checked (start (t .before .before) .args .e) l ≡ C.Within
+  accepted : (l : List Node) → Holds held l → checked (eclipse (t .before .before)) l ≡ C.Within
   accepted l k = sym (t .before .before .check .ensures l k) ∙ t .enum-told .given .1
 
   -- some list that is held
   abbrev list : List Node
-  list = some-list held (start (t .before .before) .pre .0) .0
+  list = some-list held (start (t .before .before) .pre .1) .0
 
   holds : Holds held list
-  holds = some-list held (start (t .before .before) .pre .0) .1
+  holds = some-list held (start (t .before .before) .pre .1) .1
 
-  ok : checked (start (t .before .before) .args .e) list ≡ C.Within
+  ok : checked (eclipse (t .before .before)) list ≡ C.Within
   ok = accepted list holds
 
   few : held .count ≤ 64
@@ -62,6 +73,9 @@ filled w =
 abbrev Once : List Node → Type 0
 Once l = firstRepeat (numbersOf l) ≡ length (numbersOf l)
 
+eclipse-from-requires : tie.Need-eclipse-from-requires
+eclipse-from-requires c κs = search needs
+
 check-requires : tie.Need-check-requires
 check-requires c κs = search needs
 
@@ -71,7 +85,7 @@ enum-known-c c = search needs
 returns : tie.Need-returns
 returns c = λ l k.
     let a = c .before .before .before in
-    by-refused _ (ap (λ (x : Checked). andThen x (roomChecked (start a .args .sines .now))) (sym (a .check .ensures l k) ∙ c .before .c .given .1))
+    given a (by-refused _ (ap (λ (x : Checked). andThen x (roomChecked (start a .args .sines .now))) (sym (a .check .ensures l k) ∙ c .before .c .given .1)))
 
 enum-told : tie.Need-enum-told
 enum-told c = search needs
@@ -89,22 +103,22 @@ returns-2 : tie.Need-returns-2
 returns-2 c = λ l k.
     let f = c .before .before .before .before .before in
     let t = f .before .before in
-    by-room _ l _ _ (accepted t l k) _ (sym (f .fill-sines .ensures .0) ∙ c .before .room .given .1) (f .fill-sines .ensures .1)
+    given (t .before .before) (by-room _ l _ _ (accepted t l k) _ (sym (f .fill-sines .ensures .0) ∙ c .before .room .given .1) (f .fill-sines .ensures .1))
 
 enum-told-2 : tie.Need-enum-told-2
 enum-told-2 c = search needs
 
-first-seen-requires : tie.Need-first-seen-requires
-first-seen-requires c κs =
-    let t = told (c .before) in
-    let h = start (t .before .before) .args .h in
-    (filled (c .before), few t, start (t .before .before) .pre .0, subst (AllWithin (start (t .before .before) .args .e)) (sym (own t)) (all-within _ (list t) (ok t)))
-
 tell-steps-requires : tie.Need-tell-steps-requires
 tell-steps-requires c κs =
-    let t = told (c .before .before .before) in
+    let t = told (c .before) in
     let s = start (t .before .before) in
-    ((few t, s .pre .0, s .pre .1), subst Once (sym (own t)) (once (numbersOf (list t)) (clocksOf (list t)) (accepted-14 (numbersOf (list t)) (clocksOf (list t)) (clocks-accepted _ (list t) (ok t)))))
+    ((few t, s .pre .1, s .pre .2), subst Once (sym (own t)) (once (numbersOf (list t)) (clocksOf (list t)) (accepted-14 (numbersOf (list t)) (clocksOf (list t)) (clocks-accepted _ (list t) (ok t)))))
+
+first-seen-requires : tie.Need-first-seen-requires
+first-seen-requires c κs =
+    let w = c .before .before .before .before .before in
+    let t = told w in
+    (filled w, few t, start (t .before .before) .pre .1, subst (AllWithin (eclipse (t .before .before))) (sym (own t)) (all-within _ (list t) (ok t)))
 
 same-length-2 : tie.Need-same-length-2
 same-length-2 c = search needs
@@ -114,20 +128,20 @@ same-length-3 c = search needs
 
 returns-3 : tie.Need-returns-3
 returns-3 c = λ l k.
-    let u = c .before .before in
-    let g = u .before .before in
-    let w = g .before .before in
+    let u = c .before .before .before .before in
+    let w = u .before .before in
     let f = w .before .before .before .before in
     let t = told w in
-    let h = start (t .before .before) .args .h in
-    let e = listed h l k (few t) in
-    by-named _ l _ _ (accepted t l k) (sym (f .fill-sines .ensures .0) ∙ w .enum-told2 .given .1)
-    (g .first-seen .ensures ∙ ap (named _) e) (f .fill-sines .ensures .1) (u .tell-steps .ensures ∙ ap (λ (m : List Node). stepsOf (numbersOf m) (clocksOf m)) e)
+    let e = listed (held t) l k (few t) in
+    given (t .before .before)
+    (by-named _ l _ _ (accepted t l k) (sym (f .fill-sines .ensures .0) ∙ w .enum-told2 .given .1)
+    (c .first-seen .ensures ∙ ap (named _) e) (f .fill-sines .ensures .1) (u .tell-steps .ensures ∙ ap (λ (m : List Node). stepsOf (numbersOf m) (clocksOf m)) e))
 
 pub name-spec : {M : Type 1} → statement M
 name-spec =
     tie.close
     (tie.spec
+    eclipse-from-requires
     check-requires
     enum-known-c
     returns
@@ -137,8 +151,8 @@ name-spec =
     same-length
     returns-2
     enum-told-2
-    first-seen-requires
     tell-steps-requires
+    first-seen-requires
     same-length-2
     same-length-3
     returns-3)

@@ -17,13 +17,13 @@ abbrev μ-loop : tie.MeasureT-loop
 μ-loop told steps₀ i₀ steps i = 64 - i
 
 loop-holds : tie.Need-loop-holds Inv-loop μ-loop
-loop-holds c = (omega arith, c .before .before .pre .1, refl)
+loop-holds c = (omega arith, c .pre .1, refl)
 
-shared-slice-read-wide : tie.Need-shared-slice-read-wide Inv-loop μ-loop
-shared-slice-read-wide c = search needs
+shared-slice-read-step : tie.Need-shared-slice-read-step Inv-loop μ-loop
+shared-slice-read-step c = search needs
 
-wide-requires : tie.Need-wide-requires Inv-loop μ-loop
-wide-requires c κs = search needs
+cast-steps : tie.Need-cast-steps Inv-loop μ-loop
+cast-steps c = record { fits = omega (arith, c .shared-slice-known .given (c .before .before .loop .i)) }
 
 mul-steps : tie.Need-mul-steps Inv-loop μ-loop
 mul-steps c = search needs
@@ -39,21 +39,21 @@ loop-less c = search needs
 
 loop-again : tie.Need-loop-again Inv-loop μ-loop
 loop-again c =
-    let t = c .before .before in
+    let t = c .before in
     let l = t .before .loop in
-    let s = t .before .before .before .before in (
+    let s = t .before .before in (
       omega (arith, t .loop-test .taken),
       length-set (l .steps) (l .i) _ ∙ l .inv .1,
-      grow (s .args .told .now) (l .steps) (l .i) _ 0 (omega (arith, l .inv .1, t .loop-test .taken)) (omega (arith, s .pre .0, t .loop-test .taken)) (c .wide .ensures) (l .inv .2),
+      grow (s .args .told .now) (l .steps) (l .i) _ 0 (omega (arith, l .inv .1, t .loop-test .taken)) (omega (arith, s .pre .0, t .loop-test .taken)) refl (l .inv .2),
     )
 
 same-length : tie.Need-same-length Inv-loop μ-loop
-same-length c = let s = c .before .before .before .before in c .before .loop .inv .1 ∙ sym (s .pre .1)
+same-length c = let s = c .before .before in c .before .loop .inv .1 ∙ sym (s .pre .1)
 
 returns : tie.Need-returns Inv-loop μ-loop
 returns c =
     let l = c .before .loop in
-    let s = c .before .before .before .before in
+    let s = c .before .before in
     let e : l .i ≡ 64 = omega (arith, l .inv .0, c .loop-test .left) in
     sym (take-all 64 (l .steps) (omega (arith, l .inv .1)))
     ∙ subst (λ (k : ℕ). take k (l .steps) ≡ take k (s .args .told .now)) e (l .inv .2)
@@ -66,8 +66,8 @@ put-steps-spec =
     Inv-loop
     μ-loop
     loop-holds
-    shared-slice-read-wide
-    wide-requires
+    shared-slice-read-step
+    cast-steps
     mul-steps
     slice-write-steps
     add-i

@@ -18,7 +18,8 @@ use Rattle.chains.specs.Defined.{earliestOf}
 use Rattle.nodes.specs.declared.Node.{Node}
 use Rattle.nodes.specs.Held.{blankNode}
 use Rattle.enters.specs.Enters.{never}
-use Rattle.networks.specs.Network.{requestOf, tosOf}
+use Rattle.network_checks.specs.Checks.{requestOf}
+use Rattle.networks.specs.Network.{tosOf}
 use Rattle.networks.specs.SightLaws.{named-at, named-none}
 use Rattle.networks.proofs.sight.first_seen.Statement.{statement}
 use Rattle.networks.proofs.sight.first_seen.Tie as tie

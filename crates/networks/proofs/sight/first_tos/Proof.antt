@@ -13,7 +13,8 @@ use Rattle.nodes.specs.declared.Node.{Node}
 use Rattle.nodes.specs.Held.{blankNode}
 use Rattle.nodes.specs.Copy.{copy-step}
 use Rattle.enters.specs.Enters.{firstTo}
-use Rattle.networks.specs.Network.{requestOf, toOf, tosOf}
+use Rattle.network_checks.specs.Checks.{requestOf}
+use Rattle.networks.specs.Network.{toOf, tosOf}
 use Rattle.networks.proofs.sight.first_tos.Statement.{statement}
 use Rattle.networks.proofs.sight.first_tos.Tie as tie
 

@@ -1,11 +1,11 @@
--- `networks::eclipse_from` meets its contract: each number is read from its place. Assumes nothing.
+-- `network_checks::eclipse_from` meets its contract: each number is read from its place. Assumes nothing.
 use lib.IntN.{pos}
 use lib.ListN.{getD}
 use borrow.Author.Needs.{needs}
 use Rattle.numbers.specs.Code.{read-result}
-use Rattle.networks.specs.Network.{eclipseOf}
-use Rattle.networks.proofs.eclipse_from.Statement.{statement}
-use Rattle.networks.proofs.eclipse_from.Tie as tie
+use Rattle.network_checks.specs.Checks.{eclipseOf}
+use Rattle.network_checks.proofs.eclipse_from.Statement.{statement}
+use Rattle.network_checks.proofs.eclipse_from.Tie as tie
 
 from-numbers-requires : tie.Need-from-numbers-requires
 from-numbers-requires c κs = search needs

@@ -1,4 +1,4 @@
--- `networks::checks::check_clocks` meets its contract: the ways of 14, 15, 16. Assumes nothing.
+-- `network_checks::check_clocks` meets its contract: the ways of 14, 15, 16. Assumes nothing.
 use mathlib.Core.Path.{_≡_, sym, ap, _∙_}
 use Prim.Native.Nat.{ℕ, _≤_, _<_}
 use native.Mathlib.Omega.{arith}
@@ -8,9 +8,9 @@ use Rattle.refusals.specs.declared.Checked.{Checked}
 use Rattle.refusals.specs.declared.Checked.the-variants as C
 use Rattle.refusals.specs.Refusals.{refusal}
 use Rattle.chains.specs.Defined.{firstRepeat, firstStray}
-use Rattle.networks.specs.CheckLaws.{once, clocks-14, clocks-15, clocks-16, clocks-within}
-use Rattle.networks.proofs.checks.check_clocks.Statement.{statement}
-use Rattle.networks.proofs.checks.check_clocks.Tie as tie
+use Rattle.network_checks.specs.CheckLaws.{once, clocks-14, clocks-15, clocks-16, clocks-within}
+use Rattle.network_checks.proofs.check_clocks.Statement.{statement}
+use Rattle.network_checks.proofs.check_clocks.Tie as tie
 
 -- a refusal at the place that was found
 abbrev at : ℕ → ℕ → Checked

@@ -10,7 +10,7 @@ use Prim.Native.Nat.{ℕ, zero, suc, _+_, _*_, _≤_, _<_}
 use native.Mathlib.Omega.{arith}
 use native.Mathlib.Numerals.{add-one}
 use native.Mathlib.Nat.{zero-add}
-use borrow.Author.Tests.{lt-ltb, le-ltb, ltb-false, le-leb, lt-leb, leb-true}
+use borrow.Author.Tests.{lt-ltb, le-ltb, ltb-false, le-leb, leb-true}
 use lib.Dec.{ltb, leb}
 use lib.IntN.{ℤ}
 use lib.ListN.{length, getD, drop, drop-of-length-le}
@@ -32,8 +32,8 @@ use Rattle.chains.specs.DefinedLaws.{first-repeat}
 use Rattle.nodes.specs.declared.Node.{Node}
 use Rattle.nodes.specs.Held.{blankNode}
 use Rattle.nodes.specs.Nodes.{numbersOf, clocksOf}
-use Rattle.networks.specs.declared.Eclipse.{Eclipse}
-use Rattle.networks.specs.Network.{requestOf, sizeChecked, eclipseChecked, atPlace, stationsChecked, placeChecked, clocksChecked, checked}
+use Rattle.network_checks.specs.declared.Eclipse.{Eclipse}
+use Rattle.network_checks.specs.Checks.{requestOf, sizeChecked, eclipseChecked, atPlace, stationsChecked, placeChecked, clocksChecked, checked}
 
 -- the request that each station would send alone is within its limits
 abbrev pub AllWithin : Eclipse → List Node → Type 0
@@ -117,6 +117,15 @@ module _ (ns cs : List ℤ) where
   unfolding clocksChecked
   accepted-16 e = none-there 16 (firstLost ns cs) (length ns) (both-within second-check _ (both-within first-check _ e .1) .1)
 
+-- ---- 19
+pub size-in : (n : ℕ) → cond (leb 1 n && leb n 64) C.Within (C.Refused (refusal 19 0)) ≡ C.Within → (1 ≤ n) × (n ≤ 64)
+size-in n e = go (leb 1 n) (leb n 64) refl refl e
+  where
+    go : (a b : Bool) → leb 1 n ≡ a → leb n 64 ≡ b → cond (a && b) C.Within (C.Refused (refusal 19 0)) ≡ C.Within → (1 ≤ n) × (n ≤ 64)
+    go true true p q h = (leb-true 1 n p, leb-true n 64 q)
+    go true false p q h = absurd (not-within h)
+    go false b p q h = absurd (not-within h)
+
 -- ---- all of them
 -- where a request of the first station is refused, so is the list
 as-first : (w g b s x y : Checked) (r : Refusal) → andThen w (andThen g (andThen b s)) ≡ C.Refused r
@@ -130,13 +139,9 @@ module _ (e : Eclipse) (l : List Node) where
   abbrev alone : ℕ → Occultation
   alone i = ofEclipse (requestOf e (getD l i blankNode .station))
 
-  pub checked-empty : length l ≡ 0 → checked e l ≡ C.Refused (refusal 19 0)
+  pub checked-size : (leb 1 (length l) && leb (length l) 64) ≡ false → checked e l ≡ C.Refused (refusal 19 0)
   unfolding checked
-  checked-empty h = rw h
-
-  pub checked-many : 64 < length l → checked e l ≡ C.Refused (refusal 19 0)
-  unfolding checked
-  checked-many h = rw (le-leb 1 (length l) (omega arith), lt-leb (length l) 64 h)
+  checked-size h = rw h
 
   module _ (low : 0 < length l) (high : length l ≤ 64) where
     sized : sizeChecked l ≡ C.Within
@@ -180,12 +185,7 @@ module _ (e : Eclipse) (l : List Node) where
         (a .0, b .0, c .0, c .1)
 
     pub at-most : length l ≤ 64
-    at-most = go (leb 1 (length l)) (leb (length l) 64) refl (parts .0)
-      where
-        go : (a b : Bool) → leb (length l) 64 ≡ b → cond (a && b) C.Within (C.Refused (refusal 19 0)) ≡ C.Within → length l ≤ 64
-        go true true d h = leb-true (length l) 64 d
-        go true false d h = absurd (not-within h)
-        go false b d h = absurd (not-within h)
+    at-most = size-in (length l) (parts .0) .1
 
     pub clocks-accepted : clocksChecked (numbersOf l) (clocksOf l) ≡ C.Within
     clocks-accepted = parts .3

@@ -1,4 +1,4 @@
--- `networks::checks::check_stations` meets its contract: what the stations from i on are refused for is what all are. Assumes nothing.
+-- `network_checks::check_stations` meets its contract: what the stations from i on are refused for is what all are. Assumes nothing.
 use mathlib.Core.Path.{_≡_, refl, sym, ap, _∙_}
 use mathlib.Core.List.{List}
 use Prim.Native.Nat.{ℕ, _-_, _≤_, _<_}
@@ -9,17 +9,18 @@ use lib.Seq.{getD-take, length-take-le}
 use Rattle.station.specs.Station.{stationChecked}
 use Rattle.station.specs.StationLaws.{field-small}
 use Rattle.nodes.specs.declared.Node.{Node}
+use Rattle.nodes.specs.declared.Held.{Held}
 use Rattle.nodes.specs.Held.{blankNode}
-use Rattle.networks.specs.Network.{stationsChecked}
-use Rattle.networks.specs.CheckLaws.{stations-refused, stations-more, stations-end}
-use Rattle.networks.proofs.checks.check_stations.Statement.{statement}
-use Rattle.networks.proofs.checks.check_stations.Tie as tie
+use Rattle.network_checks.specs.Checks.{stationsChecked}
+use Rattle.network_checks.specs.CheckLaws.{stations-refused, stations-more, stations-end}
+use Rattle.network_checks.proofs.check_stations.Statement.{statement}
+use Rattle.network_checks.proofs.check_stations.Tie as tie
 
 abbrev Inv-loop : tie.InvT-loop
-Inv-loop n h i₀ i = (i ≤ n) × (stationsChecked i (drop i (take n (h .nodes))) ≡ stationsChecked 0 (take n (h .nodes)))
+Inv-loop h n i₀ i = (i ≤ h .count) × (stationsChecked i (drop i (take (h .count) (h .nodes))) ≡ stationsChecked 0 (take (h .count) (h .nodes)))
 
 abbrev μ-loop : tie.MeasureT-loop
-μ-loop n h i₀ i = n - i
+μ-loop h n i₀ i = h .count - i
 
 -- ---- a station
 module _ (c : tie.After-check Inv-loop μ-loop) where
@@ -32,15 +33,18 @@ module _ (c : tie.After-check Inv-loop μ-loop) where
   abbrev i : ℕ
   i = inside .before .loop .i
 
+  abbrev held : Held
+  held = start .args .t1
+
   abbrev list : List Node
-  list = take (start .args .n) (start .args .t1 .nodes)
+  list = take (held .count) (held .nodes)
 
   within : i < length list
-  within = omega (arith, inside .loop-test .taken, length-take-le (start .args .n) (start .args .t1 .nodes) (omega (arith, start .pre .0, start .pre .1)))
+  within = omega (arith, inside .loop-test .taken, length-take-le (held .count) (held .nodes) (omega (arith, start .pre .0, start .pre .1)))
 
   answered : stationChecked (getD list i blankNode .station) ≡ c .check .result
   answered =
-      ap (λ (n : Node). stationChecked (n .station)) (getD-take (start .args .n) (start .args .t1 .nodes) i blankNode (inside .loop-test .taken))
+      ap (λ (n : Node). stationChecked (n .station)) (getD-take (held .count) (held .nodes) i blankNode (inside .loop-test .taken))
       ∙ sym (c .check .ensures)
 
 loop-holds : tie.Need-loop-holds Inv-loop μ-loop
@@ -92,8 +96,9 @@ returns-2 : tie.Need-returns-2 Inv-loop μ-loop
 returns-2 c =
     let l = c .before .loop in
     let a = c .before .before in
-    sym (stations-end (take (a .args .n) (a .args .t1 .nodes)) (l .i)
-    (omega (arith, c .loop-test .left, length-take-le (a .args .n) (a .args .t1 .nodes) (omega (arith, a .pre .0, a .pre .1)))))
+    let h = a .args .t1 in
+    sym (stations-end (take (h .count) (h .nodes)) (l .i)
+    (omega (arith, c .loop-test .left, length-take-le (h .count) (h .nodes) (omega (arith, a .pre .0, a .pre .1)))))
     ∙ l .inv .1
 
 pub check-stations-spec : {M : Type 1} → statement M
