@@ -1,5 +1,5 @@
 -- Requests that follow each other: where each ends, what it is answered, and what is told of it.
--- Assumes nothing: these are definitions. The answer to a request's bytes, and what it leaves in the rooms: input, Sheet.
+-- Assumes nothing: these are definitions. The answer to a request's bytes, and what it leaves in the rooms: request_sheets, Sheet.
 use mathlib.Core.Bool.{Bool, true, false, cond}
 use mathlib.Core.List.{List, [], _++_}
 use Prim.Native.Nat.{ℕ}
