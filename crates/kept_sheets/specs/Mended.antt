@@ -1,10 +1,10 @@
 -- What holds of a mended file, whatever it is (document 02, wish 11). The walk is that of `Walk`; `Claims` has the other words.
 use Prim.Native.Nat.{ℕ, _+_, _/_, _<_}
 use mathlib.Core.Path.{_≡_, refl, sym, ap, _∙_}
-use mathlib.Core.List.{List, [], _∷_, _++_}
+use mathlib.Core.List.{List, [], _++_}
 use native.Mathlib.Omega.{arith}
 use native.Mathlib.Nat.{zero-add}
-use lib.ListN.{length, take, drop, length-append}
+use lib.ListN.{length, take, drop}
 use Rattle.refusals.specs.Refusals.{refusal}
 use Rattle.kinds.specs.declared.Entry.{Entry}
 use Rattle.kinds.specs.declared.Stage.the-variants as S
@@ -15,7 +15,7 @@ use Rattle.sheets.specs.Sheets.{sheet, readSheet}
 use Rattle.sheets.specs.RoundTrip.{Reads}
 use Rattle.sheets.specs.WellFormed.{WellFormed}
 use Rattle.sheets.specs.OldSheets.{oldHead, old-refused, old-whole-refused}
-use Rattle.kept_sheets.specs.Walk.{Step, lose, steps, keptIn, kept, stretchesIn, stretches, notes}
+use Rattle.kept_sheets.specs.Walk.{Step, steps, keptIn, kept, stretchesIn, stretches, notes}
 use Rattle.kept_sheets.specs.Claims.{lost, readNotes, Apart, placesFrom, placesOf, droppedAt, spanned, joined, AllSheets, Arrives, Met}
 use Rattle.kept_sheets.specs.StepLaws.{walked, steps-lose}
 use Rattle.kept_sheets.specs.StretchLaws.{all-spanned, counted, apart, places, begun}

@@ -1,5 +1,5 @@
 -- Laws of the stretches: they count what was dropped, stand apart in order, and have the places of the dropped bytes.
-use Prim.Native.Nat.{ℕ, zero, suc, _+_, _-_, _*_, _≤_, _<_}
+use Prim.Native.Nat.{ℕ, zero, suc, _+_, _-_, _*_, _≤_}
 use mathlib.Core.Path.{_≡_, refl, sym, ap, _∙_}
 use mathlib.Core.List.{List, [], _∷_, _++_, append-assoc}
 use native.Mathlib.Omega.{arith}
@@ -8,7 +8,7 @@ use native.Mathlib.Numerals.{add-one}
 use lib.ListN.{length, take, drop, length-append, length-drop}
 use lib.Seq.{length-take-le}
 use Rattle.repeats.specs.BoundLaws.{sheet-bounds}
-use Rattle.kept_sheets.specs.Walk.{Step, keep, lose, steps, keptIn, Stretch, ended, stretchesIn}
+use Rattle.kept_sheets.specs.Walk.{Step, keep, lose, keptIn, Stretch, ended, stretchesIn}
 use Rattle.kept_sheets.specs.Claims.{lost, Apart, placesFrom, placesOf, droppedAt, spanned}
 use Rattle.kept_sheets.specs.StepLaws.{Walked, at-end, kept-one, lost-one}
 

@@ -4,19 +4,16 @@ use mathlib.Core.Path.{_≡_, refl, sym, ap, _∙_}
 use mathlib.Core.List.{List, [], _∷_, _++_, append-assoc}
 use native.Mathlib.Omega.{arith}
 use native.Mathlib.Decide.{decLt}
-use native.Mathlib.Nat.{zero-add}
 use lib.ListN.{length, take, drop, length-drop}
-use lib.Seq.{drop-drop, drop-length, take-all, length-take-le}
+use lib.Seq.{drop-drop, drop-length, length-take-le}
 use Rattle.refusals.specs.declared.Refusal.{Refusal}
 use Rattle.kinds.specs.declared.Entry.{Entry}
-use Rattle.sheets.specs.declared.Extent.the-variants as X
-use Rattle.sheets.specs.Sheets.{Sheet, sheet, refused, readSheet, extentOf}
-use Rattle.sheets.specs.SheetLaws.{extent-inv, extent-refused}
+use Rattle.sheets.specs.Sheets.{Sheet, sheet, refused, readSheet}
 use Rattle.decimals.specs.Texts.{Put}
 use Rattle.decimals.specs.TextLaws.{Putting, putting-start, putting-turn, putting-end}
 use Rattle.repeats.specs.Leading.{leading, NoneBefore}
 use Rattle.repeats.specs.BoundLaws.{sheet-bounds}
-use Rattle.kept_sheets.specs.Walk.{Step, keep, lose, steps, keptIn, kept, Stretch, ended, stretchesIn, stretches, noteOf, notesOf, notes}
+use Rattle.kept_sheets.specs.Walk.{keep, lose, steps, keptIn, kept, Stretch, ended, stretchesIn, noteOf, notesOf, notes}
 use Rattle.kept_sheets.specs.StepLaws.{steps-nil, steps-keep, steps-lose}
 
 -- the walk stands at `at`, `lost` bytes were dropped right before it, and what was kept and noted so far is put up to k and m

@@ -13,8 +13,8 @@ use Rattle.refusals.specs.Refusals.{refusal}
 use Rattle.decimals.specs.Texts.{capped, Put}
 use Rattle.decimals.specs.TextLaws.{capped-low}
 use Rattle.mending.specs.declared.Answer.the-variants.{Mended, Refused}
-use Rattle.kept_sheets.specs.Walk.{kept, notes, stretches}
-use Rattle.mending.specs.Mending.{answerTo, roomAfter}
+use Rattle.kept_sheets.specs.Walk.{kept, notes}
+use Rattle.mending.specs.Mending.{answerTo}
 use Rattle.kept_sheets.specs.Mended.{whole}
 use Rattle.kept_sheets.specs.NoteLaws.{notes-fit}
 

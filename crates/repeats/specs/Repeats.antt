@@ -4,7 +4,7 @@
 use Prim.Native.Nat.{ℕ, suc, _+_, _-_, _≤_, _<_}
 use mathlib.Core.Path.{_≡_, refl, sym, ap, _∙_}
 use mathlib.Core.List.{List, [], _∷_, _++_, append-assoc}
-use mathlib.Core.Bool.{true, false, _&&_, _||_}
+use mathlib.Core.Bool.{_&&_, _||_}
 use native.Mathlib.Omega.{arith}
 use native.Mathlib.Nat.{add-zero, add-assoc}
 use borrow.Author.Tests.{leb-true}
@@ -12,7 +12,6 @@ use lib.Dec.{leb, eqb}
 use lib.ListN.{length, take, drop, getD, length-append, length-drop, take-append-drop}
 use lib.Seq.{drop-drop, take-at, drop-at, getD-drop, getD-take, length-take-le, ext-getD}
 use Rattle.phases.specs.declared.Phase.{Phase}
-use Rattle.refusals.specs.declared.Refusal.{Refusal}
 use Rattle.kinds.specs.declared.Kind.the-variants as K
 use Rattle.kinds.specs.declared.Entry.{Entry}
 use Rattle.kinds.specs.declared.Named.the-variants as Named
@@ -21,7 +20,7 @@ use Rattle.kinds.specs.declared.Crossing.the-variants as C
 use Rattle.kinds.specs.Entries.{opened}
 use Rattle.kinds.specs.FieldRules.{inWindow, openHolds}
 use Rattle.numbers.specs.Tests.{both}
-use Rattle.kinds.specs.Kinds.{codeOf, kindFor, sizeOf, plain}
+use Rattle.kinds.specs.Kinds.{kindFor, sizeOf, plain}
 use Rattle.records.specs.declared.Record.the-variants.{Is}
 use Rattle.records.specs.Numbers.{twoAt}
 use Rattle.records.specs.NumberLaws.{Bytes}

@@ -28,7 +28,8 @@ use Rattle.typed_rows.specs.Reading.{Said, nothing, row, faulty, lineOf, linesO
 use Rattle.words.specs.declared.Class.the-variants as C
 use Rattle.words.specs.Text.{runOf}
 use Rattle.words.specs.TextLaws.{rest-is}
-use Rattle.typed_rows.specs.ReadingLaws.{answerOf, Stored, Left, line-within, next-line}
+use Rattle.typed_rows.specs.ReadingLaws.{answerOf, Stored}
+use Rattle.typed_rows.specs.LineLaws.{Left, line-within, next-line}
 use Rattle.table_elements.specs.Printed.{valuesText, tableText, messageOf, faultLine, Streams, told, first, ofLine, readLines, printed}
 
 -- what a line adds to the output, where it is that row, from 0, of its table; and the rows of the table after it

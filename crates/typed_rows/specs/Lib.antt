@@ -1,3 +1,4 @@
 pub mod Reading
 pub mod NumberLaws
 pub mod ReadingLaws
+pub mod LineLaws

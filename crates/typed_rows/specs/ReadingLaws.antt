@@ -1,18 +1,18 @@
--- A line read word by word, and a text line by line.
+-- A line read word by word.
 use Prim.Native.Nat.{ℕ, suc, _+_, _-_, _≤_, _<_}
 use mathlib.Core.Path.{_≡_, refl, sym, ap, _∙_}
 use mathlib.Core.Bool.{Bool, true, false, cond}
 use mathlib.Core.List.{List, [], _∷_, _++_, append-assoc, append-nil}
 use native.Mathlib.Nat.{add-zero}
 use native.Mathlib.Omega.{arith}
-use borrow.Author.Tests.{lt-ltb, le-ltb, ltb-true, ltb-false, eqb-true, ne-eqb}
-use lib.Dec.{eqb, ltb}
+use borrow.Author.Tests.{lt-ltb, le-ltb, eqb-true, ne-eqb}
+use lib.Dec.{eqb}
 use lib.IntN.{ℤ}
 use lib.ListN.{length, length-append, length-drop, take, drop, set, length-set}
 use lib.Seq.{take-suc-set, drop-drop}
 use Rattle.words.specs.declared.Class.the-variants as C
-use Rattle.words.specs.Text.{isIn, runOf, before}
-use Rattle.words.specs.TextLaws.{run-in, run-out, run-nil, run-le, rest-is}
+use Rattle.words.specs.Text.{runOf}
+use Rattle.words.specs.TextLaws.{run-le, rest-is}
 use Rattle.typed_rows.specs.declared.Fault.{Fault}
 use Rattle.typed_rows.specs.declared.Fault.the-variants as F
 use Rattle.typed_rows.specs.declared.Number.{Number}
@@ -20,7 +20,7 @@ use Rattle.typed_rows.specs.declared.Number.the-variants as N
 use Rattle.typed_rows.specs.declared.Word.{Word}
 use Rattle.typed_rows.specs.declared.Line.{Line}
 use Rattle.typed_rows.specs.declared.Line.the-variants as L
-use Rattle.typed_rows.specs.Reading.{numberOf, wordsOf, Said, nothing, row, faulty, whole, saidBy, contentOf, lineOf, linesOf}
+use Rattle.typed_rows.specs.Reading.{numberOf, wordsOf, Said, nothing, row, faulty, whole, saidBy, contentOf, lineOf}
 
 -- what a line says, without its numbers
 abbrev pub answerOf : Said → Line
@@ -240,72 +240,3 @@ module _ (line content : List ℕ) (old : List ℤ) (start : ℕ) where
                   ap (λ l. saidBy (f .ns ++ (z ∷ [])) (wordsOf more l)) (ap (λ k. drop k content) end-is ∙ sym (drop-drop size (w .from) content))
                   ∙ sym (said-next (f .ns) _ _ z (sym q ∙ e) (omega (arith, f .count))) ∙ ap (saidBy (f .ns)) (sym next) ∙ f .left;
             }
-
--- ---- the lines of a text
-
-line-in : (x : ℕ) (s : List ℕ) → isIn C.Line x ≡ true → linesOf (x ∷ s) ≡ before x (linesOf s)
-unfolding linesOf
-line-in x s e = rw e
-
-line-out : (x : ℕ) (s : List ℕ) → isIn C.Line x ≡ false → linesOf (x ∷ s) ≡ [] ∷ linesOf s
-unfolding linesOf
-line-out x s e = rw e
-
-lines-nil : linesOf [] ≡ [] ∷ []
-unfolding linesOf
-lines-nil = refl
-
--- no newline is left
-lines-last : (s : List ℕ) → length s ≤ runOf C.Line s → linesOf s ≡ take (runOf C.Line s) s ∷ []
-lines-last [] h = rw (lines-nil, run-nil C.Line)
-lines-last (x ∷ s) h = by (isIn C.Line x) refl (lines-last s)
-  where
-    by : (b : Bool) → isIn C.Line x ≡ b → (length s ≤ runOf C.Line s → linesOf s ≡ take (runOf C.Line s) s ∷ [])
-        → linesOf (x ∷ s) ≡ take (runOf C.Line (x ∷ s)) (x ∷ s) ∷ []
-    by true e go = rw (line-in x s e, run-in C.Line x s e, go (omega (arith, run-in C.Line x s e)))
-    by false e go = absurd (omega (arith, run-out C.Line x s e))
-
--- the first line, and those after its newline
-lines-more : (s : List ℕ) → runOf C.Line s < length s → linesOf s ≡ take (runOf C.Line s) s ∷ linesOf (drop (suc (runOf C.Line s)) s)
-lines-more [] h = absurd (omega arith)
-lines-more (x ∷ s) h = by (isIn C.Line x) refl (lines-more s)
-  where
-    by : (b : Bool) → isIn C.Line x ≡ b
-        → (runOf C.Line s < length s → linesOf s ≡ take (runOf C.Line s) s ∷ linesOf (drop (suc (runOf C.Line s)) s))
-        → linesOf (x ∷ s) ≡ take (runOf C.Line (x ∷ s)) (x ∷ s) ∷ linesOf (drop (suc (runOf C.Line (x ∷ s))) (x ∷ s))
-    by true e go = rw (line-in x s e, run-in C.Line x s e, go (omega (arith, run-in C.Line x s e)))
-    by false e go = rw (line-out x s e, run-out C.Line x s e)
-
--- what is left of a text's lines from byte `from` on
-pub record Left (text : List ℕ) (from : ℕ) (ls : List (List ℕ)) : Type 0 where
-  pub none : length text < from → ls ≡ []
-  pub some : from ≤ length text → ls ≡ linesOf (drop from text)
-
--- the line there, as a loop lends it, and the lines after it
-module _ (text : List ℕ) (from n : ℕ) (ls : List (List ℕ)) (f : Left text from ls) (h : from ≤ length text) (e : n ≡ runOf C.Line (drop from text)) where
-  pub line-within : from + n ≤ length text
-  line-within = omega (arith, e, run-le C.Line (drop from text), length-drop from text)
-
-  pub next-line : (rest : List (List ℕ)) × (ls ≡ take (from + n - from) (drop from text) ∷ rest) × Left text (from + n + 1) rest
-  next-line = by (ltb (from + n) (length text)) refl
-    where
-      lent : take (runOf C.Line (drop from text)) (drop from text) ≡ take (from + n - from) (drop from text)
-      lent = let k : runOf C.Line (drop from text) ≡ from + n - from = omega arith in ap (λ j. take j (drop from text)) k
-
-      by : (b : Bool) → ltb (from + n) (length text) ≡ b
-          → (rest : List (List ℕ)) × (ls ≡ take (from + n - from) (drop from text) ∷ rest) × Left text (from + n + 1) rest
-      by true b =
-          let g = ltb-true (from + n) (length text) b in
-          let k : from + suc (runOf C.Line (drop from text)) ≡ from + n + 1 = omega arith in
-          let d : drop (suc (runOf C.Line (drop from text))) (drop from text) ≡ drop (from + n + 1) text = drop-drop (suc (runOf C.Line (drop from text))) from text ∙ ap (λ j. drop j text) k in (
-            linesOf (drop (from + n + 1) text),
-            f .some h ∙ lines-more (drop from text) (omega (arith, length-drop from text)) ∙ ap (λ l. l ∷ linesOf (drop (suc (runOf C.Line (drop from text))) (drop from text))) lent
-                ∙ ap (λ l. take (from + n - from) (drop from text) ∷ linesOf l) d,
-            record { none = λ x. absurd (omega arith); some = λ x. refl },
-          )
-      by false b =
-          let g = ltb-false (from + n) (length text) b in (
-            [],
-            f .some h ∙ lines-last (drop from text) (omega (arith, length-drop from text)) ∙ ap (λ l. l ∷ []) lent,
-            record { none = λ x. refl; some = λ x. absurd (omega arith) },
-          )
