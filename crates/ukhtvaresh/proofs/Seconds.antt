@@ -5,7 +5,7 @@ use Prim.Native.Nat.{ℕ}
 use lib.IntN.{ℤ}
 use Rattle.seconds.specs.declared.OneSecond.{OneSecond}
 use Rattle.request_fields.specs.declared.Shape.{Shape}
-use Rattle.second_replies.specs.Second.{wish, sinesAsked, secondGiven, numbersAfter, GivenMeans}
+use Rattle.request_seconds.specs.Second.{wish, sinesAsked, secondGiven, numbersAfter, GivenMeans}
 use Rattle.replies.specs.declared.Reply.{Reply}
 use Rattle.replies.specs.Seconds.{secondReply}
 

@@ -2,7 +2,7 @@
 use request_fields::Shape;
 ghost use mathlib.Core.Path.{_≡_};
 ghost use Rattle.request_fields.specs.declared.Shape.the-variants.{Eclipse, Star};
-ghost use Rattle.second_replies.specs.Second.{wish, sinesAsked, secondGiven, numbersAfter, GivenMeans};
+ghost use Rattle.request_seconds.specs.Second.{wish, sinesAsked, secondGiven, numbersAfter, GivenMeans};
 ghost use Rattle.replies.specs.Seconds.{secondReply};
 
 // The shadow at one second of a request of 115 bytes, which may lie outside its window: u, v, L1, L2, the states of penumbra and
@@ -22,7 +22,7 @@ pub extern "C" fn ukhtvaresh_second(
     ensures means { λ r. ⌜ GivenMeans Eclipse (now (request .entry)) second (secondGiven Eclipse (now (request .entry)) second (now (sines .entry)) (now (shadow .entry))) (now (shadow .exit)) ⌝ }
 {
     let shape = Shape::Eclipse;
-    let given = second_replies::second(shape, request, second, sines, shadow);
+    let given = request_seconds::second(shape, request, second, sines, shadow);
     let reply = replies::second_reply(8, given);
     *value = reply.value;
     reply.number
@@ -45,7 +45,7 @@ pub extern "C" fn ukhtvaresh_star_second(
     ensures means { λ r. ⌜ GivenMeans Star (now (request .entry)) second (secondGiven Star (now (request .entry)) second (now (sines .entry)) (now (shadow .entry))) (now (shadow .exit)) ⌝ }
 {
     let shape = Shape::Star;
-    let given = second_replies::second(shape, request, second, sines, shadow);
+    let given = request_seconds::second(shape, request, second, sines, shadow);
     let reply = replies::second_reply(5, given);
     *value = reply.value;
     reply.number

@@ -9,9 +9,9 @@ ghost use Rattle.request_fields.specs.declared.Shape.the-variants.{Eclipse};
 ghost use Rattle.input.specs.Input.{inputOf, requestOf};
 ghost use Rattle.request_sheets.specs.Sheet.{sharedAnswer, sharedBuffer, sharedSines};
 ghost use Rattle.replies.specs.Replies.{sheetReply};
-ghost use Rattle.second_replies.specs.Second.{wish, sinesAsked};
+ghost use Rattle.request_seconds.specs.Second.{wish, sinesAsked};
 ghost use Rattle.replies.specs.Shares.{shareReply};
-ghost use Rattle.second_replies.specs.Shares.{shareAsked};
+ghost use Rattle.request_seconds.specs.Shares.{shareAsked};
 
 // The contact sheet of a request of 115 bytes with the covered share after the closest second; value: its length. `sines` is room for table S.
 #[no_mangle]
@@ -48,7 +48,7 @@ pub extern "C" fn ukhtvaresh_share(
     ensures means { λ r. ⌜ AnswerMeans (requestOf (now (request .entry))) second (shareAsked (inputOf (now (request .entry))) second (now (sines .entry))) ⌝ }
 {
     let shape = Shape::Eclipse;
-    let found = second_replies::asked(shape, request, second, sines);
+    let found = request_seconds::asked(shape, request, second, sines);
     let share = covered::of_second(found);
     let reply = replies::share_reply(share);
     *value = reply.value;

@@ -8,9 +8,9 @@ use Rattle.input.specs.Input.{inputOf}
 use Rattle.replies.specs.declared.Reply.{Reply}
 use Rattle.covered.specs.Answer.{shareBy}
 use Rattle.covered.specs.AnswerLaws.{AnsweredSizes}
-use Rattle.second_replies.specs.Second.{wish, secondAsked, sinesAsked}
+use Rattle.request_seconds.specs.Second.{wish, secondAsked, sinesAsked}
 use Rattle.replies.specs.Shares.{shareReply}
-use Rattle.second_replies.specs.ShareLaws.{asked-sizes, asked-means}
+use Rattle.request_seconds.specs.ShareLaws.{asked-sizes, asked-means}
 use Rattle.ukhtvaresh.proofs.shares.ukhtvaresh_share.Statement.{statement}
 use Rattle.ukhtvaresh.proofs.shares.ukhtvaresh_share.Tie as tie
 

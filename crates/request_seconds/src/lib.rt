@@ -8,7 +8,7 @@ ghost use Prim.Native.Nat.{_≤_};
 ghost use lib.ListN.{length};
 ghost use Rattle.seconds.specs.declared.OneSecond.the-variants.{Is};
 ghost use Rattle.request_fields.specs.declared.Shape.the-variants.{Eclipse, Star};
-ghost use Rattle.second_replies.specs.Second.{wish, secondAsked, sinesAsked, numberCount, secondInto, secondGiven, numbersAfter, GivenMeans};
+ghost use Rattle.request_seconds.specs.Second.{wish, secondAsked, sinesAsked, numberCount, secondInto, secondGiven, numbersAfter, GivenMeans};
 
 // What bytes of that shape ask for, or refusal 10.
 fn wish(shape: Shape, request: &[u8]) -> Asked

@@ -1,11 +1,11 @@
--- `second_replies::asked` meets its contract: bytes of the shape are what they ask for, any other are refused before the room is touched. Assumes nothing.
+-- `request_seconds::asked` meets its contract: bytes of the shape are what they ask for, any other are refused before the room is touched. Assumes nothing.
 use mathlib.Core.Path.{sym, ap, ap₂, _∙_}
 use mir.Syntax.{w64}
 use mir.ValLaws.{toZ-ofZ}
 use borrow.Author.Needs.{needs}
-use Rattle.second_replies.specs.Second.{secondAsked, sinesAsked}
-use Rattle.second_replies.proofs.asked.Statement.{statement}
-use Rattle.second_replies.proofs.asked.Tie as tie
+use Rattle.request_seconds.specs.Second.{secondAsked, sinesAsked}
+use Rattle.request_seconds.proofs.asked.Statement.{statement}
+use Rattle.request_seconds.proofs.asked.Tie as tie
 
 wish-requires : tie.Need-wish-requires
 wish-requires c κs = search needs

@@ -1,4 +1,4 @@
--- `second_replies::second` meets its contract: the second as it is asked for, judged by its room, and stored where it is given. Assumes nothing.
+-- `request_seconds::second` meets its contract: the second as it is asked for, judged by its room, and stored where it is given. Assumes nothing.
 use mathlib.Core.Path.{_≡_, sym, ap, ap₂, _∙_}
 use borrow.Author.Needs.{needs}
 use lib.ListN.{length}
@@ -6,10 +6,10 @@ use mir.Syntax.{w64}
 use mir.Val.{toZ, ofZ}
 use mir.ValLaws.{toZ-ofZ}
 use Rattle.seconds.specs.declared.OneSecond.{OneSecond}
-use Rattle.second_replies.specs.Second.{wish, secondAsked, sinesAsked, numberCount, secondInto, secondGiven, numbersAfter}
-use Rattle.second_replies.specs.SecondLaws.{second-fits, given-means}
-use Rattle.second_replies.proofs.second.Statement.{statement}
-use Rattle.second_replies.proofs.second.Tie as tie
+use Rattle.request_seconds.specs.Second.{wish, secondAsked, sinesAsked, numberCount, secondInto, secondGiven, numbersAfter}
+use Rattle.request_seconds.specs.SecondLaws.{second-fits, given-means}
+use Rattle.request_seconds.proofs.second.Statement.{statement}
+use Rattle.request_seconds.proofs.second.Tie as tie
 
 -- ---- where the room was judged
 module _ (c : tie.After-in-room) where

@@ -6,7 +6,7 @@ use Rattle.covered.specs.declared.OneShare.{OneShare}
 use Rattle.covered.specs.Answer.{shareBy}
 use Rattle.input.specs.declared.Input.{Input}
 use Rattle.input.specs.Input.{eclipseAsked}
-use Rattle.second_replies.specs.Second.{secondAsked}
+use Rattle.request_seconds.specs.Second.{secondAsked}
 
 -- refused as a second is: "Requests: 10, 1, 2, 3", the shape first, then the 4 of the room for table S
 abbrev pub shareAsked : Input → ℤ → (sines : List ℕ) → OneShare

@@ -1,9 +1,9 @@
--- `second_replies::in_room` meets its contract, case by case. Assumes nothing.
+-- `request_seconds::in_room` meets its contract, case by case. Assumes nothing.
 use mathlib.Core.Path.{sym}
 use borrow.Author.Needs.{needs}
-use Rattle.second_replies.specs.SecondLaws.{second-short, second-whole}
-use Rattle.second_replies.proofs.in_room.Statement.{statement}
-use Rattle.second_replies.proofs.in_room.Tie as tie
+use Rattle.request_seconds.specs.SecondLaws.{second-short, second-whole}
+use Rattle.request_seconds.proofs.in_room.Statement.{statement}
+use Rattle.request_seconds.proofs.in_room.Tie as tie
 
 enum-told : tie.Need-enum-told
 enum-told c = search needs

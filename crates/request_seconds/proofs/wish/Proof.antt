@@ -1,10 +1,10 @@
--- `second_replies::wish` meets its contract, shape by shape. Assumes nothing.
+-- `request_seconds::wish` meets its contract, shape by shape. Assumes nothing.
 use mathlib.Core.Path.{sym, ap, _∙_}
 use borrow.Author.Needs.{needs}
 use Rattle.input.specs.Input.{eclipseAsked}
-use Rattle.second_replies.specs.Second.{wish}
-use Rattle.second_replies.proofs.wish.Statement.{statement}
-use Rattle.second_replies.proofs.wish.Tie as tie
+use Rattle.request_seconds.specs.Second.{wish}
+use Rattle.request_seconds.proofs.wish.Statement.{statement}
+use Rattle.request_seconds.proofs.wish.Tie as tie
 
 enum-told : tie.Need-enum-told
 enum-told c = search needs

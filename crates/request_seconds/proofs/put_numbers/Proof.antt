@@ -1,10 +1,10 @@
--- `second_replies::put_numbers` meets its contract, shape by shape. Assumes nothing.
+-- `request_seconds::put_numbers` meets its contract, shape by shape. Assumes nothing.
 use mathlib.Core.Path.{sym, ap, _∙_}
 use borrow.Author.Needs.{needs}
 use Rattle.seconds.specs.declared.OneSecond.the-variants.{Is}
-use Rattle.second_replies.specs.Second.{numbersAfter}
-use Rattle.second_replies.proofs.put_numbers.Statement.{statement}
-use Rattle.second_replies.proofs.put_numbers.Tie as tie
+use Rattle.request_seconds.specs.Second.{numbersAfter}
+use Rattle.request_seconds.proofs.put_numbers.Statement.{statement}
+use Rattle.request_seconds.proofs.put_numbers.Tie as tie
 
 enum-told : tie.Need-enum-told
 enum-told c = search needs

@@ -10,8 +10,8 @@ use Rattle.input.specs.declared.Input.{Input}
 use Rattle.input.specs.declared.Input.the-variants as I
 use Rattle.input.specs.Input.{inputOf, requestOf, eclipseAsked}
 use Rattle.input.specs.InputLaws.{request-is}
-use Rattle.second_replies.specs.Second.{secondAsked}
-use Rattle.second_replies.specs.Shares.{shareAsked}
+use Rattle.request_seconds.specs.Second.{secondAsked}
+use Rattle.request_seconds.specs.Shares.{shareAsked}
 
 pub asked-sizes : (i : Input) (τ : ℤ) (sines : List ℕ) → AnsweredSizes (secondAsked (eclipseAsked i) τ sines)
 asked-sizes (I.Is q) τ sines = answered-sizes q τ sines

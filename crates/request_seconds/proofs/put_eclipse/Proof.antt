@@ -1,14 +1,14 @@
--- `second_replies::put_eclipse` meets its contract: eight stores are the eight numbers before the rest; each is read back from its bits. Assumes nothing.
+-- `request_seconds::put_eclipse` meets its contract: eight stores are the eight numbers before the rest; each is read back from its bits. Assumes nothing.
 use lib.ListN.{length-set}
 use native.Mathlib.Omega.{arith}
 use lib.Seq.{length-sets, sets-eq}
 use mathlib.Core.List.{[], _∷_}
 use borrow.Author.Needs.{needs}
 use Rattle.numbers.specs.Code.{read-result}
-use Rattle.second_replies.specs.Second.{eight}
-use Rattle.second_replies.proofs.Small.{small}
-use Rattle.second_replies.proofs.put_eclipse.Statement.{statement}
-use Rattle.second_replies.proofs.put_eclipse.Tie as tie
+use Rattle.request_seconds.specs.Second.{eight}
+use Rattle.request_seconds.proofs.Small.{small}
+use Rattle.request_seconds.proofs.put_eclipse.Statement.{statement}
+use Rattle.request_seconds.proofs.put_eclipse.Tie as tie
 
 cast-penumbra : tie.Need-cast-penumbra
 cast-penumbra c = search needs

@@ -23,7 +23,7 @@ use Rattle.input.specs.declared.Asked.{Asked}
 use Rattle.input.specs.declared.Asked.the-variants as W
 use Rattle.input.specs.Input.{inputOf, requestOf, starRequestOf}
 use Rattle.input.specs.InputLaws.{request-is, asked-is, star-request-is}
-use Rattle.second_replies.specs.Second.{wish, secondAsked, numberCount, secondInto, secondGiven, numbersAfter, NumbersMean, GivenMeans}
+use Rattle.request_seconds.specs.Second.{wish, secondAsked, numberCount, secondInto, secondGiven, numbersAfter, NumbersMean, GivenMeans}
 
 module _ (n k : ℕ) (x : Second) where
   pub second-short : k < n → secondInto n k (O.Is x) ≡ O.Refused (refusal 4 n)
