@@ -14,9 +14,8 @@ use Rattle.numbers.specs.Root.{IsRoot, root}
 use Rattle.numbers.specs.RootLaws.{root-is}
 use Rattle.geometry.specs.Sizes.{M-nonneg}
 use Rattle.shadow.specs.declared.Sample.{Sample}
-use Rattle.windows.specs.declared.Window.{Window}
 use Rattle.requests.specs.declared.Occultation.{Occultation}
-use Rattle.windows.specs.Windows.{nthSecond, secondCount}
+use Rattle.windows.specs.Windows.{nthSecond}
 use Rattle.seconds.specs.Seconds.{momentAt}
 use Rattle.gaps.specs.Samples.{IsAt, squareAt}
 use Rattle.approach.specs.declared.Low.{Low}

@@ -1,9 +1,9 @@
 -- Laws of the code's table: where a row stands in it, and where the number of a request does.
 use mathlib.Core.Path.{_≡_, refl, sym, ap, _∙_}
-use mathlib.Core.List.{List, [], _∷_, _++_}
+use mathlib.Core.List.{List, _++_}
 use Prim.Native.Nat.{ℕ, zero, suc, _+_, _*_, _-_, _≤_, _<_}
 use native.Mathlib.Omega.{arith}
-use lib.ListN.{length, getD, take, drop, List·getD-append}
+use lib.ListN.{take, drop, List·getD-append}
 use lib.Seq.{drop-drop, getD-append-add}
 use Rattle.request_fields.specs.declared.Field.{Field}
 use Rattle.request_fields.specs.declared.Shape.the-variants as S

@@ -1,9 +1,7 @@
 -- `writing::entries::head_for` meets its contract: a number, two seconds and a guard within their ranges, as unsigned numbers. Assumes nothing.
-use mathlib.Core.Path.{_≡_, _∙_}
 use mathlib.Core.List.{[], _∷_}
 use Prim.Native.Nat.{ℕ, _≤_}
 use native.Mathlib.Omega.{arith}
-use borrow.Author.Needs.{needs}
 use lib.IntN.{ℤ, natAbs}
 use lib.Signed.{leZ-yes}
 use Rattle.numbers.specs.Order.{≤ℤ-trans, natAbs-between}

@@ -1,8 +1,6 @@
 -- `writing::entries::share_for` meets its contract: the closest second is one of the window's. Assumes nothing.
-use mathlib.Core.Path.{_≡_, ap, _∙_}
 use Prim.Native.Nat.{_≤_}
 use native.Mathlib.Omega.{arith}
-use borrow.Author.Needs.{needs}
 use lib.IntN.{natAbs}
 use Rattle.numbers.specs.Code.{read-size}
 use Rattle.seconds.specs.SecondLaws.{closest-within}
