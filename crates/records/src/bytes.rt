@@ -16,7 +16,7 @@ ghost use mathlib.Core.Bool.{true, cond};
 ghost use Rattle.kinds.specs.Kinds.{bytesIn, sizeOf};
 ghost use Rattle.records.specs.Numbers.{twoAt, number};
 ghost use Rattle.records.specs.Entries.{bytes};
-ghost use Rattle.records.specs.Bodies.{fieldOf};
+ghost use Rattle.records.specs.Bodies.{fieldA, fieldB, fieldC, fieldD};
 ghost use Rattle.records.specs.Records.{byteAt, bodyAt, recordAt};
 
 // ---- reading
@@ -40,14 +40,64 @@ fn two_if(s: &[u8], at: usize, there: bool) -> u32
     if there { super::two_at(s, at) } else { 0 }
 }
 
-// A field of that width, by the numbers of two and of four bytes that stand where it would.
-fn field(width: Width, two: u32, four: u32) -> u32
-    ensures { λ r. ⌜ r ≡ fieldOf width two four ⌝ }
+// The fields of a kind from the four numbers of two bytes that follow its byte, x, y, z and w; `early` is x and y as one, `wide` y and z.
+fn field_a(kind: Kind, x: u32, early: u32) -> u32
+    ensures { λ r. ⌜ r ≡ fieldA kind x early ⌝ }
 {
-    match width {
-        Width::Absent => 0,
-        Width::Two => two,
-        Width::Four => four,
+    match kind {
+        Kind::Head => x,
+        Kind::Enter(_) => x,
+        Kind::Leave(_) => x,
+        Kind::Graze(_) => x,
+        Kind::Open(_) => x,
+        Kind::Closest => x,
+        Kind::Share => early,
+        Kind::End => 0,
+    }
+}
+
+fn field_b(kind: Kind, y: u32, wide: u32) -> u32
+    ensures { λ r. ⌜ r ≡ fieldB kind y wide ⌝ }
+{
+    match kind {
+        Kind::Head => y,
+        Kind::Enter(_) => y,
+        Kind::Leave(_) => y,
+        Kind::Graze(_) => y,
+        Kind::Open(_) => y,
+        Kind::Closest => wide,
+        Kind::Share => 0,
+        Kind::End => 0,
+    }
+}
+
+fn field_c(kind: Kind, z: u32) -> u32
+    ensures { λ r. ⌜ r ≡ fieldC kind z ⌝ }
+{
+    match kind {
+        Kind::Head => z,
+        Kind::Enter(_) => z,
+        Kind::Leave(_) => z,
+        Kind::Graze(_) => 0,
+        Kind::Open(_) => 0,
+        Kind::Closest => 0,
+        Kind::Share => 0,
+        Kind::End => 0,
+    }
+}
+
+fn field_d(kind: Kind, w: u32) -> u32
+    ensures { λ r. ⌜ r ≡ fieldD kind w ⌝ }
+{
+    match kind {
+        Kind::Head => w,
+        Kind::Enter(_) => 0,
+        Kind::Leave(_) => 0,
+        Kind::Graze(_) => 0,
+        Kind::Open(_) => 0,
+        Kind::Closest => 0,
+        Kind::Share => 0,
+        Kind::End => 0,
     }
 }
 
@@ -80,16 +130,10 @@ pub fn body_at(s: &[u8], at: usize, kind: Kind) -> Body
     let y = two_if(s, at_b, 5 <= left);
     let z = two_if(s, at_c, 7 <= left);
     let w = two_if(s, at_d, 9 <= left);
-    let widths = kinds::widths_of(kind);
-    let wa = widths.a;
-    let wb = widths.b;
-    let wc = widths.c;
-    let wd = widths.d;
-    let a = field(wa, x, x * 65536 + y);
-    let b = field(wb, y, y * 65536 + z);
-    // the last two are never of four bytes
-    let c = field(wc, z, 0);
-    let d = field(wd, w, 0);
+    let a = field_a(kind, x, x * 65536 + y);
+    let b = field_b(kind, y, y * 65536 + z);
+    let c = field_c(kind, z);
+    let d = field_d(kind, w);
     Body::Is(Entry { kind, a, b, c, d })
 }
 

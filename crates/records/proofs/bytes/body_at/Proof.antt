@@ -56,32 +56,29 @@ two-if-requires-3 c κs = λ e. let a = c .before .before .before .before .befor
 two-if-requires-4 : tie.Need-two-if-requires-4
 two-if-requires-4 c κs = λ e. let a = c .before .before .before .before .before .before .args in let h = leb-true 9 (left (a .s .now) (a .at)) e in omega arith
 
-widths-of-requires : tie.Need-widths-of-requires
-widths-of-requires c κs = search needs
+mul-field-a : tie.Need-mul-field-a
+mul-field-a c = search needs
 
-mul-field : tie.Need-mul-field
-mul-field c = search needs
+add-field-a : tie.Need-add-field-a
+add-field-a c = search needs
 
-add-field : tie.Need-add-field
-add-field c = search needs
+field-a-requires : tie.Need-field-a-requires
+field-a-requires c κs = search needs
 
-field-requires : tie.Need-field-requires
-field-requires c κs = search needs
+mul-field-b : tie.Need-mul-field-b
+mul-field-b c = search needs
 
-mul-field-2 : tie.Need-mul-field-2
-mul-field-2 c = search needs
+add-field-b : tie.Need-add-field-b
+add-field-b c = search needs
 
-add-field-2 : tie.Need-add-field-2
-add-field-2 c = search needs
+field-b-requires : tie.Need-field-b-requires
+field-b-requires c κs = search needs
 
-field-requires-2 : tie.Need-field-requires-2
-field-requires-2 c κs = search needs
+field-c-requires : tie.Need-field-c-requires
+field-c-requires c κs = search needs
 
-field-requires-3 : tie.Need-field-requires-3
-field-requires-3 c κs = search needs
-
-field-requires-4 : tie.Need-field-requires-4
-field-requires-4 c κs = search needs
+field-d-requires : tie.Need-field-d-requires
+field-d-requires c κs = search needs
 
 -- a number that is there
 there : (m n r v : ℕ) → r ≡ cond (leb m n) v 0 → m ≤ n → r ≡ v
@@ -89,15 +86,14 @@ there m n r v e h = e ∙ ap (λ b. cond b v 0) (le-leb m n h)
 
 returns-2 : tie.Need-returns-2
 returns-2 c =
-    let f = c .before .before .before .before in
-    let w = f .before in
+    let w = c .before .before .before .before in
     let z = w .before in
     let y = z .before in
     let x = y .before in
     let a = x .before .before .before .before .args in
     let l = left (a .s .now) (a .at) in
     let h = ltb-false l (sizeOf (a .kind)) (sym (x .before .before .is-cut .ensures) ∙ x .before .if1 .left) in
-    rw (c .before .before .before .field .ensures, c .before .before .field2 .ensures, c .before .field3 .ensures, c .field4 .ensures, f .widths-of .ensures)
+    rw (c .before .before .before .field-a .ensures, c .before .before .field-b .ensures, c .before .field-c .ensures, c .field-d .ensures)
     (ap Body.Is (entry-made (a .kind) (a .s .now) (a .at + 1) (x .two-if .result) (y .two-if2 .result) (z .two-if3 .result) (w .two-if4 .result)
     (λ k. there 5 l (x .two-if .result) _ (x .two-if .ensures .0) (omega arith))
     (λ k. there 5 l (y .two-if2 .result) _ (y .two-if2 .ensures .0) (omega arith))
@@ -120,13 +116,12 @@ body-at-spec =
     two-if-requires-2
     two-if-requires-3
     two-if-requires-4
-    widths-of-requires
-    mul-field
-    add-field
-    field-requires
-    mul-field-2
-    add-field-2
-    field-requires-2
-    field-requires-3
-    field-requires-4
+    mul-field-a
+    add-field-a
+    field-a-requires
+    mul-field-b
+    add-field-b
+    field-b-requires
+    field-c-requires
+    field-d-requires
     returns-2)
