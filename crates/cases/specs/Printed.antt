@@ -5,7 +5,7 @@ use mathlib.Core.Bool.{cond}
 use mathlib.Core.List.{List, []}
 use lib.Dec.{ltb}
 use lib.ListN.{getD, take, drop, replicate}
-use Rattle.records.specs.Numbers.{twoAt}
+use Rattle.big_endian.specs.Numbers.{twoAt}
 use Rattle.decimals.specs.Rows.{eachPart}
 use Rattle.answers.specs.Answers.{answerText}
 

@@ -49,7 +49,7 @@ fn put_case(out: &mut [u8], at: usize, bytes: &[u8]) -> usize
     requires { ⌜ 119 ≤ length (now bytes) ⌝ }
     ensures { λ r. ⌜ Put (now (out .entry)) at (caseText (now (bytes .entry))) (now (out .exit)) r ⌝ }
 {
-    let size = records::two_at(bytes, 0) as usize;
+    let size = big_endian::two_at(bytes, 0) as usize;
     let length = wide(bytes[2]);
     if 116 < length {
         return at;

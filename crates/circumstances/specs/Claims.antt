@@ -22,7 +22,7 @@ use Rattle.writing.specs.Sheet.{sheetBytes}
 use Rattle.circumstances.specs.Sheet.{answerWithin, bufferWithin, answerBy, bufferBy, sheetAnswer, sheetBuffer, sheetSines}
 use Rattle.courses.specs.Stores.{stores-start}
 use Rattle.circumstances.specs.Demand3.{Claimed}
-use Rattle.circumstances.specs.CourseSound.{said, demand3}
+use Rattle.circumstances.specs.SheetSound.{said, demand3}
 
 module _ (o : Occultation) (old : List ℕ) where
   abbrev fits? : Bool

@@ -3,5 +3,5 @@ pub mod Sheet
 pub mod Demand3
 pub mod Marked
 -- laws, for callers and for the proofs
-pub mod CourseSound
+pub mod SheetSound
 pub mod Claims

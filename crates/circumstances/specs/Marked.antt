@@ -28,7 +28,7 @@ use Rattle.seconds.specs.Seconds.{stateAt}
 use Rattle.kinds.specs.Entries.{opened}
 use Rattle.kinds.specs.StoredSeconds.{stored}
 use Rattle.courses.specs.Courses.{statesOf, phaseEntries}
-use Rattle.writing.specs.Sheet.{courseOf}
+use Rattle.sheet_entries.specs.Course.{courseOf}
 
 -- "station 7, latitude 90,000,000, longitude 0, height 0"; document 02, wish 1: "a ΔT of 0 keeps its cases"
 abbrev pole : Station

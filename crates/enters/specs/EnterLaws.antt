@@ -19,8 +19,8 @@ use Rattle.contact_entries.specs.Shifted.{shifted}
 use Rattle.kinds.specs.StoredSeconds.{stored}
 use Rattle.courses.specs.Courses.{statesOf}
 use Rattle.courses.specs.Demand3Laws.{entries-in-sheet}
-use Rattle.writing.specs.Sheet.{courseOf}
-use Rattle.circumstances.specs.CourseSound.{sound}
+use Rattle.sheet_entries.specs.Course.{courseOf}
+use Rattle.sheet_entries.specs.CourseSound.{sound}
 use Rattle.enters.specs.Enters.{isEnter, firstEnter, firstTo}
 
 pub first-to-is : (q : Request) (h : InLimits (ofEclipse q))

@@ -9,7 +9,7 @@ use Rattle.contact_entries.specs.declared.Entry.{Entry}
 use Rattle.contact_entries.specs.declared.Entry.the-variants.{Enter, Leave, Graze, Open}
 use Rattle.courses.specs.Courses.{sheetOf}
 use Rattle.courses.specs.Demand3.{entriesIn}
-use Rattle.writing.specs.Sheet.{courseOf}
+use Rattle.sheet_entries.specs.Course.{courseOf}
 
 -- after every second that a window may have, as it is stored
 abbrev pub never : ℕ

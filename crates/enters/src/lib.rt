@@ -42,7 +42,7 @@ fn first_enter(w: windows::Window, runs: &[u8]) -> u32
         };
         let enters = is_enter(entry);
         if enters {
-            let to = writing::entries::to_of(entry);
+            let to = sheet_entries::to_of(entry);
             let t = windows::nth_second(w, to);
             return kinds::seconds::store_second(t);
         }

@@ -3,7 +3,7 @@
 use Prim.Native.Nat.{ℕ, _+_, _*_}
 use mathlib.Core.List.{List, [], _∷_, map}
 use lib.IntN.{ℤ}
-use Rattle.records.specs.Numbers.{fourAt}
+use Rattle.big_endian.specs.Numbers.{eightAt}
 use Rattle.request_bytes.specs.Layout.{signed}
 use Rattle.decimals.specs.Texts.{letters}
 use Rattle.decimals.specs.Rows.{eachPart}
@@ -11,10 +11,6 @@ use Rattle.lines.specs.Lines.{refusalLine}
 use Rattle.fits.specs.declared.Answer.{Answer}
 use Rattle.fits.specs.declared.Answer.the-variants.{Accepted, Refused}
 use Rattle.fits.specs.Fits.{fitOf}
-
--- the number of eight bytes at a place, the highest first
-abbrev pub eightAt : List ℕ → ℕ → ℕ
-eightAt s at = fourAt s at * 4294967296 + fourAt s (at + 4)
 
 -- number k, in two's complement
 unfoldable pub numberAt : List ℕ → ℕ → ℤ

@@ -7,17 +7,7 @@ ghost use Prim.Native.Nat.{_+_, _*_, _≤_, _<_};
 ghost use lib.ListN.{length};
 ghost use Rattle.request_bytes.specs.Layout.{signed};
 ghost use Rattle.decimals.specs.Texts.{Put};
-ghost use Rattle.fitted.specs.Printed.{eightAt, numberAt, answerLine, answerTo, recordLine, printed};
-
-// The number of eight bytes, the highest first.
-fn eight_at(bytes: &[u8], at: usize) -> u64
-    requires { ⌜ at + 8 ≤ length (now bytes) ⌝ }
-    ensures { λ r. ⌜ r ≡ eightAt (now (bytes .entry)) at ⌝ }
-{
-    let high = records::four_at(bytes, at) as u64;
-    let low = records::four_at(bytes, at + 4) as u64;
-    high * 4_294_967_296 + low
-}
+ghost use Rattle.fitted.specs.Printed.{numberAt, answerLine, answerTo, recordLine, printed};
 
 // The number whose 64 bits are those of x.
 fn signed(x: u64) -> i64
@@ -35,7 +25,7 @@ fn number_at(bytes: &[u8], k: usize) -> i64
     requires { ⌜ (k < 12) × (96 ≤ length (now bytes)) ⌝ }
     ensures { λ r. ⌜ r ≡ numberAt (now (bytes .entry)) k ⌝ }
 {
-    signed(eight_at(bytes, 8 * k))
+    signed(big_endian::eight_at(bytes, 8 * k))
 }
 
 fn put_answer(out: &mut [u8], at: usize, answer: fits::Answer) -> usize

@@ -6,11 +6,11 @@ use mathlib.Core.Bool.{cond}
 use mathlib.Core.List.{List, [], _∷_, _++_}
 use lib.Dec.{ltb}
 use lib.ListN.{length, getD, replicate}
-use Rattle.records.specs.Numbers.{fourAt}
+use Rattle.big_endian.specs.Numbers.{fourAt}
 use Rattle.sheets.specs.Handed.{listWhole, writeInto, bufferAfterList}
 use Rattle.decimals.specs.Texts.{letters}
 use Rattle.decimals.specs.Rows.{rows, eachCounted}
-use Rattle.lines.specs.Lines.{extentText}
+use Rattle.listings.specs.Extents.{extentText}
 
 -- a digit to the base 16: `0` is the byte 48, `a` the byte 97
 abbrev pub digit : ℕ → ℕ

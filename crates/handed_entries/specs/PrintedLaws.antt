@@ -7,13 +7,13 @@ use native.Mathlib.Numerals.{add-one}
 use native.Mathlib.Omega.{arith}
 use lib.ListN.{length, getD, take, set, length-set}
 use lib.Seq.{take-suc-set}
-use Rattle.records.specs.Numbers.{fourAt}
+use Rattle.big_endian.specs.Numbers.{fourAt}
 use Rattle.sheets.specs.declared.Extent.{Extent}
 use Rattle.sheets.specs.Handed.{listWhole, writeInto, bufferAfterList}
 use Rattle.decimals.specs.Texts.{letters, Put}
 use Rattle.decimals.specs.Rows.{rows}
 use Rattle.decimals.specs.RowLaws.{joined, Copies, copies-length}
-use Rattle.lines.specs.Lines.{extentText}
+use Rattle.listings.specs.Extents.{extentText}
 use Rattle.handed_entries.specs.Printed.{hexOf, bytesLine, answerText, bufferAfter, listText, numbersOf}
 
 -- ---- lines

@@ -3,14 +3,11 @@
 // The buffers hold 170 before the call.
 use libc::STDIN_FILENO;
 use libc::STDOUT_FILENO;
-use sheets::Extent;
 ghost use mathlib.Core.Path.{_≡_};
-ghost use mathlib.Core.List.{_++_};
 ghost use Prim.Native.Nat.{_/_, _≤_, _<_};
 ghost use lib.ListN.{length, take};
 ghost use Rattle.decimals.specs.Texts.{Put};
 ghost use Rattle.decimals.specs.RowLaws.{Copies};
-ghost use Rattle.lines.specs.Lines.{extentText};
 ghost use Rattle.handed_entries.specs.Printed.{digit, hexOf, bytesLine, listText, numbersOf, printed};
 
 fn digit(x: u8) -> u8
@@ -44,14 +41,6 @@ fn put_bytes(out: &mut [u8], start: usize, bytes: &[u8]) -> usize
     decimals::put_byte(out, at, b'\n')
 }
 
-// A word, then an answer.
-fn put_answer(out: &mut [u8], at: usize, word: &[u8], answer: Extent) -> usize
-    ensures { λ r. ⌜ Put (now (out .entry)) at (now (word .entry) ++ extentText answer) (now (out .exit)) r ⌝ }
-{
-    let next = decimals::put_text(out, at, word);
-    lines::put_extent(out, next, answer)
-}
-
 fn long_buffer() -> [u8; 256]
     ensures { λ r. ⌜ Copies 170 256 r ⌝ }
 {
@@ -71,8 +60,8 @@ fn put_list(out: &mut [u8], start: usize, list: &[u32]) -> usize
     let mut short = short_buffer();
     let written = handed::write(list, &mut long);
     let cut = handed::write(list, &mut short);
-    let middle = put_answer(out, start, b"written ", written);
-    let end = put_answer(out, middle, b" short ", cut);
+    let middle = listings::extents::put_answer(out, start, b"written ", written);
+    let end = listings::extents::put_answer(out, middle, b" short ", cut);
     let line = decimals::put_byte(out, end, b'\n');
     let next = put_bytes(out, line, &long);
     put_bytes(out, next, &short)
@@ -86,7 +75,7 @@ fn take(bytes: &[u8], list: &mut [u32])
     let count = bytes.len() / 4;
     let mut n = 0;
     while n < count {
-        list[n] = records::four_at(bytes, n * 4);
+        list[n] = big_endian::four_at(bytes, n * 4);
         n += 1;
     }
 }
@@ -109,7 +98,7 @@ fn put_lists(out: &mut [u8], input: &[u8]) -> usize
     let mut at = 0;
     let mut i = 0;
     while i + 1 < input.len() {
-        let size = records::two_at(input, i) as usize * 4;
+        let size = big_endian::two_at(input, i) as usize * 4;
         let from = i + 2;
         if input.len() - from < size {
             return at;

@@ -17,7 +17,7 @@ use Rattle.request_fields.specs.declared.Shape.the-variants as S
 use Rattle.request_fields.specs.Fields.{countOf}
 use Rattle.request_bytes.specs.declared.Got.the-variants as G
 use Rattle.request_bytes.specs.Layout.{Reading, numbers, misshaped}
-use Rattle.request_bytes.specs.NumberLaws.{Bytes}
+use Rattle.big_endian.specs.Numbers.{Bytes}
 use Rattle.request_bytes.specs.Request.{readingFor, readingOf, gotOf, numbersAfter}
 use Rattle.request_bytes.specs.RoundTrip.{write-back, numbers-small}
 use Rattle.input.specs.declared.Input.{Input}

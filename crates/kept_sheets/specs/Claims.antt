@@ -5,8 +5,7 @@ use mathlib.Core.Path.{_≡_}
 use mathlib.Core.List.{List, [], _∷_, _++_}
 use lib.ListN.{length, drop}
 use Rattle.kinds.specs.declared.Entry.{Entry}
-use Rattle.records.specs.Numbers.{fourAt}
-use Rattle.records.specs.NumberLaws.{Bytes}
+use Rattle.big_endian.specs.Numbers.{eightAt, Bytes}
 use Rattle.sheets.specs.Sheets.{sheet, readSheet}
 use Rattle.sheets.specs.RoundTrip.{Reads}
 use Rattle.kept_sheets.specs.Walk.{Step, keep, lose, steps, Stretch}
@@ -16,10 +15,7 @@ unfoldable pub lost : List Stretch → ℕ
 lost [] = 0
 lost (t ∷ ts) = t .long + lost ts
 
--- the number of eight bytes at a place, big-endian; and the stretches of n notes, 16 bytes each
-abbrev pub eightAt : List ℕ → ℕ → ℕ
-eightAt s at = fourAt s at * 4294967296 + fourAt s (at + 4)
-
+-- the stretches of n notes, 16 bytes each
 unfoldable pub readNotes : ℕ → List ℕ → List Stretch
 readNotes zero s = []
 readNotes (suc n) s = record { from = eightAt s 0; long = eightAt s 8 } ∷ readNotes n (drop 16 s)

@@ -9,7 +9,7 @@ use lib.ListN.{length, take, drop, length-drop}
 use lib.Seq.{drop-drop, drop-at, take-at, getD-drop, length-take-le}
 use Rattle.kinds.specs.declared.Entry.{Entry}
 use Rattle.records.specs.Entries.{bytesOf}
-use Rattle.records.specs.NumberLaws.{Bytes}
+use Rattle.big_endian.specs.Numbers.{Bytes}
 use Rattle.rules.specs.Rules.{start}
 use Rattle.sheets.specs.Sheets.{sheet, storedAt, readSheet}
 use Rattle.sheets.specs.SheetLaws.{read-start}

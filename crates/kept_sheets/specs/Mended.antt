@@ -9,7 +9,7 @@ use Rattle.refusals.specs.Refusals.{refusal}
 use Rattle.kinds.specs.declared.Entry.{Entry}
 use Rattle.kinds.specs.declared.Stage.the-variants as S
 use Rattle.records.specs.Entries.{bytesOf}
-use Rattle.records.specs.NumberLaws.{Bytes}
+use Rattle.big_endian.specs.Numbers.{Bytes}
 use Rattle.rules.specs.Rules.{reached}
 use Rattle.sheets.specs.Sheets.{sheet, readSheet}
 use Rattle.sheets.specs.RoundTrip.{Reads}

@@ -6,10 +6,10 @@ use native.Mathlib.Omega.{arith}
 use lib.ListN.{length, drop, length-append}
 use lib.Seq.{drop-at}
 use Rattle.kinds.specs.declared.Width.the-variants.{Four}
-use Rattle.records.specs.Numbers.{four, fourAt}
+use Rattle.big_endian.specs.Numbers.{four, fourAt, eight, eightAt}
 use Rattle.records.specs.NumberLaws.{number-back}
-use Rattle.kept_sheets.specs.Walk.{Stretch, steps, ended, stretches, eight, noteOf, notesOf, notes}
-use Rattle.kept_sheets.specs.Claims.{Apart, eightAt, readNotes}
+use Rattle.kept_sheets.specs.Walk.{Stretch, steps, ended, stretches, noteOf, notesOf, notes}
+use Rattle.kept_sheets.specs.Claims.{Apart, readNotes}
 use Rattle.kept_sheets.specs.StepLaws.{walked}
 use Rattle.kept_sheets.specs.StretchLaws.{few}
 

@@ -1,9 +1,9 @@
 -- The year file, walked. Document 02, wish 11: "Sheets are appended to one file, and a bad card left holes in it."
 -- Assumes nothing: these are definitions.
-use Prim.Native.Nat.{ℕ, zero, suc, _+_, _-_, _/_}
+use Prim.Native.Nat.{ℕ, zero, suc, _+_, _-_}
 use mathlib.Core.List.{List, [], _∷_, _++_}
 use lib.ListN.{length, take, drop}
-use Rattle.records.specs.Numbers.{four}
+use Rattle.big_endian.specs.Numbers.{eight}
 use Rattle.sheets.specs.Sheets.{Sheet, sheet, refused, readSheet}
 
 -- ---- the walk
@@ -60,9 +60,6 @@ abbrev pub stretches : List ℕ → List Stretch
 stretches file = stretchesIn 0 0 (steps file)
 
 -- "as 16 bytes, its start and its length, 8 each, big-endian"
-abbrev pub eight : ℕ → List ℕ
-eight v = four (v / 4294967296) ++ four v
-
 abbrev pub noteOf : Stretch → List ℕ
 noteOf t = eight (t .from) ++ eight (t .long)
 

@@ -1,8 +1,8 @@
 // What is noted of a stretch: "16 bytes, its start and its length, 8 each, big-endian".
 ghost use Prim.Native.Nat.{_≤_};
-ghost use Rattle.records.specs.Numbers.{two, four};
+ghost use Rattle.big_endian.specs.Numbers.{two, four, eight};
 ghost use Rattle.decimals.specs.Texts.{Put};
-ghost use Rattle.kept_sheets.specs.Walk.{eight, ended, notesOf};
+ghost use Rattle.kept_sheets.specs.Walk.{ended, notesOf};
 
 fn put_two(out: &mut [u8], at: usize, v: u64) -> usize
     ensures { λ r. ⌜ Put (now (out .entry)) at (two v) (now (out .exit)) r ⌝ }

@@ -5,16 +5,13 @@ use mathlib.Core.Bool.{true, false}
 use mathlib.Core.List.{List, [], _∷_, _++_}
 use lib.IntN.{ℤ}
 use lib.ListN.{length}
-use Rattle.refusals.specs.declared.Refusal.{Refusal}
 use Rattle.kinds.specs.declared.Kind.{Kind}
 use Rattle.kinds.specs.declared.Entry.{Entry}
 use Rattle.kinds.specs.Kinds.{isEnd}
-use Rattle.sheets.specs.declared.Extent.{Extent}
-use Rattle.sheets.specs.declared.Extent.the-variants as X
 use Rattle.decimals.specs.Texts.{letters, Put}
 use Rattle.decimals.specs.TextLaws.{put-nil, put-then}
 use Rattle.decimals.specs.Patterns.{filled}
-use Rattle.lines.specs.Lines.{textFor, textOf, endFor, lineOf, numbered, refusalText, refusalLine, extentText}
+use Rattle.lines.specs.Lines.{textFor, textOf, endFor, lineOf, numbered, refusalText, refusalLine}
 
 -- a pattern filled with the same numbers
 module _ (s old : List ℕ) (at : ℕ) (new : List ℕ) (r : ℕ) where
@@ -63,15 +60,6 @@ pub put-refused : (number place : ℕ) (old : List ℕ) (at : ℕ) (new : List �
     → Put old at (numbered (letters "refused ") number place) new r → Put old at (refusalText number place) new r
 unfolding refusalText
 put-refused number place old at new r p = p
-
-module _ (x : Extent) (old : List ℕ) (at : ℕ) (new : List ℕ) (r : ℕ) where
-  pub put-sheet : (entries n : ℕ) → x ≡ X.Sheet entries n → Put old at (numbered (letters "sheet ") entries n) new r → Put old at (extentText x) new r
-  unfolding extentText
-  put-sheet entries n q p = rw q p
-
-  pub put-refused-extent : (f : Refusal) → x ≡ X.Refused f → Put old at (refusalText (f .number) (f .place)) new r → Put old at (extentText x) new r
-  unfolding extentText
-  put-refused-extent f q p = rw q p
 
 pub put-refusal-end : (number place : ℕ) (old mid new : List ℕ) (at r q : ℕ) → length old < 18446744073709551616
     → Put old at (refusalText number place) mid r → Put mid r (letters "\n") new q → Put old at (refusalLine number place) new q

@@ -12,8 +12,6 @@ use Rattle.kinds.specs.declared.Kind.the-variants.{Head, Enter, Leave, Graze, O
 use Rattle.kinds.specs.declared.Entry.{Entry}
 use Rattle.kinds.specs.Kinds.{isEnd}
 use Rattle.kinds.specs.StoredSeconds.{secondOf}
-use Rattle.sheets.specs.declared.Extent.{Extent}
-use Rattle.sheets.specs.declared.Extent.the-variants as X
 use Rattle.decimals.specs.Decimals.{decimal}
 use Rattle.decimals.specs.Texts.{letters}
 use Rattle.decimals.specs.Patterns.{filled}
@@ -81,8 +79,3 @@ refusalText number place = numbered (letters "refused ") number place
 
 unfoldable pub refusalLine : ℕ → ℕ → List ℕ
 refusalLine number place = refusalText number place ++ letters "\n"
-
--- what a reader or a writer answers, in the programs that print it: how many entries and bytes, or the refusal
-unfoldable pub extentText : Extent → List ℕ
-extentText (X.Sheet entries n) = numbered (letters "sheet ") entries n
-extentText (X.Refused r) = refusalText (r .number) (r .place)

@@ -3,10 +3,9 @@
 use kinds::Entry;
 use kinds::Kind;
 use phases::Phase;
-use sheets::Extent;
 ghost use mathlib.Core.List.{_++_};
 ghost use Rattle.decimals.specs.Texts.{letters, Put};
-ghost use Rattle.lines.specs.Lines.{nameOf, headLine, contactLine, unsureLine, closestLine, shareLine, textOf, endFor, lineOf, numbered, refusalText, refusalLine, extentText};
+ghost use Rattle.lines.specs.Lines.{nameOf, headLine, contactLine, unsureLine, closestLine, shareLine, textOf, endFor, lineOf, numbered, refusalText, refusalLine};
 
 fn put_phase(out: &mut [u8], at: usize, phase: Phase) -> usize
     ensures { λ r. ⌜ Put (now (out .entry)) at (letters (nameOf phase)) (now (out .exit)) r ⌝ }
@@ -121,7 +120,7 @@ pub fn put_entry(out: &mut [u8], at: usize, entry: Entry) -> usize
 }
 
 // A word and two numbers.
-fn put_numbered(out: &mut [u8], at: usize, word: &[u8], x: u64, y: u64) -> usize
+pub fn put_numbered(out: &mut [u8], at: usize, word: &[u8], x: u64, y: u64) -> usize
     ensures { λ r. ⌜ Put (now (out .entry)) at (numbered (now (word .entry)) x y) (now (out .exit)) r ⌝ }
 {
     let first = decimals::put_text(out, at, word);
@@ -143,24 +142,4 @@ pub fn put_refusal_line(out: &mut [u8], at: usize, number: u64, place: u64) -> u
 {
     let end = put_refusal(out, at, number, place);
     decimals::put_byte(out, end, b'\n')
-}
-
-// What a reader or a writer answered: how many entries and bytes, or the refusal.
-pub fn put_extent(out: &mut [u8], at: usize, extent: Extent) -> usize
-    ensures { λ r. ⌜ Put (now (out .entry)) at (extentText extent) (now (out .exit)) r ⌝ }
-{
-    match extent {
-        Extent::Sheet { entries, length } => put_numbered(
-            out,
-            at,
-            b"sheet ",
-            entries as u64,
-            length as u64,
-        ),
-        Extent::Refused(refusal) => {
-            let number = refusal.number as u64;
-            let place = refusal.place as u64;
-            put_refusal(out, at, number, place)
-        }
-    }
 }

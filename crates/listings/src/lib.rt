@@ -1,4 +1,6 @@
-// The listing of a sheet as text, as document 01 has it: a line an entry; and with clock times.
+// The listing of a sheet as text, as document 01 has it: a line an entry; and with clock times. What a reader answers, as text, is in `extents`.
+pub mod extents;
+
 use instants::Reference;
 use records::Record;
 use refusals::Refusal;

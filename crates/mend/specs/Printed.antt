@@ -12,7 +12,7 @@ use Rattle.mending.specs.declared.Answer.{Answer}
 use Rattle.mending.specs.declared.Answer.the-variants.{Mended, Refused}
 use Rattle.kept_sheets.specs.Walk.{Stretch, kept, stretches}
 use Rattle.mending.specs.Mending.{answerTo}
-use Rattle.kept_sheets.specs.Claims.{eightAt}
+use Rattle.big_endian.specs.Numbers.{eightAt}
 
 -- `dropped START LENGTH`
 unfoldable pub droppedLine : ℕ → ℕ → List ℕ

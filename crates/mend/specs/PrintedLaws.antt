@@ -15,7 +15,8 @@ use Rattle.mending.specs.declared.Answer.{Answer}
 use Rattle.mending.specs.declared.Answer.the-variants.{Mended, Refused}
 use Rattle.kept_sheets.specs.Walk.{Stretch, kept, stretches, noteOf, notesOf, notes}
 use Rattle.mending.specs.Mending.{answerTo, roomAfter}
-use Rattle.kept_sheets.specs.Claims.{Apart, eightAt}
+use Rattle.big_endian.specs.Numbers.{eightAt}
+use Rattle.kept_sheets.specs.Claims.{Apart}
 use Rattle.kept_sheets.specs.Mended.{in-order}
 use Rattle.kept_sheets.specs.NoteLaws.{length-notes, first-back, second-back}
 use Rattle.mending.specs.AnswerLaws.{mended-inv}

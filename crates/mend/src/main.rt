@@ -9,7 +9,6 @@ ghost use lib.ListN.{length, take};
 ghost use Rattle.decimals.specs.Texts.{Put, Counts};
 ghost use Rattle.decimals.specs.Rows.{eachPart};
 ghost use Rattle.lines.specs.Lines.{refusalLine};
-ghost use Rattle.kept_sheets.specs.Claims.{eightAt};
 ghost use Rattle.mend.specs.Printed.{noteLine, tooLong, output, error};
 
 // How many bytes of each room go out.
@@ -20,23 +19,13 @@ struct Streams {
     error: usize,
 }
 
-// The number of eight bytes, the highest first.
-fn eight_at(bytes: &[u8], at: usize) -> u64
-    requires { ⌜ at + 8 ≤ length (now bytes) ⌝ }
-    ensures { λ r. ⌜ r ≡ eightAt (now (bytes .entry)) at ⌝ }
-{
-    let high = records::four_at(bytes, at) as u64;
-    let low = records::four_at(bytes, at + 4) as u64;
-    high * 4_294_967_296 + low
-}
-
 // The line of a note.
 fn put_note(out: &mut [u8], at: usize, note: &[u8]) -> usize
     requires { ⌜ 16 ≤ length (now note) ⌝ }
     ensures { λ r. ⌜ Put (now (out .entry)) at (noteLine (now (note .entry))) (now (out .exit)) r ⌝ }
 {
-    let start = eight_at(note, 0);
-    let length = eight_at(note, 8);
+    let start = big_endian::eight_at(note, 0);
+    let length = big_endian::eight_at(note, 8);
     let word = decimals::put_text(out, at, b"dropped ");
     let first = decimals::put_number(out, word, start);
     let space = decimals::put_byte(out, first, b' ');

@@ -25,7 +25,7 @@ use Rattle.request_bytes.specs.declared.Answer.the-variants.{Done}
 use Rattle.request_bytes.specs.declared.Got.the-variants as G
 use Rattle.request_bytes.specs.Layout.{piecesOf, bytesBy, Reading, numbers, misshaped}
 use Rattle.request_bytes.specs.LayoutLaws.{length-bytes}
-use Rattle.request_bytes.specs.NumberLaws.{Bytes}
+use Rattle.big_endian.specs.Numbers.{Bytes}
 use Rattle.request_bytes.specs.Request.{size, putOf, bytesFor, bytesOf, afterFor, bytesAfter, readingOf, gotOf, numbersAfter}
 use Rattle.request_bytes.specs.RoundTrip.{read-back, write-back}
 use Rattle.circumstances.specs.declared.Answer.the-variants.{Written, Refused}

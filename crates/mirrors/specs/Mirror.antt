@@ -13,7 +13,8 @@ use Rattle.requests.specs.Mirror.{mirrorFor}
 use Rattle.seconds.specs.Seconds.{momentAt, stateAt, magnitudeAt}
 use Rattle.courses.specs.Courses.{sheetOf}
 use Rattle.courses.specs.Directions.{AlikeButDirections}
-use Rattle.writing.specs.Sheet.{courseOf, sheetBytes}
+use Rattle.sheet_entries.specs.Course.{courseOf}
+use Rattle.writing.specs.Sheet.{sheetBytes}
 use Rattle.circumstances.specs.Sheet.{sheetAnswer}
 
 -- "in a request within the limits, change the sign of all y and d coefficients and of the latitude, and ..

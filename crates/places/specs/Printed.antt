@@ -5,7 +5,7 @@ use mathlib.Core.List.{List, [], _∷_}
 use lib.IntN.{ℤ, pos}
 use Rattle.refusals.specs.declared.Checked.{Checked}
 use Rattle.refusals.specs.declared.Checked.the-variants.{Within, Refused}
-use Rattle.records.specs.Numbers.{fourAt}
+use Rattle.big_endian.specs.Numbers.{fourAt}
 use Rattle.request_bytes.specs.Layout.{signed}
 use Rattle.station.specs.declared.Station.{Station}
 use Rattle.station.specs.Station.{stationChecked}

@@ -27,7 +27,7 @@ fn number_at(input: &[u8], i: usize) -> i64
     requires { ⌜ i + 4 ≤ length (now input) ⌝ }
     ensures { λ r. ⌜ r ≡ numberAt (now (input .entry)) i ⌝ }
 {
-    signed(records::four_at(input, i))
+    signed(big_endian::four_at(input, i))
 }
 
 fn put_place(out: &mut [u8], at: usize, table: &[u32], s: station::Station) -> usize

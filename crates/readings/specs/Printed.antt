@@ -2,7 +2,7 @@
 use Prim.Native.Nat.{ℕ, _+_, _*_}
 use mathlib.Core.List.{List, [], _∷_, _++_}
 use lib.Ieee.{Float, binary64, ofBits}
-use Rattle.records.specs.Numbers.{fourAt}
+use Rattle.big_endian.specs.Numbers.{eightAt}
 use Rattle.decimals.specs.Texts.{letters}
 use Rattle.decimals.specs.Decimals.{signed}
 use Rattle.decimals.specs.Rows.{eachPart}
@@ -11,10 +11,6 @@ use Rattle.doubles.specs.declared.Reading.the-variants.{Units, TooLarge, NotFin
 use Rattle.doubles.specs.declared.Longitude.{Longitude}
 use Rattle.doubles.specs.declared.Longitude.the-variants.{Degrees, Hours}
 use Rattle.doubles.specs.Doubles.{longitudeScale, readingOf}
-
--- the number of eight bytes, the highest first
-abbrev pub eightAt : List ℕ → ℕ
-eightAt s = fourAt s 0 * 4294967296 + fourAt s 4
 
 abbrev pub readingText : Reading → List ℕ
 readingText (Units z) = signed z
@@ -30,7 +26,7 @@ unfoldable pub line : Float → List ℕ
 line x = (field (readingOf (longitudeScale (Degrees x)) x) 32 ++ field (readingOf (longitudeScale (Hours x)) x) 32) ++ field (readingOf 100_000_000 x) 10
 
 unfoldable pub recordLine : List ℕ → List ℕ
-recordLine s = line (ofBits binary64 (eightAt s))
+recordLine s = line (ofBits binary64 (eightAt s 0))
 
 unfoldable pub printed : List ℕ → List ℕ
 printed input = eachPart 8 recordLine input

@@ -8,17 +8,7 @@ ghost use Prim.Native.Nat.{_≤_};
 ghost use lib.ListN.{length};
 ghost use lib.Ieee.{binary64, ofBits};
 ghost use Rattle.decimals.specs.Texts.{Put};
-ghost use Rattle.readings.specs.Printed.{eightAt, readingText, field, line, recordLine, printed};
-
-// The number of eight bytes, the highest first.
-fn eight_at(bytes: &[u8]) -> u64
-    requires { ⌜ 8 ≤ length (now bytes) ⌝ }
-    ensures { λ r. ⌜ r ≡ eightAt (now (bytes .entry)) ⌝ }
-{
-    let high = records::four_at(bytes, 0) as u64;
-    let low = records::four_at(bytes, 4) as u64;
-    high * 4_294_967_296 + low
-}
+ghost use Rattle.readings.specs.Printed.{readingText, field, line, recordLine, printed};
 
 // The double of 64 bits. `from_bits` takes no NaN's.
 fn double_of(bits: u64) -> f64
@@ -69,7 +59,7 @@ fn put_record(out: &mut [u8], at: usize, bytes: &[u8]) -> usize
     requires { ⌜ 8 ≤ length (now bytes) ⌝ }
     ensures { λ r. ⌜ Put (now (out .entry)) at (recordLine (now (bytes .entry))) (now (out .exit)) r ⌝ }
 {
-    let x = double_of(eight_at(bytes));
+    let x = double_of(big_endian::eight_at(bytes, 0));
     put_line(out, at, x)
 }
 

@@ -9,7 +9,7 @@ use Rattle.kinds.specs.declared.Kind.{Kind}
 use Rattle.kinds.specs.declared.Kind.the-variants as K
 use Rattle.kinds.specs.declared.Entry.{Entry}
 use Rattle.kinds.specs.Kinds.{sizeOf}
-use Rattle.records.specs.Numbers.{twoAt}
+use Rattle.big_endian.specs.Numbers.{twoAt}
 use Rattle.records.specs.Records.{entryAt}
 
 abbrev pub fieldA : Kind → ℕ → ℕ → ℕ

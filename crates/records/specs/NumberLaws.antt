@@ -10,7 +10,8 @@ use lib.Seq.{getD-append-add, drop-cons}
 use Rattle.kinds.specs.declared.Width.{Width}
 use Rattle.kinds.specs.declared.Width.the-variants.{Absent, Two, Four}
 use Rattle.kinds.specs.Kinds.{bytesIn}
-use Rattle.records.specs.Numbers.{twoAt, fourAt, number, numberAt}
+use Rattle.big_endian.specs.Numbers.{twoAt, fourAt, Bytes}
+use Rattle.records.specs.Numbers.{number, numberAt}
 
 -- ---- what is written is read back
 
@@ -40,10 +41,6 @@ number-back w v h p rest at q =
     ∙ number-shift w p (number w v ++ rest) 0 ∙ first-back w v h rest
 
 -- ---- what is read is written back
-
--- a list of bytes
-abbrev pub Bytes : List ℕ → Type 0
-Bytes s = (i : ℕ) → getD s i 0 < 256
 
 -- n elements from `at` on
 abbrev span : List ℕ → ℕ → ℕ → List ℕ

@@ -13,8 +13,9 @@ use Rattle.records.specs.declared.Body.the-variants as Body
 use Rattle.records.specs.declared.Record.the-variants.{Is}
 use Rattle.kinds.specs.Kinds.{codeOf, widthsOf, bytesIn, sizeOf}
 use Rattle.kinds.specs.KindLaws.{kind-code, kind-inv, size-small}
+use Rattle.big_endian.specs.Numbers.{Bytes}
 use Rattle.records.specs.Numbers.{number, numberAt}
-use Rattle.records.specs.NumberLaws.{Fits, number-back, Bytes, number-there}
+use Rattle.records.specs.NumberLaws.{Fits, number-back, number-there}
 use Rattle.records.specs.Entries.{body, bytes}
 use Rattle.records.specs.EntryLaws.{length-number, length-bytes}
 use Rattle.records.specs.Records.{entryAt, recordAt}

@@ -14,7 +14,8 @@ ghost use lib.Seq.{sets};
 ghost use lib.Dec.{ltb};
 ghost use mathlib.Core.Bool.{true, cond};
 ghost use Rattle.kinds.specs.Kinds.{bytesIn, sizeOf};
-ghost use Rattle.records.specs.Numbers.{twoAt, number};
+ghost use Rattle.big_endian.specs.Numbers.{twoAt};
+ghost use Rattle.records.specs.Numbers.{number};
 ghost use Rattle.records.specs.Entries.{bytes};
 ghost use Rattle.records.specs.Bodies.{fieldA, fieldB, fieldC, fieldD};
 ghost use Rattle.records.specs.Records.{byteAt, bodyAt, recordAt};
@@ -26,7 +27,7 @@ pub fn byte_at(s: &[u8], at: usize) -> Byte
     ensures { λ r. ⌜ r ≡ byteAt (now (s .entry)) at ⌝ }
 {
     if at < s.len() {
-        let byte = super::wide(s[at]);
+        let byte = big_endian::wide(s[at]);
         return Byte::Is(byte);
     }
     Byte::Past
@@ -37,7 +38,7 @@ fn two_if(s: &[u8], at: usize, there: bool) -> u32
     requires { ⌜ (there ≡ true → at + 2 ≤ length (now s)) ⌝ }
     ensures { λ r. ⌜ (r ≡ cond there (twoAt (now (s .entry)) at) 0) × (r < 65536) ⌝ }
 {
-    if there { super::two_at(s, at) } else { 0 }
+    if there { big_endian::two_at(s, at) } else { 0 }
 }
 
 // The fields of a kind from the four numbers of two bytes that follow its byte, x, y, z and w; `early` is x and y as one, `wide` y and z.
@@ -173,11 +174,11 @@ fn put_number(buf: &mut [u8], at: usize, width: Width, v: u32) -> usize
     match width {
         Width::Absent => at,
         Width::Two => {
-            super::put_two(buf, at, v);
+            big_endian::put_two(buf, at, v);
             at + 2
         }
         Width::Four => {
-            super::put_four(buf, at, v);
+            big_endian::put_four(buf, at, v);
             at + 4
         }
     }

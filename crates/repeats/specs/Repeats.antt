@@ -22,8 +22,7 @@ use Rattle.kinds.specs.FieldRules.{inWindow, openHolds}
 use Rattle.numbers.specs.Tests.{both}
 use Rattle.kinds.specs.Kinds.{kindFor, sizeOf, plain}
 use Rattle.records.specs.declared.Record.the-variants.{Is}
-use Rattle.records.specs.Numbers.{twoAt}
-use Rattle.records.specs.NumberLaws.{Bytes}
+use Rattle.big_endian.specs.Numbers.{twoAt, Bytes}
 use Rattle.records.specs.Entries.{bytes, bytesOf}
 use Rattle.records.specs.EntryLaws.{length-bytes, bytes-cons}
 use Rattle.records.specs.Records.{entryAt, recordAt}

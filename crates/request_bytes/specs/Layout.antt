@@ -6,7 +6,7 @@ use Prim.Native.Nat.{ℕ, suc, _+_, _-_, _*_, _/_}
 use lib.Dec.{ltb, leb, eqb}
 use lib.IntN.{ℤ, pos, negsuc, _-ℤ_}
 use lib.ListN.{length, drop}
-use Rattle.records.specs.Numbers.{two, four, twoAt, fourAt}
+use Rattle.big_endian.specs.Numbers.{two, four, twoAt, fourAt}
 use Rattle.request_fields.specs.declared.Width.{Width}
 use Rattle.request_fields.specs.declared.Width.the-variants as W
 use Rattle.request_fields.specs.Fields.{bytesIn, isSigned, wholeOf, holds, Number, Record}

@@ -13,7 +13,8 @@ use Rattle.request_fields.specs.declared.Width.{Width}
 use Rattle.request_fields.specs.Fields.{bytesIn, holds}
 use Rattle.request_bytes.specs.declared.Answer.the-variants.{Done, Unfit}
 use Rattle.request_bytes.specs.Layout.{numberBytes, numberAt, Piece, kind, number, countIn, sizeOf, fitting, bytesBy, Reading, numbers, misshaped, before, readBy}
-use Rattle.request_bytes.specs.NumberLaws.{Bytes, bytes-after, length-number, number-back, number-again, number-held}
+use Rattle.big_endian.specs.Numbers.{Bytes}
+use Rattle.request_bytes.specs.NumberLaws.{bytes-after, length-number, number-back, number-again, number-held}
 
 -- ---- numbers that fit
 

@@ -12,7 +12,7 @@ use lib.ListN.{length, getD, take, drop}
 use lib.Seq.{getD-drop}
 use Rattle.numbers.specs.Parts.{same, sum, opposite}
 use Rattle.numbers.specs.Order.{zs}
-use Rattle.records.specs.Numbers.{two, twoAt, fourAt}
+use Rattle.big_endian.specs.Numbers.{two, twoAt, fourAt, Bytes}
 use Rattle.request_fields.specs.declared.Width.{Width}
 use Rattle.request_fields.specs.declared.Width.the-variants as W
 use Rattle.request_fields.specs.Fields.{bytesIn, wholeOf, holds}
@@ -83,10 +83,6 @@ number-back W.Signed4 z rest e =
     ∙ signed-back 2147483648 z (h .low) (omega (arith, zs, h .high))
 
 -- ---- read, and written again
-
--- each is a byte
-abbrev pub Bytes : List ℕ → Type 0
-Bytes s = (i : ℕ) → getD s i 0 < 256
 
 pub bytes-after : (n : ℕ) (s : List ℕ) → Bytes s → Bytes (drop n s)
 bytes-after n s b i = rw (getD-drop n s i 0) (b (n + i))

@@ -11,7 +11,7 @@ use Rattle.request_fields.specs.Fields.{countOf}
 use Rattle.request_fields.specs.WidthLaws.{held, held-size, whole-small}
 use Rattle.request_bytes.specs.declared.Answer.the-variants.{Done}
 use Rattle.request_bytes.specs.Layout.{Piece, kind, number, countIn, fitting, numbers}
-use Rattle.request_bytes.specs.NumberLaws.{Bytes}
+use Rattle.big_endian.specs.Numbers.{Bytes}
 use Rattle.request_bytes.specs.LayoutLaws as Any
 use Rattle.request_bytes.specs.Request.{piecesFor, sizeFor, putFor, bytesFor, readingFor}
 use Rattle.request_bytes.specs.RowLaws.{pieces-count}

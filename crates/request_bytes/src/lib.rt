@@ -67,9 +67,9 @@ fn put_number(out: &mut [u8], at: usize, width: Width, n: i64)
     ensures { λ r. ⌜ now (out .exit) ≡ sets (now (out .entry)) at (numberBytes width n) ⌝ }
 {
     match width {
-        Width::Unsigned2 => records::put_two(out, at, complement(n, 65_536)),
-        Width::Signed2 => records::put_two(out, at, complement(n, 65_536)),
-        Width::Signed4 => records::put_four(out, at, complement(n, 4_294_967_296)),
+        Width::Unsigned2 => big_endian::put_two(out, at, complement(n, 65_536)),
+        Width::Signed2 => big_endian::put_two(out, at, complement(n, 65_536)),
+        Width::Signed4 => big_endian::put_four(out, at, complement(n, 4_294_967_296)),
     }
 }
 
@@ -164,9 +164,9 @@ fn number_at(s: &[u8], at: usize, width: Width) -> i64
     ensures { λ r. ⌜ r ≡ numberAt width (now (s .entry)) at ⌝ }
 {
     match width {
-        Width::Unsigned2 => records::two_at(s, at) as i64,
-        Width::Signed2 => signed(records::two_at(s, at), 32_768),
-        Width::Signed4 => signed(records::four_at(s, at), 2_147_483_648),
+        Width::Unsigned2 => big_endian::two_at(s, at) as i64,
+        Width::Signed2 => signed(big_endian::two_at(s, at), 32_768),
+        Width::Signed4 => signed(big_endian::four_at(s, at), 2_147_483_648),
     }
 }
 

@@ -21,7 +21,7 @@ use Rattle.numbers.specs.Tests.{distinct, not-right}
 use Rattle.records.specs.declared.Byte.the-variants as Byte
 use Rattle.records.specs.declared.Body.the-variants as Body
 use Rattle.records.specs.declared.Record.the-variants.{Is}
-use Rattle.records.specs.Numbers.{two, twoAt}
+use Rattle.big_endian.specs.Numbers.{two, twoAt}
 use Rattle.records.specs.Entries.{body, bytes, bytesOf}
 use Rattle.records.specs.EntryLaws.{length-bytes, bytes-cons}
 use Rattle.records.specs.Records.{entryAt, recordAt}

@@ -20,7 +20,7 @@ use Rattle.records.specs.Entries.{bytesOf, numbersOf}
 use Rattle.kinds.specs.KindLaws.{size-small}
 use Rattle.records.specs.EntryLaws.{length-bytes-cons, length-numbers}
 use Rattle.rules.specs.Rules.{start}
-use Rattle.records.specs.NumberLaws.{Bytes}
+use Rattle.big_endian.specs.Numbers.{Bytes}
 use Rattle.rules.specs.FieldFits.{start-small}
 use Rattle.sheets.specs.Sheets.{sheet, storedAt, readSheet, readWhole, roomAfter}
 use Rattle.sheets.specs.Handed.{handedAt, listSheet, listWhole, bufferAfterList}

@@ -13,7 +13,7 @@ use Rattle.records.specs.declared.Record.the-variants.{Is}
 use Rattle.kinds.specs.Kinds.{isEnd, sizeOf}
 use Rattle.records.specs.Entries.{bytes, bytesOf}
 use Rattle.records.specs.EntryLaws.{length-bytes, bytes-nil, bytes-cons, length-bytes-cons}
-use Rattle.records.specs.NumberLaws.{Bytes}
+use Rattle.big_endian.specs.Numbers.{Bytes}
 use Rattle.records.specs.Records.{recordAt}
 use Rattle.records.specs.RecordLaws.{record-inv}
 use Rattle.records.specs.RecordTrip.{trip, back}

@@ -13,7 +13,7 @@ use Rattle.sheets.specs.Sheets.{Sheet, sheet, refused, extentOf, holds, readShe
 use Rattle.decimals.specs.Texts.{letters}
 use Rattle.decimals.specs.Patterns.{filled}
 use Rattle.decimals.specs.Rows.{rows, eachCounted}
-use Rattle.lines.specs.Lines.{extentText}
+use Rattle.listings.specs.Extents.{extentText}
 
 -- a word, and an answer
 unfoldable pub answerText : String → Extent → List ℕ

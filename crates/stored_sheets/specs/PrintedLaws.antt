@@ -14,7 +14,7 @@ use Rattle.kinds.specs.declared.Entry.{Entry}
 use Rattle.kinds.specs.KindLaws.{size-small}
 use Rattle.records.specs.Entries.{bytesOf, numbersOf}
 use Rattle.records.specs.EntryLaws.{bytes-nil, length-bytes-cons, length-numbers}
-use Rattle.records.specs.NumberLaws.{Bytes}
+use Rattle.big_endian.specs.Numbers.{Bytes}
 use Rattle.sheets.specs.declared.Extent.{Extent}
 use Rattle.sheets.specs.declared.Extent.the-variants as X
 use Rattle.sheets.specs.Sheets.{Sheet, sheet, refused, extentOf, holds, readSheet, readWhole, readInto, roomAfter}
@@ -24,7 +24,7 @@ use Rattle.sheets.specs.RoundTrip.{read-then-written, reads-length, list-well}
 use Rattle.decimals.specs.Texts.{letters, Put}
 use Rattle.decimals.specs.TextLaws.{put-same, put-nil}
 use Rattle.decimals.specs.RowLaws.{put-as, joined}
-use Rattle.lines.specs.Lines.{extentText}
+use Rattle.listings.specs.Extents.{extentText}
 use Rattle.stored_sheets.specs.Printed.{answerText, threeAnswers, answersLine, entriesText, writtenLine, backText, sheetText}
 
 -- ---- a good sheet

@@ -11,25 +11,16 @@ ghost use lib.IntN.{pos};
 ghost use lib.ListN.{length};
 ghost use Rattle.sheets.specs.Sheets.{readWhole, readInto};
 ghost use Rattle.decimals.specs.Texts.{letters, Put};
-ghost use Rattle.lines.specs.Lines.{extentText};
 ghost use Rattle.stored_sheets.specs.Printed.{threeAnswers, entryLine, entriesText, writtenLine, sheetText, printed};
 ghost use Rattle.stored_sheets.specs.PrintedLaws.{Again, Same};
-
-// A word, then an answer.
-fn put_answer(out: &mut [u8], at: usize, word: &[u8], answer: Extent) -> usize
-    ensures { λ r. ⌜ Put (now (out .entry)) at (now (word .entry) ++ extentText answer) (now (out .exit)) r ⌝ }
-{
-    let next = decimals::put_text(out, at, word);
-    lines::put_extent(out, next, answer)
-}
 
 // The three answers of the reader, a line.
 fn put_answers(out: &mut [u8], start: usize, begins: Extent, is: Extent, short: Extent) -> usize
     ensures { λ r. ⌜ Put (now (out .entry)) start (threeAnswers begins is short) (now (out .exit)) r ⌝ }
 {
-    let first = put_answer(out, start, b"begins ", begins);
-    let second = put_answer(out, first, b" is ", is);
-    let third = put_answer(out, second, b" short ", short);
+    let first = listings::extents::put_answer(out, start, b"begins ", begins);
+    let second = listings::extents::put_answer(out, first, b" is ", is);
+    let third = listings::extents::put_answer(out, second, b" short ", short);
     decimals::put_byte(out, third, b'\n')
 }
 
@@ -89,7 +80,7 @@ fn put_written(out: &mut [u8], start: usize, numbers: &[u32], sheet: &[u8]) -> u
     let line = put_entries(out, start, numbers);
     let mut space = io::buffer();
     let answer = handed::write(numbers, &mut space);
-    let at = put_answer(out, line, b" written ", answer);
+    let at = listings::extents::put_answer(out, line, b" written ", answer);
     put_same(out, at, answer, &space, sheet)
 }
 
@@ -129,7 +120,7 @@ fn put_sheets(out: &mut [u8], input: &[u8]) -> usize
     let mut at = 0;
     let mut i = 0;
     while i + 1 < input.len() {
-        let length = records::two_at(input, i) as usize;
+        let length = big_endian::two_at(input, i) as usize;
         let from = i + 2;
         if input.len() - from < length {
             return at;

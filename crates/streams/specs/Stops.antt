@@ -30,7 +30,7 @@ use Rattle.request_fields.specs.declared.Shape.{Shape}
 use Rattle.request_fields.specs.declared.Shape.the-variants as S
 use Rattle.request_bytes.specs.Layout.{Reading, numbers, misshaped, bytesBy}
 use Rattle.request_bytes.specs.LayoutLaws.{length-bytes}
-use Rattle.request_bytes.specs.NumberLaws.{Bytes}
+use Rattle.big_endian.specs.Numbers.{Bytes}
 use Rattle.request_bytes.specs.Request.{piecesFor, sizeFor, bytesFor, readingFor}
 use Rattle.request_bytes.specs.RoundTrip.{write-back}
 use Rattle.request_bytes.specs.RowLaws.{pieces-count}

@@ -33,9 +33,11 @@ use Rattle.courses.specs.Courses.{sheetOf}
 use Rattle.courses.specs.Demand3.{EachSecond, Demand3}
 use Rattle.courses.specs.Demand3Laws.{changes-once, ends-exact, turns-alternate}
 use Rattle.circumstances.specs.declared.Answer.the-variants as A
-use Rattle.writing.specs.Sheet.{courseOf, sheetBytes}
+use Rattle.sheet_entries.specs.Course.{courseOf}
+use Rattle.writing.specs.Sheet.{sheetBytes}
 use Rattle.circumstances.specs.Sheet.{answerBy, bufferBy, sheetAnswer, sheetBuffer}
-use Rattle.circumstances.specs.CourseSound.{sound, reads-back}
+use Rattle.sheet_entries.specs.CourseSound.{sound}
+use Rattle.circumstances.specs.SheetSound.{reads-back}
 use Rattle.true_place.specs.TruePlace.{TrueC}
 use Rattle.true_shadow.specs.Nineteen.{Nineteen, nineteen}
 use Rattle.true_shadow.specs.TrueStates.{truly-inside, truly-outside, truly-near}

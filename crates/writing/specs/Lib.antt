@@ -1,4 +1,2 @@
 -- what to believe: the sheet of an occultation
 pub mod Sheet
--- laws
-pub mod NamedSecondLaws

@@ -1,40 +1,11 @@
 -- The sheet of an occultation. Definitions only.
 use mathlib.Core.List.{List}
 use Prim.Native.Nat.{ℕ}
-use lib.IntN.{ℤ, natAbs}
-use Rattle.geometry.specs.Shadow.{phasesOf}
-use Rattle.elements.specs.declared.Body.{Body}
-use Rattle.elements.specs.declared.Body.the-variants as B
-use Rattle.station.specs.declared.Place.{Place}
-use Rattle.station.specs.Place.{placeOf}
 use Rattle.requests.specs.declared.Occultation.{Occultation}
-use Rattle.requests.specs.Shares.{sharing}
-use Rattle.seconds.specs.Seconds.{stateAt, directionAt, magnitudeAt, closestOf}
-use Rattle.covered.specs.Covered.{shareAt}
 use Rattle.records.specs.Entries.{bytesOf}
-use Rattle.courses.specs.Courses.{Course, sheetOf}
+use Rattle.courses.specs.Courses.{sheetOf}
+use Rattle.sheet_entries.specs.Course.{courseOf}
 
--- the covered share at second τ; a star has none
-abbrev pub shareOf : Body → Place → ℤ → ℕ
-shareOf (B.Sun e) p τ = shareAt e p τ
-shareOf (B.Star s) p τ = 0
-
--- what is said of each second
-abbrev pub courseOf : Occultation → Course
-courseOf o =
-    record {
-      station = natAbs (o .station .number);
-      window = o .window;
-      guard = natAbs (o .guard);
-      phases = phasesOf (o .body);
-      state = stateAt o;
-      direction = directionAt o;
-      closest = closestOf o;
-      magnitude = magnitudeAt o;
-      sharing = sharing o;
-      share = shareOf (o .body) (placeOf (o .station));
-    }
-
--- its sheet
+-- its bytes
 unfoldable pub sheetBytes : Occultation → List ℕ
 sheetBytes o = bytesOf (sheetOf (courseOf o))

@@ -15,7 +15,8 @@ ghost use Rattle.contact_entries.specs.Entries.{entries};
 ghost use Rattle.records.specs.Entries.{bytesOf};
 ghost use Rattle.courses.specs.Courses.{entriesOf, closingEntries};
 ghost use Rattle.courses.specs.Lengths.{kindIn, bytesNeeded};
-ghost use Rattle.writing.specs.Sheet.{courseOf, sheetBytes};
+ghost use Rattle.sheet_entries.specs.Course.{courseOf};
+ghost use Rattle.writing.specs.Sheet.{sheetBytes};
 
 // The kind of an entry of a phase.
 fn kind_in(phase: Phase, entry: contact_entries::Entry) -> Kind

@@ -1,6 +1,5 @@
 // The sheet of an occultation, written into a buffer that has room for it, from the states of its seconds. These are inner functions, for the crates
 // above, and have a `requires`.
-pub mod entries;
 pub mod lengths;
 
 use kinds::Entry;
@@ -26,7 +25,8 @@ ghost use Rattle.contact_entries.specs.Entries.{entries};
 ghost use Rattle.records.specs.Entries.{bytesOf};
 ghost use Rattle.courses.specs.Courses.{entryOf, phaseEntries, entriesOf, closingEntries};
 ghost use Rattle.courses.specs.Lengths.{bytesNeeded};
-ghost use Rattle.writing.specs.Sheet.{courseOf, sheetBytes};
+ghost use Rattle.sheet_entries.specs.Course.{courseOf};
+ghost use Rattle.writing.specs.Sheet.{sheetBytes};
 
 // The entries of a phase from `start` on, from the states of the k-th; the place after them.
 fn write_phase(
@@ -54,7 +54,7 @@ fn write_phase(
         let contacts::Next::Found(entry, next) = contacts::step(runs, k, c) else {
             return at;
         };
-        let e = entries::entry_for(table, o, place, phase, entry);
+        let e = sheet_entries::entry_for(table, o, place, phase, entry);
         at = records::bytes::put(buf, at, e);
         c = next;
     }
@@ -121,7 +121,7 @@ fn write_closing(
     ensures { λ r. ⌜ r ≡ start + length (bytesOf (closingEntries (courseOf o))) ⌝ }
     ensures { λ r. ⌜ now (buf .exit) ≡ sets (now (buf .entry)) start (bytesOf (closingEntries (courseOf o))) ⌝ }
 {
-    let last = entries::closest_for(table, o, place, closest);
+    let last = sheet_entries::closest_for(table, o, place, closest);
     let kind = Kind::End;
     let end = Entry {
         kind,
@@ -133,7 +133,7 @@ fn write_closing(
     let after_closest = records::bytes::put(buf, start, last);
     let shared = requests::shares(o);
     if shared {
-        let share = entries::share_for(table, o, place, closest);
+        let share = sheet_entries::share_for(table, o, place, closest);
         let after_share = records::bytes::put(buf, after_closest, share);
         return records::bytes::put(buf, after_share, end);
     }
@@ -155,7 +155,7 @@ pub fn write_sheet(
     ensures { λ r. ⌜ r ≡ length (sheetBytes o) ⌝ }
     ensures { λ r. ⌜ now (buf .exit) ≡ sets (now (buf .entry)) 0 (sheetBytes o) ⌝ }
 {
-    let head = entries::head_for(o);
+    let head = sheet_entries::head_for(o);
     let after_head = records::bytes::put(buf, 0, head);
     let after_phases = write_phases(table, o, place, runs, buf, after_head);
     write_closing(table, o, place, closest, buf, after_phases)

@@ -3,7 +3,7 @@ use mathlib.Core.Path.{_≡_, sym, ap, _∙_}
 use native.Mathlib.Omega.{arith}
 use lib.ListN.{length}
 use Rattle.request_bytes.specs.Layout.{numbers}
-use Rattle.request_bytes.specs.NumberLaws.{Bytes}
+use Rattle.big_endian.specs.Numbers.{Bytes}
 use Rattle.request_bytes.specs.Request.{readingOf}
 use Rattle.input.specs.Input.{requestFrom}
 use Rattle.mirrors.specs.Bytes.{mirrorBytes}

@@ -16,7 +16,7 @@ use Rattle.requests.specs.Shares.{sharing}
 use Rattle.courses.specs.Courses.{closestEntry, shareEntry, closingEntries}
 use Rattle.courses.specs.Lengths.{closest-size, share-size, shared-length, plain-length}
 use Rattle.courses.specs.Stores.{stores-shared, stores-plain}
-use Rattle.writing.specs.Sheet.{courseOf}
+use Rattle.sheet_entries.specs.Course.{courseOf}
 use Rattle.writing.proofs.write_closing.Statement.{statement}
 use Rattle.writing.proofs.write_closing.Tie as tie
 

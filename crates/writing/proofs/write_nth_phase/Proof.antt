@@ -17,7 +17,7 @@ use Rattle.contact_entries.specs.Entries.{entries}
 use Rattle.records.specs.Entries.{bytesOf}
 use Rattle.courses.specs.Courses.{statesOf, entryOf, phaseEntries}
 use Rattle.courses.specs.Lengths.{bytesNeeded, phase-length}
-use Rattle.writing.specs.Sheet.{courseOf}
+use Rattle.sheet_entries.specs.Course.{courseOf}
 use Rattle.writing.proofs.write_nth_phase.Statement.{statement}
 use Rattle.writing.proofs.write_nth_phase.Tie as tie
 

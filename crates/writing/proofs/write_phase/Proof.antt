@@ -17,7 +17,7 @@ use Rattle.records.specs.Entries.{bytes, bytesOf}
 use Rattle.courses.specs.Courses.{entryOf}
 use Rattle.courses.specs.Lengths.{kindIn, bytesNeeded, needed-nil, needed-cons, kind-in}
 use Rattle.courses.specs.Stores.{stores-entry, stores-none}
-use Rattle.writing.specs.Sheet.{courseOf}
+use Rattle.sheet_entries.specs.Course.{courseOf}
 use Rattle.writing.proofs.write_phase.Statement.{statement}
 use Rattle.writing.proofs.write_phase.Tie as tie
 

@@ -18,7 +18,7 @@ use Rattle.records.specs.EntryLaws.{bytes-nil}
 use Rattle.courses.specs.Courses.{phaseEntries, entriesOf}
 use Rattle.courses.specs.Lengths.{more-bytes, some-bytes}
 use Rattle.courses.specs.Stores.{stores-none, stores-phase}
-use Rattle.writing.specs.Sheet.{courseOf}
+use Rattle.sheet_entries.specs.Course.{courseOf}
 use Rattle.writing.proofs.write_phases.Statement.{statement}
 use Rattle.writing.proofs.write_phases.Tie as tie
 

@@ -15,7 +15,8 @@ use Rattle.courses.specs.Courses.{entriesOf, closingEntries}
 use Rattle.courses.specs.Lengths.{head-size, sheet-length}
 use Rattle.courses.specs.Stores.{stores-sheet}
 use Rattle.requests.specs.declared.Occultation.{Occultation}
-use Rattle.writing.specs.Sheet.{courseOf, sheetBytes}
+use Rattle.sheet_entries.specs.Course.{courseOf}
+use Rattle.writing.specs.Sheet.{sheetBytes}
 use Rattle.writing.proofs.write_sheet.Statement.{statement}
 use Rattle.writing.proofs.write_sheet.Tie as tie
 

@@ -3,7 +3,7 @@ use mathlib.Core.Path.{sym, _∙_}
 use native.Mathlib.Omega.{arith}
 use borrow.Author.Needs.{needs}
 use Rattle.courses.specs.Lengths.{shared-length, plain-length}
-use Rattle.writing.specs.Sheet.{courseOf}
+use Rattle.sheet_entries.specs.Course.{courseOf}
 use Rattle.writing.proofs.lengths.closing_length.Statement.{statement}
 use Rattle.writing.proofs.lengths.closing_length.Tie as tie
 

@@ -16,7 +16,7 @@ use Rattle.records.specs.Entries.{bytesOf}
 use Rattle.records.specs.EntryLaws.{bytes-nil}
 use Rattle.courses.specs.Courses.{statesOf, entriesOf}
 use Rattle.courses.specs.Lengths.{more-length}
-use Rattle.writing.specs.Sheet.{courseOf}
+use Rattle.sheet_entries.specs.Course.{courseOf}
 use Rattle.writing.proofs.lengths.phases_length.Statement.{statement}
 use Rattle.writing.proofs.lengths.phases_length.Tie as tie
 

@@ -2,7 +2,8 @@
 use native.Mathlib.Omega.{arith}
 use borrow.Author.Needs.{needs}
 use Rattle.courses.specs.Lengths.{sheet-length}
-use Rattle.writing.specs.Sheet.{courseOf, sheetBytes}
+use Rattle.sheet_entries.specs.Course.{courseOf}
+use Rattle.writing.specs.Sheet.{sheetBytes}
 use Rattle.writing.proofs.lengths.sheet_length.Statement.{statement}
 use Rattle.writing.proofs.lengths.sheet_length.Tie as tie
 

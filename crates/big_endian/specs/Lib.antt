@@ -1,0 +1,2 @@
+-- what to believe: the bytes of a number
+pub mod Numbers
