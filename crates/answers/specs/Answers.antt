@@ -26,7 +26,7 @@ starText request sines room = textBy (starAnswer request sines room) (starBuffer
 
 -- ---- with clock times
 
--- the same, with times by the clock and the station's ΔT
+-- the same, with times by the reference and the station's ΔT
 abbrev pub timedBy : Reference → ℤ → Answer → List ℕ → List ℕ
 timedBy k d (A.Written n) room = printed (timed k d (take n room))
 timedBy k d (A.Refused r) room = refusalLine (r .number) (r .place)

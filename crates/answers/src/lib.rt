@@ -20,15 +20,7 @@ pub struct Streams {
     pub error: usize,
 }
 
-fn put_refused(refusal: Refusal, out: &mut [u8]) -> usize
-    ensures { λ r. ⌜ Put (now (out .entry)) 0 (refusalLine (refusal .number) (refusal .place)) (now (out .exit)) r ⌝ }
-{
-    let number = refusal.number as u64;
-    let place = refusal.place as u64;
-    lines::put_refusal_line(out, 0, number, place)
-}
-
-// The text of an answer whose sheet stands at the room's start, by the clock.
+// The text of an answer whose sheet stands at the room's start, with times where the reference is an instant.
 fn put_text(answer: Answer, room: &[u8], out: &mut [u8], reference: Reference, deltat: i64) -> usize
     requires { ⌜ Fits answer (now room) ⌝ }
     ensures { λ r. ⌜ Put (now (out .entry)) 0 (timedBy reference deltat answer (now (room .entry))) (now (out .exit)) r ⌝ }
@@ -41,7 +33,7 @@ fn put_text(answer: Answer, room: &[u8], out: &mut [u8], reference: Reference, d
             reference,
             deltat,
         ),
-        Answer::Refused(refusal) => put_refused(refusal, out),
+        Answer::Refused(refusal) => lines::put_refused(out, 0, refusal),
     }
 }
 
@@ -65,7 +57,7 @@ pub fn put_star_answer(request: &[u8], sines: &mut [u32], room: &mut [u8], out: 
     put_text(answer, room, out, Reference::Nothing, 0)
 }
 
-// The same as `put_answer` with times by the clock and the ΔT of the request's station.
+// The same as `put_answer` with times by the reference and the ΔT of the request's station.
 pub fn put_timed_answer(
     request: &[u8],
     reference: Reference,
@@ -135,7 +127,7 @@ pub fn stored(request: &[u8], sines: &mut [u32], room: &mut [u8], line: &mut [u8
             error: 0,
         },
         Answer::Refused(refusal) => {
-            let end = put_refused(refusal, line);
+            let end = lines::put_refused(line, 0, refusal);
             Streams {
                 output: 0,
                 error: end,

@@ -2,8 +2,8 @@
 --     accepted   "1 if it follows 0, else one more than the station it follows": each station has exactly one number of steps, 1 to 64, and it is
 --                the one that comes back; "0 past the list"
 --     sixteen    16 names exactly the first station whose chain never reaches 0
-use mathlib.Core.Path.{_≡_, refl, sym, subst}
-use Prim.Native.Nat.{ℕ, zero, suc, _<_, _≤_}
+use mathlib.Core.Path.{_≡_, sym, subst}
+use Prim.Native.Nat.{ℕ, suc, _<_, _≤_}
 use native.Mathlib.Omega.{arith}
 use native.Mathlib.Decide.{ℕ-discrete}
 use mathlib.Core.List.{List}

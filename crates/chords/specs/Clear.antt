@@ -1,16 +1,13 @@
 -- Two seconds that are h apart, and one between them: if both ends are far enough on one side, so is the one between.
-use mathlib.Core.Path.{_≡_, ap, sym, _∙_}
 use mathlib.Core.List.{[], _∷_}
 use mathlib.Core.Logic.{⊎-elim}
-use Prim.Native.Nat.{ℕ, _+_, _*_, _≤_, _<_}
-use native.Mathlib.Omega.{arith}
-use lib.IntN.{ℤ, pos, negℤ, natAbs, _+ℤ_, _-ℤ_, _*ℤ_}
+use lib.IntN.{ℤ, pos, _+ℤ_, _-ℤ_, _*ℤ_}
 use lib.Signed.{_≤ℤ_, _<ℤ_, clashℤ}
 use Rattle.numbers.specs.Order.{≤ℤ-total, minus-nonneg, +ℤ-nonneg}
-use Rattle.numbers.specs.Ring.{num, _⊕_, _⊖_, _⊗_, opp, ring, v0, v1, v2, v3, v4, v5, v6, v7, v8, v9}
-use Rattle.numbers.specs.Cert.{leq, less, equ, lit, sq, _⊞_, _⊠_, certify, certify-<}
+use Rattle.numbers.specs.Ring.{num, _⊕_, _⊖_, _⊗_, v0, v1, v2, v3, v4, v5, v6, v7}
+use Rattle.numbers.specs.Cert.{leq, less, lit, sq, _⊞_, _⊠_, certify, certify-<}
 use Rattle.geometry.specs.Shadow.{_²}
-use Rattle.geometry.specs.Triangle.{le-of-squares, squares-of-size, triangle}
+use Rattle.geometry.specs.Triangle.{le-of-squares, triangle}
 
 by-contra-< : (a b : ℤ) → (b ≤ℤ a → ⊥) → a <ℤ b
 by-contra-< a b f = ⊎-elim (λ (h : b ≤ℤ a). absurd (f h)) (λ h. h) (≤ℤ-total b a)

@@ -1,5 +1,5 @@
 -- What follows an entry, put part by part.
-use Prim.Native.Nat.{ℕ, _+_, _≤_, _<_}
+use Prim.Native.Nat.{ℕ, _≤_, _<_}
 use mathlib.Core.Path.{_≡_, refl, ap}
 use mathlib.Core.Bool.{true, false}
 use mathlib.Core.List.{List, [], _∷_, _++_, append-assoc}
@@ -60,7 +60,7 @@ pub behind-shown : (i : Instant) (d : ℤ) (e : Entry) (x : Shown) → x ≡ sho
 unfolding behind
 behind-shown i d e x q y w old at new r p = rw (← q, w) p
 
--- the line by the clock
+-- the line by the reference
 module _ (k : Reference) (d : ℤ) (e : Entry) (old : List ℕ) (at : ℕ) (new : List ℕ) (r : ℕ) where
   pub line-off : k ≡ R.Nothing → Put old at (lineOf e) new r → Put old at (timedLine k d e) new r
   unfolding timedLine

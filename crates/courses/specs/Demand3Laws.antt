@@ -5,9 +5,9 @@ use mathlib.Core.Path.{_≡_, refl, sym, subst, ap, ap₂, _∙_}
 use mathlib.Core.Bool.{Bool, true, false, cond}
 use mathlib.Core.List.{List, [], _∷_, _++_, map, append-nil, append-assoc}
 use mathlib.Core.Logic.{_⊎_}
-use Prim.Native.Nat.{ℕ, _+_, _-_, _≤_, _<_}
+use Prim.Native.Nat.{ℕ, _+_, _-_, _<_}
 use native.Mathlib.Omega.{arith}
-use lib.IntN.{ℤ, pos, negℤ, _+ℤ_}
+use lib.IntN.{ℤ, pos, negℤ}
 use lib.ListN.{length, getD}
 use lib.Signed.{_≤ℤ_}
 use Rattle.numbers.specs.Parts.{posP, negP, sum, opposite}
@@ -16,7 +16,7 @@ use Rattle.phases.specs.declared.Phase.{Phase}
 use Rattle.phases.specs.Phases.{same, one-if, Listed, times}
 use Rattle.phases.specs.States.{SaidRightly, code}
 use Rattle.phases.specs.PhaseLaws.{same-is, code-inside, code-outside}
-use Rattle.windows.specs.Windows.{InWindow, secondCount}
+use Rattle.windows.specs.Windows.{InWindow}
 use Rattle.windows.specs.WindowLaws.{second-in, next-second, not-last}
 use Rattle.contact_entries.specs.declared.Entry as Contact
 use Rattle.contact_entries.specs.declared.Entry.the-variants as C
@@ -29,7 +29,7 @@ use Rattle.contact_entries.specs.Alternate.{alternate}
 use Rattle.contact_entries.specs.Shifted.{shifted, how-many-shifted, alternate-shifted, ends-shifted}
 use Rattle.kinds.specs.declared.Entry.{Entry}
 use Rattle.kinds.specs.Entries.{end}
-use Rattle.kinds.specs.StoredSeconds.{stored, secondOf}
+use Rattle.kinds.specs.StoredSeconds.{secondOf}
 use Rattle.kinds.specs.StoredSecondLaws.{stored-is}
 use Rattle.courses.specs.Courses.{Course, second, statesOf, entryOf, phaseEntries, entriesOf, headEntry, closestEntry, shareEntry, closingEntries, sheetOf}
 use Rattle.courses.specs.Demand3.{ExactAnswers, inKind, entriesIn, EachSecond, InsideAt}

@@ -30,7 +30,6 @@ use Rattle.kinds.specs.declared.Entry.{Entry}
 use Rattle.kinds.specs.declared.Stage.the-variants as S
 use Rattle.kinds.specs.declared.Crossing.{Crossing}
 use Rattle.kinds.specs.declared.Crossing.the-variants as C
-use Rattle.kinds.specs.Entries.{end}
 use Rattle.order.specs.Order.{repeats}
 use Rattle.kinds.specs.FieldRules.{isDirection, greatestMagnitude}
 use Rattle.numbers.specs.Tests.{distinct}

@@ -2,10 +2,10 @@
 --   constant-at               what has no other coefficient is the same at every second: a star's declination, a cylinder's radius
 --   star-sizes, body-sizes    numbers that nothing is refused of have these sizes
 --   axis-sizes                so of any axis
-use mathlib.Core.Path.{_≡_, refl, _∙_, ap}
+use mathlib.Core.Path.{_≡_, _∙_, ap}
 use mathlib.Core.List.{[], _∷_}
 use lib.Dec.{lit≤}
-use lib.IntN.{ℤ, pos, _+ℤ_, _*ℤ_}
+use lib.IntN.{ℤ, pos, _+ℤ_}
 use lib.Signed.{_≤ℤ_, leZ-yes}
 use Rattle.numbers.specs.Ring.{num, _⊕_, _⊗_, ring, v0}
 use Rattle.numbers.specs.Units.{hour}

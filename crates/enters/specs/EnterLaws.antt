@@ -1,7 +1,7 @@
 -- The first enter of the sheet, by the entries of the penumbra, counted from the window's first second.
 --   first-to-is               it is the first enter of those
 --   enter-first, enter-later  one entry more
-use mathlib.Core.Path.{_≡_, refl, ap, _∙_}
+use mathlib.Core.Path.{_≡_, refl, ap}
 use mathlib.Core.Bool.{true, false, false≢true}
 use mathlib.Core.Logic.{inl}
 use mathlib.Core.List.{List, _∷_, map}

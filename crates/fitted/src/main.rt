@@ -33,11 +33,7 @@ fn put_answer(out: &mut [u8], at: usize, answer: fits::Answer) -> usize
 {
     match answer {
         fits::Answer::Accepted => decimals::put_text(out, at, b"accepted\n"),
-        fits::Answer::Refused(refusal) => {
-            let number = refusal.number as u64;
-            let place = refusal.place as u64;
-            lines::put_refusal_line(out, at, number, place)
-        }
+        fits::Answer::Refused(refusal) => lines::put_refused(out, at, refusal),
     }
 }
 

@@ -1,7 +1,7 @@
 -- The shadow at a mirrored second: u the same, v its opposite, and so M; ζ the same, and so L of any cone.
 use mathlib.Core.Path.{_≡_, refl, ap, _∙_}
 use mathlib.Core.List.{[], _∷_}
-use lib.IntN.{ℤ, negℤ, _+ℤ_, _-ℤ_, _*ℤ_}
+use lib.IntN.{ℤ, negℤ, _-ℤ_, _*ℤ_}
 use lib.Signed.{leZ-yes}
 use Rattle.numbers.specs.Ring.{_⊕_, _⊖_, _⊗_, opp, ring, v0, v1, v2, v3}
 use Rattle.numbers.specs.Units.{one}

@@ -1,6 +1,6 @@
 -- Worked examples of an instant's words and of texts: each is computed.
 use mathlib.Core.Path.{_≡_, refl}
-use mathlib.Core.List.{List, [], _∷_, map}
+use mathlib.Core.List.{[], _∷_, map}
 use Prim.Native.Nat.{ℕ}
 use Prim.Native.String.{String}
 use Rattle.request_fields.specs.Rows.{letters}
@@ -9,11 +9,9 @@ use Rattle.request_text.specs.Names.{named}
 use Rattle.instants.specs.declared.Scale.{Scale}
 use Rattle.instants.specs.declared.Scale.the-variants as S
 use Rattle.instants.specs.declared.Instant.{Instant}
-use Rattle.instant_text.specs.declared.Reading.{Reading}
 use Rattle.instant_text.specs.declared.Reading.the-variants as R
 use Rattle.instant_text.specs.declared.Wrong.the-variants as Wrong
 use Rattle.instants.specs.declared.Reference.the-variants as Ref
-use Rattle.instant_text.specs.declared.Told.{Told}
 use Rattle.instant_text.specs.declared.Told.the-variants as T
 use Rattle.instant_text.specs.Forms.{hasForm, twoAt}
 use Rattle.instants.specs.Calendar.{isLeap, daysIn, isDay}

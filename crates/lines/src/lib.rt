@@ -3,6 +3,7 @@
 use kinds::Entry;
 use kinds::Kind;
 use phases::Phase;
+use refusals::Refusal;
 ghost use mathlib.Core.List.{_++_};
 ghost use Rattle.decimals.specs.Texts.{letters, Put};
 ghost use Rattle.lines.specs.Lines.{nameOf, headLine, contactLine, unsureLine, closestLine, shareLine, textOf, endFor, lineOf, numbered, refusalText, refusalLine};
@@ -142,4 +143,13 @@ pub fn put_refusal_line(out: &mut [u8], at: usize, number: u64, place: u64) -> u
 {
     let end = put_refusal(out, at, number, place);
     decimals::put_byte(out, end, b'\n')
+}
+
+// The same of a refusal.
+pub fn put_refused(out: &mut [u8], at: usize, refusal: Refusal) -> usize
+    ensures { λ r. ⌜ Put (now (out .entry)) at (refusalLine (refusal .number) (refusal .place)) (now (out .exit)) r ⌝ }
+{
+    let number = refusal.number as u64;
+    let place = refusal.place as u64;
+    put_refusal_line(out, at, number, place)
 }

@@ -20,7 +20,7 @@ pub enum Text {
     Refused(Refusal),
 }
 
-// The lines of the sheet that `sheet` begins with, by the clock, from `start` on, as far as the room goes.
+// The lines of the sheet that `sheet` begins with, with times where the reference is an instant, from `start` on, as far as the room goes.
 fn put_lines(sheet: &[u8], out: &mut [u8], start: usize, reference: Reference, deltat: i64) -> usize
     requires { ⌜ IsSheet (readSheet (now sheet)) ⌝ }
     ensures { λ r. ⌜ Laid reference deltat (readSheet (now (sheet .entry))) (now (out .entry)) start (now (out .exit)) r ⌝ }
@@ -73,15 +73,7 @@ pub fn listing(sheet: &[u8], out: &mut [u8]) -> Text
     }
 }
 
-fn put_refused(out: &mut [u8], at: usize, refusal: Refusal) -> usize
-    ensures { λ r. ⌜ Put (now (out .entry)) at (refusalLine (refusal .number) (refusal .place)) (now (out .exit)) r ⌝ }
-{
-    let number = refusal.number as u64;
-    let place = refusal.place as u64;
-    lines::put_refusal_line(out, at, number, place)
-}
-
-// What is printed of some bytes: the listing of the sheet that they are, with times by the clock, or the line of their refusal. It stands at a
+// What is printed of some bytes: the listing of the sheet that they are, with times where the reference is an instant, or the line of their refusal. It stands at a
 // place of the room, as far as the room goes; and the place after it. `deltat` is the station's ΔT in hundredths of a second.
 pub fn put_timed_listing(
     out: &mut [u8],
@@ -94,7 +86,7 @@ pub fn put_timed_listing(
 {
     let found = sheets::extent_of_sheet(sheet);
     match found {
-        Extent::Refused(refusal) => put_refused(out, at, refusal),
+        Extent::Refused(refusal) => lines::put_refused(out, at, refusal),
         Extent::Sheet {
             entries: _,
             length: _,

@@ -8,7 +8,6 @@ ghost use Prim.Native.Nat.{_+_, _≤_};
 ghost use lib.ListN.{length, take};
 ghost use Rattle.decimals.specs.Texts.{Put, Counts};
 ghost use Rattle.decimals.specs.Rows.{eachPart};
-ghost use Rattle.lines.specs.Lines.{refusalLine};
 ghost use Rattle.mend.specs.Printed.{noteLine, tooLong, output, error};
 
 // How many bytes of each room go out.
@@ -47,14 +46,6 @@ fn put_notes(out: &mut [u8], notes: &[u8]) -> usize
     at
 }
 
-fn put_refused(out: &mut [u8], refusal: refusals::Refusal) -> usize
-    ensures { λ r. ⌜ Put (now (out .entry)) 0 (refusalLine (refusal .number) (refusal .place)) (now (out .exit)) r ⌝ }
-{
-    let number = refusal.number as u64;
-    let place = refusal.place as u64;
-    lines::put_refusal_line(out, 0, number, place)
-}
-
 // That a file is too long for a room.
 fn put_too_long(out: &mut [u8], room: usize) -> usize
     ensures { λ r. ⌜ Put (now (out .entry)) 0 (tooLong room) (now (out .exit)) r ⌝ }
@@ -88,7 +79,7 @@ fn mended(file: &[u8], sheets: &mut [u8], notes: &mut [u8], text: &mut [u8]) -> 
             }
         }
         mending::Answer::Refused(refusal) => {
-            let end = put_refused(text, refusal);
+            let end = lines::put_refused(text, 0, refusal);
             Streams {
                 output: 0,
                 error: end,

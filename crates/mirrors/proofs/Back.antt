@@ -11,7 +11,7 @@ use mir.Val.{toZ, ofZ}
 use Rattle.numbers.specs.Order.{mag-natAbs}
 use Rattle.numbers.specs.Code.{read-result}
 use Rattle.requests.specs.Mirror.{opposite}
-use Rattle.requests.specs.MirrorLaws.{opposite-is, opposite-keeps, opposite-size}
+use Rattle.requests.specs.MirrorLaws.{opposite-keeps, opposite-size}
 
 -- it has a place in 64 bits, as the number has
 opposite-fits : (most : ℕ) → most ≤ 9223372036854775807 → (z : ℤ) → mag z < 2 ^ 63 → mag (opposite most z) < 2 ^ 63

@@ -29,7 +29,6 @@ use Rattle.covered.specs.MirrorLaws.{share-mirrored}
 use Rattle.courses.specs.Courses.{Course, sheetOf}
 use Rattle.courses.specs.Directions.{AlikeButDirections}
 use Rattle.courses.specs.DirectionLaws.{redirected, sheet-alike, alike-length}
-use Rattle.circumstances.specs.declared.Answer.{Answer}
 use Rattle.sheet_entries.specs.Course.{shareOf, courseOf}
 use Rattle.writing.specs.Sheet.{sheetBytes}
 use Rattle.circumstances.specs.Sheet.{answerBy, sheetAnswer}

@@ -13,7 +13,7 @@ use Rattle.refusals.specs.declared.Refusal.{Refusal}
 use Rattle.refusals.specs.declared.Checked.{Checked}
 use Rattle.refusals.specs.declared.Checked.the-variants as C
 use Rattle.refusals.specs.Refusals.{andThen}
-use Rattle.requests.specs.Admission.{roomChecked, sinesAfter}
+use Rattle.requests.specs.Admission.{sinesAfter}
 use Rattle.kinds.specs.StoredSeconds.{secondOf}
 use Rattle.chains.specs.Defined.{earliestOf}
 use Rattle.nodes.specs.declared.Node.{Node}
@@ -21,7 +21,6 @@ use Rattle.nodes.specs.Held.{blankNode}
 use Rattle.nodes.specs.Nodes.{numberOf}
 use Rattle.network_checks.specs.declared.Eclipse.{Eclipse}
 use Rattle.network_checks.specs.CheckLaws.{AllWithin, at-most, all-within}
-use Rattle.networks.specs.declared.Answer.{Answer}
 use Rattle.networks.specs.declared.Answer.the-variants as A
 use Rattle.networks.specs.Network as network
 use Rattle.network_checks.specs.Checks.{eclipseOf, checked}
@@ -30,13 +29,11 @@ use Rattle.enters.specs.Enters.{never}
 use Rattle.decimals.specs.Decimals.{decimal, signed}
 use Rattle.decimals.specs.Patterns.{piece, filled}
 use Rattle.decimals.specs.Rows.{rows}
-use Rattle.decimals.specs.Texts.{letters, Put}
-use Rattle.decimals.specs.RowLaws.{put-as, joined}
-use Rattle.decimals.specs.TextLaws.{put-same}
+use Rattle.decimals.specs.Texts.{letters}
 use Rattle.lines.specs.Lines.{refusalLine}
 use Rattle.network_text.specs.declared.Fault.{Fault}
 use Rattle.network_text.specs.declared.Typed.the-variants as T
-use Rattle.network_text.specs.Typing.{Typing, given, refused, typingOf, eclipseIn, answerOf, held, heldFrom, numbersFrom}
+use Rattle.network_text.specs.Typing.{Typing, given, refused, typingOf, answerOf, held, heldFrom, numbersFrom}
 use Rattle.network.specs.Printed.{stationLine, stationLines, toText, firstLine, namedText, answerBy, answerText, zeros, faultText, outputBy, output, errorBy, error}
 
 -- ---- the lines of the stations

@@ -20,7 +20,6 @@ ghost use Rattle.nodes.specs.Nodes.{Holds};
 ghost use Rattle.network_checks.specs.CheckLaws.{AllWithin};
 ghost use Rattle.networks.specs.Network.{tosOf};
 ghost use Rattle.decimals.specs.Texts.{Put};
-ghost use Rattle.lines.specs.Lines.{refusalLine};
 ghost use Rattle.network.specs.Printed.{clockText, faultText, stationLine, stationLines, firstLine, namedText, answerText, zeros, output, error};
 
 // How many bytes go to standard output, and to standard error.
@@ -112,14 +111,6 @@ fn put_named(out: &mut [u8], named: u64, e: Eclipse, h: Held, table: &[u32], ste
     put_first(out, next, named, &tos[..n])
 }
 
-fn put_refused(out: &mut [u8], refusal: refusals::Refusal) -> usize
-    ensures { λ r. ⌜ Put (now (out .entry)) 0 (refusalLine (refusal .number) (refusal .place)) (now (out .exit)) r ⌝ }
-{
-    let number = refusal.number as u64;
-    let place = refusal.place as u64;
-    lines::put_refusal_line(out, 0, number, place)
-}
-
 // What is printed of the eclipse's numbers and a list.
 fn put_answer(out: &mut [u8], eclipse: &[i64; 25], h: Held) -> usize
     requires { ⌜ length (h .nodes) ≡ 64 ⌝ }
@@ -133,7 +124,7 @@ fn put_answer(out: &mut [u8], eclipse: &[i64; 25], h: Held) -> usize
             let e = network_checks::eclipse_from(eclipse);
             put_named(out, named, e, h, &sines, &steps)
         }
-        Answer::Refused(refusal) => put_refused(out, refusal),
+        Answer::Refused(refusal) => lines::put_refused(out, 0, refusal),
     }
 }
 

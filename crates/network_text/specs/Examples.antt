@@ -1,10 +1,8 @@
 -- Worked examples of lines: each is computed.
 use mathlib.Core.Path.{_≡_, refl}
 use mathlib.Core.List.{List, [], _∷_, map}
-use Prim.Native.Nat.{ℕ}
 use Prim.Native.String.{String}
-use lib.IntN.{ℤ, pos, negℤ}
-use Rattle.nodes.specs.declared.Node.{Node}
+use lib.IntN.{pos, negℤ}
 use Rattle.request_fields.specs.Fields.{holds}
 use Rattle.request_fields.specs.Rows.{letters, rows, rowAt}
 use Rattle.words.specs.Text.{runOf}

@@ -1,7 +1,7 @@
 -- What a line says, by its name.
-use Prim.Native.Nat.{ℕ, _-_, _<_}
-use mathlib.Core.Path.{_≡_, refl, sym, ap, _∙_}
-use mathlib.Core.Bool.{Bool, true, false, cond, _&&_}
+use Prim.Native.Nat.{ℕ, _-_}
+use mathlib.Core.Path.{_≡_, sym, ap, _∙_}
+use mathlib.Core.Bool.{true, false, cond, _&&_}
 use mathlib.Core.List.{List}
 use borrow.Author.Tests.{eq-eqb, ne-eqb}
 use lib.Dec.{eqb, ltb}
@@ -11,11 +11,9 @@ use Rattle.words.specs.TextLaws.{rest-is}
 use Rattle.request_text.specs.declared.Fault.the-variants as R
 use Rattle.request_text.specs.declared.Found.{Found}
 use Rattle.request_text.specs.declared.Found.the-variants as F
-use Rattle.request_text.specs.declared.Line.{Line}
 use Rattle.request_text.specs.Names.{names, findIn}
 use Rattle.request_text.specs.Lines.{said, meaningOf}
 use Rattle.network_text.specs.declared.Fault.the-variants as Fault
-use Rattle.network_text.specs.declared.Told.{Told}
 use Rattle.network_text.specs.declared.Told.the-variants as T
 use Rattle.network_text.specs.Stations.{stationOf}
 use Rattle.network_text.specs.Lines.{byName, toldOf}

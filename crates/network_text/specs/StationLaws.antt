@@ -1,7 +1,7 @@
 -- A station's line read word by word.
 use Prim.Native.Nat.{ℕ, suc, _+_, _-_, _≤_, _<_}
 use mathlib.Core.Path.{_≡_, refl, sym, ap, _∙_}
-use mathlib.Core.Bool.{Bool, true, false, cond}
+use mathlib.Core.Bool.{true, false, cond}
 use mathlib.Core.List.{List, [], _∷_, _++_}
 use native.Mathlib.Omega.{arith}
 use native.Mathlib.Decide.{decLt}
@@ -23,7 +23,6 @@ use Rattle.network_text.specs.declared.Fault.{Fault}
 use Rattle.network_text.specs.declared.Fault.the-variants as F
 use Rattle.network_text.specs.declared.Word.{Word}
 use Rattle.network_text.specs.declared.Word.the-variants as W
-use Rattle.network_text.specs.declared.Told.{Told}
 use Rattle.network_text.specs.declared.Told.the-variants as T
 use Rattle.network_text.specs.Stations.{fieldOf, faultOf, byValue, wordOf, amountOf, onward, nodeOf, wordsFrom, stationOf}
 

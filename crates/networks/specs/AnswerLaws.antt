@@ -18,7 +18,7 @@ use Rattle.network_checks.specs.declared.Eclipse.{Eclipse}
 use Rattle.networks.specs.declared.Answer.{Answer}
 use Rattle.networks.specs.declared.Answer.the-variants as A
 use Rattle.network_checks.specs.Checks.{eclipseOf, checked}
-use Rattle.networks.specs.Network.{shapeChecked, admitted, named, answerBy, answerTo, stepsAfter, stepsFor, sinesFor}
+use Rattle.networks.specs.Network.{admitted, named, answerBy, answerTo, stepsAfter, stepsFor, sinesFor}
 
 -- what a check gives: the answer, the room for table S, the steps
 pub record By (c : Checked) (e : Eclipse) (l : List Node) (sines steps : List ℕ) (r : Answer) (sines′ steps′ : List ℕ) : Type 0 where

@@ -1,9 +1,9 @@
 -- The station that is named: the first in the list of those with the smallest "to" (`named-at`, `first-smallest`); 0 where none enters (`named-none`).
 use mathlib.Core.Path.{_≡_, refl, sym, ap, _∙_, subst}
-use mathlib.Core.List.{List, [], _∷_, map}
-use Prim.Native.Nat.{ℕ, zero, suc, _≤_, _<_}
+use mathlib.Core.List.{List, [], _∷_}
+use Prim.Native.Nat.{ℕ, zero, suc, _≤_}
 use native.Mathlib.Omega.{arith}
-use lib.IntN.{ℤ, pos, natAbs}
+use lib.IntN.{natAbs}
 use lib.ListN.{length, getD, length-map, List·getD-map}
 use Rattle.chains.specs.First.{First}
 use Rattle.chains.specs.Steps.{Smallest}
@@ -11,7 +11,7 @@ use Rattle.chains.specs.Defined.{earliestOf}
 use Rattle.chains.specs.DefinedLaws.{earliest-of}
 use Rattle.nodes.specs.declared.Node.{Node}
 use Rattle.nodes.specs.Held.{blankNode}
-use Rattle.nodes.specs.Nodes.{numberOf, numbersOf}
+use Rattle.nodes.specs.Nodes.{numberOf}
 use Rattle.enters.specs.Enters.{never}
 use Rattle.network_checks.specs.declared.Eclipse.{Eclipse}
 use Rattle.networks.specs.Network.{toOf, tosOf, named}

@@ -1,5 +1,5 @@
 -- The list as a value: 64 places and the list's own length. Definitions only.
-use lib.IntN.{ℤ, pos}
+use lib.IntN.{pos}
 use Prim.Native.Nat.{ℕ, zero, suc}
 use mathlib.Core.Bool.{Bool, true, false}
 use mathlib.Core.List.{List}

@@ -3,14 +3,14 @@
 --   some-list                  every value holds some list
 --   listed, first-node, part   of a list of at most 64: it, its first node, and something of each of its nodes
 use mathlib.Core.Path.{_≡_, refl, sym, ap, _∙_}
-use Prim.Native.Nat.{ℕ, zero, suc, _+_, _-_, _<_, _≤_}
+use Prim.Native.Nat.{ℕ, zero, suc, _<_, _≤_}
 use native.Mathlib.Omega.{arith}
 use native.Mathlib.Decide.{decLt}
 use mathlib.Core.Bool.{Bool, true, false}
 use lib.Dec.{ltb}
 use borrow.Author.Tests.{ltb-false}
-use mathlib.Core.List.{List, [], _∷_, _++_, map, append-nil}
-use lib.ListN.{length, getD, take, set, replicate, length-set, length-append, length-replicate}
+use mathlib.Core.List.{List, [], _∷_, _++_, map}
+use lib.ListN.{length, getD, take, replicate, length-set, length-replicate}
 use lib.Seq.{take-all, take-suc, take-suc-set, getD-take, length-take-le}
 use Rattle.nodes.specs.declared.Node.{Node}
 use Rattle.nodes.specs.Held.{blankNode, pick, least64, heldOf}

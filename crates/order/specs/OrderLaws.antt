@@ -1,11 +1,10 @@
 -- Laws of the order of a sheet.
 use mathlib.Core.Path.{_≡_, refl}
 use Prim.Native.Nat.{ℕ}
-use mathlib.Core.Bool.{true, false, not, _&&_}
+use mathlib.Core.Bool.{true, not, _&&_}
 use lib.Dec.{eqb}
 use Rattle.phases.specs.declared.Phase.{Phase}
 use Rattle.phases.specs.declared.Phase.the-variants.{Penumbra, Central, Star}
-use Rattle.phases.specs.Phases.{same}
 use Rattle.kinds.specs.declared.Stage.the-variants as S
 use Rattle.kinds.specs.declared.Crossing.{Crossing}
 use Rattle.kinds.specs.declared.Crossing.the-variants as C

@@ -1,5 +1,5 @@
 -- What the program prints: a line for each double of its input. Definitions only.
-use Prim.Native.Nat.{ℕ, _+_, _*_}
+use Prim.Native.Nat.{ℕ}
 use mathlib.Core.List.{List, [], _∷_, _++_}
 use lib.Ieee.{Float, binary64, ofBits}
 use Rattle.big_endian.specs.Numbers.{eightAt}
@@ -8,7 +8,6 @@ use Rattle.decimals.specs.Decimals.{signed}
 use Rattle.decimals.specs.Rows.{eachPart}
 use Rattle.doubles.specs.declared.Reading.{Reading}
 use Rattle.doubles.specs.declared.Reading.the-variants.{Units, TooLarge, NotFinite}
-use Rattle.doubles.specs.declared.Longitude.{Longitude}
 use Rattle.doubles.specs.declared.Longitude.the-variants.{Degrees, Hours}
 use Rattle.doubles.specs.Doubles.{longitudeScale, readingOf}
 

@@ -1,6 +1,6 @@
 -- The bits of a NaN, and of any other double; and the ways of a reading's text.
 use mathlib.Core.Path.{_≡_, refl, sym, subst, _∙_}
-use mathlib.Core.Bool.{Bool, true, false, not}
+use mathlib.Core.Bool.{true, not}
 use mathlib.Core.List.{List}
 use Prim.Native.Nat.{ℕ, _/_, _%_, _^_}
 use borrow.Author.Tests.{eq-eqb, ne-eqb}

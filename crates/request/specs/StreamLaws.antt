@@ -1,9 +1,9 @@
 -- The bytes that go out of each room.
 use mathlib.Core.Path.{_≡_, refl}
 use mathlib.Core.List.{List}
-use Prim.Native.Nat.{ℕ, _≤_}
+use Prim.Native.Nat.{ℕ}
 use native.Mathlib.Omega.{arith}
-use lib.ListN.{length, take}
+use lib.ListN.{take}
 use Rattle.decimals.specs.Texts.{Counts}
 use Rattle.instants.specs.declared.Reference.{Reference}
 use Rattle.typed_requests.specs.RoomLaws.{Bytes, Message}

@@ -4,7 +4,7 @@
 --   checked-mirrored                  the mirror is refused as the first is, and within the limits if the first is
 --   request-twice, mirrored-twice     taken twice it gives the first back
 --   request-mirrored, mirrored-is     within the limits the signs are changed
-use mathlib.Core.Path.{_≡_, refl, sym, ap, _∙_}
+use mathlib.Core.Path.{_≡_, refl}
 use mathlib.Core.Bool.{Bool, true, false, cond}
 use Prim.Native.Nat.{ℕ, _≤_, _<_}
 use native.Mathlib.Omega.{arith}

@@ -9,7 +9,7 @@ use mathlib.Core.Path.{_≡_, refl, sym, subst, ap, _∙_}
 use mathlib.Core.Logic.{_⊎_}
 use mathlib.Core.Bool.{Bool, true, false, cond}
 use mathlib.Core.List.{List}
-use Prim.Native.Nat.{ℕ, suc, _≤_, _<_}
+use Prim.Native.Nat.{ℕ, _≤_, _<_}
 use native.Mathlib.Omega.{arith}
 use lib.Dec.{lit≤}
 use lib.IntN.{ℤ, pos, natAbs, _+ℤ_, _-ℤ_}
@@ -20,9 +20,8 @@ use mir.Val.{toZ, ofZ}
 use Rattle.numbers.specs.Order.{≤ℤ-trans}
 use Rattle.numbers.specs.Code.{read-back, read-size}
 use Rattle.phases.specs.declared.Phase.{Phase}
-use Rattle.phases.specs.States.{State, stateOf, code, SaidRightly}
+use Rattle.phases.specs.States.{stateOf, code, SaidRightly}
 use Rattle.phases.specs.PhaseLaws.{state-of-code}
-use Rattle.refusals.specs.declared.Refusal.{Refusal}
 use Rattle.refusals.specs.declared.Checked.{Checked}
 use Rattle.refusals.specs.declared.Checked.the-variants as C
 use Rattle.refusals.specs.Refusals.{refusal}
@@ -45,7 +44,6 @@ use Rattle.requests.specs.RequestLaws.{InLimits, guard-is, guard-size}
 use Rattle.requests.specs.Admission.{admitted, sinesAfter}
 use Rattle.requests.specs.AdmissionLaws.{admitted-within}
 use Rattle.seconds.specs.declared.OneSecond.{OneSecond}
-use Rattle.seconds.specs.declared.OneSecond.the-variants as O
 use Rattle.seconds.specs.Seconds.{momentAt, stateAt, directionAt, magnitudeOf, magnitudeAt, statesOf, closestOf}
 use Rattle.seconds.specs.ClosestLaws.{closest-is}
 use Rattle.seconds.specs.OneSecond.{firstPhase, secondPhase, wholeSecond, secondBy, secondChecked, secondAnswer, secondSines}

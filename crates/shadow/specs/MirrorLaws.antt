@@ -12,7 +12,7 @@ use Rattle.elements.specs.MirrorLaws.{axis-mirrored}
 use Rattle.elements.specs.Stars.{axisOf}
 use Rattle.station.specs.declared.Place.{Place}
 use Rattle.station.specs.Mirror.{mirroredPlace}
-use Rattle.geometry.specs.Shadow.{momentOf, moment, cone, L, M}
+use Rattle.geometry.specs.Shadow.{momentOf, moment, cone}
 use Rattle.geometry.specs.MirrorLaws.{mirroredMoment, L-mirrored, M-mirrored}
 use Rattle.shadow.specs.Second.{stateAt, magnitudeAt}
 

@@ -32,11 +32,7 @@ fn put_answer(out: &mut [u8], at: usize, answer: OneSecond) -> usize
 {
     match answer {
         OneSecond::Is(second) => put_second(out, at, second),
-        OneSecond::Refused(refusal) => {
-            let number = refusal.number as u64;
-            let place = refusal.place as u64;
-            lines::put_refusal_line(out, at, number, place)
-        }
+        OneSecond::Refused(refusal) => lines::put_refused(out, at, refusal),
     }
 }
 

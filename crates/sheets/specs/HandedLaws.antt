@@ -17,11 +17,10 @@ use Rattle.kinds.specs.declared.Named.{Named}
 use Rattle.kinds.specs.declared.Named.the-variants as Named
 use Rattle.kinds.specs.declared.Progress.{Progress}
 use Rattle.records.specs.declared.Record.the-variants.{Is, Refused}
-use Rattle.kinds.specs.Kinds.{codeOf, kindFor, sizeOf, isEnd, plain, table}
+use Rattle.kinds.specs.Kinds.{codeOf, kindFor, sizeOf, isEnd}
 use Rattle.kinds.specs.KindLaws.{kind-code, kind-inv, size-small}
 use Rattle.records.specs.Entries.{numbers, numbersOf}
 use Rattle.records.specs.EntryLaws.{numbers-nil, numbers-cons}
-use Rattle.numbers.specs.Tests.{both}
 use Rattle.rules.specs.Rules.{afterOf}
 use Rattle.sheets.specs.Handed.{numbered, ofNamed, handedAt}
 use Rattle.sheets.specs.StandLaws.{Stand, Steady}

@@ -1,6 +1,6 @@
 -- Document 02, wish 9: "7 in a sheet, so also for a whole old sheet". An old sheet has a head without a guard: its reader takes the two bytes
 -- after it, a kind and the next, for the guard, and no kind after a head is so small.
-use Prim.Native.Nat.{ℕ, _+_, _*_, _≤_}
+use Prim.Native.Nat.{ℕ, _≤_}
 use mathlib.Core.Path.{_≡_, refl, sym, ap, _∙_}
 use mathlib.Core.List.{List, [], _∷_, _++_, append-nil, append-assoc}
 use mathlib.Core.Bool.{true, false, _&&_}
@@ -21,7 +21,7 @@ use Rattle.numbers.specs.Tests.{distinct, not-right}
 use Rattle.records.specs.declared.Byte.the-variants as Byte
 use Rattle.records.specs.declared.Body.the-variants as Body
 use Rattle.records.specs.declared.Record.the-variants.{Is}
-use Rattle.big_endian.specs.Numbers.{two, twoAt}
+use Rattle.big_endian.specs.Numbers.{two}
 use Rattle.records.specs.Entries.{body, bytes, bytesOf}
 use Rattle.records.specs.EntryLaws.{length-bytes, bytes-cons}
 use Rattle.records.specs.Records.{entryAt, recordAt}

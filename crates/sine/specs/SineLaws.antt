@@ -6,7 +6,7 @@
 --   sine-reduced                     of the reduced angle; the same for the cosine
 --   sine-size, cosine-size           at most 10^8 in size, at every angle
 --   sine-second                      180 degrees less the angle, up to 90 degrees; the same for the cosine
-use mathlib.Core.Path.{_≡_, refl, sym, _∙_, ap}
+use mathlib.Core.Path.{_≡_, sym, _∙_, ap}
 use mathlib.Core.Bool.{cond}
 use mathlib.Core.Logic.{_⊎_, inl, inr, ⊎-elim}
 use Prim.Native.Nat.{ℕ, zero, suc, _*_, _-_, _≤_, _<_}

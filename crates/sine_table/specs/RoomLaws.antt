@@ -13,7 +13,7 @@ use lib.ListN.{length, getD, drop, take, set, length-append, length-drop, List·
 use lib.Seq.{length-take-le, drop-cons, set-at, append-snoc, take-suc, take-all}
 use Rattle.sine_table.specs.Table.{S, Entry, Sines}
 use Rattle.sine_table.specs.TableLaws.{entry-rule, entry-small}
-use Rattle.sine_table.specs.Room.{entriesFrom, table, filled, given, Gives}
+use Rattle.sine_table.specs.Room.{entriesFrom, table, filled, Gives}
 
 -- ---- the entries in a list
 

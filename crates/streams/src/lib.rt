@@ -64,12 +64,10 @@ fn is_shape(refusal: Refusal) -> bool
 fn put_line(out: &mut [u8], count: u64, refusal: Refusal) -> usize
     ensures { λ r. ⌜ Put (now (out .entry)) 0 (toldLine count refusal) (now (out .exit)) r ⌝ }
 {
-    let number = refusal.number as u64;
-    let place = refusal.place as u64;
     let word = decimals::put_text(out, 0, b"request ");
     let counted = decimals::put_number(out, word, count);
     let next = decimals::put_text(out, counted, b": ");
-    lines::put_refusal_line(out, next, number, place)
+    lines::put_refused(out, next, refusal)
 }
 
 // Where the stream stops.

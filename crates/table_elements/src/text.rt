@@ -4,7 +4,6 @@ use typed_rows::Fault;
 ghost use mathlib.Core.Path.{_≡_};
 ghost use lib.ListN.{length};
 ghost use Rattle.decimals.specs.Texts.{Put};
-ghost use Rattle.lines.specs.Lines.{refusalLine};
 ghost use Rattle.table_elements.specs.Printed.{valuesText, tableText, messageOf, faultLine};
 
 // The values of seven rows, a line a row.
@@ -17,14 +16,6 @@ fn put_values(out: &mut [u8], at: usize, values: &[i64; 56]) -> usize
         b"# # # # # # # #\n# # # # # # # #\n# # # # # # # #\n# # # # # # # #\n# # # # # # # #\n# # # # # # # #\n# # # # # # # #\n",
         values,
     )
-}
-
-fn put_refused(out: &mut [u8], at: usize, refusal: refusals::Refusal) -> usize
-    ensures { λ r. ⌜ Put (now (out .entry)) at (refusalLine (refusal .number) (refusal .place)) (now (out .exit)) r ⌝ }
-{
-    let number = refusal.number as u64;
-    let place = refusal.place as u64;
-    lines::put_refusal_line(out, at, number, place)
 }
 
 fn room() -> [i64; 56]
@@ -41,7 +32,7 @@ pub fn put_table(out: &mut [u8], at: usize, numbers: &[i64; 42]) -> usize
     let answer = tables::elements(numbers, &mut values);
     match answer {
         tables::Answer::Made => put_values(out, at, &values),
-        tables::Answer::Refused(refusal) => put_refused(out, at, refusal),
+        tables::Answer::Refused(refusal) => lines::put_refused(out, at, refusal),
     }
 }
 

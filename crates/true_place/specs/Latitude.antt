@@ -2,7 +2,7 @@
 -- One set of facts for the cosine and for the sine: p is the one and q the other, with the weights a = 10^8 and b = E, or the other way round; P and
 -- Q are their true values over K.
 use mathlib.Core.List.{[], _∷_}
-use Prim.Native.Nat.{ℕ, _+_, _*_, _≤_}
+use Prim.Native.Nat.{ℕ, _*_, _≤_}
 use native.Mathlib.Omega.{arith}
 use native.Mathlib.Nat.{mul-pos}
 use lib.IntN.{ℤ, pos, negℤ, natAbs, _+ℤ_, _-ℤ_, _*ℤ_}

@@ -1,7 +1,7 @@
 -- The exact u, v and L of a second less the true ones, over D·T, as moves of the station's point (Displacement); and D·T is not 0.
 use mathlib.Core.Path.{_≡_, refl, ap}
 use mathlib.Core.List.{[], _∷_}
-use Prim.Native.Nat.{ℕ, _*_, _≤_}
+use Prim.Native.Nat.{ℕ, _≤_}
 use native.Mathlib.Nat.{mul-pos}
 use lib.Dec.{leb→le}
 use lib.IntN.{ℤ, pos, _-ℤ_, _*ℤ_}

@@ -34,7 +34,6 @@ use Rattle.true_sine.specs.TrueSine.{trueSine, trueCosine}
 use Rattle.true_sine.specs.EveryAngle.{sine-everywhere, cosine-everywhere}
 use Rattle.true_sine.specs.AngleLaws.{sine-angle, cosine-angle}
 use Rattle.true_sine.specs.Circle.{circle}
-use Rattle.true_place.specs.Sizes as Sizes
 use Rattle.true_place.specs.Circle.{squares}
 use Rattle.true_place.specs.PlaceErrors.{place-close, place-size}
 use Rattle.true_shadow.specs.TrueShadow.{Sky, momentOfSky, fine, d-rest, H-rest, K, sin-H, cos-H, sin-d, cos-d, Q, R, P}

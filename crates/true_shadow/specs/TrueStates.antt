@@ -4,7 +4,7 @@
 use mathlib.Core.Path.{_≡_, subst}
 use mathlib.Core.List.{[], _∷_}
 use lib.IntN.{ℤ, pos, negℤ, _+ℤ_, _-ℤ_, _*ℤ_}
-use lib.Signed.{_≤ℤ_, _<ℤ_, clashℤ, leZ-yes}
+use lib.Signed.{_≤ℤ_, clashℤ, leZ-yes}
 use Rattle.phases.specs.declared.Phase.{Phase}
 use Rattle.phases.specs.States.{inside, outside}
 use Rattle.numbers.specs.Order.{<ℤ-≤, by-contra}

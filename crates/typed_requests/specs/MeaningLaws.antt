@@ -1,13 +1,13 @@
 -- The ways of a text: too long, refused for a number or for its instant, or put.
 use mathlib.Core.Path.{_≡_, refl, sym, ap, _∙_}
 use mathlib.Core.Bool.{Bool, true, false, cond}
-use mathlib.Core.List.{List, _++_}
+use mathlib.Core.List.{List}
 use Prim.Native.Nat.{ℕ, _+_, _≤_, _<_}
 use native.Mathlib.Omega.{arith}
 use borrow.Author.Tests.{lt-ltb, le-ltb}
 use lib.Dec.{ltb}
 use lib.IntN.{ℤ}
-use lib.ListN.{length, drop}
+use lib.ListN.{length}
 use Rattle.request_fields.specs.declared.Shape.{Shape}
 use Rattle.request_bytes.specs.Request.{sizeFor}
 use Rattle.decimals.specs.Texts.{letters, Put}

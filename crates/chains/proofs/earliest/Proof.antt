@@ -4,13 +4,11 @@ use mathlib.Core.Path.{_≡_, sym, subst}
 use mathlib.Core.Logic.{⊎-elim}
 use borrow.Author.Needs.{needs}
 use mathlib.Core.List.{List}
-use lib.ListN.{length, getD}
+use lib.ListN.{length}
 use Rattle.chains.specs.Earliest.{SoFar, far-start, far-smaller, far-other, far-end}
 use Rattle.chains.specs.DefinedLaws.{earliest-is}
 use Rattle.chains.proofs.earliest.Statement.{statement}
 use Rattle.chains.proofs.earliest.Tie as tie
-use Rattle.chains.proofs.earliest.Reads as reads
-use Rattle.chains.proofs.earliest.Lts as lts
 
 abbrev Inv-loop : tie.InvT-loop
 Inv-loop tos never low₀ best₀ i₀ low best i = SoFar tos never i low best

@@ -1,9 +1,6 @@
 -- `chains::first_lost` meets its contract: the places without steps are the lost ones.
-use Prim.Native.Nat.{_≤_}
 use native.Mathlib.Omega.{arith}
 use borrow.Author.Needs.{needs}
-use lib.ListN.{length}
-use Rattle.chains.specs.Steps.{StepsAre}
 use Rattle.chains.specs.Laws.{zero-is-lost}
 use Rattle.chains.specs.DefinedLaws.{distinct, lost-is}
 use Rattle.chains.proofs.first_lost.Statement.{statement}

@@ -5,10 +5,6 @@ use borrow.Author.Needs.{needs}
 use borrow.Author.Count.{below-more}
 use lib.ListN.{length, getD}
 use lib.IntN.{pos}
-use mir.Syntax.{w64}
-use mir.Val.{ofZ}
-use mathlib.Core.Path.{_≡_, ap}
-use mathlib.Core.Logic.{⊎-elim}
 use Rattle.chains.specs.First.{First}
 use Rattle.chains.specs.Steps.{At, Repeats}
 use Rattle.chains.specs.Laws.{placed, repeats-yes, repeats-no}

@@ -6,8 +6,6 @@ use borrow.Author.Count.{below-more}
 use Rattle.chains.specs.Steps.{Zero}
 use Rattle.chains.proofs.first_zero.Statement.{statement}
 use Rattle.chains.proofs.first_zero.Tie as tie
-use Rattle.chains.proofs.first_zero.Reads as reads
-use Rattle.chains.proofs.first_zero.Lts as lts
 
 abbrev Inv-loop : tie.InvT-loop
 Inv-loop steps n i₀ i = (i ≤ n) × ((k : ℕ) → k < i → Zero steps k → ⊥)

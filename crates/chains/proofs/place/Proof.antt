@@ -11,8 +11,6 @@ use mir.Val.{ofZ}
 use mathlib.Core.Path.{_≡_, ap}
 use Rattle.chains.proofs.place.Statement.{statement}
 use Rattle.chains.proofs.place.Tie as tie
-use Rattle.chains.proofs.place.Reads as reads
-use Rattle.chains.proofs.place.Lts as lts
 
 abbrev Inv-loop : tie.InvT-loop
 Inv-loop l x i₀ i = (i ≤ length l) × ((k : ℕ) → k < i → ofZ w64 (getD l k (pos 0)) ≡ x → ⊥)

@@ -4,14 +4,11 @@ use native.Mathlib.Omega.{arith}
 use borrow.Author.Needs.{needs}
 use borrow.Author.Count.{below-more}
 use lib.ListN.{length, getD}
-use mathlib.Core.Path.{_≡_, ap}
+use mathlib.Core.Path.{_≡_}
 use mathlib.Core.Logic.{⊎-elim}
 use Rattle.chains.specs.Search.{Untold}
 use Rattle.chains.proofs.ready_place.Statement.{statement}
 use Rattle.chains.proofs.ready_place.Tie as tie
-use Rattle.chains.proofs.ready_place.Reads as reads
-use Rattle.chains.proofs.ready_place.Lts as lts
-use Rattle.chains.proofs.next_steps.Reads as next-steps-reads
 
 abbrev Inv-loop : tie.InvT-loop
 Inv-loop numbers clocks steps i₀ i = (i ≤ length numbers) × ((k : ℕ) → k < i → getD steps k 0 ≡ 0 → Untold numbers clocks steps k)

@@ -5,7 +5,7 @@ use Prim.Native.Nat.{_+_, _<_, _≤_}
 use Rattle.chains.specs.declared.Ready.the-variants.{Found}
 use native.Mathlib.Omega.{arith}
 use borrow.Author.Needs.{needs}
-use lib.ListN.{length, getD, set, length-set}
+use lib.ListN.{length, set, length-set}
 use Rattle.chains.specs.Search.{Sound, Small, zeros, ReadyIs}
 use Rattle.chains.specs.Laws.{sound-start, small-start, quiet-lost, zeros-set, sound-set, small-set}
 use Rattle.chains.proofs.search.Statement.{statement}

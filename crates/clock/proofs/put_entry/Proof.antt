@@ -1,4 +1,4 @@
--- `clock::put_entry` meets its contract: the line by the clock.
+-- `clock::put_entry` meets its contract: the line by the reference.
 use mathlib.Core.Path.{_≡_, ap}
 use mir.Syntax.{w64}
 use mir.Val.{toZ, ofZ}

@@ -1,5 +1,5 @@
 -- `enters::first_enter` meets its contract: the first enter of what is left at the cursor is that of all. Assumes nothing.
-use mathlib.Core.Path.{_≡_, refl, sym, ap, _∙_}
+use mathlib.Core.Path.{_≡_, sym, ap, _∙_}
 use mathlib.Core.List.{map}
 use Prim.Native.Nat.{_+_, _-_, _≤_, _<_}
 use native.Mathlib.Omega.{arith}
@@ -10,7 +10,7 @@ use Rattle.numbers.specs.Code.{read-back, read-size}
 use Rattle.windows.specs.Windows.{secondCount}
 use Rattle.windows.specs.WindowLaws.{seconds-few, second-size}
 use Rattle.runs.specs.Runs.{decoded}
-use Rattle.contact_entries.specs.Entries.{to, entries}
+use Rattle.contact_entries.specs.Entries.{entries}
 use Rattle.contact_entries.specs.Shifted.{shifted}
 use Rattle.contacts.specs.Step.{entriesFrom, At}
 use Rattle.contacts.specs.StepLaws.{all-at-start, at-start, Took, took, none-left}

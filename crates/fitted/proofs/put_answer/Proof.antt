@@ -16,11 +16,8 @@ put-text-requires c κs = search needs
 enum-known-answer : tie.Need-enum-known-answer
 enum-known-answer c = search needs
 
-cast-number : tie.Need-cast-number
-cast-number c = search needs
-
-put-refusal-line-requires : tie.Need-put-refusal-line-requires
-put-refusal-line-requires c κs = search needs
+put-refused-requires : tie.Need-put-refused-requires
+put-refused-requires c κs = search needs
 
 same-length : tie.Need-same-length
 same-length c = search needs
@@ -32,7 +29,7 @@ same-length-2 : tie.Need-same-length-2
 same-length-2 c = search needs
 
 returns-2 : tie.Need-returns-2
-returns-2 c = line-refused _ _ _ _ _ _ (c .before .before .before .before .before .before .answer .given .1) (c .before .before .put-refusal-line .ensures)
+returns-2 c = line-refused _ _ _ _ _ _ (c .before .before .before .before .before .answer .given .1) (c .before .before .put-refused .ensures)
 
 pub put-answer-spec : {M : Type 1} → statement M
 put-answer-spec =
@@ -42,8 +39,7 @@ put-answer-spec =
     slice-aggregate-put-text
     put-text-requires
     enum-known-answer
-    cast-number
-    put-refusal-line-requires
+    put-refused-requires
     same-length
     returns
     same-length-2

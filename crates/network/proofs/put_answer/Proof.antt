@@ -11,9 +11,7 @@ use Rattle.nodes.specs.declared.Held.{Held}
 use Rattle.nodes.specs.Nodes.{Holds}
 use Rattle.nodes.specs.HeldLaws.{some-list, listed}
 use Rattle.networks.specs.declared.Answer.the-variants as A
-use Rattle.network_checks.specs.declared.Eclipse.{Eclipse}
 use Rattle.networks.specs.Network.{answerTo}
-use Rattle.network_checks.specs.CheckLaws.{AllWithin}
 use Rattle.decimals.specs.RowLaws.{put-as}
 use Rattle.network.specs.Printed.{zeros}
 use Rattle.network.specs.PrintedLaws.{named-sines, named-as, named-within, refused-text}

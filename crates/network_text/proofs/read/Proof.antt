@@ -1,7 +1,7 @@
 -- `network_text::read` meets its contract: the lines passed were taken, so the reading is that of those left (`Walked`). The measure is how many bytes
 -- are left. Assumes nothing.
 use mathlib.Core.Path.{_≡_, sym, ap, subst, _∙_}
-use Prim.Native.Nat.{ℕ, _+_, _-_, _≤_}
+use Prim.Native.Nat.{_+_, _-_, _≤_}
 use borrow.Author.Needs.{needs}
 use native.Mathlib.Omega.{arith}
 use lib.ListN.{length, take, drop}

@@ -4,15 +4,13 @@ use mir.Syntax.{w64}
 use mir.ValLaws.{toZ-ofZ}
 use Rattle.nodes.specs.Copy.{copy-step, copy-done}
 use Rattle.nodes.specs.Nodes.{numberOf}
-use Prim.Native.Nat.{ℕ, _≤_, _<_, _-_}
+use Prim.Native.Nat.{ℕ, _≤_, _-_}
 use native.Mathlib.Omega.{arith}
 use borrow.Author.Needs.{needs}
-use lib.ListN.{length, getD, take, set, length-set}
+use lib.ListN.{length, take, length-set}
 use Rattle.nodes.specs.Nodes.{numbersOf}
 use Rattle.nodes.proofs.numbers.Statement.{statement}
 use Rattle.nodes.proofs.numbers.Tie as tie
-use Rattle.nodes.proofs.numbers.Reads as reads
-use Rattle.nodes.proofs.numbers.Lts as lts
 
 abbrev Inv-loop : tie.InvT-loop
 Inv-loop h a₀ i₀ a i = (i ≤ 64) × ((length a ≡ 64) × (take i a ≡ take i (numbersOf (h .nodes))))

@@ -1,7 +1,5 @@
 -- `replies::share_reply` meets its contract: the share, or the refusal, as numbers. Assumes nothing.
 use borrow.Author.Needs.{needs}
-use native.Mathlib.Omega.{arith}
-use mathlib.Core.Path.{_∙_, ap}
 use Rattle.replies.proofs.share_reply.Statement.{statement}
 use Rattle.replies.proofs.share_reply.Tie as tie
 

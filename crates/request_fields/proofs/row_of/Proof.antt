@@ -4,7 +4,6 @@ use Prim.Native.Nat.{ℕ, _<_}
 use native.Mathlib.Omega.{arith}
 use borrow.Author.Needs.{needs}
 use Rattle.request_fields.specs.declared.Shape.{Shape}
-use Rattle.request_fields.specs.declared.Shape.the-variants as S
 use Rattle.request_fields.specs.Fields.{countOf}
 use Rattle.request_fields.specs.Rows.{rowIn, rowAt}
 use Rattle.request_fields.specs.Table.{tables}

@@ -1,5 +1,5 @@
 -- `request_fields::width_from` meets its contract: the letter is that of the test, or another. Assumes nothing.
-use borrow.Author.Tests.{eq-eqb, ne-eqb}
+use borrow.Author.Tests.{ne-eqb}
 use Rattle.request_fields.specs.Table.{widthFrom}
 use Rattle.request_fields.proofs.width_from.Statement.{statement}
 use Rattle.request_fields.proofs.width_from.Tie as tie

@@ -1,7 +1,6 @@
 -- `rules::in_order` meets its contract. Each arm is the order of its stage, and that is the kind's (`order-by`).
-use Rattle.rules.specs.Rules.{phaseInOrder}
 use Rattle.rules.specs.Stages.{order-by}
-use mathlib.Core.Path.{sym, ap, _∙_}
+use mathlib.Core.Path.{sym, _∙_}
 use borrow.Author.Needs.{needs}
 use Rattle.rules.proofs.in_order.Statement.{statement}
 use Rattle.rules.proofs.in_order.Tie as tie

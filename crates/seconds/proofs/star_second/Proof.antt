@@ -1,7 +1,6 @@
 -- `seconds::star_second` meets its contract: the sample's letters are the second's, and the edge of a star's phase is its L. Assumes nothing.
 use mathlib.Core.Path.{_≡_, refl, _∙_}
 use native.Mathlib.Omega.{arith}
-use borrow.Author.Needs.{needs}
 use lib.IntN.{ℤ}
 use Rattle.phases.specs.declared.Phase.the-variants as P
 use Rattle.phases.specs.States.{code}

@@ -4,7 +4,7 @@ use mathlib.Core.List.{[], _∷_}
 use Prim.Native.Nat.{_≤_}
 use native.Mathlib.Omega.{arith}
 use lib.Dec.{lit≤}
-use lib.IntN.{ℤ, natAbs, _+ℤ_, _-ℤ_, _*ℤ_}
+use lib.IntN.{ℤ, natAbs, _+ℤ_, _*ℤ_, _-ℤ_}
 use Rattle.numbers.specs.Code.{Code, arg, add, sub, mul, Within, whole, ends, _▹_, fits, runs, within, read-back, read-size}
 use Rattle.numbers.specs.Value.{Value}
 use Rattle.sine.specs.SineLaws.{sine-size, cosine-size}

@@ -4,7 +4,7 @@ use mathlib.Core.List.{[], _∷_}
 use Prim.Native.Nat.{_≤_}
 use native.Mathlib.Omega.{arith}
 use lib.Dec.{lit≤}
-use lib.IntN.{ℤ, natAbs, _-ℤ_, _*ℤ_}
+use lib.IntN.{ℤ, natAbs, _*ℤ_, _-ℤ_}
 use lib.Signed.{leZ-yes}
 use Rattle.numbers.specs.Order.{natAbs-product-le}
 use Rattle.numbers.specs.Code.{Code, arg, sub, mul, Within, whole, ends, _▹_, fits, runs, within, read-back, read-size}

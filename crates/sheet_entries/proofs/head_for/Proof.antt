@@ -1,8 +1,8 @@
 -- `sheet_entries::head_for` meets its contract: a number, two seconds and a guard within their ranges, as unsigned numbers. Assumes nothing.
 use mathlib.Core.List.{[], _∷_}
-use Prim.Native.Nat.{ℕ, _≤_}
+use Prim.Native.Nat.{_≤_}
 use native.Mathlib.Omega.{arith}
-use lib.IntN.{ℤ, natAbs}
+use lib.IntN.{natAbs}
 use lib.Signed.{leZ-yes}
 use Rattle.numbers.specs.Order.{≤ℤ-trans, natAbs-between}
 use Rattle.numbers.specs.Code.{arg, Within, whole, ends, _▹_, within, unsigned, read-back, read-size}

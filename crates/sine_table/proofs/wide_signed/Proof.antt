@@ -1,5 +1,5 @@
 -- `sine_table::wide_signed` meets its contract: what fits 16 bits fits 64.
-use mathlib.Core.Path.{_≡_, _∙_}
+use mathlib.Core.Path.{_≡_}
 use native.Mathlib.Omega.{arith}
 use lib.IntN.{ℤ}
 use mir.Syntax.{w16, w64}

@@ -6,9 +6,6 @@ use borrow.Author.Needs.{needs}
 use Rattle.streams.proofs.put_line.Statement.{statement}
 use Rattle.streams.proofs.put_line.Tie as tie
 
-cast-number : tie.Need-cast-number
-cast-number c = search needs
-
 slice-aggregate-put-text : tie.Need-slice-aggregate-put-text
 slice-aggregate-put-text c = search needs
 
@@ -24,8 +21,8 @@ slice-aggregate-put-text-2 c = search needs
 put-text-requires-2 : tie.Need-put-text-requires-2
 put-text-requires-2 c κs = search needs
 
-put-refusal-line-requires : tie.Need-put-refusal-line-requires
-put-refusal-line-requires c κs = search needs
+put-refused-requires : tie.Need-put-refused-requires
+put-refused-requires c κs = search needs
 
 same-length : tie.Need-same-length
 same-length c = search needs
@@ -35,18 +32,17 @@ unfolding toldLine
 returns c =
     joined (omega arith)
     (joined (omega arith) (joined (omega arith) (c .before .before .before .before .before .before .before .before .before .before .before .before .before .before .before .put-text .ensures) (c .before .before .before .before .before .before .before .before .before .before .before .put-number .ensures)) (c .before .before .before .before .before .before .put-text2 .ensures))
-    (c .before .before .put-refusal-line .ensures)
+    (c .before .before .put-refused .ensures)
 
 pub put-line-spec : {M : Type 1} → statement M
 put-line-spec =
     tie.close
     (tie.spec
-    cast-number
     slice-aggregate-put-text
     put-text-requires
     put-number-requires
     slice-aggregate-put-text-2
     put-text-requires-2
-    put-refusal-line-requires
+    put-refused-requires
     same-length
     returns)

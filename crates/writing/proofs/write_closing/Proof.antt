@@ -11,9 +11,9 @@ use Rattle.kinds.specs.Entries.{end}
 use Rattle.kinds.specs.declared.Kind.the-variants as K
 use Rattle.kinds.specs.declared.Entry.{Entry}
 use Rattle.kinds.specs.Kinds.{sizeOf}
-use Rattle.records.specs.Entries.{bytes, bytesOf}
+use Rattle.records.specs.Entries.{bytes}
 use Rattle.requests.specs.Shares.{sharing}
-use Rattle.courses.specs.Courses.{closestEntry, shareEntry, closingEntries}
+use Rattle.courses.specs.Courses.{closestEntry, shareEntry}
 use Rattle.courses.specs.Lengths.{closest-size, share-size, shared-length, plain-length}
 use Rattle.courses.specs.Stores.{stores-shared, stores-plain}
 use Rattle.sheet_entries.specs.Course.{courseOf}

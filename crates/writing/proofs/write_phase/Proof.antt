@@ -2,7 +2,7 @@
 -- Assumes nothing.
 use mathlib.Core.Path.{_≡_, refl, sym, ap, _∙_}
 use mathlib.Core.List.{[], _∷_, map}
-use Prim.Native.Nat.{_+_, _-_, _≤_}
+use Prim.Native.Nat.{_+_, _-_}
 use native.Mathlib.Omega.{arith}
 use borrow.Author.Needs.{needs}
 use lib.ListN.{length}
@@ -15,7 +15,7 @@ use Rattle.contacts.specs.StepLaws.{all-at-start, at-start, Took, took, none-le
 use Rattle.kinds.specs.Kinds.{sizeOf}
 use Rattle.records.specs.Entries.{bytes, bytesOf}
 use Rattle.courses.specs.Courses.{entryOf}
-use Rattle.courses.specs.Lengths.{kindIn, bytesNeeded, needed-nil, needed-cons, kind-in}
+use Rattle.courses.specs.Lengths.{bytesNeeded, needed-nil, needed-cons, kind-in}
 use Rattle.courses.specs.Stores.{stores-entry, stores-none}
 use Rattle.sheet_entries.specs.Course.{courseOf}
 use Rattle.writing.proofs.write_phase.Statement.{statement}

@@ -1,5 +1,4 @@
 -- `instant_text::forms::fits` meets its contract: by the character of the form. Assumes nothing.
-use mathlib.Core.Path.{_∙_}
 use borrow.Author.Tests.{eq-eqb, ne-eqb}
 use borrow.Author.Needs.{needs}
 use Rattle.instant_text.proofs.forms.fits.Statement.{statement}

@@ -1,5 +1,5 @@
 -- `instant_text::texts::read_after` meets its contract: the name is said, so what follows it is read. Assumes nothing.
-use mathlib.Core.Path.{_≡_, ap, _∙_}
+use mathlib.Core.Path.{ap, _∙_}
 use Prim.Native.Nat.{_≤_}
 use native.Mathlib.Omega.{arith}
 use lib.ListN.{length}

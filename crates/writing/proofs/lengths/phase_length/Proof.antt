@@ -9,7 +9,7 @@ use Rattle.runs.specs.Runs.{decoded}
 use Rattle.contacts.specs.Step.{entriesFrom, At}
 use Rattle.contacts.specs.StepLaws.{all-at-start, at-start, Took, took, none-left}
 use Rattle.kinds.specs.Kinds.{sizeOf}
-use Rattle.courses.specs.Lengths.{kindIn, bytesNeeded, needed-nil, needed-cons}
+use Rattle.courses.specs.Lengths.{bytesNeeded, needed-nil, needed-cons}
 use Rattle.writing.proofs.lengths.phase_length.Statement.{statement}
 use Rattle.writing.proofs.lengths.phase_length.Tie as tie
 
