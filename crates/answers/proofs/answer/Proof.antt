@@ -12,20 +12,8 @@ use Rattle.answers.proofs.answer.Tie as tie
 short : (c : tie.After-slice-known3) → length (c .before .before .before .before .args .out .now) < 18446744073709551615
 short c = omega arith
 
-sheet-requires : tie.Need-sheet-requires
-sheet-requires c κs = search needs
-
-slice-aggregate-put-text : tie.Need-slice-aggregate-put-text
-slice-aggregate-put-text c = search needs
-
 put-text-requires : tie.Need-put-text-requires
 put-text-requires c κs = let m = c .before .before .before .before .before .before in fits _ _ _ _ (m .sheet .ensures .0) _ (omega arith)
-
-same-length : tie.Need-same-length
-same-length c = search needs
-
-same-length-2 : tie.Need-same-length-2
-same-length-2 c = search needs
 
 returns : tie.Need-returns
 returns c =
@@ -35,15 +23,6 @@ returns c =
 
 put-text-requires-2 : tie.Need-put-text-requires-2
 put-text-requires-2 c κs = let m = c .before .before .before .before .before .before .before .before .before .before .before in fits _ _ _ _ (m .sheet .ensures .0) _ (omega arith)
-
-same-length-3 : tie.Need-same-length-3
-same-length-3 c = search needs
-
-same-length-4 : tie.Need-same-length-4
-same-length-4 c = search needs
-
-same-length-5 : tie.Need-same-length-5
-same-length-5 c = search needs
 
 returns-2 : tie.Need-returns-2
 returns-2 c =
@@ -57,14 +36,14 @@ pub answer-spec : {M : Type 1} → statement M
 answer-spec =
     tie.close
     (tie.spec
-    sheet-requires
-    slice-aggregate-put-text
+    (λ c κs. search needs)
+    (λ c. search needs)
     put-text-requires
-    same-length
-    same-length-2
+    (λ c. search needs)
+    (λ c. search needs)
     returns
     put-text-requires-2
-    same-length-3
-    same-length-4
-    same-length-5
+    (λ c. search needs)
+    (λ c. search needs)
+    (λ c. search needs)
     returns-2)

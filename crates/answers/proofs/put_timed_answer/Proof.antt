@@ -8,23 +8,8 @@ use borrow.Author.Needs.{needs}
 use Rattle.answers.proofs.put_timed_answer.Statement.{statement}
 use Rattle.answers.proofs.put_timed_answer.Tie as tie
 
-deltat-requires : tie.Need-deltat-requires
-deltat-requires c κs = search needs
-
-sheet-requires : tie.Need-sheet-requires
-sheet-requires c κs = search needs
-
 put-text-requires : tie.Need-put-text-requires
 put-text-requires c κs = let m = c .before .before .before .before .before .before in fits _ _ _ _ (m .sheet .ensures .0) _ (omega arith)
-
-same-length : tie.Need-same-length
-same-length c = search needs
-
-same-length-2 : tie.Need-same-length-2
-same-length-2 c = search needs
-
-same-length-3 : tie.Need-same-length-3
-same-length-3 c = search needs
 
 returns : tie.Need-returns
 returns c =
@@ -38,10 +23,10 @@ pub put-timed-answer-spec : {M : Type 1} → statement M
 put-timed-answer-spec =
     tie.close
     (tie.spec
-    deltat-requires
-    sheet-requires
+    (λ c κs. search needs)
+    (λ c κs. search needs)
     put-text-requires
-    same-length
-    same-length-2
-    same-length-3
+    (λ c. search needs)
+    (λ c. search needs)
+    (λ c. search needs)
     returns)

@@ -16,9 +16,6 @@ Inv-loop n shadows w₀ k₀ w k = (k ≤ 17) × OneStop n shadows w
 abbrev μ-loop : tie.MeasureT-loop
 μ-loop n shadows w₀ k₀ w k = 17 - k
 
-array-copy-out-a : tie.Need-array-copy-out-a Inv-loop μ-loop
-array-copy-out-a c = search needs
-
 loop-holds : tie.Need-loop-holds Inv-loop μ-loop
 loop-holds c =
     let a = c .before .before in
@@ -27,23 +24,11 @@ loop-holds c =
 stop-requires : tie.Need-stop-requires Inv-loop μ-loop
 stop-requires c κs = let a = c .before .before .before .before in (a .pre .0, a .pre .1, omega (arith, c .loop-test .taken))
 
-mul-s : tie.Need-mul-s Inv-loop μ-loop
-mul-s c = search needs
-
-array-copy-out-s : tie.Need-array-copy-out-s Inv-loop μ-loop
-array-copy-out-s c = search needs
-
 closer-requires : tie.Need-closer-requires Inv-loop μ-loop
 closer-requires c κs =
     let l = c .before .before .before .before in
     let a = l .before .before .before in
     (stop-size (l .loop .inv .1) (a .pre .2), read-size (getD (a .args .t2) (l .loop .k) blank .m) 1000000000000000000 (a .pre .2 (l .loop .k) (c .before .before .before .loop-test .taken)) tt)
-
-add-k : tie.Need-add-k Inv-loop μ-loop
-add-k c = search needs
-
-loop-less : tie.Need-loop-less Inv-loop μ-loop
-loop-less c = search needs
 
 loop-again : tie.Need-loop-again Inv-loop μ-loop
 loop-again c =
@@ -62,13 +47,13 @@ closest-spec =
     (tie.spec
     Inv-loop
     μ-loop
-    array-copy-out-a
+    (λ c. search needs)
     loop-holds
     stop-requires
-    mul-s
-    array-copy-out-s
+    (λ c. search needs)
+    (λ c. search needs)
     closer-requires
-    add-k
-    loop-less
+    (λ c. search needs)
+    (λ c. search needs)
     loop-again
     returns)

@@ -110,9 +110,6 @@ cast-ahead c =
     let y = both6 (c .before) .offset-of2 .result in
     unsigned w (sub (K.lit (pos 0)) along) tt (under (x .u *ℤ (y .u -ℤ x .u) +ℤ x .v *ℤ (y .v -ℤ x .v)) (taken-< w along (K.lit (pos 0)) tt (c .if1 .taken)))
 
-div-ahead : tie.Need-div-ahead
-div-ahead c = search needs
-
 sub-room : tie.Need-sub-room
 sub-room c = omega (arith, start2 (both6 (c .before)) .pre .4)
 
@@ -135,9 +132,6 @@ cast-back : tie.Need-cast-back
 cast-back c =
     let w = bounds (both6 (c .before)) in
     unsigned w along tt (left-< w along (K.lit (pos 0)) tt (c .if1 .left))
-
-div-back : tie.Need-div-back
-div-back c = search needs
 
 sub-result-2 : tie.Need-sub-result-2
 sub-result-2 c = omega (arith, c .if3 .taken)
@@ -167,7 +161,7 @@ foot-spec =
     add-along
     sub-before
     cast-ahead
-    div-ahead
+    (λ c. search needs)
     sub-room
     sub-room-2
     add-result
@@ -175,7 +169,7 @@ foot-spec =
     sub-result
     returns-2
     cast-back
-    div-back
+    (λ c. search needs)
     sub-result-2
     returns-3
     returns-4)

@@ -22,9 +22,6 @@ result-small c =
     let a = start c in
     omega (arith, ap natAbs (c .nth-second .ensures), second-size (a .args .o .window) (a .pre .1 .window) (a .args .k) (a .pre .3))
 
-axis-of-requires : tie.Need-axis-of-requires
-axis-of-requires c κs = search needs
-
 nth-second-requires : tie.Need-nth-second-requires
 nth-second-requires c κs = let a = c .before .before .before in (a .pre .1 .window, a .pre .3)
 
@@ -45,4 +42,4 @@ returns c =
     rw (n .before .axis-of .ensures, a .pre .2, read-back (n .nth-second .result) (result-small n) tt ∙ n .nth-second .ensures) at (c .offset-at .ensures)
 
 pub offset-of-spec : {M : Type 1} → statement M
-offset-of-spec = tie.close (tie.spec axis-of-requires nth-second-requires offset-at-requires returns)
+offset-of-spec = tie.close (tie.spec (λ c κs. search needs) nth-second-requires offset-at-requires returns)

@@ -69,9 +69,6 @@ bounds c = seen c .size ▹ ends
 cast-root : tie.Need-cast-root
 cast-root c = unsigned (bounds (c .before)) (arg 0) tt (seen-nonneg (seen (c .before)))
 
-root-requires : tie.Need-root-requires
-root-requires c κs = search needs
-
 root-is : (c : tie.After-root) → c .root .result ≡ root (natAbs (c .before .before .closer .result .m))
 root-is c = let h = c .before .before in c .root .ensures ∙ ap (λ z. root (natAbs z)) (read-back (h .closer .result .m) (seen h .size) tt)
 
@@ -93,6 +90,6 @@ reach-spec =
     square-of-requires
     closer-requires
     cast-root
-    root-requires
+    (λ c κs. search needs)
     add-result
     returns)

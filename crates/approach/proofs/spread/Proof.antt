@@ -38,18 +38,6 @@ sample-of-requires c κs =
     let n = a .args .n in
     (a .pre .0, a .pre .1, a .pre .2, omega (arith, c .stop .ensures, stop-in n (c .before .before .loop .k) (some a .0) (omega (arith, c .before .loop-test .taken)), a .pre .3))
 
-mul-shadows : tie.Need-mul-shadows Inv-loop μ-loop
-mul-shadows c = search needs
-
-array-set-from-shadows : tie.Need-array-set-from-shadows Inv-loop μ-loop
-array-set-from-shadows c = search needs
-
-add-k : tie.Need-add-k Inv-loop μ-loop
-add-k c = search needs
-
-loop-less : tie.Need-loop-less Inv-loop μ-loop
-loop-less c = search needs
-
 loop-again : tie.Need-loop-again Inv-loop μ-loop
 loop-again c =
     let l = c .before .before .before in
@@ -73,9 +61,9 @@ spread-spec =
     loop-holds
     stop-requires
     sample-of-requires
-    mul-shadows
-    array-set-from-shadows
-    add-k
-    loop-less
+    (λ c. search needs)
+    (λ c. search needs)
+    (λ c. search needs)
+    (λ c. search needs)
     loop-again
     returns)

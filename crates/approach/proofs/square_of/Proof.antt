@@ -6,9 +6,6 @@ use Rattle.gaps.specs.Samples.{squareAt}
 use Rattle.approach.proofs.square_of.Statement.{statement}
 use Rattle.approach.proofs.square_of.Tie as tie
 
-offset-of-requires : tie.Need-offset-of-requires
-offset-of-requires c κs = search needs
-
 returns : tie.Need-returns
 unfolding squareAt
 returns c =
@@ -18,4 +15,4 @@ returns c =
     record { value = read-back m (e .m .size) tt ∙ e .m .value; size = read-size m 1000000000000000000 (e .m .size) tt }
 
 pub square-of-spec : {M : Type 1} → statement M
-square-of-spec = tie.close (tie.spec offset-of-requires returns)
+square-of-spec = tie.close (tie.spec (λ c κs. search needs) returns)

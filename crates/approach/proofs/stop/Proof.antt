@@ -6,9 +6,6 @@ use native.Mathlib.Nat.{mul-le-mul-right}
 use Rattle.approach.proofs.stop.Statement.{statement}
 use Rattle.approach.proofs.stop.Tie as tie
 
-sub-result : tie.Need-sub-result
-sub-result c = search needs
-
 mul-result : tie.Need-mul-result
 mul-result c = omega (arith, mul-le-mul-right (c .args .n - 1) (c .pre .2), c .pre .1)
 
@@ -16,4 +13,4 @@ returns : tie.Need-returns
 returns c = search needs
 
 pub stop-spec : {M : Type 1} → statement M
-stop-spec = tie.close (tie.spec sub-result mul-result returns)
+stop-spec = tie.close (tie.spec (λ c. search needs) mul-result returns)

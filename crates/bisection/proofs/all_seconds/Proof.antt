@@ -17,23 +17,14 @@ start c = c .before .before .before .before
 abbrev counted : tie.After-first → tie.After-second-count
 counted c = c .before .before
 
-second-count-requires : tie.Need-second-count-requires
-second-count-requires c κs = search needs
-
 sample-of-requires : tie.Need-sample-of-requires
 sample-of-requires c κs = let a = start c in (a .pre .0, a .pre .1, a .pre .2, seconds-some (a .args .o .window))
-
-first-requires : tie.Need-first-requires
-first-requires c κs = search needs
 
 few-seconds-requires : tie.Need-few-seconds-requires
 few-seconds-requires c κs =
     let x = c .before .before in
     let a = start (counted x) in
     ((a .pre .0, a .pre .1, a .pre .2, counted x .second-count .ensures), (a .pre .3, x .first .ensures 1000000000 _))
-
-same-length : tie.Need-same-length
-same-length c = search needs
 
 returns : tie.Need-returns
 returns c =
@@ -48,12 +39,6 @@ returns c =
       r .ensures .1,
     )
 
-spread-requires : tie.Need-spread-requires
-spread-requires c κs = search needs
-
-reach-requires : tie.Need-reach-requires
-reach-requires c κs = search needs
-
 stretches-requires : tie.Need-stretches-requires
 stretches-requires c κs =
     let y = c .before .before in
@@ -61,9 +46,6 @@ stretches-requires c κs =
     let a = start (counted x) in
     let d = c .before .reach in
     ((a .pre .0, a .pre .1, a .pre .2, d .ensures .few, counted x .second-count .ensures, omega (arith, y .before .if1 .left), y .spread .ensures), (a .pre .3, x .first .ensures (d .result) _))
-
-same-length-2 : tie.Need-same-length-2
-same-length-2 c = search needs
 
 returns-2 : tie.Need-returns-2
 returns-2 c =
@@ -84,14 +66,14 @@ pub all-seconds-spec : {M : Type 1} → statement M
 all-seconds-spec =
     tie.close
     (tie.spec
-    second-count-requires
+    (λ c κs. search needs)
     sample-of-requires
-    first-requires
+    (λ c κs. search needs)
     few-seconds-requires
-    same-length
+    (λ c. search needs)
     returns
-    spread-requires
-    reach-requires
+    (λ c κs. search needs)
+    (λ c κs. search needs)
     stretches-requires
-    same-length-2
+    (λ c. search needs)
     returns-2)

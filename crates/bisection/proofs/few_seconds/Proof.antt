@@ -28,11 +28,8 @@ each-second-requires c κs =
     let p = a .pre .0 in
     ((p .0, p .1, p .2, omega (arith, some a, c .before .before .if1 .left), omega (arith, some a, p .3), c .before .sample-of .ensures), a .pre .1)
 
-same-length : tie.Need-same-length
-same-length c = search needs
-
 returns-2 : tie.Need-returns-2
 returns-2 c = search needs
 
 pub few-seconds-spec : {M : Type 1} → statement M
-few-seconds-spec = tie.close (tie.spec returns sub-j sample-of-requires each-second-requires same-length returns-2)
+few-seconds-spec = tie.close (tie.spec returns sub-j sample-of-requires each-second-requires (λ c. search needs) returns-2)

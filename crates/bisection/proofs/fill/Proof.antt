@@ -7,18 +7,12 @@ use Rattle.bisection.specs.FoundLaws.{found-of}
 use Rattle.bisection.proofs.fill.Statement.{statement}
 use Rattle.bisection.proofs.fill.Tie as tie
 
-all-seconds-requires : tie.Need-all-seconds-requires
-all-seconds-requires c κs = search needs
-
 write-requires : tie.Need-write-requires
 write-requires c κs =
     let x = c .before .before .before .before in
     let a = x .before .before .before .before in
     let r = x .all-seconds .ensures in
     (omega (arith, r .0 .kept .few, seconds-some (a .args .o .window), r .1, a .pre .3), r .0 .kept .ends)
-
-same-length : tie.Need-same-length
-same-length c = search needs
 
 returns : tie.Need-returns
 returns c =
@@ -29,4 +23,4 @@ returns c =
     (found-of (a .args .o) (r .0) (omega (arith, r .1, a .pre .3)) w, w .same ∙ r .1)
 
 pub fill-spec : {M : Type 1} → statement M
-fill-spec = tie.close (tie.spec all-seconds-requires write-requires same-length returns)
+fill-spec = tie.close (tie.spec (λ c κs. search needs) write-requires (λ c. search needs) returns)

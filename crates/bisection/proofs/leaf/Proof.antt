@@ -13,9 +13,6 @@ bounds c = c .pre .0 ▹ count-size (c .args .near) (c .pre .1) tt ▹ ends
 abbrev W : Code
 W = add (arg 1) (arg 0)
 
-cast-w : tie.Need-cast-w
-cast-w c = search needs
-
 add-w : tie.Need-add-w
 add-w c = fits (bounds c) W tt
 
@@ -32,4 +29,4 @@ returns-3 : tie.Need-returns-3
 returns-3 c = omega arith
 
 pub leaf-spec : {M : Type 1} → statement M
-leaf-spec = tie.close (tie.spec cast-w add-w mul-limit returns returns-2 returns-3)
+leaf-spec = tie.close (tie.spec (λ c. search needs) add-w mul-limit returns returns-2 returns-3)

@@ -29,26 +29,11 @@ some a = (omega (arith, a .pre .0 .5), omega (arith, a .pre .0 .4, seconds-few (
 loop-holds : tie.Need-loop-holds Inv-loop μ-loop
 loop-holds c = let a = c .before .before in (omega arith, refl, rw (stop-first (a .args .n)) (a .pre .1 .1))
 
-add-next : tie.Need-add-next Inv-loop μ-loop
-add-next c = search needs
-
 stop-requires : tie.Need-stop-requires Inv-loop μ-loop
 stop-requires c κs = let a = start (c .before) in (some a .0, some a .1, omega (arith, c .loop-test .taken))
 
 stop-requires-2 : tie.Need-stop-requires-2 Inv-loop μ-loop
 stop-requires-2 c κs = let a = start (c .before .before) in (some a .0, some a .1, omega (arith, c .before .loop-test .taken))
-
-mul-a : tie.Need-mul-a Inv-loop μ-loop
-mul-a c = search needs
-
-array-copy-out-a : tie.Need-array-copy-out-a Inv-loop μ-loop
-array-copy-out-a c = search needs
-
-mul-b : tie.Need-mul-b Inv-loop μ-loop
-mul-b c = search needs
-
-array-copy-out-b : tie.Need-array-copy-out-b Inv-loop μ-loop
-array-copy-out-b c = search needs
 
 between-requires : tie.Need-between-requires Inv-loop μ-loop
 between-requires c κs =
@@ -111,13 +96,13 @@ stretches-spec =
     Inv-loop
     μ-loop
     loop-holds
-    add-next
+    (λ c. search needs)
     stop-requires
     stop-requires-2
-    mul-a
-    array-copy-out-a
-    mul-b
-    array-copy-out-b
+    (λ c. search needs)
+    (λ c. search needs)
+    (λ c. search needs)
+    (λ c. search needs)
     between-requires
     loop-less
     loop-again

@@ -9,55 +9,13 @@ use borrow.Author.Needs.{needs}
 use Rattle.cases.proofs.put_case.Statement.{statement}
 use Rattle.cases.proofs.put_case.Tie as tie
 
-two-at-requires : tie.Need-two-at-requires
-two-at-requires c κs = search needs
-
-cast-size : tie.Need-cast-size
-cast-size c = search needs
-
-shared-slice-read-wide : tie.Need-shared-slice-read-wide
-shared-slice-read-wide c = search needs
-
-wide-requires : tie.Need-wide-requires
-wide-requires c κs = search needs
-
 returns : tie.Need-returns
 returns c = case-long _ _ _ (omega (arith, c .before .wide .ensures)) (omega arith)
-
-add-end : tie.Need-add-end
-add-end c = search needs
-
-zeros-requires : tie.Need-zeros-requires
-zeros-requires c κs = search needs
-
-sines-room-requires : tie.Need-sines-room-requires
-sines-room-requires c κs = search needs
-
-sub-put-answer : tie.Need-sub-put-answer
-sub-put-answer c = search needs
-
-part-put-answer-start : tie.Need-part-put-answer-start
-part-put-answer-start c = search needs
-
-part-put-answer-end : tie.Need-part-put-answer-end
-part-put-answer-end c = search needs
-
-slice-aggregate-put-answer : tie.Need-slice-aggregate-put-answer
-slice-aggregate-put-answer c = search needs
-
-array-borrow-prefix-room : tie.Need-array-borrow-prefix-room
-array-borrow-prefix-room c = search needs
 
 slice-aggregate-put-answer-2 : tie.Need-slice-aggregate-put-answer-2
 slice-aggregate-put-answer-2 c =
     let zeros = c .before .before .before .before .before in
     sym (length-take-le _ _ (omega (arith, zeros-length (zeros .zeros .ensures), zeros .before .before .before .before .two-at .ensures .1)))
-
-put-answer-requires : tie.Need-put-answer-requires
-put-answer-requires c κs = search needs
-
-same-length : tie.Need-same-length
-same-length c = search needs
 
 returns-2 : tie.Need-returns-2
 returns-2 c =
@@ -76,20 +34,20 @@ pub put-case-spec : {M : Type 1} → statement M
 put-case-spec =
     tie.close
     (tie.spec
-    two-at-requires
-    cast-size
-    shared-slice-read-wide
-    wide-requires
+    (λ c κs. search needs)
+    (λ c. search needs)
+    (λ c. search needs)
+    (λ c κs. search needs)
     returns
-    add-end
-    zeros-requires
-    sines-room-requires
-    sub-put-answer
-    part-put-answer-start
-    part-put-answer-end
-    slice-aggregate-put-answer
-    array-borrow-prefix-room
+    (λ c. search needs)
+    (λ c κs. search needs)
+    (λ c κs. search needs)
+    (λ c. search needs)
+    (λ c. search needs)
+    (λ c. search needs)
+    (λ c. search needs)
+    (λ c. search needs)
     slice-aggregate-put-answer-2
-    put-answer-requires
-    same-length
+    (λ c κs. search needs)
+    (λ c. search needs)
     returns-2)

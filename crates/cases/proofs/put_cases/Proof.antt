@@ -18,29 +18,8 @@ abbrev μ-loop : tie.MeasureT-loop
 loop-holds : tie.Need-loop-holds Inv-loop μ-loop
 loop-holds c = rows-start _ _ _ _ (omega arith) (omega arith)
 
-mul-from : tie.Need-mul-from Inv-loop μ-loop
-mul-from c = search needs
-
-add-end : tie.Need-add-end Inv-loop μ-loop
-add-end c = search needs
-
-sub-put-case : tie.Need-sub-put-case Inv-loop μ-loop
-sub-put-case c = search needs
-
-part-put-case-start : tie.Need-part-put-case-start Inv-loop μ-loop
-part-put-case-start c = search needs
-
-part-put-case-end : tie.Need-part-put-case-end Inv-loop μ-loop
-part-put-case-end c = search needs
-
 put-case-requires : tie.Need-put-case-requires Inv-loop μ-loop
 put-case-requires c κs = simp (length-take, length-drop) (omega arith)
-
-add-k : tie.Need-add-k Inv-loop μ-loop
-add-k c = search needs
-
-loop-less : tie.Need-loop-less Inv-loop μ-loop
-loop-less c = search needs
 
 loop-again : tie.Need-loop-again Inv-loop μ-loop
 loop-again c = parts-turn 119 caseText _ _ _ _ _ _ _ (c .before .before .before .before .before .before .loop .inv) (c .before .before .before .before .before .loop-test .taken) _ _ (c .before .before .put-case .ensures)
@@ -59,14 +38,14 @@ put-cases-spec =
     Inv-loop
     μ-loop
     loop-holds
-    mul-from
-    add-end
-    sub-put-case
-    part-put-case-start
-    part-put-case-end
+    (λ c. search needs)
+    (λ c. search needs)
+    (λ c. search needs)
+    (λ c. search needs)
+    (λ c. search needs)
     put-case-requires
-    add-k
-    loop-less
+    (λ c. search needs)
+    (λ c. search needs)
     loop-again
     same-length
     returns)

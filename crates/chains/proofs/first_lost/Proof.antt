@@ -9,9 +9,6 @@ use Rattle.chains.proofs.first_lost.Tie as tie
 search-requires : tie.Need-search-requires
 search-requires c κs = (c .pre .0, c .pre .1, distinct (c .args .numbers .now) (c .pre .2))
 
-slice-aggregate-first-zero : tie.Need-slice-aggregate-first-zero
-slice-aggregate-first-zero c = search needs
-
 first-zero-requires : tie.Need-first-zero-requires
 first-zero-requires c κs = omega (arith, c .before .before .pre .1, c .before .search .ensures .size)
 
@@ -22,4 +19,4 @@ returns c =
     (zero-is-lost (b .args .numbers .now) (b .args .clocks .now) _ _ _ (c .before .before .search .ensures) (c .first-zero .ensures))
 
 pub first-lost-spec : {M : Type 1} → statement M
-first-lost-spec = tie.close (tie.spec search-requires slice-aggregate-first-zero first-zero-requires returns)
+first-lost-spec = tie.close (tie.spec search-requires (λ c. search needs) first-zero-requires returns)

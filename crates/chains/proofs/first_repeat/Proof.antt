@@ -21,18 +21,6 @@ Inv-loop numbers i₀ i = (i ≤ length numbers) × ((k : ℕ) → k < i → Rep
 abbrev μ-loop : tie.MeasureT-loop
 μ-loop numbers i₀ i = length numbers - i
 
-loop-holds : tie.Need-loop-holds Inv-loop μ-loop
-loop-holds c = search needs
-
-mul-x : tie.Need-mul-x Inv-loop μ-loop
-mul-x c = search needs
-
-shared-slice-copy-out-x : tie.Need-shared-slice-copy-out-x Inv-loop μ-loop
-shared-slice-copy-out-x c = search needs
-
-place-requires : tie.Need-place-requires Inv-loop μ-loop
-place-requires c κs = search needs
-
 -- where the number at place i stands first
 here : (c : lts.After-place (place-reads.Asked, place-reads.Learnt) reads.Pre reads.Post Inv-loop μ-loop)
     → let ns = c .before .before .before .before .args .numbers .now in First (At ns (getD ns (c .before .before .before .loop .i) (pos 0))) (length ns) (c .place .result)
@@ -44,12 +32,6 @@ returns c = repeat-is (c .before .before .before .before .before .args .numbers 
   before = c .before .before .before .before .loop .inv .1;
   found = λ l. repeats-yes (c .before .before .before .before .before .args .numbers .now) (c .before .before .before .before .loop .i) (c .before .place .result) (here (c .before)) (c .if1 .taken) l;
 })
-
-add-i : tie.Need-add-i Inv-loop μ-loop
-add-i c = search needs
-
-loop-less : tie.Need-loop-less Inv-loop μ-loop
-loop-less c = search needs
 
 loop-again : tie.Need-loop-again Inv-loop μ-loop
 loop-again c = (search needs, below-more _ _ (c .before .before .before .before .loop .inv .1) (repeats-no (c .before .before .before .before .before .args .numbers .now) (c .before .before .before .before .loop .i) (c .before .place .result) (here (c .before)) (c .if1 .left)))
@@ -67,12 +49,12 @@ first-repeat-spec =
     (tie.spec
     Inv-loop
     μ-loop
-    loop-holds
-    mul-x
-    shared-slice-copy-out-x
-    place-requires
+    (λ c. search needs)
+    (λ c. search needs)
+    (λ c. search needs)
+    (λ c κs. search needs)
     returns
-    add-i
-    loop-less
+    (λ c. search needs)
+    (λ c. search needs)
     loop-again
     returns-2)

@@ -26,18 +26,6 @@ Inv-loop numbers clocks i₀ i = (i ≤ length numbers) × ((k : ℕ) → k < i 
 abbrev μ-loop : tie.MeasureT-loop
 μ-loop numbers clocks i₀ i = length numbers - i
 
-loop-holds : tie.Need-loop-holds Inv-loop μ-loop
-loop-holds c = search needs
-
-mul-x : tie.Need-mul-x Inv-loop μ-loop
-mul-x c = search needs
-
-shared-slice-copy-out-x : tie.Need-shared-slice-copy-out-x Inv-loop μ-loop
-shared-slice-copy-out-x c = search needs
-
-place-requires : tie.Need-place-requires Inv-loop μ-loop
-place-requires c κs = search needs
-
 -- where the clock's number stands first
 here : (c : lts.After-place (place-reads.Asked, place-reads.Learnt) reads.Pre reads.Post Inv-loop μ-loop)
     → let ns = c .before .before .before .before .before .args .numbers .now in let cs = c .before .before .before .before .before .args .clocks .now in
@@ -55,12 +43,6 @@ returns c = stray-is (c .before .before .before .before .before .before .args .n
   before = c .before .before .before .before .before .loop .inv .1;
   found = λ l. stray-yes (c .before .before .before .before .before .before .args .numbers .now) (c .before .before .before .before .before .before .args .clocks .now) (c .before .before .before .before .before .loop .i) (c .before .place .result) (here (c .before)) (other (c .before .before)) (c .if2 .taken);
 })
-
-add-i : tie.Need-add-i Inv-loop μ-loop
-add-i c = search needs
-
-loop-less : tie.Need-loop-less Inv-loop μ-loop
-loop-less c = search needs
 
 loop-again : tie.Need-loop-again Inv-loop μ-loop
 loop-again c =
@@ -86,12 +68,12 @@ first-stray-spec =
     (tie.spec
     Inv-loop
     μ-loop
-    loop-holds
-    mul-x
-    shared-slice-copy-out-x
-    place-requires
+    (λ c. search needs)
+    (λ c. search needs)
+    (λ c. search needs)
+    (λ c κs. search needs)
     returns
-    add-i
-    loop-less
+    (λ c. search needs)
+    (λ c. search needs)
     loop-again
     returns-2)

@@ -37,29 +37,14 @@ here c = let b = c .before .before .before .before in placed (ns b) (length (ns 
 other : (c : lts.Else1 (place-reads.Asked, place-reads.Learnt) reads.Pre reads.Post) → let b = c .before .before .before in getD (cs b) (b .args .i) (pos 0) ≡ pos 0 → ⊥
 other c e = c .if1 .left (ap (ofZ w64) e)
 
-mul-x : tie.Need-mul-x
-mul-x c = search needs
-
-shared-slice-copy-out-x : tie.Need-shared-slice-copy-out-x
-shared-slice-copy-out-x c = search needs
-
 returns : tie.Need-returns
 returns c = next-antenna (ns (c .before .before .before)) (cs (c .before .before .before)) (st (c .before .before .before)) (c .before .before .before .args .i) (c .before .before .before .pre .4) (c .before .before .before .pre .2) (zero-bits (record { sfits = c .before .x .given }) (c .if1 .taken))
-
-place-requires : tie.Need-place-requires
-place-requires c κs = search needs
 
 returns-2 : tie.Need-returns-2
 returns-2 c = let b = c .before .before .before .before .before in next-nowhere (ns b) (cs b) (b .args .i) (c .before .place .result) (here (c .before)) (other (c .before .before)) (st b) (b .pre .4) (c .if2 .taken)
 
-shared-slice-read-if3 : tie.Need-shared-slice-read-if3
-shared-slice-read-if3 c = search needs
-
 returns-3 : tie.Need-returns-3
 returns-3 c = let b = c .before .before .before .before .before .before .before in next-unknown (ns b) (cs b) (b .args .i) (c .before .before .before .place .result) (here (c .before .before .before)) (other (c .before .before .before .before)) (st b) (b .pre .4) (b .pre .3) (c .before .before .if2 .left) (c .if3 .taken)
-
-shared-slice-read-result : tie.Need-shared-slice-read-result
-shared-slice-read-result c = search needs
 
 add-result : tie.Need-add-result
 add-result c = let b = c .before .before .before .before .before .before .before .before in omega (arith, b .pre .4 (c .before .before .before .before .place .result))
@@ -71,13 +56,13 @@ pub next-steps-spec : {M : Type 1} → statement M
 next-steps-spec =
     tie.close
     (tie.spec
-    mul-x
-    shared-slice-copy-out-x
+    (λ c. search needs)
+    (λ c. search needs)
     returns
-    place-requires
+    (λ c κs. search needs)
     returns-2
-    shared-slice-read-if3
+    (λ c. search needs)
     returns-3
-    shared-slice-read-result
+    (λ c. search needs)
     add-result
     returns-4)

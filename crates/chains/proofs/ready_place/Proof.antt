@@ -19,20 +19,8 @@ abbrev μ-loop : tie.MeasureT-loop
 loop-holds : tie.Need-loop-holds Inv-loop μ-loop
 loop-holds c = (search needs, λ k l. absurd (omega arith))
 
-shared-slice-read-if1 : tie.Need-shared-slice-read-if1 Inv-loop μ-loop
-shared-slice-read-if1 c = search needs
-
-next-steps-requires : tie.Need-next-steps-requires Inv-loop μ-loop
-next-steps-requires c κs = search needs
-
 returns : tie.Need-returns Inv-loop μ-loop
 returns c = (search needs, (c .before .before .if1 .taken, (c .if2 .taken, (c .before .next-steps .ensures .told (c .if2 .taken), c .before .next-steps .ensures .small))))
-
-add-i : tie.Need-add-i Inv-loop μ-loop
-add-i c = search needs
-
-loop-less : tie.Need-loop-less Inv-loop μ-loop
-loop-less c = search needs
 
 loop-again : tie.Need-loop-again Inv-loop μ-loop
 loop-again c = (search needs, below-more _ _ (c .before .before .before .loop .inv .1) (⊎-elim (λ w z. w .1 .ensures .untold (w .2 .left)) (λ w z. absurd (w .left z)) (c .if1 .came)))
@@ -47,10 +35,10 @@ ready-place-spec =
     Inv-loop
     μ-loop
     loop-holds
-    shared-slice-read-if1
-    next-steps-requires
+    (λ c. search needs)
+    (λ c κs. search needs)
     returns
-    add-i
-    loop-less
+    (λ c. search needs)
+    (λ c. search needs)
     loop-again
     returns-2)

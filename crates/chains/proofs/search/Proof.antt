@@ -23,18 +23,6 @@ abbrev μ-loop : tie.MeasureT-loop
 loop-holds : tie.Need-loop-holds Inv-loop μ-loop
 loop-holds c = (refl, (sound-start _ _, small-start))
 
-slice-aggregate-ready-place : tie.Need-slice-aggregate-ready-place Inv-loop μ-loop
-slice-aggregate-ready-place c = search needs
-
-ready-place-requires : tie.Need-ready-place-requires Inv-loop μ-loop
-ready-place-requires c κs = search needs
-
-enum-known-i : tie.Need-enum-known-i Inv-loop μ-loop
-enum-known-i c = search needs
-
-enum-told : tie.Need-enum-told Inv-loop μ-loop
-enum-told c = search needs
-
 -- what a turn found
 took : (c : lts.After-known-told (ready-place-reads.Asked, ready-place-reads.Learnt) reads.Pre reads.Post Inv-loop μ-loop)
     → let b = c .before .before .before .before .before .before in
@@ -82,10 +70,10 @@ search-spec =
     Inv-loop
     μ-loop
     loop-holds
-    slice-aggregate-ready-place
-    ready-place-requires
-    enum-known-i
-    enum-told
+    (λ c. search needs)
+    (λ c κs. search needs)
+    (λ c. search needs)
+    (λ c. search needs)
     returns
     array-write-steps
     loop-less

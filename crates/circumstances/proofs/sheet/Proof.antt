@@ -20,15 +20,6 @@ module _ (c : tie.After-enum-told) where
   filled : c .before .before .before .before .admit .last .1 .0 ≡ sinesAfter C.Within (start .args .sines .now)
   filled = c .before .before .before .before .admit .ensures .1 ∙ ap (λ k. sinesAfter k (start .args .sines .now)) within
 
-admit-requires : tie.Need-admit-requires
-admit-requires c κs = search needs
-
-enum-known-c : tie.Need-enum-known-c
-enum-known-c c = search needs
-
-same-length : tie.Need-same-length
-same-length c = search needs
-
 returns : tie.Need-returns
 returns c =
     let a = c .before .before .before .before .before in
@@ -37,21 +28,12 @@ returns c =
     let e = sym (a .admit .ensures .0) ∙ known .1 in
     sheet-is (b .args .o) _ _ _ e _ _ _ refl refl (a .admit .ensures .1 ∙ ap (λ k. sinesAfter k (b .args .sines .now)) e)
 
-enum-told : tie.Need-enum-told
-enum-told c = search needs
-
 sheet-within-requires : tie.Need-sheet-within-requires
 sheet-within-requires c κs =
     let told = c .before .before in
     let a = start told in
     let w = admitted-within (a .args .o) (a .args .sines .now) (within told) in
     (rw (told .before .before .before .before .admit .ensures .1) (w .1), w .0)
-
-same-length-2 : tie.Need-same-length-2
-same-length-2 c = search needs
-
-same-length-3 : tie.Need-same-length-3
-same-length-3 c = search needs
 
 returns-2 : tie.Need-returns-2
 returns-2 c =
@@ -63,12 +45,12 @@ pub sheet-spec : {M : Type 1} → statement M
 sheet-spec =
     tie.close
     (tie.spec
-    admit-requires
-    enum-known-c
-    same-length
+    (λ c κs. search needs)
+    (λ c. search needs)
+    (λ c. search needs)
     returns
-    enum-told
+    (λ c. search needs)
     sheet-within-requires
-    same-length-2
-    same-length-3
+    (λ c. search needs)
+    (λ c. search needs)
     returns-2)

@@ -8,9 +8,6 @@ use Rattle.circumstances.proofs.sheet_from.Tie as tie
 abbrev start : tie.After-sheet-length → tie.Start
 start c = c .before .before .before .before
 
-sheet-length-requires : tie.Need-sheet-length-requires
-sheet-length-requires c κs = search needs
-
 returns : tie.Need-returns
 returns c =
     let s = c .before in
@@ -24,9 +21,6 @@ write-sheet-requires c κs =
       (b .pre .1, omega (arith, s .sheet-length .ensures, c .before .if1 .left)),
     )
 
-same-length : tie.Need-same-length
-same-length c = search needs
-
 returns-2 : tie.Need-returns-2
 returns-2 c =
     let w = c .before .before in
@@ -35,4 +29,4 @@ returns-2 c =
     room-enough (b .args .o) (b .args .buf .now) _ _ (w .write-sheet .ensures .0) (omega (arith, s .sheet-length .ensures, w .before .before .if1 .left)) (w .write-sheet .ensures .1)
 
 pub sheet-from-spec : {M : Type 1} → statement M
-sheet-from-spec = tie.close (tie.spec sheet-length-requires returns write-sheet-requires same-length returns-2)
+sheet-from-spec = tie.close (tie.spec (λ c κs. search needs) returns write-sheet-requires (λ c. search needs) returns-2)

@@ -18,12 +18,6 @@ use Rattle.circumstances.proofs.sheet_within.Tie as tie
 room : (o : Occultation) → InLimits o → secondCount (o .window) ≤ length (replicate {A = ℕ} 21601 0)
 room o i = omega (arith, seconds-few (o .window) (i .window), length-replicate {A = ℕ} 21601 0)
 
-geocentric-requires : tie.Need-geocentric-requires
-geocentric-requires c κs = search needs
-
-slice-aggregate-fill : tie.Need-slice-aggregate-fill
-slice-aggregate-fill c = search needs
-
 fill-requires : tie.Need-fill-requires
 fill-requires c κs =
     let b = c .before .before .before .before .before in
@@ -58,8 +52,8 @@ pub sheet-within-spec : {M : Type 1} → statement M
 sheet-within-spec =
     tie.close
     (tie.spec
-    geocentric-requires
-    slice-aggregate-fill
+    (λ c κs. search needs)
+    (λ c. search needs)
     fill-requires
     array-share-prefix-runs
     slice-aggregate-sheet-from

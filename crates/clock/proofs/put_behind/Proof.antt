@@ -15,37 +15,13 @@ use Rattle.clock.proofs.put_behind.Tie as tie
 read : (c : tie.Start) → toZ w64 (ofZ w64 (c .args .deltat)) ≡ c .args .deltat
 read c = toZ-ofZ w64 (c .args .deltat) (c .fits .deltat)
 
-shown-for-requires : tie.Need-shown-for-requires
-shown-for-requires c κs = search needs
-
-enum-told : tie.Need-enum-told
-enum-told c = search needs
-
-enum-told-2 : tie.Need-enum-told-2
-enum-told-2 c = search needs
-
-put-instant-line-requires : tie.Need-put-instant-line-requires
-put-instant-line-requires c κs = search needs
-
-enum-known-shown : tie.Need-enum-known-shown
-enum-known-shown c = search needs
-
-put-scales-requires : tie.Need-put-scales-requires
-put-scales-requires c κs = search needs
-
 returns : tie.Need-returns
 returns c = behind-shown _ _ _ _ (c .before .before .shown-for .ensures) _ (c .enum-told .given .1) _ _ _ _ (put-nil _ _ (omega arith))
-
-same-length : tie.Need-same-length
-same-length c = search needs
 
 returns-2 : tie.Need-returns-2
 returns-2 c =
     let t = c .before .before .before .before in
     behind-shown _ _ _ _ (t .before .before .shown-for .ensures) _ (t .enum-told2 .given .1) _ _ _ _ (c .before .before .put-instant-line .ensures)
-
-same-length-2 : tie.Need-same-length-2
-same-length-2 c = search needs
 
 returns-3 : tie.Need-returns-3
 returns-3 c =
@@ -58,14 +34,14 @@ pub put-behind-spec : {M : Type 1} → statement M
 put-behind-spec =
     tie.close
     (tie.spec
-    shown-for-requires
-    enum-told
-    enum-told-2
-    put-instant-line-requires
-    enum-known-shown
-    put-scales-requires
+    (λ c κs. search needs)
+    (λ c. search needs)
+    (λ c. search needs)
+    (λ c κs. search needs)
+    (λ c. search needs)
+    (λ c κs. search needs)
     returns
-    same-length
+    (λ c. search needs)
     returns-2
-    same-length-2
+    (λ c. search needs)
     returns-3)

@@ -13,26 +13,8 @@ use Rattle.clock.proofs.put_entry.Tie as tie
 read : (c : tie.Start) → toZ w64 (ofZ w64 (c .args .deltat)) ≡ c .args .deltat
 read c = toZ-ofZ w64 (c .args .deltat) (c .fits .deltat)
 
-enum-told : tie.Need-enum-told
-enum-told c = search needs
-
-put-entry-requires : tie.Need-put-entry-requires
-put-entry-requires c κs = search needs
-
-enum-known-reference : tie.Need-enum-known-reference
-enum-known-reference c = search needs
-
-put-timed-requires : tie.Need-put-timed-requires
-put-timed-requires c κs = search needs
-
-same-length : tie.Need-same-length
-same-length c = search needs
-
 returns : tie.Need-returns
 returns c = line-off _ _ _ _ _ _ _ (c .before .before .before .before .enum-told .given .1) (c .before .before .put-entry .ensures)
-
-same-length-2 : tie.Need-same-length-2
-same-length-2 c = search needs
 
 returns-2 : tie.Need-returns-2
 returns-2 c =
@@ -44,11 +26,11 @@ pub put-entry-spec : {M : Type 1} → statement M
 put-entry-spec =
     tie.close
     (tie.spec
-    enum-told
-    put-entry-requires
-    enum-known-reference
-    put-timed-requires
-    same-length
+    (λ c. search needs)
+    (λ c κs. search needs)
+    (λ c. search needs)
+    (λ c κs. search needs)
+    (λ c. search needs)
     returns
-    same-length-2
+    (λ c. search needs)
     returns-2)

@@ -14,21 +14,6 @@ use Rattle.clock.proofs.put_scale.Tie as tie
 read : (c : tie.Start) → toZ w64 (ofZ w64 (c .args .deltat)) ≡ c .args .deltat
 read c = toZ-ofZ w64 (c .args .deltat) (c .fits .deltat)
 
-shows-requires : tie.Need-shows-requires
-shows-requires c κs = search needs
-
-put-byte-requires : tie.Need-put-byte-requires
-put-byte-requires c κs = search needs
-
-put-name-requires : tie.Need-put-name-requires
-put-name-requires c κs = search needs
-
-put-times-requires : tie.Need-put-times-requires
-put-times-requires c κs = search needs
-
-same-length : tie.Need-same-length
-same-length c = search needs
-
 returns : tie.Need-returns
 returns c =
     let t = c .before .before .before .before .before .before .before .before .before .before .before .before in
@@ -47,10 +32,10 @@ pub put-scale-spec : {M : Type 1} → statement M
 put-scale-spec =
     tie.close
     (tie.spec
-    shows-requires
-    put-byte-requires
-    put-name-requires
-    put-times-requires
-    same-length
+    (λ c κs. search needs)
+    (λ c κs. search needs)
+    (λ c κs. search needs)
+    (λ c κs. search needs)
+    (λ c. search needs)
     returns
     returns-2)

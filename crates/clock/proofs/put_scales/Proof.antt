@@ -13,15 +13,6 @@ use Rattle.clock.proofs.put_scales.Tie as tie
 read : (c : tie.Start) → toZ w64 (ofZ w64 (c .args .deltat)) ≡ c .args .deltat
 read c = toZ-ofZ w64 (c .args .deltat) (c .fits .deltat)
 
-put-scale-requires : tie.Need-put-scale-requires
-put-scale-requires c κs = search needs
-
-put-scale-requires-2 : tie.Need-put-scale-requires-2
-put-scale-requires-2 c κs = search needs
-
-same-length : tie.Need-same-length
-same-length c = search needs
-
 returns : tie.Need-returns
 unfolding scalesText
 returns c =
@@ -30,4 +21,4 @@ returns c =
     (joined (omega arith) (c .before .before .before .before .before .before .put-scale .ensures) (c .before .before .put-scale2 .ensures))
 
 pub put-scales-spec : {M : Type 1} → statement M
-put-scales-spec = tie.close (tie.spec put-scale-requires put-scale-requires-2 same-length returns)
+put-scales-spec = tie.close (tie.spec (λ c κs. search needs) (λ c κs. search needs) (λ c. search needs) returns)

@@ -26,20 +26,11 @@ bounds t = t .time-in .ensures .size ▹ t .before .before .pre .1 ▹ ends
 abbrev both : Code
 both = add (arg 0) (arg 1)
 
-time-in-requires : tie.Need-time-in-requires
-time-in-requires c κs = search needs
-
-put-byte-requires : tie.Need-put-byte-requires
-put-byte-requires c κs = search needs
-
 add-put-time : tie.Need-add-put-time
 add-put-time c = fits (bounds (c .before .before .before .before .before)) both tt
 
 put-time-requires : tie.Need-put-time-requires
 put-time-requires c κs = within (bounds (c .before .before .before .before .before)) both 860000000000 tt
-
-same-length : tie.Need-same-length
-same-length c = search needs
 
 returns : tie.Need-returns
 returns c =
@@ -54,9 +45,9 @@ pub put-second-spec : {M : Type 1} → statement M
 put-second-spec =
     tie.close
     (tie.spec
-    time-in-requires
-    put-byte-requires
+    (λ c κs. search needs)
+    (λ c κs. search needs)
     add-put-time
     put-time-requires
-    same-length
+    (λ c. search needs)
     returns)

@@ -16,21 +16,6 @@ use Rattle.clock.proofs.put_timed.Tie as tie
 read : (c : tie.Start) → toZ w64 (ofZ w64 (c .args .deltat)) ≡ c .args .deltat
 read c = toZ-ofZ w64 (c .args .deltat) (c .fits .deltat)
 
-known-requires : tie.Need-known-requires
-known-requires c κs = search needs
-
-put-entry-text-requires : tie.Need-put-entry-text-requires
-put-entry-text-requires c κs = search needs
-
-put-behind-requires : tie.Need-put-behind-requires
-put-behind-requires c κs = search needs
-
-put-end-requires : tie.Need-put-end-requires
-put-end-requires c κs = search needs
-
-same-length : tie.Need-same-length
-same-length c = search needs
-
 returns : tie.Need-returns
 returns c =
     let k = c .before .before .before .before .before .before .before .before .before .before .before .before in
@@ -44,9 +29,9 @@ pub put-timed-spec : {M : Type 1} → statement M
 put-timed-spec =
     tie.close
     (tie.spec
-    known-requires
-    put-entry-text-requires
-    put-behind-requires
-    put-end-requires
-    same-length
+    (λ c κs. search needs)
+    (λ c κs. search needs)
+    (λ c κs. search needs)
+    (λ c κs. search needs)
+    (λ c. search needs)
     returns)

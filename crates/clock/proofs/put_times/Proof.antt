@@ -14,32 +14,11 @@ use Rattle.clock.proofs.put_times.Tie as tie
 read : (c : tie.Start) → toZ w64 (ofZ w64 (c .args .deltat)) ≡ c .args .deltat
 read c = toZ-ofZ w64 (c .args .deltat) (c .fits .deltat)
 
-enum-known-seconds : tie.Need-enum-known-seconds
-enum-known-seconds c = search needs
-
-put-second-requires : tie.Need-put-second-requires
-put-second-requires c κs = search needs
-
-enum-known-seconds-2 : tie.Need-enum-known-seconds-2
-enum-known-seconds-2 c = search needs
-
-put-second-requires-2 : tie.Need-put-second-requires-2
-put-second-requires-2 c κs = search needs
-
-put-second-requires-3 : tie.Need-put-second-requires-3
-put-second-requires-3 c κs = search needs
-
-same-length : tie.Need-same-length
-same-length c = search needs
-
 returns : tie.Need-returns
 returns c =
     let a = c .before .before .before .before .before .before .before .before .args in
     put-as _ _ _ _ _ _ (ap (λ d. timesIn (a .shown) (a .i) d (a .seconds)) (read (c .before .before .before .before .before .before .before .before)))
     (times-of-moment _ _ _ _ _ _ (c .before .before .before .before .before .seconds .given .1) _ _ (c .before .before .put-second .ensures))
-
-same-length-2 : tie.Need-same-length-2
-same-length-2 c = search needs
 
 returns-2 : tie.Need-returns-2
 returns-2 c =
@@ -51,12 +30,12 @@ pub put-times-spec : {M : Type 1} → statement M
 put-times-spec =
     tie.close
     (tie.spec
-    enum-known-seconds
-    put-second-requires
-    enum-known-seconds-2
-    put-second-requires-2
-    put-second-requires-3
-    same-length
+    (λ c. search needs)
+    (λ c κs. search needs)
+    (λ c. search needs)
+    (λ c κs. search needs)
+    (λ c κs. search needs)
+    (λ c. search needs)
     returns
-    same-length-2
+    (λ c. search needs)
     returns-2)

@@ -84,9 +84,6 @@ exited c =
     })
     (c .if2 .came)
 
-side-of-requires : tie.Need-side-of-requires Inv-loop μ-loop Inv-seconds μ-seconds
-side-of-requires c κs = search needs
-
 seconds-holds : tie.Need-seconds-holds Inv-loop μ-loop Inv-seconds μ-seconds
 seconds-holds c =
     let p = c .before .before .pre in
@@ -124,12 +121,6 @@ loop-again c =
     let u : 1 < o .run-at2 .result .state = omega (arith, c .before .if3 .left) in
     (omega (arith, i .0), further o, omega (arith, l, u), i .3 ∙ at-unsure _ _ _ _ _ _ (o .run-at2 .ensures) u)
 
-sub-from : tie.Need-sub-from Inv-loop μ-loop Inv-seconds μ-seconds
-sub-from c = omega arith
-
-sub-to : tie.Need-sub-to Inv-loop μ-loop Inv-seconds μ-seconds
-sub-to c = omega arith
-
 returns-2 : tie.Need-returns-2 Inv-loop μ-loop Inv-seconds μ-seconds
 returns-2 c =
     let i = c .before .before .before .before .before .before .before .seconds .inv in
@@ -154,9 +145,6 @@ seconds-again c =
       past o,
       i .3 ∙ same-side _ _ _ _ (i .0) _ _ (o .run-at .ensures) (omega (arith, c .before .before .before .if2 .left)) (c .before .if4 .left),
     )
-
-sub-from-2 : tie.Need-sub-from-2 Inv-loop μ-loop Inv-seconds μ-seconds
-sub-from-2 c = omega arith
 
 run-at-requires-3 : tie.Need-run-at-requires-3 Inv-loop μ-loop Inv-seconds μ-seconds
 run-at-requires-3 c κs = let l = exited c in (l .there, l .stands .whole)
@@ -191,7 +179,7 @@ after-sure-spec =
     μ-loop
     Inv-seconds
     μ-seconds
-    side-of-requires
+    (λ c κs. search needs)
     seconds-holds
     returns
     run-at-requires
@@ -201,13 +189,13 @@ after-sure-spec =
     add-j-2
     loop-less
     loop-again
-    sub-from
-    sub-to
+    (λ c. omega arith)
+    (λ c. omega arith)
     returns-2
     add-i
     seconds-less
     seconds-again
-    sub-from-2
+    (λ c. omega arith)
     run-at-requires-3
     entry-between-requires
     add-end

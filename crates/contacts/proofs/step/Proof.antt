@@ -11,11 +11,8 @@ first-entry-requires c κs =
 returns : tie.Need-returns
 returns c = rw (c .before .if1 .taken) (c .first-entry .ensures)
 
-after-sure-requires : tie.Need-after-sure-requires
-after-sure-requires c κs = search needs
-
 returns-2 : tie.Need-returns-2
 returns-2 c = search needs
 
 pub step-spec : {M : Type 1} → statement M
-step-spec = tie.close (tie.spec first-entry-requires returns after-sure-requires returns-2)
+step-spec = tie.close (tie.spec first-entry-requires returns (λ c κs. search needs) returns-2)

@@ -6,16 +6,10 @@ use Rattle.covered.specs.AnswerLaws.{AnsweredSizes}
 use Rattle.covered.proofs.of_second.Statement.{statement}
 use Rattle.covered.proofs.of_second.Tie as tie
 
-enum-known-second : tie.Need-enum-known-second
-enum-known-second c = search needs
-
 share-of-requires : tie.Need-share-of-requires
 share-of-requires c κs =
     let k = c .before .before in
     subst AnsweredSizes (k .second .given .1) (k .before .before .pre)
-
-enum-known-second-2 : tie.Need-enum-known-second-2
-enum-known-second-2 c = search needs
 
 returns : tie.Need-returns
 returns c = rw (c .before .before .before .second .given .1) (ap O.Is (c .share-of .ensures))
@@ -24,4 +18,4 @@ returns-2 : tie.Need-returns-2
 returns-2 c = rw (c .before .second2 .given .1)
 
 pub of-second-spec : {M : Type 1} → statement M
-of-second-spec = tie.close (tie.spec enum-known-second share-of-requires enum-known-second-2 returns returns-2)
+of-second-spec = tie.close (tie.spec (λ c. search needs) share-of-requires (λ c. search needs) returns returns-2)

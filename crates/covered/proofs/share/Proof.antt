@@ -32,17 +32,8 @@ all : (q : Request) (τ : ℤ) (sines left : List ℕ) (r : OneShare) → r ≡ 
     → (r ≡ shareAnswer q τ sines) × ((left ≡ secondSines (ofEclipse q) τ sines) × AnswerMeans q τ r)
 all q τ sines left r e l = (e, (l, rw e (means-answer q τ sines)))
 
-of-eclipse-requires : tie.Need-of-eclipse-requires
-of-eclipse-requires c κs = search needs
-
-second-requires : tie.Need-second-requires
-second-requires c κs = search needs
-
 of-second-requires : tie.Need-of-second-requires
 of-second-requires c κs = subst AnsweredSizes (sym (answered (c .before .before) .0)) (answered-sizes _ _ _)
-
-same-length : tie.Need-same-length
-same-length c = search needs
 
 returns : tie.Need-returns
 returns c =
@@ -50,4 +41,4 @@ returns c =
     all _ _ _ _ _ (c .of-second .ensures ∙ share-by _ _ _ (a .0)) (a .1)
 
 pub share-spec : {M : Type 1} → statement M
-share-spec = tie.close (tie.spec of-eclipse-requires second-requires of-second-requires same-length returns)
+share-spec = tie.close (tie.spec (λ c κs. search needs) (λ c κs. search needs) of-second-requires (λ c. search needs) returns)

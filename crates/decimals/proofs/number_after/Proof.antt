@@ -4,9 +4,6 @@ use borrow.Author.Needs.{needs}
 use Rattle.decimals.proofs.number_after.Statement.{statement}
 use Rattle.decimals.proofs.number_after.Tie as tie
 
-add-result : tie.Need-add-result
-add-result c = search needs
-
 returns : tie.Need-returns
 returns c = rw (eq-eqb _ _ (c .if1 .taken))
 
@@ -14,4 +11,4 @@ returns-2 : tie.Need-returns-2
 returns-2 c = rw (ne-eqb _ _ (c .if1 .left))
 
 pub number-after-spec : {M : Type 1} → statement M
-number-after-spec = tie.close (tie.spec add-result returns returns-2)
+number-after-spec = tie.close (tie.spec (λ c. search needs) returns returns-2)

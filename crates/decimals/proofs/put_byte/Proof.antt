@@ -5,20 +5,8 @@ use borrow.Author.Needs.{needs}
 use Rattle.decimals.proofs.put_byte.Statement.{statement}
 use Rattle.decimals.proofs.put_byte.Tie as tie
 
-slice-write-out : tie.Need-slice-write-out
-slice-write-out c = search needs
-
-add-result : tie.Need-add-result
-add-result c = search needs
-
-same-length : tie.Need-same-length
-same-length c = search needs
-
 returns : tie.Need-returns
 returns c = put-in _ _ _ (omega arith) (omega arith)
-
-add-result-2 : tie.Need-add-result-2
-add-result-2 c = search needs
 
 returns-2 : tie.Need-returns-2
 returns-2 c = put-past _ _ _ (omega arith) (omega arith)
@@ -27,4 +15,4 @@ returns-3 : tie.Need-returns-3
 returns-3 c = put-last _ _ _ (omega arith) (omega arith)
 
 pub put-byte-spec : {M : Type 1} → statement M
-put-byte-spec = tie.close (tie.spec slice-write-out add-result same-length returns add-result-2 returns-2 returns-3)
+put-byte-spec = tie.close (tie.spec (λ c. search needs) (λ c. search needs) (λ c. search needs) returns (λ c. search needs) returns-2 returns-3)

@@ -6,22 +6,10 @@ use Rattle.decimals.specs.PatternLaws.{piece-number, piece-self}
 use Rattle.decimals.proofs.put_piece.Statement.{statement}
 use Rattle.decimals.proofs.put_piece.Tie as tie
 
-put-signed-requires : tie.Need-put-signed-requires
-put-signed-requires c κs = search needs
-
-same-length : tie.Need-same-length
-same-length c = search needs
-
 returns : tie.Need-returns
 returns c =
     let t = c .before .before .before .before in
     piece-number _ _ _ _ _ _ (t .if1 .taken) _ (toZ-ofZ w64 _ (t .before .before .fits .v)) (c .before .before .put-signed .ensures)
-
-put-byte-requires : tie.Need-put-byte-requires
-put-byte-requires c κs = search needs
-
-same-length-2 : tie.Need-same-length-2
-same-length-2 c = search needs
 
 returns-2 : tie.Need-returns-2
 returns-2 c =
@@ -31,4 +19,4 @@ returns-2 c =
 pub put-piece-spec : {M : Type 1} → statement M
 put-piece-spec =
     tie.close
-    (tie.spec put-signed-requires same-length returns put-byte-requires same-length-2 returns-2)
+    (tie.spec (λ c κs. search needs) (λ c. search needs) returns (λ c κs. search needs) (λ c. search needs) returns-2)

@@ -24,29 +24,11 @@ not-below c = subst (λ (z : ℤ). pos 0 ≤ℤ z) (read (c .before .before .bef
 size-of : (c : tie.After-size) → c .size .result ≡ natAbs (c .before .before .args .x)
 size-of c = c .size .ensures ∙ ap natAbs (read (c .before .before))
 
-size-requires : tie.Need-size-requires
-size-requires c κs = search needs
-
-put-byte-requires : tie.Need-put-byte-requires
-put-byte-requires c κs = search needs
-
-put-number-requires : tie.Need-put-number-requires
-put-number-requires c κs = search needs
-
-same-length : tie.Need-same-length
-same-length c = search needs
-
 returns : tie.Need-returns
 returns c =
     let t = c .before .before .before .before .before .before .before .before in
     minus-then _ _ (size-of (t .before)) (below t) _ _ _ _ _ _ (omega arith) (c .before .before .before .before .before .before .put-byte .ensures)
     (c .before .before .put-number .ensures)
-
-put-number-requires-2 : tie.Need-put-number-requires-2
-put-number-requires-2 c κs = search needs
-
-same-length-2 : tie.Need-same-length-2
-same-length-2 c = search needs
 
 returns-2 : tie.Need-returns-2
 returns-2 c =
@@ -57,11 +39,11 @@ pub put-signed-spec : {M : Type 1} → statement M
 put-signed-spec =
     tie.close
     (tie.spec
-    size-requires
-    put-byte-requires
-    put-number-requires
-    same-length
+    (λ c κs. search needs)
+    (λ c κs. search needs)
+    (λ c κs. search needs)
+    (λ c. search needs)
     returns
-    put-number-requires-2
-    same-length-2
+    (λ c κs. search needs)
+    (λ c. search needs)
     returns-2)

@@ -66,9 +66,6 @@ read-small c s h e =
     ∙ ap (λ (n : ℕ). fitted (signed s n)) (all-of (c .size .result) (whole c) (c .size .ensures) h)
     ∙ fitted-small s (c .size .result) h
 
-is-finite-requires : tie.Need-is-finite-requires
-is-finite-requires c κs = search needs
-
 returns : tie.Need-returns
 returns c =
     let t = c .before .before in
@@ -77,22 +74,13 @@ returns c =
 float-to-bits-bits : tie.Need-float-to-bits-bits
 float-to-bits-bits c = finite-no-nan (c .before .before .args .x) (known c)
 
-size-requires : tie.Need-size-requires
-size-requires c κs = search needs
-
 returns-2 : tie.Need-returns-2
 returns-2 c =
     let t = c .before in
     sym (read t ∙ fitted-large (leb (2 ^ 63) (pattern t)) (whole t) (over (t .size .result) (whole t) (t .size .ensures) (c .if2 .taken)))
 
-cast-t11 : tie.Need-cast-t11
-cast-t11 c = search needs
-
 sub-t12 : tie.Need-sub-t12
 sub-t12 c = code.fits (slots (c .before .before .size .result) (c .before .if2 .left)) Opposite tt
-
-cast-t13 : tie.Need-cast-t13
-cast-t13 c = search needs
 
 returns-3 : tie.Need-returns-3
 returns-3 c =
@@ -111,13 +99,13 @@ pub read-spec : {M : Type 1} → statement M
 read-spec =
     tie.close
     (tie.spec
-    is-finite-requires
+    (λ c κs. search needs)
     returns
     float-to-bits-bits
-    size-requires
+    (λ c κs. search needs)
     returns-2
-    cast-t11
+    (λ c. search needs)
     sub-t12
-    cast-t13
+    (λ c. search needs)
     returns-3
     returns-4)

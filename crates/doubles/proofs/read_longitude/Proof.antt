@@ -6,21 +6,6 @@ use Rattle.doubles.specs.Doubles.{doubleIn, longitudeScale, readingOf}
 use Rattle.doubles.proofs.read_longitude.Statement.{statement}
 use Rattle.doubles.proofs.read_longitude.Tie as tie
 
-enum-known-longitude : tie.Need-enum-known-longitude
-enum-known-longitude c = search needs
-
-read-requires : tie.Need-read-requires
-read-requires c κs = search needs
-
-enum-known-longitude-2 : tie.Need-enum-known-longitude-2
-enum-known-longitude-2 c = search needs
-
-mul-read : tie.Need-mul-read
-mul-read c = search needs
-
-read-requires-2 : tie.Need-read-requires-2
-read-requires-2 c κs = search needs
-
 returns : tie.Need-returns
 returns c = c .read .ensures ∙ sym (ap (λ (l : Longitude). readingOf (longitudeScale l) (doubleIn l)) (c .before .before .longitude .given .1))
 
@@ -31,10 +16,10 @@ pub read-longitude-spec : {M : Type 1} → statement M
 read-longitude-spec =
     tie.close
     (tie.spec
-    enum-known-longitude
-    read-requires
-    enum-known-longitude-2
-    mul-read
-    read-requires-2
+    (λ c. search needs)
+    (λ c κs. search needs)
+    (λ c. search needs)
+    (λ c. search needs)
+    (λ c κs. search needs)
     returns
     returns-2)

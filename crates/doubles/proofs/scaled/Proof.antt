@@ -21,58 +21,25 @@ add-high c =
     let t = c in
     omega (arith, high-small (t .args .q) (t .args .scale) (t .args .k) (t .pre .0) (t .pre .1))
 
-add-if2 : tie.Need-add-if2
-add-if2 c = search needs
-
-shl-if2 : tie.Need-shl-if2
-shl-if2 c = search needs
-
 returns : tie.Need-returns
 returns c =
     let t = c .before .before in
     large (t .args .q) (t .args .scale) (t .args .k) (t .pre .0) (t .pre .1) (c .before .if1 .taken) (c .if2 .taken)
-
-shl-result : tie.Need-shl-result
-shl-result c = search needs
-
-mul-result : tie.Need-mul-result
-mul-result c = search needs
-
-shl-result-2 : tie.Need-shl-result-2
-shl-result-2 c = search needs
 
 add-result : tie.Need-add-result
 add-result c =
     let t = c .before .before in
     record { fits = half-small (t .args .q) (t .args .scale) (t .args .k) (t .pre .0) (t .pre .1) (c .before .if1 .taken) }
 
-add-result-2 : tie.Need-add-result-2
-add-result-2 c = search needs
-
-shr-result : tie.Need-shr-result
-shr-result c = search needs
-
 add-result-3 : tie.Need-add-result-3
 add-result-3 c =
     let t = c .before .before in
     record { fits = low-fits (t .args .q) (t .args .scale) (t .args .k) (t .pre .0) (t .pre .1) (c .before .if1 .taken) (c .if2 .left) }
 
-sub-result : tie.Need-sub-result
-sub-result c = search needs
-
-shl-result-3 : tie.Need-shl-result-3
-shl-result-3 c = search needs
-
 add-result-4 : tie.Need-add-result-4
 add-result-4 c =
     let t = c .before .before in
     record { fits = mid-fits (t .args .q) (t .args .scale) (t .args .k) (t .pre .0) (t .pre .1) (c .before .if1 .left) (c .if3 .taken) }
-
-sub-result-2 : tie.Need-sub-result-2
-sub-result-2 c = search needs
-
-shr-result-2 : tie.Need-shr-result-2
-shr-result-2 c = search needs
 
 returns-2 : tie.Need-returns-2
 returns-2 c =
@@ -96,21 +63,21 @@ scaled-spec =
     mul-below
     mul-high
     add-high
-    add-if2
-    shl-if2
+    (λ c. search needs)
+    (λ c. search needs)
     returns
-    shl-result
-    mul-result
-    shl-result-2
+    (λ c. search needs)
+    (λ c. search needs)
+    (λ c. search needs)
     add-result
-    add-result-2
-    shr-result
+    (λ c. search needs)
+    (λ c. search needs)
     add-result-3
-    sub-result
-    shl-result-3
+    (λ c. search needs)
+    (λ c. search needs)
     add-result-4
-    sub-result-2
-    shr-result-2
+    (λ c. search needs)
+    (λ c. search needs)
     returns-2
     returns-3
     returns-4)

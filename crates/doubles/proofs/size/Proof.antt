@@ -6,15 +6,6 @@ use Rattle.doubles.proofs.Field.{field-zero, field-usual, field-large}
 use Rattle.doubles.proofs.size.Statement.{statement}
 use Rattle.doubles.proofs.size.Tie as tie
 
-scaled-requires : tie.Need-scaled-requires
-scaled-requires c κs = search needs
-
-add-scaled : tie.Need-add-scaled
-add-scaled c = search needs
-
-scaled-requires-2 : tie.Need-scaled-requires-2
-scaled-requires-2 c κs = search needs
-
 returns : tie.Need-returns
 returns c =
     let a = c .before .before .args in
@@ -32,4 +23,4 @@ returns-3 c =
     field-large (a .scale) (a .digits) (a .field) (c .if2 .left) (c .before .before .pre .1)
 
 pub size-spec : {M : Type 1} → statement M
-size-spec = tie.close (tie.spec scaled-requires add-scaled scaled-requires-2 returns returns-2 returns-3)
+size-spec = tie.close (tie.spec (λ c κs. search needs) (λ c. search needs) (λ c κs. search needs) returns returns-2 returns-3)

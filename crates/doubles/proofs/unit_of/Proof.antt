@@ -6,15 +6,6 @@ use Rattle.doubles.specs.Doubles.{standIn}
 use Rattle.doubles.proofs.unit_of.Statement.{statement}
 use Rattle.doubles.proofs.unit_of.Tie as tie
 
-enum-known-reading : tie.Need-enum-known-reading
-enum-known-reading c = search needs
-
-enum-told : tie.Need-enum-told
-enum-told c = search needs
-
-enum-told-2 : tie.Need-enum-told-2
-enum-told-2 c = search needs
-
 returns : tie.Need-returns
 returns c = read-result (c .before .reading .given .0 .0) (c .known-told .given .0 .1) ∙ sym (ap standIn (c .before .reading .given .1))
 
@@ -25,4 +16,4 @@ returns-3 : tie.Need-returns-3
 returns-3 c = sym (ap standIn (c .enum-told2 .given .1))
 
 pub unit-of-spec : {M : Type 1} → statement M
-unit-of-spec = tie.close (tie.spec enum-known-reading enum-told enum-told-2 returns returns-2 returns-3)
+unit-of-spec = tie.close (tie.spec (λ c. search needs) (λ c. search needs) (λ c. search needs) returns returns-2 returns-3)

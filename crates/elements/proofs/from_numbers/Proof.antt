@@ -7,30 +7,6 @@ use Rattle.elements.specs.Elements.{elementsOf}
 use Rattle.elements.proofs.from_numbers.Statement.{statement}
 use Rattle.elements.proofs.from_numbers.Tie as tie
 
-cubic-from-requires : tie.Need-cubic-from-requires
-cubic-from-requires c κs = search needs
-
-cubic-from-requires-2 : tie.Need-cubic-from-requires-2
-cubic-from-requires-2 c κs = search needs
-
-quadratic-from-requires : tie.Need-quadratic-from-requires
-quadratic-from-requires c κs = search needs
-
-quadratic-from-requires-2 : tie.Need-quadratic-from-requires-2
-quadratic-from-requires-2 c κs = search needs
-
-quadratic-from-requires-3 : tie.Need-quadratic-from-requires-3
-quadratic-from-requires-3 c κs = search needs
-
-quadratic-from-requires-4 : tie.Need-quadratic-from-requires-4
-quadratic-from-requires-4 c κs = search needs
-
-shared-slice-copy-out-tanf1 : tie.Need-shared-slice-copy-out-tanf1
-shared-slice-copy-out-tanf1 c = search needs
-
-shared-slice-copy-out-tanf2 : tie.Need-shared-slice-copy-out-tanf2
-shared-slice-copy-out-tanf2 c = search needs
-
 returns : tie.Need-returns
 unfolding elementsOf
 returns c =
@@ -52,12 +28,12 @@ pub from-numbers-spec : {M : Type 1} → statement M
 from-numbers-spec =
     tie.close
     (tie.spec
-    cubic-from-requires
-    cubic-from-requires-2
-    quadratic-from-requires
-    quadratic-from-requires-2
-    quadratic-from-requires-3
-    quadratic-from-requires-4
-    shared-slice-copy-out-tanf1
-    shared-slice-copy-out-tanf2
+    (λ c κs. search needs)
+    (λ c κs. search needs)
+    (λ c κs. search needs)
+    (λ c κs. search needs)
+    (λ c κs. search needs)
+    (λ c κs. search needs)
+    (λ c. search needs)
+    (λ c. search needs)
     returns)

@@ -52,24 +52,12 @@ step-requires c κs =
     let a = start c in
     (omega (arith, a .pre .2, seconds-few (a .args .w) (a .pre .0)), c .loop .inv .0)
 
-enum-known-entry : tie.Need-enum-known-entry Inv-loop μ-loop
-enum-known-entry c = search needs
-
-enum-told : tie.Need-enum-told Inv-loop μ-loop
-enum-told c = search needs
-
 returns : tie.Need-returns Inv-loop μ-loop
 returns c =
     let l = c .before .before .before in
     let a = start l in
     sym (ap (λ es. firstEnter (map (shifted (stored (a .args .w .first))) es)) (none-left 0 (a .args .runs .now) (l .loop .c .at) _ (c .before .before .step .ensures) (c .enum-told .given .1)))
     ∙ l .loop .inv .1
-
-is-enter-requires : tie.Need-is-enter-requires Inv-loop μ-loop
-is-enter-requires c κs = search needs
-
-to-of-requires : tie.Need-to-of-requires Inv-loop μ-loop
-to-of-requires c κs = search needs
 
 -- the enter's second is of the window
 counted : (c : tie.After-to-of Inv-loop μ-loop) → (let k = c .before .before .before in c .to-of .result < secondCount (start (looped k) .args .w))
@@ -131,11 +119,11 @@ first-enter-spec =
     μ-loop
     loop-holds
     step-requires
-    enum-known-entry
-    enum-told
+    (λ c. search needs)
+    (λ c. search needs)
     returns
-    is-enter-requires
-    to-of-requires
+    (λ c κs. search needs)
+    (λ c κs. search needs)
     nth-second-requires
     store-second-requires
     returns-2

@@ -31,15 +31,6 @@ room q i = omega (arith, seconds-few (q .window) (i .window), length-replicate {
 abbrev start : tie.After-fill → tie.Start
 start c = c .before .before .before .before .before .before .before
 
-of-eclipse-requires : tie.Need-of-eclipse-requires
-of-eclipse-requires c κs = search needs
-
-geocentric-requires : tie.Need-geocentric-requires
-geocentric-requires c κs = search needs
-
-slice-aggregate-fill : tie.Need-slice-aggregate-fill
-slice-aggregate-fill c = search needs
-
 fill-requires : tie.Need-fill-requires
 fill-requires c κs =
     let e = c .before .before .before .before .of-eclipse .ensures in
@@ -77,9 +68,9 @@ pub first-to-spec : {M : Type 1} → statement M
 first-to-spec =
     tie.close
     (tie.spec
-    of-eclipse-requires
-    geocentric-requires
-    slice-aggregate-fill
+    (λ c κs. search needs)
+    (λ c κs. search needs)
+    (λ c. search needs)
     fill-requires
     array-share-prefix-runs
     slice-aggregate-first-enter

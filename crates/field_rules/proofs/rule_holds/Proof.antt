@@ -5,42 +5,6 @@ use borrow.Author.Needs.{needs}
 use Rattle.field_rules.proofs.rule_holds.Statement.{statement}
 use Rattle.field_rules.proofs.rule_holds.Tie as tie
 
-stage-of-requires : tie.Need-stage-of-requires
-stage-of-requires c κs = search needs
-
-enum-told : tie.Need-enum-told
-enum-told c = search needs
-
-enum-told-2 : tie.Need-enum-told-2
-enum-told-2 c = search needs
-
-guard-holds-requires : tie.Need-guard-holds-requires
-guard-holds-requires c κs = search needs
-
-enum-told-3 : tie.Need-enum-told-3
-enum-told-3 c = search needs
-
-phase-holds-requires : tie.Need-phase-holds-requires
-phase-holds-requires c κs = search needs
-
-enum-told-4 : tie.Need-enum-told-4
-enum-told-4 c = search needs
-
-in-window-requires : tie.Need-in-window-requires
-in-window-requires c κs = search needs
-
-greatest-magnitude-requires : tie.Need-greatest-magnitude-requires
-greatest-magnitude-requires c κs = search needs
-
-enum-told-5 : tie.Need-enum-told-5
-enum-told-5 c = search needs
-
-enum-told-6 : tie.Need-enum-told-6
-enum-told-6 c = search needs
-
-enum-told-7 : tie.Need-enum-told-7
-enum-told-7 c = search needs
-
 returns : tie.Need-returns
 returns c = let a = c .before .before .before .args in rule-by (a .p) (a .entry) _ (sym (c .enum-told .given .1) ∙ c .before .before .stage-of .ensures)
 
@@ -70,18 +34,18 @@ pub rule-holds-spec : {M : Type 1} → statement M
 rule-holds-spec =
     tie.close
     (tie.spec
-    stage-of-requires
-    enum-told
-    enum-told-2
-    guard-holds-requires
-    enum-told-3
-    phase-holds-requires
-    enum-told-4
-    in-window-requires
-    greatest-magnitude-requires
-    enum-told-5
-    enum-told-6
-    enum-told-7
+    (λ c κs. search needs)
+    (λ c. search needs)
+    (λ c. search needs)
+    (λ c κs. search needs)
+    (λ c. search needs)
+    (λ c κs. search needs)
+    (λ c. search needs)
+    (λ c κs. search needs)
+    (λ c κs. search needs)
+    (λ c. search needs)
+    (λ c. search needs)
+    (λ c. search needs)
     returns
     returns-2
     returns-3

@@ -17,15 +17,6 @@ lows = negℤ (pos 200000000) ∷ negℤ (pos 100000000) ∷ negℤ (pos 100000)
 abbrev highs : List ℤ
 highs = pos 200000000 ∷ pos 100000000 ∷ pos 100000 ∷ pos 10000 ∷ []
 
-slice-aggregate-first-out-of-range : tie.Need-slice-aggregate-first-out-of-range
-slice-aggregate-first-out-of-range c = search needs
-
-slice-aggregate-first-out-of-range-2 : tie.Need-slice-aggregate-first-out-of-range-2
-slice-aggregate-first-out-of-range-2 c = search needs
-
-first-out-of-range-requires : tie.Need-first-out-of-range-requires
-first-out-of-range-requires c κs = search needs
-
 -- four numbers and their ranges are the rows
 four-rows : (cs : List ℤ) → length cs ≡ 4 → rows cs lows highs ≡ coefficientRanges (cubicFrom cs 0)
 unfolding coefficientRanges
@@ -44,4 +35,4 @@ returns c =
 pub coefficients-in-range-spec : {M : Type 1} → statement M
 coefficients-in-range-spec =
     tie.close
-    (tie.spec slice-aggregate-first-out-of-range slice-aggregate-first-out-of-range-2 first-out-of-range-requires returns)
+    (tie.spec (λ c. search needs) (λ c. search needs) (λ c κs. search needs) returns)

@@ -26,9 +26,6 @@ seconds-are : (c : tie.Start) → run (raw (c .args .i) ∷ []) seconds ≡ seco
 seconds-are c =
     runs (bounds c) seconds tt ∙ ap (λ (z : ℤ). hour *ℤ (z -ℤ pos 3)) (count-is (c .args .i) {m = 7} (omega (arith, c .pre .2)) tt)
 
-cast-hour : tie.Need-cast-hour
-cast-hour c = search needs
-
 sub-hour : tie.Need-sub-hour
 sub-hour c = fits (bounds c) hours tt
 
@@ -53,4 +50,4 @@ returns c = runs (after c) (sub (arg 0) (arg 1)) tt ∙ ap (λ (z : ℤ). z -ℤ
 
 pub difference-spec : {M : Type 1} → statement M
 difference-spec =
-    tie.close (tie.spec cast-hour sub-hour mul-cubic-at cubic-at-requires sub-result returns)
+    tie.close (tie.spec (λ c. search needs) sub-hour mul-cubic-at cubic-at-requires sub-result returns)

@@ -27,26 +27,8 @@ Inv-loop coefficients tabulated c0 c1 c2 c3 c all₀ i₀ all i =
 abbrev μ-loop : tie.MeasureT-loop
 μ-loop coefficients tabulated c0 c1 c2 c3 c all₀ i₀ all i = 7 - i
 
-shared-slice-copy-out-c0 : tie.Need-shared-slice-copy-out-c0 Inv-loop μ-loop
-shared-slice-copy-out-c0 c = search needs
-
-shared-slice-copy-out-c1 : tie.Need-shared-slice-copy-out-c1 Inv-loop μ-loop
-shared-slice-copy-out-c1 c = search needs
-
-shared-slice-copy-out-c2 : tie.Need-shared-slice-copy-out-c2 Inv-loop μ-loop
-shared-slice-copy-out-c2 c = search needs
-
-shared-slice-copy-out-c3 : tie.Need-shared-slice-copy-out-c3 Inv-loop μ-loop
-shared-slice-copy-out-c3 c = search needs
-
 loop-holds : tie.Need-loop-holds Inv-loop μ-loop
 loop-holds c = (omega arith, refl, λ j l. absurd (omega arith))
-
-mul-x : tie.Need-mul-x Inv-loop μ-loop
-mul-x c = search needs
-
-shared-slice-copy-out-x : tie.Need-shared-slice-copy-out-x Inv-loop μ-loop
-shared-slice-copy-out-x c = search needs
 
 -- the coefficients as they are read from their bits
 abbrev read : ℤ → ℤ
@@ -64,18 +46,6 @@ difference-requires c κs =
     let i = c .before .before .loop .i in
     let h : i < 7 = omega arith in
     (subst CubicSizes (sym (read-cubic x (r .of-x))) (r .of-x), read-size (getD (start .args .tabulated .now) i (pos 0)) 1000000000 (r .tabulated i h) tt, h)
-
-mul-all : tie.Need-mul-all Inv-loop μ-loop
-mul-all c = search needs
-
-array-set-from-all : tie.Need-array-set-from-all Inv-loop μ-loop
-array-set-from-all c = search needs
-
-add-i : tie.Need-add-i Inv-loop μ-loop
-add-i c = search needs
-
-loop-less : tie.Need-loop-less Inv-loop μ-loop
-loop-less c = search needs
 
 -- the difference at an hour, by its definition
 abbrev at : tie.Start Inv-loop μ-loop → ℕ → ℤ
@@ -125,17 +95,17 @@ differences-spec =
     (tie.spec
     Inv-loop
     μ-loop
-    shared-slice-copy-out-c0
-    shared-slice-copy-out-c1
-    shared-slice-copy-out-c2
-    shared-slice-copy-out-c3
+    (λ c. search needs)
+    (λ c. search needs)
+    (λ c. search needs)
+    (λ c. search needs)
     loop-holds
-    mul-x
-    shared-slice-copy-out-x
+    (λ c. search needs)
+    (λ c. search needs)
     difference-requires
-    mul-all
-    array-set-from-all
-    add-i
-    loop-less
+    (λ c. search needs)
+    (λ c. search needs)
+    (λ c. search needs)
+    (λ c. search needs)
     loop-again
     returns)

@@ -58,27 +58,12 @@ returns-2 c =
     let a = c .before .before .args in
     sym (fit-not-seven (a .coefficients .now) (a .tabulated .now) (a .tolerance) (c .before .if1 .left) (c .if2 .taken))
 
-given-in-range-requires : tie.Need-given-in-range-requires
-given-in-range-requires c κs = search needs
-
-coefficients-in-range-requires : tie.Need-coefficients-in-range-requires
-coefficients-in-range-requires c κs = search needs
-
-enum-known-given : tie.Need-enum-known-given
-enum-known-given c = search needs
-
 returns-3 : tie.Need-returns-3
 returns-3 c =
     let given = c .before .before .before .before in
     let q = given .before in
     let e = sym (given-is given) ∙ c .before .given .given .1 in
     sym (fit-given (cs q) (ts q) (tolerance q) (q .before .if1 .left) (q .if2 .left) _ e)
-
-enum-told : tie.Need-enum-told
-enum-told c = search needs
-
-enum-known-proposed : tie.Need-enum-known-proposed
-enum-known-proposed c = search needs
 
 returns-4 : tie.Need-returns-4
 returns-4 c =
@@ -89,18 +74,12 @@ returns-4 c =
     let e = sym (found .coefficients-in-range .ensures) ∙ c .before .proposed .given .1 in
     sym (fit-coefficient (cs q) (ts q) (tolerance q) (q .before .if1 .left) (q .if2 .left) within _ e)
 
-enum-told-2 : tie.Need-enum-told-2
-enum-told-2 c = search needs
-
 hours-in-range-requires : tie.Need-hours-in-range-requires
 hours-in-range-requires c κs =
     let four = q c .before .if1 .left in
     let seven = q c .if2 .left in
     let size = tolerance-size (cs (q c)) (ts (q c)) (tolerance (q c)) four seven (given-within c) in
     (in-ranges (cs (q c)) (ts (q c)) (tolerance (q c)) four seven (given-within c) (proposed-within c), read-size (tolerance (q c)) 1000 size tt)
-
-enum-known-hours : tie.Need-enum-known-hours
-enum-known-hours c = search needs
 
 returns-5 : tie.Need-returns-5
 returns-5 c =
@@ -109,9 +88,6 @@ returns-5 c =
     let p = q t in
     let e = sym (hours-are asked) ∙ c .before .hours .given .1 in
     sym (fit-hour (cs p) (ts p) (tolerance p) (p .before .if1 .left) (p .if2 .left) (given-within t) (proposed-within t) _ e)
-
-enum-told-3 : tie.Need-enum-told-3
-enum-told-3 c = search needs
 
 returns-6 : tie.Need-returns-6
 returns-6 c =
@@ -127,16 +103,16 @@ fit-spec =
     (tie.spec
     returns
     returns-2
-    given-in-range-requires
-    coefficients-in-range-requires
-    enum-known-given
+    (λ c κs. search needs)
+    (λ c κs. search needs)
+    (λ c. search needs)
     returns-3
-    enum-told
-    enum-known-proposed
+    (λ c. search needs)
+    (λ c. search needs)
     returns-4
-    enum-told-2
+    (λ c. search needs)
     hours-in-range-requires
-    enum-known-hours
+    (λ c. search needs)
     returns-5
-    enum-told-3
+    (λ c. search needs)
     returns-6)

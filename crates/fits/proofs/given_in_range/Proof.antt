@@ -24,21 +24,6 @@ returns c = let s = c .before in given-low (s .args .tolerance) _ (not-negative 
 returns-2 : tie.Need-returns-2
 returns-2 c = let s = c .before .before in given-high (s .args .tolerance) _ (not-negative s ∙ c .before .if1 .left) (at-most s ∙ c .if2 .taken)
 
-slice-aggregate-first-out-of-range : tie.Need-slice-aggregate-first-out-of-range
-slice-aggregate-first-out-of-range c = search needs
-
-slice-aggregate-first-out-of-range-2 : tie.Need-slice-aggregate-first-out-of-range-2
-slice-aggregate-first-out-of-range-2 c = search needs
-
-first-out-of-range-requires : tie.Need-first-out-of-range-requires
-first-out-of-range-requires c κs = search needs
-
-enum-known-found : tie.Need-enum-known-found
-enum-known-found c = search needs
-
-enum-told : tie.Need-enum-told
-enum-told c = search needs
-
 returns-3 : tie.Need-returns-3
 returns-3 c =
     let f = c .before .before in
@@ -67,11 +52,11 @@ given-in-range-spec =
     (tie.spec
     returns
     returns-2
-    slice-aggregate-first-out-of-range
-    slice-aggregate-first-out-of-range-2
-    first-out-of-range-requires
-    enum-known-found
-    enum-told
+    (λ c. search needs)
+    (λ c. search needs)
+    (λ c κs. search needs)
+    (λ c. search needs)
+    (λ c. search needs)
     returns-3
     add-t12
     returns-4)

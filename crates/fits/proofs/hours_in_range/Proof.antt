@@ -14,23 +14,8 @@ bounds c = c .pre .1 ▹ ends
 abbrev opposite : Code
 opposite = sub (lit (pos 0)) (arg 0)
 
-differences-requires : tie.Need-differences-requires
-differences-requires c κs = search needs
-
 sub-low : tie.Need-sub-low
 sub-low c = fits (bounds (c .before)) opposite tt
-
-slice-aggregate-first-out-of-range : tie.Need-slice-aggregate-first-out-of-range
-slice-aggregate-first-out-of-range c = search needs
-
-slice-aggregate-first-out-of-range-2 : tie.Need-slice-aggregate-first-out-of-range-2
-slice-aggregate-first-out-of-range-2 c = search needs
-
-slice-aggregate-first-out-of-range-3 : tie.Need-slice-aggregate-first-out-of-range-3
-slice-aggregate-first-out-of-range-3 c = search needs
-
-first-out-of-range-requires : tie.Need-first-out-of-range-requires
-first-out-of-range-requires c κs = search needs
 
 returns : tie.Need-returns
 unfolding hourRanges
@@ -44,10 +29,10 @@ pub hours-in-range-spec : {M : Type 1} → statement M
 hours-in-range-spec =
     tie.close
     (tie.spec
-    differences-requires
+    (λ c κs. search needs)
     sub-low
-    slice-aggregate-first-out-of-range
-    slice-aggregate-first-out-of-range-2
-    slice-aggregate-first-out-of-range-3
-    first-out-of-range-requires
+    (λ c. search needs)
+    (λ c. search needs)
+    (λ c. search needs)
+    (λ c κs. search needs)
     returns)

@@ -6,51 +6,6 @@ use borrow.Author.Needs.{needs}
 use Rattle.fitted.proofs.answer_to.Statement.{statement}
 use Rattle.fitted.proofs.answer_to.Tie as tie
 
-number-at-requires : tie.Need-number-at-requires
-number-at-requires c κs = search needs
-
-number-at-requires-2 : tie.Need-number-at-requires-2
-number-at-requires-2 c κs = search needs
-
-number-at-requires-3 : tie.Need-number-at-requires-3
-number-at-requires-3 c κs = search needs
-
-number-at-requires-4 : tie.Need-number-at-requires-4
-number-at-requires-4 c κs = search needs
-
-number-at-requires-5 : tie.Need-number-at-requires-5
-number-at-requires-5 c κs = search needs
-
-number-at-requires-6 : tie.Need-number-at-requires-6
-number-at-requires-6 c κs = search needs
-
-number-at-requires-7 : tie.Need-number-at-requires-7
-number-at-requires-7 c κs = search needs
-
-number-at-requires-8 : tie.Need-number-at-requires-8
-number-at-requires-8 c κs = search needs
-
-number-at-requires-9 : tie.Need-number-at-requires-9
-number-at-requires-9 c κs = search needs
-
-number-at-requires-10 : tie.Need-number-at-requires-10
-number-at-requires-10 c κs = search needs
-
-number-at-requires-11 : tie.Need-number-at-requires-11
-number-at-requires-11 c κs = search needs
-
-slice-aggregate-fit : tie.Need-slice-aggregate-fit
-slice-aggregate-fit c = search needs
-
-slice-aggregate-fit-2 : tie.Need-slice-aggregate-fit-2
-slice-aggregate-fit-2 c = search needs
-
-number-at-requires-12 : tie.Need-number-at-requires-12
-number-at-requires-12 c κs = search needs
-
-fit-requires : tie.Need-fit-requires
-fit-requires c κs = search needs
-
 returns : tie.Need-returns
 returns c =
     let n11 = c .before .before .before .before in
@@ -84,19 +39,19 @@ pub answer-to-spec : {M : Type 1} → statement M
 answer-to-spec =
     tie.close
     (tie.spec
-    number-at-requires
-    number-at-requires-2
-    number-at-requires-3
-    number-at-requires-4
-    number-at-requires-5
-    number-at-requires-6
-    number-at-requires-7
-    number-at-requires-8
-    number-at-requires-9
-    number-at-requires-10
-    number-at-requires-11
-    slice-aggregate-fit
-    slice-aggregate-fit-2
-    number-at-requires-12
-    fit-requires
+    (λ c κs. search needs)
+    (λ c κs. search needs)
+    (λ c κs. search needs)
+    (λ c κs. search needs)
+    (λ c κs. search needs)
+    (λ c κs. search needs)
+    (λ c κs. search needs)
+    (λ c κs. search needs)
+    (λ c κs. search needs)
+    (λ c κs. search needs)
+    (λ c κs. search needs)
+    (λ c. search needs)
+    (λ c. search needs)
+    (λ c κs. search needs)
+    (λ c κs. search needs)
     returns)

@@ -7,19 +7,10 @@ use borrow.Author.Needs.{needs}
 use Rattle.fitted.proofs.number_at.Statement.{statement}
 use Rattle.fitted.proofs.number_at.Tie as tie
 
-mul-eight-at : tie.Need-mul-eight-at
-mul-eight-at c = search needs
-
-eight-at-requires : tie.Need-eight-at-requires
-eight-at-requires c κs = search needs
-
-signed-requires : tie.Need-signed-requires
-signed-requires c κs = search needs
-
 returns : tie.Need-returns
 unfolding numberAt
 returns c =
     read-result (c .signed .result) (c .signed .ok) ∙ c .signed .ensures ∙ ap (signed 9223372036854775808) (c .before .eight-at .ensures)
 
 pub number-at-spec : {M : Type 1} → statement M
-number-at-spec = tie.close (tie.spec mul-eight-at eight-at-requires signed-requires returns)
+number-at-spec = tie.close (tie.spec (λ c. search needs) (λ c κs. search needs) (λ c κs. search needs) returns)

@@ -17,15 +17,6 @@ opposite-fits : (n : ℕ) → n ≤ 9223372036854775807 → SFits w64 (negsuc 0 
 opposite-fits zero h = record { sfits = omega arith }
 opposite-fits (suc n) h = record { sfits = omega arith }
 
-cast-result : tie.Need-cast-result
-cast-result c = search needs
-
-sub-result : tie.Need-sub-result
-sub-result c = search needs
-
-cast-result-2 : tie.Need-cast-result-2
-cast-result-2 c = search needs
-
 sub-result-2 : tie.Need-sub-result-2
 sub-result-2 c =
     let n = 18446744073709551615 - c .before .args .x in
@@ -44,4 +35,4 @@ returns-2 c =
 
 pub signed-spec : {M : Type 1} → statement M
 signed-spec =
-    tie.close (tie.spec cast-result sub-result cast-result-2 sub-result-2 returns returns-2)
+    tie.close (tie.spec (λ c. search needs) (λ c. search needs) (λ c. search needs) sub-result-2 returns returns-2)

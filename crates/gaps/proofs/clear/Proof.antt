@@ -102,9 +102,6 @@ widened-requires c κs = (read-size (c .before .args .guard) 1000 (c .before .pr
 lowest-requires : tie.Need-lowest-requires
 lowest-requires c κs = let a = c .before .before in (a .pre .2, a .pre .3)
 
-cast-n : tie.Need-cast-n
-cast-n c = search needs
-
 outside-requires : tie.Need-outside-requires
 outside-requires c κs =
     let n = count-size (start c .args .near) {m = 1100000000} (omega (arith, start c .pre .1)) tt in
@@ -144,7 +141,7 @@ clear-spec =
     returns
     widened-requires
     lowest-requires
-    cast-n
+    (λ c. search needs)
     outside-requires
     returns-2
     shows-requires

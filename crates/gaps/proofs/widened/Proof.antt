@@ -22,12 +22,6 @@ square = mul (arg 1) (arg 1)
 abbrev G : Code
 G = add (arg 0) (mul (arg 2) square)
 
-sagitta-requires : tie.Need-sagitta-requires
-sagitta-requires c κs = search needs
-
-cast-s : tie.Need-cast-s
-cast-s c = search needs
-
 mul-result : tie.Need-mul-result
 mul-result c = fits (bounds c) square tt
 
@@ -49,4 +43,4 @@ returns c =
     }
 
 pub widened-spec : {M : Type 1} → statement M
-widened-spec = tie.close (tie.spec sagitta-requires cast-s mul-result mul-result-2 add-result returns)
+widened-spec = tie.close (tie.spec (λ c κs. search needs) (λ c. search needs) mul-result mul-result-2 add-result returns)

@@ -14,20 +14,8 @@ use borrow.Author.Needs.{needs}
 use Rattle.handed.proofs.extent_of_entries.Statement.{statement}
 use Rattle.handed.proofs.extent_of_entries.Tie as tie
 
-extent-of-leading-entries-requires : tie.Need-extent-of-leading-entries-requires
-extent-of-leading-entries-requires c κs = search needs
-
-enum-known-found : tie.Need-enum-known-found
-enum-known-found c = search needs
-
-enum-told : tie.Need-enum-told
-enum-told c = search needs
-
 returns : tie.Need-returns
 returns c = c .enum-told .given .1 ∙ sym (list-by _ _ (sym (c .enum-told .given .1) ∙ c .before .before .extent-of-leading-entries .ensures))
-
-add-held : tie.Need-add-held
-add-held c = search needs
 
 found-is : (c : tie.After-known-told) → extentOf (listWhole (c .before .before .before .before .before .args .l .now)) ≡ aloneX
     (λ k n. ltb (k * 5) (length (c .before .before .before .before .before .args .l .now)))
@@ -45,4 +33,4 @@ returns-3 c = sym (found-is (c .before) ∙ rw
 pub extent-of-entries-spec : {M : Type 1} → statement M
 extent-of-entries-spec =
     tie.close
-    (tie.spec extent-of-leading-entries-requires enum-known-found enum-told returns add-held returns-2 returns-3)
+    (tie.spec (λ c κs. search needs) (λ c. search needs) (λ c. search needs) returns (λ c. search needs) returns-2 returns-3)

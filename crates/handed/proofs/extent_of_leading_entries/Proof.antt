@@ -21,42 +21,12 @@ Inv-loop l p₀ place₀ n₀ p place n = (n * 5 ≤ length l) × (place ≤ n *
 abbrev μ-loop : tie.MeasureT-loop
 μ-loop l p₀ place₀ n₀ p place n = length l - n
 
-begun-requires : tie.Need-begun-requires Inv-loop μ-loop
-begun-requires c κs = search needs
-
 loop-holds : tie.Need-loop-holds Inv-loop μ-loop
 loop-holds c = (omega arith, omega arith, record { is = rw (c .begun .ensures) (extent-start _ _ (list-start _)) })
-
-handed-at-requires : tie.Need-handed-at-requires Inv-loop μ-loop
-handed-at-requires c κs = omega arith
-
-enum-known-given : tie.Need-enum-known-given Inv-loop μ-loop
-enum-known-given c = search needs
-
-enum-told : tie.Need-enum-told Inv-loop μ-loop
-enum-told c = search needs
-
-refused-requires : tie.Need-refused-requires Inv-loop μ-loop
-refused-requires c κs = search needs
 
 returns : tie.Need-returns Inv-loop μ-loop
 returns c = c .refused .ensures ∙ ap refusedOf (c .before .enum-told .given .1) ∙ count-refused (c .before .before .before .before .loop .inv .2) _
     (sym (c .before .before .before .handed-at .ensures) ∙ c .before .enum-told .given .1)
-
-is-plain-requires : tie.Need-is-plain-requires Inv-loop μ-loop
-is-plain-requires c κs = search needs
-
-judge-requires : tie.Need-judge-requires Inv-loop μ-loop
-judge-requires c κs = search needs
-
-enum-known-judged : tie.Need-enum-known-judged Inv-loop μ-loop
-enum-known-judged c = search needs
-
-enum-told-2 : tie.Need-enum-told-2 Inv-loop μ-loop
-enum-told-2 c = search needs
-
-broken-requires : tie.Need-broken-requires Inv-loop μ-loop
-broken-requires c κs = search needs
 
 there : (c : tie.After-known-told Inv-loop μ-loop)
     → handedAt (c .before .before .before .before .before .before .before .args .l .now) (c .before .before .before .before .loop .n)
@@ -84,9 +54,6 @@ returns-2 : tie.Need-returns-2 Inv-loop μ-loop
 returns-2 c = c .broken .ensures ∙ ap brokenOf (c .before .enum-told2 .given .1) ∙ count-broken
     (c .before .before .before .before .before .before .before .before .before .loop .inv .2) _ _ (there (c .before .before .before .before .before))
     _ (judgement (c .before .before .before) ∙ c .before .enum-told2 .given .1)
-
-is-end-requires : tie.Need-is-end-requires Inv-loop μ-loop
-is-end-requires c κs = search needs
 
 add-handed : tie.Need-add-handed Inv-loop μ-loop
 add-handed c = let b = bounds (c .before .before .before .before .before .before .before) in omega arith
@@ -116,20 +83,20 @@ extent-of-leading-entries-spec =
     (tie.spec
     Inv-loop
     μ-loop
-    begun-requires
+    (λ c κs. search needs)
     loop-holds
-    handed-at-requires
-    enum-known-given
-    enum-told
-    refused-requires
+    (λ c κs. omega arith)
+    (λ c. search needs)
+    (λ c. search needs)
+    (λ c κs. search needs)
     returns
-    is-plain-requires
-    judge-requires
-    enum-known-judged
-    enum-told-2
-    broken-requires
+    (λ c κs. search needs)
+    (λ c κs. search needs)
+    (λ c. search needs)
+    (λ c. search needs)
+    (λ c κs. search needs)
     returns-2
-    is-end-requires
+    (λ c κs. search needs)
     add-handed
     returns-3
     add-n

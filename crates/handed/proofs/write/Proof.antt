@@ -11,15 +11,6 @@ use borrow.Author.Needs.{needs}
 use Rattle.handed.proofs.write.Statement.{statement}
 use Rattle.handed.proofs.write.Tie as tie
 
-extent-of-entries-requires : tie.Need-extent-of-entries-requires
-extent-of-entries-requires c κs = search needs
-
-enum-known-found : tie.Need-enum-known-found
-enum-known-found c = search needs
-
-enum-told : tie.Need-enum-told
-enum-told c = search needs
-
 found-is : (c : tie.After-known-told) → X.Sheet (c .before .found .given .0 .0) (c .before .found .given .0 .1 .0) ≡ extentOf
     (listWhole (c .before .before .before .before .before .before .args .l .now))
 found-is c = sym (c .before .found .given .1) ∙ c .before .before .before .extent-of-entries .ensures
@@ -37,9 +28,6 @@ write-records-requires c κs = rw (← list-same _ _ _ (found-is (c .before .bef
     (buffer-for (listWhole (c .before .before .before .before .before .before .before .before .args .l .now)) _ _ _ (found-is (c .before .before))
     (c .before .if1 .left))
 
-same-length : tie.Need-same-length
-same-length c = search needs
-
 returns-3 : tie.Need-returns-3
 returns-3 c = let q = found-is (c .before .before .before .before .before) in
     write-full (listWhole (c .before .before .before .before .before .before .before .before .before .before .before .args .l .now))
@@ -53,11 +41,11 @@ pub write-spec : {M : Type 1} → statement M
 write-spec =
     tie.close
     (tie.spec
-    extent-of-entries-requires
-    enum-known-found
-    enum-told
+    (λ c κs. search needs)
+    (λ c. search needs)
+    (λ c. search needs)
     returns
     returns-2
     write-records-requires
-    same-length
+    (λ c. search needs)
     returns-3)

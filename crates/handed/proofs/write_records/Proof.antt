@@ -27,15 +27,6 @@ abbrev μ-loop : tie.MeasureT-loop
 loop-holds : tie.Need-loop-holds Inv-loop μ-loop
 loop-holds c = (omega arith, omega arith, refl, writing-starts _ _ (c .before .before .pre))
 
-handed-at-requires : tie.Need-handed-at-requires Inv-loop μ-loop
-handed-at-requires c κs = omega arith
-
-enum-known-entry : tie.Need-enum-known-entry Inv-loop μ-loop
-enum-known-entry c = search needs
-
-enum-told : tie.Need-enum-told Inv-loop μ-loop
-enum-told c = search needs
-
 same-length : tie.Need-same-length Inv-loop μ-loop
 same-length c = c .before .before .before .loop .inv .2
 
@@ -57,9 +48,6 @@ bounds c =
 
 put-requires : tie.Need-put-requires Inv-loop μ-loop
 put-requires c κs = bounds (c .before) .2
-
-is-end-requires : tie.Need-is-end-requires Inv-loop μ-loop
-is-end-requires c κs = search needs
 
 same-length-2 : tie.Need-same-length-2 Inv-loop μ-loop
 same-length-2 c = c .before .before .before .before .put .kept .0 ∙
@@ -96,13 +84,13 @@ write-records-spec =
     Inv-loop
     μ-loop
     loop-holds
-    handed-at-requires
-    enum-known-entry
-    enum-told
+    (λ c κs. omega arith)
+    (λ c. search needs)
+    (λ c. search needs)
     same-length
     returns
     put-requires
-    is-end-requires
+    (λ c κs. search needs)
     same-length-2
     returns-2
     add-n

@@ -18,48 +18,12 @@ abbrev μ-loop : tie.MeasureT-loop
 loop-holds : tie.Need-loop-holds Inv-loop μ-loop
 loop-holds c = counted-start _ _ _ _ _ (omega arith) (omega arith)
 
-add-loop : tie.Need-add-loop Inv-loop μ-loop
-add-loop c = search needs
-
-two-at-requires : tie.Need-two-at-requires Inv-loop μ-loop
-two-at-requires c κs = search needs
-
-cast-size : tie.Need-cast-size Inv-loop μ-loop
-cast-size c = search needs
-
-mul-size : tie.Need-mul-size Inv-loop μ-loop
-mul-size c = search needs
-
-add-from : tie.Need-add-from Inv-loop μ-loop
-add-from c = search needs
-
-sub-if1 : tie.Need-sub-if1 Inv-loop μ-loop
-sub-if1 c = search needs
-
 same-length : tie.Need-same-length Inv-loop μ-loop
 same-length c = c .before .before .before .loop .inv .same
 
 returns : tie.Need-returns Inv-loop μ-loop
 unfolding printed
 returns c = counted-short _ _ _ _ _ _ _ _ (c .before .before .before .loop .inv) (c .before .before .loop-test .taken) _ (ap (λ k. k * 4) (c .before .two-at .ensures .0)) (omega arith)
-
-add-end : tie.Need-add-end Inv-loop μ-loop
-add-end c = search needs
-
-sub-put-taken : tie.Need-sub-put-taken Inv-loop μ-loop
-sub-put-taken c = search needs
-
-part-put-taken-start : tie.Need-part-put-taken-start Inv-loop μ-loop
-part-put-taken-start c = search needs
-
-part-put-taken-end : tie.Need-part-put-taken-end Inv-loop μ-loop
-part-put-taken-end c = search needs
-
-put-taken-requires : tie.Need-put-taken-requires Inv-loop μ-loop
-put-taken-requires c κs = search needs
-
-loop-less : tie.Need-loop-less Inv-loop μ-loop
-loop-less c = search needs
 
 loop-again : tie.Need-loop-again Inv-loop μ-loop
 loop-again c = counted-turn _ _ _ _ _ _ _ _ (c .before .before .before .before .before .before .before .before .loop .inv) (c .before .before .before .before .before .before .before .loop-test .taken) _ (ap (λ k. k * 4) (c .before .before .before .before .before .before .two-at .ensures .0)) (omega arith) _ _ (c .before .before .put-taken .ensures)
@@ -78,20 +42,20 @@ put-lists-spec =
     Inv-loop
     μ-loop
     loop-holds
-    add-loop
-    two-at-requires
-    cast-size
-    mul-size
-    add-from
-    sub-if1
+    (λ c. search needs)
+    (λ c κs. search needs)
+    (λ c. search needs)
+    (λ c. search needs)
+    (λ c. search needs)
+    (λ c. search needs)
     same-length
     returns
-    add-end
-    sub-put-taken
-    part-put-taken-start
-    part-put-taken-end
-    put-taken-requires
-    loop-less
+    (λ c. search needs)
+    (λ c. search needs)
+    (λ c. search needs)
+    (λ c. search needs)
+    (λ c κs. search needs)
+    (λ c. search needs)
     loop-again
     same-length-2
     returns-2)

@@ -13,20 +13,8 @@ use Rattle.handed_entries.proofs.put_taken.Tie as tie
 slice-aggregate-take : tie.Need-slice-aggregate-take
 slice-aggregate-take c = sym (length-replicate {A = ℕ} 65536 0)
 
-take-requires : tie.Need-take-requires
-take-requires c κs = search needs
-
-array-share-prefix-list : tie.Need-array-share-prefix-list
-array-share-prefix-list c = search needs
-
 slice-aggregate-put-list : tie.Need-slice-aggregate-put-list
 slice-aggregate-put-list c = sym (length-take-le _ _ (omega arith))
-
-put-list-requires : tie.Need-put-list-requires
-put-list-requires c κs = search needs
-
-same-length : tie.Need-same-length
-same-length c = search needs
 
 returns : tie.Need-returns
 returns c = put-as _ _ _ _ _ _ (ap listText (c .before .before .before .before .before .before .take .ensures)) (c .before .before .put-list .ensures)
@@ -36,9 +24,9 @@ put-taken-spec =
     tie.close
     (tie.spec
     slice-aggregate-take
-    take-requires
-    array-share-prefix-list
+    (λ c κs. search needs)
+    (λ c. search needs)
     slice-aggregate-put-list
-    put-list-requires
-    same-length
+    (λ c κs. search needs)
+    (λ c. search needs)
     returns)

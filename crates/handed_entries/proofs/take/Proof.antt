@@ -15,24 +15,6 @@ abbrev μ-loop : tie.MeasureT-loop
 loop-holds : tie.Need-loop-holds Inv-loop μ-loop
 loop-holds c = taking-start _ _
 
-mul-four-at : tie.Need-mul-four-at Inv-loop μ-loop
-mul-four-at c = search needs
-
-four-at-requires : tie.Need-four-at-requires Inv-loop μ-loop
-four-at-requires c κs = search needs
-
-mul-list : tie.Need-mul-list Inv-loop μ-loop
-mul-list c = search needs
-
-slice-write-list : tie.Need-slice-write-list Inv-loop μ-loop
-slice-write-list c = search needs
-
-add-n : tie.Need-add-n Inv-loop μ-loop
-add-n c = search needs
-
-loop-less : tie.Need-loop-less Inv-loop μ-loop
-loop-less c = search needs
-
 loop-again : tie.Need-loop-again Inv-loop μ-loop
 loop-again c = taking-turn _ _ _ _ (c .before .before .loop .inv) (c .before .loop-test .taken) (c .before .before .before .before .before .pre) _ (c .four-at .ensures)
 
@@ -49,12 +31,12 @@ take-spec =
     Inv-loop
     μ-loop
     loop-holds
-    mul-four-at
-    four-at-requires
-    mul-list
-    slice-write-list
-    add-n
-    loop-less
+    (λ c. search needs)
+    (λ c κs. search needs)
+    (λ c. search needs)
+    (λ c. search needs)
+    (λ c. search needs)
+    (λ c. search needs)
     loop-again
     same-length
     returns)

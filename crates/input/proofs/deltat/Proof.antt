@@ -6,15 +6,6 @@ use borrow.Author.Needs.{needs}
 use Rattle.input.proofs.deltat.Statement.{statement}
 use Rattle.input.proofs.deltat.Tie as tie
 
-request-requires : tie.Need-request-requires
-request-requires c κs = search needs
-
-enum-known-asked : tie.Need-enum-known-asked
-enum-known-asked c = search needs
-
-enum-told : tie.Need-enum-told
-enum-told c = search needs
-
 returns : tie.Need-returns
 unfolding deltaOf
 returns c =
@@ -27,4 +18,4 @@ unfolding deltaOf
 returns-2 c = ap (λ i. deltaFor (eclipseAsked i)) (sym (c .enum-told .given .1) ∙ c .before .before .request .ensures)
 
 pub deltat-spec : {M : Type 1} → statement M
-deltat-spec = tie.close (tie.spec request-requires enum-known-asked enum-told returns returns-2)
+deltat-spec = tie.close (tie.spec (λ c κs. search needs) (λ c. search needs) (λ c. search needs) returns returns-2)

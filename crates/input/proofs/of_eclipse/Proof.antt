@@ -6,15 +6,6 @@ use Rattle.input.specs.Input.{eclipseAsked}
 use Rattle.input.proofs.of_eclipse.Statement.{statement}
 use Rattle.input.proofs.of_eclipse.Tie as tie
 
-enum-known-input : tie.Need-enum-known-input
-enum-known-input c = search needs
-
-of-eclipse-requires : tie.Need-of-eclipse-requires
-of-eclipse-requires c κs = search needs
-
-enum-known-input-2 : tie.Need-enum-known-input-2
-enum-known-input-2 c = search needs
-
 returns : tie.Need-returns
 returns c = ap A.Is (c .of-eclipse .ensures) ∙ sym (ap eclipseAsked (c .before .before .input .given .1))
 
@@ -23,4 +14,4 @@ returns-2 c = sym (ap eclipseAsked (c .before .input2 .given .1))
 
 pub of-eclipse-spec : {M : Type 1} → statement M
 of-eclipse-spec =
-    tie.close (tie.spec enum-known-input of-eclipse-requires enum-known-input-2 returns returns-2)
+    tie.close (tie.spec (λ c. search needs) (λ c κs. search needs) (λ c. search needs) returns returns-2)

@@ -15,20 +15,11 @@ holds c =
     held Eclipse (g .before .before .before .args .input .now) _ _ (λ i. let b = g .before .before .shared-slice-known .given i in omega arith)
     (sym (g .get .ensures .0) ∙ c .enum-told .given .1) (g .get .ensures .1)
 
-get-requires : tie.Need-get-requires
-get-requires c κs = search needs
-
-enum-told : tie.Need-enum-told
-enum-told c = search needs
-
 slice-aggregate-request-from : tie.Need-slice-aggregate-request-from
 slice-aggregate-request-from c = sym (holds (c .before) .small .all)
 
 request-from-requires : tie.Need-request-from-requires
 request-from-requires c κs = holds (c .before) .small
-
-enum-told-2 : tie.Need-enum-told-2
-enum-told-2 c = search needs
 
 returns : tie.Need-returns
 returns c = ap I.Is (c .request-from .ensures) ∙ sym (eclipse-held _ _ (holds (c .before .before)))
@@ -40,10 +31,10 @@ pub request-spec : {M : Type 1} → statement M
 request-spec =
     tie.close
     (tie.spec
-    get-requires
-    enum-told
+    (λ c κs. search needs)
+    (λ c. search needs)
     slice-aggregate-request-from
     request-from-requires
-    enum-told-2
+    (λ c. search needs)
     returns
     returns-2)

@@ -7,18 +7,6 @@ use Rattle.input.specs.Input.{requestFrom}
 use Rattle.input.proofs.request_from.Statement.{statement}
 use Rattle.input.proofs.request_from.Tie as tie
 
-from-numbers-requires : tie.Need-from-numbers-requires
-from-numbers-requires c κs = search needs
-
-station-from-requires : tie.Need-station-from-requires
-station-from-requires c κs = search needs
-
-window-from-requires : tie.Need-window-from-requires
-window-from-requires c κs = search needs
-
-shared-slice-copy-out-guard : tie.Need-shared-slice-copy-out-guard
-shared-slice-copy-out-guard c = search needs
-
 returns : tie.Need-returns
 unfolding requestFrom
 returns c =
@@ -32,8 +20,8 @@ pub request-from-spec : {M : Type 1} → statement M
 request-from-spec =
     tie.close
     (tie.spec
-    from-numbers-requires
-    station-from-requires
-    window-from-requires
-    shared-slice-copy-out-guard
+    (λ c κs. search needs)
+    (λ c κs. search needs)
+    (λ c κs. search needs)
+    (λ c. search needs)
     returns)

@@ -8,21 +8,6 @@ use Rattle.input.specs.Input.{windowFrom}
 use Rattle.input.proofs.window_from.Statement.{statement}
 use Rattle.input.proofs.window_from.Tie as tie
 
-mul-first : tie.Need-mul-first
-mul-first c = search needs
-
-shared-slice-copy-out-first : tie.Need-shared-slice-copy-out-first
-shared-slice-copy-out-first c = search needs
-
-add-last : tie.Need-add-last
-add-last c = search needs
-
-mul-last : tie.Need-mul-last
-mul-last c = search needs
-
-shared-slice-copy-out-last : tie.Need-shared-slice-copy-out-last
-shared-slice-copy-out-last c = search needs
-
 returns : tie.Need-returns
 unfolding windowFrom
 returns c =
@@ -35,9 +20,9 @@ pub window-from-spec : {M : Type 1} → statement M
 window-from-spec =
     tie.close
     (tie.spec
-    mul-first
-    shared-slice-copy-out-first
-    add-last
-    mul-last
-    shared-slice-copy-out-last
+    (λ c. search needs)
+    (λ c. search needs)
+    (λ c. search needs)
+    (λ c. search needs)
+    (λ c. search needs)
     returns)

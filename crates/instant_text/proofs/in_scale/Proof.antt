@@ -6,26 +6,8 @@ use borrow.Author.Needs.{needs}
 use Rattle.instant_text.proofs.in_scale.Statement.{statement}
 use Rattle.instant_text.proofs.in_scale.Tie as tie
 
-slice-aggregate-has-form : tie.Need-slice-aggregate-has-form
-slice-aggregate-has-form c = search needs
-
-has-form-requires : tie.Need-has-form-requires
-has-form-requires c κs = search needs
-
-instant-at-requires : tie.Need-instant-at-requires
-instant-at-requires c κs = search needs
-
 returns : tie.Need-returns
 returns c = ap R.Is (c .instant-at .ensures) ∙ scale-et _ _ _ (sym (c .before .before .has-form .ensures) ∙ c .before .if1 .taken)
-
-slice-aggregate-has-form-2 : tie.Need-slice-aggregate-has-form-2
-slice-aggregate-has-form-2 c = search needs
-
-has-form-requires-2 : tie.Need-has-form-requires-2
-has-form-requires-2 c κs = search needs
-
-instant-at-requires-2 : tie.Need-instant-at-requires-2
-instant-at-requires-2 c κs = search needs
 
 returns-2 : tie.Need-returns-2
 returns-2 c =
@@ -42,12 +24,12 @@ pub in-scale-spec : {M : Type 1} → statement M
 in-scale-spec =
     tie.close
     (tie.spec
-    slice-aggregate-has-form
-    has-form-requires
-    instant-at-requires
+    (λ c. search needs)
+    (λ c κs. search needs)
+    (λ c κs. search needs)
     returns
-    slice-aggregate-has-form-2
-    has-form-requires-2
-    instant-at-requires-2
+    (λ c. search needs)
+    (λ c κs. search needs)
+    (λ c κs. search needs)
     returns-2
     returns-3)

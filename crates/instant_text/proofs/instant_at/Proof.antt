@@ -4,18 +4,6 @@ use borrow.Author.Needs.{needs}
 use Rattle.instant_text.proofs.instant_at.Statement.{statement}
 use Rattle.instant_text.proofs.instant_at.Tie as tie
 
-year-of-requires : tie.Need-year-of-requires
-year-of-requires c κs = search needs
-
-two-at-requires : tie.Need-two-at-requires
-two-at-requires c κs = search needs
-
-two-at-requires-2 : tie.Need-two-at-requires-2
-two-at-requires-2 c κs = search needs
-
-hundredths-of-requires : tie.Need-hundredths-of-requires
-hundredths-of-requires c κs = search needs
-
 returns : tie.Need-returns
 unfolding instantAt
 returns c = rw (← c .hundredths-of .ensures, ← c .before .two-at2 .ensures .0, ← c .before .before .two-at .ensures .0, ← c .before .before .before .year-of .ensures)
@@ -23,4 +11,4 @@ returns c = rw (← c .hundredths-of .ensures, ← c .before .two-at2 .ensures .
 pub instant-at-spec : {M : Type 1} → statement M
 instant-at-spec =
     tie.close
-    (tie.spec year-of-requires two-at-requires two-at-requires-2 hundredths-of-requires returns)
+    (tie.spec (λ c κs. search needs) (λ c κs. search needs) (λ c κs. search needs) (λ c κs. search needs) returns)

@@ -4,24 +4,6 @@ use borrow.Author.Needs.{needs}
 use Rattle.instant_text.proofs.is_date.Statement.{statement}
 use Rattle.instant_text.proofs.is_date.Tie as tie
 
-slice-aggregate-has-form : tie.Need-slice-aggregate-has-form
-slice-aggregate-has-form c = search needs
-
-has-form-requires : tie.Need-has-form-requires
-has-form-requires c κs = search needs
-
-year-of-requires : tie.Need-year-of-requires
-year-of-requires c κs = search needs
-
-two-at-requires : tie.Need-two-at-requires
-two-at-requires c κs = search needs
-
-two-at-requires-2 : tie.Need-two-at-requires-2
-two-at-requires-2 c κs = search needs
-
-is-day-requires : tie.Need-is-day-requires
-is-day-requires c κs = search needs
-
 returns : tie.Need-returns
 unfolding isDate
 returns c =
@@ -32,10 +14,10 @@ pub is-date-spec : {M : Type 1} → statement M
 is-date-spec =
     tie.close
     (tie.spec
-    slice-aggregate-has-form
-    has-form-requires
-    year-of-requires
-    two-at-requires
-    two-at-requires-2
-    is-day-requires
+    (λ c. search needs)
+    (λ c κs. search needs)
+    (λ c κs. search needs)
+    (λ c κs. search needs)
+    (λ c κs. search needs)
+    (λ c κs. search needs)
     returns)

@@ -4,18 +4,6 @@ use borrow.Author.Needs.{needs}
 use Rattle.instant_text.proofs.is_time.Statement.{statement}
 use Rattle.instant_text.proofs.is_time.Tie as tie
 
-time-form-requires : tie.Need-time-form-requires
-time-form-requires c κs = search needs
-
-two-at-requires : tie.Need-two-at-requires
-two-at-requires c κs = search needs
-
-two-at-requires-2 : tie.Need-two-at-requires-2
-two-at-requires-2 c κs = search needs
-
-two-at-requires-3 : tie.Need-two-at-requires-3
-two-at-requires-3 c κs = search needs
-
 returns : tie.Need-returns
 unfolding isTime
 returns c =
@@ -25,4 +13,4 @@ returns c =
 pub is-time-spec : {M : Type 1} → statement M
 is-time-spec =
     tie.close
-    (tie.spec time-form-requires two-at-requires two-at-requires-2 two-at-requires-3 returns)
+    (tie.spec (λ c κs. search needs) (λ c κs. search needs) (λ c κs. search needs) (λ c κs. search needs) returns)

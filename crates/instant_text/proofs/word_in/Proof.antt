@@ -6,21 +6,6 @@ use borrow.Author.Needs.{needs}
 use Rattle.instant_text.proofs.word_in.Statement.{statement}
 use Rattle.instant_text.proofs.word_in.Tie as tie
 
-run-requires : tie.Need-run-requires
-run-requires c κs = search needs
-
-sub-rest : tie.Need-sub-rest
-sub-rest c = search needs
-
-part-rest-start : tie.Need-part-rest-start
-part-rest-start c = search needs
-
-part-rest-end : tie.Need-part-rest-end
-part-rest-end c = search needs
-
-run-requires-2 : tie.Need-run-requires-2
-run-requires-2 c κs = search needs
-
 slice-aggregate-result : tie.Need-slice-aggregate-result
 slice-aggregate-result c = sym (length-take-le _ _ (c .before .run2 .ensures .1))
 
@@ -31,10 +16,10 @@ pub word-in-spec : {M : Type 1} → statement M
 word-in-spec =
     tie.close
     (tie.spec
-    run-requires
-    sub-rest
-    part-rest-start
-    part-rest-end
-    run-requires-2
+    (λ c κs. search needs)
+    (λ c. search needs)
+    (λ c. search needs)
+    (λ c. search needs)
+    (λ c κs. search needs)
     slice-aggregate-result
     returns)

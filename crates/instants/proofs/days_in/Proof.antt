@@ -5,9 +5,6 @@ use borrow.Author.Needs.{needs}
 use Rattle.instants.proofs.days_in.Statement.{statement}
 use Rattle.instants.proofs.days_in.Tie as tie
 
-is-leap-requires : tie.Need-is-leap-requires
-is-leap-requires c κs = search needs
-
 returns : tie.Need-returns
 returns c = leap-february _ _ (c .before .before .if1 .taken) (sym (c .before .is-leap .ensures) ∙ c .if2 .taken)
 
@@ -21,4 +18,4 @@ returns-4 : tie.Need-returns-4
 returns-4 c = long-month _ _ (c .before .if1 .left) (c .if3 .left)
 
 pub days-in-spec : {M : Type 1} → statement M
-days-in-spec = tie.close (tie.spec is-leap-requires returns returns-2 returns-3 returns-4)
+days-in-spec = tie.close (tie.spec (λ c κs. search needs) returns returns-2 returns-3 returns-4)

@@ -4,12 +4,9 @@ use borrow.Author.Needs.{needs}
 use Rattle.instants.proofs.is_day.Statement.{statement}
 use Rattle.instants.proofs.is_day.Tie as tie
 
-days-in-requires : tie.Need-days-in-requires
-days-in-requires c κs = search needs
-
 returns : tie.Need-returns
 unfolding isDay
 returns c = rw (c .days-in .ensures)
 
 pub is-day-spec : {M : Type 1} → statement M
-is-day-spec = tie.close (tie.spec days-in-requires returns)
+is-day-spec = tie.close (tie.spec (λ c κs. search needs) returns)

@@ -23,32 +23,11 @@ known c = c .is-finite .ensures ∙ ap finite (c .before .double-in .ensures)
 none : (c : tie.After-enum-told) → firstNotFinite 0 (fields (c .before .before .before .before .before .args .d)) ≡ C.Within
 none c = found (c .before .before) ∙ c .enum-told .given .1
 
-listed-requires : tie.Need-listed-requires
-listed-requires c κs = search needs
-
-slice-aggregate-first-not-finite : tie.Need-slice-aggregate-first-not-finite
-slice-aggregate-first-not-finite c = search needs
-
-first-not-finite-requires : tie.Need-first-not-finite-requires
-first-not-finite-requires c κs = search needs
-
-enum-known-c : tie.Need-enum-known-c
-enum-known-c c = search needs
-
 returns : tie.Need-returns
 returns c =
     let f = c .before .before .before in
     let t = f .before .before .before in
     sym (finite-element (t .args .d) (t .args .longitude) _ (found f ∙ c .before .c .given .1))
-
-enum-told : tie.Need-enum-told
-enum-told c = search needs
-
-double-in-requires : tie.Need-double-in-requires
-double-in-requires c κs = search needs
-
-is-finite-requires : tie.Need-is-finite-requires
-is-finite-requires c κs = search needs
 
 returns-2 : tie.Need-returns-2
 returns-2 c =
@@ -66,13 +45,13 @@ pub check-finite-spec : {M : Type 1} → statement M
 check-finite-spec =
     tie.close
     (tie.spec
-    listed-requires
-    slice-aggregate-first-not-finite
-    first-not-finite-requires
-    enum-known-c
+    (λ c κs. search needs)
+    (λ c. search needs)
+    (λ c κs. search needs)
+    (λ c. search needs)
     returns
-    enum-told
-    double-in-requires
-    is-finite-requires
+    (λ c. search needs)
+    (λ c κs. search needs)
+    (λ c κs. search needs)
     returns-2
     returns-3)

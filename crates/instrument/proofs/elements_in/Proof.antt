@@ -10,21 +10,6 @@ use Rattle.instrument.specs.HeldElements.{heldElements}
 use Rattle.instrument.proofs.elements_in.Statement.{statement}
 use Rattle.instrument.proofs.elements_in.Tie as tie
 
-listed-requires : tie.Need-listed-requires
-listed-requires c κs = search needs
-
-slice-aggregate-units-in : tie.Need-slice-aggregate-units-in
-slice-aggregate-units-in c = search needs
-
-units-in-requires : tie.Need-units-in-requires
-units-in-requires c κs = search needs
-
-slice-aggregate-from-numbers : tie.Need-slice-aggregate-from-numbers
-slice-aggregate-from-numbers c = search needs
-
-from-numbers-requires : tie.Need-from-numbers-requires
-from-numbers-requires c κs = search needs
-
 returns : tie.Need-returns
 unfolding heldElements elementsIn elementsOf
 returns c =
@@ -36,9 +21,9 @@ pub elements-in-spec : {M : Type 1} → statement M
 elements-in-spec =
     tie.close
     (tie.spec
-    listed-requires
-    slice-aggregate-units-in
-    units-in-requires
-    slice-aggregate-from-numbers
-    from-numbers-requires
+    (λ c κs. search needs)
+    (λ c. search needs)
+    (λ c κs. search needs)
+    (λ c. search needs)
+    (λ c κs. search needs)
     returns)

@@ -32,35 +32,8 @@ abbrev μ-loop : tie.MeasureT-loop
 loop-holds : tie.Need-loop-holds Inv-loop μ-loop
 loop-holds c = (omega arith, refl, λ k l. absurd (omega arith))
 
-mul-x : tie.Need-mul-x Inv-loop μ-loop
-mul-x c = search needs
-
-shared-slice-read-x : tie.Need-shared-slice-read-x Inv-loop μ-loop
-shared-slice-read-x c = search needs
-
-mul-scale : tie.Need-mul-scale Inv-loop μ-loop
-mul-scale c = search needs
-
-array-read-scale : tie.Need-array-read-scale Inv-loop μ-loop
-array-read-scale c = search needs
-
 read-requires : tie.Need-read-requires Inv-loop μ-loop
 read-requires c κs = let i = c .before .before .loop .i in let h : i < 23 = omega arith in scale-in i h
-
-unit-of-requires : tie.Need-unit-of-requires Inv-loop μ-loop
-unit-of-requires c κs = search needs
-
-mul-units : tie.Need-mul-units Inv-loop μ-loop
-mul-units c = search needs
-
-array-set-from-units : tie.Need-array-set-from-units Inv-loop μ-loop
-array-set-from-units c = search needs
-
-add-i : tie.Need-add-i Inv-loop μ-loop
-add-i c = search needs
-
-loop-less : tie.Need-loop-less Inv-loop μ-loop
-loop-less c = search needs
 
 -- what was stored
 given : (c : tie.After-unit-of Inv-loop μ-loop)
@@ -116,15 +89,15 @@ units-in-spec =
     Inv-loop
     μ-loop
     loop-holds
-    mul-x
-    shared-slice-read-x
-    mul-scale
-    array-read-scale
+    (λ c. search needs)
+    (λ c. search needs)
+    (λ c. search needs)
+    (λ c. search needs)
     read-requires
-    unit-of-requires
-    mul-units
-    array-set-from-units
-    add-i
-    loop-less
+    (λ c κs. search needs)
+    (λ c. search needs)
+    (λ c. search needs)
+    (λ c. search needs)
+    (λ c. search needs)
     loop-again
     returns)

@@ -20,14 +20,8 @@ loop-holds c = walking-start _ _ _ (omega arith) (omega arith)
 sheet-at-requires : tie.Need-sheet-at-requires Inv-loop μ-loop
 sheet-at-requires c κs = (c .before .loop .inv .within, c .before .loop .inv .before)
 
-add-at : tie.Need-add-at Inv-loop μ-loop
-add-at c = omega arith
-
 add-lost : tie.Need-add-lost Inv-loop μ-loop
 add-lost c = omega (arith, c .before .before .before .loop .inv .before .within)
-
-loop-less : tie.Need-loop-less Inv-loop μ-loop
-loop-less c = omega arith
 
 loop-again : tie.Need-loop-again Inv-loop μ-loop
 loop-again c =
@@ -55,9 +49,6 @@ part-put-text-start c = let b = bounds (c .before .before .before .before .befor
 
 part-put-text-end : tie.Need-part-put-text-end Inv-loop μ-loop
 part-put-text-end c = let b = bounds (c .before .before .before .before .before) in omega arith
-
-put-text-requires : tie.Need-put-text-requires Inv-loop μ-loop
-put-text-requires c κs = search needs
 
 loop-less-2 : tie.Need-loop-less-2 Inv-loop μ-loop
 loop-less-2 c = let b = bounds (c .before .before .before .before .before .before .before .before .before) in omega arith
@@ -95,16 +86,16 @@ walk-spec =
     μ-loop
     loop-holds
     sheet-at-requires
-    add-at
+    (λ c. omega arith)
     add-lost
-    loop-less
+    (λ c. omega arith)
     loop-again
     put-stretch-requires
     add-end
     sub-put-text
     part-put-text-start
     part-put-text-end
-    put-text-requires
+    (λ c κs. search needs)
     loop-less-2
     loop-again-2
     put-stretch-requires-2

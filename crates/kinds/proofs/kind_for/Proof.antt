@@ -12,15 +12,6 @@ use borrow.Author.Needs.{needs}
 use Rattle.kinds.proofs.kind_for.Statement.{statement}
 use Rattle.kinds.proofs.kind_for.Tie as tie
 
-phase-kind-requires : tie.Need-phase-kind-requires
-phase-kind-requires c κs = search needs
-
-phase-kind-requires-2 : tie.Need-phase-kind-requires-2
-phase-kind-requires-2 c κs = search needs
-
-phase-kind-requires-3 : tie.Need-phase-kind-requires-3
-phase-kind-requires-3 c κs = search needs
-
 again : (b x : ℕ) → b ≤ x → b + (x - b) ≡ x
 again b x h = omega arith
 
@@ -71,9 +62,9 @@ pub kind-for-spec : {M : Type 1} → statement M
 kind-for-spec =
     tie.close
     (tie.spec
-    phase-kind-requires
-    phase-kind-requires-2
-    phase-kind-requires-3
+    (λ c κs. search needs)
+    (λ c κs. search needs)
+    (λ c κs. search needs)
     returns
     returns-2
     returns-3

@@ -6,9 +6,6 @@ use borrow.Author.Needs.{needs}
 use Rattle.kinds.proofs.size_for.Statement.{statement}
 use Rattle.kinds.proofs.size_for.Tie as tie
 
-is-end-requires : tie.Need-is-end-requires
-is-end-requires c κs = search needs
-
 returns : tie.Need-returns
 returns c = let a = c .before .before .args in (sym (size-end (a .kind) (sym (c .before .is-end .ensures) ∙ c .if1 .taken)), omega arith)
 
@@ -22,15 +19,6 @@ returns-3 c =
     let s = c .before .before .before .before in
     (sym (size-share (s .args .kind) (sym (s .pre) ∙ c .if3 .taken)), omega arith)
 
-mul-size : tie.Need-mul-size
-mul-size c = search needs
-
-sub-size : tie.Need-sub-size
-sub-size c = search needs
-
-cast-result : tie.Need-cast-result
-cast-result c = search needs
-
 returns-4 : tie.Need-returns-4
 returns-4 c =
     let s = c .before .before .before .before in
@@ -40,4 +28,4 @@ returns-4 c =
 
 pub size-for-spec : {M : Type 1} → statement M
 size-for-spec =
-    tie.close (tie.spec is-end-requires returns returns-2 returns-3 mul-size sub-size cast-result returns-4)
+    tie.close (tie.spec (λ c κs. search needs) returns returns-2 returns-3 (λ c. search needs) (λ c. search needs) (λ c. search needs) returns-4)

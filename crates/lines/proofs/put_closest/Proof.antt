@@ -7,24 +7,6 @@ use borrow.Author.Needs.{needs}
 use Rattle.lines.proofs.put_closest.Statement.{statement}
 use Rattle.lines.proofs.put_closest.Tie as tie
 
-second-of-requires : tie.Need-second-of-requires
-second-of-requires c κs = search needs
-
-cast-millionths : tie.Need-cast-millionths
-cast-millionths c = search needs
-
-slice-aggregate-put-filled : tie.Need-slice-aggregate-put-filled
-slice-aggregate-put-filled c = search needs
-
-slice-aggregate-put-filled-2 : tie.Need-slice-aggregate-put-filled-2
-slice-aggregate-put-filled-2 c = search needs
-
-put-filled-requires : tie.Need-put-filled-requires
-put-filled-requires c κs = search needs
-
-same-length : tie.Need-same-length
-same-length c = search needs
-
 returns : tie.Need-returns
 returns c =
     let s = c .before .before .before .before .before .before in
@@ -35,10 +17,10 @@ pub put-closest-spec : {M : Type 1} → statement M
 put-closest-spec =
     tie.close
     (tie.spec
-    second-of-requires
-    cast-millionths
-    slice-aggregate-put-filled
-    slice-aggregate-put-filled-2
-    put-filled-requires
-    same-length
+    (λ c κs. search needs)
+    (λ c. search needs)
+    (λ c. search needs)
+    (λ c. search needs)
+    (λ c κs. search needs)
+    (λ c. search needs)
     returns)

@@ -7,33 +7,6 @@ use borrow.Author.Needs.{needs}
 use Rattle.lines.proofs.put_contact.Statement.{statement}
 use Rattle.lines.proofs.put_contact.Tie as tie
 
-put-text-requires : tie.Need-put-text-requires
-put-text-requires c κs = search needs
-
-put-phase-requires : tie.Need-put-phase-requires
-put-phase-requires c κs = search needs
-
-second-of-requires : tie.Need-second-of-requires
-second-of-requires c κs = search needs
-
-second-of-requires-2 : tie.Need-second-of-requires-2
-second-of-requires-2 c κs = search needs
-
-cast-angle : tie.Need-cast-angle
-cast-angle c = search needs
-
-slice-aggregate-put-filled : tie.Need-slice-aggregate-put-filled
-slice-aggregate-put-filled c = search needs
-
-slice-aggregate-put-filled-2 : tie.Need-slice-aggregate-put-filled-2
-slice-aggregate-put-filled-2 c = search needs
-
-put-filled-requires : tie.Need-put-filled-requires
-put-filled-requires c κs = search needs
-
-same-length : tie.Need-same-length
-same-length c = search needs
-
 returns : tie.Need-returns
 returns c =
     let s = c .before .before .before .before .before .before in
@@ -46,13 +19,13 @@ pub put-contact-spec : {M : Type 1} → statement M
 put-contact-spec =
     tie.close
     (tie.spec
-    put-text-requires
-    put-phase-requires
-    second-of-requires
-    second-of-requires-2
-    cast-angle
-    slice-aggregate-put-filled
-    slice-aggregate-put-filled-2
-    put-filled-requires
-    same-length
+    (λ c κs. search needs)
+    (λ c κs. search needs)
+    (λ c κs. search needs)
+    (λ c κs. search needs)
+    (λ c. search needs)
+    (λ c. search needs)
+    (λ c. search needs)
+    (λ c κs. search needs)
+    (λ c. search needs)
     returns)

@@ -5,18 +5,9 @@ use borrow.Author.Needs.{needs}
 use Rattle.lines.proofs.put_refusal_line.Statement.{statement}
 use Rattle.lines.proofs.put_refusal_line.Tie as tie
 
-put-refusal-requires : tie.Need-put-refusal-requires
-put-refusal-requires c κs = search needs
-
-put-byte-requires : tie.Need-put-byte-requires
-put-byte-requires c κs = search needs
-
-same-length : tie.Need-same-length
-same-length c = search needs
-
 returns : tie.Need-returns
 returns c = put-refusal-end _ _ _ _ _ _ _ _ (omega arith) (c .before .before .before .before .before .before .put-refusal .ensures) (c .before .before .put-byte .ensures)
 
 pub put-refusal-line-spec : {M : Type 1} → statement M
 put-refusal-line-spec =
-    tie.close (tie.spec put-refusal-requires put-byte-requires same-length returns)
+    tie.close (tie.spec (λ c κs. search needs) (λ c κs. search needs) (λ c. search needs) returns)

@@ -6,22 +6,10 @@ use borrow.Author.Needs.{needs}
 use Rattle.listings.proofs.lay.Statement.{statement}
 use Rattle.listings.proofs.lay.Tie as tie
 
-slice-aggregate-put-lines : tie.Need-slice-aggregate-put-lines
-slice-aggregate-put-lines c = search needs
-
-put-lines-requires : tie.Need-put-lines-requires
-put-lines-requires c κs = search needs
-
 returns : tie.Need-returns
 returns c =
     let a = c .before .before .before .before .before .before .args in
     sheet-short (readSheet (a .sheet .now)) _ _ (a .out .now) _ (c .before .before .put-lines .ensures) (omega arith) (c .if1 .taken)
-
-put-lines-requires-2 : tie.Need-put-lines-requires-2
-put-lines-requires-2 c κs = search needs
-
-same-length : tie.Need-same-length
-same-length c = search needs
 
 returns-2 : tie.Need-returns-2
 returns-2 c =
@@ -33,9 +21,9 @@ pub lay-spec : {M : Type 1} → statement M
 lay-spec =
     tie.close
     (tie.spec
-    slice-aggregate-put-lines
-    put-lines-requires
+    (λ c. search needs)
+    (λ c κs. search needs)
     returns
-    put-lines-requires-2
-    same-length
+    (λ c κs. search needs)
+    (λ c. search needs)
     returns-2)

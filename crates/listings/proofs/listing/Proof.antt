@@ -5,15 +5,6 @@ use borrow.Author.Needs.{needs}
 use Rattle.listings.proofs.listing.Statement.{statement}
 use Rattle.listings.proofs.listing.Tie as tie
 
-extent-of-sheet-requires : tie.Need-extent-of-sheet-requires
-extent-of-sheet-requires c κs = search needs
-
-enum-known-found : tie.Need-enum-known-found
-enum-known-found c = search needs
-
-enum-told : tie.Need-enum-told
-enum-told c = search needs
-
 lay-requires : tie.Need-lay-requires
 lay-requires c κs = whole-sheet _ _ _ (sym (c .before .enum-told .given .1) ∙ c .before .before .before .extent-of-sheet .ensures)
 
@@ -21,9 +12,6 @@ returns : tie.Need-returns
 returns c =
     let a = c .before .before .before .before .before .before .args in
     whole-refused (a .sheet .now) _ (a .out .now) (sym (c .before .found .given .1) ∙ c .before .before .before .extent-of-sheet .ensures)
-
-same-length : tie.Need-same-length
-same-length c = search needs
 
 returns-2 : tie.Need-returns-2
 returns-2 c =
@@ -34,10 +22,10 @@ pub listing-spec : {M : Type 1} → statement M
 listing-spec =
     tie.close
     (tie.spec
-    extent-of-sheet-requires
-    enum-known-found
-    enum-told
+    (λ c κs. search needs)
+    (λ c. search needs)
+    (λ c. search needs)
     lay-requires
     returns
-    same-length
+    (λ c. search needs)
     returns-2)

@@ -28,26 +28,11 @@ took c = sym (c .before .before .before .record-at .ensures) ∙ c .before .entr
 loop-holds : tie.Need-loop-holds Inv-loop μ-loop
 loop-holds c = laying-start _ _ _ _ _ (omega arith) (omega arith) (c .before .before .pre)
 
-record-at-requires : tie.Need-record-at-requires Inv-loop μ-loop
-record-at-requires c κs = search needs
-
-enum-known-entry : tie.Need-enum-known-entry Inv-loop μ-loop
-enum-known-entry c = search needs
-
-enum-told : tie.Need-enum-told Inv-loop μ-loop
-enum-told c = search needs
-
 same-length : tie.Need-same-length Inv-loop μ-loop
 same-length c = c .before .before .before .loop .inv .putting .same
 
 returns : tie.Need-returns Inv-loop μ-loop
 returns c = absurd (laying-never _ _ _ _ _ _ _ _ (c .before .before .before .loop .inv) _ (sym (c .before .before .record-at .ensures) ∙ c .enum-told .given .1))
-
-put-entry-requires : tie.Need-put-entry-requires Inv-loop μ-loop
-put-entry-requires c κs = search needs
-
-is-end-requires : tie.Need-is-end-requires Inv-loop μ-loop
-is-end-requires c κs = search needs
 
 same-length-2 : tie.Need-same-length-2 Inv-loop μ-loop
 same-length-2 c = let t = c .before .before .before .before .before .before in laying-same _ _ _ _ _ _ _ _ (t .before .before .before .before .loop .inv) _ _ (took t) _ _ (c .before .before .before .before .put-entry .ensures)
@@ -72,13 +57,13 @@ put-lines-spec =
     Inv-loop
     μ-loop
     loop-holds
-    record-at-requires
-    enum-known-entry
-    enum-told
+    (λ c κs. search needs)
+    (λ c. search needs)
+    (λ c. search needs)
     same-length
     returns
-    put-entry-requires
-    is-end-requires
+    (λ c κs. search needs)
+    (λ c κs. search needs)
     same-length-2
     returns-2
     loop-less

@@ -8,14 +8,8 @@ use borrow.Author.Needs.{needs}
 use Rattle.listings.proofs.put_listing.Statement.{statement}
 use Rattle.listings.proofs.put_listing.Tie as tie
 
-put-timed-listing-requires : tie.Need-put-timed-listing-requires
-put-timed-listing-requires c κs = search needs
-
-same-length : tie.Need-same-length
-same-length c = search needs
-
 returns : tie.Need-returns
 returns c = put-as _ _ _ _ _ _ (ap printed (timed-off (pos 0) _)) (c .before .before .put-timed-listing .ensures)
 
 pub put-listing-spec : {M : Type 1} → statement M
-put-listing-spec = tie.close (tie.spec put-timed-listing-requires same-length returns)
+put-listing-spec = tie.close (tie.spec (λ c κs. search needs) (λ c. search needs) returns)

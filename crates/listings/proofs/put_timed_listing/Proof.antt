@@ -7,31 +7,13 @@ use borrow.Author.Needs.{needs}
 use Rattle.listings.proofs.put_timed_listing.Statement.{statement}
 use Rattle.listings.proofs.put_timed_listing.Tie as tie
 
-extent-of-sheet-requires : tie.Need-extent-of-sheet-requires
-extent-of-sheet-requires c κs = search needs
-
-enum-known-found : tie.Need-enum-known-found
-enum-known-found c = search needs
-
-put-refused-requires : tie.Need-put-refused-requires
-put-refused-requires c κs = search needs
-
-enum-told : tie.Need-enum-told
-enum-told c = search needs
-
 put-lines-requires : tie.Need-put-lines-requires
 put-lines-requires c κs = whole-sheet _ _ _ (sym (c .before .enum-told .given .1) ∙ c .before .before .before .extent-of-sheet .ensures)
-
-same-length : tie.Need-same-length
-same-length c = search needs
 
 returns : tie.Need-returns
 returns c =
     let f = c .before .before .before .before .before in
     refused-printed _ _ _ _ _ _ _ _ (sym (f .found .given .1) ∙ f .before .before .extent-of-sheet .ensures) (c .before .before .put-refused .ensures)
-
-same-length-2 : tie.Need-same-length-2
-same-length-2 c = search needs
 
 returns-2 : tie.Need-returns-2
 returns-2 c =
@@ -44,12 +26,12 @@ pub put-timed-listing-spec : {M : Type 1} → statement M
 put-timed-listing-spec =
     tie.close
     (tie.spec
-    extent-of-sheet-requires
-    enum-known-found
-    put-refused-requires
-    enum-told
+    (λ c κs. search needs)
+    (λ c. search needs)
+    (λ c κs. search needs)
+    (λ c. search needs)
     put-lines-requires
-    same-length
+    (λ c. search needs)
     returns
-    same-length-2
+    (λ c. search needs)
     returns-2)

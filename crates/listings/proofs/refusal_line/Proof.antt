@@ -5,20 +5,8 @@ use borrow.Author.Needs.{needs}
 use Rattle.listings.proofs.refusal_line.Statement.{statement}
 use Rattle.listings.proofs.refusal_line.Tie as tie
 
-slice-aggregate-put-refusal-line : tie.Need-slice-aggregate-put-refusal-line
-slice-aggregate-put-refusal-line c = search needs
-
-put-refusal-line-requires : tie.Need-put-refusal-line-requires
-put-refusal-line-requires c κs = search needs
-
 returns : tie.Need-returns
 returns c = text-short _ _ _ (c .before .before .before .before .before .args .out .now) _ (c .before .before .put-refusal-line .ensures) (omega arith) (c .if1 .taken)
-
-put-refusal-line-requires-2 : tie.Need-put-refusal-line-requires-2
-put-refusal-line-requires-2 c κs = search needs
-
-same-length : tie.Need-same-length
-same-length c = search needs
 
 returns-2 : tie.Need-returns-2
 returns-2 c =
@@ -29,9 +17,9 @@ pub refusal-line-spec : {M : Type 1} → statement M
 refusal-line-spec =
     tie.close
     (tie.spec
-    slice-aggregate-put-refusal-line
-    put-refusal-line-requires
+    (λ c. search needs)
+    (λ c κs. search needs)
     returns
-    put-refusal-line-requires-2
-    same-length
+    (λ c κs. search needs)
+    (λ c. search needs)
     returns-2)

@@ -10,22 +10,10 @@ use borrow.Author.Needs.{needs}
 use Rattle.mend.proofs.mended.Statement.{statement}
 use Rattle.mend.proofs.mended.Tie as tie
 
-put-too-long-requires : tie.Need-put-too-long-requires
-put-too-long-requires c κs = search needs
-
-same-length : tie.Need-same-length
-same-length c = search needs
-
 returns : tie.Need-returns
 returns c =
     let t = too-long (c .before .before .before .before .before .before .before .before .before .args .file .now) _ _ (c .before .before .before .before .if1 .taken) in
     (t .0, (put-as _ _ _ _ _ _ (t .1) (c .before .before .put-too-long .ensures), (omega arith, refl)))
-
-mend-requires : tie.Need-mend-requires
-mend-requires c κs = search needs
-
-enum-known-answer : tie.Need-enum-known-answer
-enum-known-answer c = search needs
 
 -- the notes at their room's start
 noted : (c : tie.After-known-told) → let m = c .before .before .before .before .before .before .before .mend in
@@ -43,24 +31,6 @@ slice-reshare-prefix-put-notes c = noted (c .before) .0
 slice-aggregate-put-notes : tie.Need-slice-aggregate-put-notes
 slice-aggregate-put-notes c = noted (c .before .before) .1
 
-put-notes-requires : tie.Need-put-notes-requires
-put-notes-requires c κs = search needs
-
-enum-known-answer-2 : tie.Need-enum-known-answer-2
-enum-known-answer-2 c = search needs
-
-put-refused-requires : tie.Need-put-refused-requires
-put-refused-requires c κs = search needs
-
-same-length-2 : tie.Need-same-length-2
-same-length-2 c = search needs
-
-same-length-3 : tie.Need-same-length-3
-same-length-3 c = search needs
-
-same-length-4 : tie.Need-same-length-4
-same-length-4 c = search needs
-
 returns-2 : tie.Need-returns-2
 returns-2 c =
     let t = c .before .before .before .before .before in
@@ -70,15 +40,6 @@ returns-2 c =
     all-told _ _ _ _ _ _ (e .0) _ _ (t .before .answer .given .1) (e .1 .0) (e .1 .1) (m .before .before .before .if1 .left) (short m) _ _ _
     (c .before .before .put-notes .ensures) in
     (told .0, (told .1, kept-first _ _ _ _ _ _ (e .0) _ _ (t .before .answer .given .1) (e .1 .0) (e .1 .1) .1))
-
-same-length-5 : tie.Need-same-length-5
-same-length-5 c = search needs
-
-same-length-6 : tie.Need-same-length-6
-same-length-6 c = search needs
-
-same-length-7 : tie.Need-same-length-7
-same-length-7 c = search needs
 
 returns-3 : tie.Need-returns-3
 returns-3 c =
@@ -91,21 +52,21 @@ pub mended-spec : {M : Type 1} → statement M
 mended-spec =
     tie.close
     (tie.spec
-    put-too-long-requires
-    same-length
+    (λ c κs. search needs)
+    (λ c. search needs)
     returns
-    mend-requires
-    enum-known-answer
+    (λ c κs. search needs)
+    (λ c. search needs)
     slice-reshare-prefix-put-notes
     slice-aggregate-put-notes
-    put-notes-requires
-    enum-known-answer-2
-    put-refused-requires
-    same-length-2
-    same-length-3
-    same-length-4
+    (λ c κs. search needs)
+    (λ c. search needs)
+    (λ c κs. search needs)
+    (λ c. search needs)
+    (λ c. search needs)
+    (λ c. search needs)
     returns-2
-    same-length-5
-    same-length-6
-    same-length-7
+    (λ c. search needs)
+    (λ c. search needs)
+    (λ c. search needs)
     returns-3)

@@ -18,29 +18,8 @@ abbrev μ-loop : tie.MeasureT-loop
 loop-holds : tie.Need-loop-holds Inv-loop μ-loop
 loop-holds c = rows-start _ _ _ _ (omega arith) (omega arith)
 
-mul-from : tie.Need-mul-from Inv-loop μ-loop
-mul-from c = search needs
-
-add-end : tie.Need-add-end Inv-loop μ-loop
-add-end c = search needs
-
-sub-put-note : tie.Need-sub-put-note Inv-loop μ-loop
-sub-put-note c = search needs
-
-part-put-note-start : tie.Need-part-put-note-start Inv-loop μ-loop
-part-put-note-start c = search needs
-
-part-put-note-end : tie.Need-part-put-note-end Inv-loop μ-loop
-part-put-note-end c = search needs
-
 put-note-requires : tie.Need-put-note-requires Inv-loop μ-loop
 put-note-requires c κs = simp (length-take, length-drop) (omega arith)
-
-add-k : tie.Need-add-k Inv-loop μ-loop
-add-k c = search needs
-
-loop-less : tie.Need-loop-less Inv-loop μ-loop
-loop-less c = search needs
 
 loop-again : tie.Need-loop-again Inv-loop μ-loop
 loop-again c = parts-turn 16 noteLine _ _ _ _ _ _ _ (c .before .before .before .before .before .before .loop .inv) (c .before .before .before .before .before .loop-test .taken) _ _ (c .before .before .put-note .ensures)
@@ -58,14 +37,14 @@ put-notes-spec =
     Inv-loop
     μ-loop
     loop-holds
-    mul-from
-    add-end
-    sub-put-note
-    part-put-note-start
-    part-put-note-end
+    (λ c. search needs)
+    (λ c. search needs)
+    (λ c. search needs)
+    (λ c. search needs)
+    (λ c. search needs)
     put-note-requires
-    add-k
-    loop-less
+    (λ c. search needs)
+    (λ c. search needs)
     loop-again
     same-length
     returns)

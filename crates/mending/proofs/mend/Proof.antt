@@ -9,15 +9,6 @@ use borrow.Author.Needs.{needs}
 use Rattle.mending.proofs.mend.Statement.{statement}
 use Rattle.mending.proofs.mend.Tie as tie
 
-slice-aggregate-walk : tie.Need-slice-aggregate-walk
-slice-aggregate-walk c = search needs
-
-slice-aggregate-walk-2 : tie.Need-slice-aggregate-walk-2
-slice-aggregate-walk-2 c = search needs
-
-walk-requires : tie.Need-walk-requires
-walk-requires c κs = search needs
-
 -- the input's length is one of 64 bits
 fits : (c : tie.After-walk) → length (c .before .before .before .before .before .before .args .file .now) < 18446744073709551616
 fits c = omega arith
@@ -33,15 +24,6 @@ returns-2 c =
     let w = c .before .before .before .before in
     let a = w .before .before .before .before .before .before .args in
     (dropped-short (a .file .now) (fits w) _ _ _ _ _ _ (w .walk .ensures .0) (w .walk .ensures .1) _ _ (c .before .if1 .left) (c .if2 .taken), (refl, refl))
-
-walk-requires-2 : tie.Need-walk-requires-2
-walk-requires-2 c κs = search needs
-
-same-length : tie.Need-same-length
-same-length c = search needs
-
-same-length-2 : tie.Need-same-length-2
-same-length-2 c = search needs
 
 returns-3 : tie.Need-returns-3
 returns-3 c =
@@ -63,12 +45,12 @@ pub mend-spec : {M : Type 1} → statement M
 mend-spec =
     tie.close
     (tie.spec
-    slice-aggregate-walk
-    slice-aggregate-walk-2
-    walk-requires
+    (λ c. search needs)
+    (λ c. search needs)
+    (λ c κs. search needs)
     returns
     returns-2
-    walk-requires-2
-    same-length
-    same-length-2
+    (λ c κs. search needs)
+    (λ c. search needs)
+    (λ c. search needs)
     returns-3)

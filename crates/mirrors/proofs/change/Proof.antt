@@ -5,30 +5,6 @@ use borrow.Author.Needs.{needs}
 use Rattle.mirrors.proofs.change.Statement.{statement}
 use Rattle.mirrors.proofs.change.Tie as tie
 
-turn-requires : tie.Need-turn-requires
-turn-requires c κs = search needs
-
-turn-requires-2 : tie.Need-turn-requires-2
-turn-requires-2 c κs = search needs
-
-turn-requires-3 : tie.Need-turn-requires-3
-turn-requires-3 c κs = search needs
-
-turn-requires-4 : tie.Need-turn-requires-4
-turn-requires-4 c κs = search needs
-
-turn-requires-5 : tie.Need-turn-requires-5
-turn-requires-5 c κs = search needs
-
-turn-requires-6 : tie.Need-turn-requires-6
-turn-requires-6 c κs = search needs
-
-turn-requires-7 : tie.Need-turn-requires-7
-turn-requires-7 c κs = search needs
-
-turn-requires-8 : tie.Need-turn-requires-8
-turn-requires-8 c κs = search needs
-
 returns : tie.Need-returns
 unfolding changed
 returns c =
@@ -46,12 +22,12 @@ pub change-spec : {M : Type 1} → statement M
 change-spec =
     tie.close
     (tie.spec
-    turn-requires
-    turn-requires-2
-    turn-requires-3
-    turn-requires-4
-    turn-requires-5
-    turn-requires-6
-    turn-requires-7
-    turn-requires-8
+    (λ c κs. search needs)
+    (λ c κs. search needs)
+    (λ c κs. search needs)
+    (λ c κs. search needs)
+    (λ c κs. search needs)
+    (λ c κs. search needs)
+    (λ c κs. search needs)
+    (λ c κs. search needs)
     returns)

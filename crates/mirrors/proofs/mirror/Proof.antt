@@ -6,12 +6,6 @@ use lib.Signed.{leZ-yes}
 use Rattle.mirrors.proofs.mirror.Statement.{statement}
 use Rattle.mirrors.proofs.mirror.Tie as tie
 
-mirrored-cubic-requires : tie.Need-mirrored-cubic-requires
-mirrored-cubic-requires c κs = search needs
-
-mirrored-quadratic-requires : tie.Need-mirrored-quadratic-requires
-mirrored-quadratic-requires c κs = search needs
-
 opposite-requires : tie.Need-opposite-requires
 opposite-requires c κs = leZ-yes tt
 
@@ -36,4 +30,4 @@ returns c =
 pub mirror-spec : {M : Type 1} → statement M
 mirror-spec =
     tie.close
-    (tie.spec mirrored-cubic-requires mirrored-quadratic-requires opposite-requires returns)
+    (tie.spec (λ c κs. search needs) (λ c κs. search needs) opposite-requires returns)

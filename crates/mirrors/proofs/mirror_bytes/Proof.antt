@@ -33,37 +33,16 @@ made-is c =
 made-length : (c : tie.After-put) → length (c .put .last .1 .0) ≡ 115
 made-length c = ap length (made-is c) ∙ mirror-length _ (bytes (told c)) _ (shaped (told c))
 
-get-requires : tie.Need-get-requires
-get-requires c κs = search needs
-
-enum-told : tie.Need-enum-told
-enum-told c = search needs
-
 returns : tie.Need-returns
 returns c = misshaped-room _ _ (sym (c .before .before .get .ensures .0) ∙ c .enum-told .given .1)
-
-enum-told-2 : tie.Need-enum-told-2
-enum-told-2 c = search needs
 
 returns-2 : tie.Need-returns-2
 returns-2 c =
     let t = c .before in
     room-short _ (bytes t) _ (shaped t) _ (omega (arith, c .if1 .taken))
 
-change-requires : tie.Need-change-requires
-change-requires c κs = search needs
-
-put-requires : tie.Need-put-requires
-put-requires c κs = search needs
-
 slice-aggregate-put-text : tie.Need-slice-aggregate-put-text
 slice-aggregate-put-text c = sym (made-length (c .before .before))
-
-put-text-requires : tie.Need-put-text-requires
-put-text-requires c κs = search needs
-
-same-length : tie.Need-same-length
-same-length c = search needs
 
 returns-3 : tie.Need-returns-3
 returns-3 c =
@@ -75,14 +54,14 @@ pub mirror-bytes-spec : {M : Type 1} → statement M
 mirror-bytes-spec =
     tie.close
     (tie.spec
-    get-requires
-    enum-told
+    (λ c κs. search needs)
+    (λ c. search needs)
     returns
-    enum-told-2
+    (λ c. search needs)
     returns-2
-    change-requires
-    put-requires
+    (λ c κs. search needs)
+    (λ c κs. search needs)
     slice-aggregate-put-text
-    put-text-requires
-    same-length
+    (λ c κs. search needs)
+    (λ c. search needs)
     returns-3)

@@ -8,20 +8,8 @@ use Rattle.mirrors.proofs.Back.{opposite-back}
 use Rattle.mirrors.proofs.turn.Statement.{statement}
 use Rattle.mirrors.proofs.turn.Tie as tie
 
-mul-n : tie.Need-mul-n
-mul-n c = search needs
-
-element-copy-out-n : tie.Need-element-copy-out-n
-element-copy-out-n c = search needs
-
 opposite-requires : tie.Need-opposite-requires
 opposite-requires c κs = leZ-yes tt
-
-mul-t4 : tie.Need-mul-t4
-mul-t4 c = search needs
-
-element-set-from-numbers : tie.Need-element-set-from-numbers
-element-set-from-numbers c = search needs
 
 returns : tie.Need-returns
 returns c =
@@ -33,9 +21,9 @@ pub turn-spec : {M : Type 1} → statement M
 turn-spec =
     tie.close
     (tie.spec
-    mul-n
-    element-copy-out-n
+    (λ c. search needs)
+    (λ c. search needs)
     opposite-requires
-    mul-t4
-    element-set-from-numbers
+    (λ c. search needs)
+    (λ c. search needs)
     returns)

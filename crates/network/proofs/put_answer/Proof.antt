@@ -46,27 +46,6 @@ module _ (a : tie.After-answer) where
   own : take (held .count) (held .nodes) ≡ list
   own = listed held list holds few
 
-slice-aggregate-network : tie.Need-slice-aggregate-network
-slice-aggregate-network c = search needs
-
-slice-aggregate-network-2 : tie.Need-slice-aggregate-network-2
-slice-aggregate-network-2 c = search needs
-
-network-requires : tie.Need-network-requires
-network-requires c κs = search needs
-
-enum-known-answer : tie.Need-enum-known-answer
-enum-known-answer c = search needs
-
-eclipse-from-requires : tie.Need-eclipse-from-requires
-eclipse-from-requires c κs = search needs
-
-slice-aggregate-put-named : tie.Need-slice-aggregate-put-named
-slice-aggregate-put-named c = search needs
-
-slice-aggregate-put-named-2 : tie.Need-slice-aggregate-put-named-2
-slice-aggregate-put-named-2 c = search needs
-
 put-named-requires : tie.Need-put-named-requires
 put-named-requires c κs =
     let a = c .before .before .before .before .before .before in
@@ -78,24 +57,12 @@ put-named-requires c κs =
       n .kept .1 .1 .1 .0,
     )
 
-enum-known-answer-2 : tie.Need-enum-known-answer-2
-enum-known-answer-2 c = search needs
-
-put-refused-requires : tie.Need-put-refused-requires
-put-refused-requires c κs = search needs
-
-same-length : tie.Need-same-length
-same-length c = search needs
-
 returns : tie.Need-returns
 returns c = λ l k.
     let a = c .before .before .before .before .before .before .before .before .before in
     put-as _ _ _ _ _ _
     (named-as (zeros 901) (zeros 64) _ l _ (named a l k) _ _ _ (c .before .before .before .before .before .before .eclipse-from .ensures) (listed (held a) l k (few a)) (after a .network .ensures l k .told))
     (c .before .before .put-named .ensures)
-
-same-length-2 : tie.Need-same-length-2
-same-length-2 c = search needs
 
 returns-2 : tie.Need-returns-2
 returns-2 c = λ l k.
@@ -105,17 +72,17 @@ pub put-answer-spec : {M : Type 1} → statement M
 put-answer-spec =
     tie.close
     (tie.spec
-    slice-aggregate-network
-    slice-aggregate-network-2
-    network-requires
-    enum-known-answer
-    eclipse-from-requires
-    slice-aggregate-put-named
-    slice-aggregate-put-named-2
+    (λ c. search needs)
+    (λ c. search needs)
+    (λ c κs. search needs)
+    (λ c. search needs)
+    (λ c κs. search needs)
+    (λ c. search needs)
+    (λ c. search needs)
     put-named-requires
-    enum-known-answer-2
-    put-refused-requires
-    same-length
+    (λ c. search needs)
+    (λ c κs. search needs)
+    (λ c. search needs)
     returns
-    same-length-2
+    (λ c. search needs)
     returns-2)

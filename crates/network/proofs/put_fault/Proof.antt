@@ -6,27 +6,9 @@ use borrow.Author.Needs.{needs}
 use Rattle.network.proofs.put_fault.Statement.{statement}
 use Rattle.network.proofs.put_fault.Tie as tie
 
-enum-known-fault : tie.Need-enum-known-fault
-enum-known-fault c = search needs
-
-put-message-requires : tie.Need-put-message-requires
-put-message-requires c κs = search needs
-
-enum-told : tie.Need-enum-told
-enum-told c = search needs
-
-put-clock-requires : tie.Need-put-clock-requires
-put-clock-requires c κs = search needs
-
-same-length : tie.Need-same-length
-same-length c = search needs
-
 returns : tie.Need-returns
 unfolding faultText
 returns c = let a = c .before .before .before .before .before .before .before .before .before .args in put-as _ _ _ _ _ _ (ap (faultText (a .text .now) (a .line)) (sym (c .before .before .before .before .before .fault .given .1))) (c .before .before .put-message .ensures)
-
-same-length-2 : tie.Need-same-length-2
-same-length-2 c = search needs
 
 returns-2 : tie.Need-returns-2
 unfolding faultText
@@ -36,11 +18,11 @@ pub put-fault-spec : {M : Type 1} → statement M
 put-fault-spec =
     tie.close
     (tie.spec
-    enum-known-fault
-    put-message-requires
-    enum-told
-    put-clock-requires
-    same-length
+    (λ c. search needs)
+    (λ c κs. search needs)
+    (λ c. search needs)
+    (λ c κs. search needs)
+    (λ c. search needs)
     returns
-    same-length-2
+    (λ c. search needs)
     returns-2)

@@ -8,23 +8,8 @@ use borrow.Author.Needs.{needs}
 use Rattle.network.proofs.put_named.Statement.{statement}
 use Rattle.network.proofs.put_named.Tie as tie
 
-first-tos-requires : tie.Need-first-tos-requires
-first-tos-requires c κs = search needs
-
-put-stations-requires : tie.Need-put-stations-requires
-put-stations-requires c κs = search needs
-
-array-share-prefix-tos : tie.Need-array-share-prefix-tos
-array-share-prefix-tos c = search needs
-
 slice-aggregate-put-first : tie.Need-slice-aggregate-put-first
 slice-aggregate-put-first c = sym (length-take-le _ _ (omega (arith, c .before .before .before .before .before .before .first-tos .ensures .0, c .before .before .before .before .before .before .before .before .before .before .pre)))
-
-put-first-requires : tie.Need-put-first-requires
-put-first-requires c κs = search needs
-
-same-length : tie.Need-same-length
-same-length c = search needs
 
 returns : tie.Need-returns
 unfolding namedText
@@ -37,10 +22,10 @@ pub put-named-spec : {M : Type 1} → statement M
 put-named-spec =
     tie.close
     (tie.spec
-    first-tos-requires
-    put-stations-requires
-    array-share-prefix-tos
+    (λ c κs. search needs)
+    (λ c κs. search needs)
+    (λ c. search needs)
     slice-aggregate-put-first
-    put-first-requires
-    same-length
+    (λ c κs. search needs)
+    (λ c. search needs)
     returns)

@@ -31,25 +31,10 @@ module _ (n : tie.After-network) where
   holds : (g : Given text (n .before .before .if1 .left) old) → Holds (n .network .result .held) (g .list)
   holds g = subst (λ (h : Held). Holds h (g .list)) (sym (n .network .ensures .0 .1 ∙ g .stations)) (held-holds (g .list))
 
-slice-aggregate-put-text : tie.Need-slice-aggregate-put-text
-slice-aggregate-put-text c = search needs
-
-put-text-requires : tie.Need-put-text-requires
-put-text-requires c κs = search needs
-
-same-length : tie.Need-same-length
-same-length c = search needs
-
 returns : tie.Need-returns
 returns c =
     let l = c .before .before .before .before .before .if1 .taken in
     (put-as _ _ _ _ _ _ (long-output _ l) (put-nil _ 0 (omega arith)), put-as _ _ _ _ _ _ (long-error _ l) (c .before .before .put-text .ensures))
-
-network-requires : tie.Need-network-requires
-network-requires c κs = search needs
-
-enum-told : tie.Need-enum-told
-enum-told c = search needs
 
 put-answer-requires : tie.Need-put-answer-requires
 put-answer-requires c κs =
@@ -57,24 +42,12 @@ put-answer-requires c κs =
     let g = streams n (c .before .before .enum-told .given .1) in
     holds n g .room
 
-enum-known-typed : tie.Need-enum-known-typed
-enum-known-typed c = search needs
-
-put-fault-requires : tie.Need-put-fault-requires
-put-fault-requires c κs = search needs
-
-same-length-2 : tie.Need-same-length-2
-same-length-2 c = search needs
-
 returns-2 : tie.Need-returns-2
 returns-2 c =
     let n = c .before .before .before .before .before .before .before .before in
     let g = streams n (c .before .before .before .before .before .enum-told .given .1) in
     let printed = ap (λ ns. answerText (zeros 901) (zeros 64) ns (g .list)) (n .network .ensures .1) ∙ g .printed in
     (put-as _ _ _ _ _ _ printed (c .before .before .put-answer .ensures (g .list) (holds n g)), put-as _ _ _ _ _ _ (g .silent) (put-nil _ 0 (omega arith)))
-
-same-length-3 : tie.Need-same-length-3
-same-length-3 c = search needs
 
 returns-3 : tie.Need-returns-3
 returns-3 c =
@@ -86,16 +59,16 @@ pub respond-spec : {M : Type 1} → statement M
 respond-spec =
     tie.close
     (tie.spec
-    slice-aggregate-put-text
-    put-text-requires
-    same-length
+    (λ c. search needs)
+    (λ c κs. search needs)
+    (λ c. search needs)
     returns
-    network-requires
-    enum-told
+    (λ c κs. search needs)
+    (λ c. search needs)
     put-answer-requires
-    enum-known-typed
-    put-fault-requires
-    same-length-2
+    (λ c. search needs)
+    (λ c κs. search needs)
+    (λ c. search needs)
     returns-2
-    same-length-3
+    (λ c. search needs)
     returns-3)

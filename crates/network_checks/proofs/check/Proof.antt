@@ -75,25 +75,13 @@ clocks-counted m =
 returns : tie.Need-returns
 returns c = λ l k. sym (checked-size (c .before .args .e) l (rw (sym (k .count)) (not-true _ (c .if1 .taken))))
 
-check-first-requires : tie.Need-check-first-requires
-check-first-requires c κs = search needs
-
-enum-told : tie.Need-enum-told
-enum-told c = search needs
-
 returns-2 : tie.Need-returns-2
 returns-2 c = λ l k.
     let a = c .before .before in
     c .enum-told .given .1 ∙ sym (checked-alone (eclipse a) l (low a l k) (high a l k) _ (answered a l k ∙ c .enum-told .given .1))
 
-enum-told-2 : tie.Need-enum-told-2
-enum-told-2 c = search needs
-
 check-stations-requires : tie.Need-check-stations-requires
 check-stations-requires c κs = let a = c .before .before in (sized a .1, start a .pre)
-
-enum-told-3 : tie.Need-enum-told-3
-enum-told-3 c = search needs
 
 returns-3 : tie.Need-returns-3
 returns-3 c = λ l k.
@@ -101,15 +89,6 @@ returns-3 c = λ l k.
     let a = alone s in
     c .enum-told3 .given .1
     ∙ sym (checked-stations (eclipse a) l (low a l k) (high a l k) (answered a l k ∙ s .before .enum-told2 .given .1) _ (stations s l k ∙ c .enum-told3 .given .1))
-
-enum-told-4 : tie.Need-enum-told-4
-enum-told-4 c = search needs
-
-numbers-requires : tie.Need-numbers-requires
-numbers-requires c κs = search needs
-
-clocks-requires : tie.Need-clocks-requires
-clocks-requires c κs = search needs
 
 array-share-prefix-numbers : tie.Need-array-share-prefix-numbers
 array-share-prefix-numbers c = let few = sized (asked (c .before)) .1 in search needs
@@ -145,16 +124,16 @@ check-spec =
     tie.close
     (tie.spec
     returns
-    check-first-requires
-    enum-told
+    (λ c κs. search needs)
+    (λ c. search needs)
     returns-2
-    enum-told-2
+    (λ c. search needs)
     check-stations-requires
-    enum-told-3
+    (λ c. search needs)
     returns-3
-    enum-told-4
-    numbers-requires
-    clocks-requires
+    (λ c. search needs)
+    (λ c κs. search needs)
+    (λ c κs. search needs)
     array-share-prefix-numbers
     slice-aggregate-check-clocks
     array-share-prefix-clocks

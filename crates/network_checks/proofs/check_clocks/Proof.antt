@@ -22,17 +22,11 @@ none-repeats c = omega (arith, c .before .first-repeat .ensures, c .if1 .left)
 none-strays : (c : tie.Else2) → let a = c .before .before .before .before .args in length (a .numbers .now) ≤ firstStray (a .numbers .now) (a .clocks .now)
 none-strays c = omega (arith, c .before .first-stray .ensures, c .if2 .left)
 
-first-repeat-requires : tie.Need-first-repeat-requires
-first-repeat-requires c κs = search needs
-
 returns : tie.Need-returns
 returns c =
     let a = c .before .before .args in
     let e = c .before .first-repeat .ensures in
     ap (at 14) e ∙ sym (clocks-14 (a .numbers .now) (a .clocks .now) (omega (arith, e, c .if1 .taken)))
-
-first-stray-requires : tie.Need-first-stray-requires
-first-stray-requires c κs = search needs
 
 returns-2 : tie.Need-returns-2
 returns-2 c =
@@ -66,9 +60,9 @@ pub check-clocks-spec : {M : Type 1} → statement M
 check-clocks-spec =
     tie.close
     (tie.spec
-    first-repeat-requires
+    (λ c κs. search needs)
     returns
-    first-stray-requires
+    (λ c κs. search needs)
     returns-2
     first-lost-requires
     returns-3

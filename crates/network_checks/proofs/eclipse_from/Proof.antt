@@ -7,18 +7,6 @@ use Rattle.network_checks.specs.Checks.{eclipseOf}
 use Rattle.network_checks.proofs.eclipse_from.Statement.{statement}
 use Rattle.network_checks.proofs.eclipse_from.Tie as tie
 
-from-numbers-requires : tie.Need-from-numbers-requires
-from-numbers-requires c κs = search needs
-
-shared-slice-copy-out-first : tie.Need-shared-slice-copy-out-first
-shared-slice-copy-out-first c = search needs
-
-shared-slice-copy-out-last : tie.Need-shared-slice-copy-out-last
-shared-slice-copy-out-last c = search needs
-
-shared-slice-copy-out-guard : tie.Need-shared-slice-copy-out-guard
-shared-slice-copy-out-guard c = search needs
-
 returns : tie.Need-returns
 unfolding eclipseOf
 returns c =
@@ -37,8 +25,8 @@ pub eclipse-from-spec : {M : Type 1} → statement M
 eclipse-from-spec =
     tie.close
     (tie.spec
-    from-numbers-requires
-    shared-slice-copy-out-first
-    shared-slice-copy-out-last
-    shared-slice-copy-out-guard
+    (λ c κs. search needs)
+    (λ c. search needs)
+    (λ c. search needs)
+    (λ c. search needs)
     returns)

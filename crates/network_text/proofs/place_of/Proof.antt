@@ -5,9 +5,6 @@ use Rattle.network_text.specs.EclipseLaws.{place-low, place-high}
 use Rattle.network_text.proofs.place_of.Statement.{statement}
 use Rattle.network_text.proofs.place_of.Tie as tie
 
-add-result : tie.Need-add-result
-add-result c = search needs
-
 returns : tie.Need-returns
 returns c = (place-low _ (c .if1 .taken), omega arith)
 
@@ -15,4 +12,4 @@ returns-2 : tie.Need-returns-2
 returns-2 c = (place-high _ (c .if1 .left), omega arith)
 
 pub place-of-spec : {M : Type 1} → statement M
-place-of-spec = tie.close (tie.spec add-result returns returns-2)
+place-of-spec = tie.close (tie.spec (λ c. search needs) returns returns-2)

@@ -77,32 +77,11 @@ taken c = c .before .before .before .before .before .before
 slice-set-of-found : tie.Need-slice-set-of-found Inv-loop μ-loop
 slice-set-of-found c = let l = lent (c .before .before) in omega arith
 
-empty-requires : tie.Need-empty-requires Inv-loop μ-loop
-empty-requires c κs = search needs
-
 loop-holds : tie.Need-loop-holds Inv-loop μ-loop
 loop-holds c = let s = c .before .before .before in walked-start _ _ _ _ (s .pre .0) (s .pre .1) (c .empty .ensures)
 
-sub-run : tie.Need-sub-run Inv-loop μ-loop
-sub-run c = search needs
-
-part-run-start : tie.Need-part-run-start Inv-loop μ-loop
-part-run-start c = search needs
-
-part-run-end : tie.Need-part-run-end Inv-loop μ-loop
-part-run-end c = search needs
-
-run-requires : tie.Need-run-requires Inv-loop μ-loop
-run-requires c κs = search needs
-
 add-end : tie.Need-add-end Inv-loop μ-loop
 add-end c = let i = inside c in search needs
-
-sub-take : tie.Need-sub-take Inv-loop μ-loop
-sub-take c = search needs
-
-part-take-start : tie.Need-part-take-start Inv-loop μ-loop
-part-take-start c = search needs
 
 part-take-end : tie.Need-part-take-end Inv-loop μ-loop
 part-take-end c = inside c
@@ -113,9 +92,6 @@ take-requires c κs =
     let i = inside r in
     let w = walked (loop r .before) in
     (w .marked, w .fields, omega (arith, walked-count _ _ _ _ _ _ w, w .lines))
-
-enum-told : tie.Need-enum-told Inv-loop μ-loop
-enum-told c = search needs
 
 same-length : tie.Need-same-length Inv-loop μ-loop
 same-length c = let n = refused c in n .take .kept .1 .1 .1 .0 ∙ same-marks (loop (at-run n) .before)
@@ -130,9 +106,6 @@ returns c =
     let e = c .enum-told .given .1 in
     subst (λ (x : Typed). Read (start (loop r .before) .args .text .now) x (n .take .result .held) (n .take .last .1 .1 .1 .1 .0)) (sym e)
     (line-refused _ _ _ _ _ _ (walked (loop r .before)) _ (loop r .loop-test .taken) (ran r) _ _ (sym e ∙ answered n))
-
-enum-told-2 : tie.Need-enum-told-2 Inv-loop μ-loop
-enum-told-2 c = search needs
 
 add-at : tie.Need-add-at Inv-loop μ-loop
 add-at c = let i = inside (at-run (taken c)) in search needs
@@ -160,12 +133,6 @@ slice-reshare-prefix-complete c = omega (arith, walked (c .before) .marked)
 slice-aggregate-complete : tie.Need-slice-aggregate-complete Inv-loop μ-loop
 slice-aggregate-complete c = let l = c .before .before in sym (length-take-le 29 (l .loop .marks) (omega (arith, walked l .marked)))
 
-complete-requires : tie.Need-complete-requires Inv-loop μ-loop
-complete-requires c κs = search needs
-
-noted-at-requires : tie.Need-noted-at-requires Inv-loop μ-loop
-noted-at-requires c κs = search needs
-
 same-length-3 : tie.Need-same-length-3 Inv-loop μ-loop
 same-length-3 c = same-marks (c .before .before .before .before)
 
@@ -185,30 +152,30 @@ read-spec =
     Inv-loop
     μ-loop
     slice-set-of-found
-    empty-requires
+    (λ c κs. search needs)
     loop-holds
-    sub-run
-    part-run-start
-    part-run-end
-    run-requires
+    (λ c. search needs)
+    (λ c. search needs)
+    (λ c. search needs)
+    (λ c κs. search needs)
     add-end
-    sub-take
-    part-take-start
+    (λ c. search needs)
+    (λ c. search needs)
     part-take-end
     take-requires
-    enum-told
+    (λ c. search needs)
     same-length
     same-length-2
     returns
-    enum-told-2
+    (λ c. search needs)
     add-at
     add-line
     loop-less
     loop-again
     slice-reshare-prefix-complete
     slice-aggregate-complete
-    complete-requires
-    noted-at-requires
+    (λ c κs. search needs)
+    (λ c κs. search needs)
     same-length-3
     same-length-4
     returns-2)

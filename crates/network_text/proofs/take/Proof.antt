@@ -9,36 +9,12 @@ use Rattle.network_text.proofs.take.Tie as tie
 abbrev start : tie.After-tell → tie.Start
 start t = t .before .before .before
 
-tell-requires : tie.Need-tell-requires
-tell-requires c κs = search needs
-
-enum-known-said : tie.Need-enum-known-said
-enum-known-said c = search needs
-
 note-requires : tie.Need-note-requires
 note-requires c κs =
     let r = c .before .before .before in
     let t = r .before .before in
     let s = start t in
     (s .pre .1 ∙ sym (s .pre .0), subst (InRoom (length (s .args .marks .now))) (r .said .given .1) (told-room _ _ _ (t .tell .ensures) (s .pre .0)))
-
-noted-at-requires : tie.Need-noted-at-requires
-noted-at-requires c κs = search needs
-
-enum-known-node : tie.Need-enum-known-node
-enum-known-node c = search needs
-
-add-requires : tie.Need-add-requires
-add-requires c κs = search needs
-
-enum-known-fault : tie.Need-enum-known-fault
-enum-known-fault c = search needs
-
-same-length : tie.Need-same-length
-same-length c = search needs
-
-same-length-2 : tie.Need-same-length-2
-same-length-2 c = search needs
 
 returns : tie.Need-returns
 returns c =
@@ -60,15 +36,15 @@ pub take-spec : {M : Type 1} → statement M
 take-spec =
     tie.close
     (tie.spec
-    tell-requires
-    enum-known-said
+    (λ c κs. search needs)
+    (λ c. search needs)
     note-requires
-    noted-at-requires
-    enum-known-node
-    add-requires
-    enum-known-fault
-    same-length
-    same-length-2
+    (λ c κs. search needs)
+    (λ c. search needs)
+    (λ c κs. search needs)
+    (λ c. search needs)
+    (λ c. search needs)
+    (λ c. search needs)
     returns
     returns-2
     returns-3)

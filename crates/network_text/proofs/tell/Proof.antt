@@ -8,21 +8,6 @@ use Rattle.network_text.specs.LineLaws.{told-nowhere, told-station, told
 use Rattle.network_text.proofs.tell.Statement.{statement}
 use Rattle.network_text.proofs.tell.Tie as tie
 
-said-requires : tie.Need-said-requires
-said-requires c κs = search needs
-
-find-requires : tie.Need-find-requires
-find-requires c κs = search needs
-
-enum-known-field : tie.Need-enum-known-field
-enum-known-field c = search needs
-
-enum-told : tie.Need-enum-told
-enum-told c = search needs
-
-meaning-requires : tie.Need-meaning-requires
-meaning-requires c κs = search needs
-
 returns : tie.Need-returns
 returns c =
     let f = c .before .before .before in
@@ -33,12 +18,6 @@ sub-of-station c = found-at S.Eclipse _ _ _ (sym (c .before .before .before .bef
 
 part-of-station-start : tie.Need-part-of-station-start
 part-of-station-start c = found-at S.Eclipse _ _ _ (sym (c .before .before .before .before .find .ensures) ∙ c .before .before .field .given .1) .1
-
-part-of-station-end : tie.Need-part-of-station-end
-part-of-station-end c = search needs
-
-of-station-requires : tie.Need-of-station-requires
-of-station-requires c κs = search needs
 
 returns-2 : tie.Need-returns-2
 returns-2 c =
@@ -52,9 +31,6 @@ returns-3 c =
     let f = w .before .before in
     told-unknown _ _ (f .before .said .ensures) _ (f .find .ensures) _ _ (w .field .given .1) (c .before .if1 .left) (c .if2 .taken)
 
-meaning-requires-2 : tie.Need-meaning-requires-2
-meaning-requires-2 c κs = search needs
-
 returns-4 : tie.Need-returns-4
 returns-4 c =
     let w = c .before .before .before .before in
@@ -66,17 +42,17 @@ pub tell-spec : {M : Type 1} → statement M
 tell-spec =
     tie.close
     (tie.spec
-    said-requires
-    find-requires
-    enum-known-field
-    enum-told
-    meaning-requires
+    (λ c κs. search needs)
+    (λ c κs. search needs)
+    (λ c. search needs)
+    (λ c. search needs)
+    (λ c κs. search needs)
     returns
     sub-of-station
     part-of-station-start
-    part-of-station-end
-    of-station-requires
+    (λ c. search needs)
+    (λ c κs. search needs)
     returns-2
     returns-3
-    meaning-requires-2
+    (λ c κs. search needs)
     returns-4)

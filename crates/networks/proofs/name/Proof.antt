@@ -73,40 +73,16 @@ filled w =
 abbrev Once : List Node → Type 0
 Once l = firstRepeat (numbersOf l) ≡ length (numbersOf l)
 
-eclipse-from-requires : tie.Need-eclipse-from-requires
-eclipse-from-requires c κs = search needs
-
-check-requires : tie.Need-check-requires
-check-requires c κs = search needs
-
-enum-known-c : tie.Need-enum-known-c
-enum-known-c c = search needs
-
 returns : tie.Need-returns
 returns c = λ l k.
     let a = c .before .before .before in
     given a (by-refused _ (ap (λ (x : Checked). andThen x (roomChecked (start a .args .sines .now))) (sym (a .check .ensures l k) ∙ c .before .c .given .1)))
-
-enum-told : tie.Need-enum-told
-enum-told c = search needs
-
-fill-sines-requires : tie.Need-fill-sines-requires
-fill-sines-requires c κs = search needs
-
-enum-known-room : tie.Need-enum-known-room
-enum-known-room c = search needs
-
-same-length : tie.Need-same-length
-same-length c = search needs
 
 returns-2 : tie.Need-returns-2
 returns-2 c = λ l k.
     let f = c .before .before .before .before .before in
     let t = f .before .before in
     given (t .before .before) (by-room _ l _ _ (accepted t l k) _ (sym (f .fill-sines .ensures .0) ∙ c .before .room .given .1) (f .fill-sines .ensures .1))
-
-enum-told-2 : tie.Need-enum-told-2
-enum-told-2 c = search needs
 
 tell-steps-requires : tie.Need-tell-steps-requires
 tell-steps-requires c κs =
@@ -119,12 +95,6 @@ first-seen-requires c κs =
     let w = c .before .before .before .before .before in
     let t = told w in
     (filled w, few t, start (t .before .before) .pre .1, subst (AllWithin (eclipse (t .before .before))) (sym (own t)) (all-within _ (list t) (ok t)))
-
-same-length-2 : tie.Need-same-length-2
-same-length-2 c = search needs
-
-same-length-3 : tie.Need-same-length-3
-same-length-3 c = search needs
 
 returns-3 : tie.Need-returns-3
 returns-3 c = λ l k.
@@ -141,18 +111,18 @@ pub name-spec : {M : Type 1} → statement M
 name-spec =
     tie.close
     (tie.spec
-    eclipse-from-requires
-    check-requires
-    enum-known-c
+    (λ c κs. search needs)
+    (λ c κs. search needs)
+    (λ c. search needs)
     returns
-    enum-told
-    fill-sines-requires
-    enum-known-room
-    same-length
+    (λ c. search needs)
+    (λ c κs. search needs)
+    (λ c. search needs)
+    (λ c. search needs)
     returns-2
-    enum-told-2
+    (λ c. search needs)
     tell-steps-requires
     first-seen-requires
-    same-length-2
-    same-length-3
+    (λ c. search needs)
+    (λ c. search needs)
     returns-3)

@@ -28,12 +28,6 @@ name-requires c κs =
     let e = both (eqb (length (a .eclipse .now)) 25) (eqb (length (a .steps .now)) 64) (right b) in
     (eqb-true _ _ (e .0), start b .pre, eqb-true _ _ (e .1))
 
-same-length : tie.Need-same-length
-same-length c = search needs
-
-same-length-2 : tie.Need-same-length-2
-same-length-2 c = search needs
-
 returns-2 : tie.Need-returns-2
 returns-2 c =
     let m = c .before .before .before .before in
@@ -42,4 +36,4 @@ returns-2 c =
     λ l k. by-admitted (a .eclipse .now) l (a .sines .now) (a .steps .now) _ (shaped _ l _ _ (right b)) (m .name .ensures l k)
 
 pub network-spec : {M : Type 1} → statement M
-network-spec = tie.close (tie.spec returns name-requires same-length same-length-2 returns-2)
+network-spec = tie.close (tie.spec returns name-requires (λ c. search needs) (λ c. search needs) returns-2)

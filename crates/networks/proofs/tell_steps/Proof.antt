@@ -30,20 +30,8 @@ clocks-counted c =
     let n = c .before in
     prefix-length clockOf (held n .nodes) (c .clocks .result) (held n .count) (c .clocks .ensures) (start n .pre .0 .1) (start n .pre .0 .0)
 
-numbers-requires : tie.Need-numbers-requires
-numbers-requires c κs = search needs
-
-clocks-requires : tie.Need-clocks-requires
-clocks-requires c κs = search needs
-
-array-share-prefix-a : tie.Need-array-share-prefix-a
-array-share-prefix-a c = search needs
-
 slice-aggregate-all-steps : tie.Need-slice-aggregate-all-steps
 slice-aggregate-all-steps c = sym (numbers-counted (c .before .before))
-
-array-share-prefix-b : tie.Need-array-share-prefix-b
-array-share-prefix-b c = search needs
 
 slice-aggregate-all-steps-2 : tie.Need-slice-aggregate-all-steps-2
 slice-aggregate-all-steps-2 c = sym (clocks-counted (c .before .before))
@@ -54,14 +42,8 @@ all-steps-requires c κs =
     let a = numbers-counted (k .before) in
     (clocks-counted k ∙ sym a, omega (arith, a, start (k .before) .pre .0 .0), rw (numbers-are (k .before)) (start (k .before) .pre .1))
 
-slice-aggregate-put-steps : tie.Need-slice-aggregate-put-steps
-slice-aggregate-put-steps c = search needs
-
 put-steps-requires : tie.Need-put-steps-requires
 put-steps-requires c κs = let k = c .before .before .before .before .before .before in (ap length (c .before .before .all-steps .ensures) ∙ steps-length _ _, start k .pre .0 .2)
-
-same-length : tie.Need-same-length
-same-length c = search needs
 
 returns : tie.Need-returns
 returns c =
@@ -73,14 +55,14 @@ pub tell-steps-spec : {M : Type 1} → statement M
 tell-steps-spec =
     tie.close
     (tie.spec
-    numbers-requires
-    clocks-requires
-    array-share-prefix-a
+    (λ c κs. search needs)
+    (λ c κs. search needs)
+    (λ c. search needs)
     slice-aggregate-all-steps
-    array-share-prefix-b
+    (λ c. search needs)
     slice-aggregate-all-steps-2
     all-steps-requires
-    slice-aggregate-put-steps
+    (λ c. search needs)
     put-steps-requires
-    same-length
+    (λ c. search needs)
     returns)

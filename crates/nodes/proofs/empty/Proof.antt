@@ -8,9 +8,6 @@ use Rattle.nodes.specs.declared.Held.{Held}
 use Rattle.nodes.proofs.empty.Statement.{statement}
 use Rattle.nodes.proofs.empty.Tie as tie
 
-blank-requires : tie.Need-blank-requires
-blank-requires c κs = search needs
-
 -- room for 64 nodes, each of them b, of a list of n
 abbrev filled : ℕ → Node → Held
 filled n b = record { nodes = replicate 64 b; count = n }
@@ -19,4 +16,4 @@ returns : tie.Need-returns
 returns c = ap (filled (c .before .args .n)) (c .blank .ensures)
 
 pub empty-spec : {M : Type 1} → statement M
-empty-spec = tie.close (tie.spec blank-requires returns)
+empty-spec = tie.close (tie.spec (λ c κs. search needs) returns)

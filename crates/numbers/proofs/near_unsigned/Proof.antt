@@ -5,20 +5,8 @@ use Rattle.numbers.specs.NearLaws.{near-pos}
 use Rattle.numbers.proofs.near_unsigned.Statement.{statement}
 use Rattle.numbers.proofs.near_unsigned.Tie as tie
 
-mul-a : tie.Need-mul-a
-mul-a c = search needs
-
-add-a : tie.Need-add-a
-add-a c = search needs
-
-mul-b : tie.Need-mul-b
-mul-b c = search needs
-
-div-result : tie.Need-div-result
-div-result c = search needs
-
 returns : tie.Need-returns
 returns c = sym (near-pos (c .args .n) (c .args .k))
 
 pub near-unsigned-spec : {M : Type 1} → statement M
-near-unsigned-spec = tie.close (tie.spec mul-a add-a mul-b div-result returns)
+near-unsigned-spec = tie.close (tie.spec (λ c. search needs) (λ c. search needs) (λ c. search needs) (λ c. search needs) returns)

@@ -4,9 +4,6 @@ use borrow.Author.Needs.{needs}
 use Rattle.order.proofs.closest_after.Statement.{statement}
 use Rattle.order.proofs.closest_after.Tie as tie
 
-is-within-requires : tie.Need-is-within-requires
-is-within-requires c κs = search needs
-
 returns : tie.Need-returns
 returns c = rw (sym (c .before .is-within .ensures) ∙ c .if1 .taken)
 
@@ -14,4 +11,4 @@ returns-2 : tie.Need-returns-2
 returns-2 c = rw (sym (c .before .is-within .ensures) ∙ c .if1 .left)
 
 pub closest-after-spec : {M : Type 1} → statement M
-closest-after-spec = tie.close (tie.spec is-within-requires returns returns-2)
+closest-after-spec = tie.close (tie.spec (λ c κs. search needs) returns returns-2)

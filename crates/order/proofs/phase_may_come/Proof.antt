@@ -3,30 +3,6 @@ use borrow.Author.Needs.{needs}
 use Rattle.order.proofs.phase_may_come.Statement.{statement}
 use Rattle.order.proofs.phase_may_come.Tie as tie
 
-enum-told : tie.Need-enum-told
-enum-told c = search needs
-
-enum-told-2 : tie.Need-enum-told-2
-enum-told-2 c = search needs
-
-enum-known-last : tie.Need-enum-known-last
-enum-known-last c = search needs
-
-phase-follows-requires : tie.Need-phase-follows-requires
-phase-follows-requires c κs = search needs
-
-enum-told-3 : tie.Need-enum-told-3
-enum-told-3 c = search needs
-
-enum-told-4 : tie.Need-enum-told-4
-enum-told-4 c = search needs
-
-enum-told-5 : tie.Need-enum-told-5
-enum-told-5 c = search needs
-
-enum-told-6 : tie.Need-enum-told-6
-enum-told-6 c = search needs
-
 returns : tie.Need-returns
 returns c = search needs
 
@@ -52,14 +28,14 @@ pub phase-may-come-spec : {M : Type 1} → statement M
 phase-may-come-spec =
     tie.close
     (tie.spec
-    enum-told
-    enum-told-2
-    enum-known-last
-    phase-follows-requires
-    enum-told-3
-    enum-told-4
-    enum-told-5
-    enum-told-6
+    (λ c. search needs)
+    (λ c. search needs)
+    (λ c. search needs)
+    (λ c κs. search needs)
+    (λ c. search needs)
+    (λ c. search needs)
+    (λ c. search needs)
+    (λ c. search needs)
     returns
     returns-2
     returns-3

@@ -4,14 +4,8 @@ use borrow.Author.Needs.{needs}
 use Rattle.order.proofs.repeats.Statement.{statement}
 use Rattle.order.proofs.repeats.Tie as tie
 
-number-of-requires : tie.Need-number-of-requires
-number-of-requires c κs = search needs
-
-number-of-requires-2 : tie.Need-number-of-requires-2
-number-of-requires-2 c κs = search needs
-
 returns : tie.Need-returns
 returns c = let a = c .before .before .args in rw (c .before .number-of .ensures, c .number-of2 .ensures) (repeats-number (a .last) (a .crossing))
 
 pub repeats-spec : {M : Type 1} → statement M
-repeats-spec = tie.close (tie.spec number-of-requires number-of-requires-2 returns)
+repeats-spec = tie.close (tie.spec (λ c κs. search needs) (λ c κs. search needs) returns)

@@ -7,16 +7,10 @@ use borrow.Author.Needs.{needs}
 use Rattle.places.proofs.number_at.Statement.{statement}
 use Rattle.places.proofs.number_at.Tie as tie
 
-four-at-requires : tie.Need-four-at-requires
-four-at-requires c κs = search needs
-
-signed-requires : tie.Need-signed-requires
-signed-requires c κs = search needs
-
 returns : tie.Need-returns
 unfolding numberAt
 returns c =
     read-result (c .signed .result) (c .signed .ok) ∙ c .signed .ensures ∙ ap (signed 2147483648) (c .before .four-at .ensures)
 
 pub number-at-spec : {M : Type 1} → statement M
-number-at-spec = tie.close (tie.spec four-at-requires signed-requires returns)
+number-at-spec = tie.close (tie.spec (λ c κs. search needs) (λ c κs. search needs) returns)

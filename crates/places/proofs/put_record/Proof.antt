@@ -6,18 +6,6 @@ use borrow.Author.Needs.{needs}
 use Rattle.places.proofs.put_record.Statement.{statement}
 use Rattle.places.proofs.put_record.Tie as tie
 
-number-at-requires : tie.Need-number-at-requires
-number-at-requires c κs = search needs
-
-number-at-requires-2 : tie.Need-number-at-requires-2
-number-at-requires-2 c κs = search needs
-
-put-station-requires : tie.Need-put-station-requires
-put-station-requires c κs = search needs
-
-same-length : tie.Need-same-length
-same-length c = search needs
-
 returns : tie.Need-returns
 unfolding recordLine
 returns c =
@@ -27,4 +15,4 @@ returns c =
 pub put-record-spec : {M : Type 1} → statement M
 put-record-spec =
     tie.close
-    (tie.spec number-at-requires number-at-requires-2 put-station-requires same-length returns)
+    (tie.spec (λ c κs. search needs) (λ c κs. search needs) (λ c κs. search needs) (λ c. search needs) returns)

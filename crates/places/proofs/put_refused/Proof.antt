@@ -8,18 +8,6 @@ use borrow.Author.Needs.{needs}
 use Rattle.places.proofs.put_refused.Statement.{statement}
 use Rattle.places.proofs.put_refused.Tie as tie
 
-slice-aggregate-put-filled : tie.Need-slice-aggregate-put-filled
-slice-aggregate-put-filled c = search needs
-
-slice-aggregate-put-filled-2 : tie.Need-slice-aggregate-put-filled-2
-slice-aggregate-put-filled-2 c = search needs
-
-put-filled-requires : tie.Need-put-filled-requires
-put-filled-requires c κs = search needs
-
-same-length : tie.Need-same-length
-same-length c = search needs
-
 returns : tie.Need-returns
 unfolding refusedLine
 returns c =
@@ -30,8 +18,8 @@ pub put-refused-spec : {M : Type 1} → statement M
 put-refused-spec =
     tie.close
     (tie.spec
-    slice-aggregate-put-filled
-    slice-aggregate-put-filled-2
-    put-filled-requires
-    same-length
+    (λ c. search needs)
+    (λ c. search needs)
+    (λ c κs. search needs)
+    (λ c. search needs)
     returns)

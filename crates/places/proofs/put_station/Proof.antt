@@ -9,33 +9,15 @@ use borrow.Author.Needs.{needs}
 use Rattle.places.proofs.put_station.Statement.{statement}
 use Rattle.places.proofs.put_station.Tie as tie
 
-check-requires : tie.Need-check-requires
-check-requires c κs = search needs
-
-enum-told : tie.Need-enum-told
-enum-told c = search needs
-
 put-place-requires : tie.Need-put-place-requires
 put-place-requires c κs =
     let within = sym (c .before .before .before .check .ensures) ∙ c .before .enum-told .given .1 in
     (c .before .before .before .before .before .before .pre, station-sizes _ (of-limits-within 3 _ within))
 
-enum-told-2 : tie.Need-enum-told-2
-enum-told-2 c = search needs
-
-put-refused-requires : tie.Need-put-refused-requires
-put-refused-requires c κs = search needs
-
-same-length : tie.Need-same-length
-same-length c = search needs
-
 returns : tie.Need-returns
 returns c =
     let s = c .before .before .before .before .before .before .before .before .before in
     line-within _ _ _ _ (toZ-ofZ w64 _ (s .fits .latitude)) (toZ-ofZ w64 _ (s .fits .height)) _ (c .before .before .before .before .before .before .check .ensures) _ _ _ _ (c .before .before .before .before .enum-told .given .1) (c .before .before .put-place .ensures)
-
-same-length-2 : tie.Need-same-length-2
-same-length-2 c = search needs
 
 returns-2 : tie.Need-returns-2
 returns-2 c =
@@ -46,12 +28,12 @@ pub put-station-spec : {M : Type 1} → statement M
 put-station-spec =
     tie.close
     (tie.spec
-    check-requires
-    enum-told
+    (λ c κs. search needs)
+    (λ c. search needs)
     put-place-requires
-    enum-told-2
-    put-refused-requires
-    same-length
+    (λ c. search needs)
+    (λ c κs. search needs)
+    (λ c. search needs)
     returns
-    same-length-2
+    (λ c. search needs)
     returns-2)

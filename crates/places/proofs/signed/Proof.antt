@@ -19,12 +19,6 @@ bounds c = count-size (c .before .args .x) (size c) tt ▹ ends
 abbrev less : Code
 less = sub (arg 0) (lit (pos 4294967296))
 
-cast-result : tie.Need-cast-result
-cast-result c = search needs
-
-cast-result-2 : tie.Need-cast-result-2
-cast-result-2 c = search needs
-
 sub-result : tie.Need-sub-result
 sub-result c = fits (bounds c) less tt
 
@@ -37,4 +31,4 @@ returns-2 c =
     runs (bounds c) less tt ∙ ap (λ (z : ℤ). z -ℤ pos 4294967296) (count-is x (size c) tt) ∙ sym (signed-above 2147483648 x (c .if1 .left))
 
 pub signed-spec : {M : Type 1} → statement M
-signed-spec = tie.close (tie.spec cast-result cast-result-2 sub-result returns returns-2)
+signed-spec = tie.close (tie.spec (λ c. search needs) (λ c. search needs) sub-result returns returns-2)

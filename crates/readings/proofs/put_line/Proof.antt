@@ -8,27 +8,6 @@ use Rattle.readings.specs.Printed.{field, line}
 use Rattle.readings.proofs.put_line.Statement.{statement}
 use Rattle.readings.proofs.put_line.Tie as tie
 
-read-longitude-requires : tie.Need-read-longitude-requires
-read-longitude-requires c κs = search needs
-
-read-longitude-requires-2 : tie.Need-read-longitude-requires-2
-read-longitude-requires-2 c κs = search needs
-
-read-requires : tie.Need-read-requires
-read-requires c κs = search needs
-
-put-field-requires : tie.Need-put-field-requires
-put-field-requires c κs = search needs
-
-put-field-requires-2 : tie.Need-put-field-requires-2
-put-field-requires-2 c κs = search needs
-
-put-field-requires-3 : tie.Need-put-field-requires-3
-put-field-requires-3 c κs = search needs
-
-same-length : tie.Need-same-length
-same-length c = search needs
-
 returns : tie.Need-returns
 unfolding line
 returns c =
@@ -46,11 +25,11 @@ pub put-line-spec : {M : Type 1} → statement M
 put-line-spec =
     tie.close
     (tie.spec
-    read-longitude-requires
-    read-longitude-requires-2
-    read-requires
-    put-field-requires
-    put-field-requires-2
-    put-field-requires-3
-    same-length
+    (λ c κs. search needs)
+    (λ c κs. search needs)
+    (λ c κs. search needs)
+    (λ c κs. search needs)
+    (λ c κs. search needs)
+    (λ c κs. search needs)
+    (λ c. search needs)
     returns)

@@ -8,18 +8,6 @@ use Rattle.readings.specs.Printed.{line, recordLine}
 use Rattle.readings.proofs.put_record.Statement.{statement}
 use Rattle.readings.proofs.put_record.Tie as tie
 
-eight-at-requires : tie.Need-eight-at-requires
-eight-at-requires c κs = search needs
-
-double-of-requires : tie.Need-double-of-requires
-double-of-requires c κs = search needs
-
-put-line-requires : tie.Need-put-line-requires
-put-line-requires c κs = search needs
-
-same-length : tie.Need-same-length
-same-length c = search needs
-
 returns : tie.Need-returns
 unfolding recordLine
 returns c =
@@ -27,4 +15,4 @@ returns c =
     put-as _ _ _ _ _ _ (ap line (x .double-of .ensures ∙ ap (λ (n : ℕ). ofBits binary64 n) (x .before .eight-at .ensures))) (c .before .before .put-line .ensures)
 
 pub put-record-spec : {M : Type 1} → statement M
-put-record-spec = tie.close (tie.spec eight-at-requires double-of-requires put-line-requires same-length returns)
+put-record-spec = tie.close (tie.spec (λ c κs. search needs) (λ c κs. search needs) (λ c κs. search needs) (λ c. search needs) returns)

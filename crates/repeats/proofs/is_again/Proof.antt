@@ -12,29 +12,14 @@ use Rattle.repeats.proofs.is_again.Tie as tie
 returns : tie.Need-returns
 returns c = λ e. absurd (distinct (sym e))
 
-sub-if2 : tie.Need-sub-if2
-sub-if2 c = search needs
-
 returns-2 : tie.Need-returns-2
 returns-2 c = λ e. absurd (distinct (sym e))
-
-shared-slice-read-if3 : tie.Need-shared-slice-read-if3
-shared-slice-read-if3 c = search needs
 
 returns-3 : tie.Need-returns-3
 returns-3 c = λ e. absurd (distinct (sym e))
 
-add-opens-once : tie.Need-add-opens-once
-add-opens-once c = search needs
-
-opens-once-requires : tie.Need-opens-once-requires
-opens-once-requires c κs = search needs
-
 returns-4 : tie.Need-returns-4
 returns-4 c = λ e. absurd (distinct (sym e))
-
-same-before-requires : tie.Need-same-before-requires
-same-before-requires c κs = search needs
 
 returns-5 : tie.Need-returns-5
 returns-5 c =
@@ -57,12 +42,12 @@ is-again-spec =
     tie.close
     (tie.spec
     returns
-    sub-if2
+    (λ c. search needs)
     returns-2
-    shared-slice-read-if3
+    (λ c. search needs)
     returns-3
-    add-opens-once
-    opens-once-requires
+    (λ c. search needs)
+    (λ c κs. search needs)
     returns-4
-    same-before-requires
+    (λ c κs. search needs)
     returns-5)

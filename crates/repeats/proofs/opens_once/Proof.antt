@@ -8,56 +8,17 @@ use borrow.Author.Needs.{needs}
 use Rattle.repeats.proofs.opens_once.Statement.{statement}
 use Rattle.repeats.proofs.opens_once.Tie as tie
 
-shared-slice-read-code : tie.Need-shared-slice-read-code
-shared-slice-read-code c = search needs
-
 cast-code : tie.Need-cast-code
 cast-code c = omega (arith, c .shared-slice-known2 .given (c .before .before .args .at))
-
-kind-for-requires : tie.Need-kind-for-requires
-kind-for-requires c κs = search needs
-
-enum-known-kind : tie.Need-enum-known-kind
-enum-known-kind c = search needs
-
-enum-told : tie.Need-enum-told
-enum-told c = search needs
 
 returns : tie.Need-returns
 returns c = λ e. absurd (distinct (sym e))
 
-enum-told-2 : tie.Need-enum-told-2
-enum-told-2 c = search needs
-
 returns-2 : tie.Need-returns-2
 returns-2 c = λ e. absurd (distinct (sym e))
 
-add-if1 : tie.Need-add-if1
-add-if1 c = search needs
-
-shared-slice-read-if1 : tie.Need-shared-slice-read-if1
-shared-slice-read-if1 c = search needs
-
-add-if1-2 : tie.Need-add-if1-2
-add-if1-2 c = search needs
-
-shared-slice-read-if1-2 : tie.Need-shared-slice-read-if1-2
-shared-slice-read-if1-2 c = search needs
-
 returns-3 : tie.Need-returns-3
 returns-3 c = λ e. absurd (distinct (sym e))
-
-add-result : tie.Need-add-result
-add-result c = search needs
-
-shared-slice-read-result : tie.Need-shared-slice-read-result
-shared-slice-read-result c = search needs
-
-add-result-2 : tie.Need-add-result-2
-add-result-2 c = search needs
-
-shared-slice-read-result-2 : tie.Need-shared-slice-read-result-2
-shared-slice-read-result-2 c = search needs
 
 returns-4 : tie.Need-returns-4
 returns-4 c =
@@ -75,21 +36,21 @@ pub opens-once-spec : {M : Type 1} → statement M
 opens-once-spec =
     tie.close
     (tie.spec
-    shared-slice-read-code
+    (λ c. search needs)
     cast-code
-    kind-for-requires
-    enum-known-kind
-    enum-told
+    (λ c κs. search needs)
+    (λ c. search needs)
+    (λ c. search needs)
     returns
-    enum-told-2
+    (λ c. search needs)
     returns-2
-    add-if1
-    shared-slice-read-if1
-    add-if1-2
-    shared-slice-read-if1-2
+    (λ c. search needs)
+    (λ c. search needs)
+    (λ c. search needs)
+    (λ c. search needs)
     returns-3
-    add-result
-    shared-slice-read-result
-    add-result-2
-    shared-slice-read-result-2
+    (λ c. search needs)
+    (λ c. search needs)
+    (λ c. search needs)
+    (λ c. search needs)
     returns-4)

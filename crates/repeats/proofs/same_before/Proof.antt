@@ -14,32 +14,11 @@ Inv-loop file at start i₀ i = (i ≤ 14) × (start ≡ at - 5) × ((j : ℕ) �
 abbrev μ-loop : tie.MeasureT-loop
 μ-loop file at start i₀ i = 14 - i
 
-sub-start : tie.Need-sub-start Inv-loop μ-loop
-sub-start c = omega arith
-
 loop-holds : tie.Need-loop-holds Inv-loop μ-loop
 loop-holds c = (omega arith, refl, λ j h. absurd (omega arith))
 
-add-before : tie.Need-add-before Inv-loop μ-loop
-add-before c = omega arith
-
-shared-slice-read-before : tie.Need-shared-slice-read-before Inv-loop μ-loop
-shared-slice-read-before c = omega arith
-
-add-here : tie.Need-add-here Inv-loop μ-loop
-add-here c = omega arith
-
-shared-slice-read-here : tie.Need-shared-slice-read-here Inv-loop μ-loop
-shared-slice-read-here c = omega arith
-
 returns : tie.Need-returns Inv-loop μ-loop
 returns c = λ e. absurd (distinct (sym e))
-
-add-i : tie.Need-add-i Inv-loop μ-loop
-add-i c = omega arith
-
-loop-less : tie.Need-loop-less Inv-loop μ-loop
-loop-less c = omega arith
 
 loop-again : tie.Need-loop-again Inv-loop μ-loop
 loop-again c =
@@ -61,14 +40,14 @@ same-before-spec =
     (tie.spec
     Inv-loop
     μ-loop
-    sub-start
+    (λ c. omega arith)
     loop-holds
-    add-before
-    shared-slice-read-before
-    add-here
-    shared-slice-read-here
+    (λ c. omega arith)
+    (λ c. omega arith)
+    (λ c. omega arith)
+    (λ c. omega arith)
     returns
-    add-i
-    loop-less
+    (λ c. omega arith)
+    (λ c. omega arith)
     loop-again
     returns-2)

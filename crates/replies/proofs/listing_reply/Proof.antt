@@ -3,15 +3,6 @@ use borrow.Author.Needs.{needs}
 use Rattle.replies.proofs.listing_reply.Statement.{statement}
 use Rattle.replies.proofs.listing_reply.Tie as tie
 
-enum-known-text : tie.Need-enum-known-text
-enum-known-text c = search needs
-
-enum-known-text-2 : tie.Need-enum-known-text-2
-enum-known-text-2 c = search needs
-
-refused-requires : tie.Need-refused-requires
-refused-requires c κs = search needs
-
 returns : tie.Need-returns
 returns c = rw (c .before .text .given .1)
 
@@ -20,4 +11,4 @@ returns-2 c = rw (c .refused .ensures, c .before .before .text2 .given .1)
 
 pub listing-reply-spec : {M : Type 1} → statement M
 listing-reply-spec =
-    tie.close (tie.spec enum-known-text enum-known-text-2 refused-requires returns returns-2)
+    tie.close (tie.spec (λ c. search needs) (λ c. search needs) (λ c κs. search needs) returns returns-2)

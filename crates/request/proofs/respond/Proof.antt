@@ -6,15 +6,6 @@ use borrow.Author.Needs.{needs}
 use Rattle.request.proofs.respond.Statement.{statement}
 use Rattle.request.proofs.respond.Tie as tie
 
-read-requires : tie.Need-read-requires
-read-requires c κs = search needs
-
-enum-known-answer : tie.Need-enum-known-answer
-enum-known-answer c = search needs
-
-enum-known-answer-2 : tie.Need-enum-known-answer-2
-enum-known-answer-2 c = search needs
-
 returns : tie.Need-returns
 returns c =
     let read = c .before .before .before in
@@ -27,4 +18,4 @@ returns-2 c =
 
 pub respond-spec : {M : Type 1} → statement M
 respond-spec =
-    tie.close (tie.spec read-requires enum-known-answer enum-known-answer-2 returns returns-2)
+    tie.close (tie.spec (λ c κs. search needs) (λ c. search needs) (λ c. search needs) returns returns-2)

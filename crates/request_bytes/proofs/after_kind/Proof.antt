@@ -6,9 +6,6 @@ use Rattle.request_bytes.specs.RowLaws.{kind-none, kind-some}
 use Rattle.request_bytes.proofs.after_kind.Statement.{statement}
 use Rattle.request_bytes.proofs.after_kind.Tie as tie
 
-add-result : tie.Need-add-result
-add-result c = search needs
-
 returns : tie.Need-returns
 returns c = rw (kind-none _ (c .if1 .taken)) (omega arith)
 
@@ -16,4 +13,4 @@ returns-2 : tie.Need-returns-2
 returns-2 c = rw (kind-some _ (c .if1 .left)) refl
 
 pub after-kind-spec : {M : Type 1} → statement M
-after-kind-spec = tie.close (tie.spec add-result returns returns-2)
+after-kind-spec = tie.close (tie.spec (λ c. search needs) returns returns-2)

@@ -41,9 +41,6 @@ itself c =
     let s = c .before in
     runs (bounds s) (arg 0) tt ∙ complement-above (s .args .n) (s .args .whole) (left-< (bounds s) (arg 0) (lit (pos 0)) tt (c .if1 .left))
 
-cast-result : tie.Need-cast-result
-cast-result c = search needs
-
 add-result : tie.Need-add-result
 add-result c = fits (bounds (c .before)) shifted tt
 
@@ -61,4 +58,4 @@ returns-2 c = ap natAbs (itself c)
 
 pub complement-spec : {M : Type 1} → statement M
 complement-spec =
-    tie.close (tie.spec cast-result add-result cast-result-2 returns cast-result-3 returns-2)
+    tie.close (tie.spec (λ c. search needs) add-result cast-result-2 returns cast-result-3 returns-2)

@@ -4,18 +4,6 @@ use Rattle.request_bytes.specs.GetLaws.{get-numbers, get-misshaped}
 use Rattle.request_bytes.proofs.get_star.Statement.{statement}
 use Rattle.request_bytes.proofs.get_star.Tie as tie
 
-slice-aggregate-read : tie.Need-slice-aggregate-read
-slice-aggregate-read c = search needs
-
-read-requires : tie.Need-read-requires
-read-requires c κs = search needs
-
-enum-told : tie.Need-enum-told
-enum-told c = search needs
-
-enum-told-2 : tie.Need-enum-told-2
-enum-told-2 c = search needs
-
 returns : tie.Need-returns
 returns c = get-numbers _ _ _ _ _ (c .before .before .before .read .ensures) (c .enum-told .given .1)
 
@@ -24,4 +12,4 @@ returns-2 c = get-misshaped _ _ _ _ _ (c .before .before .before .read .ensures)
 
 pub get-star-spec : {M : Type 1} → statement M
 get-star-spec =
-    tie.close (tie.spec slice-aggregate-read read-requires enum-told enum-told-2 returns returns-2)
+    tie.close (tie.spec (λ c. search needs) (λ c κs. search needs) (λ c. search needs) (λ c. search needs) returns returns-2)

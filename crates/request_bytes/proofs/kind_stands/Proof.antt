@@ -11,11 +11,8 @@ returns c = stands-none _ _ _ (c .if1 .taken)
 returns-2 : tie.Need-returns-2
 returns-2 c = stands-past _ _ _ (c .before .if1 .left) (c .if2 .taken)
 
-shared-slice-read-result : tie.Need-shared-slice-read-result
-shared-slice-read-result c = search needs
-
 returns-3 : tie.Need-returns-3
 returns-3 c = stands-here _ _ _ (c .before .before .if1 .left) (omega (arith, c .before .if2 .left))
 
 pub kind-stands-spec : {M : Type 1} → statement M
-kind-stands-spec = tie.close (tie.spec returns returns-2 shared-slice-read-result returns-3)
+kind-stands-spec = tie.close (tie.spec returns returns-2 (λ c. search needs) returns-3)

@@ -66,9 +66,6 @@ module _ (c : tie.After-n Inv-loop μ-loop) where
       omega
       (arith, ap (λ (l : List ℕ). length l) bytes, putting-room _ _ _ _ _ (start .pre .0) (loop .loop .inv) (short (c .before .before)))
 
-count-of-requires : tie.Need-count-of-requires Inv-loop μ-loop
-count-of-requires c κs = search needs
-
 loop-holds : tie.Need-loop-holds Inv-loop μ-loop
 loop-holds c = putting-start _ _ _ (c .before .before .pre .0) (c .before .before .pre .1)
 
@@ -80,9 +77,6 @@ mul-n c = record { fits = omega (arith, short (c .before), c .before .before .be
 
 shared-slice-copy-out-n : tie.Need-shared-slice-copy-out-n Inv-loop μ-loop
 shared-slice-copy-out-n c = omega (arith, short (c .before), c .before .before .before .before .before .pre .0)
-
-holds-requires : tie.Need-holds-requires Inv-loop μ-loop
-holds-requires c κs = search needs
 
 same-length : tie.Need-same-length Inv-loop μ-loop
 same-length c = let l = c .before .before .before .before .before in l .loop .inv .room ∙ sym (l .before .before .before .pre .1)
@@ -127,12 +121,12 @@ lay-spec =
     (tie.spec
     Inv-loop
     μ-loop
-    count-of-requires
+    (λ c κs. search needs)
     loop-holds
     field-at-requires
     mul-n
     shared-slice-copy-out-n
-    holds-requires
+    (λ c κs. search needs)
     same-length
     returns
     put-field-requires

@@ -16,32 +16,14 @@ use Rattle.request_bytes.proofs.number_at.Tie as tie
 room : (c : tie.Start) (w : Width) → c .args .width ≡ w → c .args .at + bytesIn w ≤ length (c .args .s .now)
 room c w e = subst (λ (v : Width). c .args .at + bytesIn v ≤ length (c .args .s .now)) e (c .pre)
 
-enum-told : tie.Need-enum-told
-enum-told c = search needs
-
 two-at-requires : tie.Need-two-at-requires
 two-at-requires c κs = room (c .before .before .before) _ (c .enum-told .given .1)
-
-cast-result : tie.Need-cast-result
-cast-result c = search needs
-
-enum-told-2 : tie.Need-enum-told-2
-enum-told-2 c = search needs
 
 two-at-requires-2 : tie.Need-two-at-requires-2
 two-at-requires-2 c κs = room (c .before .before .before) _ (c .enum-told2 .given .1)
 
-signed-requires : tie.Need-signed-requires
-signed-requires c κs = search needs
-
-enum-told-3 : tie.Need-enum-told-3
-enum-told-3 c = search needs
-
 four-at-requires : tie.Need-four-at-requires
 four-at-requires c κs = room (c .before .before .before) _ (c .enum-told3 .given .1)
-
-signed-requires-2 : tie.Need-signed-requires-2
-signed-requires-2 c κs = search needs
 
 returns : tie.Need-returns
 unfolding numberAt
@@ -66,15 +48,15 @@ pub number-at-spec : {M : Type 1} → statement M
 number-at-spec =
     tie.close
     (tie.spec
-    enum-told
+    (λ c. search needs)
     two-at-requires
-    cast-result
-    enum-told-2
+    (λ c. search needs)
+    (λ c. search needs)
     two-at-requires-2
-    signed-requires
-    enum-told-3
+    (λ c κs. search needs)
+    (λ c. search needs)
     four-at-requires
-    signed-requires-2
+    (λ c κs. search needs)
     returns
     returns-2
     returns-3)

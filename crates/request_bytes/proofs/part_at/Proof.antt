@@ -21,17 +21,8 @@ sum-is : (c : tie.After-bytes-in) → c .before .after-kind .result + c .bytes-i
     ≡ c .before .after-kind .result + bytesIn (c .before .before .before .before .before .args .field .3)
 sum-is c = ap (λ (n : ℕ). c .before .after-kind .result + n) (c .bytes-in .ensures)
 
-kind-stands-requires : tie.Need-kind-stands-requires
-kind-stands-requires c κs = search needs
-
 returns : tie.Need-returns
 returns c = part-other _ _ _ (sym (c .before .kind-stands .ensures) ∙ not-true _ (c .if1 .taken))
-
-after-kind-requires : tie.Need-after-kind-requires
-after-kind-requires c κs = search needs
-
-bytes-in-requires : tie.Need-bytes-in-requires
-bytes-in-requires c κs = search needs
 
 add-next : tie.Need-add-next
 add-next c =
@@ -46,9 +37,6 @@ returns-2 c =
     let b = c .before in
     part-short _ _ _ _ _ (stands (b .before .before)) (b .before .after-kind .ensures) (sum-is b) (c .if2 .taken)
 
-number-at-requires : tie.Need-number-at-requires
-number-at-requires c κs = search needs
-
 returns-3 : tie.Need-returns-3
 returns-3 c =
     let b = c .before .before in
@@ -60,11 +48,11 @@ pub part-at-spec : {M : Type 1} → statement M
 part-at-spec =
     tie.close
     (tie.spec
-    kind-stands-requires
+    (λ c κs. search needs)
     returns
-    after-kind-requires
-    bytes-in-requires
+    (λ c κs. search needs)
+    (λ c κs. search needs)
     add-next
     returns-2
-    number-at-requires
+    (λ c κs. search needs)
     returns-3)

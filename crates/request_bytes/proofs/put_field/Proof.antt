@@ -33,14 +33,8 @@ put-number-requires c κs =
     let k = c .before .before .before in
     (omega (arith, start-room k, k .put-kind .kept .0), rw (toZ-ofZ w64 (s .args .n) (s .fits .n)) (s .pre .1))
 
-bytes-in-requires : tie.Need-bytes-in-requires
-bytes-in-requires c κs = search needs
-
 add-result : tie.Need-add-result
 add-result c = record { fits = omega (arith, start-room (c .before .before .before .before .before .before .before), c .bytes-in .ensures) }
-
-same-length : tie.Need-same-length
-same-length c = search needs
 
 returns : tie.Need-returns
 returns c =
@@ -58,7 +52,7 @@ put-field-spec =
     (tie.spec
     put-kind-requires
     put-number-requires
-    bytes-in-requires
+    (λ c κs. search needs)
     add-result
-    same-length
+    (λ c. search needs)
     returns)

@@ -15,14 +15,8 @@ returns c = rw (kind-none _ (c .if1 .taken)) (omega arith, refl)
 slice-write-out : tie.Need-slice-write-out
 slice-write-out c = let k = ap (λ (l : List ℕ). length l) (kind-some (c .before .args .kind) (c .if1 .left)) in omega (arith, c .before .pre)
 
-add-result : tie.Need-add-result
-add-result c = search needs
-
-same-length : tie.Need-same-length
-same-length c = search needs
-
 returns-2 : tie.Need-returns-2
 returns-2 c = rw (kind-some _ (c .if1 .left)) (refl, refl)
 
 pub put-kind-spec : {M : Type 1} → statement M
-put-kind-spec = tie.close (tie.spec returns slice-write-out add-result same-length returns-2)
+put-kind-spec = tie.close (tie.spec returns slice-write-out (λ c. search needs) (λ c. search needs) returns-2)

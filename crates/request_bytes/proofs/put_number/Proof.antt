@@ -39,17 +39,11 @@ module _ (c : tie.Start) (w : Width) (e : c .args .width ≡ w) where
   unfolding numberBytes
   done v new p q = q ∙ rw (p, same, e)
 
-enum-told : tie.Need-enum-told
-enum-told c = search needs
-
 complement-requires : tie.Need-complement-requires
 complement-requires c κs = (small (c .before .before .before .before) _ (c .before .enum-told .given .1), omega arith)
 
 put-two-requires : tie.Need-put-two-requires
 put-two-requires c κs = room (c .before .before .before .before .before) _ (c .before .before .enum-told .given .1)
-
-enum-told-2 : tie.Need-enum-told-2
-enum-told-2 c = search needs
 
 complement-requires-2 : tie.Need-complement-requires-2
 complement-requires-2 c κs = (small (c .before .before .before .before) _ (c .before .enum-told2 .given .1), omega arith)
@@ -57,17 +51,11 @@ complement-requires-2 c κs = (small (c .before .before .before .before) _ (c .b
 put-two-requires-2 : tie.Need-put-two-requires-2
 put-two-requires-2 c κs = room (c .before .before .before .before .before) _ (c .before .before .enum-told2 .given .1)
 
-enum-told-3 : tie.Need-enum-told-3
-enum-told-3 c = search needs
-
 complement-requires-3 : tie.Need-complement-requires-3
 complement-requires-3 c κs = (small (c .before .before .before .before) _ (c .before .enum-told3 .given .1), omega arith)
 
 put-four-requires : tie.Need-put-four-requires
 put-four-requires c κs = room (c .before .before .before .before .before) _ (c .before .before .enum-told3 .given .1)
-
-same-length : tie.Need-same-length
-same-length c = search needs
 
 returns : tie.Need-returns
 returns c =
@@ -75,17 +63,11 @@ returns c =
     done (called .before .before .before .before .before) _ (called .before .before .enum-told .given .1) _ _ (called .complement .ensures)
     (c .before .before .put-two .ensures)
 
-same-length-2 : tie.Need-same-length-2
-same-length-2 c = search needs
-
 returns-2 : tie.Need-returns-2
 returns-2 c =
     let called = c .before .before .before in
     done (called .before .before .before .before .before) _ (called .before .before .enum-told2 .given .1) _ _ (called .complement2 .ensures)
     (c .before .before .put-two2 .ensures)
-
-same-length-3 : tie.Need-same-length-3
-same-length-3 c = search needs
 
 returns-3 : tie.Need-returns-3
 returns-3 c =
@@ -97,18 +79,18 @@ pub put-number-spec : {M : Type 1} → statement M
 put-number-spec =
     tie.close
     (tie.spec
-    enum-told
+    (λ c. search needs)
     complement-requires
     put-two-requires
-    enum-told-2
+    (λ c. search needs)
     complement-requires-2
     put-two-requires-2
-    enum-told-3
+    (λ c. search needs)
     complement-requires-3
     put-four-requires
-    same-length
+    (λ c. search needs)
     returns
-    same-length-2
+    (λ c. search needs)
     returns-2
-    same-length-3
+    (λ c. search needs)
     returns-3)

@@ -39,9 +39,6 @@ module _ (c : tie.After-part-at Inv-loop μ-loop) where
   found p e =
       ap (λ (f : Field). partOf f (start .args .bytes .now) (loop .loop .at)) (sym (c .before .field-at .ensures)) ∙ sym (c .part-at .ensures) ∙ e
 
-count-of-requires : tie.Need-count-of-requires Inv-loop μ-loop
-count-of-requires c κs = search needs
-
 loop-holds : tie.Need-loop-holds Inv-loop μ-loop
 loop-holds c = getting-start _ _ _ (c .before .before .pre)
 
@@ -50,12 +47,6 @@ field-at-requires c κs = short c
 
 part-at-requires : tie.Need-part-at-requires Inv-loop μ-loop
 part-at-requires c κs = c .before .before .loop .inv .place
-
-enum-known-part : tie.Need-enum-known-part Inv-loop μ-loop
-enum-known-part c = search needs
-
-enum-told : tie.Need-enum-told Inv-loop μ-loop
-enum-told c = search needs
 
 same-length : tie.Need-same-length Inv-loop μ-loop
 same-length c = let p = c .before .before in loop p .loop .inv .room ∙ sym (start p .pre)
@@ -70,12 +61,6 @@ mul-n c = let s = short (c .before .before .before .before .before) in search ne
 
 slice-set-from-n : tie.Need-slice-set-from-n Inv-loop μ-loop
 slice-set-from-n c = omega (arith, short (c .before .before .before .before .before), loop (c .before .before .before) .loop .inv .room)
-
-add-k : tie.Need-add-k Inv-loop μ-loop
-add-k c = search needs
-
-loop-less : tie.Need-loop-less Inv-loop μ-loop
-loop-less c = search needs
 
 loop-again : tie.Need-loop-again Inv-loop μ-loop
 loop-again c =
@@ -102,18 +87,18 @@ read-spec =
     (tie.spec
     Inv-loop
     μ-loop
-    count-of-requires
+    (λ c κs. search needs)
     loop-holds
     field-at-requires
     part-at-requires
-    enum-known-part
-    enum-told
+    (λ c. search needs)
+    (λ c. search needs)
     same-length
     returns
     mul-n
     slice-set-from-n
-    add-k
-    loop-less
+    (λ c. search needs)
+    (λ c. search needs)
     loop-again
     same-length-2
     returns-2

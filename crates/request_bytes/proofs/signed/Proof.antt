@@ -24,17 +24,11 @@ module _ (c : tie.Else1) where
 abbrev twice : Code
 twice = mul (lit (pos 2)) (arg 1)
 
-cast-whole : tie.Need-cast-whole
-cast-whole c = search needs
-
 returns : tie.Need-returns
 returns c =
     let n = c .before .args .n in
     let h : n ≤ 4294967295 = omega arith in
     count-is n h tt ∙ sym (signed-below (c .before .args .half) n (c .if1 .taken))
-
-cast-result : tie.Need-cast-result
-cast-result c = search needs
 
 mul-result : tie.Need-mul-result
 mul-result c = fits (bounds c) twice tt
@@ -51,4 +45,4 @@ returns-2 c =
     ∙ sym (signed-above half n (c .if1 .left))
 
 pub signed-spec : {M : Type 1} → statement M
-signed-spec = tie.close (tie.spec cast-whole returns cast-result mul-result sub-result returns-2)
+signed-spec = tie.close (tie.spec (λ c. search needs) returns (λ c. search needs) mul-result sub-result returns-2)

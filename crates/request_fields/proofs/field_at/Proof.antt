@@ -12,30 +12,6 @@ use Rattle.request_fields.specs.TableLaws.{field-in}
 use Rattle.request_fields.proofs.field_at.Statement.{statement}
 use Rattle.request_fields.proofs.field_at.Tie as tie
 
-row-of-requires : tie.Need-row-of-requires
-row-of-requires c κs = search needs
-
-mul-at : tie.Need-mul-at
-mul-at c = search needs
-
-table-requires : tie.Need-table-requires
-table-requires c κs = search needs
-
-add-field-from : tie.Need-add-field-from
-add-field-from c = search needs
-
-sub-field-from : tie.Need-sub-field-from
-sub-field-from c = search needs
-
-part-field-from-start : tie.Need-part-field-from-start
-part-field-from-start c = search needs
-
-part-field-from-end : tie.Need-part-field-from-end
-part-field-from-end c = search needs
-
-field-from-requires : tie.Need-field-from-requires
-field-from-requires c κs = search needs
-
 returns : tie.Need-returns
 returns c =
     let row = c .before .before .before .before .row-of in
@@ -49,12 +25,12 @@ pub field-at-spec : {M : Type 1} → statement M
 field-at-spec =
     tie.close
     (tie.spec
-    row-of-requires
-    mul-at
-    table-requires
-    add-field-from
-    sub-field-from
-    part-field-from-start
-    part-field-from-end
-    field-from-requires
+    (λ c κs. search needs)
+    (λ c. search needs)
+    (λ c κs. search needs)
+    (λ c. search needs)
+    (λ c. search needs)
+    (λ c. search needs)
+    (λ c. search needs)
+    (λ c κs. search needs)
     returns)

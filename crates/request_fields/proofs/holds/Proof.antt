@@ -6,15 +6,6 @@ use Rattle.request_fields.specs.Fields.{holds}
 use Rattle.request_fields.proofs.holds.Statement.{statement}
 use Rattle.request_fields.proofs.holds.Tie as tie
 
-enum-told : tie.Need-enum-told
-enum-told c = search needs
-
-enum-told-2 : tie.Need-enum-told-2
-enum-told-2 c = search needs
-
-enum-told-3 : tie.Need-enum-told-3
-enum-told-3 c = search needs
-
 returns : tie.Need-returns
 unfolding holds
 returns c = rw (c .enum-told .given .1, toZ-ofZ w64 (c .before .before .args .n) (c .before .before .fits .n))
@@ -28,4 +19,4 @@ unfolding holds
 returns-3 c = rw (c .enum-told3 .given .1, toZ-ofZ w64 (c .before .before .args .n) (c .before .before .fits .n))
 
 pub holds-spec : {M : Type 1} → statement M
-holds-spec = tie.close (tie.spec enum-told enum-told-2 enum-told-3 returns returns-2 returns-3)
+holds-spec = tie.close (tie.spec (λ c. search needs) (λ c. search needs) (λ c. search needs) returns returns-2 returns-3)

@@ -19,17 +19,11 @@ module _ (c : tie.Start) (s : Shape) (e : c .args .shape ≡ s) where
   is : (i : ℕ) → i < 43 → rowIn tables i ≡ rowAt s (c .args .k) → (i < 43) × (rowIn tables i ≡ rowAt (c .args .shape) (c .args .k))
   is i h q = (h, q ∙ rw e)
 
-enum-told : tie.Need-enum-told
-enum-told c = search needs
-
 returns : tie.Need-returns
 returns c = is (c .before .before .before) _ (c .before .enum-told .given .1) _ (omega arith) (eclipse-first _ (c .if1 .taken))
 
 add-result : tie.Need-add-result
 add-result c = omega (arith, short (c .before .before .before) _ (c .before .enum-told .given .1))
-
-enum-told-2 : tie.Need-enum-told-2
-enum-told-2 c = search needs
 
 add-result-2 : tie.Need-add-result-2
 add-result-2 c = omega (arith, short (c .before .before) _ (c .enum-told2 .given .1))
@@ -45,4 +39,4 @@ returns-3 c =
     (star-here _)
 
 pub row-of-spec : {M : Type 1} → statement M
-row-of-spec = tie.close (tie.spec enum-told returns add-result enum-told-2 add-result-2 returns-2 returns-3)
+row-of-spec = tie.close (tie.spec (λ c. search needs) returns add-result (λ c. search needs) add-result-2 returns-2 returns-3)

@@ -31,26 +31,8 @@ module _ (c : tie.After-run Inv-loop μ-loop) where
 loop-holds : tie.Need-loop-holds Inv-loop μ-loop
 loop-holds c = seek-start _ _
 
-sub-run : tie.Need-sub-run Inv-loop μ-loop
-sub-run c = search needs
-
-part-run-start : tie.Need-part-run-start Inv-loop μ-loop
-part-run-start c = search needs
-
-part-run-end : tie.Need-part-run-end Inv-loop μ-loop
-part-run-end c = search needs
-
-run-requires : tie.Need-run-requires Inv-loop μ-loop
-run-requires c κs = search needs
-
 add-end : tie.Need-add-end Inv-loop μ-loop
 add-end c = let i = inside c in search needs
-
-sub-result : tie.Need-sub-result Inv-loop μ-loop
-sub-result c = search needs
-
-part-result-start : tie.Need-part-result-start Inv-loop μ-loop
-part-result-start c = search needs
 
 part-result-end : tie.Need-part-result-end Inv-loop μ-loop
 part-result-end c = inside (c .before)
@@ -59,9 +41,6 @@ returns : tie.Need-returns Inv-loop μ-loop
 returns c =
     let r = c .before .before in
     sym (seek-hit _ _ _ _ (loop r .before .loop .inv) _ (loop r .loop-test .taken) (ran r) (c .before .if1 .taken))
-
-sub-left : tie.Need-sub-left Inv-loop μ-loop
-sub-left c = search needs
 
 add-start : tie.Need-add-start Inv-loop μ-loop
 add-start c = let i = inside (c .before) in search needs
@@ -74,9 +53,6 @@ loop-again c =
     let r = c .before in
     seek-more _ _ _ _ (loop r .before .loop .inv) _ (loop r .loop-test .taken) (ran r) (c .if1 .left)
 
-slice-aggregate-result : tie.Need-slice-aggregate-result Inv-loop μ-loop
-slice-aggregate-result c = search needs
-
 returns-2 : tie.Need-returns-2 Inv-loop μ-loop
 returns-2 c = sym (seek-end _ _ _ _ (c .before .before .loop .inv) (c .before .loop-test .left))
 
@@ -87,18 +63,18 @@ line-of-spec =
     Inv-loop
     μ-loop
     loop-holds
-    sub-run
-    part-run-start
-    part-run-end
-    run-requires
+    (λ c. search needs)
+    (λ c. search needs)
+    (λ c. search needs)
+    (λ c κs. search needs)
     add-end
-    sub-result
-    part-result-start
+    (λ c. search needs)
+    (λ c. search needs)
     part-result-end
     returns
-    sub-left
+    (λ c. search needs)
     add-start
     loop-less
     loop-again
-    slice-aggregate-result
+    (λ c. search needs)
     returns-2)

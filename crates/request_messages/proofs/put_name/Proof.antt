@@ -15,26 +15,14 @@ use Rattle.request_messages.proofs.put_name.Tie as tie
 room : (c : tie.After-field-at) → c .field-at .result .1 ≤ length (c .field-at .result .0)
 room c = subst (λ (f : Field). f .1 ≤ length (f .0)) (sym (c .field-at .ensures)) (name-room _ _)
 
-count-of-requires : tie.Need-count-of-requires
-count-of-requires c κs = search needs
-
 returns : tie.Need-returns
 returns c = put-as _ _ _ _ _ _ _ refl (sym (name-none _ _ (omega (arith, c .if1 .taken, c .before .count-of .ensures)))) (put-nil _ _ (omega arith))
-
-field-at-requires : tie.Need-field-at-requires
-field-at-requires c κs = search needs
 
 array-share-prefix-name : tie.Need-array-share-prefix-name
 array-share-prefix-name c = room (c .before .before)
 
 slice-aggregate-put-text : tie.Need-slice-aggregate-put-text
 slice-aggregate-put-text c = sym (length-take-le _ _ (room (c .before .before .before)))
-
-put-text-requires : tie.Need-put-text-requires
-put-text-requires c κs = search needs
-
-same-length : tie.Need-same-length
-same-length c = search needs
 
 returns-2 : tie.Need-returns-2
 returns-2 c =
@@ -45,4 +33,4 @@ pub put-name-spec : {M : Type 1} → statement M
 put-name-spec =
     tie.close
     (tie.spec
-    count-of-requires returns field-at-requires array-share-prefix-name slice-aggregate-put-text put-text-requires same-length returns-2)
+    (λ c κs. search needs) returns (λ c κs. search needs) array-share-prefix-name slice-aggregate-put-text (λ c κs. search needs) (λ c. search needs) returns-2)

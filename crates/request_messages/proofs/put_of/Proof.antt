@@ -5,15 +5,6 @@ use borrow.Author.Needs.{needs}
 use Rattle.request_messages.proofs.put_of.Statement.{statement}
 use Rattle.request_messages.proofs.put_of.Tie as tie
 
-put-name-requires : tie.Need-put-name-requires
-put-name-requires c κs = search needs
-
-put-text-requires : tie.Need-put-text-requires
-put-text-requires c κs = search needs
-
-same-length : tie.Need-same-length
-same-length c = search needs
-
 returns : tie.Need-returns
 returns c = put-then _ _ _ _ _ _ _ _ (omega arith) (c .before .before .before .before .before .before .put-name .ensures) (c .before .before .put-text .ensures)
 
@@ -21,4 +12,4 @@ pub put-of-spec : {M : Type 1} → statement M
 put-of-spec =
     tie.close
     (tie.spec
-    put-name-requires put-text-requires same-length returns)
+    (λ c κs. search needs) (λ c κs. search needs) (λ c. search needs) returns)

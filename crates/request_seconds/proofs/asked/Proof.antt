@@ -7,21 +7,6 @@ use Rattle.request_seconds.specs.Second.{secondAsked, sinesAsked}
 use Rattle.request_seconds.proofs.asked.Statement.{statement}
 use Rattle.request_seconds.proofs.asked.Tie as tie
 
-wish-requires : tie.Need-wish-requires
-wish-requires c κs = search needs
-
-enum-known-given : tie.Need-enum-known-given
-enum-known-given c = search needs
-
-second-requires : tie.Need-second-requires
-second-requires c κs = search needs
-
-enum-known-given-2 : tie.Need-enum-known-given-2
-enum-known-given-2 c = search needs
-
-same-length : tie.Need-same-length
-same-length c = search needs
-
 returns : tie.Need-returns
 returns c =
     let given = c .before .before .before .before .before in
@@ -46,10 +31,10 @@ pub asked-spec : {M : Type 1} → statement M
 asked-spec =
     tie.close
     (tie.spec
-    wish-requires
-    enum-known-given
-    second-requires
-    enum-known-given-2
-    same-length
+    (λ c κs. search needs)
+    (λ c. search needs)
+    (λ c κs. search needs)
+    (λ c. search needs)
+    (λ c. search needs)
     returns
     returns-2)

@@ -5,12 +5,6 @@ use Rattle.request_seconds.specs.SecondLaws.{second-short, second-whole}
 use Rattle.request_seconds.proofs.in_room.Statement.{statement}
 use Rattle.request_seconds.proofs.in_room.Tie as tie
 
-enum-told : tie.Need-enum-told
-enum-told c = search needs
-
-enum-told-2 : tie.Need-enum-told-2
-enum-told-2 c = search needs
-
 returns : tie.Need-returns
 returns c = search needs
 
@@ -21,4 +15,4 @@ returns-3 : tie.Need-returns-3
 returns-3 c = rw (c .before .enum-told .given .1) (sym (second-whole (c .before .before .before .args .count) (c .before .before .before .args .room) _ (c .if1 .left)))
 
 pub in-room-spec : {M : Type 1} → statement M
-in-room-spec = tie.close (tie.spec enum-told enum-told-2 returns returns-2 returns-3)
+in-room-spec = tie.close (tie.spec (λ c. search needs) (λ c. search needs) returns returns-2 returns-3)

@@ -10,21 +10,6 @@ use Rattle.request_seconds.proofs.Small.{small}
 use Rattle.request_seconds.proofs.put_eclipse.Statement.{statement}
 use Rattle.request_seconds.proofs.put_eclipse.Tie as tie
 
-cast-penumbra : tie.Need-cast-penumbra
-cast-penumbra c = search needs
-
-cast-central : tie.Need-cast-central
-cast-central c = search needs
-
-cast-magnitude : tie.Need-cast-magnitude
-cast-magnitude c = search needs
-
-cast-direction : tie.Need-cast-direction
-cast-direction c = search needs
-
-slice-set-from-u : tie.Need-slice-set-from-u
-slice-set-from-u c = search needs
-
 slice-set-from-v : tie.Need-slice-set-from-v
 slice-set-from-v c = simp length-set (omega arith)
 
@@ -72,11 +57,11 @@ pub put-eclipse-spec : {M : Type 1} → statement M
 put-eclipse-spec =
     tie.close
     (tie.spec
-    cast-penumbra
-    cast-central
-    cast-magnitude
-    cast-direction
-    slice-set-from-u
+    (λ c. search needs)
+    (λ c. search needs)
+    (λ c. search needs)
+    (λ c. search needs)
+    (λ c. search needs)
     slice-set-from-v
     slice-set-from-l1
     slice-set-from-l2

@@ -6,28 +6,16 @@ use Rattle.request_seconds.specs.Second.{numbersAfter}
 use Rattle.request_seconds.proofs.put_numbers.Statement.{statement}
 use Rattle.request_seconds.proofs.put_numbers.Tie as tie
 
-enum-told : tie.Need-enum-told
-enum-told c = search needs
-
 put-eclipse-requires : tie.Need-put-eclipse-requires
 put-eclipse-requires c κs = rw (c .before .enum-told .given .1) at (c .before .before .before .pre)
 
-enum-told-2 : tie.Need-enum-told-2
-enum-told-2 c = search needs
-
 put-star-requires : tie.Need-put-star-requires
 put-star-requires c κs = rw (c .before .enum-told2 .given .1) at (c .before .before .before .pre)
-
-same-length : tie.Need-same-length
-same-length c = search needs
 
 returns : tie.Need-returns
 returns c =
     let a = c .before .before .before .before .before .args in
     c .before .put-eclipse .ensures ∙ sym (ap (λ s. numbersAfter s (Is (a .second)) (a .room .now)) (c .before .before .before .enum-told .given .1))
-
-same-length-2 : tie.Need-same-length-2
-same-length-2 c = search needs
 
 returns-2 : tie.Need-returns-2
 returns-2 c =
@@ -38,11 +26,11 @@ pub put-numbers-spec : {M : Type 1} → statement M
 put-numbers-spec =
     tie.close
     (tie.spec
-    enum-told
+    (λ c. search needs)
     put-eclipse-requires
-    enum-told-2
+    (λ c. search needs)
     put-star-requires
-    same-length
+    (λ c. search needs)
     returns
-    same-length-2
+    (λ c. search needs)
     returns-2)

@@ -10,15 +10,6 @@ use Rattle.request_seconds.proofs.Small.{small}
 use Rattle.request_seconds.proofs.put_star.Statement.{statement}
 use Rattle.request_seconds.proofs.put_star.Tie as tie
 
-cast-state : tie.Need-cast-state
-cast-state c = search needs
-
-cast-direction : tie.Need-cast-direction
-cast-direction c = search needs
-
-slice-set-from-u : tie.Need-slice-set-from-u
-slice-set-from-u c = search needs
-
 slice-set-from-v : tie.Need-slice-set-from-v
 slice-set-from-v c = simp length-set (omega arith)
 
@@ -54,9 +45,9 @@ pub put-star-spec : {M : Type 1} → statement M
 put-star-spec =
     tie.close
     (tie.spec
-    cast-state
-    cast-direction
-    slice-set-from-u
+    (λ c. search needs)
+    (λ c. search needs)
+    (λ c. search needs)
     slice-set-from-v
     slice-set-from-radius
     slice-set-from-state

@@ -38,18 +38,6 @@ module _ (c : tie.After-in-room) where
   sines-is : asked .asked .last .1 .1 .1 .0 ≡ sinesAsked (wish (start .args .shape) (start .args .request .now)) (start .args .second) (start .args .sines .now)
   sines-is = asked .asked .ensures .1 ∙ ap (λ τ. sinesAsked (wish (start .args .shape) (start .args .request .now)) τ (start .args .sines .now)) second-is
 
-asked-requires : tie.Need-asked-requires
-asked-requires c κs = search needs
-
-number-count-requires : tie.Need-number-count-requires
-number-count-requires c κs = search needs
-
-in-room-requires : tie.Need-in-room-requires
-in-room-requires c κs = search needs
-
-enum-known-given : tie.Need-enum-known-given
-enum-known-given c = search needs
-
 put-numbers-requires : tie.Need-put-numbers-requires
 unfolding secondGiven
 put-numbers-requires c κs =
@@ -59,15 +47,6 @@ put-numbers-requires c κs =
     second-fits (numberCount (a .shape)) (length (a .shadow .now)) (known .0 .0) (secondAsked (wish (a .shape) (a .request .now)) (a .second) (a .sines .now))
     (sym (given-is got) ∙ known .1)
 
-enum-told : tie.Need-enum-told
-enum-told c = search needs
-
-same-length : tie.Need-same-length
-same-length c = search needs
-
-same-length-2 : tie.Need-same-length-2
-same-length-2 c = search needs
-
 returns : tie.Need-returns
 returns c =
     let got = c .before .before .before .before .before .before in
@@ -75,9 +54,6 @@ returns c =
     let is = sym (c .before .before .before .before .given .given .1) ∙ given-is got in
     let room = c .before .put-numbers .ensures ∙ ap (λ x. numbersAfter (a .shape) x (a .shadow .now)) is in
     (is, (room, (sines-is got, given-means (a .shape) (a .request .now) (a .second) (a .sines .now) (a .shadow .now) _ room)))
-
-same-length-3 : tie.Need-same-length-3
-same-length-3 c = search needs
 
 returns-2 : tie.Need-returns-2
 returns-2 c =
@@ -90,14 +66,14 @@ pub second-spec : {M : Type 1} → statement M
 second-spec =
     tie.close
     (tie.spec
-    asked-requires
-    number-count-requires
-    in-room-requires
-    enum-known-given
+    (λ c κs. search needs)
+    (λ c κs. search needs)
+    (λ c κs. search needs)
+    (λ c. search needs)
     put-numbers-requires
-    enum-told
-    same-length
-    same-length-2
+    (λ c. search needs)
+    (λ c. search needs)
+    (λ c. search needs)
     returns
-    same-length-3
+    (λ c. search needs)
     returns-2)

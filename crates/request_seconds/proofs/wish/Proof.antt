@@ -6,21 +6,6 @@ use Rattle.request_seconds.specs.Second.{wish}
 use Rattle.request_seconds.proofs.wish.Statement.{statement}
 use Rattle.request_seconds.proofs.wish.Tie as tie
 
-enum-told : tie.Need-enum-told
-enum-told c = search needs
-
-request-requires : tie.Need-request-requires
-request-requires c κs = search needs
-
-of-eclipse-requires : tie.Need-of-eclipse-requires
-of-eclipse-requires c κs = search needs
-
-enum-told-2 : tie.Need-enum-told-2
-enum-told-2 c = search needs
-
-asked-requires : tie.Need-asked-requires
-asked-requires c κs = search needs
-
 returns : tie.Need-returns
 returns c =
     let a = c .before .before .before .before .before .args in
@@ -36,10 +21,10 @@ pub wish-spec : {M : Type 1} → statement M
 wish-spec =
     tie.close
     (tie.spec
-    enum-told
-    request-requires
-    of-eclipse-requires
-    enum-told-2
-    asked-requires
+    (λ c. search needs)
+    (λ c κs. search needs)
+    (λ c κs. search needs)
+    (λ c. search needs)
+    (λ c κs. search needs)
     returns
     returns-2)

@@ -6,21 +6,6 @@ use Rattle.request_sheets.specs.SheetLaws.{promised}
 use Rattle.request_sheets.proofs.sheet.Statement.{statement}
 use Rattle.request_sheets.proofs.sheet.Tie as tie
 
-request-requires : tie.Need-request-requires
-request-requires c κs = search needs
-
-of-eclipse-requires : tie.Need-of-eclipse-requires
-of-eclipse-requires c κs = search needs
-
-sheet-for-requires : tie.Need-sheet-for-requires
-sheet-for-requires c κs = search needs
-
-same-length : tie.Need-same-length
-same-length c = search needs
-
-same-length-2 : tie.Need-same-length-2
-same-length-2 c = search needs
-
 returns : tie.Need-returns
 returns c =
     let made = c .before .before .before .before in
@@ -28,4 +13,4 @@ returns c =
     promised _ _ _ _ _ _ (rw (asked .of-eclipse .ensures ∙ ap eclipseAsked (asked .before .request .ensures)) at (made .sheet-for .ensures))
 
 pub sheet-spec : {M : Type 1} → statement M
-sheet-spec = tie.close (tie.spec request-requires of-eclipse-requires sheet-for-requires same-length same-length-2 returns)
+sheet-spec = tie.close (tie.spec (λ c κs. search needs) (λ c κs. search needs) (λ c κs. search needs) (λ c. search needs) (λ c. search needs) returns)

@@ -6,24 +6,6 @@ use Rattle.request_sheets.specs.SheetLaws.{promised-shared}
 use Rattle.request_sheets.proofs.sheet_and_share.Statement.{statement}
 use Rattle.request_sheets.proofs.sheet_and_share.Tie as tie
 
-request-requires : tie.Need-request-requires
-request-requires c κs = search needs
-
-with-share-requires : tie.Need-with-share-requires
-with-share-requires c κs = search needs
-
-of-eclipse-requires : tie.Need-of-eclipse-requires
-of-eclipse-requires c κs = search needs
-
-sheet-for-requires : tie.Need-sheet-for-requires
-sheet-for-requires c κs = search needs
-
-same-length : tie.Need-same-length
-same-length c = search needs
-
-same-length-2 : tie.Need-same-length-2
-same-length-2 c = search needs
-
 returns : tie.Need-returns
 returns c =
     let made = c .before .before .before .before in
@@ -33,4 +15,4 @@ returns c =
 
 pub sheet-and-share-spec : {M : Type 1} → statement M
 sheet-and-share-spec =
-    tie.close (tie.spec request-requires with-share-requires of-eclipse-requires sheet-for-requires same-length same-length-2 returns)
+    tie.close (tie.spec (λ c κs. search needs) (λ c κs. search needs) (λ c κs. search needs) (λ c κs. search needs) (λ c. search needs) (λ c. search needs) returns)

@@ -4,21 +4,6 @@ use Rattle.request_sheets.specs.SheetLaws.{of-occultation, of-refusal}
 use Rattle.request_sheets.proofs.sheet_for.Statement.{statement}
 use Rattle.request_sheets.proofs.sheet_for.Tie as tie
 
-enum-known-asked : tie.Need-enum-known-asked
-enum-known-asked c = search needs
-
-sheet-requires : tie.Need-sheet-requires
-sheet-requires c κs = search needs
-
-enum-known-asked-2 : tie.Need-enum-known-asked-2
-enum-known-asked-2 c = search needs
-
-same-length : tie.Need-same-length
-same-length c = search needs
-
-same-length-2 : tie.Need-same-length-2
-same-length-2 c = search needs
-
 returns : tie.Need-returns
 returns c =
     let made = c .before .before .before .before in
@@ -30,4 +15,4 @@ returns-2 c = let known = c .before .asked2 .given in of-refusal _ _ _ (known .0
 
 pub sheet-for-spec : {M : Type 1} → statement M
 sheet-for-spec =
-    tie.close (tie.spec enum-known-asked sheet-requires enum-known-asked-2 same-length same-length-2 returns returns-2)
+    tie.close (tie.spec (λ c. search needs) (λ c κs. search needs) (λ c. search needs) (λ c. search needs) (λ c. search needs) returns returns-2)

@@ -55,9 +55,6 @@ tested c b e =
     let f = c .before .before .before in
     ap (λ (r : Field). named (nameOf r) (start f .args .said .now)) (sym (is f)) ∙ sym (c .is-named .ensures) ∙ e
 
-count-of-requires : tie.Need-count-of-requires Inv-loop μ-loop
-count-of-requires c κs = search needs
-
 loop-holds : tie.Need-loop-holds Inv-loop μ-loop
 loop-holds c = finding-start _ _
 
@@ -70,19 +67,10 @@ array-share-prefix-name c = room (c .before)
 slice-aggregate-is-named : tie.Need-slice-aggregate-is-named Inv-loop μ-loop
 slice-aggregate-is-named c = sym (length-take-le _ _ (room (c .before .before)))
 
-is-named-requires : tie.Need-is-named-requires Inv-loop μ-loop
-is-named-requires c κs = search needs
-
 returns : tie.Need-returns Inv-loop μ-loop
 returns c =
     let f = c .before .before .before .before in
     finding-hit _ _ _ (loop f .loop .inv) (short (f .before)) _ (name-is f) (tested (c .before) _ (c .if1 .taken))
-
-add-k : tie.Need-add-k Inv-loop μ-loop
-add-k c = search needs
-
-loop-less : tie.Need-loop-less Inv-loop μ-loop
-loop-less c = search needs
 
 loop-again : tie.Need-loop-again Inv-loop μ-loop
 loop-again c =
@@ -98,14 +86,14 @@ find-spec =
     (tie.spec
     Inv-loop
     μ-loop
-    count-of-requires
+    (λ c κs. search needs)
     loop-holds
     field-at-requires
     array-share-prefix-name
     slice-aggregate-is-named
-    is-named-requires
+    (λ c κs. search needs)
     returns
-    add-k
-    loop-less
+    (λ c. search needs)
+    (λ c. search needs)
     loop-again
     returns-2)

@@ -21,12 +21,6 @@ tested : (c : tie.After-holds) (b : Bool) → c .holds .result ≡ b
     → holds (c .before .before .args .width) (withSign (c .before .before .args .minus) (c .before .before .args .n)) ≡ b
 tested c b e = ap (holds (c .before .before .args .width)) (sym (same (c .before))) ∙ sym (c .holds .ensures) ∙ e
 
-with-sign-requires : tie.Need-with-sign-requires
-with-sign-requires c κs = search needs
-
-holds-requires : tie.Need-holds-requires
-holds-requires c κs = search needs
-
 returns : tie.Need-returns
 returns c = fitted-out _ _ _ _ (tested (c .before) _ (not-true _ (c .if1 .taken)))
 
@@ -35,4 +29,4 @@ returns-2 c =
     ap (L.Given (c .before .before .before .args .field)) (same (c .before .before)) ∙ fitted-in _ _ _ _ (tested (c .before) _ (not-false _ (c .if1 .left)))
 
 pub fit-spec : {M : Type 1} → statement M
-fit-spec = tie.close (tie.spec with-sign-requires holds-requires returns returns-2)
+fit-spec = tie.close (tie.spec (λ c κs. search needs) (λ c κs. search needs) returns returns-2)

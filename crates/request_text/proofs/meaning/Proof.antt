@@ -5,17 +5,11 @@ use borrow.Author.Needs.{needs}
 use Rattle.request_text.proofs.meaning.Statement.{statement}
 use Rattle.request_text.proofs.meaning.Tie as tie
 
-said-requires : tie.Need-said-requires
-said-requires c κs = search needs
-
 returns : tie.Need-returns
 returns c = meaning-none _ _ _ (c .before .said .ensures) (c .if1 .taken)
-
-of-name-requires : tie.Need-of-name-requires
-of-name-requires c κs = search needs
 
 returns-2 : tie.Need-returns-2
 returns-2 c = c .of-name .ensures ∙ meaning-some _ _ _ (c .before .before .said .ensures) (c .before .if1 .left)
 
 pub meaning-spec : {M : Type 1} → statement M
-meaning-spec = tie.close (tie.spec said-requires returns of-name-requires returns-2)
+meaning-spec = tie.close (tie.spec (λ c κs. search needs) returns (λ c κs. search needs) returns-2)

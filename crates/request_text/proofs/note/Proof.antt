@@ -14,15 +14,6 @@ use Rattle.request_text.proofs.note.Tie as tie
 field : (c : tie.After-known-told2) → InRoom (length (c .before .before .before .args .marks .now)) (L.Given (c .before .line2 .given .0 .0) (c .before .line2 .given .0 .1 .0))
 field c = subst (InRoom (length (c .before .before .before .args .marks .now))) (c .before .line2 .given .1) (c .before .before .before .pre .1)
 
-enum-told : tie.Need-enum-told
-enum-told c = search needs
-
-enum-known-line : tie.Need-enum-known-line
-enum-known-line c = search needs
-
-enum-known-line-2 : tie.Need-enum-known-line-2
-enum-known-line-2 c = search needs
-
 slice-read-if1 : tie.Need-slice-read-if1
 slice-read-if1 c = let f = field (c .before) in omega arith
 
@@ -44,12 +35,6 @@ returns-2 c = note-nothing _ _ _ (c .enum-told .given .1)
 returns-3 : tie.Need-returns-3
 returns-3 c = note-faulty _ _ _ _ (c .before .line .given .1)
 
-same-length : tie.Need-same-length
-same-length c = search needs
-
-same-length-2 : tie.Need-same-length-2
-same-length-2 c = search needs
-
 returns-4 : tie.Need-returns-4
 returns-4 c =
     let told = c .before .before in
@@ -60,9 +45,9 @@ pub note-spec : {M : Type 1} → statement M
 note-spec =
     tie.close
     (tie.spec
-    enum-told
-    enum-known-line
-    enum-known-line-2
+    (λ c. search needs)
+    (λ c. search needs)
+    (λ c. search needs)
     slice-read-if1
     returns
     slice-write-marks
@@ -70,6 +55,6 @@ note-spec =
     slice-set-from-value
     returns-2
     returns-3
-    same-length
-    same-length-2
+    (λ c. search needs)
+    (λ c. search needs)
     returns-4)

@@ -7,15 +7,6 @@ use borrow.Author.Needs.{needs}
 use Rattle.request_text.proofs.of_name.Statement.{statement}
 use Rattle.request_text.proofs.of_name.Tie as tie
 
-find-requires : tie.Need-find-requires
-find-requires c κs = search needs
-
-enum-known-field : tie.Need-enum-known-field
-enum-known-field c = search needs
-
-enum-told : tie.Need-enum-told
-enum-told c = search needs
-
 returns : tie.Need-returns
 returns c = field-none _ _ (sym (c .before .before .find .ensures) ∙ c .enum-told .given .1)
 
@@ -24,21 +15,6 @@ sub-after c = let h = found-at _ _ _ _ (sym (c .before .before .before .find .en
 
 part-after-start : tie.Need-part-after-start
 part-after-start c = found-at _ _ _ _ (sym (c .before .before .before .find .ensures) ∙ c .before .field .given .1) .1
-
-part-after-end : tie.Need-part-after-end
-part-after-end c = search needs
-
-run-requires : tie.Need-run-requires
-run-requires c κs = search needs
-
-sub-of-value : tie.Need-sub-of-value
-sub-of-value c = search needs
-
-part-of-value-start : tie.Need-part-of-value-start
-part-of-value-start c = search needs
-
-part-of-value-end : tie.Need-part-of-value-end
-part-of-value-end c = search needs
 
 of-value-requires : tie.Need-of-value-requires
 of-value-requires c κs = found-at _ _ _ _
@@ -53,16 +29,16 @@ pub of-name-spec : {M : Type 1} → statement M
 of-name-spec =
     tie.close
     (tie.spec
-    find-requires
-    enum-known-field
-    enum-told
+    (λ c κs. search needs)
+    (λ c. search needs)
+    (λ c. search needs)
     returns
     sub-after
     part-after-start
-    part-after-end
-    run-requires
-    sub-of-value
-    part-of-value-start
-    part-of-value-end
+    (λ c. search needs)
+    (λ c κs. search needs)
+    (λ c. search needs)
+    (λ c. search needs)
+    (λ c. search needs)
     of-value-requires
     returns-2)

@@ -7,29 +7,11 @@ use borrow.Author.Needs.{needs}
 use Rattle.request_text.proofs.of_value.Statement.{statement}
 use Rattle.request_text.proofs.of_value.Tie as tie
 
-run-requires : tie.Need-run-requires
-run-requires c κs = search needs
-
-sub-all : tie.Need-sub-all
-sub-all c = search needs
-
-part-all-start : tie.Need-part-all-start
-part-all-start c = search needs
-
-part-all-end : tie.Need-part-all-end
-part-all-end c = search needs
-
-all-requires : tie.Need-all-requires
-all-requires c κs = search needs
-
 returns : tie.Need-returns
 returns c = value-crowded _ _ _ _ (c .before .before .before .run .ensures .0) (sym (c .before .all .ensures) ∙ not-true _ (c .if1 .taken))
 
 slice-aggregate-value-of : tie.Need-slice-aggregate-value-of
 slice-aggregate-value-of c = sym (length-take-le _ _ (c .before .before .before .before .run .ensures .1))
-
-value-of-requires : tie.Need-value-of-requires
-value-of-requires c κs = search needs
 
 returns-2 : tie.Need-returns-2
 returns-2 c = c .value-of .ensures
@@ -40,12 +22,12 @@ pub of-value-spec : {M : Type 1} → statement M
 of-value-spec =
     tie.close
     (tie.spec
-    run-requires
-    sub-all
-    part-all-start
-    part-all-end
-    all-requires
+    (λ c κs. search needs)
+    (λ c. search needs)
+    (λ c. search needs)
+    (λ c. search needs)
+    (λ c κs. search needs)
     returns
     slice-aggregate-value-of
-    value-of-requires
+    (λ c κs. search needs)
     returns-2)

@@ -70,9 +70,6 @@ completed c =
     let l = c .before .before .before in
     ap (λ (n : ℕ). missing 0 (take (n - 1) (l .loop .marks))) (sym (l .before .count-of .ensures)) ∙ sym (c .complete .ensures)
 
-count-of-requires : tie.Need-count-of-requires Inv-loop μ-loop
-count-of-requires c κs = search needs
-
 sub-required : tie.Need-sub-required Inv-loop μ-loop
 sub-required c = omega (arith, c .count-of .ensures, count-small (c .before .before .before .args .shape))
 
@@ -89,40 +86,16 @@ loop-holds c =
     let s = c .before .before .before in
     rw (c .count-of .ensures) (typing-start _ _ _ _ (s .pre .0) (s .pre .1))
 
-sub-run : tie.Need-sub-run Inv-loop μ-loop
-sub-run c = search needs
-
-part-run-start : tie.Need-part-run-start Inv-loop μ-loop
-part-run-start c = search needs
-
-part-run-end : tie.Need-part-run-end Inv-loop μ-loop
-part-run-end c = search needs
-
-run-requires : tie.Need-run-requires Inv-loop μ-loop
-run-requires c κs = search needs
-
 add-end : tie.Need-add-end Inv-loop μ-loop
 add-end c = let i = inside c in search needs
 
-sub-number-in : tie.Need-sub-number-in Inv-loop μ-loop
-sub-number-in c = search needs
-
-part-number-in-start : tie.Need-part-number-in-start Inv-loop μ-loop
-part-number-in-start c = search needs
-
 part-number-in-end : tie.Need-part-number-in-end Inv-loop μ-loop
 part-number-in-end c = inside c
-
-number-in-requires : tie.Need-number-in-requires Inv-loop μ-loop
-number-in-requires c κs = search needs
 
 note-requires : tie.Need-note-requires Inv-loop μ-loop
 note-requires c κs =
     let l = loop (c .before .before .before .before) .before in
     (walked l .fields ∙ sym (walked l .marked), number-room _ _ _ _ (c .before .before .number-in .ensures) (walked l .marked))
-
-enum-known-noted : tie.Need-enum-known-noted Inv-loop μ-loop
-enum-known-noted c = search needs
 
 same-length : tie.Need-same-length Inv-loop μ-loop
 same-length c =
@@ -139,9 +112,6 @@ returns c =
     let n = c .before .before .before .before .before .before in
     let r = at-run n in
     line-refused _ _ _ _ _ _ (walked (loop r .before)) _ (loop r .loop-test .taken) (ran r) _ _ (sym (noted n .0) ∙ c .before .noted .given .1)
-
-enum-told : tie.Need-enum-told Inv-loop μ-loop
-enum-told c = search needs
 
 add-at : tie.Need-add-at Inv-loop μ-loop
 add-at c = let i = inside (at-run (c .before .before .before .before .before)) in search needs
@@ -171,12 +141,6 @@ slice-aggregate-complete c =
     let l = c .before .before in
     sym (length-take-le (l .before .count-of .result - 1) (l .loop .marks) (omega (arith, l .before .count-of .ensures, walked l .marked)))
 
-complete-requires : tie.Need-complete-requires Inv-loop μ-loop
-complete-requires c κs = search needs
-
-enum-known-all : tie.Need-enum-known-all Inv-loop μ-loop
-enum-known-all c = search needs
-
 same-length-3 : tie.Need-same-length-3 Inv-loop μ-loop
 same-length-3 c = same-marks (c .before .before .before .before .before .before)
 
@@ -187,9 +151,6 @@ returns-2 : tie.Need-returns-2 Inv-loop μ-loop
 returns-2 c =
     let e = c .before .before .before in
     end-missing _ _ _ _ _ _ (walked (e .before .before .before)) (e .before .before .loop-test .left) _ (completed e ∙ c .before .all .given .1)
-
-enum-told-2 : tie.Need-enum-told-2 Inv-loop μ-loop
-enum-told-2 c = search needs
 
 same-length-5 : tie.Need-same-length-5 Inv-loop μ-loop
 same-length-5 c = same-marks (c .before .before .before .before .before)
@@ -208,38 +169,38 @@ read-spec =
     (tie.spec
     Inv-loop
     μ-loop
-    count-of-requires
+    (λ c κs. search needs)
     sub-required
     mul-found
     slice-set-of-found
     loop-holds
-    sub-run
-    part-run-start
-    part-run-end
-    run-requires
+    (λ c. search needs)
+    (λ c. search needs)
+    (λ c. search needs)
+    (λ c κs. search needs)
     add-end
-    sub-number-in
-    part-number-in-start
+    (λ c. search needs)
+    (λ c. search needs)
     part-number-in-end
-    number-in-requires
+    (λ c κs. search needs)
     note-requires
-    enum-known-noted
+    (λ c. search needs)
     same-length
     same-length-2
     returns
-    enum-told
+    (λ c. search needs)
     add-at
     add-line
     loop-less
     loop-again
     slice-reshare-prefix-complete
     slice-aggregate-complete
-    complete-requires
-    enum-known-all
+    (λ c κs. search needs)
+    (λ c. search needs)
     same-length-3
     same-length-4
     returns-2
-    enum-told-2
+    (λ c. search needs)
     same-length-5
     same-length-6
     returns-3)

@@ -6,23 +6,8 @@ use borrow.Author.Needs.{needs}
 use Rattle.request_text.proofs.said.Statement.{statement}
 use Rattle.request_text.proofs.said.Tie as tie
 
-run-requires : tie.Need-run-requires
-run-requires c κs = search needs
-
 slice-aggregate-content : tie.Need-slice-aggregate-content
 slice-aggregate-content c = sym (length-take-le _ _ (c .before .run .ensures .1))
-
-run-requires-2 : tie.Need-run-requires-2
-run-requires-2 c κs = search needs
-
-sub-result : tie.Need-sub-result
-sub-result c = search needs
-
-part-result-start : tie.Need-part-result-start
-part-result-start c = search needs
-
-part-result-end : tie.Need-part-result-end
-part-result-end c = search needs
 
 returns : tie.Need-returns
 returns c = said-is _ _ _ (c .before .before .before .run .ensures .0) (c .before .run2 .ensures .0)
@@ -30,4 +15,4 @@ returns c = said-is _ _ _ (c .before .before .before .run .ensures .0) (c .befor
 pub said-spec : {M : Type 1} → statement M
 said-spec =
     tie.close
-    (tie.spec run-requires slice-aggregate-content run-requires-2 sub-result part-result-start part-result-end returns)
+    (tie.spec (λ c κs. search needs) slice-aggregate-content (λ c κs. search needs) (λ c. search needs) (λ c. search needs) (λ c. search needs) returns)

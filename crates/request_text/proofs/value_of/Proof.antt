@@ -24,26 +24,8 @@ told c u e =
     ∙ ap (λ (m : ℕ). of m (unitsOf (decimalsOf (a .shape) (a .field)) (a .word .now))) (c .before .start .ensures .0)
     ∙ value-by _ _ _
 
-field-at-requires : tie.Need-field-at-requires
-field-at-requires c κs = search needs
-
-start-requires : tie.Need-start-requires
-start-requires c κs = search needs
-
-units-in-requires : tie.Need-units-in-requires
-units-in-requires c κs = search needs
-
-enum-known-found : tie.Need-enum-known-found
-enum-known-found c = search needs
-
 fit-requires : tie.Need-fit-requires
 fit-requires c κs = units-small _ _ _ (sym (c .before .before .before .units-in .ensures) ∙ c .before .found .given .1)
-
-enum-told : tie.Need-enum-told
-enum-told c = search needs
-
-enum-told-2 : tie.Need-enum-told-2
-enum-told-2 c = search needs
 
 returns : tie.Need-returns
 returns c =
@@ -63,13 +45,13 @@ pub value-of-spec : {M : Type 1} → statement M
 value-of-spec =
     tie.close
     (tie.spec
-    field-at-requires
-    start-requires
-    units-in-requires
-    enum-known-found
+    (λ c κs. search needs)
+    (λ c κs. search needs)
+    (λ c κs. search needs)
+    (λ c. search needs)
     fit-requires
-    enum-told
-    enum-told-2
+    (λ c. search needs)
+    (λ c. search needs)
     returns
     returns-2
     returns-3)

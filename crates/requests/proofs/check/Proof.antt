@@ -12,16 +12,10 @@ use Rattle.requests.proofs.check.Tie as tie
 holds : (c : tie.Else1) → windowHolds (c .before .before .before .args .o .window) ≡ true
 holds c = sym (c .before .window-holds .ensures) ∙ not-false (c .before .window-holds .result) (c .if1 .left)
 
-window-holds-requires : tie.Need-window-holds-requires
-window-holds-requires c κs = search needs
-
 returns : tie.Need-returns
 returns c =
     let o = c .before .before .before .args .o in
     sym (checked-window o (sym (c .before .window-holds .ensures) ∙ not-true (c .before .window-holds .result) (c .if1 .taken)))
-
-guard-holds-requires : tie.Need-guard-holds-requires
-guard-holds-requires c κs = search needs
 
 -- the guard is read back from its bits
 guard-is : (c : tie.After-guard-holds) → c .guard-holds .result ≡ guardHolds (c .before .before .before .before .before .args .o .guard)
@@ -38,24 +32,12 @@ returns-2 c =
     let o = e .before .before .before .args .o in
     sym (checked-guard o (holds e) (sym (guard-is (c .before)) ∙ not-true (c .before .guard-holds .result) (c .if2 .taken)))
 
-check-body-requires : tie.Need-check-body-requires
-check-body-requires c κs = search needs
-
-enum-known-of-elements : tie.Need-enum-known-of-elements
-enum-known-of-elements c = search needs
-
 returns-3 : tie.Need-returns-3
 returns-3 c =
     let g = c .before .before .before .before in
     let e = g .before .before .before in
     let o = e .before .before .before .args .o in
     sym (checked-element o (holds e) (guarded g) (sym (c .before .before .before .check-body .ensures) ∙ c .before .of-elements .given .1))
-
-enum-told : tie.Need-enum-told
-enum-told c = search needs
-
-check-requires : tie.Need-check-requires
-check-requires c κs = search needs
 
 returns-4 : tie.Need-returns-4
 returns-4 c =
@@ -69,13 +51,13 @@ pub check-spec : {M : Type 1} → statement M
 check-spec =
     tie.close
     (tie.spec
-    window-holds-requires
+    (λ c κs. search needs)
     returns
-    guard-holds-requires
+    (λ c κs. search needs)
     returns-2
-    check-body-requires
-    enum-known-of-elements
+    (λ c κs. search needs)
+    (λ c. search needs)
     returns-3
-    enum-told
-    check-requires
+    (λ c. search needs)
+    (λ c κs. search needs)
     returns-4)

@@ -6,12 +6,6 @@ use Rattle.requests.specs.Shares.{sharingOf, sharing}
 use Rattle.requests.proofs.shares.Statement.{statement}
 use Rattle.requests.proofs.shares.Tie as tie
 
-enum-told : tie.Need-enum-told
-enum-told c = search needs
-
-enum-told-2 : tie.Need-enum-told-2
-enum-told-2 c = search needs
-
 returns : tie.Need-returns
 unfolding sharing
 returns c = sym (ap (λ (b : Body). sharingOf b (c .before .before .args .o .share)) (c .enum-told .given .1))
@@ -21,4 +15,4 @@ unfolding sharing
 returns-2 c = sym (ap (λ (b : Body). sharingOf b (c .before .before .args .o .share)) (c .enum-told2 .given .1))
 
 pub shares-spec : {M : Type 1} → statement M
-shares-spec = tie.close (tie.spec enum-told enum-told-2 returns returns-2)
+shares-spec = tie.close (tie.spec (λ c. search needs) (λ c. search needs) returns returns-2)

@@ -58,18 +58,12 @@ module _ (c : tie.Else2) where
 abbrev D : Code
 D = sub (arg 0) (arg 1)
 
-at-distance-requires : tie.Need-at-distance-requires
-at-distance-requires c κs = search needs
-
 returns : tie.Need-returns
 unfolding accepted
 returns c =
     let p = row (c .before) in
     let e = sym (moon-is (c .before)) ∙ not-true (c .before .at-distance .result) (c .if1 .taken) in
     sym (ap (λ (s : Bool). s && (sunDistance p && level (Gx p) (Gy p) (Gz p))) e)
-
-at-distance-requires-2 : tie.Need-at-distance-requires-2
-at-distance-requires-2 c κs = search needs
 
 returns-2 : tie.Need-returns-2
 unfolding accepted
@@ -104,9 +98,9 @@ pub accepted-spec : {M : Type 1} → statement M
 accepted-spec =
     tie.close
     (tie.spec
-    at-distance-requires
+    (λ c κs. search needs)
     returns
-    at-distance-requires-2
+    (λ c κs. search needs)
     returns-2
     sub-is-level
     sub-is-level-2

@@ -27,24 +27,15 @@ far-z c =
     rw (toZ-ofZ w64 (b .args .z) (b .fits .z), read-back (b .args .high) (b .pre .1) tt)
     at (c .beyond3 .ensures)
 
-beyond-requires : tie.Need-beyond-requires
-beyond-requires c κs = search needs
-
 returns : tie.Need-returns
 returns c =
     let a = c .before .before .args in
     beyond-x (a .x) (a .y) (a .z) (a .low) (a .high) (c .before .before .pre .2) (sym (far-x (c .before)) ∙ c .if1 .taken)
 
-beyond-requires-2 : tie.Need-beyond-requires-2
-beyond-requires-2 c κs = search needs
-
 returns-2 : tie.Need-returns-2
 returns-2 c =
     let a = c .before .before .before .before .args in
     beyond-y (a .x) (a .y) (a .z) (a .low) (a .high) (c .before .before .before .before .pre .2) (sym (far-y (c .before)) ∙ c .if2 .taken)
-
-beyond-requires-3 : tie.Need-beyond-requires-3
-beyond-requires-3 c κs = search needs
 
 returns-3 : tie.Need-returns-3
 returns-3 c =
@@ -83,12 +74,6 @@ square-requires-2 c κs =
     read-size (c .before .before .before .before .before .before .before .before .args .high) 2406500000000
     (c .before .before .before .before .before .before .before .before .pre .1) tt
 
-at-most-requires : tie.Need-at-most-requires
-at-most-requires c κs = search needs
-
-at-most-requires-2 : tie.Need-at-most-requires-2
-at-most-requires-2 c κs = search needs
-
 returns-4 : tie.Need-returns-4
 unfolding between
 returns-4 c =
@@ -104,5 +89,5 @@ returns-4 c =
 pub at-distance-spec : {M : Type 1} → statement M
 at-distance-spec =
     tie.close
-    (tie.spec beyond-requires returns beyond-requires-2 returns-2 beyond-requires-3 returns-3 sum-of-squares-requires square-requires square-requires-2
-    at-most-requires at-most-requires-2 returns-4)
+    (tie.spec (λ c κs. search needs) returns (λ c κs. search needs) returns-2 (λ c κs. search needs) returns-3 sum-of-squares-requires square-requires square-requires-2
+    (λ c κs. search needs) (λ c κs. search needs) returns-4)

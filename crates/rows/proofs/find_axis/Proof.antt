@@ -32,15 +32,6 @@ thousands-requires-3 c κs =
       read-size (s .args .p .moonz) 6500000000 (moon-sizes (s .args .p) (s .pre .moon) .2) tt,
     )
 
-squared-requires : tie.Need-squared-requires
-squared-requires c κs = search needs
-
-squared-requires-2 : tie.Need-squared-requires-2
-squared-requires-2 c κs = search needs
-
-squared-requires-3 : tie.Need-squared-requires-3
-squared-requires-3 c κs = search needs
-
 -- what the calls gave
 gx-is : (c : tie.After-thousands) → c .thousands .result ≡ gx (c .before .before .before .args .p)
 unfolding gx
@@ -113,5 +104,5 @@ returns c =
 
 pub find-axis-spec : {M : Type 1} → statement M
 find-axis-spec =
-    tie.close (tie.spec thousands-requires thousands-requires-2 thousands-requires-3 squared-requires squared-requires-2 squared-requires-3 add-flat
+    tie.close (tie.spec thousands-requires thousands-requires-2 thousands-requires-3 (λ c κs. search needs) (λ c κs. search needs) (λ c κs. search needs) add-flat
     add-whole returns)

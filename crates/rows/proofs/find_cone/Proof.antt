@@ -22,9 +22,6 @@ use Rattle.rows.proofs.find_cone.Tie as tie
 sub-root : tie.Need-sub-root
 sub-root c = omega (arith, c .pre .1 .whole, Sizes.whole-low (c .args .p) (c .pre .0), c .pre .2 .square)
 
-root-requires : tie.Need-root-requires
-root-requires c κs = search needs
-
 t-is : (c : tie.After-root) → c .root .result ≡ T (c .before .args .p) (c .before .args .radii) (c .before .args .square)
 unfolding T
 t-is c = c .root .ensures ∙ ap (λ (n : ℕ). root (n - c .before .args .square)) (c .before .pre .1 .whole)
@@ -40,9 +37,6 @@ t-high c =
     let s = c .before in
     let k = s .pre .2 in
     omega (arith, t-is c, Sizes.T-high (s .args .p) (s .pre .0) (s .args .radii) (s .args .square) k)
-
-mul-near-unsigned : tie.Need-mul-near-unsigned
-mul-near-unsigned c = search needs
 
 near-unsigned-requires : tie.Need-near-unsigned-requires
 near-unsigned-requires c κs =
@@ -127,5 +121,5 @@ returns c =
 pub find-cone-spec : {M : Type 1} → statement M
 find-cone-spec =
     tie.close
-    (tie.spec sub-root root-requires mul-near-unsigned near-unsigned-requires cast-tangent mul-near near-requires mul-near-unsigned-2
+    (tie.spec sub-root (λ c κs. search needs) (λ c. search needs) near-unsigned-requires cast-tangent mul-near near-requires mul-near-unsigned-2
     near-unsigned-requires-2 cast-foot returns)

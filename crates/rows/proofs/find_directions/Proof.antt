@@ -15,12 +15,6 @@ use Rattle.besselian.specs.AxisSizes
 use Rattle.rows.proofs.find_directions.Statement.{statement}
 use Rattle.rows.proofs.find_directions.Tie as tie
 
-root-requires : tie.Need-root-requires
-root-requires c κs = search needs
-
-root-requires-2 : tie.Need-root-requires-2
-root-requires-2 c κs = search needs
-
 r-is : (c : tie.After-root) → c .root .result ≡ r (c .before .args .p)
 unfolding r
 r-is c = c .root .ensures ∙ ap root (c .before .pre .1 .flat)
@@ -99,4 +93,4 @@ returns c =
     }
 
 pub find-directions-spec : {M : Type 1} → statement M
-find-directions-spec = tie.close (tie.spec root-requires root-requires-2 share-requires share-requires-2 share-requires-3 cast-share share-requires-4 returns)
+find-directions-spec = tie.close (tie.spec (λ c κs. search needs) (λ c κs. search needs) share-requires share-requires-2 share-requires-3 cast-share share-requires-4 returns)

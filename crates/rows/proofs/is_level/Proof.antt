@@ -10,12 +10,6 @@ use Rattle.squares.specs.WideLaws.{value-same, value-times}
 use Rattle.rows.proofs.is_level.Statement.{statement}
 use Rattle.rows.proofs.is_level.Tie as tie
 
-sum-of-squares-requires : tie.Need-sum-of-squares-requires
-sum-of-squares-requires c κs = search needs
-
-square-requires : tie.Need-square-requires
-square-requires c κs = search needs
-
 -- the parts of z², and of x² + y² + z²
 of-one : (c : tie.After-square) → Within (whole (c .square .result .high) ∷ whole (c .square .result .mid) ∷ whole (c .square .result .low) ∷ [])
     (5791242250000 ∷ 4812995187000 ∷ 999998000001 ∷ [])
@@ -79,4 +73,4 @@ returns c =
     ∙ value-times (pos 1849) (a .sum-of-squares .result) ∙ ap (λ (t : ℤ). pos 1849 *ℤ t) ww)
 
 pub is-level-spec : {M : Type 1} → statement M
-is-level-spec = tie.close (tie.spec sum-of-squares-requires square-requires mul-t8 mul-t9 mul-t10 mul-t8-2 mul-t10-2 mul-t9-2 at-most-requires returns)
+is-level-spec = tie.close (tie.spec (λ c κs. search needs) (λ c κs. search needs) mul-t8 mul-t9 mul-t10 mul-t8-2 mul-t10-2 mul-t9-2 at-most-requires returns)

@@ -32,9 +32,6 @@ some c = omega (arith, zs, c .pre .2)
 mul-near : tie.Need-mul-near
 mul-near c = fits (bounds c) G tt
 
-cast-near : tie.Need-cast-near
-cast-near c = search needs
-
 near-requires : tie.Need-near-requires
 near-requires c κs =
     let l : c .args .n ≤ 10000000000000000 = omega (arith, c .pre .1) in
@@ -53,4 +50,4 @@ returns c =
     record { value = read-back (c .near .result) h tt ∙ e; size = read-size (c .near .result) 100000000 h tt }
 
 pub share-spec : {M : Type 1} → statement M
-share-spec = tie.close (tie.spec mul-near cast-near near-requires returns)
+share-spec = tie.close (tie.spec mul-near (λ c. search needs) near-requires returns)

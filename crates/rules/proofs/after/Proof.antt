@@ -5,63 +5,6 @@ use borrow.Author.Needs.{needs}
 use Rattle.rules.proofs.after.Statement.{statement}
 use Rattle.rules.proofs.after.Tie as tie
 
-stage-of-requires : tie.Need-stage-of-requires
-stage-of-requires c κs = search needs
-
-enum-told : tie.Need-enum-told
-enum-told c = search needs
-
-reach-requires : tie.Need-reach-requires
-reach-requires c κs = search needs
-
-enum-told-2 : tie.Need-enum-told-2
-enum-told-2 c = search needs
-
-reach-requires-2 : tie.Need-reach-requires-2
-reach-requires-2 c κs = search needs
-
-enum-known-stage : tie.Need-enum-known-stage
-enum-known-stage c = search needs
-
-crossing-of-requires : tie.Need-crossing-of-requires
-crossing-of-requires c κs = search needs
-
-crossing-kept-requires : tie.Need-crossing-kept-requires
-crossing-kept-requires c κs = search needs
-
-crossing-after-requires : tie.Need-crossing-after-requires
-crossing-after-requires c κs = search needs
-
-passed-to-requires : tie.Need-passed-to-requires
-passed-to-requires c κs = search needs
-
-enum-told-3 : tie.Need-enum-told-3
-enum-told-3 c = search needs
-
-closest-after-requires : tie.Need-closest-after-requires
-closest-after-requires c κs = search needs
-
-reach-requires-3 : tie.Need-reach-requires-3
-reach-requires-3 c κs = search needs
-
-enum-told-4 : tie.Need-enum-told-4
-enum-told-4 c = search needs
-
-reach-requires-4 : tie.Need-reach-requires-4
-reach-requires-4 c κs = search needs
-
-enum-told-5 : tie.Need-enum-told-5
-enum-told-5 c = search needs
-
-reach-requires-5 : tie.Need-reach-requires-5
-reach-requires-5 c κs = search needs
-
-enum-told-6 : tie.Need-enum-told-6
-enum-told-6 c = search needs
-
-reach-requires-6 : tie.Need-reach-requires-6
-reach-requires-6 c κs = search needs
-
 returns : tie.Need-returns
 returns c = let a = c .before .before .before .before .args in rw (c .reach .ensures, c .before .enum-told .given .1) (after-by (a .p) (a .entry) _ (sym (c .before .enum-told .given .1) ∙ c .before .before .before .stage-of .ensures))
 
@@ -95,25 +38,25 @@ pub after-spec : {M : Type 1} → statement M
 after-spec =
     tie.close
     (tie.spec
-    stage-of-requires
-    enum-told
-    reach-requires
-    enum-told-2
-    reach-requires-2
-    enum-known-stage
-    crossing-of-requires
-    crossing-kept-requires
-    crossing-after-requires
-    passed-to-requires
-    enum-told-3
-    closest-after-requires
-    reach-requires-3
-    enum-told-4
-    reach-requires-4
-    enum-told-5
-    reach-requires-5
-    enum-told-6
-    reach-requires-6
+    (λ c κs. search needs)
+    (λ c. search needs)
+    (λ c κs. search needs)
+    (λ c. search needs)
+    (λ c κs. search needs)
+    (λ c. search needs)
+    (λ c κs. search needs)
+    (λ c κs. search needs)
+    (λ c κs. search needs)
+    (λ c κs. search needs)
+    (λ c. search needs)
+    (λ c κs. search needs)
+    (λ c κs. search needs)
+    (λ c. search needs)
+    (λ c κs. search needs)
+    (λ c. search needs)
+    (λ c κs. search needs)
+    (λ c. search needs)
+    (λ c κs. search needs)
     returns
     returns-2
     returns-3

@@ -7,20 +7,11 @@ use borrow.Author.Needs.{needs}
 use Rattle.rules.proofs.phase_in_order.Statement.{statement}
 use Rattle.rules.proofs.phase_in_order.Tie as tie
 
-is-within-requires : tie.Need-is-within-requires
-is-within-requires c κs = search needs
-
-repeats-requires : tie.Need-repeats-requires
-repeats-requires c κs = search needs
-
 returns : tie.Need-returns
 returns c =
     let a = c .before .before .before .before .args in
     let h = sym (c .before .before .before .is-within .ensures) ∙ c .before .before .if1 .taken in
     rw (h, within-may (a .p .stage) (a .phase) h, c .repeats .ensures)
-
-phase-may-come-requires : tie.Need-phase-may-come-requires
-phase-may-come-requires c κs = search needs
 
 returns-2 : tie.Need-returns-2
 returns-2 c =
@@ -30,4 +21,4 @@ returns-2 c =
 pub phase-in-order-spec : {M : Type 1} → statement M
 phase-in-order-spec =
     tie.close
-    (tie.spec is-within-requires repeats-requires returns phase-may-come-requires returns-2)
+    (tie.spec (λ c κs. search needs) (λ c κs. search needs) returns (λ c κs. search needs) returns-2)

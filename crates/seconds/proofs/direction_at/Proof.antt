@@ -11,9 +11,6 @@ use Rattle.seconds.specs.SecondLaws.{placed}
 use Rattle.seconds.proofs.direction_at.Statement.{statement}
 use Rattle.seconds.proofs.direction_at.Tie as tie
 
-axis-of-requires : tie.Need-axis-of-requires
-axis-of-requires c κs = search needs
-
 direction-at-requires : tie.Need-direction-at-requires
 direction-at-requires c κs =
     let b = c .before .before in
@@ -24,9 +21,6 @@ direction-at-requires c κs =
       read-size (b .args .t) 10800 (b .pre .3) tt,
     )
 
-cast-result : tie.Need-cast-result
-cast-result c = search needs
-
 returns : tie.Need-returns
 unfolding directionAt
 returns c =
@@ -34,4 +28,4 @@ returns c =
     c .direction-at .ensures ∙ rw (c .before .axis-of .ensures, b .pre .2, read-back (b .args .t) (b .pre .3) tt)
 
 pub direction-at-spec : {M : Type 1} → statement M
-direction-at-spec = tie.close (tie.spec axis-of-requires direction-at-requires cast-result returns)
+direction-at-spec = tie.close (tie.spec (λ c κs. search needs) direction-at-requires (λ c. search needs) returns)

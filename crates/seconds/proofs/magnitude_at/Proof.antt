@@ -11,9 +11,6 @@ use Rattle.seconds.specs.SecondLaws.{placed, guard-read}
 use Rattle.seconds.proofs.magnitude_at.Statement.{statement}
 use Rattle.seconds.proofs.magnitude_at.Tie as tie
 
-enum-known-body : tie.Need-enum-known-body
-enum-known-body c = search needs
-
 magnitude-at-requires : tie.Need-magnitude-at-requires
 magnitude-at-requires c κs =
     let b = c .before .before .before .before .before in
@@ -24,9 +21,6 @@ magnitude-at-requires c κs =
       read-size (b .args .t) 10800 (b .pre .3) tt,
       guard-read o (b .pre .1) .1,
     )
-
-enum-told : tie.Need-enum-told
-enum-told c = search needs
 
 returns : tie.Need-returns
 unfolding magnitudeAt
@@ -44,4 +38,4 @@ returns-2 c =
     sym (ap (λ (x : Body). magnitudeOf (o .guard) x (placeOf (o .station)) (b .args .t)) (c .enum-told .given .1))
 
 pub magnitude-at-spec : {M : Type 1} → statement M
-magnitude-at-spec = tie.close (tie.spec enum-known-body magnitude-at-requires enum-told returns returns-2)
+magnitude-at-spec = tie.close (tie.spec (λ c. search needs) magnitude-at-requires (λ c. search needs) returns returns-2)

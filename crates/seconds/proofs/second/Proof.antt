@@ -40,23 +40,11 @@ module _ (c : tie.After-enum-told) where
   filled : c .before .before .before .before .admit .last .1 .0 ≡ sinesAfter C.Within (start .args .sines .now)
   filled = c .before .before .before .before .admit .ensures .1 ∙ ap (λ k. sinesAfter k (start .args .sines .now)) within
 
-in-span-requires : tie.Need-in-span-requires
-in-span-requires c κs = search needs
-
 returns : tie.Need-returns
 returns c =
     let b = c .before .before .before in
     let out = sym (t-is (c .before)) ∙ not-true (c .before .in-span .result) (c .if1 .taken) in
     second-is (b .args .o) (b .args .t) _ _ (second-outside _ _ _ out) _ _ refl refl
-
-admit-requires : tie.Need-admit-requires
-admit-requires c κs = search needs
-
-enum-known-c : tie.Need-enum-known-c
-enum-known-c c = search needs
-
-same-length : tie.Need-same-length
-same-length c = search needs
 
 returns-2 : tie.Need-returns-2
 returns-2 c =
@@ -67,18 +55,12 @@ returns-2 c =
     second-is (b .args .o) (b .args .t) _ _ (second-inside _ _ _ (spans (a .before .before)) ∙ e) _ _ refl
     (a .admit .ensures .1 ∙ ap (λ k. sinesAfter k (b .args .sines .now)) e)
 
-enum-told : tie.Need-enum-told
-enum-told c = search needs
-
 second-within-requires : tie.Need-second-within-requires
 second-within-requires c κs =
     let a = start (c .before) in
     let w = admitted-within (a .args .o) (a .args .sines .now) (within (c .before)) in
     let h = spans (c .before .before .before .before .before .before .before) in
     (rw (c .before .before .before .before .before .admit .ensures .1) (w .1), w .0, read-size (a .args .t) 10800 (in-span (a .args .t) h) tt)
-
-same-length-2 : tie.Need-same-length-2
-same-length-2 c = search needs
 
 returns-3 : tie.Need-returns-3
 returns-3 c =
@@ -92,13 +74,13 @@ pub second-spec : {M : Type 1} → statement M
 second-spec =
     tie.close
     (tie.spec
-    in-span-requires
+    (λ c κs. search needs)
     returns
-    admit-requires
-    enum-known-c
-    same-length
+    (λ c κs. search needs)
+    (λ c. search needs)
+    (λ c. search needs)
     returns-2
-    enum-told
+    (λ c. search needs)
     second-within-requires
-    same-length-2
+    (λ c. search needs)
     returns-3)

@@ -49,12 +49,6 @@ module _ (o : Occultation) (τ : ℤ) (x : Second) where
       by : spelled x ≡ wholeSecond (of o (B.Star s)) τ
       by = rw (i .u, i .v, i .l1, i .l2, i .m, i .penumbra, i .central, i .magnitude, i .direction)
 
-geocentric-requires : tie.Need-geocentric-requires
-geocentric-requires c κs = search needs
-
-enum-known-body : tie.Need-enum-known-body
-enum-known-body c = search needs
-
 second-at-requires : tie.Need-second-at-requires
 second-at-requires c κs =
     let b = c .before .before .before .before .before .before .before in
@@ -65,9 +59,6 @@ second-at-requires c κs =
       read-size (b .args .t) 10800 (b .pre .2) tt,
       guard-read o (b .pre .1) .1,
     )
-
-enum-known-body-2 : tie.Need-enum-known-body-2
-enum-known-body-2 c = search needs
 
 star-second-requires : tie.Need-star-second-requires
 star-second-requires c κs =
@@ -98,10 +89,10 @@ pub second-within-spec : {M : Type 1} → statement M
 second-within-spec =
     tie.close
     (tie.spec
-    geocentric-requires
-    enum-known-body
+    (λ c κs. search needs)
+    (λ c. search needs)
     second-at-requires
-    enum-known-body-2
+    (λ c. search needs)
     star-second-requires
     returns
     returns-2)

@@ -8,24 +8,6 @@ use borrow.Author.Needs.{needs}
 use Rattle.shadows.proofs.first_of.Statement.{statement}
 use Rattle.shadows.proofs.first_of.Tie as tie
 
-request-requires : tie.Need-request-requires
-request-requires c κs = search needs
-
-enum-known-asked : tie.Need-enum-known-asked
-enum-known-asked c = search needs
-
-of-eclipse-requires : tie.Need-of-eclipse-requires
-of-eclipse-requires c κs = search needs
-
-slice-aggregate-second : tie.Need-slice-aggregate-second
-slice-aggregate-second c = search needs
-
-second-requires : tie.Need-second-requires
-second-requires c κs = search needs
-
-enum-known-asked-2 : tie.Need-enum-known-asked-2
-enum-known-asked-2 c = search needs
-
 returns : tie.Need-returns
 returns c =
     let s = c .before in
@@ -42,11 +24,11 @@ pub first-of-spec : {M : Type 1} → statement M
 first-of-spec =
     tie.close
     (tie.spec
-    request-requires
-    enum-known-asked
-    of-eclipse-requires
-    slice-aggregate-second
-    second-requires
-    enum-known-asked-2
+    (λ c κs. search needs)
+    (λ c. search needs)
+    (λ c κs. search needs)
+    (λ c. search needs)
+    (λ c κs. search needs)
+    (λ c. search needs)
     returns
     returns-2)

@@ -6,18 +6,9 @@ use borrow.Author.Needs.{needs}
 use Rattle.shadows.proofs.put_record.Statement.{statement}
 use Rattle.shadows.proofs.put_record.Tie as tie
 
-first-of-requires : tie.Need-first-of-requires
-first-of-requires c κs = search needs
-
-put-answer-requires : tie.Need-put-answer-requires
-put-answer-requires c κs = search needs
-
-same-length : tie.Need-same-length
-same-length c = search needs
-
 returns : tie.Need-returns
 unfolding recordLine
 returns c = put-as _ _ _ _ _ _ (ap answerLine (c .before .before .before .before .first-of .ensures)) (c .before .before .put-answer .ensures)
 
 pub put-record-spec : {M : Type 1} → statement M
-put-record-spec = tie.close (tie.spec first-of-requires put-answer-requires same-length returns)
+put-record-spec = tie.close (tie.spec (λ c κs. search needs) (λ c κs. search needs) (λ c. search needs) returns)

@@ -8,30 +8,6 @@ use borrow.Author.Needs.{needs}
 use Rattle.shadows.proofs.put_second.Statement.{statement}
 use Rattle.shadows.proofs.put_second.Tie as tie
 
-cast-penumbra : tie.Need-cast-penumbra
-cast-penumbra c = search needs
-
-cast-central : tie.Need-cast-central
-cast-central c = search needs
-
-cast-direction : tie.Need-cast-direction
-cast-direction c = search needs
-
-cast-magnitude : tie.Need-cast-magnitude
-cast-magnitude c = search needs
-
-slice-aggregate-put-filled : tie.Need-slice-aggregate-put-filled
-slice-aggregate-put-filled c = search needs
-
-slice-aggregate-put-filled-2 : tie.Need-slice-aggregate-put-filled-2
-slice-aggregate-put-filled-2 c = search needs
-
-put-filled-requires : tie.Need-put-filled-requires
-put-filled-requires c κs = search needs
-
-same-length : tie.Need-same-length
-same-length c = search needs
-
 returns : tie.Need-returns
 unfolding secondLine
 returns c =
@@ -52,12 +28,12 @@ pub put-second-spec : {M : Type 1} → statement M
 put-second-spec =
     tie.close
     (tie.spec
-    cast-penumbra
-    cast-central
-    cast-direction
-    cast-magnitude
-    slice-aggregate-put-filled
-    slice-aggregate-put-filled-2
-    put-filled-requires
-    same-length
+    (λ c. search needs)
+    (λ c. search needs)
+    (λ c. search needs)
+    (λ c. search needs)
+    (λ c. search needs)
+    (λ c. search needs)
+    (λ c κs. search needs)
+    (λ c. search needs)
     returns)

@@ -56,9 +56,6 @@ Inv-loop start n y₀ y = (root n ≤ y) × (y ≤ 820000000)
 abbrev μ-loop : tie.MeasureT-loop
 μ-loop start n y₀ y = y
 
-div-y : tie.Need-div-y Inv-loop μ-loop
-div-y c = search needs
-
 add-y : tie.Need-add-y Inv-loop μ-loop
 add-y c = omega (arith, quotient-small (c .args .n) (c .args .start) (c .pre .0) (c .pre .2))
 
@@ -98,4 +95,4 @@ returns c =
 pub root-from-spec : {M : Type 1} → statement M
 root-from-spec =
     tie.close
-    (tie.spec Inv-loop μ-loop div-y add-y loop-holds mul-loop div-y-2 add-y-2 loop-less loop-again returns)
+    (tie.spec Inv-loop μ-loop (λ c. search needs) add-y loop-holds mul-loop div-y-2 add-y-2 loop-less loop-again returns)

@@ -15,12 +15,6 @@ bounds c = let h : c .args .i * 7_654_321 % 12_280_001 ≤ 12_280_000 = omega ar
 abbrev less : Code
 less = sub (arg 0) (lit (pos 6_140_000))
 
-mul-x : tie.Need-mul-x
-mul-x c = search needs
-
-cast-result : tie.Need-cast-result
-cast-result c = search needs
-
 sub-result : tie.Need-sub-result
 sub-result c = fits (bounds c) less tt
 
@@ -29,4 +23,4 @@ unfolding L2
 returns c = runs (bounds c) less tt
 
 pub central-spec : {M : Type 1} → statement M
-central-spec = tie.close (tie.spec mul-x cast-result sub-result returns)
+central-spec = tie.close (tie.spec (λ c. search needs) (λ c. search needs) sub-result returns)

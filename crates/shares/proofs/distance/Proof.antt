@@ -5,12 +5,6 @@ use Rattle.shares.specs.PrintedLaws.{distance-near, distance-any}
 use Rattle.shares.proofs.distance.Statement.{statement}
 use Rattle.shares.proofs.distance.Tie as tie
 
-mul-result : tie.Need-mul-result
-mul-result c = search needs
-
-mul-result-2 : tie.Need-mul-result-2
-mul-result-2 c = search needs
-
 returns : tie.Need-returns
 returns c = sym (distance-near _ (c .if1 .taken))
 
@@ -18,4 +12,4 @@ returns-2 : tie.Need-returns-2
 returns-2 c = sym (distance-any _ (c .if1 .left))
 
 pub distance-spec : {M : Type 1} → statement M
-distance-spec = tie.close (tie.spec mul-result mul-result-2 returns returns-2)
+distance-spec = tie.close (tie.spec (λ c. search needs) (λ c. search needs) returns returns-2)

@@ -7,18 +7,9 @@ use Rattle.shares.specs.Printed.{L1}
 use Rattle.shares.proofs.penumbra.Statement.{statement}
 use Rattle.shares.proofs.penumbra.Tie as tie
 
-mul-x : tie.Need-mul-x
-mul-x c = search needs
-
-add-x : tie.Need-add-x
-add-x c = search needs
-
-cast-result : tie.Need-cast-result
-cast-result c = search needs
-
 returns : tie.Need-returns
 unfolding L1
 returns c = toZ-pos w64 _ (omega arith)
 
 pub penumbra-spec : {M : Type 1} → statement M
-penumbra-spec = tie.close (tie.spec mul-x add-x cast-result returns)
+penumbra-spec = tie.close (tie.spec (λ c. search needs) (λ c. search needs) (λ c. search needs) returns)

@@ -39,32 +39,8 @@ share-is c =
     let e = rw (l1-is b, l2-is b, m-is b) at (c .share .ensures) in
     toZ-pos w64 _ (omega (arith, e, share-limit (L1 (i b)) (L2 (i b)) (M (i b)))) ∙ ap pos e
 
-penumbra-requires : tie.Need-penumbra-requires
-penumbra-requires c κs = search needs
-
-central-requires : tie.Need-central-requires
-central-requires c κs = search needs
-
-square-requires : tie.Need-square-requires
-square-requires c κs = search needs
-
 share-requires : tie.Need-share-requires
 share-requires c κs = rw (l1-is c, l2-is c, m-is c) (row-sizes (i c) (c .before .before .before .before .pre))
-
-cast-share : tie.Need-cast-share
-cast-share c = search needs
-
-slice-aggregate-put-filled : tie.Need-slice-aggregate-put-filled
-slice-aggregate-put-filled c = search needs
-
-slice-aggregate-put-filled-2 : tie.Need-slice-aggregate-put-filled-2
-slice-aggregate-put-filled-2 c = search needs
-
-put-filled-requires : tie.Need-put-filled-requires
-put-filled-requires c κs = search needs
-
-same-length : tie.Need-same-length
-same-length c = search needs
 
 returns : tie.Need-returns
 unfolding line
@@ -78,13 +54,13 @@ pub put-row-spec : {M : Type 1} → statement M
 put-row-spec =
     tie.close
     (tie.spec
-    penumbra-requires
-    central-requires
-    square-requires
+    (λ c κs. search needs)
+    (λ c κs. search needs)
+    (λ c κs. search needs)
     share-requires
-    cast-share
-    slice-aggregate-put-filled
-    slice-aggregate-put-filled-2
-    put-filled-requires
-    same-length
+    (λ c. search needs)
+    (λ c. search needs)
+    (λ c. search needs)
+    (λ c κs. search needs)
+    (λ c. search needs)
     returns)

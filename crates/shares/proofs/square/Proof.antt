@@ -14,9 +14,6 @@ use Rattle.shares.proofs.square.Tie as tie
 small : (c : tie.After-distance) → c .distance .result * c .distance .result ≤ 3_844_000_000_000_000
 small c = rw (c .distance .ensures) (square-small (c .before .args .i))
 
-distance-requires : tie.Need-distance-requires
-distance-requires c κs = search needs
-
 mul-m : tie.Need-mul-m
 mul-m c = omega (arith, small c)
 
@@ -31,4 +28,4 @@ unfolding M
 returns c = toZ-pos w64 _ (omega (arith, small c)) ∙ ap (λ (d : ℕ). pos (d * d + c .before .args .i)) (c .distance .ensures)
 
 pub square-spec : {M : Type 1} → statement M
-square-spec = tie.close (tie.spec distance-requires mul-m add-m cast-result returns)
+square-spec = tie.close (tie.spec (λ c κs. search needs) mul-m add-m cast-result returns)

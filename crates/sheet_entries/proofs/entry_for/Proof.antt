@@ -73,14 +73,8 @@ module _ (o : Occultation) (φ : Phase) {e : Contact.Entry} {f t : ℕ} (f-is : 
   open-is : {a b : ℕ} → e ≡ K.Open a b → opened φ f t ≡ entryOf (courseOf o) φ e
   open-is k = rw (f-is, t-is, k)
 
-from-of-requires : tie.Need-from-of-requires
-from-of-requires c κs = search needs
-
 nth-second-requires : tie.Need-nth-second-requires
 nth-second-requires c κs = (c .before .before .before .pre .1 .window, earlier-counted c)
-
-to-of-requires : tie.Need-to-of-requires
-to-of-requires c κs = search needs
 
 nth-second-requires-2 : tie.Need-nth-second-requires-2
 nth-second-requires-2 c κs = let b = c .before .before .before .before .before in (b .pre .1 .window, omega (arith, c .to-of .ensures, b .pre .4))
@@ -91,29 +85,17 @@ store-second-requires c κs = read-size (c .before .before .nth-second .result) 
 store-second-requires-2 : tie.Need-store-second-requires-2
 store-second-requires-2 c κs = read-size (c .before .nth-second2 .result) 10800 (later-small (c .before)) tt
 
-enum-told : tie.Need-enum-told
-enum-told c = search needs
-
 direction-at-requires : tie.Need-direction-at-requires
 direction-at-requires c κs =
     let n = c .before .before .before .before in
     let b = n .before .before .before .before .before .before in
     (b .pre .0, b .pre .1, b .pre .2, read-size (n .nth-second2 .result) 10800 (later-small n) tt)
 
-enum-told-2 : tie.Need-enum-told-2
-enum-told-2 c = search needs
-
 direction-at-requires-2 : tie.Need-direction-at-requires-2
 direction-at-requires-2 c κs =
     let n = c .before .before .before .before .before .before in
     let b = n .before .before .before .before in
     (b .pre .0, b .pre .1, b .pre .2, read-size (n .nth-second .result) 10800 (earlier-small n) tt)
-
-enum-told-3 : tie.Need-enum-told-3
-enum-told-3 c = search needs
-
-enum-told-4 : tie.Need-enum-told-4
-enum-told-4 c = search needs
 
 returns : tie.Need-returns
 returns c =
@@ -143,18 +125,18 @@ pub entry-for-spec : {M : Type 1} → statement M
 entry-for-spec =
     tie.close
     (tie.spec
-    from-of-requires
+    (λ c κs. search needs)
     nth-second-requires
-    to-of-requires
+    (λ c κs. search needs)
     nth-second-requires-2
     store-second-requires
     store-second-requires-2
-    enum-told
+    (λ c. search needs)
     direction-at-requires
-    enum-told-2
+    (λ c. search needs)
     direction-at-requires-2
-    enum-told-3
-    enum-told-4
+    (λ c. search needs)
+    (λ c. search needs)
     returns
     returns-2
     returns-3

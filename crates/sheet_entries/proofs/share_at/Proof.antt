@@ -10,9 +10,6 @@ use Rattle.sheet_entries.specs.Course.{shareOf}
 use Rattle.sheet_entries.proofs.share_at.Statement.{statement}
 use Rattle.sheet_entries.proofs.share_at.Tie as tie
 
-enum-known-body : tie.Need-enum-known-body
-enum-known-body c = search needs
-
 share-at-requires : tie.Need-share-at-requires
 share-at-requires c κs =
     let b = c .before .before .before .before in (
@@ -21,9 +18,6 @@ share-at-requires c κs =
       subst PlaceSizes (sym (b .pre .2)) (placed (b .args .o) (b .pre .1)),
       read-size (b .args .t) 10800 (b .pre .3) tt,
     )
-
-enum-told : tie.Need-enum-told
-enum-told c = search needs
 
 returns : tie.Need-returns
 returns c =
@@ -35,4 +29,4 @@ returns-2 : tie.Need-returns-2
 returns-2 c = search needs
 
 pub share-at-spec : {M : Type 1} → statement M
-share-at-spec = tie.close (tie.spec enum-known-body share-at-requires enum-told returns returns-2)
+share-at-spec = tie.close (tie.spec (λ c. search needs) share-at-requires (λ c. search needs) returns returns-2)

@@ -3,12 +3,6 @@ use borrow.Author.Needs.{needs}
 use Rattle.sheets.proofs.broken.Statement.{statement}
 use Rattle.sheets.proofs.broken.Tie as tie
 
-enum-told : tie.Need-enum-told
-enum-told c = search needs
-
-enum-known-judged : tie.Need-enum-known-judged
-enum-known-judged c = search needs
-
 returns : tie.Need-returns
 returns c = rw (c .enum-told .given .1)
 
@@ -16,4 +10,4 @@ returns-2 : tie.Need-returns-2
 returns-2 c = rw (c .before .judged .given .1)
 
 pub broken-spec : {M : Type 1} → statement M
-broken-spec = tie.close (tie.spec enum-told enum-known-judged returns returns-2)
+broken-spec = tie.close (tie.spec (λ c. search needs) (λ c. search needs) returns returns-2)

@@ -60,32 +60,11 @@ entry c = c .before .entry .given .0 .0
 abbrev after : tie.After-known-told3 Inv-loop μ-loop → ℕ
 after c = from c .loop .at + sizeOf (kind (named c))
 
-begun-requires : tie.Need-begun-requires Inv-loop μ-loop
-begun-requires c κs = search needs
-
 loop-holds : tie.Need-loop-holds Inv-loop μ-loop
 loop-holds c = (omega arith, omega arith, record { is = rw (c .begun .ensures) (extent-start _ _ (read-start _)) })
 
-byte-at-requires : tie.Need-byte-at-requires Inv-loop μ-loop
-byte-at-requires c κs = search needs
-
-enum-known-code : tie.Need-enum-known-code Inv-loop μ-loop
-enum-known-code c = search needs
-
-enum-told : tie.Need-enum-told Inv-loop μ-loop
-enum-told c = search needs
-
 returns : tie.Need-returns Inv-loop μ-loop
 returns c = count-refused (c .before .before .before .loop .inv .2) _ (sym (by-byte _ _ _ (sym (c .before .before .byte-at .ensures) ∙ c .enum-told .given .1)))
-
-kind-for-requires : tie.Need-kind-for-requires Inv-loop μ-loop
-kind-for-requires c κs = search needs
-
-enum-known-kind : tie.Need-enum-known-kind Inv-loop μ-loop
-enum-known-kind c = search needs
-
-enum-told-2 : tie.Need-enum-told-2 Inv-loop μ-loop
-enum-told-2 c = search needs
 
 -- the record that stands there
 is-byte : (c : tie.After-known-told Inv-loop μ-loop) → byteAt (input (turn c)) (turn c .loop .at) ≡ Byte.Is (c .before .code .given .0 .0)
@@ -110,19 +89,10 @@ returns-2 c = count-refused (turn (c .before .before .before) .loop .inv .2) _
 body-at-requires : tie.Need-body-at-requires Inv-loop μ-loop
 body-at-requires c κs = byte-inv _ _ _ (is-byte (byted c)) .0
 
-enum-known-entry : tie.Need-enum-known-entry Inv-loop μ-loop
-enum-known-entry c = search needs
-
-enum-told-3 : tie.Need-enum-told-3 Inv-loop μ-loop
-enum-told-3 c = search needs
-
 returns-3 : tie.Need-returns-3 Inv-loop μ-loop
 returns-3 c = count-refused (turn (byted (c .before .before .before)) .loop .inv .2) _
     (sym (by-body _ _ _ _ _ (is-byte (byted (c .before .before .before))) (is-kind (c .before .before .before))
     (sym (c .before .before .body-at .ensures) ∙ c .enum-told3 .given .1)))
-
-in-order-requires : tie.Need-in-order-requires Inv-loop μ-loop
-in-order-requires c κs = search needs
 
 -- what is read is plain
 plain-entry : (c : tie.After-known-told3 Inv-loop μ-loop) → plain (entry c) ≡ true
@@ -145,9 +115,6 @@ returns-4 c =
     let t = c .before .before in
     count-broken (from t .loop .inv .2) _ _ (there t) _
     (judged-disorder _ _ _ (ordered (c .before) ∙ not-true (c .before .in-order .result) (c .if1 .taken)))
-
-rule-holds-requires : tie.Need-rule-holds-requires Inv-loop μ-loop
-rule-holds-requires c κs = search needs
 
 in-its-place : (c : tie.After-rule-holds Inv-loop μ-loop) → let t = c .before .before .before in inOrder (before-entry t) (entry t) ≡ true
 in-its-place c = ordered (c .before .before) ∙ not-false (c .before .before .in-order .result) (c .before .if1 .left)
@@ -175,9 +142,6 @@ bounds c = record-bounds _ _ _ _ (there c)
 add-next : tie.Need-add-next Inv-loop μ-loop
 add-next c = let b = bounds (read c) in let z = c .size-for .ensures .0 in omega (arith, from (read c) .before .before .before .good .0 .1)
 
-is-end-requires : tie.Need-is-end-requires Inv-loop μ-loop
-is-end-requires c κs = search needs
-
 ended : (c : tie.After-is-end Inv-loop μ-loop) → isEnd (entry (read (c .before)) .kind) ≡ c .is-end .result
 ended c = ap isEnd (same-kind (read (c .before))) ∙ sym (c .is-end .ensures)
 
@@ -189,9 +153,6 @@ returns-6 : tie.Need-returns-6 Inv-loop μ-loop
 returns-6 c = let t = read (c .before .before) in
     rw (c .before .before .size-for .ensures .0)
     (count-end (from t .loop .inv .2) _ _ (there t) _ (took (c .before .before)) (ended (c .before) ∙ c .if3 .taken))
-
-after-requires : tie.Need-after-requires Inv-loop μ-loop
-after-requires c κs = search needs
 
 add-n : tie.Need-add-n Inv-loop μ-loop
 add-n c = let t = read (c .before .before .before) in let b = bounds t in
@@ -218,30 +179,30 @@ extent-of-leading-sheet-spec =
     (tie.spec
     Inv-loop
     μ-loop
-    begun-requires
+    (λ c κs. search needs)
     loop-holds
-    byte-at-requires
-    enum-known-code
-    enum-told
+    (λ c κs. search needs)
+    (λ c. search needs)
+    (λ c. search needs)
     returns
-    kind-for-requires
-    enum-known-kind
-    enum-told-2
+    (λ c κs. search needs)
+    (λ c. search needs)
+    (λ c. search needs)
     returns-2
     body-at-requires
-    enum-known-entry
-    enum-told-3
+    (λ c. search needs)
+    (λ c. search needs)
     returns-3
-    in-order-requires
+    (λ c κs. search needs)
     returns-4
-    rule-holds-requires
+    (λ c κs. search needs)
     returns-5
     size-for-requires
     add-next
-    is-end-requires
+    (λ c κs. search needs)
     add-count
     returns-6
-    after-requires
+    (λ c κs. search needs)
     add-n
     loop-less
     loop-again)

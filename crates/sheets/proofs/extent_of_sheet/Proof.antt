@@ -10,15 +10,6 @@ use borrow.Author.Needs.{needs}
 use Rattle.sheets.proofs.extent_of_sheet.Statement.{statement}
 use Rattle.sheets.proofs.extent_of_sheet.Tie as tie
 
-extent-of-leading-sheet-requires : tie.Need-extent-of-leading-sheet-requires
-extent-of-leading-sheet-requires c κs = search needs
-
-enum-known-found : tie.Need-enum-known-found
-enum-known-found c = search needs
-
-enum-told : tie.Need-enum-told
-enum-told c = search needs
-
 returns : tie.Need-returns
 returns c = c .enum-told .given .1 ∙ sym (whole-by _ _ (sym (c .enum-told .given .1) ∙ c .before .before .extent-of-leading-sheet .ensures))
 
@@ -35,4 +26,4 @@ returns-3 c = sym (found-is (c .before) ∙ rw (le-ltb _ _ (c .if1 .left)))
 
 pub extent-of-sheet-spec : {M : Type 1} → statement M
 extent-of-sheet-spec =
-    tie.close (tie.spec extent-of-leading-sheet-requires enum-known-found enum-told returns returns-2 returns-3)
+    tie.close (tie.spec (λ c κs. search needs) (λ c. search needs) (λ c. search needs) returns returns-2 returns-3)

@@ -9,15 +9,6 @@ use borrow.Author.Needs.{needs}
 use Rattle.sheets.proofs.read.Statement.{statement}
 use Rattle.sheets.proofs.read.Tie as tie
 
-extent-of-sheet-requires : tie.Need-extent-of-sheet-requires
-extent-of-sheet-requires c κs = search needs
-
-enum-known-found : tie.Need-enum-known-found
-enum-known-found c = search needs
-
-enum-told : tie.Need-enum-told
-enum-told c = search needs
-
 found-is : (c : tie.After-known-told) → X.Sheet (c .before .found .given .0 .0) (c .before .found .given .0 .1 .0) ≡ extentOf
     (readWhole (c .before .before .before .before .before .before .args .s .now))
 found-is c = sym (c .before .found .given .1) ∙ c .before .before .before .extent-of-sheet .ensures
@@ -35,9 +26,6 @@ read-entries-requires c κs = rw (← whole-same _ _ _ (found-is (c .before .bef
     (room-for (readWhole (c .before .before .before .before .before .before .before .before .args .s .now)) _ _ _ (found-is (c .before .before))
     (c .before .if1 .left))
 
-same-length : tie.Need-same-length
-same-length c = search needs
-
 returns-3 : tie.Need-returns-3
 returns-3 c = let q = found-is (c .before .before .before .before .before) in
     read-full (readWhole (c .before .before .before .before .before .before .before .before .before .before .before .args .s .now))
@@ -50,11 +38,11 @@ pub read-spec : {M : Type 1} → statement M
 read-spec =
     tie.close
     (tie.spec
-    extent-of-sheet-requires
-    enum-known-found
-    enum-told
+    (λ c κs. search needs)
+    (λ c. search needs)
+    (λ c. search needs)
     returns
     returns-2
     read-entries-requires
-    same-length
+    (λ c. search needs)
     returns-3)

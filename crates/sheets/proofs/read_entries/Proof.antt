@@ -62,30 +62,12 @@ after c = from c .loop .at + sizeOf (kind (named c))
 loop-holds : tie.Need-loop-holds Inv-loop μ-loop
 loop-holds c = (omega arith, omega arith, refl, reading-starts _ _ (c .before .before .pre))
 
-byte-at-requires : tie.Need-byte-at-requires Inv-loop μ-loop
-byte-at-requires c κs = search needs
-
-enum-known-code : tie.Need-enum-known-code Inv-loop μ-loop
-enum-known-code c = search needs
-
-enum-told : tie.Need-enum-told Inv-loop μ-loop
-enum-told c = search needs
-
 same-length : tie.Need-same-length Inv-loop μ-loop
 same-length c = c .before .before .before .loop .inv .2
 
 returns : tie.Need-returns Inv-loop μ-loop
 returns c = absurd (pass-never of-numbers (c .before .before .before .loop .inv .3) _
     (sym (by-byte _ _ _ (sym (c .before .before .byte-at .ensures) ∙ c .enum-told .given .1))))
-
-kind-for-requires : tie.Need-kind-for-requires Inv-loop μ-loop
-kind-for-requires c κs = search needs
-
-enum-known-kind : tie.Need-enum-known-kind Inv-loop μ-loop
-enum-known-kind c = search needs
-
-enum-told-2 : tie.Need-enum-told-2 Inv-loop μ-loop
-enum-told-2 c = search needs
 
 same-length-2 : tie.Need-same-length-2 Inv-loop μ-loop
 same-length-2 c = turn (c .before .before .before) .loop .inv .2
@@ -112,12 +94,6 @@ returns-2 c = absurd (pass-never of-numbers (turn (c .before .before .before) .l
 
 body-at-requires : tie.Need-body-at-requires Inv-loop μ-loop
 body-at-requires c κs = byte-inv _ _ _ (is-byte (byted c)) .0
-
-enum-known-entry : tie.Need-enum-known-entry Inv-loop μ-loop
-enum-known-entry c = search needs
-
-enum-told-3 : tie.Need-enum-told-3 Inv-loop μ-loop
-enum-told-3 c = search needs
 
 same-length-3 : tie.Need-same-length-3 Inv-loop μ-loop
 same-length-3 c = turn (byted (c .before .before .before)) .loop .inv .2
@@ -146,9 +122,6 @@ code-is c = kind-inv _ _ (is-kind (named c)) ∙ ap codeOf (sym (same-kind c))
 -- the room with the entry's numbers, as they were put
 abbrev put-room : (c : tie.After-known-told3 Inv-loop μ-loop) → ℕ → List ℕ
 put-room c x = sets (from c .loop .room) (from c .loop .n * 5) (x ∷ entry c .a ∷ entry c .b ∷ entry c .c ∷ entry c .d ∷ [])
-
-is-end-requires : tie.Need-is-end-requires Inv-loop μ-loop
-is-end-requires c κs = search needs
 
 ended : (c : tie.After-is-end Inv-loop μ-loop) → isEnd (entry (c .before .before .before .before .before) .kind) ≡ c .is-end .result
 ended c = ap isEnd (same-kind (c .before .before .before .before .before)) ∙ sym (c .is-end .ensures)
@@ -202,24 +175,24 @@ read-entries-spec =
     Inv-loop
     μ-loop
     loop-holds
-    byte-at-requires
-    enum-known-code
-    enum-told
+    (λ c κs. search needs)
+    (λ c. search needs)
+    (λ c. search needs)
     same-length
     returns
-    kind-for-requires
-    enum-known-kind
-    enum-told-2
+    (λ c κs. search needs)
+    (λ c. search needs)
+    (λ c. search needs)
     same-length-2
     returns-2
     body-at-requires
-    enum-known-entry
-    enum-told-3
+    (λ c. search needs)
+    (λ c. search needs)
     same-length-3
     returns-3
     mul-place
     put-numbers-requires
-    is-end-requires
+    (λ c κs. search needs)
     same-length-4
     returns-4
     size-for-requires

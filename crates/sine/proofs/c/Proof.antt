@@ -6,12 +6,6 @@ use Rattle.sine.proofs.Values.{is-cosine, kept}
 use Rattle.sine.proofs.c.Statement.{statement}
 use Rattle.sine.proofs.c.Tie as tie
 
-sub-first-quadrant : tie.Need-sub-first-quadrant
-sub-first-quadrant c = search needs
-
-first-quadrant-requires : tie.Need-first-quadrant-requires
-first-quadrant-requires c κs = search needs
-
 returns : tie.Need-returns
 returns c =
     let b = c .before .before in
@@ -19,4 +13,4 @@ returns c =
     is-cosine (kept (q .ok) (q .ensures) ∙ sym (cosine-first (b .args .a) (b .pre .1)))
 
 pub c-spec : {M : Type 1} → statement M
-c-spec = tie.close (tie.spec sub-first-quadrant first-quadrant-requires returns)
+c-spec = tie.close (tie.spec (λ c. search needs) (λ c κs. search needs) returns)

@@ -8,32 +8,11 @@ use Rattle.sine.proofs.Values.{is-cosine, kept, minus-fits, minus}
 use Rattle.sine.proofs.cosine.Statement.{statement}
 use Rattle.sine.proofs.cosine.Tie as tie
 
-c-requires : tie.Need-c-requires
-c-requires c κs = search needs
-
-sub-s : tie.Need-sub-s
-sub-s c = search needs
-
-s-requires : tie.Need-s-requires
-s-requires c κs = search needs
-
 sub-result : tie.Need-sub-result
 sub-result c = minus-fits (c .s .result) (c .s .ensures .small)
 
-sub-c : tie.Need-sub-c
-sub-c c = search needs
-
-c-requires-2 : tie.Need-c-requires-2
-c-requires-2 c κs = search needs
-
 sub-result-2 : tie.Need-sub-result-2
 sub-result-2 c = minus-fits (c .c2 .result) (c .c2 .ensures .small)
-
-sub-s-2 : tie.Need-sub-s-2
-sub-s-2 c = search needs
-
-s-requires-2 : tie.Need-s-requires-2
-s-requires-2 c κs = search needs
 
 returns : tie.Need-returns
 returns c = search needs
@@ -63,15 +42,15 @@ pub cosine-spec : {M : Type 1} → statement M
 cosine-spec =
     tie.close
     (tie.spec
-    c-requires
-    sub-s
-    s-requires
+    (λ c κs. search needs)
+    (λ c. search needs)
+    (λ c κs. search needs)
     sub-result
-    sub-c
-    c-requires-2
+    (λ c. search needs)
+    (λ c κs. search needs)
     sub-result-2
-    sub-s-2
-    s-requires-2
+    (λ c. search needs)
+    (λ c κs. search needs)
     returns
     returns-2
     returns-3

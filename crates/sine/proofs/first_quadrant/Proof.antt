@@ -50,32 +50,11 @@ sum-is : (c : tie.After-near-unsigned3) → firstQuadrant (start (c .before) .ar
     (min (c .before .before .before .wide .result + c .near-unsigned3 .result) 100_000_000)
 sum-is c = first-is (within (c .before)) (parts (c .before)) (c .near-unsigned3 .ensures)
 
-mul-arc : tie.Need-mul-arc
-mul-arc c = search needs
-
-near-unsigned-requires : tie.Need-near-unsigned-requires
-near-unsigned-requires c κs = search needs
-
 mul-square : tie.Need-mul-square
 mul-square c = record { fits = omega (arith, square-small c) }
 
 near-unsigned-requires-2 : tie.Need-near-unsigned-requires-2
 near-unsigned-requires-2 c κs = (omega (arith, square-small c), omega arith, omega arith)
-
-entry-requires : tie.Need-entry-requires
-entry-requires c κs = search needs
-
-wide-requires : tie.Need-wide-requires
-wide-requires c κs = search needs
-
-sub-entry : tie.Need-sub-entry
-sub-entry c = search needs
-
-entry-requires-2 : tie.Need-entry-requires-2
-entry-requires-2 c κs = search needs
-
-wide-requires-2 : tie.Need-wide-requires-2
-wide-requires-2 c κs = search needs
 
 mul-gain : tie.Need-mul-gain
 mul-gain c = record { fits = omega (arith, cr-small (within c) (parts c)) }
@@ -92,9 +71,6 @@ near-unsigned-requires-3 c κs = (omega (arith, cr-small (within c) (parts c)), 
 add-sum : tie.Need-add-sum
 add-sum c = record { fits = omega (arith, step-fits c) }
 
-cast-result : tie.Need-cast-result
-cast-result c = search needs
-
 returns : tie.Need-returns
 returns c =
     let q = c .before in
@@ -108,20 +84,20 @@ pub first-quadrant-spec : {M : Type 1} → statement M
 first-quadrant-spec =
     tie.close
     (tie.spec
-    mul-arc
-    near-unsigned-requires
+    (λ c. search needs)
+    (λ c κs. search needs)
     mul-square
     near-unsigned-requires-2
-    entry-requires
-    wide-requires
-    sub-entry
-    entry-requires-2
-    wide-requires-2
+    (λ c κs. search needs)
+    (λ c κs. search needs)
+    (λ c. search needs)
+    (λ c κs. search needs)
+    (λ c κs. search needs)
     mul-gain
     mul-loss
     sub-near-unsigned
     near-unsigned-requires-3
     add-sum
-    cast-result
+    (λ c. search needs)
     returns
     returns-2)

@@ -6,9 +6,6 @@ use Rattle.sine.proofs.Values.{is-sine, kept}
 use Rattle.sine.proofs.s.Statement.{statement}
 use Rattle.sine.proofs.s.Tie as tie
 
-first-quadrant-requires : tie.Need-first-quadrant-requires
-first-quadrant-requires c κs = search needs
-
 returns : tie.Need-returns
 returns c =
     let b = c .before .before in
@@ -16,4 +13,4 @@ returns c =
     is-sine (kept (q .ok) (q .ensures) ∙ sym (sine-first (b .args .a) (b .pre .1)))
 
 pub s-spec : {M : Type 1} → statement M
-s-spec = tie.close (tie.spec first-quadrant-requires returns)
+s-spec = tie.close (tie.spec (λ c κs. search needs) returns)

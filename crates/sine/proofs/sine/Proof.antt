@@ -8,29 +8,8 @@ use Rattle.sine.proofs.Values.{is-sine, kept, minus-fits, minus}
 use Rattle.sine.proofs.sine.Statement.{statement}
 use Rattle.sine.proofs.sine.Tie as tie
 
-s-requires : tie.Need-s-requires
-s-requires c κs = search needs
-
-sub-c : tie.Need-sub-c
-sub-c c = search needs
-
-c-requires : tie.Need-c-requires
-c-requires c κs = search needs
-
-sub-s : tie.Need-sub-s
-sub-s c = search needs
-
-s-requires-2 : tie.Need-s-requires-2
-s-requires-2 c κs = search needs
-
 sub-result : tie.Need-sub-result
 sub-result c = minus-fits (c .s2 .result) (c .s2 .ensures .small)
-
-sub-c-2 : tie.Need-sub-c-2
-sub-c-2 c = search needs
-
-c-requires-2 : tie.Need-c-requires-2
-c-requires-2 c κs = search needs
 
 sub-result-2 : tie.Need-sub-result-2
 sub-result-2 c = minus-fits (c .c2 .result) (c .c2 .ensures .small)
@@ -63,14 +42,14 @@ pub sine-spec : {M : Type 1} → statement M
 sine-spec =
     tie.close
     (tie.spec
-    s-requires
-    sub-c
-    c-requires
-    sub-s
-    s-requires-2
+    (λ c κs. search needs)
+    (λ c. search needs)
+    (λ c κs. search needs)
+    (λ c. search needs)
+    (λ c κs. search needs)
     sub-result
-    sub-c-2
-    c-requires-2
+    (λ c. search needs)
+    (λ c κs. search needs)
     sub-result-2
     returns
     returns-2

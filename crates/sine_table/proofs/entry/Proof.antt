@@ -3,14 +3,8 @@ use borrow.Author.Needs.{needs}
 use Rattle.sine_table.proofs.entry.Statement.{statement}
 use Rattle.sine_table.proofs.entry.Tie as tie
 
-mul-result : tie.Need-mul-result
-mul-result c = search needs
-
-shared-slice-read-result : tie.Need-shared-slice-read-result
-shared-slice-read-result c = search needs
-
 returns : tie.Need-returns
 returns c = let p = c .before .pre in p .0 .entry (c .before .args .k) (p .1)
 
 pub entry-spec : {M : Type 1} → statement M
-entry-spec = tie.close (tie.spec mul-result shared-slice-read-result returns)
+entry-spec = tie.close (tie.spec (λ c. search needs) (λ c. search needs) returns)

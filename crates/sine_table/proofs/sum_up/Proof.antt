@@ -110,17 +110,11 @@ module _ (c : tie.After-loop Inv-loop μ-loop) where
       let start = subst (λ n. Begun n old (c .before .loop .room)) k-is (c .before .loop .inv .1) in
       begun-more old 900 _ _ (omega arith) h (ap natAbs last-read) (begun-more old 899 _ _ (omega arith) h (ap natAbs entry-is) start)
 
-sub-step : tie.Need-sub-step Inv-loop μ-loop
-sub-step c = search needs
-
 loop-holds : tie.Need-loop-holds Inv-loop μ-loop
 loop-holds c = (omega arith, begun-none _, c .before .pre .0)
 
 cast-room : tie.Need-cast-room Inv-loop μ-loop
 cast-room c = let l = c .before .loop in stored (l .k) _ (omega (arith, l .inv .0)) (gives-entry _ _ _ _ (l .inv .2))
-
-mul-room : tie.Need-mul-room Inv-loop μ-loop
-mul-room c = search needs
 
 slice-write-room : tie.Need-slice-write-room Inv-loop μ-loop
 slice-write-room c = omega (arith, same (c .before), long (c .before))
@@ -128,23 +122,11 @@ slice-write-room c = omega (arith, same (c .before), long (c .before))
 add-entry : tie.Need-add-entry Inv-loop μ-loop
 add-entry c = let l = c .before .loop in entry-fits (suc (l .k)) _ (omega arith) (gives-second _ _ _ _ (l .inv .2))
 
-mul-wide-signed : tie.Need-mul-wide-signed Inv-loop μ-loop
-mul-wide-signed c = search needs
-
 shared-slice-copy-out-wide-signed : tie.Need-shared-slice-copy-out-wide-signed Inv-loop μ-loop
 shared-slice-copy-out-wide-signed c = omega (arith, c .before .before .before .pre .0 .size)
 
-wide-signed-requires : tie.Need-wide-signed-requires Inv-loop μ-loop
-wide-signed-requires c κs = search needs
-
 add-step : tie.Need-add-step Inv-loop μ-loop
 add-step c = rw (d-is c) (step-fits _ _ _ _ (next c))
-
-add-k : tie.Need-add-k Inv-loop μ-loop
-add-k c = search needs
-
-loop-less : tie.Need-loop-less Inv-loop μ-loop
-loop-less c = search needs
 
 loop-again : tie.Need-loop-again Inv-loop μ-loop
 loop-again c =
@@ -185,18 +167,18 @@ sum-up-spec =
     (tie.spec
     Inv-loop
     μ-loop
-    sub-step
+    (λ c. search needs)
     loop-holds
     cast-room
-    mul-room
+    (λ c. search needs)
     slice-write-room
     add-entry
-    mul-wide-signed
+    (λ c. search needs)
     shared-slice-copy-out-wide-signed
-    wide-signed-requires
+    (λ c κs. search needs)
     add-step
-    add-k
-    loop-less
+    (λ c. search needs)
+    (λ c. search needs)
     loop-again
     cast-room-2
     slice-write-room-2

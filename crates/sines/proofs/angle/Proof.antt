@@ -7,33 +7,6 @@ use borrow.Author.Needs.{needs}
 use Rattle.sines.proofs.angle.Statement.{statement}
 use Rattle.sines.proofs.angle.Tie as tie
 
-mul-less : tie.Need-mul-less
-mul-less c = search needs
-
-add-less : tie.Need-add-less
-add-less c = search needs
-
-less-requires : tie.Need-less-requires
-less-requires c κs = search needs
-
-mul-less-2 : tie.Need-mul-less-2
-mul-less-2 c = search needs
-
-mul-less-3 : tie.Need-mul-less-3
-mul-less-3 c = search needs
-
-add-less-2 : tie.Need-add-less-2
-add-less-2 c = search needs
-
-less-requires-2 : tie.Need-less-requires-2
-less-requires-2 c κs = search needs
-
-mul-less-4 : tie.Need-mul-less-4
-mul-less-4 c = search needs
-
-less-requires-3 : tie.Need-less-requires-3
-less-requires-3 c κs = search needs
-
 returns : tie.Need-returns
 returns c =
     let w = c .less .ensures in
@@ -53,15 +26,15 @@ pub angle-spec : {M : Type 1} → statement M
 angle-spec =
     tie.close
     (tie.spec
-    mul-less
-    add-less
-    less-requires
-    mul-less-2
-    mul-less-3
-    add-less-2
-    less-requires-2
-    mul-less-4
-    less-requires-3
+    (λ c. search needs)
+    (λ c. search needs)
+    (λ c κs. search needs)
+    (λ c. search needs)
+    (λ c. search needs)
+    (λ c. search needs)
+    (λ c κs. search needs)
+    (λ c. search needs)
+    (λ c κs. search needs)
     returns
     returns-2
     returns-3)

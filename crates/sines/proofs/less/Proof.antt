@@ -19,12 +19,6 @@ small x y h l =
     let o = opposite (pos y) .is in
     natAbs-by (pos x -ℤ pos y) (omega arith) (omega arith)
 
-cast-result : tie.Need-cast-result
-cast-result c = search needs
-
-cast-result-2 : tie.Need-cast-result-2
-cast-result-2 c = search needs
-
 sub-result : tie.Need-sub-result
 sub-result c = fits (bounds c) (sub (arg 0) (arg 1)) tt
 
@@ -34,4 +28,4 @@ returns c =
     record { value = e; size = rw e (small (c .args .x) (c .args .y) (c .pre .0) (c .pre .1)) }
 
 pub less-spec : {M : Type 1} → statement M
-less-spec = tie.close (tie.spec cast-result cast-result-2 sub-result returns)
+less-spec = tie.close (tie.spec (λ c. search needs) (λ c. search needs) sub-result returns)

@@ -8,27 +8,6 @@ use borrow.Author.Needs.{needs}
 use Rattle.sines.proofs.put_all.Statement.{statement}
 use Rattle.sines.proofs.put_all.Tie as tie
 
-put-rows-requires : tie.Need-put-rows-requires
-put-rows-requires c κs = search needs
-
-same-rows-requires : tie.Need-same-rows-requires
-same-rows-requires c κs = search needs
-
-cast-count : tie.Need-cast-count
-cast-count c = search needs
-
-slice-aggregate-put-filled : tie.Need-slice-aggregate-put-filled
-slice-aggregate-put-filled c = search needs
-
-slice-aggregate-put-filled-2 : tie.Need-slice-aggregate-put-filled-2
-slice-aggregate-put-filled-2 c = search needs
-
-put-filled-requires : tie.Need-put-filled-requires
-put-filled-requires c κs = search needs
-
-same-length : tie.Need-same-length
-same-length c = search needs
-
 returns : tie.Need-returns
 returns c = put-count _ _ _ _ _ _ (ap (toZ w64) (c .before .before .before .before .before .before .same-rows .ensures)) (omega arith) (c .before .before .before .before .before .before .before .before .before .put-rows .ensures) (c .before .before .put-filled .ensures)
 
@@ -36,11 +15,11 @@ pub put-all-spec : {M : Type 1} → statement M
 put-all-spec =
     tie.close
     (tie.spec
-    put-rows-requires
-    same-rows-requires
-    cast-count
-    slice-aggregate-put-filled
-    slice-aggregate-put-filled-2
-    put-filled-requires
-    same-length
+    (λ c κs. search needs)
+    (λ c κs. search needs)
+    (λ c. search needs)
+    (λ c. search needs)
+    (λ c. search needs)
+    (λ c κs. search needs)
+    (λ c. search needs)
     returns)

@@ -7,26 +7,11 @@ use borrow.Author.Needs.{needs}
 use Rattle.sines.proofs.same.Statement.{statement}
 use Rattle.sines.proofs.same.Tie as tie
 
-reduced-requires : tie.Need-reduced-requires
-reduced-requires c κs = search needs
-
-sine-requires : tie.Need-sine-requires
-sine-requires c κs = search needs
-
-sine-requires-2 : tie.Need-sine-requires-2
-sine-requires-2 c κs = search needs
-
 returns : tie.Need-returns
 returns c =
     let t = c .before in
     let a = t .before .before .reduced .ensures in
     absurd (c .if1 .taken (ap (ofZ w64) (sine-of a (t .before .sine .ensures) ∙ sym (sine-of a (t .sine2 .ensures)))))
-
-cosine-requires : tie.Need-cosine-requires
-cosine-requires c κs = search needs
-
-cosine-requires-2 : tie.Need-cosine-requires-2
-cosine-requires-2 c κs = search needs
 
 returns-2 : tie.Need-returns-2
 returns-2 c =
@@ -41,11 +26,11 @@ pub same-spec : {M : Type 1} → statement M
 same-spec =
     tie.close
     (tie.spec
-    reduced-requires
-    sine-requires
-    sine-requires-2
+    (λ c κs. search needs)
+    (λ c κs. search needs)
+    (λ c κs. search needs)
     returns
-    cosine-requires
-    cosine-requires-2
+    (λ c κs. search needs)
+    (λ c κs. search needs)
     returns-2
     returns-3)

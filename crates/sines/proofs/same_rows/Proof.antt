@@ -11,27 +11,6 @@ Inv-loop table count₀ i₀ count i = (i ≤ 1000) × (count ≡ i)
 abbrev μ-loop : tie.MeasureT-loop
 μ-loop table count₀ i₀ count i = 1000 - i
 
-loop-holds : tie.Need-loop-holds Inv-loop μ-loop
-loop-holds c = search needs
-
-angle-requires : tie.Need-angle-requires Inv-loop μ-loop
-angle-requires c κs = search needs
-
-same-requires : tie.Need-same-requires Inv-loop μ-loop
-same-requires c κs = search needs
-
-add-count : tie.Need-add-count Inv-loop μ-loop
-add-count c = search needs
-
-add-i : tie.Need-add-i Inv-loop μ-loop
-add-i c = search needs
-
-loop-less : tie.Need-loop-less Inv-loop μ-loop
-loop-less c = search needs
-
-loop-again : tie.Need-loop-again Inv-loop μ-loop
-loop-again c = search needs
-
 returns : tie.Need-returns Inv-loop μ-loop
 returns c = search needs
 
@@ -41,11 +20,11 @@ same-rows-spec =
     (tie.spec
     Inv-loop
     μ-loop
-    loop-holds
-    angle-requires
-    same-requires
-    add-count
-    add-i
-    loop-less
-    loop-again
+    (λ c. search needs)
+    (λ c κs. search needs)
+    (λ c κs. search needs)
+    (λ c. search needs)
+    (λ c. search needs)
+    (λ c. search needs)
+    (λ c. search needs)
     returns)

@@ -9,12 +9,6 @@ use Rattle.squares.specs.WideLaws.{square-is, value-same}
 use Rattle.squares.proofs.square.Statement.{statement}
 use Rattle.squares.proofs.square.Tie as tie
 
-upper-requires : tie.Need-upper-requires
-upper-requires c κs = search needs
-
-lower-requires : tie.Need-lower-requires
-lower-requires c κs = search needs
-
 bounds : (c : tie.After-lower) → Within (whole (c .before .upper .result) ∷ whole (c .lower .result) ∷ []) (2406500 ∷ 999999 ∷ [])
 bounds c = c .before .upper .ensures .size ▹ c .lower .ensures .size ▹ ends
 
@@ -56,4 +50,4 @@ returns c =
     }
 
 pub square-spec : {M : Type 1} → statement M
-square-spec = tie.close (tie.spec upper-requires lower-requires mul-t4 mul-t5 mul-t6 mul-t7 returns)
+square-spec = tie.close (tie.spec (λ c κs. search needs) (λ c κs. search needs) mul-t4 mul-t5 mul-t6 mul-t7 returns)

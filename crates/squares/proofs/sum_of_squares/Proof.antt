@@ -9,15 +9,6 @@ use Rattle.squares.specs.WideLaws.{value-same, value-sum}
 use Rattle.squares.proofs.sum_of_squares.Statement.{statement}
 use Rattle.squares.proofs.sum_of_squares.Tie as tie
 
-square-requires : tie.Need-square-requires
-square-requires c κs = search needs
-
-square-requires-2 : tie.Need-square-requires-2
-square-requires-2 c κs = search needs
-
-square-requires-3 : tie.Need-square-requires-3
-square-requires-3 c κs = search needs
-
 -- what the three calls gave
 one : (c : tie.After-square3) → IsSquare (c .before .before .before .args .x) (c .before .before .square .result)
 one c = rw (read-back (c .before .before .before .args .x) (c .before .before .before .pre .0) tt) at (c .before .before .square .ensures)
@@ -80,4 +71,4 @@ returns c =
     }
 
 pub sum-of-squares-spec : {M : Type 1} → statement M
-sum-of-squares-spec = tie.close (tie.spec square-requires square-requires-2 square-requires-3 add-t7 add-t8 add-t9 add-t10 add-t11 add-t12 returns)
+sum-of-squares-spec = tie.close (tie.spec (λ c κs. search needs) (λ c κs. search needs) (λ c κs. search needs) add-t7 add-t8 add-t9 add-t10 add-t11 add-t12 returns)

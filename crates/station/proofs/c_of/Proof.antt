@@ -81,9 +81,6 @@ cast-root c =
     unsigned (after c) U tt (subst (λ (z : ℤ). pos 0 ≤ℤ z) (sym (under-is c))
     (under-nonneg (b .args .sine) (b .args .cosine) (b .pre .0) (b .pre .1) (b .pre .2)))
 
-root-requires : tie.Need-root-requires
-root-requires c κs = search needs
-
 cast-near : tie.Need-cast-near
 cast-near c = fits64 (pos (c .root .result)) (omega (arith, w-high c))
 
@@ -102,4 +99,4 @@ returns c =
 pub c-of-spec : {M : Type 1} → statement M
 c-of-spec =
     tie.close
-    (tie.spec mul-near-unit near-unit-requires mul-under mul-under-2 add-under cast-root root-requires cast-near near-requires returns)
+    (tie.spec mul-near-unit near-unit-requires mul-under mul-under-2 add-under cast-root (λ c κs. search needs) cast-near near-requires returns)

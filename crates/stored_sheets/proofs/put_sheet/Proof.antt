@@ -11,33 +11,6 @@ use borrow.Author.Needs.{needs}
 use Rattle.stored_sheets.proofs.put_sheet.Statement.{statement}
 use Rattle.stored_sheets.proofs.put_sheet.Tie as tie
 
-room-for-64-requires : tie.Need-room-for-64-requires
-room-for-64-requires c κs = search needs
-
-extent-of-leading-sheet-requires : tie.Need-extent-of-leading-sheet-requires
-extent-of-leading-sheet-requires c κs = search needs
-
-slice-aggregate-read : tie.Need-slice-aggregate-read
-slice-aggregate-read c = search needs
-
-read-requires : tie.Need-read-requires
-read-requires c κs = search needs
-
-read-short-requires : tie.Need-read-short-requires
-read-short-requires c κs = search needs
-
-put-answers-requires : tie.Need-put-answers-requires
-put-answers-requires c κs = search needs
-
-enum-known-is : tie.Need-enum-known-is
-enum-known-is c = search needs
-
-enum-told : tie.Need-enum-told
-enum-told c = search needs
-
-same-length : tie.Need-same-length
-same-length c = search needs
-
 size : (c : tie.After-read) → length (c .before .before .before .room-for-64 .result) ≡ 320
 size c = sym (c .before .before .before .room-for-64 .ensures)
 
@@ -75,9 +48,6 @@ slice-aggregate-put-written c = sym (length-take-le _ _ (omega (arith, good (c .
 put-written-requires : tie.Need-put-written-requires
 put-written-requires c κs = good (c .before .before) .1 .again
 
-same-length-2 : tie.Need-same-length-2
-same-length-2 c = search needs
-
 returns-2 : tie.Need-returns-2
 returns-2 c = put-good _ (omega (arith, c .before .before .before .before .before .before .before .before .before .before .before .before .before .before .before .before .before .before .before .before .good .0 .1)) _ _ _ _ _ _ _ (good (c .before .before .before .before .before) .1) (answered (c .before .before .before .before .before .before .before .before .before .before)) (c .before .before .put-written .ensures)
 
@@ -85,19 +55,19 @@ pub put-sheet-spec : {M : Type 1} → statement M
 put-sheet-spec =
     tie.close
     (tie.spec
-    room-for-64-requires
-    extent-of-leading-sheet-requires
-    slice-aggregate-read
-    read-requires
-    read-short-requires
-    put-answers-requires
-    enum-known-is
-    enum-told
-    same-length
+    (λ c κs. search needs)
+    (λ c κs. search needs)
+    (λ c. search needs)
+    (λ c κs. search needs)
+    (λ c κs. search needs)
+    (λ c κs. search needs)
+    (λ c. search needs)
+    (λ c. search needs)
+    (λ c. search needs)
     returns
     mul-numbers
     array-share-prefix-room
     slice-aggregate-put-written
     put-written-requires
-    same-length-2
+    (λ c. search needs)
     returns-2)

@@ -7,36 +7,12 @@ use borrow.Author.Needs.{needs}
 use Rattle.stored_sheets.proofs.put_written.Statement.{statement}
 use Rattle.stored_sheets.proofs.put_written.Tie as tie
 
-put-entries-requires : tie.Need-put-entries-requires
-put-entries-requires c κs = search needs
-
-buffer-requires : tie.Need-buffer-requires
-buffer-requires c κs = search needs
-
-slice-aggregate-write : tie.Need-slice-aggregate-write
-slice-aggregate-write c = search needs
-
-write-requires : tie.Need-write-requires
-write-requires c κs = search needs
-
-slice-aggregate-put-answer : tie.Need-slice-aggregate-put-answer
-slice-aggregate-put-answer c = search needs
-
-put-answer-requires : tie.Need-put-answer-requires
-put-answer-requires c κs = search needs
-
-slice-aggregate-put-same : tie.Need-slice-aggregate-put-same
-slice-aggregate-put-same c = search needs
-
 -- the writer's answer
 answered : (c : tie.After-write) → c .write .result ≡ extentOf (readWhole (c .before .before .before .before .before .before .before .before .before .before .args .sheet .now))
 answered c = c .write .ensures .0 ∙ again-answer (c .before .before .before .before .before .before .before .before .before .before .pre) _ (sym (c .before .before .buffer .ensures))
 
 put-same-requires : tie.Need-put-same-requires
 put-same-requires c κs = again-same (c .before .before .before .before .before .before .before .before .before .before .before .before .before .before .before .before .before .before .pre) _ _ _ (sym (c .before .before .before .before .before .before .before .before .before .before .buffer .ensures)) (answered (c .before .before .before .before .before .before .before .before)) (c .before .before .before .before .before .before .before .before .write .ensures .1)
-
-same-length : tie.Need-same-length
-same-length c = search needs
 
 returns : tie.Need-returns
 returns c =
@@ -50,13 +26,13 @@ pub put-written-spec : {M : Type 1} → statement M
 put-written-spec =
     tie.close
     (tie.spec
-    put-entries-requires
-    buffer-requires
-    slice-aggregate-write
-    write-requires
-    slice-aggregate-put-answer
-    put-answer-requires
-    slice-aggregate-put-same
+    (λ c κs. search needs)
+    (λ c κs. search needs)
+    (λ c. search needs)
+    (λ c κs. search needs)
+    (λ c. search needs)
+    (λ c κs. search needs)
+    (λ c. search needs)
     put-same-requires
-    same-length
+    (λ c. search needs)
     returns)

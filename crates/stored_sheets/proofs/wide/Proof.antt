@@ -5,11 +5,8 @@ use borrow.Author.Needs.{needs}
 use Rattle.stored_sheets.proofs.wide.Statement.{statement}
 use Rattle.stored_sheets.proofs.wide.Tie as tie
 
-cast-result : tie.Need-cast-result
-cast-result c = search needs
-
 returns : tie.Need-returns
 returns c = count-is _ {m = 4294967295} (omega arith) tt
 
 pub wide-spec : {M : Type 1} → statement M
-wide-spec = tie.close (tie.spec cast-result returns)
+wide-spec = tie.close (tie.spec (λ c. search needs) returns)

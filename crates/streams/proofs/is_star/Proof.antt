@@ -7,11 +7,8 @@ use Rattle.streams.proofs.is_star.Tie as tie
 returns : tie.Need-returns
 returns c = none-is-star (c .before .args .request .now) (c .if1 .taken)
 
-shared-slice-read-result : tie.Need-shared-slice-read-result
-shared-slice-read-result c = search needs
-
 returns-2 : tie.Need-returns-2
 returns-2 c = search needs
 
 pub is-star-spec : {M : Type 1} → statement M
-is-star-spec = tie.close (tie.spec returns shared-slice-read-result returns-2)
+is-star-spec = tie.close (tie.spec returns (λ c. search needs) returns-2)

@@ -13,19 +13,10 @@ use Rattle.survey.proofs.check.Tie as tie
 first : (c : tie.After-is-one) → eqb (numberIn (checked (c .before .before .args .o))) 1 ≡ c .is-one .result
 first c = sym (c .is-one .ensures ∙ ap (λ (x : Checked). eqb (numberIn x) 1) (c .before .check .ensures))
 
-check-requires : tie.Need-check-requires
-check-requires c κs = search needs
-
-is-one-requires : tie.Need-is-one-requires
-is-one-requires c κs = search needs
-
 returns : tie.Need-returns
 returns c =
     let t = c .before .before .before in
     c .before .before .check .ensures ∙ checked-one (t .args .s) (t .args .o) (t .pre) (first (c .before) ∙ c .if1 .taken)
-
-check-finite-requires : tie.Need-check-finite-requires
-check-finite-requires c κs = search needs
 
 returns-2 : tie.Need-returns-2
 returns-2 c =
@@ -34,4 +25,4 @@ returns-2 c =
     c .check-finite .ensures ∙ checked-on (t .args .s) (t .args .o) (t .pre) (first (e .before) ∙ e .if1 .left)
 
 pub check-spec : {M : Type 1} → statement M
-check-spec = tie.close (tie.spec check-requires is-one-requires returns check-finite-requires returns-2)
+check-spec = tie.close (tie.spec (λ c κs. search needs) (λ c κs. search needs) returns (λ c κs. search needs) returns-2)

@@ -7,12 +7,6 @@ use Rattle.refusals.specs.RefusalLaws.{numberIn}
 use Rattle.survey.proofs.is_one.Statement.{statement}
 use Rattle.survey.proofs.is_one.Tie as tie
 
-enum-told : tie.Need-enum-told
-enum-told c = search needs
-
-enum-known-c : tie.Need-enum-known-c
-enum-known-c c = search needs
-
 returns : tie.Need-returns
 returns c = sym (ap (λ (x : Checked). eqb (numberIn x) 1) (c .enum-told .given .1))
 
@@ -20,4 +14,4 @@ returns-2 : tie.Need-returns-2
 returns-2 c = sym (ap (λ (x : Checked). eqb (numberIn x) 1) (c .before .before .c .given .1))
 
 pub is-one-spec : {M : Type 1} → statement M
-is-one-spec = tie.close (tie.spec enum-told enum-known-c returns returns-2)
+is-one-spec = tie.close (tie.spec (λ c. search needs) (λ c. search needs) returns returns-2)

@@ -20,15 +20,6 @@ longitude-is c =
     ∙ ap standIn (c .before .read-longitude .ensures)
     ∙ stand-in-reading (longitudeScale l) (doubleIn l)
 
-elements-in-requires : tie.Need-elements-in-requires
-elements-in-requires c κs = search needs
-
-read-longitude-requires : tie.Need-read-longitude-requires
-read-longitude-requires c κs = search needs
-
-unit-of-requires : tie.Need-unit-of-requires
-unit-of-requires c κs = search needs
-
 returns : tie.Need-returns
 unfolding heldRequest requestOf
 returns c =
@@ -45,4 +36,4 @@ returns c =
     )
 
 pub request-of-spec : {M : Type 1} → statement M
-request-of-spec = tie.close (tie.spec elements-in-requires read-longitude-requires unit-of-requires returns)
+request-of-spec = tie.close (tie.spec (λ c κs. search needs) (λ c κs. search needs) (λ c κs. search needs) returns)

@@ -23,32 +23,11 @@ not-faulty c x e =
     let k : (_≡_ {A = ℕ} 2 0) ⊎ (_≡_ {A = ℕ} 2 1) = rw e at (c .match .keys2) in
     ⊎-elim (λ z. omega arith) (λ z. omega arith) k
 
-table-requires : tie.Need-table-requires Inv-loop μ-loop
-table-requires c κs = search needs
-
 loop-holds : tie.Need-loop-holds Inv-loop μ-loop
 loop-holds c = reading-start _ _ _ (sym (c .table .ensures)) (omega arith)
 
-sub-run : tie.Need-sub-run Inv-loop μ-loop
-sub-run c = search needs
-
-part-run-start : tie.Need-part-run-start Inv-loop μ-loop
-part-run-start c = search needs
-
-part-run-end : tie.Need-part-run-end Inv-loop μ-loop
-part-run-end c = search needs
-
-run-requires : tie.Need-run-requires Inv-loop μ-loop
-run-requires c κs = search needs
-
 add-end : tie.Need-add-end Inv-loop μ-loop
 add-end c = omega (arith, reading-within _ _ _ _ _ _ _ _ (c .before .before .before .loop .inv) (c .before .before .loop-test .taken) _ (c .run .ensures .0))
-
-sub-read-line : tie.Need-sub-read-line Inv-loop μ-loop
-sub-read-line c = search needs
-
-part-read-line-start : tie.Need-part-read-line-start Inv-loop μ-loop
-part-read-line-start c = search needs
 
 part-read-line-end : tie.Need-part-read-line-end Inv-loop μ-loop
 part-read-line-end c = omega (arith, reading-within _ _ _ _ _ _ _ _ (c .before .before .before .loop .inv) (c .before .before .loop-test .taken) _ (c .run .ensures .0))
@@ -56,17 +35,8 @@ part-read-line-end c = omega (arith, reading-within _ _ _ _ _ _ _ _ (c .before .
 slice-aggregate-read-line : tie.Need-slice-aggregate-read-line Inv-loop μ-loop
 slice-aggregate-read-line c = sym (c .before .before .before .before .before .loop .inv .room)
 
-mul-read-line : tie.Need-mul-read-line Inv-loop μ-loop
-mul-read-line c = search needs
-
 read-line-requires : tie.Need-read-line-requires Inv-loop μ-loop
 read-line-requires c κs = omega (arith, c .before .before .before .before .before .loop .inv .room)
-
-enum-known-said : tie.Need-enum-known-said Inv-loop μ-loop
-enum-known-said c = search needs
-
-same-length : tie.Need-same-length Inv-loop μ-loop
-same-length c = search needs
 
 returns : tie.Need-returns Inv-loop μ-loop
 returns c =
@@ -75,21 +45,6 @@ returns c =
     fault-output _ _ _ _ _ _ _ _ (l .before .loop .inv) (l .loop-test .taken) _ (read .before .before .before .run .ensures .0) _ (read .read-line .ensures .0) _
     (c .before .said .given .1)
 
-put-whole-requires : tie.Need-put-whole-requires Inv-loop μ-loop
-put-whole-requires c κs = search needs
-
-rows-after-requires : tie.Need-rows-after-requires Inv-loop μ-loop
-rows-after-requires c κs = search needs
-
-add-line : tie.Need-add-line Inv-loop μ-loop
-add-line c = search needs
-
-add-from : tie.Need-add-from Inv-loop μ-loop
-add-from c = search needs
-
-loop-less : tie.Need-loop-less Inv-loop μ-loop
-loop-less c = search needs
-
 loop-again : tie.Need-loop-again Inv-loop μ-loop
 loop-again c =
     let read = c .before .before .before .before .before .before .before .before in
@@ -97,17 +52,11 @@ loop-again c =
     reading-turn _ _ _ _ _ _ _ _ (l .before .loop .inv) (l .loop-test .taken) _ (read .before .before .before .run .ensures .0) _ (read .read-line .ensures .0) _
     (read .read-line .kept .1 .0) _ _ _ (not-faulty (c .before .before .before .before .before .before)) (read .read-line .ensures .1) (c .before .before .before .put-whole .ensures) (c .rows-after .ensures)
 
-same-length-2 : tie.Need-same-length-2 Inv-loop μ-loop
-same-length-2 c = search needs
-
 returns-2 : tie.Need-returns-2 Inv-loop μ-loop
 returns-2 c =
     let l = c .before .before .loop .inv in
     let h = c .before .loop-test .left in
     (end-output _ _ _ _ _ _ _ _ l h, end-whole _ _ _ _ _ _ _ _ l h (c .if1 .taken))
-
-same-length-3 : tie.Need-same-length-3 Inv-loop μ-loop
-same-length-3 c = search needs
 
 returns-3 : tie.Need-returns-3 Inv-loop μ-loop
 returns-3 c =
@@ -121,29 +70,29 @@ put-tables-spec =
     (tie.spec
     Inv-loop
     μ-loop
-    table-requires
+    (λ c κs. search needs)
     loop-holds
-    sub-run
-    part-run-start
-    part-run-end
-    run-requires
+    (λ c. search needs)
+    (λ c. search needs)
+    (λ c. search needs)
+    (λ c κs. search needs)
     add-end
-    sub-read-line
-    part-read-line-start
+    (λ c. search needs)
+    (λ c. search needs)
     part-read-line-end
     slice-aggregate-read-line
-    mul-read-line
+    (λ c. search needs)
     read-line-requires
-    enum-known-said
-    same-length
+    (λ c. search needs)
+    (λ c. search needs)
     returns
-    put-whole-requires
-    rows-after-requires
-    add-line
-    add-from
-    loop-less
+    (λ c κs. search needs)
+    (λ c κs. search needs)
+    (λ c. search needs)
+    (λ c. search needs)
+    (λ c. search needs)
     loop-again
-    same-length-2
+    (λ c. search needs)
     returns-2
-    same-length-3
+    (λ c. search needs)
     returns-3)

@@ -6,21 +6,6 @@ use borrow.Author.Needs.{needs}
 use Rattle.table_elements.proofs.put_whole.Statement.{statement}
 use Rattle.table_elements.proofs.put_whole.Tie as tie
 
-enum-told : tie.Need-enum-told
-enum-told c = search needs
-
-enum-told-2 : tie.Need-enum-told-2
-enum-told-2 c = search needs
-
-enum-told-3 : tie.Need-enum-told-3
-enum-told-3 c = search needs
-
-put-table-requires : tie.Need-put-table-requires
-put-table-requires c κs = search needs
-
-same-length : tie.Need-same-length
-same-length c = search needs
-
 returns : tie.Need-returns
 returns c = rw (c .before .before .before .before .before .enum-told3 .given .1, eq-eqb _ _ (c .before .before .before .before .if1 .taken)) (c .before .before .put-table .ensures)
 
@@ -37,11 +22,11 @@ pub put-whole-spec : {M : Type 1} → statement M
 put-whole-spec =
     tie.close
     (tie.spec
-    enum-told
-    enum-told-2
-    enum-told-3
-    put-table-requires
-    same-length
+    (λ c. search needs)
+    (λ c. search needs)
+    (λ c. search needs)
+    (λ c κs. search needs)
+    (λ c. search needs)
     returns
     returns-2
     returns-3

@@ -7,32 +7,8 @@ use borrow.Author.Needs.{needs}
 use Rattle.table_elements.proofs.respond.Statement.{statement}
 use Rattle.table_elements.proofs.respond.Tie as tie
 
-slice-aggregate-put-text : tie.Need-slice-aggregate-put-text
-slice-aggregate-put-text c = search needs
-
-put-text-requires : tie.Need-put-text-requires
-put-text-requires c κs = search needs
-
-same-length : tie.Need-same-length
-same-length c = search needs
-
 returns : tie.Need-returns
 returns c = respond-long _ (c .before .before .before .before .before .if1 .taken) _ _ _ _ (c .before .before .put-text .ensures)
-
-put-tables-requires : tie.Need-put-tables-requires
-put-tables-requires c κs = search needs
-
-enum-known-read : tie.Need-enum-known-read
-enum-known-read c = search needs
-
-enum-known-read-2 : tie.Need-enum-known-read-2
-enum-known-read-2 c = search needs
-
-put-fault-requires : tie.Need-put-fault-requires
-put-fault-requires c κs = search needs
-
-same-length-2 : tie.Need-same-length-2
-same-length-2 c = search needs
 
 returns-2 : tie.Need-returns-2
 returns-2 c =
@@ -40,12 +16,6 @@ returns-2 c =
     let is = c .before .read .given .1 in
     respond-by _ (put .before .before .if1 .left) _ _ _ (rw is at (put .put-tables .ensures .0)) _ (put .put-tables .ensures .1 ∙ ap errorOf is) _ _ _ _ refl
     (put-nil _ _ (omega arith))
-
-same-length-3 : tie.Need-same-length-3
-same-length-3 c = search needs
-
-same-length-4 : tie.Need-same-length-4
-same-length-4 c = search needs
 
 returns-3 : tie.Need-returns-3
 returns-3 c =
@@ -58,16 +28,16 @@ pub respond-spec : {M : Type 1} → statement M
 respond-spec =
     tie.close
     (tie.spec
-    slice-aggregate-put-text
-    put-text-requires
-    same-length
+    (λ c. search needs)
+    (λ c κs. search needs)
+    (λ c. search needs)
     returns
-    put-tables-requires
-    enum-known-read
-    enum-known-read-2
-    put-fault-requires
-    same-length-2
+    (λ c κs. search needs)
+    (λ c. search needs)
+    (λ c. search needs)
+    (λ c κs. search needs)
+    (λ c. search needs)
     returns-2
-    same-length-3
-    same-length-4
+    (λ c. search needs)
+    (λ c. search needs)
     returns-3)

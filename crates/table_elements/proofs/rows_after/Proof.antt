@@ -4,20 +4,8 @@ use borrow.Author.Needs.{needs}
 use Rattle.table_elements.proofs.rows_after.Statement.{statement}
 use Rattle.table_elements.proofs.rows_after.Tie as tie
 
-enum-told : tie.Need-enum-told
-enum-told c = search needs
-
-enum-told-2 : tie.Need-enum-told-2
-enum-told-2 c = search needs
-
-enum-told-3 : tie.Need-enum-told-3
-enum-told-3 c = search needs
-
 returns : tie.Need-returns
 returns c = rw (c .before .enum-told3 .given .1, eq-eqb _ _ (c .if1 .taken))
-
-add-result : tie.Need-add-result
-add-result c = search needs
 
 returns-2 : tie.Need-returns-2
 returns-2 c = search needs
@@ -31,4 +19,4 @@ returns-4 c = rw (c .before .enum-told3 .given .1, ne-eqb _ _ (c .if1 .left))
 pub rows-after-spec : {M : Type 1} → statement M
 rows-after-spec =
     tie.close
-    (tie.spec enum-told enum-told-2 enum-told-3 returns add-result returns-2 returns-3 returns-4)
+    (tie.spec (λ c. search needs) (λ c. search needs) (λ c. search needs) returns (λ c. search needs) returns-2 returns-3 returns-4)

@@ -50,9 +50,6 @@ store-requires c κs =
 add-i : tie.Need-add-i Inv-loop μ-loop
 add-i c = record { fits = omega arith }
 
-loop-less : tie.Need-loop-less Inv-loop μ-loop
-loop-less c = omega arith
-
 loop-again : tie.Need-loop-again Inv-loop μ-loop
 loop-again c =
     let stored = c .before .store in
@@ -77,4 +74,4 @@ returns c =
 
 pub fill-spec : {M : Type 1} → statement M
 fill-spec =
-    tie.close (tie.spec Inv-loop μ-loop loop-holds row-at-requires elements-of-requires mul-at store-requires add-i loop-less loop-again same-length returns)
+    tie.close (tie.spec Inv-loop μ-loop loop-holds row-at-requires elements-of-requires mul-at store-requires add-i (λ c. omega arith) loop-again same-length returns)

@@ -30,9 +30,6 @@ loop-holds c = (omega arith, refl)
 row-at-requires : tie.Need-row-at-requires Inv-loop μ-loop
 row-at-requires c κs = (c .before .before .pre, omega arith)
 
-accepted-requires : tie.Need-accepted-requires Inv-loop μ-loop
-accepted-requires c κs = search needs
-
 returns : tie.Need-returns Inv-loop μ-loop
 returns c =
     let at = c .before .before .before .before in
@@ -44,9 +41,6 @@ returns c =
 
 add-i : tie.Need-add-i Inv-loop μ-loop
 add-i c = record { fits = omega arith }
-
-loop-less : tie.Need-loop-less Inv-loop μ-loop
-loop-less c = omega arith
 
 loop-again : tie.Need-loop-again Inv-loop μ-loop
 loop-again c =
@@ -70,4 +64,4 @@ returns-2 c =
 
 pub first-refused-spec : {M : Type 1} → statement M
 first-refused-spec =
-    tie.close (tie.spec Inv-loop μ-loop loop-holds row-at-requires accepted-requires returns add-i loop-less loop-again returns-2)
+    tie.close (tie.spec Inv-loop μ-loop loop-holds row-at-requires (λ c κs. search needs) returns add-i (λ c. omega arith) loop-again returns-2)

@@ -8,15 +8,6 @@ use Rattle.tables.proofs.judged.Tie as tie
 returns : tie.Need-returns
 returns c = sym (answer-shape (c .before .args .rows .now) (c .before .args .room) (c .if1 .taken))
 
-first-refused-requires : tie.Need-first-refused-requires
-first-refused-requires c κs = search needs
-
-enum-known-verdict : tie.Need-enum-known-verdict
-enum-known-verdict c = search needs
-
-enum-told : tie.Need-enum-told
-enum-told c = search needs
-
 returns-2 : tie.Need-returns-2
 returns-2 c =
     let s = c .before .before .before .before .before in
@@ -42,9 +33,9 @@ judged-spec =
     tie.close
     (tie.spec
     returns
-    first-refused-requires
-    enum-known-verdict
-    enum-told
+    (λ c κs. search needs)
+    (λ c. search needs)
+    (λ c. search needs)
     returns-2
     returns-3
     returns-4)

@@ -13,18 +13,6 @@ use Rattle.tables.specs.TablesLaws.{eight-stored}
 use Rattle.tables.proofs.store.Statement.{statement}
 use Rattle.tables.proofs.store.Tie as tie
 
-store-four-requires : tie.Need-store-four-requires
-store-four-requires c κs = search needs
-
-add-store-four : tie.Need-add-store-four
-add-store-four c = search needs
-
-store-four-requires-2 : tie.Need-store-four-requires-2
-store-four-requires-2 c κs = search needs
-
-same-length : tie.Need-same-length
-same-length c = search needs
-
 abbrev bits : ℤ → ℤ
 bits z = toZ w64 (ofZ w64 z)
 
@@ -51,4 +39,4 @@ returns c =
 pub store-spec : {M : Type 1} → statement M
 store-spec =
     tie.close
-    (tie.spec store-four-requires add-store-four store-four-requires-2 same-length returns)
+    (tie.spec (λ c κs. search needs) (λ c. search needs) (λ c κs. search needs) (λ c. search needs) returns)

@@ -8,41 +8,14 @@ use Rattle.tables.specs.TablesLaws.{four-stores}
 use Rattle.tables.proofs.store_four.Statement.{statement}
 use Rattle.tables.proofs.store_four.Tie as tie
 
-mul-a : tie.Need-mul-a
-mul-a c = search needs
-
-slice-set-from-a : tie.Need-slice-set-from-a
-slice-set-from-a c = search needs
-
-add-b : tie.Need-add-b
-add-b c = search needs
-
-mul-b : tie.Need-mul-b
-mul-b c = search needs
-
 slice-set-from-b : tie.Need-slice-set-from-b
 slice-set-from-b c = simp length-set (omega arith)
-
-add-c : tie.Need-add-c
-add-c c = search needs
-
-mul-c : tie.Need-mul-c
-mul-c c = search needs
 
 slice-set-from-c : tie.Need-slice-set-from-c
 slice-set-from-c c = simp length-set (omega arith)
 
-add-d : tie.Need-add-d
-add-d c = search needs
-
-mul-d : tie.Need-mul-d
-mul-d c = search needs
-
 slice-set-from-d : tie.Need-slice-set-from-d
 slice-set-from-d c = simp length-set (omega arith)
-
-same-length : tie.Need-same-length
-same-length c = search needs
 
 returns : tie.Need-returns
 returns c =
@@ -53,16 +26,16 @@ pub store-four-spec : {M : Type 1} → statement M
 store-four-spec =
     tie.close
     (tie.spec
-    mul-a
-    slice-set-from-a
-    add-b
-    mul-b
+    (λ c. search needs)
+    (λ c. search needs)
+    (λ c. search needs)
+    (λ c. search needs)
     slice-set-from-b
-    add-c
-    mul-c
+    (λ c. search needs)
+    (λ c. search needs)
     slice-set-from-c
-    add-d
-    mul-d
+    (λ c. search needs)
+    (λ c. search needs)
     slice-set-from-d
-    same-length
+    (λ c. search needs)
     returns)

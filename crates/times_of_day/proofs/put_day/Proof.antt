@@ -15,25 +15,10 @@ use Rattle.times_of_day.proofs.put_day.Tie as tie
 read : (c : tie.Start) → toZ w64 (ofZ w64 (c .args .day)) ≡ c .args .day
 read c = toZ-ofZ w64 (c .args .day) (c .fits .day)
 
-put-days-requires : tie.Need-put-days-requires
-put-days-requires c κs = search needs
-
-same-length : tie.Need-same-length
-same-length c = search needs
-
 returns : tie.Need-returns
 returns c =
     put-as _ _ _ _ _ _ (ap dayText (read (c .before .before .before .before .before .before)))
     (day-before _ _ _ (ltZ-true _ _ (c .before .before .before .before .if1 .taken)) _ _ (c .before .before .put-days .ensures))
-
-put-byte-requires : tie.Need-put-byte-requires
-put-byte-requires c κs = search needs
-
-put-days-requires-2 : tie.Need-put-days-requires-2
-put-days-requires-2 c κs = search needs
-
-same-length-2 : tie.Need-same-length-2
-same-length-2 c = search needs
 
 returns-2 : tie.Need-returns-2
 returns-2 c =
@@ -49,11 +34,11 @@ pub put-day-spec : {M : Type 1} → statement M
 put-day-spec =
     tie.close
     (tie.spec
-    put-days-requires
-    same-length
+    (λ c κs. search needs)
+    (λ c. search needs)
     returns
-    put-byte-requires
-    put-days-requires-2
-    same-length-2
+    (λ c κs. search needs)
+    (λ c κs. search needs)
+    (λ c. search needs)
     returns-2
     returns-3)

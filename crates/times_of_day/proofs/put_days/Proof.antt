@@ -15,19 +15,10 @@ use Rattle.times_of_day.proofs.put_days.Tie as tie
 read : (c : tie.Start) → toZ w64 (ofZ w64 (c .args .day)) ≡ c .args .day
 read c = toZ-ofZ w64 (c .args .day) (c .fits .day)
 
-put-signed-requires : tie.Need-put-signed-requires
-put-signed-requires c κs = search needs
-
-put-byte-requires : tie.Need-put-byte-requires
-put-byte-requires c κs = search needs
-
-same-length : tie.Need-same-length
-same-length c = search needs
-
 returns : tie.Need-returns
 returns c =
     put-as _ _ _ _ _ _ (ap (λ z. signed z ++ letters "d") (read (c .before .before .before .before .before .before .before .before .before)))
     (joined (omega arith) (c .before .before .before .before .before .before .put-signed .ensures) (c .before .before .put-byte .ensures))
 
 pub put-days-spec : {M : Type 1} → statement M
-put-days-spec = tie.close (tie.spec put-signed-requires put-byte-requires same-length returns)
+put-days-spec = tie.close (tie.spec (λ c κs. search needs) (λ c κs. search needs) (λ c. search needs) returns)

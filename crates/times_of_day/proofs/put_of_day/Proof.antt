@@ -6,18 +6,6 @@ use borrow.Author.Needs.{needs}
 use Rattle.times_of_day.proofs.put_of_day.Statement.{statement}
 use Rattle.times_of_day.proofs.put_of_day.Tie as tie
 
-put-seconds-requires : tie.Need-put-seconds-requires
-put-seconds-requires c κs = search needs
-
-put-byte-requires : tie.Need-put-byte-requires
-put-byte-requires c κs = search needs
-
-put-digit-requires : tie.Need-put-digit-requires
-put-digit-requires c κs = search needs
-
-same-length : tie.Need-same-length
-same-length c = search needs
-
 returns : tie.Need-returns
 unfolding ofDayText
 returns c = joined (omega arith) (joined (omega arith) (c .before .before .before .before .before .before .before .before .before .before .put-seconds .ensures) (c .before .before .before .before .before .before .put-byte .ensures)) (c .before .before .put-digit .ensures)
@@ -25,4 +13,4 @@ returns c = joined (omega arith) (joined (omega arith) (c .before .before .befor
 pub put-of-day-spec : {M : Type 1} → statement M
 put-of-day-spec =
     tie.close
-    (tie.spec put-seconds-requires put-byte-requires put-digit-requires same-length returns)
+    (tie.spec (λ c κs. search needs) (λ c κs. search needs) (λ c κs. search needs) (λ c. search needs) returns)

@@ -61,15 +61,6 @@ cast-day c = fits64 _ (omega (arith, days (c .before)))
 sub-day : tie.Need-sub-day
 sub-day c = fits (day-bounds (c .before)) down tt
 
-put-of-day-requires : tie.Need-put-of-day-requires
-put-of-day-requires c κs = search needs
-
-put-day-requires : tie.Need-put-day-requires
-put-day-requires c κs = search needs
-
-same-length : tie.Need-same-length
-same-length c = search needs
-
 returns : tie.Need-returns
 returns c = put-as _ _ _ _ _ _ (text (c .before .before .before .before .before .before .before .before .before)) (joined (omega arith) (c .before .before .before .before .before .before .put-of-day .ensures) (c .before .before .put-day .ensures))
 
@@ -81,7 +72,7 @@ put-time-spec =
     cast-tenths
     cast-day
     sub-day
-    put-of-day-requires
-    put-day-requires
-    same-length
+    (λ c κs. search needs)
+    (λ c κs. search needs)
+    (λ c. search needs)
     returns)

@@ -4,24 +4,6 @@ use borrow.Author.Needs.{needs}
 use Rattle.typed_requests.proofs.first_of.Statement.{statement}
 use Rattle.typed_requests.proofs.first_of.Tie as tie
 
-enum-told : tie.Need-enum-told
-enum-told c = search needs
-
-enum-known-told : tie.Need-enum-known-told
-enum-known-told c = search needs
-
-enum-known-told-2 : tie.Need-enum-known-told-2
-enum-known-told-2 c = search needs
-
-enum-known-typed : tie.Need-enum-known-typed
-enum-known-typed c = search needs
-
-enum-told-2 : tie.Need-enum-told-2
-enum-told-2 c = search needs
-
-enum-known-told-3 : tie.Need-enum-known-told-3
-enum-known-told-3 c = search needs
-
 returns : tie.Need-returns
 returns c = rw (c .before .before .before .before .before .typed .given .1, c .before .before .told3 .given .1, lt-ltb _ _ (c .if1 .taken))
 
@@ -41,12 +23,12 @@ pub first-of-spec : {M : Type 1} → statement M
 first-of-spec =
     tie.close
     (tie.spec
-    enum-told
-    enum-known-told
-    enum-known-told-2
-    enum-known-typed
-    enum-told-2
-    enum-known-told-3
+    (λ c. search needs)
+    (λ c. search needs)
+    (λ c. search needs)
+    (λ c. search needs)
+    (λ c. search needs)
+    (λ c. search needs)
     returns
     returns-2
     returns-3

@@ -6,46 +6,10 @@ use borrow.Author.Needs.{needs}
 use Rattle.typed_requests.proofs.read.Statement.{statement}
 use Rattle.typed_requests.proofs.read.Tie as tie
 
-slice-aggregate-put-text : tie.Need-slice-aggregate-put-text
-slice-aggregate-put-text c = search needs
-
-put-text-requires : tie.Need-put-text-requires
-put-text-requires c κs = search needs
-
 returns : tie.Need-returns
 returns c =
     let lent = c .before .before .before .before .before .args in
     long-told _ (omega arith) (lent .out .now) (lent .message .now) _ _ (omega arith) (c .put-text .ensures)
-
-shape-of-requires : tie.Need-shape-of-requires
-shape-of-requires c κs = search needs
-
-encode-requires : tie.Need-encode-requires
-encode-requires c κs = search needs
-
-told-in-requires : tie.Need-told-in-requires
-told-in-requires c κs = search needs
-
-first-of-requires : tie.Need-first-of-requires
-first-of-requires c κs = search needs
-
-enum-known-first : tie.Need-enum-known-first
-enum-known-first c = search needs
-
-length-of-requires : tie.Need-length-of-requires
-length-of-requires c κs = search needs
-
-enum-known-first-2 : tie.Need-enum-known-first-2
-enum-known-first-2 c = search needs
-
-put-message-requires : tie.Need-put-message-requires
-put-message-requires c κs = search needs
-
-enum-known-first-3 : tie.Need-enum-known-first-3
-enum-known-first-3 c = search needs
-
-put-instant-requires : tie.Need-put-instant-requires
-put-instant-requires c κs = search needs
 
 returns-2 : tie.Need-returns-2
 returns-2 c =
@@ -80,19 +44,19 @@ pub read-spec : {M : Type 1} → statement M
 read-spec =
     tie.close
     (tie.spec
-    slice-aggregate-put-text
-    put-text-requires
+    (λ c. search needs)
+    (λ c κs. search needs)
     returns
-    shape-of-requires
-    encode-requires
-    told-in-requires
-    first-of-requires
-    enum-known-first
-    length-of-requires
-    enum-known-first-2
-    put-message-requires
-    enum-known-first-3
-    put-instant-requires
+    (λ c κs. search needs)
+    (λ c κs. search needs)
+    (λ c κs. search needs)
+    (λ c κs. search needs)
+    (λ c. search needs)
+    (λ c κs. search needs)
+    (λ c. search needs)
+    (λ c κs. search needs)
+    (λ c. search needs)
+    (λ c κs. search needs)
     returns-2
     returns-3
     returns-4)

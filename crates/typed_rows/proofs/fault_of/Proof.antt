@@ -5,12 +5,6 @@ use borrow.Author.Needs.{needs}
 use Rattle.typed_rows.proofs.fault_of.Statement.{statement}
 use Rattle.typed_rows.proofs.fault_of.Tie as tie
 
-enum-told : tie.Need-enum-told
-enum-told c = search needs
-
-enum-known-number : tie.Need-enum-known-number
-enum-known-number c = search needs
-
 returns : tie.Need-returns
 returns c = sym (ap faultOf (c .enum-told .given .1))
 
@@ -18,4 +12,4 @@ returns-2 : tie.Need-returns-2
 returns-2 c = sym (ap faultOf (c .before .number .given .1))
 
 pub fault-of-spec : {M : Type 1} → statement M
-fault-of-spec = tie.close (tie.spec enum-told enum-known-number returns returns-2)
+fault-of-spec = tie.close (tie.spec (λ c. search needs) (λ c. search needs) returns returns-2)

@@ -4,36 +4,6 @@ use borrow.Author.Needs.{needs}
 use Rattle.typed_rows.proofs.next_word.Statement.{statement}
 use Rattle.typed_rows.proofs.next_word.Tie as tie
 
-sub-run : tie.Need-sub-run
-sub-run c = search needs
-
-part-run-start : tie.Need-part-run-start
-part-run-start c = search needs
-
-part-run-end : tie.Need-part-run-end
-part-run-end c = search needs
-
-run-requires : tie.Need-run-requires
-run-requires c κs = search needs
-
-add-from : tie.Need-add-from
-add-from c = search needs
-
-sub-run-2 : tie.Need-sub-run-2
-sub-run-2 c = search needs
-
-part-run-start-2 : tie.Need-part-run-start-2
-part-run-start-2 c = search needs
-
-part-run-end-2 : tie.Need-part-run-end-2
-part-run-end-2 c = search needs
-
-run-requires-2 : tie.Need-run-requires-2
-run-requires-2 c κs = search needs
-
-add-end : tie.Need-add-end
-add-end c = search needs
-
 returns : tie.Need-returns
 returns c = next-is _ _ _ _ (c .before .before .run .ensures .0) (c .run2 .ensures .0)
 
@@ -41,14 +11,14 @@ pub next-word-spec : {M : Type 1} → statement M
 next-word-spec =
     tie.close
     (tie.spec
-    sub-run
-    part-run-start
-    part-run-end
-    run-requires
-    add-from
-    sub-run-2
-    part-run-start-2
-    part-run-end-2
-    run-requires-2
-    add-end
+    (λ c. search needs)
+    (λ c. search needs)
+    (λ c. search needs)
+    (λ c κs. search needs)
+    (λ c. search needs)
+    (λ c. search needs)
+    (λ c. search needs)
+    (λ c. search needs)
+    (λ c κs. search needs)
+    (λ c. search needs)
     returns)

@@ -17,9 +17,6 @@ Inv-loop line numbers₀ start said content at₀ column₀ numbers at column = 
 abbrev μ-loop : tie.MeasureT-loop
 μ-loop line numbers₀ start said content at₀ column₀ numbers at column = length content - at
 
-run-requires : tie.Need-run-requires Inv-loop μ-loop
-run-requires c κs = search needs
-
 slice-aggregate-content : tie.Need-slice-aggregate-content Inv-loop μ-loop
 slice-aggregate-content c = sym (length-take-le _ _ (omega (arith, c .before .run .ensures .1)))
 
@@ -28,9 +25,6 @@ loop-holds c = taking-start _ _ _ _ (ap (λ k. take k (c .before .before .before
 
 next-word-requires : tie.Need-next-word-requires Inv-loop μ-loop
 next-word-requires c κs = c .loop .inv .within
-
-line-with-requires : tie.Need-line-with-requires Inv-loop μ-loop
-line-with-requires c κs = search needs
 
 same-length : tie.Need-same-length Inv-loop μ-loop
 same-length c = c .before .before .before .loop .inv .same
@@ -55,18 +49,6 @@ part-number-of-start c = let b = bounds (c .before) in omega arith
 part-number-of-end : tie.Need-part-number-of-end Inv-loop μ-loop
 part-number-of-end c = let b = bounds (c .before) in omega arith
 
-number-of-requires : tie.Need-number-of-requires Inv-loop μ-loop
-number-of-requires c κs = search needs
-
-enum-known-number : tie.Need-enum-known-number Inv-loop μ-loop
-enum-known-number c = search needs
-
-enum-told : tie.Need-enum-told Inv-loop μ-loop
-enum-told c = search needs
-
-fault-of-requires : tie.Need-fault-of-requires Inv-loop μ-loop
-fault-of-requires c κs = search needs
-
 same-length-2 : tie.Need-same-length-2 Inv-loop μ-loop
 same-length-2 c = c .before .before .before .before .before .before .before .loop .inv .same
 
@@ -87,18 +69,6 @@ returns-3 c =
     taking-more _ _ _ _ _ _ _ (w .before .loop .inv) _ (w .next-word .ensures) (n .before .before .if1 .left) _ (n .number-of .ensures) _
     (c .before .before .number .given .1) (c .if2 .taken)
 
-add-place : tie.Need-add-place Inv-loop μ-loop
-add-place c = search needs
-
-mul-value : tie.Need-mul-value Inv-loop μ-loop
-mul-value c = search needs
-
-slice-set-from-value : tie.Need-slice-set-from-value Inv-loop μ-loop
-slice-set-from-value c = search needs
-
-add-column : tie.Need-add-column Inv-loop μ-loop
-add-column c = search needs
-
 loop-less : tie.Need-loop-less Inv-loop μ-loop
 loop-less c = let b = bounds (c .before .before .before .before .before .before .before) in omega (arith, c .before .before .before .before .before .before .if1 .left)
 
@@ -117,27 +87,27 @@ read-line-spec =
     (tie.spec
     Inv-loop
     μ-loop
-    run-requires
+    (λ c κs. search needs)
     slice-aggregate-content
     loop-holds
     next-word-requires
-    line-with-requires
+    (λ c κs. search needs)
     same-length
     returns
     sub-number-of
     part-number-of-start
     part-number-of-end
-    number-of-requires
-    enum-known-number
-    enum-told
-    fault-of-requires
+    (λ c κs. search needs)
+    (λ c. search needs)
+    (λ c. search needs)
+    (λ c κs. search needs)
     same-length-2
     returns-2
     same-length-3
     returns-3
-    add-place
-    mul-value
-    slice-set-from-value
-    add-column
+    (λ c. search needs)
+    (λ c. search needs)
+    (λ c. search needs)
+    (λ c. search needs)
     loop-less
     loop-again)

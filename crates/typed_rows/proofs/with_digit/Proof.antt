@@ -9,15 +9,6 @@ use Rattle.typed_rows.proofs.with_digit.Tie as tie
 returns : tie.Need-returns
 returns c = sym (capped-high _ (omega arith))
 
-mul-longer : tie.Need-mul-longer
-mul-longer c = search needs
-
-digit-of-requires : tie.Need-digit-of-requires
-digit-of-requires c κs = search needs
-
-add-longer : tie.Need-add-longer
-add-longer c = search needs
-
 returns-2 : tie.Need-returns-2
 returns-2 c = sym (capped-high _ (omega (arith, c .before .digit-of .ensures)))
 
@@ -26,4 +17,4 @@ returns-3 c = digit-low _ _ _ (c .before .digit-of .ensures) (c .if2 .left)
 
 pub with-digit-spec : {M : Type 1} → statement M
 with-digit-spec =
-    tie.close (tie.spec returns mul-longer digit-of-requires add-longer returns-2 returns-3)
+    tie.close (tie.spec returns (λ c. search needs) (λ c κs. search needs) (λ c. search needs) returns-2 returns-3)

@@ -6,15 +6,6 @@ use Rattle.replies.specs.Replies.{readReply}
 use Rattle.ukhtvaresh.proofs.ukhtvaresh_read.Statement.{statement}
 use Rattle.ukhtvaresh.proofs.ukhtvaresh_read.Tie as tie
 
-read-requires : tie.Need-read-requires
-read-requires c κs = search needs
-
-read-reply-requires : tie.Need-read-reply-requires
-read-reply-requires c κs = search needs
-
-same-length : tie.Need-same-length
-same-length c = search needs
-
 returns : tie.Need-returns
 returns c =
     let done = c .before .before .before .read in
@@ -22,4 +13,4 @@ returns c =
     (ap (λ (x : Reply). x .number) e, (ap (λ (x : Reply). x .value) e, done .ensures .1))
 
 pub ukhtvaresh-read-spec : {M : Type 1} → statement M
-ukhtvaresh-read-spec = tie.close (tie.spec read-requires read-reply-requires same-length returns)
+ukhtvaresh-read-spec = tie.close (tie.spec (λ c κs. search needs) (λ c κs. search needs) (λ c. search needs) returns)

@@ -6,15 +6,6 @@ use Rattle.replies.specs.Replies.{writeReply}
 use Rattle.ukhtvaresh.proofs.ukhtvaresh_write.Statement.{statement}
 use Rattle.ukhtvaresh.proofs.ukhtvaresh_write.Tie as tie
 
-write-requires : tie.Need-write-requires
-write-requires c κs = search needs
-
-write-reply-requires : tie.Need-write-reply-requires
-write-reply-requires c κs = search needs
-
-same-length : tie.Need-same-length
-same-length c = search needs
-
 returns : tie.Need-returns
 returns c =
     let done = c .before .before .before .write in
@@ -23,4 +14,4 @@ returns c =
 
 pub ukhtvaresh-write-spec : {M : Type 1} → statement M
 ukhtvaresh-write-spec =
-    tie.close (tie.spec write-requires write-reply-requires same-length returns)
+    tie.close (tie.spec (λ c κs. search needs) (λ c κs. search needs) (λ c. search needs) returns)

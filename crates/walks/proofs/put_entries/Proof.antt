@@ -31,20 +31,11 @@ step-requires c κs =
     let p = c .before .before .before .pre in
     (few-seconds _ p, c .loop .inv .0)
 
-enum-known-found : tie.Need-enum-known-found Inv-loop μ-loop
-enum-known-found c = search needs
-
-enum-told : tie.Need-enum-told Inv-loop μ-loop
-enum-told c = search needs
-
 same-length : tie.Need-same-length Inv-loop μ-loop
 same-length c = c .before .before .before .loop .inv .1 .same
 
 returns : tie.Need-returns Inv-loop μ-loop
 returns c = walking-end _ _ _ _ _ _ (c .before .before .before .loop .inv .1) (none-left _ _ _ _ (c .before .before .step .ensures) (c .enum-told .given .1))
-
-put-entry-requires : tie.Need-put-entry-requires Inv-loop μ-loop
-put-entry-requires c κs = search needs
 
 loop-less : tie.Need-loop-less Inv-loop μ-loop
 loop-less c = let o = onward (c .before .before .before .before) in omega (arith, o .further, o .within)
@@ -60,10 +51,10 @@ put-entries-spec =
     μ-loop
     loop-holds
     step-requires
-    enum-known-found
-    enum-told
+    (λ c. search needs)
+    (λ c. search needs)
     same-length
     returns
-    put-entry-requires
+    (λ c κs. search needs)
     loop-less
     loop-again)

@@ -18,12 +18,6 @@ first c =
     let s = c .before .before in
     ap (take (s .args .length)) (c .states-of .ensures) ∙ first-states (s .args .length) 6 (s .args .number) (s .pre)
 
-states-of-requires : tie.Need-states-of-requires
-states-of-requires c κs = search needs
-
-array-share-prefix-states : tie.Need-array-share-prefix-states
-array-share-prefix-states c = search needs
-
 slice-aggregate-put-window : tie.Need-slice-aggregate-put-window
 slice-aggregate-put-window c = sym (length-take-le _ _ (omega (arith, ap length (c .before .before .states-of .ensures))))
 
@@ -31,9 +25,6 @@ put-window-requires : tie.Need-put-window-requires
 put-window-requires c κs =
     let s = c .before .before .before .before in
     rw (first (c .before .before)) (are-states (s .args .length) (s .args .number) (s .pre))
-
-same-length : tie.Need-same-length
-same-length c = search needs
 
 returns : tie.Need-returns
 returns c =
@@ -43,9 +34,9 @@ pub put-line-spec : {M : Type 1} → statement M
 put-line-spec =
     tie.close
     (tie.spec
-    states-of-requires
-    array-share-prefix-states
+    (λ c κs. search needs)
+    (λ c. search needs)
     slice-aggregate-put-window
     put-window-requires
-    same-length
+    (λ c. search needs)
     returns)

@@ -15,20 +15,8 @@ Inv-loop out₀ start length end at₀ number₀ out at number = Rows (λ k. lin
 abbrev μ-loop : tie.MeasureT-loop
 μ-loop out₀ start length end at₀ number₀ out at number = end - number
 
-lists-requires : tie.Need-lists-requires Inv-loop μ-loop
-lists-requires c κs = search needs
-
 loop-holds : tie.Need-loop-holds Inv-loop μ-loop
 loop-holds c = rows-start _ _ _ _ (omega arith) (omega arith)
-
-put-line-requires : tie.Need-put-line-requires Inv-loop μ-loop
-put-line-requires c κs = search needs
-
-add-number : tie.Need-add-number Inv-loop μ-loop
-add-number c = search needs
-
-loop-less : tie.Need-loop-less Inv-loop μ-loop
-loop-less c = search needs
 
 loop-again : tie.Need-loop-again Inv-loop μ-loop
 loop-again c = rows-turn _ _ _ _ _ _ _ (c .before .before .before .before .before .loop .inv) (c .before .before .before .before .loop-test .taken) _ _ (c .before .before .put-line .ensures)
@@ -48,11 +36,11 @@ put-lists-spec =
     (tie.spec
     Inv-loop
     μ-loop
-    lists-requires
+    (λ c κs. search needs)
     loop-holds
-    put-line-requires
-    add-number
-    loop-less
+    (λ c κs. search needs)
+    (λ c. search needs)
+    (λ c. search needs)
     loop-again
     same-length
     returns)

@@ -3,24 +3,6 @@ use borrow.Author.Needs.{needs}
 use Rattle.walks.proofs.states_of.Statement.{statement}
 use Rattle.walks.proofs.states_of.Tie as tie
 
-digit-requires : tie.Need-digit-requires
-digit-requires c κs = search needs
-
-digit-requires-2 : tie.Need-digit-requires-2
-digit-requires-2 c κs = search needs
-
-digit-requires-3 : tie.Need-digit-requires-3
-digit-requires-3 c κs = search needs
-
-digit-requires-4 : tie.Need-digit-requires-4
-digit-requires-4 c κs = search needs
-
-digit-requires-5 : tie.Need-digit-requires-5
-digit-requires-5 c κs = search needs
-
-digit-requires-6 : tie.Need-digit-requires-6
-digit-requires-6 c κs = search needs
-
 returns : tie.Need-returns
 returns c = cc
 
@@ -28,10 +10,10 @@ pub states-of-spec : {M : Type 1} → statement M
 states-of-spec =
     tie.close
     (tie.spec
-    digit-requires
-    digit-requires-2
-    digit-requires-3
-    digit-requires-4
-    digit-requires-5
-    digit-requires-6
+    (λ c κs. search needs)
+    (λ c κs. search needs)
+    (λ c κs. search needs)
+    (λ c κs. search needs)
+    (λ c κs. search needs)
+    (λ c κs. search needs)
     returns)

@@ -7,11 +7,8 @@ use borrow.Author.Needs.{needs}
 use Rattle.words.proofs.all.Statement.{statement}
 use Rattle.words.proofs.all.Tie as tie
 
-run-requires : tie.Need-run-requires
-run-requires c κs = search needs
-
 returns : tie.Need-returns
 returns c = ap (λ (k : ℕ). eqb k (length (c .before .before .args .s .now))) (c .run .ensures .0)
 
 pub all-spec : {M : Type 1} → statement M
-all-spec = tie.close (tie.spec run-requires returns)
+all-spec = tie.close (tie.spec (λ c κs. search needs) returns)

@@ -14,17 +14,8 @@ abbrev μ-loop : tie.MeasureT-loop
 loop-holds : tie.Need-loop-holds Inv-loop μ-loop
 loop-holds c = append-start _ _ _ (c .before .pre)
 
-byte-or-zero-requires : tie.Need-byte-or-zero-requires Inv-loop μ-loop
-byte-or-zero-requires c κs = search needs
-
 with-digit-requires : tie.Need-with-digit-requires Inv-loop μ-loop
 with-digit-requires c κs = c .before .before .loop .inv .2
-
-add-k : tie.Need-add-k Inv-loop μ-loop
-add-k c = search needs
-
-loop-less : tie.Need-loop-less Inv-loop μ-loop
-loop-less c = search needs
 
 loop-again : tie.Need-loop-again Inv-loop μ-loop
 loop-again c =
@@ -41,9 +32,9 @@ append-spec =
     Inv-loop
     μ-loop
     loop-holds
-    byte-or-zero-requires
+    (λ c κs. search needs)
     with-digit-requires
-    add-k
-    loop-less
+    (λ c. search needs)
+    (λ c. search needs)
     loop-again
     returns)

@@ -6,9 +6,6 @@ use Rattle.words.specs.TextLaws.{any-default}
 use Rattle.words.proofs.byte_or_zero.Statement.{statement}
 use Rattle.words.proofs.byte_or_zero.Tie as tie
 
-shared-slice-read-result : tie.Need-shared-slice-read-result
-shared-slice-read-result c = search needs
-
 returns : tie.Need-returns
 returns c = any-default (c .before .before .args .s .now) _ 0 48 (c .before .if1 .taken)
 
@@ -16,4 +13,4 @@ returns-2 : tie.Need-returns-2
 returns-2 c = sym (List·getD-eq-default (c .before .args .s .now) 48 (c .if1 .left))
 
 pub byte-or-zero-spec : {M : Type 1} → statement M
-byte-or-zero-spec = tie.close (tie.spec shared-slice-read-result returns returns-2)
+byte-or-zero-spec = tie.close (tie.spec (λ c. search needs) returns returns-2)

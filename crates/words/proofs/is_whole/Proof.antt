@@ -11,22 +11,10 @@ use Rattle.words.proofs.is_whole.Tie as tie
 returns : tie.Need-returns
 returns c = whole-short _ _ (c .if1 .taken)
 
-sub-all : tie.Need-sub-all
-sub-all c = search needs
-
-part-all-start : tie.Need-part-all-start
-part-all-start c = search needs
-
-part-all-end : tie.Need-part-all-end
-part-all-end c = search needs
-
-all-requires : tie.Need-all-requires
-all-requires c κs = search needs
-
 returns-2 : tie.Need-returns-2
 returns-2 c = c .all .ensures ∙ ap (allOf C.Zero)
     (rest-is (c .before .before .before .before .args .decimals .now) (c .before .before .before .before .args .places))
 
 pub is-whole-spec : {M : Type 1} → statement M
 is-whole-spec =
-    tie.close (tie.spec returns sub-all part-all-start part-all-end all-requires returns-2)
+    tie.close (tie.spec returns (λ c. search needs) (λ c. search needs) (λ c. search needs) (λ c κs. search needs) returns-2)

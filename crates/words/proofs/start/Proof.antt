@@ -9,12 +9,6 @@ use Rattle.words.proofs.start.Tie as tie
 returns : tie.Need-returns
 returns c = start-nil (c .before .before .args .class) (c .before .before .args .s .now) (c .if1 .taken)
 
-shared-slice-read-x : tie.Need-shared-slice-read-x
-shared-slice-read-x c = search needs
-
-is-in-requires : tie.Need-is-in-requires
-is-in-requires c κs = search needs
-
 returns-2 : tie.Need-returns-2
 returns-2 c =
     let args = c .before .before .before .before .before .args in
@@ -26,4 +20,4 @@ returns-3 c =
     start-out (args .class) (args .s .now) (omega (arith, c .before .before .before .if1 .left)) (sym (c .before .is-in .ensures) ∙ c .if2 .left)
 
 pub start-spec : {M : Type 1} → statement M
-start-spec = tie.close (tie.spec returns shared-slice-read-x is-in-requires returns-2 returns-3)
+start-spec = tie.close (tie.spec returns (λ c. search needs) (λ c κs. search needs) returns-2 returns-3)

@@ -7,15 +7,6 @@ use Rattle.words.specs.NumberLaws.{capped-below, capped-above}
 use Rattle.words.proofs.with_digit.Statement.{statement}
 use Rattle.words.proofs.with_digit.Tie as tie
 
-mul-longer : tie.Need-mul-longer
-mul-longer c = search needs
-
-digit-of-requires : tie.Need-digit-of-requires
-digit-of-requires c κs = search needs
-
-add-longer : tie.Need-add-longer
-add-longer c = search needs
-
 returns : tie.Need-returns
 returns c = let d = c .before .digit-of .ensures in let t = c .if1 .taken in
     (ap (λ (k : ℕ). 10 * c .before .before .args .n + k) d ∙ sym (capped-below _ (omega arith)), omega arith)
@@ -24,4 +15,4 @@ returns-2 : tie.Need-returns-2
 returns-2 c = let d = c .before .digit-of .ensures in let t = c .if1 .left in (sym (capped-above _ (omega arith)), omega arith)
 
 pub with-digit-spec : {M : Type 1} → statement M
-with-digit-spec = tie.close (tie.spec mul-longer digit-of-requires add-longer returns returns-2)
+with-digit-spec = tie.close (tie.spec (λ c. search needs) (λ c κs. search needs) (λ c. search needs) returns returns-2)

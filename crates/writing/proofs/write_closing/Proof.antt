@@ -40,9 +40,6 @@ after-closest c = omega (arith, c .put .ensures .0, closest-is (c .before .befor
 kept : (c : tie.After-put) → length (c .put .last .0) ≡ length (c .before .before .before .before .before .args .buf .now)
 kept c = ap length (c .put .ensures .1) ∙ length-sets (c .before .before .before .before .before .args .buf .now) _ (bytes (c .before .before .closest-for .result))
 
-closest-for-requires : tie.Need-closest-for-requires
-closest-for-requires c κs = search needs
-
 -- there is room for closest and end at least
 least : (b : tie.Start) → b .args .start + sizeOf K.Closest + sizeOf K.End ≤ length (b .args .buf .now)
 least b =
@@ -55,12 +52,6 @@ put-requires : tie.Need-put-requires
 put-requires c κs =
     let d = c .before in
     omega (arith, closest-is d, least (d .before .before .before))
-
-shares-requires : tie.Need-shares-requires
-shares-requires c κs = search needs
-
-share-for-requires : tie.Need-share-for-requires
-share-for-requires c κs = search needs
 
 share-is : (c : tie.After-share-for) → sizeOf (c .share-for .result .kind) ≡ sizeOf K.Share
 share-is c = ap (λ (e : Entry). sizeOf (e .kind)) (c .share-for .ensures) ∙ share-size (courseOf (c .before .before .before .before .before .before .before .before .before .before .args .o))
@@ -97,9 +88,6 @@ put-requires-3 c κs =
       length-sets (first s .put .last .0) (first s .put .result) (bytes (s .share-for .result)),
     )
 
-same-length : tie.Need-same-length
-same-length c = search needs
-
 returns : tie.Need-returns
 returns c =
     let r = c .before .before in
@@ -121,9 +109,6 @@ put-requires-4 c κs =
     let f = c .before .before .before .before .before in
     omega (arith, after-closest f, kept f, least (f .before .before .before .before .before))
 
-same-length-2 : tie.Need-same-length-2
-same-length-2 c = search needs
-
 returns-2 : tie.Need-returns-2
 returns-2 c =
     let r = c .before .before in
@@ -143,14 +128,14 @@ pub write-closing-spec : {M : Type 1} → statement M
 write-closing-spec =
     tie.close
     (tie.spec
-    closest-for-requires
+    (λ c κs. search needs)
     put-requires
-    shares-requires
-    share-for-requires
+    (λ c κs. search needs)
+    (λ c κs. search needs)
     put-requires-2
     put-requires-3
-    same-length
+    (λ c. search needs)
     returns
     put-requires-4
-    same-length-2
+    (λ c. search needs)
     returns-2)

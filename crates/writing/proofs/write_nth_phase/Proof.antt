@@ -40,9 +40,6 @@ mapped o φ ψ l e f = ap₂ (λ (χ : Phase) (m : List ℕ). map (entryOf (cour
 abbrev start : tie.After-nth-phase → tie.Start
 start c = c .before .before .before .before
 
-nth-phase-requires : tie.Need-nth-phase-requires
-nth-phase-requires c κs = search needs
-
 write-phase-requires : tie.Need-write-phase-requires
 write-phase-requires c κs =
     let p = c .before in
@@ -52,9 +49,6 @@ write-phase-requires c κs =
       (b .pre .0 .0, b .pre .0 .1, b .pre .0 .2),
       (b .pre .1 .0 .0 .whole, ap length (states b) ∙ states-length o φ, omega (arith, needed o (p .nth-phase .result) φ _ (p .nth-phase .ensures) (states b), b .pre .1 .1)),
     )
-
-same-length : tie.Need-same-length
-same-length c = search needs
 
 returns : tie.Need-returns
 returns c =
@@ -68,4 +62,4 @@ returns c =
     )
 
 pub write-nth-phase-spec : {M : Type 1} → statement M
-write-nth-phase-spec = tie.close (tie.spec nth-phase-requires write-phase-requires same-length returns)
+write-nth-phase-spec = tie.close (tie.spec (λ c κs. search needs) write-phase-requires (λ c. search needs) returns)

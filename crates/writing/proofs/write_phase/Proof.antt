@@ -67,12 +67,6 @@ step-requires c κs =
     let b = c .before .before .before .before in
     (omega (arith, b .pre .1 .1, seconds-few (b .args .o .window) (b .pre .0 .1 .window)), c .loop .inv .0)
 
-enum-known-entry : tie.Need-enum-known-entry Inv-loop μ-loop
-enum-known-entry c = search needs
-
-enum-told : tie.Need-enum-told Inv-loop μ-loop
-enum-told c = search needs
-
 same-length : tie.Need-same-length Inv-loop μ-loop
 same-length c = c .before .before .before .loop .inv .1
 
@@ -126,8 +120,8 @@ write-phase-spec =
     μ-loop
     loop-holds
     step-requires
-    enum-known-entry
-    enum-told
+    (λ c. search needs)
+    (λ c. search needs)
     same-length
     returns
     entry-for-requires

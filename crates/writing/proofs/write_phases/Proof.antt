@@ -54,9 +54,6 @@ module _ (o : Occultation) (k : ℕ) (h : k < length (phasesOf (o .body))) where
 counted : (c : tie.In-loop Inv-loop μ-loop) → c .before .loop .k < length (phasesOf (c .before .before .before .before .before .before .args .o .body))
 counted c = omega (arith, c .loop-test .taken, c .before .before .phase-count .ensures)
 
-phase-count-requires : tie.Need-phase-count-requires Inv-loop μ-loop
-phase-count-requires c κs = search needs
-
 loop-holds : tie.Need-loop-holds Inv-loop μ-loop
 loop-holds c =
     let a = c .before .before .before .before .args in
@@ -114,7 +111,7 @@ write-phases-spec =
     (tie.spec
     Inv-loop
     μ-loop
-    phase-count-requires
+    (λ c κs. search needs)
     loop-holds
     write-nth-phase-requires
     add-k

@@ -41,9 +41,6 @@ after-head c = omega (arith, c .put .ensures .0, head-is (c .before .before))
 after-phases : (c : tie.After-write-phases) → c .write-phases .result ≡ sizeOf K.Head + length (phases (c .before .before .before .before .before .before .before .before .before .before .args .o))
 after-phases c = omega (arith, c .write-phases .ensures .0, after-head (c .before .before .before .before))
 
-head-for-requires : tie.Need-head-for-requires
-head-for-requires c κs = search needs
-
 put-requires : tie.Need-put-requires
 put-requires c κs =
     let b = c .before .before .before .before .before in
@@ -85,9 +82,6 @@ write-closing-requires c κs =
       omega (arith, after-phases w, kept w, sheet-is (b .args .o), b .pre .1 .1),
     )
 
-same-length : tie.Need-same-length
-same-length c = search needs
-
 returns : tie.Need-returns
 unfolding sheetBytes
 returns c =
@@ -105,4 +99,4 @@ returns c =
 
 pub write-sheet-spec : {M : Type 1} → statement M
 write-sheet-spec =
-    tie.close (tie.spec head-for-requires put-requires write-phases-requires write-closing-requires same-length returns)
+    tie.close (tie.spec (λ c κs. search needs) put-requires write-phases-requires write-closing-requires (λ c. search needs) returns)

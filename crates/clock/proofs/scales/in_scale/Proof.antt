@@ -17,29 +17,11 @@ less = sub (arg 0) (arg 1)
 abbrev more : Code
 more = add (arg 0) (arg 1)
 
-enum-told : tie.Need-enum-told
-enum-told c = search needs
-
-enum-told-2 : tie.Need-enum-told-2
-enum-told-2 c = search needs
-
-enum-told-3 : tie.Need-enum-told-3
-enum-told-3 c = search needs
-
 sub-result : tie.Need-sub-result
 sub-result c = fits (bounds (c .before .before .before .before)) less tt
 
-enum-told-4 : tie.Need-enum-told-4
-enum-told-4 c = search needs
-
-enum-told-5 : tie.Need-enum-told-5
-enum-told-5 c = search needs
-
 add-result : tie.Need-add-result
 add-result c = fits (bounds (c .before .before .before .before)) more tt
-
-enum-told-6 : tie.Need-enum-told-6
-enum-told-6 c = search needs
 
 returns : tie.Need-returns
 returns c = rw (c .before .before .enum-told .given .1, c .enum-told2 .given .1)
@@ -61,14 +43,14 @@ pub in-scale-spec : {M : Type 1} → statement M
 in-scale-spec =
     tie.close
     (tie.spec
-    enum-told
-    enum-told-2
-    enum-told-3
+    (λ c. search needs)
+    (λ c. search needs)
+    (λ c. search needs)
     sub-result
-    enum-told-4
-    enum-told-5
+    (λ c. search needs)
+    (λ c. search needs)
     add-result
-    enum-told-6
+    (λ c. search needs)
     returns
     returns-2
     returns-3

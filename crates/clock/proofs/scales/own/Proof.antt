@@ -27,12 +27,6 @@ hundred = mul (lit (pos 100)) (arg 1)
 abbrev both : Code
 both = add (arg 0) hundred
 
-cast-day : tie.Need-cast-day
-cast-day c = search needs
-
-second-of-requires : tie.Need-second-of-requires
-second-of-requires c κs = search needs
-
 mul-result : tie.Need-mul-result
 mul-result c = fits (bounds c) hundred tt
 
@@ -50,4 +44,4 @@ returns c =
     }
 
 pub own-spec : {M : Type 1} → statement M
-own-spec = tie.close (tie.spec cast-day second-of-requires mul-result add-result returns)
+own-spec = tie.close (tie.spec (λ c. search needs) (λ c κs. search needs) mul-result add-result returns)

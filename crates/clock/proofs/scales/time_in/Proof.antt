@@ -13,12 +13,6 @@ use Rattle.clock.proofs.scales.time_in.Tie as tie
 read : (c : tie.Start) → toZ w64 (ofZ w64 (c .args .deltat)) ≡ c .args .deltat
 read c = toZ-ofZ w64 (c .args .deltat) (c .fits .deltat)
 
-own-requires : tie.Need-own-requires
-own-requires c κs = search needs
-
-in-scale-requires : tie.Need-in-scale-requires
-in-scale-requires c κs = search needs
-
 returns : tie.Need-returns
 unfolding timeIn
 returns c =
@@ -33,4 +27,4 @@ returns c =
     })
 
 pub time-in-spec : {M : Type 1} → statement M
-time-in-spec = tie.close (tie.spec own-requires in-scale-requires returns)
+time-in-spec = tie.close (tie.spec (λ c κs. search needs) (λ c κs. search needs) returns)

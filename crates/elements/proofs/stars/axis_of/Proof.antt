@@ -5,15 +5,6 @@ use Rattle.elements.specs.Stars.{axisOf}
 use Rattle.elements.proofs.stars.axis_of.Statement.{statement}
 use Rattle.elements.proofs.stars.axis_of.Tie as tie
 
-enum-known-body : tie.Need-enum-known-body
-enum-known-body c = search needs
-
-enum-known-body-2 : tie.Need-enum-known-body-2
-enum-known-body-2 c = search needs
-
-axis-requires : tie.Need-axis-requires
-axis-requires c κs = search needs
-
 returns : tie.Need-returns
 returns c = sym (ap axisOf (c .before .before .body .given .1))
 
@@ -22,4 +13,4 @@ returns-2 c = c .axis .ensures ∙ sym (ap axisOf (c .before .before .body2 .giv
 
 pub axis-of-spec : {M : Type 1} → statement M
 axis-of-spec =
-    tie.close (tie.spec enum-known-body enum-known-body-2 axis-requires returns returns-2)
+    tie.close (tie.spec (λ c. search needs) (λ c. search needs) (λ c κs. search needs) returns returns-2)

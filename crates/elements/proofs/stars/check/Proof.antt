@@ -11,29 +11,11 @@ use Rattle.elements.proofs.stars.check.Tie as tie
 elements-are : (o : tie.After-of-limits) → ofLimits 2 (starRangeOf (o .before .before .args .s)) ≡ o .of-limits .result
 elements-are o = sym (o .of-limits .ensures ∙ ap (ofLimits 2) (o .before .in-range .ensures))
 
-in-range-requires : tie.Need-in-range-requires
-in-range-requires c κs = search needs
-
-of-limits-requires : tie.Need-of-limits-requires
-of-limits-requires c κs = search needs
-
-enum-known-of-elements : tie.Need-enum-known-of-elements
-enum-known-of-elements c = search needs
-
 returns : tie.Need-returns
 returns c =
     let o = c .before .before .before in
     let s = o .before .before .args .s in
     sym (ap (λ (k : Checked). andThen k (ofLimits 13 (radiusRangeOf (s .radius)))) (elements-are o ∙ c .before .of-elements .given .1))
-
-enum-told : tie.Need-enum-told
-enum-told c = search needs
-
-radius-in-range-requires : tie.Need-radius-in-range-requires
-radius-in-range-requires c κs = search needs
-
-of-limits-requires-2 : tie.Need-of-limits-requires-2
-of-limits-requires-2 c κs = search needs
 
 returns-2 : tie.Need-returns-2
 returns-2 c =
@@ -47,11 +29,11 @@ pub check-spec : {M : Type 1} → statement M
 check-spec =
     tie.close
     (tie.spec
-    in-range-requires
-    of-limits-requires
-    enum-known-of-elements
+    (λ c κs. search needs)
+    (λ c κs. search needs)
+    (λ c. search needs)
     returns
-    enum-told
-    radius-in-range-requires
-    of-limits-requires-2
+    (λ c. search needs)
+    (λ c κs. search needs)
+    (λ c κs. search needs)
     returns-2)

@@ -7,21 +7,6 @@ use Rattle.elements.specs.Stars.{starOf}
 use Rattle.elements.proofs.stars.from_numbers.Statement.{statement}
 use Rattle.elements.proofs.stars.from_numbers.Tie as tie
 
-cubic-from-requires : tie.Need-cubic-from-requires
-cubic-from-requires c κs = search needs
-
-cubic-from-requires-2 : tie.Need-cubic-from-requires-2
-cubic-from-requires-2 c κs = search needs
-
-shared-slice-copy-out-d : tie.Need-shared-slice-copy-out-d
-shared-slice-copy-out-d c = search needs
-
-quadratic-from-requires : tie.Need-quadratic-from-requires
-quadratic-from-requires c κs = search needs
-
-shared-slice-copy-out-radius : tie.Need-shared-slice-copy-out-radius
-shared-slice-copy-out-radius c = search needs
-
 returns : tie.Need-returns
 unfolding starOf
 returns c =
@@ -40,9 +25,9 @@ pub from-numbers-spec : {M : Type 1} → statement M
 from-numbers-spec =
     tie.close
     (tie.spec
-    cubic-from-requires
-    cubic-from-requires-2
-    shared-slice-copy-out-d
-    quadratic-from-requires
-    shared-slice-copy-out-radius
+    (λ c κs. search needs)
+    (λ c κs. search needs)
+    (λ c. search needs)
+    (λ c κs. search needs)
+    (λ c. search needs)
     returns)

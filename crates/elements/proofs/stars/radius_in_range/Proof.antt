@@ -10,18 +10,6 @@ use Rattle.elements.specs.Stars.{radiusRangeOf}
 use Rattle.elements.proofs.stars.radius_in_range.Statement.{statement}
 use Rattle.elements.proofs.stars.radius_in_range.Tie as tie
 
-slice-aggregate-first-out-of-range : tie.Need-slice-aggregate-first-out-of-range
-slice-aggregate-first-out-of-range c = search needs
-
-slice-aggregate-first-out-of-range-2 : tie.Need-slice-aggregate-first-out-of-range-2
-slice-aggregate-first-out-of-range-2 c = search needs
-
-slice-aggregate-first-out-of-range-3 : tie.Need-slice-aggregate-first-out-of-range-3
-slice-aggregate-first-out-of-range-3 c = search needs
-
-first-out-of-range-requires : tie.Need-first-out-of-range-requires
-first-out-of-range-requires c κs = search needs
-
 returns : tie.Need-returns
 unfolding radiusRangeOf
 returns c =
@@ -32,8 +20,8 @@ pub radius-in-range-spec : {M : Type 1} → statement M
 radius-in-range-spec =
     tie.close
     (tie.spec
-    slice-aggregate-first-out-of-range
-    slice-aggregate-first-out-of-range-2
-    slice-aggregate-first-out-of-range-3
-    first-out-of-range-requires
+    (λ c. search needs)
+    (λ c. search needs)
+    (λ c. search needs)
+    (λ c κs. search needs)
     returns)

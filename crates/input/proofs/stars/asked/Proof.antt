@@ -16,23 +16,11 @@ holds c =
     held Star (g .before .before .before .args .input .now) _ _ (λ i. let b = g .before .before .shared-slice-known .given i in omega arith)
     (sym (g .get-star .ensures .0) ∙ c .enum-told .given .1) (g .get-star .ensures .1)
 
-get-star-requires : tie.Need-get-star-requires
-get-star-requires c κs = search needs
-
-enum-told : tie.Need-enum-told
-enum-told c = search needs
-
 slice-aggregate-request-from : tie.Need-slice-aggregate-request-from
 slice-aggregate-request-from c = sym (holds (c .before) .small .all)
 
 request-from-requires : tie.Need-request-from-requires
 request-from-requires c κs = holds (c .before) .small
-
-of-star-requires : tie.Need-of-star-requires
-of-star-requires c κs = search needs
-
-enum-told-2 : tie.Need-enum-told-2
-enum-told-2 c = search needs
 
 returns : tie.Need-returns
 returns c =
@@ -46,11 +34,11 @@ pub asked-spec : {M : Type 1} → statement M
 asked-spec =
     tie.close
     (tie.spec
-    get-star-requires
-    enum-told
+    (λ c κs. search needs)
+    (λ c. search needs)
     slice-aggregate-request-from
     request-from-requires
-    of-star-requires
-    enum-told-2
+    (λ c κs. search needs)
+    (λ c. search needs)
     returns
     returns-2)

@@ -6,15 +6,6 @@ use borrow.Author.Needs.{needs}
 use Rattle.input.proofs.stars.deltat.Statement.{statement}
 use Rattle.input.proofs.stars.deltat.Tie as tie
 
-asked-requires : tie.Need-asked-requires
-asked-requires c κs = search needs
-
-enum-known-wish : tie.Need-enum-known-wish
-enum-known-wish c = search needs
-
-enum-told : tie.Need-enum-told
-enum-told c = search needs
-
 returns : tie.Need-returns
 unfolding starDelta
 returns c =
@@ -26,4 +17,4 @@ unfolding starDelta
 returns-2 c = ap deltaFor (sym (c .enum-told .given .1) ∙ c .before .before .asked .ensures)
 
 pub deltat-spec : {M : Type 1} → statement M
-deltat-spec = tie.close (tie.spec asked-requires enum-known-wish enum-told returns returns-2)
+deltat-spec = tie.close (tie.spec (λ c κs. search needs) (λ c. search needs) (λ c. search needs) returns returns-2)

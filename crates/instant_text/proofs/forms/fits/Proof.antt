@@ -4,9 +4,6 @@ use borrow.Author.Needs.{needs}
 use Rattle.instant_text.proofs.forms.fits.Statement.{statement}
 use Rattle.instant_text.proofs.forms.fits.Tie as tie
 
-is-in-requires : tie.Need-is-in-requires
-is-in-requires c κs = search needs
-
 returns : tie.Need-returns
 returns c = rw (eq-eqb _ _ (c .before .if1 .taken)) (c .is-in .ensures)
 
@@ -14,4 +11,4 @@ returns-2 : tie.Need-returns-2
 returns-2 c = rw (ne-eqb _ _ (c .if1 .left))
 
 pub fits-spec : {M : Type 1} → statement M
-fits-spec = tie.close (tie.spec is-in-requires returns returns-2)
+fits-spec = tie.close (tie.spec (λ c κs. search needs) returns returns-2)

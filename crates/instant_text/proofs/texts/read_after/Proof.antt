@@ -12,24 +12,15 @@ use Rattle.instant_text.proofs.texts.read_after.Tie as tie
 within : (c : tie.After-said) → 7 ≤ length (c .said .result .now)
 within c = omega (arith, ap length (c .said .ensures), name-within _ (c .before .before .pre))
 
-said-requires : tie.Need-said-requires
-said-requires c κs = search needs
-
 sub-read : tie.Need-sub-read
 sub-read c = omega (arith, within c)
 
 part-read-start : tie.Need-part-read-start
 part-read-start c = omega (arith, within c)
 
-part-read-end : tie.Need-part-read-end
-part-read-end c = search needs
-
-read-requires : tie.Need-read-requires
-read-requires c κs = search needs
-
 returns : tie.Need-returns
 returns c = c .read .ensures ∙ ap instantOf (after-name _ _ (c .before .before .said .ensures))
 
 pub read-after-spec : {M : Type 1} → statement M
 read-after-spec =
-    tie.close (tie.spec said-requires sub-read part-read-start part-read-end read-requires returns)
+    tie.close (tie.spec (λ c κs. search needs) sub-read part-read-start (λ c. search needs) (λ c κs. search needs) returns)

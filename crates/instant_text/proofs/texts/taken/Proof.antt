@@ -3,18 +3,6 @@ use borrow.Author.Needs.{needs}
 use Rattle.instant_text.proofs.texts.taken.Statement.{statement}
 use Rattle.instant_text.proofs.texts.taken.Tie as tie
 
-enum-told : tie.Need-enum-told
-enum-told c = search needs
-
-enum-known-read : tie.Need-enum-known-read
-enum-known-read c = search needs
-
-enum-told-2 : tie.Need-enum-told-2
-enum-told-2 c = search needs
-
-enum-told-3 : tie.Need-enum-told-3
-enum-told-3 c = search needs
-
 returns : tie.Need-returns
 returns c = rw (c .enum-told .given .1)
 
@@ -27,4 +15,4 @@ returns-3 c = rw (c .before .before .before .read .given .1, c .enum-told3 .give
 pub taken-spec : {M : Type 1} → statement M
 taken-spec =
     tie.close
-    (tie.spec enum-told enum-known-read enum-told-2 enum-told-3 returns returns-2 returns-3)
+    (tie.spec (λ c. search needs) (λ c. search needs) (λ c. search needs) (λ c. search needs) returns returns-2 returns-3)

@@ -5,23 +5,11 @@ use borrow.Author.Needs.{needs}
 use Rattle.instant_text.proofs.texts.told_after.Statement.{statement}
 use Rattle.instant_text.proofs.texts.told_after.Tie as tie
 
-enum-known-told : tie.Need-enum-known-told
-enum-known-told c = search needs
-
-enum-told : tie.Need-enum-told
-enum-told c = search needs
-
 returns : tie.Need-returns
 returns c = search needs
 
-names-instant-requires : tie.Need-names-instant-requires
-names-instant-requires c κs = search needs
-
 read-after-requires : tie.Need-read-after-requires
 read-after-requires c κs = sym (c .before .names-instant .ensures) ∙ c .if1 .taken
-
-taken-requires : tie.Need-taken-requires
-taken-requires c κs = search needs
 
 returns-2 : tie.Need-returns-2
 returns-2 c =
@@ -36,11 +24,11 @@ pub told-after-spec : {M : Type 1} → statement M
 told-after-spec =
     tie.close
     (tie.spec
-    enum-known-told
-    enum-told
+    (λ c. search needs)
+    (λ c. search needs)
     returns
-    names-instant-requires
+    (λ c κs. search needs)
     read-after-requires
-    taken-requires
+    (λ c κs. search needs)
     returns-2
     returns-3)

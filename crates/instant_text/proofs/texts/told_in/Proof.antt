@@ -31,32 +31,11 @@ module _ (c : tie.After-run Inv-loop μ-loop) where
 loop-holds : tie.Need-loop-holds Inv-loop μ-loop
 loop-holds c = walked-none _
 
-sub-run : tie.Need-sub-run Inv-loop μ-loop
-sub-run c = search needs
-
-part-run-start : tie.Need-part-run-start Inv-loop μ-loop
-part-run-start c = search needs
-
-part-run-end : tie.Need-part-run-end Inv-loop μ-loop
-part-run-end c = search needs
-
-run-requires : tie.Need-run-requires Inv-loop μ-loop
-run-requires c κs = search needs
-
 add-end : tie.Need-add-end Inv-loop μ-loop
 add-end c = let i = inside c in search needs
 
-sub-told-after : tie.Need-sub-told-after Inv-loop μ-loop
-sub-told-after c = search needs
-
-part-told-after-start : tie.Need-part-told-after-start Inv-loop μ-loop
-part-told-after-start c = search needs
-
 part-told-after-end : tie.Need-part-told-after-end Inv-loop μ-loop
 part-told-after-end c = inside c
-
-told-after-requires : tie.Need-told-after-requires Inv-loop μ-loop
-told-after-requires c κs = search needs
 
 add-at : tie.Need-add-at Inv-loop μ-loop
 add-at c = let i = inside (c .before .before) in search needs
@@ -84,15 +63,15 @@ told-in-spec =
     Inv-loop
     μ-loop
     loop-holds
-    sub-run
-    part-run-start
-    part-run-end
-    run-requires
+    (λ c. search needs)
+    (λ c. search needs)
+    (λ c. search needs)
+    (λ c κs. search needs)
     add-end
-    sub-told-after
-    part-told-after-start
+    (λ c. search needs)
+    (λ c. search needs)
     part-told-after-end
-    told-after-requires
+    (λ c κs. search needs)
     add-at
     add-line
     loop-less

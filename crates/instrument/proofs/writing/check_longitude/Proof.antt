@@ -7,11 +7,8 @@ use Rattle.instrument.specs.Writing.{longitudeChecked}
 use Rattle.instrument.proofs.writing.check_longitude.Statement.{statement}
 use Rattle.instrument.proofs.writing.check_longitude.Tie as tie
 
-check-requires : tie.Need-check-requires
-check-requires c κs = search needs
-
 returns : tie.Need-returns
 returns c = c .check .ensures ∙ ap longitudeChecked (toZ-ofZ w64 (c .before .args .longitude) (c .before .fits .longitude))
 
 pub check-longitude-spec : {M : Type 1} → statement M
-check-longitude-spec = tie.close (tie.spec check-requires returns)
+check-longitude-spec = tie.close (tie.spec (λ c κs. search needs) returns)

@@ -27,17 +27,8 @@ abbrev μ-loop : tie.MeasureT-loop
 loop-holds : tie.Need-loop-holds Inv-loop μ-loop
 loop-holds c = (omega arith, refl, refl)
 
-mul-unit : tie.Need-mul-unit Inv-loop μ-loop
-mul-unit c = search needs
-
 shared-slice-copy-out-unit : tie.Need-shared-slice-copy-out-unit Inv-loop μ-loop
 shared-slice-copy-out-unit c = let s = c .before .before .before in omega (arith, s .pre .0 .count)
-
-mul-scale : tie.Need-mul-scale Inv-loop μ-loop
-mul-scale c = search needs
-
-array-read-scale : tie.Need-array-read-scale Inv-loop μ-loop
-array-read-scale c = search needs
 
 double-of-requires : tie.Need-double-of-requires Inv-loop μ-loop
 double-of-requires c κs =
@@ -48,20 +39,11 @@ double-of-requires c κs =
     let size = read-size (getD (s .args .units .now) i (pos 0)) 1000000000 (s .pre .0 .sizes i h) tt in
     (omega arith, omega arith, scale .1)
 
-mul-room : tie.Need-mul-room Inv-loop μ-loop
-mul-room c = search needs
-
 slice-write-room : tie.Need-slice-write-room Inv-loop μ-loop
 slice-write-room c =
     let l = c .before .before .before .loop in
     let s = c .before .before .before .before .before in
     omega (arith, l .inv .1, s .pre .1)
-
-add-i : tie.Need-add-i Inv-loop μ-loop
-add-i c = search needs
-
-loop-less : tie.Need-loop-less Inv-loop μ-loop
-loop-less c = search needs
 
 -- what was stored
 given : (c : tie.After-double-of Inv-loop μ-loop)
@@ -116,15 +98,15 @@ fill-spec =
     Inv-loop
     μ-loop
     loop-holds
-    mul-unit
+    (λ c. search needs)
     shared-slice-copy-out-unit
-    mul-scale
-    array-read-scale
+    (λ c. search needs)
+    (λ c. search needs)
     double-of-requires
-    mul-room
+    (λ c. search needs)
     slice-write-room
-    add-i
-    loop-less
+    (λ c. search needs)
+    (λ c. search needs)
     loop-again
     same-length
     returns)

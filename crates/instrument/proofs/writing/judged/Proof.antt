@@ -27,33 +27,12 @@ longitude-is c =
 returns : tie.Need-returns
 returns c = sym (answer-shape (c .before .args .units .now) (c .before .args .room) (c .if1 .taken))
 
-from-numbers-requires : tie.Need-from-numbers-requires
-from-numbers-requires c κs = search needs
-
-check-requires : tie.Need-check-requires
-check-requires c κs = search needs
-
-enum-known-of-elements : tie.Need-enum-known-of-elements
-enum-known-of-elements c = search needs
-
 returns-2 : tie.Need-returns-2
 returns-2 c =
     let k = c .before .before .before in
     let e = k .before .before in
     let t = e .before in
     sym (answer-element (t .args .units .now) (t .args .room) (e .if1 .left) _ (elements-are k ∙ c .before .of-elements .given .1))
-
-enum-told : tie.Need-enum-told
-enum-told c = search needs
-
-shared-slice-copy-out-longitude : tie.Need-shared-slice-copy-out-longitude
-shared-slice-copy-out-longitude c = search needs
-
-check-longitude-requires : tie.Need-check-longitude-requires
-check-longitude-requires c κs = search needs
-
-enum-known-of-longitude : tie.Need-enum-known-of-longitude
-enum-known-of-longitude c = search needs
 
 returns-3 : tie.Need-returns-3
 returns-3 c =
@@ -62,9 +41,6 @@ returns-3 c =
     let e = w .before .before .before .before in
     let t = e .before in
     sym (answer-longitude (t .args .units .now) (t .args .room) (e .if1 .left) (within w) _ (longitude-is l ∙ c .before .of-longitude .given .1))
-
-enum-told-2 : tie.Need-enum-told-2
-enum-told-2 c = search needs
 
 returns-4 : tie.Need-returns-4
 returns-4 c =
@@ -87,15 +63,15 @@ judged-spec =
     tie.close
     (tie.spec
     returns
-    from-numbers-requires
-    check-requires
-    enum-known-of-elements
+    (λ c κs. search needs)
+    (λ c κs. search needs)
+    (λ c. search needs)
     returns-2
-    enum-told
-    shared-slice-copy-out-longitude
-    check-longitude-requires
-    enum-known-of-longitude
+    (λ c. search needs)
+    (λ c. search needs)
+    (λ c κs. search needs)
+    (λ c. search needs)
     returns-3
-    enum-told-2
+    (λ c. search needs)
     returns-4
     returns-5)

@@ -6,24 +6,12 @@ use Rattle.instrument.specs.WritingLaws.{made-good, after-made, after-re
 use Rattle.instrument.proofs.writing.write.Statement.{statement}
 use Rattle.instrument.proofs.writing.write.Tie as tie
 
-judged-requires : tie.Need-judged-requires
-judged-requires c κs = search needs
-
-enum-told : tie.Need-enum-told
-enum-told c = search needs
-
 fill-requires : tie.Need-fill-requires
 fill-requires c κs =
     let got = c .before .before .before in
     let s = got .before .before in
     let g = made-good (s .args .units .now) (length (s .args .room .now)) (sym (got .judged .ensures) ∙ c .before .enum-told .given .1) in
     (g .in-ranges, g .enough)
-
-enum-told-2 : tie.Need-enum-told-2
-enum-told-2 c = search needs
-
-same-length : tie.Need-same-length
-same-length c = search needs
 
 returns : tie.Need-returns
 returns c =
@@ -39,4 +27,4 @@ returns-2 c =
     (got .judged .ensures, after-refused (s .args .units .now) (s .args .room .now) (sym (got .judged .ensures) ∙ c .enum-told2 .given .1))
 
 pub write-spec : {M : Type 1} → statement M
-write-spec = tie.close (tie.spec judged-requires enum-told fill-requires enum-told-2 same-length returns returns-2)
+write-spec = tie.close (tie.spec (λ c κs. search needs) (λ c. search needs) fill-requires (λ c. search needs) (λ c. search needs) returns returns-2)

@@ -5,18 +5,9 @@ use borrow.Author.Needs.{needs}
 use Rattle.kept_sheets.proofs.notes.put_eight.Statement.{statement}
 use Rattle.kept_sheets.proofs.notes.put_eight.Tie as tie
 
-put-four-requires : tie.Need-put-four-requires
-put-four-requires c κs = search needs
-
-put-four-requires-2 : tie.Need-put-four-requires-2
-put-four-requires-2 c κs = search needs
-
-same-length : tie.Need-same-length
-same-length c = search needs
-
 returns : tie.Need-returns
 returns c =
     put-then _ _ _ _ _ _ _ _ (omega arith) (c .before .before .before .before .before .before .put-four .ensures) (c .before .before .put-four2 .ensures)
 
 pub put-eight-spec : {M : Type 1} → statement M
-put-eight-spec = tie.close (tie.spec put-four-requires put-four-requires-2 same-length returns)
+put-eight-spec = tie.close (tie.spec (λ c κs. search needs) (λ c κs. search needs) (λ c. search needs) returns)

@@ -9,18 +9,6 @@ use Rattle.kept_sheets.proofs.notes.put_stretch.Tie as tie
 returns : tie.Need-returns
 returns c = let a = c .before .before .args in rw (ended-none (a .end) (a .lost) (c .if1 .taken)) (put-nil _ _ (omega arith))
 
-sub-start : tie.Need-sub-start
-sub-start c = search needs
-
-put-eight-requires : tie.Need-put-eight-requires
-put-eight-requires c κs = search needs
-
-put-eight-requires-2 : tie.Need-put-eight-requires-2
-put-eight-requires-2 c κs = search needs
-
-same-length : tie.Need-same-length
-same-length c = search needs
-
 returns-2 : tie.Need-returns-2
 returns-2 c =
     let t = c .before .before .before .before .before .before .before .before in
@@ -31,4 +19,4 @@ returns-2 c =
 pub put-stretch-spec : {M : Type 1} → statement M
 put-stretch-spec =
     tie.close
-    (tie.spec returns sub-start put-eight-requires put-eight-requires-2 same-length returns-2)
+    (tie.spec returns (λ c. search needs) (λ c κs. search needs) (λ c κs. search needs) (λ c. search needs) returns-2)

@@ -38,12 +38,6 @@ sub-run c = omega (arith, c .before .loop .inv .place)
 part-run-start : tie.Need-part-run-start Inv-loop μ-loop
 part-run-start c = c .before .loop .inv .place
 
-part-run-end : tie.Need-part-run-end Inv-loop μ-loop
-part-run-end c = search needs
-
-run-requires : tie.Need-run-requires Inv-loop μ-loop
-run-requires c κs = search needs
-
 add-from : tie.Need-add-from Inv-loop μ-loop
 add-from c = let g = gap c in search needs
 
@@ -53,38 +47,11 @@ sub-run-2 c = let g = gap c in search needs
 part-run-start-2 : tie.Need-part-run-start-2 Inv-loop μ-loop
 part-run-start-2 c = gap c
 
-part-run-end-2 : tie.Need-part-run-end-2 Inv-loop μ-loop
-part-run-end-2 c = search needs
-
-run-requires-2 : tie.Need-run-requires-2 Inv-loop μ-loop
-run-requires-2 c κs = search needs
-
 add-end : tie.Need-add-end Inv-loop μ-loop
 add-end c = let g = word c in search needs
 
-sub-word-of : tie.Need-sub-word-of Inv-loop μ-loop
-sub-word-of c = search needs
-
-part-word-of-start : tie.Need-part-word-of-start Inv-loop μ-loop
-part-word-of-start c = search needs
-
 part-word-of-end : tie.Need-part-word-of-end Inv-loop μ-loop
 part-word-of-end c = word c
-
-word-of-requires : tie.Need-word-of-requires Inv-loop μ-loop
-word-of-requires c κs = search needs
-
-enum-known-word : tie.Need-enum-known-word Inv-loop μ-loop
-enum-known-word c = search needs
-
-mul-row : tie.Need-mul-row Inv-loop μ-loop
-mul-row c = search needs
-
-array-set-from-row : tie.Need-array-set-from-row Inv-loop μ-loop
-array-set-from-row c = search needs
-
-enum-known-word-2 : tie.Need-enum-known-word-2 Inv-loop μ-loop
-enum-known-word-2 c = search needs
 
 returns : tie.Need-returns Inv-loop μ-loop
 returns c =
@@ -93,12 +60,6 @@ returns c =
     let one = two .before .before in
     rowed-fault _ _ _ _ (one .before .before .before .loop .inv) (one .before .before .loop-test .taken) _ (one .run .ensures .0) _ (two .run2 .ensures .0)
     _ (w .word-of .ensures) _ (c .before .word2 .given .1)
-
-add-k : tie.Need-add-k Inv-loop μ-loop
-add-k c = search needs
-
-loop-less : tie.Need-loop-less Inv-loop μ-loop
-loop-less c = search needs
 
 loop-again : tie.Need-loop-again Inv-loop μ-loop
 loop-again c =
@@ -116,20 +77,11 @@ sub-all c = omega (arith, c .before .loop .inv .place)
 part-all-start : tie.Need-part-all-start Inv-loop μ-loop
 part-all-start c = c .before .loop .inv .place
 
-part-all-end : tie.Need-part-all-end Inv-loop μ-loop
-part-all-end c = search needs
-
-all-requires : tie.Need-all-requires Inv-loop μ-loop
-all-requires c κs = search needs
-
 returns-2 : tie.Need-returns-2 Inv-loop μ-loop
 returns-2 c =
     let a = c .before in
     let l = a .before .before in
     rowed-more _ _ _ _ (l .before .loop .inv) (l .loop-test .left) (sym (a .all .ensures) ∙ not-true _ (c .if1 .taken))
-
-node-of-requires : tie.Need-node-of-requires Inv-loop μ-loop
-node-of-requires c κs = search needs
 
 returns-3 : tie.Need-returns-3 Inv-loop μ-loop
 returns-3 c =
@@ -146,30 +98,30 @@ of-station-spec =
     loop-holds
     sub-run
     part-run-start
-    part-run-end
-    run-requires
+    (λ c. search needs)
+    (λ c κs. search needs)
     add-from
     sub-run-2
     part-run-start-2
-    part-run-end-2
-    run-requires-2
+    (λ c. search needs)
+    (λ c κs. search needs)
     add-end
-    sub-word-of
-    part-word-of-start
+    (λ c. search needs)
+    (λ c. search needs)
     part-word-of-end
-    word-of-requires
-    enum-known-word
-    mul-row
-    array-set-from-row
-    enum-known-word-2
+    (λ c κs. search needs)
+    (λ c. search needs)
+    (λ c. search needs)
+    (λ c. search needs)
+    (λ c. search needs)
     returns
-    add-k
-    loop-less
+    (λ c. search needs)
+    (λ c. search needs)
     loop-again
     sub-all
     part-all-start
-    part-all-end
-    all-requires
+    (λ c. search needs)
+    (λ c κs. search needs)
     returns-2
-    node-of-requires
+    (λ c κs. search needs)
     returns-3)

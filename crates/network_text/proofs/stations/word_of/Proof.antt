@@ -14,24 +14,6 @@ told : (c : tie.After-value-of) (l : Line) → c .value-of .result ≡ l
     → byValue (c .before .before .before .args .k) l ≡ wordOf (c .before .before .before .args .k) (c .before .before .before .args .word .now)
 told c l e = word-by _ _ _ l (c .before .field-of .ensures .0) (sym e ∙ c .value-of .ensures)
 
-field-of-requires : tie.Need-field-of-requires
-field-of-requires c κs = search needs
-
-value-of-requires : tie.Need-value-of-requires
-value-of-requires c κs = search needs
-
-enum-known-line : tie.Need-enum-known-line
-enum-known-line c = search needs
-
-enum-known-line-2 : tie.Need-enum-known-line-2
-enum-known-line-2 c = search needs
-
-fault-of-requires : tie.Need-fault-of-requires
-fault-of-requires c κs = search needs
-
-enum-told : tie.Need-enum-told
-enum-told c = search needs
-
 returns : tie.Need-returns
 returns c =
     let v = c .before .before .before in
@@ -49,12 +31,12 @@ pub word-of-spec : {M : Type 1} → statement M
 word-of-spec =
     tie.close
     (tie.spec
-    field-of-requires
-    value-of-requires
-    enum-known-line
-    enum-known-line-2
-    fault-of-requires
-    enum-told
+    (λ c κs. search needs)
+    (λ c κs. search needs)
+    (λ c. search needs)
+    (λ c. search needs)
+    (λ c κs. search needs)
+    (λ c. search needs)
     returns
     returns-2
     returns-3)

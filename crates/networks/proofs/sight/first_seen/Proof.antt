@@ -67,20 +67,8 @@ module _ (c : tie.After-struct-told) where
 first-tos-requires : tie.Need-first-tos-requires
 first-tos-requires c κs = c .before .pre
 
-array-share-prefix-tos : tie.Need-array-share-prefix-tos
-array-share-prefix-tos c = search needs
-
 slice-aggregate-earliest : tie.Need-slice-aggregate-earliest
 slice-aggregate-earliest c = sym (counted (c .before))
-
-earliest-requires : tie.Need-earliest-requires
-earliest-requires c κs = search needs
-
-mul-x : tie.Need-mul-x
-mul-x c = search needs
-
-element-copy-out-x : tie.Need-element-copy-out-x
-element-copy-out-x c = search needs
 
 cast-result : tie.Need-cast-result
 cast-result c = cast-unsigned (there c .station .number) (fits c) (omega (arith, zs, within c .station .number .0))
@@ -101,11 +89,11 @@ first-seen-spec =
     tie.close
     (tie.spec
     first-tos-requires
-    array-share-prefix-tos
+    (λ c. search needs)
     slice-aggregate-earliest
-    earliest-requires
-    mul-x
-    element-copy-out-x
+    (λ c κs. search needs)
+    (λ c. search needs)
+    (λ c. search needs)
     cast-result
     returns
     returns-2)

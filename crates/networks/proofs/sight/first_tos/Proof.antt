@@ -49,29 +49,8 @@ module _ (c : tie.After-request Inv-loop μ-loop) where
 loop-holds : tie.Need-loop-holds Inv-loop μ-loop
 loop-holds c = (omega arith, refl, refl)
 
-mul-x : tie.Need-mul-x Inv-loop μ-loop
-mul-x c = search needs
-
-element-copy-out-x : tie.Need-element-copy-out-x Inv-loop μ-loop
-element-copy-out-x c = search needs
-
-request-requires : tie.Need-request-requires Inv-loop μ-loop
-request-requires c κs = search needs
-
 first-to-requires : tie.Need-first-to-requires Inv-loop μ-loop
 first-to-requires c κs = (start c .pre .0, subst (λ (q : Request). InLimits (ofEclipse q)) (sym (asked c)) (start c .pre .3 (i c) (within c)))
-
-mul-tos : tie.Need-mul-tos Inv-loop μ-loop
-mul-tos c = search needs
-
-array-write-tos : tie.Need-array-write-tos Inv-loop μ-loop
-array-write-tos c = search needs
-
-add-i : tie.Need-add-i Inv-loop μ-loop
-add-i c = search needs
-
-loop-less : tie.Need-loop-less Inv-loop μ-loop
-loop-less c = search needs
 
 loop-again : tie.Need-loop-again Inv-loop μ-loop
 loop-again c =
@@ -100,13 +79,13 @@ first-tos-spec =
     Inv-loop
     μ-loop
     loop-holds
-    mul-x
-    element-copy-out-x
-    request-requires
+    (λ c. search needs)
+    (λ c. search needs)
+    (λ c κs. search needs)
     first-to-requires
-    mul-tos
-    array-write-tos
-    add-i
-    loop-less
+    (λ c. search needs)
+    (λ c. search needs)
+    (λ c. search needs)
+    (λ c. search needs)
     loop-again
     returns)

@@ -21,17 +21,11 @@ sub-rounds c = omega (arith, leading-le 64 (c .args .n))
 loop-holds : tie.Need-loop-holds Inv-loop μ-loop
 loop-holds c = subst (λ (i : ℕ). Holds (c .args .n) i 0 0) (sym (rounds-leading (c .args .n))) (start (c .args .n) (omega arith))
 
-sub-i : tie.Need-sub-i Inv-loop μ-loop
-sub-i c = omega arith
-
 round-requires : tie.Need-round-requires Inv-loop μ-loop
 round-requires c κs =
     let l = c .before .loop in
     let e : l .i ≡ l .i - 1 + 1 = omega arith in
     subst (λ (i : ℕ). Holds (c .before .before .args .n) i (l .held .root) (l .held .rest)) e (l .inv)
-
-loop-less : tie.Need-loop-less Inv-loop μ-loop
-loop-less c = omega arith
 
 loop-again : tie.Need-loop-again Inv-loop μ-loop
 loop-again c = c .round .ensures
@@ -50,4 +44,4 @@ returns c =
     }
 
 pub root-and-rounds-spec : {M : Type 1} → statement M
-root-and-rounds-spec = tie.close (tie.spec Inv-loop μ-loop sub-rounds loop-holds sub-i round-requires loop-less loop-again returns)
+root-and-rounds-spec = tie.close (tie.spec Inv-loop μ-loop sub-rounds loop-holds (λ c. omega arith) round-requires (λ c. omega arith) loop-again returns)

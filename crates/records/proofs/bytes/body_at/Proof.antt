@@ -20,29 +20,11 @@ use Rattle.records.proofs.bytes.body_at.Tie as tie
 abbrev left : List ℕ → ℕ → ℕ
 left s at = length s - at
 
-sub-left : tie.Need-sub-left
-sub-left c = search needs
-
-is-cut-requires : tie.Need-is-cut-requires
-is-cut-requires c κs = search needs
-
 returns : tie.Need-returns
 returns c =
     let a = c .before .before .before .args in
     let h = ltb-true (left (a .s .now) (a .at)) (sizeOf (a .kind)) (sym (c .before .is-cut .ensures) ∙ c .if1 .taken) in
     sym (body-cut (a .s .now) (a .at) (a .kind) (omega arith))
-
-add-at-a : tie.Need-add-at-a
-add-at-a c = search needs
-
-add-at-b : tie.Need-add-at-b
-add-at-b c = search needs
-
-add-at-c : tie.Need-add-at-c
-add-at-c c = search needs
-
-add-at-d : tie.Need-add-at-d
-add-at-d c = search needs
 
 two-if-requires : tie.Need-two-if-requires
 two-if-requires c κs = λ e. let a = c .before .before .before .args in let h = leb-true 5 (left (a .s .now) (a .at)) e in omega arith
@@ -55,30 +37,6 @@ two-if-requires-3 c κs = λ e. let a = c .before .before .before .before .befor
 
 two-if-requires-4 : tie.Need-two-if-requires-4
 two-if-requires-4 c κs = λ e. let a = c .before .before .before .before .before .before .args in let h = leb-true 9 (left (a .s .now) (a .at)) e in omega arith
-
-mul-field-a : tie.Need-mul-field-a
-mul-field-a c = search needs
-
-add-field-a : tie.Need-add-field-a
-add-field-a c = search needs
-
-field-a-requires : tie.Need-field-a-requires
-field-a-requires c κs = search needs
-
-mul-field-b : tie.Need-mul-field-b
-mul-field-b c = search needs
-
-add-field-b : tie.Need-add-field-b
-add-field-b c = search needs
-
-field-b-requires : tie.Need-field-b-requires
-field-b-requires c κs = search needs
-
-field-c-requires : tie.Need-field-c-requires
-field-c-requires c κs = search needs
-
-field-d-requires : tie.Need-field-d-requires
-field-d-requires c κs = search needs
 
 -- a number that is there
 there : (m n r v : ℕ) → r ≡ cond (leb m n) v 0 → m ≤ n → r ≡ v
@@ -105,23 +63,23 @@ pub body-at-spec : {M : Type 1} → statement M
 body-at-spec =
     tie.close
     (tie.spec
-    sub-left
-    is-cut-requires
+    (λ c. search needs)
+    (λ c κs. search needs)
     returns
-    add-at-a
-    add-at-b
-    add-at-c
-    add-at-d
+    (λ c. search needs)
+    (λ c. search needs)
+    (λ c. search needs)
+    (λ c. search needs)
     two-if-requires
     two-if-requires-2
     two-if-requires-3
     two-if-requires-4
-    mul-field-a
-    add-field-a
-    field-a-requires
-    mul-field-b
-    add-field-b
-    field-b-requires
-    field-c-requires
-    field-d-requires
+    (λ c. search needs)
+    (λ c. search needs)
+    (λ c κs. search needs)
+    (λ c. search needs)
+    (λ c. search needs)
+    (λ c κs. search needs)
+    (λ c κs. search needs)
+    (λ c κs. search needs)
     returns-2)

@@ -6,12 +6,6 @@ use borrow.Author.Needs.{needs}
 use Rattle.records.proofs.bytes.byte_at.Statement.{statement}
 use Rattle.records.proofs.bytes.byte_at.Tie as tie
 
-shared-slice-read-wide : tie.Need-shared-slice-read-wide
-shared-slice-read-wide c = search needs
-
-wide-requires : tie.Need-wide-requires
-wide-requires c κs = search needs
-
 returns : tie.Need-returns
 returns c = ap Byte.Is (c .wide .ensures .0) ∙ sym (byte-there _ _ (c .before .before .if1 .taken))
 
@@ -19,4 +13,4 @@ returns-2 : tie.Need-returns-2
 returns-2 c = sym (byte-past _ _ (c .if1 .left))
 
 pub byte-at-spec : {M : Type 1} → statement M
-byte-at-spec = tie.close (tie.spec shared-slice-read-wide wide-requires returns returns-2)
+byte-at-spec = tie.close (tie.spec (λ c. search needs) (λ c κs. search needs) returns returns-2)

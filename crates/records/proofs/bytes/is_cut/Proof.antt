@@ -11,11 +11,8 @@ use Rattle.records.proofs.bytes.is_cut.Tie as tie
 returns : tie.Need-returns
 returns c = let a = c .before .args in sym (le-ltb (a .left) (sizeOf (a .kind)) (omega (arith, size-nine (a .kind))))
 
-size-of-requires : tie.Need-size-of-requires
-size-of-requires c κs = search needs
-
 returns-2 : tie.Need-returns-2
 returns-2 c = rw (c .size-of .ensures .0)
 
 pub is-cut-spec : {M : Type 1} → statement M
-is-cut-spec = tie.close (tie.spec returns size-of-requires returns-2)
+is-cut-spec = tie.close (tie.spec returns (λ c κs. search needs) returns-2)

@@ -9,21 +9,6 @@ use borrow.Author.Needs.{needs}
 use Rattle.records.proofs.bytes.put.Statement.{statement}
 use Rattle.records.proofs.bytes.put.Tie as tie
 
-widths-of-requires : tie.Need-widths-of-requires
-widths-of-requires c κs = search needs
-
-code-of-requires : tie.Need-code-of-requires
-code-of-requires c κs = search needs
-
-cast-buf : tie.Need-cast-buf
-cast-buf c = search needs
-
-slice-write-buf : tie.Need-slice-write-buf
-slice-write-buf c = search needs
-
-add-put-number : tie.Need-add-put-number
-add-put-number c = search needs
-
 -- there is room for the four fields
 room : (c : tie.After-widths-of) → let w = c .widths-of .result in let a = c .before .before .args in
     a .at + (1 + (bytesIn (w .a) + (bytesIn (w .b) + (bytesIn (w .c) + bytesIn (w .d))))) ≤ length (a .buf .now)
@@ -70,11 +55,11 @@ pub put-spec : {M : Type 1} → statement M
 put-spec =
     tie.close
     (tie.spec
-    widths-of-requires
-    code-of-requires
-    cast-buf
-    slice-write-buf
-    add-put-number
+    (λ c κs. search needs)
+    (λ c κs. search needs)
+    (λ c. search needs)
+    (λ c. search needs)
+    (λ c. search needs)
     put-number-requires
     put-number-requires-2
     put-number-requires-3

@@ -11,26 +11,8 @@ use borrow.Author.Needs.{needs}
 use Rattle.records.proofs.bytes.record_at.Statement.{statement}
 use Rattle.records.proofs.bytes.record_at.Tie as tie
 
-byte-at-requires : tie.Need-byte-at-requires
-byte-at-requires c κs = search needs
-
-enum-known-code : tie.Need-enum-known-code
-enum-known-code c = search needs
-
-enum-told : tie.Need-enum-told
-enum-told c = search needs
-
 returns : tie.Need-returns
 returns c = by-byte _ _ _ (sym (c .before .before .byte-at .ensures) ∙ c .enum-told .given .1)
-
-kind-for-requires : tie.Need-kind-for-requires
-kind-for-requires c κs = search needs
-
-enum-known-kind : tie.Need-enum-known-kind
-enum-known-kind c = search needs
-
-enum-told-2 : tie.Need-enum-told-2
-enum-told-2 c = search needs
 
 is-byte : (c : tie.After-known-told) → byteAt (c .before .before .before .before .before .args .s .now)
     (c .before .before .before .before .before .args .at) ≡ Byte.Is (c .before .code .given .0 .0)
@@ -51,18 +33,9 @@ returns-2 c = by-kind _ _ _ _ (is-byte (c .before .before .before)) (sym (c .bef
 body-at-requires : tie.Need-body-at-requires
 body-at-requires c κs = byte-inv _ _ _ (is-byte (c .before .before .before .before)) .0
 
-enum-known-entry : tie.Need-enum-known-entry
-enum-known-entry c = search needs
-
-enum-told-3 : tie.Need-enum-told-3
-enum-told-3 c = search needs
-
 returns-3 : tie.Need-returns-3
 returns-3 c = by-body _ _ _ _ _ (is-byte (c .before .before .before .before .before .before .before)) (is-kind (c .before .before .before))
     (sym (c .before .before .body-at .ensures) ∙ c .enum-told3 .given .1)
-
-size-of-requires : tie.Need-size-of-requires
-size-of-requires c κs = search needs
 
 add-next : tie.Need-add-next
 add-next c = let h = body-inv _ _ _ _ (is-body (c .before)) .0 in let z = c .size-of .ensures .0 in omega arith
@@ -76,18 +49,18 @@ pub record-at-spec : {M : Type 1} → statement M
 record-at-spec =
     tie.close
     (tie.spec
-    byte-at-requires
-    enum-known-code
-    enum-told
+    (λ c κs. search needs)
+    (λ c. search needs)
+    (λ c. search needs)
     returns
-    kind-for-requires
-    enum-known-kind
-    enum-told-2
+    (λ c κs. search needs)
+    (λ c. search needs)
+    (λ c. search needs)
     returns-2
     body-at-requires
-    enum-known-entry
-    enum-told-3
+    (λ c. search needs)
+    (λ c. search needs)
     returns-3
-    size-of-requires
+    (λ c κs. search needs)
     add-next
     returns-4)

@@ -5,17 +5,11 @@ use borrow.Author.Needs.{needs}
 use Rattle.request_text.proofs.beside.number_in.Statement.{statement}
 use Rattle.request_text.proofs.beside.number_in.Tie as tie
 
-names-instant-requires : tie.Need-names-instant-requires
-names-instant-requires c κs = search needs
-
 returns : tie.Need-returns
 returns c = number-none _ _ (sym (c .before .names-instant .ensures) ∙ c .if1 .taken)
-
-meaning-requires : tie.Need-meaning-requires
-meaning-requires c κs = search needs
 
 returns-2 : tie.Need-returns-2
 returns-2 c = c .meaning .ensures ∙ number-said _ _ (sym (c .before .before .names-instant .ensures) ∙ c .before .if1 .left)
 
 pub number-in-spec : {M : Type 1} → statement M
-number-in-spec = tie.close (tie.spec names-instant-requires returns meaning-requires returns-2)
+number-in-spec = tie.close (tie.spec (λ c κs. search needs) returns (λ c κs. search needs) returns-2)

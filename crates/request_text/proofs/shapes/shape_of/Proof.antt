@@ -30,32 +30,11 @@ module _ (c : tie.After-run Inv-loop μ-loop) where
 loop-holds : tie.Need-loop-holds Inv-loop μ-loop
 loop-holds c = passed-none _
 
-sub-run : tie.Need-sub-run Inv-loop μ-loop
-sub-run c = search needs
-
-part-run-start : tie.Need-part-run-start Inv-loop μ-loop
-part-run-start c = search needs
-
-part-run-end : tie.Need-part-run-end Inv-loop μ-loop
-part-run-end c = search needs
-
-run-requires : tie.Need-run-requires Inv-loop μ-loop
-run-requires c κs = search needs
-
 add-end : tie.Need-add-end Inv-loop μ-loop
 add-end c = let i = inside c in search needs
 
-sub-names-radius : tie.Need-sub-names-radius Inv-loop μ-loop
-sub-names-radius c = search needs
-
-part-names-radius-start : tie.Need-part-names-radius-start Inv-loop μ-loop
-part-names-radius-start c = search needs
-
 part-names-radius-end : tie.Need-part-names-radius-end Inv-loop μ-loop
 part-names-radius-end c = inside c
-
-names-radius-requires : tie.Need-names-radius-requires Inv-loop μ-loop
-names-radius-requires c κs = search needs
 
 returns : tie.Need-returns Inv-loop μ-loop
 returns c =
@@ -83,15 +62,15 @@ shape-of-spec =
     Inv-loop
     μ-loop
     loop-holds
-    sub-run
-    part-run-start
-    part-run-end
-    run-requires
+    (λ c. search needs)
+    (λ c. search needs)
+    (λ c. search needs)
+    (λ c κs. search needs)
     add-end
-    sub-names-radius
-    part-names-radius-start
+    (λ c. search needs)
+    (λ c. search needs)
     part-names-radius-end
-    names-radius-requires
+    (λ c κs. search needs)
     returns
     add-at
     loop-less

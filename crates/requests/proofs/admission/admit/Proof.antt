@@ -5,25 +5,10 @@ use Rattle.requests.specs.AdmissionLaws.{admitted-refused, admitted-room
 use Rattle.requests.proofs.admission.admit.Statement.{statement}
 use Rattle.requests.proofs.admission.admit.Tie as tie
 
-check-requires : tie.Need-check-requires
-check-requires c κs = search needs
-
-enum-known-c : tie.Need-enum-known-c
-enum-known-c c = search needs
-
 returns : tie.Need-returns
 returns c =
     let known = c .before .c .given in
     admitted-refused _ _ (known .0 .0) (sym (c .before .before .before .check .ensures) ∙ known .1)
-
-enum-told : tie.Need-enum-told
-enum-told c = search needs
-
-fill-sines-requires : tie.Need-fill-sines-requires
-fill-sines-requires c κs = search needs
-
-same-length : tie.Need-same-length
-same-length c = search needs
 
 returns-2 : tie.Need-returns-2
 returns-2 c =
@@ -36,10 +21,10 @@ pub admit-spec : {M : Type 1} → statement M
 admit-spec =
     tie.close
     (tie.spec
-    check-requires
-    enum-known-c
+    (λ c κs. search needs)
+    (λ c. search needs)
     returns
-    enum-told
-    fill-sines-requires
-    same-length
+    (λ c. search needs)
+    (λ c κs. search needs)
+    (λ c. search needs)
     returns-2)

@@ -8,14 +8,8 @@ use Rattle.requests.proofs.admission.fill_sines.Tie as tie
 returns : tie.Need-returns
 returns c = room-short _ (c .if1 .taken)
 
-fill-requires : tie.Need-fill-requires
-fill-requires c κs = search needs
-
-same-length : tie.Need-same-length
-same-length c = search needs
-
 returns-2 : tie.Need-returns-2
 returns-2 c = let l = room-long _ (c .before .before .before .before .if1 .left) in (l .0, c .before .before .fill .ensures .0 ∙ l .1)
 
 pub fill-sines-spec : {M : Type 1} → statement M
-fill-sines-spec = tie.close (tie.spec returns fill-requires same-length returns-2)
+fill-sines-spec = tie.close (tie.spec returns (λ c κs. search needs) (λ c. search needs) returns-2)

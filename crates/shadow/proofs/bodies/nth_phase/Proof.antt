@@ -11,16 +11,10 @@ use Rattle.geometry.specs.Shadow.{phasesOf}
 use Rattle.shadow.proofs.bodies.nth_phase.Statement.{statement}
 use Rattle.shadow.proofs.bodies.nth_phase.Tie as tie
 
-enum-told : tie.Need-enum-told
-enum-told c = search needs
-
 eclipse-phase-requires : tie.Need-eclipse-phase-requires
 eclipse-phase-requires c κs =
     let a = c .before .before in
     rw (c .enum-told .given .1) at (a .pre)
-
-enum-told-2 : tie.Need-enum-told-2
-enum-told-2 c = search needs
 
 returns : tie.Need-returns
 returns c = search needs
@@ -34,4 +28,4 @@ returns-2 c =
 
 pub nth-phase-spec : {M : Type 1} → statement M
 nth-phase-spec =
-    tie.close (tie.spec enum-told eclipse-phase-requires enum-told-2 returns returns-2)
+    tie.close (tie.spec (λ c. search needs) eclipse-phase-requires (λ c. search needs) returns returns-2)

@@ -8,16 +8,10 @@ use Rattle.shadow.specs.Second.{IsSample}
 use Rattle.shadow.proofs.bodies.sample_at.Statement.{statement}
 use Rattle.shadow.proofs.bodies.sample_at.Tie as tie
 
-enum-known-body : tie.Need-enum-known-body
-enum-known-body c = search needs
-
 eclipse-sample-requires : tie.Need-eclipse-sample-requires
 eclipse-sample-requires c κs =
     let a = c .before .before .before .before in
     (a .pre .0, subst BodySizes (c .before .body .given .1) (a .pre .1), a .pre .2, read-size (a .args .t) 10800 (a .pre .3) tt)
-
-enum-known-body-2 : tie.Need-enum-known-body-2
-enum-known-body-2 c = search needs
 
 star-sample-requires : tie.Need-star-sample-requires
 star-sample-requires c κs =
@@ -40,9 +34,9 @@ pub sample-at-spec : {M : Type 1} → statement M
 sample-at-spec =
     tie.close
     (tie.spec
-    enum-known-body
+    (λ c. search needs)
     eclipse-sample-requires
-    enum-known-body-2
+    (λ c. search needs)
     star-sample-requires
     returns
     returns-2)

@@ -21,9 +21,6 @@ start o = o .before .before .before
 seen : (o : tie.After-offset-at) → let a = start o .args in IsOffset (starAxis (a .s)) (a .place) (a .t) (o .offset-at .result)
 seen o = rw (o .before .axis .ensures, read-back (start o .args .t) (start o .pre .3) tt) at (o .offset-at .ensures)
 
-axis-requires : tie.Need-axis-requires
-axis-requires c κs = search needs
-
 offset-at-requires : tie.Need-offset-at-requires
 offset-at-requires c κs =
     let a = c .before .before in
@@ -49,4 +46,4 @@ returns c =
     star-sample (a .args .s) (a .pre .1) (a .args .place) (a .args .t) _ (kept-u _ _ (x .u)) (kept-v _ _ (x .v)) (kept-m _ _ (x .m)) e e
 
 pub star-sample-spec : {M : Type 1} → statement M
-star-sample-spec = tie.close (tie.spec axis-requires offset-at-requires returns)
+star-sample-spec = tie.close (tie.spec (λ c κs. search needs) offset-at-requires returns)

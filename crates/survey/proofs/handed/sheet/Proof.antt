@@ -5,24 +5,6 @@ use Rattle.survey.specs.HandedLaws.{of-survey, of-refusal}
 use Rattle.survey.proofs.handed.sheet.Statement.{statement}
 use Rattle.survey.proofs.handed.sheet.Tie as tie
 
-survey-requires : tie.Need-survey-requires
-survey-requires c κs = search needs
-
-enum-known-handed : tie.Need-enum-known-handed
-enum-known-handed c = search needs
-
-sheet-requires : tie.Need-sheet-requires
-sheet-requires c κs = search needs
-
-enum-known-handed-2 : tie.Need-enum-known-handed-2
-enum-known-handed-2 c = search needs
-
-same-length : tie.Need-same-length
-same-length c = search needs
-
-same-length-2 : tie.Need-same-length-2
-same-length-2 c = search needs
-
 returns : tie.Need-returns
 returns c =
     let made = c .before .before .before .before in
@@ -40,11 +22,11 @@ pub sheet-spec : {M : Type 1} → statement M
 sheet-spec =
     tie.close
     (tie.spec
-    survey-requires
-    enum-known-handed
-    sheet-requires
-    enum-known-handed-2
-    same-length
-    same-length-2
+    (λ c κs. search needs)
+    (λ c. search needs)
+    (λ c κs. search needs)
+    (λ c. search needs)
+    (λ c. search needs)
+    (λ c. search needs)
     returns
     returns-2)

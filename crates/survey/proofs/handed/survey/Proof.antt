@@ -6,16 +6,10 @@ use borrow.Author.Needs.{needs}
 use Rattle.survey.proofs.handed.survey.Statement.{statement}
 use Rattle.survey.proofs.handed.survey.Tie as tie
 
-not-of-shape-requires : tie.Need-not-of-shape-requires
-not-of-shape-requires c κs = search needs
-
 returns : tie.Need-returns
 returns c =
     let a = c .before .before .before .args in
     c .not-of-shape .ensures ∙ sym (not-22 (a .elements .now) (a .longitude) (a .hours) (a .rest .now) (c .before .if1 .taken))
-
-not-of-shape-requires-2 : tie.Need-not-of-shape-requires-2
-not-of-shape-requires-2 c κs = search needs
 
 returns-2 : tie.Need-returns-2
 returns-2 c =
@@ -23,18 +17,12 @@ returns-2 c =
     let a = e .before .before .args in
     c .not-of-shape2 .ensures ∙ sym (not-7 (a .elements .now) (a .longitude) (a .hours) (a .rest .now) (e .if1 .left) (c .before .if2 .taken))
 
-not-of-shape-requires-3 : tie.Need-not-of-shape-requires-3
-not-of-shape-requires-3 c κs = search needs
-
 returns-3 : tie.Need-returns-3
 returns-3 c =
     let f = c .before .before in
     let e = f .before in
     let a = e .before .before .args in
     c .not-of-shape3 .ensures ∙ sym (not-marked (a .elements .now) (a .longitude) (a .hours) (a .rest .now) (e .if1 .left) (f .if2 .left) (c .before .if3 .taken))
-
-survey-of-requires : tie.Need-survey-of-requires
-survey-of-requires c κs = search needs
 
 returns-4 : tie.Need-returns-4
 returns-4 c =
@@ -48,11 +36,11 @@ pub survey-spec : {M : Type 1} → statement M
 survey-spec =
     tie.close
     (tie.spec
-    not-of-shape-requires
+    (λ c κs. search needs)
     returns
-    not-of-shape-requires-2
+    (λ c κs. search needs)
     returns-2
-    not-of-shape-requires-3
+    (λ c κs. search needs)
     returns-3
-    survey-of-requires
+    (λ c κs. search needs)
     returns-4)

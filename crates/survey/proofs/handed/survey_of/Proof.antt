@@ -6,33 +6,6 @@ use borrow.Author.Needs.{needs}
 use Rattle.survey.proofs.handed.survey_of.Statement.{statement}
 use Rattle.survey.proofs.handed.survey_of.Tie as tie
 
-from-doubles-requires : tie.Need-from-doubles-requires
-from-doubles-requires c κs = search needs
-
-marked-requires : tie.Need-marked-requires
-marked-requires c κs = search needs
-
-shared-slice-copy-out-number : tie.Need-shared-slice-copy-out-number
-shared-slice-copy-out-number c = search needs
-
-shared-slice-copy-out-latitude : tie.Need-shared-slice-copy-out-latitude
-shared-slice-copy-out-latitude c = search needs
-
-shared-slice-copy-out-height : tie.Need-shared-slice-copy-out-height
-shared-slice-copy-out-height c = search needs
-
-shared-slice-copy-out-deltat : tie.Need-shared-slice-copy-out-deltat
-shared-slice-copy-out-deltat c = search needs
-
-shared-slice-copy-out-first : tie.Need-shared-slice-copy-out-first
-shared-slice-copy-out-first c = search needs
-
-shared-slice-copy-out-last : tie.Need-shared-slice-copy-out-last
-shared-slice-copy-out-last c = search needs
-
-shared-slice-copy-out-guard : tie.Need-shared-slice-copy-out-guard
-shared-slice-copy-out-guard c = search needs
-
 returns : tie.Need-returns
 returns c =
     let made = c .before .before .before .before .before .before .before in
@@ -47,13 +20,13 @@ pub survey-of-spec : {M : Type 1} → statement M
 survey-of-spec =
     tie.close
     (tie.spec
-    from-doubles-requires
-    marked-requires
-    shared-slice-copy-out-number
-    shared-slice-copy-out-latitude
-    shared-slice-copy-out-height
-    shared-slice-copy-out-deltat
-    shared-slice-copy-out-first
-    shared-slice-copy-out-last
-    shared-slice-copy-out-guard
+    (λ c κs. search needs)
+    (λ c κs. search needs)
+    (λ c. search needs)
+    (λ c. search needs)
+    (λ c. search needs)
+    (λ c. search needs)
+    (λ c. search needs)
+    (λ c. search needs)
+    (λ c. search needs)
     returns)

@@ -5,19 +5,10 @@ use borrow.Author.Needs.{needs}
 use Rattle.table_elements.proofs.text.put_values.Statement.{statement}
 use Rattle.table_elements.proofs.text.put_values.Tie as tie
 
-slice-aggregate-put-filled : tie.Need-slice-aggregate-put-filled
-slice-aggregate-put-filled c = search needs
-
-put-filled-requires : tie.Need-put-filled-requires
-put-filled-requires c κs = search needs
-
-same-length : tie.Need-same-length
-same-length c = search needs
-
 returns : tie.Need-returns
 unfolding valuesText rows
 returns c = c .before .before .put-filled .ensures
 
 pub put-values-spec : {M : Type 1} → statement M
 put-values-spec =
-    tie.close (tie.spec slice-aggregate-put-filled put-filled-requires same-length returns)
+    tie.close (tie.spec (λ c. search needs) (λ c κs. search needs) (λ c. search needs) returns)

@@ -13,26 +13,11 @@ made c =
     let read = c .before .before .before .before .before .star-numbers in
     made-is _ _ _ (read .ensures .0) _ _ _ _ (c .before .before .before .enum-told2 .given .1) (read .ensures .1) (c .put-star .ensures .1)
 
-star-numbers-requires : tie.Need-star-numbers-requires
-star-numbers-requires c κs = search needs
-
-enum-told : tie.Need-enum-told
-enum-told c = search needs
-
 returns : tie.Need-returns
 returns c = refused-kept _ _ _ (c .before .before .star-numbers .ensures .0) _ _ _ (c .enum-told .given .1)
 
-enum-told-2 : tie.Need-enum-told-2
-enum-told-2 c = search needs
-
-put-star-requires : tie.Need-put-star-requires
-put-star-requires c κs = search needs
-
 slice-aggregate-put-text : tie.Need-slice-aggregate-put-text
 slice-aggregate-put-text c = sym (made (c .before .before) .size)
-
-put-text-requires : tie.Need-put-text-requires
-put-text-requires c κs = search needs
 
 returns-2 : tie.Need-returns-2
 returns-2 c =
@@ -42,4 +27,4 @@ returns-2 c =
 pub encode-star-spec : {M : Type 1} → statement M
 encode-star-spec =
     tie.close
-    (tie.spec star-numbers-requires enum-told returns enum-told-2 put-star-requires slice-aggregate-put-text put-text-requires returns-2)
+    (tie.spec (λ c κs. search needs) (λ c. search needs) returns (λ c. search needs) (λ c κs. search needs) slice-aggregate-put-text (λ c κs. search needs) returns-2)

@@ -5,21 +5,6 @@ use borrow.Author.Needs.{needs}
 use Rattle.typed_requests.proofs.messages.put_instant.Statement.{statement}
 use Rattle.typed_requests.proofs.messages.put_instant.Tie as tie
 
-slice-aggregate-put-text : tie.Need-slice-aggregate-put-text
-slice-aggregate-put-text c = search needs
-
-put-text-requires : tie.Need-put-text-requires
-put-text-requires c κs = search needs
-
-put-number-requires : tie.Need-put-number-requires
-put-number-requires c κs = search needs
-
-put-wrong-requires : tie.Need-put-wrong-requires
-put-wrong-requires c κs = search needs
-
-same-length : tie.Need-same-length
-same-length c = search needs
-
 returns : tie.Need-returns
 returns c =
     let wrong = c .before .before in
@@ -31,9 +16,9 @@ pub put-instant-spec : {M : Type 1} → statement M
 put-instant-spec =
     tie.close
     (tie.spec
-    slice-aggregate-put-text
-    put-text-requires
-    put-number-requires
-    put-wrong-requires
-    same-length
+    (λ c. search needs)
+    (λ c κs. search needs)
+    (λ c κs. search needs)
+    (λ c κs. search needs)
+    (λ c. search needs)
     returns)

@@ -6,15 +6,6 @@ use Rattle.replies.specs.TablesReply.{tablesReply}
 use Rattle.ukhtvaresh.proofs.from_tables.ukhtvaresh_from_tables.Statement.{statement}
 use Rattle.ukhtvaresh.proofs.from_tables.ukhtvaresh_from_tables.Tie as tie
 
-elements-requires : tie.Need-elements-requires
-elements-requires c κs = search needs
-
-tables-reply-requires : tie.Need-tables-reply-requires
-tables-reply-requires c κs = search needs
-
-same-length : tie.Need-same-length
-same-length c = search needs
-
 returns : tie.Need-returns
 returns c =
     let done = c .before .before .elements in
@@ -23,4 +14,4 @@ returns c =
 
 pub ukhtvaresh-from-tables-spec : {M : Type 1} → statement M
 ukhtvaresh-from-tables-spec =
-    tie.close (tie.spec elements-requires tables-reply-requires same-length returns)
+    tie.close (tie.spec (λ c κs. search needs) (λ c κs. search needs) (λ c. search needs) returns)

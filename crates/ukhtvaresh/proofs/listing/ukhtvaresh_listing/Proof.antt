@@ -6,15 +6,6 @@ use borrow.Author.Needs.{needs}
 use Rattle.ukhtvaresh.proofs.listing.ukhtvaresh_listing.Statement.{statement}
 use Rattle.ukhtvaresh.proofs.listing.ukhtvaresh_listing.Tie as tie
 
-listing-requires : tie.Need-listing-requires
-listing-requires c κs = search needs
-
-listing-reply-requires : tie.Need-listing-reply-requires
-listing-reply-requires c κs = search needs
-
-same-length : tie.Need-same-length
-same-length c = search needs
-
 returns : tie.Need-returns
 returns c =
     let done = c .before .before .before .listing in
@@ -23,4 +14,4 @@ returns c =
 
 pub ukhtvaresh-listing-spec : {M : Type 1} → statement M
 ukhtvaresh-listing-spec =
-    tie.close (tie.spec listing-requires listing-reply-requires same-length returns)
+    tie.close (tie.spec (λ c κs. search needs) (λ c κs. search needs) (λ c. search needs) returns)

@@ -8,18 +8,6 @@ use borrow.Author.Needs.{needs}
 use Rattle.ukhtvaresh.proofs.mend.ukhtvaresh_mend.Statement.{statement}
 use Rattle.ukhtvaresh.proofs.mend.ukhtvaresh_mend.Tie as tie
 
-mend-requires : tie.Need-mend-requires
-mend-requires c κs = search needs
-
-mend-reply-requires : tie.Need-mend-reply-requires
-mend-reply-requires c κs = search needs
-
-same-length : tie.Need-same-length
-same-length c = search needs
-
-same-length-2 : tie.Need-same-length-2
-same-length-2 c = search needs
-
 returns : tie.Need-returns
 returns c =
     let done = c .before .before .before .before .before .mend in
@@ -32,4 +20,4 @@ returns c =
 
 pub ukhtvaresh-mend-spec : {M : Type 1} → statement M
 ukhtvaresh-mend-spec =
-    tie.close (tie.spec mend-requires mend-reply-requires same-length same-length-2 returns)
+    tie.close (tie.spec (λ c κs. search needs) (λ c κs. search needs) (λ c. search needs) (λ c. search needs) returns)

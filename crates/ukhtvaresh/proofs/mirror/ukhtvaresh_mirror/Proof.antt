@@ -6,15 +6,6 @@ use Rattle.replies.specs.Replies.{sheetReply}
 use Rattle.ukhtvaresh.proofs.mirror.ukhtvaresh_mirror.Statement.{statement}
 use Rattle.ukhtvaresh.proofs.mirror.ukhtvaresh_mirror.Tie as tie
 
-mirror-bytes-requires : tie.Need-mirror-bytes-requires
-mirror-bytes-requires c κs = search needs
-
-sheet-reply-requires : tie.Need-sheet-reply-requires
-sheet-reply-requires c κs = search needs
-
-same-length : tie.Need-same-length
-same-length c = search needs
-
 returns : tie.Need-returns
 returns c =
     let done = c .before .before .before .mirror-bytes in
@@ -23,4 +14,4 @@ returns c =
 
 pub ukhtvaresh-mirror-spec : {M : Type 1} → statement M
 ukhtvaresh-mirror-spec =
-    tie.close (tie.spec mirror-bytes-requires sheet-reply-requires same-length returns)
+    tie.close (tie.spec (λ c κs. search needs) (λ c κs. search needs) (λ c. search needs) returns)

@@ -6,15 +6,6 @@ use Rattle.replies.specs.Positions.{doublesReply}
 use Rattle.ukhtvaresh.proofs.positions.ukhtvaresh_doubles.Statement.{statement}
 use Rattle.ukhtvaresh.proofs.positions.ukhtvaresh_doubles.Tie as tie
 
-write-requires : tie.Need-write-requires
-write-requires c κs = search needs
-
-doubles-reply-requires : tie.Need-doubles-reply-requires
-doubles-reply-requires c κs = search needs
-
-same-length : tie.Need-same-length
-same-length c = search needs
-
 returns : tie.Need-returns
 returns c =
     let done = c .before .before .before .write in
@@ -23,4 +14,4 @@ returns c =
 
 pub ukhtvaresh-doubles-spec : {M : Type 1} → statement M
 ukhtvaresh-doubles-spec =
-    tie.close (tie.spec write-requires doubles-reply-requires same-length returns)
+    tie.close (tie.spec (λ c κs. search needs) (λ c κs. search needs) (λ c. search needs) returns)

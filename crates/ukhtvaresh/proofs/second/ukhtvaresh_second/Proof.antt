@@ -7,18 +7,6 @@ use Rattle.ukhtvaresh.proofs.Seconds.{second-replied}
 use Rattle.ukhtvaresh.proofs.second.ukhtvaresh_second.Statement.{statement}
 use Rattle.ukhtvaresh.proofs.second.ukhtvaresh_second.Tie as tie
 
-second-requires : tie.Need-second-requires
-second-requires c κs = search needs
-
-second-reply-requires : tie.Need-second-reply-requires
-second-reply-requires c κs = search needs
-
-same-length : tie.Need-same-length
-same-length c = search needs
-
-same-length-2 : tie.Need-same-length-2
-same-length-2 c = search needs
-
 returns : tie.Need-returns
 returns c =
     let said = c .before .before .before .before in
@@ -28,4 +16,4 @@ returns c =
     (said .second .ensures)
 
 pub ukhtvaresh-second-spec : {M : Type 1} → statement M
-ukhtvaresh-second-spec = tie.close (tie.spec second-requires second-reply-requires same-length same-length-2 returns)
+ukhtvaresh-second-spec = tie.close (tie.spec (λ c κs. search needs) (λ c κs. search needs) (λ c. search needs) (λ c. search needs) returns)

@@ -14,9 +14,6 @@ use Rattle.request_seconds.specs.ShareLaws.{asked-sizes, asked-means}
 use Rattle.ukhtvaresh.proofs.shares.ukhtvaresh_share.Statement.{statement}
 use Rattle.ukhtvaresh.proofs.shares.ukhtvaresh_share.Tie as tie
 
-asked-requires : tie.Need-asked-requires
-asked-requires c κs = search needs
-
 module _ (c : tie.After-asked) where
   abbrev start : tie.Start
   start = c .before .before .before .before
@@ -33,12 +30,6 @@ of-second-requires c κs =
     let a = start got .args in
     subst AnsweredSizes (sym (found-is got)) (asked-sizes (inputOf (a .request .now)) (a .second) (a .sines .now))
 
-share-reply-requires : tie.Need-share-reply-requires
-share-reply-requires c κs = search needs
-
-same-length : tie.Need-same-length
-same-length c = search needs
-
 returns : tie.Need-returns
 returns c =
     let got = c .before .before .before .before in
@@ -49,4 +40,4 @@ returns c =
     (ap (λ (x : Reply). x .number) e, (ap (λ (x : Reply). x .value) e, (left, asked-means (a .request .now) (a .second) (a .sines .now))))
 
 pub ukhtvaresh-share-spec : {M : Type 1} → statement M
-ukhtvaresh-share-spec = tie.close (tie.spec asked-requires of-second-requires share-reply-requires same-length returns)
+ukhtvaresh-share-spec = tie.close (tie.spec (λ c κs. search needs) of-second-requires (λ c κs. search needs) (λ c. search needs) returns)

@@ -9,12 +9,6 @@ use Rattle.replies.specs.Fits.{fitReply}
 use Rattle.ukhtvaresh.proofs.spreadsheet.ukhtvaresh_fit.Statement.{statement}
 use Rattle.ukhtvaresh.proofs.spreadsheet.ukhtvaresh_fit.Tie as tie
 
-fit-requires : tie.Need-fit-requires
-fit-requires c κs = search needs
-
-fit-reply-requires : tie.Need-fit-reply-requires
-fit-reply-requires c κs = search needs
-
 returns : tie.Need-returns
 returns c =
     let start = c .before .before in
@@ -24,4 +18,4 @@ returns c =
     (ap (λ (x : Reply). x .number) e, ap (λ (x : Reply). x .value) e)
 
 pub ukhtvaresh-fit-spec : {M : Type 1} → statement M
-ukhtvaresh-fit-spec = tie.close (tie.spec fit-requires fit-reply-requires returns)
+ukhtvaresh-fit-spec = tie.close (tie.spec (λ c κs. search needs) (λ c κs. search needs) returns)

@@ -6,18 +6,6 @@ use Rattle.replies.specs.SheetLaws.{replied}
 use Rattle.ukhtvaresh.proofs.stars.ukhtvaresh_star.Statement.{statement}
 use Rattle.ukhtvaresh.proofs.stars.ukhtvaresh_star.Tie as tie
 
-star-sheet-requires : tie.Need-star-sheet-requires
-star-sheet-requires c κs = search needs
-
-sheet-reply-requires : tie.Need-sheet-reply-requires
-sheet-reply-requires c κs = search needs
-
-same-length : tie.Need-same-length
-same-length c = search needs
-
-same-length-2 : tie.Need-same-length-2
-same-length-2 c = search needs
-
 returns : tie.Need-returns
 returns c =
     let made = c .before .before .before .before .before in
@@ -26,4 +14,4 @@ returns c =
 
 pub ukhtvaresh-star-spec : {M : Type 1} → statement M
 ukhtvaresh-star-spec =
-    tie.close (tie.spec star-sheet-requires sheet-reply-requires same-length same-length-2 returns)
+    tie.close (tie.spec (λ c κs. search needs) (λ c κs. search needs) (λ c. search needs) (λ c. search needs) returns)

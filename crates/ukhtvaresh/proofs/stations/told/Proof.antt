@@ -9,15 +9,6 @@ use Rattle.ukhtvaresh.proofs.stations.told.Tie as tie
 network-requires : tie.Need-network-requires
 network-requires c κs = c .before .before .before .before .pre
 
-network-reply-requires : tie.Need-network-reply-requires
-network-reply-requires c κs = search needs
-
-same-length : tie.Need-same-length
-same-length c = search needs
-
-same-length-2 : tie.Need-same-length-2
-same-length-2 c = search needs
-
 returns : tie.Need-returns
 returns c = λ l k.
     let a = c .before .before .before .before .before .network .ensures l k in
@@ -25,4 +16,4 @@ returns c = λ l k.
     record { is-number = ap (λ (x : Reply). x .number) e; is-value = ap (λ (x : Reply). x .value) e; is-room = a .room; is-steps = a .told }
 
 pub told-spec : {M : Type 1} → statement M
-told-spec = tie.close (tie.spec network-requires network-reply-requires same-length same-length-2 returns)
+told-spec = tie.close (tie.spec network-requires (λ c κs. search needs) (λ c. search needs) (λ c. search needs) returns)

@@ -7,33 +7,12 @@ use Rattle.sheet_entries.specs.Course.{courseOf}
 use Rattle.writing.proofs.lengths.closing_length.Statement.{statement}
 use Rattle.writing.proofs.lengths.closing_length.Tie as tie
 
-size-of-requires : tie.Need-size-of-requires
-size-of-requires c κs = search needs
-
-size-of-requires-2 : tie.Need-size-of-requires-2
-size-of-requires-2 c κs = search needs
-
-shares-requires : tie.Need-shares-requires
-shares-requires c κs = search needs
-
-size-of-requires-3 : tie.Need-size-of-requires-3
-size-of-requires-3 c κs = search needs
-
-add-result : tie.Need-add-result
-add-result c = search needs
-
-add-result-2 : tie.Need-add-result-2
-add-result-2 c = search needs
-
 returns : tie.Need-returns
 returns c =
     let t = c .before in
     let s = t .before .before in
     let n = shared-length (courseOf (s .before .before .args .o)) (sym (t .before .shares .ensures) ∙ t .if1 .taken) in
     (omega (arith, n, s .before .size-of .ensures .0, s .size-of2 .ensures .0, c .size-of3 .ensures .0), omega (arith, s .before .size-of .ensures .0, s .size-of2 .ensures .0, c .size-of3 .ensures .0))
-
-add-result-3 : tie.Need-add-result-3
-add-result-3 c = search needs
 
 returns-2 : tie.Need-returns-2
 returns-2 c =
@@ -44,4 +23,4 @@ returns-2 c =
 pub closing-length-spec : {M : Type 1} → statement M
 closing-length-spec =
     tie.close
-    (tie.spec size-of-requires size-of-requires-2 shares-requires size-of-requires-3 add-result add-result-2 returns add-result-3 returns-2)
+    (tie.spec (λ c κs. search needs) (λ c κs. search needs) (λ c κs. search needs) (λ c κs. search needs) (λ c. search needs) (λ c. search needs) returns (λ c. search needs) returns-2)

@@ -18,9 +18,6 @@ use Rattle.writing.proofs.lengths.nth_phase_length.Tie as tie
 abbrev start : tie.After-nth-phase → tie.Start
 start c = c .before .before
 
-nth-phase-requires : tie.Need-nth-phase-requires
-nth-phase-requires c κs = search needs
-
 phase-length-requires : tie.Need-phase-length-requires
 phase-length-requires c κs =
     let b = start c in
@@ -38,4 +35,4 @@ returns c =
     )
 
 pub nth-phase-length-spec : {M : Type 1} → statement M
-nth-phase-length-spec = tie.close (tie.spec nth-phase-requires phase-length-requires returns)
+nth-phase-length-spec = tie.close (tie.spec (λ c κs. search needs) phase-length-requires returns)

@@ -46,24 +46,12 @@ loop-holds c =
 step-requires : tie.Need-step-requires Inv-loop μ-loop
 step-requires c κs = (c .before .before .pre .1, c .loop .inv .0)
 
-enum-known-entry : tie.Need-enum-known-entry Inv-loop μ-loop
-enum-known-entry c = search needs
-
-enum-told : tie.Need-enum-told Inv-loop μ-loop
-enum-told c = search needs
-
 returns : tie.Need-returns Inv-loop μ-loop
 returns c =
     let a = c .before .before .before .before .before .args in
     let l = c .before .before .before .loop in
     let z = ap (bytesNeeded (a .phase)) (none-left (a .k) (a .runs .now) (l .c .at) _ (c .before .before .step .ensures) (c .enum-told .given .1)) ∙ needed-nil (a .phase) in
     (omega (arith, l .inv .1, z), omega (arith, l .inv .2, l .inv .0 .stands .second, c .before .before .before .before .before .pre .1))
-
-kind-in-requires : tie.Need-kind-in-requires Inv-loop μ-loop
-kind-in-requires c κs = search needs
-
-size-of-requires : tie.Need-size-of-requires Inv-loop μ-loop
-size-of-requires c κs = search needs
 
 add-n : tie.Need-add-n Inv-loop μ-loop
 add-n c =
@@ -87,11 +75,11 @@ phase-length-spec =
     μ-loop
     loop-holds
     step-requires
-    enum-known-entry
-    enum-told
+    (λ c. search needs)
+    (λ c. search needs)
     returns
-    kind-in-requires
-    size-of-requires
+    (λ c κs. search needs)
+    (λ c κs. search needs)
     add-n
     loop-less
     loop-again)

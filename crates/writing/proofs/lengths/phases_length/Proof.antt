@@ -51,9 +51,6 @@ few c =
     let s = c .before .before .before in
     omega (arith, s .phase-count .ensures, phases-few (s .before .before .args .o .body))
 
-phase-count-requires : tie.Need-phase-count-requires Inv-loop μ-loop
-phase-count-requires c κs = search needs
-
 loop-holds : tie.Need-loop-holds Inv-loop μ-loop
 loop-holds c = (omega arith, sym (ap length bytes-nil), omega arith)
 
@@ -94,7 +91,7 @@ phases-length-spec =
     (tie.spec
     Inv-loop
     μ-loop
-    phase-count-requires
+    (λ c κs. search needs)
     loop-holds
     nth-phase-length-requires
     add-length
