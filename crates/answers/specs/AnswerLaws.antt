@@ -6,18 +6,18 @@ use native.Mathlib.Omega.{arith}
 use lib.IntN.{ℤ, pos}
 use lib.ListN.{length, take}
 use lib.Seq.{length-take-le}
-use Rattle.refusals.specs.declared.Refusal.{Refusal}
-use Rattle.refusals.specs.Refusals.{refusal}
+use Rattle.sheet_types.specs.declared.refusals.Refusal.{Refusal}
+use Rattle.sheet_types.specs.Refusals.{refusal}
 use Rattle.circumstances.specs.declared.Answer.{Answer}
 use Rattle.circumstances.specs.declared.Answer.the-variants as A
-use Rattle.request_sheets.specs.Sheet.{answerTo, bufferFor, sinesFor, starAnswer, starBuffer, Begins, storedBy, sheetStored}
-use Rattle.request_sheets.specs.SheetLaws.{fits-written, fits}
-use Rattle.decimals.specs.Texts.{Put, Counts}
-use Rattle.decimals.specs.TextLaws.{put-nil}
-use Rattle.input.specs.Input.{deltaOf, starDelta}
-use Rattle.instants.specs.declared.Reference.{Reference}
-use Rattle.instants.specs.declared.Reference.the-variants as R
-use Rattle.lines.specs.Lines.{refusalLine}
+use Rattle.request_answers.specs.Sheet.{answerTo, bufferFor, sinesFor, starAnswer, starBuffer, Begins, storedBy, sheetStored}
+use Rattle.request_answers.specs.SheetLaws.{fits-written, fits}
+use Rattle.decimal_text.specs.Texts.{Put, Counts}
+use Rattle.decimal_text.specs.TextLaws.{put-nil}
+use Rattle.request_format.specs.Input.{deltaOf, starDelta}
+use Rattle.calendar.specs.declared.Reference.{Reference}
+use Rattle.calendar.specs.declared.Reference.the-variants as R
+use Rattle.listing_lines.specs.Lines.{refusalLine}
 use Rattle.listings.specs.declared.Text.{Text}
 use Rattle.listings.specs.declared.Text.the-variants as T
 use Rattle.listings.specs.Answers.{text, answered, roomWith}

@@ -6,10 +6,10 @@ use lib.IntN.{ℤ}
 use lib.ListN.{take}
 use Rattle.circumstances.specs.declared.Answer.{Answer}
 use Rattle.circumstances.specs.declared.Answer.the-variants as A
-use Rattle.request_sheets.specs.Sheet.{answerTo, bufferFor, starAnswer, starBuffer}
-use Rattle.input.specs.Input.{deltaOf, starDelta}
-use Rattle.instants.specs.declared.Reference.{Reference}
-use Rattle.lines.specs.Lines.{refusalLine}
+use Rattle.request_answers.specs.Sheet.{answerTo, bufferFor, starAnswer, starBuffer}
+use Rattle.request_format.specs.Input.{deltaOf, starDelta}
+use Rattle.calendar.specs.declared.Reference.{Reference}
+use Rattle.listing_lines.specs.Lines.{refusalLine}
 use Rattle.listings.specs.Listings.{told, timed, printed}
 
 -- the listing of the bytes that the sheet has in the room; or "A refusal prints `refused`, number, place."

@@ -1,14 +1,14 @@
 // The answer to a request's bytes as text: the listing of its sheet, or the line of its refusal; and as a stored sheet, with that line apart.
+use calendar::Reference;
 use circumstances::Answer;
-use instants::Reference;
 use listings::Text;
-use refusals::Refusal;
+use sheet_types::refusals::Refusal;
 ghost use mathlib.Core.Path.{_≡_};
 ghost use lib.ListN.{length};
-ghost use Rattle.request_sheets.specs.Sheet.{bufferFor, sinesFor, starBuffer, starSines, Begins, sheetStored};
-ghost use Rattle.request_sheets.specs.SheetLaws.{Fits};
-ghost use Rattle.decimals.specs.Texts.{Put, Counts};
-ghost use Rattle.lines.specs.Lines.{refusalLine};
+ghost use Rattle.request_answers.specs.Sheet.{bufferFor, sinesFor, starBuffer, starSines, Begins, sheetStored};
+ghost use Rattle.request_answers.specs.SheetLaws.{Fits};
+ghost use Rattle.decimal_text.specs.Texts.{Put, Counts};
+ghost use Rattle.listing_lines.specs.Lines.{refusalLine};
 ghost use Rattle.listings.specs.Answers.{text, answered, roomWith};
 ghost use Rattle.answers.specs.Answers.{timedBy, answerText, starText, timedText, starTimedText, errorLine};
 
@@ -33,7 +33,7 @@ fn put_text(answer: Answer, room: &[u8], out: &mut [u8], reference: Reference, d
             reference,
             deltat,
         ),
-        Answer::Refused(refusal) => lines::put_refused(out, 0, refusal),
+        Answer::Refused(refusal) => listing_lines::lines::put_refused(out, 0, refusal),
     }
 }
 
@@ -43,7 +43,7 @@ pub fn put_answer(request: &[u8], sines: &mut [u32], room: &mut [u8], out: &mut 
     ensures sheet { λ r. ⌜ now (room .exit) ≡ bufferFor (now (request .entry)) (now (sines .entry)) (now (room .entry)) ⌝ }
     ensures sines { λ r. ⌜ now (sines .exit) ≡ sinesFor (now (request .entry)) (now (sines .entry)) ⌝ }
 {
-    let answer = request_sheets::sheet(request, sines, room);
+    let answer = request_answers::sheets::sheet(request, sines, room);
     put_text(answer, room, out, Reference::Nothing, 0)
 }
 
@@ -53,7 +53,7 @@ pub fn put_star_answer(request: &[u8], sines: &mut [u32], room: &mut [u8], out: 
     ensures sheet { λ r. ⌜ now (room .exit) ≡ starBuffer (now (request .entry)) (now (sines .entry)) (now (room .entry)) ⌝ }
     ensures sines { λ r. ⌜ now (sines .exit) ≡ starSines (now (request .entry)) (now (sines .entry)) ⌝ }
 {
-    let answer = request_sheets::star_sheet(request, sines, room);
+    let answer = request_answers::sheets::star_sheet(request, sines, room);
     put_text(answer, room, out, Reference::Nothing, 0)
 }
 
@@ -69,8 +69,8 @@ pub fn put_timed_answer(
     ensures sheet { λ r. ⌜ now (room .exit) ≡ bufferFor (now (request .entry)) (now (sines .entry)) (now (room .entry)) ⌝ }
     ensures sines { λ r. ⌜ now (sines .exit) ≡ sinesFor (now (request .entry)) (now (sines .entry)) ⌝ }
 {
-    let deltat = input::deltat(request);
-    let answer = request_sheets::sheet(request, sines, room);
+    let deltat = request_format::input::deltat(request);
+    let answer = request_answers::sheets::sheet(request, sines, room);
     put_text(answer, room, out, reference, deltat)
 }
 
@@ -86,8 +86,8 @@ pub fn put_timed_star_answer(
     ensures sheet { λ r. ⌜ now (room .exit) ≡ starBuffer (now (request .entry)) (now (sines .entry)) (now (room .entry)) ⌝ }
     ensures sines { λ r. ⌜ now (sines .exit) ≡ starSines (now (request .entry)) (now (sines .entry)) ⌝ }
 {
-    let deltat = input::stars::deltat(request);
-    let answer = request_sheets::star_sheet(request, sines, room);
+    let deltat = request_format::input::stars::deltat(request);
+    let answer = request_answers::sheets::star_sheet(request, sines, room);
     put_text(answer, room, out, reference, deltat)
 }
 
@@ -99,7 +99,7 @@ pub fn answer(request: &[u8], sines: &mut [u32], room: &mut [u8], out: &mut [u8]
     ensures sheet { λ r. ⌜ now (room .exit) ≡ bufferFor (now (request .entry)) (now (sines .entry)) (now (room .entry)) ⌝ }
     ensures sines { λ r. ⌜ now (sines .exit) ≡ sinesFor (now (request .entry)) (now (sines .entry)) ⌝ }
 {
-    let answer = request_sheets::sheet(request, sines, room);
+    let answer = request_answers::sheets::sheet(request, sines, room);
     let mut none = [0u8; 0];
     let need = put_text(answer, room, &mut none, Reference::Nothing, 0);
     if out.len() < need {
@@ -120,14 +120,14 @@ pub fn stored(request: &[u8], sines: &mut [u32], room: &mut [u8], line: &mut [u8
     ensures sines { λ r. ⌜ now (sines .exit) ≡ sinesFor (now (request .entry)) (now (sines .entry)) ⌝ }
     ensures counts { λ r. ⌜ Counts (r .output) (now (room .exit)) ⌝ }
 {
-    let answer = request_sheets::sheet(request, sines, room);
+    let answer = request_answers::sheets::sheet(request, sines, room);
     match answer {
         Answer::Written(written) => Streams {
             output: written,
             error: 0,
         },
         Answer::Refused(refusal) => {
-            let end = lines::put_refused(line, 0, refusal);
+            let end = listing_lines::lines::put_refused(line, 0, refusal);
             Streams {
                 output: 0,
                 error: end,

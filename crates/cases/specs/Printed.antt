@@ -6,7 +6,7 @@ use mathlib.Core.List.{List, []}
 use lib.Dec.{ltb}
 use lib.ListN.{getD, take, drop, replicate}
 use Rattle.big_endian.specs.Numbers.{twoAt}
-use Rattle.decimals.specs.Rows.{eachPart}
+use Rattle.decimal_text.specs.Rows.{eachPart}
 use Rattle.answers.specs.Answers.{answerText}
 
 -- a case of 119 bytes: the room for a sheet, two of them; how long the request is; and its bytes, of 116

@@ -5,7 +5,7 @@ use libc::STDOUT_FILENO;
 ghost use mathlib.Core.Path.{_≡_};
 ghost use Prim.Native.Nat.{_≤_};
 ghost use lib.ListN.{length};
-ghost use Rattle.decimals.specs.Texts.{Put};
+ghost use Rattle.decimal_text.specs.Texts.{Put};
 ghost use Rattle.answers.specs.Answers.{answerText};
 ghost use Rattle.cases.specs.Printed.{caseText, printed};
 ghost use Rattle.cases.specs.PrintedLaws.{Zeros};
@@ -26,9 +26,9 @@ fn put_answer(
 ) -> usize
     ensures { λ r. ⌜ Put (now (out .entry)) at (answerText (now (request .entry)) (now (sines .entry)) (now (room .entry))) (now (out .exit)) r ⌝ }
 {
-    let from = decimals::clipped(out, at);
+    let from = decimal_text::clipped(out, at);
     let n = answers::put_answer(request, sines, room, &mut out[from..]);
-    decimals::after(at, n)
+    decimal_text::after(at, n)
 }
 
 fn zeros() -> [u8; 65536]
@@ -84,6 +84,6 @@ fn main() {
     let length = io::read_full(STDIN_FILENO, &mut input);
     let mut text = text_room();
     let end = put_cases(&mut text, &input[..length]);
-    let written = decimals::clipped(&text, end);
+    let written = decimal_text::clipped(&text, end);
     io::write_all(STDOUT_FILENO, &text[..written]);
 }

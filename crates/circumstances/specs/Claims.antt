@@ -8,19 +8,19 @@ use borrow.Author.Tests.{le-leb, lt-leb, leb-true}
 use lib.Dec.{leb}
 use lib.Seq.{sets, length-sets}
 use lib.ListN.{length, drop}
-use Rattle.refusals.specs.declared.Refusal.{Refusal}
-use Rattle.refusals.specs.declared.Checked.{Checked}
-use Rattle.refusals.specs.declared.Checked.the-variants as C
-use Rattle.refusals.specs.Refusals.{refusal}
+use Rattle.sheet_types.specs.declared.refusals.Refusal.{Refusal}
+use Rattle.sheet_types.specs.declared.refusals.Checked.{Checked}
+use Rattle.sheet_types.specs.declared.refusals.Checked.the-variants as C
+use Rattle.sheet_types.specs.Refusals.{refusal}
 use Rattle.requests.specs.declared.Occultation.{Occultation}
 use Rattle.requests.specs.RequestLaws.{InLimits}
 use Rattle.requests.specs.Admission.{admitted, sinesAfter}
 use Rattle.requests.specs.AdmissionLaws.{admitted-within, admitted-four}
 use Rattle.circumstances.specs.declared.Answer.{Answer}
 use Rattle.circumstances.specs.declared.Answer.the-variants as A
-use Rattle.writing.specs.Sheet.{sheetBytes}
+use Rattle.circumstances.specs.WrittenSheet.{sheetBytes}
 use Rattle.circumstances.specs.Sheet.{answerWithin, bufferWithin, answerBy, bufferBy, sheetAnswer, sheetBuffer, sheetSines}
-use Rattle.courses.specs.Stores.{stores-start}
+use Rattle.local_circumstances.specs.Stores.{stores-start}
 use Rattle.circumstances.specs.Demand3.{Claimed}
 use Rattle.circumstances.specs.SheetSound.{said, demand3}
 

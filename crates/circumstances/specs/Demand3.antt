@@ -4,10 +4,10 @@ use mathlib.Core.List.{List}
 use Prim.Native.Nat.{ℕ}
 use Rattle.requests.specs.declared.Occultation.{Occultation}
 use Rattle.seconds.specs.Exact.{ExactlyInside, WithinUnits}
-use Rattle.courses.specs.Demand3.{ExactAnswers, EachSecond, Demand3}
+use Rattle.local_circumstances.specs.Demand3.{ExactAnswers, EachSecond, Demand3}
 use Rattle.circumstances.specs.declared.Answer.{Answer}
 use Rattle.circumstances.specs.declared.Answer.the-variants as A
-use Rattle.sheet_entries.specs.Course.{courseOf}
+use Rattle.local_circumstances.specs.Course.{courseOf}
 
 -- "From the same sines, cosines and station place, decide for each whole second of the window, with no rounding at all"
 abbrev pub exactAnswers : Occultation → ExactAnswers

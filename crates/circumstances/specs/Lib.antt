@@ -5,3 +5,5 @@ pub mod Marked
 -- laws, for callers and for the proofs
 pub mod SheetSound
 pub mod Claims
+-- what to believe: the sheet of an occultation
+pub mod WrittenSheet

@@ -3,9 +3,9 @@ use mathlib.Core.Path.{_≡_, refl}
 use mathlib.Core.List.{[], _∷_}
 use mathlib.Core.Bool.{false}
 use lib.IntN.{ℤ, pos, negsuc}
-use Rattle.numbers.specs.Near.{near}
-use Rattle.numbers.specs.Root.{root}
-use Rattle.numbers.specs.Examples.{near-half, near-half-below, near-past-half-below}
+use Rattle.rounding.specs.Near.{near}
+use Rattle.rounding.specs.Root.{root}
+use Rattle.rounding.specs.Examples.{near-half, near-half-below, near-past-half-below}
 use Rattle.sine_table.specs.Table.{factorial, numerator, denominator, common, term, series, S}
 use Rattle.sine.specs.FirstQuadrant.{arc, sag, between, capped, firstQuadrant}
 use Rattle.sine.specs.Sine.{reduced, sineIn, sine, cosine}
@@ -14,21 +14,21 @@ use Rattle.elements.specs.Polynomial.{step, quadraticAt, cubicAt}
 use Rattle.station.specs.declared.Station.{Station}
 use Rattle.station.specs.Place.{under, W, C, Z, h, R, P, turnIn, ephemerisLongitude, placeOf}
 use Rattle.station.specs.Examples.{pole-R, pole-P, equator-R, equator-P}
-use Rattle.geometry.specs.Shadow.{H, q, ξ, η, ζ, u, v, L, state}
-use Rattle.geometry.specs.Direction.{direction}
-use Rattle.geometry.specs.Examples.{worked}
+use Rattle.shadow_geometry.specs.Shadow.{H, q, ξ, η, ζ, u, v, L, state}
+use Rattle.shadow_geometry.specs.Direction.{direction}
+use Rattle.shadow_geometry.specs.Examples.{worked}
 use Rattle.shadow.specs.Second as Shadow
 use Rattle.shadow.specs.Examples.{direction-of-1-1, direction-of-0-minus-5}
-use Rattle.contact_entries.specs.Entries.{someBetween}
-use Rattle.phases.specs.declared.Phase.the-variants.{Penumbra}
+use Rattle.contacts.specs.Entries.{someBetween}
+use Rattle.sheet_types.specs.declared.phases.Phase.the-variants.{Penumbra}
 use Rattle.requests.specs.declared.Request.{Request}
 use Rattle.requests.specs.Requests.{ofEclipse}
-use Rattle.windows.specs.Windows.{secondCount, eachSecond}
+use Rattle.requests.specs.Windows.{secondCount, eachSecond}
 use Rattle.seconds.specs.Seconds.{stateAt}
-use Rattle.kinds.specs.Entries.{opened}
-use Rattle.kinds.specs.StoredSeconds.{stored}
-use Rattle.courses.specs.Courses.{statesOf, phaseEntries}
-use Rattle.sheet_entries.specs.Course.{courseOf}
+use Rattle.sheet_format.specs.Entries.{opened}
+use Rattle.sheet_format.specs.StoredSeconds.{stored}
+use Rattle.local_circumstances.specs.Courses.{statesOf, phaseEntries}
+use Rattle.local_circumstances.specs.Course.{courseOf}
 
 -- "station 7, latitude 90,000,000, longitude 0, height 0"; document 02, wish 1: "a ΔT of 0 keeps its cases"
 abbrev pole : Station

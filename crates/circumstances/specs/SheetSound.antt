@@ -4,20 +4,20 @@ use Prim.Native.Nat.{ℕ}
 use mathlib.Core.Path.{_≡_, refl}
 use lib.ListN.{length}
 use Rattle.requests.specs.declared.Occultation.{Occultation}
-use Rattle.windows.specs.WindowLaws.{in-window-size}
+use Rattle.requests.specs.WindowLaws.{in-window-size}
 use Rattle.requests.specs.RequestLaws.{InLimits}
 use Rattle.seconds.specs.SecondLaws.{each-second}
-use Rattle.rules.specs.Rules.{start}
-use Rattle.sheets.specs.Sheets.{sheet, readSheet}
-use Rattle.sheets.specs.WellFormed.{WellFormed}
-use Rattle.sheets.specs.RoundTrip.{read-back}
-use Rattle.courses.specs.Courses.{sheetOf}
-use Rattle.courses.specs.Demand3.{EachSecond, Demand3}
-use Rattle.courses.specs.SheetLaws.{kept-sheet}
-use Rattle.courses.specs.Demand3Laws.{changes-once, ends-exact, turns-alternate}
-use Rattle.sheet_entries.specs.Course.{courseOf}
-use Rattle.sheet_entries.specs.CourseSound.{sound}
-use Rattle.writing.specs.Sheet.{sheetBytes}
+use Rattle.sheet_rules.specs.Rules.{start}
+use Rattle.sheet_codec.specs.Sheets.{sheet, readSheet}
+use Rattle.sheet_codec.specs.WellFormed.{WellFormed}
+use Rattle.sheet_codec.specs.RoundTrip.{read-back}
+use Rattle.local_circumstances.specs.Courses.{sheetOf}
+use Rattle.local_circumstances.specs.Demand3.{EachSecond, Demand3}
+use Rattle.local_circumstances.specs.SheetLaws.{kept-sheet}
+use Rattle.local_circumstances.specs.Demand3Laws.{changes-once, ends-exact, turns-alternate}
+use Rattle.local_circumstances.specs.Course.{courseOf}
+use Rattle.local_circumstances.specs.CourseSound.{sound}
+use Rattle.circumstances.specs.WrittenSheet.{sheetBytes}
 use Rattle.circumstances.specs.Demand3.{exactAnswers}
 
 module _ (o : Occultation) (i : InLimits o) where

@@ -1,7 +1,9 @@
 // From an occultation, of the Sun or of a star, to its contact sheet.
-use refusals::Checked;
-use refusals::Refusal;
+pub mod writing;
+
 use requests::Occultation;
+use sheet_types::refusals::Checked;
+use sheet_types::refusals::Refusal;
 use station::Place;
 ghost use mathlib.Core.Path.{_≡_};
 ghost use Rattle.sine_table.specs.Table.{Sines};
@@ -32,14 +34,14 @@ fn sheet_from(
     ensures { λ r. ⌜ r ≡ answerWithin o (now (buf .entry)) ⌝ }
     ensures { λ r. ⌜ now (buf .exit) ≡ bufferWithin o (now (buf .entry)) ⌝ }
 {
-    let need = writing::lengths::sheet_length(o, runs);
+    let need = crate::writing::lengths::sheet_length(o, runs);
     if buf.len() < need {
         return Answer::Refused(Refusal {
             number: 4,
             place: need,
         });
     }
-    let length = writing::write_sheet(table, o, place, closest, runs, buf);
+    let length = crate::writing::write_sheet(table, o, place, closest, runs, buf);
     Answer::Written(length)
 }
 
@@ -52,7 +54,7 @@ fn sheet_within(table: &[u32], o: Occultation, buf: &mut [u8]) -> Answer
     let s = o.station;
     let place = station::geocentric(table, s);
     let mut runs = [0u8; 21601];
-    let known = bisection::fill(table, o, place, &mut runs);
+    let known = adaptive_sampling::bisection::fill(table, o, place, &mut runs);
     let closest = known.best;
     let count = known.count;
     sheet_from(table, o, place, closest, &runs[..count], buf)

@@ -3,12 +3,12 @@ use Prim.Native.Nat.{ℕ, zero, suc, _-_, _≤_, _<_}
 use mathlib.Core.Path.{_≡_}
 use mathlib.Core.List.{List, [], _∷_}
 use lib.ListN.{length, getD, drop}
-use Rattle.runs.specs.Runs.{decoded, Whole}
+use Rattle.run_length.specs.Runs.{decoded, Whole}
 use Rattle.contacts.specs.declared.Cursor.{Cursor}
 use Rattle.contacts.specs.declared.Next.{Next}
 use Rattle.contacts.specs.declared.Next.the-variants.{Found, Done}
-use Rattle.contact_entries.specs.declared.Entry.{Entry}
-use Rattle.contact_entries.specs.Entries.{Last, none, last, side, walk, from, to}
+use Rattle.contacts.specs.declared.entries.Entry.{Entry}
+use Rattle.contacts.specs.Entries.{Last, none, last, side, walk, from, to}
 
 -- the last sure second before a cursor: none at the start, and else the second just before it.
 -- (A cursor that a step gave has a sure second just before it, or the whole window behind it.)

@@ -4,12 +4,12 @@ use mathlib.Core.Path.{_≡_, refl, ap, _∙_}
 use mathlib.Core.List.{List, [], _∷_}
 use native.Mathlib.Omega.{arith}
 use lib.ListN.{length}
-use Rattle.runs.specs.Runs.{decoded, Whole}
+use Rattle.run_length.specs.Runs.{decoded, Whole}
 use Rattle.contacts.specs.declared.Cursor.{Cursor}
 use Rattle.contacts.specs.declared.Next.{Next}
 use Rattle.contacts.specs.declared.Next.the-variants.{Found, Done}
-use Rattle.contact_entries.specs.declared.Entry.{Entry}
-use Rattle.contact_entries.specs.Entries.{entries, from, to}
+use Rattle.contacts.specs.declared.entries.Entry.{Entry}
+use Rattle.contacts.specs.Entries.{entries, from, to}
 use Rattle.contacts.specs.Step.{entriesFrom, At, stepped, Stepped}
 
 pub all-at-start : (s : List ℕ) → entriesFrom s 0 ≡ entries s

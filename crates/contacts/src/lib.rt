@@ -1,13 +1,15 @@
 // Entries of one phase, from the states of the seconds of a window, which are stored as runs (`runs`).
 // A state is 0 outside, 1 inside, any other unsure. Seconds are counted from the window's first, which is 0.
 // What the entries are, and what holds of them, is `contact_entries`. `step` is an inner function, for the crates above: it names no shadow and no byte of a sheet.
-use contact_entries::Entry;
+pub mod entries;
+
+use crate::entries::Entry;
 ghost use mathlib.Core.Path.{_≡_};
 ghost use mathlib.Core.List.{[], _∷_};
 ghost use Prim.Native.Nat.{_+_, _≤_, _<_};
 ghost use lib.ListN.{length};
-ghost use Rattle.runs.specs.Runs.{decoded, Whole};
-ghost use Rattle.contact_entries.specs.Entries.{between, side};
+ghost use Rattle.run_length.specs.Runs.{decoded, Whole};
+ghost use Rattle.contacts.specs.Entries.{between, side};
 ghost use Rattle.contacts.specs.Step.{At, Stepped};
 
 pub struct Cursor {
@@ -55,13 +57,13 @@ fn after_sure(runs: &[u8], phase: usize, c: Cursor) -> Next
         if run == runs.len() {
             return Next::Done;
         }
-        let here = runs::run_at(runs, run, phase);
+        let here = run_length::run_at(runs, run, phase);
         if 1 < here.state {
             // an unsure spell: the first sure second ends the search at once
             let mut j = i + here.seconds;
             run = here.after;
             while run < runs.len() {
-                let next = runs::run_at(runs, run, phase);
+                let next = run_length::run_at(runs, run, phase);
                 if next.state <= 1 {
                     break 'seconds j;
                 }
@@ -80,7 +82,7 @@ fn after_sure(runs: &[u8], phase: usize, c: Cursor) -> Next
     };
     // the rest of the run of `to` adds nothing
     let from = i - 1;
-    let last = runs::run_at(runs, run, phase);
+    let last = run_length::run_at(runs, run, phase);
     let found = entry_between(was, last.state, from, to);
     let end = to + last.seconds;
     let after = Cursor {
@@ -99,7 +101,7 @@ fn first_entry(runs: &[u8], phase: usize) -> Next
     let mut i = 0;
     let mut run = 0;
     while run < runs.len() {
-        let here = runs::run_at(runs, run, phase);
+        let here = run_length::run_at(runs, run, phase);
         let next = i + here.seconds;
         if here.state <= 1 {
             let after = Cursor {

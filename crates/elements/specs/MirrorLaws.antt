@@ -10,13 +10,13 @@ use Prim.Native.Nat.{ℕ, _≤_}
 use native.Mathlib.Omega.{arith}
 use lib.IntN.{ℤ, negℤ, natAbs, _+ℤ_, _*ℤ_}
 use lib.Signed.{leZ-yes}
-use Rattle.numbers.specs.declared.Limits.{Limits}
-use Rattle.numbers.specs.Limits.{_±_, outOfRange, firstOutOfRange}
-use Rattle.numbers.specs.Ring.{_⊕_, _⊗_, opp, ring, v0, v1}
-use Rattle.numbers.specs.Units.{hour}
-use Rattle.numbers.specs.Near.{near}
-use Rattle.numbers.specs.NearLaws.{near-opposite}
-use Rattle.refusals.specs.Refusals.{ofLimits, andThen}
+use Rattle.rounding.specs.declared.Limits.{Limits}
+use Rattle.rounding.specs.Limits.{_±_, outOfRange, firstOutOfRange}
+use Rattle.rounding.specs.Ring.{_⊕_, _⊗_, opp, ring, v0, v1}
+use Rattle.rounding.specs.Units.{hour}
+use Rattle.rounding.specs.Near.{near}
+use Rattle.rounding.specs.NearLaws.{near-opposite}
+use Rattle.sheet_types.specs.Refusals.{ofLimits, andThen}
 use Rattle.elements.specs.declared.Cubic.{Cubic}
 use Rattle.elements.specs.declared.Quadratic.{Quadratic}
 use Rattle.elements.specs.declared.Elements.{Elements}

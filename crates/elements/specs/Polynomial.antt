@@ -1,7 +1,7 @@
 -- Values at a second of what is given for each hour.
 use lib.IntN.{ℤ, _+ℤ_, _*ℤ_}
-use Rattle.numbers.specs.Units.{hour}
-use Rattle.numbers.specs.Near.{near}
+use Rattle.rounding.specs.Units.{hour}
+use Rattle.rounding.specs.Near.{near}
 use Rattle.elements.specs.declared.Cubic.{Cubic}
 use Rattle.elements.specs.declared.Quadratic.{Quadratic}
 

@@ -3,10 +3,10 @@ use Prim.Native.Nat.{ℕ, _+_, _*_, _≤_}
 use native.Mathlib.Omega.{arith}
 use lib.IntN.{ℤ, natAbs, _*ℤ_}
 use lib.Signed.{leZ-yes}
-use Rattle.numbers.specs.Order.{natAbs-sum, natAbs-product-le}
-use Rattle.numbers.specs.Units.{hour}
-use Rattle.numbers.specs.Near.{near}
-use Rattle.numbers.specs.NearLaws.{near-size}
+use Rattle.rounding.specs.Order.{natAbs-sum, natAbs-product-le}
+use Rattle.rounding.specs.Units.{hour}
+use Rattle.rounding.specs.Near.{near}
+use Rattle.rounding.specs.NearLaws.{near-size}
 use Rattle.elements.specs.declared.Cubic.{Cubic}
 use Rattle.elements.specs.declared.Quadratic.{Quadratic}
 use Rattle.elements.specs.Polynomial.{step, quadraticAt, cubicAt}

@@ -5,10 +5,10 @@ use native.Mathlib.Omega.{arith}
 use lib.Dec.{lit≤}
 use lib.IntN.{pos, natAbs}
 use lib.Signed.{_≤ℤ_}
-use Rattle.numbers.specs.declared.Limits.the-variants.{InRange}
-use Rattle.numbers.specs.Limits.{Row, row, _±_}
-use Rattle.numbers.specs.LimitsLaws.{each-in-range}
-use Rattle.numbers.specs.Order.{natAbs-le, natAbs-between}
+use Rattle.rounding.specs.declared.Limits.the-variants.{InRange}
+use Rattle.rounding.specs.Limits.{Row, row, _±_}
+use Rattle.rounding.specs.LimitsLaws.{each-in-range}
+use Rattle.rounding.specs.Order.{natAbs-le, natAbs-between}
 use Rattle.elements.specs.declared.Cubic.{Cubic}
 use Rattle.elements.specs.declared.Quadratic.{Quadratic}
 use Rattle.elements.specs.declared.Axis.{Axis}

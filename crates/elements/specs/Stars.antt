@@ -2,10 +2,10 @@
 use mathlib.Core.List.{List, [], _∷_, _++_}
 use lib.IntN.{ℤ, pos}
 use lib.ListN.{getD}
-use Rattle.numbers.specs.declared.Limits.{Limits}
-use Rattle.numbers.specs.Limits.{Row, row, _±_, firstOutOfRange}
-use Rattle.refusals.specs.declared.Checked.{Checked}
-use Rattle.refusals.specs.Refusals.{ofLimits, andThen}
+use Rattle.rounding.specs.declared.Limits.{Limits}
+use Rattle.rounding.specs.Limits.{Row, row, _±_, firstOutOfRange}
+use Rattle.sheet_types.specs.declared.refusals.Checked.{Checked}
+use Rattle.sheet_types.specs.Refusals.{ofLimits, andThen}
 use Rattle.elements.specs.declared.Quadratic.{Quadratic}
 use Rattle.elements.specs.declared.Axis.{Axis}
 use Rattle.elements.specs.declared.Cone.{Cone}

@@ -6,7 +6,7 @@ ghost use mathlib.Core.Path.{_≡_};
 ghost use Prim.Native.Nat.{_+_, _*_, _≤_, _<_};
 ghost use lib.IntN.{natAbs};
 ghost use lib.ListN.{length};
-ghost use Rattle.numbers.specs.Value.{Value};
+ghost use Rattle.rounding.specs.Value.{Value};
 ghost use Rattle.elements.specs.Polynomial.{step, quadraticAt, cubicAt};
 ghost use Rattle.elements.specs.Elements.{fields, cubicFrom, quadraticFrom, elementsOf, rangeOf, elementsChecked};
 ghost use Rattle.elements.specs.Sizes.{CubicSizes, QuadraticSizes};
@@ -222,21 +222,21 @@ pub fn from_numbers(n: &[i64]) -> Elements
 }
 
 // Whether every element is in its range, or the first that is not, 0 to 21.
-fn in_range(e: Elements) -> numbers::Limits
+fn in_range(e: Elements) -> rounding::Limits
     ensures { λ r. ⌜ r ≡ rangeOf e ⌝ }
 {
     let values = listed(e);
     let lows = LOWS;
     let highs = HIGHS;
-    numbers::first_out_of_range(&values, &lows, &highs)
+    rounding::first_out_of_range(&values, &lows, &highs)
 }
 
 // Refusal 2 with the first element that is out of its range, 0 to 21.
-pub fn check(e: Elements) -> refusals::Checked
+pub fn check(e: Elements) -> sheet_types::refusals::Checked
     ensures { λ r. ⌜ r ≡ elementsChecked e ⌝ }
 {
     let limits = in_range(e);
-    refusals::of_limits(2, limits)
+    sheet_types::refusals::of_limits(2, limits)
 }
 
 // One step of a value at t seconds: p times t over an hour to the nearest, and the next lower coefficient.
@@ -244,7 +244,7 @@ fn step(p: i64, a: i64, t: i64) -> i64
     requires { ⌜ (natAbs p ≤ 200000000) × (natAbs a ≤ 400000000) × (natAbs t ≤ 10800) ⌝ }
     ensures { λ r. ⌜ Value (step t p a) (3 * natAbs p + natAbs a) r ⌝ }
 {
-    numbers::near_hour(p * t) + a
+    rounding::near_hour(p * t) + a
 }
 
 // The value at t seconds of d, l or mu: from the highest coefficient, each step to the nearest unit.

@@ -3,7 +3,7 @@ use super::Axis;
 use super::Body;
 use super::Quadratic;
 use super::Star;
-use refusals::Checked;
+use sheet_types::refusals::Checked;
 ghost use mathlib.Core.Path.{_≡_};
 ghost use Prim.Native.Nat.{_≤_};
 ghost use lib.ListN.{length};
@@ -83,23 +83,23 @@ pub fn from_numbers(n: &[i64]) -> Star
 }
 
 // Whether every element is in its range, or the first that is not, 0 to 11.
-fn in_range(s: Star) -> numbers::Limits
+fn in_range(s: Star) -> rounding::Limits
     ensures { λ r. ⌜ r ≡ starRangeOf s ⌝ }
 {
     let values = listed(s);
     let lows = LOWS;
     let highs = HIGHS;
-    numbers::first_out_of_range(&values, &lows, &highs)
+    rounding::first_out_of_range(&values, &lows, &highs)
 }
 
 // Whether the radius is in its range.
-fn radius_in_range(radius: i64) -> numbers::Limits
+fn radius_in_range(radius: i64) -> rounding::Limits
     ensures { λ r. ⌜ r ≡ radiusRangeOf radius ⌝ }
 {
     let values = [radius];
     let lows = [27_200_000i64];
     let highs = [27_300_000i64];
-    numbers::first_out_of_range(&values, &lows, &highs)
+    rounding::first_out_of_range(&values, &lows, &highs)
 }
 
 // Refusal 2 with the first element that is out of its range, 0 to 11; then 13 with place 0 for the radius.
@@ -107,13 +107,13 @@ fn check(s: Star) -> Checked
     ensures { λ r. ⌜ r ≡ starChecked s ⌝ }
 {
     let limits = in_range(s);
-    let of_elements = refusals::of_limits(2, limits);
+    let of_elements = sheet_types::refusals::of_limits(2, limits);
     if let Checked::Refused(refusal) = of_elements {
         return Checked::Refused(refusal);
     }
     let radius = s.radius;
     let of_radius = radius_in_range(radius);
-    refusals::of_limits(13, of_radius)
+    sheet_types::refusals::of_limits(13, of_radius)
 }
 
 // What does not change: no other coefficient.

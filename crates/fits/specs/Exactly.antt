@@ -9,13 +9,13 @@ use lib.Dec.{eqb}
 use lib.IntN.{ℤ, pos, negsuc, negℤ, natAbs}
 use lib.Signed.{_≤ℤ_}
 use lib.ListN.{length, getD}
-use Rattle.numbers.specs.declared.Limits.{Limits}
-use Rattle.numbers.specs.declared.Limits.the-variants as L
-use Rattle.numbers.specs.Limits.{firstOutOfRange}
-use Rattle.numbers.specs.LimitsLaws.{each-in-range}
-use Rattle.numbers.specs.Order.{≤-parts, natAbs-le, le-natAbs, neg-natAbs}
-use Rattle.refusals.specs.declared.Refusal.{Refusal}
-use Rattle.refusals.specs.Refusals.{refusal}
+use Rattle.rounding.specs.declared.Limits.{Limits}
+use Rattle.rounding.specs.declared.Limits.the-variants as L
+use Rattle.rounding.specs.Limits.{firstOutOfRange}
+use Rattle.rounding.specs.LimitsLaws.{each-in-range}
+use Rattle.rounding.specs.Order.{≤-parts, natAbs-le, le-natAbs, neg-natAbs}
+use Rattle.sheet_types.specs.declared.refusals.Refusal.{Refusal}
+use Rattle.sheet_types.specs.Refusals.{refusal}
 use Rattle.elements.specs.declared.Cubic.{Cubic}
 use Rattle.elements.specs.Elements.{cubicFrom}
 use Rattle.fits.specs.declared.Answer.{Answer}

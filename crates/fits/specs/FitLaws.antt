@@ -7,13 +7,13 @@ use borrow.Author.Tests.{eq-eqb, ne-eqb}
 use lib.IntN.{ℤ, pos, negℤ, natAbs, _-ℤ_}
 use lib.Signed.{_≤ℤ_}
 use lib.ListN.{length, getD, take}
-use Rattle.numbers.specs.declared.Limits.the-variants as L
-use Rattle.numbers.specs.Parts.{is-self, is-minus}
-use Rattle.numbers.specs.Limits.{firstOutOfRange, EachInRange}
-use Rattle.numbers.specs.LimitsLaws.{each-in-range}
-use Rattle.numbers.specs.Units.{hour}
-use Rattle.numbers.specs.Order.{natAbs-by, natAbs-le, natAbs-between, natAbs-product-le}
-use Rattle.refusals.specs.Refusals.{refusal}
+use Rattle.rounding.specs.declared.Limits.the-variants as L
+use Rattle.rounding.specs.Parts.{is-self, is-minus}
+use Rattle.rounding.specs.Limits.{firstOutOfRange, EachInRange}
+use Rattle.rounding.specs.LimitsLaws.{each-in-range}
+use Rattle.rounding.specs.Units.{hour}
+use Rattle.rounding.specs.Order.{natAbs-by, natAbs-le, natAbs-between, natAbs-product-le}
+use Rattle.sheet_types.specs.Refusals.{refusal}
 use Rattle.elements.specs.declared.Elements.{Elements}
 use Rattle.elements.specs.Elements.{cubicFrom, ranges}
 use Rattle.fits.specs.declared.Answer.the-variants as A

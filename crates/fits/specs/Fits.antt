@@ -5,12 +5,12 @@ use Prim.Native.Nat.{ℕ}
 use lib.Dec.{eqb}
 use lib.IntN.{ℤ, pos, negℤ, _-ℤ_, _*ℤ_}
 use lib.ListN.{length, getD}
-use Rattle.numbers.specs.declared.Limits.{Limits}
-use Rattle.numbers.specs.declared.Limits.the-variants as L
-use Rattle.numbers.specs.Limits.{Row, row, _±_, firstOutOfRange}
-use Rattle.numbers.specs.Units.{hour}
-use Rattle.refusals.specs.declared.Refusal.{Refusal}
-use Rattle.refusals.specs.Refusals.{refusal}
+use Rattle.rounding.specs.declared.Limits.{Limits}
+use Rattle.rounding.specs.declared.Limits.the-variants as L
+use Rattle.rounding.specs.Limits.{Row, row, _±_, firstOutOfRange}
+use Rattle.rounding.specs.Units.{hour}
+use Rattle.sheet_types.specs.declared.refusals.Refusal.{Refusal}
+use Rattle.sheet_types.specs.Refusals.{refusal}
 use Rattle.elements.specs.declared.Cubic.{Cubic}
 use Rattle.elements.specs.Elements.{cubicFrom}
 use Rattle.elements.specs.Polynomial.{cubicAt}

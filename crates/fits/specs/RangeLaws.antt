@@ -9,11 +9,11 @@ use lib.IntN.{ℤ, pos, negℤ}
 use lib.Signed.{ltZ, _≤ℤ_, clashℤ}
 use lib.ListN.{length, getD, replicate, length-map}
 use lib.Seq.{ext-getD}
-use Rattle.numbers.specs.declared.Limits.{Limits}
-use Rattle.numbers.specs.declared.Limits.the-variants.{InRange, OutOfRange}
-use Rattle.numbers.specs.Limits.{Row, row, _±_, outOfRange, firstOutOfRange, EachInRange, rows}
-use Rattle.numbers.specs.LimitsLaws.{out-within}
-use Rattle.numbers.specs.Order.{ltZ-true}
+use Rattle.rounding.specs.declared.Limits.{Limits}
+use Rattle.rounding.specs.declared.Limits.the-variants.{InRange, OutOfRange}
+use Rattle.rounding.specs.Limits.{Row, row, _±_, outOfRange, firstOutOfRange, EachInRange, rows}
+use Rattle.rounding.specs.LimitsLaws.{out-within}
+use Rattle.rounding.specs.Order.{ltZ-true}
 use Rattle.fits.specs.Fits.{hours, givenRanges}
 
 not-below : (x y : ℤ) → y ≤ℤ x → ltZ x y ≡ false

@@ -5,11 +5,11 @@ use Prim.Native.Nat.{ℕ, zero, suc, _≤_}
 use native.Mathlib.Omega.{arith}
 use lib.IntN.{ℤ, pos, negsuc, natAbs, _+ℤ_, _-ℤ_, _*ℤ_}
 use lib.Signed.{leZ-yes}
-use Rattle.numbers.specs.Order.{natAbs-product}
-use Rattle.numbers.specs.Ring.{num, _⊕_, _⊖_, _⊗_, ring, v0, v1, v2}
-use Rattle.numbers.specs.Near.{near}
-use Rattle.numbers.specs.NearLaws.{near-error}
-use Rattle.numbers.specs.Units.{hour}
+use Rattle.rounding.specs.Order.{natAbs-product}
+use Rattle.rounding.specs.Ring.{num, _⊕_, _⊖_, _⊗_, ring, v0, v1, v2}
+use Rattle.rounding.specs.Near.{near}
+use Rattle.rounding.specs.NearLaws.{near-error}
+use Rattle.rounding.specs.Units.{hour}
 use Rattle.elements.specs.declared.Cubic.{Cubic}
 use Rattle.elements.specs.Polynomial.{step, cubicAt}
 use Rattle.fits.specs.Fits.{second}

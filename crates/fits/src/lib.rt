@@ -1,10 +1,10 @@
 // Fits from the spreadsheet: whether a cubic's four coefficients may stand for seven tabulated hourly values.
-use refusals::Refusal;
+use sheet_types::refusals::Refusal;
 ghost use mathlib.Core.Path.{_≡_};
 ghost use Prim.Native.Nat.{_≤_, _<_};
 ghost use lib.IntN.{natAbs, _-ℤ_};
 ghost use lib.ListN.{length};
-ghost use Rattle.numbers.specs.Limits.{firstOutOfRange};
+ghost use Rattle.rounding.specs.Limits.{firstOutOfRange};
 ghost use Rattle.elements.specs.Polynomial.{cubicAt};
 ghost use Rattle.elements.specs.Elements.{cubicFrom};
 ghost use Rattle.elements.specs.Sizes.{CubicSizes};
@@ -22,23 +22,23 @@ pub enum Answer {
 }
 
 // Whether the tolerance (place 0) and the tabulated values (1 to 7) are in their ranges, or the first that is not.
-fn given_in_range(tabulated: &[i64], tolerance: i64) -> numbers::Limits
+fn given_in_range(tabulated: &[i64], tolerance: i64) -> rounding::Limits
     requires { ⌜ length (now tabulated) ≡ 7 ⌝ }
     ensures { λ r. ⌜ r ≡ firstOutOfRange 0 (givenRanges tolerance (now (tabulated .entry))) ⌝ }
 {
     if tolerance < 0 {
-        return numbers::Limits::OutOfRange(0);
+        return rounding::Limits::OutOfRange(0);
     }
     if 1000 < tolerance {
-        return numbers::Limits::OutOfRange(0);
+        return rounding::Limits::OutOfRange(0);
     }
     let lows = [-1_000_000_000; 7];
     let highs = [1_000_000_000; 7];
-    let found = numbers::first_out_of_range(tabulated, &lows, &highs);
-    let numbers::Limits::OutOfRange(i) = found else {
+    let found = rounding::first_out_of_range(tabulated, &lows, &highs);
+    let rounding::Limits::OutOfRange(i) = found else {
         return found;
     };
-    numbers::Limits::OutOfRange(i + 1)
+    rounding::Limits::OutOfRange(i + 1)
 }
 
 // The ranges of x: ±200,000,000; ±100,000,000; ±100,000; ±10,000.
@@ -47,13 +47,13 @@ const LOWS: [i64; 4] = [-200_000_000, -100_000_000, -100_000, -10_000];
 const HIGHS: [i64; 4] = [200_000_000, 100_000_000, 100_000, 10_000];
 
 // Whether the four coefficients are in the ranges of x, or the first that is not.
-fn coefficients_in_range(coefficients: &[i64]) -> numbers::Limits
+fn coefficients_in_range(coefficients: &[i64]) -> rounding::Limits
     requires { ⌜ length (now coefficients) ≡ 4 ⌝ }
     ensures { λ r. ⌜ r ≡ firstOutOfRange 0 (coefficientRanges (cubicFrom (now (coefficients .entry)) 0)) ⌝ }
 {
     let lows = LOWS;
     let highs = HIGHS;
-    numbers::first_out_of_range(coefficients, &lows, &highs)
+    rounding::first_out_of_range(coefficients, &lows, &highs)
 }
 
 // How far a cubic's value at hour i, 0 to 6 for -3 to 3, is from the tabulated one.
@@ -87,7 +87,7 @@ fn differences(coefficients: &[i64], tabulated: &[i64]) -> [i64; 7]
 }
 
 // Whether the value is within the tolerance at every hour, or the first hour at which it is not.
-fn hours_in_range(coefficients: &[i64], tabulated: &[i64], tolerance: i64) -> numbers::Limits
+fn hours_in_range(coefficients: &[i64], tabulated: &[i64], tolerance: i64) -> rounding::Limits
     requires { ⌜ (InRanges (now coefficients) (now tabulated)) × (natAbs tolerance ≤ 1000) ⌝ }
     ensures { λ r. ⌜ r ≡ firstOutOfRange 0 (hourRanges (cubicFrom (now (coefficients .entry)) 0) (now (tabulated .entry)) tolerance) ⌝ }
 {
@@ -95,7 +95,7 @@ fn hours_in_range(coefficients: &[i64], tabulated: &[i64], tolerance: i64) -> nu
     let low = -tolerance;
     let lows = [low; 7];
     let highs = [tolerance; 7];
-    numbers::first_out_of_range(&values, &lows, &highs)
+    rounding::first_out_of_range(&values, &lows, &highs)
 }
 
 // Accepts a proposed fit, four coefficients for seven tabulated values (hours -3 to 3), or refuses it. Any numbers.
@@ -116,14 +116,14 @@ pub fn fit(coefficients: &[i64], tabulated: &[i64], tolerance: i64) -> Answer
     }
     let given = given_in_range(tabulated, tolerance);
     let proposed = coefficients_in_range(coefficients);
-    if let numbers::Limits::OutOfRange(place) = given {
+    if let rounding::Limits::OutOfRange(place) = given {
         return Answer::Refused(Refusal { number: 18, place });
     }
-    if let numbers::Limits::OutOfRange(place) = proposed {
+    if let rounding::Limits::OutOfRange(place) = proposed {
         return Answer::Refused(Refusal { number: 2, place });
     }
     let hours = hours_in_range(coefficients, tabulated, tolerance);
-    if let numbers::Limits::OutOfRange(place) = hours {
+    if let rounding::Limits::OutOfRange(place) = hours {
         return Answer::Refused(Refusal { number: 17, place });
     }
     Answer::Accepted

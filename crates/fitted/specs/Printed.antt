@@ -4,10 +4,10 @@ use Prim.Native.Nat.{ℕ, _*_}
 use mathlib.Core.List.{List, [], _∷_, map}
 use lib.IntN.{ℤ}
 use Rattle.big_endian.specs.Numbers.{eightAt}
-use Rattle.request_bytes.specs.Layout.{signed}
-use Rattle.decimals.specs.Texts.{letters}
-use Rattle.decimals.specs.Rows.{eachPart}
-use Rattle.lines.specs.Lines.{refusalLine}
+use Rattle.request_format.specs.Layout.{signed}
+use Rattle.decimal_text.specs.Texts.{letters}
+use Rattle.decimal_text.specs.Rows.{eachPart}
+use Rattle.listing_lines.specs.Lines.{refusalLine}
 use Rattle.fits.specs.declared.Answer.{Answer}
 use Rattle.fits.specs.declared.Answer.the-variants.{Accepted, Refused}
 use Rattle.fits.specs.Fits.{fitOf}

@@ -4,12 +4,12 @@ use mathlib.Core.Path.{_≡_, sym, _∙_}
 use mathlib.Core.List.{List, [], _∷_, map}
 use native.Mathlib.Omega.{arith}
 use lib.IntN.{ℤ, pos, negsuc, _-ℤ_}
-use Rattle.numbers.specs.Parts.{is-self, is-minus, is-same}
-use Rattle.refusals.specs.declared.Refusal.{Refusal}
-use Rattle.request_bytes.specs.Layout.{signed}
-use Rattle.request_bytes.specs.NumberLaws.{signed-above}
-use Rattle.decimals.specs.Texts.{letters, Put}
-use Rattle.lines.specs.Lines.{refusalLine}
+use Rattle.rounding.specs.Parts.{is-self, is-minus, is-same}
+use Rattle.sheet_types.specs.declared.refusals.Refusal.{Refusal}
+use Rattle.request_format.specs.Layout.{signed}
+use Rattle.request_format.specs.NumberLaws.{signed-above}
+use Rattle.decimal_text.specs.Texts.{letters, Put}
+use Rattle.listing_lines.specs.Lines.{refusalLine}
 use Rattle.fits.specs.declared.Answer.{Answer}
 use Rattle.fits.specs.declared.Answer.the-variants.{Accepted, Refused}
 use Rattle.fits.specs.Fits.{fitOf}

@@ -5,8 +5,8 @@ use libc::STDOUT_FILENO;
 ghost use mathlib.Core.Path.{_≡_};
 ghost use Prim.Native.Nat.{_+_, _*_, _≤_, _<_};
 ghost use lib.ListN.{length};
-ghost use Rattle.request_bytes.specs.Layout.{signed};
-ghost use Rattle.decimals.specs.Texts.{Put};
+ghost use Rattle.request_format.specs.Layout.{signed};
+ghost use Rattle.decimal_text.specs.Texts.{Put};
 ghost use Rattle.fitted.specs.Printed.{numberAt, answerLine, answerTo, recordLine, printed};
 
 // The number whose 64 bits are those of x.
@@ -32,8 +32,8 @@ fn put_answer(out: &mut [u8], at: usize, answer: fits::Answer) -> usize
     ensures { λ r. ⌜ Put (now (out .entry)) at (answerLine answer) (now (out .exit)) r ⌝ }
 {
     match answer {
-        fits::Answer::Accepted => decimals::put_text(out, at, b"accepted\n"),
-        fits::Answer::Refused(refusal) => lines::put_refused(out, at, refusal),
+        fits::Answer::Accepted => decimal_text::put_text(out, at, b"accepted\n"),
+        fits::Answer::Refused(refusal) => listing_lines::lines::put_refused(out, at, refusal),
     }
 }
 
@@ -89,6 +89,6 @@ fn main() {
     // 682 lines of 13 bytes at most: a refusal's number has two digits, its place one
     let mut lines = [0u8; 16384];
     let end = put_fits(&mut lines, &input[..length]);
-    let written = decimals::clipped(&lines, end);
+    let written = decimal_text::clipped(&lines, end);
     io::write_all(STDOUT_FILENO, &lines[..written]);
 }

@@ -7,9 +7,9 @@ use mathlib.Core.List.{List, [], _∷_, _++_}
 use lib.Dec.{ltb}
 use lib.ListN.{length, getD, replicate}
 use Rattle.big_endian.specs.Numbers.{fourAt}
-use Rattle.sheets.specs.Handed.{listWhole, writeInto, bufferAfterList}
-use Rattle.decimals.specs.Texts.{letters}
-use Rattle.decimals.specs.Rows.{rows, eachCounted}
+use Rattle.sheet_codec.specs.Handed.{listWhole, writeInto, bufferAfterList}
+use Rattle.decimal_text.specs.Texts.{letters}
+use Rattle.decimal_text.specs.Rows.{rows, eachCounted}
 use Rattle.listings.specs.Extents.{extentText}
 
 -- a digit to the base 16: `0` is the byte 48, `a` the byte 97

@@ -8,11 +8,11 @@ use native.Mathlib.Omega.{arith}
 use lib.ListN.{length, getD, take, set, length-set}
 use lib.Seq.{take-suc-set}
 use Rattle.big_endian.specs.Numbers.{fourAt}
-use Rattle.sheets.specs.declared.Extent.{Extent}
-use Rattle.sheets.specs.Handed.{listWhole, writeInto, bufferAfterList}
-use Rattle.decimals.specs.Texts.{letters, Put}
-use Rattle.decimals.specs.Rows.{rows}
-use Rattle.decimals.specs.RowLaws.{joined, Copies, copies-length}
+use Rattle.sheet_codec.specs.declared.decoder.Extent.{Extent}
+use Rattle.sheet_codec.specs.Handed.{listWhole, writeInto, bufferAfterList}
+use Rattle.decimal_text.specs.Texts.{letters, Put}
+use Rattle.decimal_text.specs.Rows.{rows}
+use Rattle.decimal_text.specs.RowLaws.{joined, Copies, copies-length}
 use Rattle.listings.specs.Extents.{extentText}
 use Rattle.handed_entries.specs.Printed.{hexOf, bytesLine, answerText, bufferAfter, listText, numbersOf}
 

@@ -6,8 +6,8 @@ use libc::STDOUT_FILENO;
 ghost use mathlib.Core.Path.{_≡_};
 ghost use Prim.Native.Nat.{_/_, _≤_, _<_};
 ghost use lib.ListN.{length, take};
-ghost use Rattle.decimals.specs.Texts.{Put};
-ghost use Rattle.decimals.specs.RowLaws.{Copies};
+ghost use Rattle.decimal_text.specs.Texts.{Put};
+ghost use Rattle.decimal_text.specs.RowLaws.{Copies};
 ghost use Rattle.handed_entries.specs.Printed.{digit, hexOf, bytesLine, listText, numbersOf, printed};
 
 fn digit(x: u8) -> u8
@@ -25,7 +25,7 @@ fn put_hex(out: &mut [u8], at: usize, x: u8) -> usize
     ensures { λ r. ⌜ Put (now (out .entry)) at (hexOf x) (now (out .exit)) r ⌝ }
 {
     let text = [b' ', digit(x / 16), digit(x % 16)];
-    decimals::put_text(out, at, &text)
+    decimal_text::put_text(out, at, &text)
 }
 
 // Bytes in hexadecimal, a line.
@@ -38,7 +38,7 @@ fn put_bytes(out: &mut [u8], start: usize, bytes: &[u8]) -> usize
         at = put_hex(out, at, bytes[i]);
         i += 1;
     }
-    decimals::put_byte(out, at, b'\n')
+    decimal_text::put_byte(out, at, b'\n')
 }
 
 fn long_buffer() -> [u8; 256]
@@ -58,11 +58,11 @@ fn put_list(out: &mut [u8], start: usize, list: &[u32]) -> usize
 {
     let mut long = long_buffer();
     let mut short = short_buffer();
-    let written = handed::write(list, &mut long);
-    let cut = handed::write(list, &mut short);
+    let written = sheet_codec::encoder::write(list, &mut long);
+    let cut = sheet_codec::encoder::write(list, &mut short);
     let middle = listings::extents::put_answer(out, start, b"written ", written);
     let end = listings::extents::put_answer(out, middle, b" short ", cut);
-    let line = decimals::put_byte(out, end, b'\n');
+    let line = decimal_text::put_byte(out, end, b'\n');
     let next = put_bytes(out, line, &long);
     put_bytes(out, next, &short)
 }
@@ -125,6 +125,6 @@ fn main() {
     let length = io::read_full(STDIN_FILENO, &mut input);
     let mut lines = lines_room();
     let end = put_lists(&mut lines, &input[..length]);
-    let written = decimals::clipped(&lines, end);
+    let written = decimal_text::clipped(&lines, end);
     io::write_all(STDOUT_FILENO, &lines[..written]);
 }

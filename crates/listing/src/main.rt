@@ -17,6 +17,6 @@ fn main() {
     let length = io::read_full(STDIN_FILENO, &mut sheet);
     let mut text = text_room();
     let end = listings::put_listing(&mut text, 0, &sheet[..length]);
-    let written = decimals::clipped(&text, end);
+    let written = decimal_text::clipped(&text, end);
     io::write_all(STDOUT_FILENO, &text[..written]);
 }

@@ -9,9 +9,9 @@ use borrow.Author.Tests.{le-leb, lt-leb, leb-true}
 use lib.Dec.{leb}
 use lib.ListN.{length, drop}
 use lib.Seq.{sets, sets-eq}
-use Rattle.refusals.specs.Refusals.{refusal}
-use Rattle.decimals.specs.Texts.{capped, Put}
-use Rattle.decimals.specs.TextLaws.{Capped, low, high, is-capped}
+use Rattle.sheet_types.specs.Refusals.{refusal}
+use Rattle.decimal_text.specs.Texts.{capped, Put}
+use Rattle.decimal_text.specs.TextLaws.{Capped, low, high, is-capped}
 use Rattle.listings.specs.declared.Text.{Text}
 use Rattle.listings.specs.declared.Text.the-variants as T
 use Rattle.listings.specs.Answers.{Told, text, withheld, answered, roomWith}

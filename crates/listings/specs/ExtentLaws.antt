@@ -2,11 +2,11 @@
 use Prim.Native.Nat.{ℕ}
 use mathlib.Core.Path.{_≡_}
 use mathlib.Core.List.{List}
-use Rattle.refusals.specs.declared.Refusal.{Refusal}
-use Rattle.sheets.specs.declared.Extent.{Extent}
-use Rattle.sheets.specs.declared.Extent.the-variants as X
-use Rattle.decimals.specs.Texts.{letters, Put}
-use Rattle.lines.specs.Lines.{numbered, refusalText}
+use Rattle.sheet_types.specs.declared.refusals.Refusal.{Refusal}
+use Rattle.sheet_codec.specs.declared.decoder.Extent.{Extent}
+use Rattle.sheet_codec.specs.declared.decoder.Extent.the-variants as X
+use Rattle.decimal_text.specs.Texts.{letters, Put}
+use Rattle.listing_lines.specs.Lines.{numbered, refusalText}
 use Rattle.listings.specs.Extents.{extentText}
 
 module _ (x : Extent) (old : List ℕ) (at : ℕ) (new : List ℕ) (r : ℕ) where

@@ -2,10 +2,10 @@
 -- Assumes nothing: these are definitions.
 use Prim.Native.Nat.{ℕ}
 use mathlib.Core.List.{List}
-use Rattle.sheets.specs.declared.Extent.{Extent}
-use Rattle.sheets.specs.declared.Extent.the-variants as X
-use Rattle.decimals.specs.Texts.{letters}
-use Rattle.lines.specs.Lines.{numbered, refusalText}
+use Rattle.sheet_codec.specs.declared.decoder.Extent.{Extent}
+use Rattle.sheet_codec.specs.declared.decoder.Extent.the-variants as X
+use Rattle.decimal_text.specs.Texts.{letters}
+use Rattle.listing_lines.specs.Lines.{numbered, refusalText}
 
 unfoldable pub extentText : Extent → List ℕ
 extentText (X.Sheet entries n) = numbered (letters "sheet ") entries n

@@ -6,28 +6,28 @@ use mathlib.Core.Bool.{true, false}
 use native.Mathlib.Omega.{arith}
 use lib.IntN.{ℤ, pos}
 use lib.ListN.{length}
-use Rattle.refusals.specs.declared.Refusal.{Refusal}
-use Rattle.refusals.specs.Refusals.{refusal}
-use Rattle.kinds.specs.declared.Entry.{Entry}
-use Rattle.kinds.specs.declared.Progress.{Progress}
-use Rattle.records.specs.declared.Record.the-variants.{Is, Refused}
-use Rattle.kinds.specs.Kinds.{isEnd}
-use Rattle.rules.specs.Rules.{start, afterOf}
-use Rattle.records.specs.Records.{recordAt}
-use Rattle.records.specs.RecordLaws.{record-bounds}
-use Rattle.sheets.specs.declared.Extent.the-variants as X
-use Rattle.sheets.specs.Sheets.{Sheet, sheet, refused, sheetFrom, storedAt, readSheet, readWhole, extentOf}
-use Rattle.sheets.specs.SheetLaws.{read-start, extent-inv, extent-refused, whole-same}
-use Rattle.sheets.specs.GivenLaws.{Went, from-inv}
-use Rattle.decimals.specs.Texts.{Put}
-use Rattle.decimals.specs.TextLaws.{Putting, putting-start, putting-turn, putting-end}
+use Rattle.sheet_types.specs.declared.refusals.Refusal.{Refusal}
+use Rattle.sheet_types.specs.Refusals.{refusal}
+use Rattle.sheet_format.specs.declared.kinds.Entry.{Entry}
+use Rattle.sheet_format.specs.declared.kinds.Progress.{Progress}
+use Rattle.sheet_format.specs.declared.records.Record.the-variants.{Is, Refused}
+use Rattle.sheet_format.specs.Kinds.{isEnd}
+use Rattle.sheet_rules.specs.Rules.{start, afterOf}
+use Rattle.sheet_format.specs.Records.{recordAt}
+use Rattle.sheet_format.specs.RecordLaws.{record-bounds}
+use Rattle.sheet_codec.specs.declared.decoder.Extent.the-variants as X
+use Rattle.sheet_codec.specs.Sheets.{Sheet, sheet, refused, sheetFrom, storedAt, readSheet, readWhole, extentOf}
+use Rattle.sheet_codec.specs.SheetLaws.{read-start, extent-inv, extent-refused, whole-same}
+use Rattle.sheet_codec.specs.GivenLaws.{Went, from-inv}
+use Rattle.decimal_text.specs.Texts.{Put}
+use Rattle.decimal_text.specs.TextLaws.{Putting, putting-start, putting-turn, putting-end}
 use Rattle.listings.specs.declared.Text.{Text}
 use Rattle.listings.specs.declared.Text.the-variants as T
-use Rattle.instants.specs.declared.Reference.{Reference}
-use Rattle.instants.specs.declared.Reference.the-variants as R
-use Rattle.clock.specs.Clock.{timedLine, timedLines}
-use Rattle.clock.specs.ClockLaws.{lines-nil, lines-cons, lines-off}
-use Rattle.lines.specs.Lines.{linesOf, refusalLine}
+use Rattle.calendar.specs.declared.Reference.{Reference}
+use Rattle.calendar.specs.declared.Reference.the-variants as R
+use Rattle.listing_lines.specs.Clock.{timedLine, timedLines}
+use Rattle.listing_lines.specs.ClockLaws.{lines-nil, lines-cons, lines-off}
+use Rattle.listing_lines.specs.Lines.{linesOf, refusalLine}
 use Rattle.listings.specs.Answers.{text, answered, roomWith}
 use Rattle.listings.specs.AnswerLaws.{text-short, text-full}
 use Rattle.listings.specs.Listings.{listingOf, timedOf, told, timed, printed}

@@ -3,10 +3,10 @@
 use Prim.Native.Nat.{ℕ}
 use mathlib.Core.List.{List}
 use lib.IntN.{ℤ}
-use Rattle.sheets.specs.Sheets.{Sheet, sheet, refused, readWhole}
-use Rattle.instants.specs.declared.Reference.{Reference}
-use Rattle.clock.specs.Clock.{timedLines}
-use Rattle.lines.specs.Lines.{linesOf, refusalLine}
+use Rattle.sheet_codec.specs.Sheets.{Sheet, sheet, refused, readWhole}
+use Rattle.calendar.specs.declared.Reference.{Reference}
+use Rattle.listing_lines.specs.Clock.{timedLines}
+use Rattle.listing_lines.specs.Lines.{linesOf, refusalLine}
 use Rattle.listings.specs.Answers.{Told, text, withheld}
 
 -- the lines of its entries; or the refusal

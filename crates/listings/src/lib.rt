@@ -1,15 +1,15 @@
 // The listing of a sheet as text, as document 01 has it: a line an entry; and with clock times. What a reader answers, as text, is in `extents`.
 pub mod extents;
 
-use instants::Reference;
-use records::Record;
-use refusals::Refusal;
-use sheets::Extent;
+use calendar::Reference;
+use sheet_codec::decoder::Extent;
+use sheet_format::records::Record;
+use sheet_types::refusals::Refusal;
 ghost use mathlib.Core.Path.{_≡_};
 ghost use lib.ListN.{length};
-ghost use Rattle.sheets.specs.Sheets.{readSheet};
-ghost use Rattle.decimals.specs.Texts.{Put};
-ghost use Rattle.lines.specs.Lines.{refusalLine};
+ghost use Rattle.sheet_codec.specs.Sheets.{readSheet};
+ghost use Rattle.decimal_text.specs.Texts.{Put};
+ghost use Rattle.listing_lines.specs.Lines.{refusalLine};
 ghost use Rattle.listings.specs.Answers.{text, answered, roomWith};
 ghost use Rattle.listings.specs.Listings.{listingOf, told, timed, printed};
 ghost use Rattle.listings.specs.ListingLaws.{IsSheet, Laid};
@@ -28,12 +28,12 @@ fn put_lines(sheet: &[u8], out: &mut [u8], start: usize, reference: Reference, d
     let mut from = 0;
     let mut at = start;
     loop {
-        let Record::Is(entry, next) = records::bytes::record_at(sheet, from) else {
+        let Record::Is(entry, next) = sheet_format::records::bytes::record_at(sheet, from) else {
             return at;
         };
-        at = clock::put_entry(out, at, entry, reference, deltat);
+        at = listing_lines::clock::put_entry(out, at, entry, reference, deltat);
         let kind = entry.kind;
-        if kinds::is_end(kind) {
+        if sheet_format::kinds::is_end(kind) {
             return at;
         }
         from = next;
@@ -63,7 +63,7 @@ pub fn listing(sheet: &[u8], out: &mut [u8]) -> Text
     ensures { λ r. ⌜ r ≡ answered (length (now (out .entry))) (told (now (sheet .entry))) ⌝ }
     ensures { λ r. ⌜ now (out .exit) ≡ roomWith (told (now (sheet .entry))) (now (out .entry)) ⌝ }
 {
-    let found = sheets::extent_of_sheet(sheet);
+    let found = sheet_codec::decoder::extent_of_sheet(sheet);
     match found {
         Extent::Refused(refusal) => Text::Refused(refusal),
         Extent::Sheet {
@@ -84,9 +84,9 @@ pub fn put_timed_listing(
 ) -> usize
     ensures { λ r. ⌜ Put (now (out .entry)) at (printed (timed reference deltat (now (sheet .entry)))) (now (out .exit)) r ⌝ }
 {
-    let found = sheets::extent_of_sheet(sheet);
+    let found = sheet_codec::decoder::extent_of_sheet(sheet);
     match found {
-        Extent::Refused(refusal) => lines::put_refused(out, at, refusal),
+        Extent::Refused(refusal) => listing_lines::lines::put_refused(out, at, refusal),
         Extent::Sheet {
             entries: _,
             length: _,
@@ -107,13 +107,13 @@ pub fn refusal_line(number: u64, place: u64, out: &mut [u8]) -> Text
     ensures { λ r. ⌜ now (out .exit) ≡ roomWith (text (refusalLine number place)) (now (out .entry)) ⌝ }
 {
     let mut none = [0u8; 0];
-    let need = lines::put_refusal_line(&mut none, 0, number, place);
+    let need = listing_lines::lines::put_refusal_line(&mut none, 0, number, place);
     if out.len() < need {
         return Text::Refused(Refusal {
             number: 4,
             place: need,
         });
     }
-    lines::put_refusal_line(out, 0, number, place);
+    listing_lines::lines::put_refusal_line(out, 0, number, place);
     Text::Written(need)
 }

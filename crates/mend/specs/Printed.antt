@@ -5,13 +5,13 @@ use mathlib.Core.List.{List, [], _∷_, _++_}
 use mathlib.Core.Bool.{cond}
 use lib.Dec.{ltb}
 use lib.ListN.{length}
-use Rattle.decimals.specs.Decimals.{decimal}
-use Rattle.decimals.specs.Texts.{letters}
-use Rattle.lines.specs.Lines.{refusalLine}
-use Rattle.mending.specs.declared.Answer.{Answer}
-use Rattle.mending.specs.declared.Answer.the-variants.{Mended, Refused}
-use Rattle.kept_sheets.specs.Walk.{Stretch, kept, stretches}
-use Rattle.mending.specs.Mending.{answerTo}
+use Rattle.decimal_text.specs.Decimals.{decimal}
+use Rattle.decimal_text.specs.Texts.{letters}
+use Rattle.listing_lines.specs.Lines.{refusalLine}
+use Rattle.year_file.specs.declared.mending.Answer.{Answer}
+use Rattle.year_file.specs.declared.mending.Answer.the-variants.{Mended, Refused}
+use Rattle.year_file.specs.Walk.{Stretch, kept, stretches}
+use Rattle.year_file.specs.Mending.{answerTo}
 use Rattle.big_endian.specs.Numbers.{eightAt}
 
 -- `dropped START LENGTH`

@@ -6,20 +6,20 @@ use native.Mathlib.Omega.{arith}
 use borrow.Author.Tests.{le-ltb, lt-ltb}
 use lib.ListN.{length, take, drop, length-append, length-drop}
 use lib.Seq.{take-at, drop-at, drop-drop}
-use Rattle.refusals.specs.declared.Refusal.{Refusal}
-use Rattle.decimals.specs.Texts.{Put, Counts}
-use Rattle.decimals.specs.Rows.{rows, part, eachPart}
-use Rattle.decimals.specs.RowLaws.{put-as}
-use Rattle.lines.specs.Lines.{refusalLine}
-use Rattle.mending.specs.declared.Answer.{Answer}
-use Rattle.mending.specs.declared.Answer.the-variants.{Mended, Refused}
-use Rattle.kept_sheets.specs.Walk.{Stretch, kept, stretches, noteOf, notesOf, notes}
-use Rattle.mending.specs.Mending.{answerTo, roomAfter}
+use Rattle.sheet_types.specs.declared.refusals.Refusal.{Refusal}
+use Rattle.decimal_text.specs.Texts.{Put, Counts}
+use Rattle.decimal_text.specs.Rows.{rows, part, eachPart}
+use Rattle.decimal_text.specs.RowLaws.{put-as}
+use Rattle.listing_lines.specs.Lines.{refusalLine}
+use Rattle.year_file.specs.declared.mending.Answer.{Answer}
+use Rattle.year_file.specs.declared.mending.Answer.the-variants.{Mended, Refused}
+use Rattle.year_file.specs.Walk.{Stretch, kept, stretches, noteOf, notesOf, notes}
+use Rattle.year_file.specs.Mending.{answerTo, roomAfter}
 use Rattle.big_endian.specs.Numbers.{eightAt}
-use Rattle.kept_sheets.specs.Claims.{Apart}
-use Rattle.kept_sheets.specs.Mended.{in-order}
-use Rattle.kept_sheets.specs.NoteLaws.{length-notes, first-back, second-back}
-use Rattle.mending.specs.AnswerLaws.{mended-inv}
+use Rattle.year_file.specs.Claims.{Apart}
+use Rattle.year_file.specs.Mended.{in-order}
+use Rattle.year_file.specs.NoteLaws.{length-notes, first-back, second-back}
+use Rattle.year_file.specs.AnswerLaws.{mended-inv}
 use Rattle.mend.specs.Printed.{droppedLine, linesOf, noteLine, tooLong, output, error}
 
 -- ---- the line of each note

@@ -6,8 +6,8 @@ use libc::STDOUT_FILENO;
 ghost use mathlib.Core.Path.{_≡_};
 ghost use Prim.Native.Nat.{_+_, _≤_};
 ghost use lib.ListN.{length, take};
-ghost use Rattle.decimals.specs.Texts.{Put, Counts};
-ghost use Rattle.decimals.specs.Rows.{eachPart};
+ghost use Rattle.decimal_text.specs.Texts.{Put, Counts};
+ghost use Rattle.decimal_text.specs.Rows.{eachPart};
 ghost use Rattle.mend.specs.Printed.{noteLine, tooLong, output, error};
 
 // How many bytes of each room go out.
@@ -25,11 +25,11 @@ fn put_note(out: &mut [u8], at: usize, note: &[u8]) -> usize
 {
     let start = big_endian::eight_at(note, 0);
     let length = big_endian::eight_at(note, 8);
-    let word = decimals::put_text(out, at, b"dropped ");
-    let first = decimals::put_number(out, word, start);
-    let space = decimals::put_byte(out, first, b' ');
-    let second = decimals::put_number(out, space, length);
-    decimals::put_byte(out, second, b'\n')
+    let word = decimal_text::put_text(out, at, b"dropped ");
+    let first = decimal_text::put_number(out, word, start);
+    let space = decimal_text::put_byte(out, first, b' ');
+    let second = decimal_text::put_number(out, space, length);
+    decimal_text::put_byte(out, second, b'\n')
 }
 
 // A line for each note.
@@ -51,9 +51,9 @@ fn put_too_long(out: &mut [u8], room: usize) -> usize
     ensures { λ r. ⌜ Put (now (out .entry)) 0 (tooLong room) (now (out .exit)) r ⌝ }
 {
     let bytes = room as u64;
-    let word = decimals::put_text(out, 0, b"file of ");
-    let number = decimals::put_number(out, word, bytes);
-    decimals::put_text(out, number, b" bytes or more\n")
+    let word = decimal_text::put_text(out, 0, b"file of ");
+    let number = decimal_text::put_number(out, word, bytes);
+    decimal_text::put_text(out, number, b" bytes or more\n")
 }
 
 // The mended file at the start of the sheets' room, and what is told from the start of the text's on, as far as that goes.
@@ -69,17 +69,17 @@ fn mended(file: &[u8], sheets: &mut [u8], notes: &mut [u8], text: &mut [u8]) -> 
             error: end,
         };
     }
-    let answer = mending::mend(file, sheets, notes);
+    let answer = year_file::mending::mend(file, sheets, notes);
     match answer {
-        mending::Answer::Mended { kept, noted } => {
+        year_file::mending::Answer::Mended { kept, noted } => {
             let end = put_notes(text, &notes[..noted]);
             Streams {
                 output: kept,
                 error: end,
             }
         }
-        mending::Answer::Refused(refusal) => {
-            let end = lines::put_refused(text, 0, refusal);
+        year_file::mending::Answer::Refused(refusal) => {
+            let end = listing_lines::lines::put_refused(text, 0, refusal);
             Streams {
                 output: 0,
                 error: end,
@@ -101,7 +101,7 @@ fn main() {
     let mut text = room();
     let streams = mended(&file[..length], &mut sheets, &mut notes, &mut text);
     let output = streams.output;
-    let error = decimals::clipped(&text, streams.error);
+    let error = decimal_text::clipped(&text, streams.error);
     io::write_all(STDOUT_FILENO, &sheets[..output]);
     io::write_all(STDERR_FILENO, &text[..error]);
 }

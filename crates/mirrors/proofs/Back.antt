@@ -8,8 +8,8 @@ use lib.IntN.{ℤ, natAbs}
 use lib.Signed.{mag}
 use mir.Syntax.{w64}
 use mir.Val.{toZ, ofZ}
-use Rattle.numbers.specs.Order.{mag-natAbs}
-use Rattle.numbers.specs.Code.{read-result}
+use Rattle.rounding.specs.Order.{mag-natAbs}
+use Rattle.rounding.specs.Code.{read-result}
 use Rattle.requests.specs.Mirror.{opposite}
 use Rattle.requests.specs.MirrorLaws.{opposite-keeps, opposite-size}
 

@@ -5,17 +5,17 @@ use Prim.Native.Nat.{ℕ}
 use lib.Dec.{leb}
 use lib.IntN.{ℤ}
 use lib.ListN.{length, drop}
-use Rattle.refusals.specs.Refusals.{refusal}
+use Rattle.sheet_types.specs.Refusals.{refusal}
 use Rattle.elements.specs.Elements as E
 use Rattle.station.specs.Station as S
 use Rattle.requests.specs.declared.Request.{Request}
 use Rattle.requests.specs.Mirror.{mirroredRequest, opposite}
-use Rattle.request_bytes.specs.Request.{size, bytesOf}
+use Rattle.request_format.specs.Request.{size, bytesOf}
 use Rattle.circumstances.specs.declared.Answer.{Answer}
 use Rattle.circumstances.specs.declared.Answer.the-variants.{Written, Refused}
-use Rattle.input.specs.declared.Input.{Input}
-use Rattle.input.specs.declared.Input.the-variants as I
-use Rattle.input.specs.Input.{inputOf}
+use Rattle.request_format.specs.declared.input.Input.{Input}
+use Rattle.request_format.specs.declared.input.Input.the-variants as I
+use Rattle.request_format.specs.Input.{inputOf}
 
 -- the numbers of a request, in document 01's order
 abbrev pub numbersOf : Request → List ℤ

@@ -11,28 +11,28 @@ use lib.Dec.{lit≤}
 use lib.IntN.{ℤ}
 use lib.ListN.{length, drop}
 use lib.Seq.{sets}
-use Rattle.refusals.specs.Refusals.{refusal}
-use Rattle.refusals.specs.declared.Checked.the-variants as C
+use Rattle.sheet_types.specs.Refusals.{refusal}
+use Rattle.sheet_types.specs.declared.refusals.Checked.the-variants as C
 use Rattle.elements.specs.Elements.{elementsOf}
 use Rattle.requests.specs.declared.Request.{Request}
 use Rattle.requests.specs.Requests.{ofEclipse, checked}
 use Rattle.requests.specs.RequestLaws.{in-limits}
 use Rattle.requests.specs.Mirror.{mirrorOf}
 use Rattle.requests.specs.MirrorLaws.{request-twice, request-mirrored}
-use Rattle.request_fields.specs.declared.Shape.the-variants as S
-use Rattle.request_fields.specs.Fields.{layout, count}
-use Rattle.request_bytes.specs.declared.Answer.the-variants.{Done}
-use Rattle.request_bytes.specs.declared.Got.the-variants as G
-use Rattle.request_bytes.specs.Layout.{piecesOf, bytesBy, Reading, numbers, misshaped}
-use Rattle.request_bytes.specs.LayoutLaws.{length-bytes}
+use Rattle.request_format.specs.declared.fields.Shape.the-variants as S
+use Rattle.request_format.specs.Fields.{layout, count}
+use Rattle.request_format.specs.declared.bytes.Answer.the-variants.{Done}
+use Rattle.request_format.specs.declared.bytes.Got.the-variants as G
+use Rattle.request_format.specs.Layout.{piecesOf, bytesBy, Reading, numbers, misshaped}
+use Rattle.request_format.specs.LayoutLaws.{length-bytes}
 use Rattle.big_endian.specs.Numbers.{Bytes}
-use Rattle.request_bytes.specs.Request.{size, putOf, bytesFor, bytesOf, afterFor, bytesAfter, readingOf, gotOf, numbersAfter}
-use Rattle.request_bytes.specs.RoundTrip.{read-back, write-back}
+use Rattle.request_format.specs.Request.{size, putOf, bytesFor, bytesOf, afterFor, bytesAfter, readingOf, gotOf, numbersAfter}
+use Rattle.request_format.specs.RoundTrip.{read-back, write-back}
 use Rattle.circumstances.specs.declared.Answer.the-variants.{Written, Refused}
-use Rattle.courses.specs.Stores.{stores-start}
-use Rattle.input.specs.declared.Input.the-variants as I
-use Rattle.input.specs.Input.{requestFrom, stationFrom, windowFrom, inputBy, inputOf}
-use Rattle.input.specs.InputLaws.{input-refused}
+use Rattle.local_circumstances.specs.Stores.{stores-start}
+use Rattle.request_format.specs.declared.input.Input.the-variants as I
+use Rattle.request_format.specs.Input.{requestFrom, stationFrom, windowFrom, inputBy, inputOf}
+use Rattle.request_format.specs.InputLaws.{input-refused}
 use Rattle.mirrors.specs.Bytes.{numbersOf, mirrorInBytes, mirrorBytes, mirrorAnswer, mirrorBuffer}
 use Rattle.mirrors.specs.ChangedLaws.{changed, by-spelling, changed-is, changed-count, changed-fit}
 

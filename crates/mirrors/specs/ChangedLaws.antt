@@ -7,21 +7,21 @@ use native.Mathlib.Omega.{arith}
 use native.Mathlib.Decide.{decLt}
 use lib.IntN.{ℤ, pos, negℤ, natAbs}
 use lib.ListN.{length, getD, set}
-use Rattle.numbers.specs.Parts.{opposite as parts}
-use Rattle.numbers.specs.Order.{zs, natAbs-parts}
+use Rattle.rounding.specs.Parts.{opposite as parts}
+use Rattle.rounding.specs.Order.{zs, natAbs-parts}
 use Rattle.elements.specs.Elements.{elementsOf}
 use Rattle.elements.specs.ElementsLaws.{spelled, spell}
 use Rattle.requests.specs.Mirror.{opposite}
 use Rattle.requests.specs.MirrorLaws.{opposite-is, opposite-keeps}
-use Rattle.request_fields.specs.declared.Width.{Width}
-use Rattle.request_fields.specs.declared.Width.the-variants as W
-use Rattle.request_fields.specs.Fields.{layout, count, holds}
-use Rattle.request_fields.specs.WidthLaws.{holding}
-use Rattle.request_bytes.specs.declared.Answer.the-variants.{Done}
-use Rattle.request_bytes.specs.Layout.{Piece, kind, number, piecesOf, fitting}
-use Rattle.request_bytes.specs.LayoutLaws.{fits-cases}
-use Rattle.request_bytes.specs.Request.{putFor, putOf}
-use Rattle.input.specs.Input.{requestFrom, stationFrom, windowFrom}
+use Rattle.request_format.specs.declared.fields.Width.{Width}
+use Rattle.request_format.specs.declared.fields.Width.the-variants as W
+use Rattle.request_format.specs.Fields.{layout, count, holds}
+use Rattle.request_format.specs.WidthLaws.{holding}
+use Rattle.request_format.specs.declared.bytes.Answer.the-variants.{Done}
+use Rattle.request_format.specs.Layout.{Piece, kind, number, piecesOf, fitting}
+use Rattle.request_format.specs.LayoutLaws.{fits-cases}
+use Rattle.request_format.specs.Request.{putFor, putOf}
+use Rattle.request_format.specs.Input.{requestFrom, stationFrom, windowFrom}
 use Rattle.mirrors.specs.Bytes.{numbersOf, mirrorInBytes}
 
 abbrev most : ℕ

@@ -4,17 +4,17 @@ use mathlib.Core.List.{List}
 use Prim.Native.Nat.{ℕ}
 use lib.IntN.{ℤ, negℤ}
 use lib.ListN.{length}
-use Rattle.phases.specs.declared.Phase.{Phase}
-use Rattle.refusals.specs.declared.Checked.the-variants.{Within}
-use Rattle.geometry.specs.Shadow.{u, v, M}
+use Rattle.sheet_types.specs.declared.phases.Phase.{Phase}
+use Rattle.sheet_types.specs.declared.refusals.Checked.the-variants.{Within}
+use Rattle.shadow_geometry.specs.Shadow.{u, v, M}
 use Rattle.requests.specs.declared.Occultation.{Occultation}
 use Rattle.requests.specs.Requests.{checked}
 use Rattle.requests.specs.Mirror.{mirrorFor}
 use Rattle.seconds.specs.Seconds.{momentAt, stateAt, magnitudeAt}
-use Rattle.courses.specs.Courses.{sheetOf}
-use Rattle.courses.specs.Directions.{AlikeButDirections}
-use Rattle.sheet_entries.specs.Course.{courseOf}
-use Rattle.writing.specs.Sheet.{sheetBytes}
+use Rattle.local_circumstances.specs.Courses.{sheetOf}
+use Rattle.local_circumstances.specs.Directions.{AlikeButDirections}
+use Rattle.local_circumstances.specs.Course.{courseOf}
+use Rattle.circumstances.specs.WrittenSheet.{sheetBytes}
 use Rattle.circumstances.specs.Sheet.{sheetAnswer}
 
 -- "in a request within the limits, change the sign of all y and d coefficients and of the latitude, and ..

@@ -5,15 +5,15 @@ use Prim.Native.Nat.{ℕ}
 use lib.Dec.{lit≤}
 use lib.IntN.{ℤ, negℤ}
 use lib.ListN.{length}
-use Rattle.refusals.specs.declared.Checked.{Checked}
-use Rattle.refusals.specs.declared.Checked.the-variants as C
+use Rattle.sheet_types.specs.declared.refusals.Checked.{Checked}
+use Rattle.sheet_types.specs.declared.refusals.Checked.the-variants as C
 use Rattle.elements.specs.declared.Body.{Body}
 use Rattle.elements.specs.declared.Body.the-variants as B
 use Rattle.elements.specs.Mirror.{mirroredBody}
 use Rattle.station.specs.Place.{placeOf}
 use Rattle.station.specs.Mirror.{mirroredPlace}
 use Rattle.station.specs.MirrorLaws.{place-mirrored}
-use Rattle.geometry.specs.Shadow.{phasesOf, u, v, M}
+use Rattle.shadow_geometry.specs.Shadow.{phasesOf, u, v, M}
 use Rattle.requests.specs.declared.Request.{Request}
 use Rattle.requests.specs.declared.Occultation.{Occultation}
 use Rattle.requests.specs.Requests.{ofEclipse, checked}
@@ -25,12 +25,12 @@ use Rattle.requests.specs.Mirror.{mirrorOf, mirroredOccultation, mirrorFor}
 use Rattle.requests.specs.MirrorLaws.{checked-mirrored, mirrored-twice, mirrored-is}
 use Rattle.seconds.specs.Seconds.{momentAt, stateAt, directionAt, magnitudeAt}
 use Rattle.seconds.specs.MirrorLaws.{state-mirrored, magnitude-mirrored, u-mirrored, v-mirrored, M-mirrored, closest-mirrored}
-use Rattle.covered.specs.MirrorLaws.{share-mirrored}
-use Rattle.courses.specs.Courses.{Course, sheetOf}
-use Rattle.courses.specs.Directions.{AlikeButDirections}
-use Rattle.courses.specs.DirectionLaws.{redirected, sheet-alike, alike-length}
-use Rattle.sheet_entries.specs.Course.{shareOf, courseOf}
-use Rattle.writing.specs.Sheet.{sheetBytes}
+use Rattle.obscuration.specs.MirrorLaws.{share-mirrored}
+use Rattle.local_circumstances.specs.Courses.{Course, sheetOf}
+use Rattle.local_circumstances.specs.Directions.{AlikeButDirections}
+use Rattle.local_circumstances.specs.DirectionLaws.{redirected, sheet-alike, alike-length}
+use Rattle.local_circumstances.specs.Course.{shareOf, courseOf}
+use Rattle.circumstances.specs.WrittenSheet.{sheetBytes}
 use Rattle.circumstances.specs.Sheet.{answerBy, sheetAnswer}
 use Rattle.mirrors.specs.Mirror.{Mirrored}
 

@@ -2,18 +2,18 @@
 use circumstances::Answer;
 use elements::Cubic;
 use elements::Quadratic;
-use refusals::Refusal;
-use request_bytes::Got;
-use request_fields::COUNT;
-use request_fields::LENGTH;
+use request_format::bytes::Got;
+use request_format::fields::COUNT;
+use request_format::fields::LENGTH;
 use requests::Request;
+use sheet_types::refusals::Refusal;
 ghost use mathlib.Core.Path.{_≡_};
 ghost use Prim.Native.Nat.{_<_};
 ghost use lib.IntN.{pos, natAbs};
 ghost use lib.Signed.{_≤ℤ_};
 ghost use Rattle.elements.specs.Mirror.{eachOfCubic, eachOfQuadratic};
 ghost use Rattle.requests.specs.Mirror.{opposite, mirrorOf};
-ghost use Rattle.request_fields.specs.Fields.{count};
+ghost use Rattle.request_format.specs.Fields.{count};
 ghost use Rattle.mirrors.specs.Bytes.{mirrorAnswer, mirrorBuffer};
 ghost use Rattle.mirrors.specs.ChangedLaws.{turned, changed};
 
@@ -127,7 +127,7 @@ pub fn mirror_bytes(request: &[u8], room: &mut [u8]) -> Answer
     ensures room { λ r. ⌜ now (room .exit) ≡ mirrorBuffer (now (request .entry)) (now (room .entry)) ⌝ }
 {
     let mut numbers = [0i64; COUNT];
-    let got = request_bytes::get(request, &mut numbers);
+    let got = request_format::bytes::get(request, &mut numbers);
     if let Got::Misshaped = got {
         return Answer::Refused(Refusal {
             number: 10,
@@ -142,7 +142,7 @@ pub fn mirror_bytes(request: &[u8], room: &mut [u8]) -> Answer
     }
     change(&mut numbers);
     let mut made = [0u8; LENGTH];
-    request_bytes::put(&numbers, &mut made);
-    decimals::put_text(room, 0, &made);
+    request_format::bytes::put(&numbers, &mut made);
+    decimal_text::put_text(room, 0, &made);
     Answer::Written(LENGTH)
 }

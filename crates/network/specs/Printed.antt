@@ -6,22 +6,22 @@ use mathlib.Core.List.{List, [], _++_}
 use lib.Dec.{ltb}
 use lib.IntN.{ℤ}
 use lib.ListN.{length, getD, replicate}
-use Rattle.kinds.specs.StoredSeconds.{secondOf}
-use Rattle.chains.specs.Defined.{earliestOf}
-use Rattle.nodes.specs.declared.Node.{Node}
-use Rattle.nodes.specs.Held.{blankNode}
-use Rattle.nodes.specs.Nodes.{numberOf}
+use Rattle.sheet_format.specs.StoredSeconds.{secondOf}
+use Rattle.clock_network.specs.Defined.{earliestOf}
+use Rattle.clock_network.specs.declared.stations.Node.{Node}
+use Rattle.clock_network.specs.Held.{blankNode}
+use Rattle.clock_network.specs.Nodes.{numberOf}
 use Rattle.networks.specs.declared.Answer.{Answer}
 use Rattle.networks.specs.declared.Answer.the-variants as A
-use Rattle.network_checks.specs.Checks.{eclipseOf}
+use Rattle.clock_network.specs.Checks.{eclipseOf}
 use Rattle.networks.specs.Network.{tosOf, answerTo, stepsFor}
-use Rattle.enters.specs.Enters.{never}
-use Rattle.decimals.specs.Decimals.{decimal, signed}
-use Rattle.decimals.specs.Rows.{rows}
-use Rattle.decimals.specs.Texts.{letters}
-use Rattle.lines.specs.Lines.{refusalLine}
-use Rattle.request_fields.specs.declared.Shape.the-variants as S
-use Rattle.request_messages.specs.Messages.{messageOf}
+use Rattle.networks.specs.Enters.{never}
+use Rattle.decimal_text.specs.Decimals.{decimal, signed}
+use Rattle.decimal_text.specs.Rows.{rows}
+use Rattle.decimal_text.specs.Texts.{letters}
+use Rattle.listing_lines.specs.Lines.{refusalLine}
+use Rattle.request_format.specs.declared.fields.Shape.the-variants as S
+use Rattle.request_text.specs.Messages.{messageOf}
 use Rattle.network_text.specs.declared.Fault.{Fault}
 use Rattle.network_text.specs.declared.Fault.the-variants as F
 use Rattle.network_text.specs.Typing.{Typing, given, refused, typingOf, eclipseIn}

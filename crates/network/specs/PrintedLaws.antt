@@ -9,28 +9,28 @@ use lib.ListN.{length, getD, take}
 use lib.Seq.{getD-take, length-take-le}
 use Rattle.sine_table.specs.Table.{Sines}
 use Rattle.sine_table.specs.RoomLaws.{filled-sines}
-use Rattle.refusals.specs.declared.Refusal.{Refusal}
-use Rattle.refusals.specs.declared.Checked.{Checked}
-use Rattle.refusals.specs.declared.Checked.the-variants as C
-use Rattle.refusals.specs.Refusals.{andThen}
+use Rattle.sheet_types.specs.declared.refusals.Refusal.{Refusal}
+use Rattle.sheet_types.specs.declared.refusals.Checked.{Checked}
+use Rattle.sheet_types.specs.declared.refusals.Checked.the-variants as C
+use Rattle.sheet_types.specs.Refusals.{andThen}
 use Rattle.requests.specs.Admission.{sinesAfter}
-use Rattle.kinds.specs.StoredSeconds.{secondOf}
-use Rattle.chains.specs.Defined.{earliestOf}
-use Rattle.nodes.specs.declared.Node.{Node}
-use Rattle.nodes.specs.Held.{blankNode}
-use Rattle.nodes.specs.Nodes.{numberOf}
-use Rattle.network_checks.specs.declared.Eclipse.{Eclipse}
-use Rattle.network_checks.specs.CheckLaws.{AllWithin, at-most, all-within}
+use Rattle.sheet_format.specs.StoredSeconds.{secondOf}
+use Rattle.clock_network.specs.Defined.{earliestOf}
+use Rattle.clock_network.specs.declared.stations.Node.{Node}
+use Rattle.clock_network.specs.Held.{blankNode}
+use Rattle.clock_network.specs.Nodes.{numberOf}
+use Rattle.clock_network.specs.declared.checks.Eclipse.{Eclipse}
+use Rattle.clock_network.specs.CheckLaws.{AllWithin, at-most, all-within}
 use Rattle.networks.specs.declared.Answer.the-variants as A
 use Rattle.networks.specs.Network as network
-use Rattle.network_checks.specs.Checks.{eclipseOf, checked}
+use Rattle.clock_network.specs.Checks.{eclipseOf, checked}
 use Rattle.networks.specs.Network.{tosOf, shapeChecked, admitted, answerTo, stepsFor, sinesFor}
-use Rattle.enters.specs.Enters.{never}
-use Rattle.decimals.specs.Decimals.{decimal, signed}
-use Rattle.decimals.specs.Patterns.{piece, filled}
-use Rattle.decimals.specs.Rows.{rows}
-use Rattle.decimals.specs.Texts.{letters}
-use Rattle.lines.specs.Lines.{refusalLine}
+use Rattle.networks.specs.Enters.{never}
+use Rattle.decimal_text.specs.Decimals.{decimal, signed}
+use Rattle.decimal_text.specs.Patterns.{piece, filled}
+use Rattle.decimal_text.specs.Rows.{rows}
+use Rattle.decimal_text.specs.Texts.{letters}
+use Rattle.listing_lines.specs.Lines.{refusalLine}
 use Rattle.network_text.specs.declared.Fault.{Fault}
 use Rattle.network_text.specs.declared.Typed.the-variants as T
 use Rattle.network_text.specs.Typing.{Typing, given, refused, typingOf, answerOf, held, heldFrom, numbersFrom}

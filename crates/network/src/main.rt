@@ -1,25 +1,25 @@
 // Reads a typed network from standard input: the elements and the window as in a typed request, and a line a station. It prints each station with its
 // steps and the station that sees the eclipse first; or `refused`, number and place. A fault is told on standard error with its line, and nothing is
 // printed.
+use clock_network::checks::Eclipse;
+use clock_network::stations::Held;
 use libc::STDERR_FILENO;
 use libc::STDIN_FILENO;
 use libc::STDOUT_FILENO;
-use network_checks::Eclipse;
 use network_text::Fault;
 use network_text::Typed;
 use networks::Answer;
-use nodes::Held;
-use request_fields::Shape;
+use request_format::fields::Shape;
 ghost use mathlib.Core.Path.{_≡_};
 ghost use mathlib.Core.List.{List};
 ghost use Prim.Native.Nat.{_≤_};
 ghost use lib.ListN.{length, take};
 ghost use Rattle.sine_table.specs.Table.{Sines};
-ghost use Rattle.nodes.specs.declared.Node.{Node};
-ghost use Rattle.nodes.specs.Nodes.{Holds};
-ghost use Rattle.network_checks.specs.CheckLaws.{AllWithin};
+ghost use Rattle.clock_network.specs.declared.stations.Node.{Node};
+ghost use Rattle.clock_network.specs.Nodes.{Holds};
+ghost use Rattle.clock_network.specs.CheckLaws.{AllWithin};
 ghost use Rattle.networks.specs.Network.{tosOf};
-ghost use Rattle.decimals.specs.Texts.{Put};
+ghost use Rattle.decimal_text.specs.Texts.{Put};
 ghost use Rattle.network.specs.Printed.{clockText, faultText, stationLine, stationLines, firstLine, namedText, answerText, zeros, output, error};
 
 // How many bytes go to standard output, and to standard error.
@@ -33,9 +33,9 @@ struct Streams {
 fn put_clock(out: &mut [u8], line: usize) -> usize
     ensures { λ r. ⌜ Put (now (out .entry)) 0 (clockText line) (now (out .exit)) r ⌝ }
 {
-    let number = decimals::put_text(out, 0, b"line ");
-    let wrong = decimals::put_number(out, number, line as u64);
-    decimals::put_text(out, wrong, b": clock is not a station's number\n")
+    let number = decimal_text::put_text(out, 0, b"line ");
+    let wrong = decimal_text::put_number(out, number, line as u64);
+    decimal_text::put_text(out, wrong, b": clock is not a station's number\n")
 }
 
 // What is wrong with a line of the text.
@@ -43,7 +43,7 @@ fn put_fault(out: &mut [u8], text: &[u8], line: usize, fault: Fault) -> usize
     ensures { λ r. ⌜ Put (now (out .entry)) 0 (faultText (now (text .entry)) line fault) (now (out .exit)) r ⌝ }
 {
     match fault {
-        Fault::Typed(wrong) => request_messages::put_message(
+        Fault::Typed(wrong) => request_text::faults::put_message(
             out,
             0,
             Shape::Eclipse,
@@ -61,9 +61,9 @@ fn put_station(out: &mut [u8], at: usize, number: i64, steps: u64) -> usize
     ensures { λ r. ⌜ Put (now (out .entry)) at (stationLine number steps) (now (out .exit)) r ⌝ }
 {
     let numbers = [number];
-    let middle = decimals::put_filled(out, at, b"station # steps ", &numbers);
-    let end = decimals::put_number(out, middle, steps);
-    decimals::put_byte(out, end, b'\n')
+    let middle = decimal_text::put_filled(out, at, b"station # steps ", &numbers);
+    let end = decimal_text::put_number(out, middle, steps);
+    decimal_text::put_byte(out, end, b'\n')
 }
 
 // A line for each station of the list.
@@ -89,15 +89,15 @@ fn put_stations(out: &mut [u8], h: Held, steps: &[u64]) -> usize
 fn put_first(out: &mut [u8], at: usize, named: u64, tos: &[u32]) -> usize
     ensures { λ r. ⌜ Put (now (out .entry)) at (firstLine named (now (tos .entry))) (now (out .exit)) r ⌝ }
 {
-    let best = chains::earliest(tos, 21_601);
-    let word = decimals::put_text(out, at, b"first ");
-    let end = decimals::put_number(out, word, named);
+    let best = clock_network::strata::earliest(tos, 21_601);
+    let word = decimal_text::put_text(out, at, b"first ");
+    let end = decimal_text::put_number(out, word, named);
     if tos.len() <= best {
-        return decimals::put_byte(out, end, b'\n');
+        return decimal_text::put_byte(out, end, b'\n');
     }
     let to = tos[best];
-    let numbers = [kinds::seconds::second_of(to)];
-    decimals::put_filled(out, end, b" to #\n", &numbers)
+    let numbers = [sheet_format::kinds::seconds::second_of(to)];
+    decimal_text::put_filled(out, end, b" to #\n", &numbers)
 }
 
 // The lines of a list that has an answer.
@@ -121,10 +121,10 @@ fn put_answer(out: &mut [u8], eclipse: &[i64; 25], h: Held) -> usize
     let answer = networks::network(eclipse, h, &mut sines, &mut steps);
     match answer {
         Answer::Named(named) => {
-            let e = network_checks::eclipse_from(eclipse);
+            let e = clock_network::checks::eclipse_from(eclipse);
             put_named(out, named, e, h, &sines, &steps)
         }
-        Answer::Refused(refusal) => lines::put_refused(out, 0, refusal),
+        Answer::Refused(refusal) => listing_lines::lines::put_refused(out, 0, refusal),
     }
 }
 
@@ -134,7 +134,7 @@ fn respond(text: &[u8], out: &mut [u8], message: &mut [u8]) -> Streams
     ensures { λ r. ⌜ Put (now (message .entry)) 0 (error (now (text .entry))) (now (message .exit)) (r .error) ⌝ }
 {
     if 65536 < text.len() {
-        let long = decimals::put_text(message, 0, b"the text has more than 65,536 bytes\n");
+        let long = decimal_text::put_text(message, 0, b"the text has more than 65,536 bytes\n");
         return Streams {
             output: 0,
             error: long,
@@ -179,8 +179,8 @@ fn main() {
     let mut lines = [0u8; 2048];
     let mut message = message_room();
     let streams = respond(&text[..length], &mut lines, &mut message);
-    let output = decimals::clipped(&lines, streams.output);
-    let error = decimals::clipped(&message, streams.error);
+    let output = decimal_text::clipped(&lines, streams.output);
+    let error = decimal_text::clipped(&message, streams.error);
     io::write_all(STDOUT_FILENO, &lines[..output]);
     io::write_all(STDERR_FILENO, &message[..error]);
 }

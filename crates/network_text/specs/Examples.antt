@@ -3,10 +3,10 @@ use mathlib.Core.Path.{_≡_, refl}
 use mathlib.Core.List.{List, [], _∷_, map}
 use Prim.Native.String.{String}
 use lib.IntN.{pos, negℤ}
-use Rattle.request_fields.specs.Fields.{holds}
-use Rattle.request_fields.specs.Rows.{letters, rows, rowAt}
-use Rattle.words.specs.Text.{runOf}
-use Rattle.words.specs.Numbers.{appended, isNumber, isWhole, amount}
+use Rattle.request_format.specs.Fields.{holds}
+use Rattle.request_format.specs.Rows.{letters, rows, rowAt}
+use Rattle.tokens.specs.Text.{runOf}
+use Rattle.tokens.specs.Numbers.{appended, isNumber, isWhole, amount}
 use Rattle.request_text.specs.declared.Fault.{Fault}
 use Rattle.request_text.specs.declared.Fault.the-variants as R
 use Rattle.request_text.specs.declared.Line.the-variants as L

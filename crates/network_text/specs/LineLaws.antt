@@ -6,8 +6,8 @@ use mathlib.Core.List.{List}
 use borrow.Author.Tests.{eq-eqb, ne-eqb}
 use lib.Dec.{eqb, ltb}
 use lib.ListN.{length, take, drop}
-use Rattle.request_fields.specs.declared.Shape.the-variants as S
-use Rattle.words.specs.TextLaws.{rest-is}
+use Rattle.request_format.specs.declared.fields.Shape.the-variants as S
+use Rattle.tokens.specs.TextLaws.{rest-is}
 use Rattle.request_text.specs.declared.Fault.the-variants as R
 use Rattle.request_text.specs.declared.Found.{Found}
 use Rattle.request_text.specs.declared.Found.the-variants as F

@@ -5,7 +5,7 @@ use mathlib.Core.Bool.{cond, _&&_}
 use mathlib.Core.List.{List}
 use lib.Dec.{eqb, ltb}
 use lib.ListN.{drop}
-use Rattle.request_fields.specs.declared.Shape.the-variants as S
+use Rattle.request_format.specs.declared.fields.Shape.the-variants as S
 use Rattle.request_text.specs.declared.Fault.the-variants as R
 use Rattle.request_text.specs.declared.Found.{Found}
 use Rattle.request_text.specs.declared.Found.the-variants as F

@@ -9,10 +9,10 @@ use borrow.Author.Tests.{lt-ltb, le-ltb, eq-eqb, ne-eqb}
 use lib.IntN.{ℤ, natAbs}
 use lib.ListN.{length, take, drop, set, length-set, length-drop}
 use lib.Seq.{take-suc-set, take-all, drop-drop}
-use Rattle.request_fields.specs.declared.Shape.the-variants as S
-use Rattle.words.specs.declared.Class.the-variants as C
-use Rattle.words.specs.Text.{runOf, allOf}
-use Rattle.words.specs.TextLaws.{rest-is, run-le}
+use Rattle.request_format.specs.declared.fields.Shape.the-variants as S
+use Rattle.tokens.specs.declared.Class.the-variants as C
+use Rattle.tokens.specs.Text.{runOf, allOf}
+use Rattle.tokens.specs.TextLaws.{rest-is, run-le}
 use Rattle.request_text.specs.declared.Fault as R
 use Rattle.request_text.specs.declared.Line.{Line}
 use Rattle.request_text.specs.declared.Line.the-variants as L

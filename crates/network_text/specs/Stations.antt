@@ -6,10 +6,10 @@ use mathlib.Core.List.{List, [], _∷_, _++_}
 use lib.Dec.{eqb, ltb}
 use lib.IntN.{ℤ, pos}
 use lib.ListN.{getD}
-use Rattle.nodes.specs.declared.Node.{Node}
-use Rattle.request_fields.specs.declared.Shape.the-variants as S
-use Rattle.words.specs.declared.Class.the-variants as C
-use Rattle.words.specs.Text.{allOf}
+use Rattle.clock_network.specs.declared.stations.Node.{Node}
+use Rattle.request_format.specs.declared.fields.Shape.the-variants as S
+use Rattle.tokens.specs.declared.Class.the-variants as C
+use Rattle.tokens.specs.Text.{allOf}
 use Rattle.request_text.specs.declared.Fault as R
 use Rattle.request_text.specs.declared.Line.{Line}
 use Rattle.request_text.specs.declared.Line.the-variants as L

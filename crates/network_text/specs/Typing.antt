@@ -4,11 +4,11 @@ use Prim.Native.Nat.{ℕ, _+_}
 use mathlib.Core.List.{List, [], _∷_, _++_}
 use lib.IntN.{ℤ}
 use lib.ListN.{length, take, drop, replicate}
-use Rattle.nodes.specs.declared.Node.{Node}
-use Rattle.nodes.specs.declared.Held.{Held}
-use Rattle.nodes.specs.Held.{least64, heldOf}
-use Rattle.request_fields.specs.declared.Shape.the-variants as S
-use Rattle.words.specs.Text.{linesOf}
+use Rattle.clock_network.specs.declared.stations.Node.{Node}
+use Rattle.clock_network.specs.declared.stations.Held.{Held}
+use Rattle.clock_network.specs.Held.{least64, heldOf}
+use Rattle.request_format.specs.declared.fields.Shape.the-variants as S
+use Rattle.tokens.specs.Text.{linesOf}
 use Rattle.request_text.specs.declared.Noted.{Noted}
 use Rattle.request_text.specs.declared.Noted.the-variants as N
 use Rattle.request_text.specs.Typing as typing

@@ -10,14 +10,14 @@ use lib.Dec.{eqb, ltb}
 use lib.IntN.{ℤ, pos}
 use lib.ListN.{length, getD, take, drop, set, replicate, length-set, length-append, List·getD-append}
 use lib.Seq.{getD-append-add}
-use Rattle.nodes.specs.declared.Node.{Node}
-use Rattle.nodes.specs.declared.Held.{Held}
-use Rattle.nodes.specs.Held.{blankNode, pick, least64, emptyOf, putOf, heldOf}
-use Rattle.nodes.specs.HeldLaws.{held-holds}
-use Rattle.request_fields.specs.declared.Shape.the-variants as S
-use Rattle.words.specs.declared.Class.the-variants as C
-use Rattle.words.specs.Text.{runOf, allOf, linesOf}
-use Rattle.words.specs.TextLaws.{lineAt, line-within, line-next, lines-end}
+use Rattle.clock_network.specs.declared.stations.Node.{Node}
+use Rattle.clock_network.specs.declared.stations.Held.{Held}
+use Rattle.clock_network.specs.Held.{blankNode, pick, least64, emptyOf, putOf, heldOf}
+use Rattle.clock_network.specs.HeldLaws.{held-holds}
+use Rattle.request_format.specs.declared.fields.Shape.the-variants as S
+use Rattle.tokens.specs.declared.Class.the-variants as C
+use Rattle.tokens.specs.Text.{runOf, allOf, linesOf}
+use Rattle.tokens.specs.TextLaws.{lineAt, line-within, line-next, lines-end}
 use Rattle.request_text.specs.declared.Line.{Line}
 use Rattle.request_text.specs.declared.Found.{Found}
 use Rattle.request_text.specs.declared.Found.the-variants as F

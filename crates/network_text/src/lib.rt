@@ -2,14 +2,14 @@
 // `station NUMBER LATITUDE LONGITUDE HEIGHT DELTA_T CLOCK`.
 pub mod stations;
 
-use nodes::Held;
-use nodes::Node;
-use request_fields::COUNT;
-use request_fields::Shape;
+use clock_network::stations::Held;
+use clock_network::stations::Node;
+use request_format::fields::COUNT;
+use request_format::fields::Shape;
 use request_text::Found;
 use request_text::Line;
 use request_text::Noted;
-use words::Class;
+use tokens::Class;
 ghost use mathlib.Core.Path.{_≡_};
 ghost use Prim.Native.Nat.{_<_};
 ghost use lib.IntN.{pos};
@@ -116,7 +116,7 @@ fn add(h: Held, n: Node) -> Held
 {
     let count = h.count;
     if count < 64 {
-        let g = nodes::put(h, count, n);
+        let g = clock_network::stations::put(h, count, n);
         let nodes = g.nodes;
         return Held {
             nodes,
@@ -173,11 +173,11 @@ fn read(text: &[u8], marks: &mut [u8], found: &mut [i64]) -> Reading
     ensures { λ r. ⌜ Read (now (text .entry)) (r .answer) (r .held) (now (found .exit)) ⌝ }
 {
     found[29] = 16;
-    let mut held = nodes::empty(0);
+    let mut held = clock_network::stations::empty(0);
     let mut at = 0;
     let mut line = 1;
     while at < text.len() {
-        let length = words::run(&text[at..], Class::Line);
+        let length = tokens::run(&text[at..], Class::Line);
         let end = at + length;
         let reading = take(&text[at..end], line, held, marks, found);
         let answer = reading.answer;
@@ -232,6 +232,6 @@ pub fn network(text: &[u8], out: &mut [i64; 25]) -> Reading
         *out = numbers;
         return reading;
     }
-    let held = nodes::empty(0);
+    let held = clock_network::stations::empty(0);
     Reading { answer, held }
 }

@@ -2,11 +2,11 @@
 use super::Fault;
 use super::Told;
 use super::Word;
-use nodes::Node;
-use request_fields::Shape;
+use clock_network::stations::Node;
+use request_format::fields::Shape;
 use request_text::Line;
 use station::Station;
-use words::Class;
+use tokens::Class;
 ghost use mathlib.Core.Path.{_≡_};
 ghost use Prim.Native.Nat.{_<_};
 ghost use Rattle.network_text.specs.Stations.{fieldOf, faultOf, wordOf, nodeOf, stationOf};
@@ -71,9 +71,9 @@ pub fn of_station(s: &[u8]) -> Told
     let mut at = 0;
     let mut k = 0;
     while k < 6 {
-        let gap = words::run(&s[at..], Class::Blank);
+        let gap = tokens::run(&s[at..], Class::Blank);
         let from = at + gap;
-        let size = words::run(&s[from..], Class::Word);
+        let size = tokens::run(&s[from..], Class::Word);
         let end = from + size;
         let word = word_of(k, &s[from..end]);
         match word {
@@ -87,7 +87,7 @@ pub fn of_station(s: &[u8]) -> Told
         at = end;
         k += 1;
     }
-    let bare = words::all(&s[at..], Class::Blank);
+    let bare = tokens::all(&s[at..], Class::Blank);
     if !bare {
         return Told::Faulty(Fault::Clock);
     }

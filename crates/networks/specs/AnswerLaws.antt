@@ -6,18 +6,18 @@ use Prim.Native.Nat.{ℕ}
 use lib.Dec.{eqb}
 use lib.IntN.{ℤ}
 use lib.ListN.{length}
-use Rattle.refusals.specs.declared.Refusal.{Refusal}
-use Rattle.refusals.specs.declared.Checked.{Checked}
-use Rattle.refusals.specs.declared.Checked.the-variants as C
-use Rattle.refusals.specs.Refusals.{refusal, andThen}
+use Rattle.sheet_types.specs.declared.refusals.Refusal.{Refusal}
+use Rattle.sheet_types.specs.declared.refusals.Checked.{Checked}
+use Rattle.sheet_types.specs.declared.refusals.Checked.the-variants as C
+use Rattle.sheet_types.specs.Refusals.{refusal, andThen}
 use Rattle.requests.specs.Admission.{roomChecked, sinesAfter}
-use Rattle.chains.specs.Defined.{stepsOf}
-use Rattle.nodes.specs.declared.Node.{Node}
-use Rattle.nodes.specs.Nodes.{numbersOf, clocksOf}
-use Rattle.network_checks.specs.declared.Eclipse.{Eclipse}
+use Rattle.clock_network.specs.Defined.{stepsOf}
+use Rattle.clock_network.specs.declared.stations.Node.{Node}
+use Rattle.clock_network.specs.Nodes.{numbersOf, clocksOf}
+use Rattle.clock_network.specs.declared.checks.Eclipse.{Eclipse}
 use Rattle.networks.specs.declared.Answer.{Answer}
 use Rattle.networks.specs.declared.Answer.the-variants as A
-use Rattle.network_checks.specs.Checks.{eclipseOf, checked}
+use Rattle.clock_network.specs.Checks.{eclipseOf, checked}
 use Rattle.networks.specs.Network.{admitted, named, answerBy, answerTo, stepsAfter, stepsFor, sinesFor}
 
 -- what a check gives: the answer, the room for table S, the steps

@@ -4,3 +4,7 @@ pub mod Network
 pub mod Meaning
 pub mod AnswerLaws
 pub mod SightLaws
+-- what to believe: the first enter of a sheet
+pub mod Enters
+-- how it is found
+pub mod EnterLaws

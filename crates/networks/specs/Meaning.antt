@@ -5,15 +5,15 @@ use mathlib.Core.List.{List}
 use Prim.Native.Nat.{ℕ, _≤_}
 use native.Mathlib.Omega.{arith}
 use lib.ListN.{length, length-map}
-use Rattle.refusals.specs.declared.Checked.the-variants as C
-use Rattle.chains.specs.Defined.{firstLost, stepsOf}
-use Rattle.chains.specs.DefinedLaws.{first-lost}
-use Rattle.chains.specs.Meaning.{Accepted, accepted}
-use Rattle.nodes.specs.declared.Node.{Node}
-use Rattle.nodes.specs.Nodes.{numberOf, numbersOf, clocksOf}
-use Rattle.network_checks.specs.declared.Eclipse.{Eclipse}
-use Rattle.network_checks.specs.Checks.{checked}
-use Rattle.network_checks.specs.CheckLaws.{at-most, once, accepted-14, accepted-16, clocks-accepted}
+use Rattle.sheet_types.specs.declared.refusals.Checked.the-variants as C
+use Rattle.clock_network.specs.Defined.{firstLost, stepsOf}
+use Rattle.clock_network.specs.DefinedLaws.{first-lost}
+use Rattle.clock_network.specs.Meaning.{Accepted, accepted}
+use Rattle.clock_network.specs.declared.stations.Node.{Node}
+use Rattle.clock_network.specs.Nodes.{numberOf, numbersOf, clocksOf}
+use Rattle.clock_network.specs.declared.checks.Eclipse.{Eclipse}
+use Rattle.clock_network.specs.Checks.{checked}
+use Rattle.clock_network.specs.CheckLaws.{at-most, once, accepted-14, accepted-16, clocks-accepted}
 
 pub steps-accepted : (e : Eclipse) (l : List Node) → checked e l ≡ C.Within → Accepted (numbersOf l) (clocksOf l) (stepsOf (numbersOf l) (clocksOf l))
 steps-accepted e l ok =

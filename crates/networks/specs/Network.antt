@@ -6,17 +6,17 @@ use Prim.Native.Nat.{ℕ}
 use lib.Dec.{eqb}
 use lib.IntN.{ℤ, pos, natAbs}
 use lib.ListN.{length, getD}
-use Rattle.refusals.specs.declared.Checked.{Checked}
-use Rattle.refusals.specs.declared.Checked.the-variants as C
-use Rattle.refusals.specs.Refusals.{refusal, andThen}
+use Rattle.sheet_types.specs.declared.refusals.Checked.{Checked}
+use Rattle.sheet_types.specs.declared.refusals.Checked.the-variants as C
+use Rattle.sheet_types.specs.Refusals.{refusal, andThen}
 use Rattle.requests.specs.Requests.{ofEclipse}
 use Rattle.requests.specs.Admission.{roomChecked, sinesAfter}
-use Rattle.chains.specs.Defined.{stepsOf, earliestOf}
-use Rattle.nodes.specs.declared.Node.{Node}
-use Rattle.nodes.specs.Nodes.{numbersOf, clocksOf}
-use Rattle.enters.specs.Enters.{never, firstTo}
-use Rattle.network_checks.specs.declared.Eclipse.{Eclipse}
-use Rattle.network_checks.specs.Checks.{eclipseOf, requestOf, checked}
+use Rattle.clock_network.specs.Defined.{stepsOf, earliestOf}
+use Rattle.clock_network.specs.declared.stations.Node.{Node}
+use Rattle.clock_network.specs.Nodes.{numbersOf, clocksOf}
+use Rattle.networks.specs.Enters.{never, firstTo}
+use Rattle.clock_network.specs.declared.checks.Eclipse.{Eclipse}
+use Rattle.clock_network.specs.Checks.{eclipseOf, requestOf, checked}
 use Rattle.networks.specs.declared.Answer.{Answer}
 use Rattle.networks.specs.declared.Answer.the-variants as A
 

@@ -5,15 +5,15 @@ use Prim.Native.Nat.{ℕ, zero, suc, _≤_}
 use native.Mathlib.Omega.{arith}
 use lib.IntN.{natAbs}
 use lib.ListN.{length, getD, length-map, List·getD-map}
-use Rattle.chains.specs.First.{First}
-use Rattle.chains.specs.Steps.{Smallest}
-use Rattle.chains.specs.Defined.{earliestOf}
-use Rattle.chains.specs.DefinedLaws.{earliest-of}
-use Rattle.nodes.specs.declared.Node.{Node}
-use Rattle.nodes.specs.Held.{blankNode}
-use Rattle.nodes.specs.Nodes.{numberOf}
-use Rattle.enters.specs.Enters.{never}
-use Rattle.network_checks.specs.declared.Eclipse.{Eclipse}
+use Rattle.clock_network.specs.First.{First}
+use Rattle.clock_network.specs.Steps.{Smallest}
+use Rattle.clock_network.specs.Defined.{earliestOf}
+use Rattle.clock_network.specs.DefinedLaws.{earliest-of}
+use Rattle.clock_network.specs.declared.stations.Node.{Node}
+use Rattle.clock_network.specs.Held.{blankNode}
+use Rattle.clock_network.specs.Nodes.{numberOf}
+use Rattle.networks.specs.Enters.{never}
+use Rattle.clock_network.specs.declared.checks.Eclipse.{Eclipse}
 use Rattle.networks.specs.Network.{toOf, tosOf, named}
 
 past : {A : Type 0} (l : List A) (i : ℕ) (d : A) → length l ≤ i → getD l i d ≡ d

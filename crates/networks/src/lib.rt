@@ -1,18 +1,19 @@
 // The whole network in one list: the steps of each station's clock from the antenna, and the station that sees the eclipse first. The list is taken
 // as a value (crate `nodes`).
+pub mod first_contact;
 pub mod sight;
 
-use nodes::Held;
-use refusals::Checked;
-use refusals::Refusal;
+use clock_network::stations::Held;
+use sheet_types::refusals::Checked;
+use sheet_types::refusals::Refusal;
 ghost use mathlib.Core.Path.{_≡_};
 ghost use Prim.Native.Nat.{_≤_};
 ghost use mathlib.Core.List.{List};
 ghost use lib.ListN.{length, take};
-ghost use Rattle.chains.specs.Defined.{firstRepeat, stepsOf};
-ghost use Rattle.nodes.specs.declared.Node.{Node};
-ghost use Rattle.nodes.specs.Nodes.{numbersOf, clocksOf, Holds};
-ghost use Rattle.network_checks.specs.Checks.{eclipseOf};
+ghost use Rattle.clock_network.specs.Defined.{firstRepeat, stepsOf};
+ghost use Rattle.clock_network.specs.declared.stations.Node.{Node};
+ghost use Rattle.clock_network.specs.Nodes.{numbersOf, clocksOf, Holds};
+ghost use Rattle.clock_network.specs.Checks.{eclipseOf};
 ghost use Rattle.networks.specs.AnswerLaws.{Answered, Answers};
 
 // The number of the station that sees the eclipse first, 0 for none, or why the list has no answer.
@@ -41,9 +42,9 @@ fn tell_steps(h: Held, steps: &mut [u64])
     ensures { λ r. ⌜ now (steps .exit) ≡ stepsOf (numbersOf (take (h .count) (h .nodes))) (clocksOf (take (h .count) (h .nodes))) ⌝ }
 {
     let n = h.count;
-    let a = nodes::numbers(h);
-    let b = nodes::clocks(h);
-    let told = chains::all_steps(&a[..n], &b[..n]);
+    let a = clock_network::stations::numbers(h);
+    let b = clock_network::stations::clocks(h);
+    let told = clock_network::strata::all_steps(&a[..n], &b[..n]);
     put_steps(&told, steps);
 }
 
@@ -52,8 +53,8 @@ fn name(eclipse: &[i64], h: Held, sines: &mut [u32], steps: &mut [u64]) -> Answe
     requires { ⌜ (length (now eclipse) ≡ 25) × (length (h .nodes) ≡ 64) × (length (now steps) ≡ 64) ⌝ }
     ensures { λ r. ⌜ ((l : List Node) → Holds h l → Answered (eclipseOf (now (eclipse .entry))) l (now (sines .entry)) (now (steps .entry)) r (now (sines .exit)) (now (steps .exit))) ⌝ }
 {
-    let e = network_checks::eclipse_from(eclipse);
-    let c = network_checks::check(e, h);
+    let e = clock_network::checks::eclipse_from(eclipse);
+    let c = clock_network::checks::check(e, h);
     if let Checked::Refused(refusal) = c {
         return Answer::Refused(refusal);
     }

@@ -1,11 +1,11 @@
 // Which station sees the eclipse first.
-use network_checks::Eclipse;
-use nodes::Held;
+use clock_network::checks::Eclipse;
+use clock_network::stations::Held;
 ghost use mathlib.Core.Path.{_≡_};
 ghost use Prim.Native.Nat.{_≤_};
 ghost use lib.ListN.{length, take};
 ghost use Rattle.sine_table.specs.Table.{Sines};
-ghost use Rattle.network_checks.specs.CheckLaws.{AllWithin};
+ghost use Rattle.clock_network.specs.CheckLaws.{AllWithin};
 ghost use Rattle.networks.specs.Network.{tosOf, named};
 
 // The "to" of the first enter of each of n stations, as it is stored, or 21,601 where it has none.
@@ -18,8 +18,8 @@ pub fn first_tos(table: &[u32], e: Eclipse, h: Held, n: usize) -> [u32; 64]
     while i < n {
         let x = h.nodes[i];
         let s = x.station;
-        let q = network_checks::request(e, s);
-        let to = enters::first_to(table, q);
+        let q = clock_network::checks::request(e, s);
+        let to = crate::first_contact::first_to(table, q);
         tos[i] = to;
         i += 1;
     }
@@ -33,7 +33,7 @@ pub fn first_seen(table: &[u32], e: Eclipse, h: Held) -> u64
 {
     let n = h.count;
     let tos = first_tos(table, e, h, n);
-    let best = chains::earliest(&tos[..n], 21_601);
+    let best = clock_network::strata::earliest(&tos[..n], 21_601);
     if best < n {
         let x = h.nodes[best];
         let s = x.station;

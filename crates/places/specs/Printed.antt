@@ -3,16 +3,16 @@
 use Prim.Native.Nat.{ℕ}
 use mathlib.Core.List.{List, [], _∷_}
 use lib.IntN.{ℤ, pos}
-use Rattle.refusals.specs.declared.Checked.{Checked}
-use Rattle.refusals.specs.declared.Checked.the-variants.{Within, Refused}
+use Rattle.sheet_types.specs.declared.refusals.Checked.{Checked}
+use Rattle.sheet_types.specs.declared.refusals.Checked.the-variants.{Within, Refused}
 use Rattle.big_endian.specs.Numbers.{fourAt}
-use Rattle.request_bytes.specs.Layout.{signed}
+use Rattle.request_format.specs.Layout.{signed}
 use Rattle.station.specs.declared.Station.{Station}
 use Rattle.station.specs.Station.{stationChecked}
 use Rattle.station.specs.Place.{placeOf}
-use Rattle.decimals.specs.Texts.{letters}
-use Rattle.decimals.specs.Patterns.{filled}
-use Rattle.decimals.specs.Rows.{eachPart}
+use Rattle.decimal_text.specs.Texts.{letters}
+use Rattle.decimal_text.specs.Patterns.{filled}
+use Rattle.decimal_text.specs.Rows.{eachPart}
 
 -- the number of four bytes at a place, the highest first, in two's complement
 unfoldable pub numberAt : List ℕ → ℕ → ℤ

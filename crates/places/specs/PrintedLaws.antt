@@ -3,11 +3,11 @@ use Prim.Native.Nat.{ℕ}
 use mathlib.Core.Path.{_≡_}
 use mathlib.Core.List.{List}
 use lib.IntN.{ℤ}
-use Rattle.refusals.specs.declared.Checked.{Checked}
-use Rattle.refusals.specs.declared.Checked.the-variants.{Within, Refused}
-use Rattle.refusals.specs.declared.Refusal.{Refusal}
+use Rattle.sheet_types.specs.declared.refusals.Checked.{Checked}
+use Rattle.sheet_types.specs.declared.refusals.Checked.the-variants.{Within, Refused}
+use Rattle.sheet_types.specs.declared.refusals.Refusal.{Refusal}
 use Rattle.station.specs.Station.{stationChecked}
-use Rattle.decimals.specs.Texts.{Put}
+use Rattle.decimal_text.specs.Texts.{Put}
 use Rattle.places.specs.Printed.{stationAt, placeLine, refusedLine, stationLine}
 
 -- the line by what the check says of a station; x and y are latitude and height as the code holds them

@@ -5,10 +5,10 @@ use libc::STDOUT_FILENO;
 ghost use mathlib.Core.Path.{_≡_};
 ghost use Prim.Native.Nat.{_+_, _≤_};
 ghost use lib.ListN.{length};
-ghost use Rattle.request_bytes.specs.Layout.{signed};
+ghost use Rattle.request_format.specs.Layout.{signed};
 ghost use Rattle.sine_table.specs.Table.{Sines};
 ghost use Rattle.station.specs.Sizes.{StationSizes};
-ghost use Rattle.decimals.specs.Texts.{Put};
+ghost use Rattle.decimal_text.specs.Texts.{Put};
 ghost use Rattle.places.specs.Printed.{numberAt, placeLine, refusedLine, stationLine, recordLine, printed};
 
 // The number whose 32 bits are those of x.
@@ -40,14 +40,14 @@ fn put_place(out: &mut [u8], at: usize, table: &[u32], s: station::Station) -> u
     let r = place.r;
     let p = place.p;
     let numbers = [latitude, height, r, p];
-    decimals::put_filled(out, at, b"# # # #\n", &numbers)
+    decimal_text::put_filled(out, at, b"# # # #\n", &numbers)
 }
 
 fn put_refused(out: &mut [u8], at: usize, latitude: i64, height: i64) -> usize
     ensures { λ r. ⌜ Put (now (out .entry)) at (refusedLine latitude height) (now (out .exit)) r ⌝ }
 {
     let numbers = [latitude, height];
-    decimals::put_filled(out, at, b"# # refused\n", &numbers)
+    decimal_text::put_filled(out, at, b"# # refused\n", &numbers)
 }
 
 fn put_station(out: &mut [u8], at: usize, table: &[u32], latitude: i64, height: i64) -> usize
@@ -63,8 +63,8 @@ fn put_station(out: &mut [u8], at: usize, table: &[u32], latitude: i64, height: 
     };
     let checked = station::check(record);
     match checked {
-        refusals::Checked::Within => put_place(out, at, table, record),
-        refusals::Checked::Refused(_) => put_refused(out, at, latitude, height),
+        sheet_types::refusals::Checked::Within => put_place(out, at, table, record),
+        sheet_types::refusals::Checked::Refused(_) => put_refused(out, at, latitude, height),
     }
 }
 
@@ -101,6 +101,6 @@ fn main() {
     // 512 lines of 46 bytes at most
     let mut lines = [0u8; 32768];
     let end = put_stations(&mut lines, &table, &input[..length]);
-    let written = decimals::clipped(&lines, end);
+    let written = decimal_text::clipped(&lines, end);
     io::write_all(STDOUT_FILENO, &lines[..written]);
 }

@@ -3,13 +3,13 @@ use Prim.Native.Nat.{ℕ}
 use mathlib.Core.List.{List, [], _∷_, _++_}
 use lib.Ieee.{Float, binary64, ofBits}
 use Rattle.big_endian.specs.Numbers.{eightAt}
-use Rattle.decimals.specs.Texts.{letters}
-use Rattle.decimals.specs.Decimals.{signed}
-use Rattle.decimals.specs.Rows.{eachPart}
-use Rattle.doubles.specs.declared.Reading.{Reading}
-use Rattle.doubles.specs.declared.Reading.the-variants.{Units, TooLarge, NotFinite}
-use Rattle.doubles.specs.declared.Longitude.the-variants.{Degrees, Hours}
-use Rattle.doubles.specs.Doubles.{longitudeScale, readingOf}
+use Rattle.decimal_text.specs.Texts.{letters}
+use Rattle.decimal_text.specs.Decimals.{signed}
+use Rattle.decimal_text.specs.Rows.{eachPart}
+use Rattle.binary64.specs.declared.Reading.{Reading}
+use Rattle.binary64.specs.declared.Reading.the-variants.{Units, TooLarge, NotFinite}
+use Rattle.binary64.specs.declared.Longitude.the-variants.{Degrees, Hours}
+use Rattle.binary64.specs.Doubles.{longitudeScale, readingOf}
 
 abbrev pub readingText : Reading → List ℕ
 readingText (Units z) = signed z

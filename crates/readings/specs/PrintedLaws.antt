@@ -8,10 +8,10 @@ use lib.Dec.{T}
 use lib.IntN.{ℤ}
 use lib.Ieee.{Float, nan, inf, fin, binary64, ofBits, nanBits, isNan, ofFields, odd, div}
 use lib.Ieee.Bits.{nanBits-is}
-use Rattle.decimals.specs.Texts.{letters, Put}
-use Rattle.decimals.specs.Decimals.{signed}
-use Rattle.doubles.specs.declared.Reading.{Reading}
-use Rattle.doubles.specs.declared.Reading.the-variants.{Units, TooLarge, NotFinite}
+use Rattle.decimal_text.specs.Texts.{letters, Put}
+use Rattle.decimal_text.specs.Decimals.{signed}
+use Rattle.binary64.specs.declared.Reading.{Reading}
+use Rattle.binary64.specs.declared.Reading.the-variants.{Units, TooLarge, NotFinite}
 use Rattle.readings.specs.Printed.{readingText}
 
 -- ---- bits: the exponent field and the digits

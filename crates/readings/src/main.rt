@@ -1,13 +1,13 @@
 // Reads doubles from standard input, 16,384 bytes at most, the 8 bytes of each big-endian. Prints for each a line: its whole units where it
 // counts degrees, hours of time, and lengths; `large` for one too large for 64 bits, `none` for one that is not finite.
-use doubles::Reading;
+use binary64::Reading;
 use libc::STDIN_FILENO;
 use libc::STDOUT_FILENO;
 ghost use mathlib.Core.Path.{_≡_};
 ghost use Prim.Native.Nat.{_≤_};
 ghost use lib.ListN.{length};
 ghost use lib.Ieee.{binary64, ofBits};
-ghost use Rattle.decimals.specs.Texts.{Put};
+ghost use Rattle.decimal_text.specs.Texts.{Put};
 ghost use Rattle.readings.specs.Printed.{readingText, field, line, recordLine, printed};
 
 // The double of 64 bits. `from_bits` takes no NaN's.
@@ -28,9 +28,9 @@ fn put_reading(out: &mut [u8], at: usize, reading: Reading) -> usize
     ensures { λ r. ⌜ Put (now (out .entry)) at (readingText reading) (now (out .exit)) r ⌝ }
 {
     match reading {
-        Reading::Units(unit) => decimals::put_signed(out, at, unit),
-        Reading::TooLarge => decimals::put_text(out, at, b"large"),
-        Reading::NotFinite => decimals::put_text(out, at, b"none"),
+        Reading::Units(unit) => decimal_text::put_signed(out, at, unit),
+        Reading::TooLarge => decimal_text::put_text(out, at, b"large"),
+        Reading::NotFinite => decimal_text::put_text(out, at, b"none"),
     }
 }
 
@@ -39,16 +39,16 @@ fn put_field(out: &mut [u8], at: usize, reading: Reading, end: u8) -> usize
     ensures { λ r. ⌜ Put (now (out .entry)) at (field reading end) (now (out .exit)) r ⌝ }
 {
     let next = put_reading(out, at, reading);
-    decimals::put_byte(out, next, end)
+    decimal_text::put_byte(out, next, end)
 }
 
 // The three readings of a double.
 fn put_line(out: &mut [u8], at: usize, x: f64) -> usize
     ensures { λ r. ⌜ Put (now (out .entry)) at (line x) (now (out .exit)) r ⌝ }
 {
-    let degrees = doubles::read_longitude(doubles::Longitude::Degrees(x));
-    let hours = doubles::read_longitude(doubles::Longitude::Hours(x));
-    let lengths = doubles::read(x, doubles::RADIUS);
+    let degrees = binary64::read_longitude(binary64::Longitude::Degrees(x));
+    let hours = binary64::read_longitude(binary64::Longitude::Hours(x));
+    let lengths = binary64::read(x, binary64::RADIUS);
     let after_degrees = put_field(out, at, degrees, b' ');
     let after_hours = put_field(out, after_degrees, hours, b' ');
     put_field(out, after_hours, lengths, b'\n')
@@ -87,6 +87,6 @@ fn main() {
     let length = io::read_full(STDIN_FILENO, &mut input);
     let mut lines = lines_room();
     let end = put_doubles(&mut lines, &input[..length]);
-    let written = decimals::clipped(&lines, end);
+    let written = decimal_text::clipped(&lines, end);
     io::write_all(STDOUT_FILENO, &lines[..written]);
 }

@@ -4,10 +4,10 @@ use mathlib.Core.List.{List}
 use Prim.Native.Nat.{ℕ}
 use native.Mathlib.Omega.{arith}
 use lib.ListN.{take}
-use Rattle.decimals.specs.Texts.{Counts}
-use Rattle.instants.specs.declared.Reference.{Reference}
-use Rattle.typed_requests.specs.RoomLaws.{Bytes, Message}
-use Rattle.typed_requests.specs.Meaning.{errorOf}
+use Rattle.decimal_text.specs.Texts.{Counts}
+use Rattle.calendar.specs.declared.Reference.{Reference}
+use Rattle.request_text.specs.RoomLaws.{Bytes, Message}
+use Rattle.request_text.specs.Meaning.{errorOf}
 use Rattle.request.specs.Streams.{outputOf}
 
 -- what `respond` promises: n bytes go out of the request's room, r of the message's

@@ -2,8 +2,8 @@
 -- Assumes nothing: these are definitions.
 use mathlib.Core.List.{List, []}
 use Prim.Native.Nat.{ℕ}
-use Rattle.request_bytes.specs.Request.{bytesFor}
-use Rattle.typed_requests.specs.Meaning.{Meaning, asked, refused, meaningOf}
+use Rattle.request_format.specs.Request.{bytesFor}
+use Rattle.request_text.specs.Meaning.{Meaning, asked, refused, meaningOf}
 
 -- to standard output: the bytes of the numbers typed, or nothing
 abbrev pub outputBy : Meaning → List ℕ

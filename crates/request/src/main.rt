@@ -3,13 +3,13 @@
 use libc::STDERR_FILENO;
 use libc::STDIN_FILENO;
 use libc::STDOUT_FILENO;
-use request_fields::LENGTH;
-use typed_requests::Answer;
-use typed_requests::MESSAGE;
+use request_format::fields::LENGTH;
+use request_text::typed_requests::Answer;
+use request_text::typed_requests::MESSAGE;
 ghost use mathlib.Core.Path.{_≡_};
 ghost use lib.ListN.{take};
-ghost use Rattle.decimals.specs.Texts.{Counts};
-ghost use Rattle.typed_requests.specs.Meaning.{errorOf};
+ghost use Rattle.decimal_text.specs.Texts.{Counts};
+ghost use Rattle.request_text.specs.Meaning.{errorOf};
 ghost use Rattle.request.specs.Streams.{outputOf};
 
 // How many bytes go out: of the request to standard output, of the message's room to standard error.
@@ -24,7 +24,7 @@ fn respond(text: &[u8], out: &mut [u8; LENGTH], message: &mut [u8; MESSAGE]) -> 
     ensures error { λ r. ⌜ take (r .error) (now (message .exit)) ≡ errorOf (now (text .entry)) ⌝ }
     ensures counts { λ r. ⌜ Counts (r .output) (now (out .exit)) × Counts (r .error) (now (message .exit)) ⌝ }
 {
-    let answer = typed_requests::read(text, out, message);
+    let answer = request_text::typed_requests::read(text, out, message);
     match answer {
         Answer::Request(length, _) => Streams {
             output: length,

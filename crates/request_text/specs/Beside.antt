@@ -6,10 +6,10 @@ use Prim.Native.Nat.{ℕ, _+_}
 use native.Mathlib.Omega.{arith}
 use lib.IntN.{ℤ}
 use lib.ListN.{replicate}
-use Rattle.request_fields.specs.declared.Shape.{Shape}
-use Rattle.request_fields.specs.Fields.{countOf}
-use Rattle.request_fields.specs.Rows.{letters}
-use Rattle.words.specs.Text.{runOf, linesOf}
+use Rattle.request_format.specs.declared.fields.Shape.{Shape}
+use Rattle.request_format.specs.Fields.{countOf}
+use Rattle.request_format.specs.Rows.{letters}
+use Rattle.tokens.specs.Text.{runOf, linesOf}
 use Rattle.request_text.specs.declared.Line.{Line}
 use Rattle.request_text.specs.declared.Line.the-variants as L
 use Rattle.request_text.specs.Names.{named}

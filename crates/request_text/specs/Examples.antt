@@ -5,11 +5,11 @@ use Prim.Native.String.{String}
 use lib.IntN.{pos, negℤ}
 use Rattle.request_text.specs.declared.Fault.the-variants as Fault
 use Rattle.request_text.specs.declared.Line.the-variants as L
-use Rattle.request_fields.specs.declared.Shape.the-variants as S
-use Rattle.request_fields.specs.Fields.{holds}
-use Rattle.request_fields.specs.Rows.{letters, rows, rowAt}
-use Rattle.words.specs.Text.{runOf, linesOf}
-use Rattle.words.specs.Numbers.{appended, isNumber, isWhole, amount}
+use Rattle.request_format.specs.declared.fields.Shape.the-variants as S
+use Rattle.request_format.specs.Fields.{holds}
+use Rattle.request_format.specs.Rows.{letters, rows, rowAt}
+use Rattle.tokens.specs.Text.{runOf, linesOf}
+use Rattle.tokens.specs.Numbers.{appended, isNumber, isWhole, amount}
 use Rattle.request_text.specs.Names.{names, named, findIn}
 use Rattle.request_text.specs.Shapes.{shapeIn, shapeOf}
 use Rattle.request_text.specs.Lines.{withSign, fitted, valueOf, ofValue, ofName, meaningOf, numberIn}

@@ -9,12 +9,12 @@ use lib.Dec.{eqb}
 use lib.IntN.{ℤ, pos}
 use lib.ListN.{length, getD, set, take, replicate, length-set, length-replicate, getD-replicate}
 use lib.Seq.{getD-set-same, getD-set-other}
-use Rattle.request_fields.specs.declared.Shape.{Shape}
-use Rattle.request_fields.specs.declared.Shape.the-variants as S
-use Rattle.request_fields.specs.Fields.{holds, countOf}
-use Rattle.request_fields.specs.Rows.{rows, rowAt, widthOf}
-use Rattle.request_fields.specs.WidthLaws.{held-zero}
-use Rattle.words.specs.Text.{linesOf}
+use Rattle.request_format.specs.declared.fields.Shape.{Shape}
+use Rattle.request_format.specs.declared.fields.Shape.the-variants as S
+use Rattle.request_format.specs.Fields.{holds, countOf}
+use Rattle.request_format.specs.Rows.{rows, rowAt, widthOf}
+use Rattle.request_format.specs.WidthLaws.{held-zero}
+use Rattle.tokens.specs.Text.{linesOf}
 use Rattle.request_text.specs.declared.Line.{Line}
 use Rattle.request_text.specs.declared.Line.the-variants as L
 use Rattle.request_text.specs.declared.Noted.{Noted}

@@ -9,19 +9,19 @@ use borrow.Author.Tests.{eq-eqb, ne-eqb}
 use lib.Dec.{eqb}
 use lib.IntN.{pos, negℤ, natAbs}
 use lib.ListN.{length, getD, take, drop}
-use Rattle.numbers.specs.Order.{natAbs-opposite}
-use Rattle.request_fields.specs.declared.Shape.{Shape}
-use Rattle.request_fields.specs.declared.Width.{Width}
-use Rattle.request_fields.specs.Fields.{holds, countOf}
-use Rattle.request_fields.specs.Rows.{decimalsOf, widthOf}
-use Rattle.request_fields.specs.WidthLaws.{held, held-size, whole-small, held-not}
-use Rattle.words.specs.declared.Class.the-variants as C
-use Rattle.words.specs.declared.Units.{Units}
-use Rattle.words.specs.declared.Units.the-variants as U
-use Rattle.words.specs.Text.{runOf, allOf, startOf}
-use Rattle.words.specs.TextLaws.{rest-is}
-use Rattle.words.specs.Numbers.{isNumber, isWhole, amount, capped, unitsOf}
-use Rattle.words.specs.NumberLaws.{part, capped-below, capped-above}
+use Rattle.rounding.specs.Order.{natAbs-opposite}
+use Rattle.request_format.specs.declared.fields.Shape.{Shape}
+use Rattle.request_format.specs.declared.fields.Width.{Width}
+use Rattle.request_format.specs.Fields.{holds, countOf}
+use Rattle.request_format.specs.Rows.{decimalsOf, widthOf}
+use Rattle.request_format.specs.WidthLaws.{held, held-size, whole-small, held-not}
+use Rattle.tokens.specs.declared.Class.the-variants as C
+use Rattle.tokens.specs.declared.Units.{Units}
+use Rattle.tokens.specs.declared.Units.the-variants as U
+use Rattle.tokens.specs.Text.{runOf, allOf, startOf}
+use Rattle.tokens.specs.TextLaws.{rest-is}
+use Rattle.tokens.specs.Numbers.{isNumber, isWhole, amount, capped, unitsOf}
+use Rattle.tokens.specs.NumberLaws.{part, capped-below, capped-above}
 use Rattle.request_text.specs.declared.Found.{Found}
 use Rattle.request_text.specs.declared.Found.the-variants as F
 use Rattle.request_text.specs.declared.Fault.the-variants as Fault

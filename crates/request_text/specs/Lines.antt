@@ -6,13 +6,13 @@ use mathlib.Core.List.{List}
 use lib.Dec.{eqb}
 use lib.IntN.{ℤ, pos, negℤ}
 use lib.ListN.{length, take, drop}
-use Rattle.request_fields.specs.declared.Shape.{Shape}
-use Rattle.request_fields.specs.declared.Width.{Width}
-use Rattle.request_fields.specs.Fields.{holds}
-use Rattle.request_fields.specs.Rows.{letters, decimalsOf, widthOf}
-use Rattle.words.specs.declared.Class.the-variants as C
-use Rattle.words.specs.Text.{runOf, allOf, startOf}
-use Rattle.words.specs.Numbers.{isNumber, isWhole, amount}
+use Rattle.request_format.specs.declared.fields.Shape.{Shape}
+use Rattle.request_format.specs.declared.fields.Width.{Width}
+use Rattle.request_format.specs.Fields.{holds}
+use Rattle.request_format.specs.Rows.{letters, decimalsOf, widthOf}
+use Rattle.tokens.specs.declared.Class.the-variants as C
+use Rattle.tokens.specs.Text.{runOf, allOf, startOf}
+use Rattle.tokens.specs.Numbers.{isNumber, isWhole, amount}
 use Rattle.request_text.specs.declared.Found.{Found}
 use Rattle.request_text.specs.declared.Found.the-variants as F
 use Rattle.request_text.specs.declared.Fault.the-variants as Fault

@@ -7,15 +7,15 @@ use native.Mathlib.Omega.{arith}
 use borrow.Author.Tests.{eq-eqb, ne-eqb}
 use lib.Dec.{eqb}
 use lib.ListN.{length, getD, drop, length-map}
-use Rattle.numbers.specs.Tests.{both}
-use Rattle.request_fields.specs.declared.Field.{Field}
-use Rattle.request_fields.specs.declared.Shape.{Shape}
-use Rattle.request_fields.specs.Fields.{Number, layoutOf, numbersOf, countOf}
-use Rattle.request_fields.specs.Rows.{letters, rows, rowAt, nameOf}
-use Rattle.request_fields.specs.RowLaws.{rows-next, rows-end, names-are}
-use Rattle.words.specs.declared.Class.the-variants as C
-use Rattle.words.specs.Text.{isIn}
-use Rattle.words.specs.TextLaws.{from-here, from-end}
+use Rattle.rounding.specs.Tests.{both}
+use Rattle.request_format.specs.declared.fields.Field.{Field}
+use Rattle.request_format.specs.declared.fields.Shape.{Shape}
+use Rattle.request_format.specs.Fields.{Number, layoutOf, numbersOf, countOf}
+use Rattle.request_format.specs.Rows.{letters, rows, rowAt, nameOf}
+use Rattle.request_format.specs.RowLaws.{rows-next, rows-end, names-are}
+use Rattle.tokens.specs.declared.Class.the-variants as C
+use Rattle.tokens.specs.Text.{isIn}
+use Rattle.tokens.specs.TextLaws.{from-here, from-end}
 use Rattle.request_text.specs.declared.Found.the-variants as F
 use Rattle.request_text.specs.Names.{named, names, findIn}
 

@@ -5,11 +5,11 @@ use mathlib.Core.Bool.{Bool, true, false, cond, _&&_}
 use mathlib.Core.List.{List, [], _∷_, map}
 use lib.Dec.{eqb}
 use lib.ListN.{length}
-use Rattle.request_fields.specs.declared.Shape.{Shape}
-use Rattle.request_fields.specs.Fields.{Number, layoutOf, numbersOf}
-use Rattle.request_fields.specs.Rows.{letters}
-use Rattle.words.specs.declared.Class.the-variants as C
-use Rattle.words.specs.Text.{isIn}
+use Rattle.request_format.specs.declared.fields.Shape.{Shape}
+use Rattle.request_format.specs.Fields.{Number, layoutOf, numbersOf}
+use Rattle.request_format.specs.Rows.{letters}
+use Rattle.tokens.specs.declared.Class.the-variants as C
+use Rattle.tokens.specs.Text.{isIn}
 use Rattle.request_text.specs.declared.Found.{Found}
 use Rattle.request_text.specs.declared.Found.the-variants as F
 

@@ -10,12 +10,12 @@ use lib.Dec.{T, eqb}
 use lib.IntN.{ℤ}
 use lib.ListN.{length, getD, set, take, replicate, length-set}
 use lib.Seq.{getD-set-other, getD-take, length-take-le}
-use Rattle.numbers.specs.Tests.{both}
-use Rattle.request_fields.specs.declared.Shape.{Shape}
-use Rattle.request_fields.specs.declared.Shape.the-variants as S
-use Rattle.request_fields.specs.Fields.{countOf}
-use Rattle.request_fields.specs.Rows.{letters}
-use Rattle.words.specs.Text.{linesOf}
+use Rattle.rounding.specs.Tests.{both}
+use Rattle.request_format.specs.declared.fields.Shape.{Shape}
+use Rattle.request_format.specs.declared.fields.Shape.the-variants as S
+use Rattle.request_format.specs.Fields.{countOf}
+use Rattle.request_format.specs.Rows.{letters}
+use Rattle.tokens.specs.Text.{linesOf}
 use Rattle.request_text.specs.declared.Fault.the-variants as Fault
 use Rattle.request_text.specs.declared.Found.the-variants as F
 use Rattle.request_text.specs.declared.Line.{Line}

@@ -5,11 +5,11 @@ use mathlib.Core.List.{List, [], _∷_}
 use Prim.Native.Nat.{ℕ, _+_, _≤_, _<_}
 use native.Mathlib.Omega.{arith}
 use lib.ListN.{length, drop}
-use Rattle.request_fields.specs.declared.Shape.the-variants as S
-use Rattle.request_fields.specs.Rows.{letters}
-use Rattle.words.specs.declared.Class.the-variants as C
-use Rattle.words.specs.Text.{runOf, linesOf}
-use Rattle.words.specs.TextLaws.{lineAt, line-within, line-next, lines-end}
+use Rattle.request_format.specs.declared.fields.Shape.the-variants as S
+use Rattle.request_format.specs.Rows.{letters}
+use Rattle.tokens.specs.declared.Class.the-variants as C
+use Rattle.tokens.specs.Text.{runOf, linesOf}
+use Rattle.tokens.specs.TextLaws.{lineAt, line-within, line-next, lines-end}
 use Rattle.request_text.specs.Names.{named}
 use Rattle.request_text.specs.Lines.{said}
 use Rattle.request_text.specs.Shapes.{shapeIn, shapeOf}

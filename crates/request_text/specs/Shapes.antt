@@ -3,10 +3,10 @@
 use mathlib.Core.Bool.{cond}
 use mathlib.Core.List.{List, [], _∷_}
 use Prim.Native.Nat.{ℕ}
-use Rattle.request_fields.specs.declared.Shape.{Shape}
-use Rattle.request_fields.specs.declared.Shape.the-variants as S
-use Rattle.request_fields.specs.Rows.{letters}
-use Rattle.words.specs.Text.{linesOf}
+use Rattle.request_format.specs.declared.fields.Shape.{Shape}
+use Rattle.request_format.specs.declared.fields.Shape.the-variants as S
+use Rattle.request_format.specs.Rows.{letters}
+use Rattle.tokens.specs.Text.{linesOf}
 use Rattle.request_text.specs.Names.{named}
 use Rattle.request_text.specs.Lines.{said}
 

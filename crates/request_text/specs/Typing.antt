@@ -6,9 +6,9 @@ use mathlib.Core.List.{List, [], _∷_, _++_}
 use lib.Dec.{eqb}
 use lib.IntN.{ℤ, pos, natAbs}
 use lib.ListN.{getD, set, take, replicate}
-use Rattle.request_fields.specs.declared.Shape.{Shape}
-use Rattle.request_fields.specs.Fields.{countOf}
-use Rattle.words.specs.Text.{linesOf}
+use Rattle.request_format.specs.declared.fields.Shape.{Shape}
+use Rattle.request_format.specs.Fields.{countOf}
+use Rattle.tokens.specs.Text.{linesOf}
 use Rattle.request_text.specs.declared.Fault.{Fault}
 use Rattle.request_text.specs.declared.Fault.the-variants as Fault
 use Rattle.request_text.specs.declared.Line.{Line}

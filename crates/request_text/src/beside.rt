@@ -1,6 +1,6 @@
 // A line of a typed request: one that names the instant is read beside the numbers (`instants`) and gives none.
 use super::Line;
-use request_fields::Shape;
+use request_format::fields::Shape;
 ghost use mathlib.Core.Path.{_≡_};
 ghost use Rattle.request_text.specs.Lines.{namesInstant, numberIn};
 

@@ -1,20 +1,23 @@
 // A request that a person types: text with one `name value` a line, to the numbers of the request in whole units. What it asks about is in `shapes`,
 // what a line gives a request in `beside`.
 pub mod beside;
+pub mod faults;
+pub mod instants;
 pub mod shapes;
+pub mod typed_requests;
 
-use request_fields::COUNT;
-use request_fields::STAR_COUNT;
-use request_fields::Shape;
-use request_fields::Width;
-use words::Class;
-use words::Units;
+use request_format::fields::COUNT;
+use request_format::fields::STAR_COUNT;
+use request_format::fields::Shape;
+use request_format::fields::Width;
+use tokens::Class;
+use tokens::Units;
 ghost use mathlib.Core.Path.{_≡_};
 ghost use Prim.Native.Nat.{_≤_, _<_};
 ghost use lib.IntN.{pos};
 ghost use lib.ListN.{length, replicate};
-ghost use Rattle.request_fields.specs.declared.Shape.the-variants.{Eclipse, Star};
-ghost use Rattle.request_fields.specs.Fields.{countOf};
+ghost use Rattle.request_format.specs.declared.fields.Shape.the-variants.{Eclipse, Star};
+ghost use Rattle.request_format.specs.Fields.{countOf};
 ghost use Rattle.request_text.specs.Names.{named, findIn, names};
 ghost use Rattle.request_text.specs.Lines.{withSign, fitted, valueOf, ofValue, ofName, said, meaningOf};
 ghost use Rattle.request_text.specs.Typing.{InRoom, notedOf, marksAfter, numbersAfter, missing, typingOf, answerOf, numbersFrom};
@@ -83,17 +86,17 @@ fn is_named(said: &[u8], name: &[u8]) -> bool
         return true;
     }
     let x = said[i];
-    words::is_in(Class::Blank, x)
+    tokens::is_in(Class::Blank, x)
 }
 
 // The first field whose name is said.
 pub fn find(shape: Shape, said: &[u8]) -> Found
     ensures { λ r. ⌜ r ≡ findIn (names shape) 0 (now (said .entry)) ⌝ }
 {
-    let count = request_fields::count_of(shape);
+    let count = request_format::fields::count_of(shape);
     let mut k = 0;
     while k < count {
-        let field = request_fields::field_at(shape, k);
+        let field = request_format::fields::field_at(shape, k);
         let name = field.0;
         let letters = field.1;
         if is_named(said, &name[..letters]) {
@@ -124,7 +127,7 @@ fn fit(field: usize, width: Width, minus: usize, n: usize) -> Line
     ensures { λ r. ⌜ r ≡ fitted field width minus n ⌝ }
 {
     let value = with_sign(minus, n);
-    let holds = request_fields::holds(width, value);
+    let holds = request_format::fields::holds(width, value);
     if !holds {
         return Line::Faulty(Fault::Unfit(field));
     }
@@ -136,11 +139,11 @@ pub fn value_of(shape: Shape, field: usize, word: &[u8]) -> Line
     requires { ⌜ field < countOf shape ⌝ }
     ensures { λ r. ⌜ r ≡ valueOf shape field (now (word .entry)) ⌝ }
 {
-    let row = request_fields::field_at(shape, field);
+    let row = request_format::fields::field_at(shape, field);
     let decimals = row.2;
     let width = row.3;
-    let minus = words::start(word, Class::Minus);
-    let found = words::units_in(word, decimals);
+    let minus = tokens::start(word, Class::Minus);
+    let found = tokens::units_in(word, decimals);
     match found {
         Units::Is(n) => fit(field, width, minus, n),
         Units::NotWhole => Line::Faulty(Fault::NotWhole(field)),
@@ -155,8 +158,8 @@ fn of_value(shape: Shape, field: usize, s: &[u8]) -> Line
     requires { ⌜ field < countOf shape ⌝ }
     ensures { λ r. ⌜ r ≡ ofValue shape field (now (s .entry)) ⌝ }
 {
-    let length = words::run(s, Class::Word);
-    let bare = words::all(&s[length..], Class::Blank);
+    let length = tokens::run(s, Class::Word);
+    let bare = tokens::all(&s[length..], Class::Blank);
     if !bare {
         return Line::Faulty(Fault::NotNumber(field));
     }
@@ -171,7 +174,7 @@ fn of_name(shape: Shape, said: &[u8]) -> Line
         return Line::Faulty(Fault::Unknown);
     };
     let after = &said[length..];
-    let gap = words::run(after, Class::Blank);
+    let gap = tokens::run(after, Class::Blank);
     of_value(shape, field, &after[gap..])
 }
 
@@ -179,9 +182,9 @@ fn of_name(shape: Shape, said: &[u8]) -> Line
 pub fn said(line: &[u8]) -> &[u8]
     ensures { λ r. ⌜ now r ≡ said (now (line .entry)) ⌝ }
 {
-    let length = words::run(line, Class::Said);
+    let length = tokens::run(line, Class::Said);
     let content = &line[..length];
-    let gap = words::run(content, Class::Blank);
+    let gap = tokens::run(content, Class::Blank);
     &content[gap..]
 }
 
@@ -238,12 +241,12 @@ fn read(shape: Shape, text: &[u8], marks: &mut [u8], found: &mut [i64]) -> Typed
     requires { ⌜ (now marks ≡ replicate (countOf shape) 0) × (now found ≡ replicate (countOf shape) (pos 0)) ⌝ }
     ensures { λ r. ⌜ Read shape (now (text .entry)) r (now (found .exit)) ⌝ }
 {
-    let required = request_fields::count_of(shape) - 1;
+    let required = request_format::fields::count_of(shape) - 1;
     found[required] = 16;
     let mut at = 0;
     let mut line = 1;
     while at < text.len() {
-        let length = words::run(&text[at..], Class::Line);
+        let length = tokens::run(&text[at..], Class::Line);
         let end = at + length;
         let given = beside::number_in(shape, &text[at..end]);
         let noted = note(given, marks, found);

@@ -1,8 +1,8 @@
 // What a typed text asks about.
-use request_fields::Shape;
-use words::Class;
+use request_format::fields::Shape;
+use tokens::Class;
 ghost use mathlib.Core.Path.{_≡_};
-ghost use Rattle.request_fields.specs.Rows.{letters};
+ghost use Rattle.request_format.specs.Rows.{letters};
 ghost use Rattle.request_text.specs.Names.{named};
 ghost use Rattle.request_text.specs.Lines.{said};
 ghost use Rattle.request_text.specs.Shapes.{shapeOf};
@@ -20,7 +20,7 @@ pub fn shape_of(text: &[u8]) -> Shape
 {
     let mut at = 0;
     while at < text.len() {
-        let length = words::run(&text[at..], Class::Line);
+        let length = tokens::run(&text[at..], Class::Line);
         let end = at + length;
         if names_radius(&text[at..end]) {
             return Shape::Star;

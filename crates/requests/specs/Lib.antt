@@ -5,3 +5,5 @@ pub mod AdmissionLaws
 pub mod Shares
 pub mod Mirror
 pub mod MirrorLaws
+pub mod Windows
+pub mod WindowLaws

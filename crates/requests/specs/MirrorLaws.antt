@@ -11,9 +11,9 @@ use native.Mathlib.Omega.{arith}
 use borrow.Author.Tests.{le-leb, lt-leb}
 use lib.Dec.{leb}
 use lib.IntN.{ℤ, negℤ, natAbs, negℤ-negℤ}
-use Rattle.numbers.specs.Limits.{_±_, outOfRange}
-use Rattle.numbers.specs.LimitsLaws.{range-opposite}
-use Rattle.numbers.specs.Order.{natAbs-opposite}
+use Rattle.rounding.specs.Limits.{_±_, outOfRange}
+use Rattle.rounding.specs.LimitsLaws.{range-opposite}
+use Rattle.rounding.specs.Order.{natAbs-opposite}
 use Rattle.elements.specs.MirrorLaws as E
 use Rattle.station.specs.MirrorLaws as S
 use Rattle.requests.specs.declared.Request.{Request}

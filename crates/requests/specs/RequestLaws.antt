@@ -10,16 +10,16 @@ use Prim.Native.Nat.{ℕ, _≤_}
 use native.Mathlib.Omega.{arith}
 use lib.IntN.{ℤ, pos, natAbs}
 use lib.Signed.{leZ, leZ-yes, _≤ℤ_}
-use Rattle.numbers.specs.Parts.{same}
-use Rattle.numbers.specs.Order.{≤-parts, ≤ℤ-trans, leZ-true, natAbs-parts, natAbs-between, nonneg}
-use Rattle.numbers.specs.Tests.{both}
-use Rattle.numbers.specs.declared.Limits.{Limits}
-use Rattle.numbers.specs.declared.Limits.the-variants.{InRange, OutOfRange}
-use Rattle.refusals.specs.declared.Refusal.{Refusal}
-use Rattle.refusals.specs.declared.Checked.{Checked}
-use Rattle.refusals.specs.declared.Checked.the-variants as C
-use Rattle.refusals.specs.Refusals.{refusal, ofLimits, andThen}
-use Rattle.refusals.specs.RefusalLaws.{not-within, of-limits-within, both-within, numberIn, refused-number}
+use Rattle.rounding.specs.Parts.{same}
+use Rattle.rounding.specs.Order.{≤-parts, ≤ℤ-trans, leZ-true, natAbs-parts, natAbs-between, nonneg}
+use Rattle.rounding.specs.Tests.{both}
+use Rattle.rounding.specs.declared.Limits.{Limits}
+use Rattle.rounding.specs.declared.Limits.the-variants.{InRange, OutOfRange}
+use Rattle.sheet_types.specs.declared.refusals.Refusal.{Refusal}
+use Rattle.sheet_types.specs.declared.refusals.Checked.{Checked}
+use Rattle.sheet_types.specs.declared.refusals.Checked.the-variants as C
+use Rattle.sheet_types.specs.Refusals.{refusal, ofLimits, andThen}
+use Rattle.sheet_types.specs.RefusalLaws.{not-within, of-limits-within, both-within, numberIn, refused-number}
 use Rattle.elements.specs.declared.Body.{Body}
 use Rattle.elements.specs.declared.Body.the-variants as B
 use Rattle.elements.specs.Elements as E
@@ -29,8 +29,8 @@ use Rattle.station.specs.Station as S
 use Rattle.station.specs.Station.{stationChecked}
 use Rattle.station.specs.Sizes.{StationSizes, station-sizes}
 use Rattle.requests.specs.declared.Occultation.{Occultation}
-use Rattle.windows.specs.Windows.{windowHolds}
-use Rattle.windows.specs.WindowLaws.{WindowHolds, window-holds}
+use Rattle.requests.specs.Windows.{windowHolds}
+use Rattle.requests.specs.WindowLaws.{WindowHolds, window-holds}
 use Rattle.requests.specs.Requests.{windowChecked, guardHolds, guardChecked, checked}
 
 pub record GuardHolds (g : ℤ) : Type 0 where

@@ -2,17 +2,17 @@
 use mathlib.Core.Bool.{Bool, false, cond, _&&_}
 use lib.IntN.{ℤ, pos}
 use lib.Signed.{leZ}
-use Rattle.refusals.specs.declared.Checked.{Checked}
-use Rattle.refusals.specs.declared.Checked.the-variants.{Within, Refused}
-use Rattle.refusals.specs.Refusals.{refusal, andThen}
+use Rattle.sheet_types.specs.declared.refusals.Checked.{Checked}
+use Rattle.sheet_types.specs.declared.refusals.Checked.the-variants.{Within, Refused}
+use Rattle.sheet_types.specs.Refusals.{refusal, andThen}
 use Rattle.elements.specs.declared.Body.the-variants as B
 use Rattle.elements.specs.Stars.{bodyChecked}
 use Rattle.station.specs.Station.{stationChecked}
-use Rattle.windows.specs.declared.Window.{Window}
+use Rattle.requests.specs.declared.windows.Window.{Window}
 use Rattle.requests.specs.declared.Request.{Request}
 use Rattle.requests.specs.declared.StarRequest.{StarRequest}
 use Rattle.requests.specs.declared.Occultation.{Occultation}
-use Rattle.windows.specs.Windows.{windowHolds}
+use Rattle.requests.specs.Windows.{windowHolds}
 
 -- an eclipse is an occultation of the Sun
 abbrev pub ofEclipse : Request → Occultation

@@ -1,7 +1,7 @@
 // The room for table S: an occultation within its limits fills it, and 4 is given where it is shorter.
 use super::Occultation;
-use refusals::Checked;
-use refusals::Refusal;
+use sheet_types::refusals::Checked;
+use sheet_types::refusals::Refusal;
 ghost use mathlib.Core.Path.{_≡_};
 ghost use Rattle.requests.specs.Admission.{roomChecked, admitted, sinesAfter};
 

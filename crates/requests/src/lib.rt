@@ -1,11 +1,12 @@
 // A request: the elements of an eclipse, a station, a window of seconds, a guard, and whether a share is asked for; or a star's. Both ask
 // for an occultation. Its limits, and the refusals 1, 2, 13 and 3.
 pub mod admission;
+pub mod windows;
 
+use crate::windows::Window;
 use elements::Body;
-use refusals::Checked;
-use refusals::Refusal;
-use windows::Window;
+use sheet_types::refusals::Checked;
+use sheet_types::refusals::Refusal;
 ghost use mathlib.Core.Path.{_≡_};
 ghost use Rattle.requests.specs.Requests.{ofEclipse, ofStar, guardHolds, checked};
 ghost use Rattle.requests.specs.Shares.{sharing};
@@ -94,7 +95,7 @@ pub fn check(o: Occultation) -> Checked
     ensures { λ r. ⌜ r ≡ checked o ⌝ }
 {
     let w = o.window;
-    let holds = windows::window_holds(w);
+    let holds = crate::windows::window_holds(w);
     if !holds {
         return Checked::Refused(Refusal {
             number: 1,

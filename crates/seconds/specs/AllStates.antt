@@ -3,10 +3,10 @@ use mathlib.Core.Path.{_≡_}
 use mathlib.Core.List.{List}
 use Prim.Native.Nat.{ℕ, _<_}
 use lib.ListN.{length, getD}
-use Rattle.phases.specs.declared.Phase.the-variants.{Penumbra}
-use Rattle.geometry.specs.Shadow.{phasesOf}
+use Rattle.sheet_types.specs.declared.phases.Phase.the-variants.{Penumbra}
+use Rattle.shadow_geometry.specs.Shadow.{phasesOf}
 use Rattle.requests.specs.declared.Occultation.{Occultation}
-use Rattle.runs.specs.Runs.{decoded, Whole}
+use Rattle.run_length.specs.Runs.{decoded, Whole}
 use Rattle.seconds.specs.Seconds.{statesOf}
 
 -- each phase of a shadow has its states there

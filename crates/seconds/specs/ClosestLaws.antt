@@ -9,7 +9,7 @@ use native.Mathlib.Omega.{arith}
 use native.Mathlib.Nat.{eq-or-lt-of-le}
 use lib.IntN.{ℤ}
 use lib.Signed.{ltZ, _≤ℤ_, _<ℤ_, clashℤ}
-use Rattle.numbers.specs.Order.{zs, ltZ-true, ltZ-false, ≤ℤ-trans, <ℤ-≤}
+use Rattle.rounding.specs.Order.{zs, ltZ-true, ltZ-false, ≤ℤ-trans, <ℤ-≤}
 use Rattle.sine.specs.SineLaws.{either}
 use Rattle.seconds.specs.Closest.{IsClosest, closestTo}
 

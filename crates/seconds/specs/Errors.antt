@@ -1,17 +1,17 @@
 -- How far the shadow at a second is from the exact one: of every second of every occultation within its limits (`errors-proved`).
 use Prim.Native.Nat.{_*_, _≤_}
 use lib.IntN.{ℤ, pos, natAbs, _-ℤ_, _*ℤ_}
-use Rattle.phases.specs.declared.Phase.{Phase}
+use Rattle.sheet_types.specs.declared.phases.Phase.{Phase}
 use Rattle.station.specs.Place.{placeOf}
-use Rattle.geometry.specs.Shadow as Shadow
-use Rattle.geometry.specs.Shadow.{cone}
-use Rattle.geometry.specs.Exact.{D, exact-u, exact-v, exact-L}
-use Rattle.geometry.specs.Errors.{u-error, v-error, L-error}
-use Rattle.geometry.specs.Thirteen.{Thirteen}
+use Rattle.shadow_geometry.specs.Shadow as Shadow
+use Rattle.shadow_geometry.specs.Shadow.{cone}
+use Rattle.shadow_geometry.specs.Exact.{D, exact-u, exact-v, exact-L}
+use Rattle.shadow_geometry.specs.Errors.{u-error, v-error, L-error}
+use Rattle.shadow_geometry.specs.Thirteen.{Thirteen}
 use Rattle.shadow.specs.SecondLaws.{tangent-small, distance-known}
 use Rattle.requests.specs.declared.Occultation.{Occultation}
-use Rattle.windows.specs.Windows.{InWindow}
-use Rattle.windows.specs.WindowLaws.{in-window-size}
+use Rattle.requests.specs.Windows.{InWindow}
+use Rattle.requests.specs.WindowLaws.{in-window-size}
 use Rattle.requests.specs.RequestLaws.{InLimits}
 use Rattle.seconds.specs.Seconds.{momentAt}
 use Rattle.seconds.specs.SecondLaws.{placed}

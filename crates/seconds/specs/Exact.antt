@@ -1,10 +1,10 @@
 -- The exact answer at a second of an occultation, "From the same sines, cosines and station place", and what the states said of it mean. Definitions only.
 use Prim.Native.Nat.{ℕ, _+_}
 use lib.IntN.{ℤ, pos, natAbs}
-use Rattle.phases.specs.declared.Phase.{Phase}
-use Rattle.phases.specs.States.{stateOf, SaidRightly}
-use Rattle.geometry.specs.Shadow.{cone}
-use Rattle.geometry.specs.Exact as Exact
+use Rattle.sheet_types.specs.declared.phases.Phase.{Phase}
+use Rattle.sheet_types.specs.States.{stateOf, SaidRightly}
+use Rattle.shadow_geometry.specs.Shadow.{cone}
+use Rattle.shadow_geometry.specs.Exact as Exact
 use Rattle.shadow.specs.declared.Second.{Second}
 use Rattle.requests.specs.declared.Occultation.{Occultation}
 use Rattle.seconds.specs.declared.OneSecond.{OneSecond}

@@ -3,13 +3,13 @@
 use mathlib.Core.Path.{_≡_}
 use lib.IntN.{ℤ, pos}
 use lib.Signed.{_≤ℤ_}
-use Rattle.phases.specs.declared.Phase.{Phase}
-use Rattle.phases.specs.States.{State, unsure}
+use Rattle.sheet_types.specs.declared.phases.Phase.{Phase}
+use Rattle.sheet_types.specs.States.{State, unsure}
 use Rattle.station.specs.Place.{placeOf}
 use Rattle.shadow.specs.SecondLaws.{sure-under-less}
 use Rattle.requests.specs.declared.Occultation.{Occultation}
-use Rattle.windows.specs.Windows.{InWindow}
-use Rattle.windows.specs.WindowLaws.{in-window-size}
+use Rattle.requests.specs.Windows.{InWindow}
+use Rattle.requests.specs.WindowLaws.{in-window-size}
 use Rattle.requests.specs.RequestLaws.{InLimits}
 use Rattle.seconds.specs.Seconds.{stateAt}
 use Rattle.seconds.specs.SecondLaws.{placed}

@@ -2,19 +2,19 @@
 use mathlib.Core.Path.{_≡_, refl, ap, fun-ext, _∙_}
 use Prim.Native.Nat.{ℕ}
 use lib.IntN.{ℤ, negℤ, natAbs, _-ℤ_}
-use Rattle.phases.specs.declared.Phase.{Phase}
+use Rattle.sheet_types.specs.declared.phases.Phase.{Phase}
 use Rattle.elements.specs.declared.Body.{Body}
 use Rattle.elements.specs.declared.Body.the-variants as B
 use Rattle.elements.specs.Mirror.{mirroredBody}
 use Rattle.station.specs.Place.{placeOf}
 use Rattle.station.specs.Mirror.{mirroredPlace}
 use Rattle.station.specs.MirrorLaws.{place-mirrored}
-use Rattle.geometry.specs.Shadow.{Moment, u, v, M}
-use Rattle.geometry.specs.MirrorLaws as G
-use Rattle.geometry.specs.MirrorLaws.{mirroredMoment}
+use Rattle.shadow_geometry.specs.Shadow.{Moment, u, v, M}
+use Rattle.shadow_geometry.specs.MirrorLaws as G
+use Rattle.shadow_geometry.specs.MirrorLaws.{mirroredMoment}
 use Rattle.shadow.specs.MirrorLaws as Shadow
 use Rattle.requests.specs.declared.Occultation.{Occultation}
-use Rattle.windows.specs.Windows.{nthSecond}
+use Rattle.requests.specs.Windows.{nthSecond}
 use Rattle.requests.specs.Mirror.{mirroredOccultation}
 use Rattle.seconds.specs.Seconds.{momentAt, stateAt, magnitudeOf, magnitudeAt, closestOf}
 use Rattle.seconds.specs.Closest.{closestTo}

@@ -4,22 +4,22 @@ use mathlib.Core.Bool.{cond}
 use mathlib.Core.List.{List}
 use Prim.Native.Nat.{ℕ}
 use lib.IntN.{ℤ}
-use Rattle.phases.specs.declared.Phase.{Phase}
-use Rattle.phases.specs.declared.Phase.the-variants as P
-use Rattle.phases.specs.States.{code}
-use Rattle.refusals.specs.declared.Checked.{Checked}
-use Rattle.refusals.specs.declared.Checked.the-variants as C
-use Rattle.refusals.specs.Refusals.{refusal}
+use Rattle.sheet_types.specs.declared.phases.Phase.{Phase}
+use Rattle.sheet_types.specs.declared.phases.Phase.the-variants as P
+use Rattle.sheet_types.specs.States.{code}
+use Rattle.sheet_types.specs.declared.refusals.Checked.{Checked}
+use Rattle.sheet_types.specs.declared.refusals.Checked.the-variants as C
+use Rattle.sheet_types.specs.Refusals.{refusal}
 use Rattle.elements.specs.declared.Star.{Star}
 use Rattle.elements.specs.declared.Body.the-variants as B
 use Rattle.elements.specs.Stars.{starAxis, cylinderOf}
 use Rattle.station.specs.declared.Place.{Place}
-use Rattle.geometry.specs.Shadow.{momentOf, cone, u, v, L, M}
+use Rattle.shadow_geometry.specs.Shadow.{momentOf, cone, u, v, L, M}
 use Rattle.shadow.specs.declared.Second.{Second}
 use Rattle.shadow.specs.Second as Shadow
 use Rattle.shadow.specs.Second.{phaseIn}
 use Rattle.requests.specs.declared.Occultation.{Occultation}
-use Rattle.windows.specs.Windows.{inSpan}
+use Rattle.requests.specs.Windows.{inSpan}
 use Rattle.requests.specs.Admission.{admitted, sinesAfter}
 use Rattle.seconds.specs.declared.OneSecond.{OneSecond}
 use Rattle.seconds.specs.declared.OneSecond.the-variants as O

@@ -17,14 +17,14 @@ use lib.ListN.{length}
 use lib.Signed.{leZ-yes}
 use mir.Syntax.{w64}
 use mir.Val.{toZ, ofZ}
-use Rattle.numbers.specs.Order.{≤ℤ-trans}
-use Rattle.numbers.specs.Code.{read-back, read-size}
-use Rattle.phases.specs.declared.Phase.{Phase}
-use Rattle.phases.specs.States.{stateOf, code, SaidRightly}
-use Rattle.phases.specs.PhaseLaws.{state-of-code}
-use Rattle.refusals.specs.declared.Checked.{Checked}
-use Rattle.refusals.specs.declared.Checked.the-variants as C
-use Rattle.refusals.specs.Refusals.{refusal}
+use Rattle.rounding.specs.Order.{≤ℤ-trans}
+use Rattle.rounding.specs.Code.{read-back, read-size}
+use Rattle.sheet_types.specs.declared.phases.Phase.{Phase}
+use Rattle.sheet_types.specs.States.{stateOf, code, SaidRightly}
+use Rattle.sheet_types.specs.PhaseLaws.{state-of-code}
+use Rattle.sheet_types.specs.declared.refusals.Checked.{Checked}
+use Rattle.sheet_types.specs.declared.refusals.Checked.the-variants as C
+use Rattle.sheet_types.specs.Refusals.{refusal}
 use Rattle.elements.specs.declared.Body.{Body}
 use Rattle.elements.specs.declared.Body.the-variants as B
 use Rattle.elements.specs.Stars.{axisOf}
@@ -32,14 +32,14 @@ use Rattle.elements.specs.StarLaws.{BodySizes}
 use Rattle.station.specs.Place.{placeOf}
 use Rattle.station.specs.Sizes.{PlaceSizes}
 use Rattle.station.specs.PlaceLaws.{place-sizes}
-use Rattle.geometry.specs.Shadow.{cone, M}
-use Rattle.geometry.specs.Exact as Exact
+use Rattle.shadow_geometry.specs.Shadow.{cone, M}
+use Rattle.shadow_geometry.specs.Exact as Exact
 use Rattle.shadow.specs.SecondLaws.{state-at, states-true, magnitude-most, direction-near}
 use Rattle.requests.specs.declared.StarRequest.{StarRequest}
 use Rattle.requests.specs.declared.Occultation.{Occultation}
 use Rattle.requests.specs.Requests.{ofStar}
-use Rattle.windows.specs.Windows.{inSpan, nthSecond, secondCount}
-use Rattle.windows.specs.WindowLaws.{in-span, each-length}
+use Rattle.requests.specs.Windows.{inSpan, nthSecond, secondCount}
+use Rattle.requests.specs.WindowLaws.{in-span, each-length}
 use Rattle.requests.specs.RequestLaws.{InLimits, guard-is, guard-size}
 use Rattle.requests.specs.Admission.{admitted, sinesAfter}
 use Rattle.requests.specs.AdmissionLaws.{admitted-within}

@@ -2,17 +2,17 @@
 use Prim.Native.Nat.{ℕ}
 use mathlib.Core.List.{List}
 use lib.IntN.{ℤ, natAbs, _-ℤ_}
-use Rattle.phases.specs.declared.Phase.{Phase}
-use Rattle.phases.specs.States.{State, code}
+use Rattle.sheet_types.specs.declared.phases.Phase.{Phase}
+use Rattle.sheet_types.specs.States.{State, code}
 use Rattle.elements.specs.declared.Body.{Body}
 use Rattle.elements.specs.declared.Body.the-variants as B
 use Rattle.elements.specs.Stars.{axisOf}
 use Rattle.station.specs.declared.Place.{Place}
 use Rattle.station.specs.Place.{placeOf}
-use Rattle.geometry.specs.Shadow.{Moment, momentOf, M}
+use Rattle.shadow_geometry.specs.Shadow.{Moment, momentOf, M}
 use Rattle.shadow.specs.Second as Shadow
 use Rattle.requests.specs.declared.Occultation.{Occultation}
-use Rattle.windows.specs.Windows.{nthSecond, eachSecond}
+use Rattle.requests.specs.Windows.{nthSecond, eachSecond}
 use Rattle.seconds.specs.Closest.{closestTo}
 
 -- what the shadow at second τ is made of

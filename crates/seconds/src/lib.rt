@@ -1,8 +1,8 @@
 // The seconds of an occultation: direction and magnitude at one of them; and all of one second.
 use elements::Body;
-use refusals::Checked;
-use refusals::Refusal;
 use requests::Occultation;
+use sheet_types::refusals::Checked;
+use sheet_types::refusals::Refusal;
 ghost use mathlib.Core.Path.{_≡_};
 ghost use Prim.Native.Nat.{_≤_};
 ghost use lib.IntN.{natAbs};
@@ -97,7 +97,7 @@ pub fn second(o: Occultation, t: i64, sines: &mut [u32]) -> OneSecond
     ensures sines { λ r. ⌜ now (sines .exit) ≡ secondSines o t (now (sines .entry)) ⌝ }
     ensures means { λ r. ⌜ AnswerMeans o t r ⌝ }
 {
-    let inside = windows::in_span(t);
+    let inside = requests::windows::in_span(t);
     if !inside {
         return OneSecond::Refused(Refusal {
             number: 1,

@@ -4,8 +4,8 @@ use lib.IntN.{pos, negsuc}
 use Rattle.sine_table.specs.Table.{S}
 use Rattle.sine_table.specs.TableLaws.{entry-0}
 use Rattle.sine_table.specs.Rising.{S-rises}
-use Rattle.geometry.specs.Direction.{direction}
-use Rattle.geometry.specs.DirectionLaws.{Rising, direction-diagonal, direction-south}
+use Rattle.shadow_geometry.specs.Direction.{direction}
+use Rattle.shadow_geometry.specs.DirectionLaws.{Rising, direction-diagonal, direction-south}
 
 rising : Rising S
 rising = record { none = entry-0; rises = S-rises }

@@ -1,8 +1,8 @@
 -- A mirrored second has the same states and, of an eclipse, the same magnitude.
 use mathlib.Core.Path.{_≡_, refl, ap}
 use lib.IntN.{ℤ, negℤ}
-use Rattle.phases.specs.declared.Phase.{Phase}
-use Rattle.phases.specs.declared.Phase.the-variants.{Penumbra, Central, Star}
+use Rattle.sheet_types.specs.declared.phases.Phase.{Phase}
+use Rattle.sheet_types.specs.declared.phases.Phase.the-variants.{Penumbra, Central, Star}
 use Rattle.elements.specs.declared.Axis.{Axis}
 use Rattle.elements.specs.declared.Elements.{Elements}
 use Rattle.elements.specs.declared.Body.{Body}
@@ -12,8 +12,8 @@ use Rattle.elements.specs.MirrorLaws.{axis-mirrored}
 use Rattle.elements.specs.Stars.{axisOf}
 use Rattle.station.specs.declared.Place.{Place}
 use Rattle.station.specs.Mirror.{mirroredPlace}
-use Rattle.geometry.specs.Shadow.{momentOf, moment, cone}
-use Rattle.geometry.specs.MirrorLaws.{mirroredMoment, L-mirrored, M-mirrored}
+use Rattle.shadow_geometry.specs.Shadow.{momentOf, moment, cone}
+use Rattle.shadow_geometry.specs.MirrorLaws.{mirroredMoment, L-mirrored, M-mirrored}
 use Rattle.shadow.specs.Second.{stateAt, magnitudeAt}
 
 -- the moment of the mirrored body at the mirrored place

@@ -3,10 +3,10 @@ use mathlib.Core.Path.{_≡_}
 use Prim.Native.Nat.{ℕ, zero, suc, _≤_, _<_}
 use lib.IntN.{ℤ, natAbs}
 use lib.ListN.{getD}
-use Rattle.phases.specs.States.{State, code}
-use Rattle.phases.specs.declared.Phase.{Phase}
-use Rattle.phases.specs.declared.Phase.the-variants.{Penumbra, Central, Star}
-use Rattle.numbers.specs.Value.{Value}
+use Rattle.sheet_types.specs.States.{State, code}
+use Rattle.sheet_types.specs.declared.phases.Phase.{Phase}
+use Rattle.sheet_types.specs.declared.phases.Phase.the-variants.{Penumbra, Central, Star}
+use Rattle.rounding.specs.Value.{Value}
 use Rattle.sine_table.specs.Table.{S}
 use Rattle.elements.specs.declared.Axis.{Axis}
 use Rattle.elements.specs.declared.Elements.{Elements}
@@ -14,9 +14,9 @@ use Rattle.elements.specs.declared.Body.{Body}
 use Rattle.elements.specs.declared.Body.the-variants as B
 use Rattle.elements.specs.Stars.{axisOf}
 use Rattle.station.specs.declared.Place.{Place}
-use Rattle.geometry.specs.Shadow.{momentOf, moment, phasesOf, cone, u, v, L, M, edge, state}
-use Rattle.geometry.specs.Magnitude.{magnitude}
-use Rattle.geometry.specs.Direction.{direction}
+use Rattle.shadow_geometry.specs.Shadow.{momentOf, moment, phasesOf, cone, u, v, L, M, edge, state}
+use Rattle.shadow_geometry.specs.Magnitude.{magnitude}
+use Rattle.shadow_geometry.specs.Direction.{direction}
 use Rattle.shadow.specs.declared.Shadow.{Shadow}
 use Rattle.shadow.specs.declared.States.{States}
 use Rattle.shadow.specs.declared.Sample.{Sample}

@@ -18,13 +18,13 @@ use lib.Dec.{lit≤}
 use lib.IntN.{ℤ, pos, natAbs, _+ℤ_, _*ℤ_}
 use lib.ListN.{length}
 use lib.Signed.{_≤ℤ_, _<ℤ_}
-use Rattle.phases.specs.States.{State, unsure, code}
-use Rattle.phases.specs.declared.Phase.{Phase}
-use Rattle.phases.specs.declared.Phase.the-variants.{Penumbra, Central, Star}
-use Rattle.numbers.specs.Parts.{same, sum}
-use Rattle.numbers.specs.Value.{Value}
-use Rattle.numbers.specs.Order.{zs, nonneg, natAbs-parts, natAbs-between}
-use Rattle.numbers.specs.Ring.{num, _⊕_, ring, v0}
+use Rattle.sheet_types.specs.States.{State, unsure, code}
+use Rattle.sheet_types.specs.declared.phases.Phase.{Phase}
+use Rattle.sheet_types.specs.declared.phases.Phase.the-variants.{Penumbra, Central, Star}
+use Rattle.rounding.specs.Parts.{same, sum}
+use Rattle.rounding.specs.Value.{Value}
+use Rattle.rounding.specs.Order.{zs, nonneg, natAbs-parts, natAbs-between}
+use Rattle.rounding.specs.Ring.{num, _⊕_, ring, v0}
 use Rattle.sine_table.specs.Table.{S}
 use Rattle.elements.specs.declared.Axis.{Axis}
 use Rattle.elements.specs.declared.Elements.{Elements}
@@ -36,17 +36,17 @@ use Rattle.elements.specs.Stars.{starAxis, cylinderOf, axisOf}
 use Rattle.elements.specs.StarLaws.{StarSizes, BodySizes}
 use Rattle.station.specs.declared.Place.{Place}
 use Rattle.station.specs.Sizes.{PlaceSizes}
-use Rattle.geometry.specs.Shadow.{Moment, momentOf, moment, phasesOf, cone, u, v, L, M, edge, state}
-use Rattle.geometry.specs.Ranges.{MomentSizes}
-use Rattle.geometry.specs.Sizes.{u-size, v-size, M-size, L-size}
-use Rattle.geometry.specs.StateLaws.{guard-monotone}
-use Rattle.geometry.specs.States.{StatesMean, penumbra-sign, central-sign, states-mean}
-use Rattle.geometry.specs.Thirteen.{Thirteen, thirteen}
-use Rattle.geometry.specs.Cylinder.{cylinder-L}
-use Rattle.geometry.specs.Magnitude.{magnitude}
-use Rattle.geometry.specs.MagnitudeLaws.{L1-above, L2-narrow, magnitude-within}
-use Rattle.geometry.specs.Direction.{direction}
-use Rattle.geometry.specs.DirectionLaws.{direction-limit}
+use Rattle.shadow_geometry.specs.Shadow.{Moment, momentOf, moment, phasesOf, cone, u, v, L, M, edge, state}
+use Rattle.shadow_geometry.specs.Ranges.{MomentSizes}
+use Rattle.shadow_geometry.specs.Sizes.{u-size, v-size, M-size, L-size}
+use Rattle.shadow_geometry.specs.StateLaws.{guard-monotone}
+use Rattle.shadow_geometry.specs.States.{StatesMean, penumbra-sign, central-sign, states-mean}
+use Rattle.shadow_geometry.specs.Thirteen.{Thirteen, thirteen}
+use Rattle.shadow_geometry.specs.Cylinder.{cylinder-L}
+use Rattle.shadow_geometry.specs.Magnitude.{magnitude}
+use Rattle.shadow_geometry.specs.MagnitudeLaws.{L1-above, L2-narrow, magnitude-within}
+use Rattle.shadow_geometry.specs.Direction.{direction}
+use Rattle.shadow_geometry.specs.DirectionLaws.{direction-limit}
 use Rattle.shadow.specs.declared.Shadow.{Shadow}
 use Rattle.shadow.specs.Shadow.{IsShadow}
 use Rattle.shadow.specs.declared.States.{States}

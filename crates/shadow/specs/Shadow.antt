@@ -2,16 +2,16 @@
 use mathlib.Core.Path.{_≡_}
 use Prim.Native.Nat.{_≤_}
 use lib.IntN.{ℤ, natAbs, _+ℤ_, _-ℤ_, _*ℤ_}
-use Rattle.numbers.specs.Units.{one}
-use Rattle.numbers.specs.Near.{near}
-use Rattle.numbers.specs.Value.{Value}
+use Rattle.rounding.specs.Units.{one}
+use Rattle.rounding.specs.Near.{near}
+use Rattle.rounding.specs.Value.{Value}
 use Rattle.sine.specs.Sine.{sine, cosine}
 use Rattle.elements.specs.declared.Axis.{Axis}
 use Rattle.elements.specs.declared.Cone.{Cone}
 use Rattle.elements.specs.declared.Elements.{Elements}
 use Rattle.elements.specs.Elements.{lAt}
 use Rattle.station.specs.declared.Place.{Place}
-use Rattle.geometry.specs.Shadow.{momentOf, moment, u, v, ζ, L, M}
+use Rattle.shadow_geometry.specs.Shadow.{momentOf, moment, u, v, ζ, L, M}
 use Rattle.shadow.specs.declared.Orientation.{Orientation}
 use Rattle.shadow.specs.declared.Coordinates.{Coordinates}
 use Rattle.shadow.specs.declared.Offset.{Offset}

@@ -1,18 +1,18 @@
 // The shadow of what the Moon hides, the Sun or a star: its phases, what it is at a second, and the direction of its axis.
 use super::Sample;
 use elements::Body;
-use phases::Phase;
+use sheet_types::phases::Phase;
 ghost use mathlib.Core.Path.{_≡_};
 ghost use Prim.Native.Nat.{_≤_, _<_};
 ghost use lib.IntN.{natAbs};
 ghost use lib.ListN.{length, getD};
-ghost use Rattle.phases.specs.declared.Phase.the-variants.{Penumbra};
+ghost use Rattle.sheet_types.specs.declared.phases.Phase.the-variants.{Penumbra};
 ghost use Rattle.sine_table.specs.Table.{Sines};
 ghost use Rattle.elements.specs.declared.Body.the-variants as B;
 ghost use Rattle.elements.specs.Sizes.{AxisSizes, ElementSizes};
 ghost use Rattle.elements.specs.StarLaws.{StarSizes, BodySizes};
 ghost use Rattle.station.specs.Sizes.{PlaceSizes};
-ghost use Rattle.geometry.specs.Shadow.{phasesOf};
+ghost use Rattle.shadow_geometry.specs.Shadow.{phasesOf};
 ghost use Rattle.shadow.specs.Second.{IsSample, directionAt};
 
 // How many phases the shadow has.
@@ -31,7 +31,7 @@ pub fn nth_phase(body: Body, k: usize) -> Phase
     ensures { λ r. ⌜ r ≡ getD (phasesOf body) k Penumbra ⌝ }
 {
     match body {
-        Body::Sun(_) => phases::eclipse_phase(k),
+        Body::Sun(_) => sheet_types::phases::eclipse_phase(k),
         Body::Star(_) => Phase::Star,
     }
 }

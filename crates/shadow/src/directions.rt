@@ -3,7 +3,7 @@ ghost use mathlib.Core.Path.{_≡_};
 ghost use Prim.Native.Nat.{_≤_};
 ghost use lib.IntN.{pos, natAbs};
 ghost use Rattle.sine_table.specs.Table.{S, Sines};
-ghost use Rattle.geometry.specs.Direction.{quarter, direction};
+ghost use Rattle.shadow_geometry.specs.Direction.{quarter, direction};
 
 fn wide(x: u32) -> u64
     ensures { λ r. ⌜ r ≡ x ⌝ }
@@ -37,8 +37,8 @@ pub fn direction(table: &[u32], u: i64, v: i64) -> u16
     requires { ⌜ (Sines (now table)) × (natAbs u ≤ 1000000000) × (natAbs v ≤ 1000000000) ⌝ }
     ensures { λ r. ⌜ r ≡ direction S u v ⌝ }
 {
-    let a = numbers::abs(u) as u64;
-    let b = numbers::abs(v) as u64;
+    let a = rounding::abs(u) as u64;
+    let b = rounding::abs(v) as u64;
     if u < 0 {
         if v < 0 {
             return 1800 + quarter(table, a, b);

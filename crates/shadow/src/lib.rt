@@ -6,13 +6,13 @@ ghost use mathlib.Core.Path.{_≡_};
 ghost use Prim.Native.Nat.{_≤_};
 ghost use lib.IntN.{pos, natAbs, _*ℤ_};
 ghost use lib.Signed.{_≤ℤ_, _<ℤ_};
-ghost use Rattle.phases.specs.States.{code, stateOf};
-ghost use Rattle.numbers.specs.Value.{Value};
+ghost use Rattle.sheet_types.specs.States.{code, stateOf};
+ghost use Rattle.rounding.specs.Value.{Value};
 ghost use Rattle.sine_table.specs.Table.{Sines};
 ghost use Rattle.elements.specs.Sizes.{AxisSizes, ConeSizes, ElementSizes};
 ghost use Rattle.station.specs.Sizes.{PlaceSizes};
-ghost use Rattle.geometry.specs.Shadow.{state};
-ghost use Rattle.geometry.specs.Magnitude.{millionths, magnitude};
+ghost use Rattle.shadow_geometry.specs.Shadow.{state};
+ghost use Rattle.shadow_geometry.specs.Magnitude.{millionths, magnitude};
 ghost use Rattle.shadow.specs.Shadow.{IsOrientation, OrientationSizes, AreCoordinates, radiusAt, IsOffset, IsShadow};
 ghost use Rattle.shadow.specs.Second.{ShadowSizes, StatesOf, IsSecond, magnitudeAt};
 
@@ -132,10 +132,10 @@ fn coordinates_of(place: station::Place, o: Orientation) -> Coordinates
     let hcosine = o.hcosine;
     let dsine = o.dsine;
     let dcosine = o.dcosine;
-    let q = numbers::near_unit(r * hcosine);
-    let xi = numbers::near_unit(r * hsine);
-    let eta = numbers::near_unit(p * dcosine - q * dsine);
-    let zeta = numbers::near_unit(p * dsine + q * dcosine);
+    let q = rounding::near_unit(r * hcosine);
+    let xi = rounding::near_unit(r * hsine);
+    let eta = rounding::near_unit(p * dcosine - q * dsine);
+    let zeta = rounding::near_unit(p * dsine + q * dcosine);
     Coordinates { xi, eta, zeta }
 }
 
@@ -169,7 +169,7 @@ pub fn radius_at(cone: elements::Cone, zeta: i64, t: i64) -> i64
 {
     let l = cone.l;
     let tanf = cone.tanf;
-    let term = numbers::near_unit(zeta * tanf);
+    let term = rounding::near_unit(zeta * tanf);
     elements::quadratic_at(l, t) - term
 }
 
@@ -228,7 +228,7 @@ pub fn magnitude(l1: i64, l2: i64, m: i64, central: u8) -> u32
     if central == 1 {
         return share(l1 - l2, sum);
     }
-    let distance = numbers::root(m as u64);
+    let distance = rounding::root(m as u64);
     share(l1 - distance as i64, sum)
 }
 
@@ -241,7 +241,7 @@ fn states_of(guard: i64, s: Shadow) -> States
     let l2 = s.l2;
     let m = s.m;
     let penumbra = state(guard, l1, m);
-    let central = state(guard, numbers::abs(l2), m);
+    let central = state(guard, rounding::abs(l2), m);
     States {
         penumbra,
         central,

@@ -9,13 +9,13 @@ use Rattle.requests.specs.Requests.{ofEclipse}
 use Rattle.seconds.specs.declared.OneSecond.{OneSecond}
 use Rattle.seconds.specs.declared.OneSecond.the-variants as O
 use Rattle.seconds.specs.OneSecond.{secondAnswer}
-use Rattle.input.specs.declared.Input.{Input}
-use Rattle.input.specs.declared.Input.the-variants as I
-use Rattle.input.specs.Input.{inputOf}
-use Rattle.decimals.specs.Texts.{letters}
-use Rattle.decimals.specs.Patterns.{filled}
-use Rattle.decimals.specs.Rows.{eachPart}
-use Rattle.lines.specs.Lines.{refusalLine}
+use Rattle.request_format.specs.declared.input.Input.{Input}
+use Rattle.request_format.specs.declared.input.Input.the-variants as I
+use Rattle.request_format.specs.Input.{inputOf}
+use Rattle.decimal_text.specs.Texts.{letters}
+use Rattle.decimal_text.specs.Patterns.{filled}
+use Rattle.decimal_text.specs.Rows.{eachPart}
+use Rattle.listing_lines.specs.Lines.{refusalLine}
 
 -- u, v, L1, L2, the states of penumbra and central (0 outside, 1 inside, 2 unsure), direction, magnitude
 unfoldable pub secondLine : Second → List ℕ

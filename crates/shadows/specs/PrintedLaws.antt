@@ -2,12 +2,12 @@
 use Prim.Native.Nat.{ℕ}
 use mathlib.Core.Path.{_≡_}
 use mathlib.Core.List.{List}
-use Rattle.refusals.specs.declared.Refusal.{Refusal}
+use Rattle.sheet_types.specs.declared.refusals.Refusal.{Refusal}
 use Rattle.shadow.specs.declared.Second.{Second}
 use Rattle.seconds.specs.declared.OneSecond.{OneSecond}
 use Rattle.seconds.specs.declared.OneSecond.the-variants as O
-use Rattle.decimals.specs.Texts.{Put}
-use Rattle.lines.specs.Lines.{refusalLine}
+use Rattle.decimal_text.specs.Texts.{Put}
+use Rattle.listing_lines.specs.Lines.{refusalLine}
 use Rattle.shadows.specs.Printed.{secondLine, answerLine}
 
 module _ (a : OneSecond) (old : List ℕ) (at : ℕ) (new : List ℕ) (r : ℕ) where

@@ -1,13 +1,13 @@
 // Reads requests of 115 bytes from standard input, 65,536 bytes at most, and prints for each a line, of the first second of its window:
 // u, v, L1, L2, the states of penumbra and central (0 outside, 1 inside, 2 unsure), the direction and the magnitude;
 // or the refusal.
-use input::Input;
 use libc::STDIN_FILENO;
 use libc::STDOUT_FILENO;
+use request_format::input::Input;
 use seconds::OneSecond;
 ghost use mathlib.Core.Path.{_≡_};
-ghost use Rattle.input.specs.Input.{inputOf};
-ghost use Rattle.decimals.specs.Texts.{Put};
+ghost use Rattle.request_format.specs.Input.{inputOf};
+ghost use Rattle.decimal_text.specs.Texts.{Put};
 ghost use Rattle.shadows.specs.Printed.{secondLine, answerLine, firstOf, recordLine, printed};
 
 // The line of a second.
@@ -24,7 +24,7 @@ fn put_second(out: &mut [u8], at: usize, second: shadow::Second) -> usize
     let l1 = shadow.l1;
     let l2 = shadow.l2;
     let numbers = [u, v, l1, l2, penumbra, central, direction, magnitude];
-    decimals::put_filled(out, at, b"# # # # # # # #\n", &numbers)
+    decimal_text::put_filled(out, at, b"# # # # # # # #\n", &numbers)
 }
 
 fn put_answer(out: &mut [u8], at: usize, answer: OneSecond) -> usize
@@ -32,7 +32,7 @@ fn put_answer(out: &mut [u8], at: usize, answer: OneSecond) -> usize
 {
     match answer {
         OneSecond::Is(second) => put_second(out, at, second),
-        OneSecond::Refused(refusal) => lines::put_refused(out, at, refusal),
+        OneSecond::Refused(refusal) => listing_lines::lines::put_refused(out, at, refusal),
     }
 }
 
@@ -40,7 +40,7 @@ fn put_answer(out: &mut [u8], at: usize, answer: OneSecond) -> usize
 fn first_of(request: &[u8]) -> OneSecond
     ensures { λ r. ⌜ r ≡ firstOf (inputOf (now (request .entry))) ⌝ }
 {
-    let asked = input::request(request);
+    let asked = request_format::input::request(request);
     match asked {
         Input::Is(q) => {
             let w = q.window;
@@ -80,6 +80,6 @@ fn main() {
     // 569 lines of 60 bytes at most
     let mut lines = [0u8; 40_000];
     let end = put_requests(&mut lines, &input[..length]);
-    let written = decimals::clipped(&lines, end);
+    let written = decimal_text::clipped(&lines, end);
     io::write_all(STDOUT_FILENO, &lines[..written]);
 }

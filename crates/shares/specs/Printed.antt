@@ -4,10 +4,10 @@ use mathlib.Core.Bool.{cond}
 use mathlib.Core.List.{List, [], _∷_}
 use lib.Dec.{ltb}
 use lib.IntN.{ℤ, pos, _-ℤ_}
-use Rattle.share.specs.Share.{share}
-use Rattle.decimals.specs.Texts.{letters}
-use Rattle.decimals.specs.Patterns.{filled}
-use Rattle.decimals.specs.Rows.{rows}
+use Rattle.obscuration.specs.Share.{share}
+use Rattle.decimal_text.specs.Texts.{letters}
+use Rattle.decimal_text.specs.Patterns.{filled}
+use Rattle.decimal_text.specs.Rows.{rows}
 
 -- L1 and L2 of row i, over all that a request within its limits can have
 unfoldable pub L1 : ℕ → ℤ

@@ -7,9 +7,9 @@ use native.Mathlib.Nat.{mul-le-mul}
 use borrow.Author.Tests.{lt-ltb, le-ltb}
 use lib.Dec.{ltb}
 use lib.IntN.{pos, negℤ}
-use Rattle.numbers.specs.Parts.{sum}
-use Rattle.numbers.specs.Order.{zs, natAbs-by}
-use Rattle.share.specs.Share.{Sizes}
+use Rattle.rounding.specs.Parts.{sum}
+use Rattle.rounding.specs.Order.{zs, natAbs-by}
+use Rattle.obscuration.specs.Share.{Sizes}
 use Rattle.shares.specs.Printed.{L1, L2, distance, M}
 
 module _ (i : ℕ) where

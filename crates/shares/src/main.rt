@@ -3,14 +3,14 @@
 use libc::STDOUT_FILENO;
 ghost use mathlib.Core.Path.{_≡_};
 ghost use Prim.Native.Nat.{_<_};
-ghost use Rattle.decimals.specs.Texts.{Put};
+ghost use Rattle.decimal_text.specs.Texts.{Put};
 ghost use Rattle.shares.specs.Printed.{L1, L2, distance, M, line, printed};
 
 fn main() {
     // 300 lines of 43 bytes at most
     let mut text = [0u8; 16384];
     let end = put_rows(&mut text);
-    let written = decimals::clipped(&text, end);
+    let written = decimal_text::clipped(&text, end);
     io::write_all(STDOUT_FILENO, &text[..written]);
 }
 
@@ -33,9 +33,9 @@ fn put_row(out: &mut [u8], at: usize, i: u64) -> usize
     let l1 = penumbra(i);
     let l2 = central(i);
     let m = square(i);
-    let share = share::share(l1, l2, m) as i64;
+    let share = obscuration::area::share(l1, l2, m) as i64;
     let numbers = [l1, l2, m, share];
-    decimals::put_filled(out, at, b"# # # #\n", &numbers)
+    decimal_text::put_filled(out, at, b"# # # #\n", &numbers)
 }
 
 // L1 of row i, 48,860,000 to 61,140,000.

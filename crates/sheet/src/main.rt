@@ -15,6 +15,6 @@ fn main() {
     let mut text = text_room();
     let mut sines = [0u32; 901];
     let end = answers::put_answer(&request[..length], &mut sines, &mut room, &mut text);
-    let written = decimals::clipped(&text, end);
+    let written = decimal_text::clipped(&text, end);
     io::write_all(STDOUT_FILENO, &text[..written]);
 }

@@ -14,7 +14,7 @@ fn main() {
     let mut sines = [0u32; 901];
     let streams = answers::stored(&request[..length], &mut sines, &mut room, &mut line);
     let output = streams.output;
-    let error = decimals::clipped(&line, streams.error);
+    let error = decimal_text::clipped(&line, streams.error);
     // one of the two has no bytes, and then no call is made
     io::write_all(STDOUT_FILENO, &room[..output]);
     io::write_all(STDERR_FILENO, &line[..error]);

@@ -7,7 +7,7 @@ use lib.Signed.{mag}
 use mir.Syntax.{w64}
 use mir.Val.{SFits, toZ, ofZ}
 use mir.ValLaws.{toZ-ofZ}
-use Rattle.numbers.specs.Code.{arg, lit, sub, whole, ends, _▹_, fits, runs}
+use Rattle.rounding.specs.Code.{arg, lit, sub, whole, ends, _▹_, fits, runs}
 use Rattle.sine.specs.Sine.{sine, cosine, IsSine, IsCosine}
 use Rattle.sine.specs.SineLaws.{sine-size, cosine-size}
 

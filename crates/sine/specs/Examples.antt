@@ -1,7 +1,7 @@
 -- Rows that document 01 gives, computed from the definitions.
 use mathlib.Core.Path.{_≡_, refl}
 use lib.IntN.{pos, negsuc}
-use Rattle.numbers.specs.Near.{near}
+use Rattle.rounding.specs.Near.{near}
 use Rattle.sine_table.specs.Table.{factorial, numerator, denominator, common, term, series, S}
 use Rattle.sine.specs.FirstQuadrant.{arc, sag, between, capped, firstQuadrant}
 use Rattle.sine.specs.Sine.{reduced, sineIn, sine, cosine}

@@ -3,7 +3,7 @@ use mathlib.Core.Bool.{cond}
 use Prim.Native.Nat.{ℕ, _-_, _*_, _/_, _%_}
 use lib.IntN.{ℤ, pos, _+ℤ_, _-ℤ_, _*ℤ_}
 use lib.Signed.{leZ}
-use Rattle.numbers.specs.Near.{near}
+use Rattle.rounding.specs.Near.{near}
 use Rattle.sine_table.specs.Table.{S}
 
 -- "Let r = near(b·17,453,293/10^7)": the arc of b millionths of a degree

@@ -14,9 +14,9 @@ use borrow.Author.Tests.{leb-true, leb-false}
 use lib.Dec.{leb}
 use lib.IntN.{ℤ, pos, negℤ, natAbs, _-ℤ_}
 use lib.Signed.{leZ-yes}
-use Rattle.numbers.specs.Parts.{same, sum, opposite}
-use Rattle.numbers.specs.Near.{near}
-use Rattle.numbers.specs.NearLaws.{near-pos, near-zero}
+use Rattle.rounding.specs.Parts.{same, sum, opposite}
+use Rattle.rounding.specs.Near.{near}
+use Rattle.rounding.specs.NearLaws.{near-pos, near-zero}
 use Rattle.sine_table.specs.Table.{S}
 use Rattle.sine_table.specs.TableLaws.{entry-0, entry-900, entry-small, entry-least}
 use Rattle.sine.specs.FirstQuadrant.{arc, sag, between, capped, firstQuadrant}

@@ -15,7 +15,7 @@ use native.Mathlib.Nat.{eq-or-lt-of-le, eq-zero-or-pos}
 use borrow.Author.Tests.{le-leb, lt-leb}
 use lib.Dec.{leb}
 use lib.IntN.{ℤ, pos, negsuc, negℤ, natAbs, negℤ-negℤ}
-use Rattle.numbers.specs.Order.{natAbs-opposite}
+use Rattle.rounding.specs.Order.{natAbs-opposite}
 use Rattle.sine.specs.FirstQuadrant.{firstQuadrant}
 use Rattle.sine.specs.FirstQuadrantLaws.{first-small, first-zero}
 use Rattle.sine.specs.Sine.{reduced, sineIn, cosineIn, sine, cosine, IsReduced, IsSine, IsCosine}

@@ -7,7 +7,7 @@ use Prim.Native.Nat.{ℕ, suc, _+_, _*_, _-_, _/_, _≤_, _<_}
 use native.Mathlib.Omega.{arith}
 use native.Mathlib.Nat.{mul-le-mul, eq-or-lt-of-le}
 use lib.IntN.{ℤ, pos, negsuc, natAbs}
-use Rattle.numbers.specs.Order.{natAbs-opposite}
+use Rattle.rounding.specs.Order.{natAbs-opposite}
 use Rattle.sine_table.specs.Table.{S}
 use Rattle.sine_table.specs.TableLaws.{entry-low, entry-squares, entry-squares-less}
 use Rattle.sine.specs.FirstQuadrant.{firstQuadrant}

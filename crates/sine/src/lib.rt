@@ -23,14 +23,14 @@ fn first_quadrant(table: &[u32], a: u64) -> i64
     let b = a % 100_000;
     let k = tenths as usize;
     let arc = b * 17_453_293;
-    let r = numbers::near_unsigned(arc, 10_000_000);
+    let r = rounding::near_unsigned(arc, 10_000_000);
     let square = r * r;
-    let w = numbers::near_unsigned(square, 200_000_000);
+    let w = rounding::near_unsigned(square, 200_000_000);
     let s = wide(sine_table::entry(table, k));
     let c = wide(sine_table::entry(table, 900 - k));
     let gain = c * r;
     let loss = s * w;
-    let step = numbers::near_unsigned(gain - loss, 100_000_000);
+    let step = rounding::near_unsigned(gain - loss, 100_000_000);
     let sum = s + step;
     if sum <= 100_000_000 {
         sum as i64

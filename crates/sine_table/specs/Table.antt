@@ -4,7 +4,7 @@ use mathlib.Core.List.{List}
 use Prim.Native.Nat.{ℕ, zero, suc, _-_, _*_, _/_, _^_, _≤_, _<_}
 use lib.IntN.{ℤ, pos, natAbs, _+ℤ_, _-ℤ_, _*ℤ_}
 use lib.ListN.{length, getD}
-use Rattle.numbers.specs.Near.{near}
+use Rattle.rounding.specs.Near.{near}
 
 -- ---- "the sine series, summed to the 21st power, at k·π/1800 with π taken as 3.14159265358979323846"
 

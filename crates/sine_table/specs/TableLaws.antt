@@ -16,10 +16,10 @@ use borrow.Author.Tests.{le-leb}
 use lib.Dec.{T, leb, ltb, leb→le, ltb→lt}
 use lib.IntN.{ℤ, pos, negsuc, natAbs, _+ℤ_, _-ℤ_, _*ℤ_, -ℤ-+ℤ-cancel, +ℤ-idl}
 use lib.Signed.{_≤ℤ_, leZ-yes}
-use Rattle.numbers.specs.Order.{natAbs-product, natAbs-minus}
-use Rattle.numbers.specs.Ring.{_⊖_, _⊗_, ring, v0, v1, v2, v3}
-use Rattle.numbers.specs.Near.{near}
-use Rattle.numbers.specs.NearLaws.{near-error}
+use Rattle.rounding.specs.Order.{natAbs-product, natAbs-minus}
+use Rattle.rounding.specs.Ring.{_⊖_, _⊗_, ring, v0, v1, v2, v3}
+use Rattle.rounding.specs.Near.{near}
+use Rattle.rounding.specs.NearLaws.{near-error}
 use Rattle.sine_table.specs.Table.{factorial, numerator, denominator, common, term, series, HalfUnit, S}
 use Rattle.sine_table.specs.Computed.{both, both-left, both-right, upTo, at-upTo}
 

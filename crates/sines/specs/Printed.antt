@@ -6,9 +6,9 @@ use mathlib.Core.List.{List, [], _∷_, _++_}
 use lib.Dec.{ltb}
 use lib.IntN.{ℤ, pos, _-ℤ_}
 use Rattle.sine.specs.Sine.{sine, cosine}
-use Rattle.decimals.specs.Texts.{letters}
-use Rattle.decimals.specs.Patterns.{filled}
-use Rattle.decimals.specs.Rows.{rows}
+use Rattle.decimal_text.specs.Texts.{letters}
+use Rattle.decimal_text.specs.Patterns.{filled}
+use Rattle.decimal_text.specs.Rows.{rows}
 
 -- each 45 degrees from -360 to 360, and the angles beside it
 abbrev pub border : ℕ → ℤ

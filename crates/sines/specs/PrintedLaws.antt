@@ -5,11 +5,11 @@ use mathlib.Core.List.{List, [], _∷_}
 use borrow.Author.Tests.{lt-ltb, le-ltb}
 use lib.IntN.{ℤ, pos}
 use lib.ListN.{length}
-use Rattle.decimals.specs.Decimals.{digitsOf, decimal, signed}
-use Rattle.decimals.specs.Texts.{letters, Put}
-use Rattle.decimals.specs.TextLaws.{put-then}
-use Rattle.decimals.specs.Patterns.{piece, filled}
-use Rattle.decimals.specs.RowLaws.{put-as}
+use Rattle.decimal_text.specs.Decimals.{digitsOf, decimal, signed}
+use Rattle.decimal_text.specs.Texts.{letters, Put}
+use Rattle.decimal_text.specs.TextLaws.{put-then}
+use Rattle.decimal_text.specs.Patterns.{piece, filled}
+use Rattle.decimal_text.specs.RowLaws.{put-as}
 use Rattle.sines.specs.Printed.{border, tenth, spread, angle, lines, printed}
 
 module _ (i : ℕ) where

@@ -4,9 +4,9 @@ use libc::STDOUT_FILENO;
 ghost use mathlib.Core.Path.{_≡_};
 ghost use Prim.Native.Nat.{_+_, _≤_, _<_};
 ghost use lib.IntN.{pos, natAbs, _-ℤ_};
-ghost use Rattle.numbers.specs.Value.{Value};
+ghost use Rattle.rounding.specs.Value.{Value};
 ghost use Rattle.sine_table.specs.Table.{Sines};
-ghost use Rattle.decimals.specs.Texts.{Put};
+ghost use Rattle.decimal_text.specs.Texts.{Put};
 ghost use Rattle.sines.specs.Printed.{angle, line, lines, printed};
 
 fn main() {
@@ -14,7 +14,7 @@ fn main() {
     sine_table::fill(&mut table);
     let mut text = io::large_buffer();
     let end = put_all(&mut text, &table);
-    let written = decimals::clipped(&text, end);
+    let written = decimal_text::clipped(&text, end);
     io::write_all(STDOUT_FILENO, &text[..written]);
 }
 
@@ -26,7 +26,7 @@ fn put_all(out: &mut [u8], table: &[u32]) -> usize
     let rows = put_rows(out, table);
     let count = same_rows(table) as i64;
     let counts = [count, 1000];
-    decimals::put_filled(out, rows, b"the same at # of # angles\n", &counts)
+    decimal_text::put_filled(out, rows, b"the same at # of # angles\n", &counts)
 }
 
 // A line for each angle.
@@ -76,7 +76,7 @@ fn put_row(out: &mut [u8], at: usize, table: &[u32], angle: i64) -> usize
     let turned_s = sine::turns::sine(table, a);
     let turned_c = sine::turns::cosine(table, a);
     let numbers = [angle, s, c, turned_s, turned_c];
-    decimals::put_filled(out, at, b"# # # # #\n", &numbers)
+    decimal_text::put_filled(out, at, b"# # # # #\n", &numbers)
 }
 
 // At how many of the angles both ways give the same: at all.

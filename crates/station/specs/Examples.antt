@@ -1,8 +1,8 @@
 -- Document 01's examples of a place, by computation.
 use mathlib.Core.Path.{_≡_, refl}
 use lib.IntN.{pos, negsuc}
-use Rattle.numbers.specs.Near.{near}
-use Rattle.numbers.specs.Root.{root}
+use Rattle.rounding.specs.Near.{near}
+use Rattle.rounding.specs.Root.{root}
 use Rattle.sine_table.specs.Table.{factorial, numerator, denominator, common, term, series, S}
 use Rattle.sine.specs.FirstQuadrant.{arc, sag, between, capped, firstQuadrant}
 use Rattle.sine.specs.Sine.{reduced, sineIn, sine, cosine}

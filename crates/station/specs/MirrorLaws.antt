@@ -9,11 +9,11 @@ use Prim.Native.Nat.{ℕ, _≤_}
 use native.Mathlib.Omega.{arith}
 use lib.IntN.{ℤ, negℤ, natAbs, _+ℤ_, _*ℤ_}
 use lib.Signed.{leZ-yes}
-use Rattle.numbers.specs.Limits.{_±_, outOfRange, firstOutOfRange}
-use Rattle.numbers.specs.Ring.{_⊕_, _⊗_, opp, ring, v0, v1, v2}
-use Rattle.numbers.specs.Units.{one}
-use Rattle.numbers.specs.Near.{near}
-use Rattle.numbers.specs.NearLaws.{near-opposite}
+use Rattle.rounding.specs.Limits.{_±_, outOfRange, firstOutOfRange}
+use Rattle.rounding.specs.Ring.{_⊕_, _⊗_, opp, ring, v0, v1, v2}
+use Rattle.rounding.specs.Units.{one}
+use Rattle.rounding.specs.Near.{near}
+use Rattle.rounding.specs.NearLaws.{near-opposite}
 use Rattle.sine.specs.Sine.{sine, cosine}
 use Rattle.sine.specs.OppositeLaws.{sine-opposite, cosine-opposite}
 use Rattle.station.specs.declared.Station.{Station}

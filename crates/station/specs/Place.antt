@@ -1,8 +1,8 @@
 -- The station's place: R from the Earth's axis, P from the plane of the equator. Lengths and sines are in units of 10^-8.
 use lib.IntN.{ℤ, pos, natAbs, _+ℤ_, _-ℤ_, _*ℤ_}
-use Rattle.numbers.specs.Units.{one}
-use Rattle.numbers.specs.Near.{near}
-use Rattle.numbers.specs.Root.{root}
+use Rattle.rounding.specs.Units.{one}
+use Rattle.rounding.specs.Near.{near}
+use Rattle.rounding.specs.Root.{root}
 use Rattle.sine.specs.Sine.{sine, cosine}
 use Rattle.station.specs.declared.Station.{Station}
 use Rattle.station.specs.declared.Place.{Place}

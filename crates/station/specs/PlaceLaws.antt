@@ -6,15 +6,15 @@ use native.Mathlib.Omega.{arith}
 use native.Mathlib.Nat.{mul-le-mul, lt-of-not-le}
 use lib.IntN.{ℤ, pos, negsuc, negℤ, natAbs, _+ℤ_, _*ℤ_}
 use lib.Signed.{_≤ℤ_, leZ-yes}
-use Rattle.numbers.specs.Parts.{sum, opposite}
-use Rattle.numbers.specs.Order.{zs, *ℤ-nonneg, ≤-parts, ≤ℤ-trans, le-natAbs, neg-natAbs, natAbs-sum, natAbs-minus, square-natAbs, natAbs-product-le}
-use Rattle.numbers.specs.Ring.{num, _⊕_, _⊖_, _⊗_, opp, ring, v0, v1, v2}
-use Rattle.numbers.specs.Cert.{leq, lit, sq, _⊞_, _⊠_, certify}
-use Rattle.numbers.specs.Units.{one}
-use Rattle.numbers.specs.Near.{near}
-use Rattle.numbers.specs.NearLaws.{near-is, near-low, near-high, near-size}
-use Rattle.numbers.specs.Root.{root, IsRoot}
-use Rattle.numbers.specs.RootLaws.{root-is}
+use Rattle.rounding.specs.Parts.{sum, opposite}
+use Rattle.rounding.specs.Order.{zs, *ℤ-nonneg, ≤-parts, ≤ℤ-trans, le-natAbs, neg-natAbs, natAbs-sum, natAbs-minus, square-natAbs, natAbs-product-le}
+use Rattle.rounding.specs.Ring.{num, _⊕_, _⊖_, _⊗_, opp, ring, v0, v1, v2}
+use Rattle.rounding.specs.Cert.{leq, lit, sq, _⊞_, _⊠_, certify}
+use Rattle.rounding.specs.Units.{one}
+use Rattle.rounding.specs.Near.{near}
+use Rattle.rounding.specs.NearLaws.{near-is, near-low, near-high, near-size}
+use Rattle.rounding.specs.Root.{root, IsRoot}
+use Rattle.rounding.specs.RootLaws.{root-is}
 use Rattle.sine.specs.Sine.{sine, cosine}
 use Rattle.sine.specs.SineLaws.{sine-size, cosine-size}
 use Rattle.sine.specs.SizeLaws.{square-sum}

@@ -1,10 +1,10 @@
 -- A station's numbers and their ranges.
 use mathlib.Core.List.{List, [], _∷_}
 use lib.IntN.{ℤ, pos, negℤ}
-use Rattle.numbers.specs.declared.Limits.{Limits}
-use Rattle.numbers.specs.Limits.{Row, row, _±_, firstOutOfRange}
-use Rattle.refusals.specs.declared.Checked.{Checked}
-use Rattle.refusals.specs.Refusals.{ofLimits}
+use Rattle.rounding.specs.declared.Limits.{Limits}
+use Rattle.rounding.specs.Limits.{Row, row, _±_, firstOutOfRange}
+use Rattle.sheet_types.specs.declared.refusals.Checked.{Checked}
+use Rattle.sheet_types.specs.Refusals.{ofLimits}
 use Rattle.station.specs.declared.Station.{Station}
 
 -- "first: 0 number, 1 latitude, 2 longitude, 3 height"; document 02, wish 1: "3 with place 4 for ΔT, after height"

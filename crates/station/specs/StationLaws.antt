@@ -1,10 +1,10 @@
 -- What callers use of a station's refusal.
 use mathlib.Core.Path.{_≡_}
 use Prim.Native.Nat.{_<_}
-use Rattle.numbers.specs.LimitsLaws.{out-within}
-use Rattle.refusals.specs.declared.Refusal.{Refusal}
-use Rattle.refusals.specs.declared.Checked.the-variants.{Refused}
-use Rattle.refusals.specs.RefusalLaws.{of-limits-refused}
+use Rattle.rounding.specs.LimitsLaws.{out-within}
+use Rattle.sheet_types.specs.declared.refusals.Refusal.{Refusal}
+use Rattle.sheet_types.specs.declared.refusals.Checked.the-variants.{Refused}
+use Rattle.sheet_types.specs.RefusalLaws.{of-limits-refused}
 use Rattle.station.specs.declared.Station.{Station}
 use Rattle.station.specs.Station.{ranges, rangeOf, stationChecked}
 

@@ -2,7 +2,7 @@
 ghost use mathlib.Core.Path.{_≡_};
 ghost use Prim.Native.Nat.{_≤_, _+_, _*_};
 ghost use lib.IntN.{natAbs};
-ghost use Rattle.numbers.specs.Value.{Value};
+ghost use Rattle.rounding.specs.Value.{Value};
 ghost use Rattle.sine_table.specs.Table.{Sines};
 ghost use Rattle.station.specs.Station.{fields, rangeOf, stationChecked};
 ghost use Rattle.station.specs.Sizes.{StationSizes};
@@ -50,21 +50,21 @@ pub fn listed(s: Station) -> [i64; 5]
 }
 
 // Whether every number is in its range, or the first that is not: 0 number, 1 latitude, 2 longitude, 3 height, 4 ΔT.
-fn in_range(s: Station) -> numbers::Limits
+fn in_range(s: Station) -> rounding::Limits
     ensures { λ r. ⌜ r ≡ rangeOf s ⌝ }
 {
     let values = listed(s);
     let lows = LOWS;
     let highs = HIGHS;
-    numbers::first_out_of_range(&values, &lows, &highs)
+    rounding::first_out_of_range(&values, &lows, &highs)
 }
 
 // Refusal 3 with the first number that is out of its range, as above.
-pub fn check(s: Station) -> refusals::Checked
+pub fn check(s: Station) -> sheet_types::refusals::Checked
     ensures { λ r. ⌜ r ≡ stationChecked s ⌝ }
 {
     let limits = in_range(s);
-    refusals::of_limits(3, limits)
+    sheet_types::refusals::of_limits(3, limits)
 }
 
 // (1 - flattening)^2 of Krasovsky's spheroid, 10^-8.
@@ -75,10 +75,10 @@ fn c_of(sine: i64, cosine: i64) -> i64
     requires { ⌜ (natAbs sine ≤ 100000000) × (natAbs cosine ≤ 100000000) × (9960000000000000 ≤ natAbs sine * natAbs sine + natAbs cosine * natAbs cosine) ⌝ }
     ensures { λ r. ⌜ Value (C sine cosine) 100600000 r ⌝ }
 {
-    let e = numbers::near_unit(sine * E);
+    let e = rounding::near_unit(sine * E);
     let under = cosine * cosine + e * sine;
-    let w = numbers::root(under as u64);
-    numbers::near(10_000_000_000_000_000, w as i64)
+    let w = rounding::root(under as u64);
+    rounding::near(10_000_000_000_000_000, w as i64)
 }
 
 // The longitude less the Earth's turn in ΔT, 417,807 of 10^-10 degree in a hundredth of a second.
@@ -86,7 +86,7 @@ fn ephemeris_longitude(longitude: i64, deltat: i64) -> i64
     requires { ⌜ (natAbs longitude ≤ 180000000) × (natAbs deltat ≤ 20000) ⌝ }
     ensures { λ r. ⌜ Value (ephemerisLongitude longitude deltat) 180835614 r ⌝ }
 {
-    longitude - numbers::near(deltat * 417_807, 10_000)
+    longitude - rounding::near(deltat * 417_807, 10_000)
 }
 
 // The place of a station: R, P and the longitude that its hour angle counts.
@@ -102,10 +102,10 @@ pub fn geocentric(table: &[u32], s: Station) -> Place
     let sine = sine::sine(table, angle);
     let cosine = sine::cosine(table, angle);
     let c = c_of(sine, cosine);
-    let z = numbers::near_unit(c * E);
-    let h = numbers::near(height * 100_000_000, 6_378_245);
-    let r = numbers::near_unit((c + h) * cosine);
-    let p = numbers::near_unit((z + h) * sine);
+    let z = rounding::near_unit(c * E);
+    let h = rounding::near(height * 100_000_000, 6_378_245);
+    let r = rounding::near_unit((c + h) * cosine);
+    let p = rounding::near_unit((z + h) * sine);
     let longitude = ephemeris_longitude(longitude, deltat);
     Place { r, p, longitude }
 }

@@ -7,12 +7,12 @@ use mathlib.Core.Bool.{cond}
 use mathlib.Core.List.{List, [], _∷_, _++_}
 use lib.IntN.{pos}
 use lib.ListN.{length, getD}
-use Rattle.records.specs.Entries.{numbersOf}
-use Rattle.sheets.specs.declared.Extent.{Extent}
-use Rattle.sheets.specs.Sheets.{Sheet, sheet, refused, extentOf, holds, readSheet, readWhole, readInto}
-use Rattle.decimals.specs.Texts.{letters}
-use Rattle.decimals.specs.Patterns.{filled}
-use Rattle.decimals.specs.Rows.{rows, eachCounted}
+use Rattle.sheet_format.specs.RecordEntries.{numbersOf}
+use Rattle.sheet_codec.specs.declared.decoder.Extent.{Extent}
+use Rattle.sheet_codec.specs.Sheets.{Sheet, sheet, refused, extentOf, holds, readSheet, readWhole, readInto}
+use Rattle.decimal_text.specs.Texts.{letters}
+use Rattle.decimal_text.specs.Patterns.{filled}
+use Rattle.decimal_text.specs.Rows.{rows, eachCounted}
 use Rattle.listings.specs.Extents.{extentText}
 
 -- a word, and an answer

@@ -8,22 +8,22 @@ use native.Mathlib.Nat.{min-eq-left}
 use borrow.Author.Tests.{le-leb, leb-true}
 use lib.ListN.{length, length-append, take, drop}
 use lib.Seq.{take-at}
-use Rattle.refusals.specs.declared.Refusal.{Refusal}
-use Rattle.refusals.specs.Refusals.{refusal}
-use Rattle.kinds.specs.declared.Entry.{Entry}
-use Rattle.kinds.specs.KindLaws.{size-small}
-use Rattle.records.specs.Entries.{bytesOf, numbersOf}
-use Rattle.records.specs.EntryLaws.{bytes-nil, length-bytes-cons, length-numbers}
+use Rattle.sheet_types.specs.declared.refusals.Refusal.{Refusal}
+use Rattle.sheet_types.specs.Refusals.{refusal}
+use Rattle.sheet_format.specs.declared.kinds.Entry.{Entry}
+use Rattle.sheet_format.specs.KindLaws.{size-small}
+use Rattle.sheet_format.specs.RecordEntries.{bytesOf, numbersOf}
+use Rattle.sheet_format.specs.EntryLaws.{bytes-nil, length-bytes-cons, length-numbers}
 use Rattle.big_endian.specs.Numbers.{Bytes}
-use Rattle.sheets.specs.declared.Extent.{Extent}
-use Rattle.sheets.specs.declared.Extent.the-variants as X
-use Rattle.sheets.specs.Sheets.{Sheet, sheet, refused, extentOf, holds, readSheet, readWhole, readInto, roomAfter}
-use Rattle.sheets.specs.Handed.{listWhole, writeInto, bufferAfterList}
-use Rattle.sheets.specs.SheetLaws.{whole-inv}
-use Rattle.sheets.specs.RoundTrip.{read-then-written, reads-length, list-well}
-use Rattle.decimals.specs.Texts.{letters, Put}
-use Rattle.decimals.specs.TextLaws.{put-same, put-nil}
-use Rattle.decimals.specs.RowLaws.{put-as, joined}
+use Rattle.sheet_codec.specs.declared.decoder.Extent.{Extent}
+use Rattle.sheet_codec.specs.declared.decoder.Extent.the-variants as X
+use Rattle.sheet_codec.specs.Sheets.{Sheet, sheet, refused, extentOf, holds, readSheet, readWhole, readInto, roomAfter}
+use Rattle.sheet_codec.specs.Handed.{listWhole, writeInto, bufferAfterList}
+use Rattle.sheet_codec.specs.SheetLaws.{whole-inv}
+use Rattle.sheet_codec.specs.RoundTrip.{read-then-written, reads-length, list-well}
+use Rattle.decimal_text.specs.Texts.{letters, Put}
+use Rattle.decimal_text.specs.TextLaws.{put-same, put-nil}
+use Rattle.decimal_text.specs.RowLaws.{put-as, joined}
 use Rattle.listings.specs.Extents.{extentText}
 use Rattle.stored_sheets.specs.Printed.{answerText, threeAnswers, answersLine, entriesText, writtenLine, backText, sheetText}
 

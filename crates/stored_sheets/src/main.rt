@@ -3,14 +3,14 @@
 // The entries of a good sheet follow, and whether they are written back to the same bytes.
 use libc::STDIN_FILENO;
 use libc::STDOUT_FILENO;
-use sheets::Extent;
+use sheet_codec::decoder::Extent;
 ghost use mathlib.Core.Path.{_≡_};
 ghost use mathlib.Core.List.{_++_};
 ghost use Prim.Native.Nat.{_+_, _*_, _≤_};
 ghost use lib.IntN.{pos};
 ghost use lib.ListN.{length};
-ghost use Rattle.sheets.specs.Sheets.{readWhole, readInto};
-ghost use Rattle.decimals.specs.Texts.{letters, Put};
+ghost use Rattle.sheet_codec.specs.Sheets.{readWhole, readInto};
+ghost use Rattle.decimal_text.specs.Texts.{letters, Put};
 ghost use Rattle.stored_sheets.specs.Printed.{threeAnswers, entryLine, entriesText, writtenLine, sheetText, printed};
 ghost use Rattle.stored_sheets.specs.PrintedLaws.{Again, Same};
 
@@ -21,7 +21,7 @@ fn put_answers(out: &mut [u8], start: usize, begins: Extent, is: Extent, short: 
     let first = listings::extents::put_answer(out, start, b"begins ", begins);
     let second = listings::extents::put_answer(out, first, b" is ", is);
     let third = listings::extents::put_answer(out, second, b" short ", short);
-    decimals::put_byte(out, third, b'\n')
+    decimal_text::put_byte(out, third, b'\n')
 }
 
 fn wide(x: u32) -> i64
@@ -42,7 +42,7 @@ fn put_entry(out: &mut [u8], at: usize, numbers: &[u32], n: usize) -> usize
     let c = wide(numbers[i + 3]);
     let d = wide(numbers[i + 4]);
     let fields = [kind, a, b, c, d];
-    decimals::put_filled(out, at, b" # # # # #\n", &fields)
+    decimal_text::put_filled(out, at, b" # # # # #\n", &fields)
 }
 
 // The entries, a line each.
@@ -65,11 +65,11 @@ fn put_same(out: &mut [u8], at: usize, answer: Extent, written: &[u8], sheet: &[
     let Extent::Sheet { entries: _, length } = answer else {
         return at;
     };
-    let end = decimals::clipped(written, length);
+    let end = decimal_text::clipped(written, length);
     if check::same(&written[..end], sheet) {
-        return decimals::put_text(out, at, b" same\n");
+        return decimal_text::put_text(out, at, b" same\n");
     }
-    decimals::put_byte(out, at, b'\n')
+    decimal_text::put_byte(out, at, b'\n')
 }
 
 // The entries; writes them again, and tells whether that gives the sheet.
@@ -79,7 +79,7 @@ fn put_written(out: &mut [u8], start: usize, numbers: &[u32], sheet: &[u8]) -> u
 {
     let line = put_entries(out, start, numbers);
     let mut space = io::buffer();
-    let answer = handed::write(numbers, &mut space);
+    let answer = sheet_codec::encoder::write(numbers, &mut space);
     let at = listings::extents::put_answer(out, line, b" written ", answer);
     put_same(out, at, answer, &space, sheet)
 }
@@ -89,7 +89,7 @@ fn read_short(sheet: &[u8]) -> Extent
     ensures { λ r. ⌜ r ≡ readInto 19 (readWhole (now (sheet .entry))) ⌝ }
 {
     let mut three = [0u32; 19];
-    sheets::read(sheet, &mut three)
+    sheet_codec::decoder::read(sheet, &mut three)
 }
 
 fn room_for_64() -> [u32; 320]
@@ -102,8 +102,8 @@ fn put_sheet(out: &mut [u8], start: usize, sheet: &[u8]) -> usize
     ensures { λ r. ⌜ Put (now (out .entry)) start (sheetText (now (sheet .entry))) (now (out .exit)) r ⌝ }
 {
     let mut room = room_for_64();
-    let begins = sheets::extent_of_leading_sheet(sheet);
-    let is = sheets::read(sheet, &mut room);
+    let begins = sheet_codec::decoder::extent_of_leading_sheet(sheet);
+    let is = sheet_codec::decoder::read(sheet, &mut room);
     let short = read_short(sheet);
     let line = put_answers(out, start, begins, is, short);
     let Extent::Sheet { entries, length: _ } = is else {
@@ -147,6 +147,6 @@ fn main() {
     let length = io::read_full(STDIN_FILENO, &mut input);
     let mut lines = lines_room();
     let end = put_sheets(&mut lines, &input[..length]);
-    let written = decimals::clipped(&lines, end);
+    let written = decimal_text::clipped(&lines, end);
     io::write_all(STDOUT_FILENO, &lines[..written]);
 }

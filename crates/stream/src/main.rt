@@ -6,7 +6,7 @@ use libc::STDIN_FILENO;
 use libc::STDOUT_FILENO;
 ghost use mathlib.Core.Path.{_≡_};
 ghost use lib.ListN.{length};
-ghost use Rattle.decimals.specs.Texts.{Counts};
+ghost use Rattle.decimal_text.specs.Texts.{Counts};
 
 // How many requests were answered, in how many bytes; whether to go on.
 struct Place {
@@ -40,7 +40,7 @@ fn answer_next(place: Place, sines: &mut [u32], room: &mut [u8]) -> Place {
             more: false,
         };
     }
-    let count = decimals::after(place.count, 1);
+    let count = decimal_text::after(place.count, 1);
     // three numbers of 20 digits, one of two, and the words
     let mut line = [0u8; 128];
     let step = streams::step(
@@ -52,12 +52,12 @@ fn answer_next(place: Place, sines: &mut [u32], room: &mut [u8]) -> Place {
         &mut line,
     );
     let output = step.output;
-    let error = decimals::clipped(&line, step.error);
+    let error = decimal_text::clipped(&line, step.error);
     let written = io::write_all(STDOUT_FILENO, &room[..output]);
     let told = io::write_all(STDERR_FILENO, &line[..error]);
     Place {
         count,
-        bytes: decimals::after(place.bytes, length),
+        bytes: decimal_text::after(place.bytes, length),
         more: written & told & !step.stops,
     }
 }

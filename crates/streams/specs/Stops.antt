@@ -9,11 +9,11 @@ use borrow.Author.Tests.{eqb-true}
 use lib.Dec.{eqb, leb}
 use lib.IntN.{ℤ}
 use lib.ListN.{length, getD}
-use Rattle.numbers.specs.declared.Limits.{Limits}
-use Rattle.numbers.specs.declared.Limits.the-variants as L
-use Rattle.refusals.specs.declared.Checked.{Checked}
-use Rattle.refusals.specs.declared.Checked.the-variants as C
-use Rattle.refusals.specs.Refusals.{refusal, ofLimits, andThen}
+use Rattle.rounding.specs.declared.Limits.{Limits}
+use Rattle.rounding.specs.declared.Limits.the-variants as L
+use Rattle.sheet_types.specs.declared.refusals.Checked.{Checked}
+use Rattle.sheet_types.specs.declared.refusals.Checked.the-variants as C
+use Rattle.sheet_types.specs.Refusals.{refusal, ofLimits, andThen}
 use Rattle.elements.specs.declared.Body.{Body}
 use Rattle.elements.specs.declared.Body.the-variants as B
 use Rattle.elements.specs.Elements.{rangeOf}
@@ -21,21 +21,21 @@ use Rattle.elements.specs.Stars.{starRangeOf, radiusRangeOf, bodyChecked}
 use Rattle.station.specs.Station.{rangeOf as placed}
 use Rattle.requests.specs.declared.Occultation.{Occultation}
 use Rattle.requests.specs.Requests.{ofEclipse, ofStar, guardHolds, checked}
-use Rattle.windows.specs.Windows.{windowHolds}
+use Rattle.requests.specs.Windows.{windowHolds}
 use Rattle.requests.specs.Admission.{roomChecked, admitted}
-use Rattle.writing.specs.Sheet.{sheetBytes}
+use Rattle.circumstances.specs.WrittenSheet.{sheetBytes}
 use Rattle.circumstances.specs.declared.Answer.the-variants as A
 use Rattle.circumstances.specs.Sheet.{answerBy, sheetAnswer}
-use Rattle.request_fields.specs.declared.Shape.{Shape}
-use Rattle.request_fields.specs.declared.Shape.the-variants as S
-use Rattle.request_bytes.specs.Layout.{Reading, numbers, misshaped, bytesBy}
-use Rattle.request_bytes.specs.LayoutLaws.{length-bytes}
+use Rattle.request_format.specs.declared.fields.Shape.{Shape}
+use Rattle.request_format.specs.declared.fields.Shape.the-variants as S
+use Rattle.request_format.specs.Layout.{Reading, numbers, misshaped, bytesBy}
+use Rattle.request_format.specs.LayoutLaws.{length-bytes}
 use Rattle.big_endian.specs.Numbers.{Bytes}
-use Rattle.request_bytes.specs.Request.{piecesFor, sizeFor, bytesFor, readingFor}
-use Rattle.request_bytes.specs.RoundTrip.{write-back}
-use Rattle.request_bytes.specs.RowLaws.{pieces-count}
-use Rattle.input.specs.Input.{requestFrom, starFrom, inputOf, starAsked}
-use Rattle.request_sheets.specs.Sheet.{answerTo, starAnswer}
+use Rattle.request_format.specs.Request.{piecesFor, sizeFor, bytesFor, readingFor}
+use Rattle.request_format.specs.RoundTrip.{write-back}
+use Rattle.request_format.specs.RowByteLaws.{pieces-count}
+use Rattle.request_format.specs.Input.{requestFrom, starFrom, inputOf, starAsked}
+use Rattle.request_answers.specs.Sheet.{answerTo, starAnswer}
 use Rattle.streams.specs.Streams.{starKind, sizeFrom, isStar, answerFor, isShape, stopsBy, stopsFor, isMisshaped, wrongShape}
 use Rattle.streams.specs.StreamLaws.{eclipse-size, star-size}
 

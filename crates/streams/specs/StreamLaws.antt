@@ -7,13 +7,13 @@ use native.Mathlib.Omega.{arith}
 use borrow.Author.Tests.{eq-eqb, ne-eqb}
 use lib.ListN.{length, take}
 use lib.Seq.{length-take-le}
-use Rattle.refusals.specs.declared.Refusal.{Refusal}
+use Rattle.sheet_types.specs.declared.refusals.Refusal.{Refusal}
 use Rattle.circumstances.specs.declared.Answer.{Answer}
 use Rattle.circumstances.specs.declared.Answer.the-variants as A
-use Rattle.request_sheets.specs.Sheet.{answerTo, bufferFor, sinesFor, starAnswer, starBuffer, starSines, Begins, storedBy}
-use Rattle.request_sheets.specs.SheetLaws.{Fits, fits-written, fits, star-fits}
-use Rattle.decimals.specs.Texts.{Put, Counts}
-use Rattle.decimals.specs.TextLaws.{put-nil, put-then}
+use Rattle.request_answers.specs.Sheet.{answerTo, bufferFor, sinesFor, starAnswer, starBuffer, starSines, Begins, storedBy}
+use Rattle.request_answers.specs.SheetLaws.{Fits, fits-written, fits, star-fits}
+use Rattle.decimal_text.specs.Texts.{Put, Counts}
+use Rattle.decimal_text.specs.TextLaws.{put-nil, put-then}
 use Rattle.streams.specs.Streams.{eclipseKind, starKind, sizeFrom, isStar, answerFor, roomFor, tableFor, sheetFor, toldLine, stopLine, isShape, refusalTold, toldBy, toldFor, stopsBy, stopsFor}
 
 -- ---- the first byte

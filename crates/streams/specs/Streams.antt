@@ -5,17 +5,17 @@ use mathlib.Core.List.{List, [], _++_}
 use Prim.Native.Nat.{ℕ}
 use lib.Dec.{eqb}
 use lib.ListN.{getD}
-use Rattle.refusals.specs.declared.Refusal.{Refusal}
+use Rattle.sheet_types.specs.declared.refusals.Refusal.{Refusal}
 use Rattle.circumstances.specs.declared.Answer.{Answer}
 use Rattle.circumstances.specs.declared.Answer.the-variants as A
-use Rattle.request_fields.specs.Fields.{elements, starElements}
-use Rattle.request_fields.specs.declared.Shape.the-variants as S
-use Rattle.request_bytes.specs.Layout.{Reading, numbers, misshaped}
-use Rattle.request_bytes.specs.Request.{sizeFor, readingFor}
-use Rattle.request_sheets.specs.Sheet.{answerTo, bufferFor, sinesFor, starAnswer, starBuffer, starSines, storedBy}
-use Rattle.decimals.specs.Decimals.{decimal}
-use Rattle.decimals.specs.Texts.{letters}
-use Rattle.lines.specs.Lines.{refusalLine}
+use Rattle.request_format.specs.Fields.{elements, starElements}
+use Rattle.request_format.specs.declared.fields.Shape.the-variants as S
+use Rattle.request_format.specs.Layout.{Reading, numbers, misshaped}
+use Rattle.request_format.specs.Request.{sizeFor, readingFor}
+use Rattle.request_answers.specs.Sheet.{answerTo, bufferFor, sinesFor, starAnswer, starBuffer, starSines, storedBy}
+use Rattle.decimal_text.specs.Decimals.{decimal}
+use Rattle.decimal_text.specs.Texts.{letters}
+use Rattle.listing_lines.specs.Lines.{refusalLine}
 
 -- ---- where a request ends
 

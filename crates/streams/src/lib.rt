@@ -1,12 +1,12 @@
 // Requests that follow each other, eclipses' and stars': how many bytes the next one has, and what one of them is answered.
 use circumstances::Answer;
-use refusals::Refusal;
-use request_fields::LENGTH;
-use request_fields::STAR_LENGTH;
+use request_format::fields::LENGTH;
+use request_format::fields::STAR_LENGTH;
+use sheet_types::refusals::Refusal;
 ghost use mathlib.Core.Path.{_≡_};
 ghost use Prim.Native.Nat.{_≤_};
-ghost use Rattle.decimals.specs.Texts.{Put, Counts};
-ghost use Rattle.request_sheets.specs.Sheet.{Begins};
+ghost use Rattle.decimal_text.specs.Texts.{Put, Counts};
+ghost use Rattle.request_answers.specs.Sheet.{Begins};
 ghost use Rattle.streams.specs.Streams.{sizeFrom, isStar, answerFor, roomFor, tableFor, sheetFor, toldLine, stopLine, isShape, refusalTold, toldFor, stopsFor};
 
 // What goes out for a request, and whether another may follow.
@@ -49,9 +49,9 @@ fn answer(request: &[u8], sines: &mut [u32], room: &mut [u8]) -> Answer
     ensures sines { λ r. ⌜ now (sines .exit) ≡ tableFor (now (request .entry)) (now (sines .entry)) ⌝ }
 {
     if is_star(request) {
-        return request_sheets::star_sheet(request, sines, room);
+        return request_answers::sheets::star_sheet(request, sines, room);
     }
-    request_sheets::sheet(request, sines, room)
+    request_answers::sheets::sheet(request, sines, room)
 }
 
 fn is_shape(refusal: Refusal) -> bool
@@ -64,19 +64,19 @@ fn is_shape(refusal: Refusal) -> bool
 fn put_line(out: &mut [u8], count: u64, refusal: Refusal) -> usize
     ensures { λ r. ⌜ Put (now (out .entry)) 0 (toldLine count refusal) (now (out .exit)) r ⌝ }
 {
-    let word = decimals::put_text(out, 0, b"request ");
-    let counted = decimals::put_number(out, word, count);
-    let next = decimals::put_text(out, counted, b": ");
-    lines::put_refused(out, next, refusal)
+    let word = decimal_text::put_text(out, 0, b"request ");
+    let counted = decimal_text::put_number(out, word, count);
+    let next = decimal_text::put_text(out, counted, b": ");
+    listing_lines::lines::put_refused(out, next, refusal)
 }
 
 // Where the stream stops.
 fn put_stop(out: &mut [u8], start: usize, at: u64) -> usize
     ensures { λ r. ⌜ Put (now (out .entry)) start (stopLine at) (now (out .exit)) r ⌝ }
 {
-    let word = decimals::put_text(out, start, b"stopped at byte ");
-    let number = decimals::put_number(out, word, at);
-    decimals::put_text(out, number, b"\n")
+    let word = decimal_text::put_text(out, start, b"stopped at byte ");
+    let number = decimal_text::put_number(out, word, at);
+    decimal_text::put_text(out, number, b"\n")
 }
 
 fn put_refusal(out: &mut [u8], count: u64, at: u64, refusal: Refusal) -> usize

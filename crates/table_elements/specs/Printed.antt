@@ -6,17 +6,17 @@ use mathlib.Core.List.{List, [], _∷_, _++_}
 use lib.Dec.{eqb, ltb}
 use lib.IntN.{ℤ}
 use lib.ListN.{length}
-use Rattle.decimals.specs.Decimals.{decimal}
-use Rattle.decimals.specs.Texts.{letters}
-use Rattle.decimals.specs.Patterns.{filled}
-use Rattle.decimals.specs.Rows.{rows}
-use Rattle.lines.specs.Lines.{refusalLine}
-use Rattle.tables.specs.declared.Answer.{Answer}
-use Rattle.tables.specs.declared.Answer.the-variants.{Made, Refused}
-use Rattle.tables.specs.Tables.{answerTo, valuesOf}
-use Rattle.typed_rows.specs.declared.Fault.{Fault}
-use Rattle.typed_rows.specs.declared.Fault.the-variants as F
-use Rattle.typed_rows.specs.Reading.{Said, nothing, row, faulty, lineOf, linesOf}
+use Rattle.decimal_text.specs.Decimals.{decimal}
+use Rattle.decimal_text.specs.Texts.{letters}
+use Rattle.decimal_text.specs.Patterns.{filled}
+use Rattle.decimal_text.specs.Rows.{rows}
+use Rattle.listing_lines.specs.Lines.{refusalLine}
+use Rattle.besselian_rows.specs.declared.tables.Answer.{Answer}
+use Rattle.besselian_rows.specs.declared.tables.Answer.the-variants.{Made, Refused}
+use Rattle.besselian_rows.specs.Tables.{answerTo, valuesOf}
+use Rattle.table_elements.specs.declared.typed_rows.Fault.{Fault}
+use Rattle.table_elements.specs.declared.typed_rows.Fault.the-variants as F
+use Rattle.table_elements.specs.Reading.{Said, nothing, row, faulty, lineOf, linesOf}
 
 -- seven lines of eight values
 unfoldable pub valuesText : List ℤ → List ℕ

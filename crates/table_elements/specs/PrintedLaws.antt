@@ -9,27 +9,27 @@ use lib.Dec.{eqb}
 use lib.IntN.{ℤ}
 use lib.ListN.{length, length-append, take, drop, drop-of-length-le}
 use lib.Seq.{take-all, length-take-le}
-use Rattle.refusals.specs.declared.Refusal.{Refusal}
-use Rattle.decimals.specs.Texts.{letters, Put}
-use Rattle.decimals.specs.Decimals.{decimal}
-use Rattle.decimals.specs.TextLaws.{put-nil, Putting, putting-start, putting-turn, putting-end}
-use Rattle.decimals.specs.RowLaws.{put-as, joined}
-use Rattle.lines.specs.Lines.{refusalLine}
-use Rattle.tables.specs.declared.Answer.{Answer}
-use Rattle.tables.specs.declared.Answer.the-variants.{Made, Refused}
-use Rattle.tables.specs.Tables.{answerTo, valuesOf, valuesAfter}
+use Rattle.sheet_types.specs.declared.refusals.Refusal.{Refusal}
+use Rattle.decimal_text.specs.Texts.{letters, Put}
+use Rattle.decimal_text.specs.Decimals.{decimal}
+use Rattle.decimal_text.specs.TextLaws.{put-nil, Putting, putting-start, putting-turn, putting-end}
+use Rattle.decimal_text.specs.RowLaws.{put-as, joined}
+use Rattle.listing_lines.specs.Lines.{refusalLine}
+use Rattle.besselian_rows.specs.declared.tables.Answer.{Answer}
+use Rattle.besselian_rows.specs.declared.tables.Answer.the-variants.{Made, Refused}
+use Rattle.besselian_rows.specs.Tables.{answerTo, valuesOf, valuesAfter}
 use Rattle.table_elements.specs.declared.Read.{Read}
 use Rattle.table_elements.specs.declared.Read.the-variants as R
-use Rattle.typed_rows.specs.declared.Fault.{Fault}
-use Rattle.typed_rows.specs.declared.Fault.the-variants as F
-use Rattle.typed_rows.specs.declared.Line.{Line}
-use Rattle.typed_rows.specs.declared.Line.the-variants as L
-use Rattle.typed_rows.specs.Reading.{Said, nothing, row, faulty, lineOf, linesOf}
-use Rattle.words.specs.declared.Class.the-variants as C
-use Rattle.words.specs.Text.{runOf}
-use Rattle.words.specs.TextLaws.{rest-is}
-use Rattle.typed_rows.specs.ReadingLaws.{answerOf, Stored}
-use Rattle.typed_rows.specs.LineLaws.{Left, line-within, next-line}
+use Rattle.table_elements.specs.declared.typed_rows.Fault.{Fault}
+use Rattle.table_elements.specs.declared.typed_rows.Fault.the-variants as F
+use Rattle.table_elements.specs.declared.typed_rows.Line.{Line}
+use Rattle.table_elements.specs.declared.typed_rows.Line.the-variants as L
+use Rattle.table_elements.specs.Reading.{Said, nothing, row, faulty, lineOf, linesOf}
+use Rattle.tokens.specs.declared.Class.the-variants as C
+use Rattle.tokens.specs.Text.{runOf}
+use Rattle.tokens.specs.TextLaws.{rest-is}
+use Rattle.table_elements.specs.ReadingLaws.{answerOf, Stored}
+use Rattle.table_elements.specs.LineLaws.{Left, line-within, next-line}
 use Rattle.table_elements.specs.Printed.{valuesText, tableText, messageOf, faultLine, Streams, told, first, ofLine, readLines, printed}
 
 -- what a line adds to the output, where it is that row, from 0, of its table; and the rows of the table after it

@@ -2,17 +2,18 @@
 // the Earth's equatorial radius. `#` starts a comment. After each seven rows it prints their values, a line a row: x, y, sin d, cos d,
 // tan f1, tan f2, l1, l2; or `refused`, number and place. A fault is told on standard error with its line, and ends the reading.
 mod text;
+pub mod typed_rows;
 
+use crate::typed_rows::Fault;
+use crate::typed_rows::Line;
 use libc::STDERR_FILENO;
 use libc::STDIN_FILENO;
 use libc::STDOUT_FILENO;
-use typed_rows::Fault;
-use typed_rows::Line;
-use words::Class;
+use tokens::Class;
 ghost use mathlib.Core.Path.{_≡_};
 ghost use Prim.Native.Nat.{_≤_};
 ghost use lib.ListN.{length};
-ghost use Rattle.decimals.specs.Texts.{Put};
+ghost use Rattle.decimal_text.specs.Texts.{Put};
 ghost use Rattle.table_elements.specs.Printed.{printed};
 ghost use Rattle.table_elements.specs.PrintedLaws.{wholeText, rowsAfter, whole, outputOf, errorOf};
 
@@ -88,9 +89,9 @@ fn put_tables(text: &[u8], out: &mut [u8]) -> Read
     let mut line = 1;
     let mut from = 0;
     while from <= text.len() {
-        let length = words::run(&text[from..], Class::Line);
+        let length = tokens::run(&text[from..], Class::Line);
         let end = from + length;
-        let said = typed_rows::read_line(&text[from..end], &mut numbers, 6 * row);
+        let said = crate::typed_rows::read_line(&text[from..end], &mut numbers, 6 * row);
         if let Line::Faulty(fault) = said {
             return Read::Faulty {
                 output,
@@ -120,7 +121,7 @@ fn respond(text: &[u8], out: &mut [u8], message: &mut [u8]) -> Streams
     ensures { λ r. ⌜ Put (now (message .entry)) 0 (printed (now (text .entry)) .error) (now (message .exit)) (r .error) ⌝ }
 {
     if 65536 < text.len() {
-        let error = decimals::put_text(message, 0, b"the text has more than 65,536 bytes\n");
+        let error = decimal_text::put_text(message, 0, b"the text has more than 65,536 bytes\n");
         return Streams { output: 0, error };
     }
     let read = put_tables(text, out);
@@ -155,8 +156,8 @@ fn main() {
     let streams = respond(&text[..length], &mut lines, &mut message);
     let output = streams.output;
     let error = streams.error;
-    let written = decimals::clipped(&lines, output);
-    let told = decimals::clipped(&message, error);
+    let written = decimal_text::clipped(&lines, output);
+    let told = decimal_text::clipped(&message, error);
     io::write_all(STDOUT_FILENO, &lines[..written]);
     io::write_all(STDERR_FILENO, &message[..told]);
 }

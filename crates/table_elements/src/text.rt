@@ -1,16 +1,16 @@
 // What is written of a table, and of a fault. A `put_` function stores it at a place of a room, as far as the room goes, and gives
 // the place after it (`decimals`).
-use typed_rows::Fault;
+use crate::typed_rows::Fault;
 ghost use mathlib.Core.Path.{_≡_};
 ghost use lib.ListN.{length};
-ghost use Rattle.decimals.specs.Texts.{Put};
+ghost use Rattle.decimal_text.specs.Texts.{Put};
 ghost use Rattle.table_elements.specs.Printed.{valuesText, tableText, messageOf, faultLine};
 
 // The values of seven rows, a line a row.
 fn put_values(out: &mut [u8], at: usize, values: &[i64; 56]) -> usize
     ensures { λ r. ⌜ Put (now (out .entry)) at (valuesText (now (values .entry))) (now (out .exit)) r ⌝ }
 {
-    decimals::put_filled(
+    decimal_text::put_filled(
         out,
         at,
         b"# # # # # # # #\n# # # # # # # #\n# # # # # # # #\n# # # # # # # #\n# # # # # # # #\n# # # # # # # #\n# # # # # # # #\n",
@@ -29,10 +29,14 @@ pub fn put_table(out: &mut [u8], at: usize, numbers: &[i64; 42]) -> usize
     ensures { λ r. ⌜ Put (now (out .entry)) at (tableText (now (numbers .entry))) (now (out .exit)) r ⌝ }
 {
     let mut values = room();
-    let answer = tables::elements(numbers, &mut values);
+    let answer = besselian_rows::tables::elements(numbers, &mut values);
     match answer {
-        tables::Answer::Made => put_values(out, at, &values),
-        tables::Answer::Refused(refusal) => lines::put_refused(out, at, refusal),
+        besselian_rows::tables::Answer::Made => put_values(out, at, &values),
+        besselian_rows::tables::Answer::Refused(refusal) => listing_lines::lines::put_refused(
+            out,
+            at,
+            refusal,
+        ),
     }
 }
 
@@ -40,11 +44,15 @@ fn put_message(out: &mut [u8], at: usize, fault: Fault) -> usize
     ensures { λ r. ⌜ Put (now (out .entry)) at (messageOf fault) (now (out .exit)) r ⌝ }
 {
     match fault {
-        Fault::NotWhole => decimals::put_text(out, at, b": not a whole number\n"),
-        Fault::TooLarge => decimals::put_text(out, at, b": a number is too large for 64 bits\n"),
-        Fault::More => decimals::put_text(out, at, b": more than six numbers\n"),
-        Fault::Fewer => decimals::put_text(out, at, b": fewer than six numbers\n"),
-        Fault::Unfinished => decimals::put_text(
+        Fault::NotWhole => decimal_text::put_text(out, at, b": not a whole number\n"),
+        Fault::TooLarge => decimal_text::put_text(
+            out,
+            at,
+            b": a number is too large for 64 bits\n",
+        ),
+        Fault::More => decimal_text::put_text(out, at, b": more than six numbers\n"),
+        Fault::Fewer => decimal_text::put_text(out, at, b": fewer than six numbers\n"),
+        Fault::Unfinished => decimal_text::put_text(
             out,
             at,
             b": the last table has fewer than seven rows\n",
@@ -56,7 +64,7 @@ fn put_message(out: &mut [u8], at: usize, fault: Fault) -> usize
 pub fn put_fault(out: &mut [u8], line: usize, fault: Fault) -> usize
     ensures { λ r. ⌜ Put (now (out .entry)) 0 (faultLine line fault) (now (out .exit)) r ⌝ }
 {
-    let first = decimals::put_text(out, 0, b"line ");
-    let next = decimals::put_number(out, first, line as u64);
+    let first = decimal_text::put_text(out, 0, b"line ");
+    let next = decimal_text::put_number(out, first, line as u64);
     put_message(out, next, fault)
 }

@@ -5,9 +5,9 @@ use mathlib.Core.List.{List, []}
 use Prim.Native.Nat.{ℕ}
 use lib.Dec.{eqb}
 use lib.ListN.{length}
-use Rattle.request_bytes.specs.Request.{bytesFor}
-use Rattle.instants.specs.declared.Reference.{Reference}
-use Rattle.typed_requests.specs.Meaning.{Meaning, asked, refused, meaningOf}
+use Rattle.request_format.specs.Request.{bytesFor}
+use Rattle.calendar.specs.declared.Reference.{Reference}
+use Rattle.request_text.specs.Meaning.{Meaning, asked, refused, meaningOf}
 use Rattle.answers.specs.Answers.{timedText, starTimedText}
 
 -- the answer to a request's bytes: 79 are a star's. Times are shown where there is an instant.

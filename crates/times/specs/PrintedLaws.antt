@@ -5,11 +5,11 @@ use mathlib.Core.List.{List}
 use native.Mathlib.Omega.{arith}
 use borrow.Author.Tests.{eq-eqb, ne-eqb}
 use lib.ListN.{length, take}
-use Rattle.decimals.specs.Texts.{Put, Counts}
-use Rattle.decimals.specs.TextLaws.{put-nil}
-use Rattle.instants.specs.declared.Reference.{Reference}
-use Rattle.typed_requests.specs.Meaning.{errorOf}
-use Rattle.typed_requests.specs.RoomLaws.{Bytes, Message}
+use Rattle.decimal_text.specs.Texts.{Put, Counts}
+use Rattle.decimal_text.specs.TextLaws.{put-nil}
+use Rattle.calendar.specs.declared.Reference.{Reference}
+use Rattle.request_text.specs.Meaning.{errorOf}
+use Rattle.request_text.specs.RoomLaws.{Bytes, Message}
 use Rattle.answers.specs.Answers.{timedText, starTimedText}
 use Rattle.times.specs.Printed.{textBy, outputOf}
 

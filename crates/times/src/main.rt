@@ -2,18 +2,18 @@
 // times (docs/CLOCK.md). A refusal is printed as `sheet` prints it; a fault of the text is told on standard error with its line.
 use answers::put_timed_answer;
 use answers::put_timed_star_answer;
-use instants::Reference;
+use calendar::Reference;
 use libc::STDERR_FILENO;
 use libc::STDIN_FILENO;
 use libc::STDOUT_FILENO;
-use request_fields::LENGTH;
-use request_fields::STAR_LENGTH;
-use typed_requests::Answer;
-use typed_requests::MESSAGE;
+use request_format::fields::LENGTH;
+use request_format::fields::STAR_LENGTH;
+use request_text::typed_requests::Answer;
+use request_text::typed_requests::MESSAGE;
 ghost use mathlib.Core.Path.{_≡_};
 ghost use lib.ListN.{take};
-ghost use Rattle.decimals.specs.Texts.{Put, Counts};
-ghost use Rattle.typed_requests.specs.Meaning.{errorOf};
+ghost use Rattle.decimal_text.specs.Texts.{Put, Counts};
+ghost use Rattle.request_text.specs.Meaning.{errorOf};
 ghost use Rattle.times.specs.Printed.{textBy, outputOf};
 
 // How many bytes of each room go out; of the text's more than the room has where the text is longer.
@@ -51,7 +51,7 @@ fn respond(
     ensures counts { λ r. ⌜ Counts (r .error) (now (message .exit)) ⌝ }
 {
     let mut bytes = [0u8; LENGTH];
-    let answer = typed_requests::read(text, &mut bytes, message);
+    let answer = request_text::typed_requests::read(text, &mut bytes, message);
     match answer {
         Answer::Request(length, reference) => {
             let end = put_text(&bytes[..length], reference, sines, room, out);
@@ -95,7 +95,7 @@ fn main() {
         &mut room,
         &mut lines,
     );
-    let output = decimals::clipped(&lines, streams.output);
+    let output = decimal_text::clipped(&lines, streams.output);
     let error = streams.error;
     // one of the two has no bytes, and then no call is made
     io::write_all(STDOUT_FILENO, &lines[..output]);

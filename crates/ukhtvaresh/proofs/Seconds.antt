@@ -4,10 +4,10 @@ use mathlib.Core.List.{List}
 use Prim.Native.Nat.{ℕ}
 use lib.IntN.{ℤ}
 use Rattle.seconds.specs.declared.OneSecond.{OneSecond}
-use Rattle.request_fields.specs.declared.Shape.{Shape}
-use Rattle.request_seconds.specs.Second.{wish, sinesAsked, secondGiven, numbersAfter, GivenMeans}
-use Rattle.replies.specs.declared.Reply.{Reply}
-use Rattle.replies.specs.Seconds.{secondReply}
+use Rattle.request_format.specs.declared.fields.Shape.{Shape}
+use Rattle.request_answers.specs.Second.{wish, sinesAsked, secondGiven, numbersAfter, GivenMeans}
+use Rattle.ukhtvaresh.specs.declared.replies.Reply.{Reply}
+use Rattle.ukhtvaresh.specs.Seconds.{secondReply}
 
 module _ (shape : Shape) (request sines : List ℕ) (old : List ℤ) where
   -- what stands in the two rooms

@@ -1,8 +1,8 @@
 // Elements from tables of Sun and Moon, for C and Rust.
 ghost use mathlib.Core.Path.{_≡_};
 ghost use lib.ListN.{length};
-ghost use Rattle.tables.specs.Tables.{answerTo, valuesAfter, Claimed};
-ghost use Rattle.replies.specs.TablesReply.{tablesReply};
+ghost use Rattle.besselian_rows.specs.Tables.{answerTo, valuesAfter, Claimed};
+ghost use Rattle.ukhtvaresh.specs.TablesReply.{tablesReply};
 
 // The elements of seven hourly rows, each the Sun's x, y, z and the Moon's x, y, z: for each row x, y, sin d, cos d, tan f1, tan f2,
 // l1, l2; value: 56.
@@ -13,8 +13,8 @@ pub extern "C" fn ukhtvaresh_from_tables(rows: &[i64], values: &mut [i64], value
     ensures values { λ r. ⌜ now (values .exit) ≡ valuesAfter (answerTo (now (rows .entry)) (length (now (values .entry)))) (now (rows .entry)) (now (values .entry)) ⌝ }
     ensures faithful { λ r. ⌜ Claimed (answerTo (now (rows .entry)) (length (now (values .entry)))) (now (rows .entry)) (now (values .exit)) ⌝ }
 {
-    let answer = tables::elements(rows, values);
-    let reply = replies::tables_reply(answer);
+    let answer = besselian_rows::tables::elements(rows, values);
+    let reply = crate::replies::tables_reply(answer);
     *value = reply.value;
     reply.number
 }

@@ -7,6 +7,7 @@ mod listing;
 mod mend;
 mod mirror;
 mod positions;
+pub mod replies;
 mod roots;
 mod second;
 mod shares;
@@ -15,13 +16,13 @@ mod stars;
 mod stations;
 
 ghost use mathlib.Core.Path.{_≡_};
-ghost use Rattle.sheets.specs.Sheets.{readWhole, roomAfter};
-ghost use Rattle.sheets.specs.Handed.{listWhole, bufferAfterList};
+ghost use Rattle.sheet_codec.specs.Sheets.{readWhole, roomAfter};
+ghost use Rattle.sheet_codec.specs.Handed.{listWhole, bufferAfterList};
 ghost use Rattle.requests.specs.Requests.{ofEclipse};
 ghost use Rattle.circumstances.specs.Demand3.{Claimed};
-ghost use Rattle.input.specs.Input.{requestOf};
-ghost use Rattle.request_sheets.specs.Sheet.{answerTo, bufferFor, sinesFor};
-ghost use Rattle.replies.specs.Replies.{sheetReply, readGiven, readReply, writeGiven, writeReply};
+ghost use Rattle.request_format.specs.Input.{requestOf};
+ghost use Rattle.request_answers.specs.Sheet.{answerTo, bufferFor, sinesFor};
+ghost use Rattle.ukhtvaresh.specs.Replies.{sheetReply, readGiven, readReply, writeGiven, writeReply};
 
 // The contact sheet of a request of 115 bytes, in the caller's buffer; value: its length. `sines` is room for table S.
 #[no_mangle]
@@ -37,8 +38,8 @@ pub extern "C" fn ukhtvaresh_sheet(
     ensures sines { λ r. ⌜ now (sines .exit) ≡ sinesFor (now (request .entry)) (now (sines .entry)) ⌝ }
     ensures demand3 { λ r. ⌜ Claimed (ofEclipse (requestOf (now (request .entry)))) (answerTo (now (request .entry)) (now (sines .entry)) (now (sheet .entry))) (now (sheet .exit)) ⌝ }
 {
-    let answer = request_sheets::sheet(request, sines, sheet);
-    let reply = replies::sheet_reply(answer);
+    let answer = request_answers::sheets::sheet(request, sines, sheet);
+    let reply = crate::replies::sheet_reply(answer);
     *value = reply.value;
     reply.number
 }
@@ -50,8 +51,8 @@ pub extern "C" fn ukhtvaresh_read(sheet: &[u8], entries: &mut [u32], value: &mut
     ensures value { λ r. ⌜ now (value .exit) ≡ readReply (readGiven (now (sheet .entry)) (now (entries .entry))) .value ⌝ }
     ensures room { λ r. ⌜ now (entries .exit) ≡ roomAfter (readWhole (now (sheet .entry))) (now (entries .entry)) ⌝ }
 {
-    let extent = sheets::read(sheet, entries);
-    let reply = replies::read_reply(extent);
+    let extent = sheet_codec::decoder::read(sheet, entries);
+    let reply = crate::replies::read_reply(extent);
     *value = reply.value;
     reply.number
 }
@@ -63,8 +64,8 @@ pub extern "C" fn ukhtvaresh_write(entries: &[u32], sheet: &mut [u8], value: &mu
     ensures value { λ r. ⌜ now (value .exit) ≡ writeReply (writeGiven (now (entries .entry)) (now (sheet .entry))) .value ⌝ }
     ensures buffer { λ r. ⌜ now (sheet .exit) ≡ bufferAfterList (listWhole (now (entries .entry))) (now (sheet .entry)) ⌝ }
 {
-    let extent = handed::write(entries, sheet);
-    let reply = replies::write_reply(extent);
+    let extent = sheet_codec::encoder::write(entries, sheet);
+    let reply = crate::replies::write_reply(extent);
     *value = reply.value;
     reply.number
 }

@@ -2,7 +2,7 @@
 ghost use mathlib.Core.Path.{_≡_};
 ghost use Rattle.listings.specs.Answers.{roomWith};
 ghost use Rattle.listings.specs.Listings.{told};
-ghost use Rattle.replies.specs.Listing.{listingGiven, listingReply};
+ghost use Rattle.ukhtvaresh.specs.Listing.{listingGiven, listingReply};
 
 // The listing of a sheet, as text in the caller's room; value: its length.
 #[no_mangle]
@@ -12,7 +12,7 @@ pub extern "C" fn ukhtvaresh_listing(sheet: &[u8], text: &mut [u8], value: &mut 
     ensures room { λ r. ⌜ now (text .exit) ≡ roomWith (told (now (sheet .entry))) (now (text .entry)) ⌝ }
 {
     let answer = listings::listing(sheet, text);
-    let reply = replies::listing_reply(answer);
+    let reply = crate::replies::listing_reply(answer);
     *value = reply.value;
     reply.number
 }

@@ -1,6 +1,6 @@
 // The year file mended, for C and Rust.
 ghost use mathlib.Core.Path.{_≡_};
-ghost use Rattle.replies.specs.MendReply.{mendGiven, mendReply, sheetsAfter, droppedAfter};
+ghost use Rattle.ukhtvaresh.specs.MendReply.{mendGiven, mendReply, sheetsAfter, droppedAfter};
 
 // Mends a file of sheets: those kept in the one room, each unbroken stretch of dropped bytes, 16 bytes each, in the other; kept, noted:
 // how many bytes each room has of them.
@@ -18,8 +18,8 @@ pub extern "C" fn ukhtvaresh_mend(
     ensures sheets { λ r. ⌜ now (sheets .exit) ≡ sheetsAfter (now (file .entry)) (now (sheets .entry)) (now (dropped .entry)) ⌝ }
     ensures dropped { λ r. ⌜ now (dropped .exit) ≡ droppedAfter (now (file .entry)) (now (sheets .entry)) (now (dropped .entry)) ⌝ }
 {
-    let answer = mending::mend(file, sheets, dropped);
-    let reply = replies::mend_reply(answer);
+    let answer = year_file::mending::mend(file, sheets, dropped);
+    let reply = crate::replies::mend_reply(answer);
     *kept = reply.kept;
     *noted = reply.noted;
     reply.number

@@ -3,11 +3,11 @@ ghost use mathlib.Core.Path.{_≡_};
 ghost use lib.ListN.{length};
 ghost use Rattle.requests.specs.Requests.{ofEclipse};
 ghost use Rattle.circumstances.specs.Demand3.{Claimed};
-ghost use Rattle.instrument.specs.Writing as Writing;
-ghost use Rattle.survey.specs.Survey.{requestOf};
-ghost use Rattle.survey.specs.Handed.{surveyOf, handedOf, answerTo, bufferFor, sinesFor};
-ghost use Rattle.replies.specs.Replies.{sheetReply};
-ghost use Rattle.replies.specs.Positions.{doublesReply};
+ghost use Rattle.float_requests.specs.Writing as Writing;
+ghost use Rattle.float_requests.specs.Survey.{requestOf};
+ghost use Rattle.float_requests.specs.Handed.{surveyOf, handedOf, answerTo, bufferFor, sinesFor};
+ghost use Rattle.ukhtvaresh.specs.Replies.{sheetReply};
+ghost use Rattle.ukhtvaresh.specs.Positions.{doublesReply};
 
 // The contact sheet of elements and a longitude in doubles, in the caller's buffer; value: its length. `hours` is 0 for a longitude in degrees, 1
 // for one in hours of time; `rest` is number, latitude, height, ΔT, first, last, guard in whole numbers; `sines` is room for table S.
@@ -27,8 +27,15 @@ pub extern "C" fn ukhtvaresh_sheet_of_doubles(
     ensures sines { λ r. ⌜ now (sines .exit) ≡ sinesFor (handedOf (now (elements .entry)) longitude hours (now (rest .entry))) (now (sines .entry)) ⌝ }
     ensures demand3 { λ r. ⌜ Claimed (ofEclipse (requestOf (surveyOf (now (elements .entry)) longitude hours (now (rest .entry))))) (answerTo (handedOf (now (elements .entry)) longitude hours (now (rest .entry))) (now (sines .entry)) (now (sheet .entry))) (now (sheet .exit)) ⌝ }
 {
-    let answer = survey::handed::sheet(elements, longitude, hours, rest, sines, sheet);
-    let reply = replies::sheet_reply(answer);
+    let answer = float_requests::survey::handed::sheet(
+        elements,
+        longitude,
+        hours,
+        rest,
+        sines,
+        sheet,
+    );
+    let reply = crate::replies::sheet_reply(answer);
     *value = reply.value;
     reply.number
 }
@@ -41,8 +48,8 @@ pub extern "C" fn ukhtvaresh_doubles(units: &[i64], doubles: &mut [f64], value: 
     ensures room { λ r. ⌜ now (doubles .exit) ≡ Writing.roomAfter (Writing.answerTo (now (units .entry)) (length (now (doubles .entry)))) (now (units .entry)) (now (doubles .entry)) ⌝ }
     ensures back { λ r. ⌜ Writing.Claimed (Writing.answerTo (now (units .entry)) (length (now (doubles .entry)))) (now (units .entry)) (now (doubles .exit)) ⌝ }
 {
-    let answer = instrument::writing::write(units, doubles);
-    let reply = replies::doubles_reply(answer);
+    let answer = float_requests::instrument::writing::write(units, doubles);
+    let reply = crate::replies::doubles_reply(answer);
     *value = reply.value;
     reply.number
 }

@@ -1,9 +1,9 @@
 // One second of a request, an eclipse's or a star's, for C and Rust.
-use request_fields::Shape;
+use request_format::fields::Shape;
 ghost use mathlib.Core.Path.{_≡_};
-ghost use Rattle.request_fields.specs.declared.Shape.the-variants.{Eclipse, Star};
-ghost use Rattle.request_seconds.specs.Second.{wish, sinesAsked, secondGiven, numbersAfter, GivenMeans};
-ghost use Rattle.replies.specs.Seconds.{secondReply};
+ghost use Rattle.request_format.specs.declared.fields.Shape.the-variants.{Eclipse, Star};
+ghost use Rattle.request_answers.specs.Second.{wish, sinesAsked, secondGiven, numbersAfter, GivenMeans};
+ghost use Rattle.ukhtvaresh.specs.Seconds.{secondReply};
 
 // The shadow at one second of a request of 115 bytes, which may lie outside its window: u, v, L1, L2, the states of penumbra and
 // central cone (0 outside, 1 inside, 2 unsure), magnitude, direction; value: 8. `sines` is room for table S.
@@ -22,8 +22,8 @@ pub extern "C" fn ukhtvaresh_second(
     ensures means { λ r. ⌜ GivenMeans Eclipse (now (request .entry)) second (secondGiven Eclipse (now (request .entry)) second (now (sines .entry)) (now (shadow .entry))) (now (shadow .exit)) ⌝ }
 {
     let shape = Shape::Eclipse;
-    let given = request_seconds::second(shape, request, second, sines, shadow);
-    let reply = replies::second_reply(8, given);
+    let given = request_answers::one_second::second(shape, request, second, sines, shadow);
+    let reply = crate::replies::second_reply(8, given);
     *value = reply.value;
     reply.number
 }
@@ -45,8 +45,8 @@ pub extern "C" fn ukhtvaresh_star_second(
     ensures means { λ r. ⌜ GivenMeans Star (now (request .entry)) second (secondGiven Star (now (request .entry)) second (now (sines .entry)) (now (shadow .entry))) (now (shadow .exit)) ⌝ }
 {
     let shape = Shape::Star;
-    let given = request_seconds::second(shape, request, second, sines, shadow);
-    let reply = replies::second_reply(5, given);
+    let given = request_answers::one_second::second(shape, request, second, sines, shadow);
+    let reply = crate::replies::second_reply(5, given);
     *value = reply.value;
     reply.number
 }

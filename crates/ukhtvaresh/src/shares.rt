@@ -1,17 +1,17 @@
 // How much of the Sun is gone, for C and Rust: in a sheet, and at one second.
-use request_fields::Shape;
+use request_format::fields::Shape;
 ghost use mathlib.Core.Path.{_≡_};
 ghost use Rattle.requests.specs.Requests.{ofEclipse};
 ghost use Rattle.requests.specs.Shares.{withShare};
 ghost use Rattle.circumstances.specs.Demand3.{Claimed};
-ghost use Rattle.covered.specs.Answer.{AnswerMeans};
-ghost use Rattle.request_fields.specs.declared.Shape.the-variants.{Eclipse};
-ghost use Rattle.input.specs.Input.{inputOf, requestOf};
-ghost use Rattle.request_sheets.specs.Sheet.{sharedAnswer, sharedBuffer, sharedSines};
-ghost use Rattle.replies.specs.Replies.{sheetReply};
-ghost use Rattle.request_seconds.specs.Second.{wish, sinesAsked};
-ghost use Rattle.replies.specs.Shares.{shareReply};
-ghost use Rattle.request_seconds.specs.Shares.{shareAsked};
+ghost use Rattle.obscuration.specs.Answer.{AnswerMeans};
+ghost use Rattle.request_format.specs.declared.fields.Shape.the-variants.{Eclipse};
+ghost use Rattle.request_format.specs.Input.{inputOf, requestOf};
+ghost use Rattle.request_answers.specs.Sheet.{sharedAnswer, sharedBuffer, sharedSines};
+ghost use Rattle.ukhtvaresh.specs.Replies.{sheetReply};
+ghost use Rattle.request_answers.specs.Second.{wish, sinesAsked};
+ghost use Rattle.ukhtvaresh.specs.Shares.{shareReply};
+ghost use Rattle.request_answers.specs.Shares.{shareAsked};
 
 // The contact sheet of a request of 115 bytes with the covered share after the closest second; value: its length. `sines` is room for table S.
 #[no_mangle]
@@ -27,8 +27,8 @@ pub extern "C" fn ukhtvaresh_sheet_and_share(
     ensures sines { λ r. ⌜ now (sines .exit) ≡ sharedSines (now (request .entry)) (now (sines .entry)) ⌝ }
     ensures demand3 { λ r. ⌜ Claimed (ofEclipse (withShare (requestOf (now (request .entry))))) (sharedAnswer (now (request .entry)) (now (sines .entry)) (now (sheet .entry))) (now (sheet .exit)) ⌝ }
 {
-    let answer = request_sheets::sheet_and_share(request, sines, sheet);
-    let reply = replies::sheet_reply(answer);
+    let answer = request_answers::sheets::sheet_and_share(request, sines, sheet);
+    let reply = crate::replies::sheet_reply(answer);
     *value = reply.value;
     reply.number
 }
@@ -48,9 +48,9 @@ pub extern "C" fn ukhtvaresh_share(
     ensures means { λ r. ⌜ AnswerMeans (requestOf (now (request .entry))) second (shareAsked (inputOf (now (request .entry))) second (now (sines .entry))) ⌝ }
 {
     let shape = Shape::Eclipse;
-    let found = request_seconds::asked(shape, request, second, sines);
-    let share = covered::of_second(found);
-    let reply = replies::share_reply(share);
+    let found = request_answers::one_second::asked(shape, request, second, sines);
+    let share = obscuration::second::of_second(found);
+    let reply = crate::replies::share_reply(share);
     *value = reply.value;
     reply.number
 }

@@ -1,7 +1,7 @@
 // A fit from the spreadsheet, for C and Rust.
 ghost use mathlib.Core.Path.{_≡_};
 ghost use Rattle.fits.specs.Fits.{fitOf};
-ghost use Rattle.replies.specs.Fits.{fitReply};
+ghost use Rattle.ukhtvaresh.specs.Fits.{fitReply};
 
 // Whether four coefficients may stand for seven tabulated hourly values, hours -3 to 3, within a tolerance; value: 0.
 #[no_mangle]
@@ -15,7 +15,7 @@ pub extern "C" fn ukhtvaresh_fit(
     ensures value { λ r. ⌜ now (value .exit) ≡ fitReply (fitOf (now (coefficients .entry)) (now (tabulated .entry)) tolerance) .value ⌝ }
 {
     let answer = fits::fit(coefficients, tabulated, tolerance);
-    let reply = replies::fit_reply(answer);
+    let reply = crate::replies::fit_reply(answer);
     *value = reply.value;
     reply.number
 }

@@ -2,9 +2,9 @@
 ghost use mathlib.Core.Path.{_≡_};
 ghost use Rattle.requests.specs.Requests.{ofStar};
 ghost use Rattle.circumstances.specs.Demand3.{Claimed};
-ghost use Rattle.input.specs.Input.{starRequestOf};
-ghost use Rattle.request_sheets.specs.Sheet.{starAnswer, starBuffer, starSines};
-ghost use Rattle.replies.specs.Replies.{sheetReply};
+ghost use Rattle.request_format.specs.Input.{starRequestOf};
+ghost use Rattle.request_answers.specs.Sheet.{starAnswer, starBuffer, starSines};
+ghost use Rattle.ukhtvaresh.specs.Replies.{sheetReply};
 
 // The contact sheet of a star request of 79 bytes, in the caller's buffer; value: its length. `sines` is room for table S.
 #[no_mangle]
@@ -20,8 +20,8 @@ pub extern "C" fn ukhtvaresh_star(
     ensures sines { λ r. ⌜ now (sines .exit) ≡ starSines (now (request .entry)) (now (sines .entry)) ⌝ }
     ensures demand3 { λ r. ⌜ Claimed (ofStar (starRequestOf (now (request .entry)))) (starAnswer (now (request .entry)) (now (sines .entry)) (now (sheet .entry))) (now (sheet .exit)) ⌝ }
 {
-    let answer = request_sheets::star_sheet(request, sines, sheet);
-    let reply = replies::sheet_reply(answer);
+    let answer = request_answers::sheets::star_sheet(request, sines, sheet);
+    let reply = crate::replies::sheet_reply(answer);
     *value = reply.value;
     reply.number
 }

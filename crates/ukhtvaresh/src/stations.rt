@@ -1,13 +1,13 @@
 // The whole network in one list, for C and Rust.
-use nodes::Held;
-use nodes::Node;
+use clock_network::stations::Held;
+use clock_network::stations::Node;
 ghost use mathlib.Core.Path.{_≡_};
 ghost use mathlib.Core.List.{List};
 ghost use lib.ListN.{length};
-ghost use Rattle.nodes.specs.declared.Node.{Node};
-ghost use Rattle.nodes.specs.Nodes.{Holds};
+ghost use Rattle.clock_network.specs.declared.stations.Node.{Node};
+ghost use Rattle.clock_network.specs.Nodes.{Holds};
 ghost use Rattle.networks.specs.Network.{answerTo, sinesFor, stepsFor};
-ghost use Rattle.replies.specs.NetworkReply.{networkReply, Told};
+ghost use Rattle.ukhtvaresh.specs.NetworkReply.{networkReply, Told};
 
 // The answer to a list that is held.
 fn told(eclipse: &[i64], h: Held, sines: &mut [u32], steps: &mut [u64], value: &mut u64) -> u64
@@ -15,7 +15,7 @@ fn told(eclipse: &[i64], h: Held, sines: &mut [u32], steps: &mut [u64], value: &
     ensures { λ r. ⌜ ((l : List Node) → Holds h l → Told (now (eclipse .entry)) l (now (sines .entry)) (now (steps .entry)) r (now (sines .exit)) (now (steps .exit)) (now (value .exit))) ⌝ }
 {
     let answer = networks::network(eclipse, h, sines, steps);
-    let reply = replies::network_reply(answer);
+    let reply = crate::replies::network_reply(answer);
     *value = reply.value;
     reply.number
 }
@@ -35,5 +35,11 @@ pub extern "C" fn ukhtvaresh_network(
         × (now (steps .exit) ≡ stepsFor (now (eclipse .entry)) (now (stations .entry)) (now (sines .entry)) (now (steps .entry)))
         × (now (sines .exit) ≡ sinesFor (now (eclipse .entry)) (now (stations .entry)) (now (sines .entry)) (now (steps .entry))) ⌝ }
 {
-    told(eclipse, nodes::gathered(stations), sines, steps, value)
+    told(
+        eclipse,
+        clock_network::stations::gathered(stations),
+        sines,
+        steps,
+        value,
+    )
 }

@@ -3,12 +3,12 @@
 use Prim.Native.Nat.{ℕ, zero, suc, _/_, _%_, _^_, _≤_, _<_}
 use mathlib.Core.List.{List, [], _∷_, _++_, flatMap}
 use lib.ListN.{length, getD}
-use Rattle.contact_entries.specs.declared.Entry.{Entry}
-use Rattle.contact_entries.specs.declared.Entry.the-variants.{Enter, Leave, Graze, Open}
-use Rattle.contact_entries.specs.Entries.{entries}
-use Rattle.decimals.specs.Decimals.{decimal}
-use Rattle.decimals.specs.Texts.{letters}
-use Rattle.decimals.specs.Rows.{rows}
+use Rattle.contacts.specs.declared.entries.Entry.{Entry}
+use Rattle.contacts.specs.declared.entries.Entry.the-variants.{Enter, Leave, Graze, Open}
+use Rattle.contacts.specs.Entries.{entries}
+use Rattle.decimal_text.specs.Decimals.{decimal}
+use Rattle.decimal_text.specs.Texts.{letters}
+use Rattle.decimal_text.specs.Rows.{rows}
 
 -- n states: the digits of a number to the base 3, the lowest first
 abbrev pub statesOf : ℕ → ℕ → List ℕ

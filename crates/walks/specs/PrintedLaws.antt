@@ -4,15 +4,15 @@ use mathlib.Core.Path.{_≡_, refl, ap}
 use mathlib.Core.List.{List, [], _∷_, _++_, flatMap}
 use native.Mathlib.Omega.{arith}
 use lib.ListN.{length, getD, take}
-use Rattle.runs.specs.Runs.{decoded, Whole}
-use Rattle.runs.specs.RunsLaws.{singles}
-use Rattle.contact_entries.specs.declared.Entry.{Entry}
-use Rattle.contact_entries.specs.Entries.{entries}
+use Rattle.run_length.specs.Runs.{decoded, Whole}
+use Rattle.run_length.specs.RunsLaws.{singles}
+use Rattle.contacts.specs.declared.entries.Entry.{Entry}
+use Rattle.contacts.specs.Entries.{entries}
 use Rattle.contacts.specs.Step.{entriesFrom}
 use Rattle.contacts.specs.StepLaws.{all-at-start}
-use Rattle.decimals.specs.Decimals.{decimal}
-use Rattle.decimals.specs.Texts.{letters, Put}
-use Rattle.decimals.specs.TextLaws.{put-then, Putting, putting-start, putting-turn, putting-end}
+use Rattle.decimal_text.specs.Decimals.{decimal}
+use Rattle.decimal_text.specs.Texts.{letters, Put}
+use Rattle.decimal_text.specs.TextLaws.{put-then, Putting, putting-start, putting-turn, putting-end}
 use Rattle.walks.specs.Printed.{statesOf, States, span, entryText, digits, entriesText, line}
 
 -- the first n of more states are the n states of the same number

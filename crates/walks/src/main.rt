@@ -3,28 +3,28 @@
 use libc::STDOUT_FILENO;
 ghost use mathlib.Core.Path.{_≡_};
 ghost use Prim.Native.Nat.{_≤_, _%_, _^_};
-ghost use Rattle.decimals.specs.Decimals.{decimal};
-ghost use Rattle.decimals.specs.Texts.{Put};
+ghost use Rattle.decimal_text.specs.Decimals.{decimal};
+ghost use Rattle.decimal_text.specs.Texts.{Put};
 ghost use Rattle.walks.specs.Printed.{statesOf, States, span, entryText, digits, entriesText, line, lines, printed};
 
 // A word and two seconds.
 fn put_span(out: &mut [u8], at: usize, word: &[u8], from: usize, to: usize) -> usize
     ensures { λ r. ⌜ Put (now (out .entry)) at (span (now (word .entry)) from to) (now (out .exit)) r ⌝ }
 {
-    let start = decimals::put_text(out, at, word);
-    let middle = decimals::put_number(out, start, from as u64);
-    let next = decimals::put_byte(out, middle, b'-');
-    decimals::put_number(out, next, to as u64)
+    let start = decimal_text::put_text(out, at, word);
+    let middle = decimal_text::put_number(out, start, from as u64);
+    let next = decimal_text::put_byte(out, middle, b'-');
+    decimal_text::put_number(out, next, to as u64)
 }
 
-fn put_entry(out: &mut [u8], at: usize, entry: contact_entries::Entry) -> usize
+fn put_entry(out: &mut [u8], at: usize, entry: contacts::entries::Entry) -> usize
     ensures { λ r. ⌜ Put (now (out .entry)) at (entryText entry) (now (out .exit)) r ⌝ }
 {
     match entry {
-        contact_entries::Entry::Enter { from, to } => put_span(out, at, b" e", from, to),
-        contact_entries::Entry::Leave { from, to } => put_span(out, at, b" l", from, to),
-        contact_entries::Entry::Graze { from, to } => put_span(out, at, b" g", from, to),
-        contact_entries::Entry::Open { from, to } => put_span(out, at, b" o", from, to),
+        contacts::entries::Entry::Enter { from, to } => put_span(out, at, b" e", from, to),
+        contacts::entries::Entry::Leave { from, to } => put_span(out, at, b" l", from, to),
+        contacts::entries::Entry::Graze { from, to } => put_span(out, at, b" g", from, to),
+        contacts::entries::Entry::Open { from, to } => put_span(out, at, b" o", from, to),
     }
 }
 
@@ -51,7 +51,7 @@ fn put_entries(out: &mut [u8], start: usize, states: &[u8]) -> usize
 fn put_state(out: &mut [u8], at: usize, state: u8) -> usize
     ensures { λ r. ⌜ Put (now (out .entry)) at (decimal state) (now (out .exit)) r ⌝ }
 {
-    decimals::put_number(out, at, state as u64)
+    decimal_text::put_number(out, at, state as u64)
 }
 
 // The states as digits.
@@ -73,7 +73,7 @@ fn put_window(out: &mut [u8], start: usize, states: &[u8]) -> usize
 {
     let middle = put_states(out, start, states);
     let end = put_entries(out, middle, states);
-    decimals::put_byte(out, end, b'\n')
+    decimal_text::put_byte(out, end, b'\n')
 }
 
 fn digit(number: usize) -> u8
@@ -152,6 +152,6 @@ fn put_all(out: &mut [u8]) -> usize
 fn main() {
     let mut lines = [0u8; 32768];
     let end = put_all(&mut lines);
-    let written = decimals::clipped(&lines, end);
+    let written = decimal_text::clipped(&lines, end);
     io::write_all(STDOUT_FILENO, &lines[..written]);
 }

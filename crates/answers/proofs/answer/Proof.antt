@@ -2,7 +2,7 @@
 use Prim.Native.Nat.{_<_}
 use native.Mathlib.Omega.{arith}
 use lib.ListN.{length}
-use Rattle.request_sheets.specs.SheetLaws.{fits}
+use Rattle.request_answers.specs.SheetLaws.{fits}
 use Rattle.answers.specs.AnswerLaws.{short-told, full-told}
 use borrow.Author.Needs.{needs}
 use Rattle.answers.proofs.answer.Statement.{statement}

@@ -3,7 +3,7 @@ use mathlib.Core.Path.{sym}
 use mir.Syntax.{w64}
 use mir.ValLaws.{toZ-ofZ}
 use lib.Seq.{length-take-le}
-use Rattle.request_sheets.specs.SheetLaws.{fits-written}
+use Rattle.request_answers.specs.SheetLaws.{fits-written}
 use Rattle.answers.specs.AnswerLaws.{put-written, put-refused}
 use borrow.Author.Needs.{needs}
 use Rattle.answers.proofs.put_text.Statement.{statement}

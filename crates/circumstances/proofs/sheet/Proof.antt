@@ -2,7 +2,7 @@
 -- `sheet_within` answers from the filled room. Demand 3 then follows from the answer and the buffer alone (Claims). Assumes nothing.
 use mathlib.Core.Path.{_≡_, refl, sym, ap, _∙_}
 use borrow.Author.Needs.{needs}
-use Rattle.refusals.specs.declared.Checked.the-variants as C
+use Rattle.sheet_types.specs.declared.refusals.Checked.the-variants as C
 use Rattle.requests.specs.Admission.{admitted, sinesAfter}
 use Rattle.requests.specs.AdmissionLaws.{admitted-within}
 use Rattle.circumstances.specs.Claims.{sheet-is}

@@ -7,8 +7,8 @@ use native.Mathlib.Omega.{arith}
 use borrow.Author.Needs.{needs}
 use lib.ListN.{length, replicate, length-replicate}
 use Rattle.requests.specs.declared.Occultation.{Occultation}
-use Rattle.windows.specs.Windows.{secondCount}
-use Rattle.windows.specs.WindowLaws.{seconds-few}
+use Rattle.requests.specs.Windows.{secondCount}
+use Rattle.requests.specs.WindowLaws.{seconds-few}
 use Rattle.requests.specs.RequestLaws.{InLimits}
 use Rattle.circumstances.specs.Claims.{buffer-length}
 use Rattle.circumstances.proofs.sheet_within.Statement.{statement}

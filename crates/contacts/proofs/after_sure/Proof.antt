@@ -8,8 +8,8 @@ use mathlib.Core.Logic.{⊎-elim}
 use native.Mathlib.Omega.{arith}
 use borrow.Author.Needs.{needs}
 use lib.ListN.{length, getD}
-use Rattle.runs.specs.Runs.{decoded}
-use Rattle.contact_entries.specs.Entries.{last, side}
+use Rattle.run_length.specs.Runs.{decoded}
+use Rattle.contacts.specs.Entries.{last, side}
 use Rattle.contacts.specs.Step.{entriesFrom, Stands}
 use Rattle.contacts.proofs.Seconds.{walkAt, stands-after, first-state, last-state, at-unsure, from-cursor, same-side, sure-found, sure-end, open-end, done}
 use Rattle.contacts.proofs.after_sure.Statement.{statement}

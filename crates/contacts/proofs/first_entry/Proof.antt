@@ -4,8 +4,8 @@ use Prim.Native.Nat.{_-_, _<_}
 use mathlib.Core.Path.{_≡_, _∙_}
 use native.Mathlib.Omega.{arith}
 use lib.ListN.{length, getD}
-use Rattle.runs.specs.Runs.{decoded}
-use Rattle.contact_entries.specs.Entries.{none}
+use Rattle.run_length.specs.Runs.{decoded}
+use Rattle.contacts.specs.Entries.{none}
 use Rattle.contacts.specs.Step.{entriesFrom, Stands}
 use Rattle.contacts.specs.StepLaws.{at-start}
 use Rattle.contacts.proofs.Seconds.{walkAt, stands-after, last-state, at-after, from-start, at-unsure, start-sure, start-end, open-start, open-whole, done, earlier}

@@ -1,7 +1,7 @@
 -- `elements::check` meets its contract: what is out of range, under its number. Assumes nothing.
 use mathlib.Core.Path.{ap, _∙_}
 use borrow.Author.Needs.{needs}
-use Rattle.refusals.specs.Refusals.{ofLimits}
+use Rattle.sheet_types.specs.Refusals.{ofLimits}
 use Rattle.elements.proofs.check.Statement.{statement}
 use Rattle.elements.proofs.check.Tie as tie
 

@@ -5,7 +5,7 @@ use native.Mathlib.Omega.{arith}
 use borrow.Author.Needs.{needs}
 use lib.IntN.{ℤ, pos, negℤ}
 use lib.ListN.{length}
-use Rattle.numbers.specs.Limits.{firstOutOfRange, rows}
+use Rattle.rounding.specs.Limits.{firstOutOfRange, rows}
 use Rattle.elements.specs.Elements.{cubicFrom}
 use Rattle.fits.specs.Fits.{coefficientRanges}
 use Rattle.fits.proofs.coefficients_in_range.Statement.{statement}

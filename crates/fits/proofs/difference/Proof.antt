@@ -5,8 +5,8 @@ use Prim.Native.Nat.{_≤_}
 use native.Mathlib.Omega.{arith}
 use borrow.Author.Needs.{needs}
 use lib.IntN.{ℤ, pos, _-ℤ_, _*ℤ_}
-use Rattle.numbers.specs.Code.{Code, arg, lit, sub, mul, run, Within, whole, raw, ends, _▹_, fits, runs, count-is, count-size}
-use Rattle.numbers.specs.Units.{hour}
+use Rattle.rounding.specs.Code.{Code, arg, lit, sub, mul, run, Within, whole, raw, ends, _▹_, fits, runs, count-is, count-size}
+use Rattle.rounding.specs.Units.{hour}
 use Rattle.elements.specs.Polynomial.{cubicAt}
 use Rattle.fits.specs.Fits.{second}
 use Rattle.fits.specs.FitLaws.{second-size}

@@ -10,7 +10,7 @@ use lib.ListN.{length, getD, set, length-set}
 use lib.Seq.{getD-set-same, getD-set-other}
 use mir.Syntax.{w64}
 use mir.Val.{toZ, ofZ}
-use Rattle.numbers.specs.Code.{read-result, read-back, read-size}
+use Rattle.rounding.specs.Code.{read-result, read-back, read-size}
 use Rattle.elements.specs.declared.Cubic.{Cubic}
 use Rattle.elements.specs.Elements.{cubicFrom}
 use Rattle.elements.specs.Polynomial.{cubicAt}

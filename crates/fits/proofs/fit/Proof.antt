@@ -5,9 +5,9 @@ use borrow.Author.Needs.{needs}
 use lib.IntN.{ℤ}
 use mir.Syntax.{w64}
 use mir.ValLaws.{toZ-ofZ}
-use Rattle.numbers.specs.declared.Limits.the-variants.{InRange}
-use Rattle.numbers.specs.Limits.{firstOutOfRange}
-use Rattle.numbers.specs.Code.{read-size}
+use Rattle.rounding.specs.declared.Limits.the-variants.{InRange}
+use Rattle.rounding.specs.Limits.{firstOutOfRange}
+use Rattle.rounding.specs.Code.{read-size}
 use Rattle.elements.specs.Elements.{cubicFrom}
 use Rattle.fits.specs.Fits.{givenRanges, coefficientRanges, hourRanges}
 use Rattle.fits.specs.FitLaws.{fit-not-four, fit-not-seven, fit-given, fit-coefficient, fit-hour, fit-accepted, in-ranges, tolerance-size}

@@ -1,6 +1,6 @@
 -- `fitted::put_record` meets its contract: the line of the answer.
 use mathlib.Core.Path.{ap}
-use Rattle.decimals.specs.RowLaws.{put-as}
+use Rattle.decimal_text.specs.RowLaws.{put-as}
 use Rattle.fitted.specs.Printed.{answerLine, recordLine}
 use borrow.Author.Needs.{needs}
 use Rattle.fitted.proofs.put_record.Statement.{statement}

@@ -2,7 +2,7 @@
 use Rattle.handed_entries.specs.Printed.{hexOf}
 use mathlib.Core.List.{[], _∷_}
 use mathlib.Core.Path.{ap₂}
-use Rattle.decimals.specs.RowLaws.{put-as}
+use Rattle.decimal_text.specs.RowLaws.{put-as}
 use borrow.Author.Needs.{needs}
 use Rattle.handed_entries.proofs.put_hex.Statement.{statement}
 use Rattle.handed_entries.proofs.put_hex.Tie as tie

@@ -1,6 +1,6 @@
 -- `handed_entries::put_list` meets its contract: both answers, then both buffers.
 use Rattle.handed_entries.specs.PrintedLaws.{answer-is, buffer-is, put-text}
-use Rattle.decimals.specs.RowLaws.{put-as}
+use Rattle.decimal_text.specs.RowLaws.{put-as}
 use native.Mathlib.Omega.{arith}
 use borrow.Author.Needs.{needs}
 use Rattle.handed_entries.proofs.put_list.Statement.{statement}

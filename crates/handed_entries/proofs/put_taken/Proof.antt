@@ -1,6 +1,6 @@
 -- `handed_entries::put_taken` meets its contract: the first numbers of the room are those of the bytes.
 use Rattle.handed_entries.specs.Printed.{listText}
-use Rattle.decimals.specs.RowLaws.{put-as}
+use Rattle.decimal_text.specs.RowLaws.{put-as}
 use lib.ListN.{length-replicate}
 use lib.Seq.{length-take-le}
 use native.Mathlib.Omega.{arith}

@@ -1,6 +1,6 @@
 -- `listings::lay` meets its contract: the lines are measured in a room of no bytes, and put where the room holds them.
 use native.Mathlib.Omega.{arith}
-use Rattle.sheets.specs.Sheets.{readSheet}
+use Rattle.sheet_codec.specs.Sheets.{readSheet}
 use Rattle.listings.specs.ListingLaws.{sheet-short, sheet-full}
 use borrow.Author.Needs.{needs}
 use Rattle.listings.proofs.lay.Statement.{statement}

@@ -7,8 +7,8 @@ use mir.Val.{toZ}
 use mir.ValLaws.{toZ-ofZ}
 use native.Mathlib.Omega.{arith}
 use lib.ListN.{length}
-use Rattle.records.specs.declared.Record.the-variants.{Is}
-use Rattle.records.specs.Records.{recordAt}
+use Rattle.sheet_format.specs.declared.records.Record.the-variants.{Is}
+use Rattle.sheet_format.specs.Records.{recordAt}
 use Rattle.listings.specs.ListingLaws.{Laying, laying-start, laying-never, laying-same, laying-bounds, laying-end, laying-more}
 use borrow.Author.Needs.{needs}
 use Rattle.listings.proofs.put_lines.Statement.{statement}

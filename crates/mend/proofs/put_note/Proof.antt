@@ -3,8 +3,8 @@ use Prim.Native.Nat.{_<_}
 use mathlib.Core.Path.{ap}
 use native.Mathlib.Omega.{arith}
 use lib.ListN.{length}
-use Rattle.decimals.specs.Decimals.{decimal}
-use Rattle.decimals.specs.RowLaws.{joined, put-as}
+use Rattle.decimal_text.specs.Decimals.{decimal}
+use Rattle.decimal_text.specs.RowLaws.{joined, put-as}
 use Rattle.mend.specs.Printed.{droppedLine, noteLine}
 use borrow.Author.Needs.{needs}
 use Rattle.mend.proofs.put_note.Statement.{statement}

@@ -2,10 +2,10 @@
 use mathlib.Core.Path.{_≡_, sym, ap, _∙_}
 use native.Mathlib.Omega.{arith}
 use lib.ListN.{length}
-use Rattle.request_bytes.specs.Layout.{numbers}
+use Rattle.request_format.specs.Layout.{numbers}
 use Rattle.big_endian.specs.Numbers.{Bytes}
-use Rattle.request_bytes.specs.Request.{readingOf}
-use Rattle.input.specs.Input.{requestFrom}
+use Rattle.request_format.specs.Request.{readingOf}
+use Rattle.request_format.specs.Input.{requestFrom}
 use Rattle.mirrors.specs.Bytes.{mirrorBytes}
 use Rattle.mirrors.specs.BytesLaws.{reading-is, mirror-put, mirror-length, room-short, room-enough, misshaped-room}
 use borrow.Author.Needs.{needs}

@@ -8,9 +8,9 @@ use lib.Signed.{_≤ℤ_, _<ℤ_}
 use mir.Syntax.{w64}
 use mir.Val.{SFits}
 use mir.ValLaws.{toZ-ofZ}
-use Rattle.numbers.specs.Parts.{sum, opposite as parts, same}
-use Rattle.numbers.specs.Order.{zs, natAbs-parts, natAbs-by, ltZ-true, ltZ-false, nonneg}
-use Rattle.numbers.specs.Code.{arg, lit, sub, Within, whole, ends, _▹_, fits, runs}
+use Rattle.rounding.specs.Parts.{sum, opposite as parts, same}
+use Rattle.rounding.specs.Order.{zs, natAbs-parts, natAbs-by, ltZ-true, ltZ-false, nonneg}
+use Rattle.rounding.specs.Code.{arg, lit, sub, Within, whole, ends, _▹_, fits, runs}
 use Rattle.requests.specs.MirrorLaws.{opposite-is, opposite-keeps}
 use Rattle.mirrors.proofs.opposite.Statement.{statement}
 use Rattle.mirrors.proofs.opposite.Tie as tie

@@ -6,13 +6,13 @@ use Prim.Native.Nat.{_≤_}
 use native.Mathlib.Omega.{arith}
 use lib.ListN.{take}
 use Rattle.sine_table.specs.Table.{Sines}
-use Rattle.nodes.specs.declared.Node.{Node}
-use Rattle.nodes.specs.declared.Held.{Held}
-use Rattle.nodes.specs.Nodes.{Holds}
-use Rattle.nodes.specs.HeldLaws.{some-list, listed}
+use Rattle.clock_network.specs.declared.stations.Node.{Node}
+use Rattle.clock_network.specs.declared.stations.Held.{Held}
+use Rattle.clock_network.specs.Nodes.{Holds}
+use Rattle.clock_network.specs.HeldLaws.{some-list, listed}
 use Rattle.networks.specs.declared.Answer.the-variants as A
 use Rattle.networks.specs.Network.{answerTo}
-use Rattle.decimals.specs.RowLaws.{put-as}
+use Rattle.decimal_text.specs.RowLaws.{put-as}
 use Rattle.network.specs.Printed.{zeros}
 use Rattle.network.specs.PrintedLaws.{named-sines, named-as, named-within, refused-text}
 use borrow.Author.Needs.{needs}

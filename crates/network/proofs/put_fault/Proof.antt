@@ -1,6 +1,6 @@
 -- `network::put_fault` meets its contract: each arm is a case of the definition. Assumes nothing.
 use mathlib.Core.Path.{sym, ap}
-use Rattle.decimals.specs.RowLaws.{put-as}
+use Rattle.decimal_text.specs.RowLaws.{put-as}
 use Rattle.network.specs.Printed.{faultText}
 use borrow.Author.Needs.{needs}
 use Rattle.network.proofs.put_fault.Statement.{statement}

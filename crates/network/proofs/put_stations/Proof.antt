@@ -2,8 +2,8 @@
 use mathlib.Core.Path.{refl}
 use Prim.Native.Nat.{_-_}
 use native.Mathlib.Omega.{arith}
-use Rattle.numbers.specs.Code.{read-result}
-use Rattle.decimals.specs.RowLaws.{Rows, rows-start, rows-turn, rows-end, put-as}
+use Rattle.rounding.specs.Code.{read-result}
+use Rattle.decimal_text.specs.RowLaws.{Rows, rows-start, rows-turn, rows-end, put-as}
 use Rattle.network.specs.PrintedLaws.{lineAt, line-is, lines-all}
 use borrow.Author.Needs.{needs}
 use Rattle.network.proofs.put_stations.Statement.{statement}

@@ -5,11 +5,11 @@ use Prim.Native.Nat.{ℕ}
 use native.Mathlib.Omega.{arith}
 use lib.IntN.{ℤ, pos}
 use lib.ListN.{replicate}
-use Rattle.nodes.specs.declared.Held.{Held}
-use Rattle.nodes.specs.Nodes.{Holds}
-use Rattle.nodes.specs.HeldLaws.{held-holds}
-use Rattle.decimals.specs.RowLaws.{put-as}
-use Rattle.decimals.specs.TextLaws.{put-nil}
+use Rattle.clock_network.specs.declared.stations.Held.{Held}
+use Rattle.clock_network.specs.Nodes.{Holds}
+use Rattle.clock_network.specs.HeldLaws.{held-holds}
+use Rattle.decimal_text.specs.RowLaws.{put-as}
+use Rattle.decimal_text.specs.TextLaws.{put-nil}
 use Rattle.network_text.specs.declared.Typed.the-variants as T
 use Rattle.network.specs.Printed.{answerText, zeros}
 use Rattle.network.specs.PrintedLaws.{long-output, long-error, refused-streams, Given, given-streams}

@@ -7,9 +7,9 @@ use native.Mathlib.Omega.{arith}
 use lib.ListN.{length, take, drop}
 use lib.Seq.{length-take-le}
 use Rattle.request_text.specs.declared.Noted.{Noted}
-use Rattle.words.specs.declared.Class.the-variants as C
-use Rattle.words.specs.Text.{runOf}
-use Rattle.words.specs.TextLaws.{rest-is, line-within}
+use Rattle.tokens.specs.declared.Class.the-variants as C
+use Rattle.tokens.specs.Text.{runOf}
+use Rattle.tokens.specs.TextLaws.{rest-is, line-within}
 use Rattle.network_text.specs.declared.Told.{Told}
 use Rattle.network_text.specs.declared.Typed.{Typed}
 use Rattle.network_text.specs.declared.Reading.{Reading}

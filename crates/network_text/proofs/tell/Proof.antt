@@ -1,7 +1,7 @@
 -- `network_text::tell` meets its contract: the name is found in the table of a request, or nowhere. Assumes nothing.
 use mathlib.Core.Path.{sym, ap, _∙_}
 use borrow.Author.Needs.{needs}
-use Rattle.request_fields.specs.declared.Shape.the-variants as S
+use Rattle.request_format.specs.declared.fields.Shape.the-variants as S
 use Rattle.request_text.specs.NameLaws.{found-at}
 use Rattle.network_text.specs.declared.Told.the-variants as T
 use Rattle.network_text.specs.LineLaws.{told-nowhere, told-station, told-unknown, told-number}

@@ -7,20 +7,20 @@ use borrow.Author.Needs.{needs}
 use lib.ListN.{length, take}
 use Rattle.sine_table.specs.Table.{Sines}
 use Rattle.sine_table.specs.RoomLaws.{filled-sines}
-use Rattle.refusals.specs.declared.Checked.{Checked}
-use Rattle.refusals.specs.declared.Checked.the-variants as C
-use Rattle.refusals.specs.Refusals.{andThen}
+use Rattle.sheet_types.specs.declared.refusals.Checked.{Checked}
+use Rattle.sheet_types.specs.declared.refusals.Checked.the-variants as C
+use Rattle.sheet_types.specs.Refusals.{andThen}
 use Rattle.requests.specs.Admission.{roomChecked, sinesAfter}
-use Rattle.chains.specs.Defined.{firstRepeat, stepsOf}
-use Rattle.nodes.specs.declared.Node.{Node}
-use Rattle.nodes.specs.declared.Held.{Held}
-use Rattle.nodes.specs.Nodes.{numbersOf, clocksOf, Holds}
-use Rattle.nodes.specs.HeldLaws.{some-list, listed}
-use Rattle.network_checks.specs.declared.Eclipse.{Eclipse}
-use Rattle.network_checks.specs.Checks.{eclipseOf, checked}
+use Rattle.clock_network.specs.Defined.{firstRepeat, stepsOf}
+use Rattle.clock_network.specs.declared.stations.Node.{Node}
+use Rattle.clock_network.specs.declared.stations.Held.{Held}
+use Rattle.clock_network.specs.Nodes.{numbersOf, clocksOf, Holds}
+use Rattle.clock_network.specs.HeldLaws.{some-list, listed}
+use Rattle.clock_network.specs.declared.checks.Eclipse.{Eclipse}
+use Rattle.clock_network.specs.Checks.{eclipseOf, checked}
 use Rattle.networks.specs.declared.Answer.{Answer}
 use Rattle.networks.specs.Network.{named}
-use Rattle.network_checks.specs.CheckLaws.{AllWithin, all-within, at-most, once, accepted-14, clocks-accepted}
+use Rattle.clock_network.specs.CheckLaws.{AllWithin, all-within, at-most, once, accepted-14, clocks-accepted}
 use Rattle.networks.specs.AnswerLaws.{Answered, by-refused, by-room, by-named}
 use Rattle.networks.proofs.name.Statement.{statement}
 use Rattle.networks.proofs.name.Tie as tie

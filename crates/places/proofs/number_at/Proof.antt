@@ -1,7 +1,7 @@
 -- `places::number_at` meets its contract: the four bytes, and then with their sign.
 use mathlib.Core.Path.{ap, _∙_}
-use Rattle.numbers.specs.Code.{read-result}
-use Rattle.request_bytes.specs.Layout.{signed}
+use Rattle.rounding.specs.Code.{read-result}
+use Rattle.request_format.specs.Layout.{signed}
 use Rattle.places.specs.Printed.{numberAt}
 use borrow.Author.Needs.{needs}
 use Rattle.places.proofs.number_at.Statement.{statement}

@@ -4,8 +4,8 @@ use mir.Syntax.{w64}
 use mir.Val.{toZ, ofZ}
 use Rattle.station.specs.declared.Place.{Place}
 use Rattle.station.specs.PlaceLaws.{place-sizes}
-use Rattle.numbers.specs.Code.{read-back}
-use Rattle.decimals.specs.RowLaws.{also, filled-as}
+use Rattle.rounding.specs.Code.{read-back}
+use Rattle.decimal_text.specs.RowLaws.{also, filled-as}
 use Rattle.places.specs.Printed.{placeLine}
 use borrow.Author.Needs.{needs}
 use Rattle.places.proofs.put_place.Statement.{statement}

@@ -1,6 +1,6 @@
 -- `places::put_record` meets its contract: latitude, then height.
 use mathlib.Core.Path.{ap₂}
-use Rattle.decimals.specs.RowLaws.{given, put-as}
+use Rattle.decimal_text.specs.RowLaws.{given, put-as}
 use Rattle.places.specs.Printed.{stationLine, recordLine}
 use borrow.Author.Needs.{needs}
 use Rattle.places.proofs.put_record.Statement.{statement}

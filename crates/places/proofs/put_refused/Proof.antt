@@ -2,7 +2,7 @@
 use mathlib.Core.Path.{refl}
 use mir.Syntax.{w64}
 use mir.ValLaws.{toZ-ofZ}
-use Rattle.decimals.specs.RowLaws.{also, filled-as}
+use Rattle.decimal_text.specs.RowLaws.{also, filled-as}
 use Rattle.places.specs.Printed.{refusedLine}
 use borrow.Author.Needs.{needs}
 use Rattle.places.proofs.put_refused.Statement.{statement}

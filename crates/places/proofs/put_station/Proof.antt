@@ -2,7 +2,7 @@
 use mathlib.Core.Path.{sym, _∙_}
 use mir.Syntax.{w64}
 use mir.ValLaws.{toZ-ofZ}
-use Rattle.refusals.specs.RefusalLaws.{of-limits-within}
+use Rattle.sheet_types.specs.RefusalLaws.{of-limits-within}
 use Rattle.station.specs.Sizes.{station-sizes}
 use Rattle.places.specs.PrintedLaws.{line-within, line-refused}
 use borrow.Author.Needs.{needs}

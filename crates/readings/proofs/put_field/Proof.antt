@@ -1,7 +1,7 @@
 -- `readings::put_field` meets its contract: the reading, then the byte. Assumes nothing.
 use native.Mathlib.Omega.{arith}
 use borrow.Author.Needs.{needs}
-use Rattle.decimals.specs.RowLaws.{joined}
+use Rattle.decimal_text.specs.RowLaws.{joined}
 use Rattle.readings.proofs.put_field.Statement.{statement}
 use Rattle.readings.proofs.put_field.Tie as tie
 

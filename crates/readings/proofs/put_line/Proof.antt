@@ -2,8 +2,8 @@
 use mathlib.Core.Path.{ap}
 use native.Mathlib.Omega.{arith}
 use borrow.Author.Needs.{needs}
-use Rattle.decimals.specs.RowLaws.{joined, put-as}
-use Rattle.doubles.specs.declared.Reading.{Reading}
+use Rattle.decimal_text.specs.RowLaws.{joined, put-as}
+use Rattle.binary64.specs.declared.Reading.{Reading}
 use Rattle.readings.specs.Printed.{field, line}
 use Rattle.readings.proofs.put_line.Statement.{statement}
 use Rattle.readings.proofs.put_line.Tie as tie

@@ -3,7 +3,7 @@ use mathlib.Core.Path.{ap, _∙_}
 use Prim.Native.Nat.{ℕ}
 use borrow.Author.Needs.{needs}
 use lib.Ieee.{binary64, ofBits}
-use Rattle.decimals.specs.RowLaws.{put-as}
+use Rattle.decimal_text.specs.RowLaws.{put-as}
 use Rattle.readings.specs.Printed.{line, recordLine}
 use Rattle.readings.proofs.put_record.Statement.{statement}
 use Rattle.readings.proofs.put_record.Tie as tie

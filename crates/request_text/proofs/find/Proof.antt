@@ -6,10 +6,10 @@ use native.Mathlib.Omega.{arith}
 use borrow.Author.Needs.{needs}
 use lib.ListN.{length}
 use lib.Seq.{length-take-le}
-use Rattle.request_fields.specs.declared.Field.{Field}
-use Rattle.request_fields.specs.Fields.{countOf}
-use Rattle.request_fields.specs.Rows.{rowAt, nameOf}
-use Rattle.request_fields.specs.RowLaws.{name-room, name-length}
+use Rattle.request_format.specs.declared.fields.Field.{Field}
+use Rattle.request_format.specs.Fields.{countOf}
+use Rattle.request_format.specs.Rows.{rowAt, nameOf}
+use Rattle.request_format.specs.RowLaws.{name-room, name-length}
 use Rattle.request_text.specs.Names.{named}
 use Rattle.request_text.specs.NameLaws.{Finding, finding-start, finding-none, finding-hit, finding-more}
 use Rattle.request_text.proofs.find.Statement.{statement}

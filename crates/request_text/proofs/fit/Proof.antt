@@ -5,8 +5,8 @@ use borrow.Author.Needs.{needs}
 use borrow.Author.Tests.{not-true, not-false}
 use mir.Syntax.{w64}
 use mir.Val.{toZ, ofZ}
-use Rattle.numbers.specs.Code.{read-result}
-use Rattle.request_fields.specs.Fields.{holds}
+use Rattle.rounding.specs.Code.{read-result}
+use Rattle.request_format.specs.Fields.{holds}
 use Rattle.request_text.specs.declared.Line.the-variants as L
 use Rattle.request_text.specs.Lines.{withSign}
 use Rattle.request_text.specs.LineLaws.{fitted-in, fitted-out}

@@ -2,7 +2,7 @@
 use mathlib.Core.Path.{subst}
 use native.Mathlib.Omega.{arith}
 use lib.ListN.{length}
-use Rattle.numbers.specs.Code.{read-back}
+use Rattle.rounding.specs.Code.{read-back}
 use Rattle.request_text.specs.declared.Line.the-variants as L
 use Rattle.request_text.specs.Typing.{InRoom}
 use Rattle.request_text.specs.TypingLaws.{note-nothing, note-faulty, note-twice, note-given}

@@ -7,10 +7,10 @@ use native.Mathlib.Omega.{arith}
 use lib.IntN.{pos}
 use lib.ListN.{length, take, drop, length-replicate}
 use lib.Seq.{length-take-le}
-use Rattle.request_fields.specs.Fields.{countOf}
-use Rattle.words.specs.declared.Class.the-variants as C
-use Rattle.words.specs.Text.{runOf}
-use Rattle.words.specs.TextLaws.{rest-is, line-within}
+use Rattle.request_format.specs.Fields.{countOf}
+use Rattle.tokens.specs.declared.Class.the-variants as C
+use Rattle.tokens.specs.Text.{runOf}
+use Rattle.tokens.specs.TextLaws.{rest-is, line-within}
 use Rattle.request_text.specs.declared.Line.{Line}
 use Rattle.request_text.specs.LineLaws.{number-room}
 use Rattle.request_text.specs.Typing.{missing, required}

@@ -1,11 +1,11 @@
 -- `request_text::value_of` meets its contract: what the units say (`value-by`). Assumes nothing.
 use mathlib.Core.Path.{_≡_, sym, ap, _∙_}
 use Prim.Native.Nat.{ℕ}
-use Rattle.words.specs.declared.Units.{Units}
-use Rattle.words.specs.Numbers.{unitsOf}
-use Rattle.words.specs.NumberLaws.{units-small}
-use Rattle.request_fields.specs.declared.Field.{Field}
-use Rattle.request_fields.specs.Rows.{decimalsOf}
+use Rattle.tokens.specs.declared.Units.{Units}
+use Rattle.tokens.specs.Numbers.{unitsOf}
+use Rattle.tokens.specs.NumberLaws.{units-small}
+use Rattle.request_format.specs.declared.fields.Field.{Field}
+use Rattle.request_format.specs.Rows.{decimalsOf}
 use Rattle.request_text.specs.Lines.{fitted, valueOf}
 use Rattle.request_text.specs.LineLaws.{ofUnits, value-by}
 use borrow.Author.Needs.{needs}

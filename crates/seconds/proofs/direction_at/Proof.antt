@@ -2,7 +2,7 @@
 use mathlib.Core.Path.{sym, subst, _∙_}
 use borrow.Author.Needs.{needs}
 use lib.Dec.{lit≤}
-use Rattle.numbers.specs.Code.{read-back, read-size}
+use Rattle.rounding.specs.Code.{read-back, read-size}
 use Rattle.elements.specs.Sizes.{wider-axis}
 use Rattle.elements.specs.StarLaws.{axis-sizes}
 use Rattle.station.specs.Sizes.{PlaceSizes}

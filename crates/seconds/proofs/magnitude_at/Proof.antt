@@ -1,7 +1,7 @@
 -- `seconds::magnitude_at` meets its contract: it is the magnitude of the shadow there, under the request's guard. Assumes nothing.
 use mathlib.Core.Path.{sym, subst, ap, _∙_}
 use borrow.Author.Needs.{needs}
-use Rattle.numbers.specs.Code.{read-back, read-size}
+use Rattle.rounding.specs.Code.{read-back, read-size}
 use Rattle.elements.specs.declared.Body.{Body}
 use Rattle.elements.specs.StarLaws.{BodySizes}
 use Rattle.station.specs.Place.{placeOf}

@@ -5,10 +5,10 @@ use mathlib.Core.Bool.{true}
 use borrow.Author.Needs.{needs}
 use mir.Syntax.{w64}
 use mir.ValLaws.{toZ-ofZ}
-use Rattle.numbers.specs.Code.{read-back, read-size}
-use Rattle.refusals.specs.declared.Checked.the-variants as C
-use Rattle.windows.specs.Windows.{inSpan}
-use Rattle.windows.specs.WindowLaws.{in-span}
+use Rattle.rounding.specs.Code.{read-back, read-size}
+use Rattle.sheet_types.specs.declared.refusals.Checked.the-variants as C
+use Rattle.requests.specs.Windows.{inSpan}
+use Rattle.requests.specs.WindowLaws.{in-span}
 use Rattle.requests.specs.RequestLaws.{not-true, not-false}
 use Rattle.requests.specs.Admission.{admitted, sinesAfter}
 use Rattle.requests.specs.AdmissionLaws.{admitted-within}

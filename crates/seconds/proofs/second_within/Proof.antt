@@ -2,7 +2,7 @@
 use mathlib.Core.Path.{_≡_, sym, subst}
 use borrow.Author.Needs.{needs}
 use lib.IntN.{ℤ}
-use Rattle.numbers.specs.Code.{read-back, read-size}
+use Rattle.rounding.specs.Code.{read-back, read-size}
 use Rattle.elements.specs.declared.Elements.{Elements}
 use Rattle.elements.specs.declared.Star.{Star}
 use Rattle.elements.specs.declared.Body.{Body}

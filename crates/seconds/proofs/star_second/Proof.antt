@@ -2,17 +2,17 @@
 use mathlib.Core.Path.{_≡_, refl, _∙_}
 use native.Mathlib.Omega.{arith}
 use lib.IntN.{ℤ}
-use Rattle.phases.specs.declared.Phase.the-variants as P
-use Rattle.phases.specs.States.{code}
-use Rattle.numbers.specs.Code.{read-back, read-size}
+use Rattle.sheet_types.specs.declared.phases.Phase.the-variants as P
+use Rattle.sheet_types.specs.States.{code}
+use Rattle.rounding.specs.Code.{read-back, read-size}
 use Rattle.sine_table.specs.Table.{S}
 use Rattle.elements.specs.declared.Axis.{Axis}
 use Rattle.elements.specs.declared.Star.{Star}
 use Rattle.elements.specs.declared.Body.the-variants as B
 use Rattle.elements.specs.Stars.{starAxis, cylinderOf}
 use Rattle.station.specs.declared.Place.{Place}
-use Rattle.geometry.specs.Shadow.{momentOf, u, v, L, M, state}
-use Rattle.geometry.specs.Direction.{direction}
+use Rattle.shadow_geometry.specs.Shadow.{momentOf, u, v, L, M, state}
+use Rattle.shadow_geometry.specs.Direction.{direction}
 use Rattle.shadow.specs.Second.{stateAt, directionAt, IsSample}
 use Rattle.shadow.specs.SecondLaws.{state-at, direction-at}
 use Rattle.seconds.proofs.star_second.Statement.{statement}

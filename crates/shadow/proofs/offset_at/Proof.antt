@@ -5,14 +5,14 @@ use Prim.Native.Nat.{_≤_}
 use native.Mathlib.Omega.{arith}
 use lib.Dec.{lit≤}
 use lib.IntN.{ℤ, natAbs, _+ℤ_, _*ℤ_, _-ℤ_}
-use Rattle.numbers.specs.Code.{Code, arg, add, sub, mul, Within, whole, ends, _▹_, fits, runs, within, read-back, read-size}
-use Rattle.numbers.specs.Value.{Value}
+use Rattle.rounding.specs.Code.{Code, arg, add, sub, mul, Within, whole, ends, _▹_, fits, runs, within, read-back, read-size}
+use Rattle.rounding.specs.Value.{Value}
 use Rattle.sine.specs.SineLaws.{sine-size, cosine-size}
 use Rattle.elements.specs.declared.Axis.{Axis}
 use Rattle.elements.specs.Sizes.{wider}
 use Rattle.elements.specs.Elements.{xAt, yAt, dAt, μAt}
 use Rattle.station.specs.declared.Place.{Place}
-use Rattle.geometry.specs.Shadow.{Moment, momentOf, H, ξ, q, η, ζ, u, v, M}
+use Rattle.shadow_geometry.specs.Shadow.{Moment, momentOf, H, ξ, q, η, ζ, u, v, M}
 use Rattle.shadow.specs.declared.Orientation.{Orientation}
 use Rattle.shadow.specs.declared.Coordinates.{Coordinates}
 use Rattle.shadow.specs.Shadow.{IsOrientation, OrientationSizes, AreCoordinates}

@@ -3,7 +3,7 @@ use mathlib.Core.Path.{_∙_}
 use Prim.Native.Nat.{ℕ, _≤_}
 use native.Mathlib.Omega.{arith}
 use lib.IntN.{ℤ}
-use Rattle.numbers.specs.Code.{read-back, read-size}
+use Rattle.rounding.specs.Code.{read-back, read-size}
 use Rattle.sine.specs.Sine.{IsReduced}
 use Rattle.sine.specs.SineLaws.{sine-of, cosine-of}
 use Rattle.shadow.proofs.orientation_of.Statement.{statement}

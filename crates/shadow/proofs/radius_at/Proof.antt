@@ -6,12 +6,12 @@ use native.Mathlib.Omega.{arith}
 use lib.Dec.{lit≤}
 use lib.IntN.{ℤ, natAbs, _*ℤ_, _-ℤ_}
 use lib.Signed.{leZ-yes}
-use Rattle.numbers.specs.Order.{natAbs-product-le}
-use Rattle.numbers.specs.Code.{Code, arg, sub, mul, Within, whole, ends, _▹_, fits, runs, within, read-back, read-size}
-use Rattle.numbers.specs.Units.{one}
-use Rattle.numbers.specs.Near.{near}
-use Rattle.numbers.specs.NearLaws.{near-size}
-use Rattle.numbers.specs.Value.{Value}
+use Rattle.rounding.specs.Order.{natAbs-product-le}
+use Rattle.rounding.specs.Code.{Code, arg, sub, mul, Within, whole, ends, _▹_, fits, runs, within, read-back, read-size}
+use Rattle.rounding.specs.Units.{one}
+use Rattle.rounding.specs.Near.{near}
+use Rattle.rounding.specs.NearLaws.{near-size}
+use Rattle.rounding.specs.Value.{Value}
 use Rattle.elements.specs.Sizes.{wider}
 use Rattle.elements.specs.Elements.{lAt}
 use Rattle.shadow.proofs.radius_at.Statement.{statement}

@@ -1,6 +1,6 @@
 -- `shadow::second_at` meets its contract: the shadow is the second's, so its states, magnitude and direction are too. Assumes nothing.
 use mathlib.Core.Path.{_∙_}
-use Rattle.numbers.specs.Code.{read-back, read-size}
+use Rattle.rounding.specs.Code.{read-back, read-size}
 use Rattle.shadow.specs.Shadow.{IsShadow}
 use Rattle.shadow.specs.Second.{IsStates}
 use Rattle.shadow.specs.SecondLaws.{states-of-second}

@@ -1,10 +1,10 @@
 -- `shadow::shadow_at` meets its contract: the axis from the station, and each cone's radius there. Assumes nothing.
 use mathlib.Core.Path.{_∙_}
 use lib.Dec.{lit≤}
-use Rattle.numbers.specs.Code.{read-back, read-size}
-use Rattle.numbers.specs.Value.{Value}
+use Rattle.rounding.specs.Code.{read-back, read-size}
+use Rattle.rounding.specs.Value.{Value}
 use Rattle.elements.specs.Sizes.{wider-axis, wider-cone}
-use Rattle.geometry.specs.Shadow.{Moment, moment, L}
+use Rattle.shadow_geometry.specs.Shadow.{Moment, moment, L}
 use Rattle.shadow.specs.Shadow.{IsOffset}
 use Rattle.shadow.proofs.shadow_at.Statement.{statement}
 use Rattle.shadow.proofs.shadow_at.Tie as tie

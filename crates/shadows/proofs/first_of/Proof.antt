@@ -1,7 +1,7 @@
 -- `shadows::first_of` meets its contract: input of the shape is its request, and its first second is asked; any other is refused.
 use mathlib.Core.Path.{refl, sym, ap, ap₂, _∙_}
 use lib.ListN.{replicate}
-use Rattle.decimals.specs.RowLaws.{given}
+use Rattle.decimal_text.specs.RowLaws.{given}
 use Rattle.seconds.specs.OneSecond.{secondAnswer}
 use Rattle.shadows.specs.Printed.{firstOf}
 use borrow.Author.Needs.{needs}

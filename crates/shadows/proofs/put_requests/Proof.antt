@@ -2,8 +2,8 @@
 use Prim.Native.Nat.{_/_, _-_}
 use native.Mathlib.Omega.{arith}
 use lib.ListN.{length}
-use Rattle.decimals.specs.Rows.{part}
-use Rattle.decimals.specs.RowLaws.{Rows, rows-start, rows-end, parts-turn}
+use Rattle.decimal_text.specs.Rows.{part}
+use Rattle.decimal_text.specs.RowLaws.{Rows, rows-start, rows-end, parts-turn}
 use Rattle.shadows.specs.Printed.{recordLine, printed}
 use borrow.Author.Needs.{needs}
 use Rattle.shadows.proofs.put_requests.Statement.{statement}

@@ -1,8 +1,8 @@
 -- `shadows::put_second` meets its contract: each number is read back from its bits.
 use mathlib.Core.Path.{refl}
 use native.Mathlib.Nat.{le-of-lt}
-use Rattle.numbers.specs.Code.{count-is}
-use Rattle.decimals.specs.RowLaws.{also, given, filled-as}
+use Rattle.rounding.specs.Code.{count-is}
+use Rattle.decimal_text.specs.RowLaws.{also, given, filled-as}
 use Rattle.shadows.specs.Printed.{secondLine}
 use borrow.Author.Needs.{needs}
 use Rattle.shadows.proofs.put_second.Statement.{statement}

@@ -7,9 +7,9 @@ use lib.IntN.{ℤ, pos}
 use mir.Syntax.{w64}
 use mir.Val.{toZ, ofZ}
 use mir.ValLaws.{toZ-pos}
-use Rattle.share.specs.Share.{share}
-use Rattle.share.specs.ShareLaws.{share-limit}
-use Rattle.decimals.specs.RowLaws.{also, given, filled-as}
+use Rattle.obscuration.specs.Share.{share}
+use Rattle.obscuration.specs.ShareLaws.{share-limit}
+use Rattle.decimal_text.specs.RowLaws.{also, given, filled-as}
 use Rattle.shares.specs.Printed.{L1, L2, M, line}
 use Rattle.shares.specs.PrintedLaws.{row-sizes}
 use Rattle.shares.proofs.put_row.Statement.{statement}

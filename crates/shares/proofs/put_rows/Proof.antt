@@ -2,7 +2,7 @@
 use Prim.Native.Nat.{_-_}
 use native.Mathlib.Omega.{arith}
 use borrow.Author.Needs.{needs}
-use Rattle.decimals.specs.RowLaws.{Rows, rows-start, rows-turn, rows-end}
+use Rattle.decimal_text.specs.RowLaws.{Rows, rows-start, rows-turn, rows-end}
 use Rattle.shares.specs.Printed.{line, printed}
 use Rattle.shares.proofs.put_rows.Statement.{statement}
 use Rattle.shares.proofs.put_rows.Tie as tie

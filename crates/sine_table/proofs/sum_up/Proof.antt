@@ -14,9 +14,9 @@ use lib.Seq.{drop-cons}
 use mir.Syntax.{w16, w32, w64}
 use mir.Val.{Fits, SFits, toZ, ofZ}
 use mir.ValLaws.{toZ-ofZ}
-use Rattle.numbers.specs.Parts.{sum}
-use Rattle.numbers.specs.Order.{natAbs-by, ≡-parts, fits64}
-use Rattle.numbers.specs.Code.{read-result}
+use Rattle.rounding.specs.Parts.{sum}
+use Rattle.rounding.specs.Order.{natAbs-by, ≡-parts, fits64}
+use Rattle.rounding.specs.Code.{read-result}
 use Rattle.sine_table.specs.Table.{S}
 use Rattle.sine_table.specs.TableLaws.{entry-small}
 use Rattle.sine_table.specs.Room.{Gives}

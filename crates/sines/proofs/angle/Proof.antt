@@ -1,7 +1,7 @@
 -- `sines::angle` meets its contract, part by part of the thousand.
 use mathlib.Core.Path.{sym, _∙_}
-use Rattle.numbers.specs.Code.{read-size}
-use Rattle.decimals.specs.RowLaws.{given}
+use Rattle.rounding.specs.Code.{read-size}
+use Rattle.decimal_text.specs.RowLaws.{given}
 use Rattle.sines.specs.PrintedLaws.{angle-border, angle-tenth, angle-spread}
 use borrow.Author.Needs.{needs}
 use Rattle.sines.proofs.angle.Statement.{statement}

@@ -2,7 +2,7 @@
 use Prim.Native.Nat.{_-_}
 use mathlib.Core.Path.{ap}
 use native.Mathlib.Omega.{arith}
-use Rattle.decimals.specs.RowLaws.{given, put-as, Rows, rows-start, rows-turn, rows-end}
+use Rattle.decimal_text.specs.RowLaws.{given, put-as, Rows, rows-start, rows-turn, rows-end}
 use Rattle.sines.specs.Printed.{angle, line, lines}
 use borrow.Author.Needs.{needs}
 use Rattle.sines.proofs.put_rows.Statement.{statement}

@@ -5,8 +5,8 @@ use Prim.Native.Nat.{_≤_}
 use lib.Dec.{lit≤}
 use lib.IntN.{ℤ, pos, natAbs, _-ℤ_}
 use lib.Signed.{leZ-yes}
-use Rattle.numbers.specs.Code.{Code, arg, lit, sub, mul, Within, whole, ends, _▹_, fits, runs, within}
-use Rattle.numbers.specs.Near.{near}
+use Rattle.rounding.specs.Code.{Code, arg, lit, sub, mul, Within, whole, ends, _▹_, fits, runs, within}
+use Rattle.rounding.specs.Near.{near}
 use Rattle.station.specs.Place.{turnIn, ephemerisLongitude}
 use Rattle.station.specs.PlaceLaws.{turn-size, longitude-size}
 use Rattle.station.proofs.ephemeris_longitude.Statement.{statement}

@@ -8,10 +8,10 @@ use lib.IntN.{ℤ, pos, natAbs, _+ℤ_, _*ℤ_}
 use lib.Signed.{leZ-yes}
 use mir.Syntax.{w64}
 use mir.Val.{toZ, ofZ}
-use Rattle.numbers.specs.Code.{Code, arg, lit, add, mul, Within, whole, ends, _▹_, fits, runs, within, read-back, read-size}
-use Rattle.numbers.specs.Units.{one}
-use Rattle.numbers.specs.Near.{near}
-use Rattle.numbers.specs.Value.{Value}
+use Rattle.rounding.specs.Code.{Code, arg, lit, add, mul, Within, whole, ends, _▹_, fits, runs, within, read-back, read-size}
+use Rattle.rounding.specs.Units.{one}
+use Rattle.rounding.specs.Near.{near}
+use Rattle.rounding.specs.Value.{Value}
 use Rattle.sine.specs.Sine.{sine, cosine, IsReduced}
 use Rattle.sine.specs.SineLaws.{sine-of, cosine-of}
 use Rattle.sine.specs.SizeLaws.{square-sum}

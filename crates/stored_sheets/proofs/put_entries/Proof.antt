@@ -1,7 +1,7 @@
 -- `stored_sheets::put_entries` meets its contract: the lines of the entries before the n-th are put.
 use borrow.Author.Needs.{needs}
 use Rattle.stored_sheets.specs.Printed.{entryLine, entriesText}
-use Rattle.decimals.specs.RowLaws.{Rows, rows-start, rows-turn, rows-end}
+use Rattle.decimal_text.specs.RowLaws.{Rows, rows-start, rows-turn, rows-end}
 use lib.ListN.{length}
 use native.Mathlib.Omega.{arith}
 use Prim.Native.Nat.{_/_, _-_}

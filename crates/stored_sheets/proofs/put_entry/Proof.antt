@@ -1,6 +1,6 @@
 -- `stored_sheets::put_entry` meets its contract: the five numbers are those of the entry.
 use Rattle.stored_sheets.specs.Printed.{entryLine}
-use Rattle.decimals.specs.RowLaws.{also, given, filled-as}
+use Rattle.decimal_text.specs.RowLaws.{also, given, filled-as}
 use mathlib.Core.Path.{refl}
 use borrow.Author.Needs.{needs}
 use Rattle.stored_sheets.proofs.put_entry.Statement.{statement}

@@ -1,5 +1,5 @@
 -- `stored_sheets::put_sheet` meets its contract: the answers; and where the room holds the entries, these and their writing.
-use Rattle.decimals.specs.Texts.{Put}
+use Rattle.decimal_text.specs.Texts.{Put}
 use Rattle.stored_sheets.specs.Printed.{answersLine}
 use Rattle.stored_sheets.specs.PrintedLaws.{Good, found, back-none, answers, put-bad, put-good}
 use lib.ListN.{length, take}

@@ -1,5 +1,5 @@
 -- `stored_sheets::put_written` meets its contract: the writer accepts the entries, and writes the same bytes.
-use Rattle.sheets.specs.Sheets.{extentOf, readWhole}
+use Rattle.sheet_codec.specs.Sheets.{extentOf, readWhole}
 use Rattle.stored_sheets.specs.PrintedLaws.{again-answer, again-same, put-written}
 use mathlib.Core.Path.{_≡_, sym, _∙_}
 use native.Mathlib.Omega.{arith}

@@ -1,6 +1,6 @@
 -- `table_elements::put_tables` meets its contract: the lines before byte `from` are read, and their parts put.
-use Rattle.typed_rows.specs.declared.Fault.{Fault}
-use Rattle.typed_rows.specs.declared.Line.the-variants as L
+use Rattle.table_elements.specs.declared.typed_rows.Fault.{Fault}
+use Rattle.table_elements.specs.declared.typed_rows.Line.the-variants as L
 use borrow.Author.Needs.{needs}
 use Rattle.table_elements.specs.PrintedLaws.{Reading, reading-start, reading-within, reading-turn, fault-output, end-output, end-whole, end-begun}
 use lib.ListN.{length}

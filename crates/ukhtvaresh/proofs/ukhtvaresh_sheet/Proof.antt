@@ -1,8 +1,8 @@
 -- `ukhtvaresh::ukhtvaresh_sheet` meets its contract: the answer of the crate below, as numbers. Assumes nothing.
 use borrow.Author.Needs.{needs}
 use Rattle.requests.specs.Requests.{ofEclipse}
-use Rattle.input.specs.Input.{requestOf}
-use Rattle.replies.specs.SheetLaws.{replied}
+use Rattle.request_format.specs.Input.{requestOf}
+use Rattle.ukhtvaresh.specs.SheetLaws.{replied}
 use Rattle.ukhtvaresh.proofs.ukhtvaresh_sheet.Statement.{statement}
 use Rattle.ukhtvaresh.proofs.ukhtvaresh_sheet.Tie as tie
 

@@ -1,8 +1,8 @@
 -- `ukhtvaresh::ukhtvaresh_write` meets its contract: the answer of the crate below, as numbers. Assumes nothing.
 use mathlib.Core.Path.{ap, _∙_}
 use borrow.Author.Needs.{needs}
-use Rattle.replies.specs.declared.Reply.{Reply}
-use Rattle.replies.specs.Replies.{writeReply}
+use Rattle.ukhtvaresh.specs.declared.replies.Reply.{Reply}
+use Rattle.ukhtvaresh.specs.Replies.{writeReply}
 use Rattle.ukhtvaresh.proofs.ukhtvaresh_write.Statement.{statement}
 use Rattle.ukhtvaresh.proofs.ukhtvaresh_write.Tie as tie
 

@@ -1,7 +1,7 @@
 -- `walks::put_all` meets its contract: the lines of the lists that are shorter are put.
 use Prim.Native.Nat.{_-_}
 use native.Mathlib.Omega.{arith}
-use Rattle.decimals.specs.RowLaws.{Rows, rows-start, rows-turn, rows-end}
+use Rattle.decimal_text.specs.RowLaws.{Rows, rows-start, rows-turn, rows-end}
 use Rattle.walks.specs.Printed.{lines, printed}
 use borrow.Author.Needs.{needs}
 use Rattle.walks.proofs.put_all.Statement.{statement}

@@ -2,7 +2,7 @@
 use Prim.Native.Nat.{_-_}
 use native.Mathlib.Omega.{arith}
 use lib.ListN.{length}
-use Rattle.runs.specs.Runs.{decoded}
+use Rattle.run_length.specs.Runs.{decoded}
 use Rattle.contacts.specs.Step.{At}
 use Rattle.contacts.specs.StepLaws.{at-start, Took, took, none-left}
 use Rattle.walks.specs.PrintedLaws.{as-runs, few-seconds, Walking, walking-start, walking-turn, walking-end}

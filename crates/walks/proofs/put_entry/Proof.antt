@@ -1,6 +1,6 @@
 -- `walks::put_entry` meets its contract, case by case.
 use mathlib.Core.Path.{sym, ap}
-use Rattle.decimals.specs.RowLaws.{put-as}
+use Rattle.decimal_text.specs.RowLaws.{put-as}
 use Rattle.walks.specs.Printed.{entryText}
 use borrow.Author.Needs.{needs}
 use Rattle.walks.proofs.put_entry.Statement.{statement}

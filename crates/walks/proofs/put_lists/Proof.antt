@@ -2,8 +2,8 @@
 use Prim.Native.Nat.{_-_}
 use mathlib.Core.Path.{ap}
 use native.Mathlib.Omega.{arith}
-use Rattle.decimals.specs.Rows.{rows}
-use Rattle.decimals.specs.RowLaws.{put-as, Rows, rows-start, rows-turn, rows-end}
+use Rattle.decimal_text.specs.Rows.{rows}
+use Rattle.decimal_text.specs.RowLaws.{put-as, Rows, rows-start, rows-turn, rows-end}
 use Rattle.walks.specs.Printed.{statesOf, line, lines}
 use borrow.Author.Needs.{needs}
 use Rattle.walks.proofs.put_lists.Statement.{statement}

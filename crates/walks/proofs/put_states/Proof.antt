@@ -2,8 +2,8 @@
 use Prim.Native.Nat.{_-_}
 use native.Mathlib.Omega.{arith}
 use lib.ListN.{length, getD}
-use Rattle.decimals.specs.Decimals.{decimal}
-use Rattle.decimals.specs.RowLaws.{Rows, rows-start, rows-turn, rows-end}
+use Rattle.decimal_text.specs.Decimals.{decimal}
+use Rattle.decimal_text.specs.RowLaws.{Rows, rows-start, rows-turn, rows-end}
 use Rattle.walks.specs.Printed.{digits}
 use borrow.Author.Needs.{needs}
 use Rattle.walks.proofs.put_states.Statement.{statement}

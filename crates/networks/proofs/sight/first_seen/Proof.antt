@@ -10,15 +10,15 @@ use lib.Seq.{getD-take, length-take-le}
 use mir.Syntax.{w64}
 use mir.Val.{SFits}
 use mir.ValLaws.{toZ-ofZ}
-use Rattle.numbers.specs.Order.{zs}
-use Rattle.numbers.specs.Code.{cast-unsigned}
+use Rattle.rounding.specs.Order.{zs}
+use Rattle.rounding.specs.Code.{cast-unsigned}
 use Rattle.requests.specs.Requests.{ofEclipse}
 use Rattle.requests.specs.RequestLaws.{InLimits}
-use Rattle.chains.specs.Defined.{earliestOf}
-use Rattle.nodes.specs.declared.Node.{Node}
-use Rattle.nodes.specs.Held.{blankNode}
-use Rattle.enters.specs.Enters.{never}
-use Rattle.network_checks.specs.Checks.{requestOf}
+use Rattle.clock_network.specs.Defined.{earliestOf}
+use Rattle.clock_network.specs.declared.stations.Node.{Node}
+use Rattle.clock_network.specs.Held.{blankNode}
+use Rattle.networks.specs.Enters.{never}
+use Rattle.clock_network.specs.Checks.{requestOf}
 use Rattle.networks.specs.Network.{tosOf}
 use Rattle.networks.specs.SightLaws.{named-at, named-none}
 use Rattle.networks.proofs.sight.first_seen.Statement.{statement}

@@ -9,11 +9,11 @@ use lib.Seq.{getD-take, length-take-le, take-all}
 use Rattle.requests.specs.declared.Request.{Request}
 use Rattle.requests.specs.Requests.{ofEclipse}
 use Rattle.requests.specs.RequestLaws.{InLimits}
-use Rattle.nodes.specs.declared.Node.{Node}
-use Rattle.nodes.specs.Held.{blankNode}
-use Rattle.nodes.specs.Copy.{copy-step}
-use Rattle.enters.specs.Enters.{firstTo}
-use Rattle.network_checks.specs.Checks.{requestOf}
+use Rattle.clock_network.specs.declared.stations.Node.{Node}
+use Rattle.clock_network.specs.Held.{blankNode}
+use Rattle.clock_network.specs.Copy.{copy-step}
+use Rattle.networks.specs.Enters.{firstTo}
+use Rattle.clock_network.specs.Checks.{requestOf}
 use Rattle.networks.specs.Network.{toOf, tosOf}
 use Rattle.networks.proofs.sight.first_tos.Statement.{statement}
 use Rattle.networks.proofs.sight.first_tos.Tie as tie

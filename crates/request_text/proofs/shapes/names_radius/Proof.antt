@@ -1,6 +1,6 @@
 -- `request_text::shapes::names_radius` meets its contract: what the line says is asked for the name. Assumes nothing.
 use mathlib.Core.Path.{ap, _∙_}
-use Rattle.request_fields.specs.Rows.{letters}
+use Rattle.request_format.specs.Rows.{letters}
 use Rattle.request_text.specs.Names.{named}
 use borrow.Author.Needs.{needs}
 use Rattle.request_text.proofs.shapes.names_radius.Statement.{statement}

@@ -3,9 +3,9 @@ use mathlib.Core.Path.{_≡_, sym, ap, _∙_}
 use Prim.Native.Nat.{_+_, _-_, _≤_}
 use borrow.Author.Needs.{needs}
 use lib.ListN.{length, drop}
-use Rattle.words.specs.declared.Class.the-variants as C
-use Rattle.words.specs.Text.{runOf}
-use Rattle.words.specs.TextLaws.{rest-is, line-within}
+use Rattle.tokens.specs.declared.Class.the-variants as C
+use Rattle.tokens.specs.Text.{runOf}
+use Rattle.tokens.specs.TextLaws.{rest-is, line-within}
 use Rattle.request_text.specs.ShapeLaws.{Passed, passed-none, passed-all, passed-hit, passed-more}
 use Rattle.request_text.proofs.shapes.shape_of.Statement.{statement}
 use Rattle.request_text.proofs.shapes.shape_of.Tie as tie

@@ -1,5 +1,5 @@
 -- `shadow::bodies::eclipse_sample` meets its contract: the letters of the second's shadow. Assumes nothing.
-use Rattle.numbers.specs.Code.{read-back, read-size}
+use Rattle.rounding.specs.Code.{read-back, read-size}
 use Rattle.shadow.specs.Shadow.{IsShadow}
 use Rattle.shadow.specs.Second.{ShadowSizes}
 use Rattle.shadow.specs.SecondLaws.{shadow-sizes, eclipse-sample}

@@ -4,10 +4,10 @@ use Prim.Native.Nat.{ℕ}
 use native.Mathlib.Omega.{arith}
 use lib.ListN.{length, getD}
 use borrow.Author.Needs.{needs}
-use Rattle.phases.specs.declared.Phase.the-variants.{Penumbra}
-use Rattle.phases.specs.Phases.{star}
+use Rattle.sheet_types.specs.declared.phases.Phase.the-variants.{Penumbra}
+use Rattle.sheet_types.specs.Phases.{star}
 use Rattle.elements.specs.declared.Body.{Body}
-use Rattle.geometry.specs.Shadow.{phasesOf}
+use Rattle.shadow_geometry.specs.Shadow.{phasesOf}
 use Rattle.shadow.proofs.bodies.nth_phase.Statement.{statement}
 use Rattle.shadow.proofs.bodies.nth_phase.Tie as tie
 

@@ -5,9 +5,9 @@ use lib.IntN.{ℤ}
 use borrow.Author.Needs.{needs}
 use mir.Syntax.{w64}
 use mir.Val.{toZ, ofZ}
-use Rattle.numbers.specs.Order.{natAbs-between}
-use Rattle.numbers.specs.Code.{read-back, read-size}
-use Rattle.numbers.specs.Value.{Value}
+use Rattle.rounding.specs.Order.{natAbs-between}
+use Rattle.rounding.specs.Code.{read-back, read-size}
+use Rattle.rounding.specs.Value.{Value}
 use Rattle.elements.specs.Sizes.{wider-axis}
 use Rattle.elements.specs.Stars.{starAxis}
 use Rattle.shadow.specs.Shadow.{IsOffset}

@@ -8,12 +8,12 @@ use mathlib.Core.Logic.{⊎-elim}
 use lib.IntN.{pos}
 use mir.Syntax.{w64}
 use mir.Val.{Fits}
-use Rattle.numbers.specs.Order.{zs}
+use Rattle.rounding.specs.Order.{zs}
 use Rattle.sine_table.specs.Table.{S}
 use Rattle.sine_table.specs.TableLaws.{entry-0}
 use Rattle.sine_table.specs.Rising.{S-rises}
-use Rattle.geometry.specs.Direction.{Largest, quarter}
-use Rattle.geometry.specs.DirectionLaws.{largest-unique, quarter-is}
+use Rattle.shadow_geometry.specs.Direction.{Largest, quarter}
+use Rattle.shadow_geometry.specs.DirectionLaws.{largest-unique, quarter-is}
 use Rattle.shadow.proofs.directions.quarter.Statement.{statement}
 use Rattle.shadow.proofs.directions.quarter.Tie as tie
 

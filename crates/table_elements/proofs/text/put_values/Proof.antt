@@ -1,5 +1,5 @@
 -- `table_elements::text::put_values` meets its contract: seven times the same line.
-use Rattle.decimals.specs.Rows.{rows}
+use Rattle.decimal_text.specs.Rows.{rows}
 use Rattle.table_elements.specs.Printed.{valuesText}
 use borrow.Author.Needs.{needs}
 use Rattle.table_elements.proofs.text.put_values.Statement.{statement}

@@ -1,8 +1,8 @@
 -- `ukhtvaresh::from_tables::ukhtvaresh_from_tables` meets its contract: the answer of `tables`, as numbers. Assumes nothing.
 use mathlib.Core.Path.{ap, _∙_}
 use borrow.Author.Needs.{needs}
-use Rattle.replies.specs.declared.Reply.{Reply}
-use Rattle.replies.specs.TablesReply.{tablesReply}
+use Rattle.ukhtvaresh.specs.declared.replies.Reply.{Reply}
+use Rattle.ukhtvaresh.specs.TablesReply.{tablesReply}
 use Rattle.ukhtvaresh.proofs.from_tables.ukhtvaresh_from_tables.Statement.{statement}
 use Rattle.ukhtvaresh.proofs.from_tables.ukhtvaresh_from_tables.Tie as tie
 

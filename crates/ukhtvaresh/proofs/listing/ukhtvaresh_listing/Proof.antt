@@ -1,7 +1,7 @@
 -- `ukhtvaresh::listing::ukhtvaresh_listing` meets its contract: the answer of the crate below, as numbers. Assumes nothing.
 use mathlib.Core.Path.{ap, _∙_}
-use Rattle.replies.specs.declared.Reply.{Reply}
-use Rattle.replies.specs.Listing.{listingReply}
+use Rattle.ukhtvaresh.specs.declared.replies.Reply.{Reply}
+use Rattle.ukhtvaresh.specs.Listing.{listingReply}
 use borrow.Author.Needs.{needs}
 use Rattle.ukhtvaresh.proofs.listing.ukhtvaresh_listing.Statement.{statement}
 use Rattle.ukhtvaresh.proofs.listing.ukhtvaresh_listing.Tie as tie

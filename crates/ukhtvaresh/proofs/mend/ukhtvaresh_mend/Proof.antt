@@ -1,9 +1,9 @@
 -- `ukhtvaresh::mend::ukhtvaresh_mend` meets its contract: the answer of the crate below, as numbers. Assumes nothing.
 use mathlib.Core.Path.{ap, _∙_}
-use Rattle.kept_sheets.specs.Walk.{kept, notes}
-use Rattle.mending.specs.Mending.{roomAfter}
-use Rattle.replies.specs.declared.MendReply.{MendReply}
-use Rattle.replies.specs.MendReply.{mendReply}
+use Rattle.year_file.specs.Walk.{kept, notes}
+use Rattle.year_file.specs.Mending.{roomAfter}
+use Rattle.ukhtvaresh.specs.declared.replies.MendReply.{MendReply}
+use Rattle.ukhtvaresh.specs.MendReply.{mendReply}
 use borrow.Author.Needs.{needs}
 use Rattle.ukhtvaresh.proofs.mend.ukhtvaresh_mend.Statement.{statement}
 use Rattle.ukhtvaresh.proofs.mend.ukhtvaresh_mend.Tie as tie

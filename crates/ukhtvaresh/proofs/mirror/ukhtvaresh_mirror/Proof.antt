@@ -1,8 +1,8 @@
 -- `ukhtvaresh::mirror::ukhtvaresh_mirror` meets its contract: the answer of the crate below, as numbers. Assumes nothing.
 use mathlib.Core.Path.{ap, _∙_}
 use borrow.Author.Needs.{needs}
-use Rattle.replies.specs.declared.Reply.{Reply}
-use Rattle.replies.specs.Replies.{sheetReply}
+use Rattle.ukhtvaresh.specs.declared.replies.Reply.{Reply}
+use Rattle.ukhtvaresh.specs.Replies.{sheetReply}
 use Rattle.ukhtvaresh.proofs.mirror.ukhtvaresh_mirror.Statement.{statement}
 use Rattle.ukhtvaresh.proofs.mirror.ukhtvaresh_mirror.Tie as tie
 

@@ -1,8 +1,8 @@
 -- `ukhtvaresh::positions::ukhtvaresh_doubles` meets its contract: the answer of `instrument`, as numbers. Assumes nothing.
 use mathlib.Core.Path.{ap, _∙_}
 use borrow.Author.Needs.{needs}
-use Rattle.replies.specs.declared.Reply.{Reply}
-use Rattle.replies.specs.Positions.{doublesReply}
+use Rattle.ukhtvaresh.specs.declared.replies.Reply.{Reply}
+use Rattle.ukhtvaresh.specs.Positions.{doublesReply}
 use Rattle.ukhtvaresh.proofs.positions.ukhtvaresh_doubles.Statement.{statement}
 use Rattle.ukhtvaresh.proofs.positions.ukhtvaresh_doubles.Tie as tie
 

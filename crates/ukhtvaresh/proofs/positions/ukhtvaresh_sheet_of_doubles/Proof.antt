@@ -1,9 +1,9 @@
 -- `ukhtvaresh::positions::ukhtvaresh_sheet_of_doubles` meets its contract: the answer of `survey`, as numbers. Assumes nothing.
 use borrow.Author.Needs.{needs}
 use Rattle.requests.specs.Requests.{ofEclipse}
-use Rattle.survey.specs.Survey.{requestOf}
-use Rattle.survey.specs.Handed.{surveyOf}
-use Rattle.replies.specs.SheetLaws.{replied}
+use Rattle.float_requests.specs.Survey.{requestOf}
+use Rattle.float_requests.specs.Handed.{surveyOf}
+use Rattle.ukhtvaresh.specs.SheetLaws.{replied}
 use Rattle.ukhtvaresh.proofs.positions.ukhtvaresh_sheet_of_doubles.Statement.{statement}
 use Rattle.ukhtvaresh.proofs.positions.ukhtvaresh_sheet_of_doubles.Tie as tie
 

@@ -2,7 +2,7 @@
 use borrow.Author.Needs.{needs}
 use mir.Syntax.{w64}
 use mir.ValLaws.{toZ-ofZ}
-use Rattle.request_fields.specs.declared.Shape.the-variants.{Eclipse}
+use Rattle.request_format.specs.declared.fields.Shape.the-variants.{Eclipse}
 use Rattle.ukhtvaresh.proofs.Seconds.{second-replied}
 use Rattle.ukhtvaresh.proofs.second.ukhtvaresh_second.Statement.{statement}
 use Rattle.ukhtvaresh.proofs.second.ukhtvaresh_second.Tie as tie

@@ -3,14 +3,14 @@ use mathlib.Core.Path.{_≡_, sym, subst, ap, _∙_}
 use borrow.Author.Needs.{needs}
 use mir.Syntax.{w64}
 use mir.ValLaws.{toZ-ofZ}
-use Rattle.request_fields.specs.declared.Shape.the-variants.{Eclipse}
-use Rattle.input.specs.Input.{inputOf}
-use Rattle.replies.specs.declared.Reply.{Reply}
-use Rattle.covered.specs.Answer.{shareBy}
-use Rattle.covered.specs.AnswerLaws.{AnsweredSizes}
-use Rattle.request_seconds.specs.Second.{wish, secondAsked, sinesAsked}
-use Rattle.replies.specs.Shares.{shareReply}
-use Rattle.request_seconds.specs.ShareLaws.{asked-sizes, asked-means}
+use Rattle.request_format.specs.declared.fields.Shape.the-variants.{Eclipse}
+use Rattle.request_format.specs.Input.{inputOf}
+use Rattle.ukhtvaresh.specs.declared.replies.Reply.{Reply}
+use Rattle.obscuration.specs.Answer.{shareBy}
+use Rattle.obscuration.specs.AnswerLaws.{AnsweredSizes}
+use Rattle.request_answers.specs.Second.{wish, secondAsked, sinesAsked}
+use Rattle.ukhtvaresh.specs.Shares.{shareReply}
+use Rattle.request_answers.specs.ShareLaws.{asked-sizes, asked-means}
 use Rattle.ukhtvaresh.proofs.shares.ukhtvaresh_share.Statement.{statement}
 use Rattle.ukhtvaresh.proofs.shares.ukhtvaresh_share.Tie as tie
 

@@ -2,8 +2,8 @@
 use borrow.Author.Needs.{needs}
 use Rattle.requests.specs.Requests.{ofEclipse}
 use Rattle.requests.specs.Shares.{withShare}
-use Rattle.input.specs.Input.{requestOf}
-use Rattle.replies.specs.SheetLaws.{replied}
+use Rattle.request_format.specs.Input.{requestOf}
+use Rattle.ukhtvaresh.specs.SheetLaws.{replied}
 use Rattle.ukhtvaresh.proofs.shares.ukhtvaresh_sheet_and_share.Statement.{statement}
 use Rattle.ukhtvaresh.proofs.shares.ukhtvaresh_sheet_and_share.Tie as tie
 

@@ -4,8 +4,8 @@ use borrow.Author.Needs.{needs}
 use mir.Syntax.{w64}
 use mir.ValLaws.{toZ-ofZ}
 use Rattle.fits.specs.Fits.{fitOf}
-use Rattle.replies.specs.declared.Reply.{Reply}
-use Rattle.replies.specs.Fits.{fitReply}
+use Rattle.ukhtvaresh.specs.declared.replies.Reply.{Reply}
+use Rattle.ukhtvaresh.specs.Fits.{fitReply}
 use Rattle.ukhtvaresh.proofs.spreadsheet.ukhtvaresh_fit.Statement.{statement}
 use Rattle.ukhtvaresh.proofs.spreadsheet.ukhtvaresh_fit.Tie as tie
 

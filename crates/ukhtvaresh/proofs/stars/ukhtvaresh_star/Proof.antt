@@ -1,8 +1,8 @@
 -- `ukhtvaresh::stars::ukhtvaresh_star` meets its contract: the answer of the crate below, as numbers. Assumes nothing.
 use borrow.Author.Needs.{needs}
 use Rattle.requests.specs.Requests.{ofStar}
-use Rattle.input.specs.Input.{starRequestOf}
-use Rattle.replies.specs.SheetLaws.{replied}
+use Rattle.request_format.specs.Input.{starRequestOf}
+use Rattle.ukhtvaresh.specs.SheetLaws.{replied}
 use Rattle.ukhtvaresh.proofs.stars.ukhtvaresh_star.Statement.{statement}
 use Rattle.ukhtvaresh.proofs.stars.ukhtvaresh_star.Tie as tie
 

@@ -1,8 +1,8 @@
 -- `ukhtvaresh::stations::told` meets its contract: the answer of `network`, as numbers. Assumes nothing.
 use mathlib.Core.Path.{ap, _∙_}
 use borrow.Author.Needs.{needs}
-use Rattle.replies.specs.declared.Reply.{Reply}
-use Rattle.replies.specs.NetworkReply.{networkReply}
+use Rattle.ukhtvaresh.specs.declared.replies.Reply.{Reply}
+use Rattle.ukhtvaresh.specs.NetworkReply.{networkReply}
 use Rattle.ukhtvaresh.proofs.stations.told.Statement.{statement}
 use Rattle.ukhtvaresh.proofs.stations.told.Tie as tie
 

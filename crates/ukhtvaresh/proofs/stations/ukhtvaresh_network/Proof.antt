@@ -38,20 +38,20 @@ use denote.Triple.Table.{entered, cited}
 use denote.Triple.Walked.{says, Stays, stay-none-slice, gave-slice, gave-ref, walkOf, AllGo, goes-none-slice, goes-gave-slice, goes-gave-ref, Walks, ends-at, walked, walk-meets}
 use denote.Exit.{yes}
 use denote.Triple.Clauses.{ensured, lasts}
-use Rattle.nodes.specs.declared.Node.{Node}
-use Rattle.nodes.specs.declared.Held.{Held}
-use Rattle.nodes.specs.Held.{least64, heldOf}
-use Rattle.nodes.specs.Nodes.{Holds}
-use Rattle.nodes.specs.HeldLaws.{held-holds}
+use Rattle.clock_network.specs.declared.stations.Node.{Node}
+use Rattle.clock_network.specs.declared.stations.Held.{Held}
+use Rattle.clock_network.specs.Held.{least64, heldOf}
+use Rattle.clock_network.specs.Nodes.{Holds}
+use Rattle.clock_network.specs.HeldLaws.{held-holds}
 use Rattle.networks.specs.Network.{answerTo, sinesFor, stepsFor}
-use Rattle.replies.specs.NetworkReply.{networkReply, Told}
-use Rattle.nodes.proofs.Node as T
-use Rattle.nodes.proofs.Held as S
-use Rattle.nodes.proofs.Held.Laws as S′
-use Rattle.nodes.proofs.gathered as gathered
-use Rattle.nodes.proofs.gathered.Symbol as gathered-def
-use Rattle.nodes.proofs.gathered.Symbol.{name as #nodes·gathered}
-use Rattle.nodes.proofs.gathered.Met as gathered-thm
+use Rattle.ukhtvaresh.specs.NetworkReply.{networkReply, Told}
+use Rattle.clock_network.proofs.stations.Node as T
+use Rattle.clock_network.proofs.stations.Held as S
+use Rattle.clock_network.proofs.stations.Held.Laws as S′
+use Rattle.clock_network.proofs.stations.gathered as gathered
+use Rattle.clock_network.proofs.stations.gathered.Symbol as gathered-def
+use Rattle.clock_network.proofs.stations.gathered.Symbol.{name as #clock-network·stations·gathered}
+use Rattle.clock_network.proofs.stations.gathered.Met as gathered-thm
 use Rattle.ukhtvaresh.proofs.stations.told as told
 use Rattle.ukhtvaresh.proofs.stations.told.Symbol as told-def
 use Rattle.ukhtvaresh.proofs.stations.told.Symbol.{name as #ukhtvaresh·stations·told}
@@ -180,7 +180,7 @@ module _ {M : Type 1} (𝓤 : URA M) (H : Heap 𝓤) (A : Atoms 𝓤) (W : Given
       -- [the result; value's last; steps'; sines'; what the list owns; what the eclipse owns]
       nothing ! $ move ! (2 ∷ 0 ∷ []) $ fjoin ! $ move ! (2 ∷ 0 ∷ []) $ fjoin ! $ move ! (2 ∷ 0 ∷ []) $ fjoin ! $ move ! (2 ∷ 0 ∷ []) $ fjoin ! $ move ! (2 ∷ 0 ∷ []) $ fjoin ! $ frame ! $ done !
 
-  module _ (C : Calls 𝓤 H) (Λ : Loops 𝓤 H) (fm : FmC 𝓤 H (W .laws) C) (known-gathered : Triple 𝓤 (C #nodes·gathered) (Gathered 𝓤 H A mem run)) (known-told : Triple 𝓤 (C #ukhtvaresh·stations·told) (Tell 𝓤 H A mem run)) where
+  module _ (C : Calls 𝓤 H) (Λ : Loops 𝓤 H) (fm : FmC 𝓤 H (W .laws) C) (known-gathered : Triple 𝓤 (C #clock-network·stations·gathered) (Gathered 𝓤 H A mem run)) (known-told : Triple 𝓤 (C #ukhtvaresh·stations·told) (Tell 𝓤 H A mem run)) where
     walk : Is (ShrSlice (named 0) κ₀ i64) c (vc ∷ []) → Is (ShrSlice (named 1) κ₁ R) s (vs ∷ []) → Is (MutSlice (named 2) κ₂ u32) a (va ∷ []) → Is (MutSlice (named 3) κ₃ u64) b (vb ∷ [])
         → ent 𝓤 (onEntry 𝓤 H A f.signature (κ₀, (κ₁, (κ₂, (κ₃, (κ₄, tt))))) (q₀, (q₁, (q₂, (q₃, (q₄, tt))))) args vals) (WpFn 𝓤 H C Λ code.function (vc ∷ vs ∷ va ∷ vb ∷ vx ∷ []) Post)
     walk pc ps pa pb =
@@ -232,7 +232,7 @@ module _ {M : Type 1} (𝓤 : URA M) (H : Heap 𝓤) (A : Atoms 𝓤) (W : Given
         by ! (exits t w (zs .1 .1 .0) (zs .1 .1 .1 .0) (zs .1 .1 .1 .1 .0) (together (c .now) (s .now) r (a .now) (b .now) t (zs .1 .1 .0) (zs .1 .1 .1 .0) (zs .1 .1 .1 .1 .0) e e′) la lb))))))))))))))))))))))))
 
 module _ {M : Type 1} (𝓤 : URA M) (H : Heap 𝓤) (A : Atoms 𝓤) (W : Given 𝓤 H A) (mem : Memory → SProp 𝓤) (run : Routine → Fun 𝓤) where
-  network-walks : (C : Calls 𝓤 H) (Λ : Loops 𝓤 H) → FmC 𝓤 H (W .laws) C → Triple 𝓤 (C #nodes·gathered) (Gathered 𝓤 H A mem run) → Triple 𝓤 (C #ukhtvaresh·stations·told) (Tell 𝓤 H A mem run)
+  network-walks : (C : Calls 𝓤 H) (Λ : Loops 𝓤 H) → FmC 𝓤 H (W .laws) C → Triple 𝓤 (C #clock-network·stations·gathered) (Gathered 𝓤 H A mem run) → Triple 𝓤 (C #ukhtvaresh·stations·told) (Tell 𝓤 H A mem run)
       → Walks 𝓤 H A f.ended stayed (WpFn 𝓤 H C Λ code.function) (f.clauses 𝓤 H A mem run)
   network-walks C Λ fm known-gathered known-told = walked 𝓤 H A f.ended stayed (f.clauses 𝓤 H A mem run) (WpFn 𝓤 H C Λ code.function)
       (λ κs. (slice-vals, (slice-vals, (slice-vals, (slice-vals, (ptr-vals, tt))))))
@@ -251,7 +251,7 @@ module _ {M : Type 1} (𝓤 : URA M) (H : Heap 𝓤) (A : Atoms 𝓤) (W : Given
   )
 
 network-meets : {M : Type 1} (𝓤 : URA M) (H : Heap 𝓤) (A : Atoms 𝓤) (W : Given 𝓤 H A) (mem : Memory → SProp 𝓤) (run : Routine → Fun 𝓤) (𝓣 : Tables 𝓤 H)
-    → Triple 𝓤 (𝓣 .C #nodes·gathered) (Gathered 𝓤 H A mem run) → Triple 𝓤 (𝓣 .C #ukhtvaresh·stations·told) (Tell 𝓤 H A mem run)
+    → Triple 𝓤 (𝓣 .C #clock-network·stations·gathered) (Gathered 𝓤 H A mem run) → Triple 𝓤 (𝓣 .C #ukhtvaresh·stations·told) (Tell 𝓤 H A mem run)
     → Meets 𝓤 H A f.signature (WpFn 𝓤 H (𝓣 .C) (𝓣 .Λ) code.function) (f.spec 𝓤 H A mem run)
 network-meets 𝓤 H A W mem run 𝓣 known-gathered known-told =
     walk-meets 𝓤 H A f.ended stayed W (goes 𝓤 H A W mem run) (f.clauses 𝓤 H A mem run) (WpFn 𝓤 H (𝓣 .C) (𝓣 .Λ) code.function) (WpFn-mono 𝓤 H (W .laws) 𝓣 code.function)
@@ -263,5 +263,5 @@ ukhtvaresh-network-spec 𝓤 H 𝓜 𝓖 𝓡 =
     entered 𝓤 H (tripleOf 𝓤 H (𝓖 .A) f.signature (f.spec 𝓤 H (𝓖 .A) (𝓜 .mem) (𝓡 .run)))
     (tables 𝓤 H 𝓜 𝓡 code.env .C) (tables 𝓤 H 𝓜 𝓡 code.env .Λ) #ukhtvaresh·stations·ukhtvaresh-network code.function (code.unfolded 𝓤 H 𝓜 𝓡)
     (network-meets 𝓤 H (𝓖 .A) (givenOf 𝓤 H 𝓜 𝓖) (𝓜 .mem) (𝓡 .run) (tablesOf 𝓤 H 𝓜 (tables 𝓤 H 𝓜 𝓡 code.env))
-    (cited 𝓤 H (Gathered 𝓤 H (𝓖 .A) (𝓜 .mem) (𝓡 .run)) 𝓜 𝓡 code.env #nodes·gathered gathered-def.routine code.calls-nodes·gathered (gathered-thm.met 𝓤 H 𝓜 𝓖 𝓡))
+    (cited 𝓤 H (Gathered 𝓤 H (𝓖 .A) (𝓜 .mem) (𝓡 .run)) 𝓜 𝓡 code.env #clock-network·stations·gathered gathered-def.routine code.calls-clock-network·stations·gathered (gathered-thm.met 𝓤 H 𝓜 𝓖 𝓡))
     (cited 𝓤 H (Tell 𝓤 H (𝓖 .A) (𝓜 .mem) (𝓡 .run)) 𝓜 𝓡 code.env #ukhtvaresh·stations·told told-def.routine code.calls-ukhtvaresh·stations·told (told-thm.met 𝓤 H 𝓜 𝓖 𝓡)))

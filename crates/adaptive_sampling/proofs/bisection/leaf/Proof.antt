@@ -1,0 +1,32 @@
+-- `adaptive_sampling::bisection::leaf` meets its contract. Assumes nothing.
+use mathlib.Core.List.{[], _∷_}
+use native.Mathlib.Omega.{arith}
+use borrow.Author.Needs.{needs}
+use Rattle.rounding.specs.Code.{Code, arg, add, mul, Within, whole, raw, ends, _▹_, fits, count-size}
+use Rattle.adaptive_sampling.proofs.bisection.leaf.Statement.{statement}
+use Rattle.adaptive_sampling.proofs.bisection.leaf.Tie as tie
+
+-- guard, near
+bounds : (c : tie.Start) → Within (whole (c .args .guard) ∷ raw (c .args .near) ∷ []) (1000 ∷ 1000000001 ∷ [])
+bounds c = c .pre .0 ▹ count-size (c .args .near) (c .pre .1) tt ▹ ends
+
+abbrev W : Code
+W = add (arg 1) (arg 0)
+
+add-w : tie.Need-add-w
+add-w c = fits (bounds c) W tt
+
+mul-limit : tie.Need-mul-limit
+mul-limit c = fits (bounds c) (mul W W) tt
+
+returns : tie.Need-returns
+returns c = omega arith
+
+returns-2 : tie.Need-returns-2
+returns-2 c = omega arith
+
+returns-3 : tie.Need-returns-3
+returns-3 c = omega arith
+
+pub leaf-spec : {M : Type 1} → statement M
+leaf-spec = tie.close (tie.spec (λ c. search needs) add-w mul-limit returns returns-2 returns-3)

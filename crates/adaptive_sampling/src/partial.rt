@@ -1,0 +1,88 @@
+// What is known of a window's seconds so far: their states as runs, and the closest of them. One computed second, or several that it shows, come to it.
+// These are inner functions, for the crates above, and have a `requires`.
+use requests::Occultation;
+use run_length::Filled;
+use shadow::Sample;
+ghost use mathlib.Core.Path.{_≡_};
+ghost use mathlib.Core.List.{List};
+ghost use Prim.Native.Nat.{ℕ, _+_, _≤_};
+ghost use lib.IntN.{natAbs};
+ghost use lib.ListN.{length};
+ghost use Rattle.requests.specs.RequestLaws.{InLimits};
+ghost use Rattle.run_length.specs.Runs.{Ends};
+ghost use Rattle.exclusion_test.specs.Samples.{IsAt, SampleSizes};
+ghost use Rattle.adaptive_sampling.specs.Kept.{IsPair, Closer, Stored, Kept};
+
+// What is known of the seconds so far.
+pub struct Tally {
+    // their states, as runs
+    pub filled: Filled,
+    // the closest of them, counted from the window's first
+    pub best: usize,
+    // its M
+    pub least: i64,
+}
+
+// The states of both phases under a guard, as they stand in a run.
+fn pair_of(guard: i64, s: Sample) -> u8
+    requires { ⌜ (natAbs guard ≤ 1000) × (SampleSizes s) ⌝ }
+    ensures { λ r. ⌜ IsPair guard s r ⌝ }
+{
+    let m = s.m;
+    let k = rounding::abs(s.first);
+    let n = rounding::abs(s.second);
+    let first = shadow::state(guard, k, m);
+    let second = shadow::state(guard, n, m);
+    run_length::pair(first, second)
+}
+
+// The closer of the closest so far and second j, whose M is m, the earlier of equals; and the runs as they are now.
+fn closer(t: Tally, f: Filled, j: usize, m: i64) -> Tally
+    requires { ⌜ (natAbs (t .least) ≤ 1000000000000000000) × (natAbs m ≤ 1000000000000000000) ⌝ }
+    ensures { λ r. ⌜ (r .filled ≡ f) × (Closer t j m r) ⌝ }
+{
+    let best = t.best;
+    let least = t.least;
+    if m < least {
+        return Tally {
+            filled: f,
+            best: j,
+            least: m,
+        };
+    }
+    Tally {
+        filled: f,
+        best,
+        least,
+    }
+}
+
+// The h seconds up to second j get the states that s shows at j.
+pub fn keep(guard: i64, runs: &mut [u8], t: Tally, h: usize, j: usize, s: Sample) -> Tally
+    requires { ⌜ (natAbs guard ≤ 1000) × (SampleSizes s) × (natAbs (t .least) ≤ 1000000000000000000) ⌝ }
+    requires { ⌜ (1 ≤ h) × (h ≤ 2048) × (t .filled .count + t .filled .seconds ≤ length (now runs)) × (Ends (now runs) (t .filled)) ⌝ }
+    ensures { λ r. ⌜ Stored guard s h j (now (runs .entry)) t (now (runs .exit)) r ⌝ }
+{
+    let pair = pair_of(guard, s);
+    let before = t.filled;
+    let after = run_length::push(runs, before, pair, h);
+    closer(t, after, j, s.m)
+}
+
+// Second 0, whose shadow is a: the first of the runs, and the closest so far.
+pub fn first(o: Occultation, a: Sample) -> Tally
+    requires { ⌜ (InLimits o) × (IsAt o 0 a) ⌝ }
+    ensures { λ r. ⌜ ((near : ℕ) (runs : List ℕ) → Kept o near 0 runs r) ⌝ }
+{
+    let pair = pair_of(o.guard, a);
+    let filled = Filled {
+        count: 0,
+        pair,
+        seconds: 1,
+    };
+    Tally {
+        filled,
+        best: 0,
+        least: a.m,
+    }
+}

@@ -1,1 +1,0 @@
-// From two computed seconds to all between them: how much the shadow's path bends, all in specs/. Nothing here runs.

@@ -1,0 +1,49 @@
+-- `clock_network::stations::numbers` meets its contract: the first i places have the number of their node. Assumes nothing.
+use mathlib.Core.Path.{_≡_, refl, _∙_, subst}
+use mir.Syntax.{w64}
+use mir.ValLaws.{toZ-ofZ}
+use Rattle.clock_network.specs.Copy.{copy-step, copy-done}
+use Rattle.clock_network.specs.Nodes.{numberOf}
+use Prim.Native.Nat.{ℕ, _≤_, _-_}
+use native.Mathlib.Omega.{arith}
+use borrow.Author.Needs.{needs}
+use lib.ListN.{length, take, length-set}
+use Rattle.clock_network.specs.Nodes.{numbersOf}
+use Rattle.clock_network.proofs.stations.numbers.Statement.{statement}
+use Rattle.clock_network.proofs.stations.numbers.Tie as tie
+
+abbrev Inv-loop : tie.InvT-loop
+Inv-loop h a₀ i₀ a i = (i ≤ 64) × ((length a ≡ 64) × (take i a ≡ take i (numbersOf (h .nodes))))
+
+abbrev μ-loop : tie.MeasureT-loop
+μ-loop h a₀ i₀ a i = 64 - i
+
+loop-holds : tie.Need-loop-holds Inv-loop μ-loop
+loop-holds c = (search needs, (refl, refl))
+
+loop-again : tie.Need-loop-again Inv-loop μ-loop
+loop-again c =
+    let l = c .before .before .before .before .before .args .t1 .nodes in let i = c .before .before .before .before .loop .i in let a = c .before .before .before .before .loop .a in
+    let b : length a ≡ 64 = c .before .before .before .before .loop .inv .1 .0 in let n : length l ≡ 64 = c .before .before .before .before .before .pre in
+    (search needs, (length-set a i _ ∙ b, copy-step numberOf l a i _ (omega arith) (omega arith) (toZ-ofZ w64 _ (record { sfits = c .struct-told .given .0 .1 })) (c .before .before .before .before .loop .inv .1 .1)))
+
+returns : tie.Need-returns Inv-loop μ-loop
+returns c =
+    let l = c .before .loop in let e : l .i ≡ 64 = omega arith in
+    copy-done numberOf (c .before .before .args .t1 .nodes) (l .a) (l .inv .1 .0) (c .before .before .pre) (subst (λ (k : ℕ). take k (l .a) ≡ take k (numbersOf (c .before .before .args .t1 .nodes))) e (l .inv .1 .1))
+
+pub numbers-spec : {M : Type 1} → statement M
+numbers-spec =
+    tie.close
+    (tie.spec
+    Inv-loop
+    μ-loop
+    loop-holds
+    (λ c. search needs)
+    (λ c. search needs)
+    (λ c. search needs)
+    (λ c. search needs)
+    (λ c. search needs)
+    (λ c. search needs)
+    loop-again
+    returns)

@@ -1,0 +1,79 @@
+-- `clock_network::strata::first_stray` meets its contract: no place before i is stray; the one at i is where its clock is not 0 and its number has no place.
+use Prim.Native.Nat.{ℕ, _≤_, _<_, _-_}
+use native.Mathlib.Omega.{arith}
+use borrow.Author.Needs.{needs}
+use borrow.Author.Count.{below-more}
+use lib.ListN.{length, getD}
+use lib.IntN.{pos}
+use mir.Syntax.{w64}
+use mir.Val.{ofZ}
+use mathlib.Core.Path.{_≡_, ap}
+use mathlib.Core.Logic.{⊎-elim}
+use Rattle.clock_network.specs.First.{First}
+use Rattle.clock_network.specs.Bits.{zero-bits}
+use Rattle.clock_network.specs.Steps.{At, Stray}
+use Rattle.clock_network.specs.Laws.{placed, stray-yes, stray-no}
+use Rattle.clock_network.specs.DefinedLaws.{stray-is}
+use Rattle.clock_network.proofs.strata.first_stray.Statement.{statement}
+use Rattle.clock_network.proofs.strata.first_stray.Tie as tie
+use Rattle.clock_network.proofs.strata.first_stray.Reads as reads
+use Rattle.clock_network.proofs.strata.first_stray.Lts as lts
+use Rattle.clock_network.proofs.strata.place.Reads as place-reads
+
+abbrev Inv-loop : tie.InvT-loop
+Inv-loop numbers clocks i₀ i = (i ≤ length numbers) × ((k : ℕ) → k < i → Stray numbers clocks k → ⊥)
+
+abbrev μ-loop : tie.MeasureT-loop
+μ-loop numbers clocks i₀ i = length numbers - i
+
+-- where the clock's number stands first
+here : (c : lts.After-place (place-reads.Asked, place-reads.Learnt) reads.Pre reads.Post Inv-loop μ-loop)
+    → let ns = c .before .before .before .before .before .args .numbers .now in let cs = c .before .before .before .before .before .args .clocks .now in
+    First (At ns (getD cs (c .before .before .before .before .loop .i) (pos 0))) (length ns) (c .place .result)
+here c =
+    let ns = c .before .before .before .before .before .args .numbers .now in let cs = c .before .before .before .before .before .args .clocks .now in
+    placed ns (length ns) (c .place .result) (getD cs (c .before .before .before .before .loop .i) (pos 0)) (record { sfits = c .before .before .x .given }) (c .place .ensures)
+
+other : (c : lts.Then1 (place-reads.Asked, place-reads.Learnt) reads.Pre reads.Post Inv-loop μ-loop) → getD (c .before .before .before .before .args .clocks .now) (c .before .before .before .loop .i) (pos 0) ≡ pos 0 → ⊥
+other c e = c .if1 .taken (ap (ofZ w64) e)
+
+returns : tie.Need-returns Inv-loop μ-loop
+returns c = stray-is (c .before .before .before .before .before .before .args .numbers .now) (c .before .before .before .before .before .before .args .clocks .now) _ (record {
+  within = search needs;
+  before = c .before .before .before .before .before .loop .inv .1;
+  found = λ l. stray-yes (c .before .before .before .before .before .before .args .numbers .now) (c .before .before .before .before .before .before .args .clocks .now) (c .before .before .before .before .before .loop .i) (c .before .place .result) (here (c .before)) (other (c .before .before)) (c .if2 .taken);
+})
+
+loop-again : tie.Need-loop-again Inv-loop μ-loop
+loop-again c =
+    let ns = c .before .before .before .before .args .numbers .now in let cs = c .before .before .before .before .args .clocks .now in (
+      search needs,
+      below-more _ _ (c .before .before .before .loop .inv .1)
+          (⊎-elim
+          (λ w. stray-no ns cs (c .before .before .before .loop .i) (w .1 .result) (here (record { before = record { before = c .before; if1 = w .0 }; place = w .1 })) (other (record { before = c .before; if1 = w .0 })) (w .2 .left))
+          (λ w s. s .0 (zero-bits (record { sfits = c .before .x .given }) (w .left)))
+          (c .if1 .came)),
+    )
+
+returns-2 : tie.Need-returns-2 Inv-loop μ-loop
+returns-2 c = stray-is (c .before .before .args .numbers .now) (c .before .before .args .clocks .now) _ (record {
+  within = search needs;
+  before = c .before .loop .inv .1;
+  found = λ l. absurd (omega arith);
+})
+
+pub first-stray-spec : {M : Type 1} → statement M
+first-stray-spec =
+    tie.close
+    (tie.spec
+    Inv-loop
+    μ-loop
+    (λ c. search needs)
+    (λ c. search needs)
+    (λ c. search needs)
+    (λ c κs. search needs)
+    returns
+    (λ c. search needs)
+    (λ c. search needs)
+    loop-again
+    returns-2)

@@ -1,0 +1,3 @@
+// Requests whose elements and longitude come as doubles.
+pub mod instrument;
+pub mod survey;

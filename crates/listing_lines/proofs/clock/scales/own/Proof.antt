@@ -1,0 +1,47 @@
+-- `listing_lines::clock::scales::own` meets its contract: less than a day, and a hundred times a number of 33 bits, fit.
+use mathlib.Core.Path.{ap, ap₂, _∙_}
+use mathlib.Core.List.{[], _∷_}
+use Prim.Native.Nat.{_%_, _≤_}
+use native.Mathlib.Omega.{arith}
+use lib.IntN.{ℤ, pos, natAbs, _+ℤ_, _*ℤ_}
+use Rattle.rounding.specs.Order.{natAbs-minus}
+use Rattle.rounding.specs.Code.{Code, arg, lit, add, mul, Within, raw, whole, ends, _▹_, fits, runs, within, count-is, count-size}
+use Rattle.listing_lines.specs.Clock.{own}
+use borrow.Author.Needs.{needs}
+use Rattle.listing_lines.proofs.clock.scales.own.Statement.{statement}
+use Rattle.listing_lines.proofs.clock.scales.own.Tie as tie
+
+module _ (c : tie.After-second-of) where
+  day : c .before .args .i .hundredths % 8640000 ≤ 8639999
+  day = omega arith
+
+  second : natAbs (c .second-of .result) ≤ 4294978095
+  second = omega (arith, ap natAbs (c .second-of .ensures), natAbs-minus (pos (c .before .args .stored)) (pos 10800))
+
+  bounds : Within (raw (c .before .args .i .hundredths % 8640000) ∷ whole (c .second-of .result) ∷ []) (8639999 ∷ 4294978095 ∷ [])
+  bounds = count-size (c .before .args .i .hundredths % 8640000) day tt ▹ second ▹ ends
+
+abbrev hundred : Code
+hundred = mul (lit (pos 100)) (arg 1)
+
+abbrev both : Code
+both = add (arg 0) hundred
+
+mul-result : tie.Need-mul-result
+mul-result c = fits (bounds c) hundred tt
+
+add-result : tie.Need-add-result
+add-result c = fits (bounds c) both tt
+
+returns : tie.Need-returns
+unfolding own
+returns c =
+    record {
+      value =
+          runs (bounds c) both tt
+          ∙ ap₂ (λ (a s : ℤ). a +ℤ pos 100 *ℤ s) (count-is (c .before .args .i .hundredths % 8640000) (day c) tt) (c .second-of .ensures);
+      size = within (bounds c) both 429506449499 tt;
+    }
+
+pub own-spec : {M : Type 1} → statement M
+own-spec = tie.close (tie.spec (λ c. search needs) (λ c κs. search needs) mul-result add-result returns)

@@ -1,0 +1,48 @@
+-- The listing of docs/CLOCK.md, and times on other days and of elements by universal time: each is computed.
+use Prim.Native.Nat.{ℕ}
+use mathlib.Core.Path.{_≡_, refl}
+use mathlib.Core.List.{[], _∷_}
+use lib.IntN.{pos, negsuc}
+use Rattle.sheet_types.specs.declared.phases.Phase.the-variants.{Penumbra, Central, Star}
+use Rattle.sheet_format.specs.Entries.{head, enter, leave, graze, opened, closest, share, end}
+use Rattle.calendar.specs.declared.Scale.{Scale}
+use Rattle.calendar.specs.declared.Scale.the-variants.{Ephemeris, Universal}
+use Rattle.calendar.specs.declared.Instant.{Instant}
+use Rattle.decimal_text.specs.Decimals.{digitsOf, decimal, signed}
+use Rattle.decimal_text.specs.Texts.{letters}
+use Rattle.decimal_text.specs.Patterns.{piece, filled}
+use Rattle.listing_lines.specs.Lines.{textOf, endFor, lineOf}
+use Rattle.calendar.specs.declared.Reference.the-variants as R
+use Rattle.listing_lines.specs.Times.{secondsText, ofDayText, dayText, timeText}
+use Rattle.listing_lines.specs.Clock.{own, timeIn, known, instantText, scaleText, scalesText, behind, timedLine, timedLines}
+
+abbrev instant : ℕ → ℕ → ℕ → ℕ → Scale → Instant
+instant y m d n s = record { year = y; month = m; day = d; hundredths = n; scale = s }
+
+pub hopkinsville : timedLines (R.At (instant 2017 8 21 6480000 Ephemeris)) (pos 6880) (
+    head 217 5400 19800 16 ∷ enter Penumbra 7060 7061 2928 ∷ leave Penumbra 17571 17572 1144
+    ∷ enter Central 12350 12351 2960 ∷ leave Central 12510 12511 1119 ∷ closest 12430 1030585 ∷ share 1000000 ∷ end ∷ []
+    )
+    ≡ letters "station 217 from -5400 to 9000\ninstant 2017-08-21 18:00:00.00 ET\nenter penumbra -3740 -3739 2928 ET 16:57:40.0 16:57:41.0 UT 16:56:31.2 16:56:32.2\nleave penumbra 6771 6772 1144 ET 19:52:51.0 19:52:52.0 UT 19:51:42.2 19:51:43.2\nenter central 1550 1551 2960 ET 18:25:50.0 18:25:51.0 UT 18:24:41.2 18:24:42.2\nleave central 1710 1711 1119 ET 18:28:30.0 18:28:31.0 UT 18:27:21.2 18:27:22.2\nclosest 1630 1030585 ET 18:27:10.0 UT 18:26:01.2\nshare 1000000\n"
+unfolding timedLines timedLine behind scalesText scaleText instantText timeText dayText ofDayText secondsText known timeIn own textOf endFor filled piece signed decimal digitsOf
+hopkinsville = refl
+
+-- before and after the instant's day; hundredths outward, and to the nearest tenth with halves up
+pub other-days : timedLines (R.At (instant 1999 12 31 8639905 Universal)) (negsuc 54) (
+    graze Star 10800 10801 ∷ opened Star 0 1 ∷ closest 10800 0 ∷ []
+    )
+    ≡ letters "graze star 0 1 ET 23:59:58.5 23:59:59.5 UT 23:59:59.0 00:00:00.1+1d\nopen star -10800 -10799 ET 20:59:58.5 20:59:59.5 UT 20:59:59.0 21:00:00.1\nclosest 0 0 ET 23:59:58.5 UT 23:59:59.1\n"
+unfolding timedLines timedLine behind scalesText scaleText instantText timeText dayText ofDayText secondsText known timeIn own textOf endFor filled piece signed decimal digitsOf
+other-days = refl
+
+-- "With a ΔT of 0 only the instant's own scale is printed."
+pub own-scale : timedLines (R.At (instant 1954 6 30 0 Universal)) (pos 0) (enter Penumbra 10799 10801 2700 ∷ [])
+    ≡ letters "enter penumbra -1 1 2700 UT 23:59:59.0-1d 00:00:01.0\n"
+unfolding timedLines timedLine behind scalesText scaleText instantText timeText dayText ofDayText secondsText known timeIn own textOf endFor filled piece signed decimal digitsOf
+own-scale = refl
+
+-- with no clock
+pub none : timedLines R.Nothing (pos 6880) (head 7 4800 16800 16 ∷ enter Penumbra 5399 5401 2700 ∷ [])
+    ≡ letters "station 7 from -6000 to 6000\nenter penumbra -5401 -5399 2700\n"
+unfolding timedLines timedLine lineOf textOf endFor filled piece signed decimal digitsOf
+none = refl

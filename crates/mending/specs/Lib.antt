@@ -1,2 +1,0 @@
-pub mod Mending
-pub mod AnswerLaws

@@ -1,3 +1,0 @@
-pub mod Phases
-pub mod States
-pub mod PhaseLaws

@@ -1,3 +1,0 @@
-pub mod Leading
-pub mod BoundLaws
-pub mod Repeats

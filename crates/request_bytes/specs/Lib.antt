@@ -1,9 +1,0 @@
-pub mod Layout
-pub mod NumberLaws
-pub mod LayoutLaws
-pub mod Request
-pub mod Rows
-pub mod RowLaws
-pub mod PutLaws
-pub mod GetLaws
-pub mod RoundTrip

@@ -1,0 +1,17 @@
+pub mod Fields
+pub mod Rows
+pub mod Table
+pub mod WidthLaws
+pub mod RowLaws
+pub mod TableLaws
+pub mod Layout
+pub mod NumberLaws
+pub mod LayoutLaws
+pub mod Request
+pub mod RowBytes
+pub mod RowByteLaws
+pub mod PutLaws
+pub mod GetLaws
+pub mod RoundTrip
+pub mod Input
+pub mod InputLaws

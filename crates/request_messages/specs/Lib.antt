@@ -1,5 +1,0 @@
-pub mod Messages
-pub mod MessageLaws
-pub mod WordLaws
-pub mod MessageLength
-pub mod Examples

@@ -1,6 +1,0 @@
--- what to believe: what a caller gets of one second, and of the share at it
-pub mod Second
-pub mod Shares
--- laws, for callers
-pub mod SecondLaws
-pub mod ShareLaws

@@ -1,0 +1,36 @@
+-- `request_text::typed_requests::first_of` meets its contract: each arm is a case of its definition. Assumes nothing.
+use borrow.Author.Tests.{lt-ltb, le-ltb}
+use borrow.Author.Needs.{needs}
+use Rattle.request_text.proofs.typed_requests.first_of.Statement.{statement}
+use Rattle.request_text.proofs.typed_requests.first_of.Tie as tie
+
+returns : tie.Need-returns
+returns c = rw (c .before .before .before .before .before .typed .given .1, c .before .before .told3 .given .1, lt-ltb _ _ (c .if1 .taken))
+
+returns-2 : tie.Need-returns-2
+returns-2 c = rw (c .before .before .before .enum-told .given .1, c .before .told .given .1)
+
+returns-3 : tie.Need-returns-3
+returns-3 c = rw (c .before .before .before .enum-told .given .1, c .before .told2 .given .1)
+
+returns-4 : tie.Need-returns-4
+returns-4 c = rw (c .before .before .before .typed .given .1, c .enum-told2 .given .1)
+
+returns-5 : tie.Need-returns-5
+returns-5 c = rw (c .before .before .before .before .before .typed .given .1, c .before .before .told3 .given .1, le-ltb _ _ (c .if1 .left))
+
+pub first-of-spec : {M : Type 1} → statement M
+first-of-spec =
+    tie.close
+    (tie.spec
+    (λ c. search needs)
+    (λ c. search needs)
+    (λ c. search needs)
+    (λ c. search needs)
+    (λ c. search needs)
+    (λ c. search needs)
+    returns
+    returns-2
+    returns-3
+    returns-4
+    returns-5)

@@ -1,0 +1,26 @@
+-- `request_text::typed_requests::messages::put_wrong` meets its contract: each fault has its text. Assumes nothing.
+use Rattle.request_text.specs.TypedMessageLaws.{put-wrong}
+use borrow.Author.Needs.{needs}
+use Rattle.request_text.proofs.typed_requests.messages.put_wrong.Statement.{statement}
+use Rattle.request_text.proofs.typed_requests.messages.put_wrong.Tie as tie
+
+returns : tie.Need-returns
+returns c = put-wrong _ _ _ _ _ _ (c .before .before .before .before .before .enum-told .given .1) (c .before .before .put-text .ensures)
+
+returns-2 : tie.Need-returns-2
+returns-2 c = put-wrong _ _ _ _ _ _ (c .before .before .before .before .before .enum-told2 .given .1) (c .before .before .put-text2 .ensures)
+
+pub put-wrong-spec : {M : Type 1} → statement M
+put-wrong-spec =
+    tie.close
+    (tie.spec
+    (λ c. search needs)
+    (λ c. search needs)
+    (λ c κs. search needs)
+    (λ c. search needs)
+    (λ c. search needs)
+    (λ c κs. search needs)
+    (λ c. search needs)
+    returns
+    (λ c. search needs)
+    returns-2)

@@ -1,0 +1,15 @@
+-- What is told of a line that names the instant and is refused.
+-- Assumes nothing: these are definitions.
+use Prim.Native.Nat.{ℕ}
+use mathlib.Core.List.{List, _++_}
+use Rattle.request_text.specs.declared.instants.Wrong.{Wrong}
+use Rattle.request_text.specs.declared.instants.Wrong.the-variants as W
+use Rattle.decimal_text.specs.Decimals.{decimal}
+use Rattle.decimal_text.specs.Texts.{letters}
+
+abbrev pub wrongText : Wrong → List ℕ
+wrongText W.Malformed = letters ": instant is not a date and time\n"
+wrongText W.Twice = letters ": instant is given twice\n"
+
+unfoldable pub instantMessage : ℕ → Wrong → List ℕ
+instantMessage i wrong = letters "line " ++ decimal i ++ wrongText wrong

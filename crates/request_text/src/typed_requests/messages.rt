@@ -1,0 +1,22 @@
+// The message of a line that names the instant and is refused, put as far as the room goes (`decimals`).
+use crate::instants::Wrong;
+ghost use Rattle.decimal_text.specs.Texts.{Put};
+ghost use Rattle.request_text.specs.TypedMessages.{wrongText, instantMessage};
+
+// What is wrong with it.
+fn put_wrong(out: &mut [u8], at: usize, wrong: Wrong) -> usize
+    ensures { λ r. ⌜ Put (now (out .entry)) at (wrongText wrong) (now (out .exit)) r ⌝ }
+{
+    match wrong {
+        Wrong::Malformed => decimal_text::put_text(out, at, b": instant is not a date and time\n"),
+        Wrong::Twice => decimal_text::put_text(out, at, b": instant is given twice\n"),
+    }
+}
+
+pub fn put_instant(out: &mut [u8], at: usize, line: usize, wrong: Wrong) -> usize
+    ensures { λ r. ⌜ Put (now (out .entry)) at (instantMessage line wrong) (now (out .exit)) r ⌝ }
+{
+    let number = decimal_text::put_text(out, at, b"line ");
+    let colon = decimal_text::put_number(out, number, line as u64);
+    put_wrong(out, colon, wrong)
+}

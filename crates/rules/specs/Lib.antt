@@ -1,4 +1,0 @@
-pub mod Rules
-pub mod Stages
-pub mod RuleLaws
-pub mod FieldFits

@@ -1,7 +1,0 @@
--- what to believe: document 02's wish 4 as definitions, and what is proved of them
-pub mod Share
-pub mod Holds
--- laws: of strips and half-chords, of two discs, of the share
-pub mod StripLaws
-pub mod DiscLaws
-pub mod ShareLaws

@@ -1,0 +1,3 @@
+// A sheet's bytes read and written.
+pub mod decoder;
+pub mod encoder;

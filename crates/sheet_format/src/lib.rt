@@ -1,0 +1,3 @@
+// The kinds of entries, and an entry's record in bytes.
+pub mod kinds;
+pub mod records;

@@ -1,0 +1,91 @@
+-- What the rules say of an entry, by what came before it. Reader and writer both go by these.
+-- Assumes nothing: these are definitions.
+use Prim.Native.Nat.{ℕ}
+use mathlib.Core.Bool.{Bool, cond, _&&_, _||_, not}
+use lib.Dec.{leb}
+use Rattle.sheet_types.specs.declared.phases.Phase.{Phase}
+use Rattle.sheet_types.specs.Refusals.{refusal}
+use Rattle.sheet_format.specs.declared.kinds.Kind.{Kind}
+use Rattle.sheet_format.specs.declared.kinds.Kind.the-variants as K
+use Rattle.sheet_format.specs.declared.kinds.Stage.{Stage}
+use Rattle.sheet_format.specs.declared.kinds.Stage.the-variants as S
+use Rattle.sheet_format.specs.declared.kinds.Crossing.{Crossing}
+use Rattle.sheet_format.specs.declared.kinds.Crossing.the-variants as C
+use Rattle.sheet_format.specs.declared.kinds.Progress.{Progress}
+use Rattle.sheet_format.specs.declared.kinds.Entry.{Entry}
+use Rattle.sheet_rules.specs.declared.rules.Judgement.{Judgement}
+use Rattle.sheet_rules.specs.declared.rules.Judgement.the-variants.{Next, Broken}
+use Rattle.sheet_format.specs.Kinds.{table, plain}
+use Rattle.sheet_format.specs.FieldRules.{isWithin}
+use Rattle.sheet_rules.specs.Order.{mayCome, closestAfter, repeats}
+
+-- ---- how far a sheet has come
+
+-- an entry of no phase came, in the window first to last
+abbrev pub reached : Stage → ℕ → ℕ → Progress
+reached stage first last = record { stage = stage; first = first; last = last; until = 0; crossing = C.Neither }
+
+-- nothing has come
+abbrev pub start : Progress
+start = reached S.Start 0 0
+
+-- an entry of a phase came, with that `to` and that crossing
+abbrev pub passed : Progress → Phase → ℕ → Crossing → Progress
+passed p φ to crossing = record { stage = S.Phase φ; first = p .first; last = p .last; until = to; crossing = crossing }
+
+-- "grazes and opens passed over": the crossing that stands when one of the phase came
+abbrev pub crossingKept : Progress → Phase → Crossing
+crossingKept p φ = cond (isWithin (p .stage) φ) (p .crossing) C.Neither
+
+abbrev pub afterKind : Progress → Entry → Kind → Progress
+afterKind p e K.Head = reached S.Head (e .b) (e .c)
+afterKind p e (K.Enter φ) = passed p φ (e .b) C.Enter
+afterKind p e (K.Leave φ) = passed p φ (e .b) C.Leave
+afterKind p e (K.Graze φ) = passed p φ (e .b) (crossingKept p φ)
+afterKind p e (K.Open φ) = passed p φ (e .b) (crossingKept p φ)
+afterKind p e K.Closest = reached (closestAfter (p .stage)) (p .first) (p .last)
+afterKind p e K.Share = reached S.Share (p .first) (p .last)
+afterKind p e K.End = reached S.End (p .first) (p .last)
+
+-- how far the sheet has come after an entry
+abbrev pub afterOf : Progress → Entry → Progress
+afterOf p e = afterKind p e (e .kind)
+
+-- ---- the two rules
+
+-- "each from at least the previous to of its family, and no enter next to an enter or leave next to a leave in that family, grazes and opens
+-- passed over": both only after an entry of the same phase
+abbrev pub phaseInOrder : Progress → Phase → Crossing → ℕ → Bool
+phaseInOrder p φ crossing from =
+    mayCome (p .stage) (S.Phase φ) && (not (isWithin (p .stage) φ) || (leb (p .until) from && not (repeats (p .crossing) crossing)))
+
+abbrev pub kindInOrder : Progress → Entry → Kind → Bool
+kindInOrder p e K.Head = mayCome (p .stage) S.Head
+kindInOrder p e (K.Enter φ) = phaseInOrder p φ C.Enter (e .a)
+kindInOrder p e (K.Leave φ) = phaseInOrder p φ C.Leave (e .a)
+kindInOrder p e (K.Graze φ) = phaseInOrder p φ C.Neither (e .a)
+kindInOrder p e (K.Open φ) = phaseInOrder p φ C.Neither (e .a)
+kindInOrder p e K.Closest = mayCome (p .stage) S.Closest
+kindInOrder p e K.Share = mayCome (p .stage) S.Share
+kindInOrder p e K.End = mayCome (p .stage) S.End
+
+abbrev pub inOrder : Progress → Entry → Bool
+inOrder p e = kindInOrder p e (e .kind)
+
+-- "a field breaks a reader's rule": the rule of the table, and 0 where the kind uses none
+abbrev pub fieldsHold : Progress → Entry → Bool
+fieldsHold p e = plain e && table (e .kind) .rule p e
+
+-- ---- the answer
+
+-- "in it .. 8, 7": the answer to both tests, of an entry whose record stands at `at`.
+-- "7 | a field breaks a reader's rule | as 5", "8 | order broken | as 5": "first byte of that record"
+abbrev pub verdictOn : ℕ → Bool → Bool → Progress → Judgement
+verdictOn at ordered sound next = cond ordered (cond sound (Next next) (Broken (refusal 7 at))) (Broken (refusal 8 at))
+
+-- where it is known whether the entry is plain
+unfoldable pub judgedAs : Bool → Progress → ℕ → Entry → Judgement
+judgedAs isPlain p at e = verdictOn at (inOrder p e) (isPlain && table (e .kind) .rule p e) (afterOf p e)
+
+abbrev pub judgementOf : Progress → ℕ → Entry → Judgement
+judgementOf p at e = judgedAs (plain e) p at e

@@ -1,0 +1,24 @@
+-- Demand 3 of the sky. In the customer's words:
+--   "A second said to be inside or outside by a sheet with a guard of 32 or more is truly so, for the elements and the station as they are given;
+--   and an enter or a leave lies truly between its two seconds."
+-- It is demand 3 (courses, Demand3) with the true answers in place of the exact ones. Definitions only.
+use lib.IntN.{ℤ, pos, _+ℤ_}
+use Rattle.elements.specs.Stars.{axisOf}
+use Rattle.shadow_geometry.specs.Shadow.{cone}
+use Rattle.requests.specs.declared.Occultation.{Occultation}
+use Rattle.local_circumstances.specs.Demand3.{ExactAnswers}
+use Rattle.sky_accuracy.specs.TruePlace.{TrueC}
+use Rattle.sky_accuracy.specs.TrueShadow.{Sky, TrulyInside, TrulyWithinUnits}
+
+-- the sky over the station at second τ: elements, station and second as they are given, and C on the spheroid there
+abbrev pub skyAt : (o : Occultation) → TrueC (o .station .latitude) → ℤ → Sky
+skyAt o c τ = record { axis = axisOf (o .body); station = o .station; C = c; τ = τ }
+
+-- the true answer of a phase at second τ: whether the true distance is less than the true L. Demand 3 asks that an unsure second lie within the
+-- guard plus 13 units of the edge; here 19 more
+abbrev pub trueAnswers : (o : Occultation) → TrueC (o .station .latitude) → ExactAnswers
+trueAnswers o c =
+    record {
+      Inside = λ φ τ. TrulyInside φ (skyAt o c τ) (cone (o .body) φ);
+      WithinUnits = λ n φ τ. TrulyWithinUnits (pos n +ℤ pos 19) φ (skyAt o c τ) (cone (o .body) φ);
+    }

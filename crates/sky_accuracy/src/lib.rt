@@ -1,0 +1,1 @@
+// How far the rule is from the sky. Nothing here runs.

@@ -1,4 +1,0 @@
--- what to believe
-pub mod Wide
--- laws
-pub mod WideLaws

@@ -1,5 +1,0 @@
-pub mod Survey
-pub mod Handed
-pub mod HeldRequest
-pub mod SurveyLaws
-pub mod HandedLaws

@@ -1,4 +1,0 @@
--- what to believe
-pub mod Tables
--- laws
-pub mod TablesLaws

@@ -1,4 +1,0 @@
-pub mod Times
-pub mod Reading
-pub mod TimeLaws
-pub mod Printed

@@ -1,4 +1,0 @@
-pub mod Reading
-pub mod NumberLaws
-pub mod ReadingLaws
-pub mod LineLaws

@@ -1,2 +1,0 @@
--- what to believe: the sheet of an occultation
-pub mod Sheet
