@@ -8,11 +8,11 @@ use native.Mathlib.Omega.{arith}
 use native.Mathlib.Nat.{eq-or-lt-of-le}
 use lib.IntN.{ℤ}
 use lib.Signed.{_≤ℤ_, _<ℤ_, clashℤ}
-use Rattle.rounding.specs.Order.{zs, ≤ℤ-trans, ≤ℤ-<ℤ-trans, <ℤ-≤}
-use Rattle.sine.specs.SineLaws.{either}
+use Rattle.rounding.specs.laws.Order.{zs, ≤ℤ-trans, ≤ℤ-<ℤ-trans, <ℤ-≤}
+use Rattle.sine.specs.laws.SineLaws.{either}
 use Rattle.seconds.specs.Closest.{IsClosest, closestTo}
-use Rattle.seconds.specs.ClosestLaws.{closest-is, closest-one}
-use Rattle.exclusion_test.specs.Gaps.{Later}
+use Rattle.seconds.specs.laws.ClosestLaws.{closest-is, closest-one}
+use Rattle.exclusion_test.specs.laws.Gaps.{Later}
 
 -- of the seconds 0 to i: each has more than `limit`, or no less than the least, and more if it is earlier
 abbrev pub Each : (ℕ → ℤ) → ℤ → ℕ → ℤ → ℕ → Type 0

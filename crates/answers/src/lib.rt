@@ -6,7 +6,7 @@ use sheet_types::refusals::Refusal;
 ghost use mathlib.Core.Path.{_≡_};
 ghost use lib.ListN.{length};
 ghost use Rattle.request_answers.specs.Sheet.{bufferFor, sinesFor, starBuffer, starSines, Begins, sheetStored};
-ghost use Rattle.request_answers.specs.SheetLaws.{Fits};
+ghost use Rattle.request_answers.specs.laws.SheetLaws.{Fits};
 ghost use Rattle.decimal_text.specs.Texts.{Put, Counts};
 ghost use Rattle.listing_lines.specs.Lines.{refusalLine};
 ghost use Rattle.listings.specs.Answers.{text, answered, roomWith};

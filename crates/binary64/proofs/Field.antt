@@ -5,7 +5,7 @@ use native.Mathlib.Omega.{arith}
 use native.Mathlib.Nat.{mul-one, mul-comm, mul-left-comm, mul-right-comm, mul-add, mul-le-mul, mul-div-mul-left, le-div-iff-mul-le, le-add-right, le-of-eq, le-trans}
 use lib.Pow.{pow-add, pow-pos, pow-mono}
 use Rattle.rounding.specs.Near.{halfUp}
-use Rattle.binary64.specs.Fields.{sizeOf}
+use Rattle.binary64.specs.laws.Fields.{sizeOf}
 
 -- where a size is too large; the weight of the leading digit
 abbrev limit : ℕ

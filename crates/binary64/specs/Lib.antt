@@ -1,7 +1,2 @@
 pub mod Doubles
-pub mod Fields
-pub mod ReadingLaws
-pub mod HeldLaws
-pub mod QuotientLaws
-pub mod ReadBack
-pub mod Examples
+pub mod laws

@@ -5,7 +5,7 @@ ghost use lib.IntN.{natAbs};
 ghost use lib.Ieee.Scale.{finite};
 ghost use Rattle.rounding.specs.Near.{halfUp};
 ghost use Rattle.binary64.specs.Doubles.{readingOf, standIn, doubleIn, longitudeScale, doubleOf, ReadsBack};
-ghost use Rattle.binary64.specs.Fields.{sizeOf};
+ghost use Rattle.binary64.specs.laws.Fields.{sizeOf};
 
 // Units to a degree.
 pub const DEGREE: u64 = 1_000_000;

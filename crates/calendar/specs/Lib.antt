@@ -1,2 +1,2 @@
 pub mod Calendar
-pub mod CalendarLaws
+pub mod laws

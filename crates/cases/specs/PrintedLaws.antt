@@ -6,7 +6,7 @@ use native.Mathlib.Omega.{arith}
 use borrow.Author.Tests.{lt-ltb, le-ltb}
 use lib.ListN.{length, getD, take, replicate, length-replicate}
 use Rattle.decimal_text.specs.Texts.{Put}
-use Rattle.decimal_text.specs.TextLaws.{put-nil}
+use Rattle.decimal_text.specs.laws.TextLaws.{put-nil}
 use Rattle.answers.specs.Answers.{answerText}
 use Rattle.cases.specs.Printed.{roomOf, requestOf, caseText}
 

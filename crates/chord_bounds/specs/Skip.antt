@@ -10,18 +10,18 @@ use native.Mathlib.Omega.{arith}
 use lib.IntN.{ℤ, pos, negsuc, negℤ, natAbs, _+ℤ_, _-ℤ_, _*ℤ_}
 use lib.Signed.{_≤ℤ_, _<ℤ_, clashℤ}
 use Rattle.sheet_types.specs.States as States
-use Rattle.rounding.specs.Order.{≤-parts, parts-≤, by-contra, natAbs-opposite, natAbs-sum, natAbs-minus, natAbs-product}
-use Rattle.rounding.specs.Ring.{num, _⊕_, _⊖_, _⊗_, opp, ring, v0, v1, v2, v3, v4, v5, v6}
-use Rattle.rounding.specs.Cert.{leq, less, lit, sq, _⊞_, _⊠_, certify, certify-<}
+use Rattle.rounding.specs.laws.Order.{≤-parts, parts-≤, by-contra, natAbs-opposite, natAbs-sum, natAbs-minus, natAbs-product}
+use Rattle.rounding.specs.laws.Ring.{num, _⊕_, _⊖_, _⊗_, opp, ring, v0, v1, v2, v3, v4, v5, v6}
+use Rattle.rounding.specs.laws.Cert.{leq, less, lit, sq, _⊞_, _⊠_, certify, certify-<}
 use Rattle.elements.specs.declared.Axis.{Axis}
 use Rattle.elements.specs.declared.Cone.{Cone}
 use Rattle.elements.specs.Sizes.{AxisSizes, ConeSizes}
 use Rattle.station.specs.declared.Place.{Place}
 use Rattle.station.specs.Sizes.{PlaceSizes}
 use Rattle.shadow_geometry.specs.Shadow.{Moment, momentOf, _², u, v, L, M, state}
-use Rattle.shadow_geometry.specs.StateLaws.{state-edge}
-use Rattle.chord_bounds.specs.Clear.{Between, farther, nearer}
-use Rattle.chord_bounds.specs.Path.{between, L-chord}
+use Rattle.shadow_geometry.specs.laws.StateLaws.{state-edge}
+use Rattle.chord_bounds.specs.laws.Clear.{Between, farther, nearer}
+use Rattle.chord_bounds.specs.laws.Path.{between, L-chord}
 
 -- how far the path may leave the chord of two seconds in a row, with the radius, in units; that of h seconds h² times as far
 abbrev pub sagitta : ℕ

@@ -2,8 +2,6 @@
 pub mod Sheet
 pub mod Demand3
 pub mod Marked
--- laws, for callers and for the proofs
-pub mod SheetSound
-pub mod Claims
 -- what to believe: the sheet of an occultation
 pub mod WrittenSheet
+pub mod laws

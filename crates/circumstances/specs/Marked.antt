@@ -5,20 +5,20 @@ use mathlib.Core.Bool.{false}
 use lib.IntN.{ℤ, pos, negsuc}
 use Rattle.rounding.specs.Near.{near}
 use Rattle.rounding.specs.Root.{root}
-use Rattle.rounding.specs.Examples.{near-half, near-half-below, near-past-half-below}
+use Rattle.rounding.specs.laws.Examples.{near-half, near-half-below, near-past-half-below}
 use Rattle.sine_table.specs.Table.{factorial, numerator, denominator, common, term, series, S}
 use Rattle.sine.specs.FirstQuadrant.{arc, sag, between, capped, firstQuadrant}
 use Rattle.sine.specs.Sine.{reduced, sineIn, sine, cosine}
-use Rattle.sine.specs.Examples.{sine-of-30, sine-of-least, sine-capped, cosine-of-180}
+use Rattle.sine.specs.laws.Examples.{sine-of-30, sine-of-least, sine-capped, cosine-of-180}
 use Rattle.elements.specs.Polynomial.{step, quadraticAt, cubicAt}
 use Rattle.station.specs.declared.Station.{Station}
 use Rattle.station.specs.Place.{under, W, C, Z, h, R, P, turnIn, ephemerisLongitude, placeOf}
-use Rattle.station.specs.Examples.{pole-R, pole-P, equator-R, equator-P}
+use Rattle.station.specs.laws.Examples.{pole-R, pole-P, equator-R, equator-P}
 use Rattle.shadow_geometry.specs.Shadow.{H, q, ξ, η, ζ, u, v, L, state}
 use Rattle.shadow_geometry.specs.Direction.{direction}
-use Rattle.shadow_geometry.specs.Examples.{worked}
+use Rattle.shadow_geometry.specs.laws.Examples.{worked}
 use Rattle.shadow.specs.Second as Shadow
-use Rattle.shadow.specs.Examples.{direction-of-1-1, direction-of-0-minus-5}
+use Rattle.shadow.specs.laws.Examples.{direction-of-1-1, direction-of-0-minus-5}
 use Rattle.contacts.specs.Entries.{someBetween}
 use Rattle.sheet_types.specs.declared.phases.Phase.the-variants.{Penumbra}
 use Rattle.requests.specs.declared.Request.{Request}

@@ -24,7 +24,7 @@ ghost use Rattle.seconds.specs.AllStates.{AllStates};
 ghost use Rattle.contacts.specs.Entries.{entries};
 ghost use Rattle.sheet_format.specs.RecordEntries.{bytesOf};
 ghost use Rattle.local_circumstances.specs.Courses.{entryOf, phaseEntries, entriesOf, closingEntries};
-ghost use Rattle.local_circumstances.specs.Lengths.{bytesNeeded};
+ghost use Rattle.local_circumstances.specs.laws.Lengths.{bytesNeeded};
 ghost use Rattle.local_circumstances.specs.Course.{courseOf};
 ghost use Rattle.circumstances.specs.WrittenSheet.{sheetBytes};
 

@@ -19,7 +19,7 @@ use Rattle.sheet_types.specs.declared.refusals.Refusal.{Refusal}
 use Rattle.sheet_types.specs.declared.refusals.Checked.{Checked}
 use Rattle.sheet_types.specs.declared.refusals.Checked.the-variants as C
 use Rattle.sheet_types.specs.Refusals.{refusal, andThen}
-use Rattle.sheet_types.specs.RefusalLaws.{not-within, both-within, then-within, then-refused}
+use Rattle.sheet_types.specs.laws.RefusalLaws.{not-within, both-within, then-within, then-refused}
 use Rattle.elements.specs.declared.Body.the-variants.{Sun}
 use Rattle.elements.specs.Stars.{bodyChecked}
 use Rattle.station.specs.Station.{stationChecked}
@@ -28,7 +28,7 @@ use Rattle.requests.specs.Requests as Requests
 use Rattle.requests.specs.Requests.{ofEclipse, windowChecked, guardChecked}
 use Rattle.requests.specs.RequestLaws.{InLimits, in-limits, checked-order}
 use Rattle.clock_network.specs.Defined.{firstRepeat, firstStray, firstLost}
-use Rattle.clock_network.specs.DefinedLaws.{first-repeat}
+use Rattle.clock_network.specs.laws.DefinedLaws.{first-repeat}
 use Rattle.clock_network.specs.declared.stations.Node.{Node}
 use Rattle.clock_network.specs.Held.{blankNode}
 use Rattle.clock_network.specs.Nodes.{numbersOf, clocksOf}

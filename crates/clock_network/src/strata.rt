@@ -4,9 +4,9 @@ ghost use mathlib.Core.Path.{_≡_};
 ghost use Prim.Native.Nat.{ℕ, _+_, _<_, _≤_};
 ghost use lib.ListN.{length, getD};
 ghost use lib.IntN.{ℤ, pos};
-ghost use Rattle.clock_network.specs.First.{First};
+ghost use Rattle.clock_network.specs.laws.First.{First};
 ghost use Rattle.clock_network.specs.Steps.{At, Distinct, StepsAre, Zero};
-ghost use Rattle.clock_network.specs.Search.{Small, NextIs, ReadyIs};
+ghost use Rattle.clock_network.specs.laws.Search.{Small, NextIs, ReadyIs};
 ghost use Rattle.clock_network.specs.Defined.{firstRepeat, firstStray, firstLost, stepsOf, earliestOf};
 
 // The place of the first `x` in `l`, or `l`'s length.

@@ -10,14 +10,14 @@ use lib.ListN.{length, getD, drop, replicate, length-append, length-drop, length
 use lib.Seq.{drop-drop, drop-at, getD-drop}
 use Rattle.run_length.specs.declared.Run.{Run}
 use Rattle.run_length.specs.Runs.{decoded, RunAt}
-use Rattle.run_length.specs.RunsLaws.{decoded-none}
+use Rattle.run_length.specs.laws.RunsLaws.{decoded-none}
 use Rattle.contacts.specs.declared.Cursor.{Cursor}
 use Rattle.contacts.specs.declared.entries.Entry.{Entry}
 use Rattle.contacts.specs.declared.entries.Entry.the-variants.{Enter, Leave, Graze, Open}
 use Rattle.contacts.specs.declared.Next.{Next}
 use Rattle.contacts.specs.declared.Next.the-variants.{Found, Done}
 use Rattle.contacts.specs.Entries.{sure, unsure, Last, none, last, state, side, if-so, between, atSecond, atEnd, walk, from, to, someBetween}
-use Rattle.contacts.specs.BetweenLaws.{between-some, between-none}
+use Rattle.contacts.specs.laws.BetweenLaws.{between-some, between-none}
 use Rattle.contacts.specs.Step.{entriesFrom, lastBefore, Stands, At, Stepped}
 
 -- a byte's state

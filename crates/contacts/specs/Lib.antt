@@ -1,20 +1,7 @@
 -- What a step promises, and its laws.
 pub mod Step
-pub mod StepLaws
 -- The rules: the entries of a phase; in document 01's own words; and exact answers.
 pub mod Entries
 pub mod CalledFor
 pub mod Exact
--- Laws, each in a file with its statement first.
-pub mod CalledForLaws
-pub mod Ordered
-pub mod Alternate
-pub mod WellFormed
-pub mod ExactLaws
-pub mod Ends
-pub mod Changes
-pub mod Shifted
--- What the laws are proved by.
-pub mod AllLaws
-pub mod BetweenLaws
-pub mod Induction
+pub mod laws

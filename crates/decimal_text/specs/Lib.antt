@@ -1,10 +1,6 @@
 pub mod Decimals
-pub mod DecimalLaws
 pub mod Texts
-pub mod TextLaws
 pub mod Patterns
-pub mod PatternLaws
-pub mod Examples
 pub mod Rows
 pub mod RowLaws
-pub mod CountedLaws
+pub mod laws

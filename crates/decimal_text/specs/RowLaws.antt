@@ -9,9 +9,9 @@ use mir.Syntax.{w64}
 use mir.Val.{toZ, ofZ}
 use lib.ListN.{length, take, drop, replicate, length-replicate}
 use lib.Signed.{mag}
-use Rattle.rounding.specs.Code.{read-result}
+use Rattle.rounding.specs.laws.Code.{read-result}
 use Rattle.decimal_text.specs.Texts.{Put}
-use Rattle.decimal_text.specs.TextLaws.{put-same, put-nil, put-then}
+use Rattle.decimal_text.specs.laws.TextLaws.{put-same, put-nil, put-then}
 use Rattle.decimal_text.specs.Patterns.{filled}
 use Rattle.decimal_text.specs.Rows.{rows, part}
 

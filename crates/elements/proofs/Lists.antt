@@ -6,7 +6,7 @@ use lib.IntN.{ℤ}
 use lib.Signed.{mag}
 use mir.Syntax.{w64}
 use mir.Val.{toZ, ofZ}
-use Rattle.rounding.specs.Code.{read-result}
+use Rattle.rounding.specs.laws.Code.{read-result}
 
 pub cons-back : (z : ℤ) {xs ys : List ℤ} → mag z < 2 ^ 63 → xs ≡ ys → toZ w64 (ofZ w64 z) ∷ xs ≡ z ∷ ys
 cons-back z {xs} {ys} h e = ap (λ (y : ℤ). y ∷ xs) (read-result z h) ∙ ap (λ (l : List ℤ). z ∷ l) e

@@ -1,9 +1,7 @@
 pub mod Polynomial
-pub mod PolynomialLaws
 pub mod Elements
-pub mod ElementsLaws
 pub mod Stars
 pub mod Sizes
 pub mod StarLaws
 pub mod Mirror
-pub mod MirrorLaws
+pub mod laws

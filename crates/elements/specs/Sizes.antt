@@ -7,8 +7,8 @@ use lib.IntN.{pos, natAbs}
 use lib.Signed.{_≤ℤ_}
 use Rattle.rounding.specs.declared.Limits.the-variants.{InRange}
 use Rattle.rounding.specs.Limits.{Row, row, _±_}
-use Rattle.rounding.specs.LimitsLaws.{each-in-range}
-use Rattle.rounding.specs.Order.{natAbs-le, natAbs-between}
+use Rattle.rounding.specs.laws.LimitsLaws.{each-in-range}
+use Rattle.rounding.specs.laws.Order.{natAbs-le, natAbs-between}
 use Rattle.elements.specs.declared.Cubic.{Cubic}
 use Rattle.elements.specs.declared.Quadratic.{Quadratic}
 use Rattle.elements.specs.declared.Axis.{Axis}

@@ -7,15 +7,15 @@ use mathlib.Core.List.{[], _∷_}
 use lib.Dec.{lit≤}
 use lib.IntN.{ℤ, pos, _+ℤ_}
 use lib.Signed.{_≤ℤ_, leZ-yes}
-use Rattle.rounding.specs.Ring.{num, _⊕_, _⊗_, ring, v0}
+use Rattle.rounding.specs.laws.Ring.{num, _⊕_, _⊗_, ring, v0}
 use Rattle.rounding.specs.Units.{hour}
 use Rattle.rounding.specs.Near.{near}
-use Rattle.rounding.specs.NearLaws.{near-zero}
-use Rattle.rounding.specs.LimitsLaws.{each-in-range}
-use Rattle.rounding.specs.Order.{natAbs-le}
+use Rattle.rounding.specs.laws.NearLaws.{near-zero}
+use Rattle.rounding.specs.laws.LimitsLaws.{each-in-range}
+use Rattle.rounding.specs.laws.Order.{natAbs-le}
 use Rattle.sheet_types.specs.declared.refusals.Checked.the-variants.{Within}
 use Rattle.sheet_types.specs.Refusals.{ofLimits}
-use Rattle.sheet_types.specs.RefusalLaws.{of-limits-within, both-within}
+use Rattle.sheet_types.specs.laws.RefusalLaws.{of-limits-within, both-within}
 use Rattle.elements.specs.declared.Star.{Star}
 use Rattle.elements.specs.declared.Body.{Body}
 use Rattle.elements.specs.declared.Body.the-variants as B

@@ -1,6 +1,3 @@
 pub mod Fits
 pub mod Conditions
-pub mod Exactly
-pub mod RangeLaws
-pub mod FitLaws
-pub mod WholeHours
+pub mod laws

@@ -4,13 +4,13 @@ use mathlib.Core.List.{List, map}
 use Rattle.rounding.specs.declared.Limits.{Limits}
 use Rattle.rounding.specs.declared.Limits.the-variants.{InRange}
 use Rattle.rounding.specs.Limits.{Row}
-use Rattle.rounding.specs.LimitsLaws.{each-in-range}
+use Rattle.rounding.specs.laws.LimitsLaws.{each-in-range}
 use Rattle.sheet_types.specs.Refusals.{ofLimits}
 use Rattle.elements.specs.declared.Elements.{Elements}
 use Rattle.elements.specs.Elements.{fields, elementsOf, elementsChecked, ranges, rangeOf}
-use Rattle.elements.specs.ElementsLaws.{elements-of-fields}
+use Rattle.elements.specs.laws.ElementsLaws.{elements-of-fields}
 use Rattle.binary64.specs.Doubles.{held}
-use Rattle.binary64.specs.HeldLaws.{ranges-held, in-ranges-held}
+use Rattle.binary64.specs.laws.HeldLaws.{ranges-held, in-ranges-held}
 
 unfoldable pub heldElements : Elements → Elements
 heldElements e = elementsOf (map held (fields e))

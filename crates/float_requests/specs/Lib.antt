@@ -1,12 +1,6 @@
 pub mod Instrument
 pub mod Writing
 pub mod HeldElements
-pub mod ScaleLaws
-pub mod SearchLaws
-pub mod ReadBackLaws
-pub mod WritingLaws
 pub mod Survey
 pub mod Handed
-pub mod HeldRequest
-pub mod SurveyLaws
-pub mod HandedLaws
+pub mod laws

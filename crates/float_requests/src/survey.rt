@@ -9,11 +9,11 @@ use requests::windows::Window;
 use sheet_types::refusals::Checked;
 ghost use mathlib.Core.Path.{_≡_};
 ghost use lib.Dec.{eqb};
-ghost use Rattle.sheet_types.specs.RefusalLaws.{numberIn};
+ghost use Rattle.sheet_types.specs.laws.RefusalLaws.{numberIn};
 ghost use Rattle.requests.specs.Requests.{ofEclipse};
 ghost use Rattle.circumstances.specs.Demand3.{Claimed};
 ghost use Rattle.float_requests.specs.Survey.{requestOf, surveyChecked, surveyAnswer, surveyBuffer, surveySines};
-ghost use Rattle.float_requests.specs.HeldRequest.{heldRequest};
+ghost use Rattle.float_requests.specs.laws.HeldRequest.{heldRequest};
 
 // What a sheet is asked for, as it was surveyed.
 pub struct Survey {

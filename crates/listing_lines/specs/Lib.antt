@@ -1,12 +1,5 @@
 pub mod Lines
-pub mod LineLaws
-pub mod Examples
 pub mod Times
-pub mod Reading
-pub mod TimeLaws
-pub mod Printed
 pub mod Clock
 pub mod Outward
-pub mod ClockLaws
-pub mod OutwardLaws
-pub mod ClockExamples
+pub mod laws

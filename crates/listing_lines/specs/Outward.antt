@@ -8,7 +8,7 @@ use Rattle.calendar.specs.declared.Scale.{Scale}
 use Rattle.calendar.specs.declared.Instant.{Instant}
 use Rattle.listing_lines.specs.Times.{dayOf, timeText}
 use Rattle.listing_lines.specs.Clock.{timeIn, earlier, later, nearest}
-use Rattle.listing_lines.specs.Reading.{readTime}
+use Rattle.listing_lines.specs.laws.Reading.{readTime}
 
 -- of hundredths `from` and `to`, and of tenths: what lies between the first two lies between the others
 pub record Outward (from to low high : ℤ) : Type 0 where

@@ -1,6 +1,4 @@
 pub mod Answers
-pub mod AnswerLaws
 pub mod Listings
-pub mod ListingLaws
 pub mod Extents
-pub mod ExtentLaws
+pub mod laws

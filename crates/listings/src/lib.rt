@@ -12,7 +12,7 @@ ghost use Rattle.decimal_text.specs.Texts.{Put};
 ghost use Rattle.listing_lines.specs.Lines.{refusalLine};
 ghost use Rattle.listings.specs.Answers.{text, answered, roomWith};
 ghost use Rattle.listings.specs.Listings.{listingOf, told, timed, printed};
-ghost use Rattle.listings.specs.ListingLaws.{IsSheet, Laid};
+ghost use Rattle.listings.specs.laws.ListingLaws.{IsSheet, Laid};
 
 // How many bytes a text has that was written, or why none was.
 pub enum Text {

@@ -8,10 +8,10 @@ use lib.IntN.{ℤ, natAbs}
 use lib.Signed.{mag}
 use mir.Syntax.{w64}
 use mir.Val.{toZ, ofZ}
-use Rattle.rounding.specs.Order.{mag-natAbs}
-use Rattle.rounding.specs.Code.{read-result}
+use Rattle.rounding.specs.laws.Order.{mag-natAbs}
+use Rattle.rounding.specs.laws.Code.{read-result}
 use Rattle.requests.specs.Mirror.{opposite}
-use Rattle.requests.specs.MirrorLaws.{opposite-keeps, opposite-size}
+use Rattle.requests.specs.laws.MirrorLaws.{opposite-keeps, opposite-size}
 
 -- it has a place in 64 bits, as the number has
 opposite-fits : (most : ℕ) → most ≤ 9223372036854775807 → (z : ℤ) → mag z < 2 ^ 63 → mag (opposite most z) < 2 ^ 63

@@ -15,7 +15,7 @@ ghost use Rattle.elements.specs.Mirror.{eachOfCubic, eachOfQuadratic};
 ghost use Rattle.requests.specs.Mirror.{opposite, mirrorOf};
 ghost use Rattle.request_format.specs.Fields.{count};
 ghost use Rattle.mirrors.specs.Bytes.{mirrorAnswer, mirrorBuffer};
-ghost use Rattle.mirrors.specs.ChangedLaws.{turned, changed};
+ghost use Rattle.mirrors.specs.laws.ChangedLaws.{turned, changed};
 
 // The largest number of 64 bits, and of 4 bytes: one number below zero has no opposite there, and stays as it is.
 const MOST: i64 = 9_223_372_036_854_775_807;

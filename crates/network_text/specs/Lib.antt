@@ -2,9 +2,4 @@
 pub mod Stations
 pub mod Lines
 pub mod Typing
--- what holds of them
-pub mod StationLaws
-pub mod LineLaws
-pub mod EclipseLaws
-pub mod TypingLaws
-pub mod Examples
+pub mod laws

@@ -16,8 +16,8 @@ ghost use lib.IntN.{pos};
 ghost use lib.ListN.{length, replicate};
 ghost use Rattle.network_text.specs.Lines.{toldOf};
 ghost use Rattle.network_text.specs.Typing.{listedBy, marksAfter, numbersAfter, marksBefore, typingOf, eclipseIn, answerOf, heldFrom, numbersFrom};
-ghost use Rattle.network_text.specs.TypingLaws.{addOf, answerBy, takenOf, Read};
-ghost use Rattle.network_text.specs.EclipseLaws.{placeOf};
+ghost use Rattle.network_text.specs.laws.TypingLaws.{addOf, answerBy, takenOf, Read};
+ghost use Rattle.network_text.specs.laws.EclipseLaws.{placeOf};
 
 // Why a text is refused.
 pub enum Fault {

@@ -10,7 +10,7 @@ ghost use Rattle.requests.specs.Windows.{secondCount};
 ghost use Rattle.requests.specs.WindowLaws.{WindowHolds};
 ghost use Rattle.run_length.specs.Runs.{decoded, Whole};
 ghost use Rattle.contacts.specs.Entries.{entries};
-ghost use Rattle.contacts.specs.Shifted.{shifted};
+ghost use Rattle.contacts.specs.laws.Shifted.{shifted};
 ghost use Rattle.sheet_format.specs.StoredSeconds.{stored};
 ghost use Rattle.networks.specs.Enters.{isEnter, firstEnter, firstTo};
 

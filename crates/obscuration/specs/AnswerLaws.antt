@@ -19,12 +19,12 @@ use Rattle.requests.specs.Windows.{inSpan}
 use Rattle.requests.specs.WindowLaws.{in-span}
 use Rattle.requests.specs.RequestLaws.{InLimits}
 use Rattle.requests.specs.Admission.{admitted}
-use Rattle.requests.specs.AdmissionLaws.{admitted-within}
+use Rattle.requests.specs.laws.AdmissionLaws.{admitted-within}
 use Rattle.seconds.specs.declared.OneSecond.{OneSecond}
 use Rattle.seconds.specs.declared.OneSecond.the-variants as S
 use Rattle.seconds.specs.OneSecond.{secondBy, secondChecked, secondAnswer}
-use Rattle.seconds.specs.SecondLaws.{placed, second-outside, second-inside}
-use Rattle.obscuration.specs.CoveredLaws.{share-at, sizes-at, share-means}
+use Rattle.seconds.specs.laws.SecondLaws.{placed, second-outside, second-inside}
+use Rattle.obscuration.specs.laws.CoveredLaws.{share-at, sizes-at, share-means}
 use Rattle.obscuration.specs.Answer.{shareBy, shareAnswer, AnswerMeans}
 
 -- the sizes of what is answered; a refusal has none

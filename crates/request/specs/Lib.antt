@@ -1,2 +1,2 @@
 pub mod Streams
-pub mod StreamLaws
+pub mod laws

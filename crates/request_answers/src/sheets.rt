@@ -7,7 +7,7 @@ ghost use Rattle.requests.specs.Shares.{withShare};
 ghost use Rattle.circumstances.specs.Demand3.{Claimed};
 ghost use Rattle.request_format.specs.Input.{requestOf, starRequestOf};
 ghost use Rattle.request_answers.specs.Sheet.{answerTo, bufferFor, sinesFor, sharedAnswer, sharedBuffer, sharedSines, starAnswer, starBuffer, starSines};
-ghost use Rattle.request_answers.specs.SheetLaws.{Made};
+ghost use Rattle.request_answers.specs.laws.SheetLaws.{Made};
 
 // The sheet of what is asked for.
 fn sheet_for(asked: Asked, sines: &mut [u32], buf: &mut [u8]) -> Answer

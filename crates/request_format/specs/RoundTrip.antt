@@ -8,13 +8,13 @@ use lib.ListN.{length, getD}
 use Rattle.request_format.specs.declared.fields.Shape.{Shape}
 use Rattle.request_format.specs.declared.fields.Shape.the-variants as S
 use Rattle.request_format.specs.Fields.{countOf}
-use Rattle.request_format.specs.WidthLaws.{held, held-size, whole-small}
+use Rattle.request_format.specs.laws.WidthLaws.{held, held-size, whole-small}
 use Rattle.request_format.specs.declared.bytes.Answer.the-variants.{Done}
 use Rattle.request_format.specs.Layout.{Piece, kind, number, countIn, fitting, numbers}
 use Rattle.big_endian.specs.Numbers.{Bytes}
-use Rattle.request_format.specs.LayoutLaws as Any
+use Rattle.request_format.specs.laws.LayoutLaws as Any
 use Rattle.request_format.specs.Request.{piecesFor, sizeFor, putFor, bytesFor, readingFor}
-use Rattle.request_format.specs.RowByteLaws.{pieces-count}
+use Rattle.request_format.specs.laws.RowByteLaws.{pieces-count}
 
 -- "exactly 109 bytes", 4 of ΔT and 2 of the guard
 pub size-is : sizeFor S.Eclipse ≡ 115

@@ -16,9 +16,9 @@ ghost use Rattle.request_format.specs.declared.fields.Shape.the-variants
 ghost use Rattle.request_format.specs.Fields.{bytesIn, holds, countOf};
 ghost use Rattle.request_format.specs.Layout.{complement, signed, numberBytes, numberAt};
 ghost use Rattle.request_format.specs.Request.{sizeFor, putFor, afterFor, readingFor, gotOf, numbersAfter};
-ghost use Rattle.request_format.specs.PutLaws.{Laid};
-ghost use Rattle.request_format.specs.GetLaws.{Read};
-ghost use Rattle.request_format.specs.RowBytes.{kindBytes, fieldBytes, kindStands, partOf};
+ghost use Rattle.request_format.specs.laws.PutLaws.{Laid};
+ghost use Rattle.request_format.specs.laws.GetLaws.{Read};
+ghost use Rattle.request_format.specs.laws.RowBytes.{kindBytes, fieldBytes, kindStands, partOf};
 
 // How many bytes a request has.
 pub fn length_of(shape: Shape) -> usize

@@ -5,7 +5,7 @@ ghost use Prim.Native.Nat.{_<_};
 ghost use lib.ListN.{length};
 ghost use Rattle.request_format.specs.Fields.{bytesIn, holds, countOf};
 ghost use Rattle.request_format.specs.Rows.{rowIn, rowAt};
-ghost use Rattle.request_format.specs.Table.{tables, widthFrom, nameFrom, fieldFrom, fieldsIn};
+ghost use Rattle.request_format.specs.laws.Table.{tables, widthFrom, nameFrom, fieldFrom, fieldsIn};
 
 // What a request asks about: an eclipse, or a star behind the Moon.
 pub enum Shape {

@@ -8,7 +8,7 @@ ghost use mathlib.Core.Path.{_≡_};
 ghost use Prim.Native.Nat.{_+_, _≤_};
 ghost use lib.ListN.{length};
 ghost use Rattle.request_format.specs.Input.{stationFrom, windowFrom, requestFrom, inputOf, sharing, eclipseAsked, deltaOf};
-ghost use Rattle.request_format.specs.InputLaws.{Small};
+ghost use Rattle.request_format.specs.laws.InputLaws.{Small};
 ghost use Rattle.request_format.specs.declared.fields.Shape.the-variants.{Eclipse};
 
 // What the bytes of an eclipse hold, or the refusal of their shape.

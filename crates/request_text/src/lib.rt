@@ -21,7 +21,7 @@ ghost use Rattle.request_format.specs.Fields.{countOf};
 ghost use Rattle.request_text.specs.Names.{named, findIn, names};
 ghost use Rattle.request_text.specs.Lines.{withSign, fitted, valueOf, ofValue, ofName, said, meaningOf};
 ghost use Rattle.request_text.specs.Typing.{InRoom, notedOf, marksAfter, numbersAfter, missing, typingOf, answerOf, numbersFrom};
-ghost use Rattle.request_text.specs.TypingLaws.{Read};
+ghost use Rattle.request_text.specs.laws.TypingLaws.{Read};
 
 // Why a text is refused. A field is counted from 0, in the order of the request's numbers (`request_fields`).
 pub enum Fault {

@@ -11,7 +11,7 @@ use calendar::Reference;
 use request_format::fields::LENGTH;
 ghost use mathlib.Core.Path.{_≡_};
 ghost use Rattle.request_text.specs.Meaning.{meaningOf, answerOf, bytesAfter, messageAfter};
-ghost use Rattle.request_text.specs.MeaningLaws.{firstOf};
+ghost use Rattle.request_text.specs.laws.MeaningLaws.{firstOf};
 
 // No message is longer: its word is a part of the text.
 pub const MESSAGE: usize = 65_623;

@@ -1,9 +1,8 @@
 pub mod Requests
 pub mod Admission
 pub mod RequestLaws
-pub mod AdmissionLaws
 pub mod Shares
 pub mod Mirror
-pub mod MirrorLaws
 pub mod Windows
 pub mod WindowLaws
+pub mod laws

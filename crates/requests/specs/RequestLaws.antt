@@ -11,15 +11,15 @@ use native.Mathlib.Omega.{arith}
 use lib.IntN.{ℤ, pos, natAbs}
 use lib.Signed.{leZ, leZ-yes, _≤ℤ_}
 use Rattle.rounding.specs.Parts.{same}
-use Rattle.rounding.specs.Order.{≤-parts, ≤ℤ-trans, leZ-true, natAbs-parts, natAbs-between, nonneg}
-use Rattle.rounding.specs.Tests.{both}
+use Rattle.rounding.specs.laws.Order.{≤-parts, ≤ℤ-trans, leZ-true, natAbs-parts, natAbs-between, nonneg}
+use Rattle.rounding.specs.laws.Tests.{both}
 use Rattle.rounding.specs.declared.Limits.{Limits}
 use Rattle.rounding.specs.declared.Limits.the-variants.{InRange, OutOfRange}
 use Rattle.sheet_types.specs.declared.refusals.Refusal.{Refusal}
 use Rattle.sheet_types.specs.declared.refusals.Checked.{Checked}
 use Rattle.sheet_types.specs.declared.refusals.Checked.the-variants as C
 use Rattle.sheet_types.specs.Refusals.{refusal, ofLimits, andThen}
-use Rattle.sheet_types.specs.RefusalLaws.{not-within, of-limits-within, both-within, numberIn, refused-number}
+use Rattle.sheet_types.specs.laws.RefusalLaws.{not-within, of-limits-within, both-within, numberIn, refused-number}
 use Rattle.elements.specs.declared.Body.{Body}
 use Rattle.elements.specs.declared.Body.the-variants as B
 use Rattle.elements.specs.Elements as E

@@ -14,8 +14,8 @@ use lib.ListN.{length, getD}
 use lib.Seq.{ext-getD}
 use lib.Signed.{leZ, _≤ℤ_}
 use Rattle.rounding.specs.Parts.{posP, negP, sum, opposite, same}
-use Rattle.rounding.specs.Order.{zs, ≤-parts, leZ-true, natAbs-by, natAbs-parts, nonneg, minus-nonneg}
-use Rattle.rounding.specs.Tests.{both}
+use Rattle.rounding.specs.laws.Order.{zs, ≤-parts, leZ-true, natAbs-by, natAbs-parts, nonneg, minus-nonneg}
+use Rattle.rounding.specs.laws.Tests.{both}
 use Rattle.requests.specs.declared.windows.Window.{Window}
 use Rattle.requests.specs.Windows.{windowHolds, inSpan, InWindow, nthSecond, secondCount, listOf, eachSecond}
 

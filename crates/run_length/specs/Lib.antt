@@ -1,4 +1,3 @@
 -- How runs of states are stored, and what a reader and a writer of one promise.
 pub mod Runs
--- Laws.
-pub mod RunsLaws
+pub mod laws

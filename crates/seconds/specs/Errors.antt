@@ -6,15 +6,15 @@ use Rattle.station.specs.Place.{placeOf}
 use Rattle.shadow_geometry.specs.Shadow as Shadow
 use Rattle.shadow_geometry.specs.Shadow.{cone}
 use Rattle.shadow_geometry.specs.Exact.{D, exact-u, exact-v, exact-L}
-use Rattle.shadow_geometry.specs.Errors.{u-error, v-error, L-error}
+use Rattle.shadow_geometry.specs.laws.Errors.{u-error, v-error, L-error}
 use Rattle.shadow_geometry.specs.Thirteen.{Thirteen}
-use Rattle.shadow.specs.SecondLaws.{tangent-small, distance-known}
+use Rattle.shadow.specs.laws.SecondLaws.{tangent-small, distance-known}
 use Rattle.requests.specs.declared.Occultation.{Occultation}
 use Rattle.requests.specs.Windows.{InWindow}
 use Rattle.requests.specs.WindowLaws.{in-window-size}
 use Rattle.requests.specs.RequestLaws.{InLimits}
 use Rattle.seconds.specs.Seconds.{momentAt}
-use Rattle.seconds.specs.SecondLaws.{placed}
+use Rattle.seconds.specs.laws.SecondLaws.{placed}
 
 -- "Errors to be proved: u within 7 units, v 7½, L1 and L2 within 3; and the distance less L, taken as a whole, within 13":
 -- each over the denominator D of the exact values; the last as document 01 says it, for every whole t (geometry, Thirteen)

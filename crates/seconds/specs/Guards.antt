@@ -6,13 +6,13 @@ use lib.Signed.{_≤ℤ_}
 use Rattle.sheet_types.specs.declared.phases.Phase.{Phase}
 use Rattle.sheet_types.specs.States.{State, unsure}
 use Rattle.station.specs.Place.{placeOf}
-use Rattle.shadow.specs.SecondLaws.{sure-under-less}
+use Rattle.shadow.specs.laws.SecondLaws.{sure-under-less}
 use Rattle.requests.specs.declared.Occultation.{Occultation}
 use Rattle.requests.specs.Windows.{InWindow}
 use Rattle.requests.specs.WindowLaws.{in-window-size}
 use Rattle.requests.specs.RequestLaws.{InLimits}
 use Rattle.seconds.specs.Seconds.{stateAt}
-use Rattle.seconds.specs.SecondLaws.{placed}
+use Rattle.seconds.specs.laws.SecondLaws.{placed}
 
 -- the same under another guard
 abbrev pub withGuard : ℤ → Occultation → Occultation

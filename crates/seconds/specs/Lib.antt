@@ -6,7 +6,5 @@ pub mod Exact
 pub mod Errors
 pub mod Guards
 -- laws, for callers
-pub mod ClosestLaws
 pub mod AllStates
-pub mod SecondLaws
-pub mod MirrorLaws
+pub mod laws

@@ -5,25 +5,25 @@ use lib.IntN.{ℤ, pos, natAbs, _*ℤ_}
 use lib.Signed.{_≤ℤ_, _<ℤ_}
 use mir.Syntax.{w64}
 use mir.Val.{toZ, ofZ}
-use Rattle.sheet_types.specs.PhaseLaws.{state-of-code}
+use Rattle.sheet_types.specs.laws.PhaseLaws.{state-of-code}
 use Rattle.sheet_types.specs.declared.phases.Phase.the-variants.{Central}
 use Rattle.sheet_types.specs.States.{stateOf}
 use Rattle.sine_table.specs.Table.{S}
-use Rattle.rounding.specs.Code.{read-back, read-size}
+use Rattle.rounding.specs.laws.Code.{read-back, read-size}
 use Rattle.elements.specs.declared.Elements.{Elements}
 use Rattle.elements.specs.declared.Body.the-variants as B
 use Rattle.elements.specs.Sizes.{ElementSizes}
 use Rattle.station.specs.declared.Place.{Place}
 use Rattle.station.specs.Sizes.{PlaceSizes}
 use Rattle.shadow_geometry.specs.Shadow.{Moment, moment, u, v, L, M}
-use Rattle.shadow_geometry.specs.Sizes.{M-nonneg}
+use Rattle.shadow_geometry.specs.laws.Sizes.{M-nonneg}
 use Rattle.shadow_geometry.specs.Magnitude.{magnitude}
 use Rattle.shadow_geometry.specs.Direction.{direction}
 use Rattle.shadow.specs.declared.Shadow.{Shadow}
 use Rattle.shadow.specs.declared.States.{States}
 use Rattle.shadow.specs.Shadow.{IsShadow}
 use Rattle.shadow.specs.Second.{stateAt, magnitudeAt, directionAt, ShadowSizes, IsStates}
-use Rattle.shadow.specs.SecondLaws.{magnitude-at, direction-at, L1-over, L2-within, shadow-sizes}
+use Rattle.shadow.specs.laws.SecondLaws.{magnitude-at, direction-at, L1-over, L2-within, shadow-sizes}
 
 -- a number that is written to bits and read
 abbrev read : ℤ → ℤ

@@ -1,5 +1,3 @@
 pub mod Shadow
 pub mod Second
-pub mod SecondLaws
-pub mod Examples
-pub mod MirrorLaws
+pub mod laws

@@ -10,16 +10,16 @@ use lib.Dec.{lit≤}
 use lib.IntN.{ℤ, pos, negℤ, natAbs, _+ℤ_, _-ℤ_, _*ℤ_, -ℤ-+ℤ-cancel}
 use lib.Signed.{_≤ℤ_, _<ℤ_, clashℤ}
 use Rattle.rounding.specs.Parts.{sum, opposite}
-use Rattle.rounding.specs.Order.{zs, ≤ℤ-total, <ℤ-≤, le-natAbs, neg-natAbs, natAbs-by, natAbs-sum, natAbs-product, natAbs-opposite}
-use Rattle.rounding.specs.Ring.{num, _⊕_, _⊖_, _⊗_, opp, ring, v0, v1, v2, v3, v4, v5}
-use Rattle.rounding.specs.Cert.{leq, less, lit, sq, _⊞_, _⊠_, certify, certify-<}
+use Rattle.rounding.specs.laws.Order.{zs, ≤ℤ-total, <ℤ-≤, le-natAbs, neg-natAbs, natAbs-by, natAbs-sum, natAbs-product, natAbs-opposite}
+use Rattle.rounding.specs.laws.Ring.{num, _⊕_, _⊖_, _⊗_, opp, ring, v0, v1, v2, v3, v4, v5}
+use Rattle.rounding.specs.laws.Cert.{leq, less, lit, sq, _⊞_, _⊠_, certify, certify-<}
 use Rattle.sheet_types.specs.declared.phases.Phase.{Phase}
 use Rattle.sheet_types.specs.declared.phases.Phase.the-variants.{Penumbra, Central, Star}
 use Rattle.elements.specs.declared.Cone.{Cone}
 use Rattle.shadow_geometry.specs.Shadow.{Moment, _², u, v, L, M, edge}
 use Rattle.shadow_geometry.specs.Exact.{D, exact-u, exact-v, exact-L, exact-M, exact-edge, AtMost, Less, AtLeast}
-use Rattle.shadow_geometry.specs.Errors.{u-error, v-error, L-inner}
-use Rattle.shadow_geometry.specs.Triangle.{le-of-squares, squares-of-size, triangle}
+use Rattle.shadow_geometry.specs.laws.Errors.{u-error, v-error, L-inner}
+use Rattle.shadow_geometry.specs.laws.Triangle.{le-of-squares, squares-of-size, triangle}
 
 -- "the 13 below is said for every whole t with L+t not negative: where M is at most (L+t)², the exact distance is at most the exact L plus t+13,
 -- and where M is at least (L+t)², it is at least the exact L plus t-13". The second holds whatever the sign of L+t.

@@ -10,8 +10,8 @@ use Rattle.sheet_format.specs.Entries.{head, enter, leave, closest, end}
 use Rattle.sheet_format.specs.RecordEntries.{bytesOf}
 use Rattle.sheet_rules.specs.Rules.{start}
 use Rattle.sheet_codec.specs.Sheets.{sheet, readWhole}
-use Rattle.sheet_codec.specs.WellFormed.{WellFormed}
-use Rattle.sheet_codec.specs.WellFormedLaws.{well-step, step-head, step-enter, step-leave, well-first, well-later, well-closest}
+use Rattle.sheet_codec.specs.laws.WellFormed.{WellFormed}
+use Rattle.sheet_codec.specs.laws.WellFormedLaws.{well-step, step-head, step-enter, step-leave, well-first, well-later, well-closest}
 use Rattle.sheet_codec.specs.RoundTrip.{read-whole-back}
 
 -- "station 7 from -6000 to 6000", its enters and leaves, "closest 0 1037735"; each second plus 10,800

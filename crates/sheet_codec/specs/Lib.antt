@@ -1,14 +1,7 @@
 pub mod Sheets
 pub mod Handed
-pub mod WellFormed
 pub mod RoundTrip
 pub mod HandWorked
 pub mod OldSheets
 pub mod Passes
-pub mod SheetLaws
-pub mod GivenLaws
-pub mod StoredLaws
-pub mod HandedLaws
-pub mod WellFormedLaws
-pub mod StarSheets
-pub mod StandLaws
+pub mod laws

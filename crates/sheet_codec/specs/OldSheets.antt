@@ -17,20 +17,20 @@ use Rattle.sheet_format.specs.declared.kinds.Entry.{Entry}
 use Rattle.sheet_format.specs.declared.kinds.Stage.the-variants as S
 use Rattle.sheet_format.specs.FieldRules.{guardHolds}
 use Rattle.sheet_format.specs.Kinds.{base, codeOf, widthsOf, sizeOf, plain}
-use Rattle.rounding.specs.Tests.{distinct, not-right}
+use Rattle.rounding.specs.laws.Tests.{distinct, not-right}
 use Rattle.sheet_format.specs.declared.records.Byte.the-variants as Byte
 use Rattle.sheet_format.specs.declared.records.Body.the-variants as Body
 use Rattle.sheet_format.specs.declared.records.Record.the-variants.{Is}
 use Rattle.big_endian.specs.Numbers.{two}
 use Rattle.sheet_format.specs.RecordEntries.{body, bytes, bytesOf}
-use Rattle.sheet_format.specs.EntryLaws.{length-bytes, bytes-cons}
+use Rattle.sheet_format.specs.laws.EntryLaws.{length-bytes, bytes-cons}
 use Rattle.sheet_format.specs.Records.{entryAt, recordAt}
-use Rattle.sheet_format.specs.RecordLaws.{by-body, byte-there, body-whole}
+use Rattle.sheet_format.specs.laws.RecordLaws.{by-body, byte-there, body-whole}
 use Rattle.sheet_rules.specs.Rules.{start, reached, kindInOrder, fieldsHold}
-use Rattle.sheet_rules.specs.RuleLaws.{judged-unsound}
+use Rattle.sheet_rules.specs.laws.RuleLaws.{judged-unsound}
 use Rattle.sheet_codec.specs.Sheets.{refused, storedAt, readSheet, readWhole}
-use Rattle.sheet_codec.specs.WellFormed.{WellFormed}
-use Rattle.sheet_codec.specs.GivenLaws.{from-broken}
+use Rattle.sheet_codec.specs.laws.WellFormed.{WellFormed}
+use Rattle.sheet_codec.specs.laws.GivenLaws.{from-broken}
 
 -- "01 head | station, first, last (2 bytes each)"
 abbrev pub oldHead : (station first last : ℕ) → List ℕ

@@ -17,18 +17,18 @@ use lib.Seq.{take-at}
 use lib.ListN.{length, take, drop, length-append, drop-of-length-le}
 use Rattle.sheet_format.specs.declared.kinds.Entry.{Entry}
 use Rattle.sheet_format.specs.RecordEntries.{bytesOf, numbersOf}
-use Rattle.sheet_format.specs.KindLaws.{size-small}
-use Rattle.sheet_format.specs.EntryLaws.{length-bytes-cons, length-numbers}
+use Rattle.sheet_format.specs.laws.KindLaws.{size-small}
+use Rattle.sheet_format.specs.laws.EntryLaws.{length-bytes-cons, length-numbers}
 use Rattle.sheet_rules.specs.Rules.{start}
 use Rattle.big_endian.specs.Numbers.{Bytes}
-use Rattle.sheet_rules.specs.FieldFits.{start-small}
+use Rattle.sheet_rules.specs.laws.FieldFits.{start-small}
 use Rattle.sheet_codec.specs.Sheets.{sheet, storedAt, readSheet, readWhole, roomAfter}
 use Rattle.sheet_codec.specs.Handed.{handedAt, listSheet, listWhole, bufferAfterList}
-use Rattle.sheet_codec.specs.SheetLaws.{read-start, list-start, whole-inv, whole-is, list-inv, list-is}
-use Rattle.sheet_codec.specs.StandLaws.{Stand, from-well, well-from}
-use Rattle.sheet_codec.specs.StoredLaws.{stored-steady, bytes-stand, stand-bytes}
-use Rattle.sheet_codec.specs.HandedLaws.{handed-steady, numbers-stand, stand-numbers}
-use Rattle.sheet_codec.specs.WellFormed.{WellFormed}
+use Rattle.sheet_codec.specs.laws.SheetLaws.{read-start, list-start, whole-inv, whole-is, list-inv, list-is}
+use Rattle.sheet_codec.specs.laws.StandLaws.{Stand, from-well, well-from}
+use Rattle.sheet_codec.specs.laws.StoredLaws.{stored-steady, bytes-stand, stand-bytes}
+use Rattle.sheet_codec.specs.laws.HandedLaws.{handed-steady, numbers-stand, stand-numbers}
+use Rattle.sheet_codec.specs.laws.WellFormed.{WellFormed}
 
 -- the reader accepts some bytes as a sheet
 abbrev pub Reads : List ℕ → Type 0

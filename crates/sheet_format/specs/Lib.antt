@@ -1,14 +1,8 @@
 pub mod Entries
 pub mod FieldRules
 pub mod Kinds
-pub mod KindLaws
 pub mod StoredSeconds
-pub mod StoredSecondLaws
 pub mod RecordEntries
-pub mod EntryLaws
 pub mod Numbers
-pub mod NumberLaws
 pub mod Records
-pub mod Bodies
-pub mod RecordLaws
-pub mod RecordTrip
+pub mod laws

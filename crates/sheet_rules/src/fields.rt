@@ -6,7 +6,7 @@ use sheet_format::kinds::Stage;
 ghost use mathlib.Core.Path.{_≡_};
 ghost use Rattle.sheet_format.specs.Kinds.{table};
 ghost use Rattle.sheet_format.specs.FieldRules.{guardHolds, inWindow, spanHolds, openHolds};
-ghost use Rattle.sheet_rules.specs.Fields.{isOpen, directionHolds, phaseHolds};
+ghost use Rattle.sheet_rules.specs.laws.Fields.{isOpen, directionHolds, phaseHolds};
 
 fn guard_holds(guard: u32) -> bool
     ensures { λ r. ⌜ r ≡ guardHolds guard ⌝ }

@@ -7,7 +7,7 @@ ghost use Rattle.sheet_types.specs.Phases.{same};
 ghost use Rattle.sheet_format.specs.FieldRules.{isWithin, greatestMagnitude};
 ghost use Rattle.sheet_rules.specs.Order.{phaseFollows, mayCome, closestAfter};
 ghost use Rattle.sheet_rules.specs.Order as Order;
-ghost use Rattle.sheet_rules.specs.OrderLaws.{crossingNumber};
+ghost use Rattle.sheet_rules.specs.laws.OrderLaws.{crossingNumber};
 ghost use Rattle.sheet_format.specs.declared.kinds.Stage.the-variants as S;
 
 fn same_phase(last: Phase, phase: Phase) -> bool

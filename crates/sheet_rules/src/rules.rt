@@ -9,7 +9,7 @@ use sheet_types::phases::Phase;
 use sheet_types::refusals::Refusal;
 ghost use mathlib.Core.Path.{_≡_};
 ghost use Rattle.sheet_rules.specs.Rules.{start, phaseInOrder, crossingKept, passed, reached, inOrder, afterOf, verdictOn, judgedAs};
-ghost use Rattle.sheet_rules.specs.Stages.{crossingOf, crossingAfter};
+ghost use Rattle.sheet_rules.specs.laws.Stages.{crossingOf, crossingAfter};
 
 // What the rules say of an entry: how far the sheet has come after it, or the refusal.
 pub enum Judgement {

@@ -1,5 +1,4 @@
 pub mod Refusals
-pub mod RefusalLaws
 pub mod Phases
 pub mod States
-pub mod PhaseLaws
+pub mod laws

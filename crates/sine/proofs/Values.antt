@@ -7,9 +7,9 @@ use lib.Signed.{mag}
 use mir.Syntax.{w64}
 use mir.Val.{SFits, toZ, ofZ}
 use mir.ValLaws.{toZ-ofZ}
-use Rattle.rounding.specs.Code.{arg, lit, sub, whole, ends, _▹_, fits, runs}
+use Rattle.rounding.specs.laws.Code.{arg, lit, sub, whole, ends, _▹_, fits, runs}
 use Rattle.sine.specs.Sine.{sine, cosine, IsSine, IsCosine}
-use Rattle.sine.specs.SineLaws.{sine-size, cosine-size}
+use Rattle.sine.specs.laws.SineLaws.{sine-size, cosine-size}
 
 pub is-sine : {a : ℕ} {r : ℤ} → r ≡ sine (pos a) → IsSine (pos a) r
 is-sine {a} e = record { value = e; small = rw e (sine-size (pos a)) }

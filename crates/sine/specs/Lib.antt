@@ -2,10 +2,4 @@
 pub mod FirstQuadrant
 pub mod Sine
 pub mod Quadrants
--- what follows from them
-pub mod FirstQuadrantLaws
-pub mod SineLaws
-pub mod QuadrantLaws
-pub mod OppositeLaws
-pub mod SizeLaws
-pub mod Examples
+pub mod laws

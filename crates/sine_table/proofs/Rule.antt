@@ -9,8 +9,8 @@ use lib.Dec.{T, eqb, eqb→eq}
 use lib.IntN.{ℤ, pos, negsuc, _+ℤ_}
 use lib.ListN.{length}
 use Rattle.sine_table.specs.Table.{S}
-use Rattle.sine_table.specs.Computed.{both, both-left, both-right}
-use Rattle.sine_table.specs.TableLaws.{nearest, S-nearest}
+use Rattle.sine_table.specs.laws.Computed.{both, both-left, both-right}
+use Rattle.sine_table.specs.laws.TableLaws.{nearest, S-nearest}
 use Rattle.sine_table.specs.Room.{entriesFrom, given, Gives}
 
 -- z is entry k

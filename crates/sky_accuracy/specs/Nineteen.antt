@@ -7,21 +7,21 @@ use native.Mathlib.Nat.{le-of-eq}
 use lib.IntN.{ℤ, pos, negℤ, natAbs, _+ℤ_, _-ℤ_, _*ℤ_}
 use lib.Signed.{_≤ℤ_, _<ℤ_, clashℤ}
 use Rattle.sheet_types.specs.declared.phases.Phase.{Phase}
-use Rattle.rounding.specs.Order.{by-contra, natAbs-product, le-natAbs, neg-natAbs}
-use Rattle.rounding.specs.Ring.{num, _⊕_, _⊖_, _⊗_, opp, v0, v1, v2, v3, v4, v5}
-use Rattle.rounding.specs.Cert.{fact, leq, less, lit, sq, _⊞_, _⊠_, certify, certify-<}
+use Rattle.rounding.specs.laws.Order.{by-contra, natAbs-product, le-natAbs, neg-natAbs}
+use Rattle.rounding.specs.laws.Ring.{num, _⊕_, _⊖_, _⊗_, opp, v0, v1, v2, v3, v4, v5}
+use Rattle.rounding.specs.laws.Cert.{fact, leq, less, lit, sq, _⊞_, _⊠_, certify, certify-<}
 use Rattle.elements.specs.declared.Cone.{Cone}
 use Rattle.elements.specs.Sizes.{AxisSizes}
 use Rattle.station.specs.Sizes.{StationSizes}
 use Rattle.shadow_geometry.specs.Shadow.{_²}
 use Rattle.shadow_geometry.specs.Exact.{D, exact-u, exact-v, exact-L, exact-M, exact-edge, AtMost, Less, AtLeast}
 use Rattle.shadow_geometry.specs.Thirteen.{edge-apart, by-contra-<}
-use Rattle.shadow_geometry.specs.Triangle.{le-of-squares, triangle}
-use Rattle.sky_accuracy.specs.Latitude.{up, natural}
+use Rattle.shadow_geometry.specs.laws.Triangle.{le-of-squares, triangle}
+use Rattle.sky_accuracy.specs.laws.Latitude.{up, natural}
 use Rattle.sky_accuracy.specs.TrueShadow.{Sky, momentOfSky, K, sin-H, cos-H, sin-d, cos-d, Q, R, P, T, true-u, true-v, true-L, true-M, true-edge}
-use Rattle.sky_accuracy.specs.Displacement.{east, north, along, moved, deep}
-use Rattle.sky_accuracy.specs.SkyLaws.{known}
-use Rattle.sky_accuracy.specs.Apart.{h, sH, cH, sd, cd, r, p, u-apart, v-apart, L-apart, some, edge-times, swap}
+use Rattle.sky_accuracy.specs.laws.Displacement.{east, north, along, moved, deep}
+use Rattle.sky_accuracy.specs.laws.SkyLaws.{known}
+use Rattle.sky_accuracy.specs.laws.Apart.{h, sH, cH, sd, cd, r, p, u-apart, v-apart, L-apart, some, edge-times, swap}
 
 -- "for every whole t", here in D-ths of a unit: where the exact distance is at most the exact L and t, the true one is less than the true L and t and 19
 -- units; where it is at least the exact L and t, the true one is at least the true L and t less 19 units. The true values stand over T, so all over D·T.

@@ -4,8 +4,8 @@ use Prim.Native.Nat.{_≤_}
 use lib.IntN.{pos, natAbs}
 use lib.Signed.{_≤ℤ_, leZ-yes}
 use Rattle.rounding.specs.declared.Limits.the-variants.{InRange}
-use Rattle.rounding.specs.LimitsLaws.{each-in-range}
-use Rattle.rounding.specs.Order.{≤ℤ-trans, natAbs-le}
+use Rattle.rounding.specs.laws.LimitsLaws.{each-in-range}
+use Rattle.rounding.specs.laws.Order.{≤ℤ-trans, natAbs-le}
 use Rattle.station.specs.declared.Station.{Station}
 use Rattle.station.specs.declared.Place.{Place}
 use Rattle.station.specs.Station.{ranges, rangeOf}

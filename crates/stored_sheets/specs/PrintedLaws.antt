@@ -11,18 +11,18 @@ use lib.Seq.{take-at}
 use Rattle.sheet_types.specs.declared.refusals.Refusal.{Refusal}
 use Rattle.sheet_types.specs.Refusals.{refusal}
 use Rattle.sheet_format.specs.declared.kinds.Entry.{Entry}
-use Rattle.sheet_format.specs.KindLaws.{size-small}
+use Rattle.sheet_format.specs.laws.KindLaws.{size-small}
 use Rattle.sheet_format.specs.RecordEntries.{bytesOf, numbersOf}
-use Rattle.sheet_format.specs.EntryLaws.{bytes-nil, length-bytes-cons, length-numbers}
+use Rattle.sheet_format.specs.laws.EntryLaws.{bytes-nil, length-bytes-cons, length-numbers}
 use Rattle.big_endian.specs.Numbers.{Bytes}
 use Rattle.sheet_codec.specs.declared.decoder.Extent.{Extent}
 use Rattle.sheet_codec.specs.declared.decoder.Extent.the-variants as X
 use Rattle.sheet_codec.specs.Sheets.{Sheet, sheet, refused, extentOf, holds, readSheet, readWhole, readInto, roomAfter}
 use Rattle.sheet_codec.specs.Handed.{listWhole, writeInto, bufferAfterList}
-use Rattle.sheet_codec.specs.SheetLaws.{whole-inv}
+use Rattle.sheet_codec.specs.laws.SheetLaws.{whole-inv}
 use Rattle.sheet_codec.specs.RoundTrip.{read-then-written, reads-length, list-well}
 use Rattle.decimal_text.specs.Texts.{letters, Put}
-use Rattle.decimal_text.specs.TextLaws.{put-same, put-nil}
+use Rattle.decimal_text.specs.laws.TextLaws.{put-same, put-nil}
 use Rattle.decimal_text.specs.RowLaws.{put-as, joined}
 use Rattle.listings.specs.Extents.{extentText}
 use Rattle.stored_sheets.specs.Printed.{answerText, threeAnswers, answersLine, entriesText, writtenLine, backText, sheetText}

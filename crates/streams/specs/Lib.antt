@@ -1,3 +1,3 @@
 pub mod Streams
-pub mod StreamLaws
 pub mod Stops
+pub mod laws

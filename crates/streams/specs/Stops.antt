@@ -29,15 +29,15 @@ use Rattle.circumstances.specs.Sheet.{answerBy, sheetAnswer}
 use Rattle.request_format.specs.declared.fields.Shape.{Shape}
 use Rattle.request_format.specs.declared.fields.Shape.the-variants as S
 use Rattle.request_format.specs.Layout.{Reading, numbers, misshaped, bytesBy}
-use Rattle.request_format.specs.LayoutLaws.{length-bytes}
+use Rattle.request_format.specs.laws.LayoutLaws.{length-bytes}
 use Rattle.big_endian.specs.Numbers.{Bytes}
 use Rattle.request_format.specs.Request.{piecesFor, sizeFor, bytesFor, readingFor}
 use Rattle.request_format.specs.RoundTrip.{write-back}
-use Rattle.request_format.specs.RowByteLaws.{pieces-count}
+use Rattle.request_format.specs.laws.RowByteLaws.{pieces-count}
 use Rattle.request_format.specs.Input.{requestFrom, starFrom, inputOf, starAsked}
 use Rattle.request_answers.specs.Sheet.{answerTo, starAnswer}
 use Rattle.streams.specs.Streams.{starKind, sizeFrom, isStar, answerFor, isShape, stopsBy, stopsFor, isMisshaped, wrongShape}
-use Rattle.streams.specs.StreamLaws.{eclipse-size, star-size}
+use Rattle.streams.specs.laws.StreamLaws.{eclipse-size, star-size}
 
 -- ---- a request's numbers are never refused with 10
 

@@ -3,4 +3,4 @@ pub mod PrintedLaws
 pub mod Reading
 pub mod NumberLaws
 pub mod ReadingLaws
-pub mod LineLaws
+pub mod laws

@@ -13,7 +13,7 @@ use lib.Seq.{drop-cons, drop-length}
 use lib.IntN.{ℤ, pos, natAbs, _-ℤ_}
 use Rattle.tokens.specs.declared.Class.the-variants as C
 use Rattle.tokens.specs.Text.{allOf, startOf}
-use Rattle.tokens.specs.TextLaws.{rest-is}
+use Rattle.tokens.specs.laws.TextLaws.{rest-is}
 use Rattle.table_elements.specs.declared.typed_rows.Fault.the-variants as F
 use Rattle.table_elements.specs.declared.typed_rows.Number.the-variants as N
 use Rattle.table_elements.specs.Reading.{appended, digitsOf, isWhole, withSign, numberOf}

@@ -12,7 +12,7 @@ use lib.Seq.{take-all, length-take-le}
 use Rattle.sheet_types.specs.declared.refusals.Refusal.{Refusal}
 use Rattle.decimal_text.specs.Texts.{letters, Put}
 use Rattle.decimal_text.specs.Decimals.{decimal}
-use Rattle.decimal_text.specs.TextLaws.{put-nil, Putting, putting-start, putting-turn, putting-end}
+use Rattle.decimal_text.specs.laws.TextLaws.{put-nil, Putting, putting-start, putting-turn, putting-end}
 use Rattle.decimal_text.specs.RowLaws.{put-as, joined}
 use Rattle.listing_lines.specs.Lines.{refusalLine}
 use Rattle.besselian_rows.specs.declared.tables.Answer.{Answer}
@@ -27,9 +27,9 @@ use Rattle.table_elements.specs.declared.typed_rows.Line.the-variants as
 use Rattle.table_elements.specs.Reading.{Said, nothing, row, faulty, lineOf, linesOf}
 use Rattle.tokens.specs.declared.Class.the-variants as C
 use Rattle.tokens.specs.Text.{runOf}
-use Rattle.tokens.specs.TextLaws.{rest-is}
+use Rattle.tokens.specs.laws.TextLaws.{rest-is}
 use Rattle.table_elements.specs.ReadingLaws.{answerOf, Stored}
-use Rattle.table_elements.specs.LineLaws.{Left, line-within, next-line}
+use Rattle.table_elements.specs.laws.LineLaws.{Left, line-within, next-line}
 use Rattle.table_elements.specs.Printed.{valuesText, tableText, messageOf, faultLine, Streams, told, first, ofLine, readLines, printed}
 
 -- what a line adds to the output, where it is that row, from 0, of its table; and the rows of the table after it

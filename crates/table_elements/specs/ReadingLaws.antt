@@ -12,7 +12,7 @@ use lib.ListN.{length, length-append, length-drop, take, drop, set, length-set}
 use lib.Seq.{take-suc-set, drop-drop}
 use Rattle.tokens.specs.declared.Class.the-variants as C
 use Rattle.tokens.specs.Text.{runOf}
-use Rattle.tokens.specs.TextLaws.{run-le, rest-is}
+use Rattle.tokens.specs.laws.TextLaws.{run-le, rest-is}
 use Rattle.table_elements.specs.declared.typed_rows.Fault.{Fault}
 use Rattle.table_elements.specs.declared.typed_rows.Fault.the-variants as F
 use Rattle.table_elements.specs.declared.typed_rows.Number.{Number}

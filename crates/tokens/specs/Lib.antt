@@ -1,5 +1,3 @@
 pub mod Text
-pub mod TextLaws
 pub mod Numbers
-pub mod NumberLaws
-pub mod Exact
+pub mod laws

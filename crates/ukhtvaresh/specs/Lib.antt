@@ -1,5 +1,4 @@
 pub mod Replies
-pub mod SheetLaws
 pub mod Seconds
 pub mod Shares
 pub mod Listing
@@ -8,3 +7,4 @@ pub mod TablesReply
 pub mod MendReply
 pub mod Positions
 pub mod NetworkReply
+pub mod laws

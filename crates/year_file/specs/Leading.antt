@@ -8,7 +8,7 @@ use lib.Seq.{take-all}
 use Rattle.sheet_types.specs.declared.refusals.Refusal.{Refusal}
 use Rattle.sheet_codec.specs.declared.decoder.Extent.the-variants as X
 use Rattle.sheet_codec.specs.Sheets.{Sheet, sheet, refused, readSheet, extentOf}
-use Rattle.sheet_codec.specs.SheetLaws.{extent-inv, extent-refused}
+use Rattle.sheet_codec.specs.laws.SheetLaws.{extent-inv, extent-refused}
 
 -- how long the sheet is that some bytes begin with; 0 where they begin with none
 abbrev pub leading : Sheet → ℕ

@@ -1,13 +1,5 @@
 pub mod Leading
-pub mod BoundLaws
-pub mod Repeats
 pub mod Walk
-pub mod Mended
 pub mod Claims
-pub mod StepLaws
-pub mod StretchLaws
-pub mod NoteLaws
-pub mod KeptLaws
-pub mod WalkLaws
 pub mod Mending
-pub mod AnswerLaws
+pub mod laws

@@ -8,7 +8,7 @@ ghost use Prim.Native.Nat.{_+_, _≤_};
 ghost use lib.ListN.{length, drop};
 ghost use Rattle.sheet_codec.specs.Sheets.{readSheet};
 ghost use Rattle.year_file.specs.Leading.{leading, NoneBefore};
-ghost use Rattle.year_file.specs.Repeats.{SameBefore, OpenOnce};
+ghost use Rattle.year_file.specs.laws.Repeats.{SameBefore, OpenOnce};
 
 // Whether the 14 bytes at a place stand 5 bytes before it too.
 fn same_before(file: &[u8], at: usize) -> bool

@@ -2,8 +2,8 @@
 use Prim.Native.Nat.{_<_}
 use native.Mathlib.Omega.{arith}
 use lib.ListN.{length}
-use Rattle.request_answers.specs.SheetLaws.{fits}
-use Rattle.answers.specs.AnswerLaws.{short-told, full-told}
+use Rattle.request_answers.specs.laws.SheetLaws.{fits}
+use Rattle.answers.specs.laws.AnswerLaws.{short-told, full-told}
 use borrow.Author.Needs.{needs}
 use Rattle.answers.proofs.answer.Statement.{statement}
 use Rattle.answers.proofs.answer.Tie as tie

@@ -1,7 +1,7 @@
 -- `answers::put_answer` meets its contract: the text is that of the answer and the bytes that it left.
 use native.Mathlib.Omega.{arith}
-use Rattle.request_answers.specs.SheetLaws.{fits}
-use Rattle.answers.specs.AnswerLaws.{text-is}
+use Rattle.request_answers.specs.laws.SheetLaws.{fits}
+use Rattle.answers.specs.laws.AnswerLaws.{text-is}
 use borrow.Author.Needs.{needs}
 use Rattle.answers.proofs.put_answer.Statement.{statement}
 use Rattle.answers.proofs.put_answer.Tie as tie

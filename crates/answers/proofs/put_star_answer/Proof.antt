@@ -1,7 +1,7 @@
 -- `answers::put_star_answer` meets its contract: the text is that of the answer and the bytes that it left.
 use native.Mathlib.Omega.{arith}
-use Rattle.request_answers.specs.SheetLaws.{star-fits}
-use Rattle.answers.specs.AnswerLaws.{star-text}
+use Rattle.request_answers.specs.laws.SheetLaws.{star-fits}
+use Rattle.answers.specs.laws.AnswerLaws.{star-text}
 use borrow.Author.Needs.{needs}
 use Rattle.answers.proofs.put_star_answer.Statement.{statement}
 use Rattle.answers.proofs.put_star_answer.Tie as tie

@@ -3,8 +3,8 @@ use mathlib.Core.Path.{sym}
 use mir.Syntax.{w64}
 use mir.ValLaws.{toZ-ofZ}
 use lib.Seq.{length-take-le}
-use Rattle.request_answers.specs.SheetLaws.{fits-written}
-use Rattle.answers.specs.AnswerLaws.{put-written, put-refused}
+use Rattle.request_answers.specs.laws.SheetLaws.{fits-written}
+use Rattle.answers.specs.laws.AnswerLaws.{put-written, put-refused}
 use borrow.Author.Needs.{needs}
 use Rattle.answers.proofs.put_text.Statement.{statement}
 use Rattle.answers.proofs.put_text.Tie as tie

@@ -1,9 +1,9 @@
 -- `answers::put_timed_star_answer` meets its contract: the text is that of the answer, the bytes that it left and the request's ΔT.
 use mathlib.Core.Path.{_∙_}
 use native.Mathlib.Omega.{arith}
-use Rattle.rounding.specs.Code.{read-result}
-use Rattle.request_answers.specs.SheetLaws.{star-fits}
-use Rattle.answers.specs.AnswerLaws.{star-timed}
+use Rattle.rounding.specs.laws.Code.{read-result}
+use Rattle.request_answers.specs.laws.SheetLaws.{star-fits}
+use Rattle.answers.specs.laws.AnswerLaws.{star-timed}
 use borrow.Author.Needs.{needs}
 use Rattle.answers.proofs.put_timed_star_answer.Statement.{statement}
 use Rattle.answers.proofs.put_timed_star_answer.Tie as tie

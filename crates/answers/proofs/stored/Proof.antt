@@ -1,6 +1,6 @@
 -- `answers::stored` meets its contract: the sheet's bytes and no line, or the line and no bytes.
 use native.Mathlib.Omega.{arith}
-use Rattle.answers.specs.AnswerLaws.{stored-written, stored-refused}
+use Rattle.answers.specs.laws.AnswerLaws.{stored-written, stored-refused}
 use borrow.Author.Needs.{needs}
 use Rattle.answers.proofs.stored.Statement.{statement}
 use Rattle.answers.proofs.stored.Tie as tie

@@ -8,7 +8,7 @@ use mir.Syntax.{w64}
 use mir.Val.{toZ, ofZ}
 use mir.ValLaws.{toZ-ofZ}
 use Rattle.binary64.specs.Doubles.{doubleOf, ReadsBack}
-use Rattle.binary64.specs.ReadBack.{reads-back, in-float}
+use Rattle.binary64.specs.laws.ReadBack.{reads-back, in-float}
 use Rattle.binary64.proofs.double_of.Statement.{statement}
 use Rattle.binary64.proofs.double_of.Tie as tie
 

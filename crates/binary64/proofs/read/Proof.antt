@@ -10,12 +10,12 @@ use lib.Dec.{T, leb}
 use lib.IntN.{ℤ, pos, negℤ, _-ℤ_, +ℤ-idl}
 use lib.Ieee.{binary64, fits, toBits}
 use lib.Ieee.Scale.{finite}
-use Rattle.rounding.specs.Code as code
-use Rattle.rounding.specs.Code.{Code, arg, lit, sub, Within, raw, ends, _▹_, runs, count-is, count-size}
+use Rattle.rounding.specs.laws.Code as code
+use Rattle.rounding.specs.laws.Code.{Code, arg, lit, sub, Within, raw, ends, _▹_, runs, count-is, count-size}
 use Rattle.binary64.specs.declared.Reading.the-variants.{Units}
 use Rattle.binary64.specs.Doubles.{signed, fitted, readingOf}
-use Rattle.binary64.specs.Fields.{sizeOf}
-use Rattle.binary64.specs.ReadingLaws.{finite-no-nan, units-fields, fitted-small, fitted-large, reading-none, reading-fits}
+use Rattle.binary64.specs.laws.Fields.{sizeOf}
+use Rattle.binary64.specs.laws.ReadingLaws.{finite-no-nan, units-fields, fitted-small, fitted-large, reading-none, reading-fits}
 use Rattle.binary64.proofs.read.Statement.{statement}
 use Rattle.binary64.proofs.read.Tie as tie
 

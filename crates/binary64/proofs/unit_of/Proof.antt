@@ -1,7 +1,7 @@
 -- `binary64::unit_of` meets its contract, case by case. Assumes nothing.
 use mathlib.Core.Path.{_∙_, sym, ap}
 use borrow.Author.Needs.{needs}
-use Rattle.rounding.specs.Code.{read-result}
+use Rattle.rounding.specs.laws.Code.{read-result}
 use Rattle.binary64.specs.Doubles.{standIn}
 use Rattle.binary64.proofs.unit_of.Statement.{statement}
 use Rattle.binary64.proofs.unit_of.Tie as tie

@@ -1,6 +1,6 @@
 -- `calendar::days_in` meets its contract: by the month, and in February by the year. Assumes nothing.
 use mathlib.Core.Path.{sym, _∙_}
-use Rattle.calendar.specs.CalendarLaws.{leap-february, february, short-month, long-month}
+use Rattle.calendar.specs.laws.CalendarLaws.{leap-february, february, short-month, long-month}
 use borrow.Author.Needs.{needs}
 use Rattle.calendar.proofs.days_in.Statement.{statement}
 use Rattle.calendar.proofs.days_in.Tie as tie

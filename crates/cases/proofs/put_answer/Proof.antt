@@ -1,5 +1,5 @@
 -- `cases::put_answer` meets its contract: the text stands at the start of what is left of the room.
-use Rattle.decimal_text.specs.TextLaws.{put-left}
+use Rattle.decimal_text.specs.laws.TextLaws.{put-left}
 use borrow.Author.Needs.{needs}
 use Rattle.cases.proofs.put_answer.Statement.{statement}
 use Rattle.cases.proofs.put_answer.Tie as tie

@@ -4,8 +4,8 @@ use mathlib.Core.Path.{_≡_, refl, sym, ap, _∙_}
 use borrow.Author.Needs.{needs}
 use Rattle.sheet_types.specs.declared.refusals.Checked.the-variants as C
 use Rattle.requests.specs.Admission.{admitted, sinesAfter}
-use Rattle.requests.specs.AdmissionLaws.{admitted-within}
-use Rattle.circumstances.specs.Claims.{sheet-is}
+use Rattle.requests.specs.laws.AdmissionLaws.{admitted-within}
+use Rattle.circumstances.specs.laws.Claims.{sheet-is}
 use Rattle.circumstances.proofs.sheet.Statement.{statement}
 use Rattle.circumstances.proofs.sheet.Tie as tie
 

@@ -1,7 +1,7 @@
 -- `circumstances::sheet_from` meets its contract: with room for it the whole sheet is written. Assumes nothing.
 use native.Mathlib.Omega.{arith}
 use borrow.Author.Needs.{needs}
-use Rattle.circumstances.specs.Claims.{room-short, room-enough}
+use Rattle.circumstances.specs.laws.Claims.{room-short, room-enough}
 use Rattle.circumstances.proofs.sheet_from.Statement.{statement}
 use Rattle.circumstances.proofs.sheet_from.Tie as tie
 

@@ -10,7 +10,7 @@ use Rattle.requests.specs.declared.Occultation.{Occultation}
 use Rattle.requests.specs.Windows.{secondCount}
 use Rattle.requests.specs.WindowLaws.{seconds-few}
 use Rattle.requests.specs.RequestLaws.{InLimits}
-use Rattle.circumstances.specs.Claims.{buffer-length}
+use Rattle.circumstances.specs.laws.Claims.{buffer-length}
 use Rattle.circumstances.proofs.sheet_within.Statement.{statement}
 use Rattle.circumstances.proofs.sheet_within.Tie as tie
 

@@ -14,7 +14,7 @@ ghost use Rattle.seconds.specs.AllStates.{AllStates};
 ghost use Rattle.contacts.specs.Entries.{entries};
 ghost use Rattle.sheet_format.specs.RecordEntries.{bytesOf};
 ghost use Rattle.local_circumstances.specs.Courses.{entriesOf, closingEntries};
-ghost use Rattle.local_circumstances.specs.Lengths.{kindIn, bytesNeeded};
+ghost use Rattle.local_circumstances.specs.laws.Lengths.{kindIn, bytesNeeded};
 ghost use Rattle.local_circumstances.specs.Course.{courseOf};
 ghost use Rattle.circumstances.specs.WrittenSheet.{sheetBytes};
 

@@ -7,7 +7,7 @@ use lib.ListN.{length, getD}
 use Rattle.run_length.specs.Runs.{decoded}
 use Rattle.contacts.specs.Entries.{none}
 use Rattle.contacts.specs.Step.{entriesFrom, Stands}
-use Rattle.contacts.specs.StepLaws.{at-start}
+use Rattle.contacts.specs.laws.StepLaws.{at-start}
 use Rattle.contacts.proofs.Seconds.{walkAt, stands-after, last-state, at-after, from-start, at-unsure, start-sure, start-end, open-start, open-whole, done, earlier}
 use Rattle.contacts.proofs.first_entry.Statement.{statement}
 use Rattle.contacts.proofs.first_entry.Tie as tie

@@ -2,7 +2,7 @@
 -- of `decimal`.
 use borrow.Author.Needs.{needs}
 use native.Mathlib.Omega.{arith}
-use Rattle.decimal_text.specs.PatternLaws.{number-small, number-more}
+use Rattle.decimal_text.specs.laws.PatternLaws.{number-small, number-more}
 use Prim.Native.Nat.{ℕ, _<_}
 use borrow.Fn.Kinds.{In}
 use borrow.Fn.PlainCycle.{Measures, is, falls, and}

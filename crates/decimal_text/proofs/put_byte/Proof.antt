@@ -1,6 +1,6 @@
 -- `decimal_text::put_byte` meets its contract: a store past the end changes nothing, and only the greatest place has none after it.
 use native.Mathlib.Omega.{arith}
-use Rattle.decimal_text.specs.TextLaws.{put-in, put-past, put-last}
+use Rattle.decimal_text.specs.laws.TextLaws.{put-in, put-past, put-last}
 use borrow.Author.Needs.{needs}
 use Rattle.decimal_text.proofs.put_byte.Statement.{statement}
 use Rattle.decimal_text.proofs.put_byte.Tie as tie

@@ -1,10 +1,10 @@
 -- `decimal_text::put_filled` meets its contract. What is left of the pattern, once put, gives what is to be left (`Filling`).
 use Prim.Native.Nat.{_-_}
 use mathlib.Core.Path.{_∙_}
-use Rattle.rounding.specs.Code.{read-result}
+use Rattle.rounding.specs.laws.Code.{read-result}
 use native.Mathlib.Omega.{arith}
 use lib.ListN.{length}
-use Rattle.decimal_text.specs.PatternLaws.{Filling, filling-start, filling-turn, filling-end}
+use Rattle.decimal_text.specs.laws.PatternLaws.{Filling, filling-start, filling-turn, filling-end}
 use borrow.Author.Needs.{needs}
 use Rattle.decimal_text.proofs.put_filled.Statement.{statement}
 use Rattle.decimal_text.proofs.put_filled.Tie as tie

@@ -2,7 +2,7 @@
 use mir.Syntax.{w64}
 use mir.ValLaws.{toZ-ofZ}
 use borrow.Author.Needs.{needs}
-use Rattle.decimal_text.specs.PatternLaws.{piece-number, piece-self}
+use Rattle.decimal_text.specs.laws.PatternLaws.{piece-number, piece-self}
 use Rattle.decimal_text.proofs.put_piece.Statement.{statement}
 use Rattle.decimal_text.proofs.put_piece.Tie as tie
 

@@ -6,8 +6,8 @@ use lib.Signed.{_≤ℤ_, _<ℤ_}
 use mir.Syntax.{w64}
 use mir.Val.{toZ, ofZ}
 use mir.ValLaws.{toZ-ofZ}
-use Rattle.rounding.specs.Order.{ltZ-true, ltZ-false}
-use Rattle.decimal_text.specs.PatternLaws.{minus-then, no-minus}
+use Rattle.rounding.specs.laws.Order.{ltZ-true, ltZ-false}
+use Rattle.decimal_text.specs.laws.PatternLaws.{minus-then, no-minus}
 use borrow.Author.Needs.{needs}
 use Rattle.decimal_text.proofs.put_signed.Statement.{statement}
 use Rattle.decimal_text.proofs.put_signed.Tie as tie

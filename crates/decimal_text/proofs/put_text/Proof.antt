@@ -2,7 +2,7 @@
 use Prim.Native.Nat.{_-_}
 use native.Mathlib.Omega.{arith}
 use lib.ListN.{length}
-use Rattle.decimal_text.specs.PatternLaws.{Copying, copying-start, copying-turn, copying-end}
+use Rattle.decimal_text.specs.laws.PatternLaws.{Copying, copying-start, copying-turn, copying-end}
 use borrow.Author.Needs.{needs}
 use Rattle.decimal_text.proofs.put_text.Statement.{statement}
 use Rattle.decimal_text.proofs.put_text.Tie as tie

@@ -10,8 +10,8 @@ use mir.Syntax.{w64}
 use mir.Val.{toZ, ofZ}
 use mir.ValLaws.{toZ-ofZ}
 use Rattle.rounding.specs.Parts.{posP, sum, is-self, is-minus}
-use Rattle.rounding.specs.Order.{<-parts, parts-≤, natAbs-parts, natAbs-by, nonneg, minus-nonneg, fits64, fits64-natAbs, ltZ-true, ltZ-false}
-use Rattle.rounding.specs.Code.{Code, arg, lit, sub, Within, whole, ends, _▹_, fits, runs, unsigned, cast-unsigned}
+use Rattle.rounding.specs.laws.Order.{<-parts, parts-≤, natAbs-parts, natAbs-by, nonneg, minus-nonneg, fits64, fits64-natAbs, ltZ-true, ltZ-false}
+use Rattle.rounding.specs.laws.Code.{Code, arg, lit, sub, Within, whole, ends, _▹_, fits, runs, unsigned, cast-unsigned}
 use Rattle.decimal_text.proofs.size.Statement.{statement}
 use Rattle.decimal_text.proofs.size.Tie as tie
 

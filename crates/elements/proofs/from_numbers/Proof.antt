@@ -2,7 +2,7 @@
 use borrow.Author.Needs.{needs}
 use lib.IntN.{pos}
 use lib.ListN.{getD}
-use Rattle.rounding.specs.Code.{read-result}
+use Rattle.rounding.specs.laws.Code.{read-result}
 use Rattle.elements.specs.Elements.{elementsOf}
 use Rattle.elements.proofs.from_numbers.Statement.{statement}
 use Rattle.elements.proofs.from_numbers.Tie as tie

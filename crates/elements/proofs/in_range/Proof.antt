@@ -1,6 +1,6 @@
 -- `elements::in_range` meets its contract: the numbers are searched against the two tables. Assumes nothing.
 use borrow.Author.Needs.{needs}
-use Rattle.rounding.specs.LimitsLaws.{of-listed}
+use Rattle.rounding.specs.laws.LimitsLaws.{of-listed}
 use Rattle.elements.specs.Elements.{ranges, rangeOf}
 use Rattle.elements.proofs.in_range.Statement.{statement}
 use Rattle.elements.proofs.in_range.Tie as tie

@@ -3,7 +3,7 @@ use mathlib.Core.Path.{_∙_, ap}
 use Prim.Native.Nat.{_+_, _*_, _≤_}
 use native.Mathlib.Omega.{arith}
 use lib.IntN.{ℤ, natAbs}
-use Rattle.rounding.specs.Code.{read-back, read-size}
+use Rattle.rounding.specs.laws.Code.{read-back, read-size}
 use Rattle.rounding.specs.Value.{Value}
 use Rattle.elements.specs.Polynomial.{step, quadraticAt}
 use Rattle.elements.proofs.quadratic_at.Statement.{statement}

@@ -6,10 +6,10 @@ use native.Mathlib.Omega.{arith}
 use native.Mathlib.Nat.{le-refl}
 use lib.IntN.{ℤ, natAbs, _+ℤ_, _*ℤ_}
 use Rattle.rounding.specs.Near.{near}
-use Rattle.rounding.specs.Code.{Code, arg, add, mul, Within, whole, ends, _▹_, fits, runs, within}
+use Rattle.rounding.specs.laws.Code.{Code, arg, add, mul, Within, whole, ends, _▹_, fits, runs, within}
 use Rattle.rounding.specs.Units.{hour}
 use Rattle.elements.specs.Polynomial.{step}
-use Rattle.elements.specs.PolynomialLaws.{part-size, step-size}
+use Rattle.elements.specs.laws.PolynomialLaws.{part-size, step-size}
 use Rattle.elements.proofs.step.Statement.{statement}
 use Rattle.elements.proofs.step.Tie as tie
 

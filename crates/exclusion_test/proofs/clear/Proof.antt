@@ -7,7 +7,7 @@ use borrow.Author.Needs.{needs}
 use lib.IntN.{ℤ, pos, natAbs}
 use mir.Syntax.{w64}
 use mir.Val.{toZ, ofZ}
-use Rattle.rounding.specs.Code.{read-back, read-size, count-is, count-size}
+use Rattle.rounding.specs.laws.Code.{read-back, read-size, count-is, count-size}
 use Rattle.chord_bounds.specs.Skip.{wide}
 use Rattle.shadow.specs.declared.Sample.{Sample}
 use Rattle.shadow.specs.Second.{radiusIn}

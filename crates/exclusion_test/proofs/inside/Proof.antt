@@ -1,7 +1,7 @@
 -- `exclusion_test::inside` meets its contract: each test that was left is a part of what it says. Assumes nothing.
 use mathlib.Core.List.{[], _∷_}
 use mathlib.Core.Bool.{false≢true}
-use Rattle.rounding.specs.Code.{Code, arg, sub, mul, Within, whole, ends, _▹_, fits, left-<}
+use Rattle.rounding.specs.laws.Code.{Code, arg, sub, mul, Within, whole, ends, _▹_, fits, left-<}
 use Rattle.exclusion_test.proofs.inside.Statement.{statement}
 use Rattle.exclusion_test.proofs.inside.Tie as tie
 

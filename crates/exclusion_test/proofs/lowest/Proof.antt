@@ -5,11 +5,11 @@ use Prim.Native.Nat.{_≤_}
 use native.Mathlib.Omega.{arith}
 use lib.IntN.{ℤ, pos, negsuc, natAbs, _+ℤ_, _-ℤ_, _*ℤ_}
 use lib.Signed.{_≤ℤ_, _<ℤ_, quotZ}
-use Rattle.rounding.specs.Order.{zs, parts-≤, +ℤ-nonneg, square-nonneg}
-use Rattle.rounding.specs.Ring.{num, _⊕_, _⊖_, _⊗_, v0, v1, v2, v3}
-use Rattle.rounding.specs.Cert.{leq, lit, _⊞_, _⊠_, certify}
-use Rattle.rounding.specs.Code as K
-use Rattle.rounding.specs.Code.{Code, arg, add, sub, mul, quo, Within, whole, ends, _▹_, fits, runs, within, above, taken-<, left-<}
+use Rattle.rounding.specs.laws.Order.{zs, parts-≤, +ℤ-nonneg, square-nonneg}
+use Rattle.rounding.specs.laws.Ring.{num, _⊕_, _⊖_, _⊗_, v0, v1, v2, v3}
+use Rattle.rounding.specs.laws.Cert.{leq, lit, _⊞_, _⊠_, certify}
+use Rattle.rounding.specs.laws.Code as K
+use Rattle.rounding.specs.laws.Code.{Code, arg, add, sub, mul, quo, Within, whole, ends, _▹_, fits, runs, within, above, taken-<, left-<}
 use Rattle.shadow.specs.declared.Sample.{Sample}
 use Rattle.exclusion_test.specs.Passed.{chord, Lowest}
 use Rattle.exclusion_test.proofs.lowest.Statement.{statement}

@@ -5,8 +5,8 @@ use mathlib.Core.Logic.{inl, inr}
 use native.Mathlib.Omega.{arith}
 use lib.IntN.{ℤ, pos}
 use lib.Signed.{_≤ℤ_, _<ℤ_}
-use Rattle.rounding.specs.Order.{zs}
-use Rattle.rounding.specs.Code.{arg, lit, Within, whole, ends, _▹_, taken-<, left-<}
+use Rattle.rounding.specs.laws.Order.{zs}
+use Rattle.rounding.specs.laws.Code.{arg, lit, Within, whole, ends, _▹_, taken-<, left-<}
 use Rattle.exclusion_test.proofs.one_sign.Statement.{statement}
 use Rattle.exclusion_test.proofs.one_sign.Tie as tie
 

@@ -3,10 +3,10 @@ use mathlib.Core.List.{[], _∷_}
 use native.Mathlib.Omega.{arith}
 use lib.IntN.{ℤ, _+ℤ_}
 use lib.Signed.{_≤ℤ_, _<ℤ_}
-use Rattle.rounding.specs.Order.{zs}
-use Rattle.rounding.specs.Ring.{_⊕_, v0, v1, v2}
-use Rattle.rounding.specs.Cert.{leq, certify}
-use Rattle.rounding.specs.Code.{Code, arg, add, mul, Within, whole, ends, _▹_, fits, taken-<, left-<}
+use Rattle.rounding.specs.laws.Order.{zs}
+use Rattle.rounding.specs.laws.Ring.{_⊕_, v0, v1, v2}
+use Rattle.rounding.specs.laws.Cert.{leq, certify}
+use Rattle.rounding.specs.laws.Code.{Code, arg, add, mul, Within, whole, ends, _▹_, fits, taken-<, left-<}
 use Rattle.exclusion_test.proofs.outside.Statement.{statement}
 use Rattle.exclusion_test.proofs.outside.Tie as tie
 

@@ -5,7 +5,7 @@ use mathlib.Core.Logic.{inl, inr}
 use Prim.Native.Nat.{_≤_}
 use native.Mathlib.Omega.{arith}
 use lib.IntN.{natAbs}
-use Rattle.rounding.specs.Code.{read-back, read-size}
+use Rattle.rounding.specs.laws.Code.{read-back, read-size}
 use Rattle.chord_bounds.specs.Skip.{OneSign}
 use Rattle.exclusion_test.specs.Samples.{size}
 use Rattle.exclusion_test.specs.Passed.{Out, In}

@@ -5,7 +5,7 @@ use mathlib.Core.List.{[], _∷_}
 use native.Mathlib.Omega.{arith}
 use borrow.Author.Needs.{needs}
 use lib.IntN.{ℤ, pos, natAbs, _+ℤ_, _*ℤ_}
-use Rattle.rounding.specs.Code.{Code, arg, add, mul, Within, whole, raw, ends, _▹_, fits, runs, within, count-is, count-size}
+use Rattle.rounding.specs.laws.Code.{Code, arg, add, mul, Within, whole, raw, ends, _▹_, fits, runs, within, count-is, count-size}
 use Rattle.exclusion_test.proofs.widened.Statement.{statement}
 use Rattle.exclusion_test.proofs.widened.Tie as tie
 

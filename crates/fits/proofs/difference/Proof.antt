@@ -5,11 +5,11 @@ use Prim.Native.Nat.{_≤_}
 use native.Mathlib.Omega.{arith}
 use borrow.Author.Needs.{needs}
 use lib.IntN.{ℤ, pos, _-ℤ_, _*ℤ_}
-use Rattle.rounding.specs.Code.{Code, arg, lit, sub, mul, run, Within, whole, raw, ends, _▹_, fits, runs, count-is, count-size}
+use Rattle.rounding.specs.laws.Code.{Code, arg, lit, sub, mul, run, Within, whole, raw, ends, _▹_, fits, runs, count-is, count-size}
 use Rattle.rounding.specs.Units.{hour}
 use Rattle.elements.specs.Polynomial.{cubicAt}
 use Rattle.fits.specs.Fits.{second}
-use Rattle.fits.specs.FitLaws.{second-size}
+use Rattle.fits.specs.laws.FitLaws.{second-size}
 use Rattle.fits.proofs.difference.Statement.{statement}
 use Rattle.fits.proofs.difference.Tie as tie
 

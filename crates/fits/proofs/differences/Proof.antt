@@ -10,13 +10,13 @@ use lib.ListN.{length, getD, set, length-set}
 use lib.Seq.{getD-set-same, getD-set-other}
 use mir.Syntax.{w64}
 use mir.Val.{toZ, ofZ}
-use Rattle.rounding.specs.Code.{read-result, read-back, read-size}
+use Rattle.rounding.specs.laws.Code.{read-result, read-back, read-size}
 use Rattle.elements.specs.declared.Cubic.{Cubic}
 use Rattle.elements.specs.Elements.{cubicFrom}
 use Rattle.elements.specs.Polynomial.{cubicAt}
 use Rattle.elements.specs.Sizes.{CubicSizes}
 use Rattle.fits.specs.Fits.{second, difference}
-use Rattle.fits.specs.RangeLaws.{seven-by}
+use Rattle.fits.specs.laws.RangeLaws.{seven-by}
 use Rattle.fits.proofs.differences.Statement.{statement}
 use Rattle.fits.proofs.differences.Tie as tie
 

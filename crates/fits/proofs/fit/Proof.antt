@@ -7,10 +7,10 @@ use mir.Syntax.{w64}
 use mir.ValLaws.{toZ-ofZ}
 use Rattle.rounding.specs.declared.Limits.the-variants.{InRange}
 use Rattle.rounding.specs.Limits.{firstOutOfRange}
-use Rattle.rounding.specs.Code.{read-size}
+use Rattle.rounding.specs.laws.Code.{read-size}
 use Rattle.elements.specs.Elements.{cubicFrom}
 use Rattle.fits.specs.Fits.{givenRanges, coefficientRanges, hourRanges}
-use Rattle.fits.specs.FitLaws.{fit-not-four, fit-not-seven, fit-given, fit-coefficient, fit-hour, fit-accepted, in-ranges, tolerance-size}
+use Rattle.fits.specs.laws.FitLaws.{fit-not-four, fit-not-seven, fit-given, fit-coefficient, fit-hour, fit-accepted, in-ranges, tolerance-size}
 use Rattle.fits.proofs.fit.Statement.{statement}
 use Rattle.fits.proofs.fit.Tie as tie
 

@@ -6,7 +6,7 @@ use mir.Syntax.{w64}
 use mir.Val.{toZ, ofZ}
 use mir.ValLaws.{toZ-ofZ}
 use native.Mathlib.Omega.{arith}
-use Rattle.fits.specs.RangeLaws.{further, place-within, given-low, given-high, given-after}
+use Rattle.fits.specs.laws.RangeLaws.{further, place-within, given-low, given-high, given-after}
 use borrow.Author.Needs.{needs}
 use Rattle.fits.proofs.given_in_range.Statement.{statement}
 use Rattle.fits.proofs.given_in_range.Tie as tie

@@ -3,7 +3,7 @@ use mathlib.Core.Path.{_∙_}
 use mathlib.Core.List.{[], _∷_}
 use borrow.Author.Needs.{needs}
 use lib.IntN.{pos, negℤ, +ℤ-idl}
-use Rattle.rounding.specs.Code.{Code, arg, lit, sub, Within, whole, ends, _▹_, fits, runs, read-back}
+use Rattle.rounding.specs.laws.Code.{Code, arg, lit, sub, Within, whole, ends, _▹_, fits, runs, read-back}
 use Rattle.fits.specs.Fits.{hourRanges}
 use Rattle.fits.proofs.hours_in_range.Statement.{statement}
 use Rattle.fits.proofs.hours_in_range.Tie as tie

@@ -1,7 +1,7 @@
 -- `fitted::answer_to` meets its contract: the twelve numbers, in their order.
 use mathlib.Core.Path.{refl, _∙_}
 use Rattle.decimal_text.specs.RowLaws.{also, given}
-use Rattle.fitted.specs.PrintedLaws.{answer-is}
+use Rattle.fitted.specs.laws.PrintedLaws.{answer-is}
 use borrow.Author.Needs.{needs}
 use Rattle.fitted.proofs.answer_to.Statement.{statement}
 use Rattle.fitted.proofs.answer_to.Tie as tie

@@ -1,5 +1,5 @@
 -- `fitted::put_answer` meets its contract, case by case.
-use Rattle.fitted.specs.PrintedLaws.{line-accepted, line-refused}
+use Rattle.fitted.specs.laws.PrintedLaws.{line-accepted, line-refused}
 use borrow.Author.Needs.{needs}
 use Rattle.fitted.proofs.put_answer.Statement.{statement}
 use Rattle.fitted.proofs.put_answer.Tie as tie

@@ -7,9 +7,9 @@ use lib.IntN.{ℤ, pos, negsuc, _-ℤ_}
 use mir.Syntax.{w64}
 use mir.Val.{SFits, toZ, ofZ}
 use mir.ValLaws.{toZ-ofZ}
-use Rattle.rounding.specs.Code.{count-is}
-use Rattle.request_format.specs.NumberLaws.{signed-below}
-use Rattle.fitted.specs.PrintedLaws.{below-zero}
+use Rattle.rounding.specs.laws.Code.{count-is}
+use Rattle.request_format.specs.laws.NumberLaws.{signed-below}
+use Rattle.fitted.specs.laws.PrintedLaws.{below-zero}
 use Rattle.fitted.proofs.signed.Statement.{statement}
 use Rattle.fitted.proofs.signed.Tie as tie
 

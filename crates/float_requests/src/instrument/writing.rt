@@ -7,7 +7,7 @@ ghost use Prim.Native.Nat.{_≤_};
 ghost use lib.ListN.{length, drop};
 ghost use Rattle.float_requests.specs.Instrument.{scales};
 ghost use Rattle.float_requests.specs.Writing.{doublesIn, longitudeChecked, answerTo, roomAfter, Claimed};
-ghost use Rattle.float_requests.specs.ReadBackLaws.{InRanges};
+ghost use Rattle.float_requests.specs.laws.ReadBackLaws.{InRanges};
 
 // Whether the doubles were made.
 pub enum Answer {

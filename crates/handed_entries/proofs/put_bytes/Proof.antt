@@ -1,8 +1,8 @@
 -- `handed_entries::put_bytes` meets its contract: the bytes before the i-th are put.
 use mathlib.Core.Path.{_∙_}
-use Rattle.decimal_text.specs.TextLaws.{put-same}
+use Rattle.decimal_text.specs.laws.TextLaws.{put-same}
 use borrow.Author.Needs.{needs}
-use Rattle.handed_entries.specs.PrintedLaws.{put-line}
+use Rattle.handed_entries.specs.laws.PrintedLaws.{put-line}
 use Rattle.handed_entries.specs.Printed.{hexOf}
 use Rattle.decimal_text.specs.RowLaws.{Rows, rows-start, rows-turn, rows-end}
 use lib.ListN.{length, getD}

@@ -1,5 +1,5 @@
 -- `handed_entries::put_list` meets its contract: both answers, then both buffers.
-use Rattle.handed_entries.specs.PrintedLaws.{answer-is, buffer-is, put-text}
+use Rattle.handed_entries.specs.laws.PrintedLaws.{answer-is, buffer-is, put-text}
 use Rattle.decimal_text.specs.RowLaws.{put-as}
 use native.Mathlib.Omega.{arith}
 use borrow.Author.Needs.{needs}

@@ -1,7 +1,7 @@
 -- `handed_entries::put_lists` meets its contract: the texts of the lists before byte i are put.
 use borrow.Author.Needs.{needs}
 use Rattle.handed_entries.specs.Printed.{listText, numbersOf, printed}
-use Rattle.decimal_text.specs.CountedLaws.{Counted, counted-start, counted-turn, counted-short, counted-end}
+use Rattle.decimal_text.specs.laws.CountedLaws.{Counted, counted-start, counted-turn, counted-short, counted-end}
 use lib.ListN.{length}
 use native.Mathlib.Omega.{arith}
 use mathlib.Core.Path.{ap}

@@ -1,6 +1,6 @@
 -- `handed_entries::take` meets its contract: the numbers before the n-th are taken.
 use borrow.Author.Needs.{needs}
-use Rattle.handed_entries.specs.PrintedLaws.{Taking, taking-start, taking-turn, taking-end}
+use Rattle.handed_entries.specs.laws.PrintedLaws.{Taking, taking-start, taking-turn, taking-end}
 use lib.ListN.{length}
 use Prim.Native.Nat.{_-_, _/_}
 use Rattle.handed_entries.proofs.take.Statement.{statement}

@@ -1,7 +1,7 @@
 -- `listings::lay` meets its contract: the lines are measured in a room of no bytes, and put where the room holds them.
 use native.Mathlib.Omega.{arith}
 use Rattle.sheet_codec.specs.Sheets.{readSheet}
-use Rattle.listings.specs.ListingLaws.{sheet-short, sheet-full}
+use Rattle.listings.specs.laws.ListingLaws.{sheet-short, sheet-full}
 use borrow.Author.Needs.{needs}
 use Rattle.listings.proofs.lay.Statement.{statement}
 use Rattle.listings.proofs.lay.Tie as tie

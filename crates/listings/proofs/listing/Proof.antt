@@ -1,6 +1,6 @@
 -- `listings::listing` meets its contract: what the reader refuses is refused, and a sheet that is all of the bytes is the one that they begin with.
 use mathlib.Core.Path.{sym, _∙_}
-use Rattle.listings.specs.ListingLaws.{whole-sheet, whole-refused, whole-told}
+use Rattle.listings.specs.laws.ListingLaws.{whole-sheet, whole-refused, whole-told}
 use borrow.Author.Needs.{needs}
 use Rattle.listings.proofs.listing.Statement.{statement}
 use Rattle.listings.proofs.listing.Tie as tie

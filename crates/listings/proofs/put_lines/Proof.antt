@@ -9,7 +9,7 @@ use native.Mathlib.Omega.{arith}
 use lib.ListN.{length}
 use Rattle.sheet_format.specs.declared.records.Record.the-variants.{Is}
 use Rattle.sheet_format.specs.Records.{recordAt}
-use Rattle.listings.specs.ListingLaws.{Laying, laying-start, laying-never, laying-same, laying-bounds, laying-end, laying-more}
+use Rattle.listings.specs.laws.ListingLaws.{Laying, laying-start, laying-never, laying-same, laying-bounds, laying-end, laying-more}
 use borrow.Author.Needs.{needs}
 use Rattle.listings.proofs.put_lines.Statement.{statement}
 use Rattle.listings.proofs.put_lines.Tie as tie

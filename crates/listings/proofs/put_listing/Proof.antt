@@ -3,7 +3,7 @@ use mathlib.Core.Path.{ap}
 use lib.IntN.{pos}
 use Rattle.decimal_text.specs.RowLaws.{put-as}
 use Rattle.listings.specs.Listings.{printed}
-use Rattle.listings.specs.ListingLaws.{timed-off}
+use Rattle.listings.specs.laws.ListingLaws.{timed-off}
 use borrow.Author.Needs.{needs}
 use Rattle.listings.proofs.put_listing.Statement.{statement}
 use Rattle.listings.proofs.put_listing.Tie as tie

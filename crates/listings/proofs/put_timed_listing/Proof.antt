@@ -2,7 +2,7 @@
 use mathlib.Core.Path.{sym, _∙_}
 use mir.Syntax.{w64}
 use mir.ValLaws.{toZ-ofZ}
-use Rattle.listings.specs.ListingLaws.{whole-sheet, refused-printed, sheet-printed}
+use Rattle.listings.specs.laws.ListingLaws.{whole-sheet, refused-printed, sheet-printed}
 use borrow.Author.Needs.{needs}
 use Rattle.listings.proofs.put_timed_listing.Statement.{statement}
 use Rattle.listings.proofs.put_timed_listing.Tie as tie

@@ -1,6 +1,6 @@
 -- `listings::refusal_line` meets its contract: the line is measured in a room of no bytes, and put where the room holds it.
 use native.Mathlib.Omega.{arith}
-use Rattle.listings.specs.AnswerLaws.{text-short, text-full}
+use Rattle.listings.specs.laws.AnswerLaws.{text-short, text-full}
 use borrow.Author.Needs.{needs}
 use Rattle.listings.proofs.refusal_line.Statement.{statement}
 use Rattle.listings.proofs.refusal_line.Tie as tie

@@ -1,6 +1,6 @@
 -- `mirrors::change` meets its contract: eight numbers, one after the other. Assumes nothing.
 use mathlib.Core.Path.{_∙_}
-use Rattle.mirrors.specs.ChangedLaws.{changed}
+use Rattle.mirrors.specs.laws.ChangedLaws.{changed}
 use borrow.Author.Needs.{needs}
 use Rattle.mirrors.proofs.change.Statement.{statement}
 use Rattle.mirrors.proofs.change.Tie as tie

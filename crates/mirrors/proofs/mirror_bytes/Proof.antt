@@ -7,7 +7,7 @@ use Rattle.big_endian.specs.Numbers.{Bytes}
 use Rattle.request_format.specs.Request.{readingOf}
 use Rattle.request_format.specs.Input.{requestFrom}
 use Rattle.mirrors.specs.Bytes.{mirrorBytes}
-use Rattle.mirrors.specs.BytesLaws.{reading-is, mirror-put, mirror-length, room-short, room-enough, misshaped-room}
+use Rattle.mirrors.specs.laws.BytesLaws.{reading-is, mirror-put, mirror-length, room-short, room-enough, misshaped-room}
 use borrow.Author.Needs.{needs}
 use Rattle.mirrors.proofs.mirror_bytes.Statement.{statement}
 use Rattle.mirrors.proofs.mirror_bytes.Tie as tie

@@ -9,9 +9,9 @@ use mir.Syntax.{w64}
 use mir.Val.{SFits}
 use mir.ValLaws.{toZ-ofZ}
 use Rattle.rounding.specs.Parts.{sum, opposite as parts, same}
-use Rattle.rounding.specs.Order.{zs, natAbs-parts, natAbs-by, ltZ-true, ltZ-false, nonneg}
-use Rattle.rounding.specs.Code.{arg, lit, sub, Within, whole, ends, _▹_, fits, runs}
-use Rattle.requests.specs.MirrorLaws.{opposite-is, opposite-keeps}
+use Rattle.rounding.specs.laws.Order.{zs, natAbs-parts, natAbs-by, ltZ-true, ltZ-false, nonneg}
+use Rattle.rounding.specs.laws.Code.{arg, lit, sub, Within, whole, ends, _▹_, fits, runs}
+use Rattle.requests.specs.laws.MirrorLaws.{opposite-is, opposite-keeps}
 use Rattle.mirrors.proofs.opposite.Statement.{statement}
 use Rattle.mirrors.proofs.opposite.Tie as tie
 

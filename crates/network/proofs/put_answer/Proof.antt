@@ -9,12 +9,12 @@ use Rattle.sine_table.specs.Table.{Sines}
 use Rattle.clock_network.specs.declared.stations.Node.{Node}
 use Rattle.clock_network.specs.declared.stations.Held.{Held}
 use Rattle.clock_network.specs.Nodes.{Holds}
-use Rattle.clock_network.specs.HeldLaws.{some-list, listed}
+use Rattle.clock_network.specs.laws.HeldLaws.{some-list, listed}
 use Rattle.networks.specs.declared.Answer.the-variants as A
 use Rattle.networks.specs.Network.{answerTo}
 use Rattle.decimal_text.specs.RowLaws.{put-as}
 use Rattle.network.specs.Printed.{zeros}
-use Rattle.network.specs.PrintedLaws.{named-sines, named-as, named-within, refused-text}
+use Rattle.network.specs.laws.PrintedLaws.{named-sines, named-as, named-within, refused-text}
 use borrow.Author.Needs.{needs}
 use Rattle.network.proofs.put_answer.Statement.{statement}
 use Rattle.network.proofs.put_answer.Tie as tie

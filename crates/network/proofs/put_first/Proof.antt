@@ -3,9 +3,9 @@ use mathlib.Core.Path.{_∙_}
 use native.Mathlib.Omega.{arith}
 use Prim.Native.Nat.{_<_}
 use lib.ListN.{length}
-use Rattle.rounding.specs.Code.{read-result}
+use Rattle.rounding.specs.laws.Code.{read-result}
 use Rattle.decimal_text.specs.RowLaws.{joined, put-as}
-use Rattle.network.specs.PrintedLaws.{first-none, first-some}
+use Rattle.network.specs.laws.PrintedLaws.{first-none, first-some}
 use borrow.Author.Needs.{needs}
 use Rattle.network.proofs.put_first.Statement.{statement}
 use Rattle.network.proofs.put_first.Tie as tie

@@ -7,7 +7,7 @@ use Prim.Native.Nat.{_<_}
 use lib.ListN.{length}
 use Rattle.decimal_text.specs.RowLaws.{also, filled-as, joined, put-as}
 use Rattle.network.specs.Printed.{stationLine}
-use Rattle.network.specs.PrintedLaws.{station-filled}
+use Rattle.network.specs.laws.PrintedLaws.{station-filled}
 use borrow.Author.Needs.{needs}
 use Rattle.network.proofs.put_station.Statement.{statement}
 use Rattle.network.proofs.put_station.Tie as tie

@@ -7,12 +7,12 @@ use lib.IntN.{ℤ, pos}
 use lib.ListN.{replicate}
 use Rattle.clock_network.specs.declared.stations.Held.{Held}
 use Rattle.clock_network.specs.Nodes.{Holds}
-use Rattle.clock_network.specs.HeldLaws.{held-holds}
+use Rattle.clock_network.specs.laws.HeldLaws.{held-holds}
 use Rattle.decimal_text.specs.RowLaws.{put-as}
-use Rattle.decimal_text.specs.TextLaws.{put-nil}
+use Rattle.decimal_text.specs.laws.TextLaws.{put-nil}
 use Rattle.network_text.specs.declared.Typed.the-variants as T
 use Rattle.network.specs.Printed.{answerText, zeros}
-use Rattle.network.specs.PrintedLaws.{long-output, long-error, refused-streams, Given, given-streams}
+use Rattle.network.specs.laws.PrintedLaws.{long-output, long-error, refused-streams, Given, given-streams}
 use borrow.Author.Needs.{needs}
 use Rattle.network.proofs.respond.Statement.{statement}
 use Rattle.network.proofs.respond.Tie as tie

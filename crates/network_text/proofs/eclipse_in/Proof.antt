@@ -5,8 +5,8 @@ use borrow.Author.Needs.{needs}
 use native.Mathlib.Omega.{arith}
 use lib.IntN.{pos}
 use lib.ListN.{getD}
-use Rattle.rounding.specs.Code.{read-result}
-use Rattle.network_text.specs.EclipseLaws.{Copied, copied-start, copied-turn, copied-all}
+use Rattle.rounding.specs.laws.Code.{read-result}
+use Rattle.network_text.specs.laws.EclipseLaws.{Copied, copied-start, copied-turn, copied-all}
 use Rattle.network_text.proofs.eclipse_in.Statement.{statement}
 use Rattle.network_text.proofs.eclipse_in.Tie as tie
 

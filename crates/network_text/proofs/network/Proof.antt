@@ -1,6 +1,6 @@
 -- `network_text::network` meets its contract: what was read is handed over where there is no fault; else nothing is touched. Assumes nothing.
 use borrow.Author.Needs.{needs}
-use Rattle.network_text.specs.TypingLaws.{network-typed, network-refused}
+use Rattle.network_text.specs.laws.TypingLaws.{network-typed, network-refused}
 use Rattle.network_text.proofs.network.Statement.{statement}
 use Rattle.network_text.proofs.network.Tie as tie
 

@@ -1,7 +1,7 @@
 -- `network_text::place_of` meets its contract: by the test on k. Assumes nothing.
 use native.Mathlib.Omega.{arith}
 use borrow.Author.Needs.{needs}
-use Rattle.network_text.specs.EclipseLaws.{place-low, place-high}
+use Rattle.network_text.specs.laws.EclipseLaws.{place-low, place-high}
 use Rattle.network_text.proofs.place_of.Statement.{statement}
 use Rattle.network_text.proofs.place_of.Tie as tie
 

@@ -9,12 +9,12 @@ use lib.Seq.{length-take-le}
 use Rattle.request_text.specs.declared.Noted.{Noted}
 use Rattle.tokens.specs.declared.Class.the-variants as C
 use Rattle.tokens.specs.Text.{runOf}
-use Rattle.tokens.specs.TextLaws.{rest-is, line-within}
+use Rattle.tokens.specs.laws.TextLaws.{rest-is, line-within}
 use Rattle.network_text.specs.declared.Told.{Told}
 use Rattle.network_text.specs.declared.Typed.{Typed}
 use Rattle.network_text.specs.declared.Reading.{Reading}
 use Rattle.network_text.specs.Typing.{listedBy, notedOf}
-use Rattle.network_text.specs.TypingLaws.{heldAfter, answerBy, Walked, walked-start, walked-count, Read, read-end-by, told, line-refused, line-taken}
+use Rattle.network_text.specs.laws.TypingLaws.{heldAfter, answerBy, Walked, walked-start, walked-count, Read, read-end-by, told, line-refused, line-taken}
 use Rattle.network_text.proofs.read.Statement.{statement}
 use Rattle.network_text.proofs.read.Tie as tie
 

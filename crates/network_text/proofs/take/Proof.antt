@@ -2,7 +2,7 @@
 use mathlib.Core.Path.{sym, subst, _∙_}
 use borrow.Author.Needs.{needs}
 use lib.ListN.{length}
-use Rattle.network_text.specs.TypingLaws.{InRoom, told-room, take-number, take-station, take-faulty}
+use Rattle.network_text.specs.laws.TypingLaws.{InRoom, told-room, take-number, take-station, take-faulty}
 use Rattle.network_text.proofs.take.Statement.{statement}
 use Rattle.network_text.proofs.take.Tie as tie
 

@@ -2,9 +2,9 @@
 use mathlib.Core.Path.{sym, ap, _∙_}
 use borrow.Author.Needs.{needs}
 use Rattle.request_format.specs.declared.fields.Shape.the-variants as S
-use Rattle.request_text.specs.NameLaws.{found-at}
+use Rattle.request_text.specs.laws.NameLaws.{found-at}
 use Rattle.network_text.specs.declared.Told.the-variants as T
-use Rattle.network_text.specs.LineLaws.{told-nowhere, told-station, told-unknown, told-number}
+use Rattle.network_text.specs.laws.LineLaws.{told-nowhere, told-station, told-unknown, told-number}
 use Rattle.network_text.proofs.tell.Statement.{statement}
 use Rattle.network_text.proofs.tell.Tie as tie
 

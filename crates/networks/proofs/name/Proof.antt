@@ -6,7 +6,7 @@ use native.Mathlib.Omega.{arith}
 use borrow.Author.Needs.{needs}
 use lib.ListN.{length, take}
 use Rattle.sine_table.specs.Table.{Sines}
-use Rattle.sine_table.specs.RoomLaws.{filled-sines}
+use Rattle.sine_table.specs.laws.RoomLaws.{filled-sines}
 use Rattle.sheet_types.specs.declared.refusals.Checked.{Checked}
 use Rattle.sheet_types.specs.declared.refusals.Checked.the-variants as C
 use Rattle.sheet_types.specs.Refusals.{andThen}
@@ -15,7 +15,7 @@ use Rattle.clock_network.specs.Defined.{firstRepeat, stepsOf}
 use Rattle.clock_network.specs.declared.stations.Node.{Node}
 use Rattle.clock_network.specs.declared.stations.Held.{Held}
 use Rattle.clock_network.specs.Nodes.{numbersOf, clocksOf, Holds}
-use Rattle.clock_network.specs.HeldLaws.{some-list, listed}
+use Rattle.clock_network.specs.laws.HeldLaws.{some-list, listed}
 use Rattle.clock_network.specs.declared.checks.Eclipse.{Eclipse}
 use Rattle.clock_network.specs.Checks.{eclipseOf, checked}
 use Rattle.networks.specs.declared.Answer.{Answer}

@@ -5,7 +5,7 @@ use borrow.Author.Needs.{needs}
 use borrow.Author.Tests.{not-true, not-false, eqb-true}
 use lib.Dec.{eqb}
 use lib.ListN.{length}
-use Rattle.rounding.specs.Tests.{both}
+use Rattle.rounding.specs.laws.Tests.{both}
 use Rattle.networks.specs.AnswerLaws.{by-refused, other-shape, shaped, by-admitted}
 use Rattle.networks.proofs.network.Statement.{statement}
 use Rattle.networks.proofs.network.Tie as tie

@@ -5,7 +5,7 @@ use native.Mathlib.Omega.{arith}
 use borrow.Author.Needs.{needs}
 use lib.ListN.{length, take, length-set}
 use lib.Seq.{take-all}
-use Rattle.clock_network.specs.Copy.{grow}
+use Rattle.clock_network.specs.laws.Copy.{grow}
 use Rattle.networks.proofs.put_steps.Statement.{statement}
 use Rattle.networks.proofs.put_steps.Tie as tie
 

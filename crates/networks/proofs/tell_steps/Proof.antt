@@ -3,10 +3,10 @@ use mathlib.Core.Path.{_≡_, sym, ap, _∙_}
 use native.Mathlib.Omega.{arith}
 use borrow.Author.Needs.{needs}
 use lib.ListN.{length, take}
-use Rattle.clock_network.specs.DefinedLaws.{steps-length}
+use Rattle.clock_network.specs.laws.DefinedLaws.{steps-length}
 use Rattle.clock_network.specs.declared.stations.Held.{Held}
 use Rattle.clock_network.specs.Nodes.{numberOf, clockOf, numbersOf, clocksOf}
-use Rattle.clock_network.specs.Copy.{take-map, prefix-length}
+use Rattle.clock_network.specs.laws.Copy.{take-map, prefix-length}
 use Rattle.networks.proofs.tell_steps.Statement.{statement}
 use Rattle.networks.proofs.tell_steps.Tie as tie
 

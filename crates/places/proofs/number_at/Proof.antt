@@ -1,6 +1,6 @@
 -- `places::number_at` meets its contract: the four bytes, and then with their sign.
 use mathlib.Core.Path.{ap, _∙_}
-use Rattle.rounding.specs.Code.{read-result}
+use Rattle.rounding.specs.laws.Code.{read-result}
 use Rattle.request_format.specs.Layout.{signed}
 use Rattle.places.specs.Printed.{numberAt}
 use borrow.Author.Needs.{needs}

@@ -3,8 +3,8 @@ use mathlib.Core.Path.{refl, ap, _∙_}
 use mir.Syntax.{w64}
 use mir.Val.{toZ, ofZ}
 use Rattle.station.specs.declared.Place.{Place}
-use Rattle.station.specs.PlaceLaws.{place-sizes}
-use Rattle.rounding.specs.Code.{read-back}
+use Rattle.station.specs.laws.PlaceLaws.{place-sizes}
+use Rattle.rounding.specs.laws.Code.{read-back}
 use Rattle.decimal_text.specs.RowLaws.{also, filled-as}
 use Rattle.places.specs.Printed.{placeLine}
 use borrow.Author.Needs.{needs}

@@ -2,9 +2,9 @@
 use mathlib.Core.Path.{sym, _∙_}
 use mir.Syntax.{w64}
 use mir.ValLaws.{toZ-ofZ}
-use Rattle.sheet_types.specs.RefusalLaws.{of-limits-within}
+use Rattle.sheet_types.specs.laws.RefusalLaws.{of-limits-within}
 use Rattle.station.specs.Sizes.{station-sizes}
-use Rattle.places.specs.PrintedLaws.{line-within, line-refused}
+use Rattle.places.specs.laws.PrintedLaws.{line-within, line-refused}
 use borrow.Author.Needs.{needs}
 use Rattle.places.proofs.put_station.Statement.{statement}
 use Rattle.places.proofs.put_station.Tie as tie

@@ -5,8 +5,8 @@ use Prim.Native.Nat.{_≤_}
 use native.Mathlib.Omega.{arith}
 use lib.IntN.{ℤ, pos, _-ℤ_}
 use borrow.Author.Needs.{needs}
-use Rattle.rounding.specs.Code.{Code, arg, lit, sub, Within, raw, ends, _▹_, fits, runs, count-is, count-size}
-use Rattle.request_format.specs.NumberLaws.{signed-below, signed-above}
+use Rattle.rounding.specs.laws.Code.{Code, arg, lit, sub, Within, raw, ends, _▹_, fits, runs, count-is, count-size}
+use Rattle.request_format.specs.laws.NumberLaws.{signed-below, signed-above}
 use Rattle.places.proofs.signed.Statement.{statement}
 use Rattle.places.proofs.signed.Tie as tie
 

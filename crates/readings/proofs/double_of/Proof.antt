@@ -1,6 +1,6 @@
 -- `readings::double_of` meets its contract: a NaN is what nothing divided by nothing is; any other pattern is taken. Assumes nothing.
 use borrow.Author.Needs.{needs}
-use Rattle.readings.specs.PrintedLaws.{bits-nan, bits-exponent, bits-digits}
+use Rattle.readings.specs.laws.PrintedLaws.{bits-nan, bits-exponent, bits-digits}
 use Rattle.readings.proofs.double_of.Statement.{statement}
 use Rattle.readings.proofs.double_of.Tie as tie
 

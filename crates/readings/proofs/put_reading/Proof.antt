@@ -1,7 +1,7 @@
 -- `readings::put_reading` meets its contract, case by case. Assumes nothing.
 use borrow.Author.Needs.{needs}
-use Rattle.rounding.specs.Code.{read-result}
-use Rattle.readings.specs.PrintedLaws.{text-units, text-large, text-none}
+use Rattle.rounding.specs.laws.Code.{read-result}
+use Rattle.readings.specs.laws.PrintedLaws.{text-units, text-large, text-none}
 use Rattle.readings.proofs.put_reading.Statement.{statement}
 use Rattle.readings.proofs.put_reading.Tie as tie
 

@@ -1,7 +1,7 @@
 -- `request::respond` meets its contract: the bytes and no message, or a message and no bytes. Assumes nothing.
 use mathlib.Core.Path.{sym, _∙_}
-use Rattle.request_text.specs.RoomLaws.{bytes-first, message-first}
-use Rattle.request.specs.StreamLaws.{request-out, message-out}
+use Rattle.request_text.specs.laws.RoomLaws.{bytes-first, message-first}
+use Rattle.request.specs.laws.StreamLaws.{request-out, message-out}
 use borrow.Author.Needs.{needs}
 use Rattle.request.proofs.respond.Statement.{statement}
 use Rattle.request.proofs.respond.Tie as tie

@@ -6,7 +6,7 @@ use lib.Dec.{T, leb}
 use lib.IntN.{pos}
 use mir.Syntax.{Width, w64}
 use mir.Val.{Fits, bits, toZ}
-use Rattle.rounding.specs.Code.{count-is}
+use Rattle.rounding.specs.laws.Code.{count-is}
 
 pub small : {w : Width} (n : ℕ) → Fits w n → T (leb (2 ^ bits w) 9223372036854775807) → toZ w64 n ≡ pos n
 small {w} n f t = count-is n (le-of-lt (f .fits)) t

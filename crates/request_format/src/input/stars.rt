@@ -5,7 +5,7 @@ use sheet_types::refusals::Refusal;
 ghost use mathlib.Core.Path.{_≡_};
 ghost use Rattle.request_format.specs.declared.fields.Shape.the-variants.{Star};
 ghost use Rattle.request_format.specs.Input.{starFrom, starAsked, starDelta};
-ghost use Rattle.request_format.specs.InputLaws.{Small};
+ghost use Rattle.request_format.specs.laws.InputLaws.{Small};
 
 // The request of its numbers.
 fn request_from(n: &[i64]) -> StarRequest

@@ -3,7 +3,7 @@ use mathlib.Core.Path.{refl}
 use Prim.Native.Nat.{_-_}
 use borrow.Author.Needs.{needs}
 use lib.ListN.{length}
-use Rattle.request_text.specs.TypingLaws.{Given, given-not, given-more, given-all}
+use Rattle.request_text.specs.laws.TypingLaws.{Given, given-not, given-more, given-all}
 use Rattle.request_text.proofs.complete.Statement.{statement}
 use Rattle.request_text.proofs.complete.Tie as tie
 

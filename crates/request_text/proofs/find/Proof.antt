@@ -9,9 +9,9 @@ use lib.Seq.{length-take-le}
 use Rattle.request_format.specs.declared.fields.Field.{Field}
 use Rattle.request_format.specs.Fields.{countOf}
 use Rattle.request_format.specs.Rows.{rowAt, nameOf}
-use Rattle.request_format.specs.RowLaws.{name-room, name-length}
+use Rattle.request_format.specs.laws.RowLaws.{name-room, name-length}
 use Rattle.request_text.specs.Names.{named}
-use Rattle.request_text.specs.NameLaws.{Finding, finding-start, finding-none, finding-hit, finding-more}
+use Rattle.request_text.specs.laws.NameLaws.{Finding, finding-start, finding-none, finding-hit, finding-more}
 use Rattle.request_text.proofs.find.Statement.{statement}
 use Rattle.request_text.proofs.find.Tie as tie
 

@@ -5,11 +5,11 @@ use borrow.Author.Needs.{needs}
 use borrow.Author.Tests.{not-true, not-false}
 use mir.Syntax.{w64}
 use mir.Val.{toZ, ofZ}
-use Rattle.rounding.specs.Code.{read-result}
+use Rattle.rounding.specs.laws.Code.{read-result}
 use Rattle.request_format.specs.Fields.{holds}
 use Rattle.request_text.specs.declared.Line.the-variants as L
 use Rattle.request_text.specs.Lines.{withSign}
-use Rattle.request_text.specs.LineLaws.{fitted-in, fitted-out}
+use Rattle.request_text.specs.laws.LineLaws.{fitted-in, fitted-out}
 use Rattle.request_text.proofs.fit.Statement.{statement}
 use Rattle.request_text.proofs.fit.Tie as tie
 

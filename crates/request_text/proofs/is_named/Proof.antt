@@ -3,7 +3,7 @@ use Prim.Native.Nat.{_-_}
 use native.Mathlib.Omega.{arith}
 use borrow.Author.Needs.{needs}
 use lib.ListN.{length}
-use Rattle.request_text.specs.NameLaws.{Named, named-start, named-short, named-other, named-more, named-whole, named-followed}
+use Rattle.request_text.specs.laws.NameLaws.{Named, named-start, named-short, named-other, named-more, named-whole, named-followed}
 use Rattle.request_text.proofs.is_named.Statement.{statement}
 use Rattle.request_text.proofs.is_named.Tie as tie
 

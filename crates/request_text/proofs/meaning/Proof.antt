@@ -1,6 +1,6 @@
 -- `request_text::meaning` meets its contract: nothing is said, or a name first. Assumes nothing.
 use mathlib.Core.Path.{_∙_}
-use Rattle.request_text.specs.LineLaws.{meaning-none, meaning-some}
+use Rattle.request_text.specs.laws.LineLaws.{meaning-none, meaning-some}
 use borrow.Author.Needs.{needs}
 use Rattle.request_text.proofs.meaning.Statement.{statement}
 use Rattle.request_text.proofs.meaning.Tie as tie

@@ -2,10 +2,10 @@
 use mathlib.Core.Path.{subst}
 use native.Mathlib.Omega.{arith}
 use lib.ListN.{length}
-use Rattle.rounding.specs.Code.{read-back}
+use Rattle.rounding.specs.laws.Code.{read-back}
 use Rattle.request_text.specs.declared.Line.the-variants as L
 use Rattle.request_text.specs.Typing.{InRoom}
-use Rattle.request_text.specs.TypingLaws.{note-nothing, note-faulty, note-twice, note-given}
+use Rattle.request_text.specs.laws.TypingLaws.{note-nothing, note-faulty, note-twice, note-given}
 use borrow.Author.Needs.{needs}
 use Rattle.request_text.proofs.note.Statement.{statement}
 use Rattle.request_text.proofs.note.Tie as tie

@@ -1,8 +1,8 @@
 -- `request_text::of_name` meets its contract: the name is found in the table, or nowhere. Assumes nothing.
 use mathlib.Core.Path.{sym, _∙_}
 use native.Mathlib.Omega.{arith}
-use Rattle.request_text.specs.NameLaws.{found-at}
-use Rattle.request_text.specs.LineLaws.{field-none, field-at}
+use Rattle.request_text.specs.laws.NameLaws.{found-at}
+use Rattle.request_text.specs.laws.LineLaws.{field-none, field-at}
 use borrow.Author.Needs.{needs}
 use Rattle.request_text.proofs.of_name.Statement.{statement}
 use Rattle.request_text.proofs.of_name.Tie as tie

@@ -2,7 +2,7 @@
 use mathlib.Core.Path.{sym, _∙_}
 use lib.Seq.{length-take-le}
 use borrow.Author.Tests.{not-true, not-false}
-use Rattle.request_text.specs.LineLaws.{value-crowded, value-alone}
+use Rattle.request_text.specs.laws.LineLaws.{value-crowded, value-alone}
 use borrow.Author.Needs.{needs}
 use Rattle.request_text.proofs.of_value.Statement.{statement}
 use Rattle.request_text.proofs.of_value.Tie as tie

@@ -10,11 +10,11 @@ use lib.Seq.{length-take-le}
 use Rattle.request_format.specs.Fields.{countOf}
 use Rattle.tokens.specs.declared.Class.the-variants as C
 use Rattle.tokens.specs.Text.{runOf}
-use Rattle.tokens.specs.TextLaws.{rest-is, line-within}
+use Rattle.tokens.specs.laws.TextLaws.{rest-is, line-within}
 use Rattle.request_text.specs.declared.Line.{Line}
-use Rattle.request_text.specs.LineLaws.{number-room}
+use Rattle.request_text.specs.laws.LineLaws.{number-room}
 use Rattle.request_text.specs.Typing.{missing, required}
-use Rattle.request_text.specs.TypingLaws.{Noting, count-small, Walked, typing-start, end-missing, end-all, told, line-refused, line-taken}
+use Rattle.request_text.specs.laws.TypingLaws.{Noting, count-small, Walked, typing-start, end-missing, end-all, told, line-refused, line-taken}
 use Rattle.request_text.proofs.read.Statement.{statement}
 use Rattle.request_text.proofs.read.Tie as tie
 

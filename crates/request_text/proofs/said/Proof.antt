@@ -1,7 +1,7 @@
 -- `request_text::said` meets its contract: a comment is cut off, then the blanks before what is said. Assumes nothing.
 use mathlib.Core.Path.{sym}
 use lib.Seq.{length-take-le}
-use Rattle.request_text.specs.LineLaws.{said-is}
+use Rattle.request_text.specs.laws.LineLaws.{said-is}
 use borrow.Author.Needs.{needs}
 use Rattle.request_text.proofs.said.Statement.{statement}
 use Rattle.request_text.proofs.said.Tie as tie

@@ -3,11 +3,11 @@ use mathlib.Core.Path.{_≡_, sym, ap, _∙_}
 use Prim.Native.Nat.{ℕ}
 use Rattle.tokens.specs.declared.Units.{Units}
 use Rattle.tokens.specs.Numbers.{unitsOf}
-use Rattle.tokens.specs.NumberLaws.{units-small}
+use Rattle.tokens.specs.laws.NumberLaws.{units-small}
 use Rattle.request_format.specs.declared.fields.Field.{Field}
 use Rattle.request_format.specs.Rows.{decimalsOf}
 use Rattle.request_text.specs.Lines.{fitted, valueOf}
-use Rattle.request_text.specs.LineLaws.{ofUnits, value-by}
+use Rattle.request_text.specs.laws.LineLaws.{ofUnits, value-by}
 use borrow.Author.Needs.{needs}
 use Rattle.request_text.proofs.value_of.Statement.{statement}
 use Rattle.request_text.proofs.value_of.Tie as tie

@@ -6,8 +6,8 @@ use native.Mathlib.Omega.{arith}
 use borrow.Author.Needs.{needs}
 use borrow.Author.Tests.{le-leb}
 use lib.IntN.{ℤ, pos, negsuc, negℤ, _-ℤ_}
-use Rattle.rounding.specs.Code.{Code, arg, lit, sub, Within, raw, ends, _▹_, fits, runs, count-is, count-size}
-use Rattle.request_text.specs.LineLaws.{sign-minus, sign-none}
+use Rattle.rounding.specs.laws.Code.{Code, arg, lit, sub, Within, raw, ends, _▹_, fits, runs, count-is, count-size}
+use Rattle.request_text.specs.laws.LineLaws.{sign-minus, sign-none}
 use Rattle.request_text.proofs.with_sign.Statement.{statement}
 use Rattle.request_text.proofs.with_sign.Tie as tie
 

@@ -2,7 +2,7 @@
 use mathlib.Core.Path.{_≡_, sym, ap, _∙_}
 use mathlib.Core.Bool.{true}
 use borrow.Author.Needs.{needs}
-use Rattle.rounding.specs.Code.{read-result}
+use Rattle.rounding.specs.laws.Code.{read-result}
 use Rattle.requests.specs.Windows.{windowHolds}
 use Rattle.requests.specs.Requests.{guardHolds}
 use Rattle.requests.specs.RequestLaws.{not-true, not-false, checked-window, checked-guard, checked-element, checked-station}

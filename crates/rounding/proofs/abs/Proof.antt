@@ -2,10 +2,10 @@
 use mathlib.Core.Path.{_≡_, _∙_, ap, refl}
 use mathlib.Core.List.{[], _∷_}
 use native.Mathlib.Omega.{arith}
-use Rattle.rounding.specs.Order.{<-parts}
+use Rattle.rounding.specs.laws.Order.{<-parts}
 use lib.IntN.{ℤ, pos, negsuc, natAbs, _-ℤ_}
 use lib.Signed.{_≤ℤ_, _<ℤ_}
-use Rattle.rounding.specs.Code.{arg, lit, sub, Within, whole, ends, _▹_, fits, runs, taken-<, left-<}
+use Rattle.rounding.specs.laws.Code.{arg, lit, sub, Within, whole, ends, _▹_, fits, runs, taken-<, left-<}
 use Rattle.rounding.proofs.abs.Statement.{statement}
 use Rattle.rounding.proofs.abs.Tie as tie
 

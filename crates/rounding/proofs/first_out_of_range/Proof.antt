@@ -5,7 +5,7 @@ use native.Mathlib.Omega.{arith}
 use borrow.Author.Needs.{needs}
 use lib.ListN.{length, drop}
 use Rattle.rounding.specs.Limits.{firstOutOfRange, rows}
-use Rattle.rounding.specs.LimitsLaws.{search-low, search-high, search-on, search-end}
+use Rattle.rounding.specs.laws.LimitsLaws.{search-low, search-high, search-on, search-end}
 use Rattle.rounding.proofs.first_out_of_range.Statement.{statement}
 use Rattle.rounding.proofs.first_out_of_range.Tie as tie
 

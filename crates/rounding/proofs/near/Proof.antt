@@ -5,9 +5,9 @@ use mathlib.Core.List.{[], _∷_}
 use native.Mathlib.Omega.{arith}
 use lib.IntN.{ℤ, pos}
 use lib.Signed.{_≤ℤ_, _<ℤ_}
-use Rattle.rounding.specs.Order.{zs}
-use Rattle.rounding.specs.NearLaws.{near-above, near-below}
-use Rattle.rounding.specs.Code.{Code, arg, lit, add, sub, quo, Within, whole, ends, _▹_, fits, runs, above, taken-<, left-<}
+use Rattle.rounding.specs.laws.Order.{zs}
+use Rattle.rounding.specs.laws.NearLaws.{near-above, near-below}
+use Rattle.rounding.specs.laws.Code.{Code, arg, lit, add, sub, quo, Within, whole, ends, _▹_, fits, runs, above, taken-<, left-<}
 use Rattle.rounding.proofs.near.Statement.{statement}
 use Rattle.rounding.proofs.near.Tie as tie
 

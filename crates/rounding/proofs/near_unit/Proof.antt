@@ -4,7 +4,7 @@ use lib.Dec.{lit≤}
 use lib.Signed.{leZ-yes}
 use lib.IntN.{ℤ, pos}
 use Rattle.rounding.specs.Near.{near}
-use Rattle.rounding.specs.Code.{read-back, read-size, read-result}
+use Rattle.rounding.specs.laws.Code.{read-back, read-size, read-result}
 use Rattle.rounding.proofs.near_unit.Statement.{statement}
 use Rattle.rounding.proofs.near_unit.Tie as tie
 

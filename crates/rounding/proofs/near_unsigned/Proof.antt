@@ -1,7 +1,7 @@
 -- `rounding::near_unsigned` meets its contract: near of naturals is one division of naturals. Assumes nothing.
 use mathlib.Core.Path.{sym}
 use borrow.Author.Needs.{needs}
-use Rattle.rounding.specs.NearLaws.{near-pos}
+use Rattle.rounding.specs.laws.NearLaws.{near-pos}
 use Rattle.rounding.proofs.near_unsigned.Statement.{statement}
 use Rattle.rounding.proofs.near_unsigned.Tie as tie
 

@@ -1,6 +1,6 @@
 -- The last run gets longer, or it is stored and another follows it.
 use borrow.Author.Needs.{needs}
-use Rattle.run_length.specs.RunsLaws.{pushed-longer, pushed-after}
+use Rattle.run_length.specs.laws.RunsLaws.{pushed-longer, pushed-after}
 use Rattle.run_length.proofs.push.Statement.{statement}
 use Rattle.run_length.proofs.push.Tie as tie
 

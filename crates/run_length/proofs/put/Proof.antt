@@ -3,7 +3,7 @@ use borrow.Author.Needs.{needs}
 use mathlib.Core.Path.{refl}
 use native.Mathlib.Omega.{arith}
 use lib.ListN.{length-set}
-use Rattle.run_length.specs.RunsLaws.{written-two}
+use Rattle.run_length.specs.laws.RunsLaws.{written-two}
 use Rattle.run_length.proofs.put.Statement.{statement}
 use Rattle.run_length.proofs.put.Tie as tie
 

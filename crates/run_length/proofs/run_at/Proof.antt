@@ -1,7 +1,7 @@
 -- The first byte says whether a second follows; the laws of a run at a place say the rest.
 use borrow.Author.Needs.{needs}
 use native.Mathlib.Omega.{arith}
-use Rattle.run_length.specs.RunsLaws.{run-one, second-there, run-more}
+use Rattle.run_length.specs.laws.RunsLaws.{run-one, second-there, run-more}
 use Rattle.run_length.proofs.run_at.Statement.{statement}
 use Rattle.run_length.proofs.run_at.Tie as tie
 

@@ -1,7 +1,7 @@
 -- The upper bits are not 0, and the law for such a run says the rest.
 use borrow.Author.Needs.{needs}
 use native.Mathlib.Omega.{arith}
-use Rattle.run_length.specs.RunsLaws.{seconds-more}
+use Rattle.run_length.specs.laws.RunsLaws.{seconds-more}
 use Rattle.run_length.proofs.seconds_of.Statement.{statement}
 use Rattle.run_length.proofs.seconds_of.Tie as tie
 

@@ -1,5 +1,5 @@
 -- By the phase, as the definition goes.
-use Rattle.run_length.specs.RunsLaws.{first-state, second-state}
+use Rattle.run_length.specs.laws.RunsLaws.{first-state, second-state}
 use Rattle.run_length.proofs.state_in.Statement.{statement}
 use Rattle.run_length.proofs.state_in.Tie as tie
 

@@ -1,7 +1,7 @@
 -- One byte is put after the others, or two.
 use borrow.Author.Needs.{needs}
 use native.Mathlib.Omega.{arith}
-use Rattle.run_length.specs.RunsLaws.{written-one}
+use Rattle.run_length.specs.laws.RunsLaws.{written-one}
 use Rattle.run_length.proofs.write.Statement.{statement}
 use Rattle.run_length.proofs.write.Tie as tie
 

@@ -2,12 +2,12 @@
 use mathlib.Core.Path.{sym, subst, _∙_}
 use borrow.Author.Needs.{needs}
 use lib.Dec.{lit≤}
-use Rattle.rounding.specs.Code.{read-back, read-size}
+use Rattle.rounding.specs.laws.Code.{read-back, read-size}
 use Rattle.elements.specs.Sizes.{wider-axis}
 use Rattle.elements.specs.StarLaws.{axis-sizes}
 use Rattle.station.specs.Sizes.{PlaceSizes}
 use Rattle.seconds.specs.Seconds.{directionAt}
-use Rattle.seconds.specs.SecondLaws.{placed}
+use Rattle.seconds.specs.laws.SecondLaws.{placed}
 use Rattle.seconds.proofs.direction_at.Statement.{statement}
 use Rattle.seconds.proofs.direction_at.Tie as tie
 

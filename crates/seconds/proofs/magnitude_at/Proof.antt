@@ -1,13 +1,13 @@
 -- `seconds::magnitude_at` meets its contract: it is the magnitude of the shadow there, under the request's guard. Assumes nothing.
 use mathlib.Core.Path.{sym, subst, ap, _∙_}
 use borrow.Author.Needs.{needs}
-use Rattle.rounding.specs.Code.{read-back, read-size}
+use Rattle.rounding.specs.laws.Code.{read-back, read-size}
 use Rattle.elements.specs.declared.Body.{Body}
 use Rattle.elements.specs.StarLaws.{BodySizes}
 use Rattle.station.specs.Place.{placeOf}
 use Rattle.station.specs.Sizes.{PlaceSizes}
 use Rattle.seconds.specs.Seconds.{magnitudeOf, magnitudeAt}
-use Rattle.seconds.specs.SecondLaws.{placed, guard-read}
+use Rattle.seconds.specs.laws.SecondLaws.{placed, guard-read}
 use Rattle.seconds.proofs.magnitude_at.Statement.{statement}
 use Rattle.seconds.proofs.magnitude_at.Tie as tie
 

@@ -5,16 +5,16 @@ use mathlib.Core.Bool.{true}
 use borrow.Author.Needs.{needs}
 use mir.Syntax.{w64}
 use mir.ValLaws.{toZ-ofZ}
-use Rattle.rounding.specs.Code.{read-back, read-size}
+use Rattle.rounding.specs.laws.Code.{read-back, read-size}
 use Rattle.sheet_types.specs.declared.refusals.Checked.the-variants as C
 use Rattle.requests.specs.Windows.{inSpan}
 use Rattle.requests.specs.WindowLaws.{in-span}
 use Rattle.requests.specs.RequestLaws.{not-true, not-false}
 use Rattle.requests.specs.Admission.{admitted, sinesAfter}
-use Rattle.requests.specs.AdmissionLaws.{admitted-within}
+use Rattle.requests.specs.laws.AdmissionLaws.{admitted-within}
 use Rattle.seconds.specs.declared.OneSecond.the-variants as O
 use Rattle.seconds.specs.OneSecond.{wholeSecond}
-use Rattle.seconds.specs.SecondLaws.{second-outside, second-inside, second-is}
+use Rattle.seconds.specs.laws.SecondLaws.{second-outside, second-inside, second-is}
 use Rattle.seconds.proofs.second.Statement.{statement}
 use Rattle.seconds.proofs.second.Tie as tie
 

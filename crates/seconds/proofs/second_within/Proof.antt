@@ -2,7 +2,7 @@
 use mathlib.Core.Path.{_≡_, sym, subst}
 use borrow.Author.Needs.{needs}
 use lib.IntN.{ℤ}
-use Rattle.rounding.specs.Code.{read-back, read-size}
+use Rattle.rounding.specs.laws.Code.{read-back, read-size}
 use Rattle.elements.specs.declared.Elements.{Elements}
 use Rattle.elements.specs.declared.Star.{Star}
 use Rattle.elements.specs.declared.Body.{Body}
@@ -15,7 +15,7 @@ use Rattle.shadow.specs.Second.{IsSecond}
 use Rattle.requests.specs.declared.Occultation.{Occultation}
 use Rattle.seconds.specs.Seconds.{stateAt, directionAt, magnitudeAt}
 use Rattle.seconds.specs.OneSecond.{IsStarSecond, wholeSecond}
-use Rattle.seconds.specs.SecondLaws.{placed, guard-read}
+use Rattle.seconds.specs.laws.SecondLaws.{placed, guard-read}
 use Rattle.seconds.proofs.second_within.Statement.{statement}
 use Rattle.seconds.proofs.second_within.Tie as tie
 

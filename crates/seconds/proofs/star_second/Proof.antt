@@ -4,7 +4,7 @@ use native.Mathlib.Omega.{arith}
 use lib.IntN.{ℤ}
 use Rattle.sheet_types.specs.declared.phases.Phase.the-variants as P
 use Rattle.sheet_types.specs.States.{code}
-use Rattle.rounding.specs.Code.{read-back, read-size}
+use Rattle.rounding.specs.laws.Code.{read-back, read-size}
 use Rattle.sine_table.specs.Table.{S}
 use Rattle.elements.specs.declared.Axis.{Axis}
 use Rattle.elements.specs.declared.Star.{Star}
@@ -14,7 +14,7 @@ use Rattle.station.specs.declared.Place.{Place}
 use Rattle.shadow_geometry.specs.Shadow.{momentOf, u, v, L, M, state}
 use Rattle.shadow_geometry.specs.Direction.{direction}
 use Rattle.shadow.specs.Second.{stateAt, directionAt, IsSample}
-use Rattle.shadow.specs.SecondLaws.{state-at, direction-at}
+use Rattle.shadow.specs.laws.SecondLaws.{state-at, direction-at}
 use Rattle.seconds.proofs.star_second.Statement.{statement}
 use Rattle.seconds.proofs.star_second.Tie as tie
 

@@ -8,10 +8,10 @@ use lib.IntN.{ℤ, natAbs, _+ℤ_, _-ℤ_, _*ℤ_}
 use lib.Signed.{leZ-yes}
 use mir.Syntax.{w64}
 use mir.Val.{toZ, ofZ}
-use Rattle.rounding.specs.Code.{Code, arg, add, sub, mul, Within, whole, ends, _▹_, fits, runs, within, sized, read-back}
+use Rattle.rounding.specs.laws.Code.{Code, arg, add, sub, mul, Within, whole, ends, _▹_, fits, runs, within, sized, read-back}
 use Rattle.rounding.specs.Units.{one}
 use Rattle.rounding.specs.Near.{near}
-use Rattle.rounding.specs.NearLaws.{near-size}
+use Rattle.rounding.specs.laws.NearLaws.{near-size}
 use Rattle.rounding.specs.Value.{Value}
 use Rattle.shadow.proofs.coordinates_of.Statement.{statement}
 use Rattle.shadow.proofs.coordinates_of.Tie as tie

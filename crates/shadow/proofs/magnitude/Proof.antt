@@ -7,11 +7,11 @@ use lib.Dec.{T}
 use lib.IntN.{ℤ, pos, natAbs, _+ℤ_, _-ℤ_}
 use lib.Signed.{_<ℤ_}
 use Rattle.sheet_types.specs.States.{State, inside, outside, stateOf}
-use Rattle.rounding.specs.Code.{Code, arg, add, sub, Within, whole, ends, _▹_, fits, runs, within, unsigned, read-back}
+use Rattle.rounding.specs.laws.Code.{Code, arg, add, sub, Within, whole, ends, _▹_, fits, runs, within, unsigned, read-back}
 use Rattle.rounding.specs.Root.{root}
-use Rattle.rounding.specs.RootLaws.{root-below}
+use Rattle.rounding.specs.laws.RootLaws.{root-below}
 use Rattle.shadow_geometry.specs.Magnitude.{millionths, isInside, magnitude}
-use Rattle.shadow_geometry.specs.MagnitudeLaws.{magnitude-inside, magnitude-else, magnitude-limit, sum-positive}
+use Rattle.shadow_geometry.specs.laws.MagnitudeLaws.{magnitude-inside, magnitude-else, magnitude-limit, sum-positive}
 use Rattle.shadow.proofs.magnitude.Statement.{statement}
 use Rattle.shadow.proofs.magnitude.Tie as tie
 

@@ -1,8 +1,8 @@
 -- `shadow::magnitude_at` meets its contract: the shadow and its states are the second's, so its magnitude is too. Assumes nothing.
 use mathlib.Core.Path.{_∙_}
-use Rattle.rounding.specs.Code.{read-back, read-size}
+use Rattle.rounding.specs.laws.Code.{read-back, read-size}
 use Rattle.shadow.specs.Shadow.{IsShadow}
-use Rattle.shadow.specs.SecondLaws.{states-of-second}
+use Rattle.shadow.specs.laws.SecondLaws.{states-of-second}
 use Rattle.shadow.proofs.Letters.{sizes, magnitude-asks, magnitude-is}
 use Rattle.shadow.proofs.magnitude_at.Statement.{statement}
 use Rattle.shadow.proofs.magnitude_at.Tie as tie

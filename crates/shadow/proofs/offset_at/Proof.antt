@@ -5,9 +5,9 @@ use Prim.Native.Nat.{_≤_}
 use native.Mathlib.Omega.{arith}
 use lib.Dec.{lit≤}
 use lib.IntN.{ℤ, natAbs, _+ℤ_, _*ℤ_, _-ℤ_}
-use Rattle.rounding.specs.Code.{Code, arg, add, sub, mul, Within, whole, ends, _▹_, fits, runs, within, read-back, read-size}
+use Rattle.rounding.specs.laws.Code.{Code, arg, add, sub, mul, Within, whole, ends, _▹_, fits, runs, within, read-back, read-size}
 use Rattle.rounding.specs.Value.{Value}
-use Rattle.sine.specs.SineLaws.{sine-size, cosine-size}
+use Rattle.sine.specs.laws.SineLaws.{sine-size, cosine-size}
 use Rattle.elements.specs.declared.Axis.{Axis}
 use Rattle.elements.specs.Sizes.{wider}
 use Rattle.elements.specs.Elements.{xAt, yAt, dAt, μAt}

@@ -3,9 +3,9 @@ use mathlib.Core.Path.{_∙_}
 use Prim.Native.Nat.{ℕ, _≤_}
 use native.Mathlib.Omega.{arith}
 use lib.IntN.{ℤ}
-use Rattle.rounding.specs.Code.{read-back, read-size}
+use Rattle.rounding.specs.laws.Code.{read-back, read-size}
 use Rattle.sine.specs.Sine.{IsReduced}
-use Rattle.sine.specs.SineLaws.{sine-of, cosine-of}
+use Rattle.sine.specs.laws.SineLaws.{sine-of, cosine-of}
 use Rattle.shadow.proofs.orientation_of.Statement.{statement}
 use Rattle.shadow.proofs.orientation_of.Tie as tie
 

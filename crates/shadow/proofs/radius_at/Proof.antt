@@ -6,11 +6,11 @@ use native.Mathlib.Omega.{arith}
 use lib.Dec.{lit≤}
 use lib.IntN.{ℤ, natAbs, _*ℤ_, _-ℤ_}
 use lib.Signed.{leZ-yes}
-use Rattle.rounding.specs.Order.{natAbs-product-le}
-use Rattle.rounding.specs.Code.{Code, arg, sub, mul, Within, whole, ends, _▹_, fits, runs, within, read-back, read-size}
+use Rattle.rounding.specs.laws.Order.{natAbs-product-le}
+use Rattle.rounding.specs.laws.Code.{Code, arg, sub, mul, Within, whole, ends, _▹_, fits, runs, within, read-back, read-size}
 use Rattle.rounding.specs.Units.{one}
 use Rattle.rounding.specs.Near.{near}
-use Rattle.rounding.specs.NearLaws.{near-size}
+use Rattle.rounding.specs.laws.NearLaws.{near-size}
 use Rattle.rounding.specs.Value.{Value}
 use Rattle.elements.specs.Sizes.{wider}
 use Rattle.elements.specs.Elements.{lAt}

@@ -1,9 +1,9 @@
 -- `shadow::second_at` meets its contract: the shadow is the second's, so its states, magnitude and direction are too. Assumes nothing.
 use mathlib.Core.Path.{_∙_}
-use Rattle.rounding.specs.Code.{read-back, read-size}
+use Rattle.rounding.specs.laws.Code.{read-back, read-size}
 use Rattle.shadow.specs.Shadow.{IsShadow}
 use Rattle.shadow.specs.Second.{IsStates}
-use Rattle.shadow.specs.SecondLaws.{states-of-second}
+use Rattle.shadow.specs.laws.SecondLaws.{states-of-second}
 use Rattle.shadow.proofs.Letters.{sizes, magnitude-asks, magnitude-is, direction-asks, direction-is}
 use Rattle.shadow.proofs.second_at.Statement.{statement}
 use Rattle.shadow.proofs.second_at.Tie as tie

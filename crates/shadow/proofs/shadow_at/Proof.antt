@@ -1,7 +1,7 @@
 -- `shadow::shadow_at` meets its contract: the axis from the station, and each cone's radius there. Assumes nothing.
 use mathlib.Core.Path.{_∙_}
 use lib.Dec.{lit≤}
-use Rattle.rounding.specs.Code.{read-back, read-size}
+use Rattle.rounding.specs.laws.Code.{read-back, read-size}
 use Rattle.rounding.specs.Value.{Value}
 use Rattle.elements.specs.Sizes.{wider-axis, wider-cone}
 use Rattle.shadow_geometry.specs.Shadow.{Moment, moment, L}

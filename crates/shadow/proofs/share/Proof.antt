@@ -4,10 +4,10 @@ use mathlib.Core.List.{[], _∷_}
 use native.Mathlib.Omega.{arith}
 use lib.IntN.{ℤ, pos, negsuc, natAbs, _*ℤ_}
 use lib.Signed.{_≤ℤ_, _<ℤ_, quotZ}
-use Rattle.rounding.specs.Order.{zs}
-use Rattle.rounding.specs.Code.{Code, arg, lit, mul, quo, Within, whole, ends, _▹_, fits, runs, above, unsigned, taken-<, left-<}
+use Rattle.rounding.specs.laws.Order.{zs}
+use Rattle.rounding.specs.laws.Code.{Code, arg, lit, mul, quo, Within, whole, ends, _▹_, fits, runs, above, unsigned, taken-<, left-<}
 use Rattle.shadow_geometry.specs.Magnitude.{millionths}
-use Rattle.shadow_geometry.specs.MagnitudeLaws.{millionths-neg}
+use Rattle.shadow_geometry.specs.laws.MagnitudeLaws.{millionths-neg}
 use Rattle.shadow.proofs.share.Statement.{statement}
 use Rattle.shadow.proofs.share.Tie as tie
 

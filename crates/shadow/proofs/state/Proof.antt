@@ -6,9 +6,9 @@ use mathlib.Core.Logic.{⊎-elim}
 use lib.IntN.{_-ℤ_}
 use lib.Signed.{_≤ℤ_, _<ℤ_, clashℤ}
 use Rattle.sheet_types.specs.States.{inside, outside, unsure, code}
-use Rattle.rounding.specs.Code.{Code, arg, add, sub, mul, Within, whole, ends, _▹_, fits, taken-<, left-<}
+use Rattle.rounding.specs.laws.Code.{Code, arg, add, sub, mul, Within, whole, ends, _▹_, fits, taken-<, left-<}
 use Rattle.shadow_geometry.specs.Shadow.{_²}
-use Rattle.shadow_geometry.specs.StateLaws.{state-edge}
+use Rattle.shadow_geometry.specs.laws.StateLaws.{state-edge}
 use Rattle.shadow.proofs.state.Statement.{statement}
 use Rattle.shadow.proofs.state.Tie as tie
 

@@ -1,5 +1,5 @@
 -- `shadows::put_answer` meets its contract, case by case.
-use Rattle.shadows.specs.PrintedLaws.{line-second, line-refused}
+use Rattle.shadows.specs.laws.PrintedLaws.{line-second, line-refused}
 use borrow.Author.Needs.{needs}
 use Rattle.shadows.proofs.put_answer.Statement.{statement}
 use Rattle.shadows.proofs.put_answer.Tie as tie

@@ -1,7 +1,7 @@
 -- `shadows::put_second` meets its contract: each number is read back from its bits.
 use mathlib.Core.Path.{refl}
 use native.Mathlib.Nat.{le-of-lt}
-use Rattle.rounding.specs.Code.{count-is}
+use Rattle.rounding.specs.laws.Code.{count-is}
 use Rattle.decimal_text.specs.RowLaws.{also, given, filled-as}
 use Rattle.shadows.specs.Printed.{secondLine}
 use borrow.Author.Needs.{needs}

@@ -4,7 +4,7 @@ use Prim.Native.Nat.{_*_, _%_, _≤_}
 use native.Mathlib.Omega.{arith}
 use borrow.Author.Needs.{needs}
 use lib.IntN.{pos}
-use Rattle.rounding.specs.Code.{Code, arg, lit, sub, Within, whole, ends, _▹_, fits, runs}
+use Rattle.rounding.specs.laws.Code.{Code, arg, lit, sub, Within, whole, ends, _▹_, fits, runs}
 use Rattle.shares.specs.Printed.{L2}
 use Rattle.shares.proofs.central.Statement.{statement}
 use Rattle.shares.proofs.central.Tie as tie

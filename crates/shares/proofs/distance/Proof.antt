@@ -1,7 +1,7 @@
 -- `shares::distance` meets its contract, half by half of the rows.
 use mathlib.Core.Path.{sym}
 use borrow.Author.Needs.{needs}
-use Rattle.shares.specs.PrintedLaws.{distance-near, distance-any}
+use Rattle.shares.specs.laws.PrintedLaws.{distance-near, distance-any}
 use Rattle.shares.proofs.distance.Statement.{statement}
 use Rattle.shares.proofs.distance.Tie as tie
 

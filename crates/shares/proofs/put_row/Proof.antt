@@ -8,10 +8,10 @@ use mir.Syntax.{w64}
 use mir.Val.{toZ, ofZ}
 use mir.ValLaws.{toZ-pos}
 use Rattle.obscuration.specs.Share.{share}
-use Rattle.obscuration.specs.ShareLaws.{share-limit}
+use Rattle.obscuration.specs.laws.ShareLaws.{share-limit}
 use Rattle.decimal_text.specs.RowLaws.{also, given, filled-as}
 use Rattle.shares.specs.Printed.{L1, L2, M, line}
-use Rattle.shares.specs.PrintedLaws.{row-sizes}
+use Rattle.shares.specs.laws.PrintedLaws.{row-sizes}
 use Rattle.shares.proofs.put_row.Statement.{statement}
 use Rattle.shares.proofs.put_row.Tie as tie
 

@@ -7,7 +7,7 @@ use lib.IntN.{pos}
 use mir.Syntax.{w64}
 use mir.ValLaws.{toZ-pos}
 use Rattle.shares.specs.Printed.{M}
-use Rattle.shares.specs.PrintedLaws.{square-small}
+use Rattle.shares.specs.laws.PrintedLaws.{square-small}
 use Rattle.shares.proofs.square.Statement.{statement}
 use Rattle.shares.proofs.square.Tie as tie
 

@@ -13,11 +13,11 @@ use Rattle.sheet_types.specs.Refusals.{refusal}
 use Rattle.sheet_format.specs.declared.kinds.Entry.{Entry}
 use Rattle.sheet_codec.specs.declared.decoder.Extent.the-variants as X
 use Rattle.sheet_format.specs.RecordEntries.{numbers, bytes, bytesOf, numbersOf}
-use Rattle.sheet_format.specs.EntryLaws.{bytes-nil, bytes-cons, numbers-nil, numbers-cons, length-numbers}
+use Rattle.sheet_format.specs.laws.EntryLaws.{bytes-nil, bytes-cons, numbers-nil, numbers-cons, length-numbers}
 use Rattle.sheet_rules.specs.Rules.{start}
 use Rattle.sheet_codec.specs.Sheets.{Sheet, sheet, refused, storedAt, readSheet, extentOf, readInto, roomAfter, holds}
 use Rattle.sheet_codec.specs.Handed.{handedAt, listSheet, writeInto, bufferAfterList}
-use Rattle.sheet_codec.specs.SheetLaws.{read-start, list-start, extent-inv, extent-refused}
+use Rattle.sheet_codec.specs.laws.SheetLaws.{read-start, list-start, extent-inv, extent-refused}
 use Rattle.sheet_codec.specs.RoundTrip.{list-length}
 use Rattle.sheet_codec.specs.Passes.{RoomFor, filled, BufferFor, emitted}
 use Rattle.sheet_codec.proofs.decoder.Passing.{Parts, Passing}

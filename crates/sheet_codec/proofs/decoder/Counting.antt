@@ -13,7 +13,7 @@ use Rattle.sheet_codec.specs.declared.decoder.Extent.the-variants as X
 use Rattle.sheet_format.specs.Kinds.{isEnd}
 use Rattle.sheet_rules.specs.Rules.{judgementOf}
 use Rattle.sheet_codec.specs.Sheets.{Sheet, sheetFrom, extentOf}
-use Rattle.sheet_codec.specs.GivenLaws.{from-refused, from-broken, from-end, extent-turn}
+use Rattle.sheet_codec.specs.laws.GivenLaws.{from-refused, from-broken, from-end, extent-turn}
 use Rattle.sheet_codec.specs.Passes.{extent}
 
 pub record Counting (given : ℕ → ℕ → Record) (len : ℕ) (w : Sheet) (p : Progress) (n at : ℕ) : Type 0 where

@@ -7,7 +7,7 @@ use mathlib.Core.Bool.{true, false}
 use native.Mathlib.Omega.{arith}
 use lib.ListN.{length, length-append}
 use lib.Seq.{sets, length-sets}
-use Rattle.rounding.specs.Stores.{sets-append}
+use Rattle.rounding.specs.laws.Stores.{sets-append}
 use Rattle.sheet_types.specs.declared.refusals.Refusal.{Refusal}
 use Rattle.sheet_format.specs.declared.kinds.Entry.{Entry}
 use Rattle.sheet_format.specs.declared.kinds.Progress.{Progress}
@@ -16,7 +16,7 @@ use Rattle.sheet_format.specs.declared.records.Record.the-variants.{Is, Refused
 use Rattle.sheet_format.specs.Kinds.{isEnd}
 use Rattle.sheet_rules.specs.Rules.{afterOf}
 use Rattle.sheet_codec.specs.Sheets.{sheet, sheetFrom}
-use Rattle.sheet_codec.specs.GivenLaws.{Went, from-inv}
+use Rattle.sheet_codec.specs.laws.GivenLaws.{Went, from-inv}
 
 -- the parts of a list of entries are those of its entries, one after the other
 pub record Parts (part : Entry → List ℕ) (parts : List Entry → List ℕ) : Type 0 where

@@ -17,7 +17,7 @@ ghost use Rattle.sheet_format.specs.Kinds.{bytesIn, sizeOf};
 ghost use Rattle.big_endian.specs.Numbers.{twoAt};
 ghost use Rattle.sheet_format.specs.Numbers.{number};
 ghost use Rattle.sheet_format.specs.RecordEntries.{bytes};
-ghost use Rattle.sheet_format.specs.Bodies.{fieldA, fieldB, fieldC, fieldD};
+ghost use Rattle.sheet_format.specs.laws.Bodies.{fieldA, fieldB, fieldC, fieldD};
 ghost use Rattle.sheet_format.specs.Records.{byteAt, bodyAt, recordAt};
 
 // ---- reading

@@ -1,7 +1,7 @@
 -- `sine::c` meets its contract: up to 90 degrees the cosine is the sine of 90 degrees less the angle.
 use borrow.Author.Needs.{needs}
 use mathlib.Core.Path.{sym, _∙_}
-use Rattle.sine.specs.SineLaws.{cosine-first}
+use Rattle.sine.specs.laws.SineLaws.{cosine-first}
 use Rattle.sine.proofs.Values.{is-cosine, kept}
 use Rattle.sine.proofs.c.Statement.{statement}
 use Rattle.sine.proofs.c.Tie as tie

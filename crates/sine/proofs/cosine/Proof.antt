@@ -3,7 +3,7 @@ use borrow.Author.Needs.{needs}
 use native.Mathlib.Omega.{arith}
 use mathlib.Core.Path.{sym, _∙_}
 use Rattle.sine.specs.Quadrants.{second, third, fourth, In}
-use Rattle.sine.specs.QuadrantLaws.{four-quadrants}
+use Rattle.sine.specs.laws.QuadrantLaws.{four-quadrants}
 use Rattle.sine.proofs.Values.{is-cosine, kept, minus-fits, minus}
 use Rattle.sine.proofs.cosine.Statement.{statement}
 use Rattle.sine.proofs.cosine.Tie as tie

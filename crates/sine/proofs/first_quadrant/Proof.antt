@@ -7,7 +7,7 @@ use lib.IntN.{pos}
 use mir.Syntax.{w64}
 use mir.ValLaws.{toZ-pos}
 use Rattle.sine.specs.FirstQuadrant.{arc, sag, firstQuadrant}
-use Rattle.sine.specs.FirstQuadrantLaws.{Parts, arc-square, s-small, cr-small, sw-small, taken, step-small, first-is}
+use Rattle.sine.specs.laws.FirstQuadrantLaws.{Parts, arc-square, s-small, cr-small, sw-small, taken, step-small, first-is}
 use borrow.Author.Needs.{needs}
 use Rattle.sine.proofs.first_quadrant.Statement.{statement}
 use Rattle.sine.proofs.first_quadrant.Tie as tie

@@ -7,10 +7,10 @@ use native.Mathlib.Omega.{arith}
 use lib.IntN.{ℤ, pos, negsuc, negℤ, natAbs, _+ℤ_}
 use lib.Signed.{_≤ℤ_, _<ℤ_, remZ, ltZ, ltZ-yes}
 use Rattle.rounding.specs.Parts.{same, sum, opposite}
-use Rattle.rounding.specs.Order.{≤-parts, <-parts, parts-≤}
-use Rattle.rounding.specs.Code.{Code, arg, lit, add, quo, rem, Within, whole, ends, _▹_, run, fits, runs, above, unsigned, taken-<, left-<}
+use Rattle.rounding.specs.laws.Order.{≤-parts, <-parts, parts-≤}
+use Rattle.rounding.specs.laws.Code.{Code, arg, lit, add, quo, rem, Within, whole, ends, _▹_, run, fits, runs, above, unsigned, taken-<, left-<}
 use Rattle.sine.specs.Sine.{reduced, IsReduced}
-use Rattle.sine.specs.SineLaws.{reduced-below}
+use Rattle.sine.specs.laws.SineLaws.{reduced-below}
 use Rattle.sine.proofs.reduced.Statement.{statement}
 use Rattle.sine.proofs.reduced.Tie as tie
 

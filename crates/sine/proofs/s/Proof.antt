@@ -1,7 +1,7 @@
 -- `sine::s` meets its contract: up to 90 degrees the sine is the first quadrant's.
 use borrow.Author.Needs.{needs}
 use mathlib.Core.Path.{sym, _∙_}
-use Rattle.sine.specs.SineLaws.{sine-first}
+use Rattle.sine.specs.laws.SineLaws.{sine-first}
 use Rattle.sine.proofs.Values.{is-sine, kept}
 use Rattle.sine.proofs.s.Statement.{statement}
 use Rattle.sine.proofs.s.Tie as tie

@@ -1,6 +1,6 @@
 -- `sine_table::fill` meets its contract: the sums fill the room, and a filled room holds table S.
 use borrow.Author.Needs.{needs}
-use Rattle.sine_table.specs.RoomLaws.{filled-sines}
+use Rattle.sine_table.specs.laws.RoomLaws.{filled-sines}
 use Rattle.sine_table.proofs.fill.Statement.{statement}
 use Rattle.sine_table.proofs.fill.Tie as tie
 

@@ -15,12 +15,12 @@ use mir.Syntax.{w16, w32, w64}
 use mir.Val.{Fits, SFits, toZ, ofZ}
 use mir.ValLaws.{toZ-ofZ}
 use Rattle.rounding.specs.Parts.{sum}
-use Rattle.rounding.specs.Order.{natAbs-by, ≡-parts, fits64}
-use Rattle.rounding.specs.Code.{read-result}
+use Rattle.rounding.specs.laws.Order.{natAbs-by, ≡-parts, fits64}
+use Rattle.rounding.specs.laws.Code.{read-result}
 use Rattle.sine_table.specs.Table.{S}
-use Rattle.sine_table.specs.TableLaws.{entry-small}
+use Rattle.sine_table.specs.laws.TableLaws.{entry-small}
 use Rattle.sine_table.specs.Room.{Gives}
-use Rattle.sine_table.specs.RoomLaws.{gives-entry, gives-second, gives-next, Begun, begun-none, begun-length, begun-more, begun-all}
+use Rattle.sine_table.specs.laws.RoomLaws.{gives-entry, gives-second, gives-next, Begun, begun-none, begun-length, begun-more, begun-all}
 use Rattle.sine_table.proofs.sum_up.Statement.{statement}
 use Rattle.sine_table.proofs.sum_up.Tie as tie
 

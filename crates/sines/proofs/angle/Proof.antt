@@ -1,8 +1,8 @@
 -- `sines::angle` meets its contract, part by part of the thousand.
 use mathlib.Core.Path.{sym, _∙_}
-use Rattle.rounding.specs.Code.{read-size}
+use Rattle.rounding.specs.laws.Code.{read-size}
 use Rattle.decimal_text.specs.RowLaws.{given}
-use Rattle.sines.specs.PrintedLaws.{angle-border, angle-tenth, angle-spread}
+use Rattle.sines.specs.laws.PrintedLaws.{angle-border, angle-tenth, angle-spread}
 use borrow.Author.Needs.{needs}
 use Rattle.sines.proofs.angle.Statement.{statement}
 use Rattle.sines.proofs.angle.Tie as tie

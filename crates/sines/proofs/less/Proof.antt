@@ -5,8 +5,8 @@ use native.Mathlib.Omega.{arith}
 use lib.IntN.{pos, negℤ, natAbs, _-ℤ_}
 use borrow.Author.Needs.{needs}
 use Rattle.rounding.specs.Parts.{sum, opposite}
-use Rattle.rounding.specs.Order.{natAbs-by}
-use Rattle.rounding.specs.Code.{arg, sub, Within, whole, ends, _▹_, fits, runs}
+use Rattle.rounding.specs.laws.Order.{natAbs-by}
+use Rattle.rounding.specs.laws.Code.{arg, sub, Within, whole, ends, _▹_, fits, runs}
 use Rattle.sines.proofs.less.Statement.{statement}
 use Rattle.sines.proofs.less.Tie as tie
 

@@ -3,7 +3,7 @@ use mathlib.Core.Path.{ap}
 use native.Mathlib.Omega.{arith}
 use mir.Syntax.{w64}
 use mir.Val.{toZ}
-use Rattle.sines.specs.PrintedLaws.{put-count}
+use Rattle.sines.specs.laws.PrintedLaws.{put-count}
 use borrow.Author.Needs.{needs}
 use Rattle.sines.proofs.put_all.Statement.{statement}
 use Rattle.sines.proofs.put_all.Tie as tie

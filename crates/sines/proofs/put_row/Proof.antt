@@ -2,7 +2,7 @@
 use mathlib.Core.Path.{refl}
 use mir.Syntax.{w64}
 use mir.ValLaws.{toZ-ofZ}
-use Rattle.sine.specs.SineLaws.{sine-of, cosine-of}
+use Rattle.sine.specs.laws.SineLaws.{sine-of, cosine-of}
 use Rattle.decimal_text.specs.RowLaws.{also, given, filled-as}
 use Rattle.sines.specs.Printed.{line}
 use borrow.Author.Needs.{needs}

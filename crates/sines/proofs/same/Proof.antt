@@ -2,7 +2,7 @@
 use mathlib.Core.Path.{sym, ap, _∙_}
 use mir.Syntax.{w64}
 use mir.Val.{ofZ}
-use Rattle.sine.specs.SineLaws.{sine-of, cosine-of}
+use Rattle.sine.specs.laws.SineLaws.{sine-of, cosine-of}
 use borrow.Author.Needs.{needs}
 use Rattle.sines.proofs.same.Statement.{statement}
 use Rattle.sines.proofs.same.Tie as tie

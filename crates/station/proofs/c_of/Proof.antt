@@ -10,13 +10,13 @@ use lib.IntN.{ℤ, pos, natAbs, _+ℤ_, _*ℤ_}
 use lib.Signed.{_≤ℤ_}
 use mir.Syntax.{w64}
 use mir.Val.{toZ, ofZ}
-use Rattle.rounding.specs.Order.{zs, fits64}
-use Rattle.rounding.specs.Code.{Code, arg, lit, add, mul, Within, whole, ends, _▹_, fits, runs, within, unsigned, read-back, read-size}
+use Rattle.rounding.specs.laws.Order.{zs, fits64}
+use Rattle.rounding.specs.laws.Code.{Code, arg, lit, add, mul, Within, whole, ends, _▹_, fits, runs, within, unsigned, read-back, read-size}
 use Rattle.rounding.specs.Units.{one}
 use Rattle.rounding.specs.Near.{near}
 use Rattle.rounding.specs.Root.{root}
 use Rattle.station.specs.Place.{E, under, W, C}
-use Rattle.station.specs.PlaceLaws.{n-size, under-nonneg, root-low, root-high, C-size}
+use Rattle.station.specs.laws.PlaceLaws.{n-size, under-nonneg, root-low, root-high, C-size}
 use Rattle.station.proofs.c_of.Statement.{statement}
 use Rattle.station.proofs.c_of.Tie as tie
 

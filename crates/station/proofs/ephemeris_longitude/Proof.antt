@@ -5,10 +5,10 @@ use Prim.Native.Nat.{_≤_}
 use lib.Dec.{lit≤}
 use lib.IntN.{ℤ, pos, natAbs, _-ℤ_}
 use lib.Signed.{leZ-yes}
-use Rattle.rounding.specs.Code.{Code, arg, lit, sub, mul, Within, whole, ends, _▹_, fits, runs, within}
+use Rattle.rounding.specs.laws.Code.{Code, arg, lit, sub, mul, Within, whole, ends, _▹_, fits, runs, within}
 use Rattle.rounding.specs.Near.{near}
 use Rattle.station.specs.Place.{turnIn, ephemerisLongitude}
-use Rattle.station.specs.PlaceLaws.{turn-size, longitude-size}
+use Rattle.station.specs.laws.PlaceLaws.{turn-size, longitude-size}
 use Rattle.station.proofs.ephemeris_longitude.Statement.{statement}
 use Rattle.station.proofs.ephemeris_longitude.Tie as tie
 

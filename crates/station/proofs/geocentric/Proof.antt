@@ -8,15 +8,15 @@ use lib.IntN.{ℤ, pos, natAbs, _+ℤ_, _*ℤ_}
 use lib.Signed.{leZ-yes}
 use mir.Syntax.{w64}
 use mir.Val.{toZ, ofZ}
-use Rattle.rounding.specs.Code.{Code, arg, lit, add, mul, Within, whole, ends, _▹_, fits, runs, within, read-back, read-size}
+use Rattle.rounding.specs.laws.Code.{Code, arg, lit, add, mul, Within, whole, ends, _▹_, fits, runs, within, read-back, read-size}
 use Rattle.rounding.specs.Units.{one}
 use Rattle.rounding.specs.Near.{near}
 use Rattle.rounding.specs.Value.{Value}
 use Rattle.sine.specs.Sine.{sine, cosine, IsReduced}
-use Rattle.sine.specs.SineLaws.{sine-of, cosine-of}
-use Rattle.sine.specs.SizeLaws.{square-sum}
+use Rattle.sine.specs.laws.SineLaws.{sine-of, cosine-of}
+use Rattle.sine.specs.laws.SizeLaws.{square-sum}
 use Rattle.station.specs.Place.{equatorialRadius, E, C, Z, h, R, P, ephemerisLongitude, placeOf}
-use Rattle.station.specs.PlaceLaws.{Z-size, h-size, scaled-size}
+use Rattle.station.specs.laws.PlaceLaws.{Z-size, h-size, scaled-size}
 use Rattle.station.proofs.geocentric.Statement.{statement}
 use Rattle.station.proofs.geocentric.Tie as tie
 

@@ -1,6 +1,6 @@
 -- `station::in_range` meets its contract: the numbers are searched against the two tables. Assumes nothing.
 use borrow.Author.Needs.{needs}
-use Rattle.rounding.specs.LimitsLaws.{of-listed}
+use Rattle.rounding.specs.laws.LimitsLaws.{of-listed}
 use Rattle.station.specs.Station.{ranges, rangeOf}
 use Rattle.station.proofs.in_range.Statement.{statement}
 use Rattle.station.proofs.in_range.Tie as tie

@@ -1,6 +1,6 @@
 -- `stored_sheets::put_same` meets its contract: the answer is a sheet, and its bytes are the same.
 use mathlib.Core.Path.{sym, _∙_}
-use Rattle.rounding.specs.Tests.{distinct}
+use Rattle.rounding.specs.laws.Tests.{distinct}
 use borrow.Author.Needs.{needs}
 use Rattle.stored_sheets.proofs.put_same.Statement.{statement}
 use Rattle.stored_sheets.proofs.put_same.Tie as tie

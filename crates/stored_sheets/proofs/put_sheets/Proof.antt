@@ -3,7 +3,7 @@ use native.Mathlib.Nat.{mul-one}
 use mathlib.Core.Path.{sym, _∙_}
 use borrow.Author.Needs.{needs}
 use Rattle.stored_sheets.specs.Printed.{sheetText, printed}
-use Rattle.decimal_text.specs.CountedLaws.{Counted, counted-start, counted-turn, counted-short, counted-end}
+use Rattle.decimal_text.specs.laws.CountedLaws.{Counted, counted-start, counted-turn, counted-short, counted-end}
 use lib.ListN.{length}
 use native.Mathlib.Omega.{arith}
 use Prim.Native.Nat.{_-_}

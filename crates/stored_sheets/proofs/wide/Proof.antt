@@ -1,5 +1,5 @@
 -- `stored_sheets::wide` meets its contract: 32 bits are within 64.
-use Rattle.rounding.specs.Code.{count-is}
+use Rattle.rounding.specs.laws.Code.{count-is}
 use native.Mathlib.Omega.{arith}
 use borrow.Author.Needs.{needs}
 use Rattle.stored_sheets.proofs.wide.Statement.{statement}

@@ -1,6 +1,6 @@
 -- `streams::answer` meets its contract: both ways have the answer by the first byte.
 use mathlib.Core.Path.{sym, _∙_}
-use Rattle.streams.specs.StreamLaws.{star-way, eclipse-way}
+use Rattle.streams.specs.laws.StreamLaws.{star-way, eclipse-way}
 use borrow.Author.Needs.{needs}
 use Rattle.streams.proofs.answer.Statement.{statement}
 use Rattle.streams.proofs.answer.Tie as tie

@@ -1,5 +1,5 @@
 -- `streams::is_star` meets its contract: no bytes have no first one.
-use Rattle.streams.specs.StreamLaws.{none-is-star}
+use Rattle.streams.specs.laws.StreamLaws.{none-is-star}
 use borrow.Author.Needs.{needs}
 use Rattle.streams.proofs.is_star.Statement.{statement}
 use Rattle.streams.proofs.is_star.Tie as tie

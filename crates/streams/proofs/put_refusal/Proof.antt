@@ -1,7 +1,7 @@
 -- `streams::put_refusal` meets its contract: after a wrong shape a second line says where.
 use mathlib.Core.Path.{sym, _∙_}
 use native.Mathlib.Omega.{arith}
-use Rattle.streams.specs.StreamLaws.{told-shape, told-other}
+use Rattle.streams.specs.laws.StreamLaws.{told-shape, told-other}
 use borrow.Author.Needs.{needs}
 use Rattle.streams.proofs.put_refusal.Statement.{statement}
 use Rattle.streams.proofs.put_refusal.Tie as tie

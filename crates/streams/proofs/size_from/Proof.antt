@@ -1,6 +1,6 @@
 -- `streams::size_from` meets its contract: each way out has the test that led there.
 use native.Mathlib.Omega.{arith}
-use Rattle.streams.specs.StreamLaws.{eclipse-size, star-size, no-size}
+use Rattle.streams.specs.laws.StreamLaws.{eclipse-size, star-size, no-size}
 use Rattle.streams.proofs.size_from.Statement.{statement}
 use Rattle.streams.proofs.size_from.Tie as tie
 

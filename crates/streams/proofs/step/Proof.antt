@@ -1,6 +1,6 @@
 -- `streams::step` meets its contract: the sheet's bytes and no line, or the line and no bytes.
 use native.Mathlib.Omega.{arith}
-use Rattle.streams.specs.StreamLaws.{step-written, step-refused}
+use Rattle.streams.specs.laws.StreamLaws.{step-written, step-refused}
 use borrow.Author.Needs.{needs}
 use Rattle.streams.proofs.step.Statement.{statement}
 use Rattle.streams.proofs.step.Tie as tie

@@ -1,5 +1,5 @@
 -- `table_elements::put_whole` meets its contract, case by case.
-use Rattle.decimal_text.specs.TextLaws.{put-nil}
+use Rattle.decimal_text.specs.laws.TextLaws.{put-nil}
 use borrow.Author.Tests.{eq-eqb, ne-eqb}
 use native.Mathlib.Omega.{arith}
 use borrow.Author.Needs.{needs}

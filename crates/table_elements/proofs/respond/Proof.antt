@@ -1,6 +1,6 @@
 -- `table_elements::respond` meets its contract: too long a text, a whole one, or one with a fault.
 use Rattle.table_elements.specs.PrintedLaws.{errorOf, respond-by, respond-long}
-use Rattle.decimal_text.specs.TextLaws.{put-nil}
+use Rattle.decimal_text.specs.laws.TextLaws.{put-nil}
 use mathlib.Core.Path.{refl, ap, _∙_}
 use native.Mathlib.Omega.{arith}
 use borrow.Author.Needs.{needs}

@@ -1,6 +1,6 @@
 -- `times::put_text` meets its contract: the test of the length is the definition's. Assumes nothing.
 use borrow.Author.Needs.{needs}
-use Rattle.times.specs.PrintedLaws.{star-put, eclipse-put}
+use Rattle.times.specs.laws.PrintedLaws.{star-put, eclipse-put}
 use Rattle.times.proofs.put_text.Statement.{statement}
 use Rattle.times.proofs.put_text.Tie as tie
 

@@ -1,8 +1,8 @@
 -- `times::respond` meets its contract: the bytes of a text that is taken are those of its request, and what is printed is the answer to them; or a
 -- message and nothing else. Assumes nothing.
 use mathlib.Core.Path.{sym, _∙_}
-use Rattle.request_text.specs.RoomLaws.{bytes-first, message-first}
-use Rattle.times.specs.PrintedLaws.{listing-out, message-out}
+use Rattle.request_text.specs.laws.RoomLaws.{bytes-first, message-first}
+use Rattle.times.specs.laws.PrintedLaws.{listing-out, message-out}
 use borrow.Author.Needs.{needs}
 use Rattle.times.proofs.respond.Statement.{statement}
 use Rattle.times.proofs.respond.Tie as tie

@@ -1,7 +1,7 @@
 -- `tokens::append` meets its contract: the digits left, appended to what there is, give the whole number, up to the cap (`Appended`). Assumes nothing.
 use Prim.Native.Nat.{_-_}
 use borrow.Author.Needs.{needs}
-use Rattle.tokens.specs.NumberLaws.{Appended, append-start, append-more, append-all}
+use Rattle.tokens.specs.laws.NumberLaws.{Appended, append-start, append-more, append-all}
 use Rattle.tokens.proofs.append.Statement.{statement}
 use Rattle.tokens.proofs.append.Tie as tie
 

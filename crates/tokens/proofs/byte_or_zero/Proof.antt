@@ -2,7 +2,7 @@
 use mathlib.Core.Path.{sym}
 use borrow.Author.Needs.{needs}
 use lib.ListN.{List·getD-eq-default}
-use Rattle.tokens.specs.TextLaws.{any-default}
+use Rattle.tokens.specs.laws.TextLaws.{any-default}
 use Rattle.tokens.proofs.byte_or_zero.Statement.{statement}
 use Rattle.tokens.proofs.byte_or_zero.Tie as tie
 

@@ -2,8 +2,8 @@
 use mathlib.Core.Path.{ap, _∙_}
 use Rattle.tokens.specs.declared.Class.the-variants as C
 use Rattle.tokens.specs.Text.{allOf}
-use Rattle.tokens.specs.TextLaws.{rest-is}
-use Rattle.tokens.specs.NumberLaws.{whole-short}
+use Rattle.tokens.specs.laws.TextLaws.{rest-is}
+use Rattle.tokens.specs.laws.NumberLaws.{whole-short}
 use borrow.Author.Needs.{needs}
 use Rattle.tokens.proofs.is_whole.Statement.{statement}
 use Rattle.tokens.proofs.is_whole.Tie as tie

@@ -5,7 +5,7 @@ use Prim.Native.Nat.{_-_}
 use borrow.Author.Needs.{needs}
 use borrow.Author.Tests.{not-true, not-false}
 use lib.ListN.{length}
-use Rattle.tokens.specs.TextLaws.{Ran, ran-none, ran-more, ran-out, ran-all}
+use Rattle.tokens.specs.laws.TextLaws.{Ran, ran-none, ran-more, ran-out, ran-all}
 use Rattle.tokens.proofs.run.Statement.{statement}
 use Rattle.tokens.proofs.run.Tie as tie
 

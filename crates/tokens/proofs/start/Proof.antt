@@ -1,7 +1,7 @@
 -- `tokens::start` meets its contract: the first byte decides, where there is one. Assumes nothing.
 use mathlib.Core.Path.{sym, _∙_}
 use native.Mathlib.Omega.{arith}
-use Rattle.tokens.specs.TextLaws.{start-nil, start-in, start-out}
+use Rattle.tokens.specs.laws.TextLaws.{start-nil, start-in, start-out}
 use borrow.Author.Needs.{needs}
 use Rattle.tokens.proofs.start.Statement.{statement}
 use Rattle.tokens.proofs.start.Tie as tie

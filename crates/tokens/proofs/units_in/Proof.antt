@@ -3,7 +3,7 @@ use mathlib.Core.Path.{sym, _∙_}
 use Prim.Native.Nat.{ℕ}
 use borrow.Author.Tests.{not-true, not-false}
 use borrow.Author.Needs.{needs}
-use Rattle.tokens.specs.NumberLaws.{Split, split, split-other, split-empty, split-fraction, split-units}
+use Rattle.tokens.specs.laws.NumberLaws.{Split, split, split-other, split-empty, split-fraction, split-units}
 use Rattle.tokens.proofs.units_in.Statement.{statement}
 use Rattle.tokens.proofs.units_in.Tie as tie
 

@@ -3,7 +3,7 @@ use mathlib.Core.Path.{sym, ap, _∙_}
 use Prim.Native.Nat.{ℕ, _+_, _*_}
 use native.Mathlib.Omega.{arith}
 use borrow.Author.Needs.{needs}
-use Rattle.tokens.specs.NumberLaws.{capped-below, capped-above}
+use Rattle.tokens.specs.laws.NumberLaws.{capped-below, capped-above}
 use Rattle.tokens.proofs.with_digit.Statement.{statement}
 use Rattle.tokens.proofs.with_digit.Tie as tie
 

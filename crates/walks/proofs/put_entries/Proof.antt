@@ -4,8 +4,8 @@ use native.Mathlib.Omega.{arith}
 use lib.ListN.{length}
 use Rattle.run_length.specs.Runs.{decoded}
 use Rattle.contacts.specs.Step.{At}
-use Rattle.contacts.specs.StepLaws.{at-start, Took, took, none-left}
-use Rattle.walks.specs.PrintedLaws.{as-runs, few-seconds, Walking, walking-start, walking-turn, walking-end}
+use Rattle.contacts.specs.laws.StepLaws.{at-start, Took, took, none-left}
+use Rattle.walks.specs.laws.PrintedLaws.{as-runs, few-seconds, Walking, walking-start, walking-turn, walking-end}
 use borrow.Author.Needs.{needs}
 use Rattle.walks.proofs.put_entries.Statement.{statement}
 use Rattle.walks.proofs.put_entries.Tie as tie

@@ -5,7 +5,7 @@ use lib.ListN.{length, take}
 use lib.Seq.{length-take-le}
 use Rattle.decimal_text.specs.RowLaws.{put-as}
 use Rattle.walks.specs.Printed.{statesOf, line}
-use Rattle.walks.specs.PrintedLaws.{first-states, are-states}
+use Rattle.walks.specs.laws.PrintedLaws.{first-states, are-states}
 use borrow.Author.Needs.{needs}
 use Rattle.walks.proofs.put_line.Statement.{statement}
 use Rattle.walks.proofs.put_line.Tie as tie

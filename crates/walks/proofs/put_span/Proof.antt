@@ -1,6 +1,6 @@
 -- `walks::put_span` meets its contract: its four parts, one after the other.
 use native.Mathlib.Omega.{arith}
-use Rattle.walks.specs.PrintedLaws.{put-parts}
+use Rattle.walks.specs.laws.PrintedLaws.{put-parts}
 use borrow.Author.Needs.{needs}
 use Rattle.walks.proofs.put_span.Statement.{statement}
 use Rattle.walks.proofs.put_span.Tie as tie

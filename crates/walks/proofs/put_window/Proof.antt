@@ -1,6 +1,6 @@
 -- `walks::put_window` meets its contract: the states, the entries, the end of the line.
 use native.Mathlib.Omega.{arith}
-use Rattle.walks.specs.PrintedLaws.{put-whole}
+use Rattle.walks.specs.laws.PrintedLaws.{put-whole}
 use borrow.Author.Needs.{needs}
 use Rattle.walks.proofs.put_window.Statement.{statement}
 use Rattle.walks.proofs.put_window.Tie as tie

@@ -6,9 +6,9 @@ use native.Mathlib.Omega.{arith}
 use borrow.Fn.Kinds.{In}
 use borrow.Fn.PlainCycle.{Measures, is, falls, and}
 use Rattle.requests.specs.WindowLaws.{seconds-few}
-use Rattle.seconds.specs.SecondLaws.{guard-read}
-use Rattle.exclusion_test.specs.Gaps.{sample-sizes, gap-passed}
-use Rattle.adaptive_sampling.specs.KeptLaws.{kept-more}
+use Rattle.seconds.specs.laws.SecondLaws.{guard-read}
+use Rattle.exclusion_test.specs.laws.Gaps.{sample-sizes, gap-passed}
+use Rattle.adaptive_sampling.specs.laws.KeptLaws.{kept-more}
 use Rattle.adaptive_sampling.proofs.bisection.between.Reads as between
 use Rattle.adaptive_sampling.proofs.bisection.between.Kinds as between-kinds
 use Rattle.adaptive_sampling.proofs.bisection.+between.Lts-between as between-lts

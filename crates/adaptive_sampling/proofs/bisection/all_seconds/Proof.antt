@@ -6,7 +6,7 @@ use borrow.Author.Needs.{needs}
 use Rattle.adaptive_sampling.specs.Kept.{Kept}
 use Rattle.adaptive_sampling.specs.Reach.{Reached}
 use Rattle.requests.specs.WindowLaws.{seconds-some}
-use Rattle.adaptive_sampling.specs.ReachLaws.{reached-far}
+use Rattle.adaptive_sampling.specs.laws.ReachLaws.{reached-far}
 use Rattle.adaptive_sampling.proofs.bisection.all_seconds.Statement.{statement}
 use Rattle.adaptive_sampling.proofs.bisection.all_seconds.Tie as tie
 

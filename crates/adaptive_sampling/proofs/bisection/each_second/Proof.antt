@@ -10,12 +10,12 @@ use Rattle.requests.specs.Windows.{secondCount}
 use Rattle.requests.specs.WindowLaws.{seconds-few}
 use Rattle.requests.specs.RequestLaws.{InLimits}
 use Rattle.shadow.specs.declared.Sample.{Sample}
-use Rattle.seconds.specs.SecondLaws.{guard-read}
+use Rattle.seconds.specs.laws.SecondLaws.{guard-read}
 use Rattle.adaptive_sampling.specs.declared.partial.Tally.{Tally}
 use Rattle.exclusion_test.specs.Samples.{IsAt}
 use Rattle.adaptive_sampling.specs.Kept.{Kept, Stored}
-use Rattle.exclusion_test.specs.Gaps.{sample-sizes, gap-none}
-use Rattle.adaptive_sampling.specs.KeptLaws.{kept-more}
+use Rattle.exclusion_test.specs.laws.Gaps.{sample-sizes, gap-none}
+use Rattle.adaptive_sampling.specs.laws.KeptLaws.{kept-more}
 use Rattle.adaptive_sampling.proofs.bisection.each_second.Statement.{statement}
 use Rattle.adaptive_sampling.proofs.bisection.each_second.Tie as tie
 

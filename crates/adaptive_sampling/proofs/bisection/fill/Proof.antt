@@ -3,7 +3,7 @@ use mathlib.Core.Path.{_∙_}
 use borrow.Author.Needs.{needs}
 use native.Mathlib.Omega.{arith}
 use Rattle.requests.specs.WindowLaws.{seconds-some}
-use Rattle.adaptive_sampling.specs.FoundLaws.{found-of}
+use Rattle.adaptive_sampling.specs.laws.FoundLaws.{found-of}
 use Rattle.adaptive_sampling.proofs.bisection.fill.Statement.{statement}
 use Rattle.adaptive_sampling.proofs.bisection.fill.Tie as tie
 

@@ -2,7 +2,7 @@
 use mathlib.Core.List.{[], _∷_}
 use native.Mathlib.Omega.{arith}
 use borrow.Author.Needs.{needs}
-use Rattle.rounding.specs.Code.{Code, arg, add, mul, Within, whole, raw, ends, _▹_, fits, count-size}
+use Rattle.rounding.specs.laws.Code.{Code, arg, add, mul, Within, whole, raw, ends, _▹_, fits, count-size}
 use Rattle.adaptive_sampling.proofs.bisection.leaf.Statement.{statement}
 use Rattle.adaptive_sampling.proofs.bisection.leaf.Tie as tie
 

@@ -8,7 +8,7 @@ use Rattle.requests.specs.WindowLaws.{seconds-few}
 use Rattle.exclusion_test.specs.Samples.{IsAt}
 use Rattle.adaptive_sampling.specs.Kept.{Kept}
 use Rattle.adaptive_sampling.specs.Spread.{stop, blank}
-use Rattle.adaptive_sampling.specs.SpreadLaws.{stop-first, stop-last, stop-in, stop-rises}
+use Rattle.adaptive_sampling.specs.laws.SpreadLaws.{stop-first, stop-last, stop-in, stop-rises}
 use Rattle.adaptive_sampling.proofs.bisection.stretches.Statement.{statement}
 use Rattle.adaptive_sampling.proofs.bisection.stretches.Tie as tie
 

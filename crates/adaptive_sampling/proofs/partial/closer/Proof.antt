@@ -2,7 +2,7 @@
 use mathlib.Core.Path.{refl}
 use mathlib.Core.List.{[], _∷_}
 use mathlib.Core.Logic.{inl, inr}
-use Rattle.rounding.specs.Code.{arg, Within, whole, ends, _▹_, read-back, taken-<, left-<}
+use Rattle.rounding.specs.laws.Code.{arg, Within, whole, ends, _▹_, read-back, taken-<, left-<}
 use Rattle.adaptive_sampling.proofs.partial.closer.Statement.{statement}
 use Rattle.adaptive_sampling.proofs.partial.closer.Tie as tie
 

@@ -1,10 +1,10 @@
 -- `adaptive_sampling::partial::first` meets its contract: the pair of second 0 is a run of one second. Assumes nothing.
 use mathlib.Core.Path.{refl}
-use Rattle.rounding.specs.Code.{read-back}
-use Rattle.seconds.specs.SecondLaws.{guard-read}
-use Rattle.exclusion_test.specs.Gaps.{sample-sizes}
+use Rattle.rounding.specs.laws.Code.{read-back}
+use Rattle.seconds.specs.laws.SecondLaws.{guard-read}
+use Rattle.exclusion_test.specs.laws.Gaps.{sample-sizes}
 use Rattle.requests.specs.WindowLaws.{seconds-some}
-use Rattle.adaptive_sampling.specs.KeptLaws.{kept-start}
+use Rattle.adaptive_sampling.specs.laws.KeptLaws.{kept-start}
 use Rattle.adaptive_sampling.proofs.partial.first.Statement.{statement}
 use Rattle.adaptive_sampling.proofs.partial.first.Tie as tie
 

@@ -1,6 +1,6 @@
 -- `adaptive_sampling::partial::keep` meets its contract. Assumes nothing.
 use native.Mathlib.Omega.{arith}
-use Rattle.rounding.specs.Code.{read-back, read-size}
+use Rattle.rounding.specs.laws.Code.{read-back, read-size}
 use Rattle.adaptive_sampling.proofs.partial.keep.Statement.{statement}
 use Rattle.adaptive_sampling.proofs.partial.keep.Tie as tie
 

@@ -4,8 +4,8 @@ use Prim.Native.Nat.{ℕ, zero, suc, _≤_, _<_}
 use native.Mathlib.Omega.{arith}
 use lib.IntN.{ℤ, natAbs}
 use Rattle.sheet_types.specs.States.{code}
-use Rattle.sheet_types.specs.PhaseLaws.{code-limit}
-use Rattle.rounding.specs.Code.{read-back, read-size}
+use Rattle.sheet_types.specs.laws.PhaseLaws.{code-limit}
+use Rattle.rounding.specs.laws.Code.{read-back, read-size}
 use Rattle.shadow_geometry.specs.Shadow.{state}
 use Rattle.shadow.specs.declared.Sample.{Sample}
 use Rattle.shadow.specs.Second.{radiusIn}

@@ -1,7 +1,7 @@
 -- `adaptive_sampling::seeds::closer` meets its contract. Assumes nothing.
 use mathlib.Core.Path.{refl}
 use mathlib.Core.Logic.{inl, inr}
-use Rattle.rounding.specs.Code.{read-back}
+use Rattle.rounding.specs.laws.Code.{read-back}
 use Rattle.adaptive_sampling.proofs.seeds.closer.Statement.{statement}
 use Rattle.adaptive_sampling.proofs.seeds.closer.Tie as tie
 

@@ -4,9 +4,9 @@ use mathlib.Core.Path.{sym}
 use native.Mathlib.Omega.{arith}
 use borrow.Author.Needs.{needs}
 use lib.ListN.{getD}
-use Rattle.rounding.specs.Code.{read-back, read-size}
+use Rattle.rounding.specs.laws.Code.{read-back, read-size}
 use Rattle.adaptive_sampling.specs.Spread.{blank, OneStop}
-use Rattle.adaptive_sampling.specs.SpreadLaws.{stop-first, stop-size, one-stop}
+use Rattle.adaptive_sampling.specs.laws.SpreadLaws.{stop-first, stop-size, one-stop}
 use Rattle.adaptive_sampling.proofs.seeds.closest.Statement.{statement}
 use Rattle.adaptive_sampling.proofs.seeds.closest.Tie as tie
 

@@ -5,11 +5,11 @@ use native.Mathlib.Omega.{arith}
 use borrow.Author.Needs.{needs}
 use lib.IntN.{ℤ, pos, negℤ, _+ℤ_, _-ℤ_, _*ℤ_}
 use lib.Signed.{_≤ℤ_, _<ℤ_}
-use Rattle.rounding.specs.Ring.{num, _⊖_, v0}
-use Rattle.rounding.specs.Cert.{less, lit, _⊞_, certify}
-use Rattle.rounding.specs.Order.{+ℤ-nonneg, square-nonneg}
-use Rattle.rounding.specs.Code as K
-use Rattle.rounding.specs.Code.{Code, arg, add, sub, mul, Within, whole, ends, _▹_, fits, within, unsigned, taken-<, left-<}
+use Rattle.rounding.specs.laws.Ring.{num, _⊖_, v0}
+use Rattle.rounding.specs.laws.Cert.{less, lit, _⊞_, certify}
+use Rattle.rounding.specs.laws.Order.{+ℤ-nonneg, square-nonneg}
+use Rattle.rounding.specs.laws.Code as K
+use Rattle.rounding.specs.laws.Code.{Code, arg, add, sub, mul, Within, whole, ends, _▹_, fits, within, unsigned, taken-<, left-<}
 use Rattle.requests.specs.WindowLaws.{seconds-few}
 use Rattle.adaptive_sampling.proofs.seeds.foot.Statement.{statement}
 use Rattle.adaptive_sampling.proofs.seeds.foot.Tie as tie

@@ -5,12 +5,12 @@ use native.Mathlib.Omega.{arith}
 use borrow.Author.Needs.{needs}
 use lib.Dec.{lit≤}
 use lib.IntN.{natAbs}
-use Rattle.rounding.specs.Code.{read-back, read-size}
+use Rattle.rounding.specs.laws.Code.{read-back, read-size}
 use Rattle.elements.specs.Sizes.{wider-axis}
 use Rattle.elements.specs.StarLaws.{axis-sizes}
 use Rattle.station.specs.Sizes.{PlaceSizes}
 use Rattle.requests.specs.WindowLaws.{second-size}
-use Rattle.seconds.specs.SecondLaws.{placed}
+use Rattle.seconds.specs.laws.SecondLaws.{placed}
 use Rattle.adaptive_sampling.proofs.seeds.offset_of.Statement.{statement}
 use Rattle.adaptive_sampling.proofs.seeds.offset_of.Tie as tie
 

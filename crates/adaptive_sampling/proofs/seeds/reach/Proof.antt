@@ -6,12 +6,12 @@ use mathlib.Core.Logic.{⊎-elim}
 use native.Mathlib.Omega.{arith}
 use borrow.Author.Needs.{needs}
 use lib.IntN.{natAbs}
-use Rattle.rounding.specs.Code.{arg, Within, whole, ends, _▹_, unsigned, read-back, read-size}
+use Rattle.rounding.specs.laws.Code.{arg, Within, whole, ends, _▹_, unsigned, read-back, read-size}
 use Rattle.rounding.specs.Root.{root}
 use Rattle.requests.specs.WindowLaws.{seconds-few}
 use Rattle.adaptive_sampling.specs.Reach.{Seen}
-use Rattle.adaptive_sampling.specs.ReachLaws.{seen-nonneg, seen-one, seen-root}
-use Rattle.adaptive_sampling.specs.SpreadLaws.{square-sizes, stop-seen}
+use Rattle.adaptive_sampling.specs.laws.ReachLaws.{seen-nonneg, seen-one, seen-root}
+use Rattle.adaptive_sampling.specs.laws.SpreadLaws.{square-sizes, stop-seen}
 use Rattle.adaptive_sampling.proofs.seeds.reach.Statement.{statement}
 use Rattle.adaptive_sampling.proofs.seeds.reach.Tie as tie
 

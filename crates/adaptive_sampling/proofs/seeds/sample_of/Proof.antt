@@ -3,10 +3,10 @@ use mathlib.Core.Path.{sym, ap, subst, _∙_}
 use Prim.Native.Nat.{_≤_}
 use native.Mathlib.Omega.{arith}
 use lib.IntN.{natAbs}
-use Rattle.rounding.specs.Code.{read-back, read-size}
+use Rattle.rounding.specs.laws.Code.{read-back, read-size}
 use Rattle.station.specs.Sizes.{PlaceSizes}
 use Rattle.requests.specs.WindowLaws.{second-size}
-use Rattle.seconds.specs.SecondLaws.{placed}
+use Rattle.seconds.specs.laws.SecondLaws.{placed}
 use Rattle.adaptive_sampling.proofs.seeds.sample_of.Statement.{statement}
 use Rattle.adaptive_sampling.proofs.seeds.sample_of.Tie as tie
 

@@ -7,7 +7,7 @@ use lib.ListN.{length, length-set}
 use Rattle.requests.specs.WindowLaws.{seconds-few}
 use Rattle.adaptive_sampling.specs.Spread.{SpreadTo}
 use Rattle.requests.specs.WindowLaws.{seconds-some}
-use Rattle.adaptive_sampling.specs.SpreadLaws.{stop-first, stop-in, spread-more}
+use Rattle.adaptive_sampling.specs.laws.SpreadLaws.{stop-first, stop-in, spread-more}
 use Rattle.adaptive_sampling.proofs.seeds.spread.Statement.{statement}
 use Rattle.adaptive_sampling.proofs.seeds.spread.Tie as tie
 

@@ -1,7 +1,7 @@
 -- `adaptive_sampling::seeds::square_of` meets its contract. Assumes nothing.
 use mathlib.Core.Path.{_∙_}
 use borrow.Author.Needs.{needs}
-use Rattle.rounding.specs.Code.{read-back, read-size}
+use Rattle.rounding.specs.laws.Code.{read-back, read-size}
 use Rattle.exclusion_test.specs.Samples.{squareAt}
 use Rattle.adaptive_sampling.proofs.seeds.square_of.Statement.{statement}
 use Rattle.adaptive_sampling.proofs.seeds.square_of.Tie as tie

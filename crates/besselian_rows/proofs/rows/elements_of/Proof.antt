@@ -2,16 +2,16 @@
 use mathlib.Core.Path.{_≡_, sym, ap₂, subst, _∙_}
 use mathlib.Core.List.{[], _∷_}
 use lib.IntN.{ℤ, _+ℤ_, _-ℤ_}
-use Rattle.rounding.specs.Code.{arg, add, sub, Within, whole, ends, _▹_, fits, runs}
+use Rattle.rounding.specs.laws.Code.{arg, add, sub, Within, whole, ends, _▹_, fits, runs}
 use Rattle.besselian_rows.specs.declared.besselian.Row.{Row}
 use Rattle.besselian_rows.specs.declared.besselian.Besselian.{Besselian}
 use Rattle.besselian_rows.specs.Exact.{S1, S2, Faithful}
 use Rattle.besselian_rows.specs.Rounded.{S1², S2², elementsOf}
-use Rattle.besselian_rows.specs.AcceptedLaws.{Accepted, accepted-is}
-use Rattle.besselian_rows.specs.Sizes
-use Rattle.besselian_rows.specs.Sizes.{penumbra, central}
-use Rattle.besselian_rows.specs.Errors.{faithful}
-use Rattle.besselian_rows.specs.ReadLaws.{back}
+use Rattle.besselian_rows.specs.laws.AcceptedLaws.{Accepted, accepted-is}
+use Rattle.besselian_rows.specs.laws.Sizes
+use Rattle.besselian_rows.specs.laws.Sizes.{penumbra, central}
+use Rattle.besselian_rows.specs.laws.Errors.{faithful}
+use Rattle.besselian_rows.specs.laws.ReadLaws.{back}
 use Rattle.besselian_rows.proofs.rows.elements_of.Statement.{statement}
 use Rattle.besselian_rows.proofs.rows.elements_of.Tie as tie
 

@@ -7,15 +7,15 @@ use borrow.Author.Needs.{needs}
 use lib.Dec.{lit≤}
 use lib.IntN.{ℤ, pos, natAbs, _*ℤ_}
 use lib.Signed.{leZ-yes}
-use Rattle.rounding.specs.Order.{fits64}
+use Rattle.rounding.specs.laws.Order.{fits64}
 use Rattle.rounding.specs.Near.{near}
 use Rattle.rounding.specs.Root.{root}
-use Rattle.rounding.specs.Code.{Code, arg, mul, Within, whole, raw, ends, _▹_, fits, runs, within, count-is, count-size}
+use Rattle.rounding.specs.laws.Code.{Code, arg, mul, Within, whole, raw, ends, _▹_, fits, runs, within, count-is, count-size}
 use Rattle.besselian_rows.specs.Exact.{one}
 use Rattle.besselian_rows.specs.Rounded.{z, T, tan-f, slope, foot}
-use Rattle.besselian_rows.specs.ReadLaws.{same-size, back, back-size}
-use Rattle.besselian_rows.specs.AxisSizes
-use Rattle.besselian_rows.specs.Sizes
+use Rattle.besselian_rows.specs.laws.ReadLaws.{same-size, back, back-size}
+use Rattle.besselian_rows.specs.laws.AxisSizes
+use Rattle.besselian_rows.specs.laws.Sizes
 use Rattle.besselian_rows.proofs.rows.find_cone.Statement.{statement}
 use Rattle.besselian_rows.proofs.rows.find_cone.Tie as tie
 

@@ -4,14 +4,14 @@ use Prim.Native.Nat.{ℕ, _≤_}
 use native.Mathlib.Omega.{arith}
 use borrow.Author.Needs.{needs}
 use lib.IntN.{ℤ, pos, natAbs, _*ℤ_}
-use Rattle.rounding.specs.Order.{fits64}
+use Rattle.rounding.specs.laws.Order.{fits64}
 use Rattle.rounding.specs.Near.{near}
 use Rattle.rounding.specs.Root.{root}
-use Rattle.rounding.specs.Code.{read-back, count-is}
+use Rattle.rounding.specs.laws.Code.{read-back, count-is}
 use Rattle.besselian_rows.specs.Exact.{one}
 use Rattle.besselian_rows.specs.Rounded.{gx, gy, gz, flat, whole, r, R, cos-a, sin-a, sin-d, cos-d}
-use Rattle.besselian_rows.specs.ReadLaws.{back}
-use Rattle.besselian_rows.specs.AxisSizes
+use Rattle.besselian_rows.specs.laws.ReadLaws.{back}
+use Rattle.besselian_rows.specs.laws.AxisSizes
 use Rattle.besselian_rows.proofs.rows.find_directions.Statement.{statement}
 use Rattle.besselian_rows.proofs.rows.find_directions.Tie as tie
 

@@ -4,9 +4,9 @@ use mathlib.Core.List.{[], _∷_}
 use borrow.Author.Needs.{needs}
 use lib.IntN.{ℤ, pos, _*ℤ_}
 use lib.Signed.{leZ}
-use Rattle.rounding.specs.Code.{arg, lit, mul, Within, whole, ends, _▹_, fits, runs, within, read-back}
+use Rattle.rounding.specs.laws.Code.{arg, lit, mul, Within, whole, ends, _▹_, fits, runs, within, read-back}
 use Rattle.besselian_rows.specs.Exact.{level}
-use Rattle.besselian_rows.specs.WideLaws.{value-same, value-times}
+use Rattle.besselian_rows.specs.laws.WideLaws.{value-same, value-times}
 use Rattle.besselian_rows.proofs.rows.is_level.Statement.{statement}
 use Rattle.besselian_rows.proofs.rows.is_level.Tie as tie
 

@@ -8,10 +8,10 @@ use lib.IntN.{ℤ, pos, natAbs, _*ℤ_}
 use lib.Signed.{_≤ℤ_}
 use mir.Syntax.{w64}
 use mir.Val.{toZ}
-use Rattle.rounding.specs.Order.{zs, natAbs-product}
+use Rattle.rounding.specs.laws.Order.{zs, natAbs-product}
 use Rattle.rounding.specs.Near.{near}
-use Rattle.rounding.specs.NearLaws.{near-size}
-use Rattle.rounding.specs.Code.{Code, arg, lit, mul, Within, whole, ends, _▹_, fits, runs, within, read-back, read-size, count-is, count-size}
+use Rattle.rounding.specs.laws.NearLaws.{near-size}
+use Rattle.rounding.specs.laws.Code.{Code, arg, lit, mul, Within, whole, ends, _▹_, fits, runs, within, read-back, read-size, count-is, count-size}
 use Rattle.besselian_rows.proofs.rows.share.Statement.{statement}
 use Rattle.besselian_rows.proofs.rows.share.Tie as tie
 

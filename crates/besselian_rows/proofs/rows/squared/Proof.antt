@@ -2,8 +2,8 @@
 use mathlib.Core.Path.{ap, _∙_}
 use mathlib.Core.List.{[], _∷_}
 use lib.IntN.{natAbs}
-use Rattle.rounding.specs.Order.{natAbs-product, square-nonneg}
-use Rattle.rounding.specs.Code.{Code, arg, mul, Within, whole, ends, _▹_, fits, runs, unsigned}
+use Rattle.rounding.specs.laws.Order.{natAbs-product, square-nonneg}
+use Rattle.rounding.specs.laws.Code.{Code, arg, mul, Within, whole, ends, _▹_, fits, runs, unsigned}
 use Rattle.besselian_rows.proofs.rows.squared.Statement.{statement}
 use Rattle.besselian_rows.proofs.rows.squared.Tie as tie
 

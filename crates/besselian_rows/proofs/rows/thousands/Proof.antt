@@ -6,10 +6,10 @@ use native.Mathlib.Omega.{arith}
 use lib.Dec.{lit≤}
 use lib.IntN.{ℤ, pos, natAbs, _-ℤ_}
 use lib.Signed.{leZ-yes}
-use Rattle.rounding.specs.Order.{natAbs-minus}
+use Rattle.rounding.specs.laws.Order.{natAbs-minus}
 use Rattle.rounding.specs.Near.{near}
-use Rattle.rounding.specs.NearLaws.{near-size}
-use Rattle.rounding.specs.Code.{Code, arg, sub, Within, whole, ends, _▹_, fits, runs, within, read-back, read-size}
+use Rattle.rounding.specs.laws.NearLaws.{near-size}
+use Rattle.rounding.specs.laws.Code.{Code, arg, sub, Within, whole, ends, _▹_, fits, runs, within, read-back, read-size}
 use Rattle.besselian_rows.proofs.rows.thousands.Statement.{statement}
 use Rattle.besselian_rows.proofs.rows.thousands.Tie as tie
 

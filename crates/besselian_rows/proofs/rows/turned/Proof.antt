@@ -5,7 +5,7 @@ use lib.Dec.{lit≤}
 use lib.IntN.{ℤ, pos}
 use lib.Signed.{leZ-yes}
 use Rattle.rounding.specs.Near.{near}
-use Rattle.rounding.specs.Code.{Code, arg, add, mul, Within, whole, ends, _▹_, fits, runs, within, read-result}
+use Rattle.rounding.specs.laws.Code.{Code, arg, add, mul, Within, whole, ends, _▹_, fits, runs, within, read-result}
 use Rattle.besselian_rows.proofs.rows.turned.Statement.{statement}
 use Rattle.besselian_rows.proofs.rows.turned.Tie as tie
 

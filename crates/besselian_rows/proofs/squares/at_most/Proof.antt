@@ -1,8 +1,8 @@
 -- `besselian_rows::squares::at_most` meets its contract: the parts of the difference. Assumes nothing.
 use mathlib.Core.Path.{_∙_}
 use mathlib.Core.List.{[], _∷_}
-use Rattle.rounding.specs.Code.{Code, arg, sub, Within, whole, ends, _▹_, fits, runs, within}
-use Rattle.besselian_rows.specs.WideLaws.{difference, notNegative-same}
+use Rattle.rounding.specs.laws.Code.{Code, arg, sub, Within, whole, ends, _▹_, fits, runs, within}
+use Rattle.besselian_rows.specs.laws.WideLaws.{difference, notNegative-same}
 use Rattle.besselian_rows.proofs.squares.at_most.Statement.{statement}
 use Rattle.besselian_rows.proofs.squares.at_most.Tie as tie
 

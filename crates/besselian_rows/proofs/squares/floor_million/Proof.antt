@@ -4,9 +4,9 @@ use mathlib.Core.List.{[], _∷_}
 use native.Mathlib.Omega.{arith}
 use lib.IntN.{pos, natAbs}
 use lib.Signed.{ltZ-yes}
-use Rattle.rounding.specs.Floor.{floor-same, floor-less}
-use Rattle.besselian_rows.specs.WideLaws.{floor-size}
-use Rattle.rounding.specs.Code.{Code, arg, lit, sub, quo, rem, Within, whole, ends, _▹_, fits, runs, above, taken-<, left-<}
+use Rattle.rounding.specs.laws.Floor.{floor-same, floor-less}
+use Rattle.besselian_rows.specs.laws.WideLaws.{floor-size}
+use Rattle.rounding.specs.laws.Code.{Code, arg, lit, sub, quo, rem, Within, whole, ends, _▹_, fits, runs, above, taken-<, left-<}
 use Rattle.besselian_rows.proofs.squares.floor_million.Statement.{statement}
 use Rattle.besselian_rows.proofs.squares.floor_million.Tie as tie
 

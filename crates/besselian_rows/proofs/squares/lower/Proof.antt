@@ -4,8 +4,8 @@ use mathlib.Core.List.{[], _∷_}
 use native.Mathlib.Omega.{arith}
 use lib.IntN.{pos, natAbs}
 use lib.Signed.{ltZ-yes}
-use Rattle.besselian_rows.specs.WideLaws.{rem-size}
-use Rattle.rounding.specs.Code.{arg, lit, quo, rem, Within, whole, ends, _▹_, fits, runs, above}
+use Rattle.besselian_rows.specs.laws.WideLaws.{rem-size}
+use Rattle.rounding.specs.laws.Code.{arg, lit, quo, rem, Within, whole, ends, _▹_, fits, runs, above}
 use Rattle.besselian_rows.proofs.squares.lower.Statement.{statement}
 use Rattle.besselian_rows.proofs.squares.lower.Tie as tie
 

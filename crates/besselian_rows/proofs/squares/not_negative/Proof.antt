@@ -6,9 +6,9 @@ use Prim.Native.Nat.{_≤_}
 use lib.IntN.{ℤ, pos, natAbs, _+ℤ_}
 use lib.Signed.{leZ}
 use Rattle.rounding.specs.Near.{floorZ}
-use Rattle.rounding.specs.Code.{Code, arg, add, Within, whole, ends, _▹_, fits, runs, within, read-back, read-size}
+use Rattle.rounding.specs.laws.Code.{Code, arg, add, Within, whole, ends, _▹_, fits, runs, within, read-back, read-size}
 use Rattle.besselian_rows.specs.Wide.{IsFloor}
-use Rattle.besselian_rows.specs.WideLaws.{carried}
+use Rattle.besselian_rows.specs.laws.WideLaws.{carried}
 use Rattle.besselian_rows.proofs.squares.not_negative.Statement.{statement}
 use Rattle.besselian_rows.proofs.squares.not_negative.Tie as tie
 

@@ -4,8 +4,8 @@ use mathlib.Core.List.{[], _∷_}
 use borrow.Author.Needs.{needs}
 use lib.IntN.{ℤ, pos, _*ℤ_}
 use lib.Signed.{quotZ, remZ}
-use Rattle.rounding.specs.Code.{Code, arg, lit, mul, Within, whole, ends, _▹_, fits, runs, within, read-back}
-use Rattle.besselian_rows.specs.WideLaws.{square-is, value-same}
+use Rattle.rounding.specs.laws.Code.{Code, arg, lit, mul, Within, whole, ends, _▹_, fits, runs, within, read-back}
+use Rattle.besselian_rows.specs.laws.WideLaws.{square-is, value-same}
 use Rattle.besselian_rows.proofs.squares.square.Statement.{statement}
 use Rattle.besselian_rows.proofs.squares.square.Tie as tie
 

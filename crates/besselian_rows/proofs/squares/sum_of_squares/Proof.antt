@@ -3,9 +3,9 @@ use mathlib.Core.Path.{ap₂, _∙_}
 use mathlib.Core.List.{[], _∷_}
 use borrow.Author.Needs.{needs}
 use lib.IntN.{ℤ, _+ℤ_}
-use Rattle.rounding.specs.Code.{Code, arg, add, Within, whole, ends, _▹_, fits, runs, within, read-back}
+use Rattle.rounding.specs.laws.Code.{Code, arg, add, Within, whole, ends, _▹_, fits, runs, within, read-back}
 use Rattle.besselian_rows.specs.Wide.{IsSquare}
-use Rattle.besselian_rows.specs.WideLaws.{value-same, value-sum}
+use Rattle.besselian_rows.specs.laws.WideLaws.{value-same, value-sum}
 use Rattle.besselian_rows.proofs.squares.sum_of_squares.Statement.{statement}
 use Rattle.besselian_rows.proofs.squares.sum_of_squares.Tie as tie
 

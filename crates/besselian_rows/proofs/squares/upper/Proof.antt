@@ -4,8 +4,8 @@ use mathlib.Core.List.{[], _∷_}
 use native.Mathlib.Omega.{arith}
 use lib.IntN.{pos, natAbs}
 use lib.Signed.{ltZ-yes}
-use Rattle.rounding.specs.Order.{natAbs-quot}
-use Rattle.rounding.specs.Code.{Code, arg, lit, quo, Within, whole, ends, _▹_, fits, runs, above}
+use Rattle.rounding.specs.laws.Order.{natAbs-quot}
+use Rattle.rounding.specs.laws.Code.{Code, arg, lit, quo, Within, whole, ends, _▹_, fits, runs, above}
 use Rattle.besselian_rows.proofs.squares.upper.Statement.{statement}
 use Rattle.besselian_rows.proofs.squares.upper.Tie as tie
 

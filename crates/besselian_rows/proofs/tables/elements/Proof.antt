@@ -2,7 +2,7 @@
 use mathlib.Core.Path.{sym, _∙_}
 use borrow.Author.Needs.{needs}
 use lib.ListN.{length}
-use Rattle.besselian_rows.specs.TablesLaws.{made-good, after-made, after-refused}
+use Rattle.besselian_rows.specs.laws.TablesLaws.{made-good, after-made, after-refused}
 use Rattle.besselian_rows.proofs.tables.elements.Statement.{statement}
 use Rattle.besselian_rows.proofs.tables.elements.Tie as tie
 

@@ -11,7 +11,7 @@ use Rattle.besselian_rows.specs.declared.besselian.Besselian.{Besselian}
 use Rattle.besselian_rows.specs.Exact.{accepted}
 use Rattle.besselian_rows.specs.Rounded.{elementsOf}
 use Rattle.besselian_rows.specs.Tables.{rowAt, valuesOf, eight}
-use Rattle.besselian_rows.specs.TablesLaws.{accepted-at, one-more}
+use Rattle.besselian_rows.specs.laws.TablesLaws.{accepted-at, one-more}
 use Rattle.besselian_rows.proofs.tables.fill.Statement.{statement}
 use Rattle.besselian_rows.proofs.tables.fill.Tie as tie
 

@@ -1,7 +1,7 @@
 -- `besselian_rows::tables::judged` meets its contract, case by case. Assumes nothing.
 use mathlib.Core.Path.{sym, _∙_}
 use borrow.Author.Needs.{needs}
-use Rattle.besselian_rows.specs.TablesLaws.{answer-shape, answer-row, answer-room, answer-made}
+use Rattle.besselian_rows.specs.laws.TablesLaws.{answer-shape, answer-row, answer-room, answer-made}
 use Rattle.besselian_rows.proofs.tables.judged.Statement.{statement}
 use Rattle.besselian_rows.proofs.tables.judged.Tie as tie
 

@@ -1,6 +1,6 @@
 -- `besselian_rows::tables::row_at` meets its contract: six numbers from 6i on. Assumes nothing.
 use borrow.Author.Needs.{needs}
-use Rattle.besselian_rows.specs.TablesLaws.{row-in}
+use Rattle.besselian_rows.specs.laws.TablesLaws.{row-in}
 use Rattle.besselian_rows.proofs.tables.row_at.Statement.{statement}
 use Rattle.besselian_rows.proofs.tables.row_at.Tie as tie
 

@@ -8,8 +8,8 @@ use lib.Signed.{mag}
 use lib.Seq.{sets}
 use mir.Syntax.{w64}
 use mir.Val.{toZ, ofZ}
-use Rattle.rounding.specs.Code.{read-result}
-use Rattle.besselian_rows.specs.TablesLaws.{eight-stored}
+use Rattle.rounding.specs.laws.Code.{read-result}
+use Rattle.besselian_rows.specs.laws.TablesLaws.{eight-stored}
 use Rattle.besselian_rows.proofs.tables.store.Statement.{statement}
 use Rattle.besselian_rows.proofs.tables.store.Tie as tie
 

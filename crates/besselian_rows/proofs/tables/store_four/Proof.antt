@@ -4,7 +4,7 @@ use borrow.Author.Needs.{needs}
 use mir.Syntax.{w64}
 use mir.ValLaws.{toZ-ofZ}
 use lib.ListN.{length-set}
-use Rattle.besselian_rows.specs.TablesLaws.{four-stores}
+use Rattle.besselian_rows.specs.laws.TablesLaws.{four-stores}
 use Rattle.besselian_rows.proofs.tables.store_four.Statement.{statement}
 use Rattle.besselian_rows.proofs.tables.store_four.Tie as tie
 

@@ -14,8 +14,8 @@ use Rattle.sheet_format.specs.Kinds.{sizeOf}
 use Rattle.sheet_format.specs.RecordEntries.{bytes}
 use Rattle.requests.specs.Shares.{sharing}
 use Rattle.local_circumstances.specs.Courses.{closestEntry, shareEntry}
-use Rattle.local_circumstances.specs.Lengths.{closest-size, share-size, shared-length, plain-length}
-use Rattle.local_circumstances.specs.Stores.{stores-shared, stores-plain}
+use Rattle.local_circumstances.specs.laws.Lengths.{closest-size, share-size, shared-length, plain-length}
+use Rattle.local_circumstances.specs.laws.Stores.{stores-shared, stores-plain}
 use Rattle.local_circumstances.specs.Course.{courseOf}
 use Rattle.circumstances.proofs.writing.write_closing.Statement.{statement}
 use Rattle.circumstances.proofs.writing.write_closing.Tie as tie

@@ -12,11 +12,11 @@ use Rattle.shadow_geometry.specs.Shadow.{phasesOf}
 use Rattle.requests.specs.declared.Occultation.{Occultation}
 use Rattle.run_length.specs.Runs.{decoded}
 use Rattle.seconds.specs.Seconds as Seconds
-use Rattle.seconds.specs.SecondLaws.{states-length}
+use Rattle.seconds.specs.laws.SecondLaws.{states-length}
 use Rattle.contacts.specs.Entries.{entries}
 use Rattle.sheet_format.specs.RecordEntries.{bytesOf}
 use Rattle.local_circumstances.specs.Courses.{statesOf, entryOf, phaseEntries}
-use Rattle.local_circumstances.specs.Lengths.{bytesNeeded, phase-length}
+use Rattle.local_circumstances.specs.laws.Lengths.{bytesNeeded, phase-length}
 use Rattle.local_circumstances.specs.Course.{courseOf}
 use Rattle.circumstances.proofs.writing.write_nth_phase.Statement.{statement}
 use Rattle.circumstances.proofs.writing.write_nth_phase.Tie as tie

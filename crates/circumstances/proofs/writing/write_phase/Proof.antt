@@ -11,12 +11,12 @@ use Rattle.contacts.specs.Entries.{entries}
 use Rattle.run_length.specs.Runs.{decoded}
 use Rattle.requests.specs.WindowLaws.{seconds-few}
 use Rattle.contacts.specs.Step.{entriesFrom, At}
-use Rattle.contacts.specs.StepLaws.{all-at-start, at-start, Took, took, none-left}
+use Rattle.contacts.specs.laws.StepLaws.{all-at-start, at-start, Took, took, none-left}
 use Rattle.sheet_format.specs.Kinds.{sizeOf}
 use Rattle.sheet_format.specs.RecordEntries.{bytes, bytesOf}
 use Rattle.local_circumstances.specs.Courses.{entryOf}
-use Rattle.local_circumstances.specs.Lengths.{bytesNeeded, needed-nil, needed-cons, kind-in}
-use Rattle.local_circumstances.specs.Stores.{stores-entry, stores-none}
+use Rattle.local_circumstances.specs.laws.Lengths.{bytesNeeded, needed-nil, needed-cons, kind-in}
+use Rattle.local_circumstances.specs.laws.Stores.{stores-entry, stores-none}
 use Rattle.local_circumstances.specs.Course.{courseOf}
 use Rattle.circumstances.proofs.writing.write_phase.Statement.{statement}
 use Rattle.circumstances.proofs.writing.write_phase.Tie as tie

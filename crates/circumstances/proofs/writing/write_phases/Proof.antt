@@ -10,13 +10,13 @@ use lib.Seq.{sets, length-sets, take-length}
 use Rattle.sheet_types.specs.declared.phases.Phase.{Phase}
 use Rattle.sheet_types.specs.declared.phases.Phase.the-variants.{Penumbra}
 use Rattle.shadow_geometry.specs.Shadow.{phasesOf}
-use Rattle.sheet_types.specs.PhaseLaws.{phases-more}
+use Rattle.sheet_types.specs.laws.PhaseLaws.{phases-more}
 use Rattle.requests.specs.declared.Occultation.{Occultation}
 use Rattle.sheet_format.specs.RecordEntries.{bytesOf}
-use Rattle.sheet_format.specs.EntryLaws.{bytes-nil}
+use Rattle.sheet_format.specs.laws.EntryLaws.{bytes-nil}
 use Rattle.local_circumstances.specs.Courses.{phaseEntries, entriesOf}
-use Rattle.local_circumstances.specs.Lengths.{more-bytes, some-bytes}
-use Rattle.local_circumstances.specs.Stores.{stores-none, stores-phase}
+use Rattle.local_circumstances.specs.laws.Lengths.{more-bytes, some-bytes}
+use Rattle.local_circumstances.specs.laws.Stores.{stores-none, stores-phase}
 use Rattle.local_circumstances.specs.Course.{courseOf}
 use Rattle.circumstances.proofs.writing.write_phases.Statement.{statement}
 use Rattle.circumstances.proofs.writing.write_phases.Tie as tie

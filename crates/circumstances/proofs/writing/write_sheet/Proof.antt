@@ -12,8 +12,8 @@ use Rattle.sheet_format.specs.declared.kinds.Entry.{Entry}
 use Rattle.sheet_format.specs.Kinds.{sizeOf}
 use Rattle.sheet_format.specs.RecordEntries.{bytes, bytesOf}
 use Rattle.local_circumstances.specs.Courses.{entriesOf, closingEntries}
-use Rattle.local_circumstances.specs.Lengths.{head-size, sheet-length}
-use Rattle.local_circumstances.specs.Stores.{stores-sheet}
+use Rattle.local_circumstances.specs.laws.Lengths.{head-size, sheet-length}
+use Rattle.local_circumstances.specs.laws.Stores.{stores-sheet}
 use Rattle.requests.specs.declared.Occultation.{Occultation}
 use Rattle.local_circumstances.specs.Course.{courseOf}
 use Rattle.circumstances.specs.WrittenSheet.{sheetBytes}

@@ -14,8 +14,8 @@ use Rattle.clock_network.specs.declared.stations.Node.{Node}
 use Rattle.clock_network.specs.declared.stations.Held.{Held}
 use Rattle.clock_network.specs.Held.{blankNode}
 use Rattle.clock_network.specs.Nodes.{numberOf, clockOf, Holds}
-use Rattle.clock_network.specs.Copy.{prefix-length}
-use Rattle.clock_network.specs.HeldLaws.{listed, first-node, part}
+use Rattle.clock_network.specs.laws.Copy.{prefix-length}
+use Rattle.clock_network.specs.laws.HeldLaws.{listed, first-node, part}
 use Rattle.clock_network.specs.declared.checks.Eclipse.{Eclipse}
 use Rattle.clock_network.specs.Checks.{requestOf, stationsChecked}
 use Rattle.clock_network.specs.CheckLaws.{size-in, checked-size, checked-alone, checked-stations, checked-clocks}

@@ -7,7 +7,7 @@ use borrow.Author.Needs.{needs}
 use lib.ListN.{length, getD, take, drop}
 use lib.Seq.{getD-take, length-take-le}
 use Rattle.station.specs.Station.{stationChecked}
-use Rattle.station.specs.StationLaws.{field-small}
+use Rattle.station.specs.laws.StationLaws.{field-small}
 use Rattle.clock_network.specs.declared.stations.Node.{Node}
 use Rattle.clock_network.specs.declared.stations.Held.{Held}
 use Rattle.clock_network.specs.Held.{blankNode}

@@ -2,7 +2,7 @@
 use lib.IntN.{pos}
 use lib.ListN.{getD}
 use borrow.Author.Needs.{needs}
-use Rattle.rounding.specs.Code.{read-result}
+use Rattle.rounding.specs.laws.Code.{read-result}
 use Rattle.clock_network.specs.Checks.{eclipseOf}
 use Rattle.clock_network.proofs.checks.eclipse_from.Statement.{statement}
 use Rattle.clock_network.proofs.checks.eclipse_from.Tie as tie

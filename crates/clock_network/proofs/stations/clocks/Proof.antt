@@ -2,7 +2,7 @@
 use mathlib.Core.Path.{_≡_, refl, _∙_, subst}
 use mir.Syntax.{w64}
 use mir.ValLaws.{toZ-ofZ}
-use Rattle.clock_network.specs.Copy.{copy-step, copy-done}
+use Rattle.clock_network.specs.laws.Copy.{copy-step, copy-done}
 use Rattle.clock_network.specs.Nodes.{clockOf}
 use Prim.Native.Nat.{ℕ, _≤_, _-_}
 use native.Mathlib.Omega.{arith}

@@ -5,8 +5,8 @@ use mathlib.Core.Logic.{⊎-elim}
 use borrow.Author.Needs.{needs}
 use mathlib.Core.List.{List}
 use lib.ListN.{length}
-use Rattle.clock_network.specs.Earliest.{SoFar, far-start, far-smaller, far-other, far-end}
-use Rattle.clock_network.specs.DefinedLaws.{earliest-is}
+use Rattle.clock_network.specs.laws.Earliest.{SoFar, far-start, far-smaller, far-other, far-end}
+use Rattle.clock_network.specs.laws.DefinedLaws.{earliest-is}
 use Rattle.clock_network.proofs.strata.earliest.Statement.{statement}
 use Rattle.clock_network.proofs.strata.earliest.Tie as tie
 

@@ -1,8 +1,8 @@
 -- `clock_network::strata::first_lost` meets its contract: the places without steps are the lost ones.
 use native.Mathlib.Omega.{arith}
 use borrow.Author.Needs.{needs}
-use Rattle.clock_network.specs.Laws.{zero-is-lost}
-use Rattle.clock_network.specs.DefinedLaws.{distinct, lost-is}
+use Rattle.clock_network.specs.laws.Laws.{zero-is-lost}
+use Rattle.clock_network.specs.laws.DefinedLaws.{distinct, lost-is}
 use Rattle.clock_network.proofs.strata.first_lost.Statement.{statement}
 use Rattle.clock_network.proofs.strata.first_lost.Tie as tie
 

@@ -5,10 +5,10 @@ use borrow.Author.Needs.{needs}
 use borrow.Author.Count.{below-more}
 use lib.ListN.{length, getD}
 use lib.IntN.{pos}
-use Rattle.clock_network.specs.First.{First}
+use Rattle.clock_network.specs.laws.First.{First}
 use Rattle.clock_network.specs.Steps.{At, Repeats}
-use Rattle.clock_network.specs.Laws.{placed, repeats-yes, repeats-no}
-use Rattle.clock_network.specs.DefinedLaws.{repeat-is}
+use Rattle.clock_network.specs.laws.Laws.{placed, repeats-yes, repeats-no}
+use Rattle.clock_network.specs.laws.DefinedLaws.{repeat-is}
 use Rattle.clock_network.proofs.strata.first_repeat.Statement.{statement}
 use Rattle.clock_network.proofs.strata.first_repeat.Tie as tie
 use Rattle.clock_network.proofs.strata.first_repeat.Reads as reads

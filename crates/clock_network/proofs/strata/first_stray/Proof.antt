@@ -9,11 +9,11 @@ use mir.Syntax.{w64}
 use mir.Val.{ofZ}
 use mathlib.Core.Path.{_≡_, ap}
 use mathlib.Core.Logic.{⊎-elim}
-use Rattle.clock_network.specs.First.{First}
-use Rattle.clock_network.specs.Bits.{zero-bits}
+use Rattle.clock_network.specs.laws.First.{First}
+use Rattle.clock_network.specs.laws.Bits.{zero-bits}
 use Rattle.clock_network.specs.Steps.{At, Stray}
-use Rattle.clock_network.specs.Laws.{placed, stray-yes, stray-no}
-use Rattle.clock_network.specs.DefinedLaws.{stray-is}
+use Rattle.clock_network.specs.laws.Laws.{placed, stray-yes, stray-no}
+use Rattle.clock_network.specs.laws.DefinedLaws.{stray-is}
 use Rattle.clock_network.proofs.strata.first_stray.Statement.{statement}
 use Rattle.clock_network.proofs.strata.first_stray.Tie as tie
 use Rattle.clock_network.proofs.strata.first_stray.Reads as reads

@@ -8,10 +8,10 @@ use lib.IntN.{ℤ, pos}
 use mir.Syntax.{w64}
 use mir.Val.{ofZ}
 use mathlib.Core.Path.{_≡_, ap}
-use Rattle.clock_network.specs.First.{First}
-use Rattle.clock_network.specs.Bits.{zero-bits}
+use Rattle.clock_network.specs.laws.First.{First}
+use Rattle.clock_network.specs.laws.Bits.{zero-bits}
 use Rattle.clock_network.specs.Steps.{At}
-use Rattle.clock_network.specs.Laws.{placed, next-antenna, next-nowhere, next-unknown, next-known}
+use Rattle.clock_network.specs.laws.Laws.{placed, next-antenna, next-nowhere, next-unknown, next-known}
 use Rattle.clock_network.proofs.strata.next_steps.Statement.{statement}
 use Rattle.clock_network.proofs.strata.next_steps.Tie as tie
 use Rattle.clock_network.proofs.strata.next_steps.Reads as reads

@@ -1,5 +1,5 @@
 -- `clock_network::strata::place` meets its contract: no place before i has x.
-use Rattle.clock_network.specs.Bits.{same-bits}
+use Rattle.clock_network.specs.laws.Bits.{same-bits}
 use Prim.Native.Nat.{ℕ, _≤_, _<_, _-_}
 use native.Mathlib.Omega.{arith}
 use borrow.Author.Needs.{needs}

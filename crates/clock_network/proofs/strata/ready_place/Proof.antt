@@ -6,7 +6,7 @@ use borrow.Author.Count.{below-more}
 use lib.ListN.{length, getD}
 use mathlib.Core.Path.{_≡_}
 use mathlib.Core.Logic.{⊎-elim}
-use Rattle.clock_network.specs.Search.{Untold}
+use Rattle.clock_network.specs.laws.Search.{Untold}
 use Rattle.clock_network.proofs.strata.ready_place.Statement.{statement}
 use Rattle.clock_network.proofs.strata.ready_place.Tie as tie
 

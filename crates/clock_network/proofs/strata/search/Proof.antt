@@ -6,8 +6,8 @@ use Rattle.clock_network.specs.declared.strata.Ready.the-variants.{Found
 use native.Mathlib.Omega.{arith}
 use borrow.Author.Needs.{needs}
 use lib.ListN.{length, set, length-set}
-use Rattle.clock_network.specs.Search.{Sound, Small, zeros, ReadyIs}
-use Rattle.clock_network.specs.Laws.{sound-start, small-start, quiet-lost, zeros-set, sound-set, small-set}
+use Rattle.clock_network.specs.laws.Search.{Sound, Small, zeros, ReadyIs}
+use Rattle.clock_network.specs.laws.Laws.{sound-start, small-start, quiet-lost, zeros-set, sound-set, small-set}
 use Rattle.clock_network.proofs.strata.search.Statement.{statement}
 use Rattle.clock_network.proofs.strata.search.Tie as tie
 use Rattle.clock_network.proofs.strata.search.Reads as reads

@@ -1,6 +1,6 @@
 -- `elements::stars::axis` meets its contract: all is copied, and the declination read back from its bits. Assumes nothing.
 use borrow.Author.Needs.{needs}
-use Rattle.rounding.specs.Code.{read-result}
+use Rattle.rounding.specs.laws.Code.{read-result}
 use Rattle.elements.proofs.stars.axis.Statement.{statement}
 use Rattle.elements.proofs.stars.axis.Tie as tie
 

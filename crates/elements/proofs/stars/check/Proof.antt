@@ -1,7 +1,7 @@
 -- `elements::stars::check` meets its contract: the elements under 2, then the radius under 13. Assumes nothing.
 use mathlib.Core.Path.{_≡_, sym, ap, _∙_}
 use borrow.Author.Needs.{needs}
-use Rattle.rounding.specs.Code.{read-result}
+use Rattle.rounding.specs.laws.Code.{read-result}
 use Rattle.sheet_types.specs.Refusals.{ofLimits, andThen}
 use Rattle.sheet_types.specs.declared.refusals.Checked.{Checked}
 use Rattle.elements.specs.Stars.{starRangeOf, radiusRangeOf}

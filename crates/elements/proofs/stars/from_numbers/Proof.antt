@@ -2,7 +2,7 @@
 use lib.IntN.{pos}
 use lib.ListN.{getD}
 use borrow.Author.Needs.{needs}
-use Rattle.rounding.specs.Code.{read-result}
+use Rattle.rounding.specs.laws.Code.{read-result}
 use Rattle.elements.specs.Stars.{starOf}
 use Rattle.elements.proofs.stars.from_numbers.Statement.{statement}
 use Rattle.elements.proofs.stars.from_numbers.Tie as tie

@@ -1,6 +1,6 @@
 -- `elements::stars::in_range` meets its contract: the numbers are searched against the two tables. Assumes nothing.
 use borrow.Author.Needs.{needs}
-use Rattle.rounding.specs.LimitsLaws.{of-listed}
+use Rattle.rounding.specs.laws.LimitsLaws.{of-listed}
 use Rattle.elements.specs.Stars.{starRanges, starRangeOf}
 use Rattle.elements.proofs.stars.in_range.Statement.{statement}
 use Rattle.elements.proofs.stars.in_range.Tie as tie

@@ -5,7 +5,7 @@ use lib.IntN.{ℤ, pos}
 use mir.Syntax.{w64}
 use mir.ValLaws.{toZ-ofZ}
 use borrow.Author.Needs.{needs}
-use Rattle.rounding.specs.LimitsLaws.{of-listed}
+use Rattle.rounding.specs.laws.LimitsLaws.{of-listed}
 use Rattle.elements.specs.Stars.{radiusRangeOf}
 use Rattle.elements.proofs.stars.radius_in_range.Statement.{statement}
 use Rattle.elements.proofs.stars.radius_in_range.Tie as tie

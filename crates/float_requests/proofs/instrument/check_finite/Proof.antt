@@ -8,7 +8,7 @@ use lib.Ieee.Scale.{finite}
 use Rattle.sheet_types.specs.declared.refusals.Checked.the-variants as C
 use Rattle.binary64.specs.Doubles.{doubleIn}
 use Rattle.float_requests.specs.Instrument.{fields, firstNotFinite}
-use Rattle.float_requests.specs.SearchLaws.{finite-element, finite-longitude, finite-all}
+use Rattle.float_requests.specs.laws.SearchLaws.{finite-element, finite-longitude, finite-all}
 use Rattle.float_requests.proofs.instrument.check_finite.Statement.{statement}
 use Rattle.float_requests.proofs.instrument.check_finite.Tie as tie
 

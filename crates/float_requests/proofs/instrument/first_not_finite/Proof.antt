@@ -6,7 +6,7 @@ use borrow.Author.Needs.{needs}
 use borrow.Author.Tests.{not-true, not-false}
 use lib.ListN.{length, drop}
 use Rattle.float_requests.specs.Instrument.{firstNotFinite}
-use Rattle.float_requests.specs.SearchLaws.{search-found, search-on, search-end}
+use Rattle.float_requests.specs.laws.SearchLaws.{search-found, search-on, search-end}
 use Rattle.float_requests.proofs.instrument.first_not_finite.Statement.{statement}
 use Rattle.float_requests.proofs.instrument.first_not_finite.Tie as tie
 

@@ -11,11 +11,11 @@ use lib.Seq.{getD-set-same, getD-set-other, ext-getD}
 use lib.Ieee.{Float, nan}
 use mir.Syntax.{w64}
 use mir.Val.{toZ, ofZ}
-use Rattle.rounding.specs.Code.{read-result}
+use Rattle.rounding.specs.laws.Code.{read-result}
 use Rattle.binary64.specs.Doubles.{unitsOf, fitted, standIn, held}
-use Rattle.binary64.specs.HeldLaws.{stand-in-reading}
+use Rattle.binary64.specs.laws.HeldLaws.{stand-in-reading}
 use Rattle.float_requests.specs.Instrument.{scales, unitsIn}
-use Rattle.float_requests.specs.ScaleLaws.{scale-in, units-at, units-length}
+use Rattle.float_requests.specs.laws.ScaleLaws.{scale-in, units-at, units-length}
 use Rattle.float_requests.proofs.instrument.units_in.Statement.{statement}
 use Rattle.float_requests.proofs.instrument.units_in.Tie as tie
 

@@ -3,9 +3,9 @@ use mathlib.Core.Path.{_≡_, sym, ap, _∙_}
 use borrow.Author.Needs.{needs}
 use lib.Dec.{eqb}
 use Rattle.sheet_types.specs.declared.refusals.Checked.{Checked}
-use Rattle.sheet_types.specs.RefusalLaws.{numberIn}
+use Rattle.sheet_types.specs.laws.RefusalLaws.{numberIn}
 use Rattle.requests.specs.Requests.{checked}
-use Rattle.float_requests.specs.SurveyLaws.{checked-one, checked-on}
+use Rattle.float_requests.specs.laws.SurveyLaws.{checked-one, checked-on}
 use Rattle.float_requests.proofs.survey.check.Statement.{statement}
 use Rattle.float_requests.proofs.survey.check.Tie as tie
 

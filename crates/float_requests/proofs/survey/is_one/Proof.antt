@@ -3,7 +3,7 @@ use mathlib.Core.Path.{sym, ap}
 use borrow.Author.Needs.{needs}
 use lib.Dec.{eqb}
 use Rattle.sheet_types.specs.declared.refusals.Checked.{Checked}
-use Rattle.sheet_types.specs.RefusalLaws.{numberIn}
+use Rattle.sheet_types.specs.laws.RefusalLaws.{numberIn}
 use Rattle.float_requests.proofs.survey.is_one.Statement.{statement}
 use Rattle.float_requests.proofs.survey.is_one.Tie as tie
 

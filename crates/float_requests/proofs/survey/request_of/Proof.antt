@@ -3,11 +3,11 @@ use mathlib.Core.Path.{_≡_, ap, _∙_}
 use borrow.Author.Needs.{needs}
 use mir.Syntax.{w64}
 use mir.Val.{toZ, ofZ}
-use Rattle.rounding.specs.Code.{read-result}
+use Rattle.rounding.specs.laws.Code.{read-result}
 use Rattle.binary64.specs.Doubles.{longitudeScale, doubleIn, longitudeOf, standIn, held}
-use Rattle.binary64.specs.HeldLaws.{stand-in-reading}
+use Rattle.binary64.specs.laws.HeldLaws.{stand-in-reading}
 use Rattle.float_requests.specs.Survey.{requestOf}
-use Rattle.float_requests.specs.HeldRequest.{heldRequest}
+use Rattle.float_requests.specs.laws.HeldRequest.{heldRequest}
 use Rattle.float_requests.proofs.survey.request_of.Statement.{statement}
 use Rattle.float_requests.proofs.survey.request_of.Tie as tie
 

@@ -3,8 +3,8 @@ use mathlib.Core.Path.{_≡_, sym, ap, _∙_}
 use borrow.Author.Needs.{needs}
 use Rattle.requests.specs.Requests.{ofEclipse}
 use Rattle.float_requests.specs.Survey.{requestOf}
-use Rattle.float_requests.specs.HeldRequest.{heldRequest}
-use Rattle.float_requests.specs.SurveyLaws.{of-refusal, of-request}
+use Rattle.float_requests.specs.laws.HeldRequest.{heldRequest}
+use Rattle.float_requests.specs.laws.SurveyLaws.{of-refusal, of-request}
 use Rattle.float_requests.proofs.survey.sheet.Statement.{statement}
 use Rattle.float_requests.proofs.survey.sheet.Tie as tie
 

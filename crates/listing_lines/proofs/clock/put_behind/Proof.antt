@@ -4,10 +4,10 @@ use native.Mathlib.Omega.{arith}
 use mir.Syntax.{w64}
 use mir.Val.{toZ, ofZ}
 use mir.ValLaws.{toZ-ofZ}
-use Rattle.decimal_text.specs.TextLaws.{put-nil}
+use Rattle.decimal_text.specs.laws.TextLaws.{put-nil}
 use Rattle.decimal_text.specs.RowLaws.{put-as}
 use Rattle.listing_lines.specs.Clock.{behind}
-use Rattle.listing_lines.specs.ClockLaws.{behind-shown}
+use Rattle.listing_lines.specs.laws.ClockLaws.{behind-shown}
 use borrow.Author.Needs.{needs}
 use Rattle.listing_lines.proofs.clock.put_behind.Statement.{statement}
 use Rattle.listing_lines.proofs.clock.put_behind.Tie as tie

@@ -5,7 +5,7 @@ use mir.Val.{toZ, ofZ}
 use mir.ValLaws.{toZ-ofZ}
 use Rattle.decimal_text.specs.RowLaws.{put-as}
 use Rattle.listing_lines.specs.Clock.{timedLine}
-use Rattle.listing_lines.specs.ClockLaws.{line-off, line-at}
+use Rattle.listing_lines.specs.laws.ClockLaws.{line-off, line-at}
 use borrow.Author.Needs.{needs}
 use Rattle.listing_lines.proofs.clock.put_entry.Statement.{statement}
 use Rattle.listing_lines.proofs.clock.put_entry.Tie as tie

@@ -6,7 +6,7 @@ use mir.Val.{toZ, ofZ}
 use mir.ValLaws.{toZ-ofZ}
 use Rattle.decimal_text.specs.RowLaws.{put-as, joined}
 use Rattle.listing_lines.specs.Clock.{scaleText}
-use Rattle.listing_lines.specs.ClockLaws.{scale-shown, scale-hidden}
+use Rattle.listing_lines.specs.laws.ClockLaws.{scale-shown, scale-hidden}
 use borrow.Author.Needs.{needs}
 use Rattle.listing_lines.proofs.clock.put_scale.Statement.{statement}
 use Rattle.listing_lines.proofs.clock.put_scale.Tie as tie

@@ -7,7 +7,7 @@ use mir.Syntax.{w64}
 use mir.Val.{toZ, ofZ}
 use mir.ValLaws.{toZ-ofZ}
 use Rattle.rounding.specs.Near.{floorZ}
-use Rattle.rounding.specs.Code.{Code, arg, add, Within, whole, ends, _▹_, fits, runs, within}
+use Rattle.rounding.specs.laws.Code.{Code, arg, add, Within, whole, ends, _▹_, fits, runs, within}
 use Rattle.sheet_format.specs.StoredSeconds.{secondOf}
 use Rattle.decimal_text.specs.Texts.{letters}
 use Rattle.decimal_text.specs.RowLaws.{put-as, joined}

@@ -6,7 +6,7 @@ use mir.Val.{toZ, ofZ}
 use mir.ValLaws.{toZ-ofZ}
 use Rattle.decimal_text.specs.RowLaws.{put-as}
 use Rattle.listing_lines.specs.Clock.{timesIn}
-use Rattle.listing_lines.specs.ClockLaws.{times-of-moment, times-of-contact}
+use Rattle.listing_lines.specs.laws.ClockLaws.{times-of-moment, times-of-contact}
 use borrow.Author.Needs.{needs}
 use Rattle.listing_lines.proofs.clock.put_times.Statement.{statement}
 use Rattle.listing_lines.proofs.clock.put_times.Tie as tie

@@ -1,8 +1,8 @@
 -- `listing_lines::lines::put_closest` meets its contract: the numbers are the second and the magnitude.
 use mathlib.Core.Path.{_∙_}
 use native.Mathlib.Omega.{arith}
-use Rattle.rounding.specs.Code.{read-result, count-is}
-use Rattle.listing_lines.specs.LineLaws.{filled-two}
+use Rattle.rounding.specs.laws.Code.{read-result, count-is}
+use Rattle.listing_lines.specs.laws.LineLaws.{filled-two}
 use borrow.Author.Needs.{needs}
 use Rattle.listing_lines.proofs.lines.put_closest.Statement.{statement}
 use Rattle.listing_lines.proofs.lines.put_closest.Tie as tie

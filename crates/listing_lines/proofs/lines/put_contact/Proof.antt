@@ -1,8 +1,8 @@
 -- `listing_lines::lines::put_contact` meets its contract: the word, the phase, then the numbers.
 use mathlib.Core.Path.{_∙_}
 use native.Mathlib.Omega.{arith}
-use Rattle.rounding.specs.Code.{read-result, count-is}
-use Rattle.listing_lines.specs.LineLaws.{filled-three, put-three}
+use Rattle.rounding.specs.laws.Code.{read-result, count-is}
+use Rattle.listing_lines.specs.laws.LineLaws.{filled-three, put-three}
 use borrow.Author.Needs.{needs}
 use Rattle.listing_lines.proofs.lines.put_contact.Statement.{statement}
 use Rattle.listing_lines.proofs.lines.put_contact.Tie as tie

@@ -1,7 +1,7 @@
 -- `listing_lines::lines::put_end` meets its contract: each way out is the end by the test that led there.
 use mathlib.Core.Path.{sym, _∙_}
 use native.Mathlib.Omega.{arith}
-use Rattle.listing_lines.specs.LineLaws.{put-no-end, put-line-end}
+use Rattle.listing_lines.specs.laws.LineLaws.{put-no-end, put-line-end}
 use borrow.Author.Needs.{needs}
 use Rattle.listing_lines.proofs.lines.put_end.Statement.{statement}
 use Rattle.listing_lines.proofs.lines.put_end.Tie as tie

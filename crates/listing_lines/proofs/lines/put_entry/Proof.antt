@@ -1,6 +1,6 @@
 -- `listing_lines::lines::put_entry` meets its contract: the text, then the end of its line.
 use native.Mathlib.Omega.{arith}
-use Rattle.listing_lines.specs.LineLaws.{put-line}
+use Rattle.listing_lines.specs.laws.LineLaws.{put-line}
 use borrow.Author.Needs.{needs}
 use Rattle.listing_lines.proofs.lines.put_entry.Statement.{statement}
 use Rattle.listing_lines.proofs.lines.put_entry.Tie as tie

@@ -1,7 +1,7 @@
 -- `listing_lines::lines::put_entry_text` meets its contract: each arm has the text of its kind.
 use native.Mathlib.Omega.{arith}
-use Rattle.decimal_text.specs.TextLaws.{put-nil}
-use Rattle.listing_lines.specs.LineLaws.{put-kind}
+use Rattle.decimal_text.specs.laws.TextLaws.{put-nil}
+use Rattle.listing_lines.specs.laws.LineLaws.{put-kind}
 use borrow.Author.Needs.{needs}
 use Rattle.listing_lines.proofs.lines.put_entry_text.Statement.{statement}
 use Rattle.listing_lines.proofs.lines.put_entry_text.Tie as tie

@@ -1,8 +1,8 @@
 -- `listing_lines::lines::put_head` meets its contract: the numbers are the station and the seconds of its window.
 use mathlib.Core.Path.{_∙_}
 use native.Mathlib.Omega.{arith}
-use Rattle.rounding.specs.Code.{read-result, count-is}
-use Rattle.listing_lines.specs.LineLaws.{filled-three}
+use Rattle.rounding.specs.laws.Code.{read-result, count-is}
+use Rattle.listing_lines.specs.laws.LineLaws.{filled-three}
 use borrow.Author.Needs.{needs}
 use Rattle.listing_lines.proofs.lines.put_head.Statement.{statement}
 use Rattle.listing_lines.proofs.lines.put_head.Tie as tie

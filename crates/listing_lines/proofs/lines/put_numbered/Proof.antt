@@ -1,6 +1,6 @@
 -- `listing_lines::lines::put_numbered` meets its contract: the word and the numbers, one after the other.
 use native.Mathlib.Omega.{arith}
-use Rattle.listing_lines.specs.LineLaws.{put-four}
+use Rattle.listing_lines.specs.laws.LineLaws.{put-four}
 use borrow.Author.Needs.{needs}
 use Rattle.listing_lines.proofs.lines.put_numbered.Statement.{statement}
 use Rattle.listing_lines.proofs.lines.put_numbered.Tie as tie

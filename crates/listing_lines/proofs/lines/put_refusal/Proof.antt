@@ -1,5 +1,5 @@
 -- `listing_lines::lines::put_refusal` meets its contract: the word, the number and the place.
-use Rattle.listing_lines.specs.LineLaws.{put-refused}
+use Rattle.listing_lines.specs.laws.LineLaws.{put-refused}
 use borrow.Author.Needs.{needs}
 use Rattle.listing_lines.proofs.lines.put_refusal.Statement.{statement}
 use Rattle.listing_lines.proofs.lines.put_refusal.Tie as tie

@@ -1,6 +1,6 @@
 -- `listing_lines::lines::put_refusal_line` meets its contract: the refusal, then the end of its line.
 use native.Mathlib.Omega.{arith}
-use Rattle.listing_lines.specs.LineLaws.{put-refusal-end}
+use Rattle.listing_lines.specs.laws.LineLaws.{put-refusal-end}
 use borrow.Author.Needs.{needs}
 use Rattle.listing_lines.proofs.lines.put_refusal_line.Statement.{statement}
 use Rattle.listing_lines.proofs.lines.put_refusal_line.Tie as tie

@@ -1,7 +1,7 @@
 -- `listing_lines::lines::put_share` meets its contract: the number is the share.
 use native.Mathlib.Omega.{arith}
-use Rattle.rounding.specs.Code.{count-is}
-use Rattle.listing_lines.specs.LineLaws.{filled-one}
+use Rattle.rounding.specs.laws.Code.{count-is}
+use Rattle.listing_lines.specs.laws.LineLaws.{filled-one}
 use borrow.Author.Needs.{needs}
 use Rattle.listing_lines.proofs.lines.put_share.Statement.{statement}
 use Rattle.listing_lines.proofs.lines.put_share.Tie as tie

@@ -1,8 +1,8 @@
 -- `listing_lines::lines::put_unsure` meets its contract: the word, the phase, then the numbers.
 use mathlib.Core.Path.{_∙_}
 use native.Mathlib.Omega.{arith}
-use Rattle.rounding.specs.Code.{read-result}
-use Rattle.listing_lines.specs.LineLaws.{filled-two, put-three}
+use Rattle.rounding.specs.laws.Code.{read-result}
+use Rattle.listing_lines.specs.laws.LineLaws.{filled-two, put-three}
 use borrow.Author.Needs.{needs}
 use Rattle.listing_lines.proofs.lines.put_unsure.Statement.{statement}
 use Rattle.listing_lines.proofs.lines.put_unsure.Tie as tie

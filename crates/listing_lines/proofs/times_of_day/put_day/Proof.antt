@@ -4,10 +4,10 @@ use native.Mathlib.Omega.{arith}
 use mir.Syntax.{w64}
 use mir.Val.{toZ, ofZ}
 use mir.ValLaws.{toZ-ofZ}
-use Rattle.rounding.specs.Order.{ltZ-true, ltZ-false}
+use Rattle.rounding.specs.laws.Order.{ltZ-true, ltZ-false}
 use Rattle.decimal_text.specs.RowLaws.{put-as}
 use Rattle.listing_lines.specs.Times.{dayText}
-use Rattle.listing_lines.specs.TimeLaws.{day-before, day-after, same-day}
+use Rattle.listing_lines.specs.laws.TimeLaws.{day-before, day-after, same-day}
 use borrow.Author.Needs.{needs}
 use Rattle.listing_lines.proofs.times_of_day.put_day.Statement.{statement}
 use Rattle.listing_lines.proofs.times_of_day.put_day.Tie as tie

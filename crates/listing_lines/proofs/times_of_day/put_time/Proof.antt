@@ -7,11 +7,11 @@ use lib.IntN.{pos, natAbs, _+ℤ_, _-ℤ_}
 use lib.Signed.{_≤ℤ_}
 use Rattle.rounding.specs.Near.{floorZ}
 use Rattle.rounding.specs.Parts.{sum, opposite}
-use Rattle.rounding.specs.Order.{zs, neg-natAbs, fits64}
-use Rattle.rounding.specs.Code.{Code, arg, lit, add, sub, run, Within, raw, whole, ends, _▹_, fits, runs, within, unsigned, count-is, count-size}
+use Rattle.rounding.specs.laws.Order.{zs, neg-natAbs, fits64}
+use Rattle.rounding.specs.laws.Code.{Code, arg, lit, add, sub, run, Within, raw, whole, ends, _▹_, fits, runs, within, unsigned, count-is, count-size}
 use Rattle.decimal_text.specs.RowLaws.{put-as, joined}
 use Rattle.listing_lines.specs.Times.{ofDayText, dayText, timeText}
-use Rattle.listing_lines.specs.TimeLaws.{time-up, natural}
+use Rattle.listing_lines.specs.laws.TimeLaws.{time-up, natural}
 use borrow.Author.Needs.{needs}
 use Rattle.listing_lines.proofs.times_of_day.put_time.Statement.{statement}
 use Rattle.listing_lines.proofs.times_of_day.put_time.Tie as tie

@@ -1,5 +1,5 @@
 -- `listings::extents::put_extent` meets its contract, case by case.
-use Rattle.listings.specs.ExtentLaws.{put-sheet, put-refused-extent}
+use Rattle.listings.specs.laws.ExtentLaws.{put-sheet, put-refused-extent}
 use borrow.Author.Needs.{needs}
 use Rattle.listings.proofs.extents.put_extent.Statement.{statement}
 use Rattle.listings.proofs.extents.put_extent.Tie as tie

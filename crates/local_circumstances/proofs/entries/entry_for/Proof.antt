@@ -7,7 +7,7 @@ use borrow.Author.Needs.{needs}
 use lib.IntN.{natAbs}
 use mir.Syntax.{w64}
 use mir.Val.{toZ, ofZ}
-use Rattle.rounding.specs.Code.{read-size}
+use Rattle.rounding.specs.laws.Code.{read-size}
 use Rattle.sheet_types.specs.declared.phases.Phase.{Phase}
 use Rattle.requests.specs.declared.Occultation.{Occultation}
 use Rattle.requests.specs.Windows.{secondCount}
@@ -20,7 +20,7 @@ use Rattle.sheet_format.specs.Entries.{enter, leave, graze, opened}
 use Rattle.sheet_format.specs.StoredSeconds.{stored}
 use Rattle.local_circumstances.specs.Courses.{second, entryOf}
 use Rattle.local_circumstances.specs.Course.{courseOf}
-use Rattle.local_circumstances.specs.NamedSecondLaws.{sized, read}
+use Rattle.local_circumstances.specs.laws.NamedSecondLaws.{sized, read}
 use Rattle.local_circumstances.proofs.entries.entry_for.Statement.{statement}
 use Rattle.local_circumstances.proofs.entries.entry_for.Tie as tie
 

@@ -4,8 +4,8 @@ use Prim.Native.Nat.{_≤_}
 use native.Mathlib.Omega.{arith}
 use lib.IntN.{natAbs}
 use lib.Signed.{leZ-yes}
-use Rattle.rounding.specs.Order.{≤ℤ-trans, natAbs-between}
-use Rattle.rounding.specs.Code.{arg, Within, whole, ends, _▹_, within, unsigned, read-back, read-size}
+use Rattle.rounding.specs.laws.Order.{≤ℤ-trans, natAbs-between}
+use Rattle.rounding.specs.laws.Code.{arg, Within, whole, ends, _▹_, within, unsigned, read-back, read-size}
 use Rattle.requests.specs.declared.Occultation.{Occultation}
 use Rattle.requests.specs.WindowLaws.{window-sizes}
 use Rattle.requests.specs.RequestLaws.{InLimits, guard-size}

@@ -1,11 +1,11 @@
 -- `local_circumstances::entries::share_at` meets its contract: of either body. Assumes nothing.
 use mathlib.Core.Path.{sym, subst, ap, _∙_}
 use borrow.Author.Needs.{needs}
-use Rattle.rounding.specs.Code.{read-back, read-size}
+use Rattle.rounding.specs.laws.Code.{read-back, read-size}
 use Rattle.elements.specs.declared.Body.{Body}
 use Rattle.elements.specs.StarLaws.{BodySizes}
 use Rattle.station.specs.Sizes.{PlaceSizes}
-use Rattle.seconds.specs.SecondLaws.{placed}
+use Rattle.seconds.specs.laws.SecondLaws.{placed}
 use Rattle.local_circumstances.specs.Course.{shareOf}
 use Rattle.local_circumstances.proofs.entries.share_at.Statement.{statement}
 use Rattle.local_circumstances.proofs.entries.share_at.Tie as tie

@@ -2,10 +2,10 @@
 use Prim.Native.Nat.{_≤_}
 use native.Mathlib.Omega.{arith}
 use lib.IntN.{natAbs}
-use Rattle.rounding.specs.Code.{read-size}
-use Rattle.seconds.specs.SecondLaws.{closest-within}
+use Rattle.rounding.specs.laws.Code.{read-size}
+use Rattle.seconds.specs.laws.SecondLaws.{closest-within}
 use Rattle.local_circumstances.specs.Courses.{shareEntry}
-use Rattle.local_circumstances.specs.NamedSecondLaws.{closest-sized, closest-read}
+use Rattle.local_circumstances.specs.laws.NamedSecondLaws.{closest-sized, closest-read}
 use Rattle.local_circumstances.proofs.entries.share_for.Statement.{statement}
 use Rattle.local_circumstances.proofs.entries.share_for.Tie as tie
 

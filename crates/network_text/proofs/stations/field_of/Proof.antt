@@ -1,7 +1,7 @@
 -- `network_text::stations::field_of` meets its contract: the station's numbers in their order, and a station's number again. Assumes nothing.
 use native.Mathlib.Omega.{arith}
 use borrow.Author.Needs.{needs}
-use Rattle.network_text.specs.StationLaws.{field-low, field-clock}
+use Rattle.network_text.specs.laws.StationLaws.{field-low, field-clock}
 use Rattle.network_text.proofs.stations.field_of.Statement.{statement}
 use Rattle.network_text.proofs.stations.field_of.Tie as tie
 

@@ -6,9 +6,9 @@ use borrow.Author.Needs.{needs}
 use borrow.Author.Tests.{not-true, not-false}
 use native.Mathlib.Omega.{arith}
 use lib.ListN.{length}
-use Rattle.rounding.specs.Code.{read-back}
+use Rattle.rounding.specs.laws.Code.{read-back}
 use Rattle.network_text.specs.declared.Told.the-variants as T
-use Rattle.network_text.specs.StationLaws.{word-small, Rowed, rowed-start, rowed-all, rowed-more, gap-within, word-within, rowed-turn, rowed-fault}
+use Rattle.network_text.specs.laws.StationLaws.{word-small, Rowed, rowed-start, rowed-all, rowed-more, gap-within, word-within, rowed-turn, rowed-fault}
 use Rattle.network_text.proofs.stations.of_station.Statement.{statement}
 use Rattle.network_text.proofs.stations.of_station.Tie as tie
 

@@ -4,8 +4,8 @@ use mathlib.Core.Path.{_≡_, sym, ap, _∙_}
 use Rattle.request_text.specs.declared.Line.{Line}
 use Rattle.network_text.specs.declared.Word.the-variants as W
 use Rattle.network_text.specs.Stations.{byValue, wordOf}
-use Rattle.rounding.specs.Code.{read-back}
-use Rattle.network_text.specs.StationLaws.{word-by, word-small}
+use Rattle.rounding.specs.laws.Code.{read-back}
+use Rattle.network_text.specs.laws.StationLaws.{word-by, word-small}
 use Rattle.network_text.proofs.stations.word_of.Statement.{statement}
 use Rattle.network_text.proofs.stations.word_of.Tie as tie
 

@@ -6,18 +6,18 @@ use native.Mathlib.Omega.{arith}
 use borrow.Author.Needs.{needs}
 use lib.IntN.{natAbs}
 use lib.ListN.{length}
-use Rattle.rounding.specs.Code.{read-back, read-size}
+use Rattle.rounding.specs.laws.Code.{read-back, read-size}
 use Rattle.requests.specs.Windows.{secondCount}
 use Rattle.requests.specs.WindowLaws.{seconds-few, second-size}
 use Rattle.run_length.specs.Runs.{decoded}
 use Rattle.contacts.specs.Entries.{entries}
-use Rattle.contacts.specs.Shifted.{shifted}
+use Rattle.contacts.specs.laws.Shifted.{shifted}
 use Rattle.contacts.specs.Step.{entriesFrom, At}
-use Rattle.contacts.specs.StepLaws.{all-at-start, at-start, Took, took, none-left}
+use Rattle.contacts.specs.laws.StepLaws.{all-at-start, at-start, Took, took, none-left}
 use Rattle.sheet_format.specs.StoredSeconds.{stored}
-use Rattle.sheet_format.specs.StoredSecondLaws.{stored-later}
+use Rattle.sheet_format.specs.laws.StoredSecondLaws.{stored-later}
 use Rattle.networks.specs.Enters.{firstEnter}
-use Rattle.networks.specs.EnterLaws.{enter-first, enter-later}
+use Rattle.networks.specs.laws.EnterLaws.{enter-first, enter-later}
 use Rattle.networks.proofs.first_contact.first_enter.Statement.{statement}
 use Rattle.networks.proofs.first_contact.first_enter.Tie as tie
 

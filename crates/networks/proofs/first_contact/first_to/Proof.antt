@@ -14,12 +14,12 @@ use Rattle.requests.specs.WindowLaws.{seconds-few}
 use Rattle.requests.specs.RequestLaws.{InLimits}
 use Rattle.run_length.specs.Runs.{decoded}
 use Rattle.seconds.specs.Seconds.{statesOf}
-use Rattle.seconds.specs.SecondLaws.{states-length}
+use Rattle.seconds.specs.laws.SecondLaws.{states-length}
 use Rattle.contacts.specs.Entries.{entries}
-use Rattle.contacts.specs.Shifted.{shifted}
+use Rattle.contacts.specs.laws.Shifted.{shifted}
 use Rattle.sheet_format.specs.StoredSeconds.{stored}
 use Rattle.networks.specs.Enters.{firstEnter}
-use Rattle.networks.specs.EnterLaws.{first-to-is}
+use Rattle.networks.specs.laws.EnterLaws.{first-to-is}
 use Rattle.networks.proofs.first_contact.first_to.Statement.{statement}
 use Rattle.networks.proofs.first_contact.first_to.Tie as tie
 

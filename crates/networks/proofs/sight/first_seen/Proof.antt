@@ -10,8 +10,8 @@ use lib.Seq.{getD-take, length-take-le}
 use mir.Syntax.{w64}
 use mir.Val.{SFits}
 use mir.ValLaws.{toZ-ofZ}
-use Rattle.rounding.specs.Order.{zs}
-use Rattle.rounding.specs.Code.{cast-unsigned}
+use Rattle.rounding.specs.laws.Order.{zs}
+use Rattle.rounding.specs.laws.Code.{cast-unsigned}
 use Rattle.requests.specs.Requests.{ofEclipse}
 use Rattle.requests.specs.RequestLaws.{InLimits}
 use Rattle.clock_network.specs.Defined.{earliestOf}
@@ -20,7 +20,7 @@ use Rattle.clock_network.specs.Held.{blankNode}
 use Rattle.networks.specs.Enters.{never}
 use Rattle.clock_network.specs.Checks.{requestOf}
 use Rattle.networks.specs.Network.{tosOf}
-use Rattle.networks.specs.SightLaws.{named-at, named-none}
+use Rattle.networks.specs.laws.SightLaws.{named-at, named-none}
 use Rattle.networks.proofs.sight.first_seen.Statement.{statement}
 use Rattle.networks.proofs.sight.first_seen.Tie as tie
 

@@ -11,7 +11,7 @@ use Rattle.requests.specs.Requests.{ofEclipse}
 use Rattle.requests.specs.RequestLaws.{InLimits}
 use Rattle.clock_network.specs.declared.stations.Node.{Node}
 use Rattle.clock_network.specs.Held.{blankNode}
-use Rattle.clock_network.specs.Copy.{copy-step}
+use Rattle.clock_network.specs.laws.Copy.{copy-step}
 use Rattle.networks.specs.Enters.{firstTo}
 use Rattle.clock_network.specs.Checks.{requestOf}
 use Rattle.networks.specs.Network.{toOf, tosOf}

@@ -7,11 +7,11 @@ use native.Mathlib.Omega.{arith}
 use lib.Dec.{lit≤}
 use lib.IntN.{ℤ, pos, natAbs, _-ℤ_, _*ℤ_}
 use lib.Signed.{_≤ℤ_}
-use Rattle.rounding.specs.Order.{<ℤ-≤}
-use Rattle.rounding.specs.Code.{Code, arg, lit, sub, mul, Within, whole, ends, _▹_, fits, run, runs, unsigned, taken-<, left-<}
+use Rattle.rounding.specs.laws.Order.{<ℤ-≤}
+use Rattle.rounding.specs.laws.Code.{Code, arg, lit, sub, mul, Within, whole, ends, _▹_, fits, run, runs, unsigned, taken-<, left-<}
 use Rattle.rounding.specs.Root.{root}
 use Rattle.obscuration.specs.Share.{chord}
-use Rattle.obscuration.specs.StripLaws.{chord-size, chord-none, gap-small, chord-on}
+use Rattle.obscuration.specs.laws.StripLaws.{chord-size, chord-none, gap-small, chord-on}
 use Rattle.obscuration.proofs.area.chord.Statement.{statement}
 use Rattle.obscuration.proofs.area.chord.Tie as tie
 

@@ -1,7 +1,7 @@
 -- `obscuration::area::lesser_of` meets its contract. Assumes nothing.
 use mathlib.Core.Path.{sym}
 use native.Mathlib.Omega.{arith}
-use Rattle.obscuration.specs.StripLaws.{lesser-same, lesser-other}
+use Rattle.obscuration.specs.laws.StripLaws.{lesser-same, lesser-other}
 use Rattle.obscuration.proofs.area.lesser_of.Statement.{statement}
 use Rattle.obscuration.proofs.area.lesser_of.Tie as tie
 

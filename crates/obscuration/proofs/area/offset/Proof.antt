@@ -6,9 +6,9 @@ use native.Mathlib.Omega.{arith}
 use borrow.Author.Needs.{needs}
 use lib.Dec.{lit<}
 use lib.IntN.{pos, natAbs}
-use Rattle.rounding.specs.Code.{Code, arg, lit, add, sub, mul, quo, Within, whole, ends, _▹_, fits, run, runs}
+use Rattle.rounding.specs.laws.Code.{Code, arg, lit, add, sub, mul, quo, Within, whole, ends, _▹_, fits, run, runs}
 use Rattle.obscuration.specs.Share.{offset}
-use Rattle.obscuration.specs.StripLaws.{offset-size, offset-by}
+use Rattle.obscuration.specs.laws.StripLaws.{offset-size, offset-by}
 use Rattle.obscuration.proofs.area.offset.Statement.{statement}
 use Rattle.obscuration.proofs.area.offset.Tie as tie
 

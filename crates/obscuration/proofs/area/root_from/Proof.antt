@@ -8,11 +8,11 @@ use native.Mathlib.Nat.{div-add-mod, mod-lt, mul-le-mul, lt-of-not-le}
 use borrow.Author.Needs.{needs}
 use lib.IntN.{pos, _+ℤ_, _*ℤ_}
 use lib.Signed.{_≤ℤ_, _<ℤ_}
-use Rattle.rounding.specs.Order.{zs}
-use Rattle.rounding.specs.Ring.{num, _⊕_, _⊖_, _⊗_, v0, v1, v2, v3}
-use Rattle.rounding.specs.Cert.{leq, less, sq, _⊞_, _⊠_, certify}
+use Rattle.rounding.specs.laws.Order.{zs}
+use Rattle.rounding.specs.laws.Ring.{num, _⊕_, _⊖_, _⊗_, v0, v1, v2, v3}
+use Rattle.rounding.specs.laws.Cert.{leq, less, sq, _⊞_, _⊠_, certify}
 use Rattle.rounding.specs.Root.{root}
-use Rattle.rounding.specs.RootLaws.{root-is, root-least}
+use Rattle.rounding.specs.laws.RootLaws.{root-is, root-least}
 use Rattle.obscuration.proofs.area.root_from.Statement.{statement}
 use Rattle.obscuration.proofs.area.root_from.Tie as tie
 

@@ -6,12 +6,12 @@ use native.Mathlib.Omega.{arith}
 use lib.Dec.{lit<}
 use lib.IntN.{ℤ, pos, negℤ, natAbs, _+ℤ_, _-ℤ_}
 use Rattle.rounding.specs.Parts.{sum, opposite}
-use Rattle.rounding.specs.Order.{zs, natAbs-parts, natAbs-between}
-use Rattle.rounding.specs.Code.{Code, arg, lit, add, sub, quo, Within, whole, ends, _▹_, fits, run, runs, unsigned, read-back, read-size}
+use Rattle.rounding.specs.laws.Order.{zs, natAbs-parts, natAbs-between}
+use Rattle.rounding.specs.laws.Code.{Code, arg, lit, add, sub, quo, Within, whole, ends, _▹_, fits, run, runs, unsigned, read-back, read-size}
 use Rattle.rounding.specs.Root.{root}
 use Rattle.obscuration.specs.Share.{half, share}
-use Rattle.obscuration.specs.StripLaws.{half-pos}
-use Rattle.obscuration.specs.ShareLaws.{r-low, r-size, n-size, m-size}
+use Rattle.obscuration.specs.laws.StripLaws.{half-pos}
+use Rattle.obscuration.specs.laws.ShareLaws.{r-low, r-size, n-size, m-size}
 use Rattle.obscuration.proofs.area.share.Statement.{statement}
 use Rattle.obscuration.proofs.area.share.Tie as tie
 

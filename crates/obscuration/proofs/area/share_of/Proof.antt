@@ -8,11 +8,11 @@ use lib.IntN.{ℤ, pos, _-ℤ_}
 use lib.Signed.{_≤ℤ_}
 use mir.Syntax.{w64}
 use mir.Val.{toZ, ofZ}
-use Rattle.rounding.specs.Order.{zs}
-use Rattle.rounding.specs.Code.{Code, arg, sub, Within, whole, ends, _▹_, fits, runs, within, read-back, read-size}
+use Rattle.rounding.specs.laws.Order.{zs}
+use Rattle.rounding.specs.laws.Code.{Code, arg, sub, Within, whole, ends, _▹_, fits, runs, within, read-back, read-size}
 use Rattle.obscuration.specs.Share.{chord, sun, moon, lesserOf, lesser, sumOf, shareOf}
-use Rattle.obscuration.specs.StripLaws.{sum-none, sum-next}
-use Rattle.obscuration.specs.DiscLaws.{sun-above, lesser-sun, discs-limit}
+use Rattle.obscuration.specs.laws.StripLaws.{sum-none, sum-next}
+use Rattle.obscuration.specs.laws.DiscLaws.{sun-above, lesser-sun, discs-limit}
 use Rattle.obscuration.proofs.area.share_of.Statement.{statement}
 use Rattle.obscuration.proofs.area.share_of.Tie as tie
 

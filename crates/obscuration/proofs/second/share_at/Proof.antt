@@ -1,8 +1,8 @@
 -- `obscuration::second::share_at` meets its contract: the share of the shadow there, whose L1, L2 and M are within their sizes. Assumes nothing.
 use mathlib.Core.Path.{sym, _∙_}
-use Rattle.rounding.specs.Code.{read-back, read-size}
+use Rattle.rounding.specs.laws.Code.{read-back, read-size}
 use Rattle.shadow.specs.Shadow.{IsShadow}
-use Rattle.obscuration.specs.CoveredLaws.{share-at, sizes-at}
+use Rattle.obscuration.specs.laws.CoveredLaws.{share-at, sizes-at}
 use Rattle.obscuration.proofs.second.share_at.Statement.{statement}
 use Rattle.obscuration.proofs.second.share_at.Tie as tie
 

@@ -3,8 +3,8 @@ use mathlib.Core.Path.{_≡_, _∙_}
 use lib.IntN.{ℤ}
 use mir.Syntax.{w64}
 use mir.Val.{toZ, ofZ}
-use Rattle.rounding.specs.Order.{natAbs-between}
-use Rattle.rounding.specs.Code.{read-back}
+use Rattle.rounding.specs.laws.Order.{natAbs-between}
+use Rattle.rounding.specs.laws.Code.{read-back}
 use Rattle.obscuration.specs.Share.{share, Sizes}
 use Rattle.obscuration.proofs.second.share_of.Statement.{statement}
 use Rattle.obscuration.proofs.second.share_of.Tie as tie

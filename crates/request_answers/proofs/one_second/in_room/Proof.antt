@@ -1,7 +1,7 @@
 -- `request_answers::one_second::in_room` meets its contract, case by case. Assumes nothing.
 use mathlib.Core.Path.{sym}
 use borrow.Author.Needs.{needs}
-use Rattle.request_answers.specs.SecondLaws.{second-short, second-whole}
+use Rattle.request_answers.specs.laws.SecondLaws.{second-short, second-whole}
 use Rattle.request_answers.proofs.one_second.in_room.Statement.{statement}
 use Rattle.request_answers.proofs.one_second.in_room.Tie as tie
 

@@ -4,7 +4,7 @@ use native.Mathlib.Omega.{arith}
 use lib.Seq.{length-sets, sets-eq}
 use mathlib.Core.List.{[], _∷_}
 use borrow.Author.Needs.{needs}
-use Rattle.rounding.specs.Code.{read-result}
+use Rattle.rounding.specs.laws.Code.{read-result}
 use Rattle.request_answers.specs.Second.{five}
 use Rattle.request_answers.proofs.one_second.Small.{small}
 use Rattle.request_answers.proofs.one_second.put_star.Statement.{statement}

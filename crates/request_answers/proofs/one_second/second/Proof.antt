@@ -7,7 +7,7 @@ use mir.Val.{toZ, ofZ}
 use mir.ValLaws.{toZ-ofZ}
 use Rattle.seconds.specs.declared.OneSecond.{OneSecond}
 use Rattle.request_answers.specs.Second.{wish, secondAsked, sinesAsked, numberCount, secondInto, secondGiven, numbersAfter}
-use Rattle.request_answers.specs.SecondLaws.{second-fits, given-means}
+use Rattle.request_answers.specs.laws.SecondLaws.{second-fits, given-means}
 use Rattle.request_answers.proofs.one_second.second.Statement.{statement}
 use Rattle.request_answers.proofs.one_second.second.Tie as tie
 

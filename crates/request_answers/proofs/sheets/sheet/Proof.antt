@@ -2,7 +2,7 @@
 use mathlib.Core.Path.{ap, _∙_}
 use borrow.Author.Needs.{needs}
 use Rattle.request_format.specs.Input.{eclipseAsked}
-use Rattle.request_answers.specs.SheetLaws.{promised}
+use Rattle.request_answers.specs.laws.SheetLaws.{promised}
 use Rattle.request_answers.proofs.sheets.sheet.Statement.{statement}
 use Rattle.request_answers.proofs.sheets.sheet.Tie as tie
 

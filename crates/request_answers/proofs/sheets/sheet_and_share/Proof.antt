@@ -2,7 +2,7 @@
 use mathlib.Core.Path.{ap, _∙_}
 use borrow.Author.Needs.{needs}
 use Rattle.request_format.specs.Input.{sharing, eclipseAsked}
-use Rattle.request_answers.specs.SheetLaws.{promised-shared}
+use Rattle.request_answers.specs.laws.SheetLaws.{promised-shared}
 use Rattle.request_answers.proofs.sheets.sheet_and_share.Statement.{statement}
 use Rattle.request_answers.proofs.sheets.sheet_and_share.Tie as tie
 

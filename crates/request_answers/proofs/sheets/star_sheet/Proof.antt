@@ -1,6 +1,6 @@
 -- `request_answers::sheets::star_sheet` meets its contract: it is the sheet of the star request that the bytes hold. Assumes nothing.
 use borrow.Author.Needs.{needs}
-use Rattle.request_answers.specs.SheetLaws.{promised-star}
+use Rattle.request_answers.specs.laws.SheetLaws.{promised-star}
 use Rattle.request_answers.proofs.sheets.star_sheet.Statement.{statement}
 use Rattle.request_answers.proofs.sheets.star_sheet.Tie as tie
 

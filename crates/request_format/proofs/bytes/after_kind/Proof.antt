@@ -2,7 +2,7 @@
 use mathlib.Core.Path.{refl}
 use native.Mathlib.Omega.{arith}
 use borrow.Author.Needs.{needs}
-use Rattle.request_format.specs.RowByteLaws.{kind-none, kind-some}
+use Rattle.request_format.specs.laws.RowByteLaws.{kind-none, kind-some}
 use Rattle.request_format.proofs.bytes.after_kind.Statement.{statement}
 use Rattle.request_format.proofs.bytes.after_kind.Tie as tie
 

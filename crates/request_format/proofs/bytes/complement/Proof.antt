@@ -10,9 +10,9 @@ use lib.IntN.{ℤ, pos, natAbs, _+ℤ_}
 use lib.Signed.{nonNeg}
 use mir.Syntax.{w32, w64}
 use mir.Val.{Fits, toZ, ofZ}
-use Rattle.rounding.specs.Code.{Code, arg, lit, add, run, Within, whole, raw, ends, _▹_, fits, runs, taken-<, left-<, count-is, count-size}
+use Rattle.rounding.specs.laws.Code.{Code, arg, lit, add, run, Within, whole, raw, ends, _▹_, fits, runs, taken-<, left-<, count-is, count-size}
 use Rattle.request_format.specs.Layout.{complement}
-use Rattle.request_format.specs.NumberLaws.{complement-below, complement-above, complement-small}
+use Rattle.request_format.specs.laws.NumberLaws.{complement-below, complement-above, complement-small}
 use Rattle.request_format.proofs.bytes.complement.Statement.{statement}
 use Rattle.request_format.proofs.bytes.complement.Tie as tie
 

@@ -1,7 +1,7 @@
 -- `request_format::bytes::kind_stands` meets its contract: each test is a case of the definition. Assumes nothing.
 use borrow.Author.Needs.{needs}
 use native.Mathlib.Omega.{arith}
-use Rattle.request_format.specs.RowByteLaws.{stands-none, stands-past, stands-here}
+use Rattle.request_format.specs.laws.RowByteLaws.{stands-none, stands-past, stands-here}
 use Rattle.request_format.proofs.bytes.kind_stands.Statement.{statement}
 use Rattle.request_format.proofs.bytes.kind_stands.Tie as tie
 

@@ -12,13 +12,13 @@ use lib.ListN.{length, getD}
 use lib.Seq.{sets}
 use mir.Syntax.{w64}
 use mir.Val.{toZ, ofZ}
-use Rattle.rounding.specs.Code.{read-result}
+use Rattle.rounding.specs.laws.Code.{read-result}
 use Rattle.request_format.specs.declared.fields.Field.{Field}
 use Rattle.request_format.specs.declared.fields.Shape.{Shape}
 use Rattle.request_format.specs.Fields.{holds, countOf}
 use Rattle.request_format.specs.Rows.{rowAt}
-use Rattle.request_format.specs.RowBytes.{fieldBytes}
-use Rattle.request_format.specs.PutLaws.{Putting, putting-start, putting-room, putting-unfit, putting-more, putting-end}
+use Rattle.request_format.specs.laws.RowBytes.{fieldBytes}
+use Rattle.request_format.specs.laws.PutLaws.{Putting, putting-start, putting-room, putting-unfit, putting-more, putting-end}
 use Rattle.request_format.proofs.bytes.lay.Statement.{statement}
 use Rattle.request_format.proofs.bytes.lay.Tie as tie
 

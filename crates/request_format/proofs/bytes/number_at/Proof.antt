@@ -5,7 +5,7 @@ use native.Mathlib.Omega.{arith}
 use borrow.Author.Needs.{needs}
 use lib.IntN.{pos}
 use lib.ListN.{length}
-use Rattle.rounding.specs.Code.{read-result, count-is}
+use Rattle.rounding.specs.laws.Code.{read-result, count-is}
 use Rattle.request_format.specs.declared.fields.Width.{Width}
 use Rattle.request_format.specs.Fields.{bytesIn}
 use Rattle.request_format.specs.Layout.{signed, numberAt}

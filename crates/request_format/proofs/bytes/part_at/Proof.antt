@@ -5,11 +5,11 @@ use Prim.Native.Nat.{ℕ, _+_}
 use native.Mathlib.Omega.{arith}
 use borrow.Author.Needs.{needs}
 use borrow.Author.Tests.{not-true, not-false}
-use Rattle.rounding.specs.Code.{read-result}
+use Rattle.rounding.specs.laws.Code.{read-result}
 use Rattle.request_format.specs.Fields.{bytesIn}
-use Rattle.request_format.specs.RowBytes.{kindStands}
-use Rattle.request_format.specs.RowByteLaws.{kind-short, bytes-short}
-use Rattle.request_format.specs.GetLaws.{part-other, part-short, part-is}
+use Rattle.request_format.specs.laws.RowBytes.{kindStands}
+use Rattle.request_format.specs.laws.RowByteLaws.{kind-short, bytes-short}
+use Rattle.request_format.specs.laws.GetLaws.{part-other, part-short, part-is}
 use Rattle.request_format.proofs.bytes.part_at.Statement.{statement}
 use Rattle.request_format.proofs.bytes.part_at.Tie as tie
 

@@ -7,8 +7,8 @@ use lib.ListN.{length}
 use mir.Syntax.{w64}
 use mir.ValLaws.{toZ-ofZ}
 use Rattle.request_format.specs.Fields.{bytesIn}
-use Rattle.request_format.specs.RowBytes.{kindBytes}
-use Rattle.request_format.specs.PutLaws.{field-length, field-put}
+use Rattle.request_format.specs.laws.RowBytes.{kindBytes}
+use Rattle.request_format.specs.laws.PutLaws.{field-length, field-put}
 use Rattle.request_format.proofs.bytes.put_field.Statement.{statement}
 use Rattle.request_format.proofs.bytes.put_field.Tie as tie
 

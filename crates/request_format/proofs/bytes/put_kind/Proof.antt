@@ -5,7 +5,7 @@ use Prim.Native.Nat.{ℕ}
 use native.Mathlib.Omega.{arith}
 use borrow.Author.Needs.{needs}
 use lib.ListN.{length}
-use Rattle.request_format.specs.RowByteLaws.{kind-none, kind-some}
+use Rattle.request_format.specs.laws.RowByteLaws.{kind-none, kind-some}
 use Rattle.request_format.proofs.bytes.put_kind.Statement.{statement}
 use Rattle.request_format.proofs.bytes.put_kind.Tie as tie
 

@@ -14,7 +14,7 @@ use mir.ValLaws.{toZ-ofZ}
 use Rattle.request_format.specs.declared.fields.Width.{Width}
 use Rattle.request_format.specs.Fields.{bytesIn, wholeOf, holds}
 use Rattle.request_format.specs.Layout.{complement, bigEndian, numberBytes}
-use Rattle.request_format.specs.WidthLaws.{held, held-size}
+use Rattle.request_format.specs.laws.WidthLaws.{held, held-size}
 use Rattle.request_format.proofs.bytes.put_number.Statement.{statement}
 use Rattle.request_format.proofs.bytes.put_number.Tie as tie
 

@@ -4,13 +4,13 @@ use mathlib.Core.Path.{_≡_, sym, ap, _∙_}
 use Prim.Native.Nat.{_-_, _≤_, _<_}
 use native.Mathlib.Omega.{arith}
 use borrow.Author.Needs.{needs}
-use Rattle.rounding.specs.Code.{read-result}
+use Rattle.rounding.specs.laws.Code.{read-result}
 use Rattle.request_format.specs.Fields.{countOf}
 use Rattle.request_format.specs.Rows.{rowAt}
 use Rattle.request_format.specs.declared.fields.Field.{Field}
 use Rattle.request_format.specs.declared.bytes.Part.{Part}
-use Rattle.request_format.specs.RowBytes.{partOf}
-use Rattle.request_format.specs.GetLaws.{Getting, getting-start, getting-other, getting-more, getting-longer, getting-end}
+use Rattle.request_format.specs.laws.RowBytes.{partOf}
+use Rattle.request_format.specs.laws.GetLaws.{Getting, getting-start, getting-other, getting-more, getting-longer, getting-end}
 use Rattle.request_format.proofs.bytes.read.Statement.{statement}
 use Rattle.request_format.proofs.bytes.read.Tie as tie
 

@@ -6,8 +6,8 @@ use Prim.Native.Nat.{_≤_}
 use native.Mathlib.Omega.{arith}
 use borrow.Author.Needs.{needs}
 use lib.IntN.{ℤ, pos, _-ℤ_, _*ℤ_}
-use Rattle.rounding.specs.Code.{Code, arg, lit, sub, mul, Within, raw, ends, _▹_, fits, runs, count-is, count-size}
-use Rattle.request_format.specs.NumberLaws.{signed-below, signed-above}
+use Rattle.rounding.specs.laws.Code.{Code, arg, lit, sub, mul, Within, raw, ends, _▹_, fits, runs, count-is, count-size}
+use Rattle.request_format.specs.laws.NumberLaws.{signed-below, signed-above}
 use Rattle.request_format.proofs.bytes.signed.Statement.{statement}
 use Rattle.request_format.proofs.bytes.signed.Tie as tie
 

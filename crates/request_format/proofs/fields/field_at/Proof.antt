@@ -7,8 +7,8 @@ use lib.ListN.{take, drop}
 use borrow.Author.Needs.{needs}
 use Rattle.request_format.specs.declared.fields.Field.{Field}
 use Rattle.request_format.specs.Rows.{rowIn}
-use Rattle.request_format.specs.Table.{fieldFrom}
-use Rattle.request_format.specs.TableLaws.{field-in}
+use Rattle.request_format.specs.laws.Table.{fieldFrom}
+use Rattle.request_format.specs.laws.TableLaws.{field-in}
 use Rattle.request_format.proofs.fields.field_at.Statement.{statement}
 use Rattle.request_format.proofs.fields.field_at.Tie as tie
 

@@ -1,6 +1,6 @@
 -- `request_format::fields::field_from` meets its contract: the name and the bytes are those of the row. Assumes nothing.
 use borrow.Author.Needs.{needs}
-use Rattle.request_format.specs.Table.{fieldFrom}
+use Rattle.request_format.specs.laws.Table.{fieldFrom}
 use Rattle.request_format.proofs.fields.field_from.Statement.{statement}
 use Rattle.request_format.proofs.fields.field_from.Tie as tie
 

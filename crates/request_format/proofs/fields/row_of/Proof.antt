@@ -6,8 +6,8 @@ use borrow.Author.Needs.{needs}
 use Rattle.request_format.specs.declared.fields.Shape.{Shape}
 use Rattle.request_format.specs.Fields.{countOf}
 use Rattle.request_format.specs.Rows.{rowIn, rowAt}
-use Rattle.request_format.specs.Table.{tables}
-use Rattle.request_format.specs.TableLaws.{eclipse-first, eclipse-after, star-here}
+use Rattle.request_format.specs.laws.Table.{tables}
+use Rattle.request_format.specs.laws.TableLaws.{eclipse-first, eclipse-after, star-here}
 use Rattle.request_format.proofs.fields.row_of.Statement.{statement}
 use Rattle.request_format.proofs.fields.row_of.Tie as tie
 

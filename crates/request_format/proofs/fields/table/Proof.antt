@@ -1,7 +1,7 @@
 -- `request_format::fields::table` meets its contract: the code's rows are the definition's, which is computed. Assumes nothing.
 use borrow.Author.Needs.{needs}
 use Rattle.request_format.specs.Rows.{elementRows, alikeRows}
-use Rattle.request_format.specs.Table.{tables, widthFrom, fieldFrom, fieldsIn}
+use Rattle.request_format.specs.laws.Table.{tables, widthFrom, fieldFrom, fieldsIn}
 use Rattle.request_format.proofs.fields.table.Statement.{statement}
 use Rattle.request_format.proofs.fields.table.Tie as tie
 

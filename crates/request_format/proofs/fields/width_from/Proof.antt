@@ -1,6 +1,6 @@
 -- `request_format::fields::width_from` meets its contract: the letter is that of the test, or another. Assumes nothing.
 use borrow.Author.Tests.{ne-eqb}
-use Rattle.request_format.specs.Table.{widthFrom}
+use Rattle.request_format.specs.laws.Table.{widthFrom}
 use Rattle.request_format.proofs.fields.width_from.Statement.{statement}
 use Rattle.request_format.proofs.fields.width_from.Tie as tie
 

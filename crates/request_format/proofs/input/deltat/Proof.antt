@@ -1,6 +1,6 @@
 -- `request_format::input::deltat` meets its contract: it is the ΔT of what the bytes ask for.
 use mathlib.Core.Path.{sym, ap, _∙_}
-use Rattle.rounding.specs.Code.{read-result}
+use Rattle.rounding.specs.laws.Code.{read-result}
 use Rattle.request_format.specs.Input.{eclipseAsked, deltaFor, deltaOf}
 use borrow.Author.Needs.{needs}
 use Rattle.request_format.proofs.input.deltat.Statement.{statement}

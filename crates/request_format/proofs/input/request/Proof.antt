@@ -4,7 +4,7 @@ use native.Mathlib.Omega.{arith}
 use borrow.Author.Needs.{needs}
 use Rattle.request_format.specs.declared.fields.Shape.the-variants.{Eclipse}
 use Rattle.request_format.specs.declared.input.Input.the-variants as I
-use Rattle.request_format.specs.InputLaws.{Held, held, eclipse-held, input-refused}
+use Rattle.request_format.specs.laws.InputLaws.{Held, held, eclipse-held, input-refused}
 use Rattle.request_format.proofs.input.request.Statement.{statement}
 use Rattle.request_format.proofs.input.request.Tie as tie
 

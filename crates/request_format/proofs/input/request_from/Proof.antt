@@ -2,7 +2,7 @@
 use lib.IntN.{pos}
 use lib.ListN.{getD}
 use borrow.Author.Needs.{needs}
-use Rattle.rounding.specs.Code.{read-result}
+use Rattle.rounding.specs.laws.Code.{read-result}
 use Rattle.request_format.specs.Input.{requestFrom}
 use Rattle.request_format.proofs.input.request_from.Statement.{statement}
 use Rattle.request_format.proofs.input.request_from.Tie as tie

@@ -3,7 +3,7 @@ use Prim.Native.Nat.{_+_}
 use lib.IntN.{pos}
 use lib.ListN.{getD}
 use borrow.Author.Needs.{needs}
-use Rattle.rounding.specs.Code.{read-result}
+use Rattle.rounding.specs.laws.Code.{read-result}
 use Rattle.request_format.specs.Input.{windowFrom}
 use Rattle.request_format.proofs.input.window_from.Statement.{statement}
 use Rattle.request_format.proofs.input.window_from.Tie as tie

@@ -1,6 +1,6 @@
 -- `request_text::beside::number_in` meets its contract: a line that names the instant gives nothing, any other what it says. Assumes nothing.
 use mathlib.Core.Path.{sym, _∙_}
-use Rattle.request_text.specs.LineLaws.{number-none, number-said}
+use Rattle.request_text.specs.laws.LineLaws.{number-none, number-said}
 use borrow.Author.Needs.{needs}
 use Rattle.request_text.proofs.beside.number_in.Statement.{statement}
 use Rattle.request_text.proofs.beside.number_in.Tie as tie

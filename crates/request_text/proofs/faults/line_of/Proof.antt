@@ -5,8 +5,8 @@ use Prim.Native.Nat.{_+_, _-_, _≤_}
 use lib.ListN.{length, drop}
 use Rattle.tokens.specs.declared.Class.the-variants as C
 use Rattle.tokens.specs.Text.{runOf}
-use Rattle.tokens.specs.TextLaws.{rest-is, line-within}
-use Rattle.request_text.specs.WordLaws.{Seeking, seek-start, seek-end, seek-hit, seek-more}
+use Rattle.tokens.specs.laws.TextLaws.{rest-is, line-within}
+use Rattle.request_text.specs.laws.WordLaws.{Seeking, seek-start, seek-end, seek-hit, seek-more}
 use borrow.Author.Needs.{needs}
 use Rattle.request_text.proofs.faults.line_of.Statement.{statement}
 use Rattle.request_text.proofs.faults.line_of.Tie as tie

@@ -1,5 +1,5 @@
 -- `request_text::faults::put_fault` meets its contract: each arm has the words of its fault. Assumes nothing.
-use Rattle.request_text.specs.MessageLaws.{put-told, put-unknown, put-not-number, put-not-whole, put-unfit, put-twice, put-missing}
+use Rattle.request_text.specs.laws.MessageLaws.{put-told, put-unknown, put-not-number, put-not-whole, put-unfit, put-twice, put-missing}
 use borrow.Author.Needs.{needs}
 use Rattle.request_text.proofs.faults.put_fault.Statement.{statement}
 use Rattle.request_text.proofs.faults.put_fault.Tie as tie

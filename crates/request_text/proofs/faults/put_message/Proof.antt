@@ -2,7 +2,7 @@
 use Prim.Native.Nat.{_<_}
 use lib.ListN.{length}
 use native.Mathlib.Omega.{arith}
-use Rattle.request_text.specs.MessageLaws.{put-parts}
+use Rattle.request_text.specs.laws.MessageLaws.{put-parts}
 use borrow.Author.Needs.{needs}
 use Rattle.request_text.proofs.faults.put_message.Statement.{statement}
 use Rattle.request_text.proofs.faults.put_message.Tie as tie

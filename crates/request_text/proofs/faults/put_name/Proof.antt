@@ -5,9 +5,9 @@ use native.Mathlib.Omega.{arith}
 use lib.ListN.{length}
 use lib.Seq.{length-take-le}
 use Rattle.request_format.specs.declared.fields.Field.{Field}
-use Rattle.request_format.specs.RowLaws.{name-room}
-use Rattle.decimal_text.specs.TextLaws.{put-nil}
-use Rattle.request_text.specs.MessageLaws.{name-none, name-is, put-as}
+use Rattle.request_format.specs.laws.RowLaws.{name-room}
+use Rattle.decimal_text.specs.laws.TextLaws.{put-nil}
+use Rattle.request_text.specs.laws.MessageLaws.{name-none, name-is, put-as}
 use borrow.Author.Needs.{needs}
 use Rattle.request_text.proofs.faults.put_name.Statement.{statement}
 use Rattle.request_text.proofs.faults.put_name.Tie as tie

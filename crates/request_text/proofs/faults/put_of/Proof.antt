@@ -1,6 +1,6 @@
 -- `request_text::faults::put_of` meets its contract: the name, then the words. Assumes nothing.
 use native.Mathlib.Omega.{arith}
-use Rattle.decimal_text.specs.TextLaws.{put-then}
+use Rattle.decimal_text.specs.laws.TextLaws.{put-then}
 use borrow.Author.Needs.{needs}
 use Rattle.request_text.proofs.faults.put_of.Statement.{statement}
 use Rattle.request_text.proofs.faults.put_of.Tie as tie

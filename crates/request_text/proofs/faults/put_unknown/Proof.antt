@@ -2,9 +2,9 @@
 use mathlib.Core.Path.{refl, sym}
 use native.Mathlib.Omega.{arith}
 use lib.Seq.{length-take-le}
-use Rattle.decimal_text.specs.TextLaws.{put-then}
-use Rattle.request_text.specs.MessageLaws.{put-as}
-use Rattle.request_text.specs.WordLaws.{word-cut}
+use Rattle.decimal_text.specs.laws.TextLaws.{put-then}
+use Rattle.request_text.specs.laws.MessageLaws.{put-as}
+use Rattle.request_text.specs.laws.WordLaws.{word-cut}
 use borrow.Author.Needs.{needs}
 use Rattle.request_text.proofs.faults.put_unknown.Statement.{statement}
 use Rattle.request_text.proofs.faults.put_unknown.Tie as tie

@@ -1,5 +1,5 @@
 -- `request_text::instants::after_word` meets its contract: blanks, the word, and the rest. Assumes nothing.
-use Rattle.request_text.specs.InstantLaws.{after-is}
+use Rattle.request_text.specs.laws.InstantLaws.{after-is}
 use borrow.Author.Needs.{needs}
 use Rattle.request_text.proofs.instants.after_word.Statement.{statement}
 use Rattle.request_text.proofs.instants.after_word.Tie as tie

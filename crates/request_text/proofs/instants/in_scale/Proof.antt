@@ -1,7 +1,7 @@
 -- `request_text::instants::in_scale` meets its contract: by the scale's word. Assumes nothing.
 use mathlib.Core.Path.{sym, ap, _∙_}
 use Rattle.request_text.specs.declared.instants.Reading.the-variants as R
-use Rattle.request_text.specs.InstantLaws.{scale-et, scale-ut, scale-none}
+use Rattle.request_text.specs.laws.InstantLaws.{scale-et, scale-ut, scale-none}
 use borrow.Author.Needs.{needs}
 use Rattle.request_text.proofs.instants.in_scale.Statement.{statement}
 use Rattle.request_text.proofs.instants.in_scale.Tie as tie

@@ -3,7 +3,7 @@ use mathlib.Core.Path.{ap, _∙_}
 use borrow.Author.Tests.{not-true, not-false}
 use borrow.Author.Needs.{needs}
 use Rattle.request_text.specs.Instants.{inScale}
-use Rattle.request_text.specs.InstantLaws.{read-not, read-is}
+use Rattle.request_text.specs.laws.InstantLaws.{read-not, read-is}
 use Rattle.request_text.proofs.instants.read.Statement.{statement}
 use Rattle.request_text.proofs.instants.read.Tie as tie
 

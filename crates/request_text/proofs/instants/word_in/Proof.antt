@@ -1,7 +1,7 @@
 -- `request_text::instants::word_in` meets its contract: blanks, and the word. Assumes nothing.
 use mathlib.Core.Path.{sym}
 use lib.Seq.{length-take-le}
-use Rattle.request_text.specs.InstantLaws.{word-is}
+use Rattle.request_text.specs.laws.InstantLaws.{word-is}
 use borrow.Author.Needs.{needs}
 use Rattle.request_text.proofs.instants.word_in.Statement.{statement}
 use Rattle.request_text.proofs.instants.word_in.Tie as tie

@@ -5,8 +5,8 @@ use borrow.Author.Needs.{needs}
 use lib.ListN.{length, drop}
 use Rattle.tokens.specs.declared.Class.the-variants as C
 use Rattle.tokens.specs.Text.{runOf}
-use Rattle.tokens.specs.TextLaws.{rest-is, line-within}
-use Rattle.request_text.specs.ShapeLaws.{Passed, passed-none, passed-all, passed-hit, passed-more}
+use Rattle.tokens.specs.laws.TextLaws.{rest-is, line-within}
+use Rattle.request_text.specs.laws.ShapeLaws.{Passed, passed-none, passed-all, passed-hit, passed-more}
 use Rattle.request_text.proofs.shapes.shape_of.Statement.{statement}
 use Rattle.request_text.proofs.shapes.shape_of.Tie as tie
 

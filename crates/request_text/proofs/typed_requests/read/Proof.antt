@@ -1,7 +1,7 @@
 -- `request_text::typed_requests::read` meets its contract: the bytes and the instant, or the message of the first fault. Assumes nothing.
 use mathlib.Core.Path.{sym, _∙_}
 use native.Mathlib.Omega.{arith}
-use Rattle.request_text.specs.MeaningLaws.{long-told, number-told, instant-told, bytes-put}
+use Rattle.request_text.specs.laws.MeaningLaws.{long-told, number-told, instant-told, bytes-put}
 use borrow.Author.Needs.{needs}
 use Rattle.request_text.proofs.typed_requests.read.Statement.{statement}
 use Rattle.request_text.proofs.typed_requests.read.Tie as tie

@@ -1,7 +1,7 @@
 -- `requests::admission::admit` meets its contract: a refusal of the numbers leaves the room, and then the room answers.
 use mathlib.Core.Path.{sym, _∙_}
 use borrow.Author.Needs.{needs}
-use Rattle.requests.specs.AdmissionLaws.{admitted-refused, admitted-room}
+use Rattle.requests.specs.laws.AdmissionLaws.{admitted-refused, admitted-room}
 use Rattle.requests.proofs.admission.admit.Statement.{statement}
 use Rattle.requests.proofs.admission.admit.Tie as tie
 

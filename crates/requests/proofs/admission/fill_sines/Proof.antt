@@ -1,7 +1,7 @@
 -- `requests::admission::fill_sines` meets its contract: a room that is shorter is left, a longer one filled.
 use mathlib.Core.Path.{_∙_}
 use borrow.Author.Needs.{needs}
-use Rattle.requests.specs.AdmissionLaws.{room-short, room-long}
+use Rattle.requests.specs.laws.AdmissionLaws.{room-short, room-long}
 use Rattle.requests.proofs.admission.fill_sines.Statement.{statement}
 use Rattle.requests.proofs.admission.fill_sines.Tie as tie
 

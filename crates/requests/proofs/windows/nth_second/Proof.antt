@@ -4,8 +4,8 @@ use mathlib.Core.List.{[], _∷_}
 use Prim.Native.Nat.{_≤_}
 use native.Mathlib.Omega.{arith}
 use lib.IntN.{ℤ, pos, _+ℤ_}
-use Rattle.rounding.specs.Order.{fits64}
-use Rattle.rounding.specs.Code.{arg, add, Within, whole, raw, ends, _▹_, fits, runs, count-is, count-size}
+use Rattle.rounding.specs.laws.Order.{fits64}
+use Rattle.rounding.specs.laws.Code.{arg, add, Within, whole, raw, ends, _▹_, fits, runs, count-is, count-size}
 use Rattle.requests.specs.WindowLaws.{window-sizes, seconds-few}
 use Rattle.requests.proofs.windows.nth_second.Statement.{statement}
 use Rattle.requests.proofs.windows.nth_second.Tie as tie

@@ -5,8 +5,8 @@ use Prim.Native.Nat.{suc}
 use native.Mathlib.Omega.{arith}
 use native.Mathlib.Numerals.{add-one}
 use lib.IntN.{ℤ, natAbs}
-use Rattle.rounding.specs.Order.{minus-nonneg}
-use Rattle.rounding.specs.Code.{Code, arg, sub, run, Within, whole, ends, _▹_, fits, runs, within, unsigned}
+use Rattle.rounding.specs.laws.Order.{minus-nonneg}
+use Rattle.rounding.specs.laws.Code.{Code, arg, sub, run, Within, whole, ends, _▹_, fits, runs, within, unsigned}
 use Rattle.requests.specs.Windows.{secondCount}
 use Rattle.requests.specs.WindowLaws.{window-sizes}
 use Rattle.requests.proofs.windows.second_count.Statement.{statement}

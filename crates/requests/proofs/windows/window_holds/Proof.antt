@@ -1,5 +1,5 @@
 -- `requests::windows::window_holds` meets its contract: the three tests, on numbers read back from their bits. Assumes nothing.
-use Rattle.rounding.specs.Code.{read-result}
+use Rattle.rounding.specs.laws.Code.{read-result}
 use Rattle.requests.specs.Windows.{windowHolds}
 use Rattle.requests.proofs.windows.window_holds.Statement.{statement}
 use Rattle.requests.proofs.windows.window_holds.Tie as tie

@@ -5,7 +5,7 @@ use Prim.Native.Nat.{ℕ, _+_, _-_}
 use native.Mathlib.Omega.{arith}
 use lib.Count.{leading-le}
 use Rattle.rounding.specs.Rounds.{Holds}
-use Rattle.rounding.specs.RoundsLaws.{rounds-leading, rounds-few, start, finish}
+use Rattle.rounding.specs.laws.RoundsLaws.{rounds-leading, rounds-few, start, finish}
 use Rattle.rounding.proofs.roots.root_and_rounds.Statement.{statement}
 use Rattle.rounding.proofs.roots.root_and_rounds.Tie as tie
 

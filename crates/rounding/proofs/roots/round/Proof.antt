@@ -2,7 +2,7 @@
 -- the root has room for it. Assumes nothing.
 use Prim.Native.Nat.{_+_}
 use native.Mathlib.Omega.{arith}
-use Rattle.rounding.specs.RoundsLaws.{Small, small, one-more, no-more}
+use Rattle.rounding.specs.laws.RoundsLaws.{Small, small, one-more, no-more}
 use Rattle.rounding.proofs.roots.round.Statement.{statement}
 use Rattle.rounding.proofs.roots.round.Tie as tie
 use Rattle.rounding.proofs.roots.round.Lts as lts

@@ -1,8 +1,8 @@
 -- `shadow::bodies::direction_at` meets its contract: u and v are the second's, so the direction is too. Assumes nothing.
 use mathlib.Core.Path.{sym, _∙_}
-use Rattle.rounding.specs.Code.{read-back, read-size}
+use Rattle.rounding.specs.laws.Code.{read-back, read-size}
 use Rattle.shadow.specs.Shadow.{IsOffset}
-use Rattle.shadow.specs.SecondLaws.{direction-at}
+use Rattle.shadow.specs.laws.SecondLaws.{direction-at}
 use Rattle.shadow.proofs.bodies.direction_at.Statement.{statement}
 use Rattle.shadow.proofs.bodies.direction_at.Tie as tie
 

@@ -1,8 +1,8 @@
 -- `shadow::bodies::eclipse_sample` meets its contract: the letters of the second's shadow. Assumes nothing.
-use Rattle.rounding.specs.Code.{read-back, read-size}
+use Rattle.rounding.specs.laws.Code.{read-back, read-size}
 use Rattle.shadow.specs.Shadow.{IsShadow}
 use Rattle.shadow.specs.Second.{ShadowSizes}
-use Rattle.shadow.specs.SecondLaws.{shadow-sizes, eclipse-sample}
+use Rattle.shadow.specs.laws.SecondLaws.{shadow-sizes, eclipse-sample}
 use Rattle.shadow.proofs.bodies.eclipse_sample.Statement.{statement}
 use Rattle.shadow.proofs.bodies.eclipse_sample.Tie as tie
 

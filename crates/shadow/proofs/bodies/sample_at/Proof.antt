@@ -1,7 +1,7 @@
 -- `shadow::bodies::sample_at` meets its contract: of either body. Assumes nothing.
 use borrow.Author.Needs.{needs}
 use mathlib.Core.Path.{sym, subst}
-use Rattle.rounding.specs.Code.{read-back, read-size}
+use Rattle.rounding.specs.laws.Code.{read-back, read-size}
 use Rattle.elements.specs.declared.Body.{Body}
 use Rattle.elements.specs.StarLaws.{BodySizes}
 use Rattle.shadow.specs.Second.{IsSample}

@@ -5,13 +5,13 @@ use lib.IntN.{ℤ}
 use borrow.Author.Needs.{needs}
 use mir.Syntax.{w64}
 use mir.Val.{toZ, ofZ}
-use Rattle.rounding.specs.Order.{natAbs-between}
-use Rattle.rounding.specs.Code.{read-back, read-size}
+use Rattle.rounding.specs.laws.Order.{natAbs-between}
+use Rattle.rounding.specs.laws.Code.{read-back, read-size}
 use Rattle.rounding.specs.Value.{Value}
 use Rattle.elements.specs.Sizes.{wider-axis}
 use Rattle.elements.specs.Stars.{starAxis}
 use Rattle.shadow.specs.Shadow.{IsOffset}
-use Rattle.shadow.specs.SecondLaws.{star-sample}
+use Rattle.shadow.specs.laws.SecondLaws.{star-sample}
 use Rattle.shadow.proofs.bodies.star_sample.Statement.{statement}
 use Rattle.shadow.proofs.bodies.star_sample.Tie as tie
 

@@ -9,11 +9,11 @@ use lib.IntN.{ℤ, pos, negsuc, negℤ, natAbs}
 use lib.Signed.{_≤ℤ_, _<ℤ_, nonNeg}
 use mir.Syntax.{w16, w64}
 use mir.Val.{Fits, toZ, ofZ}
-use Rattle.rounding.specs.Order.{zs, <ℤ-≤, ≤ℤ-antisym}
-use Rattle.rounding.specs.Code.{Code, arg, lit, Within, whole, ends, _▹_, unsigned, taken-<, left-<, read-back, read-size}
+use Rattle.rounding.specs.laws.Order.{zs, <ℤ-≤, ≤ℤ-antisym}
+use Rattle.rounding.specs.laws.Code.{Code, arg, lit, Within, whole, ends, _▹_, unsigned, taken-<, left-<, read-back, read-size}
 use Rattle.sine_table.specs.Table.{S}
 use Rattle.shadow_geometry.specs.Direction.{quarter, direction}
-use Rattle.shadow_geometry.specs.DirectionLaws.{quarter-le, direction-first, direction-second, direction-third, direction-fourth, direction-none}
+use Rattle.shadow_geometry.specs.laws.DirectionLaws.{quarter-le, direction-first, direction-second, direction-third, direction-fourth, direction-none}
 use Rattle.shadow.proofs.directions.direction.Statement.{statement}
 use Rattle.shadow.proofs.directions.direction.Tie as tie
 

@@ -8,12 +8,12 @@ use mathlib.Core.Logic.{⊎-elim}
 use lib.IntN.{pos}
 use mir.Syntax.{w64}
 use mir.Val.{Fits}
-use Rattle.rounding.specs.Order.{zs}
+use Rattle.rounding.specs.laws.Order.{zs}
 use Rattle.sine_table.specs.Table.{S}
-use Rattle.sine_table.specs.TableLaws.{entry-0}
-use Rattle.sine_table.specs.Rising.{S-rises}
+use Rattle.sine_table.specs.laws.TableLaws.{entry-0}
+use Rattle.sine_table.specs.laws.Rising.{S-rises}
 use Rattle.shadow_geometry.specs.Direction.{Largest, quarter}
-use Rattle.shadow_geometry.specs.DirectionLaws.{largest-unique, quarter-is}
+use Rattle.shadow_geometry.specs.laws.DirectionLaws.{largest-unique, quarter-is}
 use Rattle.shadow.proofs.directions.quarter.Statement.{statement}
 use Rattle.shadow.proofs.directions.quarter.Tie as tie
 

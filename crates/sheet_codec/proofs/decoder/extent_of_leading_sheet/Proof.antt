@@ -2,12 +2,12 @@
 -- the sheet (`Counting`).
 use Rattle.sheet_codec.proofs.decoder.Counting.{Counting, count-refused, count-broken, count-end, count-more}
 use Rattle.sheet_codec.specs.Sheets.{storedAt, readSheet}
-use Rattle.sheet_codec.specs.SheetLaws.{read-start, extent-start}
+use Rattle.sheet_codec.specs.laws.SheetLaws.{read-start, extent-start}
 use Rattle.sheet_rules.specs.Rules.{inOrder, fieldsHold, afterOf, judgementOf}
-use Rattle.sheet_rules.specs.RuleLaws.{judged-next, judged-disorder, judged-unsound}
-use Rattle.sheet_format.specs.KindLaws.{kind-inv}
+use Rattle.sheet_rules.specs.laws.RuleLaws.{judged-next, judged-disorder, judged-unsound}
+use Rattle.sheet_format.specs.laws.KindLaws.{kind-inv}
 use Rattle.sheet_format.specs.declared.kinds.Progress.{Progress}
-use Rattle.sheet_format.specs.RecordLaws.{by-byte, by-kind, by-body, byte-inv, body-inv, read-plain, record-bounds}
+use Rattle.sheet_format.specs.laws.RecordLaws.{by-byte, by-kind, by-body, byte-inv, body-inv, read-plain, record-bounds}
 use Rattle.sheet_format.specs.Records.{byteAt, bodyAt, recordAt}
 use Rattle.sheet_format.specs.Kinds.{table, kindFor, sizeOf, isEnd, plain}
 use Rattle.sheet_format.specs.declared.kinds.Entry.{Entry}

@@ -3,7 +3,7 @@ use Rattle.sheet_codec.specs.Sheets.{extentOf, readWhole}
 use Rattle.sheet_codec.specs.declared.decoder.Extent.the-variants as X
 use lib.Dec.{ltb}
 use lib.ListN.{length}
-use Rattle.sheet_codec.specs.SheetLaws.{aloneX, whole-by}
+use Rattle.sheet_codec.specs.laws.SheetLaws.{aloneX, whole-by}
 use borrow.Author.Tests.{lt-ltb, le-ltb}
 use mathlib.Core.Path.{_≡_, sym, _∙_}
 use borrow.Author.Needs.{needs}

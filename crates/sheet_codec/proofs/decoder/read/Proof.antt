@@ -1,6 +1,6 @@
 -- `sheet_codec::decoder::read` meets its contract. Three ways out: refused, too little room, and filled; each is `readInto` and `roomAfter` at what was found.
 use Rattle.sheet_codec.proofs.decoder.Answers.{room-for, read-refused, read-short, read-full}
-use Rattle.sheet_codec.specs.SheetLaws.{whole-same}
+use Rattle.sheet_codec.specs.laws.SheetLaws.{whole-same}
 use Rattle.sheet_codec.specs.Sheets.{extentOf, readWhole}
 use Rattle.sheet_codec.specs.Passes.{filled}
 use Rattle.sheet_codec.specs.declared.decoder.Extent.the-variants as X

@@ -5,9 +5,9 @@ use Rattle.sheet_codec.proofs.decoder.Answers.{of-numbers, reading-star
 use Rattle.sheet_codec.specs.Sheets.{storedAt, readSheet}
 use Rattle.sheet_codec.specs.Passes.{filled}
 use Rattle.sheet_format.specs.RecordEntries.{numbersOf}
-use Rattle.sheet_format.specs.KindLaws.{kind-inv}
+use Rattle.sheet_format.specs.laws.KindLaws.{kind-inv}
 use lib.Seq.{sets}
-use Rattle.sheet_format.specs.RecordLaws.{by-byte, by-kind, by-body, byte-inv, body-inv, record-bounds}
+use Rattle.sheet_format.specs.laws.RecordLaws.{by-byte, by-kind, by-body, byte-inv, body-inv, record-bounds}
 use Rattle.sheet_format.specs.Records.{byteAt, bodyAt, recordAt}
 use Rattle.sheet_format.specs.Kinds.{codeOf, kindFor, sizeOf, isEnd}
 use Rattle.sheet_format.specs.declared.kinds.Entry.{Entry}

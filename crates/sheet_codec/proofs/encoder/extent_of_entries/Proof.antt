@@ -1,6 +1,6 @@
 -- `sheet_codec::encoder::extent_of_entries` meets its contract. What follows the end entry is refused as `alone` does; the list's length over four, rounded up, tells it.
-use Rattle.sheet_codec.specs.SheetLaws.{list-by}
-use Rattle.sheet_codec.specs.SheetLaws.{aloneX}
+use Rattle.sheet_codec.specs.laws.SheetLaws.{list-by}
+use Rattle.sheet_codec.specs.laws.SheetLaws.{aloneX}
 use Rattle.sheet_codec.specs.Handed.{listWhole}
 use Rattle.sheet_codec.specs.Sheets.{extentOf}
 use Rattle.sheet_codec.specs.declared.decoder.Extent.the-variants as X

@@ -1,8 +1,8 @@
 -- `sheet_codec::encoder::extent_of_leading_entries` meets its contract. As `extent_of_leading_sheet`, along the entries of the list.
 use Rattle.sheet_codec.proofs.decoder.Counting.{Counting, count-refused, count-broken, count-end, count-more}
 use Rattle.sheet_codec.specs.Handed.{handedAt, listSheet}
-use Rattle.sheet_codec.specs.SheetLaws.{list-start, extent-start}
-use Rattle.sheet_codec.specs.HandedLaws.{handed-bounds}
+use Rattle.sheet_codec.specs.laws.SheetLaws.{list-start, extent-start}
+use Rattle.sheet_codec.specs.laws.HandedLaws.{handed-bounds}
 use Rattle.sheet_codec.specs.Passes.{refusedOf, brokenOf}
 use Rattle.sheet_rules.specs.Rules.{judgedAs, judgementOf}
 use Rattle.sheet_format.specs.declared.records.Record.the-variants.{Is}

@@ -1,6 +1,6 @@
 -- `sheet_codec::encoder::write` meets its contract. Three ways out: refused, a short buffer, and written; each is `writeInto` and `bufferAfterList` at what was found.
 use Rattle.sheet_codec.proofs.decoder.Answers.{buffer-for, write-refused, write-short, write-full}
-use Rattle.sheet_codec.specs.SheetLaws.{list-same}
+use Rattle.sheet_codec.specs.laws.SheetLaws.{list-same}
 use Rattle.sheet_codec.specs.RoundTrip.{list-length}
 use Rattle.sheet_codec.specs.Handed.{listWhole}
 use Rattle.sheet_codec.specs.Sheets.{extentOf}

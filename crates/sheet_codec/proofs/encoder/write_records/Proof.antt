@@ -2,10 +2,10 @@
 use Rattle.sheet_codec.proofs.decoder.Passing.{Passing, pass-never, pass-fits, pass-end, pass-more}
 use Rattle.sheet_codec.proofs.decoder.Answers.{of-bytes, writing-starts}
 use Rattle.sheet_codec.specs.Handed.{handedAt, listSheet}
-use Rattle.sheet_codec.specs.HandedLaws.{handed-bounds}
+use Rattle.sheet_codec.specs.laws.HandedLaws.{handed-bounds}
 use Rattle.sheet_codec.specs.Passes.{emitted}
 use Rattle.sheet_format.specs.RecordEntries.{bytesOf}
-use Rattle.sheet_format.specs.EntryLaws.{length-bytes}
+use Rattle.sheet_format.specs.laws.EntryLaws.{length-bytes}
 use Rattle.sheet_format.specs.Kinds.{sizeOf}
 use Rattle.sheet_format.specs.declared.records.Record.the-variants.{Is}
 use lib.ListN.{length}

@@ -1,6 +1,6 @@
 -- `sheet_format::kinds::kind_for` meets its contract. At a literal `kindFor` computes; a phase's four are its first and what stands behind it; else the
 -- number is none of them.
-use Rattle.sheet_format.specs.KindLaws.{no-kind}
+use Rattle.sheet_format.specs.laws.KindLaws.{no-kind}
 use Rattle.sheet_format.specs.Kinds.{base, kindFor}
 use Rattle.sheet_types.specs.declared.phases.Phase.{Phase}
 use Rattle.sheet_types.specs.declared.phases.Phase.the-variants.{Penumbra, Central, Star}

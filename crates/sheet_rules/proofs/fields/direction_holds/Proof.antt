@@ -1,5 +1,5 @@
 -- `sheet_rules::fields::direction_holds` meets its contract. An angle holds whatever the kind (`angle-holds`); else only 65,535 does.
-use Rattle.sheet_rules.specs.Fields.{angle-holds}
+use Rattle.sheet_rules.specs.laws.Fields.{angle-holds}
 use borrow.Author.Tests.{le-leb, lt-leb}
 use mathlib.Core.Path.{sym}
 use borrow.Author.Needs.{needs}

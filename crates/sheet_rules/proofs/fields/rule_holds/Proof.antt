@@ -1,5 +1,5 @@
 -- `sheet_rules::fields::rule_holds` meets its contract. Each arm is the rule of its stage, and that is the kind's (`rule-by`).
-use Rattle.sheet_rules.specs.Fields.{rule-by}
+use Rattle.sheet_rules.specs.laws.Fields.{rule-by}
 use mathlib.Core.Path.{sym, _∙_}
 use borrow.Author.Needs.{needs}
 use Rattle.sheet_rules.proofs.fields.rule_holds.Statement.{statement}

@@ -1,5 +1,5 @@
 -- `sheet_rules::order::repeats` meets its contract. Two crossings are the same if their numbers are (`repeats-number`).
-use Rattle.sheet_rules.specs.OrderLaws.{repeats-number}
+use Rattle.sheet_rules.specs.laws.OrderLaws.{repeats-number}
 use borrow.Author.Needs.{needs}
 use Rattle.sheet_rules.proofs.order.repeats.Statement.{statement}
 use Rattle.sheet_rules.proofs.order.repeats.Tie as tie

@@ -1,5 +1,5 @@
 -- `sheet_rules::rules::after` meets its contract. Each arm is how far its stage comes, and that is the kind's (`after-by`).
-use Rattle.sheet_rules.specs.Stages.{after-by}
+use Rattle.sheet_rules.specs.laws.Stages.{after-by}
 use mathlib.Core.Path.{sym, _∙_}
 use borrow.Author.Needs.{needs}
 use Rattle.sheet_rules.proofs.rules.after.Statement.{statement}

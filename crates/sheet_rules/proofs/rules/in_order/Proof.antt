@@ -1,5 +1,5 @@
 -- `sheet_rules::rules::in_order` meets its contract. Each arm is the order of its stage, and that is the kind's (`order-by`).
-use Rattle.sheet_rules.specs.Stages.{order-by}
+use Rattle.sheet_rules.specs.laws.Stages.{order-by}
 use mathlib.Core.Path.{sym, _∙_}
 use borrow.Author.Needs.{needs}
 use Rattle.sheet_rules.proofs.rules.in_order.Statement.{statement}

@@ -3,7 +3,7 @@
 use borrow.Author.Needs.{needs}
 use native.Mathlib.Omega.{arith}
 use mathlib.Core.Path.{sym, _∙_}
-use Rattle.sine.specs.SineLaws.{sine-above, cosine-above}
+use Rattle.sine.specs.laws.SineLaws.{sine-above, cosine-above}
 use Rattle.sine.proofs.Values.{is-sine, is-cosine, kept, minus-fits, minus}
 use Prim.Native.Nat.{ℕ, _<_}
 use borrow.Fn.Kinds.{In}

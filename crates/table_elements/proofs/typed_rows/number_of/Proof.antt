@@ -1,6 +1,6 @@
 -- `table_elements::typed_rows::number_of` meets its contract: what stands after the minus decides.
 use Rattle.table_elements.specs.NumberLaws.{number-none, number-other, number-large, number-is}
-use Rattle.rounding.specs.Code.{read-result}
+use Rattle.rounding.specs.laws.Code.{read-result}
 use borrow.Author.Tests.{not-true, not-false}
 use mathlib.Core.Path.{_∙_, sym}
 use native.Mathlib.Omega.{arith}

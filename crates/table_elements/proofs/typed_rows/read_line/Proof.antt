@@ -1,6 +1,6 @@
 -- `table_elements::typed_rows::read_line` meets its contract: the words before byte `at` are taken, and their numbers stored.
 use Rattle.table_elements.specs.NumberLaws.{number-size}
-use Rattle.rounding.specs.Code.{read-back}
+use Rattle.rounding.specs.laws.Code.{read-back}
 use borrow.Author.Needs.{needs}
 use Rattle.table_elements.specs.ReadingLaws.{Taking, taking-start, word-within, taking-end, taking-faulty, taking-more, taking-turn}
 use lib.Seq.{length-take-le}

@@ -1,5 +1,5 @@
 -- `table_elements::typed_rows::with_sign` meets its contract: a number below 2^63 has its opposite in 64 bits.
-use Rattle.rounding.specs.Code.{Code, arg, lit, sub, Within, raw, ends, _▹_, fits, runs, count-is, count-size}
+use Rattle.rounding.specs.laws.Code.{Code, arg, lit, sub, Within, raw, ends, _▹_, fits, runs, count-is, count-size}
 use lib.IntN.{ℤ, pos, _-ℤ_}
 use borrow.Author.Tests.{eq-eqb, ne-eqb}
 use Prim.Native.Nat.{ℕ, _≤_}

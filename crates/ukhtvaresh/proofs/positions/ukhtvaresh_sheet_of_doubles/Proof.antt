@@ -3,7 +3,7 @@ use borrow.Author.Needs.{needs}
 use Rattle.requests.specs.Requests.{ofEclipse}
 use Rattle.float_requests.specs.Survey.{requestOf}
 use Rattle.float_requests.specs.Handed.{surveyOf}
-use Rattle.ukhtvaresh.specs.SheetLaws.{replied}
+use Rattle.ukhtvaresh.specs.laws.SheetLaws.{replied}
 use Rattle.ukhtvaresh.proofs.positions.ukhtvaresh_sheet_of_doubles.Statement.{statement}
 use Rattle.ukhtvaresh.proofs.positions.ukhtvaresh_sheet_of_doubles.Tie as tie
 

@@ -10,7 +10,7 @@ use Rattle.obscuration.specs.Answer.{shareBy}
 use Rattle.obscuration.specs.AnswerLaws.{AnsweredSizes}
 use Rattle.request_answers.specs.Second.{wish, secondAsked, sinesAsked}
 use Rattle.ukhtvaresh.specs.Shares.{shareReply}
-use Rattle.request_answers.specs.ShareLaws.{asked-sizes, asked-means}
+use Rattle.request_answers.specs.laws.ShareLaws.{asked-sizes, asked-means}
 use Rattle.ukhtvaresh.proofs.shares.ukhtvaresh_share.Statement.{statement}
 use Rattle.ukhtvaresh.proofs.shares.ukhtvaresh_share.Tie as tie
 

@@ -3,7 +3,7 @@ use borrow.Author.Needs.{needs}
 use Rattle.requests.specs.Requests.{ofEclipse}
 use Rattle.requests.specs.Shares.{withShare}
 use Rattle.request_format.specs.Input.{requestOf}
-use Rattle.ukhtvaresh.specs.SheetLaws.{replied}
+use Rattle.ukhtvaresh.specs.laws.SheetLaws.{replied}
 use Rattle.ukhtvaresh.proofs.shares.ukhtvaresh_sheet_and_share.Statement.{statement}
 use Rattle.ukhtvaresh.proofs.shares.ukhtvaresh_sheet_and_share.Tie as tie
 

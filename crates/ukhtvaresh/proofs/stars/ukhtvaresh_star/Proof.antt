@@ -2,7 +2,7 @@
 use borrow.Author.Needs.{needs}
 use Rattle.requests.specs.Requests.{ofStar}
 use Rattle.request_format.specs.Input.{starRequestOf}
-use Rattle.ukhtvaresh.specs.SheetLaws.{replied}
+use Rattle.ukhtvaresh.specs.laws.SheetLaws.{replied}
 use Rattle.ukhtvaresh.proofs.stars.ukhtvaresh_star.Statement.{statement}
 use Rattle.ukhtvaresh.proofs.stars.ukhtvaresh_star.Tie as tie
 

@@ -42,7 +42,7 @@ use Rattle.clock_network.specs.declared.stations.Node.{Node}
 use Rattle.clock_network.specs.declared.stations.Held.{Held}
 use Rattle.clock_network.specs.Held.{least64, heldOf}
 use Rattle.clock_network.specs.Nodes.{Holds}
-use Rattle.clock_network.specs.HeldLaws.{held-holds}
+use Rattle.clock_network.specs.laws.HeldLaws.{held-holds}
 use Rattle.networks.specs.Network.{answerTo, sinesFor, stepsFor}
 use Rattle.ukhtvaresh.specs.NetworkReply.{networkReply, Told}
 use Rattle.clock_network.proofs.stations.Node as T

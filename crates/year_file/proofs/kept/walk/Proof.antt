@@ -4,7 +4,7 @@ use mathlib.Core.Path.{_≡_, sym, _∙_}
 use native.Mathlib.Omega.{arith}
 use lib.ListN.{length}
 use borrow.Author.Needs.{needs}
-use Rattle.year_file.specs.WalkLaws.{Walking, walking-start, walking-lose, walking-bounds, walking-keep, walking-kept, walking-noted}
+use Rattle.year_file.specs.laws.WalkLaws.{Walking, walking-start, walking-lose, walking-bounds, walking-keep, walking-kept, walking-noted}
 use Rattle.year_file.proofs.kept.walk.Statement.{statement}
 use Rattle.year_file.proofs.kept.walk.Tie as tie
 

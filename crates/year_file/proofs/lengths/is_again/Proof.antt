@@ -3,8 +3,8 @@ use Prim.Native.Nat.{_-_}
 use mathlib.Core.Path.{sym}
 use native.Mathlib.Omega.{arith}
 use borrow.Author.Tests.{not-false}
-use Rattle.rounding.specs.Tests.{distinct}
-use Rattle.year_file.specs.Repeats.{Again, again-none}
+use Rattle.rounding.specs.laws.Tests.{distinct}
+use Rattle.year_file.specs.laws.Repeats.{Again, again-none}
 use borrow.Author.Needs.{needs}
 use Rattle.year_file.proofs.lengths.is_again.Statement.{statement}
 use Rattle.year_file.proofs.lengths.is_again.Tie as tie

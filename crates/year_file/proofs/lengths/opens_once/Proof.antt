@@ -3,7 +3,7 @@ use mathlib.Core.Path.{sym, ap, _∙_}
 use native.Mathlib.Omega.{arith}
 use borrow.Author.Tests.{eqb-true}
 use Rattle.sheet_format.specs.declared.kinds.Named.the-variants as Named
-use Rattle.rounding.specs.Tests.{distinct}
+use Rattle.rounding.specs.laws.Tests.{distinct}
 use borrow.Author.Needs.{needs}
 use Rattle.year_file.proofs.lengths.opens_once.Statement.{statement}
 use Rattle.year_file.proofs.lengths.opens_once.Tie as tie

@@ -4,7 +4,7 @@ use mathlib.Core.Path.{_≡_, refl, sym}
 use native.Mathlib.Omega.{arith}
 use native.Mathlib.Decide.{decLt}
 use lib.ListN.{getD}
-use Rattle.rounding.specs.Tests.{distinct}
+use Rattle.rounding.specs.laws.Tests.{distinct}
 use Rattle.year_file.proofs.lengths.same_before.Statement.{statement}
 use Rattle.year_file.proofs.lengths.same_before.Tie as tie
 

@@ -2,7 +2,7 @@
 use mathlib.Core.Path.{sym, _∙_}
 use native.Mathlib.Omega.{arith}
 use borrow.Author.Needs.{needs}
-use Rattle.local_circumstances.specs.Lengths.{shared-length, plain-length}
+use Rattle.local_circumstances.specs.laws.Lengths.{shared-length, plain-length}
 use Rattle.local_circumstances.specs.Course.{courseOf}
 use Rattle.circumstances.proofs.writing.lengths.closing_length.Statement.{statement}
 use Rattle.circumstances.proofs.writing.lengths.closing_length.Tie as tie

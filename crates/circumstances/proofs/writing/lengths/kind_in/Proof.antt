@@ -1,7 +1,7 @@
 -- `circumstances::writing::lengths::kind_in` meets its contract: arm by arm. Assumes nothing.
 use mathlib.Core.Path.{sym, ap}
 use borrow.Author.Needs.{needs}
-use Rattle.local_circumstances.specs.Lengths.{kindIn}
+use Rattle.local_circumstances.specs.laws.Lengths.{kindIn}
 use Rattle.circumstances.proofs.writing.lengths.kind_in.Statement.{statement}
 use Rattle.circumstances.proofs.writing.lengths.kind_in.Tie as tie
 

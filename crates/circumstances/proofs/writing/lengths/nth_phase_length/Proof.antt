@@ -9,9 +9,9 @@ use Rattle.sheet_types.specs.declared.phases.Phase.{Phase}
 use Rattle.sheet_types.specs.declared.phases.Phase.the-variants.{Penumbra}
 use Rattle.shadow_geometry.specs.Shadow.{phasesOf}
 use Rattle.requests.specs.WindowLaws.{seconds-few}
-use Rattle.seconds.specs.SecondLaws.{states-length}
+use Rattle.seconds.specs.laws.SecondLaws.{states-length}
 use Rattle.contacts.specs.Entries.{entries}
-use Rattle.local_circumstances.specs.Lengths.{bytesNeeded}
+use Rattle.local_circumstances.specs.laws.Lengths.{bytesNeeded}
 use Rattle.circumstances.proofs.writing.lengths.nth_phase_length.Statement.{statement}
 use Rattle.circumstances.proofs.writing.lengths.nth_phase_length.Tie as tie
 

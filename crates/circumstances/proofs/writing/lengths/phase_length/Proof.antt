@@ -7,9 +7,9 @@ use lib.ListN.{length}
 use Rattle.contacts.specs.Entries.{entries}
 use Rattle.run_length.specs.Runs.{decoded}
 use Rattle.contacts.specs.Step.{entriesFrom, At}
-use Rattle.contacts.specs.StepLaws.{all-at-start, at-start, Took, took, none-left}
+use Rattle.contacts.specs.laws.StepLaws.{all-at-start, at-start, Took, took, none-left}
 use Rattle.sheet_format.specs.Kinds.{sizeOf}
-use Rattle.local_circumstances.specs.Lengths.{bytesNeeded, needed-nil, needed-cons}
+use Rattle.local_circumstances.specs.laws.Lengths.{bytesNeeded, needed-nil, needed-cons}
 use Rattle.circumstances.proofs.writing.lengths.phase_length.Statement.{statement}
 use Rattle.circumstances.proofs.writing.lengths.phase_length.Tie as tie
 

@@ -9,13 +9,13 @@ use lib.Seq.{take-length}
 use Rattle.sheet_types.specs.declared.phases.Phase.{Phase}
 use Rattle.sheet_types.specs.declared.phases.Phase.the-variants.{Penumbra}
 use Rattle.shadow_geometry.specs.Shadow.{phasesOf}
-use Rattle.sheet_types.specs.PhaseLaws.{phases-more}
-use Rattle.shadow.specs.SecondLaws.{phases-few}
+use Rattle.sheet_types.specs.laws.PhaseLaws.{phases-more}
+use Rattle.shadow.specs.laws.SecondLaws.{phases-few}
 use Rattle.requests.specs.declared.Occultation.{Occultation}
 use Rattle.sheet_format.specs.RecordEntries.{bytesOf}
-use Rattle.sheet_format.specs.EntryLaws.{bytes-nil}
+use Rattle.sheet_format.specs.laws.EntryLaws.{bytes-nil}
 use Rattle.local_circumstances.specs.Courses.{statesOf, entriesOf}
-use Rattle.local_circumstances.specs.Lengths.{more-length}
+use Rattle.local_circumstances.specs.laws.Lengths.{more-length}
 use Rattle.local_circumstances.specs.Course.{courseOf}
 use Rattle.circumstances.proofs.writing.lengths.phases_length.Statement.{statement}
 use Rattle.circumstances.proofs.writing.lengths.phases_length.Tie as tie

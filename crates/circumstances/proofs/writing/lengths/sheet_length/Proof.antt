@@ -1,7 +1,7 @@
 -- `circumstances::writing::lengths::sheet_length` meets its contract: the three parts' lengths are the sheet's. Assumes nothing.
 use native.Mathlib.Omega.{arith}
 use borrow.Author.Needs.{needs}
-use Rattle.local_circumstances.specs.Lengths.{sheet-length}
+use Rattle.local_circumstances.specs.laws.Lengths.{sheet-length}
 use Rattle.local_circumstances.specs.Course.{courseOf}
 use Rattle.circumstances.specs.WrittenSheet.{sheetBytes}
 use Rattle.circumstances.proofs.writing.lengths.sheet_length.Statement.{statement}

@@ -10,11 +10,11 @@ use lib.IntN.{ℤ, pos}
 use lib.ListN.{length, getD, drop, set, length-set}
 use lib.Seq.{paste, paste-suc, take-all}
 use lib.Ieee.{Float, nan}
-use Rattle.rounding.specs.Code.{read-back, read-size}
+use Rattle.rounding.specs.laws.Code.{read-back, read-size}
 use Rattle.binary64.specs.Doubles.{doubleOf}
 use Rattle.float_requests.specs.Instrument.{scales}
 use Rattle.float_requests.specs.Writing.{doublesIn}
-use Rattle.float_requests.specs.ScaleLaws.{scale-in, doubles-at, doubles-length}
+use Rattle.float_requests.specs.laws.ScaleLaws.{scale-in, doubles-at, doubles-length}
 use Rattle.float_requests.proofs.instrument.writing.fill.Statement.{statement}
 use Rattle.float_requests.proofs.instrument.writing.fill.Tie as tie
 

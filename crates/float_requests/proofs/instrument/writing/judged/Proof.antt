@@ -3,11 +3,11 @@ use mathlib.Core.Path.{_≡_, sym, ap, _∙_}
 use borrow.Author.Needs.{needs}
 use lib.IntN.{pos}
 use lib.ListN.{getD}
-use Rattle.rounding.specs.Code.{read-result}
+use Rattle.rounding.specs.laws.Code.{read-result}
 use Rattle.sheet_types.specs.declared.refusals.Checked.the-variants as C
 use Rattle.elements.specs.Elements.{elementsOf, elementsChecked}
 use Rattle.float_requests.specs.Writing.{longitudeChecked}
-use Rattle.float_requests.specs.WritingLaws.{answer-shape, answer-element, answer-longitude, answer-room, answer-made}
+use Rattle.float_requests.specs.laws.WritingLaws.{answer-shape, answer-element, answer-longitude, answer-room, answer-made}
 use Rattle.float_requests.proofs.instrument.writing.judged.Statement.{statement}
 use Rattle.float_requests.proofs.instrument.writing.judged.Tie as tie
 

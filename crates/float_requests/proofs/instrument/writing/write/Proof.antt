@@ -2,7 +2,7 @@
 use mathlib.Core.Path.{sym, _∙_}
 use borrow.Author.Needs.{needs}
 use lib.ListN.{length}
-use Rattle.float_requests.specs.WritingLaws.{made-good, after-made, after-refused}
+use Rattle.float_requests.specs.laws.WritingLaws.{made-good, after-made, after-refused}
 use Rattle.float_requests.proofs.instrument.writing.write.Statement.{statement}
 use Rattle.float_requests.proofs.instrument.writing.write.Tie as tie
 

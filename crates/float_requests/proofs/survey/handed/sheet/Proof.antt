@@ -1,7 +1,7 @@
 -- `float_requests::survey::handed::sheet` meets its contract: the survey's own sheet; a shape that is refused leaves room and buffer alone. Assumes nothing.
 use mathlib.Core.Path.{sym, _∙_}
 use borrow.Author.Needs.{needs}
-use Rattle.float_requests.specs.HandedLaws.{of-survey, of-refusal}
+use Rattle.float_requests.specs.laws.HandedLaws.{of-survey, of-refusal}
 use Rattle.float_requests.proofs.survey.handed.sheet.Statement.{statement}
 use Rattle.float_requests.proofs.survey.handed.sheet.Tie as tie
 

@@ -1,7 +1,7 @@
 -- `float_requests::survey::handed::survey` meets its contract: the shape, then the survey. Assumes nothing.
 use mathlib.Core.Path.{sym, ap, _∙_}
 use Rattle.float_requests.specs.declared.survey.handed.Handed.the-variants as H
-use Rattle.float_requests.specs.HandedLaws.{not-22, not-7, not-marked, of-shape}
+use Rattle.float_requests.specs.laws.HandedLaws.{not-22, not-7, not-marked, of-shape}
 use borrow.Author.Needs.{needs}
 use Rattle.float_requests.proofs.survey.handed.survey.Statement.{statement}
 use Rattle.float_requests.proofs.survey.handed.survey.Tie as tie

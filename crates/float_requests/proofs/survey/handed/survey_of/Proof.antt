@@ -1,7 +1,7 @@
 -- `float_requests::survey::handed::survey_of` meets its contract: each number read back from its bits. Assumes nothing.
-use Rattle.rounding.specs.Code.{read-result}
+use Rattle.rounding.specs.laws.Code.{read-result}
 use Rattle.float_requests.specs.Handed.{number}
-use Rattle.float_requests.specs.HandedLaws.{by-parts}
+use Rattle.float_requests.specs.laws.HandedLaws.{by-parts}
 use borrow.Author.Needs.{needs}
 use Rattle.float_requests.proofs.survey.handed.survey_of.Statement.{statement}
 use Rattle.float_requests.proofs.survey.handed.survey_of.Tie as tie

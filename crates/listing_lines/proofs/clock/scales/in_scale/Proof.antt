@@ -1,6 +1,6 @@
 -- `listing_lines::clock::scales::in_scale` meets its contract: each way out is the table's place for the two scales.
 use mathlib.Core.List.{List, [], _∷_}
-use Rattle.rounding.specs.Code.{Code, arg, add, sub, Slot, Within, whole, value, ends, _▹_, fits, runs, within}
+use Rattle.rounding.specs.laws.Code.{Code, arg, add, sub, Slot, Within, whole, value, ends, _▹_, fits, runs, within}
 use borrow.Author.Needs.{needs}
 use Rattle.listing_lines.proofs.clock.scales.in_scale.Statement.{statement}
 use Rattle.listing_lines.proofs.clock.scales.in_scale.Tie as tie

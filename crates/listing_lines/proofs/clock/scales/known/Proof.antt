@@ -5,8 +5,8 @@ use lib.Signed.{_≤ℤ_, _<ℤ_}
 use mir.Syntax.{w64}
 use mir.Val.{toZ, ofZ}
 use mir.ValLaws.{toZ-ofZ}
-use Rattle.rounding.specs.Order.{ltZ-true, ltZ-false}
-use Rattle.listing_lines.specs.ClockLaws.{known-below, known-above, known-within}
+use Rattle.rounding.specs.laws.Order.{ltZ-true, ltZ-false}
+use Rattle.listing_lines.specs.laws.ClockLaws.{known-below, known-above, known-within}
 use Rattle.listing_lines.proofs.clock.scales.known.Statement.{statement}
 use Rattle.listing_lines.proofs.clock.scales.known.Tie as tie
 

@@ -4,8 +4,8 @@ use mathlib.Core.List.{[], _∷_}
 use Prim.Native.Nat.{_%_, _≤_}
 use native.Mathlib.Omega.{arith}
 use lib.IntN.{ℤ, pos, natAbs, _+ℤ_, _*ℤ_}
-use Rattle.rounding.specs.Order.{natAbs-minus}
-use Rattle.rounding.specs.Code.{Code, arg, lit, add, mul, Within, raw, whole, ends, _▹_, fits, runs, within, count-is, count-size}
+use Rattle.rounding.specs.laws.Order.{natAbs-minus}
+use Rattle.rounding.specs.laws.Code.{Code, arg, lit, add, mul, Within, raw, whole, ends, _▹_, fits, runs, within, count-is, count-size}
 use Rattle.listing_lines.specs.Clock.{own}
 use borrow.Author.Needs.{needs}
 use Rattle.listing_lines.proofs.clock.scales.own.Statement.{statement}

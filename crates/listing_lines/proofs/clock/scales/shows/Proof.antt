@@ -7,7 +7,7 @@ use lib.Signed.{leZ}
 use mir.Syntax.{w64}
 use mir.Val.{toZ, ofZ}
 use mir.ValLaws.{toZ-ofZ}
-use Rattle.rounding.specs.Code.{read-result}
+use Rattle.rounding.specs.laws.Code.{read-result}
 use borrow.Author.Needs.{needs}
 use Rattle.listing_lines.proofs.clock.scales.shows.Statement.{statement}
 use Rattle.listing_lines.proofs.clock.scales.shows.Tie as tie

@@ -4,7 +4,7 @@ use mir.Syntax.{w64}
 use mir.Val.{toZ, ofZ}
 use mir.ValLaws.{toZ-ofZ}
 use lib.IntN.{ℤ}
-use Rattle.rounding.specs.Code.{read-result}
+use Rattle.rounding.specs.laws.Code.{read-result}
 use Rattle.listing_lines.specs.Clock.{inScale, timeIn}
 use borrow.Author.Needs.{needs}
 use Rattle.listing_lines.proofs.clock.scales.time_in.Statement.{statement}

@@ -5,7 +5,7 @@ use borrow.Author.Needs.{needs}
 use Rattle.requests.specs.Requests.{ofStar}
 use Rattle.request_format.specs.declared.fields.Shape.the-variants.{Star}
 use Rattle.request_format.specs.declared.input.Asked.the-variants as A
-use Rattle.request_format.specs.InputLaws.{Held, held, star-held, star-refused}
+use Rattle.request_format.specs.laws.InputLaws.{Held, held, star-held, star-refused}
 use Rattle.request_format.proofs.input.stars.asked.Statement.{statement}
 use Rattle.request_format.proofs.input.stars.asked.Tie as tie
 

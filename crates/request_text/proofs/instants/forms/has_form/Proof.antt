@@ -5,7 +5,7 @@ use native.Mathlib.Omega.{arith}
 use borrow.Author.Needs.{needs}
 use borrow.Author.Tests.{not-true, not-false}
 use lib.ListN.{length}
-use Rattle.request_text.specs.FormLaws.{Fitting, form-short, fitting-start, fitting-not, fitting-more, fitting-all}
+use Rattle.request_text.specs.laws.FormLaws.{Fitting, form-short, fitting-start, fitting-not, fitting-more, fitting-all}
 use Rattle.request_text.proofs.instants.forms.has_form.Statement.{statement}
 use Rattle.request_text.proofs.instants.forms.has_form.Tie as tie
 

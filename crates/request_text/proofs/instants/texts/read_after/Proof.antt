@@ -4,7 +4,7 @@ use Prim.Native.Nat.{_≤_}
 use native.Mathlib.Omega.{arith}
 use lib.ListN.{length}
 use Rattle.request_text.specs.Instants.{instantOf}
-use Rattle.request_text.specs.ToldLaws.{name-within, after-name}
+use Rattle.request_text.specs.laws.ToldLaws.{name-within, after-name}
 use borrow.Author.Needs.{needs}
 use Rattle.request_text.proofs.instants.texts.read_after.Statement.{statement}
 use Rattle.request_text.proofs.instants.texts.read_after.Tie as tie

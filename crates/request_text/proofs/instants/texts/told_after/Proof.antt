@@ -1,6 +1,6 @@
 -- `request_text::instants::texts::told_after` meets its contract: a fault stays; a line that names the instant is read. Assumes nothing.
 use mathlib.Core.Path.{sym, _∙_}
-use Rattle.request_text.specs.ToldLaws.{told-given, told-same}
+use Rattle.request_text.specs.laws.ToldLaws.{told-given, told-same}
 use borrow.Author.Needs.{needs}
 use Rattle.request_text.proofs.instants.texts.told_after.Statement.{statement}
 use Rattle.request_text.proofs.instants.texts.told_after.Tie as tie

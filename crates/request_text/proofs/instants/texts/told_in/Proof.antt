@@ -6,8 +6,8 @@ use borrow.Author.Needs.{needs}
 use lib.ListN.{length, drop}
 use Rattle.tokens.specs.declared.Class.the-variants as C
 use Rattle.tokens.specs.Text.{runOf}
-use Rattle.tokens.specs.TextLaws.{rest-is, line-within}
-use Rattle.request_text.specs.ToldLaws.{Walked, walked-none, walked-all, walked-more}
+use Rattle.tokens.specs.laws.TextLaws.{rest-is, line-within}
+use Rattle.request_text.specs.laws.ToldLaws.{Walked, walked-none, walked-all, walked-more}
 use Rattle.request_text.proofs.instants.texts.told_in.Statement.{statement}
 use Rattle.request_text.proofs.instants.texts.told_in.Tie as tie
 

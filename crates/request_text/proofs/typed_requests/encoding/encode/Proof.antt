@@ -1,5 +1,5 @@
 -- `request_text::typed_requests::encoding::encode` meets its contract: by the shape. Assumes nothing.
-use Rattle.request_text.specs.EncodedLaws.{encoded-as}
+use Rattle.request_text.specs.laws.EncodedLaws.{encoded-as}
 use borrow.Author.Needs.{needs}
 use Rattle.request_text.proofs.typed_requests.encoding.encode.Statement.{statement}
 use Rattle.request_text.proofs.typed_requests.encoding.encode.Tie as tie

@@ -3,7 +3,7 @@
 use mathlib.Core.Path.{sym}
 use native.Mathlib.Omega.{arith}
 use Rattle.request_format.specs.declared.fields.Shape.the-variants as S
-use Rattle.request_text.specs.EncodedLaws.{Made, made-is, numbers-put, refused-kept}
+use Rattle.request_text.specs.laws.EncodedLaws.{Made, made-is, numbers-put, refused-kept}
 use borrow.Author.Needs.{needs}
 use Rattle.request_text.proofs.typed_requests.encoding.encode_eclipse.Statement.{statement}
 use Rattle.request_text.proofs.typed_requests.encoding.encode_eclipse.Tie as tie

@@ -1,6 +1,6 @@
 -- `request_text::typed_requests::messages::put_instant` meets its contract: part after part (`put-parts`). Assumes nothing.
 use native.Mathlib.Omega.{arith}
-use Rattle.request_text.specs.TypedMessageLaws.{put-parts}
+use Rattle.request_text.specs.laws.TypedMessageLaws.{put-parts}
 use borrow.Author.Needs.{needs}
 use Rattle.request_text.proofs.typed_requests.messages.put_instant.Statement.{statement}
 use Rattle.request_text.proofs.typed_requests.messages.put_instant.Tie as tie

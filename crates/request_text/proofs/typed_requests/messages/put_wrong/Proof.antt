@@ -1,5 +1,5 @@
 -- `request_text::typed_requests::messages::put_wrong` meets its contract: each fault has its text. Assumes nothing.
-use Rattle.request_text.specs.TypedMessageLaws.{put-wrong}
+use Rattle.request_text.specs.laws.TypedMessageLaws.{put-wrong}
 use borrow.Author.Needs.{needs}
 use Rattle.request_text.proofs.typed_requests.messages.put_wrong.Statement.{statement}
 use Rattle.request_text.proofs.typed_requests.messages.put_wrong.Tie as tie

@@ -5,7 +5,7 @@ use Prim.Native.Nat.{_≤_}
 use native.Mathlib.Omega.{arith}
 use borrow.Author.Needs.{needs}
 use lib.IntN.{ℤ, pos, _-ℤ_}
-use Rattle.rounding.specs.Code.{Code, arg, lit, sub, Within, raw, ends, _▹_, fits, runs, count-is, count-size}
+use Rattle.rounding.specs.laws.Code.{Code, arg, lit, sub, Within, raw, ends, _▹_, fits, runs, count-is, count-size}
 use Rattle.sheet_format.proofs.kinds.seconds.second_of.Statement.{statement}
 use Rattle.sheet_format.proofs.kinds.seconds.second_of.Tie as tie
 

@@ -5,10 +5,10 @@ use native.Mathlib.Omega.{arith}
 use lib.IntN.{pos, negℤ, natAbs, _+ℤ_}
 use lib.Signed.{_≤ℤ_}
 use Rattle.rounding.specs.Parts.{sum, opposite}
-use Rattle.rounding.specs.Order.{zs, neg-natAbs}
-use Rattle.rounding.specs.Code.{Code, arg, lit, add, run, Within, whole, ends, _▹_, fits, runs, within, unsigned}
+use Rattle.rounding.specs.laws.Order.{zs, neg-natAbs}
+use Rattle.rounding.specs.laws.Code.{Code, arg, lit, add, run, Within, whole, ends, _▹_, fits, runs, within, unsigned}
 use Rattle.sheet_format.specs.StoredSeconds.{stored}
-use Rattle.sheet_format.specs.StoredSecondLaws.{stored-is}
+use Rattle.sheet_format.specs.laws.StoredSecondLaws.{stored-is}
 use Rattle.sheet_format.proofs.kinds.seconds.store_second.Statement.{statement}
 use Rattle.sheet_format.proofs.kinds.seconds.store_second.Tie as tie
 

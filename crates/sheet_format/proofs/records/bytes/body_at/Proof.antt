@@ -1,7 +1,7 @@
 -- `sheet_format::records::bytes::body_at` meets its contract. A body that the input does not hold is cut; of one that it holds the numbers are there as
 -- far as its kind goes (`there`), and are the entry's (`entry-made`).
-use Rattle.sheet_format.specs.RecordLaws.{body-cut, body-whole}
-use Rattle.sheet_format.specs.Bodies.{entry-made}
+use Rattle.sheet_format.specs.laws.RecordLaws.{body-cut, body-whole}
+use Rattle.sheet_format.specs.laws.Bodies.{entry-made}
 use Rattle.sheet_format.specs.declared.records.Body.the-variants as Body
 use Rattle.sheet_format.specs.Kinds.{sizeOf}
 use lib.Dec.{leb}

@@ -1,5 +1,5 @@
 -- `sheet_format::records::bytes::is_cut` meets its contract. No kind has more than nine bytes (`size-nine`).
-use Rattle.sheet_format.specs.KindLaws.{size-nine}
+use Rattle.sheet_format.specs.laws.KindLaws.{size-nine}
 use Rattle.sheet_format.specs.Kinds.{sizeOf}
 use mathlib.Core.Path.{sym}
 use borrow.Author.Tests.{le-ltb}

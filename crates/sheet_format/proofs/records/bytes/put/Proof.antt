@@ -1,5 +1,5 @@
 -- `sheet_format::records::bytes::put` meets its contract. The kind's byte and the four numbers, each behind the one before it, are the entry's bytes (`put-bytes`).
-use Rattle.sheet_format.specs.EntryLaws.{put-bytes}
+use Rattle.sheet_format.specs.laws.EntryLaws.{put-bytes}
 use Rattle.sheet_format.specs.Kinds.{bytesIn}
 use lib.ListN.{length, length-set}
 use native.Mathlib.Omega.{arith}

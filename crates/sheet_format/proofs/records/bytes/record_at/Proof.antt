@@ -1,5 +1,5 @@
 -- `sheet_format::records::bytes::record_at` meets its contract. Each sub-answer is its definition's value, so a refusal, and at the end the record, is what `recordAt` computes to.
-use Rattle.sheet_format.specs.RecordLaws.{by-byte, by-kind, by-body, byte-inv, body-inv}
+use Rattle.sheet_format.specs.laws.RecordLaws.{by-byte, by-kind, by-body, byte-inv, body-inv}
 use Rattle.sheet_format.specs.Records.{byteAt, bodyAt}
 use Rattle.sheet_format.specs.Kinds.{kindFor}
 use Rattle.sheet_format.specs.declared.records.Byte.the-variants as Byte

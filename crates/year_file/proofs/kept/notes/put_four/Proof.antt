@@ -1,6 +1,6 @@
 -- `year_file::kept::notes::put_four` meets its contract: one half after the other.
 use native.Mathlib.Omega.{arith}
-use Rattle.decimal_text.specs.TextLaws.{put-then}
+use Rattle.decimal_text.specs.laws.TextLaws.{put-then}
 use borrow.Author.Needs.{needs}
 use Rattle.year_file.proofs.kept.notes.put_four.Statement.{statement}
 use Rattle.year_file.proofs.kept.notes.put_four.Tie as tie

@@ -1,7 +1,7 @@
 -- `year_file::kept::notes::put_stretch` meets its contract: nothing for no bytes; else the start, then the length.
 use native.Mathlib.Omega.{arith}
-use Rattle.decimal_text.specs.TextLaws.{put-nil, put-then}
-use Rattle.year_file.specs.NoteLaws.{ended-none, ended-note}
+use Rattle.decimal_text.specs.laws.TextLaws.{put-nil, put-then}
+use Rattle.year_file.specs.laws.NoteLaws.{ended-none, ended-note}
 use borrow.Author.Needs.{needs}
 use Rattle.year_file.proofs.kept.notes.put_stretch.Statement.{statement}
 use Rattle.year_file.proofs.kept.notes.put_stretch.Tie as tie

@@ -1,0 +1,5 @@
+pub mod DecimalLaws
+pub mod TextLaws
+pub mod PatternLaws
+pub mod Examples
+pub mod CountedLaws

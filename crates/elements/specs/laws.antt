@@ -1,0 +1,3 @@
+pub mod PolynomialLaws
+pub mod ElementsLaws
+pub mod MirrorLaws

@@ -1,0 +1,3 @@
+-- what it shows of the seconds between
+pub mod PassedLaws
+pub mod Gaps

@@ -1,0 +1,4 @@
+pub mod Exactly
+pub mod RangeLaws
+pub mod FitLaws
+pub mod WholeHours

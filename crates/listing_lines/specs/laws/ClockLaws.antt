@@ -1,0 +1,105 @@
+-- What follows an entry, put part by part.
+use Prim.Native.Nat.{ℕ, _≤_, _<_}
+use mathlib.Core.Path.{_≡_, refl, ap}
+use mathlib.Core.Bool.{true, false}
+use mathlib.Core.List.{List, [], _∷_, _++_, append-assoc}
+use native.Mathlib.Omega.{arith}
+use lib.IntN.{ℤ, pos, negsuc, natAbs, _+ℤ_}
+use lib.Signed.{_≤ℤ_, _<ℤ_}
+use lib.ListN.{length}
+use borrow.Author.Tests.{le-leb, lt-leb}
+use Rattle.rounding.specs.laws.Order.{<-parts, natAbs-parts, natAbs-le}
+use Rattle.rounding.specs.Near.{floorZ}
+use Rattle.rounding.specs.laws.Ring.{num, _⊕_, v0, ring}
+use Rattle.rounding.specs.Value.{Value}
+use Rattle.sheet_format.specs.declared.kinds.Entry.{Entry}
+use Rattle.sheet_format.specs.StoredSeconds.{secondOf}
+use Rattle.calendar.specs.declared.Scale.{Scale}
+use Rattle.calendar.specs.declared.Instant.{Instant}
+use Rattle.decimal_text.specs.Texts.{letters, Put}
+use Rattle.decimal_text.specs.laws.TextLaws.{put-nil}
+use Rattle.decimal_text.specs.RowLaws.{joined}
+use Rattle.listing_lines.specs.Lines.{textOf, endFor, lineOf, linesOf}
+use Rattle.calendar.specs.declared.Reference.{Reference}
+use Rattle.calendar.specs.declared.Reference.the-variants as R
+use Rattle.listing_lines.specs.declared.clock.Seconds.{Seconds}
+use Rattle.listing_lines.specs.declared.clock.Seconds.the-variants.{Moment, Contact}
+use Rattle.listing_lines.specs.declared.clock.Shown.{Shown}
+use Rattle.listing_lines.specs.Times.{timeText}
+use Rattle.listing_lines.specs.Clock.{timeIn, known, shows, nameOf, timesIn, scaleText, shownFor, shownText, behind, timedLine, timedLines}
+
+-- the times of an entry: what is added before rounding down is 5, or 0 and 9
+module _ (shown : Scale) (i : Instant) (d : ℤ) (s : Seconds) (old : List ℕ) (at : ℕ) where
+  abbrev rounded : ℕ → ℤ → List ℕ
+  rounded stored more = letters " " ++ timeText (floorZ (timeIn shown i d (secondOf stored) +ℤ more) (pos 10))
+
+  pub times-of-moment : {k : ℕ} → s ≡ Moment k → (new : List ℕ) (r : ℕ) → Put old at (rounded k (pos 5)) new r → Put old at (timesIn shown i d s) new r
+  times-of-moment q new r p = rw q p
+
+  pub times-of-contact : {f : ℕ} (t : ℕ) → s ≡ Contact f t → (mid new : List ℕ) (r q : ℕ) → length old < 18446744073709551616
+      → Put old at (rounded f (pos 0)) mid r → Put mid r (rounded t (pos 9)) new q → Put old at (timesIn shown i d s) new q
+  times-of-contact {f} t e mid new r q l p w =
+      let n = timeIn shown i d (secondOf f) in
+      let z : n +ℤ pos 0 ≡ n = ring (n ∷ []) (v0 ⊕ num 0) v0 tt in
+      rw (e, append-assoc) (joined l (rw z at p) w)
+
+-- a scale, where it is shown
+module _ (shown : Scale) (i : Instant) (d : ℤ) (s : Seconds) (old : List ℕ) (at : ℕ) where
+  pub scale-shown : shows (i .scale) shown d ≡ true → (new : List ℕ) (r : ℕ)
+      → Put old at (letters " " ++ nameOf shown ++ timesIn shown i d s) new r → Put old at (scaleText shown i d s) new r
+  unfolding scaleText
+  scale-shown b new r p = rw b p
+
+  pub scale-hidden : shows (i .scale) shown d ≡ false → at < 18446744073709551616 → Put old at (scaleText shown i d s) old at
+  unfolding scaleText
+  scale-hidden b h = rw b (put-nil old at h)
+
+-- what follows an entry
+pub behind-shown : (i : Instant) (d : ℤ) (e : Entry) (x : Shown) → x ≡ shownFor (e .kind) (e .a) (e .b) → (y : Shown) → x ≡ y
+    → (old : List ℕ) (at : ℕ) (new : List ℕ) (r : ℕ) → Put old at (shownText i d y) new r → Put old at (behind i d e) new r
+unfolding behind
+behind-shown i d e x q y w old at new r p = rw (← q, w) p
+
+-- the line by the reference
+module _ (k : Reference) (d : ℤ) (e : Entry) (old : List ℕ) (at : ℕ) (new : List ℕ) (r : ℕ) where
+  pub line-off : k ≡ R.Nothing → Put old at (lineOf e) new r → Put old at (timedLine k d e) new r
+  unfolding timedLine
+  line-off q p = rw q p
+
+  pub line-at : (i : Instant) → k ≡ R.At i → Put old at (textOf e ++ behind i (known d) e ++ endFor (e .kind)) new r → Put old at (timedLine k d e) new r
+  unfolding timedLine
+  line-at i q p = rw q p
+
+-- the lines, as a loop puts them
+pub lines-nil : (k : Reference) (d : ℤ) → timedLines k d [] ≡ []
+unfolding timedLines
+lines-nil k d = refl
+
+pub lines-cons : (k : Reference) (d : ℤ) (e : Entry) (es : List Entry) → timedLines k d (e ∷ es) ≡ timedLine k d e ++ timedLines k d es
+unfolding timedLines
+lines-cons k d e es = refl
+
+-- with no clock they are document 01's
+pub lines-off : (d : ℤ) (es : List Entry) → timedLines R.Nothing d es ≡ linesOf es
+unfolding timedLines timedLine linesOf
+lines-off d [] = refl
+lines-off d (e ∷ es) = ap (λ x. lineOf e ++ x) (lines-off d es)
+
+-- ---- a ΔT that a request can have
+
+module _ (d : ℤ) where
+  known-out : 20000 < natAbs d → Value (known d) 20000 (pos 0)
+  unfolding known
+  known-out h = rw (lt-leb (natAbs d) 20000 h) (record { value = refl; size = omega arith })
+
+  pub known-below : d <ℤ negsuc 19999 → Value (known d) 20000 (pos 0)
+  known-below h = known-out (omega (arith, <-parts h, natAbs-parts d))
+
+  pub known-above : pos 20000 <ℤ d → Value (known d) 20000 (pos 0)
+  known-above h = known-out (omega (arith, <-parts h, natAbs-parts d))
+
+  pub known-within : negsuc 19999 ≤ℤ d → d ≤ℤ pos 20000 → Value (known d) 20000 d
+  unfolding known
+  known-within h g =
+      let k : natAbs d ≤ 20000 = natAbs-le d h g in
+      rw (le-leb (natAbs d) 20000 k) (record { value = refl; size = k })

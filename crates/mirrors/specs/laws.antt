@@ -1,0 +1,4 @@
+-- why it is so
+pub mod MirrorLaws
+pub mod ChangedLaws
+pub mod BytesLaws

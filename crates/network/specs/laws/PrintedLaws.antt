@@ -1,0 +1,173 @@
+-- What is printed, part by part.
+use Prim.Native.Nat.{ℕ, _≤_, _<_}
+use mathlib.Core.Path.{_≡_, refl, sym, ap, subst, _∙_}
+use mathlib.Core.List.{List, [], _∷_, _++_}
+use native.Mathlib.Omega.{arith}
+use borrow.Author.Tests.{lt-ltb, le-ltb}
+use lib.IntN.{ℤ}
+use lib.ListN.{length, getD, take}
+use lib.Seq.{getD-take, length-take-le}
+use Rattle.sine_table.specs.Table.{Sines}
+use Rattle.sine_table.specs.laws.RoomLaws.{filled-sines}
+use Rattle.sheet_types.specs.declared.refusals.Refusal.{Refusal}
+use Rattle.sheet_types.specs.declared.refusals.Checked.{Checked}
+use Rattle.sheet_types.specs.declared.refusals.Checked.the-variants as C
+use Rattle.sheet_types.specs.Refusals.{andThen}
+use Rattle.requests.specs.Admission.{sinesAfter}
+use Rattle.sheet_format.specs.StoredSeconds.{secondOf}
+use Rattle.clock_network.specs.Defined.{earliestOf}
+use Rattle.clock_network.specs.declared.stations.Node.{Node}
+use Rattle.clock_network.specs.Held.{blankNode}
+use Rattle.clock_network.specs.Nodes.{numberOf}
+use Rattle.clock_network.specs.declared.checks.Eclipse.{Eclipse}
+use Rattle.clock_network.specs.CheckLaws.{AllWithin, at-most, all-within}
+use Rattle.networks.specs.declared.Answer.the-variants as A
+use Rattle.networks.specs.Network as network
+use Rattle.clock_network.specs.Checks.{eclipseOf, checked}
+use Rattle.networks.specs.Network.{tosOf, shapeChecked, admitted, answerTo, stepsFor, sinesFor}
+use Rattle.networks.specs.Enters.{never}
+use Rattle.decimal_text.specs.Decimals.{decimal, signed}
+use Rattle.decimal_text.specs.Patterns.{piece, filled}
+use Rattle.decimal_text.specs.Rows.{rows}
+use Rattle.decimal_text.specs.Texts.{letters}
+use Rattle.listing_lines.specs.Lines.{refusalLine}
+use Rattle.network_text.specs.declared.Fault.{Fault}
+use Rattle.network_text.specs.declared.Typed.the-variants as T
+use Rattle.network_text.specs.Typing.{Typing, given, refused, typingOf, answerOf, held, heldFrom, numbersFrom}
+use Rattle.network.specs.Printed.{stationLine, stationLines, toText, firstLine, namedText, answerBy, answerText, zeros, faultText, outputBy, output, errorBy, error}
+
+-- ---- the lines of the stations
+
+-- line k of the first n stations that are held
+abbrev pub lineAt : List Node → ℕ → List ℕ → ℕ → List ℕ
+lineAt nodes n ss k = stationLine (numberOf (getD (take n nodes) k blankNode)) (getD ss k 0)
+
+pub line-is : (nodes : List Node) (n : ℕ) (ss : List ℕ) (k : ℕ) (z : ℤ) (s : ℕ) → k < n → z ≡ numberOf (getD nodes k blankNode) → s ≡ getD ss k 0
+    → stationLine z s ≡ lineAt nodes n ss k
+line-is nodes n ss k z s h e q =
+    ap (λ x. stationLine x s) (e ∙ ap numberOf (sym (getD-take n nodes k blankNode h))) ∙ ap (stationLine (numberOf (getD (take n nodes) k blankNode))) q
+
+pub lines-all : (nodes : List Node) (n : ℕ) (ss : List ℕ) → n ≤ length nodes → rows (lineAt nodes n ss) n ≡ stationLines (take n nodes) ss
+unfolding stationLines
+lines-all nodes n ss h = ap (rows (lineAt nodes n ss)) (sym (length-take-le n nodes h))
+
+pub station-filled : (z : ℤ) → filled (z ∷ []) 0 (letters "station # steps ") ≡ letters "station " ++ signed z ++ letters " steps "
+unfolding filled piece
+station-filled z = refl
+
+-- ---- the first
+
+to-filled : (z : ℤ) → filled (z ∷ []) 0 (letters " to #\n") ≡ letters " to " ++ signed z ++ letters "\n"
+unfolding filled piece
+to-filled z = refl
+
+module _ (tos : List ℕ) (named best : ℕ) (e : best ≡ earliestOf tos never) where
+  first-by : (letters "first " ++ decimal named) ++ toText tos best ≡ firstLine named tos
+  unfolding firstLine
+  first-by = ap (λ k. (letters "first " ++ decimal named) ++ toText tos k) e
+
+  pub first-none : length tos ≤ best → (letters "first " ++ decimal named) ++ letters "\n" ≡ firstLine named tos
+  first-none h = sym (ap (λ t. (letters "first " ++ decimal named) ++ t) none) ∙ first-by
+    where
+      none : toText tos best ≡ letters "\n"
+      none = rw (le-ltb best (length tos) h)
+
+  pub first-some : best < length tos → (z : ℤ) → z ≡ secondOf (getD tos best 0) → (letters "first " ++ decimal named) ++ filled (z ∷ []) 0 (letters " to #\n") ≡ firstLine named tos
+  first-some h z q = ap (λ t. (letters "first " ++ decimal named) ++ t) (to-filled z ∙ sym some) ∙ first-by
+    where
+      some : toText tos best ≡ letters " to " ++ signed z ++ letters "\n"
+      some = rw (lt-ltb best (length tos) h, q)
+
+-- ---- a list that has an answer
+
+within : (c d : Checked) → andThen c d ≡ C.Within → (c ≡ C.Within) × (d ≡ C.Within)
+within C.Within d e = (refl, e)
+within (C.Refused r) d e = let z : _≡_ {A = ℕ} 0 1 = cc in absurd (omega arith)
+
+module _ (sines steps : List ℕ) (ns : List ℤ) (l : List Node) (n : ℕ) where
+  module _ (e : answerTo ns l sines steps ≡ A.Named n) where
+    admission : admitted ns l sines steps ≡ C.Within
+    unfolding answerTo
+    admission = by (admitted ns l sines steps) e
+      where
+        by : (c : Checked) → network.answerBy c (eclipseOf ns) l ≡ A.Named n → c ≡ C.Within
+        by C.Within q = refl
+        by (C.Refused r) q = let z : _≡_ {A = ℕ} 0 1 = cc in absurd (omega arith)
+
+    named-checked : checked (eclipseOf ns) l ≡ C.Within
+    unfolding admitted
+    named-checked =
+        let a = within (shapeChecked ns steps) _ admission in
+        within (checked (eclipseOf ns) l) _ (a .1) .0
+
+    pub named-sines : Sines (sinesFor ns l sines steps)
+    unfolding sinesFor
+    named-sines = subst (λ (c : Checked). Sines (sinesAfter c sines)) (sym admission) (filled-sines sines)
+
+    named-text : namedText n (tosOf (eclipseOf ns) l) l (stepsFor ns l sines steps) ≡ answerText sines steps ns l
+    unfolding answerText
+    named-text = ap (λ a. answerBy a (tosOf (eclipseOf ns) l) l (stepsFor ns l sines steps)) (sym e)
+
+    -- of what is held
+    pub named-as : (x : Eclipse) (m : List Node) (ss : List ℕ) → x ≡ eclipseOf ns → m ≡ l → ss ≡ stepsFor ns l sines steps → namedText n (tosOf x m) m ss ≡ answerText sines steps ns l
+    named-as x m ss p q r =
+        ap (λ y. namedText n (tosOf y m) m ss) p ∙ ap (λ y. namedText n (tosOf (eclipseOf ns) y) y ss) q ∙ ap (namedText n (tosOf (eclipseOf ns) l) l) r ∙ named-text
+
+    pub named-within : (x : Eclipse) (m : List Node) → x ≡ eclipseOf ns → m ≡ l → (length m ≤ 64) × AllWithin x m
+    named-within x m p q = rw (p, q) (at-most (eclipseOf ns) l named-checked, all-within (eclipseOf ns) l named-checked)
+
+pub refused-text : (sines steps : List ℕ) (ns : List ℤ) (l : List Node) (r : Refusal) → answerTo ns l sines steps ≡ A.Refused r → refusalLine (r .number) (r .place) ≡ answerText sines steps ns l
+unfolding answerText
+refused-text sines steps ns l r e = ap (λ a. answerBy a (tosOf (eclipseOf ns) l) l (stepsFor ns l sines steps)) (sym e)
+
+-- ---- a text
+
+module _ (text : List ℕ) where
+  module _ (long : 65536 < length text) where
+    pub long-output : [] ≡ output text
+    unfolding output
+    long-output = rw (lt-ltb 65536 (length text) long)
+
+    pub long-error : letters "the text has more than 65,536 bytes\n" ≡ error text
+    unfolding error
+    long-error = rw (lt-ltb 65536 (length text) long)
+
+  module _ (short : length text ≤ 65536) where
+    output-is : output text ≡ outputBy (typingOf text)
+    unfolding output
+    output-is = rw (le-ltb 65536 (length text) short)
+
+    error-is : error text ≡ errorBy text (typingOf text)
+    unfolding error
+    error-is = rw (le-ltb 65536 (length text) short)
+
+    pub refused-streams : (i : ℕ) (f : Fault) → T.Refused i f ≡ answerOf (typingOf text) → ([] ≡ output text) × (faultText text i f ≡ error text)
+    refused-streams i f e = by (typingOf text) refl e
+      where
+        by : (x : Typing) → typingOf text ≡ x → T.Refused i f ≡ answerOf x → ([] ≡ output text) × (faultText text i f ≡ error text)
+        by (given ns l) q a = let z : _≡_ {A = ℕ} 0 1 = cc in absurd (omega arith)
+        by (refused j g) q a =
+            let k : i ≡ j = cc in
+            let h : f ≡ g = cc in
+            (sym (output-is ∙ ap outputBy q), sym (error-is ∙ ap (errorBy text) q ∙ rw (k, h)))
+
+    -- the numbers and the stations that it gives
+    pub record Given (old : List ℤ) : Type 0 where
+      pub list : List Node
+      pub stations : heldFrom (typingOf text) ≡ held list
+      pub printed : answerText (zeros 901) (zeros 64) (numbersFrom (typingOf text) old) list ≡ output text
+      pub silent : [] ≡ error text
+
+    pub given-streams : (old : List ℤ) → T.Network ≡ answerOf (typingOf text) → Given old
+    unfolding heldFrom
+    given-streams old e = by (typingOf text) refl e
+      where
+        by : (x : Typing) → typingOf text ≡ x → T.Network ≡ answerOf x → Given old
+        by (refused j g) q a = let z : _≡_ {A = ℕ} 0 1 = cc in absurd (omega arith)
+        by (given ns l) q a =
+            record {
+              list = l;
+              stations = ap heldFrom q;
+              printed = ap (λ x. answerText (zeros 901) (zeros 64) (numbersFrom x old) l) q ∙ sym (output-is ∙ ap outputBy q);
+              silent = sym (error-is ∙ ap (errorBy text) q);
+            }

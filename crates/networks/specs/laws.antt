@@ -1,0 +1,4 @@
+pub mod Meaning
+pub mod SightLaws
+-- how it is found
+pub mod EnterLaws

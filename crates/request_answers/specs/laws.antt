@@ -1,0 +1,4 @@
+pub mod SheetLaws
+-- laws, for callers
+pub mod SecondLaws
+pub mod ShareLaws

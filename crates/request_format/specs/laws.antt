@@ -1,0 +1,11 @@
+pub mod Table
+pub mod WidthLaws
+pub mod RowLaws
+pub mod TableLaws
+pub mod NumberLaws
+pub mod LayoutLaws
+pub mod RowBytes
+pub mod RowByteLaws
+pub mod PutLaws
+pub mod GetLaws
+pub mod InputLaws

@@ -1,0 +1,13 @@
+pub mod Laws
+pub mod Order
+pub mod Tests
+pub mod Ring
+pub mod Cert
+pub mod Floor
+pub mod Stores
+pub mod NearLaws
+pub mod RootLaws
+pub mod RoundsLaws
+pub mod Code
+pub mod LimitsLaws
+pub mod Examples

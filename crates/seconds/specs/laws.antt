@@ -1,0 +1,3 @@
+pub mod ClosestLaws
+pub mod SecondLaws
+pub mod MirrorLaws

@@ -1,0 +1,3 @@
+pub mod SecondLaws
+pub mod Examples
+pub mod MirrorLaws

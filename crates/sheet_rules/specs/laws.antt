@@ -1,0 +1,5 @@
+pub mod OrderLaws
+pub mod Fields
+pub mod Stages
+pub mod RuleLaws
+pub mod FieldFits

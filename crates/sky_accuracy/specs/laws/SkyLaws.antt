@@ -1,0 +1,156 @@
+-- What is known of a second's true sines, cosines and place (`known`): the rule's H and d are rounded to 2½ and 2 millionths of a degree, so the
+-- sines and cosines of H are 6.165 units off, those of d 5.29.
+use mathlib.Core.Path.{_≡_, refl, _∙_, ap}
+use mathlib.Core.Bool.{Bool}
+use mathlib.Core.List.{[], _∷_}
+use Prim.Native.Nat.{ℕ, suc, _+_, _*_, _/_, _≤_, _<_}
+use native.Mathlib.Omega.{arith}
+use native.Mathlib.Nat.{le-of-mul-le-mul-left, mul-le-mul-left}
+use lib.Dec.{T, leb, leb→le}
+use lib.IntN.{ℤ, pos, negsuc, negℤ, natAbs, _+ℤ_, _-ℤ_, _*ℤ_}
+use lib.Signed.{_≤ℤ_, leZ-yes}
+use Rattle.rounding.specs.laws.Order.{natAbs-sum, natAbs-opposite, natAbs-product, le-natAbs}
+use Rattle.rounding.specs.laws.Ring.{num, _⊕_, _⊖_, _⊗_, opp, ring, v0, v1, v2, v3, v4}
+use Rattle.rounding.specs.laws.Cert.{leq, certify}
+use Rattle.rounding.specs.Units.{hour}
+use Rattle.rounding.specs.Near.{near}
+use Rattle.rounding.specs.laws.NearLaws.{near-error}
+use Rattle.sine_table.specs.Table.{factorial, numerator, denominator, common as tableCommon, term, series, S}
+use Rattle.sine.specs.laws.FirstQuadrantLaws.{first-most}
+use Rattle.sine_table.specs.laws.Computed.{upTo, at-upTo}
+use Rattle.sine.specs.Sine.{sine, cosine}
+use Rattle.sine.specs.laws.SineLaws.{sine-first, sine-size, cosine-size}
+use Rattle.sine.specs.laws.OppositeLaws.{sine-opposite}
+use Rattle.elements.specs.Elements.{dAt, μAt}
+use Rattle.elements.specs.laws.PolynomialLaws.{quadratic-size}
+use Rattle.elements.specs.Sizes.{AxisSizes}
+use Rattle.station.specs.Place.{turnIn, ephemerisLongitude, placeOf}
+use Rattle.station.specs.Sizes.{StationSizes}
+use Rattle.shadow_geometry.specs.Shadow.{H, d}
+use Rattle.shadow_geometry.specs.Exact.{_³, exact-quadratic}
+use Rattle.shadow_geometry.specs.laws.PolynomialError.{quadratic-error}
+use Rattle.sine_accuracy.specs.Series.{common}
+use Rattle.sine_accuracy.specs.TrueSine.{trueSine, trueCosine}
+use Rattle.sine_accuracy.specs.laws.EveryAngle.{sine-everywhere, cosine-everywhere}
+use Rattle.sine_accuracy.specs.laws.AngleLaws.{sine-angle, cosine-angle}
+use Rattle.sine_accuracy.specs.laws.Circle.{circle}
+use Rattle.sky_accuracy.specs.laws.Circle.{squares}
+use Rattle.sky_accuracy.specs.laws.PlaceErrors.{place-close, place-size}
+use Rattle.sky_accuracy.specs.TrueShadow.{Sky, momentOfSky, fine, d-rest, H-rest, K, sin-H, cos-H, sin-d, cos-d, Q, R, P}
+use Rattle.sky_accuracy.specs.laws.Displacement.{Known}
+
+-- ---- the sine up to 30.1 degrees
+unfoldable low : ℕ → Bool
+unfolding near factorial numerator denominator tableCommon term series S
+low k = leb (S k) 50_200_000
+
+lows : T (upTo low 302)
+unfolding low
+lows = tt
+
+entry-low : (k : ℕ) → k < 302 → S k ≤ 50_200_000
+unfolding low
+entry-low k h = leb→le (S k) 50_200_000 (at-upTo low 302 lows k h)
+
+sine-natAbs : (z : ℤ) → natAbs (sine z) ≡ natAbs (sine (pos (natAbs z)))
+sine-natAbs (pos m) = refl
+sine-natAbs (negsuc k) = ap natAbs (sine-opposite (pos (suc k))) ∙ natAbs-opposite (sine (pos (suc k)))
+
+sine-low : (z : ℤ) → natAbs z ≤ 30_100_000 → natAbs (sine z) ≤ 50_400_000
+sine-low z h =
+    omega (
+      arith,
+      sine-natAbs z,
+      ap natAbs (sine-first (natAbs z) (omega arith)),
+      first-most (natAbs z) (omega arith),
+      entry-low (natAbs z / 100_000) (omega arith),
+    )
+
+-- ---- the rule's sine and cosine of any angle, on the circle
+some : 1 ≤ common
+unfolding common
+some = leb→le 1 common tt
+
+on-circle : (z : ℤ) → (sine z *ℤ sine z +ℤ cosine z *ℤ cosine z) ≤ℤ pos 10_000_000_800_000_000
+on-circle z =
+    certify 0 ((sine z *ℤ sine z +ℤ cosine z *ℤ cosine z) ∷ []) v0 (num 10_000_000_800_000_000)
+    (leq (v0 ⊖ num 10_000_000_000_000_000) (num 800_000_000) (le-natAbs _ (squares common some (sine z) (cosine z) (trueSine z) (trueCosine z)
+    (record { small = sine-size z; close = sine-everywhere z .within }) (record { small = cosine-size z; close = cosine-everywhere z .within }) (record { on = circle z })))) tt
+
+-- ---- a rest of at most b/2 f makes the error at most (358 + 175 b)/200
+closer : (f w e K b : ℕ) → 1 ≤ f → 2 * w ≤ b * f → 100 * (f * e) ≤ (179 * f + 175 * w) * K → 200 * e ≤ (358 + 175 * b) * K
+closer f w e K b h k l =
+    le-of-mul-le-mul-left {m = 200 * e} {n = (358 + 175 * b) * K} {k = f} (omega (arith, mul-le-mul-left K k)) h
+
+module _ (y : Sky) (t : natAbs (y .τ) ≤ 10800) where
+  d-size : natAbs (d-rest y) ≤ 2 * fine
+  unfolding d-rest
+  d-size =
+      let q = dAt (y .axis) (y .τ) in
+      let e = exact-quadratic (y .axis .d) (y .τ) in
+      omega (
+        arith,
+        ap natAbs (ring (q ∷ e ∷ []) (v1 ⊗ num 10_000 ⊖ num 466_560_000_000_000 ⊗ v0) (num 10_000 ⊗ (opp (num 46_656_000_000 ⊗ v0 ⊖ v1))) tt),
+        natAbs-product (pos 10_000) (negℤ (hour ³ *ℤ q -ℤ e)),
+        natAbs-opposite (hour ³ *ℤ q -ℤ e),
+        quadratic-error (y .τ) t (y .axis .d),
+      )
+
+  H-size : 2 * natAbs (H-rest y) ≤ 5 * fine
+  unfolding H-rest H placeOf ephemerisLongitude turnIn
+  H-size =
+      let q = μAt (y .axis) (y .τ) in
+      let e = exact-quadratic (y .axis .mu) (y .τ) in
+      let ΔT = y .station .deltat in
+      let l = y .station .longitude in
+      let a = near (ΔT *ℤ pos 417807) (pos 10000) in
+      let f = pos 10_000 *ℤ (hour ³ *ℤ q -ℤ e) in
+      let g = pos 46_656_000_000 *ℤ (pos 10_000 *ℤ a -ℤ ΔT *ℤ pos 417_807) in
+      let s : H-rest y ≡ negℤ f +ℤ g = ring (q ∷ e ∷ ΔT ∷ l ∷ a ∷ [])
+      (v1 ⊗ num 10_000 ⊕ v3 ⊗ num 466_560_000_000_000 ⊖ v2 ⊗ num 417_807 ⊗ num 46_656_000_000 ⊖ num 466_560_000_000_000 ⊗ (v0 ⊕ (v3 ⊖ v4)))
+      (opp (num 10_000 ⊗ (num 46_656_000_000 ⊗ v0 ⊖ v1)) ⊕ num 46_656_000_000 ⊗ (num 10_000 ⊗ v4 ⊖ v2 ⊗ num 417_807)) tt in
+      omega (
+        arith,
+        ap natAbs s,
+        natAbs-sum (negℤ f) g,
+        natAbs-opposite f,
+        natAbs-product (pos 10_000) (hour ³ *ℤ q -ℤ e),
+        natAbs-product (pos 46_656_000_000) (pos 10_000 *ℤ a -ℤ ΔT *ℤ pos 417_807),
+        quadratic-error (y .τ) t (y .axis .mu),
+        near-error (ΔT *ℤ pos 417807) (pos 10000) (leZ-yes tt),
+      )
+
+  -- 6.165 and 5.29
+  H-close : (s S : ℤ) → 100 * (fine * natAbs (pos K *ℤ s -ℤ pos 100_000_000 *ℤ S)) ≤ (179 * fine + 175 * natAbs (H-rest y)) * K
+      → 1000 * natAbs (pos K *ℤ s -ℤ pos 100_000_000 *ℤ S) ≤ 6165 * K
+  H-close s S h = omega (arith, closer fine (natAbs (H-rest y)) (natAbs (pos K *ℤ s -ℤ pos 100_000_000 *ℤ S)) K 5 (leb→le 1 fine tt) H-size h)
+
+  d-close : (s S : ℤ) → 100 * (fine * natAbs (pos K *ℤ s -ℤ pos 100_000_000 *ℤ S)) ≤ (179 * fine + 175 * natAbs (d-rest y)) * K
+      → 100 * natAbs (pos K *ℤ s -ℤ pos 100_000_000 *ℤ S) ≤ 529 * K
+  d-close s S h =
+      omega (arith, closer fine (natAbs (d-rest y)) (natAbs (pos K *ℤ s -ℤ pos 100_000_000 *ℤ S)) K 4 (leb→le 1 fine tt) (omega (arith, d-size)) h)
+
+  module _ (z : AxisSizes 30000000 (y .axis)) (i : StationSizes (y .station)) where
+    pub known : Known K (Q y) (sine (H (momentOfSky y))) (cosine (H (momentOfSky y))) (sine (d (momentOfSky y))) (cosine (d (momentOfSky y))) (sin-H y) (cos-H y)
+        (sin-d y) (cos-d y) (placeOf (y .station) .r) (placeOf (y .station) .p) (R y) (P y)
+    unfolding placeOf
+    known =
+        let h = H (momentOfSky y) in
+        let e = d (momentOfSky y) in
+        let hw : natAbs (H-rest y) ≤ 3 * fine = omega (arith, H-size) in
+        let dw : natAbs (d-rest y) ≤ 3 * fine = omega (arith, d-size) in
+        record {
+          sH-small = sine-size h;
+          cH-small = cosine-size h;
+          sd-small = sine-low e (omega (arith, quadratic-size (y .axis .d) (z .d) (y .τ) t));
+          cd-small = cosine-size e;
+          sH-close = H-close (sine h) (sin-H y) (sine-angle fine h (H-rest y) hw);
+          cH-close = H-close (cosine h) (cos-H y) (cosine-angle fine h (H-rest y) hw);
+          sd-close = d-close (sine e) (sin-d y) (sine-angle fine e (d-rest y) dw);
+          cd-close = d-close (cosine e) (cos-d y) (cosine-angle fine e (d-rest y) dw);
+          H-circle = on-circle h;
+          d-circle = on-circle e;
+          R-close = place-close (y .station .latitude) (y .station .height) (i .latitude) (i .height) (y .C) .R;
+          P-close = place-close (y .station .latitude) (y .station .height) (i .latitude) (i .height) (y .C) .P;
+          place-size = place-size (y .station .latitude) (y .station .height) (i .latitude) (i .height) (y .C);
+        }

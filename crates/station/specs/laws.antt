@@ -1,0 +1,4 @@
+pub mod StationLaws
+pub mod PlaceLaws
+pub mod MirrorLaws
+pub mod Examples
