@@ -1,6 +1,7 @@
-// The states of a window's seconds, from the few that need computing: between two computed seconds the station's path is so nearly straight that
-// its chord shows the states of all between. Where it does not, the second in the middle is computed, and both halves are looked at.
-// `fill` is an inner function, for the crates above, and has a `requires`, as those that it calls have.
+// The states of a window's seconds, from the few that need computing: between two computed seconds the station's path
+// is so nearly straight that its chord shows the states of all between. Where it does not, the second in the middle is
+// computed, and both halves are looked at. `fill` is an inner function, for the crates above, and has a `requires`, as
+// those that it calls have.
 use crate::partial::Tally;
 use requests::Occultation;
 use shadow::Sample;
@@ -53,8 +54,8 @@ fn each_second(
     crate::partial::keep(o.guard, runs, t, 1, j, b)
 }
 
-// How many seconds between the shadows a and b are computed one by one: sixteen and fewer. Where both are as close as some second is, within the
-// guard, none between could be skipped, and a hundred and twenty-eight are.
+// How many seconds between the shadows a and b are computed one by one: sixteen and fewer. Where both are as close as
+// some second is, within the guard, none between could be skipped, and a hundred and twenty-eight are.
 fn leaf(guard: i64, near: u64, a: Sample, b: Sample) -> usize
     requires { ⌜ (natAbs guard ≤ 1000) × (near ≤ 1000000001) ⌝ }
     ensures { λ r. ⌜ 16 ≤ r ⌝ }

@@ -1,5 +1,5 @@
-// What is known of a window's seconds so far: their states as runs, and the closest of them. One computed second, or several that it shows, come to it.
-// These are inner functions, for the crates above, and have a `requires`.
+// What is known of a window's seconds so far: their states as runs, and the closest of them. One computed second, or
+// several that it shows, come to it. These are inner functions, for the crates above, and have a `requires`.
 use requests::Occultation;
 use run_length::Filled;
 use shadow::Sample;

@@ -1,5 +1,6 @@
-// The seconds of a window that are computed first, and from them a distance that some second reaches, by a guess: the nearer it is to the least,
-// the more seconds can be skipped. Only that it is reached is promised. All are inner functions, for the crates above, and have a `requires`.
+// The seconds of a window that are computed first, and from them a distance that some second reaches, by a guess: the
+// nearer it is to the least, the more seconds can be skipped. Only that it is reached is promised. All are inner
+// functions, for the crates above, and have a `requires`.
 use requests::Occultation;
 use shadow::Offset;
 use shadow::Sample;
@@ -137,7 +138,8 @@ fn foot(table: &[u32], o: Occultation, place: Place, n: usize, k: usize) -> usiz
     0
 }
 
-// A distance that some second of a window of n reaches: that of seventeen seconds, then along the path's tangent from the closest of them, twice.
+// A distance that some second of a window of n reaches: that of seventeen seconds, then along the path's tangent from
+// the closest of them, twice.
 pub fn reach(table: &[u32], o: Occultation, place: Place, n: usize, shadows: [Sample; 17]) -> u64
     requires { ⌜ (Sines (now table)) × (InLimits o) × (place ≡ placeOf (o .station)) × (n ≡ secondCount (o .window)) × (99 < n) × (Spread o n shadows) ⌝ }
     ensures { λ r. ⌜ Reached o n r ⌝ }

@@ -1,5 +1,5 @@
 -- The answer to a request's bytes, given a room for table S and one for its sheet: as text, and as it is stored.
--- Assumes nothing: these are definitions. The answer, and what it leaves in the rooms: request_sheets, Sheet.
+-- The answer, and what it leaves in the rooms: request_sheets, Sheet.
 use mathlib.Core.List.{List, []}
 use Prim.Native.Nat.{ℕ}
 use lib.IntN.{ℤ}

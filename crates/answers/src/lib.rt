@@ -1,4 +1,5 @@
-// The answer to a request's bytes as text: the listing of its sheet, or the line of its refusal; and as a stored sheet, with that line apart.
+// The answer to a request's bytes as text: the listing of its sheet, or the line of its refusal; and as a stored
+// sheet, with that line apart.
 use calendar::Reference;
 use circumstances::Answer;
 use listings::Text;
@@ -37,7 +38,8 @@ fn put_text(answer: Answer, room: &[u8], out: &mut [u8], reference: Reference, d
     }
 }
 
-// The sheet of a request in its room, with `sines` for table S, and the text of the answer from the start of `out` on, as far as that goes; the place after it.
+// The sheet of a request in its room, with `sines` for table S, and the text of the answer from the start of `out` on,
+// as far as that goes; the place after it.
 pub fn put_answer(request: &[u8], sines: &mut [u32], room: &mut [u8], out: &mut [u8]) -> usize
     ensures text { λ r. ⌜ Put (now (out .entry)) 0 (answerText (now (request .entry)) (now (sines .entry)) (now (room .entry))) (now (out .exit)) r ⌝ }
     ensures sheet { λ r. ⌜ now (room .exit) ≡ bufferFor (now (request .entry)) (now (sines .entry)) (now (room .entry)) ⌝ }
@@ -91,8 +93,8 @@ pub fn put_timed_star_answer(
     put_text(answer, room, out, reference, deltat)
 }
 
-// The same as `put_answer` where `out` holds the text, and how long it is; or 4, which is of `out` alone, and `out` as it was. What is refused of the
-// request, 4 of the sheet's room among it, is what the text tells.
+// The same as `put_answer` where `out` holds the text, and how long it is; or 4, which is of `out` alone, and `out` as
+// it was. What is refused of the request, 4 of the sheet's room among it, is what the text tells.
 pub fn answer(request: &[u8], sines: &mut [u32], room: &mut [u8], out: &mut [u8]) -> Text
     ensures answer { λ r. ⌜ r ≡ answered (length (now (out .entry))) (text (answerText (now (request .entry)) (now (sines .entry)) (now (room .entry)))) ⌝ }
     ensures text { λ r. ⌜ now (out .exit) ≡ roomWith (text (answerText (now (request .entry)) (now (sines .entry)) (now (room .entry)))) (now (out .entry)) ⌝ }
@@ -112,7 +114,8 @@ pub fn answer(request: &[u8], sines: &mut [u32], room: &mut [u8], out: &mut [u8]
     Text::Written(need)
 }
 
-// What program `sheet_bytes` writes: the sheet as it is stored, at its room's start; or the line of the refusal, as far as its room goes.
+// What program `sheet_bytes` writes: the sheet as it is stored, at its room's start; or the line of the refusal, as
+// far as its room goes.
 pub fn stored(request: &[u8], sines: &mut [u32], room: &mut [u8], line: &mut [u8]) -> Streams
     ensures output { λ r. ⌜ Begins (r .output) (now (room .exit)) (sheetStored (now (request .entry)) (now (sines .entry)) (now (room .entry))) ⌝ }
     ensures error { λ r. ⌜ Put (now (line .entry)) 0 (errorLine (now (request .entry)) (now (sines .entry)) (now (room .entry))) (now (line .exit)) (r .error) ⌝ }

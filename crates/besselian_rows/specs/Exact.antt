@@ -1,7 +1,8 @@
--- Document 02, wish 2: what a row is refused for, the exact values of an accepted one, and what "within" means. This is the page
--- to believe. Assumes nothing: these are definitions.
+-- Document 02, wish 2: what a row is refused for, the exact values of an accepted one, and what "within" means. This
+-- is the page to believe.
 --
--- The wish's formulas hold roots: with G from the Moon's centre to the Sun's, P = Gx² + Gy² and N = P + Gz² its length squared,
+-- The wish's formulas hold roots: with G from the Moon's centre to the Sun's, P = Gx² + Gy² and N = P + Gz² its length
+-- squared,
 --   cos a = Gx/√P,  sin a = Gy/√P       a: the axis' right ascension
 --   cos d = √P/√N,  sin d = Gz/√N       d: its declination
 --   x = Y cos a − X sin a               X, Y, Z: the Moon from the Earth's centre
@@ -64,7 +65,8 @@ between x y z low high = leZ (low ²) (x ² +ℤ y ² +ℤ z ²) && leZ (x ² +�
 unfoldable pub level : (x y z : ℤ) → Bool
 level x y z = leZ (pos 10000 *ℤ (z ²)) (pos 1849 *ℤ (x ² +ℤ y ² +ℤ z ²))
 
--- "where the Moon is not 55 to 65 radii off, the Sun not 23,000 to 24,000, or the size of the exact sine of d above 0.43"
+-- "where the Moon is not 55 to 65 radii off, the Sun not 23,000 to 24,000, or the size of the exact sine of d above
+-- 0.43"
 abbrev pub moonDistance : Row → Bool
 moonDistance p = between (p .moonx) (p .moony) (p .moonz) (pos 5500000000) (pos 6500000000)
 
@@ -76,8 +78,8 @@ accepted p = moonDistance p && (sunDistance p && level (Gx p) (Gy p) (Gz p))
 
 -- ---- exact values
 
--- "the solar radius is 109.04847 and the lunar one 0.272274 .., so the sines of the cone half-angles are 109.320744 and 108.776196
--- over the distance between the centres"
+-- "the solar radius is 109.04847 and the lunar one 0.272274 .., so the sines of the cone half-angles are 109.320744
+-- and 108.776196 over the distance between the centres"
 abbrev pub S1 : ℕ
 S1 = 10932074400
 
@@ -91,15 +93,15 @@ k = 27227400
 abbrev pub signed : ℤ → ℤ
 signed a = a *ℤ pos (natAbs a)
 
--- v lies within e units of A/√B: (v − e) √B ≤ A ≤ (v + e) √B, "squares compared over whole numbers". `CloseMeaning` proves that it is
--- that where √B is whole.
+-- v lies within e units of A/√B: (v − e) √B ≤ A ≤ (v + e) √B, "squares compared over whole numbers". `CloseMeaning`
+-- proves that it is that where √B is whole.
 pub record Close (e : ℕ) (v A B : ℤ) : Type 0 where
   pub some : pos 1 ≤ℤ B
   pub low : (signed (v -ℤ pos e) *ℤ B) ≤ℤ signed A
   pub high : signed A ≤ℤ (signed (v +ℤ pos e) *ℤ B)
 
--- "Against the exact value, squares compared over whole numbers, sines, cosines and tangents lie within 4 units and x, y, l1, l2
--- within 1,000."
+-- "Against the exact value, squares compared over whole numbers, sines, cosines and tangents lie within 4 units and x,
+-- y, l1, l2 within 1,000."
 pub record Faithful (p : Row) (b : Besselian) : Type 0 where
   pub x : Close 1000 (b .x) (p .moony *ℤ Gx p -ℤ p .moonx *ℤ Gy p) (P p)
   pub y : Close 1000 (b .y) (p .moonz *ℤ P p -ℤ Gz p *ℤ Q p) (P p *ℤ N p)

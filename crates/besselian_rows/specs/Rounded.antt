@@ -1,5 +1,5 @@
--- The elements of a row as they are computed, in 64 bits: the axis in thousands of units, then near and root. Document 02 leaves the
--- way open and limits the errors (`Exact`); the code's promise is this and that. Assumes nothing: these are definitions.
+-- The elements of a row as they are computed, in 64 bits: the axis in thousands of units, then near and root. Document
+-- 02 leaves the way open and limits the errors (`Exact`); the code's promise is this and that.
 use Prim.Native.Nat.{ℕ, _+_, _*_, _-_}
 use lib.IntN.{ℤ, pos, natAbs, _+ℤ_, _-ℤ_, _*ℤ_}
 use Rattle.rounding.specs.Near.{near}

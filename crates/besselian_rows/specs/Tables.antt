@@ -1,4 +1,4 @@
--- Document 02, wish 2: seven rows to their values, and what is refused. Assumes nothing: these are definitions.
+-- Document 02, wish 2: seven rows to their values, and what is refused.
 use mathlib.Core.Bool.{cond}
 use mathlib.Core.List.{List, [], _∷_, _++_}
 use Prim.Native.Nat.{ℕ, zero, suc, _+_, _*_, _<_}
@@ -22,7 +22,8 @@ number n k = getD n k (pos 0)
 abbrev pub rowFrom : List ℤ → Row
 rowFrom n = record { sunx = number n 0; suny = number n 1; sunz = number n 2; moonx = number n 3; moony = number n 4; moonz = number n 5 }
 
--- "Take seven hourly rows of the Sun's and the Moon's apparent place as rectangular coordinates in whole units": row i of the numbers
+-- "Take seven hourly rows of the Sun's and the Moon's apparent place as rectangular coordinates in whole units": row i
+-- of the numbers
 unfoldable pub rowAt : List ℤ → ℕ → Row
 rowAt n i =
     record {

@@ -1,5 +1,5 @@
--- Numbers in three parts: high·10^12 + mid·10^6 + low. Document 02 has "squares compared over whole numbers"; those of the
--- Sun's distance have 25 digits. Assumes nothing: these are definitions.
+-- Numbers in three parts: high·10^12 + mid·10^6 + low. Document 02 has "squares compared over whole numbers"; those of
+-- the Sun's distance have 25 digits.
 use mathlib.Core.Path.{_≡_}
 use mathlib.Core.Bool.{Bool}
 use Prim.Native.Nat.{ℕ, _≤_}

@@ -1,5 +1,5 @@
-// Besselian elements at one hour from the places of Sun and Moon: definitions and how far they lie from the exact values, all in
-// specs/. Nothing here runs.
+// Besselian elements at one hour from the places of Sun and Moon: definitions and how far they lie from the exact
+// values, all in specs/. Nothing here runs.
 
 // A row of the tables: apparent places of the Sun and the Moon from the Earth's centre, 10^-8 of its equatorial radius,
 // right-handed, the third to the north pole. Any numbers; accepted is what document 02 says.

@@ -123,9 +123,9 @@ fn fill(rows: &[i64], values: &mut [i64])
     }
 }
 
-// The elements of seven rows, each the Sun's x, y, z and the Moon's x, y, z, at the start of `values`, each row's x, y, sin d, cos d,
-// tan f1, tan f2, l1, l2. Refusals: 10 for another length than 42; 11 with the first row that is not accepted; 4 with 56 where
-// there is less room.
+// The elements of seven rows, each the Sun's x, y, z and the Moon's x, y, z, at the start of `values`, each row's x,
+// y, sin d, cos d, tan f1, tan f2, l1, l2. Refusals: 10 for another length than 42; 11 with the first row that is not
+// accepted; 4 with 56 where there is less room.
 pub fn elements(rows: &[i64], values: &mut [i64]) -> Answer
     ensures answer { λ r. ⌜ r ≡ answerTo (now (rows .entry)) (length (now (values .entry))) ⌝ }
     ensures values { λ r. ⌜ now (values .exit) ≡ valuesAfter (answerTo (now (rows .entry)) (length (now (values .entry)))) (now (rows .entry)) (now (values .entry)) ⌝ }

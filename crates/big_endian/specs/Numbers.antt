@@ -1,5 +1,4 @@
 -- Numbers in bytes: "numbers big-endian and unsigned".
--- Assumes nothing: these are definitions.
 use Prim.Native.Nat.{ℕ, _+_, _*_, _/_, _%_, _<_}
 use mathlib.Core.List.{List, [], _∷_, _++_}
 use lib.ListN.{getD}

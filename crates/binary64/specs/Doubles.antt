@@ -1,5 +1,5 @@
--- Document 02, wish 5: a double in whole units, and a whole unit as a double. Definitions only.
--- A double is a `Float` of lib.Ieee: a NaN, an infinity, or `fin s m e`, the number m·2^e, negative where s is true; 2^e is up e / down e.
+-- Document 02, wish 5: a double in whole units, and a whole unit as a double. Definitions only. A double is a `Float`
+-- of lib.Ieee: a NaN, an infinity, or `fin s m e`, the number m·2^e, negative where s is true; 2^e is up e / down e.
 use mathlib.Core.Path.{_≡_}
 use mathlib.Core.Bool.{Bool, true, false, cond}
 use Prim.Native.Nat.{ℕ, _*_, _^_}
@@ -20,8 +20,8 @@ abbrev pub signed : Bool → ℕ → ℤ
 signed false n = pos n
 signed true n = negℤ (pos n)
 
--- "Read a finite double as the binary fraction it exactly is, .. and give the nearest whole unit, halves away from zero": near, with `scale`
--- units to one. Nothing asks for the units of what is not finite.
+-- "Read a finite double as the binary fraction it exactly is, .. and give the nearest whole unit, halves away from
+-- zero": near, with `scale` units to one. Nothing asks for the units of what is not finite.
 unfoldable pub unitsOf : (scale : ℕ) → Float → ℤ
 unitsOf scale (fin s m e) = near (signed s (m * up e * scale)) (pos (down e))
 unitsOf scale (inf s) = pos 0
@@ -48,7 +48,8 @@ fitted z = cond (ltb (natAbs z) (2 ^ 63)) (Units z) TooLarge
 unfoldable pub readingOf : (scale : ℕ) → Float → Reading
 readingOf scale x = cond (finite x) (fitted (unitsOf scale x)) NotFinite
 
--- the number that the code goes on with: one too large "is outside its range", and so is what stands in for it (HeldLaws)
+-- the number that the code goes on with: one too large "is outside its range", and so is what stands in for it
+-- (HeldLaws)
 abbrev pub standIn : Reading → ℤ
 standIn (Units z) = z
 standIn TooLarge = pos 9223372036854775807

@@ -115,8 +115,8 @@ pub fn read(x: f64, scale: u64) -> Reading
     }
 }
 
-// The whole unit that was read. For one too large the largest number, which is out of every range too; for what is not finite, which is
-// refused before anyone asks, 0.
+// The whole unit that was read. For one too large the largest number, which is out of every range too; for what is not
+// finite, which is refused before anyone asks, 0.
 pub fn unit_of(reading: Reading) -> i64
     ensures { λ r. ⌜ r ≡ standIn reading ⌝ }
 {

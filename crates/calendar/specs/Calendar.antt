@@ -1,5 +1,4 @@
 -- The days of the Gregorian calendar: docs/CLOCK.md, "The instant as it is typed".
--- Assumes nothing: these are definitions.
 use Prim.Native.Nat.{ℕ, _%_}
 use mathlib.Core.Bool.{Bool, cond, not, _&&_, _||_}
 use lib.Dec.{leb, eqb}

@@ -1,4 +1,5 @@
-// The reference instant of a request: the date and time of τ = 0. How one is typed is `instant_text`, how seconds are printed by it `clock`.
+// The reference instant of a request: the date and time of τ = 0. How one is typed is `instant_text`, how seconds are
+// printed by it `clock`.
 ghost use mathlib.Core.Path.{_≡_};
 ghost use Rattle.calendar.specs.Calendar.{isLeap, daysIn, isDay};
 

@@ -1,5 +1,4 @@
 -- What the program prints: the answer to each case of its input.
--- Assumes nothing: these are definitions.
 use Prim.Native.Nat.{ℕ}
 use mathlib.Core.Bool.{cond}
 use mathlib.Core.List.{List, []}

@@ -1,5 +1,5 @@
-// Reads cases from standard input, 65,536 bytes at most, 119 bytes each: the room for a sheet, 2 bytes; the length of a request, 1 byte;
-// and its bytes, of 116. Prints for each the listing of its sheet; or the refusal.
+// Reads cases from standard input, 65,536 bytes at most, 119 bytes each: the room for a sheet, 2 bytes; the length of
+// a request, 1 byte; and its bytes, of 116. Prints for each the listing of its sheet; or the refusal.
 use libc::STDIN_FILENO;
 use libc::STDOUT_FILENO;
 ghost use mathlib.Core.Path.{_≡_};

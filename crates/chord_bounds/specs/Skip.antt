@@ -1,4 +1,5 @@
--- Seconds between two computed ones: what both ends have under the guard G + 30 h², h seconds apart, all between have under G.
+-- Seconds between two computed ones: what both ends have under the guard G + 30 h², h seconds apart, all between have
+-- under G.
 --   outside   both ends so far out that a quarter of the chord's square less is still outside: outside
 --   inside    both ends inside by that guard, with L of one sign at both: inside
 --   later     the same against a distance a: M is more than a²
@@ -23,7 +24,8 @@ use Rattle.shadow_geometry.specs.laws.StateLaws.{state-edge}
 use Rattle.chord_bounds.specs.laws.Clear.{Between, farther, nearer}
 use Rattle.chord_bounds.specs.laws.Path.{between, L-chord}
 
--- how far the path may leave the chord of two seconds in a row, with the radius, in units; that of h seconds h² times as far
+-- how far the path may leave the chord of two seconds in a row, with the radius, in units; that of h seconds h² times
+-- as far
 abbrev pub sagitta : ℕ
 sagitta = 30
 

@@ -1,4 +1,5 @@
--- The rows that document 01 marks for proof of the rules themselves, under one theorem: each holds by computation of the definitions.
+-- The rows that document 01 marks for proof of the rules themselves, under one theorem: each holds by computation of
+-- the definitions.
 use mathlib.Core.Path.{_≡_, refl}
 use mathlib.Core.List.{[], _∷_}
 use mathlib.Core.Bool.{false}
@@ -45,7 +46,8 @@ unfolding near root factorial numerator denominator common term series S arc sag
 open-5400 = refl
 
 pub record Marked : Type 0 where
-  -- "near(50,000,000/10^8)=1, .. near(-50,000,001/10^8)=-1"; between them document 02, wish 3: "-50,000,000 over 10^8 gives -1"
+  -- "near(50,000,000/10^8)=1, .. near(-50,000,001/10^8)=-1"; between them document 02, wish 3: "-50,000,000 over 10^8
+  -- gives -1"
   pub near-1 : near (pos 50000000) (pos 100000000) ≡ pos 1
   pub near-2 : near (negsuc 49999999) (pos 100000000) ≡ negsuc 0
   pub near-3 : near (negsuc 50000000) (pos 100000000) ≡ negsuc 0

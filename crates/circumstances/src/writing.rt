@@ -1,5 +1,5 @@
-// The sheet of an occultation, written into a buffer that has room for it, from the states of its seconds. These are inner functions, for the crates
-// above, and have a `requires`.
+// The sheet of an occultation, written into a buffer that has room for it, from the states of its seconds. These are
+// inner functions, for the crates above, and have a `requires`.
 pub mod lengths;
 
 use requests::Occultation;

@@ -1,4 +1,5 @@
--- The same as functions, so that an answer is given by an equation. That they are what `Steps` says is proved in `DefinedLaws` and `Meaning`.
+-- The same as functions, so that an answer is given by an equation. That they are what `Steps` says is proved in
+-- `DefinedLaws` and `Meaning`.
 use Prim.Native.Nat.{ℕ, zero, suc}
 use mathlib.Core.Bool.{Bool, true, false, cond, not, _&&_}
 use mathlib.Core.List.{List, [], _∷_}

@@ -1,5 +1,5 @@
--- What a list's nodes say. Definitions only. Document 02, wish 10: "up to 64 station records in one list, each with the number of the station whose
--- clock it follows, 0 being the antenna".
+-- What a list's nodes say. Definitions only. Document 02, wish 10: "up to 64 station records in one list, each with
+-- the number of the station whose clock it follows, 0 being the antenna".
 use mathlib.Core.Path.{_≡_}
 use Prim.Native.Nat.{_≤_}
 use mathlib.Core.List.{List, map}

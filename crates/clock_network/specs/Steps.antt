@@ -1,5 +1,5 @@
--- What the list itself says of its clocks: document 02, wish 10. Definitions only. ns are the numbers and cs the clocks, in list order; places
--- count from 0, and `getD l i (pos 0)` is what stands at place i.
+-- What the list itself says of its clocks: document 02, wish 10. Definitions only. ns are the numbers and cs the
+-- clocks, in list order; places count from 0, and `getD l i (pos 0)` is what stands at place i.
 use mathlib.Core.Path.{_≡_}
 use Prim.Native.Nat.{ℕ, suc, _<_, _≤_}
 use mathlib.Core.List.{List}
@@ -22,8 +22,8 @@ Distinct ns = (i : ℕ) → i < length ns → Repeats ns i → ⊥
 abbrev pub Stray : List ℤ → List ℤ → ℕ → Type 0
 Stray ns cs i = (getD cs i (pos 0) ≡ pos 0 → ⊥) × ((j : ℕ) → j < length ns → getD ns j (pos 0) ≡ getD cs i (pos 0) → ⊥)
 
--- "say how many steps its clock is from the antenna: 1 if it follows 0, else one more than the station it follows"; "The steps are defined by
--- the list itself and not by the search."
+-- "say how many steps its clock is from the antenna: 1 if it follows 0, else one more than the station it follows";
+-- "The steps are defined by the list itself and not by the search."
 pub data Steps (ns cs : List ℤ) : ℕ → ℕ → Type 0 where
   antenna : {i : ℕ} → i < length ns → getD cs i (pos 0) ≡ pos 0 → Steps ns cs i 1
   follows : {i j n : ℕ} → i < length ns → (getD cs i (pos 0) ≡ pos 0 → ⊥) → j < length ns → getD ns j (pos 0) ≡ getD cs i (pos 0) → Steps ns cs j n → Steps ns cs i (suc n)

@@ -1,4 +1,5 @@
-// What a network's list is refused for before the room for table S: 19, 1, 2, 3, 14, 15, 16. The list is taken as a value (crate `nodes`).
+// What a network's list is refused for before the room for table S: 19, 1, 2, 3, 14, 15, 16. The list is taken as a
+// value (crate `nodes`).
 use crate::stations::Held;
 use sheet_types::refusals::Checked;
 use sheet_types::refusals::Refusal;
@@ -87,7 +88,8 @@ fn check_stations(h: Held) -> Checked
     Checked::Within
 }
 
-// The first number already used: 14; the first clock neither 0 nor in the list: 15; the first chain that never reaches the antenna: 16.
+// The first number already used: 14; the first clock neither 0 nor in the list: 15; the first chain that never reaches
+// the antenna: 16.
 fn check_clocks(numbers: &[i64], clocks: &[i64]) -> Checked
     requires { ⌜ (length (now clocks) ≡ length (now numbers)) × (length (now numbers) ≤ 64) ⌝ }
     ensures { λ r. ⌜ r ≡ clocksChecked (now (numbers .entry)) (now (clocks .entry)) ⌝ }
@@ -117,7 +119,8 @@ fn check_clocks(numbers: &[i64], clocks: &[i64]) -> Checked
     Checked::Within
 }
 
-// All of them. 1 and 2 are those of the first station's request: they are the same for every station, and its 3 has place 0 in the list.
+// All of them. 1 and 2 are those of the first station's request: they are the same for every station, and its 3 has
+// place 0 in the list.
 pub fn check(e: Eclipse, h: Held) -> Checked
     requires { ⌜ length (h .nodes) ≡ 64 ⌝ }
     ensures { λ r. ⌜ ((l : List Node) → Holds h l → r ≡ checked e l) ⌝ }

@@ -1,5 +1,5 @@
-// The stations of a network in one list, each with the station whose clock it follows. `size`, `taken` and `gathered` take the list lent, a slice of
-// structs, and turn it into a value; all else is over that value.
+// The stations of a network in one list, each with the station whose clock it follows. `size`, `taken` and `gathered`
+// take the list lent, a slice of structs, and turn it into a value; all else is over that value.
 ghost use mathlib.Core.Path.{_≡_};
 ghost use Prim.Native.Nat.{_<_};
 ghost use lib.ListN.{length, getD};

@@ -1,5 +1,6 @@
-// The clocks of a network over its list's numbers and clocks, as plain slices: refusals 14, 15 and 16, the steps from the antenna, and the first
-// of the smallest seconds. These are inner functions, for the crate above; they know no station and no shadow.
+// The clocks of a network over its list's numbers and clocks, as plain slices: refusals 14, 15 and 16, the steps from
+// the antenna, and the first of the smallest seconds. These are inner functions, for the crate above; they know no
+// station and no shadow.
 ghost use mathlib.Core.Path.{_≡_};
 ghost use Prim.Native.Nat.{ℕ, _+_, _<_, _≤_};
 ghost use lib.ListN.{length, getD};

@@ -57,7 +57,8 @@ pub data Turn : Type 0 where
   entered : Turn
   left : Turn
 
--- "Enters and leaves of a phase alternate if no two of one kind follow each other by time, grazes and opens passed over": after the given turn
+-- "Enters and leaves of a phase alternate if no two of one kind follow each other by time, grazes and opens passed
+-- over": after the given turn
 abbrev pub Alternate : Turn → List Entry → Type 0
 Alternate t [] = Unit
 Alternate t (Enter from to ∷ es) = (t ≡ entered → ⊥) × Alternate entered es

@@ -1,6 +1,7 @@
-// Entries of one phase, from the states of the seconds of a window, which are stored as runs (`runs`).
-// A state is 0 outside, 1 inside, any other unsure. Seconds are counted from the window's first, which is 0.
-// What the entries are, and what holds of them, is `contact_entries`. `step` is an inner function, for the crates above: it names no shadow and no byte of a sheet.
+// Entries of one phase, from the states of the seconds of a window, which are stored as runs (`runs`). A state is 0
+// outside, 1 inside, any other unsure. Seconds are counted from the window's first, which is 0. What the entries are,
+// and what holds of them, is `contact_entries`. `step` is an inner function, for the crates above: it names no shadow
+// and no byte of a sheet.
 pub mod entries;
 
 use crate::entries::Entry;
@@ -31,7 +32,8 @@ fn side_of(state: u8) -> u8
     if state == 0 { 0 } else { 1 }
 }
 
-// The entry between two sure seconds of sides `was` and `is`, which have an unsure one between them where the sides are the same.
+// The entry between two sure seconds of sides `was` and `is`, which have an unsure one between them where the sides
+// are the same.
 fn entry_between(was: u8, is: u8, from: usize, to: usize) -> Entry
     requires { ⌜ (was ≤ 1) × (is ≤ 1) × (was ≡ is → from + 1 < to) ⌝ }
     ensures { λ r. ⌜ between (side was) (side is) from to ≡ r ∷ [] ⌝ }

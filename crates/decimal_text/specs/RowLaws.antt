@@ -1,4 +1,5 @@
--- What a line is put with, the same text or the same numbers; and lines put one after the other by a loop: those before the i-th are put.
+-- What a line is put with, the same text or the same numbers; and lines put one after the other by a loop: those
+-- before the i-th are put.
 use Prim.Native.Nat.{ℕ, _+_, _-_, _*_, _^_, _≤_, _<_}
 use mathlib.Core.Path.{_≡_, refl, ap, _∙_}
 use mathlib.Core.List.{List, _∷_, _++_}

@@ -1,5 +1,5 @@
--- Texts one after the other, as a program prints them: one for each number below another, and one for each record of an input.
--- Assumes nothing: these are definitions.
+-- Texts one after the other, as a program prints them: one for each number below another, and one for each record of
+-- an input.
 use Prim.Native.Nat.{ℕ, zero, suc, _+_, _*_, _/_}
 use mathlib.Core.Bool.{cond}
 use mathlib.Core.List.{List, [], _∷_, _++_}
@@ -19,8 +19,8 @@ part size input k = take size (drop (k * size) input)
 abbrev pub eachPart : ℕ → (List ℕ → List ℕ) → List ℕ → List ℕ
 eachPart size text input = rows (λ k. text (part size input k)) (length input / size)
 
--- the text of each record of an input whose records stand one after the other, each after its count in two bytes, and with `size` bytes
--- for each that it counts; a record cut short has none, and ends it. `fuel` bounds the records.
+-- the text of each record of an input whose records stand one after the other, each after its count in two bytes, and
+-- with `size` bytes for each that it counts; a record cut short has none, and ends it. `fuel` bounds the records.
 unfoldable pub counted : ℕ → (List ℕ → List ℕ) → ℕ → List ℕ → List ℕ
 counted size text zero s = []
 counted size text (suc fuel) [] = []

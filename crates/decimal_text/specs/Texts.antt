@@ -1,5 +1,4 @@
 -- A text put at a place of a room that is lent, as far as the room goes.
--- Assumes nothing: these are definitions.
 use Prim.Native.Nat.{ℕ, _+_, _≤_, min}
 use Prim.Native.Char.{code}
 use Prim.Native.String.{String, [] as ε, _∷_ as _then_}
@@ -17,7 +16,8 @@ letters (c then s) = code c ∷ letters s
 unfoldable pub capped : ℕ → ℕ
 capped n = min n 18446744073709551615
 
--- the place after the text, also where the room ends before it; and the room with those bytes of the text that have a place in it
+-- the place after the text, also where the room ends before it; and the room with those bytes of the text that have a
+-- place in it
 pub record Put (old : List ℕ) (at : ℕ) (text new : List ℕ) (r : ℕ) : Type 0 where
   pub place : r ≡ capped (at + length text)
   pub room : new ≡ sets old at text

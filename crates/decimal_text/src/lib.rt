@@ -1,7 +1,7 @@
 // Whole numbers in decimal, and lines of text with such numbers, as bytes in a room that is lent.
 //
-// A `put_` function stores a text at a place, as far as the room goes, and gives the place after it. So texts follow each other,
-// and a room of no bytes measures them.
+// A `put_` function stores a text at a place, as far as the room goes, and gives the place after it. So texts follow
+// each other, and a room of no bytes measures them.
 ghost use mathlib.Core.Path.{_≡_};
 ghost use mathlib.Core.List.{[], _∷_};
 ghost use Prim.Native.Nat.{_+_, _<_, min};

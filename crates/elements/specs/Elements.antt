@@ -79,7 +79,8 @@ rangeOf e = firstOutOfRange 0 (ranges e)
 abbrev pub elementsChecked : Elements → Checked
 elementsChecked e = ofLimits 2 (rangeOf e)
 
--- "A value at τ starts from the highest coefficient and repeats": of x, y, d and μ of an axis, and of l of a cone (Polynomial)
+-- "A value at τ starts from the highest coefficient and repeats": of x, y, d and μ of an axis, and of l of a cone
+-- (Polynomial)
 abbrev pub xAt : Axis → (τ : ℤ) → ℤ
 xAt a τ = cubicAt (a .x) τ
 

@@ -5,7 +5,8 @@ use Rattle.rounding.specs.Near.{near}
 use Rattle.elements.specs.declared.Cubic.{Cubic}
 use Rattle.elements.specs.declared.Quadratic.{Quadratic}
 
--- "Coefficients are per hour. A value at τ starts from the highest coefficient and repeats: multiply by τ, near over 3600, add the next lower."
+-- "Coefficients are per hour. A value at τ starts from the highest coefficient and repeats: multiply by τ, near over
+-- 3600, add the next lower."
 unfoldable pub step : (τ p lower : ℤ) → ℤ
 step τ p lower = near (p *ℤ τ) hour +ℤ lower
 

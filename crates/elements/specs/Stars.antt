@@ -1,4 +1,5 @@
--- Document 02, wish 7: the elements of a star's occultation, their ranges, and the axis and the cylinder that they make.
+-- Document 02, wish 7: the elements of a star's occultation, their ranges, and the axis and the cylinder that they
+-- make.
 use mathlib.Core.List.{List, [], _∷_, _++_}
 use lib.IntN.{ℤ, pos}
 use lib.ListN.{getD}

@@ -1,5 +1,5 @@
-// The Besselian elements of an eclipse: 22 whole numbers as an axis and two cones, their ranges, and a value at a second.
-// In module `stars` those of a star's occultation.
+// The Besselian elements of an eclipse: 22 whole numbers as an axis and two cones, their ranges, and a value at a
+// second. In module `stars` those of a star's occultation.
 pub mod stars;
 
 ghost use mathlib.Core.Path.{_≡_};

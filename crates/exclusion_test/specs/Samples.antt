@@ -1,4 +1,5 @@
--- The seconds of a window that are computed: their shadows, the byte of a phase at each second, and M. Definitions only.
+-- The seconds of a window that are computed: their shadows, the byte of a phase at each second, and M. Definitions
+-- only.
 use Prim.Native.Nat.{ℕ, _≤_}
 use lib.IntN.{ℤ, pos, natAbs}
 use Rattle.sheet_types.specs.States.{code}

@@ -1,5 +1,6 @@
-// The gap between two computed seconds: whether they show the states of all seconds between them, and that none of those is the closest.
-// `clear` is an inner function, for the crates above, and has a `requires`, as those that it calls have.
+// The gap between two computed seconds: whether they show the states of all seconds between them, and that none of
+// those is the closest. `clear` is an inner function, for the crates above, and has a `requires`, as those that it
+// calls have.
 use shadow::Sample;
 ghost use mathlib.Core.Path.{_≡_};
 ghost use mathlib.Core.Bool.{true};
@@ -96,7 +97,8 @@ fn shows(low: i64, k: i64, m: i64, n: i64, o: i64, g: i64) -> bool
     inside(a, m, b, o, g)
 }
 
-// How far the shadow's path leaves the chord of two seconds in a row, the radius included, in units; that of h seconds h² times as far.
+// How far the shadow's path leaves the chord of two seconds in a row, the radius included, in units; that of h seconds
+// h² times as far.
 fn sagitta() -> i64
     ensures { λ r. ⌜ r ≡ pos sagitta ⌝ }
 {

@@ -22,7 +22,8 @@ pub record Acceptable (cs ts : List ℤ) (tolerance : ℤ) : Type 0 where
   pub in-ranges : InRanges cs ts
   -- "a stated tolerance, 0 to 1,000 units"
   pub stated : (pos 0 ≤ℤ tolerance) × (tolerance ≤ℤ pos 1000)
-  -- "its value by the rule of document 01 differs from the tabulated one by at most a stated tolerance .. at each of the seven hours"
+  -- "its value by the rule of document 01 differs from the tabulated one by at most a stated tolerance .. at each of
+  -- the seven hours"
   pub close : (i : ℕ) → i < 7 → pos (natAbs (cubicAt (cubicFrom cs 0) (second i) -ℤ getD ts i (pos 0))) ≤ℤ tolerance
 
 -- "Accept a proposed fit exactly if": the law `accepted-exactly-if` of `Exactly`

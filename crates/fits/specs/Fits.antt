@@ -1,4 +1,5 @@
--- Fits from the spreadsheet: the cubic, the seven tabulated values, and what is refused. Sentences are of document 02, wish 14, but for those named.
+-- Fits from the spreadsheet: the cubic, the seven tabulated values, and what is refused. Sentences are of document 02,
+-- wish 14, but for those named.
 use mathlib.Core.Bool.{cond, _&&_}
 use mathlib.Core.List.{List, [], _∷_, map}
 use Prim.Native.Nat.{ℕ}
@@ -49,14 +50,15 @@ abbrev pub unless : Limits → (ℕ → Refusal) → Answer → Answer
 unless L.InRange r next = next
 unless (L.OutOfRange i) r next = A.Refused (r i)
 
--- "Refusals: 17 with the first bad hour, 0 to 6, after 2 with place 0 to 3; 18 before 2, place 0 for the tolerance, 1 to 7 for the first
--- tabulated value out of range."
+-- "Refusals: 17 with the first bad hour, 0 to 6, after 2 with place 0 to 3; 18 before 2, place 0 for the tolerance, 1
+-- to 7 for the first tabulated value out of range."
 unfoldable pub judged : Cubic → List ℤ → ℤ → Answer
 judged c ts tolerance =
     unless (firstOutOfRange 0 (givenRanges tolerance ts)) (refusal 18)
     (unless (firstOutOfRange 0 (coefficientRanges c)) (refusal 2)
     (unless (firstOutOfRange 0 (hourRanges c ts tolerance)) (refusal 17) A.Accepted))
 
--- four coefficients and seven tabulated values are judged; of other lists document 01 has "10 | program input not of the shape below | 0"
+-- four coefficients and seven tabulated values are judged; of other lists document 01 has "10 | program input not of
+-- the shape below | 0"
 unfoldable pub fitOf : List ℤ → List ℤ → ℤ → Answer
 fitOf cs ts tolerance = cond (eqb (length cs) 4 && eqb (length ts) 7) (judged (cubicFrom cs 0) ts tolerance) (A.Refused (refusal 10 0))

@@ -14,10 +14,10 @@ ghost use Rattle.fits.specs.Conditions.{InRanges};
 // What is said of a proposed fit.
 pub enum Answer {
     Accepted,
-    // 10: not four coefficients and seven tabulated values
-    // 18: the tolerance is not 0 to 1,000 units, place 0; the first tabulated value out of ±1,000,000,000 units, 1 to 7
-    // 2: the first coefficient out of the ranges of x, 0 to 3
-    // 17: the first hour at which the value differs from the tabulated one by more than the tolerance, 0 to 6 for -3 to 3
+    // 10: not four coefficients and seven tabulated values 18: the tolerance is not 0 to 1,000 units, place 0; the
+    // first tabulated value out of ±1,000,000,000 units, 1 to 7 2: the first coefficient out of the ranges of x, 0 to
+    // 3 17: the first hour at which the value differs from the tabulated one by more than the tolerance, 0 to 6 for -3
+    // to 3
     Refused(Refusal),
 }
 

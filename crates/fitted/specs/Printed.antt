@@ -1,5 +1,4 @@
 -- What the program prints: a line for each proposed fit of its input.
--- Assumes nothing: these are definitions.
 use Prim.Native.Nat.{ℕ, _*_}
 use mathlib.Core.List.{List, [], _∷_, map}
 use lib.IntN.{ℤ}

@@ -1,5 +1,6 @@
-// Reads proposed fits from standard input, 65,536 bytes at most, 96 bytes each: four coefficients, seven tabulated values and the
-// tolerance, signed, 8 bytes big-endian. Prints for each a line: `accepted`, or `refused`, number, place.
+// Reads proposed fits from standard input, 65,536 bytes at most, 96 bytes each: four coefficients, seven tabulated
+// values and the tolerance, signed, 8 bytes big-endian. Prints for each a line: `accepted`, or `refused`, number,
+// place.
 use libc::STDIN_FILENO;
 use libc::STDOUT_FILENO;
 ghost use mathlib.Core.Path.{_≡_};

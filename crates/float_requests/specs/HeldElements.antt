@@ -1,4 +1,5 @@
--- The elements that the code goes on with, where one is too large for 64 bits: refused as the exact ones are, and in their ranges the same.
+-- The elements that the code goes on with, where one is too large for 64 bits: refused as the exact ones are, and in
+-- their ranges the same.
 use mathlib.Core.Path.{_≡_, ap, _∙_}
 use mathlib.Core.List.{List, map}
 use Rattle.rounding.specs.declared.Limits.{Limits}

@@ -1,4 +1,5 @@
--- Document 02, wish 5: the 22 elements and a longitude as doubles, in whole units. Definitions only. Of one double: doubles, Doubles.
+-- Document 02, wish 5: the 22 elements and a longitude as doubles, in whole units. Definitions only. Of one double:
+-- doubles, Doubles.
 use mathlib.Core.Bool.{cond}
 use mathlib.Core.List.{List, [], _∷_}
 use Prim.Native.Nat.{ℕ, suc}
@@ -67,7 +68,8 @@ firstNotFinite i (x ∷ xs) = cond (finite x) (firstNotFinite (suc i) xs) (C.Ref
 abbrev pub finiteChecked : ElementDoubles → Longitude → Checked
 finiteChecked d l = andThen (firstNotFinite 0 (fields d)) (firstNotFinite 22 (doubleIn l ∷ []))
 
--- units to one: "1,000,000, or .. 10^8 for lengths and tangents". Of x, y, d, l1, l2, μ, tan f, and of a longitude in degrees
+-- units to one: "1,000,000, or .. 10^8 for lengths and tangents". Of x, y, d, l1, l2, μ, tan f, and of a longitude in
+-- degrees
 abbrev pub scales : List ℕ
 scales =
     100_000_000 ∷ 100_000_000 ∷ 100_000_000 ∷ 100_000_000

@@ -1,4 +1,5 @@
--- Document 02, wish 5: a survey, its request in whole units, and its sheet. Definitions only. Doubles in whole units: instrument, Instrument.
+-- Document 02, wish 5: a survey, its request in whole units, and its sheet. Definitions only. Doubles in whole units:
+-- instrument, Instrument.
 use mathlib.Core.Bool.{false}
 use mathlib.Core.List.{List}
 use Prim.Native.Nat.{ℕ}
@@ -14,7 +15,8 @@ use Rattle.binary64.specs.Doubles.{longitudeOf}
 use Rattle.float_requests.specs.Instrument.{finiteChecked, elementsIn}
 use Rattle.float_requests.specs.declared.survey.Survey.{Survey}
 
--- the request in whole units: each the nearest one exactly, however large. "One too large for 64 bits is outside its range and meets 2 or 3" with it
+-- the request in whole units: each the nearest one exactly, however large. "One too large for 64 bits is outside its
+-- range and meets 2 or 3" with it
 unfoldable pub requestOf : Survey → Request
 requestOf s =
     record {

@@ -32,7 +32,8 @@ onlyLongitude u = record { number = pos 1; latitude = pos 0; longitude = u; heig
 abbrev pub longitudeChecked : ℤ → Checked
 longitudeChecked u = stationChecked (onlyLongitude u)
 
--- 22 elements and a longitude, "for every value in range": 10 for another length than 23, 2 and 3 out of range, 4 with 23 where the room is short
+-- 22 elements and a longitude, "for every value in range": 10 for another length than 23, 2 and 3 out of range, 4 with
+-- 23 where the room is short
 abbrev inRoom : Checked → ℕ → Answer
 inRoom (C.Refused r) room = A.Refused r
 inRoom C.Within room = cond (leb 23 room) A.Made (A.Refused (refusal 4 23))

@@ -1,4 +1,5 @@
-// What a survey instrument exports: the 22 elements as doubles, and a marked longitude, in whole units; in a module of its own the other way.
+// What a survey instrument exports: the 22 elements as doubles, and a marked longitude, in whole units; in a module of
+// its own the other way.
 pub mod writing;
 
 use binary64::DEGREE;
@@ -14,7 +15,8 @@ ghost use Rattle.binary64.specs.Doubles.{held};
 ghost use Rattle.float_requests.specs.Instrument.{fields, doublesOf, firstNotFinite, finiteChecked, scales, unitsIn, elementsIn};
 ghost use Rattle.float_requests.specs.HeldElements.{heldElements};
 
-// The elements of an eclipse as doubles, in document 01's order, coefficients per hour. Their ranges are those of their whole units.
+// The elements of an eclipse as doubles, in document 01's order, coefficients per hour. Their ranges are those of
+// their whole units.
 pub struct ElementDoubles {
     // x, Earth radii: ±2; ±1; ±0.001; ±0.0001
     pub x0: f64,

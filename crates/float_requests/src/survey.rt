@@ -67,7 +67,8 @@ fn is_one(c: Checked) -> bool
     }
 }
 
-// Refusal 1 of the request, for the window or the guard, or 12 for a double that is not finite: 2 and 3 come after it, with the sheet.
+// Refusal 1 of the request, for the window or the guard, or 12 for a double that is not finite: 2 and 3 come after it,
+// with the sheet.
 fn check(s: Survey, o: Occultation) -> Checked
     requires { ⌜ o ≡ ofEclipse (heldRequest (requestOf s)) ⌝ }
     ensures { λ r. ⌜ r ≡ surveyChecked s ⌝ }

@@ -1,5 +1,4 @@
 -- What the program prints: for each list of its input, what the writer answers and the buffers that it leaves.
--- Assumes nothing: these are definitions.
 use Prim.Native.Nat.{ℕ, _+_, _*_, _/_, _%_}
 use Prim.Native.String.{String}
 use mathlib.Core.Bool.{cond}

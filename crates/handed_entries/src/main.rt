@@ -1,6 +1,6 @@
-// Reads lists of entries from standard input, each a count of numbers in two bytes and then the numbers in four bytes each,
-// and prints what the writer answers to each: with room enough, and with a buffer of 20 bytes, which is printed too.
-// The buffers hold 170 before the call.
+// Reads lists of entries from standard input, each a count of numbers in two bytes and then the numbers in four bytes
+// each, and prints what the writer answers to each: with room enough, and with a buffer of 20 bytes, which is printed
+// too. The buffers hold 170 before the call.
 use libc::STDIN_FILENO;
 use libc::STDOUT_FILENO;
 ghost use mathlib.Core.Path.{_≡_};

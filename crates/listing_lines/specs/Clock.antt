@@ -1,5 +1,5 @@
--- Seconds of a sheet as times of day: docs/CLOCK.md, whose sentences are quoted. How a time is printed: times_of_day, Times.
--- Assumes nothing: these are definitions. `Outward` says what they come to: a contact lies between its two printed times.
+-- Seconds of a sheet as times of day: docs/CLOCK.md, whose sentences are quoted. How a time is printed: times_of_day,
+-- Times. `Outward` says what they come to: a contact lies between its two printed times.
 use Prim.Native.Nat.{ℕ, _/_, _%_}
 use mathlib.Core.Bool.{Bool, true, cond}
 use mathlib.Core.List.{List, [], _∷_, _++_}
@@ -58,9 +58,9 @@ shows Universal Universal d = true
 unfoldable pub known : ℤ → ℤ
 known d = cond (leb (natAbs d) 20000) d (pos 0)
 
--- "Tenths of a second, outward. Of the two seconds of a contact the earlier is printed at the floor of its hundredths over 10, the later at the
--- ceiling", which of whole numbers is the floor of 9 more. "The closest second .. is printed to the nearest tenth, halves up, the floor of its
--- hundredths plus 5 over 10."
+-- "Tenths of a second, outward. Of the two seconds of a contact the earlier is printed at the floor of its hundredths
+-- over 10, the later at the ceiling", which of whole numbers is the floor of 9 more. "The closest second .. is printed
+-- to the nearest tenth, halves up, the floor of its hundredths plus 5 over 10."
 abbrev pub earlier : ℤ → ℤ
 earlier n = floorZ n (pos 10)
 
@@ -101,7 +101,8 @@ scaleText shown i d s = cond (shows (i .scale) shown d) (letters " " ++ nameOf s
 unfoldable pub scalesText : Instant → ℤ → Seconds → List ℕ
 scalesText i d s = scaleText Ephemeris i d s ++ scaleText Universal i d s
 
--- "two times for an entry with from and to, one for the closest second, none for a share"; "After the head line stands `instant ..`"
+-- "two times for an entry with from and to, one for the closest second, none for a share"; "After the head line stands
+-- `instant ..`"
 abbrev pub shownFor : Kind → ℕ → ℕ → Shown
 shownFor Head a b = InstantLine
 shownFor (Enter φ) a b = Times (Contact a b)

@@ -1,5 +1,5 @@
--- The lines of a listing, as bytes: document 01, "The hand-worked sheet". In a pattern # stands for a number. Up to `textOf` a line has no end.
--- Assumes nothing: these are definitions.
+-- The lines of a listing, as bytes: document 01, "The hand-worked sheet". In a pattern # stands for a number. Up to
+-- `textOf` a line has no end.
 use Prim.Native.Nat.{ℕ}
 use Prim.Native.String.{String}
 use mathlib.Core.Bool.{cond}

@@ -1,6 +1,6 @@
--- A contact lies between its two printed times, in either scale, and these are less than a tenth of a second off; the closest second is within
--- half a tenth of its time; and in a window no time is more than a day off the instant's. These are claims about printed bytes, as `Reading` reads them.
--- Assumes nothing: these are definitions. `OutwardLaws` proves them.
+-- A contact lies between its two printed times, in either scale, and these are less than a tenth of a second off; the
+-- closest second is within half a tenth of its time; and in a window no time is more than a day off the instant's.
+-- These are claims about printed bytes, as `Reading` reads them. `OutwardLaws` proves them.
 use Prim.Native.Nat.{_≤_}
 use lib.IntN.{ℤ, pos, natAbs, _+ℤ_, _*ℤ_}
 use lib.Signed.{_≤ℤ_, _<ℤ_}

@@ -1,5 +1,5 @@
 -- Tenths of a second from 0h of a day as a time of day: docs/CLOCK.md, "The form", whose sentences are quoted.
--- Assumes nothing: these are definitions. `Printed` says how a time is read back.
+-- `Printed` says how a time is read back.
 use Prim.Native.Nat.{ℕ, zero, suc, _/_, _%_}
 use mathlib.Core.List.{List, [], _∷_, _++_}
 use lib.IntN.{ℤ, pos, negsuc, _-ℤ_, _*ℤ_}
@@ -27,7 +27,8 @@ dayOf n = floorZ n (pos 864000)
 abbrev pub tenthsOf : ℤ → ℕ
 tenthsOf n = posP (n -ℤ pos 864000 *ℤ dayOf n)
 
--- "On the day after the instant's date `+1d` follows at once, on the day before it `-1d`", and so on for days farther off
+-- "On the day after the instant's date `+1d` follows at once, on the day before it `-1d`", and so on for days farther
+-- off
 unfoldable pub dayText : ℤ → List ℕ
 dayText (pos zero) = []
 dayText (pos (suc n)) = letters "+" ++ signed (pos (suc n)) ++ letters "d"

@@ -1,5 +1,5 @@
-// Times of day as text (docs/CLOCK.md, "The form"). A `put_` function stores a text at a place of a room, as far as the room goes, and gives the
-// place after it (`decimals`).
+// Times of day as text (docs/CLOCK.md, "The form"). A `put_` function stores a text at a place of a room, as far as
+// the room goes, and gives the place after it (`decimals`).
 ghost use mathlib.Core.List.{[], _∷_, _++_};
 ghost use Prim.Native.Nat.{_+_, _%_, _≤_};
 ghost use lib.IntN.{pos, natAbs};
@@ -67,8 +67,8 @@ fn put_day(out: &mut [u8], at: usize, day: i64) -> usize
     at
 }
 
-// n hundredths at the floor of their tenths. Division is of naturals: 100,000 days are added before it, and taken off after it.
-// It has a `requires`, so it is none of the public promises.
+// n hundredths at the floor of their tenths. Division is of naturals: 100,000 days are added before it, and taken off
+// after it. It has a `requires`, so it is none of the public promises.
 pub fn put_time(out: &mut [u8], at: usize, n: i64) -> usize
     requires { ⌜ natAbs n ≤ 860000000000 ⌝ }
     ensures { λ r. ⌜ Put (now (out .entry)) at (timeText (floorZ n (pos 10))) (now (out .exit)) r ⌝ }

@@ -1,5 +1,5 @@
--- What a reader or a writer of sheets answers, in the programs that print it: how many entries and bytes, or the refusal.
--- Assumes nothing: these are definitions.
+-- What a reader or a writer of sheets answers, in the programs that print it: how many entries and bytes, or the
+-- refusal.
 use Prim.Native.Nat.{ℕ}
 use mathlib.Core.List.{List}
 use Rattle.sheet_codec.specs.declared.decoder.Extent.{Extent}

@@ -1,5 +1,4 @@
 -- The listing of a sheet.
--- Assumes nothing: these are definitions.
 use Prim.Native.Nat.{ℕ}
 use mathlib.Core.List.{List}
 use lib.IntN.{ℤ}
@@ -18,7 +17,8 @@ listingOf (refused r) = withheld r
 unfoldable pub told : List ℕ → Told
 told bytes = listingOf (readWhole bytes)
 
--- docs/CLOCK.md: with clock times "it is the sheet's own listing", its lines with times by the reference and the station's ΔT
+-- docs/CLOCK.md: with clock times "it is the sheet's own listing", its lines with times by the reference and the
+-- station's ΔT
 abbrev pub timedOf : Reference → ℤ → Sheet → Told
 timedOf k d (sheet es n) = text (timedLines k d es)
 timedOf k d (refused r) = withheld r

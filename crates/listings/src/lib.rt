@@ -1,4 +1,5 @@
-// The listing of a sheet as text, as document 01 has it: a line an entry; and with clock times. What a reader answers, as text, is in `extents`.
+// The listing of a sheet as text, as document 01 has it: a line an entry; and with clock times. What a reader answers,
+// as text, is in `extents`.
 pub mod extents;
 
 use calendar::Reference;
@@ -20,7 +21,8 @@ pub enum Text {
     Refused(Refusal),
 }
 
-// The lines of the sheet that `sheet` begins with, with times where the reference is an instant, from `start` on, as far as the room goes.
+// The lines of the sheet that `sheet` begins with, with times where the reference is an instant, from `start` on, as
+// far as the room goes.
 fn put_lines(sheet: &[u8], out: &mut [u8], start: usize, reference: Reference, deltat: i64) -> usize
     requires { ⌜ IsSheet (readSheet (now sheet)) ⌝ }
     ensures { λ r. ⌜ Laid reference deltat (readSheet (now (sheet .entry))) (now (out .entry)) start (now (out .exit)) r ⌝ }
@@ -58,7 +60,8 @@ fn lay(sheet: &[u8], out: &mut [u8]) -> Text
     Text::Written(need)
 }
 
-// The listing of the sheet that `sheet` is, at the room's start, and how long it is; or the refusal, and the room as it was.
+// The listing of the sheet that `sheet` is, at the room's start, and how long it is; or the refusal, and the room as
+// it was.
 pub fn listing(sheet: &[u8], out: &mut [u8]) -> Text
     ensures { λ r. ⌜ r ≡ answered (length (now (out .entry))) (told (now (sheet .entry))) ⌝ }
     ensures { λ r. ⌜ now (out .exit) ≡ roomWith (told (now (sheet .entry))) (now (out .entry)) ⌝ }
@@ -73,8 +76,9 @@ pub fn listing(sheet: &[u8], out: &mut [u8]) -> Text
     }
 }
 
-// What is printed of some bytes: the listing of the sheet that they are, with times where the reference is an instant, or the line of their refusal. It stands at a
-// place of the room, as far as the room goes; and the place after it. `deltat` is the station's ΔT in hundredths of a second.
+// What is printed of some bytes: the listing of the sheet that they are, with times where the reference is an instant,
+// or the line of their refusal. It stands at a place of the room, as far as the room goes; and the place after it.
+// `deltat` is the station's ΔT in hundredths of a second.
 pub fn put_timed_listing(
     out: &mut [u8],
     at: usize,

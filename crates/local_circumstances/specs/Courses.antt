@@ -1,4 +1,5 @@
--- A course: what is said of a station at each second of a window, in each of its phases; and its sheet. Definitions only.
+-- A course: what is said of a station at each second of a window, in each of its phases; and its sheet. Definitions
+-- only.
 use mathlib.Core.Bool.{Bool, cond}
 use mathlib.Core.List.{List, [], _∷_, _++_, map}
 use Prim.Native.Nat.{ℕ}
@@ -43,8 +44,9 @@ module _ (c : Course) where
   unfoldable pub statesOf : Phase → List ℕ
   statesOf φ = eachSecond (c .window) (λ τ. code (c .state φ τ))
 
-  -- "*enter*, from the earlier to the later, direction at the later; .. *leave*, from, to, direction at the earlier; .. *graze*, from, to":
-  -- an entry of a phase, whose seconds are counted from the window's first, as it stands in the sheet
+  -- "*enter*, from the earlier to the later, direction at the later; .. *leave*, from, to, direction at the earlier;
+  -- .. *graze*, from, to": an entry of a phase, whose seconds are counted from the window's first, as it stands in the
+  -- sheet
   abbrev pub entryOf : Phase → Contact.Entry → Entry
   entryOf φ (C.Enter f t) = enter φ (stored (second f)) (stored (second t)) (c .direction (second t))
   entryOf φ (C.Leave f t) = leave φ (stored (second f)) (stored (second t)) (c .direction (second f))
@@ -76,7 +78,7 @@ module _ (c : Course) where
   unfoldable pub closingEntries : List Entry
   closingEntries = closestEntry ∷ cond (c .sharing) (shareEntry ∷ end ∷ []) (end ∷ [])
 
-  -- "Order: head, penumbra by time, central by time, closest, end"; document 02, wish 7: "The reader's order has the star family in place of
-  -- penumbra and central."
+  -- "Order: head, penumbra by time, central by time, closest, end"; document 02, wish 7: "The reader's order has the
+  -- star family in place of penumbra and central."
   unfoldable pub sheetOf : List Entry
   sheetOf = headEntry ∷ (entriesOf (c .phases) ++ closingEntries)

@@ -6,9 +6,10 @@
 --   in exactly one entry of the penumbra. Each enter runs from a second exactly outside to one exactly inside, each leave the other way, so
 --   neither is given where no change is. Enters and leaves alternate. The same holds for the central phase, with its own exact answer and
 --   its own entries."
--- Document 02, wish 9: "Demand 3 then reads "within the guard plus 13" for 29". Wish 7: "The guard of 16 and demand 3's statement hold for
--- both shadows, for a star with its one phase in place of penumbra and central and the radius as the exact L".
--- One claim about a course, every second of its window, and the entries that stand in the bytes written for it. Definitions only.
+-- Document 02, wish 9: "Demand 3 then reads "within the guard plus 13" for 29". Wish 7: "The guard of 16 and demand
+-- 3's statement hold for both shadows, for a star with its one phase in place of penumbra and central and the radius
+-- as the exact L". One claim about a course, every second of its window, and the entries that stand in the bytes
+-- written for it. Definitions only.
 use mathlib.Core.Path.{_≡_}
 use mathlib.Core.List.{List, [], _∷_, _++_}
 use Prim.Native.Nat.{ℕ, _+_}
@@ -28,8 +29,8 @@ use Rattle.sheet_format.specs.StoredSeconds.{secondOf}
 use Rattle.sheet_codec.specs.Sheets.{sheet, readSheet}
 use Rattle.local_circumstances.specs.Courses.{Course, sheetOf}
 
--- "decide for each whole second of the window, with no rounding at all, whether the station is inside": the exact answer of a phase at
--- second τ, and whether the exact distance lies within n units of the cone's edge there
+-- "decide for each whole second of the window, with no rounding at all, whether the station is inside": the exact
+-- answer of a phase at second τ, and whether the exact distance lies within n units of the cone's edge there
 pub record ExactAnswers : Type 1 where
   pub Inside : Phase → ℤ → Type 0
   pub WithinUnits : ℕ → Phase → ℤ → Type 0
@@ -53,8 +54,8 @@ entriesIn φ (e ∷ es) = inKind φ (e .kind) (e .a) (e .b) ++ entriesIn φ es
 -- ---- the claim
 
 module _ (c : Course) (x : ExactAnswers) where
-  -- "Where our program says inside or outside, that is the exact answer. It says unsure only where the exact distance lies within 29 units
-  -- of the cone's edge.", the guard plus 13 for 29
+  -- "Where our program says inside or outside, that is the exact answer. It says unsure only where the exact distance
+  -- lies within 29 units of the cone's edge.", the guard plus 13 for 29
   abbrev pub EachSecond : Type 0
   EachSecond = (φ : Phase) → Listed φ (c .phases) → (τ : ℤ) → InWindow (c .window) τ
       → SaidRightly (c .state φ τ) (x .Inside φ τ) (x .WithinUnits (c .guard + 13) φ τ)
@@ -70,10 +71,12 @@ module _ (c : Course) (x : ExactAnswers) where
     pub read : readSheet buffer ≡ sheet found n
     -- "whose entries are those that document 01 makes from our program's answers"
     pub made : found ≡ sheetOf c
-    -- "each change of the exact answer from one second of the window to the next lies in exactly one entry of the penumbra"
+    -- "each change of the exact answer from one second of the window to the next lies in exactly one entry of the
+    -- penumbra"
     pub changes : (φ : Phase) → Listed φ (c .phases) → (k : ℕ) → InWindow (c .window) (secondOf k) → InWindow (c .window) (secondOf (k + 1))
         → Change (InsideAt φ) k → howMany k (entriesIn φ found) ≡ 1
-    -- "Each enter runs from a second exactly outside to one exactly inside, each leave the other way, so neither is given where no change is."
+    -- "Each enter runs from a second exactly outside to one exactly inside, each leave the other way, so neither is
+    -- given where no change is."
     pub ends : (φ : Phase) → Listed φ (c .phases) → All (ExactEnds (InsideAt φ)) (entriesIn φ found)
     -- "Enters and leaves alternate."
     pub alternate : (φ : Phase) → Listed φ (c .phases) → Alternate neither (entriesIn φ found)

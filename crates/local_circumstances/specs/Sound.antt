@@ -1,4 +1,5 @@
--- A course whose sheet keeps a reader's rules: its numbers are in their ranges, and each phase comes once, in the order of the sheet.
+-- A course whose sheet keeps a reader's rules: its numbers are in their ranges, and each phase comes once, in the
+-- order of the sheet.
 use mathlib.Core.Path.{_≡_}
 use mathlib.Core.List.{List, [], _∷_}
 use mathlib.Core.Bool.{true, false}

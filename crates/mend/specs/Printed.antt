@@ -1,5 +1,4 @@
 -- What the program writes: the mended file to standard output, and to standard error a line for each dropped stretch.
--- Assumes nothing: these are definitions.
 use Prim.Native.Nat.{ℕ}
 use mathlib.Core.List.{List, [], _∷_, _++_}
 use mathlib.Core.Bool.{cond}

@@ -1,5 +1,6 @@
-// Reads a file of sheets from standard input, shorter than 196,608 bytes, and writes it mended to standard output; each dropped stretch is
-// told on standard error. A longer file is refused whole: nothing is written, and standard error says so.
+// Reads a file of sheets from standard input, shorter than 196,608 bytes, and writes it mended to standard output;
+// each dropped stretch is told on standard error. A longer file is refused whole: nothing is written, and standard
+// error says so.
 use libc::STDERR_FILENO;
 use libc::STDIN_FILENO;
 use libc::STDOUT_FILENO;
@@ -56,7 +57,8 @@ fn put_too_long(out: &mut [u8], room: usize) -> usize
     decimal_text::put_text(out, number, b" bytes or more\n")
 }
 
-// The mended file at the start of the sheets' room, and what is told from the start of the text's on, as far as that goes.
+// The mended file at the start of the sheets' room, and what is told from the start of the text's on, as far as that
+// goes.
 fn mended(file: &[u8], sheets: &mut [u8], notes: &mut [u8], text: &mut [u8]) -> Streams
     ensures output { λ r. ⌜ take (r .output) (now (sheets .exit)) ≡ output (length (now (sheets .entry))) (length (now (notes .entry))) (now (file .entry)) ⌝ }
     ensures error { λ r. ⌜ Put (now (text .entry)) 0 (error (length (now (sheets .entry))) (length (now (notes .entry))) (now (file .entry))) (now (text .exit)) (r .error) ⌝ }
@@ -96,7 +98,8 @@ fn main() {
     let mut file = room();
     let length = io::read_full(STDIN_FILENO, &mut file);
     let mut sheets = room();
-    // a stretch and the sheet behind it have 18 bytes at least; a note has 16, and a line as many and the digits of the stretch's length
+    // a stretch and the sheet behind it have 18 bytes at least; a note has 16, and a line as many and the digits of
+    // the stretch's length
     let mut notes = room();
     let mut text = room();
     let streams = mended(&file[..length], &mut sheets, &mut notes, &mut text);

@@ -1,4 +1,5 @@
--- Document 02, wish 13: the mirror of a request (requests, Mirror), an eclipse's or a star's, second by second and entry by entry.
+-- Document 02, wish 13: the mirror of a request (requests, Mirror), an eclipse's or a star's, second by second and
+-- entry by entry.
 use mathlib.Core.Path.{_≡_}
 use mathlib.Core.List.{List}
 use Prim.Native.Nat.{ℕ}

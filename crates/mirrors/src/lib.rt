@@ -57,7 +57,8 @@ fn mirrored_quadratic(q: Quadratic) -> Quadratic
     Quadratic { c0, c1, c2 }
 }
 
-// The mirror of a request. Any numbers: -2^63, which has no opposite in 64 bits, stays as it is, and is refused as before.
+// The mirror of a request. Any numbers: -2^63, which has no opposite in 64 bits, stays as it is, and is refused as
+// before.
 pub fn mirror(q: Request) -> Request
     ensures { λ r. ⌜ r ≡ mirrorOf q ⌝ }
 {
@@ -121,7 +122,8 @@ fn change(numbers: &mut [i64; COUNT])
     turn(numbers, 23);
 }
 
-// The mirror of a request's bytes, at the start of the room, and its length; or 10, or 4, and the room as it was. Any bytes, any room.
+// The mirror of a request's bytes, at the start of the room, and its length; or 10, or 4, and the room as it was. Any
+// bytes, any room.
 pub fn mirror_bytes(request: &[u8], room: &mut [u8]) -> Answer
     ensures answer { λ r. ⌜ r ≡ mirrorAnswer (now (request .entry)) (now (room .entry)) ⌝ }
     ensures room { λ r. ⌜ now (room .exit) ≡ mirrorBuffer (now (request .entry)) (now (room .entry)) ⌝ }

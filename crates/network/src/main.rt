@@ -1,6 +1,6 @@
-// Reads a typed network from standard input: the elements and the window as in a typed request, and a line a station. It prints each station with its
-// steps and the station that sees the eclipse first; or `refused`, number and place. A fault is told on standard error with its line, and nothing is
-// printed.
+// Reads a typed network from standard input: the elements and the window as in a typed request, and a line a station.
+// It prints each station with its steps and the station that sees the eclipse first; or `refused`, number and place. A
+// fault is told on standard error with its line, and nothing is printed.
 use clock_network::checks::Eclipse;
 use clock_network::stations::Held;
 use libc::STDERR_FILENO;

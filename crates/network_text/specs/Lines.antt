@@ -1,5 +1,4 @@
 -- What a line of a typed network says: the elements and the window as in a typed request, a station, or a fault.
--- Assumes nothing: these are definitions.
 use Prim.Native.Nat.{ℕ}
 use mathlib.Core.Bool.{cond, _&&_}
 use mathlib.Core.List.{List}
@@ -17,7 +16,8 @@ use Rattle.network_text.specs.declared.Told.{Told}
 use Rattle.network_text.specs.declared.Told.the-variants as T
 use Rattle.network_text.specs.Stations.{stationOf}
 
--- by the number of a request that a line names: 22 is `station`; 23 to 26, the station's other numbers, have no line of their own here
+-- by the number of a request that a line names: 22 is `station`; 23 to 26, the station's other numbers, have no line
+-- of their own here
 abbrev pub byName : List ℕ → Line → Found → Told
 byName said line F.Nowhere = T.Request line
 byName said line (F.At k n) =

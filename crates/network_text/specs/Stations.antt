@@ -1,5 +1,4 @@
 -- What a station's line gives: six words, `NUMBER LATITUDE LONGITUDE HEIGHT DELTA_T CLOCK`, each in its whole units.
--- Assumes nothing: these are definitions.
 use Prim.Native.Nat.{ℕ, zero, suc, _+_}
 use mathlib.Core.Bool.{cond}
 use mathlib.Core.List.{List, [], _∷_, _++_}
@@ -21,7 +20,8 @@ use Rattle.network_text.specs.declared.Word.the-variants as W
 use Rattle.network_text.specs.declared.Told.{Told}
 use Rattle.network_text.specs.declared.Told.the-variants as T
 
--- word k is typed as that number of a request: the station's five; the clock is "the number of the station whose clock it follows"
+-- word k is typed as that number of a request: the station's five; the clock is "the number of the station whose clock
+-- it follows"
 abbrev pub fieldOf : ℕ → ℕ
 fieldOf k = cond (ltb k 5) (22 + k) 22
 

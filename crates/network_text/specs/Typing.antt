@@ -1,5 +1,4 @@
 -- A typed network: the numbers that its lines give, and its stations in list order.
--- Assumes nothing: these are definitions.
 use Prim.Native.Nat.{ℕ, _+_}
 use mathlib.Core.List.{List, [], _∷_, _++_}
 use lib.IntN.{ℤ}

@@ -1,5 +1,5 @@
-// A network that a person types: the elements and the window as in a typed request (`request_text`), and a line a station,
-// `station NUMBER LATITUDE LONGITUDE HEIGHT DELTA_T CLOCK`.
+// A network that a person types: the elements and the window as in a typed request (`request_text`), and a line a
+// station, `station NUMBER LATITUDE LONGITUDE HEIGHT DELTA_T CLOCK`.
 pub mod stations;
 
 use clock_network::stations::Held;
@@ -217,8 +217,8 @@ fn eclipse_in(n: &[i64]) -> [i64; 25]
     out
 }
 
-// The 25 numbers of the eclipse that a text gives, in whole units: the 22 elements, first, last and guard; and the stations in list order; or its
-// first fault, the numbers lent as they were, and no station.
+// The 25 numbers of the eclipse that a text gives, in whole units: the 22 elements, first, last and guard; and the
+// stations in list order; or its first fault, the numbers lent as they were, and no station.
 pub fn network(text: &[u8], out: &mut [i64; 25]) -> Reading
     ensures { λ r. ⌜ (r .answer ≡ answerOf (typingOf (now (text .entry)))) × (r .held ≡ heldFrom (typingOf (now (text .entry)))) ⌝ }
     ensures { λ r. ⌜ now (out .exit) ≡ numbersFrom (typingOf (now (text .entry))) (now (out .entry)) ⌝ }

@@ -1,5 +1,6 @@
--- The first enter of the penumbra on a station's sheet. Definitions only. Document 02, wish 10: "the station whose first *enter* penumbra has the
--- smallest "to"", "each enter is that of the sheet the station gets alone, with room enough".
+-- The first enter of the penumbra on a station's sheet. Definitions only. Document 02, wish 10: "the station whose
+-- first *enter* penumbra has the smallest "to"", "each enter is that of the sheet the station gets alone, with room
+-- enough".
 use mathlib.Core.Bool.{Bool, true, false}
 use mathlib.Core.List.{List, [], _∷_}
 use Prim.Native.Nat.{ℕ}

@@ -1,5 +1,5 @@
--- The whole network in one list: document 02, wish 10. Definitions only. What its clocks are: chains, Steps; what a list is refused for:
--- network_checks, Checks; a station's first enter: enters, Enters.
+-- The whole network in one list: document 02, wish 10. Definitions only. What its clocks are: chains, Steps; what a
+-- list is refused for: network_checks, Checks; a station's first enter: enters, Enters.
 use mathlib.Core.Bool.{cond, _&&_}
 use mathlib.Core.List.{List, map}
 use Prim.Native.Nat.{ℕ}
@@ -39,7 +39,8 @@ toOf e n = firstTo (ofEclipse (requestOf e (n .station)))
 abbrev pub tosOf : Eclipse → List Node → List ℕ
 tosOf e l = map (toOf e) l
 
--- "then name the station whose first *enter* penumbra has the smallest "to", the first in the list among equals, or 0 if none enters"
+-- "then name the station whose first *enter* penumbra has the smallest "to", the first in the list among equals, or 0
+-- if none enters"
 unfoldable pub named : Eclipse → List Node → ℕ
 named e l = natAbs (getD (numbersOf l) (earliestOf (tosOf e l) never) (pos 0))
 

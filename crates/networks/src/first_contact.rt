@@ -1,5 +1,5 @@
-// The first enter of the penumbra at one station: its entries are stepped through up to it, and no sheet is written. These are inner functions,
-// for the crate above, and have a `requires`.
+// The first enter of the penumbra at one station: its entries are stepped through up to it, and no sheet is written.
+// These are inner functions, for the crate above, and have a `requires`.
 ghost use mathlib.Core.Path.{_≡_};
 ghost use mathlib.Core.List.{map};
 ghost use lib.ListN.{length};
@@ -50,7 +50,8 @@ fn first_enter(w: requests::windows::Window, runs: &[u8]) -> u32
     }
 }
 
-// The "to" of the first enter of the penumbra on the sheet of an eclipse, as it is stored, or 21,601 where the sheet has none.
+// The "to" of the first enter of the penumbra on the sheet of an eclipse, as it is stored, or 21,601 where the sheet
+// has none.
 pub fn first_to(table: &[u32], q: requests::Request) -> u32
     requires { ⌜ (Sines (now table)) × (InLimits (ofEclipse q)) ⌝ }
     ensures { λ r. ⌜ r ≡ firstTo (ofEclipse q) ⌝ }

@@ -1,5 +1,5 @@
-// The whole network in one list: the steps of each station's clock from the antenna, and the station that sees the eclipse first. The list is taken
-// as a value (crate `nodes`).
+// The whole network in one list: the steps of each station's clock from the antenna, and the station that sees the
+// eclipse first. The list is taken as a value (crate `nodes`).
 pub mod first_contact;
 pub mod sight;
 

@@ -12,7 +12,8 @@ use Rattle.rounding.specs.Root.{root}
 unfoldable pub half : ℤ → ℤ
 half z = floorZ z (pos 2)
 
--- "Let r be (L1+L2)/2 and n be (L1-L2)/2, both rounded down, and m the root of M.": the radii of Sun and Moon, and from centre to centre
+-- "Let r be (L1+L2)/2 and n be (L1-L2)/2, both rounded down, and m the root of M.": the radii of Sun and Moon, and
+-- from centre to centre
 abbrev pub rOf : (L1 L2 : ℤ) → ℤ
 rOf L1 L2 = half (L1 +ℤ L2)
 
@@ -29,7 +30,8 @@ strips = 1000
 unfoldable pub offset : (r : ℤ) (i : ℕ) → ℤ
 offset r i = negℤ r +ℤ floorZ (pos (2 * i + 1) *ℤ r) (pos 1000)
 
--- the half-chord of a disc at x from its centre, root(radius² - x²), or 0 off the disc: posP z is z, and 0 if z is negative
+-- the half-chord of a disc at x from its centre, root(radius² - x²), or 0 off the disc: posP z is z, and 0 if z is
+-- negative
 unfoldable pub chord : (radius x : ℤ) → ℕ
 chord radius x = root (posP (radius *ℤ radius -ℤ x *ℤ x))
 

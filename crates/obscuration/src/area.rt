@@ -7,8 +7,8 @@ ghost use Rattle.rounding.specs.Root.{root};
 ghost use Rattle.rounding.specs.Value.{Value};
 ghost use Rattle.obscuration.specs.Share.{offset, chord, lesserOf, shareOf, share, Sizes};
 
-// The root of n. A step of Newton's comes from anywhere to the root or above it, and every further one down to it; from a start near
-// the root two or three do.
+// The root of n. A step of Newton's comes from anywhere to the root or above it, and every further one down to it;
+// from a start near the root two or three do.
 fn root_from(start: u64, n: u64) -> u64
     requires { ⌜ (1000000 ≤ start) × (start ≤ 40000000) × (n ≤ 1600000000000000) ⌝ }
     ensures { λ r. ⌜ r ≡ root n ⌝ }

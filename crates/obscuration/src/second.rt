@@ -54,7 +54,8 @@ pub fn of_second(second: OneSecond) -> OneShare
     }
 }
 
-// The share at second t of a request; t may lie outside its window. Refused as the second is; `sines` is room for table S.
+// The share at second t of a request; t may lie outside its window. Refused as the second is; `sines` is room for
+// table S.
 pub fn share(q: Request, t: i64, sines: &mut [u32]) -> OneShare
     ensures answer { λ r. ⌜ r ≡ shareAnswer q t (now (sines .entry)) ⌝ }
     ensures sines { λ r. ⌜ now (sines .exit) ≡ secondSines (ofEclipse q) t (now (sines .entry)) ⌝ }

@@ -1,5 +1,6 @@
-// Reads stations from standard input, 4,096 bytes at most, 8 bytes each: latitude in 10^-6 degree and height in metres, signed, 4 bytes
-// big-endian. Prints for each a line: latitude, height, R and P; or `refused` after the two where one is outside its range.
+// Reads stations from standard input, 4,096 bytes at most, 8 bytes each: latitude in 10^-6 degree and height in
+// metres, signed, 4 bytes big-endian. Prints for each a line: latitude, height, R and P; or `refused` after the two
+// where one is outside its range.
 use libc::STDIN_FILENO;
 use libc::STDOUT_FILENO;
 ghost use mathlib.Core.Path.{_≡_};

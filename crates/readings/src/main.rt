@@ -1,5 +1,6 @@
-// Reads doubles from standard input, 16,384 bytes at most, the 8 bytes of each big-endian. Prints for each a line: its whole units where it
-// counts degrees, hours of time, and lengths; `large` for one too large for 64 bits, `none` for one that is not finite.
+// Reads doubles from standard input, 16,384 bytes at most, the 8 bytes of each big-endian. Prints for each a line: its
+// whole units where it counts degrees, hours of time, and lengths; `large` for one too large for 64 bits, `none` for
+// one that is not finite.
 use binary64::Reading;
 use libc::STDIN_FILENO;
 use libc::STDOUT_FILENO;

@@ -1,5 +1,4 @@
 -- What the program writes of a typed request: its bytes. What is wrong with the text: typed_requests, Meaning.
--- Assumes nothing: these are definitions.
 use mathlib.Core.List.{List, []}
 use Prim.Native.Nat.{ℕ}
 use Rattle.request_format.specs.Request.{bytesFor}

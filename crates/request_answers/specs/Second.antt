@@ -1,4 +1,5 @@
--- One second of a request's bytes, an eclipse's or a star's: the second and its numbers in the room lent, or the refusal. Assumes nothing: these are definitions.
+-- One second of a request's bytes, an eclipse's or a star's: the second and its numbers in the room lent, or the
+-- refusal.
 use mathlib.Core.Bool.{cond}
 use mathlib.Core.List.{List, [], _∷_, _++_}
 use Prim.Native.Nat.{ℕ}
@@ -29,7 +30,8 @@ abbrev pub wish : Shape → (request : List ℕ) → Asked
 wish Eclipse request = eclipseAsked (inputOf request)
 wish Star request = starAsked request
 
--- "Requests: 10, 1, 2, 3": the shape comes first. Document 02, wish 7: of a star 13 "after 2"; wish 8: then the 4 of the room for table S
+-- "Requests: 10, 1, 2, 3": the shape comes first. Document 02, wish 7: of a star 13 "after 2"; wish 8: then the 4 of
+-- the room for table S
 abbrev pub secondAsked : Asked → ℤ → (sines : List ℕ) → OneSecond
 secondAsked (W.Is o) τ sines = secondAnswer o τ sines
 secondAsked (W.Refused r) τ sines = O.Refused r
@@ -73,8 +75,8 @@ numbersAfter shape (O.Refused r) old = old
 
 -- ---- what its states mean
 
--- "Where our program says inside or outside, that is the exact answer. It says unsure only where the exact distance lies within 29 units of the
--- cone's edge", with the guard plus 13 for 29: of the number at place k of the room
+-- "Where our program says inside or outside, that is the exact answer. It says unsure only where the exact distance
+-- lies within 29 units of the cone's edge", with the guard plus 13 for 29: of the number at place k of the room
 abbrev pub StateMeans : Occultation → ℤ → Phase → (room : List ℤ) (k : ℕ) → Type 0
 StateMeans o τ φ room k = SaidRightly (stateOf (natAbs (getD room k (pos 0)))) (ExactlyInside o φ τ) (WithinUnits o (unsureUnits o) φ τ)
 

@@ -1,5 +1,4 @@
 -- The sheet of the program's input: the answer, and what the buffer and the room for table S hold afterwards.
--- Assumes nothing: these are definitions.
 use mathlib.Core.Path.{_≡_}
 use mathlib.Core.List.{List, []}
 use Prim.Native.Nat.{ℕ}

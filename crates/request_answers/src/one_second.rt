@@ -113,8 +113,8 @@ fn put_numbers(shape: Shape, room: &mut [i64], second: shadow::Second)
     }
 }
 
-// One second of a request of that shape, which may lie outside its window, and its numbers at the start of the room; or why not, and the room as
-// it was. `sines` is room for table S.
+// One second of a request of that shape, which may lie outside its window, and its numbers at the start of the room;
+// or why not, and the room as it was. `sines` is room for table S.
 pub fn second(
     shape: Shape,
     request: &[u8],

@@ -19,7 +19,8 @@ fn sheet_for(asked: Asked, sines: &mut [u32], buf: &mut [u8]) -> Answer
     }
 }
 
-// The contact sheet of the program's input, in the caller's buffer; `sines` is room for table S. Any bytes, any room, any buffer.
+// The contact sheet of the program's input, in the caller's buffer; `sines` is room for table S. Any bytes, any room,
+// any buffer.
 pub fn sheet(request: &[u8], sines: &mut [u32], buf: &mut [u8]) -> Answer
     ensures answer { λ r. ⌜ r ≡ answerTo (now (request .entry)) (now (sines .entry)) (now (buf .entry)) ⌝ }
     ensures buffer { λ r. ⌜ now (buf .exit) ≡ bufferFor (now (request .entry)) (now (sines .entry)) (now (buf .entry)) ⌝ }

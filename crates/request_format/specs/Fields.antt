@@ -1,5 +1,4 @@
 -- The numbers of a request in their order, an eclipse's or a star's: their names, their units and their bytes.
--- Assumes nothing: these are definitions.
 use Prim.Native.Nat.{ℕ, _-_, _/_, _^_}
 use Prim.Native.String.{String}
 use mathlib.Core.Bool.{Bool, true, false, cond, _&&_}
@@ -85,13 +84,15 @@ elements =
           ∷ mu ++ length8 "tan f1" ∷ length8 "tan f2" ∷ [];
     }
 
--- Document 02, wish 7: "The elements are x, y, d0 and μ, twelve numbers, places 0 to 11"; "L a lunar radius given with the request". DECISIONS:
--- "kind 05 with the 12 elements and the radius (signed, 4 bytes each), then kind 03 and kind 04 as in an eclipse's: 79 bytes"
+-- Document 02, wish 7: "The elements are x, y, d0 and μ, twelve numbers, places 0 to 11"; "L a lunar radius given with
+-- the request". DECISIONS: "kind 05 with the 12 elements and the radius (signed, 4 bytes each), then kind 03 and kind
+-- 04 as in an eclipse's: 79 bytes"
 abbrev pub starElements : Record
 starElements = record { kind = 0x05; numbers = x ++ y ++ angle "d0" ∷ mu ++ length8 "radius" ∷ [] }
 
--- "kind 03 and number (unsigned, 2 bytes), latitude, longitude, height (signed, 4 each)"; a height is in metres. Document 02, wish 1:
--- "ΔT in hundredths of a second"; "the station record in the program's input grows by 4 bytes at its end, signed"
+-- "kind 03 and number (unsigned, 2 bytes), latitude, longitude, height (signed, 4 each)"; a height is in metres.
+-- Document 02, wish 1: "ΔT in hundredths of a second"; "the station record in the program's input grows by 4 bytes at
+-- its end, signed"
 abbrev station : Record
 station =
     record {
@@ -101,8 +102,8 @@ station =
           ∷ number W.Signed4 "delta t" 2 ∷ [];
     }
 
--- "kind 04 and first, last (signed, 2 each)"; "Time: whole seconds". Document 02, wish 9: "a guard of 16 to 1,000, two bytes"; "the program's
--- kind 04 ends with it"
+-- "kind 04 and first, last (signed, 2 each)"; "Time: whole seconds". Document 02, wish 9: "a guard of 16 to 1,000, two
+-- bytes"; "the program's kind 04 ends with it"
 abbrev window : Record
 window = record { kind = 0x04; numbers = number W.Signed2 "first" 0 ∷ number W.Signed2 "last" 0 ∷ number W.Unsigned2 "guard" 0 ∷ [] }
 

@@ -1,5 +1,5 @@
 -- The programs' input: the request that its bytes hold, an eclipse's or a star's.
--- Assumes nothing: these are definitions. The bytes of a request: request_bytes, Layout and Request; its numbers: request_fields, Fields.
+-- The bytes of a request: request_bytes, Layout and Request; its numbers: request_fields, Fields.
 use mathlib.Core.Bool.{false}
 use mathlib.Core.List.{List, []}
 use Prim.Native.Nat.{ℕ, _+_}
@@ -42,7 +42,8 @@ stationFrom k ns =
 unfoldable pub windowFrom : ℕ → List ℤ → Window
 windowFrom k ns = record { first = number ns k; last = number ns (k + 1) }
 
--- document 02, wish 9: "the program's kind 04 ends with it". Wish 4: "(the program never does)" ask for a share, and no byte does
+-- document 02, wish 9: "the program's kind 04 ends with it". Wish 4: "(the program never does)" ask for a share, and
+-- no byte does
 unfoldable pub requestFrom : List ℤ → Request
 requestFrom ns = record { elements = elementsOf ns; station = stationFrom 22 ns; window = windowFrom 27 ns; guard = number ns 29; share = false }
 

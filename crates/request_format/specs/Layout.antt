@@ -1,5 +1,5 @@
 -- Numbers in records of bytes, by any layout: how they are written, and how they are read.
--- Assumes nothing: these are definitions. LayoutLaws has the law that each undoes the other.
+-- LayoutLaws has the law that each undoes the other.
 use mathlib.Core.Bool.{cond}
 use mathlib.Core.List.{List, [], _∷_, _++_, map}
 use Prim.Native.Nat.{ℕ, suc, _+_, _-_, _*_, _/_}

@@ -1,5 +1,4 @@
 -- The bytes of a request, an eclipse's or a star's: the layout of its numbers.
--- Assumes nothing: these are definitions.
 use mathlib.Core.List.{List}
 use Prim.Native.Nat.{ℕ}
 use lib.IntN.{ℤ}

@@ -1,5 +1,5 @@
--- The rows of the code's table are those of the definition: a name with blanks after it, and a kind where a record begins.
--- Assumes nothing: these are definitions.
+-- The rows of the code's table are those of the definition: a name with blanks after it, and a kind where a record
+-- begins.
 use Prim.Native.Nat.{ℕ}
 use Prim.Native.Char.{code}
 use Prim.Native.String.{String, [] as ε, _∷_ as _then_}

@@ -29,13 +29,13 @@ pub enum Width {
     Signed4,
 }
 
-// A number of a request: its name as it is typed, with blanks after it, and how long it is; how many decimals one unit has;
-// its bytes; and the kind of the record that begins with it, or 0 where none does.
+// A number of a request: its name as it is typed, with blanks after it, and how long it is; how many decimals one unit
+// has; its bytes; and the kind of the record that begins with it, or 0 where none does.
 pub struct Field(pub [u8; 9], pub usize, pub usize, pub Width, pub u8);
 
-// The elements of an eclipse; those of a star, and the Moon's radius; station and window, which follow both. A row has thirteen bytes: a name with
-// blanks after it, how long it is, how many decimals one unit has, its bytes (4 and 2 signed, u two unsigned), and the kind of the record that begins
-// with it, or 0 where none does.
+// The elements of an eclipse; those of a star, and the Moon's radius; station and window, which follow both. A row has
+// thirteen bytes: a name with blanks after it, how long it is, how many decimals one unit has, its bytes (4 and 2
+// signed, u two unsigned), and the kind of the record that begins with it, or 0 where none does.
 const TABLE: [u8; 559] = *b"\
     x0       2842\
     x1       2840\
@@ -157,7 +157,8 @@ fn field_from(row: &[u8]) -> Field
     Field(name, letters, decimals, width, kind)
 }
 
-// Number k of a request. It is for crates that go through the numbers, and has a `requires`, so it is none of the public promises.
+// Number k of a request. It is for crates that go through the numbers, and has a `requires`, so it is none of the
+// public promises.
 pub fn field_at(shape: Shape, k: usize) -> Field
     requires { ⌜ k < countOf shape ⌝ }
     ensures { λ r. ⌜ r ≡ rowAt shape k ⌝ }

@@ -1,5 +1,4 @@
 -- A typed request and the bytes that are made of it.
--- Assumes nothing: these are definitions.
 use mathlib.Core.Path.{_≡_}
 use mathlib.Core.List.{List, _++_}
 use Prim.Native.Nat.{ℕ}

@@ -1,5 +1,4 @@
 -- The instant that is typed: the date and time of second 0. The table of docs/CLOCK.md, "The instant as it is typed".
--- Assumes nothing: these are definitions.
 use Prim.Native.Nat.{ℕ, _+_, _*_}
 use mathlib.Core.Bool.{Bool, cond, _&&_, _||_}
 use mathlib.Core.List.{List}

@@ -1,5 +1,4 @@
 -- What a line of a typed request says: a number of the request and its value in whole units.
--- Assumes nothing: these are definitions.
 use Prim.Native.Nat.{ℕ}
 use mathlib.Core.Bool.{Bool, cond}
 use mathlib.Core.List.{List}
@@ -67,7 +66,8 @@ said l = drop (runOf C.Blank (content l)) (content l)
 unfoldable pub meaningOf : Shape → List ℕ → Line
 meaningOf shape l = cond (eqb (length (said l)) 0) L.Nothing (ofName shape (said l))
 
--- a line named `instant` gives the date and time of second 0, which is no number of the request: it is read by itself (`instants`)
+-- a line named `instant` gives the date and time of second 0, which is no number of the request: it is read by itself
+-- (`instants`)
 abbrev pub namesInstant : List ℕ → Bool
 namesInstant l = named (letters "instant") (said l)
 

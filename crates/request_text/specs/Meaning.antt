@@ -1,5 +1,4 @@
 -- What a typed text is: a request and its instant, or what is wrong with it.
--- Assumes nothing: these are definitions.
 use mathlib.Core.Bool.{Bool, cond}
 use mathlib.Core.List.{List, [], _++_}
 use Prim.Native.Nat.{ℕ}

@@ -1,5 +1,5 @@
 -- The names of a request's numbers, and which of them a line says.
--- Assumes nothing: these are definitions. The numbers: request_fields, Fields.
+-- The numbers: request_fields, Fields.
 use Prim.Native.Nat.{ℕ, _+_}
 use mathlib.Core.Bool.{Bool, true, false, cond, _&&_}
 use mathlib.Core.List.{List, [], _∷_, map}

@@ -1,5 +1,4 @@
 -- What the lines of a typed text say of the instant.
--- Assumes nothing: these are definitions.
 use Prim.Native.Nat.{ℕ, _+_}
 use mathlib.Core.Bool.{cond}
 use mathlib.Core.List.{List, [], _∷_}
@@ -20,7 +19,8 @@ use Rattle.request_text.specs.Instants.{instantOf}
 abbrev pub afterName : List ℕ → List ℕ
 afterName l = drop (length (letters "instant")) (said l)
 
--- line i gives an instant: "instant is not a date and time" for anything else, "instant is given twice" after one that was given
+-- line i gives an instant: "instant is not a date and time" for anything else, "instant is given twice" after one that
+-- was given
 abbrev pub taken : ℕ → Reading → Reference → Told
 taken i R.Malformed old = T.Refused i Wrong.Malformed
 taken i (R.Is x) Ref.Nothing = T.Is (Ref.At x)

@@ -1,5 +1,4 @@
 -- What is told of a line that names the instant and is refused.
--- Assumes nothing: these are definitions.
 use Prim.Native.Nat.{ℕ}
 use mathlib.Core.List.{List, _++_}
 use Rattle.request_text.specs.declared.instants.Wrong.{Wrong}

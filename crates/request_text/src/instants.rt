@@ -1,5 +1,5 @@
-// The instant that a person types with a request: the date and time of τ = 0, in ephemeris or universal time (docs/CLOCK.md). The words of one are
-// read here, a text's in `texts`.
+// The instant that a person types with a request: the date and time of τ = 0, in ephemeris or universal time
+// (docs/CLOCK.md). The words of one are read here, a text's in `texts`.
 mod forms;
 pub mod texts;
 

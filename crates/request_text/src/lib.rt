@@ -1,5 +1,5 @@
-// A request that a person types: text with one `name value` a line, to the numbers of the request in whole units. What it asks about is in `shapes`,
-// what a line gives a request in `beside`.
+// A request that a person types: text with one `name value` a line, to the numbers of the request in whole units. What
+// it asks about is in `shapes`, what a line gives a request in `beside`.
 pub mod beside;
 pub mod faults;
 pub mod instants;
@@ -134,7 +134,8 @@ fn fit(field: usize, width: Width, minus: usize, n: usize) -> Line
     Line::Given(field, value)
 }
 
-// A word as the value of a field. Like `note` it is for crates that read more than a request, and has a `requires`, so it is none of the public promises.
+// A word as the value of a field. Like `note` it is for crates that read more than a request, and has a `requires`, so
+// it is none of the public promises.
 pub fn value_of(shape: Shape, field: usize, word: &[u8]) -> Line
     requires { ⌜ field < countOf shape ⌝ }
     ensures { λ r. ⌜ r ≡ valueOf shape field (now (word .entry)) ⌝ }
@@ -236,7 +237,8 @@ pub fn complete(marks: &[u8]) -> Noted
     Noted::Taken
 }
 
-// The numbers that a text gives, as far as it has no fault. The numbers before the guard must be typed; the guard is 16 where it is left out.
+// The numbers that a text gives, as far as it has no fault. The numbers before the guard must be typed; the guard is
+// 16 where it is left out.
 fn read(shape: Shape, text: &[u8], marks: &mut [u8], found: &mut [i64]) -> Typed
     requires { ⌜ (now marks ≡ replicate (countOf shape) 0) × (now found ≡ replicate (countOf shape) (pos 0)) ⌝ }
     ensures { λ r. ⌜ Read shape (now (text .entry)) r (now (found .exit)) ⌝ }
@@ -263,7 +265,8 @@ fn read(shape: Shape, text: &[u8], marks: &mut [u8], found: &mut [i64]) -> Typed
     Typed::Numbers
 }
 
-// The numbers that a text gives of an eclipse, in whole units and in the order of the fields; or its first fault, and the numbers lent as they were.
+// The numbers that a text gives of an eclipse, in whole units and in the order of the fields; or its first fault, and
+// the numbers lent as they were.
 pub fn numbers(text: &[u8], out: &mut [i64; COUNT]) -> Typed
     ensures { λ r. ⌜ r ≡ answerOf (typingOf Eclipse (now (text .entry))) ⌝ }
     ensures { λ r. ⌜ now (out .exit) ≡ numbersFrom (typingOf Eclipse (now (text .entry))) (now (out .entry)) ⌝ }

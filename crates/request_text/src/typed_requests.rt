@@ -1,5 +1,5 @@
-// A request as a person types it, one `name value` a line and perhaps its instant: a text to the request's bytes and the instant, or the first fault
-// as a line of text.
+// A request as a person types it, one `name value` a line and perhaps its instant: a text to the request's bytes and
+// the instant, or the first fault as a line of text.
 mod encoding;
 mod messages;
 
@@ -51,7 +51,8 @@ fn first_of(typed: Typed, told: Told) -> First
     }
 }
 
-// The bytes of the request that a text is, at the start of the room, with its instant; or the message of its first fault, at the start of that room.
+// The bytes of the request that a text is, at the start of the room, with its instant; or the message of its first
+// fault, at the start of that room.
 pub fn read(text: &[u8], out: &mut [u8; LENGTH], message: &mut [u8; MESSAGE]) -> Answer
     ensures answer { λ r. ⌜ r ≡ answerOf (meaningOf (now (text .entry))) ⌝ }
     ensures bytes { λ r. ⌜ now (out .exit) ≡ bytesAfter (meaningOf (now (text .entry))) (now (out .entry)) ⌝ }

@@ -1,4 +1,5 @@
--- The room for table S: what a request is refused for before its sheet, and what the room holds afterwards. Document 02, wish 8. Definitions only.
+-- The room for table S: what a request is refused for before its sheet, and what the room holds afterwards. Document
+-- 02, wish 8. Definitions only.
 use mathlib.Core.Bool.{cond}
 use mathlib.Core.List.{List}
 use Prim.Native.Nat.{ℕ}
@@ -19,7 +20,8 @@ roomChecked room = cond (leb 901 (length room)) Within (Refused (refusal 4 901))
 unfoldable pub admitted : Occultation → List ℕ → Checked
 admitted o room = andThen (checked o) (roomChecked room)
 
--- "each request fills 901 numbers of lent room .. once only the sheet's 4 can still refuse", "which alone leaves this room filled"
+-- "each request fills 901 numbers of lent room .. once only the sheet's 4 can still refuse", "which alone leaves this
+-- room filled"
 abbrev pub sinesAfter : Checked → List ℕ → List ℕ
 sinesAfter Within room = filled room
 sinesAfter (Refused r) room = room

@@ -8,7 +8,8 @@ use Rattle.station.specs.Mirror.{mirroredStation}
 use Rattle.requests.specs.declared.Request.{Request}
 use Rattle.requests.specs.declared.Occultation.{Occultation}
 
--- document 02, wish 13: "change the sign of all y and d coefficients and of the latitude", and nothing else; f changes a sign
+-- document 02, wish 13: "change the sign of all y and d coefficients and of the latitude", and nothing else; f changes
+-- a sign
 abbrev pub mirroredRequest : (f : ℤ → ℤ) → Request → Request
 mirroredRequest f q = record { elements = mirroredElements f (q .elements); station = mirroredStation f (q .station); window = q .window; guard = q .guard; share = q .share }
 

@@ -34,8 +34,8 @@ guardHolds g = leZ (pos 16) g && leZ g (pos 1000)
 abbrev pub guardChecked : ℤ → Checked
 guardChecked g = cond (guardHolds g) Within (Refused (refusal 1 1))
 
--- "Requests: 10, 1, 2, 3, 4". Of these the numbers raise 1, then 2, an element's, then 3, a station value's; document 02, wish 7:
--- "13 with place 0 for the radius, after 2"
+-- "Requests: 10, 1, 2, 3, 4". Of these the numbers raise 1, then 2, an element's, then 3, a station value's; document
+-- 02, wish 7: "13 with place 0 for the radius, after 2"
 unfoldable pub checked : Occultation → Checked
 checked o =
     andThen (windowChecked (o .window))

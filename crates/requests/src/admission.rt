@@ -20,7 +20,8 @@ pub fn fill_sines(sines: &mut [u32]) -> Checked
     Checked::Within
 }
 
-// Whether only the sheet's 4 can still refuse it, or the first of its refusals before that; the room is filled in the first case alone.
+// Whether only the sheet's 4 can still refuse it, or the first of its refusals before that; the room is filled in the
+// first case alone.
 pub fn admit(o: Occultation, sines: &mut [u32]) -> Checked
     ensures answer { λ r. ⌜ r ≡ admitted o (now (sines .entry)) ⌝ }
     ensures sines { λ r. ⌜ now (sines .exit) ≡ sinesAfter (admitted o (now (sines .entry))) (now (sines .entry)) ⌝ }

@@ -1,5 +1,5 @@
-// A request: the elements of an eclipse, a station, a window of seconds, a guard, and whether a share is asked for; or a star's. Both ask
-// for an occultation. Its limits, and the refusals 1, 2, 13 and 3.
+// A request: the elements of an eclipse, a station, a window of seconds, a guard, and whether a share is asked for; or
+// a star's. Both ask for an occultation. Its limits, and the refusals 1, 2, 13 and 3.
 pub mod admission;
 pub mod windows;
 

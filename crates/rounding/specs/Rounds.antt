@@ -21,7 +21,8 @@ roundsOf n = bits n / 2 + bits n % 2
 abbrev pub taken : ℕ → ℕ → ℕ
 taken n k = n / 2 ^ (2 * (roundsOf n - k))
 
--- the number held after k rounds: nothing at first; a round doubles it, and adds one if the square of that is within the bits taken in
+-- the number held after k rounds: nothing at first; a round doubles it, and adds one if the square of that is within
+-- the bits taken in
 unfoldable pub held : ℕ → ℕ → ℕ
 held n zero = 0
 held n (suc k) = more (taken n (suc k)) (held n k)
@@ -32,7 +33,8 @@ pub record Holds (n i r rest : ℕ) : Type 0 where
   pub number : r ≡ held n (roundsOf n - i)
   pub above : r * r + rest ≡ taken n (roundsOf n - i)
 
--- "The reported number equals that of the definition and is at most 30 for anything below 2^60. The roots themselves stay."
+-- "The reported number equals that of the definition and is at most 30 for anything below 2^60. The roots themselves
+-- stay."
 pub record Reported (n r k : ℕ) : Type 0 where
   pub stays : r ≡ root n
   pub equals : k ≡ roundsOf n

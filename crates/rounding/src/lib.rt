@@ -1,4 +1,5 @@
-// Rounding to the nearest, square roots and sizes, over 64-bit whole numbers; in a module of its own the rounds of the root.
+// Rounding to the nearest, square roots and sizes, over 64-bit whole numbers; in a module of its own the rounds of the
+// root.
 pub mod roots;
 
 ghost use mathlib.Core.Path.{_≡_};
@@ -11,8 +12,9 @@ ghost use Rattle.rounding.specs.Near.{near};
 ghost use Rattle.rounding.specs.Root.{root};
 ghost use Rattle.rounding.specs.Limits.{firstOutOfRange, rows};
 
-// The whole number nearest to n / k, halves going away from zero: half of k is added to the size, and division rounds toward
-// zero. Half of an odd k is rounded down, and n / k is then never a half. With a literal k it compiles to one multiplication.
+// The whole number nearest to n / k, halves going away from zero: half of k is added to the size, and division rounds
+// toward zero. Half of an odd k is rounded down, and n / k is then never a half. With a literal k it compiles to one
+// multiplication.
 pub fn near(n: i64, k: i64) -> i64
     requires { ⌜ (natAbs n ≤ 4000000000000000000) × (natAbs k ≤ 10000000000000000) × (pos 1 ≤ℤ k) ⌝ }
     ensures { λ r. ⌜ r ≡ near n k ⌝ }

@@ -34,7 +34,8 @@ fn round(n: u64, i: u32, held: Held) -> Held
     }
 }
 
-// The largest whole number whose square is at most n, and in how many rounds it was found: leading zeros give the bit pair to start from.
+// The largest whole number whose square is at most n, and in how many rounds it was found: leading zeros give the bit
+// pair to start from.
 pub fn root_and_rounds(n: u64) -> Root
     ensures { λ r. ⌜ Reported n (r .root) (r .rounds) ⌝ }
 {

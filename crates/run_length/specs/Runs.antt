@@ -1,6 +1,7 @@
--- The states of the seconds of a window, of two phases in one list of bytes. Definitions only.
--- A run is a spell of seconds that have the same two states. Its first byte holds the states, in its lower four bits, and in its upper
--- four how long it is: at 0 it is one second, in one byte; at 1 + h a second byte n follows, and it is h * 256 + n seconds.
+-- The states of the seconds of a window, of two phases in one list of bytes. Definitions only. A run is a spell of
+-- seconds that have the same two states. Its first byte holds the states, in its lower four bits, and in its upper
+-- four how long it is: at 0 it is one second, in one byte; at 1 + h a second byte n follows, and it is h * 256 + n
+-- seconds.
 use Prim.Native.Nat.{ℕ, zero, suc, _+_, _*_, _/_, _%_, _≤_, _<_}
 use mathlib.Core.Path.{_≡_}
 use mathlib.Core.List.{List, [], _∷_, _++_}

@@ -1,4 +1,5 @@
--- How far the shadow at a second is from the exact one: of every second of every occultation within its limits (`errors-proved`).
+-- How far the shadow at a second is from the exact one: of every second of every occultation within its limits
+-- (`errors-proved`).
 use Prim.Native.Nat.{_*_, _≤_}
 use lib.IntN.{ℤ, pos, natAbs, _-ℤ_, _*ℤ_}
 use Rattle.sheet_types.specs.declared.phases.Phase.{Phase}
@@ -16,8 +17,9 @@ use Rattle.requests.specs.RequestLaws.{InLimits}
 use Rattle.seconds.specs.Seconds.{momentAt}
 use Rattle.seconds.specs.laws.SecondLaws.{placed}
 
--- "Errors to be proved: u within 7 units, v 7½, L1 and L2 within 3; and the distance less L, taken as a whole, within 13":
--- each over the denominator D of the exact values; the last as document 01 says it, for every whole t (geometry, Thirteen)
+-- "Errors to be proved: u within 7 units, v 7½, L1 and L2 within 3; and the distance less L, taken as a whole, within
+-- 13": each over the denominator D of the exact values; the last as document 01 says it, for every whole t (geometry,
+-- Thirteen)
 pub record Errors (o : Occultation) (τ : ℤ) : Type 0 where
   pub u : natAbs (pos D *ℤ Shadow.u (momentAt o τ) -ℤ exact-u (momentAt o τ)) ≤ 7 * D
   pub v : 2 * natAbs (pos D *ℤ Shadow.v (momentAt o τ) -ℤ exact-v (momentAt o τ)) ≤ 15 * D

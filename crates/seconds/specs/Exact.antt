@@ -1,4 +1,5 @@
--- The exact answer at a second of an occultation, "From the same sines, cosines and station place", and what the states said of it mean. Definitions only.
+-- The exact answer at a second of an occultation, "From the same sines, cosines and station place", and what the
+-- states said of it mean. Definitions only.
 use Prim.Native.Nat.{ℕ, _+_}
 use lib.IntN.{ℤ, pos, natAbs}
 use Rattle.sheet_types.specs.declared.phases.Phase.{Phase}
@@ -24,8 +25,8 @@ WithinUnits o n φ τ = Exact.WithinUnits (pos n) φ (momentAt o τ) (cone (o .b
 abbrev pub unsureUnits : Occultation → ℕ
 unsureUnits o = natAbs (o .guard) + 13
 
--- "Where our program says inside or outside, that is the exact answer. It says unsure only where the exact distance lies within 29 units of the
--- cone's edge": of the two states of a second that was answered
+-- "Where our program says inside or outside, that is the exact answer. It says unsure only where the exact distance
+-- lies within 29 units of the cone's edge": of the two states of a second that was answered
 pub record SecondMeans (o : Occultation) (τ : ℤ) (x : Second) : Type 0 where
   pub penumbra : SaidRightly (stateOf (x .penumbra)) (ExactlyInside o (firstPhase o) τ) (WithinUnits o (unsureUnits o) (firstPhase o) τ)
   pub central : SaidRightly (stateOf (x .central)) (ExactlyInside o (secondPhase o) τ) (WithinUnits o (unsureUnits o) (secondPhase o) τ)

@@ -1,5 +1,5 @@
--- Document 02, wish 9: "Larger guards may only withhold: whatever second is sure under a guard is sure, with the same answer, under every
--- smaller one."
+-- Document 02, wish 9: "Larger guards may only withhold: whatever second is sure under a guard is sure, with the same
+-- answer, under every smaller one."
 use mathlib.Core.Path.{_≡_}
 use lib.IntN.{ℤ, pos}
 use lib.Signed.{_≤ℤ_}

@@ -1,4 +1,5 @@
--- what to believe: what is said of a second of a request, the closest second, all that is answered of one second, what a smaller guard keeps
+-- what to believe: what is said of a second of a request, the closest second, all that is answered of one second, what
+-- a smaller guard keeps
 pub mod Seconds
 pub mod Closest
 pub mod OneSecond

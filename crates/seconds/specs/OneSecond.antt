@@ -53,7 +53,8 @@ abbrev pub secondBy : Checked → Occultation → ℤ → OneSecond
 secondBy (C.Refused r) o τ = O.Refused r
 secondBy C.Within o τ = O.Is (wholeSecond o τ)
 
--- "1 | window outside its range | 0" too for a second outside -10,800..10,800; then the refusals of the request and of its room for table S
+-- "1 | window outside its range | 0" too for a second outside -10,800..10,800; then the refusals of the request and of
+-- its room for table S
 unfoldable pub secondChecked : Occultation → ℤ → List ℕ → Checked
 secondChecked o τ sines = cond (inSpan τ) (admitted o sines) (C.Refused (refusal 1 0))
 

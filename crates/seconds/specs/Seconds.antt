@@ -19,8 +19,8 @@ use Rattle.seconds.specs.Closest.{closestTo}
 abbrev pub momentAt : Occultation → ℤ → Moment
 momentAt o τ = momentOf (axisOf (o .body)) (placeOf (o .station)) τ
 
--- the state of a phase, the direction and the magnitude at second τ (shadow, Second). Document 02, wish 9: "Each 16 in the shadow rules
--- becomes the guard"
+-- the state of a phase, the direction and the magnitude at second τ (shadow, Second). Document 02, wish 9: "Each 16 in
+-- the shadow rules becomes the guard"
 unfoldable pub stateAt : Occultation → Phase → ℤ → State
 stateAt o φ τ = Shadow.stateAt (o .guard) (o .body) (placeOf (o .station)) φ τ
 

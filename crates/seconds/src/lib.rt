@@ -91,7 +91,8 @@ fn second_within(table: &[u32], o: Occultation, t: i64) -> shadow::Second
     }
 }
 
-// The shadow, the states, the magnitude and the direction at second t of an occultation, which may lie outside its window; `sines` is room for table S.
+// The shadow, the states, the magnitude and the direction at second t of an occultation, which may lie outside its
+// window; `sines` is room for table S.
 pub fn second(o: Occultation, t: i64, sines: &mut [u32]) -> OneSecond
     ensures answer { λ r. ⌜ r ≡ secondAnswer o t (now (sines .entry)) ⌝ }
     ensures sines { λ r. ⌜ now (sines .exit) ≡ secondSines o t (now (sines .entry)) ⌝ }

@@ -1,4 +1,5 @@
--- The letters of a second's shadow, as they are read back from their bits; and what the magnitude and the direction ask of them.
+-- The letters of a second's shadow, as they are read back from their bits; and what the magnitude and the direction
+-- ask of them.
 use mathlib.Core.Path.{_≡_, sym, _∙_}
 use Prim.Native.Nat.{_≤_}
 use lib.IntN.{ℤ, pos, natAbs, _*ℤ_}

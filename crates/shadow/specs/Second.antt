@@ -23,7 +23,8 @@ use Rattle.shadow.specs.declared.Sample.{Sample}
 use Rattle.shadow.specs.declared.Second.{Second}
 use Rattle.shadow.specs.Shadow.{IsShadow}
 
--- "Penumbra, with L = L1 and M = u²+v² .. Central: the same with L the size of L2."; document 02, wish 7: a star's "L a lunar radius"
+-- "Penumbra, with L = L1 and M = u²+v² .. Central: the same with L the size of L2."; document 02, wish 7: a star's "L
+-- a lunar radius"
 unfoldable pub stateAt : (guard : ℤ) (b : Body) (p : Place) → Phase → (τ : ℤ) → State
 stateAt guard b p φ τ =
     state guard (edge φ (L (momentOf (axisOf b) p τ) (cone b φ))) (M (momentOf (axisOf b) p τ))

@@ -1,4 +1,5 @@
-// The shadow of what the Moon hides, the Sun or a star: its phases, what it is at a second, and the direction of its axis.
+// The shadow of what the Moon hides, the Sun or a star: its phases, what it is at a second, and the direction of its
+// axis.
 use super::Sample;
 use elements::Body;
 use sheet_types::phases::Phase;

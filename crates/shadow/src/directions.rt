@@ -11,8 +11,9 @@ fn wide(x: u32) -> u64
     x as u64
 }
 
-// The direction within a quarter, tenths of a degree, of an axis that lies u across and v along. As k grows the one side rises
-// and the other falls, so the largest k is found by halving: low reaches, and nothing from high to 899 does.
+// The direction within a quarter, tenths of a degree, of an axis that lies u across and v along. As k grows the one
+// side rises and the other falls, so the largest k is found by halving: low reaches, and nothing from high to 899
+// does.
 fn quarter(table: &[u32], u: u64, v: u64) -> u16
     requires { ⌜ (Sines (now table)) × (u ≤ 1000000000) × (v ≤ 1000000000) ⌝ }
     ensures { λ r. ⌜ r ≡ quarter S (pos u) (pos v) ⌝ }
@@ -32,7 +33,8 @@ fn quarter(table: &[u32], u: u64, v: u64) -> u16
     low as u16
 }
 
-// The direction of the axis that lies u to the east and v to the north: tenths of a degree, north through east; 65,535 at the axis itself.
+// The direction of the axis that lies u to the east and v to the north: tenths of a degree, north through east; 65,535
+// at the axis itself.
 pub fn direction(table: &[u32], u: i64, v: i64) -> u16
     requires { ⌜ (Sines (now table)) × (natAbs u ≤ 1000000000) × (natAbs v ≤ 1000000000) ⌝ }
     ensures { λ r. ⌜ r ≡ direction S u v ⌝ }

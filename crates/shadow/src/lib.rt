@@ -191,7 +191,8 @@ pub fn shadow_at(table: &[u32], e: elements::Elements, place: station::Place, t:
     Shadow { u, v, l1, l2, m }
 }
 
-// 0 outside, 1 inside, 2 unsure: where a distance whose square is m stands to a radius l, under a guard. No root is taken.
+// 0 outside, 1 inside, 2 unsure: where a distance whose square is m stands to a radius l, under a guard. No root is
+// taken.
 pub fn state(guard: i64, l: i64, m: i64) -> u8
     requires { ⌜ (natAbs guard ≤ 1000) × (natAbs l ≤ 600000000) × (natAbs m ≤ 1000000000000000000) ⌝ }
     ensures { λ r. ⌜ r ≡ code (state guard l m) ⌝ }

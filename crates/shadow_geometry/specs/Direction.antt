@@ -1,4 +1,5 @@
--- The direction of the shadow's axis from the station, over a table S of sines (entry k for k tenths of a degree, 0 to 900).
+-- The direction of the shadow's axis from the station, over a table S of sines (entry k for k tenths of a degree, 0 to
+-- 900).
 use mathlib.Core.Bool.{Bool, _&&_, cond}
 use Prim.Native.Nat.{ℕ, zero, suc, _+_, _-_, _≤_, _<_}
 use lib.IntN.{ℤ, pos, negℤ, _*ℤ_}
@@ -18,7 +19,8 @@ unfoldable pub largest : (S : ℕ → ℕ) (u v : ℤ) → ℕ → ℕ
 largest S u v zero = 0
 largest S u v (suc k) = cond (reaches S u v (suc k)) (suc k) (largest S u v k)
 
--- "Direction in tenths of a degree, north through east. For u ≥ 0, v > 0 it is the largest k in 0..899 with u·S[900-k] ≥ v·S[k]."
+-- "Direction in tenths of a degree, north through east. For u ≥ 0, v > 0 it is the largest k in 0..899 with u·S[900-k]
+-- ≥ v·S[k]."
 unfoldable pub quarter : (S : ℕ → ℕ) (u v : ℤ) → ℕ
 quarter S u v = largest S u v 899
 

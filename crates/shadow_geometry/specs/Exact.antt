@@ -1,5 +1,5 @@
--- The exact shadow at one second, the measure of demand 3. Each value is a numerator over a denominator that its comment names;
--- u, v and L stand over one, D, so that fractions are cleared once, here.
+-- The exact shadow at one second, the measure of demand 3. Each value is a numerator over a denominator that its
+-- comment names; u, v and L stand over one, D, so that fractions are cleared once, here.
 use Prim.Native.Nat.{ℕ, _*_}
 use lib.IntN.{ℤ, pos, _+ℤ_, _-ℤ_, _*ℤ_}
 use lib.Signed.{_≤ℤ_, _<ℤ_}

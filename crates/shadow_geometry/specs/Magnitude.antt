@@ -16,8 +16,9 @@ isInside inside = true
 isInside outside = false
 isInside unsure = false
 
--- "Magnitude in millionths, rounded down: (L1-L2)/(L1+L2) if central is inside; otherwise (L1-root(M))/(L1+L2), and 0 if that is negative.",
--- of the state of central, L1, L2 with its sign, and M. Within the ranges L1+L2 is above 0 (MagnitudeLaws, sum-positive)
+-- "Magnitude in millionths, rounded down: (L1-L2)/(L1+L2) if central is inside; otherwise (L1-root(M))/(L1+L2), and 0
+-- if that is negative.", of the state of central, L1, L2 with its sign, and M. Within the ranges L1+L2 is above 0
+-- (MagnitudeLaws, sum-positive)
 unfoldable pub magnitude : State → (L1 L2 M : ℤ) → ℕ
 magnitude w L1 L2 M =
     cond (isInside w) (millionths (L1 -ℤ L2) (L1 +ℤ L2))

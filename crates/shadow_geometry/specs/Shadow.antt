@@ -98,14 +98,15 @@ M m = u m ² +ℤ v m ²
 
 -- ---- the states
 
--- "Penumbra, with L = L1 .. Central: the same with L the size of L2.": where the cone's edge is. Document 02, wish 7: "L a lunar radius given
--- with the request"
+-- "Penumbra, with L = L1 .. Central: the same with L the size of L2.": where the cone's edge is. Document 02, wish 7:
+-- "L a lunar radius given with the request"
 abbrev pub edge : Phase → ℤ → ℤ
 edge Penumbra L1 = L1
 edge Central L2 = pos (natAbs L2)
 edge Star L = L
 
--- "*inside* if L > 16 and M < (L-16)²; *outside* if M > (L+16)²; otherwise *unsure*", with the guard g for 16, r for L and s for M
+-- "*inside* if L > 16 and M < (L-16)²; *outside* if M > (L+16)²; otherwise *unsure*", with the guard g for 16, r for L
+-- and s for M
 unfoldable pub state : (g r s : ℤ) → State
 state g r s =
     cond (ltZ g r && ltZ s ((r -ℤ g) ²)) inside

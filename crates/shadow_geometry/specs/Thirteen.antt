@@ -1,6 +1,6 @@
--- The distance less L, taken as a whole, is known to 13 units.
--- Why: the point (u, v) is within 7 and 7½ units of its exact place, so within 10.26 of it (49 + 56.25 < 10.26²), and L is within 2.505:
--- together 12.765. Both directions hold strictly, which the states at a guard of 13 need (States).
+-- The distance less L, taken as a whole, is known to 13 units. Why: the point (u, v) is within 7 and 7½ units of its
+-- exact place, so within 10.26 of it (49 + 56.25 < 10.26²), and L is within 2.505: together 12.765. Both directions
+-- hold strictly, which the states at a guard of 13 need (States).
 use mathlib.Core.Path.{_≡_, _∙_, ap}
 use mathlib.Core.List.{[], _∷_}
 use mathlib.Core.Logic.{⊎-elim}
@@ -21,8 +21,9 @@ use Rattle.shadow_geometry.specs.Exact.{D, exact-u, exact-v, exact-L, ex
 use Rattle.shadow_geometry.specs.laws.Errors.{u-error, v-error, L-inner}
 use Rattle.shadow_geometry.specs.laws.Triangle.{le-of-squares, squares-of-size, triangle}
 
--- "the 13 below is said for every whole t with L+t not negative: where M is at most (L+t)², the exact distance is at most the exact L plus t+13,
--- and where M is at least (L+t)², it is at least the exact L plus t-13". The second holds whatever the sign of L+t.
+-- "the 13 below is said for every whole t with L+t not negative: where M is at most (L+t)², the exact distance is at
+-- most the exact L plus t+13, and where M is at least (L+t)², it is at least the exact L plus t-13". The second holds
+-- whatever the sign of L+t.
 pub record Thirteen (φ : Phase) (m : Moment) (k : Cone) : Type 0 where
   pub at-most : (t : ℤ) → pos 0 ≤ℤ (edge φ (L m k) +ℤ t) → M m ≤ℤ ((edge φ (L m k) +ℤ t) ²)
       → AtMost (exact-M m) (exact-edge φ m k +ℤ (t +ℤ pos 13) *ℤ pos D)
@@ -37,7 +38,8 @@ pub record Approximate (D : ℕ) (u v r E N K : ℤ) : Type 0 where
   pub v-error : 2 * natAbs (pos D *ℤ v -ℤ N) ≤ 15 * D
   pub r-error : 1000 * natAbs (pos D *ℤ r -ℤ K) ≤ 2505 * D
 
--- (x, y) is within 7 and 7½ units of (p, q), which is at most a away: in hundredths, x² + y² ≤ (a + 10.26 D)². Used in both directions
+-- (x, y) is within 7 and 7½ units of (p, q), which is at most a away: in hundredths, x² + y² ≤ (a + 10.26 D)². Used in
+-- both directions
 reach : (D : ℕ) (p q x y a : ℤ) → pos 0 ≤ℤ a → natAbs (p -ℤ x) ≤ 7 * D → 2 * natAbs (q -ℤ y) ≤ 15 * D → (p ² +ℤ q ²) ≤ℤ (a ²)
     → ((pos 100 *ℤ x) ² +ℤ (pos 100 *ℤ y) ²) ≤ℤ ((pos 100 *ℤ a +ℤ pos 1026 *ℤ pos D) ²)
 reach D p q x y a ha hx hy h =

@@ -1,5 +1,4 @@
 -- What the program prints: a line for each request of its input, of the first second of its window.
--- Assumes nothing: these are definitions.
 use Prim.Native.Nat.{ℕ}
 use mathlib.Core.List.{List, [], _∷_}
 use lib.IntN.{pos}

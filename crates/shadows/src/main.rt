@@ -1,6 +1,6 @@
-// Reads requests of 115 bytes from standard input, 65,536 bytes at most, and prints for each a line, of the first second of its window:
-// u, v, L1, L2, the states of penumbra and central (0 outside, 1 inside, 2 unsure), the direction and the magnitude;
-// or the refusal.
+// Reads requests of 115 bytes from standard input, 65,536 bytes at most, and prints for each a line, of the first
+// second of its window: u, v, L1, L2, the states of penumbra and central (0 outside, 1 inside, 2 unsure), the
+// direction and the magnitude; or the refusal.
 use libc::STDIN_FILENO;
 use libc::STDOUT_FILENO;
 use request_format::input::Input;

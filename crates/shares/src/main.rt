@@ -1,5 +1,6 @@
-// Prints 300 lines, each L1, L2 and M, drawn over all that can arise, and the covered share of the Sun's disc. In the first half the
-// Moon's centre is near the Sun's, so that the eclipse is total, annular or nearly so; in the second it is anywhere.
+// Prints 300 lines, each L1, L2 and M, drawn over all that can arise, and the covered share of the Sun's disc. In the
+// first half the Moon's centre is near the Sun's, so that the eclipse is total, annular or nearly so; in the second it
+// is anywhere.
 use libc::STDOUT_FILENO;
 ghost use mathlib.Core.Path.{_≡_};
 ghost use Prim.Native.Nat.{_<_};

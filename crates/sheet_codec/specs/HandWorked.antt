@@ -1,4 +1,5 @@
--- The hand-worked sheet of document 01, as entries: well formed, 45 bytes long, and read back from its bytes. It shows how the laws build a sheet up.
+-- The hand-worked sheet of document 01, as entries: well formed, 45 bytes long, and read back from its bytes. It shows
+-- how the laws build a sheet up.
 use mathlib.Core.Path.{_≡_, refl}
 use mathlib.Core.List.{List, [], _∷_}
 use native.Mathlib.Omega.{arith}
@@ -32,7 +33,8 @@ listing-well =
     (well-step _ (step-leave Central 4800 16800 10701 C.Enter 10899 10901 (omega arith) (omega arith) (omega arith) 900 refl (omega arith) refl)
     (well-closest Central 4800 16800 10901 C.Leave 10800 1037735 (omega arith) (omega arith) (omega arith))))))))
 
--- "a buffer of 43 bytes succeeds"; document 02, wish 9: "the cases in document 01 use guard 16, with 45 and 44 bytes for 43 and 42"
+-- "a buffer of 43 bytes succeeds"; document 02, wish 9: "the cases in document 01 use guard 16, with 45 and 44 bytes
+-- for 43 and 42"
 pub listing-length : length (bytesOf listing) ≡ 45
 unfolding listing bytesOf
 listing-length = refl

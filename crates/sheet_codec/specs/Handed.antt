@@ -1,5 +1,4 @@
 -- Entries handed over to be written: five numbers each, and the sheet that they make.
--- Assumes nothing: these are definitions.
 use Prim.Native.Nat.{ℕ, suc, _+_, _*_}
 use mathlib.Core.List.{List, _++_}
 use mathlib.Core.Bool.{cond}
@@ -23,17 +22,19 @@ use Rattle.sheet_codec.specs.Sheets.{Sheet, sheet, refused, sheetFrom, a
 abbrev pub numbered : List ℕ → ℕ → Kind → Entry
 numbered l i k = record { kind = k; a = getD l (i * 5 + 1) 0; b = getD l (i * 5 + 2) 0; c = getD l (i * 5 + 3) 0; d = getD l (i * 5 + 4) 0 }
 
--- "5 | kind not in the table | first byte of that record"; the place after the record is that of the bytes it would have
+-- "5 | kind not in the table | first byte of that record"; the place after the record is that of the bytes it would
+-- have
 abbrev pub ofNamed : List ℕ → ℕ → ℕ → Named → Record
 ofNamed l i at Named.Unknown = Refused (refusal 5 at)
 ofNamed l i at (Named.Is k) = Is (numbered l i k) (at + sizeOf k)
 
--- "6 (the list stops before its end entry) .. at the place their record has or would have": the i-th entry of a list, whose record stands at
--- byte `at`; the last one to three numbers are an entry cut short
+-- "6 (the list stops before its end entry) .. at the place their record has or would have": the i-th entry of a list,
+-- whose record stands at byte `at`; the last one to three numbers are an entry cut short
 unfoldable pub handedAt : List ℕ → ℕ → ℕ → Record
 handedAt l i at = cond (leb (i * 5 + 5) (length l)) (ofNamed l i at (kindFor (getD l (i * 5) 0))) (Refused (refusal 6 at))
 
--- "Entries handed over to be written meet 5, 8, 7, 6": the sheet of the entries that a list begins with, up to the first end entry
+-- "Entries handed over to be written meet 5, 8, 7, 6": the sheet of the entries that a list begins with, up to the
+-- first end entry
 unfoldable pub listSheet : List ℕ → Sheet
 listSheet l = sheetFrom (handedAt l) (suc (length l)) start 0 0
 

@@ -1,5 +1,5 @@
--- Document 02, wish 9: "7 in a sheet, so also for a whole old sheet". An old sheet has a head without a guard: its reader takes the two bytes
--- after it, a kind and the next, for the guard, and no kind after a head is so small.
+-- Document 02, wish 9: "7 in a sheet, so also for a whole old sheet". An old sheet has a head without a guard: its
+-- reader takes the two bytes after it, a kind and the next, for the guard, and no kind after a head is so small.
 use Prim.Native.Nat.{ℕ, _≤_}
 use mathlib.Core.Path.{_≡_, refl, sym, ap, _∙_}
 use mathlib.Core.List.{List, [], _∷_, _++_, append-nil, append-assoc}

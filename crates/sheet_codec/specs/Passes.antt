@@ -1,5 +1,5 @@
--- What the parts of a reader, and of a writer, answer each other. Callers go by `extentOf`, `roomAfter` and `bufferAfterList`.
--- Assumes nothing: these are definitions.
+-- What the parts of a reader, and of a writer, answer each other. Callers go by `extentOf`, `roomAfter` and
+-- `bufferAfterList`.
 use Prim.Native.Nat.{ℕ, _+_, _*_, _≤_}
 use mathlib.Core.List.{List}
 use lib.ListN.{length}

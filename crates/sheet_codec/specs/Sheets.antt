@@ -1,5 +1,4 @@
 -- A sheet: records one after the other, up to the end record.
--- Assumes nothing: these are definitions.
 use Prim.Native.Nat.{ℕ, zero, suc, _+_, _/_}
 use mathlib.Core.List.{List, [], _∷_, _++_}
 use mathlib.Core.Bool.{Bool, cond}
@@ -20,7 +19,8 @@ use Rattle.sheet_format.specs.RecordEntries.{numbersOf}
 use Rattle.sheet_rules.specs.Rules.{start, afterOf, judgementOf}
 use Rattle.sheet_format.specs.Records.{recordAt}
 
--- what a list of bytes, or of numbers, is as a sheet: its entries, head and end among them, and its length in bytes; or the refusal
+-- what a list of bytes, or of numbers, is as a sheet: its entries, head and end among them, and its length in bytes;
+-- or the refusal
 pub data Sheet : Type 0 where
   sheet : List Entry → ℕ → Sheet
   refused : Refusal → Sheet
@@ -43,8 +43,8 @@ abbrev pub onward : Record → (Entry → ℕ → Sheet) → Sheet
 onward (Refused r) go = refused r
 onward (Is e next) go = cond (isEnd (e .kind)) (sheet (e ∷ []) next) (more e (go e next))
 
--- "Sheets: first faulty record": the sheet from the i-th record on, which stands at byte `at`; `given` gives each, and it is judged by what
--- came before it. `fuel` bounds the records to come.
+-- "Sheets: first faulty record": the sheet from the i-th record on, which stands at byte `at`; `given` gives each, and
+-- it is judged by what came before it. `fuel` bounds the records to come.
 unfoldable pub sheetFrom : (ℕ → ℕ → Record) → ℕ → Progress → ℕ → ℕ → Sheet
 sheetFrom given zero p i at = refused (refusal 6 at)
 sheetFrom given (suc fuel) p i at = onward (judged p at (given i at)) (λ e next. sheetFrom given fuel (afterOf p e) (i + 1) next)
@@ -53,11 +53,13 @@ sheetFrom given (suc fuel) p i at = onward (judged p at (given i at)) (λ e next
 abbrev pub storedAt : List ℕ → ℕ → ℕ → Record
 storedAt s i at = recordAt s at
 
--- the sheet that some bytes begin with, whatever stands after it. A record has a byte at least, so there are no more records than bytes.
+-- the sheet that some bytes begin with, whatever stands after it. A record has a byte at least, so there are no more
+-- records than bytes.
 unfoldable pub readSheet : List ℕ → Sheet
 readSheet s = sheetFrom (storedAt s) (suc (length s)) start 0 0
 
--- "9 | bytes after the end record | first of them": `over` says of the entries' number and the length whether anything follows
+-- "9 | bytes after the end record | first of them": `over` says of the entries' number and the length whether anything
+-- follows
 abbrev pub alone : (ℕ → ℕ → Bool) → Sheet → Sheet
 alone over (refused r) = refused r
 alone over (sheet es n) = cond (over (length es) n) (refused (refusal 9 n)) (sheet es n)
@@ -80,7 +82,8 @@ abbrev pub readInto : ℕ → Sheet → Extent
 readInto k (refused r) = X.Refused r
 readInto k (sheet es n) = cond (holds es k) (X.Sheet (length es) n) (X.Refused (refusal 4 (length es)))
 
--- "After any refusal the buffer holds its old bytes; after success the bytes past the sheet do": so too a room and its numbers
+-- "After any refusal the buffer holds its old bytes; after success the bytes past the sheet do": so too a room and its
+-- numbers
 abbrev pub roomAfter : Sheet → List ℕ → List ℕ
 roomAfter (refused r) room = room
 roomAfter (sheet es n) room = cond (holds es (length room)) (numbersOf es ++ drop (length (numbersOf es)) room) room

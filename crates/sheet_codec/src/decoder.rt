@@ -1,6 +1,6 @@
-// Sheets: records one after the other, by the rules of document 01; read from bytes here, written from entries in the crate `handed`.
-// An entry handed over, or given to a reader's caller, is five numbers: the kind, then the kind's fields in their order, 0 for what it
-// does not use.
+// Sheets: records one after the other, by the rules of document 01; read from bytes here, written from entries in the
+// crate `handed`. An entry handed over, or given to a reader's caller, is five numbers: the kind, then the kind's
+// fields in their order, 0 for what it does not use.
 use sheet_format::kinds::Entry;
 use sheet_format::kinds::Named;
 use sheet_format::records::Body;
@@ -146,7 +146,8 @@ fn read_entries(s: &[u8], room: &mut [u32])
     }
 }
 
-// Reads a sheet: its entries, five numbers each, into the room, and how many they are; or the refusal, and the room as it was.
+// Reads a sheet: its entries, five numbers each, into the room, and how many they are; or the refusal, and the room as
+// it was.
 pub fn read(s: &[u8], room: &mut [u32]) -> Extent
     ensures { λ r. ⌜ r ≡ readInto (length (now (room .entry))) (readWhole (now (s .entry))) ⌝ }
     ensures { λ r. ⌜ now (room .exit) ≡ roomAfter (readWhole (now (s .entry))) (now (room .entry)) ⌝ }

@@ -132,7 +132,8 @@ fn write_records(l: &[u32], buf: &mut [u8])
     }
 }
 
-// Writes the sheet of a list of entries at the buffer's start, and says how long it is; or the refusal, and the buffer as it was.
+// Writes the sheet of a list of entries at the buffer's start, and says how long it is; or the refusal, and the buffer
+// as it was.
 pub fn write(l: &[u32], buf: &mut [u8]) -> Extent
     ensures { λ r. ⌜ r ≡ writeInto (length (now (buf .entry))) (listWhole (now (l .entry))) ⌝ }
     ensures { λ r. ⌜ now (buf .exit) ≡ bufferAfterList (listWhole (now (l .entry))) (now (buf .entry)) ⌝ }

@@ -1,5 +1,4 @@
 -- The entries of a sheet by name.
--- Assumes nothing: these are definitions.
 use Prim.Native.Nat.{ℕ}
 use Rattle.sheet_types.specs.declared.phases.Phase.{Phase}
 use Rattle.sheet_format.specs.declared.kinds.Kind.the-variants as K

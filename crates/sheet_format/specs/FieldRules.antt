@@ -1,9 +1,8 @@
--- The rules of an entry's fields, in the window of its sheet: "A reader also asks: station 1..999; first ≤ last ≤ 21,600; every second
--- inside the window; from < to (open: from ≤ to, and from is the first second or to the last); direction 0..3599 or 65,535;
--- magnitude ≤ 1,300,000." Of the head's guard document 02, wish 9, asks 16 to 1,000.
--- Of a share document 02, wish 4, asks: "It lies from 0 to 1,000,000".
--- Of a magnitude after a star's entry document 02, wish 7, asks 0.
--- Assumes nothing: these are definitions.
+-- The rules of an entry's fields, in the window of its sheet: "A reader also asks: station 1..999; first ≤ last ≤
+-- 21,600; every second inside the window; from < to (open: from ≤ to, and from is the first second or to the last);
+-- direction 0..3599 or 65,535; magnitude ≤ 1,300,000." Of the head's guard document 02, wish 9, asks 16 to 1,000. Of a
+-- share document 02, wish 4, asks: "It lies from 0 to 1,000,000". Of a magnitude after a star's entry document 02,
+-- wish 7, asks 0.
 use Prim.Native.Nat.{ℕ}
 use mathlib.Core.Bool.{Bool, false, cond, _&&_, _||_}
 use lib.Dec.{leb, ltb, eqb}

@@ -1,5 +1,4 @@
 -- A number of a record in its bytes, by its width; what is absent has no bytes, and is 0.
--- Assumes nothing: these are definitions.
 use Prim.Native.Nat.{ℕ}
 use mathlib.Core.List.{List, []}
 use Rattle.big_endian.specs.Numbers.{two, four, twoAt, fourAt}

@@ -1,5 +1,4 @@
 -- The entries of a sheet as bytes and as numbers.
--- Assumes nothing: these are definitions.
 use Prim.Native.Nat.{ℕ}
 use mathlib.Core.List.{List, [], _∷_, _++_}
 use Rattle.sheet_format.specs.declared.kinds.Widths.{Widths}

@@ -1,5 +1,4 @@
 -- What stands in a list of bytes at a place: one record, by the table of kinds.
--- Assumes nothing: these are definitions.
 use Prim.Native.Nat.{ℕ, _+_}
 use mathlib.Core.List.{List}
 use mathlib.Core.Bool.{cond}

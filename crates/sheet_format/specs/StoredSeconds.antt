@@ -1,5 +1,4 @@
 -- "a second is stored plus 10,800": a second as it is stored, and the way back.
--- Assumes nothing: these are definitions.
 use Prim.Native.Nat.{ℕ}
 use lib.IntN.{ℤ, pos, _+ℤ_, _-ℤ_}
 use Rattle.rounding.specs.Parts.{posP}

@@ -1,5 +1,5 @@
-// The table of kinds, as document 01 has it: what an entry is; the byte of a kind, the widths of its fields, how long its record is.
-// Module `seconds` has stored seconds.
+// The table of kinds, as document 01 has it: what an entry is; the byte of a kind, the widths of its fields, how long
+// its record is. Module `seconds` has stored seconds.
 pub mod seconds;
 
 use sheet_types::phases::Phase;
@@ -7,9 +7,9 @@ ghost use mathlib.Core.Path.{_≡_};
 ghost use Prim.Native.Nat.{_+_, _≤_};
 ghost use Rattle.sheet_format.specs.Kinds.{base, table, codeOf, kindFor, fields, widthsOf, sizeOf, isEnd, unused, plain};
 
-// The kinds of the table. Enter, leave, graze, open and closest are document 01's words.
-// A new kind is a case here and a row of `table` and `kinds`, and in the code an arm of `kind_for`, `code_of`, `widths_of`, `size_of`,
-// `stage_of`, `is_end`, of the fields in `records` and of the crate `rules`.
+// The kinds of the table. Enter, leave, graze, open and closest are document 01's words. A new kind is a case here and
+// a row of `table` and `kinds`, and in the code an arm of `kind_for`, `code_of`, `widths_of`, `size_of`, `stage_of`,
+// `is_end`, of the fields in `records` and of the crate `rules`.
 pub enum Kind {
     Head,
     Enter(Phase),
@@ -29,7 +29,8 @@ pub enum Kind {
 //   closest       a second; b magnitude: in millionths, 0 to 1,300,000, and 0 after an entry of a star
 //   share         a share: of the Sun's disc that is covered, in millionths, 0 to 1,000,000
 //   end           none
-// The kind stands between the first two numbers, so that no two of them are loaded as one right after they were stored apart.
+// The kind stands between the first two numbers, so that no two of them are loaded as one right after they were stored
+// apart.
 pub struct Entry {
     pub a: u32,
     pub kind: Kind,
@@ -59,8 +60,8 @@ pub enum Named {
     Unknown,
 }
 
-// The stages of a sheet in their order: nothing yet, then head, the phases by time, closest, the share if there is one, end.
-// `StarClosest` is closest after an entry of a star, where no share may come.
+// The stages of a sheet in their order: nothing yet, then head, the phases by time, closest, the share if there is
+// one, end. `StarClosest` is closest after an entry of a star, where no share may come.
 pub enum Stage {
     Start,
     Head,
@@ -131,7 +132,8 @@ fn phase_kind(phase: Phase, behind: u32) -> Named
     }
 }
 
-// The kind that a number names. A phase's four are found by one difference, so that which of them comes next costs no branch.
+// The kind that a number names. A phase's four are found by one difference, so that which of them comes next costs no
+// branch.
 pub fn kind_for(code: u32) -> Named
     ensures { λ r. ⌜ r ≡ kindFor code ⌝ }
 {

@@ -1,5 +1,4 @@
 -- The order of a sheet: what may come after what came last.
--- Assumes nothing: these are definitions.
 use mathlib.Core.Bool.{Bool, true, false, cond}
 use Rattle.sheet_types.specs.declared.phases.Phase.{Phase}
 use Rattle.sheet_types.specs.declared.phases.Phase.the-variants.{Penumbra, Central, Star}
@@ -9,8 +8,9 @@ use Rattle.sheet_format.specs.declared.kinds.Crossing.{Crossing}
 use Rattle.sheet_format.specs.declared.kinds.Crossing.the-variants as C
 use Rattle.sheet_format.specs.FieldRules.{isWithin}
 
--- "penumbra by time, central by time": entries of a phase follow its own and an earlier phase's. Document 02, wish 7: "The reader's order has
--- the star family in place of penumbra and central"; "8 for a sheet with star and eclipse entries"
+-- "penumbra by time, central by time": entries of a phase follow its own and an earlier phase's. Document 02, wish 7:
+-- "The reader's order has the star family in place of penumbra and central"; "8 for a sheet with star and eclipse
+-- entries"
 abbrev pub phaseFollows : Phase → Phase → Bool
 phaseFollows Penumbra Penumbra = true
 phaseFollows Penumbra Central = true
@@ -85,7 +85,8 @@ mayCome last S.StarClosest = false
 mayCome last S.Share = closestCame last
 mayCome last S.End = closestOrShareCame last
 
--- document 02, wish 7: "8 for a sheet .. with a star entry and kind 31": closest after a star's entry is a stage of its own
+-- document 02, wish 7: "8 for a sheet .. with a star entry and kind 31": closest after a star's entry is a stage of
+-- its own
 abbrev pub closestAfter : Stage → Stage
 closestAfter last = cond (isWithin last Star) S.StarClosest S.Closest
 

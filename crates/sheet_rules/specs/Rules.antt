@@ -1,5 +1,4 @@
 -- What the rules say of an entry, by what came before it. Reader and writer both go by these.
--- Assumes nothing: these are definitions.
 use Prim.Native.Nat.{ℕ}
 use mathlib.Core.Bool.{Bool, cond, _&&_, _||_, not}
 use lib.Dec.{leb}
@@ -53,8 +52,8 @@ afterOf p e = afterKind p e (e .kind)
 
 -- ---- the two rules
 
--- "each from at least the previous to of its family, and no enter next to an enter or leave next to a leave in that family, grazes and opens
--- passed over": both only after an entry of the same phase
+-- "each from at least the previous to of its family, and no enter next to an enter or leave next to a leave in that
+-- family, grazes and opens passed over": both only after an entry of the same phase
 abbrev pub phaseInOrder : Progress → Phase → Crossing → ℕ → Bool
 phaseInOrder p φ crossing from =
     mayCome (p .stage) (S.Phase φ) && (not (isWithin (p .stage) φ) || (leb (p .until) from && not (repeats (p .crossing) crossing)))

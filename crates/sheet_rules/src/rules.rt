@@ -1,4 +1,5 @@
-// The rules of a sheet. Reader and writer both go by `in_order`, `crate::fields::rule_holds` and `after`; `judge` puts the three together.
+// The rules of a sheet. Reader and writer both go by `in_order`, `crate::fields::rule_holds` and `after`; `judge` puts
+// the three together.
 
 use sheet_format::kinds::Crossing;
 use sheet_format::kinds::Entry;

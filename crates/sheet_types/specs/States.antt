@@ -2,7 +2,8 @@
 use Prim.Native.Nat.{ℕ, zero, suc}
 use mathlib.Core.Path.{_≡_}
 
--- "*inside* if ..; *outside* if ..; otherwise *unsure*". The three words, and a sure second for one that is inside or outside, are document 01's own.
+-- "*inside* if ..; *outside* if ..; otherwise *unsure*". The three words, and a sure second for one that is inside or
+-- outside, are document 01's own.
 pub data State : Type 0 where
   inside : State
   outside : State
@@ -20,8 +21,9 @@ stateOf zero = outside
 stateOf (suc zero) = inside
 stateOf (suc (suc n)) = unsure
 
--- Demand 3: "Where our program says inside or outside, that is the exact answer. It says unsure only where the exact distance lies within
--- 29 units of the cone's edge." What is said, that the second is exactly inside, and that it lies so near the edge.
+-- Demand 3: "Where our program says inside or outside, that is the exact answer. It says unsure only where the exact
+-- distance lies within 29 units of the cone's edge." What is said, that the second is exactly inside, and that it lies
+-- so near the edge.
 pub record SaidRightly (said : State) (Inside Near : Type 0) : Type 0 where
   pub inside-is : said ≡ inside → Inside
   pub outside-is : said ≡ outside → Inside → ⊥

@@ -1,4 +1,5 @@
--- The four quadrants on one page: document 02, wish 12. Angles are in units of 10^-6 degree, sines and cosines of 10^-8.
+-- The four quadrants on one page: document 02, wish 12. Angles are in units of 10^-6 degree, sines and cosines of
+-- 10^-8.
 use mathlib.Core.Path.{_≡_}
 use Prim.Native.Nat.{ℕ, _+_, _-_, _≤_, _<_}
 use lib.IntN.{ℤ, pos, negℤ}

@@ -11,9 +11,9 @@ unfoldable pub reduced : ℤ → ℕ
 reduced (pos n) = n % 360_000_000
 reduced (negsuc n) = 359_999_999 - n % 360_000_000
 
--- "The cosine there is the sine of 90 degrees less the angle."
--- "Above 90 degrees, the sine is the cosine of the angle less 90 degrees, and the cosine is minus the sine of the angle less 90 degrees."
--- The first argument is the number of quarter turns that may still be taken off; where there is none, the angle is at most 90 degrees.
+-- "The cosine there is the sine of 90 degrees less the angle." "Above 90 degrees, the sine is the cosine of the angle
+-- less 90 degrees, and the cosine is minus the sine of the angle less 90 degrees." The first argument is the number of
+-- quarter turns that may still be taken off; where there is none, the angle is at most 90 degrees.
 unfoldable mutual
   pub sineIn : ℕ → ℕ → ℤ
   sineIn zero a = firstQuadrant a

@@ -1,5 +1,6 @@
--- What is true of an angle that is no whole number of millionths of a degree: z of them and w f-ths of one more. Definitions only.
--- sin(z + w) = sin z·cos w + cos z·sin w and cos(z + w) = cos z·cos w - sin z·sin w, with the series of z and those of w.
+-- What is true of an angle that is no whole number of millionths of a degree: z of them and w f-ths of one more.
+-- Definitions only. sin(z + w) = sin z·cos w + cos z·sin w and cos(z + w) = cos z·cos w - sin z·sin w, with the series
+-- of z and those of w.
 use Prim.Native.Nat.{ℕ, _*_}
 use lib.IntN.{ℤ, pos, _+ℤ_, _-ℤ_, _*ℤ_}
 use Rattle.sine_accuracy.specs.Series.{denominator, common}
@@ -9,8 +10,8 @@ use Rattle.sine_accuracy.specs.TrueSine.{trueSine, trueCosine}
 unfoldable pub arcOf : ℤ → ℤ
 arcOf w = w *ℤ pos 314_159_265_358_979_323_846
 
--- the two series of so small an angle, of at most 3 millionths, over `restCommon`: sin w = x and cos w = 1 - x²/2. The next terms, x³/3! and
--- x⁴/4!, are below 10^-22 and 10^-30, less than what is cut off the series of z
+-- the two series of so small an angle, of at most 3 millionths, over `restCommon`: sin w = x and cos w = 1 - x²/2. The
+-- next terms, x³/3! and x⁴/4!, are below 10^-22 and 10^-30, less than what is cut off the series of z
 unfoldable pub restCommon : (f : ℕ) → ℕ
 restCommon f = 2 * (denominator * f) * (denominator * f)
 

@@ -1,5 +1,5 @@
--- What is true of a sine: the sine series and the cosine series at an angle of whole millionths of a degree, over whole numbers, as `Table` of
--- sine has them at its tenths. Definitions only.
+-- What is true of a sine: the sine series and the cosine series at an angle of whole millionths of a degree, over
+-- whole numbers, as `Table` of sine has them at its tenths. Definitions only.
 use Prim.Native.Nat.{ℕ, _-_, _*_, _/_, _^_}
 use lib.IntN.{ℤ, pos, _+ℤ_, _-ℤ_}
 use Rattle.sine_table.specs.Table.{factorial, numerator}

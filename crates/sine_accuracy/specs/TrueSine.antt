@@ -1,5 +1,5 @@
--- What is true of a sine: the sine series and the cosine series (sine_series, Series) at any angle of whole millionths of a degree, and how far a
--- number is from such a fraction. Definitions only.
+-- What is true of a sine: the sine series and the cosine series (sine_series, Series) at any angle of whole millionths
+-- of a degree, and how far a number is from such a fraction. Definitions only.
 use Prim.Native.Nat.{ℕ, zero, suc, _*_, _/_, _%_, _≤_}
 use lib.IntN.{ℤ, pos, negℤ, natAbs, _-ℤ_, _*ℤ_}
 use Rattle.sine.specs.Sine.{reduced}

@@ -1,5 +1,5 @@
--- What the second differences give is table S, from one test that is computed over all of it: each entry is the nearest number, of which
--- TableLaws has tested the half unit.
+-- What the second differences give is table S, from one test that is computed over all of it: each entry is the
+-- nearest number, of which TableLaws has tested the half unit.
 use mathlib.Core.Path.{_≡_, refl, sym, ap, ap₂, _∙_}
 use mathlib.Core.Bool.{Bool, true, false}
 use mathlib.Core.List.{List, [], _∷_, map}

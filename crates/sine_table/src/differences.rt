@@ -1,4 +1,5 @@
-// Table S as it is stored: its first two entries, and by how much each step from an entry to the next is more than the step before it.
+// Table S as it is stored: its first two entries, and by how much each step from an entry to the next is more than the
+// step before it.
 pub const FIRST: i64 = 0;
 
 pub const SECOND: i64 = 174_533;

@@ -1,4 +1,5 @@
-// Table S: the sines of each tenth of a degree from 0 to 90, in units of 10^-8, summed up from their second differences in lent room.
+// Table S: the sines of each tenth of a degree from 0 to 90, in units of 10^-8, summed up from their second
+// differences in lent room.
 mod differences;
 
 ghost use Prim.Native.Nat.{_≤_, _<_};

@@ -1,5 +1,5 @@
--- What the program prints: a line for each of a thousand angles, and at how many of them both ways of computing give the same.
--- Assumes nothing: these are definitions.
+-- What the program prints: a line for each of a thousand angles, and at how many of them both ways of computing give
+-- the same.
 use Prim.Native.Nat.{ℕ, _+_, _*_, _/_, _%_}
 use mathlib.Core.Bool.{cond}
 use mathlib.Core.List.{List, [], _∷_, _++_}

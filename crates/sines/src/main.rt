@@ -1,5 +1,6 @@
-// Prints a thousand angles, each with its sine and cosine by quadrants and by turns, and at how many of them both ways give the same. The
-// angles: borders of quadrants and octants, tenths of a degree, each with the angles beside it, and angles spread over all that can arise.
+// Prints a thousand angles, each with its sine and cosine by quadrants and by turns, and at how many of them both ways
+// give the same. The angles: borders of quadrants and octants, tenths of a degree, each with the angles beside it, and
+// angles spread over all that can arise.
 use libc::STDOUT_FILENO;
 ghost use mathlib.Core.Path.{_≡_};
 ghost use Prim.Native.Nat.{_+_, _≤_, _<_};

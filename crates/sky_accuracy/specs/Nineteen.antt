@@ -1,5 +1,6 @@
--- The true distance less the true L, taken as a whole, differs from the exact one of demand 3 by less than 19 units (`nineteen`).
--- Why: the exact point (u, v) is within 18.818 units of the true one, and the exact L within 0.1235 of the true L: together 18.9415.
+-- The true distance less the true L, taken as a whole, differs from the exact one of demand 3 by less than 19 units
+-- (`nineteen`). Why: the exact point (u, v) is within 18.818 units of the true one, and the exact L within 0.1235 of
+-- the true L: together 18.9415.
 use mathlib.Core.Path.{_≡_, sym, _∙_, ap}
 use mathlib.Core.List.{[], _∷_}
 use Prim.Native.Nat.{ℕ, _*_, _≤_}
@@ -23,8 +24,9 @@ use Rattle.sky_accuracy.specs.laws.Displacement.{east, north, along, mov
 use Rattle.sky_accuracy.specs.laws.SkyLaws.{known}
 use Rattle.sky_accuracy.specs.laws.Apart.{h, sH, cH, sd, cd, r, p, u-apart, v-apart, L-apart, some, edge-times, swap}
 
--- "for every whole t", here in D-ths of a unit: where the exact distance is at most the exact L and t, the true one is less than the true L and t and 19
--- units; where it is at least the exact L and t, the true one is at least the true L and t less 19 units. The true values stand over T, so all over D·T.
+-- "for every whole t", here in D-ths of a unit: where the exact distance is at most the exact L and t, the true one is
+-- less than the true L and t and 19 units; where it is at least the exact L and t, the true one is at least the true L
+-- and t less 19 units. The true values stand over T, so all over D·T.
 pub record Nineteen (φ : Phase) (y : Sky) (k : Cone) : Type 0 where
   pub at-most : (t : ℤ) → AtMost (exact-M (momentOfSky y)) (exact-edge φ (momentOfSky y) k +ℤ t)
       → Less (true-M y *ℤ (pos D *ℤ pos D)) (true-edge φ y k *ℤ pos D +ℤ (t +ℤ pos 19 *ℤ pos D) *ℤ pos (T y))

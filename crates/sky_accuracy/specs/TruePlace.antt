@@ -1,17 +1,18 @@
--- The place of a station on the true spheroid: R from the Earth's axis and P from the plane of the equator, of which nothing is rounded but
--- C, in units of 10^-8. Definitions only.
+-- The place of a station on the true spheroid: R from the Earth's axis and P from the plane of the equator, of which
+-- nothing is rounded but C, in units of 10^-8. Definitions only.
 use Prim.Native.Nat.{ℕ, _*_, _≤_}
 use lib.IntN.{ℤ, pos, natAbs, _+ℤ_, _-ℤ_, _*ℤ_}
 use Rattle.station.specs.Place as Rule
 use Rattle.sine_accuracy.specs.Series.{common}
 use Rattle.sine_accuracy.specs.TrueSine.{trueSine, trueCosine}
 
--- Krasovsky's spheroid, E as document 01 gives it. "With s, c the sine and cosine of latitude", true ones over `common`: c² + E·s², over 10^8·common²
+-- Krasovsky's spheroid, E as document 01 gives it. "With s, c the sine and cosine of latitude", true ones over
+-- `common`: c² + E·s², over 10^8·common²
 unfoldable pub underTrue : (latitude : ℤ) → ℤ
 underTrue latitude = pos 100_000_000 *ℤ (trueCosine latitude *ℤ trueCosine latitude) +ℤ Rule.E *ℤ (trueSine latitude *ℤ trueSine latitude)
 
--- C = 1/√(c² + E·s²) without a root: any fraction n/m whose square, times c² + E·s², is 1 to 10^-16. So C is known to 10^-8 of a unit; there
--- is such a fraction at every latitude (Exists)
+-- C = 1/√(c² + E·s²) without a root: any fraction n/m whose square, times c² + E·s², is 1 to 10^-16. So C is known to
+-- 10^-8 of a unit; there is such a fraction at every latitude (Exists)
 pub record TrueC (latitude : ℤ) : Type 0 where
   pub n : ℕ
   pub m : ℕ

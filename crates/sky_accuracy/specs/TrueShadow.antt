@@ -1,6 +1,6 @@
--- The true shadow at one second: the page "The shadow at one second" once more, from the elements and the station as they are given, with no
--- rounding and with true sines and the true place in place of the rule's. Definitions only. Each value is a numerator over a denominator that
--- its comment names; u, v and L stand over one.
+-- The true shadow at one second: the page "The shadow at one second" once more, from the elements and the station as
+-- they are given, with no rounding and with true sines and the true place in place of the rule's. Definitions only.
+-- Each value is a numerator over a denominator that its comment names; u, v and L stand over one.
 use Prim.Native.Nat.{ℕ, _*_}
 use lib.IntN.{ℤ, pos, _+ℤ_, _-ℤ_, _*ℤ_}
 use Rattle.sheet_types.specs.declared.phases.Phase.{Phase}

@@ -14,8 +14,8 @@ use Rattle.sky_accuracy.specs.TrueShadow.{Sky, TrulyInside, TrulyWithinU
 abbrev pub skyAt : (o : Occultation) → TrueC (o .station .latitude) → ℤ → Sky
 skyAt o c τ = record { axis = axisOf (o .body); station = o .station; C = c; τ = τ }
 
--- the true answer of a phase at second τ: whether the true distance is less than the true L. Demand 3 asks that an unsure second lie within the
--- guard plus 13 units of the edge; here 19 more
+-- the true answer of a phase at second τ: whether the true distance is less than the true L. Demand 3 asks that an
+-- unsure second lie within the guard plus 13 units of the edge; here 19 more
 abbrev pub trueAnswers : (o : Occultation) → TrueC (o .station .latitude) → ExactAnswers
 trueAnswers o c =
     record {

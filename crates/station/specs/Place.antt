@@ -1,4 +1,5 @@
--- The station's place: R from the Earth's axis, P from the plane of the equator. Lengths and sines are in units of 10^-8.
+-- The station's place: R from the Earth's axis, P from the plane of the equator. Lengths and sines are in units of
+-- 10^-8.
 use lib.IntN.{ℤ, pos, natAbs, _+ℤ_, _-ℤ_, _*ℤ_}
 use Rattle.rounding.specs.Units.{one}
 use Rattle.rounding.specs.Near.{near}
@@ -14,7 +15,8 @@ equatorialRadius = pos 6378245
 abbrev pub E : ℤ
 E = pos 99330658
 
--- "With s, c the sine and cosine of latitude: W = root(c² + near(s·E/10^8)·s)". What is under the root is not negative: PlaceLaws, under-low.
+-- "With s, c the sine and cosine of latitude: W = root(c² + near(s·E/10^8)·s)". What is under the root is not
+-- negative: PlaceLaws, under-low.
 unfoldable pub under : (s c : ℤ) → ℤ
 under s c = c *ℤ c +ℤ near (s *ℤ E) one *ℤ s
 
@@ -41,7 +43,8 @@ R latitude height = near ((C (sine latitude) (cosine latitude) +ℤ h height) *�
 unfoldable pub P : (latitude height : ℤ) → ℤ
 P latitude height = near ((Z (sine latitude) (cosine latitude) +ℤ h height) *ℤ sine latitude) one
 
--- document 02, wish 1: "H becomes μ plus longitude less near(ΔT·417,807/10,000)": the Earth's turn in ΔT, 0.00417807 degrees a second
+-- document 02, wish 1: "H becomes μ plus longitude less near(ΔT·417,807/10,000)": the Earth's turn in ΔT, 0.00417807
+-- degrees a second
 unfoldable pub turnIn : (ΔT : ℤ) → ℤ
 turnIn ΔT = near (ΔT *ℤ pos 417807) (pos 10000)
 

@@ -11,8 +11,8 @@ use Rattle.station.specs.declared.Station.{Station}
 abbrev pub fields : Station → List ℤ
 fields s = s .number ∷ s .latitude ∷ s .longitude ∷ s .height ∷ s .deltat ∷ []
 
--- "Station: number 1 to 999; geodetic latitude ±90,000,000; longitude ±180,000,000, **east positive** ..; height -500 to 9,000 m."
--- document 02, wish 1: "The station record gains ΔT in hundredths of a second, -10,000 to 20,000"
+-- "Station: number 1 to 999; geodetic latitude ±90,000,000; longitude ±180,000,000, **east positive** ..; height -500
+-- to 9,000 m." document 02, wish 1: "The station record gains ΔT in hundredths of a second, -10,000 to 20,000"
 unfoldable pub ranges : Station → List Row
 ranges s =
     row (s .number) (pos 1) (pos 999)

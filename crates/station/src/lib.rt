@@ -28,8 +28,8 @@ pub struct Place {
     pub r: i64,
     // P: distance from the plane of the equator, north positive, the same unit, ρ sin φ', ±101,000,000.
     pub p: i64,
-    // Ephemeris longitude, what the hour angle has more than μ: the longitude less the Earth's turn in ΔT, 10^-6 degree,
-    // EAST positive, ±180,835,614.
+    // Ephemeris longitude, what the hour angle has more than μ: the longitude less the Earth's turn in ΔT, 10^-6
+    // degree, EAST positive, ±180,835,614.
     pub longitude: i64,
 }
 

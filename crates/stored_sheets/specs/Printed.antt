@@ -1,6 +1,5 @@
--- What the program prints: for each stored sheet of its input, what the reader answers; and of a good one its entries, and that they are
--- written back to the same bytes.
--- Assumes nothing: these are definitions.
+-- What the program prints: for each stored sheet of its input, what the reader answers; and of a good one its entries,
+-- and that they are written back to the same bytes.
 use Prim.Native.Nat.{ℕ, _+_, _*_, _/_}
 use Prim.Native.String.{String}
 use mathlib.Core.Bool.{cond}

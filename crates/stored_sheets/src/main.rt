@@ -1,6 +1,6 @@
-// Reads stored sheets from standard input, each after its length in two bytes, and prints what the reader answers to each:
-// the sheet that the bytes begin with, the sheet that they are, and the same with room for three entries.
-// The entries of a good sheet follow, and whether they are written back to the same bytes.
+// Reads stored sheets from standard input, each after its length in two bytes, and prints what the reader answers to
+// each: the sheet that the bytes begin with, the sheet that they are, and the same with room for three entries. The
+// entries of a good sheet follow, and whether they are written back to the same bytes.
 use libc::STDIN_FILENO;
 use libc::STDOUT_FILENO;
 use sheet_codec::decoder::Extent;

@@ -1,6 +1,7 @@
-// Reads requests one after the other from standard input, eclipses of 115 bytes and stars of 79, any number of them, and writes their sheets as they are
-// stored one after the other to standard output: a year file. A refused request is told on standard error, and the stream goes on; after one of wrong
-// shape, or one that the input's end cuts short, it stops. It reads no byte past the request that it answers.
+// Reads requests one after the other from standard input, eclipses of 115 bytes and stars of 79, any number of them,
+// and writes their sheets as they are stored one after the other to standard output: a year file. A refused request is
+// told on standard error, and the stream goes on; after one of wrong shape, or one that the input's end cuts short, it
+// stops. It reads no byte past the request that it answers.
 use libc::STDERR_FILENO;
 use libc::STDIN_FILENO;
 use libc::STDOUT_FILENO;
@@ -62,7 +63,8 @@ fn answer_next(place: Place, sines: &mut [u32], room: &mut [u8]) -> Place {
     }
 }
 
-// A proved loop has to end, and nothing says that the input does: it counts its turns down, from a number that no run uses up.
+// A proved loop has to end, and nothing says that the input does: it counts its turns down, from a number that no run
+// uses up.
 fn answer_all(sines: &mut [u32], room: &mut [u8]) {
     let mut place = Place {
         count: 0,

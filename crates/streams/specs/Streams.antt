@@ -1,5 +1,5 @@
 -- Requests that follow each other: where each ends, what it is answered, and what is told of it.
--- Assumes nothing: these are definitions. The answer to a request's bytes, and what it leaves in the rooms: request_sheets, Sheet.
+-- The answer to a request's bytes, and what it leaves in the rooms: request_sheets, Sheet.
 use mathlib.Core.Bool.{Bool, true, false, cond}
 use mathlib.Core.List.{List, [], _++_}
 use Prim.Native.Nat.{ℕ}
@@ -26,8 +26,8 @@ eclipseKind = elements .kind
 abbrev pub starKind : ℕ
 starKind = starElements .kind
 
--- DECISIONS: "Requests are told apart by their first byte". How many bytes the request has that begins with it; one with which none begins is taken
--- alone
+-- DECISIONS: "Requests are told apart by their first byte". How many bytes the request has that begins with it; one
+-- with which none begins is taken alone
 unfoldable pub sizeFrom : ℕ → ℕ
 sizeFrom first = cond (eqb first eclipseKind) (sizeFor S.Eclipse) (cond (eqb first starKind) (sizeFor S.Star) 1)
 

@@ -1,4 +1,5 @@
-// Requests that follow each other, eclipses' and stars': how many bytes the next one has, and what one of them is answered.
+// Requests that follow each other, eclipses' and stars': how many bytes the next one has, and what one of them is
+// answered.
 use circumstances::Answer;
 use request_format::fields::LENGTH;
 use request_format::fields::STAR_LENGTH;
@@ -89,8 +90,8 @@ fn put_refusal(out: &mut [u8], count: u64, at: u64, refusal: Refusal) -> usize
     end
 }
 
-// Request `count` of a stream, which begins at byte `at`: its sheet at the start of the room, with `sines` for table S; or what is told of its refusal
-// from the start of `line` on, as far as that goes. Any bytes, any rooms.
+// Request `count` of a stream, which begins at byte `at`: its sheet at the start of the room, with `sines` for table
+// S; or what is told of its refusal from the start of `line` on, as far as that goes. Any bytes, any rooms.
 pub fn step(
     request: &[u8],
     count: u64,

@@ -1,5 +1,5 @@
--- What the program prints: to standard output the values of each seven rows, or their refusal; to standard error the first fault.
--- Assumes nothing: these are definitions.
+-- What the program prints: to standard output the values of each seven rows, or their refusal; to standard error the
+-- first fault.
 use Prim.Native.Nat.{ℕ, _+_}
 use mathlib.Core.Bool.{cond}
 use mathlib.Core.List.{List, [], _∷_, _++_}
@@ -50,8 +50,8 @@ told message = record { output = []; error = message }
 abbrev pub first : List ℕ → Streams → Streams
 first text s = record { output = text ++ s .output; error = s .error }
 
--- a line, after the numbers of the table's rows before it, and what comes of the lines after it: a table is put with its 42nd number, and
--- a fault ends the reading
+-- a line, after the numbers of the table's rows before it, and what comes of the lines after it: a table is put with
+-- its 42nd number, and a fault ends the reading
 abbrev pub ofLine : Said → ℕ → List ℤ → (List ℤ → Streams) → Streams
 ofLine nothing k seen go = go seen
 ofLine (faulty f) k seen go = told (faultLine k f)

@@ -1,5 +1,5 @@
 -- What the program writes of a typed text, given a room for table S and one for the sheet.
--- Assumes nothing: these are definitions. What a text is: typed_requests, Meaning; the answer with clock times: answers, Answers.
+-- What a text is: typed_requests, Meaning; the answer with clock times: answers, Answers.
 use mathlib.Core.Bool.{cond}
 use mathlib.Core.List.{List, []}
 use Prim.Native.Nat.{ℕ}

@@ -1,5 +1,4 @@
 -- Text: bytes by their class, and lines.
--- Assumes nothing: these are definitions.
 use Prim.Native.Nat.{ℕ, suc}
 use Prim.Native.Char.{Char, code}
 use mathlib.Core.Bool.{Bool, cond, not, _&&_, _||_}

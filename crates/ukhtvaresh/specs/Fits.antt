@@ -1,5 +1,4 @@
 -- What a caller from outside gets for a proposed fit: the refusal's number and its place, 0 and 0 where it is accepted.
--- Assumes nothing: this is a definition.
 use Rattle.fits.specs.declared.Answer.{Answer}
 use Rattle.fits.specs.declared.Answer.the-variants as A
 use Rattle.ukhtvaresh.specs.declared.replies.Reply.{Reply}

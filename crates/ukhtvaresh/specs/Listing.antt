@@ -1,5 +1,4 @@
 -- What a caller from outside gets of a listing: the refusal's number and place, or 0 and the text's length.
--- Assumes nothing: these are definitions.
 use mathlib.Core.List.{List}
 use Prim.Native.Nat.{ℕ}
 use lib.ListN.{length}

@@ -1,5 +1,5 @@
--- What a caller from outside gets of a mended file: the number of the refusal, 0 for none; and beside it how many bytes each room has, or the
--- refusal's place and 0. Assumes nothing: these are definitions.
+-- What a caller from outside gets of a mended file: the number of the refusal, 0 for none; and beside it how many
+-- bytes each room has, or the refusal's place and 0.
 use mathlib.Core.List.{List}
 use Prim.Native.Nat.{ℕ}
 use lib.ListN.{length}

@@ -1,5 +1,5 @@
--- What a caller from outside gets for units as doubles: the number of the refusal, 0 for none; and beside it the count of the doubles, or the
--- refusal's place. Assumes nothing: this is a definition.
+-- What a caller from outside gets for units as doubles: the number of the refusal, 0 for none; and beside it the count
+-- of the doubles, or the refusal's place.
 use Rattle.float_requests.specs.declared.instrument.writing.Answer.{Answer}
 use Rattle.float_requests.specs.declared.instrument.writing.Answer.the-variants.{Made, Refused}
 use Rattle.ukhtvaresh.specs.declared.replies.Reply.{Reply}

@@ -1,5 +1,5 @@
--- What a caller from outside gets: the number of the refusal, 0 for none; and beside it the length or the count, or the refusal's place.
--- Assumes nothing: these are definitions.
+-- What a caller from outside gets: the number of the refusal, 0 for none; and beside it the length or the count, or
+-- the refusal's place.
 use mathlib.Core.List.{List}
 use Prim.Native.Nat.{ℕ}
 use lib.ListN.{length}

@@ -1,5 +1,5 @@
--- What a caller from outside gets of one second of a request: the refusal's number and place, or 0 and how many numbers it has.
--- Assumes nothing: this is a definition.
+-- What a caller from outside gets of one second of a request: the refusal's number and place, or 0 and how many
+-- numbers it has.
 use Prim.Native.Nat.{ℕ}
 use Rattle.seconds.specs.declared.OneSecond.{OneSecond}
 use Rattle.seconds.specs.declared.OneSecond.the-variants as O

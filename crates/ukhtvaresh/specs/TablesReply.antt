@@ -1,5 +1,5 @@
--- What a caller from outside gets for tables of Sun and Moon: the number of the refusal, 0 for none; and beside it the count of the values,
--- or the refusal's place. Assumes nothing: these are definitions.
+-- What a caller from outside gets for tables of Sun and Moon: the number of the refusal, 0 for none; and beside it the
+-- count of the values, or the refusal's place.
 use Rattle.besselian_rows.specs.declared.tables.Answer.{Answer}
 use Rattle.besselian_rows.specs.declared.tables.Answer.the-variants.{Made, Refused}
 use Rattle.ukhtvaresh.specs.declared.replies.Reply.{Reply}

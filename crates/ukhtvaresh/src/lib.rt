@@ -1,7 +1,7 @@
-// The library for C and Rust: a request's sheet, a sheet read, entries written; in modules of their own one second of a request, its mirror, how
-// much of the Sun is gone, a sheet as text, a fit judged, elements from tables, a file mended, positions as doubles, a network of stations,
-// and the rounds of the root.
-// Each function but the last answers the number of the refusal, 0 for none, and puts the length, the count or the refusal's place into `value`.
+// The library for C and Rust: a request's sheet, a sheet read, entries written; in modules of their own one second of
+// a request, its mirror, how much of the Sun is gone, a sheet as text, a fit judged, elements from tables, a file
+// mended, positions as doubles, a network of stations, and the rounds of the root. Each function but the last answers
+// the number of the refusal, 0 for none, and puts the length, the count or the refusal's place into `value`.
 mod from_tables;
 mod listing;
 mod mend;

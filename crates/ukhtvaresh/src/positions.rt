@@ -9,8 +9,9 @@ ghost use Rattle.float_requests.specs.Handed.{surveyOf, handedOf, answerTo, buf
 ghost use Rattle.ukhtvaresh.specs.Replies.{sheetReply};
 ghost use Rattle.ukhtvaresh.specs.Positions.{doublesReply};
 
-// The contact sheet of elements and a longitude in doubles, in the caller's buffer; value: its length. `hours` is 0 for a longitude in degrees, 1
-// for one in hours of time; `rest` is number, latitude, height, ΔT, first, last, guard in whole numbers; `sines` is room for table S.
+// The contact sheet of elements and a longitude in doubles, in the caller's buffer; value: its length. `hours` is 0
+// for a longitude in degrees, 1 for one in hours of time; `rest` is number, latitude, height, ΔT, first, last, guard
+// in whole numbers; `sines` is room for table S.
 #[no_mangle]
 pub extern "C" fn ukhtvaresh_sheet_of_doubles(
     elements: &[f64],

@@ -13,9 +13,11 @@ ghost use Rattle.ukhtvaresh.specs.NetworkReply.{networkReply};
 
 // What a caller gets.
 pub struct Reply {
-    // number of the refusal, 1 to 10, of tables 11 too, of doubles 12, of a star 13, of a network 14, 15, 16, 19, of a fit 17, 18; 0 for none
+    // number of the refusal, 1 to 10, of tables 11 too, of doubles 12, of a star 13, of a network 14, 15, 16, 19, of a
+    // fit 17, 18; 0 for none
     pub number: u64,
-    // length of the sheet, count of the entries or of the numbers, 0 for a fit, a network's first station; or the refusal's place
+    // length of the sheet, count of the entries or of the numbers, 0 for a fit, a network's first station; or the
+    // refusal's place
     pub value: u64,
 }
 

@@ -5,8 +5,9 @@ ghost use Rattle.request_format.specs.declared.fields.Shape.the-variants.{Eclip
 ghost use Rattle.request_answers.specs.Second.{wish, sinesAsked, secondGiven, numbersAfter, GivenMeans};
 ghost use Rattle.ukhtvaresh.specs.Seconds.{secondReply};
 
-// The shadow at one second of a request of 115 bytes, which may lie outside its window: u, v, L1, L2, the states of penumbra and
-// central cone (0 outside, 1 inside, 2 unsure), magnitude, direction; value: 8. `sines` is room for table S.
+// The shadow at one second of a request of 115 bytes, which may lie outside its window: u, v, L1, L2, the states of
+// penumbra and central cone (0 outside, 1 inside, 2 unsure), magnitude, direction; value: 8. `sines` is room for table
+// S.
 #[no_mangle]
 pub extern "C" fn ukhtvaresh_second(
     request: &[u8],
@@ -28,8 +29,8 @@ pub extern "C" fn ukhtvaresh_second(
     reply.number
 }
 
-// The shadow at one second of a star request of 79 bytes, which may lie outside its window: u, v, L, the state (0 outside, 1 inside, 2 unsure),
-// direction; value: 5. `sines` is room for table S.
+// The shadow at one second of a star request of 79 bytes, which may lie outside its window: u, v, L, the state (0
+// outside, 1 inside, 2 unsure), direction; value: 5. `sines` is room for table S.
 #[no_mangle]
 pub extern "C" fn ukhtvaresh_star_second(
     request: &[u8],

@@ -1,5 +1,5 @@
-// Prints the entries of every window of up to six seconds: a line for each list of states, first the states, then each entry
-// as e (enter), l (leave), g (graze) or o (open) with its two seconds.
+// Prints the entries of every window of up to six seconds: a line for each list of states, first the states, then each
+// entry as e (enter), l (leave), g (graze) or o (open) with its two seconds.
 use libc::STDOUT_FILENO;
 ghost use mathlib.Core.Path.{_≡_};
 ghost use Prim.Native.Nat.{_≤_, _%_, _^_};

@@ -1,5 +1,4 @@
 -- What the theorems of `Mended` speak of.
--- Assumes nothing: these are definitions.
 use Prim.Native.Nat.{ℕ, zero, suc, _+_, _≤_, _<_}
 use mathlib.Core.Path.{_≡_}
 use mathlib.Core.List.{List, [], _∷_, _++_}
@@ -20,7 +19,8 @@ unfoldable pub readNotes : ℕ → List ℕ → List Stretch
 readNotes zero s = []
 readNotes (suc n) s = record { from = eightAt s 0; long = eightAt s 8 } ∷ readNotes n (drop 16 s)
 
--- each stretch has a byte at least, begins at `low` or later and ends by `end`, and a byte at least lies between it and the next
+-- each stretch has a byte at least, begins at `low` or later and ends by `end`, and a byte at least lies between it
+-- and the next
 unfoldable pub Apart : ℕ → List Stretch → ℕ → Type 0
 Apart low [] end = Unit
 Apart low (t ∷ ts) end = (low ≤ t .from) × (0 < t .long) × (t .from + t .long ≤ end) × Apart (t .from + t .long + 1) ts end

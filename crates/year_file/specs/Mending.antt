@@ -1,5 +1,5 @@
--- Mending the year file (document 02, wish 11): the answer, and the rooms afterwards. The walk, what is kept and what is noted: `kept_sheets`.
--- Assumes nothing: these are definitions.
+-- Mending the year file (document 02, wish 11): the answer, and the rooms afterwards. The walk, what is kept and what
+-- is noted: `kept_sheets`.
 use Prim.Native.Nat.{ℕ}
 use mathlib.Core.List.{List, _++_}
 use mathlib.Core.Bool.{cond}

@@ -1,5 +1,4 @@
 -- The year file, walked. Document 02, wish 11: "Sheets are appended to one file, and a bad card left holes in it."
--- Assumes nothing: these are definitions.
 use Prim.Native.Nat.{ℕ, zero, suc, _+_, _-_}
 use mathlib.Core.List.{List, [], _∷_, _++_}
 use lib.ListN.{length, take, drop}
@@ -50,7 +49,8 @@ abbrev pub ended : ℕ → ℕ → List Stretch
 ended at zero = []
 ended at (suc n) = record { from = at - suc n; long = suc n } ∷ []
 
--- "each unbroken dropped stretch": those of the steps from the place `at` on, where n bytes were dropped right before it
+-- "each unbroken dropped stretch": those of the steps from the place `at` on, where n bytes were dropped right before
+-- it
 unfoldable pub stretchesIn : ℕ → ℕ → List Step → List Stretch
 stretchesIn at n [] = ended at n
 stretchesIn at n (keep x ∷ ts) = ended at n ++ stretchesIn (at + length x) 0 ts

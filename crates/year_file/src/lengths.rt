@@ -1,4 +1,5 @@
-// The sheet at a place of a file, for a walk that drops a byte where none begins; what was read already is not read again: see `Repeats`.
+// The sheet at a place of a file, for a walk that drops a byte where none begins; what was read already is not read
+// again: see `Repeats`.
 use sheet_codec::decoder::Extent;
 use sheet_format::kinds::Kind;
 use sheet_format::kinds::Named;
@@ -46,8 +47,8 @@ fn opens_once(file: &[u8], at: usize) -> bool
     file[at + 2] == file[at + 4]
 }
 
-// Whether a head and an open entry of one second stand at a place and 5 bytes before it, among the `lost` bytes that were dropped. No sheet
-// began there, and then none begins here.
+// Whether a head and an open entry of one second stand at a place and 5 bytes before it, among the `lost` bytes that
+// were dropped. No sheet began there, and then none begins here.
 fn is_again(file: &[u8], at: usize, lost: usize) -> bool
     requires { ⌜ at ≤ length (now file) ⌝ }
     requires { ⌜ NoneBefore (now file) at lost ⌝ }

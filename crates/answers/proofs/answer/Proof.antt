@@ -35,15 +35,6 @@ returns-2 c =
 pub answer-spec : {M : Type 1} → statement M
 answer-spec =
     tie.close
-    (tie.spec
-    (λ c κs. search needs)
-    (λ c. search needs)
-    put-text-requires
-    (λ c. search needs)
-    (λ c. search needs)
-    returns
-    put-text-requires-2
-    (λ c. search needs)
-    (λ c. search needs)
-    (λ c. search needs)
-    returns-2)
+    (tie.spec (λ c κs. search needs) (λ c. search needs) put-text-requires (λ c. search needs)
+    (λ c. search needs) returns put-text-requires-2 (λ c. search needs) (λ c. search needs)
+    (λ c. search needs) returns-2)

@@ -26,13 +26,5 @@ returns-2 c = put-refused _ _ _ _ _ _ _ _ (c .before .before .before .before .be
 pub put-text-spec : {M : Type 1} → statement M
 put-text-spec =
     tie.close
-    (tie.spec
-    (λ c. search needs)
-    slice-aggregate-put-timed-listing
-    (λ c κs. search needs)
-    (λ c. search needs)
-    (λ c κs. search needs)
-    (λ c. search needs)
-    returns
-    (λ c. search needs)
-    returns-2)
+    (tie.spec (λ c. search needs) slice-aggregate-put-timed-listing (λ c κs. search needs) (λ c. search needs)
+    (λ c κs. search needs) (λ c. search needs) returns (λ c. search needs) returns-2)

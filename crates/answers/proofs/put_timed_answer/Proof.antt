@@ -1,4 +1,5 @@
--- `answers::put_timed_answer` meets its contract: the text is that of the answer, the bytes that it left and the request's ΔT.
+-- `answers::put_timed_answer` meets its contract: the text is that of the answer, the bytes that it left and the
+-- request's ΔT.
 use mathlib.Core.Path.{_∙_}
 use native.Mathlib.Omega.{arith}
 use Rattle.rounding.specs.laws.Code.{read-result}
@@ -22,11 +23,5 @@ returns c =
 pub put-timed-answer-spec : {M : Type 1} → statement M
 put-timed-answer-spec =
     tie.close
-    (tie.spec
-    (λ c κs. search needs)
-    (λ c κs. search needs)
-    put-text-requires
-    (λ c. search needs)
-    (λ c. search needs)
-    (λ c. search needs)
-    returns)
+    (tie.spec (λ c κs. search needs) (λ c κs. search needs) put-text-requires (λ c. search needs)
+    (λ c. search needs) (λ c. search needs) returns)

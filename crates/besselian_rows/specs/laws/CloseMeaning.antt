@@ -1,5 +1,6 @@
--- What `Close` means, where it can be said without a root: if B is D², v lies within e units of A/D, and the other way round.
--- Signed squares are in the order of their numbers (`signed-≤`, `≤-signed`), which is why they can stand for them.
+-- What `Close` means, where it can be said without a root: if B is D², v lies within e units of A/D, and the other way
+-- round. Signed squares are in the order of their numbers (`signed-≤`, `≤-signed`), which is why they can stand for
+-- them.
 use mathlib.Core.Path.{_≡_, sym, ap, subst, _∙_}
 use mathlib.Core.List.{[], _∷_}
 use Prim.Native.Nat.{ℕ, suc, _≤_}

@@ -1,4 +1,5 @@
--- The theorem: the elements of an accepted row lie within 4 units and within 1,000 of the exact ones (`faithful`, at the end).
+-- The theorem: the elements of an accepted row lie within 4 units and within 1,000 of the exact ones (`faithful`, at
+-- the end).
 use mathlib.Core.Path.{ap}
 use mathlib.Core.List.{[], _∷_}
 use Prim.Native.Nat.{ℕ, _+_, _*_, _≤_}

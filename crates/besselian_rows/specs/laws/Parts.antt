@@ -1,4 +1,4 @@
--- What the parts of a row's computation give. Assumes nothing: these are definitions.
+-- What the parts of a row's computation give.
 use mathlib.Core.Path.{_≡_}
 use mathlib.Core.Bool.{Bool, _||_}
 use Prim.Native.Nat.{ℕ, _≤_}

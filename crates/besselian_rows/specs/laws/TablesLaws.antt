@@ -1,4 +1,5 @@
--- Laws of the rows: the search for the first refused one step by step, values stored row by row, and what stands in the room at the end.
+-- Laws of the rows: the search for the first refused one step by step, values stored row by row, and what stands in
+-- the room at the end.
 use mathlib.Core.Path.{_≡_, refl, sym, ap, subst, _∙_}
 use mathlib.Core.Bool.{Bool, true, false}
 use mathlib.Core.List.{List, [], _∷_, _++_, append-assoc}

@@ -1,5 +1,5 @@
--- Laws of numbers in three parts. One carries every comparison (`carried`): the floor of a number over 10^12 is its high part
--- and what is carried up to it, and a number is at least 0 exactly if its floor is.
+-- Laws of numbers in three parts. One carries every comparison (`carried`): the floor of a number over 10^12 is its
+-- high part and what is carried up to it, and a number is at least 0 exactly if its floor is.
 use mathlib.Core.Path.{_≡_, refl, sym, ap, _∙_}
 use mathlib.Core.Bool.{Bool, true, false}
 use mathlib.Core.List.{[], _∷_}

@@ -1,4 +1,4 @@
--- `binary64::double_of` meets its contract: the casts lose nothing, and `reads-back` says how the quotient is read. Assumes nothing.
+-- `binary64::double_of` meets its contract: the casts lose nothing, and `reads-back` says how the quotient is read.
 use mathlib.Core.Path.{_≡_, sym, ap, subst}
 use native.Mathlib.Omega.{arith}
 use lib.Dec.{T}

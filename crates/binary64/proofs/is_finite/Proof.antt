@@ -1,4 +1,4 @@
--- `binary64::is_finite` meets its contract: a NaN differs from itself, and an infinity has the exponent field 2047. Assumes nothing.
+-- `binary64::is_finite` meets its contract: a NaN differs from itself, and an infinity has the exponent field 2047.
 use mathlib.Core.Path.{sym, ap, subst}
 use lib.Dec.{T}
 use lib.Ieee.{binary64, fits}

@@ -1,4 +1,5 @@
--- `binary64::read` meets its contract: the sign and the size that the fields of the bits give are those of the units (ReadingLaws). Assumes nothing.
+-- `binary64::read` meets its contract: the sign and the size that the fields of the bits give are those of the units
+-- (ReadingLaws).
 use mathlib.Core.Path.{_≡_, sym, _∙_, ap, subst}
 use mathlib.Core.Bool.{Bool, true, false}
 use mathlib.Core.List.{[], _∷_}
@@ -98,14 +99,5 @@ returns-4 c =
 pub read-spec : {M : Type 1} → statement M
 read-spec =
     tie.close
-    (tie.spec
-    (λ c κs. search needs)
-    returns
-    float-to-bits-bits
-    (λ c κs. search needs)
-    returns-2
-    (λ c. search needs)
-    sub-t12
-    (λ c. search needs)
-    returns-3
-    returns-4)
+    (tie.spec (λ c κs. search needs) returns float-to-bits-bits (λ c κs. search needs) returns-2
+    (λ c. search needs) sub-t12 (λ c. search needs) returns-3 returns-4)

@@ -1,4 +1,4 @@
--- `binary64::read_longitude` meets its contract: each mark with its own scale. Assumes nothing.
+-- `binary64::read_longitude` meets its contract: each mark with its own scale.
 use mathlib.Core.Path.{_∙_, sym, ap}
 use borrow.Author.Needs.{needs}
 use Rattle.binary64.specs.declared.Longitude.{Longitude}
@@ -15,11 +15,5 @@ returns-2 c = c .read2 .ensures ∙ sym (ap (λ (l : Longitude). readingOf (long
 pub read-longitude-spec : {M : Type 1} → statement M
 read-longitude-spec =
     tie.close
-    (tie.spec
-    (λ c. search needs)
-    (λ c κs. search needs)
-    (λ c. search needs)
-    (λ c. search needs)
-    (λ c κs. search needs)
-    returns
-    returns-2)
+    (tie.spec (λ c. search needs) (λ c κs. search needs) (λ c. search needs) (λ c. search needs)
+    (λ c κs. search needs) returns returns-2)

@@ -1,5 +1,5 @@
--- `binary64::scaled` meets its contract: q·scale in two words, and by k the nearest whole number from both, from the higher one, or 0 (Words).
--- Assumes nothing.
+-- `binary64::scaled` meets its contract: q·scale in two words, and by k the nearest whole number from both, from the
+-- higher one, or 0 (Words).
 use borrow.Author.Needs.{needs}
 use native.Mathlib.Omega.{arith}
 use Rattle.binary64.proofs.Words.{low-small, top-small, high-small, large, half-small, low-fits, low-is, mid-fits, mid-is, high-is}
@@ -59,25 +59,7 @@ returns-4 c =
 pub scaled-spec : {M : Type 1} → statement M
 scaled-spec =
     tie.close
-    (tie.spec
-    mul-below
-    mul-high
-    add-high
-    (λ c. search needs)
-    (λ c. search needs)
-    returns
-    (λ c. search needs)
-    (λ c. search needs)
-    (λ c. search needs)
-    add-result
-    (λ c. search needs)
-    (λ c. search needs)
-    add-result-3
-    (λ c. search needs)
-    (λ c. search needs)
-    add-result-4
-    (λ c. search needs)
-    (λ c. search needs)
-    returns-2
-    returns-3
-    returns-4)
+    (tie.spec mul-below mul-high add-high (λ c. search needs) (λ c. search needs) returns (λ c. search needs)
+    (λ c. search needs) (λ c. search needs) add-result (λ c. search needs) (λ c. search needs) add-result-3
+    (λ c. search needs) (λ c. search needs) add-result-4 (λ c. search needs) (λ c. search needs) returns-2
+    returns-3 returns-4)

@@ -1,4 +1,5 @@
--- `binary64::size` meets its contract: by the exponent field a double is its digits over a power of two, or too large (Field). Assumes nothing.
+-- `binary64::size` meets its contract: by the exponent field a double is its digits over a power of two, or too large
+-- (Field).
 use mathlib.Core.Path.{_∙_, ap}
 use Prim.Native.Nat.{ℕ, _^_, min}
 use borrow.Author.Needs.{needs}

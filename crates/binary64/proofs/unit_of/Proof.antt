@@ -1,4 +1,4 @@
--- `binary64::unit_of` meets its contract, case by case. Assumes nothing.
+-- `binary64::unit_of` meets its contract, case by case.
 use mathlib.Core.Path.{_∙_, sym, ap}
 use borrow.Author.Needs.{needs}
 use Rattle.rounding.specs.laws.Code.{read-result}

@@ -1,6 +1,6 @@
--- A quotient of two whole numbers as a double: n / S, rounded once, is read with the scale S as n, for S up to 2^53 and n below 2^51.
--- The quotient is less than one step of its last digit away from the exact one; that step, times the scale, is less than half a unit.
--- 2^1074 is a variable, P, where omega works.
+-- A quotient of two whole numbers as a double: n / S, rounded once, is read with the scale S as n, for S up to 2^53
+-- and n below 2^51. The quotient is less than one step of its last digit away from the exact one; that step, times the
+-- scale, is less than half a unit. 2^1074 is a variable, P, where omega works.
 use mathlib.Core.Path.{_≡_, refl, sym, ap, _∙_, subst}
 use mathlib.Core.Bool.{Bool, true, false, cond}
 use Prim.Native.Nat.{ℕ, zero, suc, _+_, _-_, _*_, _/_, _%_, _^_, _≤_, _<_, compare}

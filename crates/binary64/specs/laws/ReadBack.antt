@@ -1,5 +1,5 @@
--- "reading it back gives the same unit": a whole unit as a double, by one rounded division, is read back as the same unit, for every scale up to
--- 2^53 and every unit below 2^51 in size. Why: QuotientLaws.
+-- "reading it back gives the same unit": a whole unit as a double, by one rounded division, is read back as the same
+-- unit, for every scale up to 2^53 and every unit below 2^51 in size. Why: QuotientLaws.
 use mathlib.Core.Path.{_≡_, sym, subst}
 use mathlib.Core.Bool.{Bool, true, false}
 use Prim.Native.Nat.{ℕ, suc, _^_, _≤_, _<_}

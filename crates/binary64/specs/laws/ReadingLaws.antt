@@ -1,5 +1,5 @@
--- Laws of a double's units. They depend on its value alone (`units-value`), which the fields of its bits give (`units-fields`); and an exponent
--- field of 2047 is that of what is not finite (`finite-fields`).
+-- Laws of a double's units. They depend on its value alone (`units-value`), which the fields of its bits give
+-- (`units-fields`); and an exponent field of 2047 is that of what is not finite (`finite-fields`).
 use mathlib.Core.Path.{_≡_, refl, sym, ap, _∙_, subst}
 use mathlib.Core.Bool.{Bool, true, false, not, cond}
 use Prim.Native.Nat.{ℕ, zero, suc, _+_, _*_, _/_, _%_, _^_, _≤_, _<_}

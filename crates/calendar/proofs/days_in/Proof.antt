@@ -1,4 +1,4 @@
--- `calendar::days_in` meets its contract: by the month, and in February by the year. Assumes nothing.
+-- `calendar::days_in` meets its contract: by the month, and in February by the year.
 use mathlib.Core.Path.{sym, _∙_}
 use Rattle.calendar.specs.laws.CalendarLaws.{leap-february, february, short-month, long-month}
 use borrow.Author.Needs.{needs}

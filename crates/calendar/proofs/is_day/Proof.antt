@@ -1,4 +1,4 @@
--- `calendar::is_day` meets its contract: the same tests. Assumes nothing.
+-- `calendar::is_day` meets its contract: the same tests.
 use Rattle.calendar.specs.Calendar.{isDay}
 use borrow.Author.Needs.{needs}
 use Rattle.calendar.proofs.is_day.Statement.{statement}

@@ -1,4 +1,4 @@
--- `calendar::is_leap` meets its contract: the same tests. Assumes nothing.
+-- `calendar::is_leap` meets its contract: the same tests.
 use mathlib.Core.Path.{refl}
 use Rattle.calendar.specs.Calendar.{isLeap}
 use Rattle.calendar.proofs.is_leap.Statement.{statement}

@@ -1,4 +1,5 @@
--- `cases::put_case` meets its contract: request and room are what the case says; two bytes tell a room of at most 65,535.
+-- `cases::put_case` meets its contract: request and room are what the case says; two bytes tell a room of at most
+-- 65,535.
 use Prim.Native.Nat.{_+_, _-_}
 use mathlib.Core.Path.{_≡_, sym, ap, _∙_}
 use native.Mathlib.Omega.{arith}
@@ -33,21 +34,7 @@ returns-2 c =
 pub put-case-spec : {M : Type 1} → statement M
 put-case-spec =
     tie.close
-    (tie.spec
-    (λ c κs. search needs)
-    (λ c. search needs)
-    (λ c. search needs)
-    (λ c κs. search needs)
-    returns
-    (λ c. search needs)
-    (λ c κs. search needs)
-    (λ c κs. search needs)
-    (λ c. search needs)
-    (λ c. search needs)
-    (λ c. search needs)
-    (λ c. search needs)
-    (λ c. search needs)
-    slice-aggregate-put-answer-2
-    (λ c κs. search needs)
-    (λ c. search needs)
-    returns-2)
+    (tie.spec (λ c κs. search needs) (λ c. search needs) (λ c. search needs) (λ c κs. search needs) returns
+    (λ c. search needs) (λ c κs. search needs) (λ c κs. search needs) (λ c. search needs) (λ c. search needs)
+    (λ c. search needs) (λ c. search needs) (λ c. search needs) slice-aggregate-put-answer-2
+    (λ c κs. search needs) (λ c. search needs) returns-2)

@@ -1,4 +1,5 @@
--- All cells of all turns, and the nodes between them: by 180 degrees less the angle, and then half a turn at a time with the other sign.
+-- All cells of all turns, and the nodes between them: by 180 degrees less the angle, and then half a turn at a time
+-- with the other sign.
 --   f              the sine of an angle that is not negative
 --   f-half         half a turn more is the other sign
 --   cell-all       cell k, from k tenths of a degree on

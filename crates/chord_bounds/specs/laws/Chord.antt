@@ -1,4 +1,5 @@
--- Numbers whose second differences are at most c in size lie within c·i·j/2 of their chord, i after its start and j before its end.
+-- Numbers whose second differences are at most c in size lie within c·i·j/2 of their chord, i after its start and j
+-- before its end.
 use mathlib.Core.Path.{_≡_, ap, sym, _∙_}
 use mathlib.Core.List.{[], _∷_}
 use Prim.Native.Nat.{ℕ, zero, suc, _+_, _*_, _≤_, _<_}

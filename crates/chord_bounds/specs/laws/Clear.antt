@@ -12,7 +12,8 @@ use Rattle.shadow_geometry.specs.laws.Triangle.{le-of-squares, triangle}
 by-contra-< : (a b : ℤ) → (b ≤ℤ a → ⊥) → a <ℤ b
 by-contra-< a b f = ⊎-elim (λ (h : b ≤ℤ a). absurd (f h)) (λ h. h) (≤ℤ-total b a)
 
--- (u, v) is I after (p, q) and J before (x, y), H = I + J, and from the chord's point (in H-ths) it is off by at most 100 H³/8 and 190 H³/8
+-- (u, v) is I after (p, q) and J before (x, y), H = I + J, and from the chord's point (in H-ths) it is off by at most
+-- 100 H³/8 and 190 H³/8
 pub record Between (I J p q x y u v : ℤ) : Type 0 where
   pub start : pos 0 ≤ℤ I
   pub end : pos 0 ≤ℤ J
@@ -42,8 +43,9 @@ module _ {I J p q x y u v : ℤ} (b : Between I J p q x y u v) where
       (num 215 ⊗ k ⊗ (num 215 ⊗ k))
       (leq (c ⊗ c) (num 100 ⊗ k ⊗ (num 100 ⊗ k)) (b .off-u) ⊞ leq (d ⊗ d) (num 190 ⊗ k ⊗ (num 190 ⊗ k)) (b .off-v) ⊞ lit 125 ⊠ sq k) tt)
 
-  -- (p, q) and (x, y) are so far out that a quarter of the chord's square less is still more than w², and 8 a + 215 H² ≤ 8 w:
-  -- then (u, v) is more than a away. On the chord H² (u² + v²) is H (J (p² + q²) + I (x² + y²)) - I J d², and 4 I J ≤ H².
+  -- (p, q) and (x, y) are so far out that a quarter of the chord's square less is still more than w², and 8 a + 215 H²
+  -- ≤ 8 w: then (u, v) is more than a away. On the chord H² (u² + v²) is H (J (p² + q²) + I (x² + y²)) - I J d², and 4
+  -- I J ≤ H².
   pub farther : (a w : ℤ) → pos 0 ≤ℤ a → (pos 8 *ℤ a +ℤ pos 215 *ℤ ((I +ℤ J) *ℤ (I +ℤ J))) ≤ℤ (pos 8 *ℤ w)
       → (pos 4 *ℤ w ² +ℤ ((x -ℤ p) ² +ℤ (y -ℤ q) ²)) <ℤ (pos 4 *ℤ (p ² +ℤ q ²))
       → (pos 4 *ℤ w ² +ℤ ((x -ℤ p) ² +ℤ (y -ℤ q) ²)) <ℤ (pos 4 *ℤ (x ² +ℤ y ²))
@@ -76,8 +78,8 @@ module _ {I J p q x y u v : ℤ} (b : Between I J p q x y u v) where
       ⊞ lit 16 ⊠ (leq (num 1) s (b .some) ⊠ leq (num 1) s (b .some) ⊞ lit 2 ⊠ leq (num 1) s (b .some)) ⊞ lit 15) tt)
       most)
 
-  -- (p, q) and (x, y) are at most r - w and s - w away, the radius t between is off its chord by at most 10 H³/8, and 8 g + 8 + 225 H² ≤ 8 w:
-  -- then (u, v) is less than t - g away
+  -- (p, q) and (x, y) are at most r - w and s - w away, the radius t between is off its chord by at most 10 H³/8, and
+  -- 8 g + 8 + 225 H² ≤ 8 w: then (u, v) is less than t - g away
   pub nearer : (r s t g w : ℤ) → w ≤ℤ r → w ≤ℤ s → (pos 8 *ℤ g +ℤ pos 8 +ℤ pos 225 *ℤ ((I +ℤ J) *ℤ (I +ℤ J))) ≤ℤ (pos 8 *ℤ w)
       → (pos 8 *ℤ (J *ℤ r +ℤ I *ℤ s)) ≤ℤ (pos 8 *ℤ ((I +ℤ J) *ℤ t) +ℤ pos 10 *ℤ ((I +ℤ J) *ℤ (I +ℤ J) *ℤ (I +ℤ J)))
       → (p ² +ℤ q ²) ≤ℤ ((r -ℤ w) ²) → (x ² +ℤ y ²) ≤ℤ ((s -ℤ w) ²) → (g <ℤ t) × ((u ² +ℤ v ²) <ℤ ((t -ℤ g) ²))

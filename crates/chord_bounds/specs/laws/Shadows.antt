@@ -1,4 +1,5 @@
--- The shadow at a station at three seconds in a row: second differences, f(τ+1) - 2 f(τ) + f(τ-1). Of any axis, an eclipse's or a star's.
+-- The shadow at a station at three seconds in a row: second differences, f(τ+1) - 2 f(τ) + f(τ-1). Of any axis, an
+-- eclipse's or a star's.
 --   H, d    8        sin H, cos H   72       sin d, cos d   34
 --   q, ξ    74       η, ζ           164
 --   u       100      v              190      L              10

@@ -1,5 +1,6 @@
--- `circumstances::sheet` meets its contract: a refusal of the request or of its room is passed on with the buffer as it was; else
--- `sheet_within` answers from the filled room. Demand 3 then follows from the answer and the buffer alone (Claims). Assumes nothing.
+-- `circumstances::sheet` meets its contract: a refusal of the request or of its room is passed on with the buffer as
+-- it was; else `sheet_within` answers from the filled room. Demand 3 then follows from the answer and the buffer alone
+-- (Claims).
 use mathlib.Core.Path.{_≡_, refl, sym, ap, _∙_}
 use borrow.Author.Needs.{needs}
 use Rattle.sheet_types.specs.declared.refusals.Checked.the-variants as C
@@ -44,13 +45,5 @@ returns-2 c =
 pub sheet-spec : {M : Type 1} → statement M
 sheet-spec =
     tie.close
-    (tie.spec
-    (λ c κs. search needs)
-    (λ c. search needs)
-    (λ c. search needs)
-    returns
-    (λ c. search needs)
-    sheet-within-requires
-    (λ c. search needs)
-    (λ c. search needs)
-    returns-2)
+    (tie.spec (λ c κs. search needs) (λ c. search needs) (λ c. search needs) returns (λ c. search needs)
+    sheet-within-requires (λ c. search needs) (λ c. search needs) returns-2)

@@ -1,5 +1,5 @@
--- `circumstances::sheet_within` meets its contract: the place is the station's, the array holds the states of the window's seconds, and
--- `sheet_from` does the rest. Assumes nothing.
+-- `circumstances::sheet_within` meets its contract: the place is the station's, the array holds the states of the
+-- window's seconds, and `sheet_from` does the rest.
 use mathlib.Core.Path.{sym, ap, _∙_}
 use lib.Seq.{length-take-le}
 use Prim.Native.Nat.{ℕ, _≤_}
@@ -51,12 +51,5 @@ returns c = (c .before .before .sheet-from .ensures .0, c .before .before .sheet
 pub sheet-within-spec : {M : Type 1} → statement M
 sheet-within-spec =
     tie.close
-    (tie.spec
-    (λ c κs. search needs)
-    (λ c. search needs)
-    fill-requires
-    array-share-prefix-runs
-    slice-aggregate-sheet-from
-    sheet-from-requires
-    same-length
-    returns)
+    (tie.spec (λ c κs. search needs) (λ c. search needs) fill-requires array-share-prefix-runs
+    slice-aggregate-sheet-from sheet-from-requires same-length returns)

@@ -1,4 +1,5 @@
--- Every second of an occultation within its limits is said rightly, and its course is sound: so its sheet is well formed and has demand 3.
+-- Every second of an occultation within its limits is said rightly, and its course is sound: so its sheet is well
+-- formed and has demand 3.
 use mathlib.Core.List.{List, _++_}
 use Prim.Native.Nat.{ℕ}
 use mathlib.Core.Path.{_≡_, refl}

@@ -1,4 +1,5 @@
--- Laws of the list's clocks: the steps are one number (`steps-one`), a search that is quiet has told every station whose chain reaches the antenna (`quiet-lost`), and what one turn of the search keeps.
+-- Laws of the list's clocks: the steps are one number (`steps-one`), a search that is quiet has told every station
+-- whose chain reaches the antenna (`quiet-lost`), and what one turn of the search keeps.
 use mathlib.Core.Path.{_≡_, refl, sym, ap, _∙_, subst}
 use Prim.Native.Nat.{ℕ, zero, suc, _+_, _<_, _≤_}
 use native.Mathlib.Numerals.{add-one}

@@ -1,6 +1,6 @@
--- Both loops keep the walk: what was left at the cursor is what the walk adds from second i on, with i - 1 as the last sure
--- second, and an unsure spell changes nothing of that. The loop over runs of seconds is left with a sure second that makes an
--- entry: from the spell with the first sure second after it, or at once where the side changes.
+-- Both loops keep the walk: what was left at the cursor is what the walk adds from second i on, with i - 1 as the last
+-- sure second, and an unsure spell changes nothing of that. The loop over runs of seconds is left with a sure second
+-- that makes an entry: from the spell with the first sure second after it, or at once where the side changes.
 use Prim.Native.Nat.{ℕ, _+_, _-_, _≤_, _<_}
 use mathlib.Core.Path.{_≡_, refl, sym, _∙_}
 use mathlib.Core.List.{List}
@@ -174,29 +174,7 @@ returns-3 c =
 pub after-sure-spec : {M : Type 1} → statement M
 after-sure-spec =
     tie.close
-    (tie.spec
-    Inv-loop
-    μ-loop
-    Inv-seconds
-    μ-seconds
-    (λ c κs. search needs)
-    seconds-holds
-    returns
-    run-at-requires
-    add-j
-    loop-holds
-    run-at-requires-2
-    add-j-2
-    loop-less
-    loop-again
-    (λ c. omega arith)
-    (λ c. omega arith)
-    returns-2
-    add-i
-    seconds-less
-    seconds-again
-    (λ c. omega arith)
-    run-at-requires-3
-    entry-between-requires
-    add-end
-    returns-3)
+    (tie.spec Inv-loop μ-loop Inv-seconds μ-seconds (λ c κs. search needs) seconds-holds returns
+    run-at-requires add-j loop-holds run-at-requires-2 add-j-2 loop-less loop-again (λ c. omega arith)
+    (λ c. omega arith) returns-2 add-i seconds-less seconds-again (λ c. omega arith) run-at-requires-3
+    entry-between-requires add-end returns-3)

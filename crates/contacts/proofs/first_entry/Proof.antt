@@ -1,5 +1,5 @@
--- Up to i every second is unsure, so the walk stands at i with no sure second passed. The first sure second ends an open entry,
--- or is the window's first, and then the walk goes on after its run.
+-- Up to i every second is unsure, so the walk stands at i with no sure second passed. The first sure second ends an
+-- open entry, or is the window's first, and then the walk goes on after its run.
 use Prim.Native.Nat.{_-_, _<_}
 use mathlib.Core.Path.{_≡_, _∙_}
 use native.Mathlib.Omega.{arith}
@@ -79,17 +79,5 @@ returns-4 c =
 pub first-entry-spec : {M : Type 1} → statement M
 first-entry-spec =
     tie.close
-    (tie.spec
-    Inv-loop
-    μ-loop
-    loop-holds
-    run-at-requires
-    add-next
-    after-sure-requires
-    returns
-    returns-2
-    loop-less
-    loop-again
-    returns-3
-    sub-to
-    returns-4)
+    (tie.spec Inv-loop μ-loop loop-holds run-at-requires add-next after-sure-requires returns returns-2
+    loop-less loop-again returns-3 sub-to returns-4)

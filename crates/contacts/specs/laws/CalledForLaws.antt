@@ -50,7 +50,8 @@ module _ (s : List ℕ) where
 pub each-called-for : EachCalledFor
 each-called-for s = along-walk s (λ l i es. All (CalledFor s) es) (called-end s) (called-second s)
 
--- Why each is there: the walk meets the second that ends it, and there the last sure second can only be the one that starts it.
+-- Why each is there: the walk meets the second that ends it, and there the last sure second can only be the one that
+-- starts it.
 sure-not : {b : Bool} → sure b ≡ unsure → ⊥
 sure-not e = let z : _≡_ {A = ℕ} 0 1 = cc in omega arith
 

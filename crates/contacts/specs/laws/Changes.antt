@@ -21,8 +21,9 @@ use Rattle.contacts.specs.laws.Ordered.{Chain, start, chain-end, chain-s
 abbrev pub EachChangeInOne : Type 1
 EachChangeInOne = (Inside : ℕ → Type 0) (s : List ℕ) → Agrees Inside s → (k : ℕ) → k + 1 < length s → Change Inside k → howMany k (entries s) ≡ 1
 
--- Why: at the first sure second after k an entry is made that holds k and k + 1, but for neighbouring seconds of one side, which
--- are no change; what was made before ends at k at the latest, and by order what comes after starts at k + 1 or later.
+-- Why: at the first sure second after k an entry is made that holds k and k + 1, but for neighbouring seconds of one
+-- side, which are no change; what was made before ends at k at the latest, and by order what comes after starts at k +
+-- 1 or later.
 inside : (k f t : ℕ) → f ≤ k → k + 1 ≤ t → once (leb f k && leb (k + 1) t) ≡ 1
 inside k f t p q = rw (le-leb f k p, le-leb (k + 1) t q)
 

@@ -1,5 +1,6 @@
--- The one induction by which every law goes along the walk: what holds at the window's end, and at a second where it holds after
--- that second, holds of the entries. On the way it is known which sure second was the last, and that all since are unsure.
+-- The one induction by which every law goes along the walk: what holds at the window's end, and at a second where it
+-- holds after that second, holds of the entries. On the way it is known which sure second was the last, and that all
+-- since are unsure.
 use Prim.Native.Nat.{ℕ, suc, _+_, _<_}
 use mathlib.Core.Path.{_≡_, sym, ap, _∙_}
 use mathlib.Core.List.{List, [], _∷_, _++_}

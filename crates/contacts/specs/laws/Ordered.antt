@@ -19,7 +19,8 @@ Ordered lo (e ∷ es) = (lo ≤ from e) × Ordered (to e) es
 abbrev pub EntriesOrdered : Type 0
 EntriesOrdered = (s : List ℕ) → Ordered 0 (entries s)
 
--- Why: each entry runs from the last sure second, or the window's first, to the second that adds it, which is then the last sure one.
+-- Why: each entry runs from the last sure second, or the window's first, to the second that adds it, which is then the
+-- last sure one.
 abbrev pub start : Last → ℕ
 start none = 0
 start (last a f) = f

@@ -1,4 +1,5 @@
--- Entries whose seconds are counted from another one: each second b more. What is claimed of them is claimed of the seconds b more.
+-- Entries whose seconds are counted from another one: each second b more. What is claimed of them is claimed of the
+-- seconds b more.
 use Prim.Native.Nat.{ℕ, _+_}
 use mathlib.Core.Path.{_≡_, refl, sym, ap, ap₂, _∙_}
 use mathlib.Core.List.{List, [], _∷_, map}

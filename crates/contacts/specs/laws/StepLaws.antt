@@ -1,4 +1,5 @@
--- What a caller's loop over steps uses: all entries are left at the start, each step takes the first, and the last step finds none left.
+-- What a caller's loop over steps uses: all entries are left at the start, each step takes the first, and the last
+-- step finds none left.
 use Prim.Native.Nat.{ℕ, _≤_, _<_}
 use mathlib.Core.Path.{_≡_, refl, ap, _∙_}
 use mathlib.Core.List.{List, [], _∷_}

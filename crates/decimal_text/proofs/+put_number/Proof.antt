@@ -1,5 +1,5 @@
--- `decimal_text::put_number`, which calls itself. The measure is the number, which falls to its tenth and to its last digit. What is put is the recursion
--- of `decimal`.
+-- `decimal_text::put_number`, which calls itself. The measure is the number, which falls to its tenth and to its last
+-- digit. What is put is the recursion of `decimal`.
 use borrow.Author.Needs.{needs}
 use native.Mathlib.Omega.{arith}
 use Rattle.decimal_text.specs.laws.PatternLaws.{number-small, number-more}

@@ -1,4 +1,5 @@
--- `decimal_text::put_byte` meets its contract: a store past the end changes nothing, and only the greatest place has none after it.
+-- `decimal_text::put_byte` meets its contract: a store past the end changes nothing, and only the greatest place has
+-- none after it.
 use native.Mathlib.Omega.{arith}
 use Rattle.decimal_text.specs.laws.TextLaws.{put-in, put-past, put-last}
 use borrow.Author.Needs.{needs}

@@ -1,4 +1,5 @@
--- `decimal_text::put_filled` meets its contract. What is left of the pattern, once put, gives what is to be left (`Filling`).
+-- `decimal_text::put_filled` meets its contract. What is left of the pattern, once put, gives what is to be left
+-- (`Filling`).
 use Prim.Native.Nat.{_-_}
 use mathlib.Core.Path.{_∙_}
 use Rattle.rounding.specs.laws.Code.{read-result}
@@ -34,16 +35,5 @@ returns c = filling-end _ _ _ _ _ _ _ _ (c .before .loop .inv) (c .loop-test .le
 pub put-filled-spec : {M : Type 1} → statement M
 put-filled-spec =
     tie.close
-    (tie.spec
-    Inv-loop
-    μ-loop
-    loop-holds
-    (λ c. omega arith)
-    (λ c κs. search needs)
-    (λ c κs. search needs)
-    (λ c κs. omega arith)
-    (λ c. omega arith)
-    (λ c. omega arith)
-    loop-again
-    same-length
-    returns)
+    (tie.spec Inv-loop μ-loop loop-holds (λ c. omega arith) (λ c κs. search needs) (λ c κs. search needs)
+    (λ c κs. omega arith) (λ c. omega arith) (λ c. omega arith) loop-again same-length returns)

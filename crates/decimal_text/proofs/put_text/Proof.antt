@@ -1,4 +1,5 @@
--- `decimal_text::put_text` meets its contract. What is left of the text, once put, gives what is to be left (`Copying`).
+-- `decimal_text::put_text` meets its contract. What is left of the text, once put, gives what is to be left
+-- (`Copying`).
 use Prim.Native.Nat.{_-_}
 use native.Mathlib.Omega.{arith}
 use lib.ListN.{length}

@@ -1,4 +1,5 @@
--- The texts of records that stand one after the other, each after its count, put by a loop: those before byte i are put.
+-- The texts of records that stand one after the other, each after its count, put by a loop: those before byte i are
+-- put.
 use Prim.Native.Nat.{ℕ, zero, suc, _+_, _-_, _*_, _≤_, _<_}
 use mathlib.Core.Path.{_≡_, refl, sym, ap, _∙_}
 use mathlib.Core.List.{List, [], _∷_, _++_}

@@ -1,4 +1,5 @@
--- A number in decimal, read back, is the number; its bytes are digits; it starts with no 0 but where it is 0; and how long it is.
+-- A number in decimal, read back, is the number; its bytes are digits; it starts with no 0 but where it is 0; and how
+-- long it is.
 use Prim.Native.Nat.{ℕ, zero, suc, _+_, _-_, _*_, _/_, _%_, _^_, _≤_, _<_}
 use mathlib.Core.Path.{_≡_, refl, sym, ap, _∙_}
 use mathlib.Core.List.{List, [], _∷_, _++_}

@@ -1,4 +1,4 @@
--- `elements::check` meets its contract: what is out of range, under its number. Assumes nothing.
+-- `elements::check` meets its contract: what is out of range, under its number.
 use mathlib.Core.Path.{ap, _∙_}
 use borrow.Author.Needs.{needs}
 use Rattle.sheet_types.specs.Refusals.{ofLimits}

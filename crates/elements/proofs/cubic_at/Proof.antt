@@ -1,4 +1,4 @@
--- `elements::cubic_at` meets its contract: it is three steps. Assumes nothing.
+-- `elements::cubic_at` meets its contract: it is three steps.
 use mathlib.Core.Path.{_∙_, ap}
 use Prim.Native.Nat.{_+_, _*_, _≤_}
 use native.Mathlib.Omega.{arith}

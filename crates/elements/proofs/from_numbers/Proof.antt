@@ -1,4 +1,4 @@
--- `elements::from_numbers` meets its contract: each part is read from its places, and the tangents from theirs. Assumes nothing.
+-- `elements::from_numbers` meets its contract: each part is read from its places, and the tangents from theirs.
 use borrow.Author.Needs.{needs}
 use lib.IntN.{pos}
 use lib.ListN.{getD}
@@ -27,13 +27,5 @@ returns c =
 pub from-numbers-spec : {M : Type 1} → statement M
 from-numbers-spec =
     tie.close
-    (tie.spec
-    (λ c κs. search needs)
-    (λ c κs. search needs)
-    (λ c κs. search needs)
-    (λ c κs. search needs)
-    (λ c κs. search needs)
-    (λ c κs. search needs)
-    (λ c. search needs)
-    (λ c. search needs)
-    returns)
+    (tie.spec (λ c κs. search needs) (λ c κs. search needs) (λ c κs. search needs) (λ c κs. search needs)
+    (λ c κs. search needs) (λ c κs. search needs) (λ c. search needs) (λ c. search needs) returns)

@@ -1,4 +1,4 @@
--- `elements::in_range` meets its contract: the numbers are searched against the two tables. Assumes nothing.
+-- `elements::in_range` meets its contract: the numbers are searched against the two tables.
 use borrow.Author.Needs.{needs}
 use Rattle.rounding.specs.laws.LimitsLaws.{of-listed}
 use Rattle.elements.specs.Elements.{ranges, rangeOf}
@@ -12,10 +12,5 @@ returns c = of-listed _ _ (c .first-out-of-range .ensures) (c .before .before .b
 pub in-range-spec : {M : Type 1} → statement M
 in-range-spec =
     tie.close
-    (tie.spec
-    (λ c κs. search needs)
-    (λ c. search needs)
-    (λ c. search needs)
-    (λ c. search needs)
-    (λ c κs. search needs)
-    returns)
+    (tie.spec (λ c κs. search needs) (λ c. search needs) (λ c. search needs) (λ c. search needs)
+    (λ c κs. search needs) returns)

@@ -1,4 +1,4 @@
--- `elements::quadratic_at` meets its contract: it is two steps. Assumes nothing.
+-- `elements::quadratic_at` meets its contract: it is two steps.
 use mathlib.Core.Path.{_∙_, ap}
 use Prim.Native.Nat.{_+_, _*_, _≤_}
 use native.Mathlib.Omega.{arith}

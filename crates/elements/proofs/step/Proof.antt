@@ -1,4 +1,4 @@
--- `elements::step` meets its contract: `near_hour` gives near, and a step is at most three times p and a. Assumes nothing.
+-- `elements::step` meets its contract: `near_hour` gives near, and a step is at most three times p and a.
 use mathlib.Core.Path.{_≡_, _∙_, ap}
 use mathlib.Core.List.{[], _∷_}
 use Prim.Native.Nat.{_≤_}

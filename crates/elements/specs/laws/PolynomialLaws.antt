@@ -1,4 +1,5 @@
--- Sizes of a polynomial's value: within three hours a step is at most three times the higher coefficient, and the next lower.
+-- Sizes of a polynomial's value: within three hours a step is at most three times the higher coefficient, and the next
+-- lower.
 use Prim.Native.Nat.{ℕ, _+_, _*_, _≤_}
 use native.Mathlib.Omega.{arith}
 use lib.IntN.{ℤ, natAbs, _*ℤ_}

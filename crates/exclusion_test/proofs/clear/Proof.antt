@@ -1,4 +1,4 @@
--- `exclusion_test::clear` meets its contract: each of its tests is a part of what it says. Assumes nothing.
+-- `exclusion_test::clear` meets its contract: each of its tests is a part of what it says.
 use mathlib.Core.Path.{_≡_, ap, _∙_}
 use mathlib.Core.Bool.{Bool, true, false≢true}
 use Prim.Native.Nat.{ℕ, zero, suc, _≤_, _<_}
@@ -137,14 +137,5 @@ returns-4 c = λ t.
 pub clear-spec : {M : Type 1} → statement M
 clear-spec =
     tie.close
-    (tie.spec
-    returns
-    widened-requires
-    lowest-requires
-    (λ c. search needs)
-    outside-requires
-    returns-2
-    shows-requires
-    returns-3
-    shows-requires-2
-    returns-4)
+    (tie.spec returns widened-requires lowest-requires (λ c. search needs) outside-requires returns-2
+    shows-requires returns-3 shows-requires-2 returns-4)

@@ -1,4 +1,4 @@
--- `exclusion_test::inside` meets its contract: each test that was left is a part of what it says. Assumes nothing.
+-- `exclusion_test::inside` meets its contract: each test that was left is a part of what it says.
 use mathlib.Core.List.{[], _∷_}
 use mathlib.Core.Bool.{false≢true}
 use Rattle.rounding.specs.laws.Code.{Code, arg, sub, mul, Within, whole, ends, _▹_, fits, left-<}

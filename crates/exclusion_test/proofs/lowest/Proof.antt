@@ -1,4 +1,4 @@
--- `exclusion_test::lowest` meets its contract: a quarter of the chord's square is rounded up. Assumes nothing.
+-- `exclusion_test::lowest` meets its contract: a quarter of the chord's square is rounded up.
 use mathlib.Core.Path.{_≡_}
 use mathlib.Core.List.{[], _∷_}
 use Prim.Native.Nat.{_≤_}
@@ -107,15 +107,5 @@ returns-2 c =
 pub lowest-spec : {M : Type 1} → statement M
 lowest-spec =
     tie.close
-    (tie.spec
-    sub-p
-    sub-q
-    mul-quarter
-    mul-quarter-2
-    add-quarter
-    add-quarter-2
-    div-quarter
-    sub-result
-    returns
-    sub-result-2
-    returns-2)
+    (tie.spec sub-p sub-q mul-quarter mul-quarter-2 add-quarter add-quarter-2 div-quarter sub-result returns
+    sub-result-2 returns-2)

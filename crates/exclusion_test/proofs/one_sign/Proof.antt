@@ -1,4 +1,4 @@
--- `exclusion_test::one_sign` meets its contract. Assumes nothing.
+-- `exclusion_test::one_sign` meets its contract.
 use mathlib.Core.List.{[], _∷_}
 use mathlib.Core.Bool.{false≢true}
 use mathlib.Core.Logic.{inl, inr}

@@ -1,4 +1,4 @@
--- `exclusion_test::outside` meets its contract: w is the larger radius and g. Assumes nothing.
+-- `exclusion_test::outside` meets its contract: w is the larger radius and g.
 use mathlib.Core.List.{[], _∷_}
 use native.Mathlib.Omega.{arith}
 use lib.IntN.{ℤ, _+ℤ_}

@@ -1,4 +1,4 @@
--- `exclusion_test::sagitta` meets its contract: it is that number. Assumes nothing.
+-- `exclusion_test::sagitta` meets its contract: it is that number.
 use mathlib.Core.Path.{refl}
 use Rattle.exclusion_test.proofs.sagitta.Statement.{statement}
 use Rattle.exclusion_test.proofs.sagitta.Tie as tie

@@ -1,4 +1,4 @@
--- `exclusion_test::shows` meets its contract. Assumes nothing.
+-- `exclusion_test::shows` meets its contract.
 use mathlib.Core.Path.{_≡_, ap, _∙_}
 use mathlib.Core.Bool.{true, false≢true}
 use mathlib.Core.Logic.{inl, inr}

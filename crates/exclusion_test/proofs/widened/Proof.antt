@@ -1,4 +1,4 @@
--- `exclusion_test::widened` meets its contract: what is computed is the definition, read off. Assumes nothing.
+-- `exclusion_test::widened` meets its contract: what is computed is the definition, read off.
 use Prim.Native.Nat.{_≤_}
 use mathlib.Core.Path.{ap, ap₂, _∙_}
 use mathlib.Core.List.{[], _∷_}

@@ -1,4 +1,4 @@
--- `fits::coefficients_in_range` meets its contract: the coefficients are searched against the two tables. Assumes nothing.
+-- `fits::coefficients_in_range` meets its contract: the coefficients are searched against the two tables.
 use mathlib.Core.Path.{_≡_, refl, ap, _∙_}
 use mathlib.Core.List.{List, [], _∷_}
 use native.Mathlib.Omega.{arith}

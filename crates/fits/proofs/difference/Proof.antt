@@ -1,4 +1,4 @@
--- `fits::difference` meets its contract: the hour is within three, so the cubic can be asked, and what is left fits. Assumes nothing.
+-- `fits::difference` meets its contract: the hour is within three, so the cubic can be asked, and what is left fits.
 use mathlib.Core.Path.{_≡_, _∙_, ap}
 use mathlib.Core.List.{[], _∷_}
 use Prim.Native.Nat.{_≤_}

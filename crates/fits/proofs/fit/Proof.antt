@@ -1,4 +1,4 @@
--- `fits::fit` meets its contract: each range decides in its turn; where the first two hold, the hours can be asked. Assumes nothing.
+-- `fits::fit` meets its contract: each range decides in its turn; where the first two hold, the hours can be asked.
 use mathlib.Core.Path.{_≡_, sym, _∙_}
 use mathlib.Core.List.{List}
 use borrow.Author.Needs.{needs}
@@ -100,19 +100,6 @@ returns-6 c =
 pub fit-spec : {M : Type 1} → statement M
 fit-spec =
     tie.close
-    (tie.spec
-    returns
-    returns-2
-    (λ c κs. search needs)
-    (λ c κs. search needs)
-    (λ c. search needs)
-    returns-3
-    (λ c. search needs)
-    (λ c. search needs)
-    returns-4
-    (λ c. search needs)
-    hours-in-range-requires
-    (λ c. search needs)
-    returns-5
-    (λ c. search needs)
-    returns-6)
+    (tie.spec returns returns-2 (λ c κs. search needs) (λ c κs. search needs) (λ c. search needs) returns-3
+    (λ c. search needs) (λ c. search needs) returns-4 (λ c. search needs) hours-in-range-requires
+    (λ c. search needs) returns-5 (λ c. search needs) returns-6)

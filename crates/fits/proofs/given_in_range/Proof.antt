@@ -1,4 +1,4 @@
--- `fits::given_in_range` meets its contract: the tolerance, then the seven values. Assumes nothing.
+-- `fits::given_in_range` meets its contract: the tolerance, then the seven values.
 use mathlib.Core.Path.{_≡_, sym, ap, _∙_}
 use lib.IntN.{pos}
 use lib.Signed.{ltZ}
@@ -49,14 +49,5 @@ returns-4 c =
 pub given-in-range-spec : {M : Type 1} → statement M
 given-in-range-spec =
     tie.close
-    (tie.spec
-    returns
-    returns-2
-    (λ c. search needs)
-    (λ c. search needs)
-    (λ c κs. search needs)
-    (λ c. search needs)
-    (λ c. search needs)
-    returns-3
-    add-t12
-    returns-4)
+    (tie.spec returns returns-2 (λ c. search needs) (λ c. search needs) (λ c κs. search needs)
+    (λ c. search needs) (λ c. search needs) returns-3 add-t12 returns-4)

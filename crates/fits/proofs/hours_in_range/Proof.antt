@@ -1,4 +1,5 @@
--- `fits::hours_in_range` meets its contract: the differences are searched against minus the tolerance and the tolerance. Assumes nothing.
+-- `fits::hours_in_range` meets its contract: the differences are searched against minus the tolerance and the
+-- tolerance.
 use mathlib.Core.Path.{_∙_}
 use mathlib.Core.List.{[], _∷_}
 use borrow.Author.Needs.{needs}
@@ -28,11 +29,5 @@ returns c =
 pub hours-in-range-spec : {M : Type 1} → statement M
 hours-in-range-spec =
     tie.close
-    (tie.spec
-    (λ c κs. search needs)
-    sub-low
-    (λ c. search needs)
-    (λ c. search needs)
-    (λ c. search needs)
-    (λ c κs. search needs)
-    returns)
+    (tie.spec (λ c κs. search needs) sub-low (λ c. search needs) (λ c. search needs) (λ c. search needs)
+    (λ c κs. search needs) returns)

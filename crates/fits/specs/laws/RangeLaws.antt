@@ -1,4 +1,5 @@
--- Laws of ranges: the search answers `InRange` where each number is in its range; numbers that share a range, each by its place.
+-- Laws of ranges: the search answers `InRange` where each number is in its range; numbers that share a range, each by
+-- its place.
 use mathlib.Core.Path.{_≡_, refl, sym, ap, _∙_}
 use mathlib.Core.Bool.{Bool, true, false, cond}
 use mathlib.Core.List.{List, [], _∷_, map}

@@ -1,4 +1,5 @@
--- "reading it back gives the same unit for every value in range": the doubles of 23 units in their ranges are read back, all of them.
+-- "reading it back gives the same unit for every value in range": the doubles of 23 units in their ranges are read
+-- back, all of them.
 use mathlib.Core.Path.{_≡_, refl, sym, ap, subst}
 use mathlib.Core.Bool.{true}
 use mathlib.Core.List.{List, [], _∷_, _++_}

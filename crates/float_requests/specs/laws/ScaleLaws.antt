@@ -1,4 +1,5 @@
--- Laws of doubles and units, each by its own scale: the scales are those that `doubles` reads and writes by, and what stands at each place.
+-- Laws of doubles and units, each by its own scale: the scales are those that `doubles` reads and writes by, and what
+-- stands at each place.
 use mathlib.Core.Path.{_≡_, refl}
 use mathlib.Core.Bool.{Bool, true, _&&_}
 use mathlib.Core.List.{List, [], _∷_, _++_}

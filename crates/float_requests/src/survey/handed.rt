@@ -36,7 +36,8 @@ fn not_of_shape() -> Handed
     })
 }
 
-// The survey of 22 doubles, a longitude and its mark, 0 or 1, and the rest: number, latitude, height, ΔT, first, last, guard.
+// The survey of 22 doubles, a longitude and its mark, 0 or 1, and the rest: number, latitude, height, ΔT, first, last,
+// guard.
 fn survey_of(elements: &[f64], longitude: f64, hours: u64, rest: &[i64]) -> Survey
     requires { ⌜ (length (now elements) ≡ 22) × (length (now rest) ≡ 7) ⌝ }
     ensures { λ r. ⌜ r ≡ surveyOf (now (elements .entry)) longitude hours (now (rest .entry)) ⌝ }

@@ -22,11 +22,5 @@ returns c = put-as _ _ _ _ _ _ (ap listText (c .before .before .before .before .
 pub put-taken-spec : {M : Type 1} → statement M
 put-taken-spec =
     tie.close
-    (tie.spec
-    slice-aggregate-take
-    (λ c κs. search needs)
-    (λ c. search needs)
-    slice-aggregate-put-list
-    (λ c κs. search needs)
-    (λ c. search needs)
-    returns)
+    (tie.spec slice-aggregate-take (λ c κs. search needs) (λ c. search needs) slice-aggregate-put-list
+    (λ c κs. search needs) (λ c. search needs) returns)

@@ -1,5 +1,5 @@
--- A printed time read back, in tenths of a second from 0h of the instant's day. It is for the theorems alone: no code reads one.
--- Assumes nothing: these are definitions.
+-- A printed time read back, in tenths of a second from 0h of the instant's day. It is for the theorems alone: no code
+-- reads one.
 use Prim.Native.Nat.{ℕ, _+_, _-_, _*_}
 use mathlib.Core.Bool.{cond}
 use mathlib.Core.List.{List, [], _∷_}

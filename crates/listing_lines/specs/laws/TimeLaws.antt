@@ -1,4 +1,5 @@
--- How the code comes by a time: it divides a natural number, which is the hundredths and 100,000 days, and takes the days off again.
+-- How the code comes by a time: it divides a natural number, which is the hundredths and 100,000 days, and takes the
+-- days off again.
 use Prim.Native.Nat.{ℕ, zero, suc, _+_, _/_, _%_, _<_}
 use mathlib.Core.Path.{_≡_, refl, sym, ap, ap₂, _∙_}
 use mathlib.Core.List.{List, [], _∷_, _++_}

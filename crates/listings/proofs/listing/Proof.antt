@@ -1,4 +1,5 @@
--- `listings::listing` meets its contract: what the reader refuses is refused, and a sheet that is all of the bytes is the one that they begin with.
+-- `listings::listing` meets its contract: what the reader refuses is refused, and a sheet that is all of the bytes is
+-- the one that they begin with.
 use mathlib.Core.Path.{sym, _∙_}
 use Rattle.listings.specs.laws.ListingLaws.{whole-sheet, whole-refused, whole-told}
 use borrow.Author.Needs.{needs}
@@ -21,11 +22,5 @@ returns-2 c =
 pub listing-spec : {M : Type 1} → statement M
 listing-spec =
     tie.close
-    (tie.spec
-    (λ c κs. search needs)
-    (λ c. search needs)
-    (λ c. search needs)
-    lay-requires
-    returns
-    (λ c. search needs)
-    returns-2)
+    (tie.spec (λ c κs. search needs) (λ c. search needs) (λ c. search needs) lay-requires returns
+    (λ c. search needs) returns-2)

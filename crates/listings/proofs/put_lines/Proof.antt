@@ -1,5 +1,5 @@
--- `listings::put_lines` meets its contract. The lines of the entries left, once put, give what is to be left (`Laying`).
--- The sheet was read before, so each record is there.
+-- `listings::put_lines` meets its contract. The lines of the entries left, once put, give what is to be left
+-- (`Laying`). The sheet was read before, so each record is there.
 use Prim.Native.Nat.{_-_}
 use mathlib.Core.Path.{_≡_, sym, _∙_}
 use mir.Syntax.{w64}
@@ -53,18 +53,6 @@ loop-again c = let t = c .before .before .before .before .before .before in layi
 pub put-lines-spec : {M : Type 1} → statement M
 put-lines-spec =
     tie.close
-    (tie.spec
-    Inv-loop
-    μ-loop
-    loop-holds
-    (λ c κs. search needs)
-    (λ c. search needs)
-    (λ c. search needs)
-    same-length
-    returns
-    (λ c κs. search needs)
-    (λ c κs. search needs)
-    same-length-2
-    returns-2
-    loop-less
+    (tie.spec Inv-loop μ-loop loop-holds (λ c κs. search needs) (λ c. search needs) (λ c. search needs)
+    same-length returns (λ c κs. search needs) (λ c κs. search needs) same-length-2 returns-2 loop-less
     loop-again)

@@ -1,4 +1,5 @@
--- `listings::put_timed_listing` meets its contract: the line of the reader's refusal, or the lines of the sheet that it found.
+-- `listings::put_timed_listing` meets its contract: the line of the reader's refusal, or the lines of the sheet that
+-- it found.
 use mathlib.Core.Path.{sym, _∙_}
 use mir.Syntax.{w64}
 use mir.ValLaws.{toZ-ofZ}
@@ -25,13 +26,5 @@ returns-2 c =
 pub put-timed-listing-spec : {M : Type 1} → statement M
 put-timed-listing-spec =
     tie.close
-    (tie.spec
-    (λ c κs. search needs)
-    (λ c. search needs)
-    (λ c κs. search needs)
-    (λ c. search needs)
-    put-lines-requires
-    (λ c. search needs)
-    returns
-    (λ c. search needs)
-    returns-2)
+    (tie.spec (λ c κs. search needs) (λ c. search needs) (λ c κs. search needs) (λ c. search needs)
+    put-lines-requires (λ c. search needs) returns (λ c. search needs) returns-2)

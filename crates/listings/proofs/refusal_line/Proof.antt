@@ -1,4 +1,5 @@
--- `listings::refusal_line` meets its contract: the line is measured in a room of no bytes, and put where the room holds it.
+-- `listings::refusal_line` meets its contract: the line is measured in a room of no bytes, and put where the room
+-- holds it.
 use native.Mathlib.Omega.{arith}
 use Rattle.listings.specs.laws.AnswerLaws.{text-short, text-full}
 use borrow.Author.Needs.{needs}
@@ -16,10 +17,5 @@ returns-2 c =
 pub refusal-line-spec : {M : Type 1} → statement M
 refusal-line-spec =
     tie.close
-    (tie.spec
-    (λ c. search needs)
-    (λ c κs. search needs)
-    returns
-    (λ c κs. search needs)
-    (λ c. search needs)
+    (tie.spec (λ c. search needs) (λ c κs. search needs) returns (λ c κs. search needs) (λ c. search needs)
     returns-2)

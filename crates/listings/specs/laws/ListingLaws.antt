@@ -1,4 +1,5 @@
--- The lines of a sheet being put, one record after the other; and the two passes over a sheet, which measure its lines and put them.
+-- The lines of a sheet being put, one record after the other; and the two passes over a sheet, which measure its lines
+-- and put them.
 use Prim.Native.Nat.{ℕ, suc, _+_, _-_, _≤_, _<_}
 use mathlib.Core.Path.{_≡_, refl, sym, ap, _∙_}
 use mathlib.Core.List.{List, [], _++_}

@@ -1,6 +1,6 @@
--- Demand 3 of the sheet of a sound course of which every second is said rightly.
--- Why: the entries of a phase in the sheet are those of contacts, counted from the stored first second (`entries-in-sheet`); what contacts
--- proves of any states that agree with exact answers then holds of them.
+-- Demand 3 of the sheet of a sound course of which every second is said rightly. Why: the entries of a phase in the
+-- sheet are those of contacts, counted from the stored first second (`entries-in-sheet`); what contacts proves of any
+-- states that agree with exact answers then holds of them.
 use mathlib.Core.Path.{_≡_, refl, sym, subst, ap, ap₂, _∙_}
 use mathlib.Core.Bool.{Bool, true, false, cond}
 use mathlib.Core.List.{List, [], _∷_, _++_, map, append-nil, append-assoc}

@@ -1,6 +1,7 @@
 -- The sheet of a sound course keeps every rule that a reader asks of a sheet.
 --   kept-sheet   the sheet is well formed: order and fields, entry by entry, judged by what came before
--- Why: the walk's entries are in order, alternate, and lie in the window (contacts), and seconds are stored plus 10,800.
+-- Why: the walk's entries are in order, alternate, and lie in the window (contacts), and seconds are stored plus
+-- 10,800.
 use mathlib.Core.Path.{_≡_, refl, sym, subst, ap, _∙_}
 use mathlib.Core.Bool.{Bool, true, false, cond, _||_}
 use mathlib.Core.List.{List, [], _∷_, _++_, map, append-assoc}

@@ -1,4 +1,4 @@
--- `mirrors::change` meets its contract: eight numbers, one after the other. Assumes nothing.
+-- `mirrors::change` meets its contract: eight numbers, one after the other.
 use mathlib.Core.Path.{_∙_}
 use Rattle.mirrors.specs.laws.ChangedLaws.{changed}
 use borrow.Author.Needs.{needs}
@@ -21,13 +21,5 @@ returns c =
 pub change-spec : {M : Type 1} → statement M
 change-spec =
     tie.close
-    (tie.spec
-    (λ c κs. search needs)
-    (λ c κs. search needs)
-    (λ c κs. search needs)
-    (λ c κs. search needs)
-    (λ c κs. search needs)
-    (λ c κs. search needs)
-    (λ c κs. search needs)
-    (λ c κs. search needs)
-    returns)
+    (tie.spec (λ c κs. search needs) (λ c κs. search needs) (λ c κs. search needs) (λ c κs. search needs)
+    (λ c κs. search needs) (λ c κs. search needs) (λ c κs. search needs) (λ c κs. search needs) returns)

@@ -1,4 +1,4 @@
--- `mirrors::mirror` meets its contract: y, d and the latitude are their opposites, and all else is copied. Assumes nothing.
+-- `mirrors::mirror` meets its contract: y, d and the latitude are their opposites, and all else is copied.
 use Rattle.rounding.specs.laws.Code.{read-result}
 use Rattle.mirrors.proofs.Back.{opposite-back-64 as back}
 use borrow.Author.Needs.{needs}

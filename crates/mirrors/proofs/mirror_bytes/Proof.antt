@@ -1,4 +1,4 @@
--- `mirrors::mirror_bytes` meets its contract: the shape, then the room, then the mirror's bytes, which always fit. Assumes nothing.
+-- `mirrors::mirror_bytes` meets its contract: the shape, then the room, then the mirror's bytes, which always fit.
 use mathlib.Core.Path.{_≡_, sym, ap, _∙_}
 use native.Mathlib.Omega.{arith}
 use lib.ListN.{length}
@@ -53,15 +53,6 @@ returns-3 c =
 pub mirror-bytes-spec : {M : Type 1} → statement M
 mirror-bytes-spec =
     tie.close
-    (tie.spec
-    (λ c κs. search needs)
-    (λ c. search needs)
-    returns
-    (λ c. search needs)
-    returns-2
-    (λ c κs. search needs)
-    (λ c κs. search needs)
-    slice-aggregate-put-text
-    (λ c κs. search needs)
-    (λ c. search needs)
-    returns-3)
+    (tie.spec (λ c κs. search needs) (λ c. search needs) returns (λ c. search needs) returns-2
+    (λ c κs. search needs) (λ c κs. search needs) slice-aggregate-put-text (λ c κs. search needs)
+    (λ c. search needs) returns-3)

@@ -1,4 +1,4 @@
--- `mirrors::mirrored_cubic` meets its contract: each coefficient is its opposite. Assumes nothing.
+-- `mirrors::mirrored_cubic` meets its contract: each coefficient is its opposite.
 use lib.Signed.{leZ-yes}
 use Rattle.mirrors.proofs.Back.{opposite-back-64 as back}
 use Rattle.mirrors.proofs.mirrored_cubic.Statement.{statement}

@@ -1,4 +1,4 @@
--- `mirrors::opposite` meets its contract: outside of -most and most the number stays. Assumes nothing.
+-- `mirrors::opposite` meets its contract: outside of -most and most the number stays.
 use mathlib.Core.Path.{_≡_, sym, _∙_}
 use mathlib.Core.List.{[], _∷_}
 use Prim.Native.Nat.{_≤_, _<_}

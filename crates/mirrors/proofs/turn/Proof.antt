@@ -1,4 +1,4 @@
--- `mirrors::turn` meets its contract: the number is read, and its opposite is put in its place. Assumes nothing.
+-- `mirrors::turn` meets its contract: the number is read, and its opposite is put in its place.
 use borrow.Author.Needs.{needs}
 use lib.Dec.{lit≤}
 use lib.IntN.{pos}
@@ -20,10 +20,5 @@ returns c =
 pub turn-spec : {M : Type 1} → statement M
 turn-spec =
     tie.close
-    (tie.spec
-    (λ c. search needs)
-    (λ c. search needs)
-    opposite-requires
-    (λ c. search needs)
-    (λ c. search needs)
-    returns)
+    (tie.spec (λ c. search needs) (λ c. search needs) opposite-requires (λ c. search needs)
+    (λ c. search needs) returns)

@@ -1,4 +1,4 @@
--- `network::put_fault` meets its contract: each arm is a case of the definition. Assumes nothing.
+-- `network::put_fault` meets its contract: each arm is a case of the definition.
 use mathlib.Core.Path.{sym, ap}
 use Rattle.decimal_text.specs.RowLaws.{put-as}
 use Rattle.network.specs.Printed.{faultText}
@@ -17,12 +17,5 @@ returns-2 c = let a = c .before .before .before .before .before .before .before 
 pub put-fault-spec : {M : Type 1} → statement M
 put-fault-spec =
     tie.close
-    (tie.spec
-    (λ c. search needs)
-    (λ c κs. search needs)
-    (λ c. search needs)
-    (λ c κs. search needs)
-    (λ c. search needs)
-    returns
-    (λ c. search needs)
-    returns-2)
+    (tie.spec (λ c. search needs) (λ c κs. search needs) (λ c. search needs) (λ c κs. search needs)
+    (λ c. search needs) returns (λ c. search needs) returns-2)

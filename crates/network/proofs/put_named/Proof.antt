@@ -1,4 +1,4 @@
--- `network::put_named` meets its contract: the lines of the stations, then the first. Assumes nothing.
+-- `network::put_named` meets its contract: the lines of the stations, then the first.
 use mathlib.Core.Path.{sym, ap}
 use native.Mathlib.Omega.{arith}
 use lib.Seq.{length-take-le}
@@ -21,11 +21,5 @@ returns c =
 pub put-named-spec : {M : Type 1} → statement M
 put-named-spec =
     tie.close
-    (tie.spec
-    (λ c κs. search needs)
-    (λ c κs. search needs)
-    (λ c. search needs)
-    slice-aggregate-put-first
-    (λ c κs. search needs)
-    (λ c. search needs)
-    returns)
+    (tie.spec (λ c κs. search needs) (λ c κs. search needs) (λ c. search needs) slice-aggregate-put-first
+    (λ c κs. search needs) (λ c. search needs) returns)

@@ -1,4 +1,4 @@
--- `network::put_station` meets its contract: the two numbers, with the words about them. Assumes nothing.
+-- `network::put_station` meets its contract: the two numbers, with the words about them.
 use mathlib.Core.Path.{refl}
 use mir.Syntax.{w64}
 use mir.ValLaws.{toZ-ofZ}
@@ -33,11 +33,5 @@ returns c =
 pub put-station-spec : {M : Type 1} → statement M
 put-station-spec =
     tie.close
-    (tie.spec
-    (λ c. search needs)
-    (λ c. search needs)
-    (λ c κs. search needs)
-    (λ c κs. search needs)
-    (λ c κs. search needs)
-    (λ c. search needs)
-    returns)
+    (tie.spec (λ c. search needs) (λ c. search needs) (λ c κs. search needs) (λ c κs. search needs)
+    (λ c κs. search needs) (λ c. search needs) returns)

@@ -1,4 +1,5 @@
--- `network::put_stations` meets its contract: the lines of the stations before the k-th are put. The measure is how many are left. Assumes nothing.
+-- `network::put_stations` meets its contract: the lines of the stations before the k-th are put. The measure is how
+-- many are left.
 use mathlib.Core.Path.{refl}
 use Prim.Native.Nat.{_-_}
 use native.Mathlib.Omega.{arith}
@@ -34,17 +35,6 @@ returns c = put-as _ _ _ _ _ _ (lines-all (c .before .before .before .before .ar
 pub put-stations-spec : {M : Type 1} → statement M
 put-stations-spec =
     tie.close
-    (tie.spec
-    Inv-loop
-    μ-loop
-    loop-holds
-    (λ c. search needs)
-    (λ c. search needs)
-    (λ c. search needs)
-    (λ c. search needs)
-    (λ c κs. search needs)
-    (λ c. search needs)
-    (λ c. search needs)
-    loop-again
-    same-length
+    (tie.spec Inv-loop μ-loop loop-holds (λ c. search needs) (λ c. search needs) (λ c. search needs)
+    (λ c. search needs) (λ c κs. search needs) (λ c. search needs) (λ c. search needs) loop-again same-length
     returns)

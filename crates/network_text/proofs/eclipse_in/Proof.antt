@@ -1,4 +1,5 @@
--- `network_text::eclipse_in` meets its contract: the first k numbers are stored (`Copied`). The measure is how many are left. Assumes nothing.
+-- `network_text::eclipse_in` meets its contract: the first k numbers are stored (`Copied`). The measure is how many
+-- are left.
 use mathlib.Core.Path.{refl}
 use Prim.Native.Nat.{_-_}
 use borrow.Author.Needs.{needs}
@@ -35,16 +36,6 @@ returns c = copied-all _ (c .before .before .pre) _ _ (c .before .loop .inv) (c 
 pub eclipse-in-spec : {M : Type 1} → statement M
 eclipse-in-spec =
     tie.close
-    (tie.spec
-    Inv-loop
-    μ-loop
-    loop-holds
-    (λ c κs. search needs)
-    (λ c. search needs)
-    shared-slice-copy-out-value
-    (λ c. search needs)
-    (λ c. search needs)
-    (λ c. search needs)
-    (λ c. search needs)
-    loop-again
-    returns)
+    (tie.spec Inv-loop μ-loop loop-holds (λ c κs. search needs) (λ c. search needs)
+    shared-slice-copy-out-value (λ c. search needs) (λ c. search needs) (λ c. search needs)
+    (λ c. search needs) loop-again returns)

@@ -1,4 +1,5 @@
--- `network_text::network` meets its contract: what was read is handed over where there is no fault; else nothing is touched. Assumes nothing.
+-- `network_text::network` meets its contract: what was read is handed over where there is no fault; else nothing is
+-- touched.
 use borrow.Author.Needs.{needs}
 use Rattle.network_text.specs.laws.TypingLaws.{network-typed, network-refused}
 use Rattle.network_text.proofs.network.Statement.{statement}
@@ -16,14 +17,5 @@ returns-2 c =
 pub network-spec : {M : Type 1} → statement M
 network-spec =
     tie.close
-    (tie.spec
-    (λ c. search needs)
-    (λ c. search needs)
-    (λ c κs. search needs)
-    (λ c. search needs)
-    (λ c. search needs)
-    (λ c κs. search needs)
-    returns
-    (λ c. search needs)
-    (λ c κs. search needs)
-    returns-2)
+    (tie.spec (λ c. search needs) (λ c. search needs) (λ c κs. search needs) (λ c. search needs)
+    (λ c. search needs) (λ c κs. search needs) returns (λ c. search needs) (λ c κs. search needs) returns-2)

@@ -1,4 +1,4 @@
--- `network_text::noted_at` meets its contract: each way is a case of what was noted. Assumes nothing.
+-- `network_text::noted_at` meets its contract: each way is a case of what was noted.
 use borrow.Author.Needs.{needs}
 use Rattle.network_text.proofs.noted_at.Statement.{statement}
 use Rattle.network_text.proofs.noted_at.Tie as tie

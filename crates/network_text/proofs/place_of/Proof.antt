@@ -1,4 +1,4 @@
--- `network_text::place_of` meets its contract: by the test on k. Assumes nothing.
+-- `network_text::place_of` meets its contract: by the test on k.
 use native.Mathlib.Omega.{arith}
 use borrow.Author.Needs.{needs}
 use Rattle.network_text.specs.laws.EclipseLaws.{place-low, place-high}

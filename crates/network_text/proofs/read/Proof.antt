@@ -1,5 +1,5 @@
--- `network_text::read` meets its contract: the lines passed were taken, so the reading is that of those left (`Walked`). The measure is how many bytes
--- are left. Assumes nothing.
+-- `network_text::read` meets its contract: the lines passed were taken, so the reading is that of those left
+-- (`Walked`). The measure is how many bytes are left.
 use mathlib.Core.Path.{_≡_, sym, ap, subst, _∙_}
 use Prim.Native.Nat.{_+_, _-_, _≤_}
 use borrow.Author.Needs.{needs}
@@ -148,34 +148,9 @@ returns-2 c =
 pub read-spec : {M : Type 1} → statement M
 read-spec =
     tie.close
-    (tie.spec
-    Inv-loop
-    μ-loop
-    slice-set-of-found
-    (λ c κs. search needs)
-    loop-holds
-    (λ c. search needs)
-    (λ c. search needs)
-    (λ c. search needs)
-    (λ c κs. search needs)
-    add-end
-    (λ c. search needs)
-    (λ c. search needs)
-    part-take-end
-    take-requires
-    (λ c. search needs)
-    same-length
-    same-length-2
-    returns
-    (λ c. search needs)
-    add-at
-    add-line
-    loop-less
-    loop-again
-    slice-reshare-prefix-complete
-    slice-aggregate-complete
-    (λ c κs. search needs)
-    (λ c κs. search needs)
-    same-length-3
-    same-length-4
+    (tie.spec Inv-loop μ-loop slice-set-of-found (λ c κs. search needs) loop-holds (λ c. search needs)
+    (λ c. search needs) (λ c. search needs) (λ c κs. search needs) add-end (λ c. search needs)
+    (λ c. search needs) part-take-end take-requires (λ c. search needs) same-length same-length-2 returns
+    (λ c. search needs) add-at add-line loop-less loop-again slice-reshare-prefix-complete
+    slice-aggregate-complete (λ c κs. search needs) (λ c κs. search needs) same-length-3 same-length-4
     returns-2)

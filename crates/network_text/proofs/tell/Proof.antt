@@ -1,4 +1,4 @@
--- `network_text::tell` meets its contract: the name is found in the table of a request, or nowhere. Assumes nothing.
+-- `network_text::tell` meets its contract: the name is found in the table of a request, or nowhere.
 use mathlib.Core.Path.{sym, ap, _∙_}
 use borrow.Author.Needs.{needs}
 use Rattle.request_format.specs.declared.fields.Shape.the-variants as S
@@ -41,18 +41,6 @@ returns-4 c =
 pub tell-spec : {M : Type 1} → statement M
 tell-spec =
     tie.close
-    (tie.spec
-    (λ c κs. search needs)
-    (λ c κs. search needs)
-    (λ c. search needs)
-    (λ c. search needs)
-    (λ c κs. search needs)
-    returns
-    sub-of-station
-    part-of-station-start
-    (λ c. search needs)
-    (λ c κs. search needs)
-    returns-2
-    returns-3
-    (λ c κs. search needs)
-    returns-4)
+    (tie.spec (λ c κs. search needs) (λ c κs. search needs) (λ c. search needs) (λ c. search needs)
+    (λ c κs. search needs) returns sub-of-station part-of-station-start (λ c. search needs)
+    (λ c κs. search needs) returns-2 returns-3 (λ c κs. search needs) returns-4)

@@ -1,4 +1,5 @@
--- `networks::name` meets its contract: a refusal is passed on with nothing written; else every station is within its limits. Assumes nothing.
+-- `networks::name` meets its contract: a refusal is passed on with nothing written; else every station is within its
+-- limits.
 use mathlib.Core.Path.{_≡_, sym, ap, _∙_, subst}
 use mathlib.Core.List.{List}
 use Prim.Native.Nat.{ℕ, _≤_}
@@ -110,19 +111,6 @@ returns-3 c = λ l k.
 pub name-spec : {M : Type 1} → statement M
 name-spec =
     tie.close
-    (tie.spec
-    (λ c κs. search needs)
-    (λ c κs. search needs)
-    (λ c. search needs)
-    returns
-    (λ c. search needs)
-    (λ c κs. search needs)
-    (λ c. search needs)
-    (λ c. search needs)
-    returns-2
-    (λ c. search needs)
-    tell-steps-requires
-    first-seen-requires
-    (λ c. search needs)
-    (λ c. search needs)
-    returns-3)
+    (tie.spec (λ c κs. search needs) (λ c κs. search needs) (λ c. search needs) returns (λ c. search needs)
+    (λ c κs. search needs) (λ c. search needs) (λ c. search needs) returns-2 (λ c. search needs)
+    tell-steps-requires first-seen-requires (λ c. search needs) (λ c. search needs) returns-3)

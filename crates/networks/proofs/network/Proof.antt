@@ -1,4 +1,4 @@
--- `networks::network` meets its contract: 10 first, then what `name` answers. Assumes nothing.
+-- `networks::network` meets its contract: 10 first, then what `name` answers.
 use mathlib.Core.Path.{_≡_, refl}
 use mathlib.Core.Bool.{true, _&&_}
 use borrow.Author.Needs.{needs}

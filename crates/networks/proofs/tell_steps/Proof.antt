@@ -1,4 +1,4 @@
--- `networks::tell_steps` meets its contract: the first of the 64 numbers and clocks are the list's. Assumes nothing.
+-- `networks::tell_steps` meets its contract: the first of the 64 numbers and clocks are the list's.
 use mathlib.Core.Path.{_≡_, sym, ap, _∙_}
 use native.Mathlib.Omega.{arith}
 use borrow.Author.Needs.{needs}
@@ -54,15 +54,6 @@ returns c =
 pub tell-steps-spec : {M : Type 1} → statement M
 tell-steps-spec =
     tie.close
-    (tie.spec
-    (λ c κs. search needs)
-    (λ c κs. search needs)
-    (λ c. search needs)
-    slice-aggregate-all-steps
-    (λ c. search needs)
-    slice-aggregate-all-steps-2
-    all-steps-requires
-    (λ c. search needs)
-    put-steps-requires
-    (λ c. search needs)
-    returns)
+    (tie.spec (λ c κs. search needs) (λ c κs. search needs) (λ c. search needs) slice-aggregate-all-steps
+    (λ c. search needs) slice-aggregate-all-steps-2 all-steps-requires (λ c. search needs) put-steps-requires
+    (λ c. search needs) returns)

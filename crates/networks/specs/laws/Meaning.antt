@@ -1,5 +1,5 @@
--- What holds of a list that is not refused: each station has exactly one number of steps, 1 to 64, and it is the one that comes back; 0 past the
--- list (chains, Meaning). What is named: SightLaws.
+-- What holds of a list that is not refused: each station has exactly one number of steps, 1 to 64, and it is the one
+-- that comes back; 0 past the list (chains, Meaning). What is named: SightLaws.
 use mathlib.Core.Path.{_≡_, sym, subst}
 use mathlib.Core.List.{List}
 use Prim.Native.Nat.{ℕ, _≤_}

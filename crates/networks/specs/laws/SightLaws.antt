@@ -1,4 +1,5 @@
--- The station that is named: the first in the list of those with the smallest "to" (`named-at`, `first-smallest`); 0 where none enters (`named-none`).
+-- The station that is named: the first in the list of those with the smallest "to" (`named-at`, `first-smallest`); 0
+-- where none enters (`named-none`).
 use mathlib.Core.Path.{_≡_, refl, sym, ap, _∙_, subst}
 use mathlib.Core.List.{List, [], _∷_}
 use Prim.Native.Nat.{ℕ, zero, suc, _≤_}

@@ -1,4 +1,5 @@
--- `places::put_station` meets its contract: where the record is within its ranges, latitude and height are what `geocentric` asks for.
+-- `places::put_station` meets its contract: where the record is within its ranges, latitude and height are what
+-- `geocentric` asks for.
 use mathlib.Core.Path.{sym, _∙_}
 use mir.Syntax.{w64}
 use mir.ValLaws.{toZ-ofZ}
@@ -27,13 +28,5 @@ returns-2 c =
 pub put-station-spec : {M : Type 1} → statement M
 put-station-spec =
     tie.close
-    (tie.spec
-    (λ c κs. search needs)
-    (λ c. search needs)
-    put-place-requires
-    (λ c. search needs)
-    (λ c κs. search needs)
-    (λ c. search needs)
-    returns
-    (λ c. search needs)
-    returns-2)
+    (tie.spec (λ c κs. search needs) (λ c. search needs) put-place-requires (λ c. search needs)
+    (λ c κs. search needs) (λ c. search needs) returns (λ c. search needs) returns-2)

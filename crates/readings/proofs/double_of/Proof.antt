@@ -1,4 +1,4 @@
--- `readings::double_of` meets its contract: a NaN is what nothing divided by nothing is; any other pattern is taken. Assumes nothing.
+-- `readings::double_of` meets its contract: a NaN is what nothing divided by nothing is; any other pattern is taken.
 use borrow.Author.Needs.{needs}
 use Rattle.readings.specs.laws.PrintedLaws.{bits-nan, bits-exponent, bits-digits}
 use Rattle.readings.proofs.double_of.Statement.{statement}

@@ -1,4 +1,4 @@
--- `readings::put_field` meets its contract: the reading, then the byte. Assumes nothing.
+-- `readings::put_field` meets its contract: the reading, then the byte.
 use native.Mathlib.Omega.{arith}
 use borrow.Author.Needs.{needs}
 use Rattle.decimal_text.specs.RowLaws.{joined}

@@ -1,4 +1,4 @@
--- `readings::put_reading` meets its contract, case by case. Assumes nothing.
+-- `readings::put_reading` meets its contract, case by case.
 use borrow.Author.Needs.{needs}
 use Rattle.rounding.specs.laws.Code.{read-result}
 use Rattle.readings.specs.laws.PrintedLaws.{text-units, text-large, text-none}
@@ -20,18 +20,6 @@ returns-3 c = text-none _ _ _ _ _ (c .before .before .before .before .before .en
 pub put-reading-spec : {M : Type 1} → statement M
 put-reading-spec =
     tie.close
-    (tie.spec
-    (λ c. search needs)
-    (λ c κs. search needs)
-    (λ c. search needs)
-    (λ c. search needs)
-    (λ c κs. search needs)
-    (λ c. search needs)
-    (λ c. search needs)
-    (λ c κs. search needs)
-    (λ c. search needs)
-    returns
-    (λ c. search needs)
-    returns-2
-    (λ c. search needs)
-    returns-3)
+    (tie.spec (λ c. search needs) (λ c κs. search needs) (λ c. search needs) (λ c. search needs)
+    (λ c κs. search needs) (λ c. search needs) (λ c. search needs) (λ c κs. search needs) (λ c. search needs)
+    returns (λ c. search needs) returns-2 (λ c. search needs) returns-3)

@@ -1,4 +1,4 @@
--- `readings::put_record` meets its contract: the line of the double whose bytes these are. Assumes nothing.
+-- `readings::put_record` meets its contract: the line of the double whose bytes these are.
 use mathlib.Core.Path.{ap, _∙_}
 use Prim.Native.Nat.{ℕ}
 use borrow.Author.Needs.{needs}

@@ -1,4 +1,4 @@
--- `request::respond` meets its contract: the bytes and no message, or a message and no bytes. Assumes nothing.
+-- `request::respond` meets its contract: the bytes and no message, or a message and no bytes.
 use mathlib.Core.Path.{sym, _∙_}
 use Rattle.request_text.specs.laws.RoomLaws.{bytes-first, message-first}
 use Rattle.request.specs.laws.StreamLaws.{request-out, message-out}

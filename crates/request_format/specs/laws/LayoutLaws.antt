@@ -1,4 +1,5 @@
--- Writing and reading by one layout undo each other: what is written is read back (`read-back`), and what is read is written back (`write-back`).
+-- Writing and reading by one layout undo each other: what is written is read back (`read-back`), and what is read is
+-- written back (`write-back`).
 use mathlib.Core.Path.{_≡_, refl, ap, _∙_}
 use mathlib.Core.Bool.{Bool, true, false, cond}
 use mathlib.Core.List.{List, [], _∷_, _++_}

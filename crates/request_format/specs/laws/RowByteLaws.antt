@@ -1,4 +1,5 @@
--- Laws of the fields one after the other: those from field k on are field k's bytes, or its number, and those from field k + 1 on.
+-- Laws of the fields one after the other: those from field k on are field k's bytes, or its number, and those from
+-- field k + 1 on.
 use mathlib.Core.Path.{_≡_, refl, sym, ap, _∙_}
 use mathlib.Core.Bool.{Bool, true, false, cond, _&&_}
 use mathlib.Core.List.{List, [], _∷_, _++_, append-assoc}

@@ -1,5 +1,4 @@
 -- The fields of the code's table, one after the other: the bytes of each, and what stands at its place.
--- Assumes nothing: these are definitions.
 use mathlib.Core.Bool.{Bool, true, cond, _&&_}
 use mathlib.Core.List.{List, [], _∷_, _++_}
 use Prim.Native.Nat.{ℕ, zero, suc, _+_}

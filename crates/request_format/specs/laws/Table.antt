@@ -1,5 +1,4 @@
 -- How the code's table is read: rows of thirteen bytes, one after the other.
--- Assumes nothing: these are definitions.
 use Prim.Native.Nat.{ℕ, zero, suc, _%_}
 use Prim.Native.Char.{code}
 use mathlib.Core.Bool.{cond}

@@ -1,4 +1,4 @@
--- `request_text::complete` meets its contract: the fields passed are given (`Given`). Assumes nothing.
+-- `request_text::complete` meets its contract: the fields passed are given (`Given`).
 use mathlib.Core.Path.{refl}
 use Prim.Native.Nat.{_-_}
 use borrow.Author.Needs.{needs}
@@ -28,13 +28,5 @@ returns-2 c = given-all _ _ (c .before .loop .inv) (c .loop-test .left)
 pub complete-spec : {M : Type 1} → statement M
 complete-spec =
     tie.close
-    (tie.spec
-    Inv-loop
-    μ-loop
-    loop-holds
-    (λ c. search needs)
-    returns
-    (λ c. search needs)
-    (λ c. search needs)
-    loop-again
-    returns-2)
+    (tie.spec Inv-loop μ-loop loop-holds (λ c. search needs) returns (λ c. search needs) (λ c. search needs)
+    loop-again returns-2)

@@ -1,4 +1,5 @@
--- `request_text::find` meets its contract: the names before name k are not said (`Finding`). The measure is how many are left. Assumes nothing.
+-- `request_text::find` meets its contract: the names before name k are not said (`Finding`). The measure is how many
+-- are left.
 use mathlib.Core.Path.{_≡_, sym, ap, subst, _∙_}
 use mathlib.Core.Bool.{Bool}
 use Prim.Native.Nat.{_-_, _≤_, _<_}
@@ -83,17 +84,6 @@ returns-2 c = finding-none _ _ _ (c .before .loop .inv) (omega (arith, c .loop-t
 pub find-spec : {M : Type 1} → statement M
 find-spec =
     tie.close
-    (tie.spec
-    Inv-loop
-    μ-loop
-    (λ c κs. search needs)
-    loop-holds
-    field-at-requires
-    array-share-prefix-name
-    slice-aggregate-is-named
-    (λ c κs. search needs)
-    returns
-    (λ c. search needs)
-    (λ c. search needs)
-    loop-again
+    (tie.spec Inv-loop μ-loop (λ c κs. search needs) loop-holds field-at-requires array-share-prefix-name
+    slice-aggregate-is-named (λ c κs. search needs) returns (λ c. search needs) (λ c. search needs) loop-again
     returns-2)

@@ -1,4 +1,4 @@
--- `request_text::fit` meets its contract: the bytes hold the number, or do not. Assumes nothing.
+-- `request_text::fit` meets its contract: the bytes hold the number, or do not.
 use mathlib.Core.Path.{_≡_, sym, ap, _∙_}
 use mathlib.Core.Bool.{Bool}
 use borrow.Author.Needs.{needs}

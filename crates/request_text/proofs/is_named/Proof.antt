@@ -1,4 +1,5 @@
--- `request_text::is_named` meets its contract: the letters passed are those of the name, and the rest of both decides (`Named`). Assumes nothing.
+-- `request_text::is_named` meets its contract: the letters passed are those of the name, and the rest of both decides
+-- (`Named`).
 use Prim.Native.Nat.{_-_}
 use native.Mathlib.Omega.{arith}
 use borrow.Author.Needs.{needs}
@@ -43,18 +44,6 @@ returns-4 c = named-followed _ _ _ (c .before .before .before .before .loop .inv
 pub is-named-spec : {M : Type 1} → statement M
 is-named-spec =
     tie.close
-    (tie.spec
-    Inv-loop
-    μ-loop
-    loop-holds
-    returns
-    shared-slice-read-if2
-    (λ c. search needs)
-    returns-2
-    (λ c. search needs)
-    (λ c. search needs)
-    loop-again
-    returns-3
-    shared-slice-read-x
-    (λ c κs. search needs)
+    (tie.spec Inv-loop μ-loop loop-holds returns shared-slice-read-if2 (λ c. search needs) returns-2
+    (λ c. search needs) (λ c. search needs) loop-again returns-3 shared-slice-read-x (λ c κs. search needs)
     returns-4)

@@ -1,4 +1,4 @@
--- `request_text::meaning` meets its contract: nothing is said, or a name first. Assumes nothing.
+-- `request_text::meaning` meets its contract: nothing is said, or a name first.
 use mathlib.Core.Path.{_∙_}
 use Rattle.request_text.specs.laws.LineLaws.{meaning-none, meaning-some}
 use borrow.Author.Needs.{needs}

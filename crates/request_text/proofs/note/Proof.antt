@@ -1,4 +1,4 @@
--- `request_text::note` meets its contract: each arm is a case of the definitions. Assumes nothing.
+-- `request_text::note` meets its contract: each arm is a case of the definitions.
 use mathlib.Core.Path.{subst}
 use native.Mathlib.Omega.{arith}
 use lib.ListN.{length}
@@ -44,17 +44,6 @@ returns-4 c =
 pub note-spec : {M : Type 1} → statement M
 note-spec =
     tie.close
-    (tie.spec
-    (λ c. search needs)
-    (λ c. search needs)
-    (λ c. search needs)
-    slice-read-if1
-    returns
-    slice-write-marks
-    mul-value
-    slice-set-from-value
-    returns-2
-    returns-3
-    (λ c. search needs)
-    (λ c. search needs)
-    returns-4)
+    (tie.spec (λ c. search needs) (λ c. search needs) (λ c. search needs) slice-read-if1 returns
+    slice-write-marks mul-value slice-set-from-value returns-2 returns-3 (λ c. search needs)
+    (λ c. search needs) returns-4)

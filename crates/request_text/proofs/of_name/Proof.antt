@@ -1,4 +1,4 @@
--- `request_text::of_name` meets its contract: the name is found in the table, or nowhere. Assumes nothing.
+-- `request_text::of_name` meets its contract: the name is found in the table, or nowhere.
 use mathlib.Core.Path.{sym, _∙_}
 use native.Mathlib.Omega.{arith}
 use Rattle.request_text.specs.laws.NameLaws.{found-at}
@@ -28,17 +28,6 @@ returns-2 c = c .of-value .ensures
 pub of-name-spec : {M : Type 1} → statement M
 of-name-spec =
     tie.close
-    (tie.spec
-    (λ c κs. search needs)
-    (λ c. search needs)
-    (λ c. search needs)
-    returns
-    sub-after
-    part-after-start
-    (λ c. search needs)
-    (λ c κs. search needs)
-    (λ c. search needs)
-    (λ c. search needs)
-    (λ c. search needs)
-    of-value-requires
-    returns-2)
+    (tie.spec (λ c κs. search needs) (λ c. search needs) (λ c. search needs) returns sub-after
+    part-after-start (λ c. search needs) (λ c κs. search needs) (λ c. search needs) (λ c. search needs)
+    (λ c. search needs) of-value-requires returns-2)

@@ -1,4 +1,4 @@
--- `request_text::of_value` meets its contract: the word ends where its run does, and blanks alone follow. Assumes nothing.
+-- `request_text::of_value` meets its contract: the word ends where its run does, and blanks alone follow.
 use mathlib.Core.Path.{sym, _∙_}
 use lib.Seq.{length-take-le}
 use borrow.Author.Tests.{not-true, not-false}
@@ -21,13 +21,5 @@ returns-2 c = c .value-of .ensures
 pub of-value-spec : {M : Type 1} → statement M
 of-value-spec =
     tie.close
-    (tie.spec
-    (λ c κs. search needs)
-    (λ c. search needs)
-    (λ c. search needs)
-    (λ c. search needs)
-    (λ c κs. search needs)
-    returns
-    slice-aggregate-value-of
-    (λ c κs. search needs)
-    returns-2)
+    (tie.spec (λ c κs. search needs) (λ c. search needs) (λ c. search needs) (λ c. search needs)
+    (λ c κs. search needs) returns slice-aggregate-value-of (λ c κs. search needs) returns-2)

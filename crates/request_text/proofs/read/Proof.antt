@@ -1,5 +1,5 @@
--- `request_text::read` meets its contract: the lines passed were taken, so the reading is that of those left (`Walked`). The measure is how many
--- bytes are left. Assumes nothing.
+-- `request_text::read` meets its contract: the lines passed were taken, so the reading is that of those left
+-- (`Walked`). The measure is how many bytes are left.
 use mathlib.Core.Path.{_≡_, sym, ap, subst, _∙_}
 use Prim.Native.Nat.{ℕ, _+_, _-_, _≤_}
 use borrow.Author.Needs.{needs}
@@ -166,41 +166,10 @@ returns-3 c =
 pub read-spec : {M : Type 1} → statement M
 read-spec =
     tie.close
-    (tie.spec
-    Inv-loop
-    μ-loop
-    (λ c κs. search needs)
-    sub-required
-    mul-found
-    slice-set-of-found
-    loop-holds
-    (λ c. search needs)
-    (λ c. search needs)
-    (λ c. search needs)
-    (λ c κs. search needs)
-    add-end
-    (λ c. search needs)
-    (λ c. search needs)
-    part-number-in-end
-    (λ c κs. search needs)
-    note-requires
-    (λ c. search needs)
-    same-length
-    same-length-2
-    returns
-    (λ c. search needs)
-    add-at
-    add-line
-    loop-less
-    loop-again
-    slice-reshare-prefix-complete
-    slice-aggregate-complete
-    (λ c κs. search needs)
-    (λ c. search needs)
-    same-length-3
-    same-length-4
-    returns-2
-    (λ c. search needs)
-    same-length-5
-    same-length-6
+    (tie.spec Inv-loop μ-loop (λ c κs. search needs) sub-required mul-found slice-set-of-found loop-holds
+    (λ c. search needs) (λ c. search needs) (λ c. search needs) (λ c κs. search needs) add-end
+    (λ c. search needs) (λ c. search needs) part-number-in-end (λ c κs. search needs) note-requires
+    (λ c. search needs) same-length same-length-2 returns (λ c. search needs) add-at add-line loop-less
+    loop-again slice-reshare-prefix-complete slice-aggregate-complete (λ c κs. search needs)
+    (λ c. search needs) same-length-3 same-length-4 returns-2 (λ c. search needs) same-length-5 same-length-6
     returns-3)

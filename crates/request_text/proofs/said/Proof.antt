@@ -1,4 +1,4 @@
--- `request_text::said` meets its contract: a comment is cut off, then the blanks before what is said. Assumes nothing.
+-- `request_text::said` meets its contract: a comment is cut off, then the blanks before what is said.
 use mathlib.Core.Path.{sym}
 use lib.Seq.{length-take-le}
 use Rattle.request_text.specs.laws.LineLaws.{said-is}

@@ -1,4 +1,5 @@
--- `request_text::star_numbers` meets its contract: what was read is handed over where there is no fault; else nothing is touched. Assumes nothing.
+-- `request_text::star_numbers` meets its contract: what was read is handed over where there is no fault; else nothing
+-- is touched.
 use borrow.Author.Needs.{needs}
 use Rattle.request_text.specs.laws.TypingLaws.{numbers-typed, numbers-kept}
 use Rattle.request_text.proofs.star_numbers.Statement.{statement}

@@ -1,4 +1,4 @@
--- `request_text::value_of` meets its contract: what the units say (`value-by`). Assumes nothing.
+-- `request_text::value_of` meets its contract: what the units say (`value-by`).
 use mathlib.Core.Path.{_≡_, sym, ap, _∙_}
 use Prim.Native.Nat.{ℕ}
 use Rattle.tokens.specs.declared.Units.{Units}
@@ -44,14 +44,5 @@ returns-3 c = told (c .before .before) _ (c .enum-told2 .given .1)
 pub value-of-spec : {M : Type 1} → statement M
 value-of-spec =
     tie.close
-    (tie.spec
-    (λ c κs. search needs)
-    (λ c κs. search needs)
-    (λ c κs. search needs)
-    (λ c. search needs)
-    fit-requires
-    (λ c. search needs)
-    (λ c. search needs)
-    returns
-    returns-2
-    returns-3)
+    (tie.spec (λ c κs. search needs) (λ c κs. search needs) (λ c κs. search needs) (λ c. search needs)
+    fit-requires (λ c. search needs) (λ c. search needs) returns returns-2 returns-3)

@@ -1,4 +1,4 @@
--- `request_text::with_sign` meets its contract: a number of 32 bits fits 64 with its sign. Assumes nothing.
+-- `request_text::with_sign` meets its contract: a number of 32 bits fits 64 with its sign.
 use mathlib.Core.Path.{_≡_, refl, sym, ap, _∙_}
 use mathlib.Core.List.{[], _∷_}
 use Prim.Native.Nat.{ℕ, zero, suc, _≤_}

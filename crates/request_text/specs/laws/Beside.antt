@@ -1,4 +1,5 @@
--- A line that names the instant changes no number: a text gives the same ones, and is of the same shape, as with that line empty.
+-- A line that names the instant changes no number: a text gives the same ones, and is of the same shape, as with that
+-- line empty.
 use mathlib.Core.Path.{_≡_, refl, sym, ap, _∙_}
 use mathlib.Core.Bool.{Bool, true, false, cond}
 use mathlib.Core.List.{List, [], _∷_, map}

@@ -1,5 +1,5 @@
--- No text gives all numbers of an eclipse and is taken for a star's, or the other way round (`shape-is`): an eclipse has no radius, and a star's must
--- be typed.
+-- No text gives all numbers of an eclipse and is taken for a star's, or the other way round (`shape-is`): an eclipse
+-- has no radius, and a star's must be typed.
 use mathlib.Core.Path.{_≡_, refl, sym, subst, _∙_}
 use mathlib.Core.Bool.{Bool, true, false, cond, not, _&&_}
 use mathlib.Core.List.{List, [], _∷_}

@@ -1,4 +1,5 @@
--- The instant is no part of a request: a text that is taken asks for the same numbers, so the same bytes, as with the line that names the instant empty.
+-- The instant is no part of a request: a text that is taken asks for the same numbers, so the same bytes, as with the
+-- line that names the instant empty.
 use mathlib.Core.Path.{_≡_, _∙_}
 use mathlib.Core.List.{List, map}
 use Prim.Native.Nat.{ℕ, _≤_}

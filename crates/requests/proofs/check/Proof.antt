@@ -1,4 +1,5 @@
--- `requests::check` meets its contract: the window, the guard, the elements, then the station; the first that is out of range answers. Assumes nothing.
+-- `requests::check` meets its contract: the window, the guard, the elements, then the station; the first that is out
+-- of range answers.
 use mathlib.Core.Path.{_≡_, sym, ap, _∙_}
 use mathlib.Core.Bool.{true}
 use borrow.Author.Needs.{needs}
@@ -50,14 +51,5 @@ returns-4 c =
 pub check-spec : {M : Type 1} → statement M
 check-spec =
     tie.close
-    (tie.spec
-    (λ c κs. search needs)
-    returns
-    (λ c κs. search needs)
-    returns-2
-    (λ c κs. search needs)
-    (λ c. search needs)
-    returns-3
-    (λ c. search needs)
-    (λ c κs. search needs)
-    returns-4)
+    (tie.spec (λ c κs. search needs) returns (λ c κs. search needs) returns-2 (λ c κs. search needs)
+    (λ c. search needs) returns-3 (λ c. search needs) (λ c κs. search needs) returns-4)

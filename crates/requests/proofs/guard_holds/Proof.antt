@@ -1,4 +1,4 @@
--- `requests::guard_holds` meets its contract: the two tests, on a number read back from its bits. Assumes nothing.
+-- `requests::guard_holds` meets its contract: the two tests, on a number read back from its bits.
 use mir.Syntax.{w64}
 use mir.ValLaws.{toZ-ofZ}
 use Rattle.requests.specs.Requests.{guardHolds}

@@ -1,4 +1,4 @@
--- `requests::shares` meets its contract: of either body. Assumes nothing.
+-- `requests::shares` meets its contract: of either body.
 use mathlib.Core.Path.{sym, ap}
 use borrow.Author.Needs.{needs}
 use Rattle.elements.specs.declared.Body.{Body}

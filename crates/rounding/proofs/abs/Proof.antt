@@ -1,4 +1,4 @@
--- `rounding::abs` meets its contract. Assumes nothing.
+-- `rounding::abs` meets its contract.
 use mathlib.Core.Path.{_≡_, _∙_, ap, refl}
 use mathlib.Core.List.{[], _∷_}
 use native.Mathlib.Omega.{arith}

@@ -1,5 +1,5 @@
--- `rounding::near` meets its contract: half of k is taken away from zero, and the machine's quotient is rounded toward it
--- (NearLaws, near-above and near-below). Assumes nothing.
+-- `rounding::near` meets its contract: half of k is taken away from zero, and the machine's quotient is rounded toward
+-- it (NearLaws, near-above and near-below).
 use mathlib.Core.Path.{_∙_}
 use mathlib.Core.List.{[], _∷_}
 use native.Mathlib.Omega.{arith}

@@ -1,4 +1,4 @@
--- `rounding::near_unit` meets its contract: it is `near` with a literal. Assumes nothing.
+-- `rounding::near_unit` meets its contract: it is `near` with a literal.
 use mathlib.Core.Path.{ap, _∙_}
 use lib.Dec.{lit≤}
 use lib.Signed.{leZ-yes}

@@ -1,4 +1,4 @@
--- `rounding::near_unsigned` meets its contract: near of naturals is one division of naturals. Assumes nothing.
+-- `rounding::near_unsigned` meets its contract: near of naturals is one division of naturals.
 use mathlib.Core.Path.{sym}
 use borrow.Author.Needs.{needs}
 use Rattle.rounding.specs.laws.NearLaws.{near-pos}

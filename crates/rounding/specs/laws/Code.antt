@@ -1,7 +1,7 @@
--- i64 arithmetic as the machine does it. A signed local holds bits, so what a need shows of a value that was computed is `toZ w64 (ofZ w64 x)`, nested once
--- for each operation on the way.
--- `Code` is such a computation as data. Bounds on its slots give, by computation, a bound on each step; where each fits, `fits` answers the need, and `runs`
--- says that the result is the exact one.
+-- i64 arithmetic as the machine does it. A signed local holds bits, so what a need shows of a value that was computed
+-- is `toZ w64 (ofZ w64 x)`, nested once for each operation on the way. `Code` is such a computation as data. Bounds on
+-- its slots give, by computation, a bound on each step; where each fits, `fits` answers the need, and `runs` says that
+-- the result is the exact one.
 use mathlib.Core.Path.{_≡_, refl, sym, _∙_, ap, ap₂, subst}
 use mathlib.Core.Bool.{Bool, true, false, _&&_}
 use mathlib.Core.List.{List, [], _∷_}
@@ -17,7 +17,8 @@ use mir.Val.{SFits, Fits, toZ, ofZ}
 use mir.ValLaws.{toZ-ofZ, toZ-pos}
 use Rattle.rounding.specs.laws.Order.{natAbs-sum, natAbs-minus, natAbs-product, natAbs-quot, natAbs-opposite, fits64, fits64-natAbs, ltZ-true, ltZ-false}
 
--- what a local holds: a whole number (a parameter, a field, an element, a call's result), or bits (a variable that a loop changes)
+-- what a local holds: a whole number (a parameter, a field, an element, a call's result), or bits (a variable that a
+-- loop changes)
 pub data Slot : Type 0 where
   whole : ℤ → Slot
   raw : ℕ → Slot

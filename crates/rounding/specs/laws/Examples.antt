@@ -1,4 +1,5 @@
--- Document 01's examples of near, the second as document 02 has it (wish 3), and rows of the root and its rounds, by computation.
+-- Document 01's examples of near, the second as document 02 has it (wish 3), and rows of the root and its rounds, by
+-- computation.
 use mathlib.Core.Path.{_≡_, refl}
 use lib.IntN.{pos, negsuc}
 use Rattle.rounding.specs.Near.{near}

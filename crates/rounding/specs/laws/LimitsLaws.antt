@@ -1,5 +1,5 @@
--- Laws of ranges: `InRange` says that each number is in its range, `OutOfRange` gives a place of the list, what the search does at one
--- place, and that a range of either sign treats a number as it treats its opposite.
+-- Laws of ranges: `InRange` says that each number is in its range, `OutOfRange` gives a place of the list, what the
+-- search does at one place, and that a range of either sign treats a number as it treats its opposite.
 use mathlib.Core.Path.{_≡_, refl, sym, _∙_, ap, subst}
 use mathlib.Core.Bool.{Bool, true, false, cond, _||_}
 use mathlib.Core.List.{List, [], _∷_}

@@ -72,7 +72,8 @@ halfUp-error n k h =
       natAbs-by (pos 2 *ℤ z) {m = k} (omega (arith, i .low, i .high, s, o, t)) (omega (arith, i .low, i .high, s, o, t)),
     )
 
--- ---- the number that it is: on n's side of zero, its size |n| / k to the nearest, halves up; so a half goes away from zero
+-- ---- the number that it is: on n's side of zero, its size |n| / k to the nearest, halves up; so a half goes away
+-- from zero
 pub record Nearest (n k q : ℤ) : Type 0 where
   pub low : 2 * (natAbs k * natAbs q) ≤ 2 * natAbs n + natAbs k
   pub high : 2 * natAbs n + natAbs k < 2 * (natAbs k * natAbs q) + 2 * natAbs k

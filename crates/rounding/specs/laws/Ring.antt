@@ -1,5 +1,6 @@
--- A solver for equations of ℤ in +, *, − and constants. An expression is written as data, and both sides are multiplied out by computation.
--- A polynomial in n + 1 unknowns is the list of its coefficients, polynomials in the last n: no order of monomials has to be proved.
+-- A solver for equations of ℤ in +, *, − and constants. An expression is written as data, and both sides are
+-- multiplied out by computation. A polynomial in n + 1 unknowns is the list of its coefficients, polynomials in the
+-- last n: no order of monomials has to be proved.
 use mathlib.Core.Path.{_≡_, refl, sym, _∙_, ap, ap₂, subst}
 use mathlib.Core.Bool.{Bool, true, false, _&&_}
 use mathlib.Core.List.{List, [], _∷_}

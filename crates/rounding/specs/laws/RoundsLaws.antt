@@ -57,8 +57,8 @@ unfolding roundsOf
 rounds-enough n h =
     lt-of-lt-of-le (bits-enough n h) (pow-le-pow-right {n = 2} (omega arith) {i = bits n} {j = 2 * roundsOf n} (omega arith))
 
--- ---- n without its last bits, two for each round to come: nothing before the first round; a quarter of what it is a round later; all
--- of n after the last
+-- ---- n without its last bits, two for each round to come: nothing before the first round; a quarter of what it is a
+-- round later; all of n after the last
 
 before-first : (n : ℕ) → n < 18446744073709551616 → n / 2 ^ (2 * (roundsOf n - 0)) ≡ 0
 before-first n h = ap (λ (j : ℕ). n / 2 ^ (2 * j)) (sub-zero (roundsOf n)) ∙ div-eq-of-lt (rounds-enough n h)

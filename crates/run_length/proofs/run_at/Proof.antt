@@ -21,12 +21,5 @@ returns-2 c = let s = c .before .before .before .before .before .before in
 pub run-at-spec : {M : Type 1} → statement M
 run-at-spec =
     tie.close
-    (tie.spec
-    (λ c. search needs)
-    (λ c κs. search needs)
-    (λ c. search needs)
-    returns
-    shared-slice-read-seconds-of
-    (λ c κs. search needs)
-    (λ c. search needs)
-    returns-2)
+    (tie.spec (λ c. search needs) (λ c κs. search needs) (λ c. search needs) returns
+    shared-slice-read-seconds-of (λ c κs. search needs) (λ c. search needs) returns-2)

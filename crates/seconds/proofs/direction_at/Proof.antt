@@ -1,4 +1,4 @@
--- `seconds::direction_at` meets its contract: it is the direction of the shadow there. Assumes nothing.
+-- `seconds::direction_at` meets its contract: it is the direction of the shadow there.
 use mathlib.Core.Path.{sym, subst, _∙_}
 use borrow.Author.Needs.{needs}
 use lib.Dec.{lit≤}

@@ -1,4 +1,4 @@
--- `seconds::magnitude_at` meets its contract: it is the magnitude of the shadow there, under the request's guard. Assumes nothing.
+-- `seconds::magnitude_at` meets its contract: it is the magnitude of the shadow there, under the request's guard.
 use mathlib.Core.Path.{sym, subst, ap, _∙_}
 use borrow.Author.Needs.{needs}
 use Rattle.rounding.specs.laws.Code.{read-back, read-size}

@@ -1,5 +1,5 @@
--- `seconds::second` meets its contract: the second's own limits, then the request and its room, then the second itself; what its states mean
--- follows from the answer alone. Assumes nothing.
+-- `seconds::second` meets its contract: the second's own limits, then the request and its room, then the second
+-- itself; what its states mean follows from the answer alone.
 use mathlib.Core.Path.{_≡_, refl, sym, ap, _∙_}
 use mathlib.Core.Bool.{true}
 use borrow.Author.Needs.{needs}
@@ -73,14 +73,5 @@ returns-3 c =
 pub second-spec : {M : Type 1} → statement M
 second-spec =
     tie.close
-    (tie.spec
-    (λ c κs. search needs)
-    returns
-    (λ c κs. search needs)
-    (λ c. search needs)
-    (λ c. search needs)
-    returns-2
-    (λ c. search needs)
-    second-within-requires
-    (λ c. search needs)
-    returns-3)
+    (tie.spec (λ c κs. search needs) returns (λ c κs. search needs) (λ c. search needs) (λ c. search needs)
+    returns-2 (λ c. search needs) second-within-requires (λ c. search needs) returns-3)

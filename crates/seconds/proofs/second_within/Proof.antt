@@ -1,4 +1,5 @@
--- `seconds::second_within` meets its contract: the place is the station's, and the second there is the whole second, of either body. Assumes nothing.
+-- `seconds::second_within` meets its contract: the place is the station's, and the second there is the whole second,
+-- of either body.
 use mathlib.Core.Path.{_≡_, sym, subst}
 use borrow.Author.Needs.{needs}
 use lib.IntN.{ℤ}
@@ -88,11 +89,5 @@ returns-2 c =
 pub second-within-spec : {M : Type 1} → statement M
 second-within-spec =
     tie.close
-    (tie.spec
-    (λ c κs. search needs)
-    (λ c. search needs)
-    second-at-requires
-    (λ c. search needs)
-    star-second-requires
-    returns
-    returns-2)
+    (tie.spec (λ c κs. search needs) (λ c. search needs) second-at-requires (λ c. search needs)
+    star-second-requires returns returns-2)

@@ -1,4 +1,5 @@
--- `seconds::star_second` meets its contract: the sample's letters are the second's, and the edge of a star's phase is its L. Assumes nothing.
+-- `seconds::star_second` meets its contract: the sample's letters are the second's, and the edge of a star's phase is
+-- its L.
 use mathlib.Core.Path.{_≡_, refl, _∙_}
 use native.Mathlib.Omega.{arith}
 use lib.IntN.{ℤ}

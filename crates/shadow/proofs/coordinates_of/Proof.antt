@@ -1,4 +1,4 @@
--- `shadow::coordinates_of` meets its contract: each letter is one near of products of what it is handed. Assumes nothing.
+-- `shadow::coordinates_of` meets its contract: each letter is one near of products of what it is handed.
 use mathlib.Core.Path.{_≡_, sym, ap, _∙_, subst}
 use mathlib.Core.List.{[], _∷_}
 use Prim.Native.Nat.{ℕ, _*_, _≤_}
@@ -134,17 +134,6 @@ returns c =
 pub coordinates-of-spec : {M : Type 1} → statement M
 coordinates-of-spec =
     tie.close
-    (tie.spec
-    mul-near-unit
-    near-unit-requires
-    mul-near-unit-2
-    near-unit-requires-2
-    mul-near-unit-3
-    mul-near-unit-4
-    sub-near-unit
-    near-unit-requires-3
-    mul-near-unit-5
-    mul-near-unit-6
-    add-near-unit
-    near-unit-requires-4
-    returns)
+    (tie.spec mul-near-unit near-unit-requires mul-near-unit-2 near-unit-requires-2 mul-near-unit-3
+    mul-near-unit-4 sub-near-unit near-unit-requires-3 mul-near-unit-5 mul-near-unit-6 add-near-unit
+    near-unit-requires-4 returns)

@@ -1,4 +1,5 @@
--- `shadow::magnitude` meets its contract: one case where central is inside and one elsewhere, each a share of L1+L2, which is above 0. Assumes nothing.
+-- `shadow::magnitude` meets its contract: one case where central is inside and one elsewhere, each a share of L1+L2,
+-- which is above 0.
 use mathlib.Core.Path.{_≡_, refl, sym, ap, ap₂, _∙_, subst}
 use mathlib.Core.List.{[], _∷_}
 use Prim.Native.Nat.{ℕ, zero, suc, _≤_}
@@ -129,14 +130,5 @@ returns-2 c =
 pub magnitude-spec : {M : Type 1} → statement M
 magnitude-spec =
     tie.close
-    (tie.spec
-    add-sum
-    sub-share
-    share-requires
-    returns
-    cast-root
-    root-requires
-    cast-share
-    sub-share-2
-    share-requires-2
-    returns-2)
+    (tie.spec add-sum sub-share share-requires returns cast-root root-requires cast-share sub-share-2
+    share-requires-2 returns-2)

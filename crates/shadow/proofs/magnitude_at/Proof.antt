@@ -1,4 +1,4 @@
--- `shadow::magnitude_at` meets its contract: the shadow and its states are the second's, so its magnitude is too. Assumes nothing.
+-- `shadow::magnitude_at` meets its contract: the shadow and its states are the second's, so its magnitude is too.
 use mathlib.Core.Path.{_∙_}
 use Rattle.rounding.specs.laws.Code.{read-back, read-size}
 use Rattle.shadow.specs.Shadow.{IsShadow}

@@ -1,4 +1,4 @@
--- `shadow::offset_at` meets its contract: each call gives its letter of the page, and the letters are put together. Assumes nothing.
+-- `shadow::offset_at` meets its contract: each call gives its letter of the page, and the letters are put together.
 use mathlib.Core.Path.{_≡_, ap, ap₂, _∙_}
 use mathlib.Core.List.{[], _∷_}
 use Prim.Native.Nat.{_≤_}
@@ -188,17 +188,5 @@ returns c =
 pub offset-at-spec : {M : Type 1} → statement M
 offset-at-spec =
     tie.close
-    (tie.spec
-    quadratic-at-requires
-    add-h
-    quadratic-at-requires-2
-    orientation-of-requires
-    coordinates-of-requires
-    cubic-at-requires
-    sub-u
-    cubic-at-requires-2
-    sub-v
-    mul-m
-    mul-m-2
-    add-m
-    returns)
+    (tie.spec quadratic-at-requires add-h quadratic-at-requires-2 orientation-of-requires
+    coordinates-of-requires cubic-at-requires sub-u cubic-at-requires-2 sub-v mul-m mul-m-2 add-m returns)

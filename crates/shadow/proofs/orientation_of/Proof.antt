@@ -1,4 +1,4 @@
--- `shadow::orientation_of` meets its contract: each angle is reduced, then its sine and cosine are taken. Assumes nothing.
+-- `shadow::orientation_of` meets its contract: each angle is reduced, then its sine and cosine are taken.
 use mathlib.Core.Path.{_∙_}
 use Prim.Native.Nat.{ℕ, _≤_}
 use native.Mathlib.Omega.{arith}
@@ -55,11 +55,5 @@ returns c =
 pub orientation-of-spec : {M : Type 1} → statement M
 orientation-of-spec =
     tie.close
-    (tie.spec
-    reduced-requires
-    reduced-requires-2
-    sine-requires
-    cosine-requires
-    sine-requires-2
-    cosine-requires-2
-    returns)
+    (tie.spec reduced-requires reduced-requires-2 sine-requires cosine-requires sine-requires-2
+    cosine-requires-2 returns)

@@ -1,4 +1,4 @@
--- `shadow::radius_at` meets its contract: one product to the nearest, taken from l. Assumes nothing.
+-- `shadow::radius_at` meets its contract: one product to the nearest, taken from l.
 use mathlib.Core.Path.{_≡_, ap, ap₂, _∙_}
 use mathlib.Core.List.{[], _∷_}
 use Prim.Native.Nat.{_≤_}

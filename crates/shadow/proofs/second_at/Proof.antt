@@ -1,4 +1,4 @@
--- `shadow::second_at` meets its contract: the shadow is the second's, so its states, magnitude and direction are too. Assumes nothing.
+-- `shadow::second_at` meets its contract: the shadow is the second's, so its states, magnitude and direction are too.
 use mathlib.Core.Path.{_∙_}
 use Rattle.rounding.specs.laws.Code.{read-back, read-size}
 use Rattle.shadow.specs.Shadow.{IsShadow}

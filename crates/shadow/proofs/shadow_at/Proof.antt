@@ -1,4 +1,4 @@
--- `shadow::shadow_at` meets its contract: the axis from the station, and each cone's radius there. Assumes nothing.
+-- `shadow::shadow_at` meets its contract: the axis from the station, and each cone's radius there.
 use mathlib.Core.Path.{_∙_}
 use lib.Dec.{lit≤}
 use Rattle.rounding.specs.laws.Code.{read-back, read-size}

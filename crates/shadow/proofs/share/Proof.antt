@@ -1,4 +1,4 @@
--- `shadow::share` meets its contract: below 0 there is nothing, and elsewhere the machine's quotient is the floor. Assumes nothing.
+-- `shadow::share` meets its contract: below 0 there is nothing, and elsewhere the machine's quotient is the floor.
 use mathlib.Core.Path.{_≡_, refl, sym, ap, _∙_}
 use mathlib.Core.List.{[], _∷_}
 use native.Mathlib.Omega.{arith}

@@ -1,5 +1,5 @@
--- `shadow::state` meets its contract: at each end of the code the tests that led there are what its state means, and a state is the only
--- one of its meaning (geometry, StateLaws). Assumes nothing.
+-- `shadow::state` meets its contract: at each end of the code the tests that led there are what its state means, and a
+-- state is the only one of its meaning (geometry, StateLaws).
 use mathlib.Core.Path.{sym, ap}
 use mathlib.Core.List.{[], _∷_}
 use mathlib.Core.Logic.{⊎-elim}

@@ -1,4 +1,4 @@
--- `shadow::states_of` meets its contract: one state for each phase, central by the size of L2. Assumes nothing.
+-- `shadow::states_of` meets its contract: one state for each phase, central by the size of L2.
 use mathlib.Core.Path.{_≡_, ap, _∙_}
 use Prim.Native.Nat.{_≤_}
 use native.Mathlib.Omega.{arith}

@@ -105,8 +105,8 @@ module _ (e : Elements) (z : ElementSizes e) (p : Place) (i : PlaceSizes p) (τ 
         m = omega (arith, ap natAbs (j .m), M-size m moment-sizes);
       }
 
--- ---- either body
--- where L and a guard are together not negative: L1 is above 0, the size of L2 is not negative, and a star's L is its radius
+-- ---- either body where L and a guard are together not negative: L1 is above 0, the size of L2 is not negative, and a
+-- star's L is its radius
 edge-sign : (b : Body) → BodySizes b → (p : Place) → PlaceSizes p → (τ : ℤ) → natAbs τ ≤ 10800 → (φ : Phase) (f : ℤ) → pos 0 ≤ℤ f
     → pos 0 ≤ℤ (edge φ (L (momentOf (axisOf b) p τ) (cone b φ)) +ℤ f)
 edge-sign (B.Sun e) z p i τ h Penumbra f low = penumbra-sign (moment e p τ) (moment-sizes e z p i τ h) (e .penumbra) (z .penumbra) (z .low) f low

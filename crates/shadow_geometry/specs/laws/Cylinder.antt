@@ -1,4 +1,5 @@
--- Document 02, wish 7: "The shadow is a cylinder: no cone term, no central phase, L a lunar radius given with the request".
+-- Document 02, wish 7: "The shadow is a cylinder: no cone term, no central phase, L a lunar radius given with the
+-- request".
 --   cylinder-L      L is the radius, at every second of every station
 --   cylinder-exact  and so is the exact L: "the radius as the exact L"
 --   star-d          "The elements are x, y, d0 and μ": d is d0 at every second

@@ -48,7 +48,8 @@ none-inside = refl
 
 -- ---- the hand-worked sheet: at the pole, at some seconds
 
--- "x1 = 36,000,000, y0 = 99,664,768, l1 = 54,000,000, l2 = -1,000,000, μ1 = 15,000,000, tan f1 = 460,000, tan f2 = 458,000, all other elements 0"
+-- "x1 = 36,000,000, y0 = 99,664,768, l1 = 54,000,000, l2 = -1,000,000, μ1 = 15,000,000, tan f1 = 460,000, tan f2 =
+-- 458,000, all other elements 0"
 abbrev pub worked : Elements
 worked =
     record {
@@ -123,7 +124,8 @@ nothing : magnitude outside (pos 54000000) (negsuc 999999) (pos 54000001 ²) ≡
 unfolding magnitude root
 nothing = refl
 
--- ---- directions over the table S[k] = k, which starts from 0 and rises: DirectionLaws has the same of every such table
+-- ---- directions over the table S[k] = k, which starts from 0 and rises: DirectionLaws has the same of every such
+-- table
 abbrev line : ℕ → ℕ
 line k = k
 

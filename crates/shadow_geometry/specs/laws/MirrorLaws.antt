@@ -16,7 +16,8 @@ use Rattle.elements.specs.laws.MirrorLaws.{cubic-opposite, quadratic-opposite}
 use Rattle.station.specs.Mirror.{mirroredPlace}
 use Rattle.shadow_geometry.specs.Shadow.{Moment, momentOf, H, d, q, ξ, η, ζ, u, v, L, M}
 
--- document 02, wish 13: "change the sign of all y and d coefficients and of the latitude"; the place is mirrored with the latitude (station, MirrorLaws)
+-- document 02, wish 13: "change the sign of all y and d coefficients and of the latitude"; the place is mirrored with
+-- the latitude (station, MirrorLaws)
 abbrev pub mirroredMoment : Moment → Moment
 mirroredMoment m = momentOf (mirroredAxis negℤ (m .axis)) (mirroredPlace (m .place)) (m .τ)
 

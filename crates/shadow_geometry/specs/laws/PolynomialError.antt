@@ -1,5 +1,5 @@
--- How far a value at a second, rounded at each step, is from the exact one: a step adds half a unit to three times the error before it,
--- so ½, 2, 6½ units after one, two and three steps, whatever the coefficients.
+-- How far a value at a second, rounded at each step, is from the exact one: a step adds half a unit to three times the
+-- error before it, so ½, 2, 6½ units after one, two and three steps, whatever the coefficients.
 use mathlib.Core.Path.{ap}
 use mathlib.Core.List.{[], _∷_}
 use Prim.Native.Nat.{ℕ, _+_, _*_, _≤_}

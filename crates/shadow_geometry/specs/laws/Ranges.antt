@@ -1,4 +1,5 @@
--- What the laws of sizes ask of a second: document 01's ranges, of an axis, a place and a second. The errors ask only for the second.
+-- What the laws of sizes ask of a second: document 01's ranges, of an axis, a place and a second. The errors ask only
+-- for the second.
 use Prim.Native.Nat.{_≤_}
 use lib.IntN.{natAbs}
 use Rattle.elements.specs.Sizes.{AxisSizes}

@@ -1,6 +1,6 @@
--- How large the numbers of a second are, so that callers know that nothing overflows.
--- Within the ranges:  |q|, |ξ| ≤ 101,000,000   |η|, |ζ| ≤ 150,000,000   |u| ≤ 602,170,000   |v| ≤ 651,170,000   M ≤ 8·10^17
--- and of a cone whose constant is at most c:  |L| ≤ c + 1,140,000;  of the penumbra's, 48,860,000 ≤ L1.
+-- How large the numbers of a second are, so that callers know that nothing overflows. Within the ranges:  |q|, |ξ| ≤
+-- 101,000,000   |η|, |ζ| ≤ 150,000,000   |u| ≤ 602,170,000   |v| ≤ 651,170,000   M ≤ 8·10^17 and of a cone whose
+-- constant is at most c:  |L| ≤ c + 1,140,000;  of the penumbra's, 48,860,000 ≤ L1.
 use Prim.Native.Nat.{ℕ, _+_, _≤_}
 use native.Mathlib.Omega.{arith}
 use lib.IntN.{ℤ, pos, negℤ, natAbs, _+ℤ_, _-ℤ_, _*ℤ_}

@@ -1,8 +1,8 @@
--- The states are true of the exact values, for every guard from 13 on: inside is exactly inside, outside is exactly outside,
--- and an unsure second lies within the guard and 13 units of the cone's edge (29 for 16).
--- Why: 13 units are the most that the distance less L is off (Thirteen), strictly, so a guard of 13 already leaves the right side.
--- Unsure needs that L and the guard together are not negative: else nothing is inside, and the far side of the cone would be measured.
--- That is free for central, and within the ranges L1 is above 0 (Sizes, L1-positive).
+-- The states are true of the exact values, for every guard from 13 on: inside is exactly inside, outside is exactly
+-- outside, and an unsure second lies within the guard and 13 units of the cone's edge (29 for 16). Why: 13 units are
+-- the most that the distance less L is off (Thirteen), strictly, so a guard of 13 already leaves the right side.
+-- Unsure needs that L and the guard together are not negative: else nothing is inside, and the far side of the cone
+-- would be measured. That is free for central, and within the ranges L1 is above 0 (Sizes, L1-positive).
 use mathlib.Core.Path.{_≡_, sym, subst}
 use mathlib.Core.List.{[], _∷_}
 use mathlib.Core.Logic.{⊎-elim}
@@ -92,7 +92,8 @@ pub penumbra-sign : (m : Moment) → MomentSizes m → (k : Cone) {c : ℕ} → 
     → pos 0 ≤ℤ (edge Penumbra (L m k) +ℤ g)
 penumbra-sign m h k s low g i = omega (arith, zs, L1-positive m h k s low, sum (L m k) g .is)
 
--- any axis, any place, any cone or cylinder: where L and the guard together are not negative, the states mean what they say
+-- any axis, any place, any cone or cylinder: where L and the guard together are not negative, the states mean what
+-- they say
 pub states-mean : (m : Moment) → natAbs (m .τ) ≤ 10800 → (k : Cone) → natAbs (k .tanf) ≤ 500000 → (φ : Phase) (g : ℤ) → pos 13 ≤ℤ g
     → pos 0 ≤ℤ (edge φ (L m k) +ℤ g) → StatesMean g φ m k
 states-mean m t k f φ g i s =

@@ -1,4 +1,5 @@
--- `shadows::first_of` meets its contract: input of the shape is its request, and its first second is asked; any other is refused.
+-- `shadows::first_of` meets its contract: input of the shape is its request, and its first second is asked; any other
+-- is refused.
 use mathlib.Core.Path.{refl, sym, ap, ap₂, _∙_}
 use lib.ListN.{replicate}
 use Rattle.decimal_text.specs.RowLaws.{given}
@@ -23,12 +24,5 @@ returns-2 c = ap firstOf (sym (c .before .asked2 .given .1) ∙ c .before .befor
 pub first-of-spec : {M : Type 1} → statement M
 first-of-spec =
     tie.close
-    (tie.spec
-    (λ c κs. search needs)
-    (λ c. search needs)
-    (λ c κs. search needs)
-    (λ c. search needs)
-    (λ c κs. search needs)
-    (λ c. search needs)
-    returns
-    returns-2)
+    (tie.spec (λ c κs. search needs) (λ c. search needs) (λ c κs. search needs) (λ c. search needs)
+    (λ c κs. search needs) (λ c. search needs) returns returns-2)

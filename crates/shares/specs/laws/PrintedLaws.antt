@@ -1,4 +1,5 @@
--- What the code asks of a row: the distance by the two halves of the rows, its square, and that L1, L2 and M are within their sizes.
+-- What the code asks of a row: the distance by the two halves of the rows, its square, and that L1, L2 and M are
+-- within their sizes.
 use Prim.Native.Nat.{ℕ, _*_, _%_, _≤_, _<_}
 use mathlib.Core.Path.{_≡_}
 use mathlib.Core.Bool.{Bool, true, false, cond}

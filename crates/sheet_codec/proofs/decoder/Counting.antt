@@ -1,5 +1,5 @@
--- The first pass of a reader and of a writer, which counts: what the sheet from the n-th record on gives, with the n entries before it counted, is the
--- answer. A turn of the loop is one of the sheet.
+-- The first pass of a reader and of a writer, which counts: what the sheet from the n-th record on gives, with the n
+-- entries before it counted, is the answer. A turn of the loop is one of the sheet.
 use Prim.Native.Nat.{ℕ, suc, _+_, _-_, _<_}
 use mathlib.Core.Path.{_≡_, sym, ap, _∙_}
 use mathlib.Core.Bool.{true, false}

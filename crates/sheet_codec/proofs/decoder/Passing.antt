@@ -1,5 +1,6 @@
--- The second pass of a reader and of a writer, which puts the part of each entry, its numbers or its bytes, behind the one before it: what is still
--- to be put, once put, gives what the pass is to leave (`target`). The first pass found a sheet, so each record is there.
+-- The second pass of a reader and of a writer, which puts the part of each entry, its numbers or its bytes, behind the
+-- one before it: what is still to be put, once put, gives what the pass is to leave (`target`). The first pass found a
+-- sheet, so each record is there.
 use Prim.Native.Nat.{ℕ, suc, _+_, _-_, _≤_, _<_}
 use mathlib.Core.Path.{_≡_, sym, ap, _∙_}
 use mathlib.Core.List.{List, [], _∷_, _++_}

@@ -1,4 +1,5 @@
--- Entries of a list of numbers: which answer is given when; those of their own numbers stand there, and the numbers of those that stand are theirs.
+-- Entries of a list of numbers: which answer is given when; those of their own numbers stand there, and the numbers of
+-- those that stand are theirs.
 use Prim.Native.Nat.{ℕ, _+_, _*_, _≤_, _<_}
 use mathlib.Core.Path.{_≡_, refl, sym, ap, _∙_}
 use mathlib.Core.List.{List, [], _∷_, _++_, append-assoc}

@@ -1,5 +1,5 @@
--- Entries that stand one after the other in what is given. Well-formed entries that stand so are a sheet (`from-well`), and the entries of a
--- sheet are well formed and stand so (`well-from`).
+-- Entries that stand one after the other in what is given. Well-formed entries that stand so are a sheet
+-- (`from-well`), and the entries of a sheet are well formed and stand so (`well-from`).
 use Prim.Native.Nat.{ℕ, zero, suc, _+_, _≤_}
 use mathlib.Core.Path.{_≡_, refl, sym, ap, _∙_, subst}
 use mathlib.Core.List.{List, [], _∷_}

@@ -1,5 +1,6 @@
--- Sheets of a star. Document 02, wish 7: "Refusals: .. 8 for a sheet with star and eclipse entries, or with a star entry and kind 31; 7 for a
--- magnitude above 0 after a star entry." The rules go entry by entry; here is what they make of a whole sheet that a reader accepts.
+-- Sheets of a star. Document 02, wish 7: "Refusals: .. 8 for a sheet with star and eclipse entries, or with a star
+-- entry and kind 31; 7 for a magnitude above 0 after a star entry." The rules go entry by entry; here is what they
+-- make of a whole sheet that a reader accepts.
 --   star-alone        where one of its entries is a star's, each may stand beside it (`besideStar`)
 --   read-star-alone   so in a sheet that is read
 use Prim.Native.Nat.{ℕ, suc, _-_}

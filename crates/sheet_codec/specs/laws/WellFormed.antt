@@ -1,5 +1,5 @@
 -- Entries that make a sheet: the rules of document 01, folded over a list of entries.
--- Assumes nothing: these are definitions. WellFormedLaws builds one up from a head, phases, closest and end.
+-- WellFormedLaws builds one up from a head, phases, closest and end.
 use Prim.Native.Nat.{ℕ}
 use mathlib.Core.Path.{_≡_}
 use mathlib.Core.List.{List, [], _∷_}

@@ -1,5 +1,5 @@
--- Laws by which a list of entries is shown well formed, piece by piece: a head, the entries of the phases in their order, closest, the
--- share if there is one, and end.
+-- Laws by which a list of entries is shown well formed, piece by piece: a head, the entries of the phases in their
+-- order, closest, the share if there is one, and end.
 use Prim.Native.Nat.{ℕ, _≤_, _<_}
 use mathlib.Core.Path.{_≡_, refl, sym}
 use mathlib.Core.List.{List, [], _∷_}

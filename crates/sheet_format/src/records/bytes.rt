@@ -41,7 +41,8 @@ fn two_if(s: &[u8], at: usize, there: bool) -> u32
     if there { big_endian::two_at(s, at) } else { 0 }
 }
 
-// The fields of a kind from the four numbers of two bytes that follow its byte, x, y, z and w; `early` is x and y as one, `wide` y and z.
+// The fields of a kind from the four numbers of two bytes that follow its byte, x, y, z and w; `early` is x and y as
+// one, `wide` y and z.
 fn field_a(kind: Kind, x: u32, early: u32) -> u32
     ensures { λ r. ⌜ r ≡ fieldA kind x early ⌝ }
 {
@@ -112,9 +113,9 @@ fn is_cut(left: usize, kind: Kind) -> bool
     left < crate::kinds::size_of(kind)
 }
 
-// The entry of that kind whose record is at `at`, if the input does not end inside it. What is read goes by how much is left, and only
-// what is made of it by the kind: so kinds in no pattern cost no branch.
-// It is for crates that go along a sheet, and has a `requires`, so it is none of the public promises.
+// The entry of that kind whose record is at `at`, if the input does not end inside it. What is read goes by how much
+// is left, and only what is made of it by the kind: so kinds in no pattern cost no branch. It is for crates that go
+// along a sheet, and has a `requires`, so it is none of the public promises.
 pub fn body_at(s: &[u8], at: usize, kind: Kind) -> Body
     requires { ⌜ at < length (now s) ⌝ }
     ensures { λ r. ⌜ r ≡ bodyAt kind (now (s .entry)) at ⌝ }

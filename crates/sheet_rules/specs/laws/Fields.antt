@@ -1,5 +1,5 @@
--- The rules of the fields as the code asks them: an entry by the stage of its kind, so that the four kinds of a phase go one way; and that these
--- are the rules of its row (`rule-by`).
+-- The rules of the fields as the code asks them: an entry by the stage of its kind, so that the four kinds of a phase
+-- go one way; and that these are the rules of its row (`rule-by`).
 use Prim.Native.Nat.{ℕ, _≤_}
 use mathlib.Core.Path.{_≡_, refl, sym, ap, _∙_}
 use mathlib.Core.Bool.{Bool, true, false, cond, and-true, _&&_}

@@ -41,17 +41,6 @@ returns-4 c =
 pub cosine-spec : {M : Type 1} → statement M
 cosine-spec =
     tie.close
-    (tie.spec
-    (λ c κs. search needs)
-    (λ c. search needs)
-    (λ c κs. search needs)
-    sub-result
-    (λ c. search needs)
-    (λ c κs. search needs)
-    sub-result-2
-    (λ c. search needs)
-    (λ c κs. search needs)
-    returns
-    returns-2
-    returns-3
+    (tie.spec (λ c κs. search needs) (λ c. search needs) (λ c κs. search needs) sub-result (λ c. search needs)
+    (λ c κs. search needs) sub-result-2 (λ c. search needs) (λ c κs. search needs) returns returns-2 returns-3
     returns-4)

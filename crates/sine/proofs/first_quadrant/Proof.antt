@@ -1,5 +1,5 @@
--- `sine::first_quadrant` meets its contract. Its four numbers are the rule's (`parts`), so the laws of the rule bound each product, say that
--- what is taken away is not more than what it is taken from, and give the sine by the sum.
+-- `sine::first_quadrant` meets its contract. Its four numbers are the rule's (`parts`), so the laws of the rule bound
+-- each product, say that what is taken away is not more than what it is taken from, and give the sine by the sum.
 use mathlib.Core.Path.{_≡_, sym, ap, _∙_}
 use Prim.Native.Nat.{ℕ, _+_, _*_, _%_, _≤_, min}
 use native.Mathlib.Omega.{arith}
@@ -83,21 +83,7 @@ returns-2 c = let l = c .if1 .left in ap pos (omega arith) ∙ sym (sum-is (c .b
 pub first-quadrant-spec : {M : Type 1} → statement M
 first-quadrant-spec =
     tie.close
-    (tie.spec
-    (λ c. search needs)
-    (λ c κs. search needs)
-    mul-square
-    near-unsigned-requires-2
-    (λ c κs. search needs)
-    (λ c κs. search needs)
-    (λ c. search needs)
-    (λ c κs. search needs)
-    (λ c κs. search needs)
-    mul-gain
-    mul-loss
-    sub-near-unsigned
-    near-unsigned-requires-3
-    add-sum
-    (λ c. search needs)
-    returns
-    returns-2)
+    (tie.spec (λ c. search needs) (λ c κs. search needs) mul-square near-unsigned-requires-2
+    (λ c κs. search needs) (λ c κs. search needs) (λ c. search needs) (λ c κs. search needs)
+    (λ c κs. search needs) mul-gain mul-loss sub-near-unsigned near-unsigned-requires-3 add-sum
+    (λ c. search needs) returns returns-2)

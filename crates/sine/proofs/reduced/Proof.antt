@@ -1,4 +1,5 @@
--- `sine::reduced` meets its contract: the remainder has the dividend's sign, and one turn more makes it the angle where it is below 0.
+-- `sine::reduced` meets its contract: the remainder has the dividend's sign, and one turn more makes it the angle
+-- where it is below 0.
 use mathlib.Core.Path.{_≡_, refl, ap, _∙_}
 use mathlib.Core.Bool.{true, false}
 use mathlib.Core.List.{[], _∷_}

@@ -41,17 +41,6 @@ returns-4 c =
 pub sine-spec : {M : Type 1} → statement M
 sine-spec =
     tie.close
-    (tie.spec
-    (λ c κs. search needs)
-    (λ c. search needs)
-    (λ c κs. search needs)
-    (λ c. search needs)
-    (λ c κs. search needs)
-    sub-result
-    (λ c. search needs)
-    (λ c κs. search needs)
-    sub-result-2
-    returns
-    returns-2
-    returns-3
-    returns-4)
+    (tie.spec (λ c κs. search needs) (λ c. search needs) (λ c κs. search needs) (λ c. search needs)
+    (λ c κs. search needs) sub-result (λ c. search needs) (λ c κs. search needs) sub-result-2 returns
+    returns-2 returns-3 returns-4)

@@ -1,4 +1,5 @@
--- The rule between entries in natural numbers: r, w and what is added to the entry are never negative. `near` enters by its laws alone.
+-- The rule between entries in natural numbers: r, w and what is added to the entry are never negative. `near` enters
+-- by its laws alone.
 --   arc-small, arc-square             r is at most 174,533, the arc of a tenth of a degree
 --   Parts, taken, first-is            with r, w, S[k] and S[900-k] as natural numbers: S[k]·w is at most S[900-k]·r, and the sine is a sum
 --   first-natural, first-small        the sine from 0 to 90 degrees is a natural number, and at most 10^8
@@ -51,7 +52,8 @@ module _ {b r : ℕ} (below : b < 100_000) (r-is : pos r ≡ arc b) where
     sag-small : w ≤ 153
     sag-small = omega (arith, w-by, square, arc-small)
 
-    -- w is to r at most as 174,533 to 10^8: it is 0 for r below 10,000, and the rounding is small against r from there on
+    -- w is to r at most as 174,533 to 10^8: it is 0 for r below 10,000, and the rounding is small against r from there
+    -- on
     sag-low : r < 10_000 → w * 100_000_000 ≤ r * 174_533
     sag-low l =
         let q : r * r ≤ r * 9_999 = mul-le-mul-left r (omega arith) in

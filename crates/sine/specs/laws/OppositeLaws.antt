@@ -1,4 +1,5 @@
--- The sine of the opposite angle is the opposite, and the cosine the same; at every angle. Angles are in units of 10^-6 degree.
+-- The sine of the opposite angle is the opposite, and the cosine the same; at every angle. Angles are in units of
+-- 10^-6 degree.
 use mathlib.Core.Path.{_≡_, sym, _∙_, ap}
 use mathlib.Core.Logic.{⊎-elim}
 use Prim.Native.Nat.{ℕ, zero, suc, _-_, _≤_, _<_}
@@ -9,7 +10,8 @@ use Rattle.sine.specs.laws.SineLaws.{either, reduced-below, sine-above, 
 
 -- ---- a turn less the angle
 
--- up to 180 degrees: two quarter turns off it are 180 degrees less the angle; and one, 180 degrees less the angle less 90 degrees
+-- up to 180 degrees: two quarter turns off it are 180 degrees less the angle; and one, 180 degrees less the angle less
+-- 90 degrees
 module _ (a : ℕ) (within : a ≤ 180_000_000) where
   abbrev once : ℕ
   once = 360_000_000 - a - 90_000_000

@@ -1,4 +1,5 @@
--- `four-quadrants`: the table of the four quadrants holds. A quarter turn is taken off the angle once, twice or three times.
+-- `four-quadrants`: the table of the four quadrants holds. A quarter turn is taken off the angle once, twice or three
+-- times.
 use mathlib.Core.Path.{_≡_, sym, _∙_, ap}
 use mathlib.Core.Logic.{⊎-elim}
 use Prim.Native.Nat.{ℕ, _+_, _-_, _≤_, _<_}

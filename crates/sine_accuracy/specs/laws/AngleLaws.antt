@@ -1,6 +1,6 @@
--- The rule at z millionths of a degree against the true sine and cosine at z and w f-ths more, |w| at most 3f: 1.79 units, and 1.75 for each
--- millionth that w makes (`sine-angle`, `cosine-angle`).
--- Why: sin z is 1.79 off; the rest turns it by cos z·x, x = 1.74533·10^-8 a millionth; what 1 - x²/2 takes away is far below.
+-- The rule at z millionths of a degree against the true sine and cosine at z and w f-ths more, |w| at most 3f: 1.79
+-- units, and 1.75 for each millionth that w makes (`sine-angle`, `cosine-angle`). Why: sin z is 1.79 off; the rest
+-- turns it by cos z·x, x = 1.74533·10^-8 a millionth; what 1 - x²/2 takes away is far below.
 use mathlib.Core.Path.{_≡_, ap}
 use mathlib.Core.List.{[], _∷_}
 use Prim.Native.Nat.{ℕ, _+_, _*_, _≤_}

@@ -1,7 +1,9 @@
--- The rule against a polynomial q0 + q1·b + q2·b² + .. in a cell of table S, b millionths over the cell's start, with W for `common`.
+-- The rule against a polynomial q0 + q1·b + q2·b² + .. in a cell of table S, b millionths over the cell's start, with
+-- W for `common`.
 --   cell      where the test `tight` passes, entry and step are within 1.78 units of 10^8 times the polynomial over W
 --   topped    where the test `low` passes, the polynomial counted back from the cell's end is at most 1 and a unit, so that the cap does no harm
--- Why: 2·10^30 times the distance is a sum of seven terms (`split`), one for each source of error, and `off` is the sum of their largest sizes.
+-- Why: 2·10^30 times the distance is a sum of seven terms (`split`), one for each source of error, and `off` is the
+-- sum of their largest sizes.
 use mathlib.Core.Path.{_≡_}
 use mathlib.Core.Bool.{Bool, false}
 use mathlib.Core.List.{List, [], _∷_}
@@ -17,7 +19,8 @@ use Rattle.rounding.specs.laws.Ring.{Expr, var, num, _⊕_, _⊖_, _⊗_, opp, 
 use Rattle.rounding.specs.laws.Cert.{leq, lit, _⊞_, _⊠_, certify}
 use Rattle.sine_accuracy.specs.laws.Lists.{worth, size, worth-size}
 
--- what entry k is off; what 17,453,293·10^-15 times entry 900-k is off the slope q1; what the square of that, times entry k, is off the bend 2·q2
+-- what entry k is off; what 17,453,293·10^-15 times entry 900-k is off the slope q1; what the square of that, times
+-- entry k, is off the bend 2·q2
 abbrev pub entryOff : ℤ → ℤ → ℤ → ℤ
 entryOff W s q0 = W *ℤ s -ℤ pos 100_000_000 *ℤ q0
 
@@ -27,8 +30,8 @@ slopeOff W c q1 = pos 17_453_293 *ℤ W *ℤ c -ℤ pos 100_000_000_000_000_000_
 abbrev pub bendOff : ℤ → ℤ → ℤ → ℤ
 bendOff W s q2 = pos 304_617_436_543_849 *ℤ W *ℤ s +ℤ pos 200_000_000_000_000_000_000_000_000_000_000_000_000 *ℤ q2
 
--- the most that the rule may be off, times 2·10^30·W: by the entry, the slope, the rounding of r, the bend, the roundings of r and w in the
--- square, the last rounding, and the powers from the third on
+-- the most that the rule may be off, times 2·10^30·W: by the entry, the slope, the rounding of r, the bend, the
+-- roundings of r and w in the square, the last rounding, and the powers from the third on
 unfoldable pub off : ℤ → ℤ → ℤ → ℤ → ℤ → ℤ → ℕ → ℕ
 off W s c q0 q1 q2 rest =
     2_000_000_000_000_000_000_000_000_000_000 * natAbs (entryOff W s q0)
@@ -47,8 +50,8 @@ tight W s c (q0 ∷ q1 ∷ []) = false
 tight W s c (q0 ∷ []) = false
 tight W s c [] = false
 
--- the test of a node that the angles come before: q1 is not below 0 and q2 not above, or hardly, so back from there the polynomial falls,
--- but for the powers from the third on
+-- the test of a node that the angles come before: q1 is not below 0 and q2 not above, or hardly, so back from there
+-- the polynomial falls, but for the powers from the third on
 unfoldable pub low : ℕ → List ℤ → Bool
 unfolding size
 low W (q0 ∷ q1 ∷ q2 ∷ qs) =

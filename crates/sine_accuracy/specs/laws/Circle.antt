@@ -1,5 +1,5 @@
--- The squares of the true sine and cosine of a whole angle make 1, up to 10^-16 (`circle`).
--- Why: from 0 to 90 degrees they are two polynomials, and the squares less 1 a third, whose size is computed (Tests, circles-small).
+-- The squares of the true sine and cosine of a whole angle make 1, up to 10^-16 (`circle`). Why: from 0 to 90 degrees
+-- they are two polynomials, and the squares less 1 a third, whose size is computed (Tests, circles-small).
 use mathlib.Core.Path.{_≡_, refl, _∙_, ap₂}
 use mathlib.Core.List.{[], _∷_}
 use Prim.Native.Nat.{ℕ, zero, suc, _*_, _/_, _%_, _≤_}

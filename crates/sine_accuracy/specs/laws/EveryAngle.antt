@@ -1,7 +1,9 @@
--- The rule's sine and cosine lie within 1.79 units of 10^8 times the series, at every angle, so within two (`two-units`).
+-- The rule's sine and cosine lie within 1.79 units of 10^8 times the series, at every angle, so within two
+-- (`two-units`).
 --   sine-true, cosine-true               from 0 to 90 degrees, both ends included, against the sine series and the cosine series
 --   sine-everywhere, cosine-everywhere   at every angle, by quadrants
--- Why: the sine is 1.78 off at most (First, Tests); the cosine is the sine of what the angle lacks of 90 degrees, where the two series are 0.01 apart.
+-- Why: the sine is 1.78 off at most (First, Tests); the cosine is the sine of what the angle lacks of 90 degrees,
+-- where the two series are 0.01 apart.
 use mathlib.Core.Path.{_≡_, sym, _∙_, ap, subst}
 use mathlib.Core.List.{[], _∷_}
 use Prim.Native.Nat.{ℕ, zero, suc, _+_, _-_, _*_, _/_, _%_, _≤_, _<_}

@@ -1,5 +1,5 @@
--- The computed tests: the sine series passes the test of each of the 901 nodes; the cosine series is nearly the sine series of what the angle
--- lacks of 90 degrees; the squares of both make nearly 1.
+-- The computed tests: the sine series passes the test of each of the 901 nodes; the cosine series is nearly the sine
+-- series of what the angle lacks of 90 degrees; the squares of both make nearly 1.
 use mathlib.Core.Bool.{Bool}
 use mathlib.Core.List.{List, [], _∷_}
 use Prim.Native.Nat.{ℕ, _-_, _*_, _≤_, _<_}

@@ -1,4 +1,5 @@
--- `sine_table::second_differences` meets its contract: the test of `allRight` is computed over the 901 entries that they give.
+-- `sine_table::second_differences` meets its contract: the test of `allRight` is computed over the 901 entries that
+-- they give.
 use borrow.Author.Needs.{needs}
 use Rattle.sine_table.proofs.Rule.{right, gives-of}
 use Rattle.sine_table.proofs.second_differences.Statement.{statement}

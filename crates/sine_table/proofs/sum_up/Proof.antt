@@ -1,5 +1,5 @@
--- `sine_table::sum_up` meets its contract: with k entries in the room, `entry` is entry k, and with `step` and the differences from the k-th on it
--- gives the rest of the table.
+-- `sine_table::sum_up` meets its contract: with k entries in the room, `entry` is entry k, and with `step` and the
+-- differences from the k-th on it gives the rest of the table.
 use mathlib.Core.Path.{_≡_, ap, subst, _∙_}
 use mathlib.Core.List.{List}
 use Prim.Native.Nat.{ℕ, suc, _-_, _≤_, _<_}
@@ -164,26 +164,7 @@ returns c = begun-all _ _ (all-stored c)
 pub sum-up-spec : {M : Type 1} → statement M
 sum-up-spec =
     tie.close
-    (tie.spec
-    Inv-loop
-    μ-loop
-    (λ c. search needs)
-    loop-holds
-    cast-room
-    (λ c. search needs)
-    slice-write-room
-    add-entry
-    (λ c. search needs)
-    shared-slice-copy-out-wide-signed
-    (λ c κs. search needs)
-    add-step
-    (λ c. search needs)
-    (λ c. search needs)
-    loop-again
-    cast-room-2
-    slice-write-room-2
-    add-room
-    cast-room-3
-    slice-write-room-3
-    same-length
-    returns)
+    (tie.spec Inv-loop μ-loop (λ c. search needs) loop-holds cast-room (λ c. search needs) slice-write-room
+    add-entry (λ c. search needs) shared-slice-copy-out-wide-signed (λ c κs. search needs) add-step
+    (λ c. search needs) (λ c. search needs) loop-again cast-room-2 slice-write-room-2 add-room cast-room-3
+    slice-write-room-3 same-length returns)

@@ -4,8 +4,8 @@
 --   entry-small, entry-least, entry-low   at most 10^8; from entry 1 on at least entry 1; up to entry 251 at most that
 --   entry-0, entry-300, entry-900         the entries that document 01 names
 --   entry-squares, entry-squares-less     the squares of two entries whose angles make 90 degrees, or a tenth less, make nearly 10^16
--- Why: a number that is less than half a unit away is the only one within half a unit (`closer`), and that test and the sizes are
--- computed once over all k.
+-- Why: a number that is less than half a unit away is the only one within half a unit (`closer`), and that test and
+-- the sizes are computed once over all k.
 use mathlib.Core.Path.{_≡_, sym, _∙_, ap}
 use mathlib.Core.Bool.{Bool, true, false, cond}
 use mathlib.Core.List.{[], _∷_}

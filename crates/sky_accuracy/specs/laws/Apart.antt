@@ -1,4 +1,5 @@
--- The exact u, v and L of a second less the true ones, over D·T, as moves of the station's point (Displacement); and D·T is not 0.
+-- The exact u, v and L of a second less the true ones, over D·T, as moves of the station's point (Displacement); and
+-- D·T is not 0.
 use mathlib.Core.Path.{_≡_, refl, ap}
 use mathlib.Core.List.{[], _∷_}
 use Prim.Native.Nat.{ℕ, _≤_}

@@ -1,5 +1,5 @@
--- The rule's C against the spheroid: C²·(10^8·c² + E·s²) is 10^40 up to 3.52·10^32, so C is 1.76 units off at most (`curvature`).
--- Why: the root is cut, up to 1; C and s·E are rounded, ½ each; and c² + s² is nearly 1 (Circle).
+-- The rule's C against the spheroid: C²·(10^8·c² + E·s²) is 10^40 up to 3.52·10^32, so C is 1.76 units off at most
+-- (`curvature`). Why: the root is cut, up to 1; C and s·E are rounded, ½ each; and c² + s² is nearly 1 (Circle).
 use mathlib.Core.Path.{_≡_}
 use mathlib.Core.List.{[], _∷_}
 use Prim.Native.Nat.{ℕ, _+_, _*_, _≤_}

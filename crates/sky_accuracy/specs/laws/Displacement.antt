@@ -1,7 +1,7 @@
--- How far the station's point moves, seen along the shadow's axis, when true sines, cosines and the true place are put for the rule's: 18.818 units
--- at most (`moved`), and 24.7 along the axis (`deep`).
--- Why: it is the sum of two moves. The sines and cosines of H are 6.165 off and those of d 5.29, so with the station at most 1.00492 from the
--- Earth's centre the first is 11.384 at most; the place is 5 and 5½ off, so the second is 7.434.
+-- How far the station's point moves, seen along the shadow's axis, when true sines, cosines and the true place are put
+-- for the rule's: 18.818 units at most (`moved`), and 24.7 along the axis (`deep`). Why: it is the sum of two moves.
+-- The sines and cosines of H are 6.165 off and those of d 5.29, so with the station at most 1.00492 from the Earth's
+-- centre the first is 11.384 at most; the place is 5 and 5½ off, so the second is 7.434.
 use mathlib.Core.Path.{_≡_, ap, subst}
 use mathlib.Core.List.{[], _∷_}
 use Prim.Native.Nat.{ℕ, _+_, _*_, _≤_}
@@ -33,7 +33,8 @@ pub record Known (K Q : ℕ) (sH cH sd cd SH CH Sd Cd R P ρ π : ℤ) : Type 0 
   pub P-close : 2 * natAbs (pos Q *ℤ P -ℤ π) ≤ 11 * Q
   pub place-size : (pos (natAbs ρ) *ℤ pos (natAbs ρ) +ℤ pos (natAbs π) *ℤ pos (natAbs π)) ≤ℤ (pos 10_098_643_000_000_000 *ℤ (pos Q *ℤ pos Q))
 
--- the moves across the axis, over 10^16·Q·K²: to the east and to the north, as the true values less the exact ones; and along it
+-- the moves across the axis, over 10^16·Q·K²: to the east and to the north, as the true values less the exact ones;
+-- and along it
 unfoldable pub east : (K Q : ℕ) (sH SH R ρ : ℤ) → ℤ
 east K Q sH SH R ρ = pos 100_000_000 *ℤ pos K *ℤ (ρ *ℤ SH *ℤ pos 100_000_000 -ℤ R *ℤ sH *ℤ (pos Q *ℤ pos K))
 

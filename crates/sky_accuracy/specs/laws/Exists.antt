@@ -1,4 +1,5 @@
--- There is a true C at every latitude (`exists`): the root of 10^8·m²·K²/w to the unit, for m = 10^20 and w = `underTrue`.
+-- There is a true C at every latitude (`exists`): the root of 10^8·m²·K²/w to the unit, for m = 10^20 and w =
+-- `underTrue`.
 use mathlib.Core.Path.{_≡_, subst}
 use mathlib.Core.List.{[], _∷_}
 use mathlib.Core.Logic.{⊎-elim}

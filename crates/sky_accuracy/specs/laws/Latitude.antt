@@ -1,6 +1,6 @@
--- What is known of a station's latitude, of the rule's C and of the true n/m, and what follows: each of C and n/m is about 1.
--- One set of facts for the cosine and for the sine: p is the one and q the other, with the weights a = 10^8 and b = E, or the other way round; P and
--- Q are their true values over K.
+-- What is known of a station's latitude, of the rule's C and of the true n/m, and what follows: each of C and n/m is
+-- about 1. One set of facts for the cosine and for the sine: p is the one and q the other, with the weights a = 10^8
+-- and b = E, or the other way round; P and Q are their true values over K.
 use mathlib.Core.List.{[], _∷_}
 use Prim.Native.Nat.{ℕ, _*_, _≤_}
 use native.Mathlib.Omega.{arith}

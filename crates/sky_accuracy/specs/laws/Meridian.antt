@@ -1,8 +1,10 @@
--- C times a sine or a cosine of the rule against the true one, 3.994 units at most (`meridian`). One lemma for both: p is the cosine and q the
--- sine, with the weights a = 10^8 and b = E, or the other way round; P and Q are their true values over K, and n/m the true C.
--- Why: with X = C·p·m·K, Y = 10^16·n·P and the two sums w° = a·p² + b·q², w* = a·P² + b·Q²,
+-- C times a sine or a cosine of the rule against the true one, 3.994 units at most (`meridian`). One lemma for both: p
+-- is the cosine and q the sine, with the weights a = 10^8 and b = E, or the other way round; P and Q are their true
+-- values over K, and n/m the true C. Why: with X = C·p·m·K, Y = 10^16·n·P and the two sums w° = a·p² + b·q², w* = a·P²
+-- + b·Q²,
 --     w°·w*·(X - Y)·(X + Y) = 10^40·m²·K²·b·(p·Q - P·q)·(p·Q + P·q) + 3.52·10^32·(..) + 10^-16·(..).
--- An error along the circle, p·Q - P·q, is 1.79·(|P| + |Q|) units, and one across it cancels: 2.2 units; C itself is 1.79 off.
+-- An error along the circle, p·Q - P·q, is 1.79·(|P| + |Q|) units, and one across it cancels: 2.2 units; C itself is
+-- 1.79 off.
 use mathlib.Core.Path.{_≡_, ap, subst}
 use mathlib.Core.List.{[], _∷_}
 use mathlib.Core.Logic.{⊎-elim}

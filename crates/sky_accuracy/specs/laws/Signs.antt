@@ -1,4 +1,5 @@
--- C times a sine or a cosine of either sign (`either`), as Meridian has it of one that is not below 0; and a sum of errors.
+-- C times a sine or a cosine of either sign (`either`), as Meridian has it of one that is not below 0; and a sum of
+-- errors.
 use mathlib.Core.Path.{_≡_, ap, subst}
 use mathlib.Core.List.{[], _∷_}
 use Prim.Native.Nat.{ℕ, suc, _+_, _*_, _≤_}

@@ -1,5 +1,5 @@
--- What is known of a second's true sines, cosines and place (`known`): the rule's H and d are rounded to 2½ and 2 millionths of a degree, so the
--- sines and cosines of H are 6.165 units off, those of d 5.29.
+-- What is known of a second's true sines, cosines and place (`known`): the rule's H and d are rounded to 2½ and 2
+-- millionths of a degree, so the sines and cosines of H are 6.165 units off, those of d 5.29.
 use mathlib.Core.Path.{_≡_, refl, _∙_, ap}
 use mathlib.Core.Bool.{Bool}
 use mathlib.Core.List.{[], _∷_}

@@ -1,4 +1,5 @@
--- What is said of a second under a guard of 32 units or more is truly so: 13 to the exact shadow and 19 from there to the true one.
+-- What is said of a second under a guard of 32 units or more is truly so: 13 to the exact shadow and 19 from there to
+-- the true one.
 --   truly-inside, truly-outside   inside is truly inside, outside is truly outside
 --   truly-near                    a second within n units of the exact edge is within n + 19 of the true one
 use mathlib.Core.Path.{_≡_, subst}

@@ -1,7 +1,9 @@
--- A sheet with a guard of 32 or more is true of the sky (`truth`): of whatever request a sheet was written for, whatever the true C.
+-- A sheet with a guard of 32 or more is true of the sky (`truth`): of whatever request a sheet was written for,
+-- whatever the true C.
 --   true-distance   the distance, at every second of every request
 --   truth           the sheet
--- Why: each second is said rightly of the true answers (`truly-said`), and demand 3 follows from that for any answers (courses, Demand3Laws).
+-- Why: each second is said rightly of the true answers (`truly-said`), and demand 3 follows from that for any answers
+-- (courses, Demand3Laws).
 use mathlib.Core.Path.{_≡_, refl, sym, subst, _∙_}
 use mathlib.Core.Bool.{Bool, true, false, cond}
 use mathlib.Core.List.{List, _++_}
@@ -43,7 +45,8 @@ use Rattle.sky_accuracy.specs.Nineteen.{Nineteen, nineteen}
 use Rattle.sky_accuracy.specs.laws.TrueStates.{truly-inside, truly-outside, truly-near}
 use Rattle.sky_accuracy.specs.Truth.{skyAt, trueAnswers}
 
--- "The true distance less the true L differs from the exact one of demand 3 by less than 19 units": at every second of an occultation within its limits
+-- "The true distance less the true L differs from the exact one of demand 3 by less than 19 units": at every second of
+-- an occultation within its limits
 pub true-distance : (o : Occultation) (c : TrueC (o .station .latitude)) → InLimits o → (τ : ℤ) → InWindow (o .window) τ → (φ : Phase)
     → Nineteen φ (skyAt o c τ) (cone (o .body) φ)
 true-distance o c i τ w φ =
@@ -79,7 +82,8 @@ module _ (o : Occultation) (guard : pos 32 ≤ℤ o .guard) (c : TrueC (o .stati
           alternate = turns-alternate (courseOf o) (sound o i) (trueAnswers o c) truly-said;
         }
 
-  -- of the sheet that a call wrote, n bytes of its buffer (circumstances, sheetAnswer and sheetBuffer: what `circumstances::sheet` promises)
+  -- of the sheet that a call wrote, n bytes of its buffer (circumstances, sheetAnswer and sheetBuffer: what
+  -- `circumstances::sheet` promises)
   pub truth : (sines old : List ℕ) (n : ℕ) → sheetAnswer o sines old ≡ A.Written n → Demand3 (courseOf o) (trueAnswers o c) n (sheetBuffer o sines old)
   unfolding sheetAnswer sheetBuffer
   truth sines old n e = by-check (admitted o sines) refl e

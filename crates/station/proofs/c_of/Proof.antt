@@ -1,5 +1,5 @@
--- `station::c_of` meets its contract: each call gives its part of C, and the laws of PlaceLaws give their sizes; what is under the root is not negative.
--- Assumes nothing.
+-- `station::c_of` meets its contract: each call gives its part of C, and the laws of PlaceLaws give their sizes; what
+-- is under the root is not negative.
 use mathlib.Core.Path.{_≡_, sym, ap, _∙_, subst}
 use mathlib.Core.List.{[], _∷_}
 use Prim.Native.Nat.{_≤_}

@@ -1,4 +1,4 @@
--- `station::ephemeris_longitude` meets its contract: one product, one near, one difference; none leaves 64 bits. Assumes nothing.
+-- `station::ephemeris_longitude` meets its contract: one product, one near, one difference; none leaves 64 bits.
 use mathlib.Core.Path.{_≡_, ap, _∙_}
 use mathlib.Core.List.{[], _∷_}
 use Prim.Native.Nat.{_≤_}

@@ -1,4 +1,4 @@
--- `station::geocentric` meets its contract: each call gives its letter of document 01, and PlaceLaws gives the sizes. Assumes nothing.
+-- `station::geocentric` meets its contract: each call gives its letter of document 01, and PlaceLaws gives the sizes.
 use mathlib.Core.Path.{_≡_, ap, _∙_}
 use mathlib.Core.List.{[], _∷_}
 use Prim.Native.Nat.{_+_, _*_, _≤_}
@@ -229,20 +229,6 @@ returns c =
 pub geocentric-spec : {M : Type 1} → statement M
 geocentric-spec =
     tie.close
-    (tie.spec
-    reduced-requires
-    sine-requires
-    cosine-requires
-    c-of-requires
-    mul-near-unit
-    near-unit-requires
-    mul-near
-    near-requires
-    add-near-unit
-    mul-near-unit-2
-    near-unit-requires-2
-    add-near-unit-2
-    mul-near-unit-3
-    near-unit-requires-3
-    ephemeris-longitude-requires
-    returns)
+    (tie.spec reduced-requires sine-requires cosine-requires c-of-requires mul-near-unit near-unit-requires
+    mul-near near-requires add-near-unit mul-near-unit-2 near-unit-requires-2 add-near-unit-2 mul-near-unit-3
+    near-unit-requires-3 ephemeris-longitude-requires returns)

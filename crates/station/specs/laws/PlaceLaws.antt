@@ -1,4 +1,5 @@
--- How large W, C, Z, h, R and P are; `place-sizes`: so every station in its ranges has its place within the sizes that the shadow asks.
+-- How large W, C, Z, h, R and P are; `place-sizes`: so every station in its ranges has its place within the sizes that
+-- the shadow asks.
 use mathlib.Core.Path.{_≡_, refl, subst}
 use mathlib.Core.List.{[], _∷_}
 use Prim.Native.Nat.{ℕ, _+_, _*_, _≤_}
@@ -42,8 +43,8 @@ module _ (s c : ℤ) (hs : natAbs s ≤ 100000000) (hc : natAbs c ≤ 100000000)
   circle : pos 9960000000000000 ≤ℤ (s *ℤ s +ℤ c *ℤ c)
   circle = rw (square-natAbs s, square-natAbs c) (omega (arith, zs))
 
-  -- with x = 2(10^8 n - s E), which is at most 10^8 in size:
-  -- 4·10^8 (c² + n s) = 4 E (s² + c²) + 4 (10^8 - E) c² + 2 x s, and 2 x s = (10^8 + x)(10^8 + s) + (10^8 - x)(10^8 - s) - 2·10^16
+  -- with x = 2(10^8 n - s E), which is at most 10^8 in size: 4·10^8 (c² + n s) = 4 E (s² + c²) + 4 (10^8 - E) c² + 2 x
+  -- s, and 2 x s = (10^8 + x)(10^8 + s) + (10^8 - x)(10^8 - s) - 2·10^16
   pub under-low : pos 9893000000000000 ≤ℤ under s c
   unfolding under
   under-low =

@@ -1,4 +1,5 @@
--- `stored_sheets::put_sheet` meets its contract: the answers; and where the room holds the entries, these and their writing.
+-- `stored_sheets::put_sheet` meets its contract: the answers; and where the room holds the entries, these and their
+-- writing.
 use Rattle.decimal_text.specs.Texts.{Put}
 use Rattle.stored_sheets.specs.Printed.{answersLine}
 use Rattle.stored_sheets.specs.PrintedLaws.{Good, found, back-none, answers, put-bad, put-good}
@@ -54,20 +55,7 @@ returns-2 c = put-good _ (omega (arith, c .before .before .before .before .befor
 pub put-sheet-spec : {M : Type 1} → statement M
 put-sheet-spec =
     tie.close
-    (tie.spec
-    (λ c κs. search needs)
-    (λ c κs. search needs)
-    (λ c. search needs)
-    (λ c κs. search needs)
-    (λ c κs. search needs)
-    (λ c κs. search needs)
-    (λ c. search needs)
-    (λ c. search needs)
-    (λ c. search needs)
-    returns
-    mul-numbers
-    array-share-prefix-room
-    slice-aggregate-put-written
-    put-written-requires
-    (λ c. search needs)
-    returns-2)
+    (tie.spec (λ c κs. search needs) (λ c κs. search needs) (λ c. search needs) (λ c κs. search needs)
+    (λ c κs. search needs) (λ c κs. search needs) (λ c. search needs) (λ c. search needs) (λ c. search needs)
+    returns mul-numbers array-share-prefix-room slice-aggregate-put-written put-written-requires
+    (λ c. search needs) returns-2)

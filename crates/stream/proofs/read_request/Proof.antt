@@ -25,18 +25,6 @@ returns-2 c = counted _ _ (omega arith)
 pub read-request-spec : {M : Type 1} → statement M
 read-request-spec =
     tie.close
-    (tie.spec
-    (λ c. search needs)
-    slice-aggregate-read-full
-    (λ c κs. search needs)
-    (λ c. search needs)
-    returns
-    (λ c. search needs)
-    (λ c κs. search needs)
-    (λ c. search needs)
-    (λ c. search needs)
-    (λ c. search needs)
-    (λ c κs. search needs)
-    (λ c. search needs)
-    (λ c. search needs)
-    returns-2)
+    (tie.spec (λ c. search needs) slice-aggregate-read-full (λ c κs. search needs) (λ c. search needs) returns
+    (λ c. search needs) (λ c κs. search needs) (λ c. search needs) (λ c. search needs) (λ c. search needs)
+    (λ c κs. search needs) (λ c. search needs) (λ c. search needs) returns-2)

@@ -60,7 +60,8 @@ module _ (s sines room : List ℕ) where
         by true e = star-fits s sines room a (rw e at (m .0)) left l
         by false e = fits s sines room a (rw e at (m .0)) left l
 
-    -- ---- what `step` promises of request `count` at byte `at`: n bytes of the sheet's room, r of the line's, and whether the stream stops
+    -- ---- what `step` promises of request `count` at byte `at`: n bytes of the sheet's room, r of the line's, and
+    -- whether the stream stops
     module _ (count at : ℕ) where
       abbrev Promised : ℕ → List ℕ → List ℕ → ℕ → Bool → Type 0
       Promised n line after r stops = Begins n left (sheetFor s sines room)

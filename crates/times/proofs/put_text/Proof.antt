@@ -1,4 +1,4 @@
--- `times::put_text` meets its contract: the test of the length is the definition's. Assumes nothing.
+-- `times::put_text` meets its contract: the test of the length is the definition's.
 use borrow.Author.Needs.{needs}
 use Rattle.times.specs.laws.PrintedLaws.{star-put, eclipse-put}
 use Rattle.times.proofs.put_text.Statement.{statement}
@@ -17,14 +17,5 @@ returns-2 c =
 pub put-text-spec : {M : Type 1} → statement M
 put-text-spec =
     tie.close
-    (tie.spec
-    (λ c κs. search needs)
-    (λ c. search needs)
-    (λ c. search needs)
-    (λ c. search needs)
-    returns
-    (λ c κs. search needs)
-    (λ c. search needs)
-    (λ c. search needs)
-    (λ c. search needs)
-    returns-2)
+    (tie.spec (λ c κs. search needs) (λ c. search needs) (λ c. search needs) (λ c. search needs) returns
+    (λ c κs. search needs) (λ c. search needs) (λ c. search needs) (λ c. search needs) returns-2)

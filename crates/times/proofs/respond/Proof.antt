@@ -1,5 +1,5 @@
--- `times::respond` meets its contract: the bytes of a text that is taken are those of its request, and what is printed is the answer to them; or a
--- message and nothing else. Assumes nothing.
+-- `times::respond` meets its contract: the bytes of a text that is taken are those of its request, and what is printed
+-- is the answer to them; or a message and nothing else.
 use mathlib.Core.Path.{sym, _∙_}
 use Rattle.request_text.specs.laws.RoomLaws.{bytes-first, message-first}
 use Rattle.times.specs.laws.PrintedLaws.{listing-out, message-out}
@@ -32,15 +32,6 @@ returns-2 c =
 pub respond-spec : {M : Type 1} → statement M
 respond-spec =
     tie.close
-    (tie.spec
-    (λ c κs. search needs)
-    (λ c. search needs)
-    array-share-prefix-bytes
-    slice-aggregate-put-text
-    (λ c κs. search needs)
-    (λ c. search needs)
-    (λ c. search needs)
-    (λ c. search needs)
-    (λ c. search needs)
-    returns
-    returns-2)
+    (tie.spec (λ c κs. search needs) (λ c. search needs) array-share-prefix-bytes slice-aggregate-put-text
+    (λ c κs. search needs) (λ c. search needs) (λ c. search needs) (λ c. search needs) (λ c. search needs)
+    returns returns-2)

@@ -1,4 +1,4 @@
--- `tokens::all` meets its contract: all are of the class where the run is as long as the text. Assumes nothing.
+-- `tokens::all` meets its contract: all are of the class where the run is as long as the text.
 use mathlib.Core.Path.{ap}
 use Prim.Native.Nat.{ℕ}
 use lib.Dec.{eqb}

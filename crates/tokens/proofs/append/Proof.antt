@@ -1,4 +1,5 @@
--- `tokens::append` meets its contract: the digits left, appended to what there is, give the whole number, up to the cap (`Appended`). Assumes nothing.
+-- `tokens::append` meets its contract: the digits left, appended to what there is, give the whole number, up to the
+-- cap (`Appended`).
 use Prim.Native.Nat.{_-_}
 use borrow.Author.Needs.{needs}
 use Rattle.tokens.specs.laws.NumberLaws.{Appended, append-start, append-more, append-all}
@@ -28,13 +29,5 @@ returns c = append-all _ _ _ _ _ (c .before .loop .inv) (c .loop-test .left)
 pub append-spec : {M : Type 1} → statement M
 append-spec =
     tie.close
-    (tie.spec
-    Inv-loop
-    μ-loop
-    loop-holds
-    (λ c κs. search needs)
-    with-digit-requires
-    (λ c. search needs)
-    (λ c. search needs)
-    loop-again
-    returns)
+    (tie.spec Inv-loop μ-loop loop-holds (λ c κs. search needs) with-digit-requires (λ c. search needs)
+    (λ c. search needs) loop-again returns)

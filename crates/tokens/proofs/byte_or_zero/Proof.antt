@@ -1,4 +1,4 @@
--- `tokens::byte_or_zero` meets its contract: past the end there is a zero. Assumes nothing.
+-- `tokens::byte_or_zero` meets its contract: past the end there is a zero.
 use mathlib.Core.Path.{sym}
 use borrow.Author.Needs.{needs}
 use lib.ListN.{List·getD-eq-default}

@@ -1,4 +1,4 @@
--- `tokens::is_in` meets its contract: in each arm the class is the one named. Assumes nothing.
+-- `tokens::is_in` meets its contract: in each arm the class is the one named.
 use borrow.Author.Needs.{needs}
 use Rattle.tokens.proofs.is_in.Statement.{statement}
 use Rattle.tokens.proofs.is_in.Tie as tie
@@ -33,22 +33,6 @@ returns-9 c = rw (c .enum-told9 .given .1)
 pub is-in-spec : {M : Type 1} → statement M
 is-in-spec =
     tie.close
-    (tie.spec
-    (λ c. search needs)
-    (λ c. search needs)
-    (λ c. search needs)
-    (λ c. search needs)
-    (λ c. search needs)
-    (λ c. search needs)
-    (λ c. search needs)
-    (λ c. search needs)
-    (λ c. search needs)
-    returns
-    returns-2
-    returns-3
-    returns-4
-    returns-5
-    returns-6
-    returns-7
-    returns-8
-    returns-9)
+    (tie.spec (λ c. search needs) (λ c. search needs) (λ c. search needs) (λ c. search needs)
+    (λ c. search needs) (λ c. search needs) (λ c. search needs) (λ c. search needs) (λ c. search needs)
+    returns returns-2 returns-3 returns-4 returns-5 returns-6 returns-7 returns-8 returns-9)

@@ -1,4 +1,4 @@
--- `tokens::is_whole` meets its contract: decimals that are not there are 0. Assumes nothing.
+-- `tokens::is_whole` meets its contract: decimals that are not there are 0.
 use mathlib.Core.Path.{ap, _∙_}
 use Rattle.tokens.specs.declared.Class.the-variants as C
 use Rattle.tokens.specs.Text.{allOf}

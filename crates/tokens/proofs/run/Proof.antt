@@ -1,5 +1,5 @@
--- `tokens::run` meets its contract: the bytes passed are of the class, and what is left decides how many more are (`Ran`). The measure is how many are
--- left. Assumes nothing.
+-- `tokens::run` meets its contract: the bytes passed are of the class, and what is left decides how many more are
+-- (`Ran`). The measure is how many are left.
 use mathlib.Core.Path.{sym, _∙_}
 use Prim.Native.Nat.{_-_}
 use borrow.Author.Needs.{needs}
@@ -34,14 +34,5 @@ returns-2 c = ran-all _ _ _ (c .before .loop .inv) (c .loop-test .left)
 pub run-spec : {M : Type 1} → statement M
 run-spec =
     tie.close
-    (tie.spec
-    Inv-loop
-    μ-loop
-    loop-holds
-    (λ c. search needs)
-    (λ c κs. search needs)
-    returns
-    (λ c. search needs)
-    (λ c. search needs)
-    loop-again
-    returns-2)
+    (tie.spec Inv-loop μ-loop loop-holds (λ c. search needs) (λ c κs. search needs) returns
+    (λ c. search needs) (λ c. search needs) loop-again returns-2)

@@ -1,4 +1,4 @@
--- `tokens::start` meets its contract: the first byte decides, where there is one. Assumes nothing.
+-- `tokens::start` meets its contract: the first byte decides, where there is one.
 use mathlib.Core.Path.{sym, _∙_}
 use native.Mathlib.Omega.{arith}
 use Rattle.tokens.specs.laws.TextLaws.{start-nil, start-in, start-out}

@@ -1,4 +1,4 @@
--- `tokens::with_digit` meets its contract: the longer number, or the cap where it is more. Assumes nothing.
+-- `tokens::with_digit` meets its contract: the longer number, or the cap where it is more.
 use mathlib.Core.Path.{sym, ap, _∙_}
 use Prim.Native.Nat.{ℕ, _+_, _*_}
 use native.Mathlib.Omega.{arith}

@@ -1,4 +1,4 @@
--- `ukhtvaresh::ukhtvaresh_read` meets its contract: the answer of the crate below, as numbers. Assumes nothing.
+-- `ukhtvaresh::ukhtvaresh_read` meets its contract: the answer of the crate below, as numbers.
 use mathlib.Core.Path.{ap, _∙_}
 use borrow.Author.Needs.{needs}
 use Rattle.ukhtvaresh.specs.declared.replies.Reply.{Reply}

@@ -1,4 +1,4 @@
--- `ukhtvaresh::ukhtvaresh_sheet` meets its contract: the answer of the crate below, as numbers. Assumes nothing.
+-- `ukhtvaresh::ukhtvaresh_sheet` meets its contract: the answer of the crate below, as numbers.
 use borrow.Author.Needs.{needs}
 use Rattle.requests.specs.Requests.{ofEclipse}
 use Rattle.request_format.specs.Input.{requestOf}

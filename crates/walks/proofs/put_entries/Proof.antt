@@ -46,15 +46,5 @@ loop-again c = let o = onward (c .before .before .before .before) in (o .cursor,
 pub put-entries-spec : {M : Type 1} → statement M
 put-entries-spec =
     tie.close
-    (tie.spec
-    Inv-loop
-    μ-loop
-    loop-holds
-    step-requires
-    (λ c. search needs)
-    (λ c. search needs)
-    same-length
-    returns
-    (λ c κs. search needs)
-    loop-less
-    loop-again)
+    (tie.spec Inv-loop μ-loop loop-holds step-requires (λ c. search needs) (λ c. search needs) same-length
+    returns (λ c κs. search needs) loop-less loop-again)

@@ -31,14 +31,5 @@ returns c = rows-end _ _ _ _ _ _ _ (c .before .loop .inv) (c .loop-test .left)
 pub put-states-spec : {M : Type 1} → statement M
 put-states-spec =
     tie.close
-    (tie.spec
-    Inv-loop
-    μ-loop
-    loop-holds
-    (λ c. search needs)
-    (λ c κs. search needs)
-    (λ c. search needs)
-    (λ c. search needs)
-    loop-again
-    same-length
-    returns)
+    (tie.spec Inv-loop μ-loop loop-holds (λ c. search needs) (λ c κs. search needs) (λ c. search needs)
+    (λ c. search needs) loop-again same-length returns)

@@ -1,4 +1,5 @@
--- What holds of a mended file, whatever it is (document 02, wish 11). The walk is that of `Walk`; `Claims` has the other words.
+-- What holds of a mended file, whatever it is (document 02, wish 11). The walk is that of `Walk`; `Claims` has the
+-- other words.
 use Prim.Native.Nat.{ℕ, _+_, _/_, _<_}
 use mathlib.Core.Path.{_≡_, refl, sym, ap, _∙_}
 use mathlib.Core.List.{List, [], _++_}
@@ -30,7 +31,8 @@ whole file = counted 0 0 (steps file) ∙ zero-add (spanned (steps file)) ∙ al
 pub in-order : (file : List ℕ) → Apart 0 (stretches file) (length file)
 in-order file = apart file (steps file) (walked file) 0 0 0 (length file) (omega arith) (omega arith)
 
--- "as 16 bytes, its start and its length, 8 each, big-endian": the stretches are read back from the notes of a file that 64 bits count
+-- "as 16 bytes, its start and its length, 8 each, big-endian": the stretches are read back from the notes of a file
+-- that 64 bits count
 pub noted : (file : List ℕ) → length file < 18446744073709551616 → readNotes (length (notes file) / 16) (notes file) ≡ stretches file
 noted file h =
     let k : length (notes file) / 16 ≡ length (stretches file) = omega (arith, length-notes (stretches file)) in

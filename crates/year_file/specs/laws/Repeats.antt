@@ -1,6 +1,7 @@
--- A walk that does not read again what it has read. Where an open entry of one second stands again and again, a head can stand in each two
--- of them, and a read from each head runs on to the same end: a file of n bytes would take n·n steps. But where the 14 bytes of a head and
--- of such an entry stand 5 bytes before too, what is a sheet here is one there, with the entry once more. So none begins here if none began there.
+-- A walk that does not read again what it has read. Where an open entry of one second stands again and again, a head
+-- can stand in each two of them, and a read from each head runs on to the same end: a file of n bytes would take n·n
+-- steps. But where the 14 bytes of a head and of such an entry stand 5 bytes before too, what is a sheet here is one
+-- there, with the entry once more. So none begins here if none began there.
 use Prim.Native.Nat.{ℕ, suc, _+_, _-_, _≤_, _<_}
 use mathlib.Core.Path.{_≡_, refl, sym, ap, _∙_}
 use mathlib.Core.List.{List, [], _∷_, _++_, append-assoc}

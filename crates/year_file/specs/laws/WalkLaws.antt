@@ -1,4 +1,5 @@
--- The walk as the code goes along it: what is still to be kept and noted, once put, gives what is to be left in each room.
+-- The walk as the code goes along it: what is still to be kept and noted, once put, gives what is to be left in each
+-- room.
 use Prim.Native.Nat.{ℕ, _+_, _≤_, _<_}
 use mathlib.Core.Path.{_≡_, refl, sym, ap, _∙_}
 use mathlib.Core.List.{List, [], _∷_, _++_, append-assoc}
@@ -16,7 +17,8 @@ use Rattle.year_file.specs.laws.BoundLaws.{sheet-bounds}
 use Rattle.year_file.specs.Walk.{keep, lose, steps, keptIn, kept, Stretch, ended, stretchesIn, noteOf, notesOf, notes}
 use Rattle.year_file.specs.laws.StepLaws.{steps-nil, steps-keep, steps-lose}
 
--- the walk stands at `at`, `lost` bytes were dropped right before it, and what was kept and noted so far is put up to k and m
+-- the walk stands at `at`, `lost` bytes were dropped right before it, and what was kept and noted so far is put up to
+-- k and m
 pub record Walking (file sheets₀ dropped₀ sheets dropped : List ℕ) (at lost k m : ℕ) : Type 0 where
   pub within : at ≤ length file
   pub before : NoneBefore file at lost

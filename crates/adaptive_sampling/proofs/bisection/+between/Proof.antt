@@ -1,5 +1,6 @@
--- `adaptive_sampling::bisection::between` meets its contract: where the test passes, the seconds up to j get its states; few seconds are computed one by one; else
--- the middle one is, and both halves are looked at. The measure is j - i. Assumes nothing.
+-- `adaptive_sampling::bisection::between` meets its contract: where the test passes, the seconds up to j get its
+-- states; few seconds are computed one by one; else the middle one is, and both halves are looked at. The measure is j
+-- - i.
 use Prim.Native.Nat.{ℕ, _-_, _<_}
 use mathlib.Core.Path.{refl, _∙_}
 use native.Mathlib.Omega.{arith}

@@ -1,4 +1,5 @@
--- `adaptive_sampling::bisection::all_seconds` meets its contract: second 0 is kept, then all to the last; some second reaches the distance that is used. Assumes nothing.
+-- `adaptive_sampling::bisection::all_seconds` meets its contract: second 0 is kept, then all to the last; some second
+-- reaches the distance that is used.
 use Prim.Native.Nat.{ℕ, _-_}
 use mathlib.Core.Path.{subst}
 use native.Mathlib.Omega.{arith}
@@ -65,15 +66,6 @@ returns-2 c =
 pub all-seconds-spec : {M : Type 1} → statement M
 all-seconds-spec =
     tie.close
-    (tie.spec
-    (λ c κs. search needs)
-    sample-of-requires
-    (λ c κs. search needs)
-    few-seconds-requires
-    (λ c. search needs)
-    returns
-    (λ c κs. search needs)
-    (λ c κs. search needs)
-    stretches-requires
-    (λ c. search needs)
-    returns-2)
+    (tie.spec (λ c κs. search needs) sample-of-requires (λ c κs. search needs) few-seconds-requires
+    (λ c. search needs) returns (λ c κs. search needs) (λ c κs. search needs) stretches-requires
+    (λ c. search needs) returns-2)

@@ -1,4 +1,4 @@
--- `adaptive_sampling::bisection::each_second` meets its contract: with the seconds before k kept, one more is kept. Assumes nothing.
+-- `adaptive_sampling::bisection::each_second` meets its contract: with the seconds before k kept, one more is kept.
 use Prim.Native.Nat.{ℕ, _+_, _-_, _≤_, _<_}
 use mathlib.Core.Path.{_≡_, subst, _∙_}
 use mathlib.Core.List.{List}
@@ -133,16 +133,5 @@ returns c =
 pub each-second-spec : {M : Type 1} → statement M
 each-second-spec =
     tie.close
-    (tie.spec
-    Inv-loop
-    μ-loop
-    add-k
-    loop-holds
-    sample-of-requires
-    keep-requires
-    add-k-2
-    loop-less
-    loop-again
-    keep-requires-2
-    same-length
-    returns)
+    (tie.spec Inv-loop μ-loop add-k loop-holds sample-of-requires keep-requires add-k-2 loop-less loop-again
+    keep-requires-2 same-length returns)

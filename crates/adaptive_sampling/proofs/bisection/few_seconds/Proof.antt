@@ -1,4 +1,4 @@
--- `adaptive_sampling::bisection::few_seconds` meets its contract: no second is left, or all to the last are computed. Assumes nothing.
+-- `adaptive_sampling::bisection::few_seconds` meets its contract: no second is left, or all to the last are computed.
 use Prim.Native.Nat.{_-_, _≤_}
 use mathlib.Core.Path.{_≡_, refl}
 use native.Mathlib.Omega.{arith}

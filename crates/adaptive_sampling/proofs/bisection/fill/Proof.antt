@@ -1,4 +1,5 @@
--- `adaptive_sampling::bisection::fill` meets its contract: with the last run stored, the runs say the states of all seconds. Assumes nothing.
+-- `adaptive_sampling::bisection::fill` meets its contract: with the last run stored, the runs say the states of all
+-- seconds.
 use mathlib.Core.Path.{_∙_}
 use borrow.Author.Needs.{needs}
 use native.Mathlib.Omega.{arith}

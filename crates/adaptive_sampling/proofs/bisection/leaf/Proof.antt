@@ -1,4 +1,4 @@
--- `adaptive_sampling::bisection::leaf` meets its contract. Assumes nothing.
+-- `adaptive_sampling::bisection::leaf` meets its contract.
 use mathlib.Core.List.{[], _∷_}
 use native.Mathlib.Omega.{arith}
 use borrow.Author.Needs.{needs}

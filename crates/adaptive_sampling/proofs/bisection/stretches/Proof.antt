@@ -1,4 +1,5 @@
--- `adaptive_sampling::bisection::stretches` meets its contract: with the seconds up to a stop kept, those up to the next are kept. Assumes nothing.
+-- `adaptive_sampling::bisection::stretches` meets its contract: with the seconds up to a stop kept, those up to the
+-- next are kept.
 use Prim.Native.Nat.{ℕ, _+_, _-_, _≤_, _<_}
 use mathlib.Core.Path.{_≡_, refl, sym, ap, subst, _∙_}
 use native.Mathlib.Omega.{arith}
@@ -92,19 +93,6 @@ returns c =
 pub stretches-spec : {M : Type 1} → statement M
 stretches-spec =
     tie.close
-    (tie.spec
-    Inv-loop
-    μ-loop
-    loop-holds
-    (λ c. search needs)
-    stop-requires
-    stop-requires-2
-    (λ c. search needs)
-    (λ c. search needs)
-    (λ c. search needs)
-    (λ c. search needs)
-    between-requires
-    loop-less
-    loop-again
-    same-length
-    returns)
+    (tie.spec Inv-loop μ-loop loop-holds (λ c. search needs) stop-requires stop-requires-2 (λ c. search needs)
+    (λ c. search needs) (λ c. search needs) (λ c. search needs) between-requires loop-less loop-again
+    same-length returns)

@@ -1,4 +1,4 @@
--- `adaptive_sampling::partial::closer` meets its contract. Assumes nothing.
+-- `adaptive_sampling::partial::closer` meets its contract.
 use mathlib.Core.Path.{refl}
 use mathlib.Core.List.{[], _∷_}
 use mathlib.Core.Logic.{inl, inr}

@@ -1,4 +1,4 @@
--- `adaptive_sampling::partial::first` meets its contract: the pair of second 0 is a run of one second. Assumes nothing.
+-- `adaptive_sampling::partial::first` meets its contract: the pair of second 0 is a run of one second.
 use mathlib.Core.Path.{refl}
 use Rattle.rounding.specs.laws.Code.{read-back}
 use Rattle.seconds.specs.laws.SecondLaws.{guard-read}

@@ -1,4 +1,4 @@
--- `adaptive_sampling::partial::keep` meets its contract. Assumes nothing.
+-- `adaptive_sampling::partial::keep` meets its contract.
 use native.Mathlib.Omega.{arith}
 use Rattle.rounding.specs.laws.Code.{read-back, read-size}
 use Rattle.adaptive_sampling.proofs.partial.keep.Statement.{statement}

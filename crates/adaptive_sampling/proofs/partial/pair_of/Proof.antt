@@ -1,4 +1,4 @@
--- `adaptive_sampling::partial::pair_of` meets its contract: the states by the sizes of L. Assumes nothing.
+-- `adaptive_sampling::partial::pair_of` meets its contract: the states by the sizes of L.
 use mathlib.Core.Path.{_≡_, ap, _∙_}
 use Prim.Native.Nat.{ℕ, zero, suc, _≤_, _<_}
 use native.Mathlib.Omega.{arith}

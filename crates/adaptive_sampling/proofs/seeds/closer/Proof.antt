@@ -1,4 +1,4 @@
--- `adaptive_sampling::seeds::closer` meets its contract. Assumes nothing.
+-- `adaptive_sampling::seeds::closer` meets its contract.
 use mathlib.Core.Path.{refl}
 use mathlib.Core.Logic.{inl, inr}
 use Rattle.rounding.specs.laws.Code.{read-back}

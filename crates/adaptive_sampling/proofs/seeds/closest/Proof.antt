@@ -1,4 +1,4 @@
--- `adaptive_sampling::seeds::closest` meets its contract: the closer of two of the shadows is one of them. Assumes nothing.
+-- `adaptive_sampling::seeds::closest` meets its contract: the closer of two of the shadows is one of them.
 use Prim.Native.Nat.{_-_, _≤_}
 use mathlib.Core.Path.{sym}
 use native.Mathlib.Omega.{arith}
@@ -44,16 +44,5 @@ returns c = search needs
 pub closest-spec : {M : Type 1} → statement M
 closest-spec =
     tie.close
-    (tie.spec
-    Inv-loop
-    μ-loop
-    (λ c. search needs)
-    loop-holds
-    stop-requires
-    (λ c. search needs)
-    (λ c. search needs)
-    closer-requires
-    (λ c. search needs)
-    (λ c. search needs)
-    loop-again
-    returns)
+    (tie.spec Inv-loop μ-loop (λ c. search needs) loop-holds stop-requires (λ c. search needs)
+    (λ c. search needs) closer-requires (λ c. search needs) (λ c. search needs) loop-again returns)

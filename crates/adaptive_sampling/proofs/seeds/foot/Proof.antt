@@ -1,4 +1,4 @@
--- `adaptive_sampling::seeds::foot` meets its contract: whatever the second is, it is of the window. Assumes nothing.
+-- `adaptive_sampling::seeds::foot` meets its contract: whatever the second is, it is of the window.
 use Prim.Native.Nat.{_≤_}
 use mathlib.Core.List.{[], _∷_}
 use native.Mathlib.Omega.{arith}
@@ -145,31 +145,7 @@ returns-4 c = omega (arith, start2 (both6 (c .before .before)) .pre .4)
 pub foot-spec : {M : Type 1} → statement M
 foot-spec =
     tie.close
-    (tie.spec
-    offset-of-requires
-    add-offset-of
-    offset-of-requires-2
-    sub-p
-    sub-q
-    mul-square
-    mul-square-2
-    add-square
-    cast-rate
-    add-rate
-    mul-along
-    mul-along-2
-    add-along
-    sub-before
-    cast-ahead
-    (λ c. search needs)
-    sub-room
-    sub-room-2
-    add-result
-    returns
-    sub-result
-    returns-2
-    cast-back
-    (λ c. search needs)
-    sub-result-2
-    returns-3
-    returns-4)
+    (tie.spec offset-of-requires add-offset-of offset-of-requires-2 sub-p sub-q mul-square mul-square-2
+    add-square cast-rate add-rate mul-along mul-along-2 add-along sub-before cast-ahead (λ c. search needs)
+    sub-room sub-room-2 add-result returns sub-result returns-2 cast-back (λ c. search needs) sub-result-2
+    returns-3 returns-4)

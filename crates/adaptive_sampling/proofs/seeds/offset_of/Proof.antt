@@ -1,4 +1,4 @@
--- `adaptive_sampling::seeds::offset_of` meets its contract: the axis from the station at the k-th second. Assumes nothing.
+-- `adaptive_sampling::seeds::offset_of` meets its contract: the axis from the station at the k-th second.
 use mathlib.Core.Path.{sym, ap, subst, _∙_}
 use Prim.Native.Nat.{_≤_}
 use native.Mathlib.Omega.{arith}

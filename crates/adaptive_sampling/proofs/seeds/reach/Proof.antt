@@ -1,4 +1,4 @@
--- `adaptive_sampling::seeds::reach` meets its contract: the root of the least M seen, and 1. Assumes nothing.
+-- `adaptive_sampling::seeds::reach` meets its contract: the root of the least M seen, and 1.
 use Prim.Native.Nat.{_+_, _≤_, _<_}
 use mathlib.Core.Path.{_≡_, ap, _∙_}
 use mathlib.Core.List.{[], _∷_}
@@ -81,15 +81,5 @@ returns c = seen-root (seen (c .before .before)) (c .root .result) (root-is c)
 pub reach-spec : {M : Type 1} → statement M
 reach-spec =
     tie.close
-    (tie.spec
-    closest-requires
-    sub-if1
-    sub-start
-    foot-requires
-    foot-requires-2
-    square-of-requires
-    closer-requires
-    cast-root
-    (λ c κs. search needs)
-    add-result
-    returns)
+    (tie.spec closest-requires sub-if1 sub-start foot-requires foot-requires-2 square-of-requires
+    closer-requires cast-root (λ c κs. search needs) add-result returns)

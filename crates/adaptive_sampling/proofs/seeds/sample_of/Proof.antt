@@ -1,4 +1,4 @@
--- `adaptive_sampling::seeds::sample_of` meets its contract: the shadow at the k-th second. Assumes nothing.
+-- `adaptive_sampling::seeds::sample_of` meets its contract: the shadow at the k-th second.
 use mathlib.Core.Path.{sym, ap, subst, _∙_}
 use Prim.Native.Nat.{_≤_}
 use native.Mathlib.Omega.{arith}

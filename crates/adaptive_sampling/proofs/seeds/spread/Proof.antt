@@ -1,4 +1,4 @@
--- `adaptive_sampling::seeds::spread` meets its contract: one shadow more is there after each turn. Assumes nothing.
+-- `adaptive_sampling::seeds::spread` meets its contract: one shadow more is there after each turn.
 use Prim.Native.Nat.{_-_, _≤_}
 use mathlib.Core.Path.{_≡_, refl, _∙_}
 use native.Mathlib.Omega.{arith}
@@ -55,15 +55,5 @@ returns c = let e : c .before .loop .k ≡ 17 = omega (arith, c .loop-test .left
 pub spread-spec : {M : Type 1} → statement M
 spread-spec =
     tie.close
-    (tie.spec
-    Inv-loop
-    μ-loop
-    loop-holds
-    stop-requires
-    sample-of-requires
-    (λ c. search needs)
-    (λ c. search needs)
-    (λ c. search needs)
-    (λ c. search needs)
-    loop-again
-    returns)
+    (tie.spec Inv-loop μ-loop loop-holds stop-requires sample-of-requires (λ c. search needs)
+    (λ c. search needs) (λ c. search needs) (λ c. search needs) loop-again returns)

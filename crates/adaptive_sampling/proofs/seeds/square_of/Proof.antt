@@ -1,4 +1,4 @@
--- `adaptive_sampling::seeds::square_of` meets its contract. Assumes nothing.
+-- `adaptive_sampling::seeds::square_of` meets its contract.
 use mathlib.Core.Path.{_∙_}
 use borrow.Author.Needs.{needs}
 use Rattle.rounding.specs.laws.Code.{read-back, read-size}

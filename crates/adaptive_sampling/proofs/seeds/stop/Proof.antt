@@ -1,4 +1,4 @@
--- `adaptive_sampling::seeds::stop` meets its contract: the numbers are small. Assumes nothing.
+-- `adaptive_sampling::seeds::stop` meets its contract: the numbers are small.
 use Prim.Native.Nat.{_-_}
 use borrow.Author.Needs.{needs}
 use native.Mathlib.Omega.{arith}

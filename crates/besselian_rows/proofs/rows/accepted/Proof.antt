@@ -1,4 +1,5 @@
--- `besselian_rows::rows::accepted` meets its contract: the three tests one after the other, and the axis fits once the first two hold. Assumes nothing.
+-- `besselian_rows::rows::accepted` meets its contract: the three tests one after the other, and the axis fits once the
+-- first two hold.
 use mathlib.Core.Path.{_≡_, sym, ap, ap₂, _∙_}
 use mathlib.Core.Bool.{Bool, true, _&&_}
 use mathlib.Core.List.{[], _∷_}
@@ -97,13 +98,5 @@ returns-3 c =
 pub accepted-spec : {M : Type 1} → statement M
 accepted-spec =
     tie.close
-    (tie.spec
-    (λ c κs. search needs)
-    returns
-    (λ c κs. search needs)
-    returns-2
-    sub-is-level
-    sub-is-level-2
-    sub-is-level-3
-    is-level-requires
-    returns-3)
+    (tie.spec (λ c κs. search needs) returns (λ c κs. search needs) returns-2 sub-is-level sub-is-level-2
+    sub-is-level-3 is-level-requires returns-3)

@@ -1,4 +1,5 @@
--- `besselian_rows::rows::at_distance` meets its contract: a coordinate beyond the greatest distance is too far by itself; else the squares are compared. Assumes nothing.
+-- `besselian_rows::rows::at_distance` meets its contract: a coordinate beyond the greatest distance is too far by
+-- itself; else the squares are compared.
 use mathlib.Core.Path.{_≡_, sym, ap₂, _∙_}
 use mathlib.Core.Bool.{Bool, _&&_}
 use Prim.Native.Nat.{_≤_}

@@ -1,4 +1,4 @@
--- `besselian_rows::rows::beyond` meets its contract: the two tests, on numbers read back from their bits. Assumes nothing.
+-- `besselian_rows::rows::beyond` meets its contract: the two tests, on numbers read back from their bits.
 use mathlib.Core.Path.{_≡_, _∙_}
 use mathlib.Core.List.{[], _∷_}
 use lib.IntN.{ℤ, pos, negℤ, _-ℤ_}

@@ -1,4 +1,5 @@
--- `besselian_rows::rows::elements_of` meets its contract: the parts give the values, and `faithful` that they lie close to the exact ones. Assumes nothing.
+-- `besselian_rows::rows::elements_of` meets its contract: the parts give the values, and `faithful` that they lie
+-- close to the exact ones.
 use mathlib.Core.Path.{_≡_, sym, ap₂, subst, _∙_}
 use mathlib.Core.List.{[], _∷_}
 use lib.IntN.{ℤ, _+ℤ_, _-ℤ_}
@@ -94,12 +95,5 @@ returns c =
 pub elements-of-spec : {M : Type 1} → statement M
 elements-of-spec =
     tie.close
-    (tie.spec
-    find-axis-requires
-    find-directions-requires
-    find-plane-requires
-    find-cone-requires
-    find-cone-requires-2
-    add-t7
-    sub-t8
-    returns)
+    (tie.spec find-axis-requires find-directions-requires find-plane-requires find-cone-requires
+    find-cone-requires-2 add-t7 sub-t8 returns)

@@ -1,4 +1,4 @@
--- `besselian_rows::rows::find_axis` meets its contract. Assumes nothing.
+-- `besselian_rows::rows::find_axis` meets its contract.
 use mathlib.Core.Path.{_≡_, ap, ap₂, _∙_}
 use Prim.Native.Nat.{ℕ, _+_, _*_}
 use native.Mathlib.Omega.{arith}

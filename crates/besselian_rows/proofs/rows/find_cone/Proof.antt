@@ -1,4 +1,4 @@
--- `besselian_rows::rows::find_cone` meets its contract. Assumes nothing.
+-- `besselian_rows::rows::find_cone` meets its contract.
 use mathlib.Core.Path.{_≡_, ap, ap₂, _∙_}
 use mathlib.Core.List.{[], _∷_}
 use Prim.Native.Nat.{ℕ, _*_, _-_, _≤_}

@@ -1,4 +1,4 @@
--- `besselian_rows::rows::find_plane` meets its contract: four turns, two of them by an opposite. Assumes nothing.
+-- `besselian_rows::rows::find_plane` meets its contract: four turns, two of them by an opposite.
 use mathlib.Core.Path.{_≡_, refl, ap, _∙_}
 use mathlib.Core.List.{[], _∷_}
 use lib.IntN.{ℤ, pos, _+ℤ_, _-ℤ_, _*ℤ_}

@@ -1,4 +1,4 @@
--- `besselian_rows::rows::is_level` meets its contract: 10,000 z² and 1849 (x² + y² + z²) are compared. Assumes nothing.
+-- `besselian_rows::rows::is_level` meets its contract: 10,000 z² and 1849 (x² + y² + z²) are compared.
 use mathlib.Core.Path.{ap, ap₂, _∙_}
 use mathlib.Core.List.{[], _∷_}
 use borrow.Author.Needs.{needs}

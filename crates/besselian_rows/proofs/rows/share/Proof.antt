@@ -1,4 +1,4 @@
--- `besselian_rows::rows::share` meets its contract. Assumes nothing.
+-- `besselian_rows::rows::share` meets its contract.
 use mathlib.Core.Path.{_≡_, sym, ap, ap₂, subst, _∙_}
 use mathlib.Core.List.{[], _∷_}
 use Prim.Native.Nat.{_≤_, _*_}

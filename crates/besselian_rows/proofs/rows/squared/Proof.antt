@@ -1,4 +1,4 @@
--- `besselian_rows::rows::squared` meets its contract. Assumes nothing.
+-- `besselian_rows::rows::squared` meets its contract.
 use mathlib.Core.Path.{ap, _∙_}
 use mathlib.Core.List.{[], _∷_}
 use lib.IntN.{natAbs}

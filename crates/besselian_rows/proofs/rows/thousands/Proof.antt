@@ -1,4 +1,4 @@
--- `besselian_rows::rows::thousands` meets its contract. Assumes nothing.
+-- `besselian_rows::rows::thousands` meets its contract.
 use mathlib.Core.Path.{ap, _∙_}
 use mathlib.Core.List.{[], _∷_}
 use Prim.Native.Nat.{_≤_, _*_}

@@ -1,4 +1,4 @@
--- `besselian_rows::squares::at_most` meets its contract: the parts of the difference. Assumes nothing.
+-- `besselian_rows::squares::at_most` meets its contract: the parts of the difference.
 use mathlib.Core.Path.{_∙_}
 use mathlib.Core.List.{[], _∷_}
 use Rattle.rounding.specs.laws.Code.{Code, arg, sub, Within, whole, ends, _▹_, fits, runs, within}

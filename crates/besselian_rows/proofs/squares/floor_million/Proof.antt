@@ -1,4 +1,4 @@
--- `besselian_rows::squares::floor_million` meets its contract. Assumes nothing.
+-- `besselian_rows::squares::floor_million` meets its contract.
 use mathlib.Core.Path.{ap, _∙_}
 use mathlib.Core.List.{[], _∷_}
 use native.Mathlib.Omega.{arith}

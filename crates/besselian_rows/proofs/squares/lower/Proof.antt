@@ -1,4 +1,4 @@
--- `besselian_rows::squares::lower` meets its contract. Assumes nothing.
+-- `besselian_rows::squares::lower` meets its contract.
 use mathlib.Core.Path.{ap}
 use mathlib.Core.List.{[], _∷_}
 use native.Mathlib.Omega.{arith}

@@ -1,4 +1,4 @@
--- `besselian_rows::squares::not_negative` meets its contract: the parts are carried up. Assumes nothing.
+-- `besselian_rows::squares::not_negative` meets its contract: the parts are carried up.
 use mathlib.Core.Path.{ap, _∙_}
 use mathlib.Core.List.{[], _∷_}
 use native.Mathlib.Omega.{arith}

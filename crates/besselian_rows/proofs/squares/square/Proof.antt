@@ -1,4 +1,4 @@
--- `besselian_rows::squares::square` meets its contract: n is 10^6 h + l. Assumes nothing.
+-- `besselian_rows::squares::square` meets its contract: n is 10^6 h + l.
 use mathlib.Core.Path.{_≡_, ap, ap₂, _∙_}
 use mathlib.Core.List.{[], _∷_}
 use borrow.Author.Needs.{needs}

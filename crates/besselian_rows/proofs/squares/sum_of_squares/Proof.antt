@@ -1,4 +1,4 @@
--- `besselian_rows::squares::sum_of_squares` meets its contract: the parts are added. Assumes nothing.
+-- `besselian_rows::squares::sum_of_squares` meets its contract: the parts are added.
 use mathlib.Core.Path.{ap₂, _∙_}
 use mathlib.Core.List.{[], _∷_}
 use borrow.Author.Needs.{needs}

@@ -1,4 +1,4 @@
--- `besselian_rows::squares::upper` meets its contract. Assumes nothing.
+-- `besselian_rows::squares::upper` meets its contract.
 use mathlib.Core.Path.{ap}
 use mathlib.Core.List.{[], _∷_}
 use native.Mathlib.Omega.{arith}

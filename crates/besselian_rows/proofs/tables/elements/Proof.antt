@@ -1,4 +1,4 @@
--- `besselian_rows::tables::elements` meets its contract: the answer first, and the values only where they are made. Assumes nothing.
+-- `besselian_rows::tables::elements` meets its contract: the answer first, and the values only where they are made.
 use mathlib.Core.Path.{sym, _∙_}
 use borrow.Author.Needs.{needs}
 use lib.ListN.{length}

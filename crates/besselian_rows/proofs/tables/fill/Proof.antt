@@ -1,5 +1,5 @@
--- `besselian_rows::tables::fill` meets its contract: with i rows stored, the room holds their values before its old numbers. The measure is how many rows
--- are left. Assumes nothing.
+-- `besselian_rows::tables::fill` meets its contract: with i rows stored, the room holds their values before its old
+-- numbers. The measure is how many rows are left.
 use mathlib.Core.Path.{_≡_, refl, ap, _∙_}
 use mathlib.Core.List.{List}
 use Prim.Native.Nat.{ℕ, _+_, _-_, _*_, _≤_}

@@ -1,5 +1,5 @@
--- `besselian_rows::tables::first_refused` meets its contract: what is found from row i on is what is found in all. The measure is how many are left.
--- Assumes nothing.
+-- `besselian_rows::tables::first_refused` meets its contract: what is found from row i on is what is found in all. The
+-- measure is how many are left.
 use mathlib.Core.Path.{_≡_, refl, sym, ap, _∙_}
 use Prim.Native.Nat.{ℕ, suc, _+_, _-_, _≤_}
 use native.Mathlib.Omega.{arith}

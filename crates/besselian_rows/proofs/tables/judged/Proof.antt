@@ -1,4 +1,4 @@
--- `besselian_rows::tables::judged` meets its contract, case by case. Assumes nothing.
+-- `besselian_rows::tables::judged` meets its contract, case by case.
 use mathlib.Core.Path.{sym, _∙_}
 use borrow.Author.Needs.{needs}
 use Rattle.besselian_rows.specs.laws.TablesLaws.{answer-shape, answer-row, answer-room, answer-made}
@@ -31,11 +31,5 @@ returns-4 c =
 pub judged-spec : {M : Type 1} → statement M
 judged-spec =
     tie.close
-    (tie.spec
-    returns
-    (λ c κs. search needs)
-    (λ c. search needs)
-    (λ c. search needs)
-    returns-2
-    returns-3
+    (tie.spec returns (λ c κs. search needs) (λ c. search needs) (λ c. search needs) returns-2 returns-3
     returns-4)

@@ -1,4 +1,4 @@
--- `besselian_rows::tables::row_at` meets its contract: six numbers from 6i on. Assumes nothing.
+-- `besselian_rows::tables::row_at` meets its contract: six numbers from 6i on.
 use borrow.Author.Needs.{needs}
 use Rattle.besselian_rows.specs.laws.TablesLaws.{row-in}
 use Rattle.besselian_rows.proofs.tables.row_at.Statement.{statement}
@@ -12,17 +12,6 @@ returns c =
 pub row-at-spec : {M : Type 1} → statement M
 row-at-spec =
     tie.close
-    (tie.spec
-    (λ c. search needs)
-    (λ c. search needs)
-    (λ c. search needs)
-    (λ c. search needs)
-    (λ c. search needs)
-    (λ c. search needs)
-    (λ c. search needs)
-    (λ c. search needs)
-    (λ c. search needs)
-    (λ c. search needs)
-    (λ c. search needs)
-    (λ c. search needs)
-    returns)
+    (tie.spec (λ c. search needs) (λ c. search needs) (λ c. search needs) (λ c. search needs)
+    (λ c. search needs) (λ c. search needs) (λ c. search needs) (λ c. search needs) (λ c. search needs)
+    (λ c. search needs) (λ c. search needs) (λ c. search needs) returns)

@@ -1,4 +1,5 @@
--- `besselian_rows::tables::store` meets its contract: the second four right behind the first; each number is read back from its bits. Assumes nothing.
+-- `besselian_rows::tables::store` meets its contract: the second four right behind the first; each number is read back
+-- from its bits.
 use mathlib.Core.Path.{_≡_, _∙_}
 use mathlib.Core.List.{List, [], _∷_}
 use Prim.Native.Nat.{ℕ, _+_, _<_, _^_}

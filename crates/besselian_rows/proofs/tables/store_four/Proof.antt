@@ -1,4 +1,4 @@
--- `besselian_rows::tables::store_four` meets its contract: four stores from `at` on. Assumes nothing.
+-- `besselian_rows::tables::store_four` meets its contract: four stores from `at` on.
 use native.Mathlib.Omega.{arith}
 use borrow.Author.Needs.{needs}
 use mir.Syntax.{w64}
@@ -25,17 +25,6 @@ returns c =
 pub store-four-spec : {M : Type 1} → statement M
 store-four-spec =
     tie.close
-    (tie.spec
-    (λ c. search needs)
-    (λ c. search needs)
-    (λ c. search needs)
-    (λ c. search needs)
-    slice-set-from-b
-    (λ c. search needs)
-    (λ c. search needs)
-    slice-set-from-c
-    (λ c. search needs)
-    (λ c. search needs)
-    slice-set-from-d
-    (λ c. search needs)
-    returns)
+    (tie.spec (λ c. search needs) (λ c. search needs) (λ c. search needs) (λ c. search needs) slice-set-from-b
+    (λ c. search needs) (λ c. search needs) slice-set-from-c (λ c. search needs) (λ c. search needs)
+    slice-set-from-d (λ c. search needs) returns)

@@ -1,4 +1,5 @@
--- `circumstances::writing::write_closing` meets its contract: closest, the share where it is asked for, and end, each behind the one before it. Assumes nothing.
+-- `circumstances::writing::write_closing` meets its contract: closest, the share where it is asked for, and end, each
+-- behind the one before it.
 use mathlib.Core.Path.{_≡_, refl, sym, ap, _∙_}
 use mathlib.Core.Bool.{true, false}
 use Prim.Native.Nat.{ℕ, _+_, _≤_}
@@ -127,15 +128,5 @@ returns-2 c =
 pub write-closing-spec : {M : Type 1} → statement M
 write-closing-spec =
     tie.close
-    (tie.spec
-    (λ c κs. search needs)
-    put-requires
-    (λ c κs. search needs)
-    (λ c κs. search needs)
-    put-requires-2
-    put-requires-3
-    (λ c. search needs)
-    returns
-    put-requires-4
-    (λ c. search needs)
-    returns-2)
+    (tie.spec (λ c κs. search needs) put-requires (λ c κs. search needs) (λ c κs. search needs) put-requires-2
+    put-requires-3 (λ c. search needs) returns put-requires-4 (λ c. search needs) returns-2)

@@ -1,4 +1,4 @@
--- `circumstances::writing::write_nth_phase` meets its contract: the k-th phase has the k-th states. Assumes nothing.
+-- `circumstances::writing::write_nth_phase` meets its contract: the k-th phase has the k-th states.
 use mathlib.Core.Path.{_≡_, sym, ap, ap₂, _∙_}
 use mathlib.Core.List.{List, map}
 use Prim.Native.Nat.{ℕ, _+_}

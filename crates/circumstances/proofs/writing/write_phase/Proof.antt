@@ -1,5 +1,5 @@
--- `circumstances::writing::write_phase` meets its contract: what is left at the cursor, stored from `at` on, gives the buffer that all entries give.
--- Assumes nothing.
+-- `circumstances::writing::write_phase` meets its contract: what is left at the cursor, stored from `at` on, gives the
+-- buffer that all entries give.
 use mathlib.Core.Path.{_≡_, refl, sym, ap, _∙_}
 use mathlib.Core.List.{[], _∷_, map}
 use Prim.Native.Nat.{_+_, _-_}
@@ -115,16 +115,5 @@ loop-again c =
 pub write-phase-spec : {M : Type 1} → statement M
 write-phase-spec =
     tie.close
-    (tie.spec
-    Inv-loop
-    μ-loop
-    loop-holds
-    step-requires
-    (λ c. search needs)
-    (λ c. search needs)
-    same-length
-    returns
-    entry-for-requires
-    put-requires
-    loop-less
-    loop-again)
+    (tie.spec Inv-loop μ-loop loop-holds step-requires (λ c. search needs) (λ c. search needs) same-length
+    returns entry-for-requires put-requires loop-less loop-again)

@@ -1,5 +1,5 @@
--- `circumstances::writing::write_phases` meets its contract: with k phases written, the buffer has the bytes of their entries from `start` on.
--- Assumes nothing.
+-- `circumstances::writing::write_phases` meets its contract: with k phases written, the buffer has the bytes of their
+-- entries from `start` on.
 use mathlib.Core.Path.{_≡_, sym, ap, ap₂, _∙_}
 use mathlib.Core.List.{List}
 use Prim.Native.Nat.{ℕ, _+_, _-_, _≤_, _<_}
@@ -108,14 +108,5 @@ returns c =
 pub write-phases-spec : {M : Type 1} → statement M
 write-phases-spec =
     tie.close
-    (tie.spec
-    Inv-loop
-    μ-loop
-    (λ c κs. search needs)
-    loop-holds
-    write-nth-phase-requires
-    add-k
-    loop-less
-    loop-again
-    same-length
-    returns)
+    (tie.spec Inv-loop μ-loop (λ c κs. search needs) loop-holds write-nth-phase-requires add-k loop-less
+    loop-again same-length returns)

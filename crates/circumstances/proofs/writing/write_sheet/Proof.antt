@@ -1,4 +1,5 @@
--- `circumstances::writing::write_sheet` meets its contract: head, phases and what closes the sheet, each behind the one before it. Assumes nothing.
+-- `circumstances::writing::write_sheet` meets its contract: head, phases and what closes the sheet, each behind the
+-- one before it.
 use mathlib.Core.Path.{_≡_, sym, ap, _∙_}
 use mathlib.Core.List.{List}
 use Prim.Native.Nat.{ℕ, _+_}

@@ -1,4 +1,4 @@
--- `clock_network::checks::check` meets its contract: 1 and 2 are the first station's, and what is held is the list. Assumes nothing.
+-- `clock_network::checks::check` meets its contract: 1 and 2 are the first station's, and what is held is the list.
 use mathlib.Core.Path.{_≡_, sym, ap, _∙_}
 use mathlib.Core.Bool.{_&&_}
 use mathlib.Core.List.{List}
@@ -122,21 +122,7 @@ returns-4 c = λ l k.
 pub check-spec : {M : Type 1} → statement M
 check-spec =
     tie.close
-    (tie.spec
-    returns
-    (λ c κs. search needs)
-    (λ c. search needs)
-    returns-2
-    (λ c. search needs)
-    check-stations-requires
-    (λ c. search needs)
-    returns-3
-    (λ c. search needs)
-    (λ c κs. search needs)
-    (λ c κs. search needs)
-    array-share-prefix-numbers
-    slice-aggregate-check-clocks
-    array-share-prefix-clocks
-    slice-aggregate-check-clocks-2
-    check-clocks-requires
-    returns-4)
+    (tie.spec returns (λ c κs. search needs) (λ c. search needs) returns-2 (λ c. search needs)
+    check-stations-requires (λ c. search needs) returns-3 (λ c. search needs) (λ c κs. search needs)
+    (λ c κs. search needs) array-share-prefix-numbers slice-aggregate-check-clocks array-share-prefix-clocks
+    slice-aggregate-check-clocks-2 check-clocks-requires returns-4)

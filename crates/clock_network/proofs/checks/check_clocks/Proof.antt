@@ -1,4 +1,4 @@
--- `clock_network::checks::check_clocks` meets its contract: the ways of 14, 15, 16. Assumes nothing.
+-- `clock_network::checks::check_clocks` meets its contract: the ways of 14, 15, 16.
 use mathlib.Core.Path.{sym, ap, _∙_}
 use Prim.Native.Nat.{ℕ, _≤_}
 use native.Mathlib.Omega.{arith}
@@ -59,11 +59,5 @@ returns-4 c =
 pub check-clocks-spec : {M : Type 1} → statement M
 check-clocks-spec =
     tie.close
-    (tie.spec
-    (λ c κs. search needs)
-    returns
-    (λ c κs. search needs)
-    returns-2
-    first-lost-requires
-    returns-3
+    (tie.spec (λ c κs. search needs) returns (λ c κs. search needs) returns-2 first-lost-requires returns-3
     returns-4)

@@ -1,4 +1,4 @@
--- `clock_network::checks::check_first` meets its contract. Assumes nothing.
+-- `clock_network::checks::check_first` meets its contract.
 use mathlib.Core.Path.{ap, _∙_}
 use borrow.Author.Needs.{needs}
 use Rattle.requests.specs.Requests.{ofEclipse, checked}

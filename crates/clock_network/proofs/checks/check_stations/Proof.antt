@@ -1,4 +1,5 @@
--- `clock_network::checks::check_stations` meets its contract: what the stations from i on are refused for is what all are. Assumes nothing.
+-- `clock_network::checks::check_stations` meets its contract: what the stations from i on are refused for is what all
+-- are.
 use mathlib.Core.Path.{_≡_, refl, sym, ap, _∙_}
 use mathlib.Core.List.{List}
 use Prim.Native.Nat.{ℕ, _-_, _≤_, _<_}
@@ -80,19 +81,6 @@ returns-2 c =
 pub check-stations-spec : {M : Type 1} → statement M
 check-stations-spec =
     tie.close
-    (tie.spec
-    Inv-loop
-    μ-loop
-    loop-holds
-    (λ c. search needs)
-    (λ c. search needs)
-    (λ c κs. search needs)
-    (λ c. search needs)
-    (λ c. search needs)
-    add-place
-    returns
-    (λ c. search needs)
-    (λ c. search needs)
-    (λ c. search needs)
-    loop-again
-    returns-2)
+    (tie.spec Inv-loop μ-loop loop-holds (λ c. search needs) (λ c. search needs) (λ c κs. search needs)
+    (λ c. search needs) (λ c. search needs) add-place returns (λ c. search needs) (λ c. search needs)
+    (λ c. search needs) loop-again returns-2)

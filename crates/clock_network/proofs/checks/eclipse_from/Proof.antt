@@ -1,4 +1,4 @@
--- `clock_network::checks::eclipse_from` meets its contract: each number is read from its place. Assumes nothing.
+-- `clock_network::checks::eclipse_from` meets its contract: each number is read from its place.
 use lib.IntN.{pos}
 use lib.ListN.{getD}
 use borrow.Author.Needs.{needs}
@@ -24,9 +24,4 @@ returns c =
 pub eclipse-from-spec : {M : Type 1} → statement M
 eclipse-from-spec =
     tie.close
-    (tie.spec
-    (λ c κs. search needs)
-    (λ c. search needs)
-    (λ c. search needs)
-    (λ c. search needs)
-    returns)
+    (tie.spec (λ c κs. search needs) (λ c. search needs) (λ c. search needs) (λ c. search needs) returns)

@@ -1,4 +1,4 @@
--- `clock_network::stations::empty` meets its contract: 64 times the blank node. Assumes nothing.
+-- `clock_network::stations::empty` meets its contract: 64 times the blank node.
 use borrow.Author.Needs.{needs}
 use mathlib.Core.Path.{ap}
 use Prim.Native.Nat.{ℕ}

@@ -1,8 +1,9 @@
--- `clock_network::stations::gathered` meets its contract: a walk of its MIR, by hand, with one loop and five calls. All that it knows of its callees is that each meets its contract.
--- A machine value that a callee returns is stored and passed on as it is, with the relation that ties it to the callee's result; nothing but the numbers is ever spelled out.
+-- `clock_network::stations::gathered` meets its contract: a walk of its MIR, by hand, with one loop and five calls.
+-- All that it knows of its callees is that each meets its contract. A machine value that a callee returns is stored
+-- and passed on as it is, with the relation that ties it to the callee's result; nothing but the numbers is ever
+-- spelled out.
 --     t            a turn's index: i nodes are put in, and u is the machine value of h, which is `heldOf ys i`.     At t    the loop's invariant, the whole context
 --     turns        a turn from `At t`: it puts one node in, or it leaves the loop and the rest of the body runs.       walk    the MIR up to the loop
--- Assumes nothing.
 use mathlib.Core.Path.{_≡_, refl, sym, _∙_, ap, subst}
 use Prim.Native.Nat.{ℕ, suc, _+_, _-_, _≤_, _<_, _^_, zero-le}
 use native.Mathlib.Nat.{le-antisymm}

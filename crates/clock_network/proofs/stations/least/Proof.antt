@@ -1,4 +1,4 @@
--- `clock_network::stations::least` meets its contract, case by case. Assumes nothing.
+-- `clock_network::stations::least` meets its contract, case by case.
 use Rattle.clock_network.proofs.stations.least.Statement.{statement}
 use Rattle.clock_network.proofs.stations.least.Tie as tie
 use borrow.Author.Tests.{le-ltb, lt-ltb}

@@ -1,4 +1,4 @@
--- `clock_network::stations::numbers` meets its contract: the first i places have the number of their node. Assumes nothing.
+-- `clock_network::stations::numbers` meets its contract: the first i places have the number of their node.
 use mathlib.Core.Path.{_≡_, refl, _∙_, subst}
 use mir.Syntax.{w64}
 use mir.ValLaws.{toZ-ofZ}
@@ -35,15 +35,5 @@ returns c =
 pub numbers-spec : {M : Type 1} → statement M
 numbers-spec =
     tie.close
-    (tie.spec
-    Inv-loop
-    μ-loop
-    loop-holds
-    (λ c. search needs)
-    (λ c. search needs)
-    (λ c. search needs)
-    (λ c. search needs)
-    (λ c. search needs)
-    (λ c. search needs)
-    loop-again
-    returns)
+    (tie.spec Inv-loop μ-loop loop-holds (λ c. search needs) (λ c. search needs) (λ c. search needs)
+    (λ c. search needs) (λ c. search needs) (λ c. search needs) loop-again returns)

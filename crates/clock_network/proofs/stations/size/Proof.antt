@@ -1,5 +1,5 @@
--- `clock_network::stations::size` meets its contract: a walk of its MIR, by hand. The count beside the list's pointer is read; what the list owns is not opened.
--- Assumes nothing.
+-- `clock_network::stations::size` meets its contract: a walk of its MIR, by hand. The count beside the list's pointer
+-- is read; what the list owns is not opened.
 use mathlib.Core.Path.{refl}
 use Prim.Native.Nat.{ℕ, _<_, _^_}
 use mathlib.Core.List.{List, [], _∷_}

@@ -1,6 +1,6 @@
--- `clock_network::stations::taken` meets its contract: a walk of its MIR, by hand. The place of `l[i]` is i times 48 bytes past the list's pointer, and the whole node is read there.
--- The code has no check of the bound: it is the contract's to ask.
--- Assumes nothing.
+-- `clock_network::stations::taken` meets its contract: a walk of its MIR, by hand. The place of `l[i]` is i times 48
+-- bytes past the list's pointer, and the whole node is read there. The code has no check of the bound: it is the
+-- contract's to ask.
 use mathlib.Core.Path.{refl, sym}
 use Prim.Native.Nat.{ℕ, _*_, _<_, _^_}
 use native.Mathlib.Omega.{arith}
@@ -96,7 +96,8 @@ module _ {M : Type 1} (𝓤 : URA M) (H : Heap 𝓤) (A : Atoms 𝓤) (W : Given
         move ! (13 ∷ []) $ fsplit ! $ fsplit ! $ move ! (1 ∷ []) $ fsplit ! $ move ! (16 ∷ []) $ split ! $ move ! (3 ∷ 0 ∷ []) $
         looks-slice ! tt R (Is R) (shows 𝓤 H A R) (LL.vals T.the-type T′.the-laws) (LL.tells T.the-type T′.the-laws) (LL.copy T.the-type T′.the-copy 𝓤 H A W) ys b o (λ q′.
         elem-out ! R (Is R) (shows 𝓤 H A R) (LL.vals T.the-type T′.the-laws) (LL.tells T.the-type T′.the-laws) q′ ys i blankNode b o l (λ g.
-        -- [l[i]; what it owns; the others; what shuts; the fractured borrow; true; res; l's fact; i's; _5; …; _4; …; _3; …; _2; …; _1; …; _0; …]
+        -- [l[i]; what it owns; the others; what shuts; the fractured borrow; true; res; l's fact; i's; _5; …; _4; …;
+        -- _3; …; _2; …; _1; …; _0; …]
         assigns ! (of-opd ! (load ! (from ! (hop ! (look ! 11 refl) (stop !))) (look-raw ! 0 refl))) (from ! (stop !)) (init ! 9 refl (LL.lawful T.the-type T′.the-laws 𝓤 H A W .typed elem (mach ∷ []) g .0)) $
         assigns ! (of-opd ! (load ! (from ! (stop !)) (look ! 9 refl))) (from ! (stop !)) (init ! 19 refl (LL.lawful T.the-type T′.the-laws 𝓤 H A W .typed elem (mach ∷ []) g .0)) $
         elem-back ! R q′ ys i blankNode (mach ∷ []) b o l $ shuts-slice ! tt R q′ ys b o $

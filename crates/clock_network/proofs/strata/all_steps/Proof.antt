@@ -1,4 +1,5 @@
--- `clock_network::strata::all_steps` meets its contract: what the search found are the steps, and there is one such list.
+-- `clock_network::strata::all_steps` meets its contract: what the search found are the steps, and there is one such
+-- list.
 use Rattle.clock_network.specs.laws.DefinedLaws.{distinct, steps-is}
 use Rattle.clock_network.proofs.strata.all_steps.Statement.{statement}
 use Rattle.clock_network.proofs.strata.all_steps.Tie as tie

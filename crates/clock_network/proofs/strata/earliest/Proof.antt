@@ -1,4 +1,5 @@
--- `clock_network::strata::earliest` meets its contract: of the places before i, `best` is the first with the smallest number.
+-- `clock_network::strata::earliest` meets its contract: of the places before i, `best` is the first with the smallest
+-- number.
 use Prim.Native.Nat.{ℕ, _+_, _-_}
 use mathlib.Core.Path.{_≡_, sym, subst}
 use mathlib.Core.Logic.{⊎-elim}
@@ -36,15 +37,5 @@ returns c = let l = c .before .loop in let a = c .before .before .args in earlie
 pub earliest-spec : {M : Type 1} → statement M
 earliest-spec =
     tie.close
-    (tie.spec
-    Inv-loop
-    μ-loop
-    loop-holds
-    (λ c. search needs)
-    (λ c. search needs)
-    (λ c. search needs)
-    (λ c. search needs)
-    (λ c. search needs)
-    (λ c. search needs)
-    loop-again
-    returns)
+    (tie.spec Inv-loop μ-loop loop-holds (λ c. search needs) (λ c. search needs) (λ c. search needs)
+    (λ c. search needs) (λ c. search needs) (λ c. search needs) loop-again returns)

@@ -1,4 +1,5 @@
--- `clock_network::strata::first_repeat` meets its contract: no place before i repeats a number; the number at i does where its first place is earlier.
+-- `clock_network::strata::first_repeat` meets its contract: no place before i repeats a number; the number at i does
+-- where its first place is earlier.
 use Prim.Native.Nat.{ℕ, _≤_, _<_, _-_}
 use native.Mathlib.Omega.{arith}
 use borrow.Author.Needs.{needs}
@@ -46,15 +47,5 @@ returns-2 c = repeat-is (c .before .before .args .numbers .now) _ (record {
 pub first-repeat-spec : {M : Type 1} → statement M
 first-repeat-spec =
     tie.close
-    (tie.spec
-    Inv-loop
-    μ-loop
-    (λ c. search needs)
-    (λ c. search needs)
-    (λ c. search needs)
-    (λ c κs. search needs)
-    returns
-    (λ c. search needs)
-    (λ c. search needs)
-    loop-again
-    returns-2)
+    (tie.spec Inv-loop μ-loop (λ c. search needs) (λ c. search needs) (λ c. search needs)
+    (λ c κs. search needs) returns (λ c. search needs) (λ c. search needs) loop-again returns-2)

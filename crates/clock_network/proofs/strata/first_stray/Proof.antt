@@ -1,4 +1,5 @@
--- `clock_network::strata::first_stray` meets its contract: no place before i is stray; the one at i is where its clock is not 0 and its number has no place.
+-- `clock_network::strata::first_stray` meets its contract: no place before i is stray; the one at i is where its clock
+-- is not 0 and its number has no place.
 use Prim.Native.Nat.{ℕ, _≤_, _<_, _-_}
 use native.Mathlib.Omega.{arith}
 use borrow.Author.Needs.{needs}
@@ -65,15 +66,5 @@ returns-2 c = stray-is (c .before .before .args .numbers .now) (c .before .befor
 pub first-stray-spec : {M : Type 1} → statement M
 first-stray-spec =
     tie.close
-    (tie.spec
-    Inv-loop
-    μ-loop
-    (λ c. search needs)
-    (λ c. search needs)
-    (λ c. search needs)
-    (λ c κs. search needs)
-    returns
-    (λ c. search needs)
-    (λ c. search needs)
-    loop-again
-    returns-2)
+    (tie.spec Inv-loop μ-loop (λ c. search needs) (λ c. search needs) (λ c. search needs)
+    (λ c κs. search needs) returns (λ c. search needs) (λ c. search needs) loop-again returns-2)

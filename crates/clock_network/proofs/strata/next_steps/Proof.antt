@@ -1,4 +1,5 @@
--- `clock_network::strata::next_steps` meets its contract: 1 at the antenna, else one more than what is known of the station followed.
+-- `clock_network::strata::next_steps` meets its contract: 1 at the antenna, else one more than what is known of the
+-- station followed.
 use native.Mathlib.Omega.{arith}
 use borrow.Author.Needs.{needs}
 use Prim.Native.Nat.{ℕ}
@@ -55,14 +56,5 @@ returns-4 c = let b = c .before .before .before .before .before .before .before 
 pub next-steps-spec : {M : Type 1} → statement M
 next-steps-spec =
     tie.close
-    (tie.spec
-    (λ c. search needs)
-    (λ c. search needs)
-    returns
-    (λ c κs. search needs)
-    returns-2
-    (λ c. search needs)
-    returns-3
-    (λ c. search needs)
-    add-result
-    returns-4)
+    (tie.spec (λ c. search needs) (λ c. search needs) returns (λ c κs. search needs) returns-2
+    (λ c. search needs) returns-3 (λ c. search needs) add-result returns-4)

@@ -1,5 +1,5 @@
--- `clock_network::strata::search` meets its contract: what is known stays right and small, each turn tells one place more, and where no place can be told the
--- rest is lost.
+-- `clock_network::strata::search` meets its contract: what is known stays right and small, each turn tells one place
+-- more, and where no place can be told the rest is lost.
 use mathlib.Core.Path.{_≡_, refl, _∙_, subst}
 use Prim.Native.Nat.{_+_, _<_, _≤_}
 use Rattle.clock_network.specs.declared.strata.Ready.the-variants.{Found}
@@ -66,15 +66,5 @@ loop-again c =
 pub search-spec : {M : Type 1} → statement M
 search-spec =
     tie.close
-    (tie.spec
-    Inv-loop
-    μ-loop
-    loop-holds
-    (λ c. search needs)
-    (λ c κs. search needs)
-    (λ c. search needs)
-    (λ c. search needs)
-    returns
-    array-write-steps
-    loop-less
-    loop-again)
+    (tie.spec Inv-loop μ-loop loop-holds (λ c. search needs) (λ c κs. search needs) (λ c. search needs)
+    (λ c. search needs) returns array-write-steps loop-less loop-again)

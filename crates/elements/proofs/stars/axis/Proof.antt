@@ -1,4 +1,4 @@
--- `elements::stars::axis` meets its contract: all is copied, and the declination read back from its bits. Assumes nothing.
+-- `elements::stars::axis` meets its contract: all is copied, and the declination read back from its bits.
 use borrow.Author.Needs.{needs}
 use Rattle.rounding.specs.laws.Code.{read-result}
 use Rattle.elements.proofs.stars.axis.Statement.{statement}

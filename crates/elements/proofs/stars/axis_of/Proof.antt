@@ -1,4 +1,4 @@
--- `elements::stars::axis_of` meets its contract: of either body. Assumes nothing.
+-- `elements::stars::axis_of` meets its contract: of either body.
 use mathlib.Core.Path.{sym, ap, _∙_}
 use borrow.Author.Needs.{needs}
 use Rattle.elements.specs.Stars.{axisOf}

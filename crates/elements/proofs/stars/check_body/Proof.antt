@@ -1,4 +1,4 @@
--- `elements::stars::check_body` meets its contract: of either body. Assumes nothing.
+-- `elements::stars::check_body` meets its contract: of either body.
 use mathlib.Core.Path.{sym, ap, _∙_}
 use borrow.Author.Needs.{needs}
 use Rattle.elements.specs.Stars.{bodyChecked}

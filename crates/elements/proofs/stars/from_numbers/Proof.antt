@@ -1,4 +1,4 @@
--- `elements::stars::from_numbers` meets its contract: each part is read from its places. Assumes nothing.
+-- `elements::stars::from_numbers` meets its contract: each part is read from its places.
 use lib.IntN.{pos}
 use lib.ListN.{getD}
 use borrow.Author.Needs.{needs}
@@ -24,10 +24,5 @@ returns c =
 pub from-numbers-spec : {M : Type 1} → statement M
 from-numbers-spec =
     tie.close
-    (tie.spec
-    (λ c κs. search needs)
-    (λ c κs. search needs)
-    (λ c. search needs)
-    (λ c κs. search needs)
-    (λ c. search needs)
-    returns)
+    (tie.spec (λ c κs. search needs) (λ c κs. search needs) (λ c. search needs) (λ c κs. search needs)
+    (λ c. search needs) returns)

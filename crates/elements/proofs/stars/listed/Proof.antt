@@ -1,4 +1,4 @@
--- `elements::stars::listed` meets its contract: each number is read back from its bits. Assumes nothing.
+-- `elements::stars::listed` meets its contract: each number is read back from its bits.
 use mathlib.Core.Path.{refl}
 use Rattle.elements.proofs.Lists.{cons-back}
 use Rattle.elements.proofs.stars.listed.Statement.{statement}

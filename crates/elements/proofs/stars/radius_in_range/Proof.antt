@@ -1,4 +1,4 @@
--- `elements::stars::radius_in_range` meets its contract: one number is searched against its range. Assumes nothing.
+-- `elements::stars::radius_in_range` meets its contract: one number is searched against its range.
 use mathlib.Core.Path.{ap}
 use mathlib.Core.List.{[], _∷_}
 use lib.IntN.{ℤ, pos}
@@ -19,9 +19,4 @@ returns c =
 pub radius-in-range-spec : {M : Type 1} → statement M
 radius-in-range-spec =
     tie.close
-    (tie.spec
-    (λ c. search needs)
-    (λ c. search needs)
-    (λ c. search needs)
-    (λ c κs. search needs)
-    returns)
+    (tie.spec (λ c. search needs) (λ c. search needs) (λ c. search needs) (λ c κs. search needs) returns)

@@ -1,4 +1,4 @@
--- `float_requests::instrument::check_finite` meets its contract: the elements, then the longitude. Assumes nothing.
+-- `float_requests::instrument::check_finite` meets its contract: the elements, then the longitude.
 use mathlib.Core.Path.{_≡_, sym, ap, _∙_}
 use mathlib.Core.List.{List}
 use borrow.Author.Needs.{needs}
@@ -44,14 +44,5 @@ returns-3 c =
 pub check-finite-spec : {M : Type 1} → statement M
 check-finite-spec =
     tie.close
-    (tie.spec
-    (λ c κs. search needs)
-    (λ c. search needs)
-    (λ c κs. search needs)
-    (λ c. search needs)
-    returns
-    (λ c. search needs)
-    (λ c κs. search needs)
-    (λ c κs. search needs)
-    returns-2
-    returns-3)
+    (tie.spec (λ c κs. search needs) (λ c. search needs) (λ c κs. search needs) (λ c. search needs) returns
+    (λ c. search needs) (λ c κs. search needs) (λ c κs. search needs) returns-2 returns-3)

@@ -1,4 +1,4 @@
--- `float_requests::instrument::elements_in` meets its contract: the elements of the 22 units. Assumes nothing.
+-- `float_requests::instrument::elements_in` meets its contract: the elements of the 22 units.
 use mathlib.Core.Path.{ap, _∙_}
 use mathlib.Core.List.{List, map}
 use borrow.Author.Needs.{needs}
@@ -20,10 +20,5 @@ returns c =
 pub elements-in-spec : {M : Type 1} → statement M
 elements-in-spec =
     tie.close
-    (tie.spec
-    (λ c κs. search needs)
-    (λ c. search needs)
-    (λ c κs. search needs)
-    (λ c. search needs)
-    (λ c κs. search needs)
-    returns)
+    (tie.spec (λ c κs. search needs) (λ c. search needs) (λ c κs. search needs) (λ c. search needs)
+    (λ c κs. search needs) returns)

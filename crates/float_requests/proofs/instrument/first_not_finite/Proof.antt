@@ -1,4 +1,5 @@
--- `float_requests::instrument::first_not_finite` meets its contract: what is found from place i on is what is found in all. Assumes nothing.
+-- `float_requests::instrument::first_not_finite` meets its contract: what is found from place i on is what is found in
+-- all.
 use mathlib.Core.Path.{_≡_, refl, sym, _∙_}
 use Prim.Native.Nat.{_-_, _≤_}
 use native.Mathlib.Omega.{arith}
@@ -41,15 +42,5 @@ returns-2 c =
 pub first-not-finite-spec : {M : Type 1} → statement M
 first-not-finite-spec =
     tie.close
-    (tie.spec
-    Inv-loop
-    μ-loop
-    loop-holds
-    (λ c. search needs)
-    (λ c. search needs)
-    (λ c κs. search needs)
-    returns
-    (λ c. search needs)
-    (λ c. search needs)
-    loop-again
-    returns-2)
+    (tie.spec Inv-loop μ-loop loop-holds (λ c. search needs) (λ c. search needs) (λ c κs. search needs)
+    returns (λ c. search needs) (λ c. search needs) loop-again returns-2)

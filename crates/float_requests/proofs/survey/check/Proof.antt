@@ -1,4 +1,5 @@
--- `float_requests::survey::check` meets its contract: 1 is what the request is refused for first; else the doubles are looked at. Assumes nothing.
+-- `float_requests::survey::check` meets its contract: 1 is what the request is refused for first; else the doubles are
+-- looked at.
 use mathlib.Core.Path.{_≡_, sym, ap, _∙_}
 use borrow.Author.Needs.{needs}
 use lib.Dec.{eqb}

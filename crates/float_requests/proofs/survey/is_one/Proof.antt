@@ -1,4 +1,4 @@
--- `float_requests::survey::is_one` meets its contract, case by case. Assumes nothing.
+-- `float_requests::survey::is_one` meets its contract, case by case.
 use mathlib.Core.Path.{sym, ap}
 use borrow.Author.Needs.{needs}
 use lib.Dec.{eqb}

@@ -1,4 +1,4 @@
--- `float_requests::survey::request_of` meets its contract: doubles in whole units, and all else copied. Assumes nothing.
+-- `float_requests::survey::request_of` meets its contract: doubles in whole units, and all else copied.
 use mathlib.Core.Path.{_≡_, ap, _∙_}
 use borrow.Author.Needs.{needs}
 use mir.Syntax.{w64}

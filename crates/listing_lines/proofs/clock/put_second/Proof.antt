@@ -44,10 +44,5 @@ returns c =
 pub put-second-spec : {M : Type 1} → statement M
 put-second-spec =
     tie.close
-    (tie.spec
-    (λ c κs. search needs)
-    (λ c κs. search needs)
-    add-put-time
-    put-time-requires
-    (λ c. search needs)
+    (tie.spec (λ c κs. search needs) (λ c κs. search needs) add-put-time put-time-requires (λ c. search needs)
     returns)

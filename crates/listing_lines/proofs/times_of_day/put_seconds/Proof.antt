@@ -13,11 +13,5 @@ returns c = joined (omega arith) (joined (omega arith) (joined (omega arith) (jo
 pub put-seconds-spec : {M : Type 1} → statement M
 put-seconds-spec =
     tie.close
-    (tie.spec
-    (λ c κs. search needs)
-    (λ c κs. search needs)
-    (λ c κs. search needs)
-    (λ c κs. search needs)
-    (λ c κs. search needs)
-    (λ c. search needs)
-    returns)
+    (tie.spec (λ c κs. search needs) (λ c κs. search needs) (λ c κs. search needs) (λ c κs. search needs)
+    (λ c κs. search needs) (λ c. search needs) returns)

@@ -1,4 +1,5 @@
--- `listing_lines::times_of_day::put_time` meets its contract: what it divides is the hundredths and 100,000 days, a natural number (`time-up`).
+-- `listing_lines::times_of_day::put_time` meets its contract: what it divides is the hundredths and 100,000 days, a
+-- natural number (`time-up`).
 use mathlib.Core.Path.{_≡_, sym, ap, _∙_}
 use mathlib.Core.List.{[], _∷_, _++_}
 use Prim.Native.Nat.{ℕ, _/_, _%_, _≤_}
@@ -67,12 +68,5 @@ returns c = put-as _ _ _ _ _ _ (text (c .before .before .before .before .before 
 pub put-time-spec : {M : Type 1} → statement M
 put-time-spec =
     tie.close
-    (tie.spec
-    add-tenths
-    cast-tenths
-    cast-day
-    sub-day
-    (λ c κs. search needs)
-    (λ c κs. search needs)
-    (λ c. search needs)
-    returns)
+    (tie.spec add-tenths cast-tenths cast-day sub-day (λ c κs. search needs) (λ c κs. search needs)
+    (λ c. search needs) returns)

@@ -1,4 +1,4 @@
--- `local_circumstances::entries::closest_for` meets its contract: the closest second is one of the window's. Assumes nothing.
+-- `local_circumstances::entries::closest_for` meets its contract: the closest second is one of the window's.
 use Prim.Native.Nat.{_≤_}
 use native.Mathlib.Omega.{arith}
 use lib.IntN.{natAbs}

@@ -1,5 +1,5 @@
--- `local_circumstances::entries::entry_for` meets its contract: its two seconds are stored, and an enter has the direction at its later one, a leave at its
--- earlier. Assumes nothing.
+-- `local_circumstances::entries::entry_for` meets its contract: its two seconds are stored, and an enter has the
+-- direction at its later one, a leave at its earlier.
 use mathlib.Core.Path.{_≡_, ap, _∙_}
 use Prim.Native.Nat.{ℕ, _≤_, _<_}
 use native.Mathlib.Omega.{arith}
@@ -124,20 +124,7 @@ returns-4 c =
 pub entry-for-spec : {M : Type 1} → statement M
 entry-for-spec =
     tie.close
-    (tie.spec
-    (λ c κs. search needs)
-    nth-second-requires
-    (λ c κs. search needs)
-    nth-second-requires-2
-    store-second-requires
-    store-second-requires-2
-    (λ c. search needs)
-    direction-at-requires
-    (λ c. search needs)
-    direction-at-requires-2
-    (λ c. search needs)
-    (λ c. search needs)
-    returns
-    returns-2
-    returns-3
-    returns-4)
+    (tie.spec (λ c κs. search needs) nth-second-requires (λ c κs. search needs) nth-second-requires-2
+    store-second-requires store-second-requires-2 (λ c. search needs) direction-at-requires
+    (λ c. search needs) direction-at-requires-2 (λ c. search needs) (λ c. search needs) returns returns-2
+    returns-3 returns-4)

@@ -1,4 +1,5 @@
--- `local_circumstances::entries::head_for` meets its contract: a number, two seconds and a guard within their ranges, as unsigned numbers. Assumes nothing.
+-- `local_circumstances::entries::head_for` meets its contract: a number, two seconds and a guard within their ranges,
+-- as unsigned numbers.
 use mathlib.Core.List.{[], _∷_}
 use Prim.Native.Nat.{_≤_}
 use native.Mathlib.Omega.{arith}

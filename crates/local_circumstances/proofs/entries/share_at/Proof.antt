@@ -1,4 +1,4 @@
--- `local_circumstances::entries::share_at` meets its contract: of either body. Assumes nothing.
+-- `local_circumstances::entries::share_at` meets its contract: of either body.
 use mathlib.Core.Path.{sym, subst, ap, _∙_}
 use borrow.Author.Needs.{needs}
 use Rattle.rounding.specs.laws.Code.{read-back, read-size}

@@ -1,4 +1,4 @@
--- `network_text::stations::fault_of` meets its contract: by the test on the word's place. Assumes nothing.
+-- `network_text::stations::fault_of` meets its contract: by the test on the word's place.
 use Rattle.network_text.specs.laws.StationLaws.{fault-clock, fault-other}
 use Rattle.network_text.proofs.stations.fault_of.Statement.{statement}
 use Rattle.network_text.proofs.stations.fault_of.Tie as tie

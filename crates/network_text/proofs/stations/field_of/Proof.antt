@@ -1,4 +1,5 @@
--- `network_text::stations::field_of` meets its contract: the station's numbers in their order, and a station's number again. Assumes nothing.
+-- `network_text::stations::field_of` meets its contract: the station's numbers in their order, and a station's number
+-- again.
 use native.Mathlib.Omega.{arith}
 use borrow.Author.Needs.{needs}
 use Rattle.network_text.specs.laws.StationLaws.{field-low, field-clock}

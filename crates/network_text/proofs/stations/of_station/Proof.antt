@@ -1,5 +1,5 @@
--- `network_text::stations::of_station` meets its contract: the words passed gave the first numbers of the row (`Rowed`). The measure is how many words are left.
--- Assumes nothing.
+-- `network_text::stations::of_station` meets its contract: the words passed gave the first numbers of the row
+-- (`Rowed`). The measure is how many words are left.
 use mathlib.Core.Path.{refl, sym, ap, _∙_}
 use Prim.Native.Nat.{_+_, _-_, _≤_}
 use borrow.Author.Needs.{needs}
@@ -92,36 +92,8 @@ returns-3 c =
 pub of-station-spec : {M : Type 1} → statement M
 of-station-spec =
     tie.close
-    (tie.spec
-    Inv-loop
-    μ-loop
-    loop-holds
-    sub-run
-    part-run-start
-    (λ c. search needs)
-    (λ c κs. search needs)
-    add-from
-    sub-run-2
-    part-run-start-2
-    (λ c. search needs)
-    (λ c κs. search needs)
-    add-end
-    (λ c. search needs)
-    (λ c. search needs)
-    part-word-of-end
-    (λ c κs. search needs)
-    (λ c. search needs)
-    (λ c. search needs)
-    (λ c. search needs)
-    (λ c. search needs)
-    returns
-    (λ c. search needs)
-    (λ c. search needs)
-    loop-again
-    sub-all
-    part-all-start
-    (λ c. search needs)
-    (λ c κs. search needs)
-    returns-2
-    (λ c κs. search needs)
-    returns-3)
+    (tie.spec Inv-loop μ-loop loop-holds sub-run part-run-start (λ c. search needs) (λ c κs. search needs)
+    add-from sub-run-2 part-run-start-2 (λ c. search needs) (λ c κs. search needs) add-end (λ c. search needs)
+    (λ c. search needs) part-word-of-end (λ c κs. search needs) (λ c. search needs) (λ c. search needs)
+    (λ c. search needs) (λ c. search needs) returns (λ c. search needs) (λ c. search needs) loop-again sub-all
+    part-all-start (λ c. search needs) (λ c κs. search needs) returns-2 (λ c κs. search needs) returns-3)

@@ -1,4 +1,4 @@
--- `network_text::stations::word_of` meets its contract: each arm is a case of the value. Assumes nothing.
+-- `network_text::stations::word_of` meets its contract: each arm is a case of the value.
 use borrow.Author.Needs.{needs}
 use mathlib.Core.Path.{_≡_, sym, ap, _∙_}
 use Rattle.request_text.specs.declared.Line.{Line}
@@ -30,13 +30,5 @@ returns-3 c = told (c .before .before) _ (c .enum-told .given .1)
 pub word-of-spec : {M : Type 1} → statement M
 word-of-spec =
     tie.close
-    (tie.spec
-    (λ c κs. search needs)
-    (λ c κs. search needs)
-    (λ c. search needs)
-    (λ c. search needs)
-    (λ c κs. search needs)
-    (λ c. search needs)
-    returns
-    returns-2
-    returns-3)
+    (tie.spec (λ c κs. search needs) (λ c κs. search needs) (λ c. search needs) (λ c. search needs)
+    (λ c κs. search needs) (λ c. search needs) returns returns-2 returns-3)

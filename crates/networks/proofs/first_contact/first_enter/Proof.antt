@@ -1,4 +1,5 @@
--- `networks::first_contact::first_enter` meets its contract: the first enter of what is left at the cursor is that of all. Assumes nothing.
+-- `networks::first_contact::first_enter` meets its contract: the first enter of what is left at the cursor is that of
+-- all.
 use mathlib.Core.Path.{_≡_, sym, ap, _∙_}
 use mathlib.Core.List.{map}
 use Prim.Native.Nat.{_+_, _-_, _≤_, _<_}
@@ -114,18 +115,6 @@ loop-again c =
 pub first-enter-spec : {M : Type 1} → statement M
 first-enter-spec =
     tie.close
-    (tie.spec
-    Inv-loop
-    μ-loop
-    loop-holds
-    step-requires
-    (λ c. search needs)
-    (λ c. search needs)
-    returns
-    (λ c κs. search needs)
-    (λ c κs. search needs)
-    nth-second-requires
-    store-second-requires
-    returns-2
-    loop-less
-    loop-again)
+    (tie.spec Inv-loop μ-loop loop-holds step-requires (λ c. search needs) (λ c. search needs) returns
+    (λ c κs. search needs) (λ c κs. search needs) nth-second-requires store-second-requires returns-2
+    loop-less loop-again)

@@ -1,4 +1,4 @@
--- `networks::first_contact::first_to` meets its contract: the runs hold the states of the penumbra. Assumes nothing.
+-- `networks::first_contact::first_to` meets its contract: the runs hold the states of the penumbra.
 use mathlib.Core.Path.{_≡_, sym, ap, _∙_}
 use mathlib.Core.List.{map}
 use Prim.Native.Nat.{ℕ, _≤_}
@@ -67,12 +67,5 @@ returns c =
 pub first-to-spec : {M : Type 1} → statement M
 first-to-spec =
     tie.close
-    (tie.spec
-    (λ c κs. search needs)
-    (λ c κs. search needs)
-    (λ c. search needs)
-    fill-requires
-    array-share-prefix-runs
-    slice-aggregate-first-enter
-    first-enter-requires
-    returns)
+    (tie.spec (λ c κs. search needs) (λ c κs. search needs) (λ c. search needs) fill-requires
+    array-share-prefix-runs slice-aggregate-first-enter first-enter-requires returns)

@@ -1,4 +1,5 @@
--- `networks::sight::first_seen` meets its contract: the place found is that of the smallest "to", and past the list there is no number. Assumes nothing.
+-- `networks::sight::first_seen` meets its contract: the place found is that of the smallest "to", and past the list
+-- there is no number.
 use mathlib.Core.Path.{_≡_, sym, ap, _∙_, subst}
 use mathlib.Core.List.{List}
 use Prim.Native.Nat.{ℕ}
@@ -87,13 +88,5 @@ returns-2 c =
 pub first-seen-spec : {M : Type 1} → statement M
 first-seen-spec =
     tie.close
-    (tie.spec
-    first-tos-requires
-    (λ c. search needs)
-    slice-aggregate-earliest
-    (λ c κs. search needs)
-    (λ c. search needs)
-    (λ c. search needs)
-    cast-result
-    returns
-    returns-2)
+    (tie.spec first-tos-requires (λ c. search needs) slice-aggregate-earliest (λ c κs. search needs)
+    (λ c. search needs) (λ c. search needs) cast-result returns returns-2)

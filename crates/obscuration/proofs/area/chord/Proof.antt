@@ -1,5 +1,5 @@
--- `obscuration::area::chord` meets its contract: 0 where the difference of the squares is below 0, and its root elsewhere, wherever that is looked for
--- from. Assumes nothing.
+-- `obscuration::area::chord` meets its contract: 0 where the difference of the squares is below 0, and its root
+-- elsewhere, wherever that is looked for from.
 use mathlib.Core.Path.{_≡_, sym, ap, _∙_}
 use mathlib.Core.List.{[], _∷_}
 use Prim.Native.Nat.{ℕ, _≤_}
@@ -76,13 +76,5 @@ returns-3 c = found (c .before .before) (c .root-from2 .ensures)
 pub chord-spec : {M : Type 1} → statement M
 chord-spec =
     tie.close
-    (tie.spec
-    mul-square
-    mul-square-2
-    sub-square
-    returns
-    cast-n
-    root-from-requires
-    returns-2
-    root-from-requires-2
-    returns-3)
+    (tie.spec mul-square mul-square-2 sub-square returns cast-n root-from-requires returns-2
+    root-from-requires-2 returns-3)

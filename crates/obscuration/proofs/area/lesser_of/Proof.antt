@@ -1,4 +1,4 @@
--- `obscuration::area::lesser_of` meets its contract. Assumes nothing.
+-- `obscuration::area::lesser_of` meets its contract.
 use mathlib.Core.Path.{sym}
 use native.Mathlib.Omega.{arith}
 use Rattle.obscuration.specs.laws.StripLaws.{lesser-same, lesser-other}

@@ -1,4 +1,4 @@
--- `obscuration::area::offset` meets its contract: nothing is negative in the quotient, so the machine rounds it down. Assumes nothing.
+-- `obscuration::area::offset` meets its contract: nothing is negative in the quotient, so the machine rounds it down.
 use mathlib.Core.Path.{_≡_, ap, _∙_}
 use mathlib.Core.List.{[], _∷_}
 use Prim.Native.Nat.{_+_, _*_, _≤_}

@@ -1,6 +1,6 @@
 -- `obscuration::area::root_from` meets its contract. The loop's invariant: y is at least the root. The measure is y.
--- Why: with q = n / y, rounded down, n is below (q + 1)·y; were y + q below twice the root s, that would be at most (2s - y)·y, which is
--- s² - (s - y)², and so n below s². And where y² is at most n, y is at most the root. Assumes nothing.
+-- Why: with q = n / y, rounded down, n is below (q + 1)·y; were y + q below twice the root s, that would be at most
+-- (2s - y)·y, which is s² - (s - y)², and so n below s². And where y² is at most n, y is at most the root.
 use mathlib.Core.List.{[], _∷_}
 use Prim.Native.Nat.{ℕ, zero, suc, _+_, _*_, _/_, _≤_, _<_}
 use native.Mathlib.Omega.{arith}

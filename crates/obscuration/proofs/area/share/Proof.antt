@@ -1,4 +1,4 @@
--- `obscuration::area::share` meets its contract: L1+L2 and L1-L2 are above 0, so the machine rounds their halves down. Assumes nothing.
+-- `obscuration::area::share` meets its contract: L1+L2 and L1-L2 are above 0, so the machine rounds their halves down.
 use mathlib.Core.Path.{_≡_, ap, _∙_}
 use mathlib.Core.List.{[], _∷_}
 use Prim.Native.Nat.{_≤_}

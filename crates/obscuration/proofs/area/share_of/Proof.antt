@@ -1,5 +1,6 @@
--- `obscuration::area::share_of` meets its contract. The loop's invariant: the sums over the strips passed, that of the lesser half-chords at most the
--- Sun's, and that at most 40,000,000 a strip, as the last half-chords are. The measure is the number of strips left. Assumes nothing.
+-- `obscuration::area::share_of` meets its contract. The loop's invariant: the sums over the strips passed, that of the
+-- lesser half-chords at most the Sun's, and that at most 40,000,000 a strip, as the last half-chords are. The measure
+-- is the number of strips left.
 use mathlib.Core.Path.{_≡_, sym, ap, ap₂, _∙_}
 use mathlib.Core.List.{[], _∷_}
 use Prim.Native.Nat.{ℕ, _*_, _-_, _/_, _≤_}
@@ -200,21 +201,6 @@ returns c = answer c
 pub share-of-spec : {M : Type 1} → statement M
 share-of-spec =
     tie.close
-    (tie.spec
-    Inv-loop
-    μ-loop
-    loop-holds
-    offset-requires
-    chord-requires
-    sub-chord
-    chord-requires-2
-    lesser-of-requires
-    add-covered
-    add-whole
-    add-i
-    loop-less
-    loop-again
-    mul-result
-    div-result
-    cast-result
+    (tie.spec Inv-loop μ-loop loop-holds offset-requires chord-requires sub-chord chord-requires-2
+    lesser-of-requires add-covered add-whole add-i loop-less loop-again mul-result div-result cast-result
     returns)

@@ -1,4 +1,4 @@
--- `obscuration::second::of_second` meets its contract: each arm is the definition's. Assumes nothing.
+-- `obscuration::second::of_second` meets its contract: each arm is the definition's.
 use mathlib.Core.Path.{subst, ap}
 use borrow.Author.Needs.{needs}
 use Rattle.obscuration.specs.declared.second.OneShare.the-variants as O

@@ -1,5 +1,5 @@
--- `obscuration::second::share` meets its contract: what is answered of the second has L1, L2 and M within their sizes; what the share means follows
--- from the answer alone. Assumes nothing.
+-- `obscuration::second::share` meets its contract: what is answered of the second has L1, L2 and M within their sizes;
+-- what the share means follows from the answer alone.
 use mathlib.Core.Path.{_≡_, sym, subst, ap₂, _∙_}
 use mathlib.Core.List.{List}
 use Prim.Native.Nat.{ℕ}

@@ -1,4 +1,5 @@
--- `obscuration::second::share_at` meets its contract: the share of the shadow there, whose L1, L2 and M are within their sizes. Assumes nothing.
+-- `obscuration::second::share_at` meets its contract: the share of the shadow there, whose L1, L2 and M are within
+-- their sizes.
 use mathlib.Core.Path.{sym, _∙_}
 use Rattle.rounding.specs.laws.Code.{read-back, read-size}
 use Rattle.shadow.specs.Shadow.{IsShadow}

@@ -1,4 +1,4 @@
--- `obscuration::second::share_of` meets its contract: L1, L2 and M are read back from their bits. Assumes nothing.
+-- `obscuration::second::share_of` meets its contract: L1, L2 and M are read back from their bits.
 use mathlib.Core.Path.{_≡_, _∙_}
 use lib.IntN.{ℤ}
 use mir.Syntax.{w64}

@@ -1,4 +1,5 @@
--- `request_answers::one_second::asked` meets its contract: bytes of the shape are what they ask for, any other are refused before the room is touched. Assumes nothing.
+-- `request_answers::one_second::asked` meets its contract: bytes of the shape are what they ask for, any other are
+-- refused before the room is touched.
 use mathlib.Core.Path.{sym, ap, ap₂, _∙_}
 use mir.Syntax.{w64}
 use mir.ValLaws.{toZ-ofZ}
@@ -30,11 +31,5 @@ returns-2 c =
 pub asked-spec : {M : Type 1} → statement M
 asked-spec =
     tie.close
-    (tie.spec
-    (λ c κs. search needs)
-    (λ c. search needs)
-    (λ c κs. search needs)
-    (λ c. search needs)
-    (λ c. search needs)
-    returns
-    returns-2)
+    (tie.spec (λ c κs. search needs) (λ c. search needs) (λ c κs. search needs) (λ c. search needs)
+    (λ c. search needs) returns returns-2)

@@ -1,4 +1,4 @@
--- `request_answers::one_second::in_room` meets its contract, case by case. Assumes nothing.
+-- `request_answers::one_second::in_room` meets its contract, case by case.
 use mathlib.Core.Path.{sym}
 use borrow.Author.Needs.{needs}
 use Rattle.request_answers.specs.laws.SecondLaws.{second-short, second-whole}

@@ -1,4 +1,5 @@
--- `request_answers::one_second::put_eclipse` meets its contract: eight stores are the eight numbers before the rest; each is read back from its bits. Assumes nothing.
+-- `request_answers::one_second::put_eclipse` meets its contract: eight stores are the eight numbers before the rest;
+-- each is read back from its bits.
 use lib.ListN.{length-set}
 use native.Mathlib.Omega.{arith}
 use lib.Seq.{length-sets, sets-eq}
@@ -56,18 +57,6 @@ returns c =
 pub put-eclipse-spec : {M : Type 1} → statement M
 put-eclipse-spec =
     tie.close
-    (tie.spec
-    (λ c. search needs)
-    (λ c. search needs)
-    (λ c. search needs)
-    (λ c. search needs)
-    (λ c. search needs)
-    slice-set-from-v
-    slice-set-from-l1
-    slice-set-from-l2
-    slice-set-from-penumbra
-    slice-set-from-central
-    slice-set-from-magnitude
-    slice-set-from-direction
-    same-length
-    returns)
+    (tie.spec (λ c. search needs) (λ c. search needs) (λ c. search needs) (λ c. search needs)
+    (λ c. search needs) slice-set-from-v slice-set-from-l1 slice-set-from-l2 slice-set-from-penumbra
+    slice-set-from-central slice-set-from-magnitude slice-set-from-direction same-length returns)

@@ -1,4 +1,4 @@
--- `request_answers::one_second::put_numbers` meets its contract, shape by shape. Assumes nothing.
+-- `request_answers::one_second::put_numbers` meets its contract, shape by shape.
 use mathlib.Core.Path.{sym, ap, _∙_}
 use borrow.Author.Needs.{needs}
 use Rattle.seconds.specs.declared.OneSecond.the-variants.{Is}
@@ -25,12 +25,5 @@ returns-2 c =
 pub put-numbers-spec : {M : Type 1} → statement M
 put-numbers-spec =
     tie.close
-    (tie.spec
-    (λ c. search needs)
-    put-eclipse-requires
-    (λ c. search needs)
-    put-star-requires
-    (λ c. search needs)
-    returns
-    (λ c. search needs)
-    returns-2)
+    (tie.spec (λ c. search needs) put-eclipse-requires (λ c. search needs) put-star-requires
+    (λ c. search needs) returns (λ c. search needs) returns-2)

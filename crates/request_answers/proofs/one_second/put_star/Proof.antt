@@ -1,4 +1,5 @@
--- `request_answers::one_second::put_star` meets its contract: five stores are the five numbers before the rest; each is read back from its bits. Assumes nothing.
+-- `request_answers::one_second::put_star` meets its contract: five stores are the five numbers before the rest; each
+-- is read back from its bits.
 use lib.ListN.{length-set}
 use native.Mathlib.Omega.{arith}
 use lib.Seq.{length-sets, sets-eq}
@@ -44,13 +45,5 @@ returns c =
 pub put-star-spec : {M : Type 1} → statement M
 put-star-spec =
     tie.close
-    (tie.spec
-    (λ c. search needs)
-    (λ c. search needs)
-    (λ c. search needs)
-    slice-set-from-v
-    slice-set-from-radius
-    slice-set-from-state
-    slice-set-from-direction
-    same-length
-    returns)
+    (tie.spec (λ c. search needs) (λ c. search needs) (λ c. search needs) slice-set-from-v
+    slice-set-from-radius slice-set-from-state slice-set-from-direction same-length returns)

@@ -1,4 +1,5 @@
--- `request_answers::one_second::second` meets its contract: the second as it is asked for, judged by its room, and stored where it is given. Assumes nothing.
+-- `request_answers::one_second::second` meets its contract: the second as it is asked for, judged by its room, and
+-- stored where it is given.
 use mathlib.Core.Path.{_≡_, sym, ap, ap₂, _∙_}
 use borrow.Author.Needs.{needs}
 use lib.ListN.{length}
@@ -65,15 +66,6 @@ returns-2 c =
 pub second-spec : {M : Type 1} → statement M
 second-spec =
     tie.close
-    (tie.spec
-    (λ c κs. search needs)
-    (λ c κs. search needs)
-    (λ c κs. search needs)
-    (λ c. search needs)
-    put-numbers-requires
-    (λ c. search needs)
-    (λ c. search needs)
-    (λ c. search needs)
-    returns
-    (λ c. search needs)
-    returns-2)
+    (tie.spec (λ c κs. search needs) (λ c κs. search needs) (λ c κs. search needs) (λ c. search needs)
+    put-numbers-requires (λ c. search needs) (λ c. search needs) (λ c. search needs) returns
+    (λ c. search needs) returns-2)

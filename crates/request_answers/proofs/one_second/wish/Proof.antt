@@ -1,4 +1,4 @@
--- `request_answers::one_second::wish` meets its contract, shape by shape. Assumes nothing.
+-- `request_answers::one_second::wish` meets its contract, shape by shape.
 use mathlib.Core.Path.{sym, ap, _∙_}
 use borrow.Author.Needs.{needs}
 use Rattle.request_format.specs.Input.{eclipseAsked}
@@ -20,11 +20,5 @@ returns-2 c =
 pub wish-spec : {M : Type 1} → statement M
 wish-spec =
     tie.close
-    (tie.spec
-    (λ c. search needs)
-    (λ c κs. search needs)
-    (λ c κs. search needs)
-    (λ c. search needs)
-    (λ c κs. search needs)
-    returns
-    returns-2)
+    (tie.spec (λ c. search needs) (λ c κs. search needs) (λ c κs. search needs) (λ c. search needs)
+    (λ c κs. search needs) returns returns-2)

@@ -1,4 +1,4 @@
--- `request_answers::sheets::sheet` meets its contract: it is the sheet of the request that the bytes hold. Assumes nothing.
+-- `request_answers::sheets::sheet` meets its contract: it is the sheet of the request that the bytes hold.
 use mathlib.Core.Path.{ap, _∙_}
 use borrow.Author.Needs.{needs}
 use Rattle.request_format.specs.Input.{eclipseAsked}

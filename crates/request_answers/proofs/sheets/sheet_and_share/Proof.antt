@@ -1,4 +1,5 @@
--- `request_answers::sheets::sheet_and_share` meets its contract: it is the sheet of that request with a share asked for. Assumes nothing.
+-- `request_answers::sheets::sheet_and_share` meets its contract: it is the sheet of that request with a share asked
+-- for.
 use mathlib.Core.Path.{ap, _∙_}
 use borrow.Author.Needs.{needs}
 use Rattle.request_format.specs.Input.{sharing, eclipseAsked}

@@ -1,4 +1,4 @@
--- `request_answers::sheets::star_sheet` meets its contract: it is the sheet of the star request that the bytes hold. Assumes nothing.
+-- `request_answers::sheets::star_sheet` meets its contract: it is the sheet of the star request that the bytes hold.
 use borrow.Author.Needs.{needs}
 use Rattle.request_answers.specs.laws.SheetLaws.{promised-star}
 use Rattle.request_answers.proofs.sheets.star_sheet.Statement.{statement}

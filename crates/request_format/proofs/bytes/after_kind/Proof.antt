@@ -1,4 +1,4 @@
--- `request_format::bytes::after_kind` meets its contract: no kind has no bytes, any other is one. Assumes nothing.
+-- `request_format::bytes::after_kind` meets its contract: no kind has no bytes, any other is one.
 use mathlib.Core.Path.{refl}
 use native.Mathlib.Omega.{arith}
 use borrow.Author.Needs.{needs}

@@ -1,5 +1,5 @@
--- `request_format::bytes::complement` meets its contract: below zero the sum with `whole` is the complement, from zero on the number is its own; both are below 2^32.
--- Assumes nothing.
+-- `request_format::bytes::complement` meets its contract: below zero the sum with `whole` is the complement, from zero
+-- on the number is its own; both are below 2^32.
 use mathlib.Core.Path.{_≡_, sym, ap, _∙_, subst}
 use mathlib.Core.List.{[], _∷_}
 use Prim.Native.Nat.{_≤_}

@@ -1,4 +1,5 @@
--- `request_format::bytes::get` meets its contract: what was read is handed over where the bytes are of the shape; else nothing is touched. Assumes nothing.
+-- `request_format::bytes::get` meets its contract: what was read is handed over where the bytes are of the shape; else
+-- nothing is touched.
 use borrow.Author.Needs.{needs}
 use Rattle.request_format.specs.laws.GetLaws.{get-numbers, get-misshaped}
 use Rattle.request_format.proofs.bytes.get.Statement.{statement}

@@ -1,4 +1,4 @@
--- `request_format::bytes::kind_stands` meets its contract: each test is a case of the definition. Assumes nothing.
+-- `request_format::bytes::kind_stands` meets its contract: each test is a case of the definition.
 use borrow.Author.Needs.{needs}
 use native.Mathlib.Omega.{arith}
 use Rattle.request_format.specs.laws.RowByteLaws.{stands-none, stands-past, stands-here}

@@ -1,5 +1,5 @@
--- `request_format::bytes::lay` meets its contract: the numbers before number k are put, in the bytes before `at` (`Putting`). The measure is how many are
--- left. Assumes nothing.
+-- `request_format::bytes::lay` meets its contract: the numbers before number k are put, in the bytes before `at`
+-- (`Putting`). The measure is how many are left.
 use mathlib.Core.Path.{_≡_, sym, ap, _∙_}
 use mathlib.Core.Bool.{Bool}
 use mathlib.Core.List.{List}
@@ -118,20 +118,6 @@ returns-2 c = putting-end _ _ _ _ _ (c .before .before .before .before .pre .0) 
 pub lay-spec : {M : Type 1} → statement M
 lay-spec =
     tie.close
-    (tie.spec
-    Inv-loop
-    μ-loop
-    (λ c κs. search needs)
-    loop-holds
-    field-at-requires
-    mul-n
-    shared-slice-copy-out-n
-    (λ c κs. search needs)
-    same-length
-    returns
-    put-field-requires
-    add-k
-    loop-less
-    loop-again
-    same-length-2
-    returns-2)
+    (tie.spec Inv-loop μ-loop (λ c κs. search needs) loop-holds field-at-requires mul-n
+    shared-slice-copy-out-n (λ c κs. search needs) same-length returns put-field-requires add-k loop-less
+    loop-again same-length-2 returns-2)

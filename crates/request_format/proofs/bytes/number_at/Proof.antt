@@ -1,4 +1,4 @@
--- `request_format::bytes::number_at` meets its contract: in each arm the value of its bytes, read as the width says. Assumes nothing.
+-- `request_format::bytes::number_at` meets its contract: in each arm the value of its bytes, read as the width says.
 use mathlib.Core.Path.{_≡_, ap, subst, _∙_}
 use Prim.Native.Nat.{_+_, _≤_}
 use native.Mathlib.Omega.{arith}
@@ -47,16 +47,6 @@ returns-3 c =
 pub number-at-spec : {M : Type 1} → statement M
 number-at-spec =
     tie.close
-    (tie.spec
-    (λ c. search needs)
-    two-at-requires
-    (λ c. search needs)
-    (λ c. search needs)
-    two-at-requires-2
-    (λ c κs. search needs)
-    (λ c. search needs)
-    four-at-requires
-    (λ c κs. search needs)
-    returns
-    returns-2
+    (tie.spec (λ c. search needs) two-at-requires (λ c. search needs) (λ c. search needs) two-at-requires-2
+    (λ c κs. search needs) (λ c. search needs) four-at-requires (λ c κs. search needs) returns returns-2
     returns-3)

@@ -1,4 +1,4 @@
--- `request_format::bytes::part_at` meets its contract: each test is a case of the definition. Assumes nothing.
+-- `request_format::bytes::part_at` meets its contract: each test is a case of the definition.
 use mathlib.Core.Path.{_≡_, sym, ap, _∙_}
 use mathlib.Core.Bool.{true}
 use Prim.Native.Nat.{ℕ, _+_}
@@ -47,12 +47,5 @@ returns-3 c =
 pub part-at-spec : {M : Type 1} → statement M
 part-at-spec =
     tie.close
-    (tie.spec
-    (λ c κs. search needs)
-    returns
-    (λ c κs. search needs)
-    (λ c κs. search needs)
-    add-next
-    returns-2
-    (λ c κs. search needs)
-    returns-3)
+    (tie.spec (λ c κs. search needs) returns (λ c κs. search needs) (λ c κs. search needs) add-next returns-2
+    (λ c κs. search needs) returns-3)

@@ -1,4 +1,5 @@
--- `request_format::bytes::put` meets its contract: what was laid is handed over where every number fits; else nothing is touched. Assumes nothing.
+-- `request_format::bytes::put` meets its contract: what was laid is handed over where every number fits; else nothing
+-- is touched.
 use borrow.Author.Needs.{needs}
 use Rattle.request_format.specs.laws.PutLaws.{put-done, put-unfit}
 use Rattle.request_format.proofs.bytes.put.Statement.{statement}

@@ -1,4 +1,4 @@
--- `request_format::bytes::put_field` meets its contract: the kind, then the number (`field-put`). Assumes nothing.
+-- `request_format::bytes::put_field` meets its contract: the kind, then the number (`field-put`).
 use mathlib.Core.Path.{_∙_}
 use Prim.Native.Nat.{_+_, _≤_}
 use native.Mathlib.Omega.{arith}
@@ -49,10 +49,5 @@ returns c =
 pub put-field-spec : {M : Type 1} → statement M
 put-field-spec =
     tie.close
-    (tie.spec
-    put-kind-requires
-    put-number-requires
-    (λ c κs. search needs)
-    add-result
-    (λ c. search needs)
+    (tie.spec put-kind-requires put-number-requires (λ c κs. search needs) add-result (λ c. search needs)
     returns)

@@ -1,4 +1,4 @@
--- `request_format::bytes::put_kind` meets its contract: no kind has no bytes, any other is one. Assumes nothing.
+-- `request_format::bytes::put_kind` meets its contract: no kind has no bytes, any other is one.
 use mathlib.Core.Path.{refl, ap}
 use mathlib.Core.List.{List}
 use Prim.Native.Nat.{ℕ}

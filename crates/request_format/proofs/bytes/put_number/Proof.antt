@@ -1,4 +1,4 @@
--- `request_format::bytes::put_number` meets its contract: each arm puts the bytes of the number's complement (`done`). Assumes nothing.
+-- `request_format::bytes::put_number` meets its contract: each arm puts the bytes of the number's complement (`done`).
 use mathlib.Core.Path.{_≡_, sym, subst, _∙_}
 use mathlib.Core.Bool.{true}
 use mathlib.Core.List.{List}
@@ -78,19 +78,6 @@ returns-3 c =
 pub put-number-spec : {M : Type 1} → statement M
 put-number-spec =
     tie.close
-    (tie.spec
-    (λ c. search needs)
-    complement-requires
-    put-two-requires
-    (λ c. search needs)
-    complement-requires-2
-    put-two-requires-2
-    (λ c. search needs)
-    complement-requires-3
-    put-four-requires
-    (λ c. search needs)
-    returns
-    (λ c. search needs)
-    returns-2
-    (λ c. search needs)
-    returns-3)
+    (tie.spec (λ c. search needs) complement-requires put-two-requires (λ c. search needs)
+    complement-requires-2 put-two-requires-2 (λ c. search needs) complement-requires-3 put-four-requires
+    (λ c. search needs) returns (λ c. search needs) returns-2 (λ c. search needs) returns-3)

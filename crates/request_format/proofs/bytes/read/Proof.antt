@@ -1,5 +1,5 @@
--- `request_format::bytes::read` meets its contract: the numbers before number k are read, from the bytes before `at` (`Getting`). The measure is how many are
--- left. Assumes nothing.
+-- `request_format::bytes::read` meets its contract: the numbers before number k are read, from the bytes before `at`
+-- (`Getting`). The measure is how many are left.
 use mathlib.Core.Path.{_≡_, sym, ap, _∙_}
 use Prim.Native.Nat.{_-_, _≤_, _<_}
 use native.Mathlib.Omega.{arith}
@@ -84,23 +84,6 @@ returns-3 c = getting-end _ _ _ _ _ (c .before .before .loop .inv) (ended (c .be
 pub read-spec : {M : Type 1} → statement M
 read-spec =
     tie.close
-    (tie.spec
-    Inv-loop
-    μ-loop
-    (λ c κs. search needs)
-    loop-holds
-    field-at-requires
-    part-at-requires
-    (λ c. search needs)
-    (λ c. search needs)
-    same-length
-    returns
-    mul-n
-    slice-set-from-n
-    (λ c. search needs)
-    (λ c. search needs)
-    loop-again
-    same-length-2
-    returns-2
-    same-length-3
-    returns-3)
+    (tie.spec Inv-loop μ-loop (λ c κs. search needs) loop-holds field-at-requires part-at-requires
+    (λ c. search needs) (λ c. search needs) same-length returns mul-n slice-set-from-n (λ c. search needs)
+    (λ c. search needs) loop-again same-length-2 returns-2 same-length-3 returns-3)

@@ -1,5 +1,5 @@
--- `request_format::bytes::signed` meets its contract: below half the number is itself; from half on the difference is taken, and both numbers have at most 32
--- bits. Assumes nothing.
+-- `request_format::bytes::signed` meets its contract: below half the number is itself; from half on the difference is
+-- taken, and both numbers have at most 32 bits.
 use mathlib.Core.Path.{sym, ap₂, _∙_}
 use mathlib.Core.List.{[], _∷_}
 use Prim.Native.Nat.{_≤_}

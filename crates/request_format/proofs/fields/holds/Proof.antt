@@ -1,4 +1,5 @@
--- `request_format::fields::holds` meets its contract: in each arm the two tests are those of the width, on a number read back from its bits. Assumes nothing.
+-- `request_format::fields::holds` meets its contract: in each arm the two tests are those of the width, on a number
+-- read back from its bits.
 use borrow.Author.Needs.{needs}
 use mir.Syntax.{w64}
 use mir.ValLaws.{toZ-ofZ}

@@ -1,4 +1,4 @@
--- `request_format::fields::row_of` meets its contract: the tables stand one after the other. Assumes nothing.
+-- `request_format::fields::row_of` meets its contract: the tables stand one after the other.
 use mathlib.Core.Path.{_≡_, subst, _∙_}
 use Prim.Native.Nat.{ℕ, _<_}
 use native.Mathlib.Omega.{arith}

@@ -1,4 +1,4 @@
--- `request_format::fields::table` meets its contract: the code's rows are the definition's, which is computed. Assumes nothing.
+-- `request_format::fields::table` meets its contract: the code's rows are the definition's, which is computed.
 use borrow.Author.Needs.{needs}
 use Rattle.request_format.specs.Rows.{elementRows, alikeRows}
 use Rattle.request_format.specs.laws.Table.{tables, widthFrom, fieldFrom, fieldsIn}

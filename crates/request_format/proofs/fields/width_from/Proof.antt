@@ -1,4 +1,4 @@
--- `request_format::fields::width_from` meets its contract: the letter is that of the test, or another. Assumes nothing.
+-- `request_format::fields::width_from` meets its contract: the letter is that of the test, or another.
 use borrow.Author.Tests.{ne-eqb}
 use Rattle.request_format.specs.laws.Table.{widthFrom}
 use Rattle.request_format.proofs.fields.width_from.Statement.{statement}

@@ -1,4 +1,4 @@
--- `request_format::input::of_eclipse` meets its contract: each arm is the definition's. Assumes nothing.
+-- `request_format::input::of_eclipse` meets its contract: each arm is the definition's.
 use mathlib.Core.Path.{sym, ap, _∙_}
 use borrow.Author.Needs.{needs}
 use Rattle.request_format.specs.declared.input.Asked.the-variants as A

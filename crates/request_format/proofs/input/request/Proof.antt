@@ -1,4 +1,5 @@
--- `request_format::input::request` meets its contract: bytes of the shape have a request's numbers (`held`); any other are refused. Assumes nothing.
+-- `request_format::input::request` meets its contract: bytes of the shape have a request's numbers (`held`); any other
+-- are refused.
 use mathlib.Core.Path.{sym, ap, _∙_}
 use native.Mathlib.Omega.{arith}
 use borrow.Author.Needs.{needs}
@@ -30,11 +31,5 @@ returns-2 c = input-refused _ (sym (c .before .before .get .ensures .0) ∙ c .e
 pub request-spec : {M : Type 1} → statement M
 request-spec =
     tie.close
-    (tie.spec
-    (λ c κs. search needs)
-    (λ c. search needs)
-    slice-aggregate-request-from
-    request-from-requires
-    (λ c. search needs)
-    returns
-    returns-2)
+    (tie.spec (λ c κs. search needs) (λ c. search needs) slice-aggregate-request-from request-from-requires
+    (λ c. search needs) returns returns-2)

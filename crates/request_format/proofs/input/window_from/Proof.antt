@@ -1,4 +1,4 @@
--- `request_format::input::window_from` meets its contract: each number is read from its place. Assumes nothing.
+-- `request_format::input::window_from` meets its contract: each number is read from its place.
 use Prim.Native.Nat.{_+_}
 use lib.IntN.{pos}
 use lib.ListN.{getD}
@@ -19,10 +19,5 @@ returns c =
 pub window-from-spec : {M : Type 1} → statement M
 window-from-spec =
     tie.close
-    (tie.spec
-    (λ c. search needs)
-    (λ c. search needs)
-    (λ c. search needs)
-    (λ c. search needs)
-    (λ c. search needs)
-    returns)
+    (tie.spec (λ c. search needs) (λ c. search needs) (λ c. search needs) (λ c. search needs)
+    (λ c. search needs) returns)

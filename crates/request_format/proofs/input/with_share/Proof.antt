@@ -1,4 +1,4 @@
--- `request_format::input::with_share` meets its contract: all else stays as it is. Assumes nothing.
+-- `request_format::input::with_share` meets its contract: all else stays as it is.
 use borrow.Author.Needs.{needs}
 use Rattle.request_format.proofs.input.with_share.Statement.{statement}
 use Rattle.request_format.proofs.input.with_share.Tie as tie

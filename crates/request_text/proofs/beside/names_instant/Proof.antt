@@ -1,4 +1,4 @@
--- `request_text::beside::names_instant` meets its contract: what the line says is asked for the name. Assumes nothing.
+-- `request_text::beside::names_instant` meets its contract: what the line says is asked for the name.
 use mathlib.Core.Path.{ap, _∙_}
 use Rattle.request_format.specs.Rows.{letters}
 use Rattle.request_text.specs.Names.{named}

@@ -1,4 +1,5 @@
--- `request_text::beside::number_in` meets its contract: a line that names the instant gives nothing, any other what it says. Assumes nothing.
+-- `request_text::beside::number_in` meets its contract: a line that names the instant gives nothing, any other what it
+-- says.
 use mathlib.Core.Path.{sym, _∙_}
 use Rattle.request_text.specs.laws.LineLaws.{number-none, number-said}
 use borrow.Author.Needs.{needs}

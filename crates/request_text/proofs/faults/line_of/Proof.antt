@@ -1,5 +1,5 @@
--- `request_text::faults::line_of` meets its contract: the line looked for is one of those left (`Seeking`). The measure is how many
--- bytes are left. Assumes nothing.
+-- `request_text::faults::line_of` meets its contract: the line looked for is one of those left (`Seeking`). The
+-- measure is how many bytes are left.
 use mathlib.Core.Path.{_≡_, sym, ap, _∙_}
 use Prim.Native.Nat.{_+_, _-_, _≤_}
 use lib.ListN.{length, drop}
@@ -59,22 +59,6 @@ returns-2 c = sym (seek-end _ _ _ _ (c .before .before .loop .inv) (c .before .l
 pub line-of-spec : {M : Type 1} → statement M
 line-of-spec =
     tie.close
-    (tie.spec
-    Inv-loop
-    μ-loop
-    loop-holds
-    (λ c. search needs)
-    (λ c. search needs)
-    (λ c. search needs)
-    (λ c κs. search needs)
-    add-end
-    (λ c. search needs)
-    (λ c. search needs)
-    part-result-end
-    returns
-    (λ c. search needs)
-    add-start
-    loop-less
-    loop-again
-    (λ c. search needs)
-    returns-2)
+    (tie.spec Inv-loop μ-loop loop-holds (λ c. search needs) (λ c. search needs) (λ c. search needs)
+    (λ c κs. search needs) add-end (λ c. search needs) (λ c. search needs) part-result-end returns
+    (λ c. search needs) add-start loop-less loop-again (λ c. search needs) returns-2)

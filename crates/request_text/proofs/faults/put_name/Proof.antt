@@ -1,4 +1,4 @@
--- `request_text::faults::put_name` meets its contract: no name is longer than its room. Assumes nothing.
+-- `request_text::faults::put_name` meets its contract: no name is longer than its room.
 use mathlib.Core.Path.{refl, sym, subst}
 use Prim.Native.Nat.{_≤_}
 use native.Mathlib.Omega.{arith}

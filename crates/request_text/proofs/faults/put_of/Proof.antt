@@ -1,4 +1,4 @@
--- `request_text::faults::put_of` meets its contract: the name, then the words. Assumes nothing.
+-- `request_text::faults::put_of` meets its contract: the name, then the words.
 use native.Mathlib.Omega.{arith}
 use Rattle.decimal_text.specs.laws.TextLaws.{put-then}
 use borrow.Author.Needs.{needs}
@@ -11,5 +11,4 @@ returns c = put-then _ _ _ _ _ _ _ _ (omega arith) (c .before .before .before .b
 pub put-of-spec : {M : Type 1} → statement M
 put-of-spec =
     tie.close
-    (tie.spec
-    (λ c κs. search needs) (λ c κs. search needs) (λ c. search needs) returns)
+    (tie.spec (λ c κs. search needs) (λ c κs. search needs) (λ c. search needs) returns)

@@ -1,4 +1,5 @@
--- `request_text::faults::put_unknown` meets its contract: the words, then of what the line says the bytes up to a blank. Assumes nothing.
+-- `request_text::faults::put_unknown` meets its contract: the words, then of what the line says the bytes up to a
+-- blank.
 use mathlib.Core.Path.{refl, sym}
 use native.Mathlib.Omega.{arith}
 use lib.Seq.{length-take-le}
@@ -21,12 +22,5 @@ returns c =
 pub put-unknown-spec : {M : Type 1} → statement M
 put-unknown-spec =
     tie.close
-    (tie.spec
-    (λ c. search needs)
-    (λ c κs. search needs)
-    (λ c κs. search needs)
-    (λ c κs. search needs)
-    slice-aggregate-put-text-2
-    (λ c κs. search needs)
-    (λ c. search needs)
-    returns)
+    (tie.spec (λ c. search needs) (λ c κs. search needs) (λ c κs. search needs) (λ c κs. search needs)
+    slice-aggregate-put-text-2 (λ c κs. search needs) (λ c. search needs) returns)

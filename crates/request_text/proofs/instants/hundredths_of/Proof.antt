@@ -1,4 +1,4 @@
--- `request_text::instants::hundredths_of` meets its contract: the sum of its parts, none of which is large. Assumes nothing.
+-- `request_text::instants::hundredths_of` meets its contract: the sum of its parts, none of which is large.
 use native.Mathlib.Omega.{arith}
 use Rattle.request_text.specs.Instants.{hundredthsOf}
 use borrow.Author.Needs.{needs}
@@ -12,15 +12,6 @@ returns c = omega arith
 pub hundredths-of-spec : {M : Type 1} → statement M
 hundredths-of-spec =
     tie.close
-    (tie.spec
-    (λ c κs. search needs)
-    (λ c κs. search needs)
-    (λ c κs. search needs)
-    (λ c κs. search needs)
-    (λ c. search needs)
-    (λ c. search needs)
-    (λ c. search needs)
-    (λ c. search needs)
-    (λ c. search needs)
-    (λ c. search needs)
-    returns)
+    (tie.spec (λ c κs. search needs) (λ c κs. search needs) (λ c κs. search needs) (λ c κs. search needs)
+    (λ c. search needs) (λ c. search needs) (λ c. search needs) (λ c. search needs) (λ c. search needs)
+    (λ c. search needs) returns)

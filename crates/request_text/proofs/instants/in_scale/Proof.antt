@@ -1,4 +1,4 @@
--- `request_text::instants::in_scale` meets its contract: by the scale's word. Assumes nothing.
+-- `request_text::instants::in_scale` meets its contract: by the scale's word.
 use mathlib.Core.Path.{sym, ap, _∙_}
 use Rattle.request_text.specs.declared.instants.Reading.the-variants as R
 use Rattle.request_text.specs.laws.InstantLaws.{scale-et, scale-ut, scale-none}
@@ -23,13 +23,5 @@ returns-3 c =
 pub in-scale-spec : {M : Type 1} → statement M
 in-scale-spec =
     tie.close
-    (tie.spec
-    (λ c. search needs)
-    (λ c κs. search needs)
-    (λ c κs. search needs)
-    returns
-    (λ c. search needs)
-    (λ c κs. search needs)
-    (λ c κs. search needs)
-    returns-2
-    returns-3)
+    (tie.spec (λ c. search needs) (λ c κs. search needs) (λ c κs. search needs) returns (λ c. search needs)
+    (λ c κs. search needs) (λ c κs. search needs) returns-2 returns-3)

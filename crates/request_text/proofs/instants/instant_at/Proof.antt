@@ -1,4 +1,4 @@
--- `request_text::instants::instant_at` meets its contract: each field is what its word gives. Assumes nothing.
+-- `request_text::instants::instant_at` meets its contract: each field is what its word gives.
 use Rattle.request_text.specs.Instants.{instantAt}
 use borrow.Author.Needs.{needs}
 use Rattle.request_text.proofs.instants.instant_at.Statement.{statement}

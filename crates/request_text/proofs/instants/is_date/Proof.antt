@@ -1,4 +1,4 @@
--- `request_text::instants::is_date` meets its contract: the same tests. Assumes nothing.
+-- `request_text::instants::is_date` meets its contract: the same tests.
 use Rattle.request_text.specs.Instants.{isDate}
 use borrow.Author.Needs.{needs}
 use Rattle.request_text.proofs.instants.is_date.Statement.{statement}
@@ -13,11 +13,5 @@ returns c =
 pub is-date-spec : {M : Type 1} → statement M
 is-date-spec =
     tie.close
-    (tie.spec
-    (λ c. search needs)
-    (λ c κs. search needs)
-    (λ c κs. search needs)
-    (λ c κs. search needs)
-    (λ c κs. search needs)
-    (λ c κs. search needs)
-    returns)
+    (tie.spec (λ c. search needs) (λ c κs. search needs) (λ c κs. search needs) (λ c κs. search needs)
+    (λ c κs. search needs) (λ c κs. search needs) returns)

@@ -1,4 +1,4 @@
--- `request_text::instants::is_time` meets its contract: the same tests. Assumes nothing.
+-- `request_text::instants::is_time` meets its contract: the same tests.
 use Rattle.request_text.specs.Instants.{isTime}
 use borrow.Author.Needs.{needs}
 use Rattle.request_text.proofs.instants.is_time.Statement.{statement}

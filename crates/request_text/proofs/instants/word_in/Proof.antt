@@ -1,4 +1,4 @@
--- `request_text::instants::word_in` meets its contract: blanks, and the word. Assumes nothing.
+-- `request_text::instants::word_in` meets its contract: blanks, and the word.
 use mathlib.Core.Path.{sym}
 use lib.Seq.{length-take-le}
 use Rattle.request_text.specs.laws.InstantLaws.{word-is}
@@ -15,11 +15,5 @@ returns c = word-is _ _ _ (c .before .before .before .run .ensures .0) (c .befor
 pub word-in-spec : {M : Type 1} → statement M
 word-in-spec =
     tie.close
-    (tie.spec
-    (λ c κs. search needs)
-    (λ c. search needs)
-    (λ c. search needs)
-    (λ c. search needs)
-    (λ c κs. search needs)
-    slice-aggregate-result
-    returns)
+    (tie.spec (λ c κs. search needs) (λ c. search needs) (λ c. search needs) (λ c. search needs)
+    (λ c κs. search needs) slice-aggregate-result returns)

@@ -1,4 +1,5 @@
--- `request_text::shapes::shape_of` meets its contract: the lines passed do not name the radius (`Passed`). The measure is how many bytes are left. Assumes nothing.
+-- `request_text::shapes::shape_of` meets its contract: the lines passed do not name the radius (`Passed`). The measure
+-- is how many bytes are left.
 use mathlib.Core.Path.{_≡_, sym, ap, _∙_}
 use Prim.Native.Nat.{_+_, _-_, _≤_}
 use borrow.Author.Needs.{needs}
@@ -58,21 +59,6 @@ returns-2 c = passed-all _ _ (c .before .loop .inv) (c .loop-test .left)
 pub shape-of-spec : {M : Type 1} → statement M
 shape-of-spec =
     tie.close
-    (tie.spec
-    Inv-loop
-    μ-loop
-    loop-holds
-    (λ c. search needs)
-    (λ c. search needs)
-    (λ c. search needs)
-    (λ c κs. search needs)
-    add-end
-    (λ c. search needs)
-    (λ c. search needs)
-    part-names-radius-end
-    (λ c κs. search needs)
-    returns
-    add-at
-    loop-less
-    loop-again
-    returns-2)
+    (tie.spec Inv-loop μ-loop loop-holds (λ c. search needs) (λ c. search needs) (λ c. search needs)
+    (λ c κs. search needs) add-end (λ c. search needs) (λ c. search needs) part-names-radius-end
+    (λ c κs. search needs) returns add-at loop-less loop-again returns-2)

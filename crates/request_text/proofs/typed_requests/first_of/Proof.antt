@@ -1,4 +1,4 @@
--- `request_text::typed_requests::first_of` meets its contract: each arm is a case of its definition. Assumes nothing.
+-- `request_text::typed_requests::first_of` meets its contract: each arm is a case of its definition.
 use borrow.Author.Tests.{lt-ltb, le-ltb}
 use borrow.Author.Needs.{needs}
 use Rattle.request_text.proofs.typed_requests.first_of.Statement.{statement}
@@ -22,15 +22,5 @@ returns-5 c = rw (c .before .before .before .before .before .typed .given .1, c 
 pub first-of-spec : {M : Type 1} → statement M
 first-of-spec =
     tie.close
-    (tie.spec
-    (λ c. search needs)
-    (λ c. search needs)
-    (λ c. search needs)
-    (λ c. search needs)
-    (λ c. search needs)
-    (λ c. search needs)
-    returns
-    returns-2
-    returns-3
-    returns-4
-    returns-5)
+    (tie.spec (λ c. search needs) (λ c. search needs) (λ c. search needs) (λ c. search needs)
+    (λ c. search needs) (λ c. search needs) returns returns-2 returns-3 returns-4 returns-5)

@@ -1,4 +1,4 @@
--- `requests::windows::nth_second` meets its contract: a sum of small numbers. Assumes nothing.
+-- `requests::windows::nth_second` meets its contract: a sum of small numbers.
 use mathlib.Core.Path.{ap, _∙_}
 use mathlib.Core.List.{[], _∷_}
 use Prim.Native.Nat.{_≤_}

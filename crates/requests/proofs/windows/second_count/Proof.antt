@@ -1,4 +1,5 @@
--- `requests::windows::second_count` meets its contract: the last second is not before the first, so the difference is a natural number. Assumes nothing.
+-- `requests::windows::second_count` meets its contract: the last second is not before the first, so the difference is
+-- a natural number.
 use mathlib.Core.Path.{ap, _∙_}
 use mathlib.Core.List.{[], _∷_}
 use Prim.Native.Nat.{suc}

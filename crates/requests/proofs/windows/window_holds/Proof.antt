@@ -1,4 +1,4 @@
--- `requests::windows::window_holds` meets its contract: the three tests, on numbers read back from their bits. Assumes nothing.
+-- `requests::windows::window_holds` meets its contract: the three tests, on numbers read back from their bits.
 use Rattle.rounding.specs.laws.Code.{read-result}
 use Rattle.requests.specs.Windows.{windowHolds}
 use Rattle.requests.proofs.windows.window_holds.Statement.{statement}

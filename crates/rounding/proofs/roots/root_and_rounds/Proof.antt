@@ -1,5 +1,5 @@
--- `rounding::roots::root_and_rounds` meets its contract: with i rounds to come the loop has in hand what the definition holds then.
--- Assumes nothing.
+-- `rounding::roots::root_and_rounds` meets its contract: with i rounds to come the loop has in hand what the
+-- definition holds then.
 use mathlib.Core.Path.{_≡_, sym, subst}
 use Prim.Native.Nat.{ℕ, _+_, _-_}
 use native.Mathlib.Omega.{arith}

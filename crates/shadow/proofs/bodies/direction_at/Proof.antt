@@ -1,4 +1,4 @@
--- `shadow::bodies::direction_at` meets its contract: u and v are the second's, so the direction is too. Assumes nothing.
+-- `shadow::bodies::direction_at` meets its contract: u and v are the second's, so the direction is too.
 use mathlib.Core.Path.{sym, _∙_}
 use Rattle.rounding.specs.laws.Code.{read-back, read-size}
 use Rattle.shadow.specs.Shadow.{IsOffset}

@@ -1,4 +1,4 @@
--- `shadow::bodies::eclipse_sample` meets its contract: the letters of the second's shadow. Assumes nothing.
+-- `shadow::bodies::eclipse_sample` meets its contract: the letters of the second's shadow.
 use Rattle.rounding.specs.laws.Code.{read-back, read-size}
 use Rattle.shadow.specs.Shadow.{IsShadow}
 use Rattle.shadow.specs.Second.{ShadowSizes}

@@ -1,4 +1,4 @@
--- `shadow::bodies::nth_phase` meets its contract: of either body. Assumes nothing.
+-- `shadow::bodies::nth_phase` meets its contract: of either body.
 use mathlib.Core.Path.{_≡_, sym, ap, _∙_}
 use Prim.Native.Nat.{ℕ}
 use native.Mathlib.Omega.{arith}

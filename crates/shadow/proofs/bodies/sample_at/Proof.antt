@@ -1,4 +1,4 @@
--- `shadow::bodies::sample_at` meets its contract: of either body. Assumes nothing.
+-- `shadow::bodies::sample_at` meets its contract: of either body.
 use borrow.Author.Needs.{needs}
 use mathlib.Core.Path.{sym, subst}
 use Rattle.rounding.specs.laws.Code.{read-back, read-size}
@@ -33,10 +33,5 @@ returns-2 c =
 pub sample-at-spec : {M : Type 1} → statement M
 sample-at-spec =
     tie.close
-    (tie.spec
-    (λ c. search needs)
-    eclipse-sample-requires
-    (λ c. search needs)
-    star-sample-requires
-    returns
+    (tie.spec (λ c. search needs) eclipse-sample-requires (λ c. search needs) star-sample-requires returns
     returns-2)

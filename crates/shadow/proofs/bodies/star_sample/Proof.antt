@@ -1,4 +1,4 @@
--- `shadow::bodies::star_sample` meets its contract: L is the radius. Assumes nothing.
+-- `shadow::bodies::star_sample` meets its contract: L is the radius.
 use mathlib.Core.Path.{_∙_}
 use lib.Dec.{lit≤}
 use lib.IntN.{ℤ}

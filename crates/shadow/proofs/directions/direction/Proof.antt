@@ -1,5 +1,5 @@
--- `shadow::direction` meets its contract: the tests find the signs of u and v, and each case of the rule is a quarter of their sizes.
--- A quarter is at most 899, so the sums fit. Assumes nothing.
+-- `shadow::direction` meets its contract: the tests find the signs of u and v, and each case of the rule is a quarter
+-- of their sizes. A quarter is at most 899, so the sums fit.
 use mathlib.Core.Path.{_≡_, refl, sym, ap, ap₂, _∙_}
 use mathlib.Core.List.{[], _∷_}
 use Prim.Native.Nat.{ℕ, zero, suc, _+_, _≤_}
@@ -172,23 +172,6 @@ returns-6 c =
 pub direction-spec : {M : Type 1} → statement M
 direction-spec =
     tie.close
-    (tie.spec
-    abs-requires
-    cast-a
-    abs-requires-2
-    cast-b
-    quarter-requires
-    add-result
-    returns
-    quarter-requires-2
-    add-result-2
-    returns-2
-    quarter-requires-3
-    returns-3
-    quarter-requires-4
-    add-result-3
-    returns-4
-    quarter-requires-5
-    add-result-4
-    returns-5
-    returns-6)
+    (tie.spec abs-requires cast-a abs-requires-2 cast-b quarter-requires add-result returns quarter-requires-2
+    add-result-2 returns-2 quarter-requires-3 returns-3 quarter-requires-4 add-result-3 returns-4
+    quarter-requires-5 add-result-4 returns-5 returns-6)

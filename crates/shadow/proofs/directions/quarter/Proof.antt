@@ -1,5 +1,5 @@
--- `shadow::quarter` meets its contract: low reaches, and, since the table rises, what does not reach at k does not from k on; so when high is
--- next to low, low is the largest that reaches. Each round brings them nearer. Assumes nothing.
+-- `shadow::quarter` meets its contract: low reaches, and, since the table rises, what does not reach at k does not
+-- from k on; so when high is next to low, low is the largest that reaches. Each round brings them nearer.
 use mathlib.Core.Path.{_≡_, sym, ap, _∙_, subst₂}
 use Prim.Native.Nat.{ℕ, _+_, _*_, _-_, _/_, _≤_, _<_}
 use native.Mathlib.Omega.{arith}
@@ -139,22 +139,6 @@ returns c =
 pub quarter-spec : {M : Type 1} → statement M
 quarter-spec =
     tie.close
-    (tie.spec
-    Inv-loop
-    μ-loop
-    loop-holds
-    add-loop
-    add-k
-    entry-requires
-    wide-requires
-    sub-entry
-    entry-requires-2
-    wide-requires-2
-    mul-if1
-    mul-if1-2
-    loop-less
-    loop-again
-    loop-less-2
-    loop-again-2
-    cast-result
-    returns)
+    (tie.spec Inv-loop μ-loop loop-holds add-loop add-k entry-requires wide-requires sub-entry
+    entry-requires-2 wide-requires-2 mul-if1 mul-if1-2 loop-less loop-again loop-less-2 loop-again-2
+    cast-result returns)

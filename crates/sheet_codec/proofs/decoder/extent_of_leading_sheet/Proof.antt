@@ -1,5 +1,6 @@
--- `sheet_codec::decoder::extent_of_leading_sheet` meets its contract. Byte, kind and body together are the record that stands there (`there`), and its judgement is the rules' answer, so each turn of the loop is one of
--- the sheet (`Counting`).
+-- `sheet_codec::decoder::extent_of_leading_sheet` meets its contract. Byte, kind and body together are the record that
+-- stands there (`there`), and its judgement is the rules' answer, so each turn of the loop is one of the sheet
+-- (`Counting`).
 use Rattle.sheet_codec.proofs.decoder.Counting.{Counting, count-refused, count-broken, count-end, count-more}
 use Rattle.sheet_codec.specs.Sheets.{storedAt, readSheet}
 use Rattle.sheet_codec.specs.laws.SheetLaws.{read-start, extent-start}
@@ -176,33 +177,8 @@ loop-again c =
 pub extent-of-leading-sheet-spec : {M : Type 1} → statement M
 extent-of-leading-sheet-spec =
     tie.close
-    (tie.spec
-    Inv-loop
-    μ-loop
-    (λ c κs. search needs)
-    loop-holds
-    (λ c κs. search needs)
-    (λ c. search needs)
-    (λ c. search needs)
-    returns
-    (λ c κs. search needs)
-    (λ c. search needs)
-    (λ c. search needs)
-    returns-2
-    body-at-requires
-    (λ c. search needs)
-    (λ c. search needs)
-    returns-3
-    (λ c κs. search needs)
-    returns-4
-    (λ c κs. search needs)
-    returns-5
-    size-for-requires
-    add-next
-    (λ c κs. search needs)
-    add-count
-    returns-6
-    (λ c κs. search needs)
-    add-n
-    loop-less
-    loop-again)
+    (tie.spec Inv-loop μ-loop (λ c κs. search needs) loop-holds (λ c κs. search needs) (λ c. search needs)
+    (λ c. search needs) returns (λ c κs. search needs) (λ c. search needs) (λ c. search needs) returns-2
+    body-at-requires (λ c. search needs) (λ c. search needs) returns-3 (λ c κs. search needs) returns-4
+    (λ c κs. search needs) returns-5 size-for-requires add-next (λ c κs. search needs) add-count returns-6
+    (λ c κs. search needs) add-n loop-less loop-again)

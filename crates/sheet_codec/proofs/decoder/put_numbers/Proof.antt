@@ -29,20 +29,7 @@ returns c = simp (add-one, add-two, add-three, add-four)
 pub put-numbers-spec : {M : Type 1} → statement M
 put-numbers-spec =
     tie.close
-    (tie.spec
-    (λ c. search needs)
-    (λ c. search needs)
-    (λ c. search needs)
-    (λ c. search needs)
-    slice-write-room-2
-    (λ c. search needs)
-    (λ c. search needs)
-    slice-write-room-3
-    (λ c. search needs)
-    (λ c. search needs)
-    slice-write-room-4
-    (λ c. search needs)
-    (λ c. search needs)
-    slice-write-room-5
-    (λ c. search needs)
-    returns)
+    (tie.spec (λ c. search needs) (λ c. search needs) (λ c. search needs) (λ c. search needs)
+    slice-write-room-2 (λ c. search needs) (λ c. search needs) slice-write-room-3 (λ c. search needs)
+    (λ c. search needs) slice-write-room-4 (λ c. search needs) (λ c. search needs) slice-write-room-5
+    (λ c. search needs) returns)

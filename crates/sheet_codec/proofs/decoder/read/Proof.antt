@@ -1,4 +1,5 @@
--- `sheet_codec::decoder::read` meets its contract. Three ways out: refused, too little room, and filled; each is `readInto` and `roomAfter` at what was found.
+-- `sheet_codec::decoder::read` meets its contract. Three ways out: refused, too little room, and filled; each is
+-- `readInto` and `roomAfter` at what was found.
 use Rattle.sheet_codec.proofs.decoder.Answers.{room-for, read-refused, read-short, read-full}
 use Rattle.sheet_codec.specs.laws.SheetLaws.{whole-same}
 use Rattle.sheet_codec.specs.Sheets.{extentOf, readWhole}
@@ -37,12 +38,5 @@ returns-3 c = let q = found-is (c .before .before .before .before .before) in
 pub read-spec : {M : Type 1} → statement M
 read-spec =
     tie.close
-    (tie.spec
-    (λ c κs. search needs)
-    (λ c. search needs)
-    (λ c. search needs)
-    returns
-    returns-2
-    read-entries-requires
-    (λ c. search needs)
-    returns-3)
+    (tie.spec (λ c κs. search needs) (λ c. search needs) (λ c. search needs) returns returns-2
+    read-entries-requires (λ c. search needs) returns-3)

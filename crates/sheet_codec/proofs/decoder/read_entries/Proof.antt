@@ -1,5 +1,6 @@
--- `sheet_codec::decoder::read_entries` meets its contract. What is still to be put, once put, gives what the pass is to leave (`Passing`). The first pass found a sheet, so each record is there,
--- and the numbers that its bytes hold are its entry's.
+-- `sheet_codec::decoder::read_entries` meets its contract. What is still to be put, once put, gives what the pass is
+-- to leave (`Passing`). The first pass found a sheet, so each record is there, and the numbers that its bytes hold are
+-- its entry's.
 use Rattle.sheet_codec.proofs.decoder.Passing.{Passing, pass-never, pass-fits, pass-end, pass-more}
 use Rattle.sheet_codec.proofs.decoder.Answers.{of-numbers, reading-starts}
 use Rattle.sheet_codec.specs.Sheets.{storedAt, readSheet}
@@ -171,32 +172,8 @@ loop-again c =
 pub read-entries-spec : {M : Type 1} → statement M
 read-entries-spec =
     tie.close
-    (tie.spec
-    Inv-loop
-    μ-loop
-    loop-holds
-    (λ c κs. search needs)
-    (λ c. search needs)
-    (λ c. search needs)
-    same-length
-    returns
-    (λ c κs. search needs)
-    (λ c. search needs)
-    (λ c. search needs)
-    same-length-2
-    returns-2
-    body-at-requires
-    (λ c. search needs)
-    (λ c. search needs)
-    same-length-3
-    returns-3
-    mul-place
-    put-numbers-requires
-    (λ c κs. search needs)
-    same-length-4
-    returns-4
-    size-for-requires
-    add-at
-    add-n
-    loop-less
-    loop-again)
+    (tie.spec Inv-loop μ-loop loop-holds (λ c κs. search needs) (λ c. search needs) (λ c. search needs)
+    same-length returns (λ c κs. search needs) (λ c. search needs) (λ c. search needs) same-length-2 returns-2
+    body-at-requires (λ c. search needs) (λ c. search needs) same-length-3 returns-3 mul-place
+    put-numbers-requires (λ c κs. search needs) same-length-4 returns-4 size-for-requires add-at add-n
+    loop-less loop-again)

@@ -1,4 +1,5 @@
--- `sheet_codec::encoder::extent_of_leading_entries` meets its contract. As `extent_of_leading_sheet`, along the entries of the list.
+-- `sheet_codec::encoder::extent_of_leading_entries` meets its contract. As `extent_of_leading_sheet`, along the
+-- entries of the list.
 use Rattle.sheet_codec.proofs.decoder.Counting.{Counting, count-refused, count-broken, count-end, count-more}
 use Rattle.sheet_codec.specs.Handed.{handedAt, listSheet}
 use Rattle.sheet_codec.specs.laws.SheetLaws.{list-start, extent-start}
@@ -80,25 +81,7 @@ loop-again c = let b = bounds (c .before .before .before .before .before .before
 pub extent-of-leading-entries-spec : {M : Type 1} → statement M
 extent-of-leading-entries-spec =
     tie.close
-    (tie.spec
-    Inv-loop
-    μ-loop
-    (λ c κs. search needs)
-    loop-holds
-    (λ c κs. omega arith)
-    (λ c. search needs)
-    (λ c. search needs)
-    (λ c κs. search needs)
-    returns
-    (λ c κs. search needs)
-    (λ c κs. search needs)
-    (λ c. search needs)
-    (λ c. search needs)
-    (λ c κs. search needs)
-    returns-2
-    (λ c κs. search needs)
-    add-handed
-    returns-3
-    add-n
-    loop-less
-    loop-again)
+    (tie.spec Inv-loop μ-loop (λ c κs. search needs) loop-holds (λ c κs. omega arith) (λ c. search needs)
+    (λ c. search needs) (λ c κs. search needs) returns (λ c κs. search needs) (λ c κs. search needs)
+    (λ c. search needs) (λ c. search needs) (λ c κs. search needs) returns-2 (λ c κs. search needs) add-handed
+    returns-3 add-n loop-less loop-again)

@@ -1,4 +1,5 @@
--- `sheet_codec::encoder::write` meets its contract. Three ways out: refused, a short buffer, and written; each is `writeInto` and `bufferAfterList` at what was found.
+-- `sheet_codec::encoder::write` meets its contract. Three ways out: refused, a short buffer, and written; each is
+-- `writeInto` and `bufferAfterList` at what was found.
 use Rattle.sheet_codec.proofs.decoder.Answers.{buffer-for, write-refused, write-short, write-full}
 use Rattle.sheet_codec.specs.laws.SheetLaws.{list-same}
 use Rattle.sheet_codec.specs.RoundTrip.{list-length}
@@ -40,12 +41,5 @@ returns-3 c = let q = found-is (c .before .before .before .before .before) in
 pub write-spec : {M : Type 1} → statement M
 write-spec =
     tie.close
-    (tie.spec
-    (λ c κs. search needs)
-    (λ c. search needs)
-    (λ c. search needs)
-    returns
-    returns-2
-    write-records-requires
-    (λ c. search needs)
-    returns-3)
+    (tie.spec (λ c κs. search needs) (λ c. search needs) (λ c. search needs) returns returns-2
+    write-records-requires (λ c. search needs) returns-3)

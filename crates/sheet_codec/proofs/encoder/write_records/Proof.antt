@@ -1,4 +1,5 @@
--- `sheet_codec::encoder::write_records` meets its contract. What is still to be put, once put, gives what the pass is to leave (`Passing`). The first pass accepted each entry.
+-- `sheet_codec::encoder::write_records` meets its contract. What is still to be put, once put, gives what the pass is
+-- to leave (`Passing`). The first pass accepted each entry.
 use Rattle.sheet_codec.proofs.decoder.Passing.{Passing, pass-never, pass-fits, pass-end, pass-more}
 use Rattle.sheet_codec.proofs.decoder.Answers.{of-bytes, writing-starts}
 use Rattle.sheet_codec.specs.Handed.{handedAt, listSheet}
@@ -80,19 +81,6 @@ loop-again c =
 pub write-records-spec : {M : Type 1} → statement M
 write-records-spec =
     tie.close
-    (tie.spec
-    Inv-loop
-    μ-loop
-    loop-holds
-    (λ c κs. omega arith)
-    (λ c. search needs)
-    (λ c. search needs)
-    same-length
-    returns
-    put-requires
-    (λ c κs. search needs)
-    same-length-2
-    returns-2
-    add-n
-    loop-less
+    (tie.spec Inv-loop μ-loop loop-holds (λ c κs. omega arith) (λ c. search needs) (λ c. search needs)
+    same-length returns put-requires (λ c κs. search needs) same-length-2 returns-2 add-n loop-less
     loop-again)

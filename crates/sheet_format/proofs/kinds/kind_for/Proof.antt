@@ -1,5 +1,5 @@
--- `sheet_format::kinds::kind_for` meets its contract. At a literal `kindFor` computes; a phase's four are its first and what stands behind it; else the
--- number is none of them.
+-- `sheet_format::kinds::kind_for` meets its contract. At a literal `kindFor` computes; a phase's four are its first
+-- and what stands behind it; else the number is none of them.
 use Rattle.sheet_format.specs.laws.KindLaws.{no-kind}
 use Rattle.sheet_format.specs.Kinds.{base, kindFor}
 use Rattle.sheet_types.specs.declared.phases.Phase.{Phase}
@@ -61,18 +61,5 @@ returns-11 c = none (c .before .before .before .before .before .before) (λ y h 
 pub kind-for-spec : {M : Type 1} → statement M
 kind-for-spec =
     tie.close
-    (tie.spec
-    (λ c κs. search needs)
-    (λ c κs. search needs)
-    (λ c κs. search needs)
-    returns
-    returns-2
-    returns-3
-    returns-4
-    returns-5
-    returns-6
-    returns-7
-    returns-8
-    returns-9
-    returns-10
-    returns-11)
+    (tie.spec (λ c κs. search needs) (λ c κs. search needs) (λ c κs. search needs) returns returns-2 returns-3
+    returns-4 returns-5 returns-6 returns-7 returns-8 returns-9 returns-10 returns-11)

@@ -1,4 +1,5 @@
--- `sheet_format::kinds::phase_kind` meets its contract. The phase's first kind and what stands behind it are a kind's byte, and that names it.
+-- `sheet_format::kinds::phase_kind` meets its contract. The phase's first kind and what stands behind it are a kind's
+-- byte, and that names it.
 use Rattle.sheet_format.specs.laws.KindLaws.{kind-code}
 use Rattle.sheet_format.specs.Kinds.{codeOf, kindFor, base}
 use Rattle.sheet_format.specs.declared.kinds.Kind.{Kind}

@@ -1,4 +1,5 @@
--- `sheet_rules::fields::direction_holds` meets its contract. An angle holds whatever the kind (`angle-holds`); else only 65,535 does.
+-- `sheet_rules::fields::direction_holds` meets its contract. An angle holds whatever the kind (`angle-holds`); else
+-- only 65,535 does.
 use Rattle.sheet_rules.specs.laws.Fields.{angle-holds}
 use borrow.Author.Tests.{le-leb, lt-leb}
 use mathlib.Core.Path.{sym}
@@ -36,21 +37,6 @@ returns-9 c = search needs
 pub direction-holds-spec : {M : Type 1} → statement M
 direction-holds-spec =
     tie.close
-    (tie.spec
-    returns
-    (λ c. search needs)
-    (λ c. search needs)
-    (λ c. search needs)
-    (λ c. search needs)
-    (λ c. search needs)
-    (λ c. search needs)
-    (λ c. search needs)
-    (λ c. search needs)
-    returns-2
-    returns-3
-    returns-4
-    returns-5
-    returns-6
-    returns-7
-    returns-8
-    returns-9)
+    (tie.spec returns (λ c. search needs) (λ c. search needs) (λ c. search needs) (λ c. search needs)
+    (λ c. search needs) (λ c. search needs) (λ c. search needs) (λ c. search needs) returns-2 returns-3
+    returns-4 returns-5 returns-6 returns-7 returns-8 returns-9)

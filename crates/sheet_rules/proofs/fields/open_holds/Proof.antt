@@ -1,4 +1,5 @@
--- `sheet_rules::fields::open_holds` meets its contract. With the ends inside the window both seconds are (`both-within`).
+-- `sheet_rules::fields::open_holds` meets its contract. With the ends inside the window both seconds are
+-- (`both-within`).
 use Rattle.sheet_rules.specs.laws.Fields.{both-within}
 use lib.Dec.{leb}
 use borrow.Author.Tests.{leb-true}

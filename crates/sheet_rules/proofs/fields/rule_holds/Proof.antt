@@ -1,4 +1,5 @@
--- `sheet_rules::fields::rule_holds` meets its contract. Each arm is the rule of its stage, and that is the kind's (`rule-by`).
+-- `sheet_rules::fields::rule_holds` meets its contract. Each arm is the rule of its stage, and that is the kind's
+-- (`rule-by`).
 use Rattle.sheet_rules.specs.laws.Fields.{rule-by}
 use mathlib.Core.Path.{sym, _∙_}
 use borrow.Author.Needs.{needs}
@@ -33,23 +34,7 @@ returns-7 c = let a = c .before .before .before .args in rule-by (a .p) (a .entr
 pub rule-holds-spec : {M : Type 1} → statement M
 rule-holds-spec =
     tie.close
-    (tie.spec
-    (λ c κs. search needs)
-    (λ c. search needs)
-    (λ c. search needs)
-    (λ c κs. search needs)
-    (λ c. search needs)
-    (λ c κs. search needs)
-    (λ c. search needs)
-    (λ c κs. search needs)
-    (λ c κs. search needs)
-    (λ c. search needs)
-    (λ c. search needs)
-    (λ c. search needs)
-    returns
-    returns-2
-    returns-3
-    returns-4
-    returns-5
-    returns-6
-    returns-7)
+    (tie.spec (λ c κs. search needs) (λ c. search needs) (λ c. search needs) (λ c κs. search needs)
+    (λ c. search needs) (λ c κs. search needs) (λ c. search needs) (λ c κs. search needs)
+    (λ c κs. search needs) (λ c. search needs) (λ c. search needs) (λ c. search needs) returns returns-2
+    returns-3 returns-4 returns-5 returns-6 returns-7)

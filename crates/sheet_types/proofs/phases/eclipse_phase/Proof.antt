@@ -1,4 +1,4 @@
--- `sheet_types::phases::eclipse_phase` meets its contract: below two, what is not 0 is 1. Assumes nothing.
+-- `sheet_types::phases::eclipse_phase` meets its contract: below two, what is not 0 is 1.
 use mathlib.Core.Path.{_≡_, ap}
 use Prim.Native.Nat.{ℕ}
 use native.Mathlib.Omega.{arith}

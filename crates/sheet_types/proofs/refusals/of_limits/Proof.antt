@@ -1,4 +1,4 @@
--- `sheet_types::refusals::of_limits` meets its contract: arm by arm. Assumes nothing.
+-- `sheet_types::refusals::of_limits` meets its contract: arm by arm.
 use mathlib.Core.Path.{sym, ap}
 use borrow.Author.Needs.{needs}
 use Rattle.sheet_types.specs.Refusals.{ofLimits}

@@ -1,5 +1,5 @@
--- `sine::turns::sine` and `sine::turns::cosine`, which call each other. The measure of each is the angle, which falls by a quarter turn.
--- Up to 90 degrees they are s and c, above each is the other's: `sine-above`, `cosine-above`.
+-- `sine::turns::sine` and `sine::turns::cosine`, which call each other. The measure of each is the angle, which falls
+-- by a quarter turn. Up to 90 degrees they are s and c, above each is the other's: `sine-above`, `cosine-above`.
 use borrow.Author.Needs.{needs}
 use native.Mathlib.Omega.{arith}
 use mathlib.Core.Path.{sym, _∙_}

@@ -1,4 +1,5 @@
--- `table_elements::typed_rows::read_line` meets its contract: the words before byte `at` are taken, and their numbers stored.
+-- `table_elements::typed_rows::read_line` meets its contract: the words before byte `at` are taken, and their numbers
+-- stored.
 use Rattle.table_elements.specs.NumberLaws.{number-size}
 use Rattle.rounding.specs.laws.Code.{read-back}
 use borrow.Author.Needs.{needs}
@@ -84,30 +85,8 @@ loop-again c =
 pub read-line-spec : {M : Type 1} → statement M
 read-line-spec =
     tie.close
-    (tie.spec
-    Inv-loop
-    μ-loop
-    (λ c κs. search needs)
-    slice-aggregate-content
-    loop-holds
-    next-word-requires
-    (λ c κs. search needs)
-    same-length
-    returns
-    sub-number-of
-    part-number-of-start
-    part-number-of-end
-    (λ c κs. search needs)
-    (λ c. search needs)
-    (λ c. search needs)
-    (λ c κs. search needs)
-    same-length-2
-    returns-2
-    same-length-3
-    returns-3
-    (λ c. search needs)
-    (λ c. search needs)
-    (λ c. search needs)
-    (λ c. search needs)
-    loop-less
-    loop-again)
+    (tie.spec Inv-loop μ-loop (λ c κs. search needs) slice-aggregate-content loop-holds next-word-requires
+    (λ c κs. search needs) same-length returns sub-number-of part-number-of-start part-number-of-end
+    (λ c κs. search needs) (λ c. search needs) (λ c. search needs) (λ c κs. search needs) same-length-2
+    returns-2 same-length-3 returns-3 (λ c. search needs) (λ c. search needs) (λ c. search needs)
+    (λ c. search needs) loop-less loop-again)

@@ -27,13 +27,5 @@ returns c = appending-end _ _ _ (c .before .loop .inv) (c .loop-test .left)
 pub size-of-spec : {M : Type 1} → statement M
 size-of-spec =
     tie.close
-    (tie.spec
-    Inv-loop
-    μ-loop
-    loop-holds
-    (λ c. search needs)
-    with-digit-requires
-    (λ c. search needs)
-    (λ c. search needs)
-    loop-again
-    returns)
+    (tie.spec Inv-loop μ-loop loop-holds (λ c. search needs) with-digit-requires (λ c. search needs)
+    (λ c. search needs) loop-again returns)

@@ -1,4 +1,4 @@
--- `ukhtvaresh::from_tables::ukhtvaresh_from_tables` meets its contract: the answer of `tables`, as numbers. Assumes nothing.
+-- `ukhtvaresh::from_tables::ukhtvaresh_from_tables` meets its contract: the answer of `tables`, as numbers.
 use mathlib.Core.Path.{ap, _∙_}
 use borrow.Author.Needs.{needs}
 use Rattle.ukhtvaresh.specs.declared.replies.Reply.{Reply}

@@ -1,4 +1,4 @@
--- `ukhtvaresh::listing::ukhtvaresh_listing` meets its contract: the answer of the crate below, as numbers. Assumes nothing.
+-- `ukhtvaresh::listing::ukhtvaresh_listing` meets its contract: the answer of the crate below, as numbers.
 use mathlib.Core.Path.{ap, _∙_}
 use Rattle.ukhtvaresh.specs.declared.replies.Reply.{Reply}
 use Rattle.ukhtvaresh.specs.Listing.{listingReply}

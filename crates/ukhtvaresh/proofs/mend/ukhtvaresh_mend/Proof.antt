@@ -1,4 +1,4 @@
--- `ukhtvaresh::mend::ukhtvaresh_mend` meets its contract: the answer of the crate below, as numbers. Assumes nothing.
+-- `ukhtvaresh::mend::ukhtvaresh_mend` meets its contract: the answer of the crate below, as numbers.
 use mathlib.Core.Path.{ap, _∙_}
 use Rattle.year_file.specs.Walk.{kept, notes}
 use Rattle.year_file.specs.Mending.{roomAfter}

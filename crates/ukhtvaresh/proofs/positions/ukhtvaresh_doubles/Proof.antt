@@ -1,4 +1,4 @@
--- `ukhtvaresh::positions::ukhtvaresh_doubles` meets its contract: the answer of `instrument`, as numbers. Assumes nothing.
+-- `ukhtvaresh::positions::ukhtvaresh_doubles` meets its contract: the answer of `instrument`, as numbers.
 use mathlib.Core.Path.{ap, _∙_}
 use borrow.Author.Needs.{needs}
 use Rattle.ukhtvaresh.specs.declared.replies.Reply.{Reply}

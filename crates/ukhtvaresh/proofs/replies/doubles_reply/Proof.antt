@@ -1,4 +1,4 @@
--- `ukhtvaresh::replies::doubles_reply` meets its contract, case by case. Assumes nothing.
+-- `ukhtvaresh::replies::doubles_reply` meets its contract, case by case.
 use borrow.Author.Needs.{needs}
 use Rattle.ukhtvaresh.proofs.replies.doubles_reply.Statement.{statement}
 use Rattle.ukhtvaresh.proofs.replies.doubles_reply.Tie as tie

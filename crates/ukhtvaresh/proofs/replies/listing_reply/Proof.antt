@@ -1,4 +1,4 @@
--- `ukhtvaresh::replies::listing_reply` meets its contract, case by case. Assumes nothing.
+-- `ukhtvaresh::replies::listing_reply` meets its contract, case by case.
 use borrow.Author.Needs.{needs}
 use Rattle.ukhtvaresh.proofs.replies.listing_reply.Statement.{statement}
 use Rattle.ukhtvaresh.proofs.replies.listing_reply.Tie as tie

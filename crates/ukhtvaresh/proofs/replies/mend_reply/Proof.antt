@@ -1,4 +1,4 @@
--- `ukhtvaresh::replies::mend_reply` meets its contract, case by case. Assumes nothing.
+-- `ukhtvaresh::replies::mend_reply` meets its contract, case by case.
 use borrow.Author.Needs.{needs}
 use Rattle.ukhtvaresh.proofs.replies.mend_reply.Statement.{statement}
 use Rattle.ukhtvaresh.proofs.replies.mend_reply.Tie as tie

@@ -1,4 +1,4 @@
--- `ukhtvaresh::replies::share_reply` meets its contract: the share, or the refusal, as numbers. Assumes nothing.
+-- `ukhtvaresh::replies::share_reply` meets its contract: the share, or the refusal, as numbers.
 use borrow.Author.Needs.{needs}
 use Rattle.ukhtvaresh.proofs.replies.share_reply.Statement.{statement}
 use Rattle.ukhtvaresh.proofs.replies.share_reply.Tie as tie

@@ -1,4 +1,4 @@
--- `ukhtvaresh::replies::sheet_reply` meets its contract, case by case. Assumes nothing.
+-- `ukhtvaresh::replies::sheet_reply` meets its contract, case by case.
 use borrow.Author.Needs.{needs}
 use Rattle.ukhtvaresh.proofs.replies.sheet_reply.Statement.{statement}
 use Rattle.ukhtvaresh.proofs.replies.sheet_reply.Tie as tie

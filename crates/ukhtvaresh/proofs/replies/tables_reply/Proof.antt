@@ -1,4 +1,4 @@
--- `ukhtvaresh::replies::tables_reply` meets its contract, case by case. Assumes nothing.
+-- `ukhtvaresh::replies::tables_reply` meets its contract, case by case.
 use borrow.Author.Needs.{needs}
 use Rattle.ukhtvaresh.proofs.replies.tables_reply.Statement.{statement}
 use Rattle.ukhtvaresh.proofs.replies.tables_reply.Tie as tie

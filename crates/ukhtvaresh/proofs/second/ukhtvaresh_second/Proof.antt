@@ -1,4 +1,4 @@
--- `ukhtvaresh::second::ukhtvaresh_second` meets its contract: the answer of the crate below, as numbers. Assumes nothing.
+-- `ukhtvaresh::second::ukhtvaresh_second` meets its contract: the answer of the crate below, as numbers.
 use borrow.Author.Needs.{needs}
 use mir.Syntax.{w64}
 use mir.ValLaws.{toZ-ofZ}

@@ -1,4 +1,5 @@
--- `ukhtvaresh::shares::ukhtvaresh_share` meets its contract: the share as it is asked for, as numbers; what it means follows from the answer. Assumes nothing.
+-- `ukhtvaresh::shares::ukhtvaresh_share` meets its contract: the share as it is asked for, as numbers; what it means
+-- follows from the answer.
 use mathlib.Core.Path.{_≡_, sym, subst, ap, _∙_}
 use borrow.Author.Needs.{needs}
 use mir.Syntax.{w64}

@@ -1,4 +1,4 @@
--- `ukhtvaresh::spreadsheet::ukhtvaresh_fit` meets its contract: the answer of the crate below, as numbers. Assumes nothing.
+-- `ukhtvaresh::spreadsheet::ukhtvaresh_fit` meets its contract: the answer of the crate below, as numbers.
 use mathlib.Core.Path.{ap, _∙_}
 use borrow.Author.Needs.{needs}
 use mir.Syntax.{w64}

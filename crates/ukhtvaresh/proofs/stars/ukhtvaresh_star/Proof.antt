@@ -1,4 +1,4 @@
--- `ukhtvaresh::stars::ukhtvaresh_star` meets its contract: the answer of the crate below, as numbers. Assumes nothing.
+-- `ukhtvaresh::stars::ukhtvaresh_star` meets its contract: the answer of the crate below, as numbers.
 use borrow.Author.Needs.{needs}
 use Rattle.requests.specs.Requests.{ofStar}
 use Rattle.request_format.specs.Input.{starRequestOf}

@@ -1,4 +1,4 @@
--- `ukhtvaresh::stations::told` meets its contract: the answer of `network`, as numbers. Assumes nothing.
+-- `ukhtvaresh::stations::told` meets its contract: the answer of `network`, as numbers.
 use mathlib.Core.Path.{ap, _∙_}
 use borrow.Author.Needs.{needs}
 use Rattle.ukhtvaresh.specs.declared.replies.Reply.{Reply}

@@ -1,6 +1,6 @@
--- `ukhtvaresh::stations::ukhtvaresh_network` meets its contract: a walk of its MIR, by hand. The list is gathered into a value, and all else is passed on
--- to `told`: the eclipse as it is, the three `&mut` at their own lifetimes and names, since they are not needed after the call.
--- Assumes nothing.
+-- `ukhtvaresh::stations::ukhtvaresh_network` meets its contract: a walk of its MIR, by hand. The list is gathered into
+-- a value, and all else is passed on to `told`: the eclipse as it is, the three `&mut` at their own lifetimes and
+-- names, since they are not needed after the call.
 use mathlib.Core.Path.{_≡_, refl, sym, subst}
 use Prim.Native.Nat.{ℕ}
 use mathlib.Core.List.{List, [], _∷_}
@@ -196,14 +196,16 @@ module _ {M : Type 1} (𝓤 : URA M) (H : Heap 𝓤) (A : Atoms 𝓤) (W : Given
         move ! (25 ∷ []) $ fsplit ! $ move ! (1 ∷ []) $ fsplit ! $ move ! (1 ∷ []) $ fsplit ! $ move ! (1 ∷ []) $ fsplit ! $ move ! (1 ∷ []) $ fsplit ! $ move ! (1 ∷ []) $ drop ! $
         -- [value's; steps'; sines'; the list's; the eclipse's; _11; …; the tokens]
         move ! (29 ∷ []) $ split ! $ move ! (1 ∷ []) $ split ! $ nothing ! $ move ! (1 ∷ 0 ∷ []) $ join ! $ move ! (2 ∷ 1 ∷ []) $ join ! $
-        -- [the tokens of what is passed on; the list's token; value's; steps'; sines'; the list's; the eclipse's; _11; …]
+        -- [the tokens of what is passed on; the list's token; value's; steps'; sines'; the list's; the eclipse's; _11;
+        -- …]
         move ! (6 ∷ []) $ use1 W (‵ Own₀ ⊛ ‵ Own₀) (shr-slice-copy 𝓤 H A W (named 0) κ₀ i64 .twice c (vc ∷ [])) $ split ! $ move ! (3 ∷ 7 ∷ []) $
         -- [the list's token; the list's; the eclipse's twice; the tokens; value's; steps'; sines'; _11; …]
         use2 W (raw (Gathered 𝓤 H A mem run .pre to-gathered) ⊛ ‵ Own₁) goes-gathered $ split ! $
         calls-at ! fm (Gathered 𝓤 H A mem run) known-gathered to-gathered (and-then ! (load ! (from ! (stop !)) (look ! 26 refl)) (no-more !)) (λ u.
         use1 W (later (some (λ (r : Held). (Tok ⊛ ‵ (B .own r (u ∷ []))) ⊛ raw (ensured 𝓤 H A gathered.ended (gathered.clauses 𝓤 H A mem run) (κ₁, tt) (s, tt) tt r)))) (id⊢ 𝓤 _) $ await ! tt $ pick ! (λ r.
         split ! $ move ! (1 ∷ []) $ use1 W (raw (fact 𝓤 (Gave (s .now) r))) (gathered-said r) $ heard ! (Gave (s .now) r) (λ e. split ! $ move ! (1 ∷ []) $
-        -- [what the held nodes own; the list's token; the list's; the eclipse's twice; the tokens; value's; steps'; sines'; _11; …]
+        -- [what the held nodes own; the list's token; the list's; the eclipse's twice; the tokens; value's; steps';
+        -- sines'; _11; …]
         peeks ! B (Is B) (shows 𝓤 H A B) r (u ∷ []) (λ is.
         land ! (from ! (stop !)) (init ! 19 refl (LL.lawful S.the-type S′.the-laws 𝓤 H A W .typed r _ is .0)) $
         assigns ! (addr ! (from ! (fld ! refl (hop ! (look-in ! 25 (sub ! 0 refl (whole !))) (stop !))))) (from ! (stop !)) (init ! 17 refl (tt, tt)) $
@@ -224,7 +226,8 @@ module _ {M : Type 1} (𝓤 : URA M) (H : Heap 𝓤) (A : Atoms 𝓤) (W : Given
         fsplit ! $ drop ! $ fsplit ! $ drop ! $ fsplit ! $ fsplit ! $ move ! (1 ∷ []) $ feqL ! (λ la.
         move ! (1 ∷ []) $ fsplit ! $ fsplit ! $ move ! (1 ∷ []) $ feqL ! (λ lb.
         move ! (1 ∷ []) $ fsplit ! $ move ! (1 ∷ []) $ drop ! $
-        -- [value's last; steps'; sines'; the tokens and the result; the list's token; the list's; the eclipse's; _11; …]
+        -- [value's last; steps'; sines'; the tokens and the result; the list's token; the list's; the eclipse's; _11;
+        -- …]
         move ! (3 ∷ []) $ split ! $ move ! (1 ∷ []) $ peeks ! u64 (Is u64) (shows 𝓤 H A u64) t (w ∷ []) (λ is′.
         land ! (from ! (stop !)) (init ! 30 refl (uint-lawful 𝓤 H A W w64 .typed t _ is′ .0)) $
         returns ! (look ! 30 refl) $ forget ! 8 refl $ forget ! 10 refl $ forget ! 12 refl $ forget ! 14 refl $ forget ! 16 refl $ forget ! 18 refl $ forget ! 20 refl $ forget ! 22 refl $ forget ! 24 refl $ forget ! 26 refl $ forget ! 28 refl $ forget ! 30 refl $

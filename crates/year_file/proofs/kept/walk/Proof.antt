@@ -1,4 +1,5 @@
--- `year_file::kept::walk` meets its contract: what is left of the file, kept and noted, gives what is to be left in the rooms (`Walking`).
+-- `year_file::kept::walk` meets its contract: what is left of the file, kept and noted, gives what is to be left in
+-- the rooms (`Walking`).
 use Prim.Native.Nat.{_+_, _-_, _≤_, _<_}
 use mathlib.Core.Path.{_≡_, sym, _∙_}
 use native.Mathlib.Omega.{arith}
@@ -81,24 +82,6 @@ returns c =
 pub walk-spec : {M : Type 1} → statement M
 walk-spec =
     tie.close
-    (tie.spec
-    Inv-loop
-    μ-loop
-    loop-holds
-    sheet-at-requires
-    (λ c. omega arith)
-    add-lost
-    (λ c. omega arith)
-    loop-again
-    put-stretch-requires
-    add-end
-    sub-put-text
-    part-put-text-start
-    part-put-text-end
-    (λ c κs. search needs)
-    loop-less-2
-    loop-again-2
-    put-stretch-requires-2
-    same-length
-    same-length-2
-    returns)
+    (tie.spec Inv-loop μ-loop loop-holds sheet-at-requires (λ c. omega arith) add-lost (λ c. omega arith)
+    loop-again put-stretch-requires add-end sub-put-text part-put-text-start part-put-text-end
+    (λ c κs. search needs) loop-less-2 loop-again-2 put-stretch-requires-2 same-length same-length-2 returns)

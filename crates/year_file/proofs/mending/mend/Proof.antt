@@ -44,13 +44,5 @@ returns-3 c =
 pub mend-spec : {M : Type 1} → statement M
 mend-spec =
     tie.close
-    (tie.spec
-    (λ c. search needs)
-    (λ c. search needs)
-    (λ c κs. search needs)
-    returns
-    returns-2
-    (λ c κs. search needs)
-    (λ c. search needs)
-    (λ c. search needs)
-    returns-3)
+    (tie.spec (λ c. search needs) (λ c. search needs) (λ c κs. search needs) returns returns-2
+    (λ c κs. search needs) (λ c. search needs) (λ c. search needs) returns-3)

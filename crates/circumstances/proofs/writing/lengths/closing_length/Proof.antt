@@ -1,4 +1,4 @@
--- `circumstances::writing::lengths::closing_length` meets its contract: the sizes of the two or three records. Assumes nothing.
+-- `circumstances::writing::lengths::closing_length` meets its contract: the sizes of the two or three records.
 use mathlib.Core.Path.{sym, _∙_}
 use native.Mathlib.Omega.{arith}
 use borrow.Author.Needs.{needs}

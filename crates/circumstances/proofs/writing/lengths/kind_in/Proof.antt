@@ -1,4 +1,4 @@
--- `circumstances::writing::lengths::kind_in` meets its contract: arm by arm. Assumes nothing.
+-- `circumstances::writing::lengths::kind_in` meets its contract: arm by arm.
 use mathlib.Core.Path.{sym, ap}
 use borrow.Author.Needs.{needs}
 use Rattle.local_circumstances.specs.laws.Lengths.{kindIn}

@@ -1,4 +1,4 @@
--- `circumstances::writing::lengths::nth_phase_length` meets its contract: the k-th phase has the k-th states. Assumes nothing.
+-- `circumstances::writing::lengths::nth_phase_length` meets its contract: the k-th phase has the k-th states.
 use mathlib.Core.Path.{ap, ap₂, _∙_}
 use mathlib.Core.List.{List}
 use Prim.Native.Nat.{ℕ}

@@ -1,4 +1,5 @@
--- `circumstances::writing::lengths::phase_length` meets its contract: what is counted, with what is left at the cursor, is the whole. Assumes nothing.
+-- `circumstances::writing::lengths::phase_length` meets its contract: what is counted, with what is left at the
+-- cursor, is the whole.
 use mathlib.Core.Path.{_≡_, ap, _∙_}
 use Prim.Native.Nat.{_+_, _-_, _*_, _≤_}
 use native.Mathlib.Omega.{arith}
@@ -70,16 +71,5 @@ loop-again c =
 pub phase-length-spec : {M : Type 1} → statement M
 phase-length-spec =
     tie.close
-    (tie.spec
-    Inv-loop
-    μ-loop
-    loop-holds
-    step-requires
-    (λ c. search needs)
-    (λ c. search needs)
-    returns
-    (λ c κs. search needs)
-    (λ c κs. search needs)
-    add-n
-    loop-less
-    loop-again)
+    (tie.spec Inv-loop μ-loop loop-holds step-requires (λ c. search needs) (λ c. search needs) returns
+    (λ c κs. search needs) (λ c κs. search needs) add-n loop-less loop-again)

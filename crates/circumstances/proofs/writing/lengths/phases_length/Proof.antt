@@ -1,4 +1,5 @@
--- `circumstances::writing::lengths::phases_length` meets its contract: with k phases counted, it is the length of their entries. Assumes nothing.
+-- `circumstances::writing::lengths::phases_length` meets its contract: with k phases counted, it is the length of
+-- their entries.
 use mathlib.Core.Path.{_≡_, sym, ap, _∙_}
 use mathlib.Core.List.{List}
 use Prim.Native.Nat.{ℕ, _+_, _-_, _*_, _≤_}
@@ -88,14 +89,5 @@ returns c =
 pub phases-length-spec : {M : Type 1} → statement M
 phases-length-spec =
     tie.close
-    (tie.spec
-    Inv-loop
-    μ-loop
-    (λ c κs. search needs)
-    loop-holds
-    nth-phase-length-requires
-    add-length
-    add-k
-    loop-less
-    loop-again
-    returns)
+    (tie.spec Inv-loop μ-loop (λ c κs. search needs) loop-holds nth-phase-length-requires add-length add-k
+    loop-less loop-again returns)

@@ -1,4 +1,4 @@
--- `circumstances::writing::lengths::sheet_length` meets its contract: the three parts' lengths are the sheet's. Assumes nothing.
+-- `circumstances::writing::lengths::sheet_length` meets its contract: the three parts' lengths are the sheet's.
 use native.Mathlib.Omega.{arith}
 use borrow.Author.Needs.{needs}
 use Rattle.local_circumstances.specs.laws.Lengths.{sheet-length}

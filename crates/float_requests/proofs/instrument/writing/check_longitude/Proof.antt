@@ -1,4 +1,4 @@
--- `float_requests::instrument::writing::check_longitude` meets its contract: the station's own check. Assumes nothing.
+-- `float_requests::instrument::writing::check_longitude` meets its contract: the station's own check.
 use mathlib.Core.Path.{ap, _∙_}
 use borrow.Author.Needs.{needs}
 use mir.ValLaws.{toZ-ofZ}

@@ -1,4 +1,5 @@
--- `float_requests::instrument::writing::fill` meets its contract: with i units written, the room begins with their doubles. The measure is how many are left. Assumes nothing.
+-- `float_requests::instrument::writing::fill` meets its contract: with i units written, the room begins with their
+-- doubles. The measure is how many are left.
 use mathlib.Core.Path.{_≡_, refl, sym, ap, subst, _∙_}
 use mathlib.Core.List.{List, [], _++_, append-nil}
 use Prim.Native.Nat.{ℕ, suc, _+_, _-_, _≤_, _<_}
@@ -94,19 +95,6 @@ returns c =
 pub fill-spec : {M : Type 1} → statement M
 fill-spec =
     tie.close
-    (tie.spec
-    Inv-loop
-    μ-loop
-    loop-holds
-    (λ c. search needs)
-    shared-slice-copy-out-unit
-    (λ c. search needs)
-    (λ c. search needs)
-    double-of-requires
-    (λ c. search needs)
-    slice-write-room
-    (λ c. search needs)
-    (λ c. search needs)
-    loop-again
-    same-length
-    returns)
+    (tie.spec Inv-loop μ-loop loop-holds (λ c. search needs) shared-slice-copy-out-unit (λ c. search needs)
+    (λ c. search needs) double-of-requires (λ c. search needs) slice-write-room (λ c. search needs)
+    (λ c. search needs) loop-again same-length returns)

@@ -1,4 +1,5 @@
--- `float_requests::instrument::writing::judged` meets its contract: the count, the elements, the longitude, the room; the first that is refused answers. Assumes nothing.
+-- `float_requests::instrument::writing::judged` meets its contract: the count, the elements, the longitude, the room;
+-- the first that is refused answers.
 use mathlib.Core.Path.{_≡_, sym, ap, _∙_}
 use borrow.Author.Needs.{needs}
 use lib.IntN.{pos}
@@ -61,17 +62,6 @@ returns-5 c =
 pub judged-spec : {M : Type 1} → statement M
 judged-spec =
     tie.close
-    (tie.spec
-    returns
-    (λ c κs. search needs)
-    (λ c κs. search needs)
-    (λ c. search needs)
-    returns-2
-    (λ c. search needs)
-    (λ c. search needs)
-    (λ c κs. search needs)
-    (λ c. search needs)
-    returns-3
-    (λ c. search needs)
-    returns-4
-    returns-5)
+    (tie.spec returns (λ c κs. search needs) (λ c κs. search needs) (λ c. search needs) returns-2
+    (λ c. search needs) (λ c. search needs) (λ c κs. search needs) (λ c. search needs) returns-3
+    (λ c. search needs) returns-4 returns-5)

@@ -1,4 +1,5 @@
--- `float_requests::instrument::writing::write` meets its contract: the answer first, and the doubles only where they are made. Assumes nothing.
+-- `float_requests::instrument::writing::write` meets its contract: the answer first, and the doubles only where they
+-- are made.
 use mathlib.Core.Path.{sym, _∙_}
 use borrow.Author.Needs.{needs}
 use lib.ListN.{length}

@@ -1,4 +1,4 @@
--- `float_requests::survey::handed::marked` meets its contract, mark by mark. Assumes nothing.
+-- `float_requests::survey::handed::marked` meets its contract, mark by mark.
 use Rattle.float_requests.specs.laws.HandedLaws.{marked-degrees, marked-hours}
 use Rattle.float_requests.proofs.survey.handed.marked.Statement.{statement}
 use Rattle.float_requests.proofs.survey.handed.marked.Tie as tie

@@ -1,4 +1,5 @@
--- `float_requests::survey::handed::sheet` meets its contract: the survey's own sheet; a shape that is refused leaves room and buffer alone. Assumes nothing.
+-- `float_requests::survey::handed::sheet` meets its contract: the survey's own sheet; a shape that is refused leaves
+-- room and buffer alone.
 use mathlib.Core.Path.{sym, _∙_}
 use borrow.Author.Needs.{needs}
 use Rattle.float_requests.specs.laws.HandedLaws.{of-survey, of-refusal}
@@ -21,12 +22,5 @@ returns-2 c =
 pub sheet-spec : {M : Type 1} → statement M
 sheet-spec =
     tie.close
-    (tie.spec
-    (λ c κs. search needs)
-    (λ c. search needs)
-    (λ c κs. search needs)
-    (λ c. search needs)
-    (λ c. search needs)
-    (λ c. search needs)
-    returns
-    returns-2)
+    (tie.spec (λ c κs. search needs) (λ c. search needs) (λ c κs. search needs) (λ c. search needs)
+    (λ c. search needs) (λ c. search needs) returns returns-2)

@@ -1,4 +1,4 @@
--- `float_requests::survey::handed::survey` meets its contract: the shape, then the survey. Assumes nothing.
+-- `float_requests::survey::handed::survey` meets its contract: the shape, then the survey.
 use mathlib.Core.Path.{sym, ap, _∙_}
 use Rattle.float_requests.specs.declared.survey.handed.Handed.the-variants as H
 use Rattle.float_requests.specs.laws.HandedLaws.{not-22, not-7, not-marked, of-shape}
@@ -35,12 +35,5 @@ returns-4 c =
 pub survey-spec : {M : Type 1} → statement M
 survey-spec =
     tie.close
-    (tie.spec
-    (λ c κs. search needs)
-    returns
-    (λ c κs. search needs)
-    returns-2
-    (λ c κs. search needs)
-    returns-3
-    (λ c κs. search needs)
-    returns-4)
+    (tie.spec (λ c κs. search needs) returns (λ c κs. search needs) returns-2 (λ c κs. search needs) returns-3
+    (λ c κs. search needs) returns-4)

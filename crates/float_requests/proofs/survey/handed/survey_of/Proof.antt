@@ -1,4 +1,4 @@
--- `float_requests::survey::handed::survey_of` meets its contract: each number read back from its bits. Assumes nothing.
+-- `float_requests::survey::handed::survey_of` meets its contract: each number read back from its bits.
 use Rattle.rounding.specs.laws.Code.{read-result}
 use Rattle.float_requests.specs.Handed.{number}
 use Rattle.float_requests.specs.laws.HandedLaws.{by-parts}
@@ -19,14 +19,6 @@ returns c =
 pub survey-of-spec : {M : Type 1} → statement M
 survey-of-spec =
     tie.close
-    (tie.spec
-    (λ c κs. search needs)
-    (λ c κs. search needs)
-    (λ c. search needs)
-    (λ c. search needs)
-    (λ c. search needs)
-    (λ c. search needs)
-    (λ c. search needs)
-    (λ c. search needs)
-    (λ c. search needs)
+    (tie.spec (λ c κs. search needs) (λ c κs. search needs) (λ c. search needs) (λ c. search needs)
+    (λ c. search needs) (λ c. search needs) (λ c. search needs) (λ c. search needs) (λ c. search needs)
     returns)

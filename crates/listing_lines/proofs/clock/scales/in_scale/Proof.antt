@@ -42,16 +42,5 @@ returns-4 c = rw (c .before .before .enum-told4 .given .1, c .enum-told6 .given 
 pub in-scale-spec : {M : Type 1} → statement M
 in-scale-spec =
     tie.close
-    (tie.spec
-    (λ c. search needs)
-    (λ c. search needs)
-    (λ c. search needs)
-    sub-result
-    (λ c. search needs)
-    (λ c. search needs)
-    add-result
-    (λ c. search needs)
-    returns
-    returns-2
-    returns-3
-    returns-4)
+    (tie.spec (λ c. search needs) (λ c. search needs) (λ c. search needs) sub-result (λ c. search needs)
+    (λ c. search needs) add-result (λ c. search needs) returns returns-2 returns-3 returns-4)

@@ -1,4 +1,5 @@
--- `listing_lines::clock::scales::own` meets its contract: less than a day, and a hundred times a number of 33 bits, fit.
+-- `listing_lines::clock::scales::own` meets its contract: less than a day, and a hundred times a number of 33 bits,
+-- fit.
 use mathlib.Core.Path.{ap, ap₂, _∙_}
 use mathlib.Core.List.{[], _∷_}
 use Prim.Native.Nat.{_%_, _≤_}

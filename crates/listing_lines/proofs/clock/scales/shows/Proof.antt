@@ -37,15 +37,5 @@ returns-4 c = search needs
 pub shows-spec : {M : Type 1} → statement M
 shows-spec =
     tie.close
-    (tie.spec
-    abs-requires
-    (λ c. search needs)
-    (λ c. search needs)
-    (λ c. search needs)
-    (λ c. search needs)
-    (λ c. search needs)
-    (λ c. search needs)
-    returns
-    returns-2
-    returns-3
-    returns-4)
+    (tie.spec abs-requires (λ c. search needs) (λ c. search needs) (λ c. search needs) (λ c. search needs)
+    (λ c. search needs) (λ c. search needs) returns returns-2 returns-3 returns-4)

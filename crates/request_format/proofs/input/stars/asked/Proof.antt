@@ -1,4 +1,5 @@
--- `request_format::input::stars::asked` meets its contract: bytes of the shape have a star request's numbers (`held`); any other are refused. Assumes nothing.
+-- `request_format::input::stars::asked` meets its contract: bytes of the shape have a star request's numbers (`held`);
+-- any other are refused.
 use mathlib.Core.Path.{sym, ap, _∙_}
 use native.Mathlib.Omega.{arith}
 use borrow.Author.Needs.{needs}
@@ -33,12 +34,5 @@ returns-2 c = star-refused _ (sym (c .before .before .get-star .ensures .0) ∙ 
 pub asked-spec : {M : Type 1} → statement M
 asked-spec =
     tie.close
-    (tie.spec
-    (λ c κs. search needs)
-    (λ c. search needs)
-    slice-aggregate-request-from
-    request-from-requires
-    (λ c κs. search needs)
-    (λ c. search needs)
-    returns
-    returns-2)
+    (tie.spec (λ c κs. search needs) (λ c. search needs) slice-aggregate-request-from request-from-requires
+    (λ c κs. search needs) (λ c. search needs) returns returns-2)

@@ -1,4 +1,4 @@
--- `request_format::input::stars::request_from` meets its contract: each part is read from its places. Assumes nothing.
+-- `request_format::input::stars::request_from` meets its contract: each part is read from its places.
 use lib.IntN.{pos}
 use lib.ListN.{getD}
 use borrow.Author.Needs.{needs}
@@ -19,9 +19,5 @@ returns c =
 pub request-from-spec : {M : Type 1} → statement M
 request-from-spec =
     tie.close
-    (tie.spec
-    (λ c κs. search needs)
-    (λ c κs. search needs)
-    (λ c κs. search needs)
-    (λ c. search needs)
+    (tie.spec (λ c κs. search needs) (λ c κs. search needs) (λ c κs. search needs) (λ c. search needs)
     returns)

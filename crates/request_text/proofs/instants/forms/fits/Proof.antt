@@ -1,4 +1,4 @@
--- `request_text::instants::forms::fits` meets its contract: by the character of the form. Assumes nothing.
+-- `request_text::instants::forms::fits` meets its contract: by the character of the form.
 use borrow.Author.Tests.{eq-eqb, ne-eqb}
 use borrow.Author.Needs.{needs}
 use Rattle.request_text.proofs.instants.forms.fits.Statement.{statement}

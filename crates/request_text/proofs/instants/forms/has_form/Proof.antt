@@ -1,4 +1,5 @@
--- `request_text::instants::forms::has_form` meets its contract: the characters passed fit, and the rest decides (`Fitting`). Assumes nothing.
+-- `request_text::instants::forms::has_form` meets its contract: the characters passed fit, and the rest decides
+-- (`Fitting`).
 use Prim.Native.Nat.{_-_}
 use mathlib.Core.Path.{sym, _∙_}
 use native.Mathlib.Omega.{arith}
@@ -40,16 +41,5 @@ returns-3 c = fitting-all _ _ _ (c .before .loop .inv) (c .loop-test .left)
 pub has-form-spec : {M : Type 1} → statement M
 has-form-spec =
     tie.close
-    (tie.spec
-    Inv-loop
-    μ-loop
-    returns
-    loop-holds
-    (λ c. search needs)
-    shared-slice-read-x
-    (λ c κs. search needs)
-    returns-2
-    (λ c. search needs)
-    (λ c. search needs)
-    loop-again
-    returns-3)
+    (tie.spec Inv-loop μ-loop returns loop-holds (λ c. search needs) shared-slice-read-x
+    (λ c κs. search needs) returns-2 (λ c. search needs) (λ c. search needs) loop-again returns-3)

@@ -1,4 +1,4 @@
--- `request_text::instants::forms::two_at` meets its contract: ten times the first digit, and the second. Assumes nothing.
+-- `request_text::instants::forms::two_at` meets its contract: ten times the first digit, and the second.
 use native.Mathlib.Omega.{arith}
 use Rattle.request_text.specs.Forms.{twoAt}
 use borrow.Author.Needs.{needs}

@@ -1,4 +1,4 @@
--- `request_text::instants::texts::read_after` meets its contract: the name is said, so what follows it is read. Assumes nothing.
+-- `request_text::instants::texts::read_after` meets its contract: the name is said, so what follows it is read.
 use mathlib.Core.Path.{ap, _∙_}
 use Prim.Native.Nat.{_≤_}
 use native.Mathlib.Omega.{arith}

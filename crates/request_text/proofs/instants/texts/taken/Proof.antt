@@ -1,4 +1,4 @@
--- `request_text::instants::texts::taken` meets its contract: each arm is a case of its definition. Assumes nothing.
+-- `request_text::instants::texts::taken` meets its contract: each arm is a case of its definition.
 use borrow.Author.Needs.{needs}
 use Rattle.request_text.proofs.instants.texts.taken.Statement.{statement}
 use Rattle.request_text.proofs.instants.texts.taken.Tie as tie

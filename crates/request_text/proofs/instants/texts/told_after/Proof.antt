@@ -1,4 +1,4 @@
--- `request_text::instants::texts::told_after` meets its contract: a fault stays; a line that names the instant is read. Assumes nothing.
+-- `request_text::instants::texts::told_after` meets its contract: a fault stays; a line that names the instant is read.
 use mathlib.Core.Path.{sym, _∙_}
 use Rattle.request_text.specs.laws.ToldLaws.{told-given, told-same}
 use borrow.Author.Needs.{needs}
@@ -23,12 +23,5 @@ returns-3 c = told-same _ _ _ _ (c .before .before .before .told .given .1) (sym
 pub told-after-spec : {M : Type 1} → statement M
 told-after-spec =
     tie.close
-    (tie.spec
-    (λ c. search needs)
-    (λ c. search needs)
-    returns
-    (λ c κs. search needs)
-    read-after-requires
-    (λ c κs. search needs)
-    returns-2
-    returns-3)
+    (tie.spec (λ c. search needs) (λ c. search needs) returns (λ c κs. search needs) read-after-requires
+    (λ c κs. search needs) returns-2 returns-3)

@@ -1,5 +1,5 @@
--- `request_text::instants::texts::told_in` meets its contract: of the lines passed it is known what is told (`Walked`). The measure is how many bytes are left. Assumes
--- nothing.
+-- `request_text::instants::texts::told_in` meets its contract: of the lines passed it is known what is told
+-- (`Walked`). The measure is how many bytes are left. Assumes nothing.
 use mathlib.Core.Path.{_≡_, ap, _∙_}
 use Prim.Native.Nat.{_+_, _-_, _≤_}
 use borrow.Author.Needs.{needs}
@@ -59,21 +59,6 @@ returns c = walked-all _ _ _ _ (c .before .loop .inv) (c .loop-test .left)
 pub told-in-spec : {M : Type 1} → statement M
 told-in-spec =
     tie.close
-    (tie.spec
-    Inv-loop
-    μ-loop
-    loop-holds
-    (λ c. search needs)
-    (λ c. search needs)
-    (λ c. search needs)
-    (λ c κs. search needs)
-    add-end
-    (λ c. search needs)
-    (λ c. search needs)
-    part-told-after-end
-    (λ c κs. search needs)
-    add-at
-    add-line
-    loop-less
-    loop-again
-    returns)
+    (tie.spec Inv-loop μ-loop loop-holds (λ c. search needs) (λ c. search needs) (λ c. search needs)
+    (λ c κs. search needs) add-end (λ c. search needs) (λ c. search needs) part-told-after-end
+    (λ c κs. search needs) add-at add-line loop-less loop-again returns)

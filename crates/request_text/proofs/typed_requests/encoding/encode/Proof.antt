@@ -1,4 +1,4 @@
--- `request_text::typed_requests::encoding::encode` meets its contract: by the shape. Assumes nothing.
+-- `request_text::typed_requests::encoding::encode` meets its contract: by the shape.
 use Rattle.request_text.specs.laws.EncodedLaws.{encoded-as}
 use borrow.Author.Needs.{needs}
 use Rattle.request_text.proofs.typed_requests.encoding.encode.Statement.{statement}

@@ -1,5 +1,5 @@
--- `request_text::typed_requests::encoding::encode_eclipse` meets its contract: the numbers of a text that is not refused fit, so they are put, and are read back (`numbers-put`). Assumes
--- nothing.
+-- `request_text::typed_requests::encoding::encode_eclipse` meets its contract: the numbers of a text that is not
+-- refused fit, so they are put, and are read back (`numbers-put`). Assumes nothing.
 use mathlib.Core.Path.{sym}
 use native.Mathlib.Omega.{arith}
 use Rattle.request_format.specs.declared.fields.Shape.the-variants as S

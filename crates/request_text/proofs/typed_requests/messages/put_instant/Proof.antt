@@ -1,4 +1,4 @@
--- `request_text::typed_requests::messages::put_instant` meets its contract: part after part (`put-parts`). Assumes nothing.
+-- `request_text::typed_requests::messages::put_instant` meets its contract: part after part (`put-parts`).
 use native.Mathlib.Omega.{arith}
 use Rattle.request_text.specs.laws.TypedMessageLaws.{put-parts}
 use borrow.Author.Needs.{needs}
@@ -15,10 +15,5 @@ returns c =
 pub put-instant-spec : {M : Type 1} → statement M
 put-instant-spec =
     tie.close
-    (tie.spec
-    (λ c. search needs)
-    (λ c κs. search needs)
-    (λ c κs. search needs)
-    (λ c κs. search needs)
-    (λ c. search needs)
-    returns)
+    (tie.spec (λ c. search needs) (λ c κs. search needs) (λ c κs. search needs) (λ c κs. search needs)
+    (λ c. search needs) returns)

@@ -1,4 +1,4 @@
--- `request_text::typed_requests::messages::put_wrong` meets its contract: each fault has its text. Assumes nothing.
+-- `request_text::typed_requests::messages::put_wrong` meets its contract: each fault has its text.
 use Rattle.request_text.specs.laws.TypedMessageLaws.{put-wrong}
 use borrow.Author.Needs.{needs}
 use Rattle.request_text.proofs.typed_requests.messages.put_wrong.Statement.{statement}
@@ -13,14 +13,5 @@ returns-2 c = put-wrong _ _ _ _ _ _ (c .before .before .before .before .before .
 pub put-wrong-spec : {M : Type 1} → statement M
 put-wrong-spec =
     tie.close
-    (tie.spec
-    (λ c. search needs)
-    (λ c. search needs)
-    (λ c κs. search needs)
-    (λ c. search needs)
-    (λ c. search needs)
-    (λ c κs. search needs)
-    (λ c. search needs)
-    returns
-    (λ c. search needs)
-    returns-2)
+    (tie.spec (λ c. search needs) (λ c. search needs) (λ c κs. search needs) (λ c. search needs)
+    (λ c. search needs) (λ c κs. search needs) (λ c. search needs) returns (λ c. search needs) returns-2)

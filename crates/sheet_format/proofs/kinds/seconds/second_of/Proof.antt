@@ -1,4 +1,4 @@
--- `sheet_format::kinds::seconds::second_of` meets its contract: a number of 32 bits less 10,800 fits. Assumes nothing.
+-- `sheet_format::kinds::seconds::second_of` meets its contract: a number of 32 bits less 10,800 fits.
 use mathlib.Core.Path.{ap, _∙_}
 use mathlib.Core.List.{[], _∷_}
 use Prim.Native.Nat.{_≤_}

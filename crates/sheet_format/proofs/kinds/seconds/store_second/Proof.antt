@@ -1,4 +1,5 @@
--- `sheet_format::kinds::seconds::store_second` meets its contract: a second of the window's range plus 10,800 is a natural number. Assumes nothing.
+-- `sheet_format::kinds::seconds::store_second` meets its contract: a second of the window's range plus 10,800 is a
+-- natural number.
 use mathlib.Core.Path.{_≡_, sym, ap, _∙_}
 use mathlib.Core.List.{[], _∷_}
 use native.Mathlib.Omega.{arith}

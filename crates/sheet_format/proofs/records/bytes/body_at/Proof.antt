@@ -1,5 +1,5 @@
--- `sheet_format::records::bytes::body_at` meets its contract. A body that the input does not hold is cut; of one that it holds the numbers are there as
--- far as its kind goes (`there`), and are the entry's (`entry-made`).
+-- `sheet_format::records::bytes::body_at` meets its contract. A body that the input does not hold is cut; of one that
+-- it holds the numbers are there as far as its kind goes (`there`), and are the entry's (`entry-made`).
 use Rattle.sheet_format.specs.laws.RecordLaws.{body-cut, body-whole}
 use Rattle.sheet_format.specs.laws.Bodies.{entry-made}
 use Rattle.sheet_format.specs.declared.records.Body.the-variants as Body
@@ -62,24 +62,7 @@ returns-2 c =
 pub body-at-spec : {M : Type 1} → statement M
 body-at-spec =
     tie.close
-    (tie.spec
-    (λ c. search needs)
-    (λ c κs. search needs)
-    returns
-    (λ c. search needs)
-    (λ c. search needs)
-    (λ c. search needs)
-    (λ c. search needs)
-    two-if-requires
-    two-if-requires-2
-    two-if-requires-3
-    two-if-requires-4
-    (λ c. search needs)
-    (λ c. search needs)
-    (λ c κs. search needs)
-    (λ c. search needs)
-    (λ c. search needs)
-    (λ c κs. search needs)
-    (λ c κs. search needs)
-    (λ c κs. search needs)
-    returns-2)
+    (tie.spec (λ c. search needs) (λ c κs. search needs) returns (λ c. search needs) (λ c. search needs)
+    (λ c. search needs) (λ c. search needs) two-if-requires two-if-requires-2 two-if-requires-3
+    two-if-requires-4 (λ c. search needs) (λ c. search needs) (λ c κs. search needs) (λ c. search needs)
+    (λ c. search needs) (λ c κs. search needs) (λ c κs. search needs) (λ c κs. search needs) returns-2)

@@ -1,4 +1,5 @@
--- `sheet_format::records::bytes::byte_at` meets its contract. The test is the definition's: a byte below the length, and past it none.
+-- `sheet_format::records::bytes::byte_at` meets its contract. The test is the definition's: a byte below the length,
+-- and past it none.
 use Rattle.sheet_format.specs.laws.RecordLaws.{byte-there, byte-past}
 use Rattle.sheet_format.specs.declared.records.Byte.the-variants as Byte
 use mathlib.Core.Path.{sym, ap, _∙_}

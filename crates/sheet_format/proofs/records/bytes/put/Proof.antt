@@ -1,4 +1,5 @@
--- `sheet_format::records::bytes::put` meets its contract. The kind's byte and the four numbers, each behind the one before it, are the entry's bytes (`put-bytes`).
+-- `sheet_format::records::bytes::put` meets its contract. The kind's byte and the four numbers, each behind the one
+-- before it, are the entry's bytes (`put-bytes`).
 use Rattle.sheet_format.specs.laws.EntryLaws.{put-bytes}
 use Rattle.sheet_format.specs.Kinds.{bytesIn}
 use lib.ListN.{length, length-set}
@@ -54,15 +55,6 @@ returns c =
 pub put-spec : {M : Type 1} → statement M
 put-spec =
     tie.close
-    (tie.spec
-    (λ c κs. search needs)
-    (λ c κs. search needs)
-    (λ c. search needs)
-    (λ c. search needs)
-    (λ c. search needs)
-    put-number-requires
-    put-number-requires-2
-    put-number-requires-3
-    put-number-requires-4
-    same-length
-    returns)
+    (tie.spec (λ c κs. search needs) (λ c κs. search needs) (λ c. search needs) (λ c. search needs)
+    (λ c. search needs) put-number-requires put-number-requires-2 put-number-requires-3 put-number-requires-4
+    same-length returns)

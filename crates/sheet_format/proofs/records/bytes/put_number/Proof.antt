@@ -24,16 +24,5 @@ returns-3 c = rw (c .before .before .before .before .enum-told3 .given .1) (refl
 pub put-number-spec : {M : Type 1} → statement M
 put-number-spec =
     tie.close
-    (tie.spec
-    (λ c. search needs)
-    (λ c. search needs)
-    put-two-requires
-    (λ c. search needs)
-    (λ c. search needs)
-    put-four-requires
-    (λ c. search needs)
-    returns
-    (λ c. search needs)
-    returns-2
-    (λ c. search needs)
-    returns-3)
+    (tie.spec (λ c. search needs) (λ c. search needs) put-two-requires (λ c. search needs) (λ c. search needs)
+    put-four-requires (λ c. search needs) returns (λ c. search needs) returns-2 (λ c. search needs) returns-3)

@@ -1,4 +1,5 @@
--- `sheet_format::records::bytes::record_at` meets its contract. Each sub-answer is its definition's value, so a refusal, and at the end the record, is what `recordAt` computes to.
+-- `sheet_format::records::bytes::record_at` meets its contract. Each sub-answer is its definition's value, so a
+-- refusal, and at the end the record, is what `recordAt` computes to.
 use Rattle.sheet_format.specs.laws.RecordLaws.{by-byte, by-kind, by-body, byte-inv, body-inv}
 use Rattle.sheet_format.specs.Records.{byteAt, bodyAt}
 use Rattle.sheet_format.specs.Kinds.{kindFor}
@@ -48,19 +49,6 @@ returns-4 c = rw (c .size-of .ensures .0)
 pub record-at-spec : {M : Type 1} → statement M
 record-at-spec =
     tie.close
-    (tie.spec
-    (λ c κs. search needs)
-    (λ c. search needs)
-    (λ c. search needs)
-    returns
-    (λ c κs. search needs)
-    (λ c. search needs)
-    (λ c. search needs)
-    returns-2
-    body-at-requires
-    (λ c. search needs)
-    (λ c. search needs)
-    returns-3
-    (λ c κs. search needs)
-    add-next
-    returns-4)
+    (tie.spec (λ c κs. search needs) (λ c. search needs) (λ c. search needs) returns (λ c κs. search needs)
+    (λ c. search needs) (λ c. search needs) returns-2 body-at-requires (λ c. search needs) (λ c. search needs)
+    returns-3 (λ c κs. search needs) add-next returns-4)
