@@ -1,21 +1,14 @@
-// The library for C and Rust: a request's sheet, a sheet read, entries written; in modules of their own one second of
-// a request, its mirror, how much of the Sun is gone, a sheet as text, a fit judged, elements from tables, a file
-// mended, positions as doubles, a network of stations, and the rounds of the root. Each function but the last answers
-// the number of the refusal, 0 for none, and puts the length, the count or the refusal's place into `value`.
-mod from_tables;
-mod listing;
-mod mend;
-mod mirror;
-mod positions;
+// The library for C, Rust and Python: the sheet of a request, a sheet read and written, and the root with its rounds; in
+// modules of their own the other functions. Each function but `ukhtvaresh_root` returns the number of the refusal, 0 for
+// none, and puts the length, the count or the refusal's place into `value`.
+mod of_requests;
 pub mod replies;
-mod roots;
-mod second;
-mod shares;
-mod spreadsheet;
-mod stars;
+mod sheets;
 mod stations;
+mod tables;
 
 ghost use mathlib.Core.Path.{_≡_};
+ghost use Rattle.rounding.specs.Rounds.{Reported};
 ghost use Rattle.sheet_codec.specs.Sheets.{readWhole, roomAfter};
 ghost use Rattle.sheet_codec.specs.Handed.{listWhole, bufferAfterList};
 ghost use Rattle.requests.specs.Requests.{ofEclipse};
@@ -68,4 +61,15 @@ pub extern "C" fn ukhtvaresh_write(entries: &[u32], sheet: &mut [u8], value: &mu
     let reply = crate::replies::write_reply(extent);
     *value = reply.value;
     reply.number
+}
+
+// The largest whole number whose square is at most n; rounds: in how many it is found. It refuses nothing, so its
+// answer is the root.
+#[no_mangle]
+pub extern "C" fn ukhtvaresh_root(n: u64, rounds: &mut u64) -> u64
+    ensures { λ r. ⌜ Reported n r (now (rounds .exit)) ⌝ }
+{
+    let found = rounding::roots::root_and_rounds(n);
+    *rounds = found.rounds as u64;
+    found.root
 }

@@ -1,0 +1,6 @@
+// A request: its sheet with a share, one second, its mirror; a star's sheet; elements and a longitude as doubles.
+mod mirror;
+mod positions;
+mod second;
+mod shares;
+mod stars;
