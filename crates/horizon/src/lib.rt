@@ -13,7 +13,7 @@ ghost use Rattle.rounding.specs.Value.{Value};
 ghost use Rattle.sine_table.specs.Table.{S, Sines};
 ghost use Rattle.elements.specs.Sizes.{AxisSizes};
 ghost use Rattle.shadow_geometry.specs.Direction.{direction};
-ghost use Rattle.shadow.specs.Shadow.{IsOrientation, OrientationSizes};
+ghost use Rattle.shadow.specs.Shadow.{OrientationSizes};
 ghost use Rattle.requests.specs.RequestLaws.{InLimits};
 ghost use Rattle.horizon.specs.Horizon.{altitudeSine, east, north, zenithEast, zenithNorth, horizonOf, horizonAt, horizonAnswer, horizonSines};
 
@@ -91,25 +91,6 @@ fn horizon_of(table: &[u32], sine: i64, cosine: i64, o: Orientation) -> Horizon
     }
 }
 
-// The sines and cosines of H and d.
-fn orientation_of(table: &[u32], h: i64, d: i64) -> Orientation
-    requires { ⌜ (Sines (now table)) × (natAbs h ≤ 10000000000) × (natAbs d ≤ 10000000000) ⌝ }
-    ensures { λ r. ⌜ IsOrientation h d r ⌝ }
-{
-    let a = sine::reduced(h);
-    let b = sine::reduced(d);
-    let hsine = sine::sine(table, a);
-    let hcosine = sine::cosine(table, a);
-    let dsine = sine::sine(table, b);
-    let dcosine = sine::cosine(table, b);
-    Orientation {
-        hsine,
-        hcosine,
-        dsine,
-        dcosine,
-    }
-}
-
 // The horizon at a second of an occultation within its limits, with the sine table lent.
 pub fn horizon_within(table: &[u32], o: Occultation, t: i64) -> Horizon
     requires { ⌜ (Sines (now table)) × (InLimits o) × (natAbs t ≤ 10800) ⌝ }
@@ -125,7 +106,7 @@ pub fn horizon_within(table: &[u32], o: Occultation, t: i64) -> Horizon
     let latitude = s.latitude;
     let h = elements::quadratic_at(mu, t) + longitude;
     let d = elements::quadratic_at(declination, t);
-    let orientation = orientation_of(table, h, d);
+    let orientation = shadow::orientation_of(table, h, d);
     let angle = sine::reduced(latitude);
     let sine = sine::sine(table, angle);
     let cosine = sine::cosine(table, angle);
