@@ -1,6 +1,6 @@
 -- The horizon of a mirrored occultation (document 02, wish 13: latitude, d and y change their signs): the altitude is
 -- the same; the axis points as far to the east and as far to the south as it did to the north, and so does the zenith
--- lie.
+-- lie. So the two azimuths, and the two directions of the zenith, add up to 1799 or 1800 modulo 3600.
 use mathlib.Core.Path.{_≡_, refl, ap, _∙_}
 use mathlib.Core.List.{[], _∷_}
 use lib.IntN.{ℤ, negℤ, _+ℤ_, _-ℤ_, _*ℤ_}
@@ -10,11 +10,15 @@ use Rattle.rounding.specs.Units.{one}
 use Rattle.rounding.specs.Near.{near}
 use Rattle.rounding.specs.laws.NearLaws.{near-opposite}
 use Rattle.sine_table.specs.Table.{S}
+use Rattle.sine_table.specs.laws.TableLaws.{entry-0}
+use Rattle.sine_table.specs.laws.Rising.{S-rises}
 use Rattle.sine.specs.Sine.{sine, cosine}
 use Rattle.sine.specs.laws.OppositeLaws.{sine-opposite, cosine-opposite}
 use Rattle.elements.specs.laws.MirrorLaws.{quadratic-opposite}
 use Rattle.shadow_geometry.specs.Shadow.{Moment, H, d}
 use Rattle.shadow_geometry.specs.laws.MirrorLaws.{mirroredMoment}
+use Rattle.shadow_geometry.specs.laws.DirectionLaws.{Rising}
+use Rattle.shadow_geometry.specs.laws.DirectionMirror.{Mirrored, direction-mirrored}
 use Rattle.shadow.specs.declared.Orientation.{Orientation}
 use Rattle.requests.specs.declared.Occultation.{Occultation}
 use Rattle.requests.specs.Mirror.{mirroredOccultation}
@@ -22,6 +26,9 @@ use Rattle.seconds.specs.Seconds.{momentAt}
 use Rattle.seconds.specs.laws.MirrorLaws.{moment-mirrored}
 use Rattle.horizon.specs.Altitude.{kept, altitude}
 use Rattle.horizon.specs.Horizon.{altitudeSine, east, north, zenithEast, zenithNorth, orientationOf, orientationAt, horizonAt}
+
+rising : Rising S
+rising = record { none = entry-0; rises = S-rises }
 
 -- sin d changes its sign
 abbrev pub mirroredOrientation : Orientation → Orientation
@@ -82,3 +89,33 @@ module _ (o : Occultation) (τ : ℤ) where
   altitude-mirrored =
       rw (orientation-mirrored, sine-opposite (o .station .latitude), cosine-opposite (o .station .latitude))
       (ap (λ (z : ℤ). altitude S (kept z)) (altitude-sine-mirrored (sine (o .station .latitude)) (cosine (o .station .latitude)) (orientationAt o τ)))
+
+  -- the azimuths add up to 1799 modulo 3600, or to 1800 where the axis lies exactly on a tenth; or both are 65,535
+  pub azimuth-mirrored : Mirrored (horizonAt o τ .azimuth) (horizonAt mirror τ .azimuth)
+  unfolding horizonAt
+  azimuth-mirrored =
+      let s = sine (o .station .latitude) in
+      let c = cosine (o .station .latitude) in
+      rw (
+        orientation-mirrored,
+        sine-opposite (o .station .latitude),
+        cosine-opposite (o .station .latitude),
+        east-mirrored s c (orientationAt o τ),
+        north-mirrored s c (orientationAt o τ),
+      )
+      (direction-mirrored S rising (east (orientationAt o τ)) (north s c (orientationAt o τ)))
+
+  -- so do the directions of the zenith
+  pub zenith-mirrored : Mirrored (horizonAt o τ .zenith) (horizonAt mirror τ .zenith)
+  unfolding horizonAt
+  zenith-mirrored =
+      let s = sine (o .station .latitude) in
+      let c = cosine (o .station .latitude) in
+      rw (
+        orientation-mirrored,
+        sine-opposite (o .station .latitude),
+        cosine-opposite (o .station .latitude),
+        zenith-east-mirrored s c (orientationAt o τ),
+        zenith-north-mirrored s c (orientationAt o τ),
+      )
+      (direction-mirrored S rising (zenithEast c (orientationAt o τ)) (zenithNorth s c (orientationAt o τ)))
