@@ -40,7 +40,7 @@ def number(text: str, name: str, least: float, most: float, decimals: int, unit:
     """A decimal number from `least` to `most`, as whole units of its last decimal, rounded to the nearest."""
     words = text.strip()
     if not re.fullmatch(r"[+-]?(\d+\.?\d*|\.\d+)", words):
-        raise Refusal(f"{name} {words!r} is not a number: write {unit} as digits, for example {least:g} or {most:g}")
+        raise Refusal(f"{name} {words!r} is not a decimal number: write one from {least:g} to {most:g} {unit}")
     value = round(float(words) * 10**decimals)
     if not least * 10**decimals <= value <= most * 10**decimals:
         raise Refusal(f"{name} {words} is outside its range, {least:g} to {most:g} {unit}")

@@ -58,6 +58,8 @@ def read(path: str) -> List[Line]:
     """The stations of a file; BadFile with the line, the field and the value of every fault."""
     try:
         text = Path(path).read_text("utf-8-sig")
+    except OSError as wrong:
+        raise Refusal(f"{path} cannot be read: {wrong.strerror}") from None
     except UnicodeDecodeError:
         raise Refusal(f"{path} is not a text in UTF-8: save it as CSV in UTF-8") from None
     made: List[Line] = []
