@@ -103,6 +103,8 @@ def run(name: str, main: Callable[[], None]):
 
     try:
         main()
+    except BrokenPipeError:
+        sys.exit(1)
     except (Refusal, Missing, RuntimeError, OSError) as wrong:
         print(f"{name}: {wrong}", file=sys.stderr)
         sys.exit(1)

@@ -3,9 +3,10 @@
 
     python3 almanac/compare_radii.py [PLACES]
 
-It takes twelve eclipses of the catalogue, of all kinds, and for each so many random places (100) that have an eclipse,
-and as many close to the point of greatest eclipse where it is central. It needs the library for Python alone. Contacts
-are taken between their two seconds, where the library's u, v and L have the edge. Places on the night side count too.
+It takes twelve eclipses of the catalogue, of all kinds. First and last contacts are those of so many random places
+(100) each that have an eclipse; second and third ones those of as many close to the point of greatest eclipse where it
+is central. Contacts with the Sun below the horizon do not count. The program needs the library for Python alone.
+Contacts are taken between their two seconds, where the library's u, v and L have the edge.
 """
 
 import random
@@ -14,7 +15,7 @@ from math import asin, cos, degrees, radians, sin, sqrt
 
 from besselian import RADII, ukhtvaresh
 from catalogue.reader import eclipses
-from circumstances import Tables, at_station
+from circumstances import UP, Tables, altitude, at_station
 
 DATES = [(1919, 5, 29), (1935, 1, 5), (1954, 6, 30), (1986, 10, 3), (2012, 5, 20), (2013, 11, 3)]
 DATES += [(2014, 4, 29), (2017, 8, 21), (2022, 10, 25), (2026, 8, 12), (2061, 4, 20), (2100, 9, 4)]
@@ -60,7 +61,7 @@ def main():
     for eclipse in (e for e in eclipses() if e.date in DATES):
         tables = Tables.of_catalogue(eclipse)
         wide = 180 if eclipse.magnitude > 1000 else 8
-        for within, tries in ((wide, count), (0.7, 0 if eclipse.kind == "P" else count)):
+        for within, tries, counted in ((wide, count, (0, 3)), (0.7, 0 if eclipse.kind == "P" else count, (1, 2))):
             while tries:
                 station = somewhere(eclipse, within)
                 sheets = [at_station(tables, station, 32, RADII[name]) for name in ("document02", "iau")]
@@ -70,9 +71,11 @@ def main():
                 if not any(contact is not None for contact in both[0]):
                     continue
                 tries -= 1
-                for k, (one, two) in enumerate(zip(*both)):
+                for k in counted:
+                    one, two = both[0][k], both[1][k]
                     if one is not None and two is not None:
-                        off[k].append(two - one)
+                        if altitude(sheets[0].request, one) >= UP:
+                            off[k].append(two - one)
                     elif one is not None or two is not None:
                         only[k in (1, 2)] += 1
     print("contacts by --radii iau less those by --radii document02:")

@@ -81,7 +81,7 @@ def angles(vector):
 
 
 def shift(star, on, time, latitude, longitude, height):
-    """The Moon's shift against the star for the station by Swiss Ephemeris, radians east and north; its distance, km."""
+    """The Moon's shift against the star for a station by Swiss Ephemeris, radians east and north; its distance, km."""
     at = ["-b%d.%d.%d" % on[::-1], f"-ut{time}", "-eswe"]
     station = f"-topo{longitude},{latitude},{height}"
     seen = []
@@ -110,7 +110,7 @@ def clock(days):
 
 
 def main():
-    print("universal time by Swiss Ephemeris; theirs less ours, s: as it is, their radius, solved again, due to the shift")
+    print("universal time by Swiss Ephemeris; theirs less ours, s: as it is, their radius, solved again, by the shift")
     for given, (star, on, name, *place) in zip(swiss(), OCCULTATIONS):
         *theirs, delta_t = given
         latitude, longitude, height = place
