@@ -347,6 +347,8 @@ class Stars(Case):
         _, err = self.done("star.py", "Spica", "2024-11-28", "10.7", "-74")
         self.assertIn("note: you asked for 2024-11-28; at this place the Moon is closest to Spica on 2024-11-27", err)
         self.assertIn("note: not visible from this place: no contact, Spica passes the Moon's edge by", err)
+        _, err = self.done("star.py", "Spica", "2024-11-27", "44.65", "-63.57")
+        self.assertEqual(err, "note: the Sun is up when Spica appears (altitude 3.3 degrees)\n")
         _, err = self.done("star.py", "Spica", "2024-11-27", "50", "100")
         self.assertIn("not visible from this place", err)
 
