@@ -1,8 +1,8 @@
 """From seven hourly rows of Sun and Moon to the elements of a request.
 
-The proved library makes the values of each row (document 02, wish 2) and judges each fit (wish 14). Between them stand
-least squares in exact fractions and, for d and mu, arc tangents in floating point: `elements_of_rows` is the one place
-that has them. x and y have four coefficients, d, l1, l2 and mu three.
+The proved library makes the values of each row (document 02, wish 2) and judges each fit (wish 14). The steps
+between them are least squares in exact fractions and, for d and mu, arc tangents in floating point: they are in
+`elements_of_rows` alone. x and y have four coefficients, d, l1, l2 and mu three.
 """
 
 import sys
@@ -48,7 +48,7 @@ IAU = Radii(round(SUN_UNIT * sin(radians(959.63 / 3600)) * UNIT), 27_250_760, 27
 RADII = {"document02": DOCUMENT_02, "iau": IAU}
 
 
-def _with_cones(row: Sequence[int], values: ukhtvaresh.Besselian, radii: Radii) -> ukhtvaresh.Besselian:
+def with_cones(row: Sequence[int], values: ukhtvaresh.Besselian, radii: Radii) -> ukhtvaresh.Besselian:
     """The values of a row with l and tan f of both cones for other radii, in floating point."""
     sun, moon = row[:3], row[3:]
     apart = [s - m for s, m in zip(sun, moon)]
@@ -94,7 +94,7 @@ def elements_of_rows(table: Sequence[Sequence[int]], sidereal: Sequence[int], ra
     """
     hourly = ukhtvaresh.from_tables([ukhtvaresh.Row(*row) for row in table])
     if radii != DOCUMENT_02:
-        hourly = [_with_cones(row, values, radii) for row, values in zip(table, hourly)]
+        hourly = [with_cones(row, values, radii) for row, values in zip(table, hourly)]
     off: Dict[str, int] = {}
     x = accepted("x", [e.x for e in hourly], 3, off)
     y = accepted("y", [e.y for e in hourly], 3, off)

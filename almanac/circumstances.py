@@ -133,8 +133,8 @@ def partly_visible(local: Local) -> List[str]:
     """Which of first contact, greatest eclipse and last contact happen with the Sun below the horizon."""
     first, last = spell(local.entries, ukhtvaresh.Phase.PENUMBRA)
     events = (("first contact", first), ("greatest eclipse", local.closest().second), ("last contact", last))
-    below = [(name, altitude(local.request, second)) for name, second in events]
-    return [f"{name} (altitude {degrees_:.1f} degrees)" for name, degrees_ in below if degrees_ < UP]
+    altitudes = [(name, altitude(local.request, second)) for name, second in events]
+    return [f"{name} (altitude {above:.1f} degrees)" for name, above in altitudes if above < UP]
 
 
 class Seen(NamedTuple):

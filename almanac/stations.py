@@ -50,7 +50,7 @@ def _header(words: List[str]) -> List[str]:
     faults = [f"column {word!r} is unknown" for word in words if word not in NEEDED + OPTIONAL]
     faults += [f"column {word!r} is given twice" for word in sorted(set(words)) if words.count(word) > 1]
     faults += [f"column {word!r} is missing" for word in NEEDED if word not in words]
-    columns = f"columns are {', '.join(NEEDED)}, and, if wanted, {', '.join(OPTIONAL)}"
+    columns = f"columns are {', '.join(NEEDED)}, and, if wanted, {', '.join(OPTIONAL)}, with commas between them"
     return [f"{fault}: {columns}" for fault in faults]
 
 

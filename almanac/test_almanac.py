@@ -11,13 +11,14 @@ import unittest
 from datetime import date
 from math import degrees, radians
 from pathlib import Path
+from unittest import mock
 
 import almanac
 import leap_seconds
-from besselian import DOCUMENT_02, RADII, decimal, elements, elements_of_rows, ukhtvaresh, with_radii
+from besselian import DOCUMENT_02, RADII, decimal, elements, elements_of_rows, ukhtvaresh, with_cones, with_radii
 from catalogue.reader import eclipses
 from circumstances import Tables, altitude, at_station
-from places import AU, EARTH, SOURCES, SUN_UNIT, UNIT, calendar, julian_day, later, swiss_delta_t
+from places import AU, EARTH, SOURCES, SUN_UNIT, UNIT, Missing, calendar, julian_day, later, swetest, swiss_delta_t
 
 sys.path.append(str(Path(__file__).resolve().parent.parent / "python"))
 import clock  # noqa: E402
@@ -95,6 +96,28 @@ class Elements(unittest.TestCase):
                     self.assertAlmostEqual(a, b, delta=5e-8)  # 4 seconds of arc
 
 
+class Packages(unittest.TestCase):
+    def test_missing_files(self):
+        """swetest computes by another theory where it has no file, and says so: that is no place of the Moon."""
+        for name, words in (
+            ("sepl_18.se1", "sepl_18.se1, for the years 1800 to 2399, is not installed. Debian's package swe-basic-data"),
+            ("semo_24.se1", "semo_24.se1, for the years 2400 to 2999, is not installed. Debian's package swe-standard"),
+            ("seplm06.se1", "seplm06.se1, for the years -600 to -1, is not installed. Debian's package swe-standard"),
+            ("sepl_54.se1", "Debian's package swe-standard-data ends in 5399: take an earlier date"),
+            ("sefstars.txt", "sefstars.txt is not installed. Debian's package swe-basic-data has it"),
+        ):
+            text = f"Sun 1 2 3\nMoon 1 2 3\nwarning: SwissEph file '{name}' not found in PATH '.'\nusing Moshier eph.;\n"
+            with mock.patch("places.run_swetest", return_value=text):
+                with self.assertRaises(Missing) as raised:
+                    swetest("-p01")
+            self.assertIn(words, str(raised.exception))
+
+    def test_other_errors(self):
+        with mock.patch("places.run_swetest", return_value="error: star Nosuch not found\nNosuch 0 0\n"):
+            with self.assertRaisesRegex(RuntimeError, "star Nosuch not found"):
+                swetest("-pf")
+
+
 class Typed(unittest.TestCase):
     def test_decimal(self):
         written = [decimal(-12957435, 8), decimal(100, 2), decimal(-5, 6), decimal(0, 8), decimal(7, 0)]
@@ -115,12 +138,10 @@ class Radii(unittest.TestCase):
 
         The library has tan f to 10^-8, which 60 radii to the Moon turn into 30 units of l.
         """
-        from besselian import _with_cones
-
         for eclipse in eclipses()[::50]:
             table, _ = eclipse.seven(0)
             for row, values in zip(table, ukhtvaresh.from_tables([ukhtvaresh.Row(*row) for row in table])):
-                other = _with_cones(row, values, DOCUMENT_02)
+                other = with_cones(row, values, DOCUMENT_02)
                 for name, most in (("l1", 40), ("l2", 40), ("tan_f1", 1), ("tan_f2", 1)):
                     self.assertLessEqual(abs(getattr(other, name) - getattr(values, name)), most, (eclipse.date, name))
 

@@ -4,9 +4,8 @@
     python3 almanac/catalogue/make_catalogue.py > eclipses.txt
     python3 almanac/catalogue/make_catalogue.py --check [EVERY]
 
-The second form makes every tenth record, or every EVERY-th, anew and compares it with the catalogue. It compares all
-numbers of a record but the reference hour, gamma and the instant of greatest eclipse, which result from the search.
-Both need Debian's packages swetest (2.10.03) and swe-basic-data, and take about 20 seconds.
+The second form makes every tenth record, or every EVERY-th, anew, with its search, and compares every number with the
+catalogue. Both need Debian's packages swetest (2.10.03) and swe-basic-data. The first takes about 20 seconds.
 
 The script finds the eclipses twice: by the new moons (daily places, then hourly ones, then the distance at which the
 shadow's axis passes the Earth's centre), and by `swetest -solecl`, which gives kind, saros series, magnitude and place
@@ -17,7 +16,7 @@ import re
 import sys
 from math import copysign, floor, sqrt
 from pathlib import Path
-from typing import Iterator, List, NamedTuple, Tuple
+from typing import Iterator, List, NamedTuple, Optional, Tuple
 
 sys.path.insert(0, str(Path(__file__).resolve().parent.parent))
 from catalogue.reader import ROWS, TURN, Eclipse, eclipses, encoded  # noqa: E402
@@ -160,57 +159,72 @@ def least(values: List[float]) -> Tuple[int, float, float]:
     return k, part, b - (a - c) * part / 4
 
 
+def cosines(days: List[List[float]]) -> List[float]:
+    """The cosine of the angle between Sun and Moon on each of some days."""
+    made = []
+    for row in days:
+        sun, moon = row[:3], row[3:]
+        sizes = sqrt(sum(c * c for c in sun) * sum(c * c for c in moon))
+        made.append(sum(a * b for a, b in zip(sun, moon)) / sizes)
+    return made
+
+
 def new_moons() -> Iterator[Instant]:
     """Days, at 0h, closer to a new moon than the days beside them."""
     start, end = julian_day(FIRST, 1, 1) - 2, julian_day(LAST + 1, 1, 1) + 2
-    days, cosines = [], []
+    days, near = [], []
     while start < end:
         count = min(MOST_LINES, int(end - start))
-        for k, row in enumerate(places((*calendar(start), 0), count, "1")):
-            sun, moon = row[:3], row[3:]
-            sizes = sqrt(sum(c * c for c in sun) * sum(c * c for c in moon))
-            days.append(start + k)
-            cosines.append(sum(a * b for a, b in zip(sun, moon)) / sizes)
+        days += [start + k for k in range(count)]
+        near += cosines(places((*calendar(start), 0), count, "1"))
         start += count
     for k in range(1, len(days) - 1):
-        if cosines[k] > max(0.9, cosines[k - 1]) and cosines[k] >= cosines[k + 1]:
+        if near[k] > max(0.9, near[k - 1]) and near[k] >= near[k + 1]:
             yield (*calendar(days[k]), 0)
 
 
+def new_moon_near(instant: Instant) -> Instant:
+    """The day, at 0h, that is closest to the new moon, among those within two days of an instant."""
+    start = julian_day(*instant[:3]) - 2
+    near = cosines(places((*calendar(start), 0), 5, "1"))
+    return (*calendar(start + near.index(max(near))), 0)
+
+
 class Found(NamedTuple):
-    """An eclipse of the search: the hour nearest to when the axis is closest, and how the axis passes."""
+    """An eclipse of the search: the hour nearest to when the axis is closest to the Earth's centre, and gamma."""
 
     instant: Instant
-    greatest: float  # seconds from the instant
+    greatest: int  # seconds from the instant
     gamma: float
-    reach: float  # of the penumbra over the Earth's edge, Earth radii
 
     def day(self) -> float:
         """Greatest eclipse as a Julian day of ephemeris time."""
         return julian_day(*self.instant[:3]) + self.instant[3] / 24 + self.greatest / 86400
 
 
+def eclipse_at(day: Instant) -> Optional[Found]:
+    """The eclipse at the new moon of a day, or None where the penumbra misses the Earth."""
+    k, _, squared = least([axis(row)[0] for row in places(later(day, -27), 55, "60m")])
+    if squared > 1.6**2:
+        return None
+    hour = later(day, k - 27)
+    near = [axis(row) for row in places(later(hour, -1), 25, "5m")]
+    k, part, squared = least([square for square, _, _ in near])
+    seconds = (k + part - 12) * 300
+    hours = round(seconds / 3600)
+    gamma = sqrt(max(squared, 0.0))
+    # the sign is that at greatest eclipse itself: five minutes away the axis may be on the other side
+    north = near[k][1] + part * (near[k + 1][1] - near[k - 1][1]) / 2
+    if 1 + near[k][2] <= gamma:
+        return None
+    return Found(later(hour, hours), round(seconds - 3600 * hours), copysign(gamma, north))
+
+
 def found() -> Tuple[List[Found], int]:
     """The eclipses of the search, and the number of new moons tried."""
-    made, moons = [], 0
-    for day in new_moons():
-        moons += 1
-        k, _, squared = least([axis(row)[0] for row in places(later(day, -27), 55, "60m")])
-        if squared > 1.6**2:
-            continue
-        hour = later(day, k - 27)
-        near = [axis(row) for row in places(later(hour, -1), 25, "5m")]
-        k, part, squared = least([square for square, _, _ in near])
-        seconds = (k + part - 12) * 300
-        hours = round(seconds / 3600)
-        gamma = sqrt(max(squared, 0.0))
-        # the sign is that at greatest eclipse itself: five minutes away the axis may be on the other side
-        north = near[k][1] + part * (near[k + 1][1] - near[k - 1][1]) / 2
-        reach = 1 + near[k][2] - gamma
-        each = Found(later(hour, hours), seconds - 3600 * hours, copysign(gamma, north), reach)
-        if each.reach > 0 and FIRST <= year_of(each.day()) <= LAST:
-            made.append(each)
-    return made, moons
+    days = list(new_moons())
+    made = [each for each in map(eclipse_at, days) if each and FIRST <= year_of(each.day()) <= LAST]
+    return made, len(days)
 
 
 # ---- the catalogue
@@ -222,12 +236,13 @@ def delta_t_source(instant: Instant) -> str:
     return "O" if year < OBSERVED else "X" if year < TABLE_END else "F"
 
 
-def record(instant: Instant, greatest: int, gamma: int, one: Listed) -> Eclipse:
+def record(each: Found, one: Listed) -> Eclipse:
     """The record of an eclipse; its date is that of greatest eclipse by universal time."""
+    instant = each.instant
     delta_t = round(swiss_delta_t(instant) * 100)
-    day = floor((instant[3] * 3600 + greatest - delta_t / 100) / 86400)
+    day = floor((instant[3] * 3600 + each.greatest - delta_t / 100) / 86400)
     date, hour = calendar(julian_day(*instant[:3]) + day), instant[3] - 24 * day
-    facts = (one.saros, gamma, one.magnitude, one.latitude, one.longitude, greatest)
+    facts = (one.saros, round(each.gamma * 10**4), one.magnitude, one.latitude, one.longitude, each.greatest)
     return Eclipse(date, hour, one.kind, delta_t, delta_t_source(instant), *facts, hourly(instant))
 
 
@@ -244,12 +259,12 @@ def version() -> str:
 
 def check(every: int) -> List[Tuple[int, int, int]]:
     """Makes every so many records of the catalogue anew; the dates of those in which a number differs."""
-    tried = list(zip(listed(), eclipses()))[::every]
-    return [
-        eclipse.date
-        for one, eclipse in tried
-        if record(eclipse.instant(), eclipse.greatest, eclipse.gamma, one) != eclipse
-    ]
+    wrong = []
+    for one, eclipse in list(zip(listed(), eclipses()))[::every]:
+        each = eclipse_at(new_moon_near(eclipse.instant()))
+        if each is None or record(each, one) != eclipse:
+            wrong.append(eclipse.date)
+    return wrong
 
 
 def main():
@@ -279,7 +294,7 @@ def main():
     print(f"greatest eclipse is at most {farthest:.1f} s from that of swetest -solecl", file=sys.stderr)
     print(HEAD.format(version=made_by), end="")
     for each, one in zip(ours, theirs):
-        print(encoded(record(each.instant, round(each.greatest), round(each.gamma * 10**4), one)), end="")
+        print(encoded(record(each, one)), end="")
 
 
 if __name__ == "__main__":
