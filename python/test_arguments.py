@@ -14,6 +14,8 @@ from decimal import Decimal
 from fractions import Fraction
 from pathlib import Path
 
+import clock
+import least_squares
 import ukhtvaresh
 from ukhtvaresh import (
     Closest,
@@ -35,6 +37,7 @@ from ukhtvaresh import (
     Share,
     StarRequest,
     Station,
+    State,
     Survey,
     Window,
 )
@@ -311,7 +314,29 @@ class WholeNumbers(unittest.TestCase):
             self.assertRaises(NotWhole, ukhtvaresh.second, MOSCOW, wrong)
 
 
-State = ukhtvaresh.State
+class OtherModules(unittest.TestCase):
+    def test_clock_times(self):
+        instant = clock.Instant.read(b"2017-08-21 18:00:00 ET")
+        self.assertEqual(clock.times(instant, Index(6_880), Index(-5), 7), clock.times(instant, 6_880, -5, 7))
+        for wrong in (68.8, 7.0, True, "7", None):
+            for name, call in [
+                ("delta_t", lambda: clock.times(instant, wrong, 0, 1)),
+                ("second", lambda: clock.times(instant, 0, wrong, 1)),
+                ("second", lambda: clock.times(instant, 0, 0, wrong)),
+                ("delta_t", lambda: clock.nearest(instant, wrong, 0)),
+                ("second", lambda: clock.nearest(instant, 0, wrong)),
+            ]:
+                with self.assertRaises(TypeError) as caught:
+                    call()
+                self.assertTrue(str(caught.exception).startswith(f"{name} must be a whole number"), caught.exception)
+
+    def test_least_squares(self):
+        table = [0] * 7
+        self.assertEqual(least_squares.cubic(with_item(table, 3, Index(0)), 0), [0] * 4)
+        for wrong in (0.5, 0.0, True, "0", None):
+            with self.assertRaises(NotWhole) as caught:
+                least_squares.cubic(with_item(table, 3, wrong), 1)
+            self.assertTrue(str(caught.exception).startswith("tabulated value 3 must be"), caught.exception)
 
 
 class OtherTypes(unittest.TestCase):
@@ -333,6 +358,25 @@ class OtherTypes(unittest.TestCase):
         self.refused_as(
             "station 1 in the list must be of type Node", ukhtvaresh.network, REQUEST.elements, REQUEST.window, stations
         )
+
+    def test_lists(self):
+        steps = (ctypes.c_uint64 * 64)()
+        for wrong in (None, 7, 7.5, REQUEST):
+            for name, call in [
+                ("entries", ukhtvaresh.write),
+                ("entries", lambda entries: ukhtvaresh.write_into(entries, bytearray(9))),
+                ("coefficients", lambda coefficients: ukhtvaresh.fit(coefficients, [0] * 7, 0)),
+                ("tabulated", lambda tabulated: ukhtvaresh.fit([0] * 4, tabulated, 0)),
+                ("rows", ukhtvaresh.from_tables),
+                ("rows", lambda rows: ukhtvaresh.from_tables_into(rows, (ctypes.c_int64 * 56)())),
+                ("elements", lambda elements: ukhtvaresh.doubles(elements, 0)),
+                ("elements", lambda elements: ukhtvaresh.sheet_of_doubles(replace(SURVEY, elements=elements))),
+                ("units", lambda units: ukhtvaresh.doubles_into(units, (ctypes.c_double * 23)())),
+                ("eclipse", lambda eclipse: ukhtvaresh.network_into(eclipse, NODES, steps)),
+                ("stations", lambda stations: ukhtvaresh.network_into(ECLIPSE, stations, steps)),
+                ("stations", lambda stations: ukhtvaresh.network(REQUEST.elements, REQUEST.window, stations)),
+            ]:
+                self.refused_as(f"{name} must be a list or another iterable, not {wrong!r}"[:60], call, wrong)
 
     def test_longitudes(self):
         for wrong in (37.6, 37, None, "37", (37.6,), Phase.STAR):  # a Phase has a value too
@@ -382,6 +426,7 @@ class OtherTypes(unittest.TestCase):
         for name, call in takers:
             for wrong in (115, 0, True, "text", None, 1.5, REQUEST, [2] * 115, *others):
                 self.refused_as(f"{name} must be bytes", call, wrong)
+        self.refused_as("(Request): call its to_bytes()", ukhtvaresh.sheet, REQUEST)
         forms = [bytearray(MOSCOW), memoryview(MOSCOW), array.array("B", MOSCOW)]
         for form in (*forms, ctypes.create_string_buffer(MOSCOW, 115)):
             self.assertEqual(ukhtvaresh.sheet(form), SHEET)
@@ -389,8 +434,8 @@ class OtherTypes(unittest.TestCase):
 
 
 BYTES = (ctypes.c_uint8, "B", 100)
-# Each function that writes to a buffer: how it is called; the buffer's name; its elements as ctypes and array.array have
-# them, and how many of them are enough.
+# Each function that writes to a buffer: how it is called; the buffer's name; its elements as ctypes and array.array
+# have them, and how many of them are enough.
 INTO = [
     ("sheet_into", lambda room: ukhtvaresh.sheet_into(MOSCOW, room), "buffer", *BYTES),
     ("sheet_and_share_into", lambda room: ukhtvaresh.sheet_and_share_into(MOSCOW, room), "buffer", *BYTES),
@@ -438,7 +483,7 @@ class Buffers(unittest.TestCase):
                         self.refused_untouched(call, f"{name} must be a writable buffer of", buffer, around)
                     with self.assertRaises(TypeError) as caught:
                         call(buffer)
-                    self.assertIn(f"have {size} bytes each", str(caught.exception))
+                    self.assertIn(f"has {size} byte", str(caught.exception))
             self.assertEqual(call(array.array(letter, [0] * count)), expected)
             self.assertEqual(call(memoryview(array.array(letter, [0] * count))), expected)
             other_order = {"q": ">q", "Q": ">Q", "d": ">d"}.get(letter)

@@ -158,6 +158,14 @@ def _instance(value, kind: type, name: str):
     return value
 
 
+def _items(values, name: str) -> list:
+    """The items of a list, a tuple, an array or another iterable."""
+    try:
+        return list(values)
+    except TypeError:
+        raise TypeError(f"{name} must be a list or another iterable, not {_shown(values)}") from None
+
+
 def _fields(value, kind: type, name: str, of: str = "") -> List[int]:
     """The whole numbers of a value of a kind, in the order of its fields."""
     _instance(value, kind, name + of)
@@ -169,9 +177,10 @@ def _bytes(value, name: str) -> bytes:
     try:
         view = memoryview(value)
     except TypeError:
-        raise TypeError(f"{name} must be bytes, not {_shown(value)}") from None
+        hint = ": call its to_bytes()" if isinstance(value, (Request, StarRequest)) else ""
+        raise TypeError(f"{name} must be bytes, not {_shown(value)}{hint}") from None
     if view.itemsize != 1:
-        raise TypeError(f"{name} must be bytes; its elements have {view.itemsize} bytes each (format {view.format!r})")
+        raise TypeError(f"{name} must be bytes; one of its elements has {view.itemsize} bytes, format {view.format!r}")
     return bytes(view)
 
 
@@ -606,8 +615,8 @@ def _lent(buffer, name: str, elements=_BYTES):
     letter = view.format.lstrip("@=<>!")
     foreign = size > 1 and view.format[:1] in tuple(_OTHER_ORDER)
     if view.itemsize != size or len(letter) != 1 or letter not in letters or foreign:
-        held = f"{view.itemsize} bytes each, format {view.format!r}"
-        raise TypeError(f"{wanted}; the elements of this {kind} have {held}")
+        held = f"{view.itemsize} byte{'s' if view.itemsize != 1 else ''}, format {view.format!r}"
+        raise TypeError(f"{wanted}; an element of this {kind} has {held}")
     if not view.c_contiguous:
         raise TypeError(f"{wanted} that follow one another in memory; this {kind} has gaps")
     if view.nbytes == 0:
@@ -623,9 +632,9 @@ def _apart(one, its_name: str, other, other_name: str) -> None:
         raise ValueError(f"{its_name} and {other_name} overlap: give two buffers that have no byte in common")
 
 
-def _listed(values: Iterable, number: Callable):
+def _listed(values: Iterable, name: str, number: Callable):
     """The values as a ctypes array of 64-bit numbers, one longer, and their count. `number` takes a value and place."""
-    made = [number(value, at) for at, value in enumerate(values)]
+    made = [number(value, at) for at, value in enumerate(_items(values, name))]
     return (ctypes.c_int64 * (len(made) + 1))(*made), len(made)
 
 
@@ -763,14 +772,14 @@ def write_into(entries: Iterable[Entry], buffer) -> int:
     the sheet. A whole number that cannot be stored is refused as 7; any other value raises NotWhole.
     """
     lent = _lent(buffer, "buffer")
-    listed = [number for at, entry in enumerate(entries) for number in _numbers(entry, at)]
+    listed = [number for at, entry in enumerate(_items(entries, "entries")) for number in _numbers(entry, at)]
     handed = (ctypes.c_uint32 * (len(listed) + 1))(*listed)
     return _call("write", handed, len(listed), *lent)
 
 
 def write(entries: Iterable[Entry]) -> bytes:
     """The sheet of entries. Refusals as write_into, but 4."""
-    entries = list(entries)
+    entries = _items(entries, "entries")
     return _whole(lambda buffer: write_into(entries, buffer))
 
 
@@ -791,8 +800,8 @@ def fit(coefficients: Sequence[int], tabulated: Sequence[int], tolerance: int) -
     Refusals, the first of them: 10 (not four and seven), 18, 2, 17.
     """
     lists = [
-        *_listed(coefficients, lambda value, at: _signed(value, f"coefficient {at}")),
-        *_listed(tabulated, lambda value, at: _signed(value, f"tabulated value {at}")),
+        *_listed(coefficients, "coefficients", lambda value, at: _signed(value, f"coefficient {at}")),
+        *_listed(tabulated, "tabulated", lambda value, at: _signed(value, f"tabulated value {at}")),
     ]
     _call("fit", *lists, _signed(tolerance, "tolerance"))
 
@@ -864,13 +873,14 @@ def from_tables_into(rows: Iterable[int], values) -> int:
     Refusals: 10 for another count than 42; 11 with the first row outside its distances; then 4 with 56.
     """
     lent = _lent(values, "values", _SIGNED)
-    return _call("from_tables", *_listed(rows, lambda value, at: _coordinate(value, f"number {at} of rows")), *lent)
+    listed = _listed(rows, "rows", lambda value, at: _coordinate(value, f"number {at} of rows"))
+    return _call("from_tables", *listed, *lent)
 
 
 def from_tables(rows: Iterable[Row]) -> List[Besselian]:
     """The Besselian elements of seven hourly rows. Refusals: 10 for another count than seven, 11 with the first bad row."""
     values, listed = (ctypes.c_int64 * 56)(), []
-    for at, row in enumerate(rows):
+    for at, row in enumerate(_items(rows, "rows")):
         _instance(row, Row, f"row {at}")
         listed += [_coordinate(getattr(row, field.name), field.name, f" of row {at}") for field in fields(Row)]
     from_tables_into(listed, values)
@@ -978,7 +988,7 @@ def sheet_of_doubles_into(survey: Survey, buffer) -> int:
     """
     lent = _lent(buffer, "buffer")
     _instance(survey, Survey, "survey")
-    elements = [_double(element, f"element {at}") for at, element in enumerate(survey.elements)]
+    elements = [_double(element, f"element {at}") for at, element in enumerate(_items(survey.elements, "elements"))]
     handed = (ctypes.c_double * (len(elements) + 1))(*elements)
     if not isinstance(survey.longitude, (Degrees, Hours)):
         raise TypeError(f"longitude must be Degrees(..) or Hours(..), not {_shown(survey.longitude)}")
@@ -1009,13 +1019,13 @@ def doubles_into(units: Iterable[int], room) -> int:
     then 4 with 23.
     """
     lent = _lent(room, "room", _DOUBLES)
-    return _call("doubles", *_listed(units, lambda value, at: _signed(value, *_unit_name(at))), *lent)
+    return _call("doubles", *_listed(units, "units", lambda value, at: _signed(value, *_unit_name(at))), *lent)
 
 
 def doubles(elements: Union[Elements, Iterable[int]], longitude: int) -> Tuple[List[float], Degrees]:
     """Elements and a longitude in whole units as floats. Refusals: 10 for another count than 22; 2; 3 with 2 for the longitude."""
     room = (ctypes.c_double * 23)()
-    units = _fields(elements, Elements, "elements") if isinstance(elements, Elements) else list(elements)
+    units = _fields(elements, Elements, "elements") if isinstance(elements, Elements) else _items(elements, "elements")
     doubles_into([*units, _index(longitude, "longitude")], room)
     return list(room[:22]), Degrees(room[22])
 
@@ -1074,8 +1084,8 @@ def network_into(eclipse: Sequence[int], stations: Sequence[Node], steps) -> Opt
     Refusals, the first of them: 10 for other lengths than 25 and 64, 19, 1, 2, 3, 14, 15, 16.
     """
     room = _lent(steps, "steps", _UNSIGNED)
-    common = _listed(eclipse, lambda value, at: _signed(value, *_eclipse_name(at)))
-    nodes = [_node(node, at) for at, node in enumerate(stations)]
+    common = _listed(eclipse, "eclipse", lambda value, at: _signed(value, *_eclipse_name(at)))
+    nodes = [_node(node, at) for at, node in enumerate(_items(stations, "stations"))]
     lent = (_Node * (len(nodes) + 1))(*nodes)
     number = _call("network", *common, lent, len(nodes), *_sines(), *room)
     return number or None
@@ -1087,7 +1097,7 @@ def network(elements: Elements, window: Window, stations: Sequence[Node], guard:
     The first is the station whose first Enter of the penumbra, in the sheet that it gets alone, has the smallest `to`, the first in the
     list among equals. Refusals, the first of them: 19, 1, 2, 3, 14, 15, 16.
     """
-    stations = list(stations)
+    stations = _items(stations, "stations")
     steps = (ctypes.c_uint64 * STATIONS)()
     eclipse = [*_fields(elements, Elements, "elements"), *_fields(window, Window, "window"), _index(guard, "guard")]
     first = network_into(eclipse, stations, steps)
