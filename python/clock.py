@@ -11,6 +11,7 @@ print that listing for a typed request with a line `instant ..`, or with the ins
 (`rt check request`) and the shared library (`rt staticlib ukhtvaresh && python/build`).
 """
 
+import operator
 import re
 import subprocess
 import sys
@@ -92,8 +93,19 @@ def instant_in(text: bytes) -> Optional[Instant]:
     return None
 
 
+def _whole(value, name: str, unit: str) -> int:
+    """The whole number that a value is; TypeError for a float, a bool, a string or None."""
+    if not isinstance(value, bool):
+        try:
+            return operator.index(value)
+        except TypeError:
+            pass
+    raise TypeError(f"{name} must be a whole number (int) in {unit}, not {value!r} ({type(value).__name__})") from None
+
+
 def _hundredths(instant: Instant, delta_t: int, second: int) -> Dict[Scale, int]:
     """The time of a second in each scale that is known, ephemeris time first."""
+    delta_t, second = _whole(delta_t, "delta_t", "hundredths of a second"), _whole(second, "second", "seconds")
     own = instant.hundredths + 100 * second
     if delta_t == 0:
         return {instant.scale: own}

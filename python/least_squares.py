@@ -4,7 +4,7 @@ from fractions import Fraction
 from math import floor
 from typing import List, Sequence
 
-from ukhtvaresh import Refused, fit
+from ukhtvaresh import Refused, _index, fit
 
 
 def cubic(tabulated: Sequence[int], tolerance: int) -> List[int]:
@@ -12,6 +12,7 @@ def cubic(tabulated: Sequence[int], tolerance: int) -> List[int]:
 
     The squares are least in exact fractions; halves of a unit go away from zero.
     """
+    tabulated = [_index(value, f"tabulated value {at}") for at, value in enumerate(tabulated)]
     if len(tabulated) != 7:
         raise Refused(10, 0)
     coefficients = [_nearest(coefficient) for coefficient in _least_squares(tabulated)]

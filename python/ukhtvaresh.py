@@ -11,14 +11,25 @@ is a thin call of the proved function of the same name in libukhtvaresh.so, whic
 
 Lengths are in 10^-8 of the Earth's equatorial radius, angles in 10^-6 degree, times in whole seconds of
 ephemeris time from the reference instant. East longitude is positive. "Document 01" is the paper whose rules the library keeps.
+
+A number is taken exactly or not at all. Whole numbers are ints, or other types with `__index__` such as numpy's
+integers; a float, a Decimal, a bool, a string or None raises NotWhole with the field's name. The library itself refuses
+whole numbers outside their ranges. A function whose name ends in `_into` writes to the caller's memory. It first checks
+that the memory is writable, that its elements have the right type and follow one another, and that no two such buffers
+overlap; otherwise it raises TypeError or ValueError with the buffer's name. It copies what it reads before it writes.
 """
 
 import ctypes
+import math
+import operator
 import os
 import struct
+import sys
 import threading
-from dataclasses import astuple, dataclass
+from dataclasses import dataclass, fields
+from decimal import Decimal
 from enum import Enum
+from numbers import Number, Real
 from pathlib import Path
 from typing import Callable, Iterable, List, Optional, Sequence, Tuple, Union
 
@@ -70,17 +81,144 @@ class Refused(Exception):
         return f"refused {self.number} {self.place}: {self.words}"
 
 
+# ---- numbers and bytes that a caller gives
+
+
+class NotWhole(TypeError, ValueError):
+    """A value that is not a whole number where one is needed. The message has the field, the value and the right unit.
+
+    It is a TypeError, as `operator.index` raises, and a ValueError, as Request.to_bytes has always raised for it.
+    """
+
+
+_RADIUS, _ANGLE, _SECONDS = "10^-8 of the Earth's equatorial radius", "10^-6 degree", "seconds"
+# The unit of each field.
+_UNITS = {
+    **{name: f"{_RADIUS} (coefficients per hour)" for name in "x0 x1 x2 x3 y0 y1 y2 y3".split()},
+    **{name: f"{_RADIUS} (coefficients per hour)" for name in "l1_0 l1_1 l1_2 l2_0 l2_1 l2_2".split()},
+    **{name: f"{_ANGLE} (coefficients per hour)" for name in "d0 d1 d2 mu0 mu1 mu2".split()},
+    **{name: "10^-8" for name in "tan_f1 tan_f2".split()},
+    **{name: _RADIUS for name in "sun_x sun_y sun_z moon_x moon_y moon_z radius guard tolerance".split()},
+    **{name: _ANGLE for name in "latitude longitude".split()},
+    **{name: _SECONDS for name in "first last second from_ to".split()},
+    **{name: "millionths" for name in "magnitude share".split()},
+    "height": "metres",
+    "delta_t": "hundredths of a second",
+    "direction": "tenths of a degree",
+}
+
+
+def _shown(value) -> str:
+    """A value and its type, as a message shows them."""
+    shown = repr(value)
+    return f"{shown if len(shown) <= 60 else shown[:57] + '...'} ({type(value).__name__})"
+
+
+def _is_bool(value) -> bool:
+    """Whether a value is Python's or numpy's True or False: they count as 1 and 0, but are no numbers to a user."""
+    return type(value).__name__ in ("bool", "bool_")
+
+
+def _index(value, name: str, of: str = "") -> int:
+    """The whole number that a value is. `of` says whose field it is."""
+    if not _is_bool(value):
+        try:
+            return operator.index(value)
+        except TypeError:
+            pass
+    unit = f" in {_UNITS[name]}" if name in _UNITS else ""
+    raise NotWhole(f"{name}{of} must be a whole number (int){unit}, not {_shown(value)}") from None
+
+
+def _signed(value, name: str, of: str = "") -> int:
+    """The same, or the end of 64 bits that it is beyond: ctypes would take it modulo 2^64, and no range goes so far."""
+    return max(-(2**63), min(_index(value, name, of), 2**63 - 1))
+
+
+def _double(value, name: str) -> float:
+    """The float that a value is, one that is not finite too; another number only if a float has exactly its value."""
+    if isinstance(value, float):
+        return float(value)
+    real = isinstance(value, (Real, Decimal)) or not isinstance(value, Number)
+    if real and hasattr(type(value), "__float__") and not _is_bool(value):
+        try:
+            made = float(value)
+            if made == value or math.isnan(made):
+                return made
+        except OverflowError:
+            pass
+        raise ValueError(f"{name} must be a float, and no float has exactly the value {_shown(value)}")
+    raise TypeError(f"{name} must be a float, not {_shown(value)}")
+
+
+def _instance(value, kind: type, name: str):
+    """The value, which must be of a kind."""
+    if not isinstance(value, kind):
+        raise TypeError(f"{name} must be of type {kind.__name__}, not {_shown(value)}")
+    return value
+
+
+def _items(values, name: str) -> list:
+    """The items of a list, a tuple, an array or another iterable."""
+    try:
+        return list(values)
+    except TypeError:
+        raise TypeError(f"{name} must be a list or another iterable, not {_shown(values)}") from None
+
+
+def _fields(value, kind: type, name: str, of: str = "") -> List[int]:
+    """The whole numbers of a value of a kind, in the order of its fields."""
+    _instance(value, kind, name + of)
+    return [_index(getattr(value, field.name), field.name, of) for field in fields(kind)]
+
+
+def _bytes(value, name: str) -> bytes:
+    """The bytes of an object that is nothing but bytes. `bytes` itself would also take a number, as so many zeros."""
+    try:
+        view = memoryview(value)
+    except TypeError:
+        hint = ": call its to_bytes()" if isinstance(value, (Request, StarRequest)) else ""
+        raise TypeError(f"{name} must be bytes, not {_shown(value)}{hint}") from None
+    if view.itemsize != 1:
+        raise TypeError(f"{name} must be bytes; one of its elements has {view.itemsize} bytes, format {view.format!r}")
+    return bytes(view)
+
+
 # ---- requests
 
 _REQUEST = struct.Struct(">B22iBH4iB2hH")
 _STAR_REQUEST = struct.Struct(">B13iBH4iB2hH")
 
 
-def _packed(form: struct.Struct, *numbers: int) -> bytes:
+def _number_bytes(value, size: int, signed: bool, name: str) -> bytes:
+    """A whole number big-endian; ValueError where it does not fit."""
+    number = _index(value, name)
     try:
-        return form.pack(*numbers)
-    except struct.error as error:
-        raise ValueError(f"a number does not fit its bytes: {error}") from None
+        return number.to_bytes(size, "big", signed=signed)
+    except OverflowError:
+        sign = "with" if signed else "without"
+        raise ValueError(f"{name} does not fit {size} bytes {sign} a sign: {_shown(value)}") from None
+
+
+def _station_bytes(station: "Station") -> bytes:
+    """Kind 03 and a station."""
+    _instance(station, Station, "station")
+    rest = "latitude longitude height delta_t".split()
+    packed = [_number_bytes(getattr(station, name), 4, True, name) for name in rest]
+    return b"".join([b"\x03", _number_bytes(station.number, 2, False, "number"), *packed])
+
+
+def _window_bytes(window: "Window", guard: int) -> bytes:
+    """Kind 04, a window and a guard."""
+    _instance(window, Window, "window")
+    ends = [_number_bytes(getattr(window, name), 2, True, name) for name in ("first", "last")]
+    return b"".join([b"\x04", *ends, _number_bytes(guard, 2, False, "guard")])
+
+
+def _elements_bytes(elements, kind: type) -> bytes:
+    """The elements of an eclipse or of an occultation."""
+    _instance(elements, kind, "elements")
+    return b"".join(_number_bytes(getattr(elements, field.name), 4, True, field.name) for field in fields(kind))
 
 
 @dataclass(frozen=True)
@@ -144,13 +282,14 @@ class Request:
     guard: int = LEAST_GUARD
 
     def to_bytes(self) -> bytes:
-        """The 115 bytes that the library takes; ValueError where a number does not fit its bytes."""
-        further = (3, *astuple(self.station), 4, *astuple(self.window), self.guard)
-        return _packed(_REQUEST, 2, *astuple(self.elements), *further)
+        """The 115 bytes that the library takes; ValueError where a number does not fit its bytes or is not whole."""
+        elements = b"\x02" + _elements_bytes(self.elements, Elements)
+        return elements + _station_bytes(self.station) + _window_bytes(self.window, self.guard)
 
     @staticmethod
     def from_bytes(request: bytes) -> "Request":
         """The request of 115 bytes; Refused(10, 0) where they are not of its shape."""
+        request = _bytes(request, "request")
         if len(request) != REQUEST_LENGTH:
             raise Refused(10, 0)
         numbers = _REQUEST.unpack(request)
@@ -195,13 +334,15 @@ class StarRequest:
     guard: int = LEAST_GUARD
 
     def to_bytes(self) -> bytes:
-        """The 79 bytes that the library takes; ValueError where a number does not fit its bytes."""
-        further = (3, *astuple(self.station), 4, *astuple(self.window), self.guard)
-        return _packed(_STAR_REQUEST, 5, *astuple(self.elements), self.radius, *further)
+        """The 79 bytes that the library takes; ValueError where a number does not fit its bytes or is not whole."""
+        elements = b"\x05" + _elements_bytes(self.elements, StarElements)
+        radius = _number_bytes(self.radius, 4, True, "radius")
+        return elements + radius + _station_bytes(self.station) + _window_bytes(self.window, self.guard)
 
     @staticmethod
     def from_bytes(request: bytes) -> "StarRequest":
         """The request of 79 bytes; Refused(10, 0) where they are not of its shape."""
+        request = _bytes(request, "request")
         if len(request) != STAR_REQUEST_LENGTH:
             raise Refused(10, 0)
         numbers = _STAR_REQUEST.unpack(request)
@@ -299,6 +440,7 @@ class End:
 
 
 Entry = Union[Head, Enter, Leave, Graze, Open, Closest, Share, End]
+_ENTRIES = (Head, Enter, Leave, Graze, Open, Closest, Share, End)
 
 _SHIFT = 10_800  # a second is stored plus this
 _NONE = 65_535  # direction where there is none
@@ -312,13 +454,7 @@ def _fit(number: int) -> int:
     return number if 0 <= number <= _BAD else _BAD
 
 
-def _stored(second: int) -> int:
-    return _fit(second + _SHIFT)
-
-
-def _tenths(direction: Optional[int]) -> int:
-    if direction is None:
-        return _NONE
+def _tenths(direction: int) -> int:
     return direction if 0 <= direction < 3_600 else _BAD
 
 
@@ -326,19 +462,32 @@ def _direction(tenths: int) -> Optional[int]:
     return None if tenths == _NONE else tenths
 
 
-def _numbers(entry: Entry) -> List[int]:
-    """The entry as the library has it: its kind and the kind's fields."""
+def _numbers(entry: Entry, at: int) -> List[int]:
+    """The entry as the library has it: its kind and the kind's fields. It is entry `at` of a list."""
+    if not isinstance(entry, _ENTRIES):
+        raise TypeError(f"entry {at} must be an entry such as Head or Enter, not {_shown(entry)}")
+    of = f" of entry {at}, {type(entry).__name__},"
+
+    def number(name: str) -> int:
+        return _fit(_index(getattr(entry, name), name, of))
+
+    def stored(name: str) -> int:
+        return _fit(_index(getattr(entry, name), name, of) + _SHIFT)
+
     if isinstance(entry, Head):
-        return [0x01, _fit(entry.station), _stored(entry.first), _stored(entry.last), _fit(entry.guard)]
+        return [0x01, number("station"), stored("first"), stored("last"), number("guard")]
     if isinstance(entry, Closest):
-        return [0x30, _stored(entry.second), _fit(entry.magnitude), 0, 0]
+        return [0x30, stored("second"), number("magnitude"), 0, 0]
     if isinstance(entry, Share):
-        return [0x31, _fit(entry.share), 0, 0, 0]
+        return [0x31, number("share"), 0, 0, 0]
     if isinstance(entry, End):
         return [0x7F, 0, 0, 0, 0]
-    direction = _tenths(entry.direction) if isinstance(entry, (Enter, Leave)) else 0
-    kind = _BASE[entry.phase] + _OF_PHASE.index(type(entry))
-    return [kind, _stored(entry.from_), _stored(entry.to), direction, 0]
+    direction = 0
+    if isinstance(entry, (Enter, Leave)):
+        direction = _NONE if entry.direction is None else _tenths(_index(entry.direction, "direction", of))
+    _instance(entry.phase, Phase, "phase" + of)
+    kind = _BASE[entry.phase] + next(at for at, made in enumerate(_OF_PHASE) if isinstance(entry, made))
+    return [kind, stored("from_"), stored("to"), direction, 0]
 
 
 def _entry(kind: int, a: int, b: int, c: int, d: int) -> Entry:
@@ -442,17 +591,51 @@ def _call(name: str, *arguments) -> int:
     return value.value
 
 
-def _signed(number: int) -> int:
-    """The number, or the end of 64 bits that it is beyond: ctypes would take it modulo 2^64, and no range goes so far."""
-    return max(-(2**63), min(number, 2**63 - 1))
+# What the elements of a buffer may be: their size in bytes, the letters of their format as in module struct, and words.
+_BYTES = (1, "Bbc", "bytes")
+_SIGNED = (8, "qln", "64-bit signed numbers (c_int64)")
+_UNSIGNED = (8, "QLN", "64-bit unsigned numbers (c_uint64)")
+_DOUBLES = (8, "d", "doubles (c_double)")
+_OTHER_ORDER = ">!" if sys.byteorder == "little" else "<"
 
 
-def _lent(buffer):
-    """A writable buffer as memory and length. The library wants a pointer that is not null, also for none."""
-    length = memoryview(buffer).nbytes
-    if length == 0:
+def _lent(buffer, name: str, elements=_BYTES):
+    """A writable buffer as memory and the number of its elements; TypeError where the library could not write to it.
+
+    The library needs a pointer that is not null, also for no elements.
+    """
+    size, letters, words = elements
+    wanted, kind = f"{name} must be a writable buffer of {words}", type(buffer).__name__
+    try:
+        view = memoryview(buffer)
+    except (TypeError, ValueError, BufferError):
+        raise TypeError(f"{wanted}, not {_shown(buffer)}") from None
+    if view.readonly:
+        raise TypeError(f"{wanted}; this {kind} is read-only")
+    letter = view.format.lstrip("@=<>!")
+    foreign = size > 1 and view.format[:1] in tuple(_OTHER_ORDER)
+    if view.itemsize != size or len(letter) != 1 or letter not in letters or foreign:
+        held = f"{view.itemsize} byte{'s' if view.itemsize != 1 else ''}, format {view.format!r}"
+        raise TypeError(f"{wanted}; an element of this {kind} has {held}")
+    if not view.c_contiguous:
+        raise TypeError(f"{wanted} that follow one another in memory; this {kind} has gaps")
+    if view.nbytes == 0:
         return (ctypes.c_uint8 * 1)(), 0
-    return (ctypes.c_uint8 * length).from_buffer(buffer), length
+    return (ctypes.c_uint8 * view.nbytes).from_buffer(view), view.nbytes // size
+
+
+def _apart(one, its_name: str, other, other_name: str) -> None:
+    """ValueError where two buffers of bytes, as _lent gives them, have a byte in common."""
+    (a, length), (b, other_length) = one, other
+    start, other_start = ctypes.addressof(a), ctypes.addressof(b)
+    if start < other_start + other_length and other_start < start + length and length and other_length:
+        raise ValueError(f"{its_name} and {other_name} overlap: give two buffers that have no byte in common")
+
+
+def _listed(values: Iterable, name: str, number: Callable):
+    """The values as a ctypes array of 64-bit numbers, one longer, and their count. `number` takes a value and place."""
+    made = [number(value, at) for at, value in enumerate(_items(values, name))]
+    return (ctypes.c_int64 * (len(made) + 1))(*made), len(made)
 
 
 _SINES = 901  # numbers of the sine table
@@ -485,8 +668,8 @@ def sheet_into(request: bytes, buffer) -> int:
     The bytes past the sheet, and on refusal all bytes, keep what they held.
     Refusals, the first of them: 10, 1, 2, 3, 4.
     """
-    request = bytes(request)
-    return _call("sheet", request, len(request), *_sines(), *_lent(buffer))
+    lent, request = _lent(buffer, "buffer"), _bytes(request, "request")
+    return _call("sheet", request, len(request), *_sines(), *lent)
 
 
 def sheet(request: bytes) -> bytes:
@@ -496,8 +679,8 @@ def sheet(request: bytes) -> bytes:
 
 def sheet_and_share_into(request: bytes, buffer) -> int:
     """As sheet_into, but the sheet has the covered share at its closest second, a Share between Closest and End: 5 bytes more."""
-    request = bytes(request)
-    return _call("sheet_and_share", request, len(request), *_sines(), *_lent(buffer))
+    lent, request = _lent(buffer, "buffer"), _bytes(request, "request")
+    return _call("sheet_and_share", request, len(request), *_sines(), *lent)
 
 
 def sheet_and_share(request: bytes) -> bytes:
@@ -512,8 +695,8 @@ def star_into(request: bytes, buffer) -> int:
     centre from the star. The closest second has magnitude 0. The bytes past the sheet, and on refusal all bytes, keep what they
     held. Refusals, the first of them: 10, 1, 2, 13, 3, 4.
     """
-    request = bytes(request)
-    return _call("star", request, len(request), *_sines(), *_lent(buffer))
+    lent, request = _lent(buffer, "buffer"), _bytes(request, "request")
+    return _call("star", request, len(request), *_sines(), *lent)
 
 
 def star(request: bytes) -> bytes:
@@ -527,8 +710,8 @@ def share(request: bytes, second: int) -> int:
     Millionths, rounded down, 0 to 1,000,000: 1,000,000 wherever the total phase is sure, 0 where the penumbra is surely left.
     Refusals, the first of them: 10, 1 (for the window or the second, then for the guard), 2, 3.
     """
-    request = bytes(request)
-    return _call("share", request, len(request), _signed(second), *_sines())
+    request, second = _bytes(request, "request"), _signed(second, "second")
+    return _call("share", request, len(request), second, *_sines())
 
 
 def second(request: bytes, second: int) -> Second:
@@ -536,9 +719,9 @@ def second(request: bytes, second: int) -> Second:
 
     Refusals, the first of them: 10, 1 (for the window or the second, then for the guard), 2, 3.
     """
-    request = bytes(request)
+    request, second = _bytes(request, "request"), _signed(second, "second")
     shadow = (ctypes.c_int64 * 8)()
-    _call("second", request, len(request), _signed(second), *_sines(), shadow, 8)
+    _call("second", request, len(request), second, *_sines(), shadow, 8)
     u, v, l1, l2, penumbra, central, magnitude, direction = shadow
     return Second(u, v, l1, l2, State(penumbra), State(central), magnitude, _direction(direction))
 
@@ -548,9 +731,9 @@ def star_second(request: bytes, second: int) -> StarSecond:
 
     Refusals, the first of them: 10, 1 (for the window or the second, then for the guard), 2, 13, 3.
     """
-    request = bytes(request)
+    request, second = _bytes(request, "request"), _signed(second, "second")
     shadow = (ctypes.c_int64 * 5)()
-    _call("star_second", request, len(request), _signed(second), *_sines(), shadow, 5)
+    _call("star_second", request, len(request), second, *_sines(), shadow, 5)
     u, v, radius, state, direction = shadow
     return StarSecond(u, v, radius, State(state), _direction(direction))
 
@@ -562,9 +745,9 @@ def mirror(request: bytes) -> bytes:
     the limits has the same entries, of the same seconds, magnitude, share and length; their directions differ. A request that
     is refused 1, 2 or 3 and its mirror are refused alike. Taken twice the mirror is the first request. Refusal: 10.
     """
-    request = bytes(request)
+    request = _bytes(request, "request")
     mirrored = bytearray(REQUEST_LENGTH)
-    _call("mirror", request, len(request), *_lent(mirrored))
+    _call("mirror", request, len(request), *_lent(mirrored, "mirrored"))
     return bytes(mirrored)
 
 
@@ -573,7 +756,7 @@ def read(sheet: bytes) -> List[Entry]:
 
     Refusals: the first faulty record's, in it 5, 6, 8, 7; then 9.
     """
-    sheet = bytes(sheet)
+    sheet = _bytes(sheet, "sheet")
     # An entry is five numbers. Its record has five bytes or more, save the end's one, and the head's nine make up for
     # that: as many numbers as the sheet has bytes are always enough.
     numbers = (ctypes.c_uint32 * (len(sheet) + 1))()
@@ -586,23 +769,24 @@ def write_into(entries: Iterable[Entry], buffer) -> int:
 
     The bytes past the sheet, and on refusal all bytes, keep what they held. Refusals: the first faulty entry's, in it
     8, 7; 6 where the list stops before its end; 9; then 4. Places are those that the records have or would have in
-    the sheet. A number that cannot be stored is refused as 7.
+    the sheet. A whole number that cannot be stored is refused as 7; any other value raises NotWhole.
     """
-    numbers = [number for entry in entries for number in _numbers(entry)]
-    handed = (ctypes.c_uint32 * (len(numbers) + 1))(*numbers)
-    return _call("write", handed, len(numbers), *_lent(buffer))
+    lent = _lent(buffer, "buffer")
+    listed = [number for at, entry in enumerate(_items(entries, "entries")) for number in _numbers(entry, at)]
+    handed = (ctypes.c_uint32 * (len(listed) + 1))(*listed)
+    return _call("write", handed, len(listed), *lent)
 
 
 def write(entries: Iterable[Entry]) -> bytes:
     """The sheet of entries. Refusals as write_into, but 4."""
-    entries = list(entries)
+    entries = _items(entries, "entries")
     return _whole(lambda buffer: write_into(entries, buffer))
 
 
 def listing(sheet: bytes) -> str:
     """The listing of a sheet, as program `listing` prints it: a line for each entry but the end. Refusals as read."""
-    sheet = bytes(sheet)
-    return _whole(lambda buffer: _call("listing", sheet, len(sheet), *_lent(buffer))).decode("ascii")
+    sheet = _bytes(sheet, "sheet")
+    return _whole(lambda buffer: _call("listing", sheet, len(sheet), *_lent(buffer, "text"))).decode("ascii")
 
 
 # ---- fits
@@ -615,10 +799,11 @@ def fit(coefficients: Sequence[int], tabulated: Sequence[int], tolerance: int) -
     ranges of x, and at each hour the value of document 01's rule differs from the tabulated one by at most the tolerance.
     Refusals, the first of them: 10 (not four and seven), 18, 2, 17.
     """
-    lists = []
-    for numbers in (coefficients, tabulated):
-        lists += [(ctypes.c_int64 * (len(numbers) + 1))(*map(_signed, numbers)), len(numbers)]
-    _call("fit", *lists, _signed(tolerance))
+    lists = [
+        *_listed(coefficients, "coefficients", lambda value, at: _signed(value, f"coefficient {at}")),
+        *_listed(tabulated, "tabulated", lambda value, at: _signed(value, f"tabulated value {at}")),
+    ]
+    _call("fit", *lists, _signed(tolerance, "tolerance"))
 
 
 # ---- the root
@@ -634,8 +819,9 @@ class Root:
 
 def root(n: int) -> Root:
     """The root of n with its rounds: none for 0, at most 30 for n below 2^60. ValueError unless n is 0 to 2^64 - 1."""
+    n = _index(n, "n")
     if not 0 <= n < 2**64:
-        raise ValueError(f"not a number of 64 bits without a sign: {n}")
+        raise ValueError(f"n must be 0 to 2^64 - 1, not {_shown(n)}")
     rounds = ctypes.c_uint64()
     return Root(_library.ukhtvaresh_root(n, ctypes.byref(rounds)), rounds.value)
 
@@ -671,23 +857,33 @@ class Besselian:
     l2: int  # the central cone's, below zero where the eclipse is total
 
 
-def from_tables_into(rows: Iterable[int], values) -> int:
-    """Puts the values of 42 numbers at the start of `values`, a ctypes array of c_int64; gives 56.
+def _coordinate(value, name: str, of: str = "") -> int:
+    """A whole number of 64 bits. A table's numbers have no range of their own, so none may stand for another."""
+    number = _index(value, name, of)
+    if not -(2**63) <= number < 2**63:
+        raise ValueError(f"{name}{of} does not fit 64 bits: {_shown(number)}")
+    return number
 
-    What lies past them, and on refusal all of `values`, keeps what it held. A number beyond 64 bits is ValueError.
+
+def from_tables_into(rows: Iterable[int], values) -> int:
+    """Puts the values of 42 numbers at the start of `values`, a writable buffer of 64-bit signed numbers; gives 56.
+
+    `values` is a ctypes array of c_int64, an array.array("q") or a numpy array of int64. What lies past the 56, and on
+    refusal all of it, keeps what it held. A number beyond 64 bits is ValueError.
     Refusals: 10 for another count than 42; 11 with the first row outside its distances; then 4 with 56.
     """
-    numbers = list(rows)
-    if any(not -(2**63) <= number < 2**63 for number in numbers):
-        raise ValueError("a number does not fit 64 bits")
-    handed = (ctypes.c_int64 * (len(numbers) + 1))(*numbers)
-    return _call("from_tables", handed, len(numbers), values, len(values))
+    lent = _lent(values, "values", _SIGNED)
+    listed = _listed(rows, "rows", lambda value, at: _coordinate(value, f"number {at} of rows"))
+    return _call("from_tables", *listed, *lent)
 
 
 def from_tables(rows: Iterable[Row]) -> List[Besselian]:
     """The Besselian elements of seven hourly rows. Refusals: 10 for another count than seven, 11 with the first bad row."""
-    values = (ctypes.c_int64 * 56)()
-    from_tables_into([number for row in rows for number in astuple(row)], values)
+    values, listed = (ctypes.c_int64 * 56)(), []
+    for at, row in enumerate(_items(rows, "rows")):
+        _instance(row, Row, f"row {at}")
+        listed += [_coordinate(getattr(row, field.name), field.name, f" of row {at}") for field in fields(Row)]
+    from_tables_into(listed, values)
     return [Besselian(*values[8 * k : 8 * k + 8]) for k in range(ROWS)]
 
 
@@ -711,16 +907,18 @@ class Mended:
 
 
 def mend_into(file: bytes, sheets, dropped) -> Tuple[int, int]:
-    """Mends a file into two writable buffers; gives how many bytes each then has.
+    """Mends a file into two writable buffers, which must not overlap; gives how many bytes each then has.
 
     `sheets` gets the kept sheets, `dropped` 16 bytes for each stretch, its start and its length, 8 each, big-endian. The
     bytes past them, and on refusal all bytes, keep what they held. Refusal: 4 with the length needed, `sheets` first.
     """
-    file = bytes(file)
+    kept_room, notes_room = _lent(sheets, "sheets"), _lent(dropped, "dropped")
+    _apart(kept_room, "sheets", notes_room, "dropped")
+    file = _bytes(file, "file")
     noted = ctypes.c_uint64()
     kept = ctypes.c_uint64()
     number = _library.ukhtvaresh_mend(
-        file, len(file), *_lent(sheets), *_lent(dropped), ctypes.byref(kept), ctypes.byref(noted)
+        file, len(file), *kept_room, *notes_room, ctypes.byref(kept), ctypes.byref(noted)
     )
     if number:
         raise Refused(number, kept.value)
@@ -735,6 +933,7 @@ def mend(file: bytes) -> Mended:
     stretches add up to the file's length. Its time went by that length on every file that
     was tried: measured, not proved.
     """
+    file = _bytes(file, "file")
     # a stretch and the sheet behind it have 18 bytes at least, and behind the last there may be none
     sheets, dropped = bytearray(len(file)), bytearray(len(file) + 16)
     kept, noted = mend_into(file, sheets, dropped)
@@ -767,7 +966,8 @@ class Survey:
 
     elements: 22 floats, also a numpy array of them, in the order of Elements; lengths in Earth radii, angles in degrees,
     tangents as they are. A float is read as the binary fraction that it exactly is, to the nearest whole unit, halves away from
-    zero. The rest is in whole numbers, as in Station and Request.
+    zero. The rest is in whole numbers, as in Station and Request: latitude 55_755_000 is 55.755 degrees, delta_t 6_880
+    is 68.8 seconds.
     """
 
     elements: Sequence[float]
@@ -786,18 +986,28 @@ def sheet_of_doubles_into(survey: Survey, buffer) -> int:
     The bytes past the sheet, and on refusal all bytes, keep what they held. Refusals, the first of them: 10 for another count
     than 22; 1; 12 with the first float that is not finite; 2, 3 (a unit too large for 64 bits is outside its range); 4.
     """
-    elements = [float(element) for element in survey.elements]
+    lent = _lent(buffer, "buffer")
+    _instance(survey, Survey, "survey")
+    elements = [_double(element, f"element {at}") for at, element in enumerate(_items(survey.elements, "elements"))]
     handed = (ctypes.c_double * (len(elements) + 1))(*elements)
-    hours = 1 if isinstance(survey.longitude, Hours) else 0
-    numbers = [survey.number, survey.latitude, survey.height, survey.delta_t, *astuple(survey.window), survey.guard]
-    rest = (ctypes.c_int64 * 7)(*(_signed(int(number)) for number in numbers))
-    marked = (float(survey.longitude.value), hours)
-    return _call("sheet_of_doubles", handed, len(elements), *marked, rest, 7, *_sines(), *_lent(buffer))
+    if not isinstance(survey.longitude, (Degrees, Hours)):
+        raise TypeError(f"longitude must be Degrees(..) or Hours(..), not {_shown(survey.longitude)}")
+    marked = (_double(survey.longitude.value, "longitude"), 1 if isinstance(survey.longitude, Hours) else 0)
+    station = [_signed(getattr(survey, name), name) for name in "number latitude height delta_t".split()]
+    window = [_signed(end, name) for end, name in zip(_fields(survey.window, Window, "window"), ("first", "last"))]
+    rest = (ctypes.c_int64 * 7)(*station, *window, _signed(survey.guard, "guard"))
+    return _call("sheet_of_doubles", handed, len(elements), *marked, rest, 7, *_sines(), *lent)
 
 
 def sheet_of_doubles(survey: Survey) -> bytes:
     """The contact sheet of a survey. Refusals as sheet_of_doubles_into, but 4."""
     return _whole(lambda buffer: sheet_of_doubles_into(survey, buffer))
+
+
+def _unit_name(at: int) -> Tuple[str, str]:
+    """The name of a unit, and where it stands."""
+    names = [field.name for field in fields(Elements)] + ["longitude"]
+    return (names[at], f", unit {at},") if at < len(names) else (f"unit {at}", "")
 
 
 def doubles_into(units: Iterable[int], room) -> int:
@@ -808,19 +1018,15 @@ def doubles_into(units: Iterable[int], room) -> int:
     it gives its unit back, for every unit in its range. Refusals: 10 for another count than 23; 2; 3 with 2 for the longitude;
     then 4 with 23.
     """
-    view = memoryview(room)
-    if view.format.lstrip("<=@") != "d" or not view.c_contiguous:
-        raise TypeError("a room of doubles that follow each other")
-    numbers = [_signed(int(unit)) for unit in units]
-    handed = (ctypes.c_int64 * (len(numbers) + 1))(*numbers)
-    memory, length = _lent(view)
-    return _call("doubles", handed, len(numbers), memory, length // 8)
+    lent = _lent(room, "room", _DOUBLES)
+    return _call("doubles", *_listed(units, "units", lambda value, at: _signed(value, *_unit_name(at))), *lent)
 
 
 def doubles(elements: Union[Elements, Iterable[int]], longitude: int) -> Tuple[List[float], Degrees]:
     """Elements and a longitude in whole units as floats. Refusals: 10 for another count than 22; 2; 3 with 2 for the longitude."""
     room = (ctypes.c_double * 23)()
-    doubles_into([*(astuple(elements) if isinstance(elements, Elements) else elements), longitude], room)
+    units = _fields(elements, Elements, "elements") if isinstance(elements, Elements) else _items(elements, "elements")
+    doubles_into([*units, _index(longitude, "longitude")], room)
     return list(room[:22]), Degrees(room[22])
 
 
@@ -855,16 +1061,33 @@ class _Node(ctypes.Structure):
     _fields_ = [(name, ctypes.c_int64) for name in "number latitude longitude height delta_t clock".split()]
 
 
-def network_into(eclipse: Sequence[int], stations: Sequence[Node], steps) -> Optional[int]:
-    """Puts the steps of a list at `steps`, a ctypes array of 64 c_uint64, 0 past the list; gives the first station, or None.
+def _eclipse_name(at: int) -> Tuple[str, str]:
+    """The name of a number of the eclipse, and where it stands."""
+    names = [field.name for field in fields(Elements)] + ["first", "last", "guard"]
+    return (names[at], f", number {at} of eclipse,") if at < len(names) else (f"number {at} of eclipse", "")
 
-    eclipse: the 22 elements, first and last second of the window, guard. On refusal `steps` keeps what it held.
+
+def _node(node: Node, at: int) -> _Node:
+    """Place `at` of a list."""
+    of = f" of station {at} in the list"
+    _instance(node, Node, f"station {at} in the list")
+    station = _fields(node.station, Station, "station", of)
+    return _Node(*(_signed(number, "") for number in station), _signed(node.clock, "clock", of))
+
+
+def network_into(eclipse: Sequence[int], stations: Sequence[Node], steps) -> Optional[int]:
+    """Puts the steps of a list at `steps`, 0 past the list; gives the first station, or None.
+
+    `steps` is a writable buffer of 64 unsigned 64-bit numbers: a ctypes array of c_uint64, an array.array("Q"), a numpy
+    array of uint64. eclipse: the 22 elements, first and last second of the window, guard. On refusal `steps` keeps what
+    it held.
     Refusals, the first of them: 10 for other lengths than 25 and 64, 19, 1, 2, 3, 14, 15, 16.
     """
-    numbers = (ctypes.c_int64 * (len(eclipse) + 1))(*map(_signed, eclipse))
-    nodes = [_Node(*map(_signed, (*astuple(node.station), node.clock))) for node in stations]
+    room = _lent(steps, "steps", _UNSIGNED)
+    common = _listed(eclipse, "eclipse", lambda value, at: _signed(value, *_eclipse_name(at)))
+    nodes = [_node(node, at) for at, node in enumerate(_items(stations, "stations"))]
     lent = (_Node * (len(nodes) + 1))(*nodes)
-    number = _call("network", numbers, len(eclipse), lent, len(nodes), *_sines(), steps, len(steps))
+    number = _call("network", *common, lent, len(nodes), *_sines(), *room)
     return number or None
 
 
@@ -874,7 +1097,8 @@ def network(elements: Elements, window: Window, stations: Sequence[Node], guard:
     The first is the station whose first Enter of the penumbra, in the sheet that it gets alone, has the smallest `to`, the first in the
     list among equals. Refusals, the first of them: 19, 1, 2, 3, 14, 15, 16.
     """
-    stations = list(stations)
+    stations = _items(stations, "stations")
     steps = (ctypes.c_uint64 * STATIONS)()
-    first = network_into([*astuple(elements), *astuple(window), guard], stations, steps)
+    eclipse = [*_fields(elements, Elements, "elements"), *_fields(window, Window, "window"), _index(guard, "guard")]
+    first = network_into(eclipse, stations, steps)
     return Network(list(steps[: len(stations)]), first)

@@ -82,10 +82,11 @@ def fits():
                 yield coefficients, tuple(tabulated), tolerance
 
 
-every = list(dict.fromkeys(fits()))
-with open(sys.argv[1] + "/stdin", "wb") as file:
-    for coefficients, tabulated, tolerance in every:
-        file.write(struct.pack(">12q", *coefficients, *tabulated, tolerance))
-with open(sys.argv[1] + "/stdout", "w") as file:
-    for fit in every:
-        file.write(answer(*fit) + "\n")
+if __name__ == "__main__":
+    every = list(dict.fromkeys(fits()))
+    with open(sys.argv[1] + "/stdin", "wb") as file:
+        for coefficients, tabulated, tolerance in every:
+            file.write(struct.pack(">12q", *coefficients, *tabulated, tolerance))
+    with open(sys.argv[1] + "/stdout", "w") as file:
+        for fit in every:
+            file.write(answer(*fit) + "\n")

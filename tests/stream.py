@@ -168,4 +168,5 @@ def main():
     print(f"{len(streams)} streams of {sum(map(len, streams))} bytes alike, {bytes_out} bytes of sheets; {refused} refusals, {stopped} stops; {alone} one by one")
 
 
-main()
+if __name__ == "__main__":
+    main()

@@ -1,3 +1,5 @@
+use crate::narrowed;
+
 /// The shadow that an entry is about.
 #[derive(Clone, Copy, Debug, PartialEq, Eq, Hash)]
 pub enum Phase {
@@ -107,7 +109,7 @@ fn tenths(direction: Option<u16>) -> u32 {
 }
 
 pub(crate) fn direction(tenths: u32) -> Option<u16> {
-    (tenths < NONE).then_some(tenths as u16)
+    (tenths != NONE).then(|| narrowed(tenths))
 }
 
 impl Phase {
@@ -156,7 +158,9 @@ impl Entry {
         let [kind, a, b, c, d] = numbers;
         let (phase, from, to) = (Phase::of(kind), second(a), second(b));
         match kind {
-            0x01 => Entry::Head { station: a as u16, first: second(b), last: second(c), guard: d as u16 },
+            0x01 => {
+                Entry::Head { station: narrowed(a), first: second(b), last: second(c), guard: narrowed(d) }
+            }
             0x10 | 0x20 | 0x40 => Entry::Enter { phase, from, to, direction: direction(c) },
             0x11 | 0x21 | 0x41 => Entry::Leave { phase, from, to, direction: direction(c) },
             0x12 | 0x22 | 0x42 => Entry::Graze { phase, from, to },

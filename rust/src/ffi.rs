@@ -3,7 +3,7 @@
 // It asks for pointers that are not null and for written memory that overlaps nothing else; a slice's pointer is never null, also
 // of an empty slice, and a mutable reference overlaps no other.
 
-use crate::{Node, Refusal};
+use crate::{narrowed, Node, Refusal};
 use std::cell::RefCell;
 
 extern "C" {
@@ -152,7 +152,7 @@ extern "C" {
 // The answer of a call: the length, the count, the share or the station, or the refusal.
 fn answer(number: u64, value: u64) -> Result<usize, Refusal> {
     match number {
-        0 => Ok(value as usize),
+        0 => Ok(narrowed(value)),
         _ => Err(Refusal::of(number, value)),
     }
 }
@@ -322,7 +322,7 @@ pub fn mend(file: &[u8], sheets: &mut [u8], dropped: &mut [u8]) -> Result<(usize
             &mut noted,
         )
     };
-    answer(number, kept).map(|kept| (kept, noted as usize))
+    answer(number, kept).map(|kept| (kept, narrowed(noted)))
 }
 
 pub fn sheet_of_doubles(

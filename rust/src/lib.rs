@@ -42,6 +42,7 @@
 //! ```
 
 #![deny(unsafe_code)]
+#![deny(clippy::cast_possible_truncation, clippy::cast_possible_wrap, clippy::cast_sign_loss)]
 #![warn(missing_docs)]
 
 mod doubles;
@@ -133,7 +134,7 @@ pub fn sheet_and_share_vec(request: &[u8]) -> Result<Vec<u8>, Refusal> {
 /// # Ok::<(), Refusal>(())
 /// ```
 pub fn share(request: &[u8], second: i64) -> Result<u32, Refusal> {
-    ffi::share(request, second).map(|share| share as u32)
+    ffi::share(request, second).map(narrowed)
 }
 
 /// The shadow at a second of a request, -10,800 to 10,800, also outside its window.
@@ -150,8 +151,8 @@ pub fn second(request: &[u8], second: i64) -> Result<Second, Refusal> {
         l2,
         penumbra: state(penumbra),
         central: state(central),
-        magnitude: magnitude as u32,
-        direction: entry::direction(direction as u32),
+        magnitude: narrowed(magnitude),
+        direction: entry::direction(narrowed(direction)),
     })
 }
 
@@ -239,7 +240,7 @@ pub struct Root {
 /// ```
 pub fn root(n: u64) -> Root {
     let (root, rounds) = ffi::root(n);
-    Root { root, rounds: rounds as u32 }
+    Root { root, rounds: narrowed(rounds) }
 }
 
 fn numbers(entries: &[Entry]) -> Vec<u32> {
@@ -250,8 +251,18 @@ fn state(number: i64) -> State {
     match number {
         0 => State::Outside,
         1 => State::Inside,
-        _ => State::Unsure,
+        2 => State::Unsure,
+        _ => unreachable!("the library gives only states of the table"),
     }
+}
+
+// A number that the library gives, in a narrower type. Its promises keep each within its range; if an
+// archive breaks them, its number is not cut to one that looks right.
+fn narrowed<Wide, Narrow: TryFrom<Wide>>(number: Wide) -> Narrow {
+    let Ok(number) = Narrow::try_from(number) else {
+        unreachable!("the library gives only numbers within their ranges");
+    };
+    number
 }
 
 // What `fill` writes, at its exact length. A sheet seldom has more than seven entries, 45 bytes; where it has, and for a
@@ -260,11 +271,37 @@ fn whole(fill: impl Fn(&mut [u8]) -> Result<usize, Refusal>) -> Result<Vec<u8>, 
     let mut bytes = vec![0; 128];
     let length = match fill(&mut bytes) {
         Err(Refusal::Room { needed }) => {
-            bytes.resize(needed as usize, 0);
+            bytes.resize(narrowed(needed), 0);
             fill(&mut bytes)?
         }
         answer => answer?,
     };
     bytes.truncate(length);
     Ok(bytes)
+}
+
+#[cfg(test)]
+mod tests {
+    use super::{entry::direction, narrowed, state, State};
+
+    #[test]
+    fn numbers_within_their_ranges() {
+        assert_eq!((narrowed::<i64, u32>(1_300_000), narrowed::<u64, usize>(65_536)), (1_300_000, 65_536));
+        assert_eq!((direction(0), direction(3_599), direction(65_535)), (Some(0), Some(3_599), None));
+        assert_eq!([0, 1, 2].map(state), [State::Outside, State::Inside, State::Unsure]);
+    }
+
+    #[test]
+    fn no_other_number_is_cut() {
+        fn refused<Number>(call: fn() -> Number) -> bool {
+            std::panic::catch_unwind(call).is_err()
+        }
+        assert!(refused(|| narrowed::<i64, u32>(-1)));
+        assert!(refused(|| narrowed::<i64, u32>((1 << 32) + 900)));
+        assert!(refused(|| narrowed::<u32, u16>(65_536 + 7)));
+        assert!(refused(|| direction(65_536)));
+        assert!(refused(|| direction(u32::MAX)));
+        assert!(refused(|| state(-1)));
+        assert!(refused(|| state(3)));
+    }
 }

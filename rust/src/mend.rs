@@ -58,6 +58,14 @@ pub fn mend(file: &[u8]) -> Mended {
 ///
 /// Gives how many bytes each room then has. The bytes past them, and on refusal all bytes, keep what they held. Refusal: 4
 /// with the length needed, the room of `sheets` first.
+///
+/// Neither room can overlap the other, or the file, since both are borrowed mutably:
+///
+/// ```compile_fail,E0499
+/// let mut room = [0; 100];
+/// let (_, dropped) = room.split_at_mut(50);
+/// ukhtvaresh::mend_into(b"", &mut room, dropped).expect("room enough");
+/// ```
 pub fn mend_into(file: &[u8], sheets: &mut [u8], dropped: &mut [u8]) -> Result<(usize, usize), Refusal> {
     ffi::mend(file, sheets, dropped)
 }

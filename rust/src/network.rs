@@ -1,6 +1,6 @@
 //! The whole network in one list.
 
-use crate::{ffi, Elements, Refusal, Request, Station, Window, LEAST_GUARD};
+use crate::{ffi, narrowed, Elements, Refusal, Request, Station, Window, LEAST_GUARD};
 
 /// How many stations a list may have, and how many steps there are.
 pub const STATIONS: usize = 64;
@@ -117,5 +117,5 @@ pub fn network(eclipse: &Eclipse, stations: &[Node]) -> Result<Network, Refusal>
 /// 16.
 pub fn network_into(eclipse: &[i64], stations: &[Node], steps: &mut [u64]) -> Result<Option<i64>, Refusal> {
     let number = ffi::network(eclipse, stations, steps)?;
-    Ok((number != 0).then_some(number as i64))
+    Ok((number != 0).then(|| narrowed(number)))
 }

@@ -1,6 +1,6 @@
 use crate::entry::direction;
 use crate::request::{further, further_bytes, numbers, signed4};
-use crate::{ffi, state, whole, Refusal, State, Station, Window, LEAST_GUARD};
+use crate::{ffi, narrowed, state, whole, Refusal, State, Station, Window, LEAST_GUARD};
 
 /// The length of a star request in bytes.
 pub const STAR_REQUEST_LENGTH: usize = 79;
@@ -159,5 +159,5 @@ pub fn star_second(request: &[u8], second: i64) -> Result<StarSecond, Refusal> {
     let mut shadow = [0; 5];
     ffi::star_second(request, second, &mut shadow)?;
     let [u, v, radius, phase, towards] = shadow;
-    Ok(StarSecond { u, v, radius, state: state(phase), direction: direction(towards as u32) })
+    Ok(StarSecond { u, v, radius, state: state(phase), direction: direction(narrowed(towards)) })
 }
