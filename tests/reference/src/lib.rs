@@ -11,6 +11,7 @@ pub mod elements;
 pub mod entries;
 pub mod exact;
 pub mod fit;
+pub mod horizon;
 pub mod listing;
 pub mod mend;
 pub mod mirror;
