@@ -172,6 +172,33 @@ enum {
 uint64_t ukhtvaresh_star_second(const uint8_t *request, size_t request_len, int64_t second, uint32_t *sines,
                                 size_t sines_len, int64_t *shadow, size_t shadow_len, uint64_t *value);
 
+/* The numbers of the horizon at one second, in `horizon`: see ukhtvaresh_horizon. All are tenths of a degree. */
+enum {
+    UKHTVARESH_ALTITUDE,       /* of the Sun's centre or the star, rounded down, -900 to 900; below 0 it is down */
+    UKHTVARESH_AZIMUTH,        /* of the same, from north through east, 0 to 3599, or 65,535 for none */
+    UKHTVARESH_ZENITH,         /* direction of the zenith from it, north through east, 0 to 3599, or 65,535 for none */
+    UKHTVARESH_HORIZON_NUMBERS /* how many: 3 */
+};
+
+/* Where the Sun's centre is in the station's sky at a second of a request, -10,800 to 10,800, also outside its window.
+ * The horizon is the plane at right angles to the spheroid's normal, so the altitude goes by the geodetic latitude.
+ * No refraction and no dip. At the horizon refraction lifts the Sun by about half a degree.
+ * An angle from the zenith is a direction, such as a contact's, less the zenith of the same second, modulo 3600.
+ * Azimuth and zenith are none only straight overhead or straight down, where both lengths that each comes from are 0.
+ * The mirror of a request has the same altitude at every second. *value: 3.
+ * Refusals, the first of them, as of ukhtvaresh_second: 10; 1 for the window or the second, then for the guard; 2; 3;
+ * 4 with place 901 where sines_len is below that; 4 with place 3 where horizon_len is below 3. The lengths count
+ * numbers. */
+uint64_t ukhtvaresh_horizon(const uint8_t *request, size_t request_len, int64_t second, uint32_t *sines,
+                            size_t sines_len, int64_t *horizon, size_t horizon_len, uint64_t *value);
+
+/* The same of the star of a star request. No refraction and no dip. *value: 3.
+ * Refusals, the first of them, as of ukhtvaresh_star_second: 10; 1 for the window or the second, then for the guard;
+ * 2 with place 0 to 11; 13; 3; 4 with place 901 where sines_len is below that; 4 with place 3 where horizon_len is
+ * below 3. The lengths count numbers. */
+uint64_t ukhtvaresh_star_horizon(const uint8_t *request, size_t request_len, int64_t second, uint32_t *sines,
+                                 size_t sines_len, int64_t *horizon, size_t horizon_len, uint64_t *value);
+
 /* The mirror of a request, at the start of `mirrored`: all y and d coefficients and the latitude with the other sign, nothing
  * else changed. *value: 115. Any numbers: -2^31, which has no opposite in its bytes, stays as it is.
  * The sheet of the mirror of a request within the limits has the same entries, of the same seconds, magnitude, share and length;

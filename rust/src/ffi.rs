@@ -62,6 +62,26 @@ extern "C" {
         shadow_len: usize,
         value: *mut u64,
     ) -> u64;
+    fn ukhtvaresh_horizon(
+        request: *const u8,
+        request_len: usize,
+        second: i64,
+        sines: *mut u32,
+        sines_len: usize,
+        horizon: *mut i64,
+        horizon_len: usize,
+        value: *mut u64,
+    ) -> u64;
+    fn ukhtvaresh_star_horizon(
+        request: *const u8,
+        request_len: usize,
+        second: i64,
+        sines: *mut u32,
+        sines_len: usize,
+        horizon: *mut i64,
+        horizon_len: usize,
+        value: *mut u64,
+    ) -> u64;
     fn ukhtvaresh_mirror(
         request: *const u8,
         request_len: usize,
@@ -204,25 +224,33 @@ pub fn share(request: &[u8], second: i64) -> Result<usize, Refusal> {
 }
 
 pub fn second(request: &[u8], second: i64, shadow: &mut [i64]) -> Result<usize, Refusal> {
-    shadow_at(ukhtvaresh_second, request, second, shadow)
+    numbers_at(ukhtvaresh_second, request, second, shadow)
 }
 
 pub fn star_second(request: &[u8], second: i64, shadow: &mut [i64]) -> Result<usize, Refusal> {
-    shadow_at(ukhtvaresh_star_second, request, second, shadow)
+    numbers_at(ukhtvaresh_star_second, request, second, shadow)
+}
+
+pub fn horizon(request: &[u8], second: i64, horizon: &mut [i64]) -> Result<usize, Refusal> {
+    numbers_at(ukhtvaresh_horizon, request, second, horizon)
+}
+
+pub fn star_horizon(request: &[u8], second: i64, horizon: &mut [i64]) -> Result<usize, Refusal> {
+    numbers_at(ukhtvaresh_star_horizon, request, second, horizon)
 }
 
 type SecondExport =
     unsafe extern "C" fn(*const u8, usize, i64, *mut u32, usize, *mut i64, usize, *mut u64) -> u64;
 
 // The numbers of one second of a request.
-fn shadow_at(
+fn numbers_at(
     export: SecondExport,
     request: &[u8],
     second: i64,
-    shadow: &mut [i64],
+    numbers: &mut [i64],
 ) -> Result<usize, Refusal> {
     let mut value = 0;
-    // SAFETY: as in `made`; the lengths of `sines` and `shadow` count numbers, as the library does.
+    // SAFETY: as in `made`; the lengths of `sines` and `numbers` count numbers, as the library does.
     let number = SINES.with_borrow_mut(|sines| unsafe {
         export(
             request.as_ptr(),
@@ -230,8 +258,8 @@ fn shadow_at(
             second,
             sines.as_mut_ptr(),
             sines.len(),
-            shadow.as_mut_ptr(),
-            shadow.len(),
+            numbers.as_mut_ptr(),
+            numbers.len(),
             &mut value,
         )
     });

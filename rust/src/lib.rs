@@ -3,8 +3,10 @@
 //! From the elements of an eclipse, a station, a window of seconds and a guard, [`sheet`] makes the station's contact sheet,
 //! [`sheet_and_share`] the same with the covered share of the Sun's disc; [`star()`] makes that of a star from its elements and the
 //! Moon's radius; [`read`] takes a sheet apart, [`write()`] puts entries together as one, [`listing`] gives a sheet as text, [`second`]
-//! the shadow at one second, [`star_second`] that of a star, and [`share`] the share at a second, [`mirror`] the request beyond the equator; [`fit`] judges coefficients that a
-//! spreadsheet made, [`from_tables`] makes elements from tables of Sun and Moon, [`root`] gives a square root with its rounds,
+//! the shadow at one second, [`star_second`] that of a star, [`share`] the share at a second, [`horizon()`] and
+//! [`star_horizon`] the altitude and azimuth of the Sun and of a star at a second, [`mirror`] the request beyond the
+//! equator; [`fit`] judges coefficients that a spreadsheet made, [`from_tables`] makes elements from tables of Sun and
+//! Moon, [`root`] gives a square root with its rounds,
 //! [`mend()`] takes the damaged parts out of a file of sheets, [`sheet_of_doubles`] makes the sheet of positions that come as doubles,
 //! [`doubles()`] makes doubles of whole units; [`network()`] tells of a list of stations how far each clock is from the antenna and who sees
 //! the eclipse first. Each is a thin call of the proved function of the same name in `libukhtvaresh.a`.
@@ -49,6 +51,7 @@ mod doubles;
 mod entry;
 #[allow(unsafe_code)]
 mod ffi;
+mod horizon;
 mod mend;
 mod network;
 mod refusal;
@@ -58,6 +61,7 @@ mod tables;
 
 pub use doubles::{doubles, doubles_into, sheet_of_doubles, sheet_of_doubles_vec, Longitude, Survey};
 pub use entry::{Entry, Phase};
+pub use horizon::{horizon, star_horizon, Horizon};
 pub use mend::{mend, mend_into, Mended, Stretch};
 pub use network::{network, network_into, Eclipse, Network, Node, ECLIPSE_LENGTH, STATIONS};
 pub use refusal::Refusal;
