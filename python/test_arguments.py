@@ -201,9 +201,10 @@ class WholeNumbers(unittest.TestCase):
                     self.assertIn(str(value), str(caught.exception))
 
     def test_seconds(self):
-        for call in (ukhtvaresh.second, ukhtvaresh.share):
+        for call in (ukhtvaresh.second, ukhtvaresh.share, ukhtvaresh.horizon):
             self.takes_only_whole_numbers("second", lambda second: call(MOSCOW, second), 36, "seconds")
-        self.takes_only_whole_numbers("second", lambda second: ukhtvaresh.star_second(POTSDAM, second), 20, "seconds")
+        for call in (ukhtvaresh.star_second, ukhtvaresh.star_horizon):
+            self.takes_only_whole_numbers("second", lambda second: call(POTSDAM, second), 20, "seconds")
 
     def test_surveys(self):
         for name in "number latitude height delta_t guard".split():
@@ -416,6 +417,8 @@ class OtherTypes(unittest.TestCase):
             ("request", lambda request: ukhtvaresh.second(request, 0)),
             ("request", lambda request: ukhtvaresh.star_second(request, 0)),
             ("request", lambda request: ukhtvaresh.share(request, 0)),
+            ("request", lambda request: ukhtvaresh.horizon(request, 0)),
+            ("request", lambda request: ukhtvaresh.star_horizon(request, 0)),
             ("request", ukhtvaresh.mirror),
             ("sheet", ukhtvaresh.read),
             ("sheet", ukhtvaresh.listing),

@@ -3,11 +3,13 @@
 From the elements of an eclipse, a station, a window of seconds and a guard, `sheet` makes the station's contact sheet,
 `sheet_and_share` the same with the covered share of the Sun's disc; `star` makes that of a star from its elements and the Moon's
 radius; `read` takes a sheet apart, `write` puts entries together as one, `listing` gives a sheet as text, `second` the shadow at one
-second, `star_second` that of a star, and `share` the share at a second. `mirror` gives the request beyond the equator, `fit` judges coefficients that a spreadsheet made
-of seven hourly values, `from_tables` makes elements from tables of Sun and Moon, `root` gives a square root with its rounds, `mend`
-takes the damaged parts out of a file of sheets, `sheet_of_doubles` makes the sheet of positions that come as doubles, `doubles` makes
-doubles of whole units; `network` tells of a list of stations how far each clock is from the antenna and who sees the eclipse first. Each
-is a thin call of the proved function of the same name in libukhtvaresh.so, which the script `build` makes.
+second, `star_second` that of a star, `share` the share at a second, `horizon` and `star_horizon` the altitude and
+azimuth of the Sun and of a star at a second. `mirror` gives the request beyond the equator, `fit` judges coefficients
+that a spreadsheet made of seven hourly values, `from_tables` makes elements from tables of Sun and Moon, `root` gives a
+square root with its rounds, `mend` takes the damaged parts out of a file of sheets, `sheet_of_doubles` makes the
+sheet of positions that come as doubles, `doubles` makes doubles of whole units; `network` tells of a list of stations
+how far each clock is from the antenna and who sees the eclipse first. Each is a thin call of the proved function of
+the same name in libukhtvaresh.so, which the script `build` makes.
 
 Lengths are in 10^-8 of the Earth's equatorial radius, angles in 10^-6 degree, times in whole seconds of
 ephemeris time from the reference instant. East longitude is positive. "Document 01" is the paper whose rules the library keeps.
@@ -542,6 +544,19 @@ class StarSecond:
     direction: Optional[int]  # tenths of a degree, None where u and v are 0
 
 
+@dataclass(frozen=True)
+class Horizon:
+    """Where the Sun's centre or a star is in the station's sky at one second, in tenths of a degree.
+
+    No refraction and no dip. The horizon is the plane at right angles to the spheroid's normal, so the altitude goes by
+    the geodetic latitude. An angle from the zenith is a direction, such as a contact's, less `zenith`, modulo 3,600.
+    """
+
+    altitude: int  # rounded down, -900 to 900; below 0 it is under the horizon
+    azimuth: Optional[int]  # from north through east, 0 to 3,599; None straight overhead or straight down
+    zenith: Optional[int]  # direction of the zenith from the Sun's centre or the star, likewise
+
+
 # ---- the library
 
 
@@ -561,6 +576,8 @@ def _load() -> ctypes.CDLL:
     library.ukhtvaresh_share.argtypes = [data, length, ctypes.c_int64, room, length, value]
     library.ukhtvaresh_second.argtypes = [data, length, ctypes.c_int64, room, length, room, length, value]
     library.ukhtvaresh_star_second.argtypes = library.ukhtvaresh_second.argtypes
+    library.ukhtvaresh_horizon.argtypes = library.ukhtvaresh_second.argtypes
+    library.ukhtvaresh_star_horizon.argtypes = library.ukhtvaresh_second.argtypes
     library.ukhtvaresh_mirror.argtypes = [data, length, room, length, value]
     library.ukhtvaresh_read.argtypes = [data, length, room, length, value]
     library.ukhtvaresh_write.argtypes = [room, length, room, length, value]
@@ -573,7 +590,8 @@ def _load() -> ctypes.CDLL:
     library.ukhtvaresh_sheet_of_doubles.argtypes = survey + [room, length, room, length, value]
     library.ukhtvaresh_doubles.argtypes = [room, length, room, length, value]
     library.ukhtvaresh_network.argtypes = [room, length, room, length, room, length, room, length, value]
-    names = "sheet sheet_and_share star second star_second share mirror read write listing fit from_tables root mend sheet_of_doubles doubles network"
+    names = "sheet sheet_and_share star second star_second share horizon star_horizon mirror read write listing fit"
+    names += " from_tables root mend sheet_of_doubles doubles network"
     for name in names.split():
         getattr(library, "ukhtvaresh_" + name).restype = ctypes.c_uint64
     return library
@@ -736,6 +754,33 @@ def star_second(request: bytes, second: int) -> StarSecond:
     _call("star_second", request, len(request), second, *_sines(), shadow, 5)
     u, v, radius, state, direction = shadow
     return StarSecond(u, v, radius, State(state), _direction(direction))
+
+
+def _horizon(name: str, request: bytes, second: int) -> Horizon:
+    """The horizon that one of two functions gives."""
+    request, second = _bytes(request, "request"), _signed(second, "second")
+    horizon = (ctypes.c_int64 * 3)()
+    _call(name, request, len(request), second, *_sines(), horizon, 3)
+    altitude, azimuth, zenith = horizon
+    return Horizon(altitude, _direction(azimuth), _direction(zenith))
+
+
+def horizon(request: bytes, second: int) -> Horizon:
+    """Where the Sun's centre is at a second of a request, -10,800 to 10,800, also outside its window.
+
+    No refraction and no dip. The mirror of a request has the same altitude at every second.
+    Refusals, the first of them: 10, 1 (for the window or the second, then for the guard), 2, 3.
+    """
+    return _horizon("horizon", request, second)
+
+
+def star_horizon(request: bytes, second: int) -> Horizon:
+    """Where the star is at a second of a star request, -10,800 to 10,800, also outside its window.
+
+    No refraction and no dip.
+    Refusals, the first of them: 10, 1 (for the window or the second, then for the guard), 2, 13, 3.
+    """
+    return _horizon("star_horizon", request, second)
 
 
 def mirror(request: bytes) -> bytes:

@@ -1,4 +1,4 @@
-// Altitude, azimuth and zenith at a second, through the safe functions: values by hand, at the limits, mirrored, refused.
+// Altitude, azimuth and zenith at a second, through the safe functions: by hand, at the limits, mirrored, refused.
 use ukhtvaresh::{
     horizon, mirror, read, second, sheet_vec, star_horizon, Elements, Entry, Horizon, Refusal, Request,
     StarElements, StarRequest, Station, Window,

@@ -86,7 +86,7 @@ fn on_the_equator() {
 
 #[test]
 fn at_the_poles() {
-    // the altitude is the declination, and north of the pole is no place: the azimuth counts from the meridian opposite H = 0
+    // the altitude is the declination; the azimuth counts from the meridian where H is 180°
     for d0 in [-30, -1, 0, 1, 30] {
         assert_eq!(seen(90, 0, d0), horizon(10 * d0, 1800, 0));
         assert_eq!(seen(90, 90, d0), horizon(10 * d0, 2700, 0));
