@@ -3,7 +3,8 @@ use crate::{ffi, narrowed, Refusal};
 
 /// Where the Sun's centre or a star is in the station's sky at one second, in tenths of a degree.
 ///
-/// No refraction and no dip. The horizon is the plane at right angles to the spheroid's normal, so the altitude goes by the geodetic latitude.
+/// No refraction and no dip. The horizon is the plane at right angles to the spheroid's normal, so the altitude goes by
+/// the geodetic latitude.
 #[derive(Clone, Copy, Debug, PartialEq, Eq, Hash)]
 pub struct Horizon {
     /// Altitude, rounded down, -900 to 900; below 0 it is under the horizon.
@@ -30,8 +31,9 @@ fn horizon_by(numbers: Numbers, request: &[u8], second: i64) -> Result<Horizon, 
 
 /// Where the Sun's centre is at a second of a request, -10,800 to 10,800, also outside its window.
 ///
-/// No refraction and no dip. The mirror of a request has the same altitude at every second. Refusals, the first of them: 10, 1 (for the window or
-/// the second, then for the guard), 2, 3.
+/// No refraction and no dip. The mirror of a request has the same altitude at every second.
+///
+/// Refusals, the first of them: 10, 1 (for the window or the second, then for the guard), 2, 3.
 ///
 /// ```
 /// use ukhtvaresh::{horizon, Refusal};
@@ -47,7 +49,9 @@ pub fn horizon(request: &[u8], second: i64) -> Result<Horizon, Refusal> {
 
 /// Where the star is at a second of a star request, -10,800 to 10,800, also outside its window.
 ///
-/// No refraction and no dip. Refusals, the first of them: 10, 1 (for the window or the second, then for the guard), 2, 13, 3.
+/// No refraction and no dip.
+///
+/// Refusals, the first of them: 10, 1 (for the window or the second, then for the guard), 2, 13, 3.
 ///
 /// ```
 /// use ukhtvaresh::{star_horizon, Refusal};

@@ -1,6 +1,7 @@
 //! What the library is to answer where the reference has no function of the same shape.
 
 use reference::elements::FARTHEST;
+use reference::horizon::Horizon;
 use reference::listing;
 use reference::refusal::Refusal;
 use reference::request::Request;
@@ -47,6 +48,33 @@ pub fn star_second(
     room::fill(sines)?;
     shadow.get_mut(..5).ok_or(Refusal::Room(5))?.copy_from_slice(&numbers);
     Ok(5)
+}
+
+/// The three numbers of a horizon in their buffer: 4 for the room for table S, 4 for the numbers' own.
+fn horizon_into(found: Horizon, sines: &mut [u32], horizon: &mut [i64]) -> Result<usize, Refusal> {
+    room::fill(sines)?;
+    horizon.get_mut(..3).ok_or(Refusal::Room(3))?.copy_from_slice(&found.numbers());
+    Ok(3)
+}
+
+/// The horizon at one second: 10, 1, 2, 3, then 4 as above.
+pub fn horizon(
+    request: &[u8],
+    second: i64,
+    sines: &mut [u32],
+    horizon: &mut [i64],
+) -> Result<usize, Refusal> {
+    horizon_into(Request::from_bytes(request)?.horizon(second)?, sines, horizon)
+}
+
+/// The same of a star: 10, 1, 2, 13, 3, then 4 as above.
+pub fn star_horizon(
+    request: &[u8],
+    second: i64,
+    sines: &mut [u32],
+    horizon: &mut [i64],
+) -> Result<usize, Refusal> {
+    horizon_into(StarRequest::from_bytes(request)?.horizon(second)?, sines, horizon)
 }
 
 /// The listing of a sheet as bytes of text.

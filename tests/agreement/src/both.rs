@@ -89,6 +89,14 @@ pub const SECOND: Moment =
 pub const STAR_SECOND: Moment =
     Moment { name: "ukhtvaresh_star_second", ours: library::star_second, theirs: answers::star_second };
 
+/// The horizon of an eclipse.
+pub const HORIZON: Moment =
+    Moment { name: "ukhtvaresh_horizon", ours: library::horizon, theirs: answers::horizon };
+
+/// The horizon of a star.
+pub const STAR_HORIZON: Moment =
+    Moment { name: "ukhtvaresh_star_horizon", ours: library::star_horizon, theirs: answers::star_horizon };
+
 pub fn second_both(
     random: &mut Random,
     asked: &Moment,

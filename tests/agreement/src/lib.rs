@@ -5,6 +5,7 @@ pub mod both;
 pub mod draws;
 pub mod files;
 pub mod fits;
+pub mod horizons;
 pub mod library;
 pub mod networks;
 pub mod sheets;

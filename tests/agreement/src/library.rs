@@ -56,6 +56,26 @@ extern "C" {
         shadow_len: usize,
         value: *mut u64,
     ) -> u64;
+    fn ukhtvaresh_horizon(
+        request: *const u8,
+        request_len: usize,
+        second: i64,
+        sines: *mut u32,
+        sines_len: usize,
+        horizon: *mut i64,
+        horizon_len: usize,
+        value: *mut u64,
+    ) -> u64;
+    fn ukhtvaresh_star_horizon(
+        request: *const u8,
+        request_len: usize,
+        second: i64,
+        sines: *mut u32,
+        sines_len: usize,
+        horizon: *mut i64,
+        horizon_len: usize,
+        value: *mut u64,
+    ) -> u64;
     fn ukhtvaresh_mirror(
         request: *const u8,
         request_len: usize,
@@ -195,24 +215,33 @@ pub fn share(request: &[u8], second: i64, sines: &mut [u32]) -> Reply {
 }
 
 pub fn second(request: &[u8], second: i64, sines: &mut [u32], shadow: &mut [i64]) -> Reply {
-    shadow_at(ukhtvaresh_second, request, second, sines, shadow)
+    numbers_at(ukhtvaresh_second, request, second, sines, shadow)
 }
 
 /// One second of a star request.
 pub fn star_second(request: &[u8], second: i64, sines: &mut [u32], shadow: &mut [i64]) -> Reply {
-    shadow_at(ukhtvaresh_star_second, request, second, sines, shadow)
+    numbers_at(ukhtvaresh_star_second, request, second, sines, shadow)
+}
+
+pub fn horizon(request: &[u8], second: i64, sines: &mut [u32], horizon: &mut [i64]) -> Reply {
+    numbers_at(ukhtvaresh_horizon, request, second, sines, horizon)
+}
+
+/// The horizon of a star request.
+pub fn star_horizon(request: &[u8], second: i64, sines: &mut [u32], horizon: &mut [i64]) -> Reply {
+    numbers_at(ukhtvaresh_star_horizon, request, second, sines, horizon)
 }
 
 type SecondExport =
     unsafe extern "C" fn(*const u8, usize, i64, *mut u32, usize, *mut i64, usize, *mut u64) -> u64;
 
 /// The numbers that an export gives of one second of a request.
-fn shadow_at(
+fn numbers_at(
     export: SecondExport,
     request: &[u8],
     second: i64,
     sines: &mut [u32],
-    shadow: &mut [i64],
+    numbers: &mut [i64],
 ) -> Reply {
     let mut value = UNSET;
     let number = unsafe {
@@ -222,8 +251,8 @@ fn shadow_at(
             second,
             sines.as_mut_ptr(),
             sines.len(),
-            shadow.as_mut_ptr(),
-            shadow.len(),
+            numbers.as_mut_ptr(),
+            numbers.len(),
             &mut value,
         )
     };

@@ -1,4 +1,4 @@
-//! What begins with a request: its sheet, a second, a share; each is lent a room for table S.
+//! What begins with a request: its sheet, a second, a share, a horizon; each has a buffer for table S.
 
 use crate::{left, must_agree, must_come_back, old_byte, old_number, reply, room, Left, PAST};
 use agreement::answers;
@@ -42,6 +42,16 @@ extern "C" {
         room_len: usize,
         value: *mut u64,
     ) -> u64;
+    fn guide_horizon(
+        input: *const u8,
+        length: usize,
+        second: i64,
+        sines: *mut u32,
+        sines_len: usize,
+        room: *mut i64,
+        room_len: usize,
+        value: *mut u64,
+    ) -> u64;
     fn guide_share(
         input: *const u8,
         length: usize,
@@ -54,6 +64,9 @@ extern "C" {
 
 pub(crate) type SheetExport =
     unsafe extern "C" fn(*const u8, usize, *mut u32, usize, *mut u8, usize, *mut u64) -> u64;
+
+pub(crate) type SecondExport =
+    unsafe extern "C" fn(*const u8, usize, i64, *mut u32, usize, *mut i64, usize, *mut u64) -> u64;
 
 /// The room for table S: 901 numbers, or another count where that bit of the byte before a request says so.
 pub const OTHER_SINES: u8 = 0x08;
@@ -211,25 +224,28 @@ pub fn sheet(input: &[u8]) {
     sheets_agree(&asked, &request, found, [near, far, leave]);
 }
 
-/// The same bit, for `second` and `share`: the second is left as it stands.
+/// The same bit, for `second`, `share` and the horizons: the second is left as it stands.
 pub const LEAVE_SECOND: u8 = 0x04;
 
 /// What stands before the request and its second: two bytes for the room, one for what is left as it stands.
 pub(crate) type Head = [u8; 3];
 
-/// These, then eight bytes for the second, then the request.
-fn request_and_second(input: &[u8]) -> Option<(Head, Vec<u8>, i64)> {
+/// These, then eight bytes for the second, then the request, which `made` mends.
+pub(crate) fn request_and_second(
+    input: &[u8],
+    made: fn(u8, &[u8]) -> Vec<u8>,
+) -> Option<(Head, Vec<u8>, i64)> {
     let &[near, far, leave, a, b, c, d, e, f, g, h, ref raw @ ..] = input else { return None };
     let mut second = i64::from_be_bytes([a, b, c, d, e, f, g, h]);
     if leave & LEAVE_SECOND == 0 {
         second = into_range(second >> 1, &(-FARTHEST..=FARTHEST));
     }
-    Some(([near, far, leave], request(leave, raw), second))
+    Some(([near, far, leave], made(leave, raw), second))
 }
 
 /// The share at a second; it fills no room but that for table S.
 pub fn share(input: &[u8]) {
-    let Some(([near, far, leave], request, second)) = request_and_second(input) else { return };
+    let Some(([near, far, leave], request, second)) = request_and_second(input, request) else { return };
     let lent = sines_room(leave, near, far);
     let theirs = left(lent, old_number, |sines| {
         reply(share_of_input(&request, second, sines).map(|share| share as usize))
@@ -246,24 +262,56 @@ pub fn share(input: &[u8]) {
     must_agree("ukhtvaresh_share with counters", &request, lent, &guided, &theirs);
 }
 
-/// The eight numbers of a second.
-pub fn second(input: &[u8]) {
-    let Some(([near, far, leave], request, second)) = request_and_second(input) else { return };
-    let room = room(8, near, far);
+/// What gives numbers of a second of a request: its name, how many, the library's function, the guide's, the reference's.
+pub(crate) struct Moment {
+    pub name: &'static str,
+    pub count: usize,
+    pub call: fn(&[u8], i64, &mut [u32], &mut [i64]) -> Reply,
+    pub counted: SecondExport,
+    pub found: fn(&[u8], i64, &mut [u32], &mut [i64]) -> Result<usize, Refusal>,
+}
+
+/// A second's numbers by the library, by its guide and by the reference.
+pub(crate) fn numbers_agree(asked: &Moment, request: &[u8], second: i64, [near, far, leave]: Head) {
+    let rooms @ [lent, room] = [sines_room(leave, near, far), room(asked.count, near, far)];
     let old = |at: usize| (at as i64).wrapping_mul(0x9E37_79B9_7F4A_7C15_u64 as i64);
-    let rooms @ [lent, room] = [sines_room(leave, near, far), room];
-    let theirs =
-        left_lent(lent, room, old, |sines, room| reply(answers::second(&request, second, sines, room)));
-    let ours = left_lent(lent, room, old, |sines, room| library::second(&request, second, sines, room));
-    both_agree("ukhtvaresh_second", &request, rooms, &ours, &theirs);
+    let theirs = left_lent(lent, room, old, |sines, room| reply((asked.found)(request, second, sines, room)));
+    let ours = left_lent(lent, room, old, |sines, room| (asked.call)(request, second, sines, room));
+    both_agree(asked.name, request, rooms, &ours, &theirs);
     let guided = left_lent(lent, room, old, |sines, room| {
         let mut value = 0;
         let (length, sines_len, room_len) = (request.len(), sines.len(), room.len());
         let (sines, room) = (sines.as_mut_ptr(), room.as_mut_ptr());
         let number = unsafe {
-            guide_second(request.as_ptr(), length, second, sines, sines_len, room, room_len, &mut value)
+            (asked.counted)(request.as_ptr(), length, second, sines, sines_len, room, room_len, &mut value)
         };
         (number, value)
     });
-    both_agree("ukhtvaresh_second with counters", &request, rooms, &guided, &theirs);
+    both_agree(&format!("{} with counters", asked.name), request, rooms, &guided, &theirs);
+}
+
+/// The eight numbers of a second.
+pub fn second(input: &[u8]) {
+    let Some((head, request, second)) = request_and_second(input, request) else { return };
+    let asked = Moment {
+        name: "ukhtvaresh_second",
+        count: 8,
+        call: library::second,
+        counted: guide_second,
+        found: answers::second,
+    };
+    numbers_agree(&asked, &request, second, head);
+}
+
+/// The three numbers of the horizon at a second.
+pub fn horizon(input: &[u8]) {
+    let Some((head, request, second)) = request_and_second(input, request) else { return };
+    let asked = Moment {
+        name: "ukhtvaresh_horizon",
+        count: 3,
+        call: library::horizon,
+        counted: guide_horizon,
+        found: answers::horizon,
+    };
+    numbers_agree(&asked, &request, second, head);
 }

@@ -1,8 +1,10 @@
-//! A star request and its sheet.
+//! A star request, its sheet and its horizon.
 
 use crate::requests::{
-    into_range, into_ranges, sheets_agree, short, window_within, Asked, LEAVE_NUMBERS, LEAVE_SHAPE,
+    into_range, into_ranges, numbers_agree, request_and_second, sheets_agree, short, window_within, Asked,
+    Moment, LEAVE_NUMBERS, LEAVE_SHAPE,
 };
+use agreement::answers;
 use agreement::library;
 use agreement::stars::outside;
 use reference::axis::{put_along_edge, put_near_edge, slow_down};
@@ -17,13 +19,23 @@ use reference::star::{
 };
 
 extern "C" {
-    // The guide's export, as include/ukhtvaresh.h declares that of the archive.
+    // The guide's exports, as include/ukhtvaresh.h declares those of the archive.
     fn guide_star(
         input: *const u8,
         length: usize,
         sines: *mut u32,
         sines_len: usize,
         room: *mut u8,
+        room_len: usize,
+        value: *mut u64,
+    ) -> u64;
+    fn guide_star_horizon(
+        input: *const u8,
+        length: usize,
+        second: i64,
+        sines: *mut u32,
+        sines_len: usize,
+        room: *mut i64,
         room_len: usize,
         value: *mut u64,
     ) -> u64;
@@ -67,6 +79,19 @@ pub fn star(input: &[u8]) {
     let found = StarRequest::from_bytes(&request).and_then(|request| request.check());
     let found = found.map(|occultation| sheet::bytes_of(&occultation.records()));
     sheets_agree(&asked, &request, found, [near, far, leave]);
+}
+
+/// Two bytes for the room, one for what is left as it stands, eight for the second, then the request.
+pub fn horizon(input: &[u8]) {
+    let Some((head, request, second)) = request_and_second(input, request) else { return };
+    let asked = Moment {
+        name: "ukhtvaresh_star_horizon",
+        count: 3,
+        call: library::star_horizon,
+        counted: guide_star_horizon,
+        found: answers::star_horizon,
+    };
+    numbers_agree(&asked, &request, second, head);
 }
 
 /// One number of a request at or next to its limits, or anywhere within them.

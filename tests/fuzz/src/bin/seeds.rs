@@ -1,7 +1,8 @@
-//! `seeds FOLDER`: what the fuzzer starts from, in FOLDER/read, listing, sheet, star, second, share, network, write and mend: the requests and sheets
-//! that the repository holds, and some drawn as tests/agreement draws them.
+//! `seeds FOLDER`: what the fuzzer starts from, in FOLDER/read, listing, sheet, star, second, share, horizon,
+//! star_horizon, network, write and mend: the requests and sheets that the repository holds, and some drawn as
+//! tests/agreement draws them.
 
-use agreement::{draws, files, sheets, stars};
+use agreement::{draws, files, horizons, sheets, stars};
 use fuzz::networks;
 use fuzz::requests::{LEAVE_NUMBERS, LEAVE_SECOND, LEAVE_SHAPE, OTHER_SINES, WITH_SHARE};
 use reference::random::Random;
@@ -125,4 +126,25 @@ fn main() {
         });
         put(&second, &head, overlapping, "overlapping");
     }
+    let at_zero = [&head[..], &[0; 8]].concat();
+    let (of_suns, of_stars) = (folder.join("horizon"), folder.join("star_horizon"));
+    for (head, from) in others.iter().zip(["short", "long"]) {
+        let head = [&head[..], &[0; 8]].concat();
+        put(&of_suns, &head, stored_requests(), from);
+        put(&of_stars, &head, stored_stars(), from);
+    }
+    put(&of_suns, &at_zero, stored_requests(), "stored");
+    put(&of_suns, &at_zero, (0..DRAWN).map(|_| draws::request(&mut random)), "drawn");
+    let placed = (0..DRAWN).filter_map(|_| {
+        let (request, second) = horizons::eclipse(&mut random);
+        Some([&second.to_be_bytes()[..], &request.to_bytes()?].concat())
+    });
+    put(&of_suns, &head, placed, "placed");
+    put(&of_stars, &at_zero, stored_stars(), "stored");
+    put(&of_stars, &at_zero, (0..DRAWN).map(|_| stars::request(&mut random)), "drawn");
+    let placed = (0..DRAWN).filter_map(|_| {
+        let (request, second) = horizons::star(&mut random);
+        Some([&second.to_be_bytes()[..], &request.to_bytes()?].concat())
+    });
+    put(&of_stars, &head, placed, "placed");
 }
