@@ -94,6 +94,8 @@ export function* draws(count, seed, made) {
     share: () => [[buffer(request(false)), sines()], [second()]],
     second: () => [[buffer(request(false)), sines(), room(often(0.97) ? 8 : within(0, 9), 8)], [second()]],
     star_second: () => [[buffer(request(true)), sines(), room(often(0.97) ? 5 : within(0, 6), 8)], [second()]],
+    horizon: () => [[buffer(request(false)), sines(), room(often(0.97) ? 3 : within(0, 4), 8)], [second()]],
+    star_horizon: () => [[buffer(request(true)), sines(), room(often(0.97) ? 3 : within(0, 4), 8)], [second()]],
     mirror: () => [buffer(request(false)), room(often(0.95) ? 115 : within(0, 130))],
     read: () => [buffer(sheet()), room(often(0.9) ? 400 : within(0, 30), 4)],
     write() {

@@ -56,6 +56,8 @@ int main(void)
         case 14: number = ukhtvaresh_doubles(I64(0), F64(1), v); break;
         case 15: number = ukhtvaresh_network(I64(0), (ukhtvaresh_node *)(void *)b[1], n[1], U32(2), U64(3), v); break;
         case 16: number = ukhtvaresh_star_second(U8(0), i[0], U32(1), I64(2), v); break;
+        case 17: number = ukhtvaresh_horizon(U8(0), i[0], U32(1), I64(2), v); break;
+        case 18: number = ukhtvaresh_star_horizon(U8(0), i[0], U32(1), I64(2), v); break;
         default: return 1;
         }
         fwrite(&number, 8, 1, stdout);

@@ -262,7 +262,7 @@ pub fn share(input: &[u8]) {
     must_agree("ukhtvaresh_share with counters", &request, lent, &guided, &theirs);
 }
 
-/// What gives numbers of a second of a request: its name, how many, the library's function, the guide's, the reference's.
+/// What gives numbers of a second of a request: its name, their count, the functions of library, guide and reference.
 pub(crate) struct Moment {
     pub name: &'static str,
     pub count: usize,

@@ -1,14 +1,15 @@
-//! `horizons SECONDS SEED`: the compiled library's altitude, azimuth and zenith against docs/HORIZON.md in plain Rust, at
-//! SECONDS seconds of eclipses that are not refused and as many of stars, and at those that are refused between them.
+//! `horizons SECONDS SEED`: the compiled library's altitude, azimuth and zenith against docs/HORIZON.md in plain Rust,
+//! at SECONDS seconds of eclipses that are not refused and as many of stars, and at refused ones between them.
 //!
-//! Compared for each call: the refusal's number, the value beside it, and each whole buffer with 64 numbers past its end,
-//! the room for table S among them. Requests come eight seconds each. Half of them are those of `agreement` and `stars`:
-//! within their limits, outside them, or of another shape, with rooms that are exact, too short or longer. In the other
-//! half the Sun or the star is arranged at its second: overhead, straight down, rising, setting, on the meridian, and the
-//! station at a pole or on the equator. Seconds are any of -10,800 to 10,800, their ends, those of the window, or outside.
+//! Compared for each call: the refusal's number, the value beside it, and each whole buffer with 64 numbers past its
+//! end, the room for table S among them. Each request is asked for eight seconds: any of -10,800 to 10,800, their ends,
+//! those of the window, or outside. Half of the requests are drawn as in `agreement` and `stars`: within their limits,
+//! outside them, or of another shape, with rooms that are exact, too short or longer. In the other half the Sun or the
+//! star is overhead, straight down, rising, setting or on the meridian at a second, and the station often at a pole or
+//! on the equator.
 //!
-//! Of each second within the limits the mirror too: the same altitude; azimuths, and zeniths, add up to 1799 or 1800 modulo
-//! 3600, or both are none. An altitude lies in -900 to 900, a direction in 0 to 3599 or is 65,535.
+//! The mirror of each second that is not refused has the same altitude; azimuths, and zeniths, add up to 1799 or 1800
+//! modulo 3600, or both are none. An altitude is -900 to 900, a direction 0 to 3599 or 65,535.
 //!
 //! Prints counts; the first difference stops it with all that gives it again.
 
@@ -50,10 +51,8 @@ impl Seen {
         let parts: Vec<String> = self.numbers.iter().map(|(number, n)| format!("{number}: {n}")).collect();
         println!("{name:13} {total} calls, by number {}", parts.join(", "));
         let [down, below, above, up] = self.altitudes;
-        println!(
-            "{name:13} altitudes under -89 degrees {down}, to 0 {below}, to 89 {above}, from 89 {up}; without azimuth {}, zenith {}",
-            self.none[0], self.none[1]
-        );
+        println!("{name:13} altitudes under -89 degrees {down}, to 0 {below}, to 89 {above}, from 89 {up}");
+        println!("{name:13} without azimuth {}, without zenith {}", self.none[0], self.none[1]);
         for (what, [less, exact, none]) in ["azimuths", "zeniths"].iter().zip(self.mirrored) {
             println!(
                 "{name:13} mirrored: same altitude, {what} sum to 1799 {less}, to 1800 {exact}, none {none}"
