@@ -2,13 +2,14 @@
 """Compares altitude, azimuth and zenith of the library with ERFA's hd2ae and hd2pa: tests/horizon.py [DRAWS] [SEED]
 
 Requires ERFA for Python (Debian: python3-erfa, so Debian's own python3) and target/staticlib/libukhtvaresh.so, which
-python/build makes. Half of the draws (100,000 if not given) are requests of eclipses, half of stars. In half of each the
-Sun or the star is anywhere; in the other half it is at an edge: overhead, straight down, rising, setting, on the
-meridian, seen from a pole or from the equator, or touching the horizon. In eclipses d moves, often at its limits, and ΔT
-is any.
+python/build makes. Half of the draws (100,000 if not given) are requests of eclipses, half of stars. In half of each
+the Sun or the star is anywhere; in the other half it is at an edge: overhead, straight down, rising, setting, on the
+meridian, seen from a pole or from the equator, or touching the horizon. In eclipses d moves, often at its limits. ΔT is
+any.
 
 The angles for ERFA are computed here in double precision from the request's numbers. The library rounds down, so ERFA's
-value lies in the tenth of a degree that the library gives, or next to it, since the library's sines have eight decimals:
+value lies in the tenth of a degree that the library gives, or next to it, since the library's sines have eight
+decimals:
 
 - an altitude within ±89 degrees at most NEXT tenths outside that tenth; beyond ±89 degrees, where the sine hardly
   changes, at most NEXT_TO_ZENITH;
