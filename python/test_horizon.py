@@ -112,6 +112,12 @@ class Horizons(unittest.TestCase):
             for at in (-10_801, 10_801, 2**63, -(2**70)):
                 self.refuses(1, 0, call, asked, at)
 
+    def test_moving_declination(self):
+        # from the pole: 20,000 an hour for three hours, to the tenth and not a second before
+        moving = replace(ECLIPSE.elements, d0=9_940_000, d1=20_000)
+        asked = replace(ECLIPSE, elements=moving, station=replace(ECLIPSE.station, latitude=90 * DEGREE)).to_bytes()
+        self.assertEqual([horizon(asked, at).altitude for at in (0, 10_799, 10_800)], [99, 99, 100])
+
     def test_mirrored(self):
         def opposite(a, b):
             return (a, b) == (None, None) or (a + b) % 3600 in (1799, 1800)

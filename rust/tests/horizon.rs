@@ -117,6 +117,15 @@ fn seconds_outside_the_window() {
 }
 
 #[test]
+fn moving_declination() {
+    // from the pole: 20,000 an hour for three hours, to the tenth and not a second before
+    let mut request = eclipse(90 * DEGREE, 0, 9_940_000);
+    request.elements.d1 = 20_000;
+    let altitude = |at| horizon(&bytes(&request), at).map(|found| found.altitude);
+    assert_eq!([0, 10_799, 10_800].map(altitude), [Ok(99), Ok(99), Ok(100)]);
+}
+
+#[test]
 fn mirrored() {
     let sums = |a: Option<u16>, b: Option<u16>| match (a, b) {
         (Some(a), Some(b)) => [1799, 1800].contains(&((a + b) % 3600)),
