@@ -3,13 +3,14 @@
 From the elements of an eclipse, a station, a window of seconds and a guard, `sheet` makes the station's contact sheet,
 `sheet_and_share` the same with the covered share of the Sun's disc; `star` makes that of a star from its elements and the Moon's
 radius; `read` takes a sheet apart, `write` puts entries together as one, `listing` gives a sheet as text, `second` the shadow at one
-second, `star_second` that of a star, `share` the share at a second, `horizon` and `star_horizon` the altitude and
-azimuth of the Sun and of a star at a second. `mirror` gives the request beyond the equator, `fit` judges coefficients
-that a spreadsheet made of seven hourly values, `from_tables` makes elements from tables of Sun and Moon, `root` gives a
-square root with its rounds, `mend` takes the damaged parts out of a file of sheets, `sheet_of_doubles` makes the
-sheet of positions that come as doubles, `doubles` makes doubles of whole units; `network` tells of a list of stations
-how far each clock is from the antenna and who sees the eclipse first. Each is a thin call of the proved function of
-the same name in libukhtvaresh.so, which the script `build` makes.
+second, `star_second` that of a star, and `share` the share at a second. `mirror` gives the request beyond the equator, `fit` judges coefficients that a spreadsheet made
+of seven hourly values, `from_tables` makes elements from tables of Sun and Moon, `root` gives a square root with its rounds, `mend`
+takes the damaged parts out of a file of sheets, `sheet_of_doubles` makes the sheet of positions that come as doubles, `doubles` makes
+doubles of whole units; `network` tells of a list of stations how far each clock is from the antenna and who sees the eclipse first. Each
+is a thin call of the proved function of the same name in libukhtvaresh.so, which the script `build` makes.
+
+`horizon` and `star_horizon` give the altitude, the azimuth and the direction of the zenith of the Sun and of a star at a
+second, without refraction and dip.
 
 Lengths are in 10^-8 of the Earth's equatorial radius, angles in 10^-6 degree, times in whole seconds of
 ephemeris time from the reference instant. East longitude is positive. "Document 01" is the paper whose rules the library keeps.
