@@ -33,6 +33,7 @@ fn put_entries(out: &mut [u8], start: usize, states: &[u8]) -> usize
     requires { ⌜ States (now states) ⌝ }
     ensures { λ r. ⌜ Put (now (out .entry)) start (entriesText (now (states .entry))) (now (out .exit)) r ⌝ }
 {
+    let seconds = states.len();
     let mut at = start;
     let mut c = contacts::Cursor {
         at: 0,
@@ -40,7 +41,7 @@ fn put_entries(out: &mut [u8], start: usize, states: &[u8]) -> usize
         was: 0,
     };
     loop {
-        let contacts::Next::Found(found, after) = contacts::step(states, 0, c) else {
+        let contacts::Next::Found(found, after) = contacts::step(states, 0, seconds, c) else {
             return at;
         };
         at = put_entry(out, at, found);

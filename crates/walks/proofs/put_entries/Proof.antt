@@ -5,16 +5,16 @@ use lib.ListN.{length}
 use Rattle.run_length.specs.Runs.{decoded}
 use Rattle.contacts.specs.Step.{At}
 use Rattle.contacts.specs.laws.StepLaws.{at-start, Took, took, none-left}
-use Rattle.walks.specs.laws.PrintedLaws.{as-runs, few-seconds, Walking, walking-start, walking-turn, walking-end}
+use Rattle.walks.specs.laws.PrintedLaws.{as-runs, second-each, Walking, walking-start, walking-turn, walking-end}
 use borrow.Author.Needs.{needs}
 use Rattle.walks.proofs.put_entries.Statement.{statement}
 use Rattle.walks.proofs.put_entries.Tie as tie
 
 abbrev Inv-loop : tie.InvT-loop
-Inv-loop out₀ start states at₀ c₀ out at c = At 0 states c × Walking states out₀ start out at (c .at)
+Inv-loop out₀ start states seconds at₀ c₀ out at c = At 0 states c × Walking states out₀ start out at (c .at)
 
 abbrev μ-loop : tie.MeasureT-loop
-μ-loop out₀ start states at₀ c₀ out at c = length (decoded 0 states) - c .at
+μ-loop out₀ start states seconds at₀ c₀ out at c = length (decoded 0 states) - c .at
 
 -- the step took the next entry
 onward : (c : tie.After-known-told Inv-loop μ-loop)
@@ -29,7 +29,7 @@ loop-holds c =
 step-requires : tie.Need-step-requires Inv-loop μ-loop
 step-requires c κs =
     let p = c .before .before .before .pre in
-    (few-seconds _ p, c .loop .inv .0)
+    (second-each _ p, c .loop .inv .0)
 
 same-length : tie.Need-same-length Inv-loop μ-loop
 same-length c = c .before .before .before .loop .inv .1 .same

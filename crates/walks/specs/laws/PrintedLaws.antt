@@ -38,8 +38,8 @@ are-states n number h = (omega (arith, how-many n number), λ i l. digits-small 
 pub as-runs : (s : List ℕ) → States s → Whole s × (decoded 0 s ≡ s)
 as-runs s h = singles s (λ i l. omega (arith, h .1 i l))
 
-pub few-seconds : (s : List ℕ) → States s → length (decoded 0 s) ≤ 21601
-few-seconds s h = omega (arith, h .0, ap length (as-runs s h .1))
+pub second-each : (s : List ℕ) → States s → length (decoded 0 s) ≡ length s
+second-each s h = ap length (as-runs s h .1)
 
 module _ (old : List ℕ) (short : length old < 18446744073709551616) (at : ℕ) where
   pub put-parts : (word : List ℕ) (from to : ℕ) (a b c new : List ℕ) (p q r s : ℕ) → Put old at word a p → Put a p (decimal from) b q

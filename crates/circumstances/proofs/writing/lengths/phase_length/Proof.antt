@@ -15,13 +15,13 @@ use Rattle.circumstances.proofs.writing.lengths.phase_length.Statement.
 use Rattle.circumstances.proofs.writing.lengths.phase_length.Tie as tie
 
 abbrev Inv-loop : tie.InvT-loop
-Inv-loop phase runs k n₀ c₀ n c =
+Inv-loop phase runs k seconds n₀ c₀ n c =
     At k runs c
     × (n + bytesNeeded phase (entriesFrom (decoded k runs) (c .at)) ≡ bytesNeeded phase (entries (decoded k runs)))
     × (n ≤ 17 * c .at)
 
 abbrev μ-loop : tie.MeasureT-loop
-μ-loop phase runs k n₀ c₀ n c = length (decoded k runs) - c .at
+μ-loop phase runs k seconds n₀ c₀ n c = length (decoded k runs) - c .at
 
 -- the step took the next entry
 onward : (c : tie.After-known-told Inv-loop μ-loop)
@@ -52,12 +52,14 @@ returns c =
     let a = c .before .before .before .before .before .args in
     let l = c .before .before .before .loop in
     let z = ap (bytesNeeded (a .phase)) (none-left (a .k) (a .runs .now) (l .c .at) _ (c .before .before .step .ensures) (c .enum-told .given .1)) ∙ needed-nil (a .phase) in
-    (omega (arith, l .inv .1, z), omega (arith, l .inv .2, l .inv .0 .stands .second, c .before .before .before .before .before .pre .1))
+    let p = c .before .before .before .before .before .pre in
+    (omega (arith, l .inv .1, z), omega (arith, l .inv .2, l .inv .0 .stands .second, p))
 
 add-n : tie.Need-add-n Inv-loop μ-loop
 add-n c =
     let l = c .before .before .before .before .before .before .loop in
-    record { fits = omega (arith, l .inv .2, l .inv .0 .stands .second, c .before .before .before .before .before .before .before .before .pre .1, c .size-of .ensures .1) }
+    let p = c .before .before .before .before .before .before .before .before .pre in
+    record { fits = omega (arith, l .inv .2, l .inv .0 .stands .second, p, c .size-of .ensures .1) }
 
 loop-less : tie.Need-loop-less Inv-loop μ-loop
 loop-less c = let o = onward (c .before .before) in omega (arith, o .further, o .within)
