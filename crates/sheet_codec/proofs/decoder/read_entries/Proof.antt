@@ -4,7 +4,7 @@
 use Rattle.sheet_codec.proofs.decoder.Passing.{Passing, pass-never, pass-fits, pass-end, pass-more}
 use Rattle.sheet_codec.proofs.decoder.Answers.{of-numbers, reading-starts}
 use Rattle.sheet_codec.specs.Sheets.{storedAt, readSheet}
-use Rattle.sheet_codec.specs.Passes.{filled}
+use Rattle.sheet_codec.specs.laws.Passes.{filled}
 use Rattle.sheet_format.specs.RecordEntries.{numbersOf}
 use Rattle.sheet_format.specs.laws.KindLaws.{kind-inv}
 use lib.Seq.{sets}

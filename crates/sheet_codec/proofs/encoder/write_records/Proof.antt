@@ -4,7 +4,7 @@ use Rattle.sheet_codec.proofs.decoder.Passing.{Passing, pass-never, pas
 use Rattle.sheet_codec.proofs.decoder.Answers.{of-bytes, writing-starts}
 use Rattle.sheet_codec.specs.Handed.{handedAt, listSheet}
 use Rattle.sheet_codec.specs.laws.HandedLaws.{handed-bounds}
-use Rattle.sheet_codec.specs.Passes.{emitted}
+use Rattle.sheet_codec.specs.laws.Passes.{emitted}
 use Rattle.sheet_format.specs.RecordEntries.{bytesOf}
 use Rattle.sheet_format.specs.laws.EntryLaws.{length-bytes}
 use Rattle.sheet_format.specs.Kinds.{sizeOf}

@@ -7,8 +7,6 @@ use lib.Seq.{sets}
 use Rattle.sheet_types.specs.Refusals.{refusal}
 use Rattle.sheet_format.specs.declared.records.Record.{Record}
 use Rattle.sheet_format.specs.declared.records.Record.the-variants.{Is, Refused}
-use Rattle.sheet_rules.specs.declared.rules.Judgement.{Judgement}
-use Rattle.sheet_rules.specs.declared.rules.Judgement.the-variants.{Next, Broken}
 use Rattle.sheet_codec.specs.declared.decoder.Extent.{Extent}
 use Rattle.sheet_codec.specs.declared.decoder.Extent.the-variants as X
 use Rattle.sheet_format.specs.RecordEntries.{numbersOf, bytesOf}
@@ -41,8 +39,3 @@ extent k (refused r) = X.Refused r
 abbrev pub refusedOf : Record → Extent
 refusedOf (Refused r) = X.Refused r
 refusedOf (Is e n) = X.Refused (refusal 6 n)
-
--- a broken rule's refusal, passed on
-abbrev pub brokenOf : Judgement → Extent
-brokenOf (Broken r) = X.Refused r
-brokenOf (Next p) = X.Refused (refusal 8 0)
