@@ -2,4 +2,5 @@ pub mod DecimalLaws
 pub mod TextLaws
 pub mod PatternLaws
 pub mod Examples
+pub mod RowLaws
 pub mod CountedLaws

@@ -13,7 +13,7 @@ use lib.Seq.{drop-cons, drop-drop}
 use Rattle.decimal_text.specs.Texts.{Put}
 use Rattle.decimal_text.specs.laws.TextLaws.{Putting, putting-start, putting-turn, putting-end}
 use Rattle.decimal_text.specs.Rows.{counted, eachCounted}
-use Rattle.decimal_text.specs.RowLaws.{put-as}
+use Rattle.decimal_text.specs.laws.RowLaws.{put-as}
 
 -- two bytes, and what follows them
 two-of : (s : List ℕ) (i : ℕ) → i + 1 < length s → drop i s ≡ getD s i 0 ∷ getD s (i + 1) 0 ∷ drop (i + 2) s

@@ -17,7 +17,7 @@ use Rattle.rounding.specs.laws.Cert.{leq, less, equ, _⊞_, certify, certify-<}
 use Rattle.decimal_text.specs.Decimals.{signed}
 use Rattle.decimal_text.specs.Texts.{letters, Put}
 use Rattle.decimal_text.specs.laws.TextLaws.{put-nil}
-use Rattle.decimal_text.specs.RowLaws.{joined}
+use Rattle.decimal_text.specs.laws.RowLaws.{joined}
 use Rattle.listing_lines.specs.Times.{ofDayText, dayText, timeText}
 
 -- ---- rounding down after a shift by s times the divisor

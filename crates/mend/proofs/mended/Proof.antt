@@ -4,7 +4,7 @@ use mathlib.Core.Path.{refl, sym, _∙_}
 use native.Mathlib.Omega.{arith}
 use lib.ListN.{length}
 use Rattle.decimal_text.specs.Texts.{Counts}
-use Rattle.decimal_text.specs.RowLaws.{put-as}
+use Rattle.decimal_text.specs.laws.RowLaws.{put-as}
 use Rattle.mend.specs.laws.PrintedLaws.{too-long, refused-out, kept-first, notes-first, all-told}
 use borrow.Author.Needs.{needs}
 use Rattle.mend.proofs.mended.Statement.{statement}

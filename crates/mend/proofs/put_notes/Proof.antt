@@ -3,7 +3,7 @@ use Prim.Native.Nat.{_/_, _-_}
 use native.Mathlib.Omega.{arith}
 use lib.ListN.{length, length-take, length-drop}
 use Rattle.decimal_text.specs.Rows.{part}
-use Rattle.decimal_text.specs.RowLaws.{Rows, rows-start, rows-end, parts-turn}
+use Rattle.decimal_text.specs.laws.RowLaws.{Rows, rows-start, rows-end, parts-turn}
 use Rattle.mend.specs.Printed.{noteLine}
 use borrow.Author.Needs.{needs}
 use Rattle.mend.proofs.put_notes.Statement.{statement}

@@ -9,7 +9,7 @@ use lib.Seq.{take-at, drop-at, drop-drop}
 use Rattle.sheet_types.specs.declared.refusals.Refusal.{Refusal}
 use Rattle.decimal_text.specs.Texts.{Put, Counts}
 use Rattle.decimal_text.specs.Rows.{rows, part, eachPart}
-use Rattle.decimal_text.specs.RowLaws.{put-as}
+use Rattle.decimal_text.specs.laws.RowLaws.{put-as}
 use Rattle.listing_lines.specs.Lines.{refusalLine}
 use Rattle.year_file.specs.declared.mending.Answer.{Answer}
 use Rattle.year_file.specs.declared.mending.Answer.the-variants.{Mended, Refused}

@@ -4,7 +4,7 @@ use mathlib.Core.Path.{refl}
 use Prim.Native.Nat.{_-_}
 use native.Mathlib.Omega.{arith}
 use Rattle.rounding.specs.laws.Code.{read-result}
-use Rattle.decimal_text.specs.RowLaws.{Rows, rows-start, rows-turn, rows-end, put-as}
+use Rattle.decimal_text.specs.laws.RowLaws.{Rows, rows-start, rows-turn, rows-end, put-as}
 use Rattle.network.specs.laws.PrintedLaws.{lineAt, line-is, lines-all}
 use borrow.Author.Needs.{needs}
 use Rattle.network.proofs.put_stations.Statement.{statement}

@@ -10,7 +10,7 @@ use Rattle.rounding.specs.Near.{floorZ}
 use Rattle.rounding.specs.Parts.{sum, opposite}
 use Rattle.rounding.specs.laws.Order.{zs, neg-natAbs, fits64}
 use Rattle.rounding.specs.laws.Code.{Code, arg, lit, add, sub, run, Within, raw, whole, ends, _▹_, fits, runs, within, unsigned, count-is, count-size}
-use Rattle.decimal_text.specs.RowLaws.{put-as, joined}
+use Rattle.decimal_text.specs.laws.RowLaws.{put-as, joined}
 use Rattle.listing_lines.specs.Times.{ofDayText, dayText, timeText}
 use Rattle.listing_lines.specs.laws.TimeLaws.{time-up, natural}
 use borrow.Author.Needs.{needs}
