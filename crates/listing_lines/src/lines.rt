@@ -138,7 +138,7 @@ pub fn put_refusal(out: &mut [u8], at: usize, number: u64, place: u64) -> usize
 }
 
 // The same as a line of its own.
-pub fn put_refusal_line(out: &mut [u8], at: usize, number: u64, place: u64) -> usize
+fn put_refusal_line(out: &mut [u8], at: usize, number: u64, place: u64) -> usize
     ensures { λ r. ⌜ Put (now (out .entry)) at (refusalLine number place) (now (out .exit)) r ⌝ }
 {
     let end = put_refusal(out, at, number, place);

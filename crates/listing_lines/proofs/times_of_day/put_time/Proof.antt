@@ -8,11 +8,11 @@ use lib.IntN.{pos, natAbs, _+ℤ_, _-ℤ_}
 use lib.Signed.{_≤ℤ_}
 use Rattle.rounding.specs.Near.{floorZ}
 use Rattle.rounding.specs.Parts.{sum, opposite}
-use Rattle.rounding.specs.laws.Order.{zs, neg-natAbs, fits64}
+use Rattle.rounding.specs.laws.Order.{zs, neg-natAbs, fits64, nonneg-natAbs}
 use Rattle.rounding.specs.laws.Code.{Code, arg, lit, add, sub, run, Within, raw, whole, ends, _▹_, fits, runs, within, unsigned, count-is, count-size}
 use Rattle.decimal_text.specs.laws.RowLaws.{put-as, joined}
 use Rattle.listing_lines.specs.Times.{ofDayText, dayText, timeText}
-use Rattle.listing_lines.specs.laws.TimeLaws.{time-up, natural}
+use Rattle.listing_lines.specs.laws.TimeLaws.{time-up}
 use borrow.Author.Needs.{needs}
 use Rattle.listing_lines.proofs.times_of_day.put_time.Statement.{statement}
 use Rattle.listing_lines.proofs.times_of_day.put_time.Tie as tie
@@ -35,7 +35,7 @@ module _ (s : tie.Start) where
   divided = natAbs (run (whole (s .args .n) ∷ []) up)
 
   shifted : s .args .n +ℤ pos 864000000000 ≡ pos divided
-  shifted = natural _ not-below ∙ ap (λ z. pos (natAbs z)) (sym (runs bounds up tt))
+  shifted = nonneg-natAbs _ not-below ∙ ap (λ z. pos (natAbs z)) (sym (runs bounds up tt))
 
   days : divided / 10 / 864000 ≤ 1724000000000
   days = omega (arith, within bounds up 1724000000000 tt)
