@@ -15,9 +15,8 @@ use Rattle.run_length.specs.laws.RunsLaws.{decoded-none}
 use Rattle.contacts.specs.declared.Cursor.{Cursor}
 use Rattle.contacts.specs.declared.entries.Entry.{Entry}
 use Rattle.contacts.specs.declared.entries.Entry.the-variants.{Enter, Leave, Graze, Open}
-use Rattle.contacts.specs.declared.Next.{Next}
 use Rattle.contacts.specs.declared.Next.the-variants.{Found, Done}
-use Rattle.contacts.specs.Entries.{sure, unsure, Last, none, last, state, side, if-so, between, someBetween}
+use Rattle.contacts.specs.Entries.{sure, unsure, Last, last, state, side, if-so, between, someBetween}
 use Rattle.contacts.specs.Entries.{atSecond, atEnd, walk, from, to}
 use Rattle.contacts.specs.laws.BetweenLaws.{between-some, between-none}
 use Rattle.contacts.specs.Step.{entriesFrom, lastBefore, Stands, At, Stepped}

@@ -3,4 +3,3 @@ pub mod TextLaws
 pub mod PatternLaws
 pub mod Examples
 pub mod RowLaws
-pub mod CountedLaws

@@ -4,7 +4,6 @@ use libc::STDIN_FILENO;
 use program_io::ERROR;
 use program_io::OUTPUT;
 use program_io::Text;
-ghost use mathlib.Core.Path.{_≡_};
 ghost use mathlib.Core.List.{List};
 ghost use Prim.Native.Nat.{ℕ};
 ghost use lib.ListN.{take};

@@ -4,7 +4,6 @@ use sheet_format::kinds::Entry;
 use sheet_format::kinds::Kind;
 use sheet_types::phases::Phase;
 use sheet_types::refusals::Refusal;
-ghost use mathlib.Core.List.{_++_};
 ghost use Rattle.decimal_text.specs.Texts.{letters, Put};
 ghost use Rattle.listing_lines.specs.Lines.{nameOf, headLine, contactLine, unsureLine, closestLine, shareLine, textOf, endFor, lineOf, numbered, refusalText, refusalLine};
 

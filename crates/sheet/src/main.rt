@@ -5,8 +5,7 @@ ghost use mathlib.Core.Path.{_≡_};
 ghost use mathlib.Core.List.{List};
 ghost use Prim.Native.Nat.{ℕ};
 ghost use lib.ListN.{take};
-ghost use Rattle.decimal_text.specs.Texts.{Counts};
-ghost use Rattle.decimal_text.specs.RowLaws.{Copies};
+ghost use Rattle.decimal_text.specs.Texts.{Counts, Copies};
 ghost use Rattle.program_io.specs.Inputs.{Read};
 ghost use Rattle.sheet.specs.Printed.{printed};
 

@@ -225,9 +225,6 @@ returns-3 c =
     open-start _ _ _ _ _ _ (i .3 ∙ l .walked) (i .1) (l .reached) (l .stands) _ r (omega (arith, f, l .is-sure))
     (c .if6 .taken) (l .first (c .if6 .taken))
 
-sub-from : tie.Need-sub-from Inv-loop μ-loop Inv-seconds μ-seconds
-sub-from c = omega (arith, c .if6 .left)
-
 entry-between-requires : tie.Need-entry-between-requires Inv-loop μ-loop Inv-seconds μ-seconds
 entry-between-requires c κs =
     let j = joined (c .before) in
@@ -252,4 +249,4 @@ step-spec =
     (tie.spec Inv-loop μ-loop Inv-seconds μ-seconds (λ c κs. search needs) seconds-holds returns
     run-at-requires add-ahead loop-holds run-at-requires-2 add-ahead-2 loop-less loop-again
     (λ c κs. search needs) sub-to returns-2 add-second seconds-less seconds-again run-at-requires-3 add-end
-    returns-3 sub-from entry-between-requires returns-4)
+    returns-3 (λ c. omega (arith, c .if6 .left)) entry-between-requires returns-4)

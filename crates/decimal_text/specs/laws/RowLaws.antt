@@ -8,10 +8,10 @@ use native.Mathlib.Omega.{arith}
 use lib.IntN.{ℤ}
 use mir.Syntax.{w64}
 use mir.Val.{toZ, ofZ}
-use lib.ListN.{length, take, drop, replicate, length-replicate}
+use lib.ListN.{length, take, drop, length-replicate}
 use lib.Signed.{mag}
 use Rattle.rounding.specs.laws.Code.{read-result}
-use Rattle.decimal_text.specs.Texts.{Put}
+use Rattle.decimal_text.specs.Texts.{Put, Copies}
 use Rattle.decimal_text.specs.laws.TextLaws.{put-same, put-nil, put-then}
 use Rattle.decimal_text.specs.Patterns.{filled}
 use Rattle.decimal_text.specs.Rows.{rows, part}
@@ -24,10 +24,6 @@ put-as x y old at new r e p = rw (← e) p
 pub joined : {old mid new : List ℕ} {at r q : ℕ} {x y : List ℕ} → length old < 18446744073709551616 → Put old at x mid r → Put mid r y new q
     → Put old at (x ++ y) new q
 joined h p w = put-then _ _ _ _ _ _ _ _ h p w
-
--- a room that holds n times the same
-pub record Copies (x n : ℕ) (l : List ℕ) : Type 0 where
-  pub is : l ≡ replicate n x
 
 pub copies-length : {x n : ℕ} {l : List ℕ} → Copies x n l → length l ≡ n
 copies-length {x} {n} c = ap length (c .is) ∙ length-replicate n x

@@ -60,18 +60,6 @@ start c = c .before .before .before .before .before .before .before .before
 sub-p : tie.Need-sub-p
 sub-p c = fits (bounds (c .before .before .before .before)) P tt
 
-sub-q : tie.Need-sub-q
-sub-q c = fits (bounds (start c)) Q tt
-
-mul-quarter : tie.Need-mul-quarter
-mul-quarter c = fits (bounds (start c)) (mul P P) tt
-
-mul-quarter-2 : tie.Need-mul-quarter-2
-mul-quarter-2 c = fits (bounds (start c)) (mul Q Q) tt
-
-add-quarter : tie.Need-add-quarter
-add-quarter c = fits (bounds (start c)) D tt
-
 add-quarter-2 : tie.Need-add-quarter-2
 add-quarter-2 c = fits (bounds (start c)) (add D (K.lit (pos 3))) tt
 
@@ -101,5 +89,5 @@ returns-2 c =
 pub lowest-spec : {M : Type 1} → statement M
 lowest-spec =
     tie.close
-    (tie.spec sub-p sub-q mul-quarter mul-quarter-2 add-quarter add-quarter-2 div-quarter sub-result returns
+    (tie.spec sub-p (λ c. fits (bounds (start c)) Q tt) (λ c. fits (bounds (start c)) (mul P P) tt) (λ c. fits (bounds (start c)) (mul Q Q) tt) (λ c. fits (bounds (start c)) D tt) add-quarter-2 div-quarter sub-result returns
     sub-result-2 returns-2)

@@ -22,9 +22,6 @@ earlier = add (arg 1) (arg 3)
 more : (x y g : ℤ) → x ≤ℤ y → (x +ℤ g) ≤ℤ (y +ℤ g)
 more x y g h = certify 0 (x ∷ y ∷ g ∷ []) (v0 ⊕ v2) (v1 ⊕ v2) (leq v0 v1 h) tt
 
-add-w : tie.Need-add-w
-add-w c = fits (bounds (c .before)) later tt
-
 mul-result : tie.Need-mul-result
 mul-result c = fits (bounds (c .before)) (mul later later) tt
 
@@ -39,9 +36,6 @@ returns c = λ t.
       end = ≤ℤ-refl (a .n +ℤ a .g);
       far = taken-< w (mul later later) (arg 0) tt t;
     }
-
-add-w-2 : tie.Need-add-w-2
-add-w-2 c = fits (bounds (c .before)) earlier tt
 
 mul-result-2 : tie.Need-mul-result-2
 mul-result-2 c = fits (bounds (c .before)) (mul earlier earlier) tt
@@ -58,4 +52,4 @@ returns-2 c = λ t.
     }
 
 pub outside-spec : {M : Type 1} → statement M
-outside-spec = tie.close (tie.spec add-w mul-result returns add-w-2 mul-result-2 returns-2)
+outside-spec = tie.close (tie.spec (λ c. fits (bounds (c .before)) later tt) mul-result returns (λ c. fits (bounds (c .before)) earlier tt) mul-result-2 returns-2)

@@ -25,12 +25,6 @@ noted c = let m = c .before .before .before .before .before .before .before .men
 short : (c : tie.After-mend) → length (c .before .before .before .before .before .before .before .before .args .file .now) < 18446744073709551616
 short c = omega arith
 
-slice-reshare-prefix-put-notes : tie.Need-slice-reshare-prefix-put-notes
-slice-reshare-prefix-put-notes c = noted (c .before) .0
-
-slice-aggregate-put-notes : tie.Need-slice-aggregate-put-notes
-slice-aggregate-put-notes c = noted (c .before .before) .1
-
 returns-2 : tie.Need-returns-2
 returns-2 c =
     let t = c .before .before .before .before .before in
@@ -52,6 +46,6 @@ pub mended-spec : {M : Type 1} → statement M
 mended-spec =
     tie.close
     (tie.spec (λ c κs. search needs) (λ c. search needs) returns (λ c κs. search needs) (λ c. search needs)
-    slice-reshare-prefix-put-notes slice-aggregate-put-notes (λ c κs. search needs) (λ c. search needs)
+    (λ c. noted (c .before) .0) (λ c. noted (c .before .before) .1) (λ c κs. search needs) (λ c. search needs)
     (λ c κs. search needs) (λ c. search needs) (λ c. search needs) (λ c. search needs) returns-2
     (λ c. search needs) (λ c. search needs) (λ c. search needs) returns-3)

@@ -15,9 +15,6 @@ Inv-loop states seconds cursor₀ cursor = At 0 states cursor
 abbrev μ-loop : tie.MeasureT-loop
 μ-loop states seconds cursor₀ cursor = length (decoded 0 states) - cursor .at
 
-loop-holds : tie.Need-loop-holds Inv-loop μ-loop
-loop-holds c = at-start _ _ _ (c .before .before .pre .0)
-
 step-requires : tie.Need-step-requires Inv-loop μ-loop
 step-requires c κs = (c .before .before .before .pre .1, c .loop .inv)
 
@@ -31,11 +28,8 @@ onward c = took _ _ _ _ _ _ (c .before .before .before .before .step .ensures) (
 loop-less : tie.Need-loop-less Inv-loop μ-loop
 loop-less c = let o = onward c in omega (arith, o .further, o .within)
 
-loop-again : tie.Need-loop-again Inv-loop μ-loop
-loop-again c = onward c .cursor
-
 pub print-entries-spec : {M : Type 1} → statement M
 print-entries-spec =
     tie.close
-    (tie.spec Inv-loop μ-loop loop-holds step-requires (λ c. search needs) (λ c. search needs)
-    (λ c. search needs) (λ c κs. search needs) loop-less loop-again)
+    (tie.spec Inv-loop μ-loop (λ c. at-start _ _ _ (c .before .before .pre .0)) step-requires (λ c. search needs) (λ c. search needs)
+    (λ c. search needs) (λ c κs. search needs) loop-less (λ c. onward c .cursor))

@@ -4,7 +4,7 @@ use mathlib.Core.Path.{_≡_, ap, _∙_}
 use mathlib.Core.List.{List}
 use lib.ListN.{length, take}
 use Rattle.decimal_text.specs.Texts.{Put}
-use Rattle.decimal_text.specs.RowLaws.{Copies}
+use Rattle.decimal_text.specs.Texts.{Copies}
 use Rattle.program_io.specs.Inputs.{Read}
 use Rattle.program_io.specs.laws.OutputLaws.{put-cut}
 use Rattle.answers.specs.Answers.{answerText}

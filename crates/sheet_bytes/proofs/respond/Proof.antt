@@ -6,7 +6,7 @@ use native.Mathlib.Omega.{arith}
 use lib.ListN.{length}
 use lib.Seq.{length-take-le}
 use Rattle.request_answers.specs.laws.SheetLaws.{fits-written, fits}
-use Rattle.decimal_text.specs.RowLaws.{copies-length}
+use Rattle.decimal_text.specs.laws.RowLaws.{copies-length}
 use Rattle.program_io.specs.laws.OutputLaws.{put-whole}
 use Rattle.sheet_bytes.specs.laws.StreamLaws.{sheet-out, line-out}
 use borrow.Author.Needs.{needs}

@@ -1,7 +1,7 @@
 -- The text of an answer stands whole at the array's start, and goes to the output that it is of.
 use Prim.Native.Nat.{ℕ, _≤_, _<_}
 use mathlib.Core.Path.{_≡_, refl, sym, ap, _∙_}
-use mathlib.Core.List.{List, [], _++_}
+use mathlib.Core.List.{List, _++_}
 use native.Mathlib.Omega.{arith}
 use lib.IntN.{pos}
 use lib.ListN.{length, take, length-append}
@@ -12,7 +12,7 @@ use Rattle.request_answers.specs.Sheet.{answerTo, bufferFor, storedBy, sheetSto
 use Rattle.decimal_text.specs.Decimals.{decimal}
 use Rattle.decimal_text.specs.laws.DecimalLaws.{decimal-64}
 use Rattle.decimal_text.specs.Texts.{letters, Put, Counts}
-use Rattle.decimal_text.specs.RowLaws.{Copies}
+use Rattle.decimal_text.specs.Texts.{Copies}
 use Rattle.listing_lines.specs.Lines.{refusalText, refusalLine}
 use Rattle.program_io.specs.Inputs.{Read}
 use Rattle.program_io.specs.Outputs.{Sent, toOutput, toError}

@@ -13,12 +13,9 @@ Inv-loop bytes list₀ count n₀ list n = (n ≤ length bytes / 4) × (length l
 abbrev μ-loop : tie.MeasureT-loop
 μ-loop bytes list₀ count n₀ list n = length bytes / 4 - n
 
-loop-again : tie.Need-loop-again Inv-loop μ-loop
-loop-again c = (omega arith, simp length-set (omega arith))
-
 pub take-spec : {M : Type 1} → statement M
 take-spec =
     tie.close
     (tie.spec Inv-loop μ-loop (λ c. search needs) (λ c. search needs) (λ c κs. search needs)
-    (λ c. search needs) (λ c. search needs) (λ c. search needs) (λ c. search needs) loop-again
+    (λ c. search needs) (λ c. search needs) (λ c. search needs) (λ c. search needs) (λ c. (omega arith, simp length-set (omega arith)))
     (λ c. search needs) (λ c. search needs))

@@ -1,6 +1,6 @@
 -- `stream::put_unwritten` meets its contract: words and numbers, one after the other.
 use native.Mathlib.Omega.{arith}
-use Rattle.decimal_text.specs.RowLaws.{joined}
+use Rattle.decimal_text.specs.laws.RowLaws.{joined}
 use Rattle.stream.specs.Unwritten.{unwrittenLine}
 use borrow.Author.Needs.{needs}
 use Rattle.stream.proofs.put_unwritten.Statement.{statement}

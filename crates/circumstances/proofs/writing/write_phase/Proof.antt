@@ -72,9 +72,6 @@ ended : (c : tie.After-enum-told Inv-loop μ-loop) →
     entriesFrom (decoded (start l .args .k) (start l .args .runs .now)) (l .loop .c .at) ≡ []
 ended c = none-left _ _ _ _ (c .before .before .step .ensures) (c .enum-told .given .1)
 
-second-count-requires : tie.Need-second-count-requires Inv-loop μ-loop
-second-count-requires c κs = entered c .pre .0 .1 .window
-
 loop-holds : tie.Need-loop-holds Inv-loop μ-loop
 loop-holds c =
     let b = entered (c .before) in
@@ -84,9 +81,6 @@ loop-holds c =
 
 step-requires : tie.Need-step-requires Inv-loop μ-loop
 step-requires c κs = (start c .pre .1 .1 ∙ sym (c .before .second-count .ensures), c .loop .inv .0)
-
-same-length : tie.Need-same-length Inv-loop μ-loop
-same-length c = c .before .before .before .loop .inv .1
 
 returns : tie.Need-returns Inv-loop μ-loop
 returns c =
@@ -133,5 +127,5 @@ loop-again c =
 pub write-phase-spec : {M : Type 1} → statement M
 write-phase-spec =
     tie.close
-    (tie.spec Inv-loop μ-loop second-count-requires loop-holds step-requires (λ c. search needs)
-    (λ c. search needs) same-length returns entry-for-requires put-requires loop-less loop-again)
+    (tie.spec Inv-loop μ-loop (λ c κs. entered c .pre .0 .1 .window) loop-holds step-requires (λ c. search needs)
+    (λ c. search needs) (λ c. c .before .before .before .loop .inv .1) returns entry-for-requires put-requires loop-less loop-again)

@@ -1,5 +1,5 @@
 -- `elements::stars::check` meets its contract: the elements under 2, then the radius under 13.
-use mathlib.Core.Path.{_≡_, sym, ap, _∙_}
+use mathlib.Core.Path.{sym, ap, _∙_}
 use lib.IntN.{ℤ}
 use borrow.Author.Needs.{needs}
 use Rattle.rounding.specs.laws.Code.{read-result}

@@ -50,17 +50,8 @@ module _ (s : tie.Start) where
       (runs day-bounds down tt ∙ ap (λ z. z -ℤ pos 100000) (count-is (divided / 10 / 864000) days tt))
       ∙ sym (time-up (s .args .n) divided shifted)
 
-add-tenths : tie.Need-add-tenths
-add-tenths c = fits (bounds (c .before)) up tt
-
 cast-tenths : tie.Need-cast-tenths
 cast-tenths c = unsigned (bounds (c .before)) up tt (not-below (c .before))
-
-cast-day : tie.Need-cast-day
-cast-day c = fits64 _ (omega (arith, days (c .before)))
-
-sub-day : tie.Need-sub-day
-sub-day c = fits (day-bounds (c .before)) down tt
 
 returns : tie.Need-returns
 returns c = put-as _ _ _ _ _ _ (text (c .before .before .before .before .before .before .before .before .before)) (joined (omega arith) (c .before .before .before .before .before .before .put-of-day .ensures) (c .before .before .put-day .ensures))
@@ -68,5 +59,5 @@ returns c = put-as _ _ _ _ _ _ (text (c .before .before .before .before .before 
 pub put-time-spec : {M : Type 1} → statement M
 put-time-spec =
     tie.close
-    (tie.spec add-tenths cast-tenths cast-day sub-day (λ c κs. search needs) (λ c κs. search needs)
+    (tie.spec (λ c. fits (bounds (c .before)) up tt) cast-tenths (λ c. fits64 _ (omega (arith, days (c .before)))) (λ c. fits (day-bounds (c .before)) down tt) (λ c κs. search needs) (λ c κs. search needs)
     (λ c. search needs) returns)

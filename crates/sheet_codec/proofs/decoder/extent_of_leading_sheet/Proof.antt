@@ -86,9 +86,6 @@ returns-2 : tie.Need-returns-2 Inv-loop μ-loop
 returns-2 c = count-refused (turn (c .before .before .before) .loop .inv .2) _
     (sym (by-kind _ _ _ _ (is-byte (c .before .before .before)) (sym (c .before .before .kind-for .ensures) ∙ c .enum-told2 .given .1)))
 
-body-at-requires : tie.Need-body-at-requires Inv-loop μ-loop
-body-at-requires c κs = byte-inv _ _ _ (is-byte (byted c)) .0
-
 returns-3 : tie.Need-returns-3 Inv-loop μ-loop
 returns-3 c = count-refused (turn (byted (c .before .before .before)) .loop .inv .2) _
     (sym (by-body _ _ _ _ _ (is-byte (byted (c .before .before .before))) (is-kind (c .before .before .before))
@@ -188,7 +185,7 @@ extent-of-leading-sheet-spec =
     tie.close
     (tie.spec Inv-loop μ-loop (λ c κs. search needs) loop-holds (λ c κs. search needs) (λ c. search needs)
     (λ c. search needs) returns (λ c κs. search needs) (λ c. search needs) (λ c. search needs) returns-2
-    body-at-requires (λ c. search needs) (λ c. search needs) returns-3 (λ c κs. search needs)
+    (λ c κs. byte-inv _ _ _ (is-byte (byted c)) .0) (λ c. search needs) (λ c. search needs) returns-3 (λ c κs. search needs)
     (λ c. search needs) (λ c. search needs) returns-4 (λ c κs. search needs) (λ c. search needs)
     (λ c. search needs) returns-5 size-for-requires add-next (λ c κs. search needs) add-count returns-6
     (λ c κs. search needs) add-n loop-less loop-again)

@@ -18,9 +18,6 @@ use Rattle.circumstances.proofs.writing.lengths.nth_phase_length.Tie as
 abbrev start : tie.After-nth-phase → tie.Start
 start c = c .before .before .before
 
-second-count-requires : tie.Need-second-count-requires
-second-count-requires c κs = start c .pre .0 .window
-
 phase-length-requires : tie.Need-phase-length-requires
 phase-length-requires c κs =
     let b = start (c .before) in
@@ -41,4 +38,4 @@ returns c =
     )
 
 pub nth-phase-length-spec : {M : Type 1} → statement M
-nth-phase-length-spec = tie.close (tie.spec (λ c κs. search needs) second-count-requires phase-length-requires returns)
+nth-phase-length-spec = tie.close (tie.spec (λ c κs. search needs) (λ c κs. start c .pre .0 .window) phase-length-requires returns)

@@ -44,9 +44,6 @@ loop-holds c =
     let a = c .before .args in
     (at-start (a .k) (a .runs .now) 0 (c .before .pre .0), omega (arith, ap (bytesNeeded (a .phase)) (all-at-start (decoded (a .k) (a .runs .now)))), omega arith)
 
-step-requires : tie.Need-step-requires Inv-loop μ-loop
-step-requires c κs = (c .before .before .pre .1, c .loop .inv .0)
-
 returns : tie.Need-returns Inv-loop μ-loop
 returns c =
     let a = c .before .before .before .before .before .args in
@@ -73,5 +70,5 @@ loop-again c =
 pub phase-length-spec : {M : Type 1} → statement M
 phase-length-spec =
     tie.close
-    (tie.spec Inv-loop μ-loop loop-holds step-requires (λ c. search needs) (λ c. search needs) returns
+    (tie.spec Inv-loop μ-loop loop-holds (λ c κs. (c .before .before .pre .1, c .loop .inv .0)) (λ c. search needs) (λ c. search needs) returns
     (λ c κs. search needs) (λ c κs. search needs) add-n loop-less loop-again)
