@@ -48,5 +48,6 @@ returns c = (c .before .before .sheet-from .ensures .0, c .before .before .sheet
 pub sheet-within-spec : {M : Type 1} → statement M
 sheet-within-spec =
     tie.close
-    (tie.spec (λ c κs. search needs) (λ c. search needs) fill-requires (λ c. c .before .fill .ensures .0 .count)
-    slice-aggregate-sheet-from sheet-from-requires same-length returns)
+    (tie.spec (λ c κs. search needs) (λ c. search needs) fill-requires
+    (λ c. c .before .fill .ensures .0 .count) slice-aggregate-sheet-from sheet-from-requires same-length
+    returns)

@@ -89,5 +89,6 @@ returns-2 c =
 pub lowest-spec : {M : Type 1} → statement M
 lowest-spec =
     tie.close
-    (tie.spec sub-p (λ c. fits (bounds (start c)) Q tt) (λ c. fits (bounds (start c)) (mul P P) tt) (λ c. fits (bounds (start c)) (mul Q Q) tt) (λ c. fits (bounds (start c)) D tt) add-quarter-2 div-quarter sub-result returns
-    sub-result-2 returns-2)
+    (tie.spec sub-p (λ c. fits (bounds (start c)) Q tt) (λ c. fits (bounds (start c)) (mul P P) tt)
+    (λ c. fits (bounds (start c)) (mul Q Q) tt) (λ c. fits (bounds (start c)) D tt) add-quarter-2 div-quarter
+    sub-result returns sub-result-2 returns-2)

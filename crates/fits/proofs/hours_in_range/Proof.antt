@@ -26,5 +26,5 @@ returns c =
 pub hours-in-range-spec : {M : Type 1} → statement M
 hours-in-range-spec =
     tie.close
-    (tie.spec (λ c κs. search needs) (λ c. fits (bounds (c .before)) opposite tt) (λ c. search needs) (λ c. search needs) (λ c. search needs)
-    (λ c κs. search needs) returns)
+    (tie.spec (λ c κs. search needs) (λ c. fits (bounds (c .before)) opposite tt) (λ c. search needs)
+    (λ c. search needs) (λ c. search needs) (λ c κs. search needs) returns)

@@ -51,5 +51,5 @@ pub mirror-bytes-spec : {M : Type 1} → statement M
 mirror-bytes-spec =
     tie.close
     (tie.spec (λ c κs. search needs) (λ c. search needs) returns (λ c. search needs) returns-2
-    (λ c κs. search needs) (λ c κs. search needs) (λ c. sym (made-length (c .before .before))) (λ c κs. search needs)
-    (λ c. search needs) returns-3)
+    (λ c κs. search needs) (λ c κs. search needs) (λ c. sym (made-length (c .before .before)))
+    (λ c κs. search needs) (λ c. search needs) returns-3)

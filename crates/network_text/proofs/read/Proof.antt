@@ -140,8 +140,8 @@ pub read-spec : {M : Type 1} → statement M
 read-spec =
     tie.close
     (tie.spec Inv-loop μ-loop slice-set-of-found (λ c κs. search needs) loop-holds (λ c. search needs)
-    (λ c. search needs) (λ c. search needs) (λ c κs. search needs) (λ c. let i = inside c in search needs) (λ c. search needs)
-    (λ c. search needs) (λ c. inside c) take-requires (λ c. search needs) same-length same-length-2 returns
-    (λ c. search needs) add-at add-line loop-less loop-again (λ c. omega (arith, walked (c .before) .marked))
-    slice-aggregate-complete (λ c κs. search needs) (λ c κs. search needs) same-length-3 same-length-4
-    returns-2)
+    (λ c. search needs) (λ c. search needs) (λ c κs. search needs) (λ c. let i = inside c in search needs)
+    (λ c. search needs) (λ c. search needs) (λ c. inside c) take-requires (λ c. search needs) same-length
+    same-length-2 returns (λ c. search needs) add-at add-line loop-less loop-again
+    (λ c. omega (arith, walked (c .before) .marked)) slice-aggregate-complete (λ c κs. search needs)
+    (λ c κs. search needs) same-length-3 same-length-4 returns-2)

@@ -43,5 +43,6 @@ returns c =
 pub put-steps-spec : {M : Type 1} → statement M
 put-steps-spec =
     tie.close
-    (tie.spec Inv-loop μ-loop (λ c. (omega arith, c .pre .1, refl)) (λ c. search needs) cast-steps (λ c. search needs)
-    (λ c. search needs) (λ c. search needs) (λ c. search needs) loop-again same-length returns)
+    (tie.spec Inv-loop μ-loop (λ c. (omega arith, c .pre .1, refl)) (λ c. search needs) cast-steps
+    (λ c. search needs) (λ c. search needs) (λ c. search needs) (λ c. search needs) loop-again same-length
+    returns)

@@ -48,6 +48,7 @@ returns c =
 pub tell-steps-spec : {M : Type 1} → statement M
 tell-steps-spec =
     tie.close
-    (tie.spec (λ c κs. search needs) (λ c κs. search needs) (λ c. search needs) (λ c. sym (numbers-counted (c .before .before)))
-    (λ c. search needs) (λ c. sym (clocks-counted (c .before .before))) all-steps-requires (λ c. search needs) put-steps-requires
+    (tie.spec (λ c κs. search needs) (λ c κs. search needs) (λ c. search needs)
+    (λ c. sym (numbers-counted (c .before .before))) (λ c. search needs)
+    (λ c. sym (clocks-counted (c .before .before))) all-steps-requires (λ c. search needs) put-steps-requires
     (λ c. search needs) returns)

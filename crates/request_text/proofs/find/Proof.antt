@@ -75,6 +75,6 @@ returns-2 c = finding-none _ _ _ (c .before .loop .inv) (omega (arith, c .loop-t
 pub find-spec : {M : Type 1} → statement M
 find-spec =
     tie.close
-    (tie.spec Inv-loop μ-loop (λ c κs. search needs) (λ c. finding-start _ _) (λ c κs. short c) (λ c. room (c .before))
-    slice-aggregate-is-named (λ c κs. search needs) returns (λ c. search needs) (λ c. search needs) loop-again
-    returns-2)
+    (tie.spec Inv-loop μ-loop (λ c κs. search needs) (λ c. finding-start _ _) (λ c κs. short c)
+    (λ c. room (c .before)) slice-aggregate-is-named (λ c κs. search needs) returns (λ c. search needs)
+    (λ c. search needs) loop-again returns-2)

@@ -41,6 +41,6 @@ returns-4 c = named-followed _ _ _ (c .before .before .before .before .loop .inv
 pub is-named-spec : {M : Type 1} → statement M
 is-named-spec =
     tie.close
-    (tie.spec Inv-loop μ-loop (λ c. named-start _ _) returns shared-slice-read-if2 (λ c. search needs) returns-2
-    (λ c. search needs) (λ c. search needs) loop-again returns-3 shared-slice-read-x (λ c κs. search needs)
-    returns-4)
+    (tie.spec Inv-loop μ-loop (λ c. named-start _ _) returns shared-slice-read-if2 (λ c. search needs)
+    returns-2 (λ c. search needs) (λ c. search needs) loop-again returns-3 shared-slice-read-x
+    (λ c κs. search needs) returns-4)

@@ -41,6 +41,6 @@ returns-4 c =
 pub note-spec : {M : Type 1} → statement M
 note-spec =
     tie.close
-    (tie.spec (λ c. search needs) (λ c. search needs) (λ c. search needs) (λ c. let f = field (c .before) in omega arith) returns
-    slice-write-marks mul-value slice-set-from-value returns-2 returns-3 (λ c. search needs)
-    (λ c. search needs) returns-4)
+    (tie.spec (λ c. search needs) (λ c. search needs) (λ c. search needs)
+    (λ c. let f = field (c .before) in omega arith) returns slice-write-marks mul-value slice-set-from-value
+    returns-2 returns-3 (λ c. search needs) (λ c. search needs) returns-4)

@@ -161,9 +161,9 @@ pub read-spec : {M : Type 1} → statement M
 read-spec =
     tie.close
     (tie.spec Inv-loop μ-loop (λ c κs. search needs) sub-required mul-found slice-set-of-found loop-holds
-    (λ c. search needs) (λ c. search needs) (λ c. search needs) (λ c κs. search needs) (λ c. let i = inside c in search needs)
-    (λ c. search needs) (λ c. search needs) (λ c. inside c) (λ c κs. search needs) note-requires
-    (λ c. search needs) same-length same-length-2 returns (λ c. search needs) add-at add-line loop-less
-    loop-again slice-reshare-prefix-complete slice-aggregate-complete (λ c κs. search needs)
-    (λ c. search needs) same-length-3 same-length-4 returns-2 (λ c. search needs) same-length-5 same-length-6
-    returns-3)
+    (λ c. search needs) (λ c. search needs) (λ c. search needs) (λ c κs. search needs)
+    (λ c. let i = inside c in search needs) (λ c. search needs) (λ c. search needs) (λ c. inside c)
+    (λ c κs. search needs) note-requires (λ c. search needs) same-length same-length-2 returns
+    (λ c. search needs) add-at add-line loop-less loop-again slice-reshare-prefix-complete
+    slice-aggregate-complete (λ c κs. search needs) (λ c. search needs) same-length-3 same-length-4 returns-2
+    (λ c. search needs) same-length-5 same-length-6 returns-3)

@@ -14,5 +14,5 @@ pub put-spec : {M : Type 1} → statement M
 put-spec =
     tie.close
     (tie.spec (λ c. search needs) (λ c. search needs) (λ c. search needs) (λ c. search needs)
-    (λ c. search needs) (λ c. search needs) (λ c. search needs) (λ c. simp length-set (omega (arith, c .pre .3))) (λ c. search needs)
-    (λ c. search needs) returns)
+    (λ c. search needs) (λ c. search needs) (λ c. search needs)
+    (λ c. simp length-set (omega (arith, c .pre .3))) (λ c. search needs) (λ c. search needs) returns)

@@ -119,6 +119,7 @@ returns c =
 pub coordinates-of-spec : {M : Type 1} → statement M
 coordinates-of-spec =
     tie.close
-    (tie.spec (λ c. fits (bounds c) (mul (arg 0) (arg 3)) tt) near-unit-requires (λ c. fits (after c) xi tt) (λ c κs. within (after c) xi 1000000000000000000 tt) mul-near-unit-3
-    mul-near-unit-4 (λ c. fits (after (c .before)) eta tt) near-unit-requires-3 mul-near-unit-5 mul-near-unit-6 (λ c. fits (after (c .before .before)) zeta tt)
-    near-unit-requires-4 returns)
+    (tie.spec (λ c. fits (bounds c) (mul (arg 0) (arg 3)) tt) near-unit-requires (λ c. fits (after c) xi tt)
+    (λ c κs. within (after c) xi 1000000000000000000 tt) mul-near-unit-3 mul-near-unit-4
+    (λ c. fits (after (c .before)) eta tt) near-unit-requires-3 mul-near-unit-5 mul-near-unit-6
+    (λ c. fits (after (c .before .before)) zeta tt) near-unit-requires-4 returns)

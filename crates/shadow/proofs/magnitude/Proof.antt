@@ -115,5 +115,6 @@ returns-2 c =
 pub magnitude-spec : {M : Type 1} → statement M
 magnitude-spec =
     tie.close
-    (tie.spec (λ c. fits (bounds c) both tt) (λ c. fits (bounds (c .before)) less tt) share-requires returns cast-root (λ c κs. tt) (λ c. fits (after c) (arg 0) tt) (λ c. fits (after c) short tt)
-    share-requires-2 returns-2)
+    (tie.spec (λ c. fits (bounds c) both tt) (λ c. fits (bounds (c .before)) less tt) share-requires returns
+    cast-root (λ c κs. tt) (λ c. fits (after c) (arg 0) tt) (λ c. fits (after c) short tt) share-requires-2
+    returns-2)

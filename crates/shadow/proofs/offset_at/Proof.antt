@@ -167,5 +167,8 @@ returns c =
 pub offset-at-spec : {M : Type 1} → statement M
 offset-at-spec =
     tie.close
-    (tie.spec quadratic-at-requires (λ c. fits (hour-angle c) sum tt) quadratic-at-requires-2 orientation-of-requires
-    (λ c κs. (first c .pre .2, orientation-sizes c)) cubic-at-requires (λ c. fits (east c) U tt) cubic-at-requires-2 (λ c. fits (sides c) N tt) (λ c. fits (sides c) (mul U U) tt) (λ c. fits (sides c) (mul N N) tt) (λ c. fits (sides c) squares tt) returns)
+    (tie.spec quadratic-at-requires (λ c. fits (hour-angle c) sum tt) quadratic-at-requires-2
+    orientation-of-requires (λ c κs. (first c .pre .2, orientation-sizes c)) cubic-at-requires
+    (λ c. fits (east c) U tt) cubic-at-requires-2 (λ c. fits (sides c) N tt)
+    (λ c. fits (sides c) (mul U U) tt) (λ c. fits (sides c) (mul N N) tt) (λ c. fits (sides c) squares tt)
+    returns)

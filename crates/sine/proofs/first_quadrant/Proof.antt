@@ -79,5 +79,5 @@ first-quadrant-spec =
     tie.close
     (tie.spec (λ c. search needs) (λ c κs. search needs) mul-square near-unsigned-requires-2
     (λ c κs. search needs) (λ c κs. search needs) (λ c. search needs) (λ c κs. search needs)
-    (λ c κs. search needs) mul-gain mul-loss (λ c. taken (within c) (parts c)) near-unsigned-requires-3 (λ c. record { fits = omega (arith, step-fits c) })
-    (λ c. search needs) returns returns-2)
+    (λ c κs. search needs) mul-gain mul-loss (λ c. taken (within c) (parts c)) near-unsigned-requires-3
+    (λ c. record { fits = omega (arith, step-fits c) }) (λ c. search needs) returns returns-2)

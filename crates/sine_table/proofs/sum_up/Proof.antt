@@ -153,6 +153,8 @@ pub sum-up-spec : {M : Type 1} → statement M
 sum-up-spec =
     tie.close
     (tie.spec Inv-loop μ-loop (λ c. search needs) loop-holds cast-room (λ c. search needs) slice-write-room
-    add-entry (λ c. search needs) shared-slice-copy-out-wide-signed (λ c κs. search needs) (λ c. rw (d-is c) (step-fits _ _ _ _ (next c)))
-    (λ c. search needs) (λ c. search needs) loop-again (λ c. stored 899 _ (omega arith) (entry-is c)) slice-write-room-2 (λ c. entry-fits 900 _ (omega arith) (last-is c)) (λ c. stored 900 _ (omega arith) (last-read c))
+    add-entry (λ c. search needs) shared-slice-copy-out-wide-signed (λ c κs. search needs)
+    (λ c. rw (d-is c) (step-fits _ _ _ _ (next c))) (λ c. search needs) (λ c. search needs) loop-again
+    (λ c. stored 899 _ (omega arith) (entry-is c)) slice-write-room-2
+    (λ c. entry-fits 900 _ (omega arith) (last-is c)) (λ c. stored 900 _ (omega arith) (last-read c))
     slice-write-room-3 same-length returns)

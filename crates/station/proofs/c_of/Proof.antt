@@ -84,4 +84,6 @@ returns c =
 pub c-of-spec : {M : Type 1} → statement M
 c-of-spec =
     tie.close
-    (tie.spec (λ c. fits (bounds c) sE tt) (λ c κs. within (bounds c) sE 1000000000000000000 tt) (λ c. fits (after c) (mul (arg 0) (arg 0)) tt) (λ c. fits (after c) (mul (arg 1) (arg 2)) tt) (λ c. fits (after c) U tt) cast-root (λ c κs. search needs) cast-near near-requires returns)
+    (tie.spec (λ c. fits (bounds c) sE tt) (λ c κs. within (bounds c) sE 1000000000000000000 tt)
+    (λ c. fits (after c) (mul (arg 0) (arg 0)) tt) (λ c. fits (after c) (mul (arg 1) (arg 2)) tt)
+    (λ c. fits (after c) U tt) cast-root (λ c κs. search needs) cast-near near-requires returns)

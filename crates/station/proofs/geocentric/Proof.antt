@@ -205,6 +205,8 @@ returns c =
 pub geocentric-spec : {M : Type 1} → statement M
 geocentric-spec =
     tie.close
-    (tie.spec reduced-requires (λ c κs. (start c .pre .0, angle-small c)) cosine-requires c-of-requires (λ c. fits (after-C c) CE tt) (λ c κs. within (after-C c) CE 1000000000000000000 tt)
-    (λ c. fits (height c) scaled-up tt) near-requires (λ c. fits (equator c) (add (arg 0) (arg 1)) tt) (λ c. fits (equator c) scaled tt) near-unit-requires-2 (λ c. fits (axis c) (add (arg 0) (arg 1)) tt) (λ c. fits (axis c) scaled tt)
-    near-unit-requires-3 ephemeris-longitude-requires returns)
+    (tie.spec reduced-requires (λ c κs. (start c .pre .0, angle-small c)) cosine-requires c-of-requires
+    (λ c. fits (after-C c) CE tt) (λ c κs. within (after-C c) CE 1000000000000000000 tt)
+    (λ c. fits (height c) scaled-up tt) near-requires (λ c. fits (equator c) (add (arg 0) (arg 1)) tt)
+    (λ c. fits (equator c) scaled tt) near-unit-requires-2 (λ c. fits (axis c) (add (arg 0) (arg 1)) tt)
+    (λ c. fits (axis c) scaled tt) near-unit-requires-3 ephemeris-longitude-requires returns)

@@ -20,5 +20,6 @@ returns-2 c = tt
 pub answer-all-spec : {M : Type 1} → statement M
 answer-all-spec =
     tie.close
-    (tie.spec Inv-loop μ-loop (λ c. (refl, refl)) (λ c κs. (omega arith, omega arith)) (λ c. omega arith) (λ c. omega arith) (λ c. (omega arith, omega arith))
-    (λ c. search needs) (λ c. search needs) returns (λ c. search needs) (λ c. search needs) returns-2)
+    (tie.spec Inv-loop μ-loop (λ c. (refl, refl)) (λ c κs. (omega arith, omega arith)) (λ c. omega arith)
+    (λ c. omega arith) (λ c. (omega arith, omega arith)) (λ c. search needs) (λ c. search needs) returns
+    (λ c. search needs) (λ c. search needs) returns-2)

@@ -23,5 +23,5 @@ returns c = append-all _ _ _ _ _ (c .before .loop .inv) (c .loop-test .left)
 pub append-spec : {M : Type 1} → statement M
 append-spec =
     tie.close
-    (tie.spec Inv-loop μ-loop (λ c. append-start _ _ _ (c .before .pre)) (λ c κs. search needs) (λ c κs. c .before .before .loop .inv .2) (λ c. search needs)
-    (λ c. search needs) loop-again returns)
+    (tie.spec Inv-loop μ-loop (λ c. append-start _ _ _ (c .before .pre)) (λ c κs. search needs)
+    (λ c κs. c .before .before .loop .inv .2) (λ c. search needs) (λ c. search needs) loop-again returns)

@@ -121,7 +121,9 @@ returns-4 c = omega (arith, start2 (both6 (c .before .before)) .pre .4)
 pub foot-spec : {M : Type 1} → statement M
 foot-spec =
     tie.close
-    (tie.spec offset-of-requires add-offset-of offset-of-requires-2 (λ c. fits (bounds (both c)) P tt) (λ c. fits (bounds (both4 c)) Q tt) (λ c. fits (bounds (both4 c)) (mul P P) tt) (λ c. fits (bounds (both4 c)) (mul Q Q) tt)
-    (λ c. fits (bounds (both4 c)) square tt) cast-rate add-rate mul-along (λ c. fits (bounds (both6 c)) (mul (arg 1) Q) tt) (λ c. fits (bounds (both6 c)) along tt) sub-before cast-ahead (λ c. search needs)
-    sub-room sub-room-2 add-result returns sub-result returns-2 cast-back (λ c. search needs) (λ c. omega (arith, c .if3 .taken))
-    returns-3 returns-4)
+    (tie.spec offset-of-requires add-offset-of offset-of-requires-2 (λ c. fits (bounds (both c)) P tt)
+    (λ c. fits (bounds (both4 c)) Q tt) (λ c. fits (bounds (both4 c)) (mul P P) tt)
+    (λ c. fits (bounds (both4 c)) (mul Q Q) tt) (λ c. fits (bounds (both4 c)) square tt) cast-rate add-rate
+    mul-along (λ c. fits (bounds (both6 c)) (mul (arg 1) Q) tt) (λ c. fits (bounds (both6 c)) along tt)
+    sub-before cast-ahead (λ c. search needs) sub-room sub-room-2 add-result returns sub-result returns-2
+    cast-back (λ c. search needs) (λ c. omega (arith, c .if3 .taken)) returns-3 returns-4)

@@ -78,5 +78,5 @@ returns c = seen-root (seen (c .before .before)) (c .root .result) (root-is c)
 pub reach-spec : {M : Type 1} → statement M
 reach-spec =
     tie.close
-    (tie.spec closest-requires (λ c. omega (arith, c .before .before .pre .4)) sub-start foot-requires foot-requires-2 square-of-requires
-    closer-requires cast-root (λ c κs. search needs) add-result returns)
+    (tie.spec closest-requires (λ c. omega (arith, c .before .before .pre .4)) sub-start foot-requires
+    foot-requires-2 square-of-requires closer-requires cast-root (λ c κs. search needs) add-result returns)

@@ -95,5 +95,5 @@ returns-3 c =
 pub accepted-spec : {M : Type 1} → statement M
 accepted-spec =
     tie.close
-    (tie.spec (λ c κs. search needs) returns (λ c κs. search needs) returns-2 (λ c. fits (xs (c .before .before)) D tt) sub-is-level-2
-    sub-is-level-3 is-level-requires returns-3)
+    (tie.spec (λ c κs. search needs) returns (λ c κs. search needs) returns-2
+    (λ c. fits (xs (c .before .before)) D tt) sub-is-level-2 sub-is-level-3 is-level-requires returns-3)

@@ -89,5 +89,5 @@ returns c =
 pub elements-of-spec : {M : Type 1} → statement M
 elements-of-spec =
     tie.close
-    (tie.spec (λ c κs. accepts c) (λ c κs. (accepts (c .before), c .find-axis .ensures)) find-plane-requires find-cone-requires
-    find-cone-requires-2 add-t7 sub-t8 returns)
+    (tie.spec (λ c κs. accepts c) (λ c κs. (accepts (c .before), c .find-axis .ensures)) find-plane-requires
+    find-cone-requires find-cone-requires-2 add-t7 sub-t8 returns)

@@ -118,5 +118,5 @@ returns c =
 pub find-cone-spec : {M : Type 1} → statement M
 find-cone-spec =
     tie.close
-    (tie.spec sub-root (λ c κs. search needs) (λ c. search needs) near-unsigned-requires cast-tangent (λ c. fits (bounds c) ZT tt) near-requires mul-near-unsigned-2
-    near-unsigned-requires-2 cast-foot returns)
+    (tie.spec sub-root (λ c κs. search needs) (λ c. search needs) near-unsigned-requires cast-tangent
+    (λ c. fits (bounds c) ZT tt) near-requires mul-near-unsigned-2 near-unsigned-requires-2 cast-foot returns)

@@ -127,5 +127,6 @@ loop-again c =
 pub write-phase-spec : {M : Type 1} → statement M
 write-phase-spec =
     tie.close
-    (tie.spec Inv-loop μ-loop (λ c κs. entered c .pre .0 .1 .window) loop-holds step-requires (λ c. search needs)
-    (λ c. search needs) (λ c. c .before .before .before .loop .inv .1) returns entry-for-requires put-requires loop-less loop-again)
+    (tie.spec Inv-loop μ-loop (λ c κs. entered c .pre .0 .1 .window) loop-holds step-requires
+    (λ c. search needs) (λ c. search needs) (λ c. c .before .before .before .loop .inv .1) returns
+    entry-for-requires put-requires loop-less loop-again)

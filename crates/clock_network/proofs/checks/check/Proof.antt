@@ -118,5 +118,5 @@ check-spec =
     tie.close
     (tie.spec returns (λ c κs. search needs) (λ c. search needs) returns-2 (λ c. search needs)
     check-stations-requires (λ c. search needs) returns-3 (λ c. search needs) (λ c κs. search needs)
-    (λ c κs. search needs) array-share-prefix-numbers (λ c. sym (numbers-counted (c .before .before))) array-share-prefix-clocks
-    (λ c. sym (clocks-counted (c .before .before))) check-clocks-requires returns-4)
+    (λ c κs. search needs) array-share-prefix-numbers (λ c. sym (numbers-counted (c .before .before)))
+    array-share-prefix-clocks (λ c. sym (clocks-counted (c .before .before))) check-clocks-requires returns-4)

@@ -78,6 +78,6 @@ returns-2 c =
 pub check-stations-spec : {M : Type 1} → statement M
 check-stations-spec =
     tie.close
-    (tie.spec Inv-loop μ-loop (λ c. (omega arith, refl)) (λ c. search needs) (λ c. search needs) (λ c κs. search needs)
-    (λ c. search needs) (λ c. search needs) add-place returns (λ c. search needs) (λ c. search needs)
-    (λ c. search needs) loop-again returns-2)
+    (tie.spec Inv-loop μ-loop (λ c. (omega arith, refl)) (λ c. search needs) (λ c. search needs)
+    (λ c κs. search needs) (λ c. search needs) (λ c. search needs) add-place returns (λ c. search needs)
+    (λ c. search needs) (λ c. search needs) loop-again returns-2)

@@ -28,5 +28,5 @@ returns-2 c = λ i l. c .before .loop .inv .1 i (omega arith)
 pub ready-place-spec : {M : Type 1} → statement M
 ready-place-spec =
     tie.close
-    (tie.spec Inv-loop μ-loop (λ c. (search needs, λ k l. absurd (omega arith))) (λ c. search needs) (λ c κs. search needs) returns
-    (λ c. search needs) (λ c. search needs) loop-again returns-2)
+    (tie.spec Inv-loop μ-loop (λ c. (search needs, λ k l. absurd (omega arith))) (λ c. search needs)
+    (λ c κs. search needs) returns (λ c. search needs) (λ c. search needs) loop-again returns-2)

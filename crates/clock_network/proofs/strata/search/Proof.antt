@@ -63,5 +63,6 @@ loop-again c =
 pub search-spec : {M : Type 1} → statement M
 search-spec =
     tie.close
-    (tie.spec Inv-loop μ-loop (λ c. (refl, (sound-start _ _, small-start))) (λ c. search needs) (λ c κs. search needs) (λ c. search needs)
-    (λ c. search needs) returns array-write-steps loop-less loop-again)
+    (tie.spec Inv-loop μ-loop (λ c. (refl, (sound-start _ _, small-start))) (λ c. search needs)
+    (λ c κs. search needs) (λ c. search needs) (λ c. search needs) returns array-write-steps loop-less
+    loop-again)

@@ -13,4 +13,5 @@ returns c = joined (omega arith) (joined (omega arith) (c .before .before .befor
 pub put-of-day-spec : {M : Type 1} → statement M
 put-of-day-spec =
     tie.close
-    (tie.spec (λ c κs. search needs) (λ c κs. search needs) (λ c κs. search needs) (λ c. search needs) returns)
+    (tie.spec (λ c κs. search needs) (λ c κs. search needs) (λ c κs. search needs) (λ c. search needs)
+    returns)

@@ -59,5 +59,6 @@ returns c = put-as _ _ _ _ _ _ (text (c .before .before .before .before .before 
 pub put-time-spec : {M : Type 1} → statement M
 put-time-spec =
     tie.close
-    (tie.spec (λ c. fits (bounds (c .before)) up tt) cast-tenths (λ c. fits64 _ (omega (arith, days (c .before)))) (λ c. fits (day-bounds (c .before)) down tt) (λ c κs. search needs) (λ c κs. search needs)
-    (λ c. search needs) returns)
+    (tie.spec (λ c. fits (bounds (c .before)) up tt) cast-tenths
+    (λ c. fits64 _ (omega (arith, days (c .before)))) (λ c. fits (day-bounds (c .before)) down tt)
+    (λ c κs. search needs) (λ c κs. search needs) (λ c. search needs) returns)

@@ -62,8 +62,11 @@ returns-3 c =
 pub of-station-spec : {M : Type 1} → statement M
 of-station-spec =
     tie.close
-    (tie.spec Inv-loop μ-loop (λ c. rowed-start _ _ refl) (λ c. omega (arith, c .before .loop .inv .place)) (λ c. c .before .loop .inv .place) (λ c. search needs) (λ c κs. search needs)
-    (λ c. let g = gap c in search needs) (λ c. let g = gap c in search needs) (λ c. gap c) (λ c. search needs) (λ c κs. search needs) (λ c. let g = word c in search needs) (λ c. search needs)
-    (λ c. search needs) (λ c. word c) (λ c κs. search needs) (λ c. search needs) (λ c. search needs)
-    (λ c. search needs) (λ c. search needs) returns (λ c. search needs) (λ c. search needs) loop-again (λ c. omega (arith, c .before .loop .inv .place))
-    (λ c. c .before .loop .inv .place) (λ c. search needs) (λ c κs. search needs) returns-2 (λ c κs. search needs) returns-3)
+    (tie.spec Inv-loop μ-loop (λ c. rowed-start _ _ refl) (λ c. omega (arith, c .before .loop .inv .place))
+    (λ c. c .before .loop .inv .place) (λ c. search needs) (λ c κs. search needs)
+    (λ c. let g = gap c in search needs) (λ c. let g = gap c in search needs) (λ c. gap c) (λ c. search needs)
+    (λ c κs. search needs) (λ c. let g = word c in search needs) (λ c. search needs) (λ c. search needs)
+    (λ c. word c) (λ c κs. search needs) (λ c. search needs) (λ c. search needs) (λ c. search needs)
+    (λ c. search needs) returns (λ c. search needs) (λ c. search needs) loop-again
+    (λ c. omega (arith, c .before .loop .inv .place)) (λ c. c .before .loop .inv .place) (λ c. search needs)
+    (λ c κs. search needs) returns-2 (λ c κs. search needs) returns-3)

@@ -82,5 +82,5 @@ returns-2 c =
 pub first-seen-spec : {M : Type 1} → statement M
 first-seen-spec =
     tie.close
-    (tie.spec (λ c κs. c .before .pre) (λ c. search needs) (λ c. sym (counted (c .before))) (λ c κs. search needs)
-    (λ c. search needs) (λ c. search needs) cast-result returns returns-2)
+    (tie.spec (λ c κs. c .before .pre) (λ c. search needs) (λ c. sym (counted (c .before)))
+    (λ c κs. search needs) (λ c. search needs) (λ c. search needs) cast-result returns returns-2)

@@ -64,5 +64,6 @@ returns-3 c = found (c .before .before) (c .root-from2 .ensures)
 pub chord-spec : {M : Type 1} → statement M
 chord-spec =
     tie.close
-    (tie.spec (λ c. fits (bounds c) (mul (arg 0) (arg 0)) tt) (λ c. fits (bounds c) (mul (arg 1) (arg 1)) tt) (λ c. fits (bounds c) square tt) returns cast-n (λ c κs. (lit≤ tt, lit≤ tt, small (c .before))) returns-2
+    (tie.spec (λ c. fits (bounds c) (mul (arg 0) (arg 0)) tt) (λ c. fits (bounds c) (mul (arg 1) (arg 1)) tt)
+    (λ c. fits (bounds c) square tt) returns cast-n (λ c κs. (lit≤ tt, lit≤ tt, small (c .before))) returns-2
     root-from-requires-2 returns-3)

@@ -40,4 +40,5 @@ returns c =
 pub offset-spec : {M : Type 1} → statement M
 offset-spec =
     tie.close
-    (tie.spec (λ c. search needs) (λ c. search needs) (λ c. fits (bounds c) opposite tt) (λ c. search needs) (λ c. fits (bounds c) along tt) div-result (λ c. fits (bounds c) result tt) returns)
+    (tie.spec (λ c. search needs) (λ c. search needs) (λ c. fits (bounds c) opposite tt) (λ c. search needs)
+    (λ c. fits (bounds c) along tt) div-result (λ c. fits (bounds c) result tt) returns)

@@ -92,4 +92,5 @@ returns c =
 pub root-from-spec : {M : Type 1} → statement M
 root-from-spec =
     tie.close
-    (tie.spec Inv-loop μ-loop (λ c. search needs) add-y loop-holds mul-loop div-y-2 add-y-2 (λ c. omega (arith, falls c)) loop-again returns)
+    (tie.spec Inv-loop μ-loop (λ c. search needs) add-y loop-holds mul-loop div-y-2 add-y-2
+    (λ c. omega (arith, falls c)) loop-again returns)

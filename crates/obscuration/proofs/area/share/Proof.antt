@@ -83,4 +83,6 @@ returns c =
 pub share-spec : {M : Type 1} → statement M
 share-spec =
     tie.close
-    (tie.spec (λ c. fits (bounds c) both tt) (λ c. (lit< tt, fits (bounds c) (quo both two) tt)) (λ c. fits (bounds c) less tt) (λ c. (lit< tt, fits (bounds c) (quo less two) tt)) cast-root (λ c κs. tt) cast-share-of share-of-requires returns)
+    (tie.spec (λ c. fits (bounds c) both tt) (λ c. (lit< tt, fits (bounds c) (quo both two) tt))
+    (λ c. fits (bounds c) less tt) (λ c. (lit< tt, fits (bounds c) (quo less two) tt)) cast-root (λ c κs. tt)
+    cast-share-of share-of-requires returns)

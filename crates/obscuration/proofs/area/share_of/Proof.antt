@@ -189,6 +189,7 @@ returns c = answer c
 pub share-of-spec : {M : Type 1} → statement M
 share-of-spec =
     tie.close
-    (tie.spec Inv-loop μ-loop loop-holds offset-requires chord-requires (λ c. fits (bounds (c .before)) aside tt) chord-requires-2
-    (λ c κs. tt) add-covered add-whole (λ c. omega (arith, inv c .few)) (λ c. omega (arith, o c .before .loop-test .taken)) loop-again mul-result div-result cast-result
-    returns)
+    (tie.spec Inv-loop μ-loop loop-holds offset-requires chord-requires
+    (λ c. fits (bounds (c .before)) aside tt) chord-requires-2 (λ c κs. tt) add-covered add-whole
+    (λ c. omega (arith, inv c .few)) (λ c. omega (arith, o c .before .loop-test .taken)) loop-again mul-result
+    div-result cast-result returns)

@@ -46,5 +46,5 @@ returns c =
 pub put-field-spec : {M : Type 1} → statement M
 put-field-spec =
     tie.close
-    (tie.spec (λ c κs. kind-room (c .before .before)) put-number-requires (λ c κs. search needs) add-result (λ c. search needs)
-    returns)
+    (tie.spec (λ c κs. kind-room (c .before .before)) put-number-requires (λ c κs. search needs) add-result
+    (λ c. search needs) returns)

@@ -75,6 +75,7 @@ returns-3 c = getting-end _ _ _ _ _ (c .before .before .loop .inv) (ended (c .be
 pub read-spec : {M : Type 1} → statement M
 read-spec =
     tie.close
-    (tie.spec Inv-loop μ-loop (λ c κs. search needs) (λ c. getting-start _ _ _ (c .before .before .pre)) (λ c κs. short c) (λ c κs. c .before .before .loop .inv .place)
-    (λ c. search needs) (λ c. search needs) same-length returns mul-n slice-set-from-n (λ c. search needs)
-    (λ c. search needs) loop-again same-length-2 returns-2 same-length-3 returns-3)
+    (tie.spec Inv-loop μ-loop (λ c κs. search needs) (λ c. getting-start _ _ _ (c .before .before .pre))
+    (λ c κs. short c) (λ c κs. c .before .before .loop .inv .place) (λ c. search needs) (λ c. search needs)
+    same-length returns mul-n slice-set-from-n (λ c. search needs) (λ c. search needs) loop-again
+    same-length-2 returns-2 same-length-3 returns-3)

@@ -25,5 +25,5 @@ returns-2 c = input-refused _ (sym (c .before .before .get .ensures .0) ∙ c .e
 pub request-spec : {M : Type 1} → statement M
 request-spec =
     tie.close
-    (tie.spec (λ c κs. search needs) (λ c. search needs) (λ c. sym (holds (c .before) .small .all)) (λ c κs. holds (c .before) .small)
-    (λ c. search needs) returns returns-2)
+    (tie.spec (λ c κs. search needs) (λ c. search needs) (λ c. sym (holds (c .before) .small .all))
+    (λ c κs. holds (c .before) .small) (λ c. search needs) returns returns-2)

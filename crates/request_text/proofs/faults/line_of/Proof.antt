@@ -44,6 +44,8 @@ returns-2 c = sym (seek-end _ _ _ _ (c .before .before .loop .inv) (c .before .l
 pub line-of-spec : {M : Type 1} → statement M
 line-of-spec =
     tie.close
-    (tie.spec Inv-loop μ-loop (λ c. seek-start _ _) (λ c. search needs) (λ c. search needs) (λ c. search needs)
-    (λ c κs. search needs) (λ c. let i = inside c in search needs) (λ c. search needs) (λ c. search needs) (λ c. inside (c .before)) returns
-    (λ c. search needs) (λ c. let i = inside (c .before) in search needs) (λ c. let i = inside (c .before) in search needs) loop-again (λ c. search needs) returns-2)
+    (tie.spec Inv-loop μ-loop (λ c. seek-start _ _) (λ c. search needs) (λ c. search needs)
+    (λ c. search needs) (λ c κs. search needs) (λ c. let i = inside c in search needs) (λ c. search needs)
+    (λ c. search needs) (λ c. inside (c .before)) returns (λ c. search needs)
+    (λ c. let i = inside (c .before) in search needs) (λ c. let i = inside (c .before) in search needs)
+    loop-again (λ c. search needs) returns-2)

@@ -29,5 +29,5 @@ returns-2 c =
 pub put-name-spec : {M : Type 1} → statement M
 put-name-spec =
     tie.close
-    (tie.spec
-    (λ c κs. search needs) returns (λ c κs. search needs) (λ c. room (c .before .before)) slice-aggregate-put-text (λ c κs. search needs) (λ c. search needs) returns-2)
+    (tie.spec (λ c κs. search needs) returns (λ c κs. search needs) (λ c. room (c .before .before))
+    slice-aggregate-put-text (λ c κs. search needs) (λ c. search needs) returns-2)

@@ -51,5 +51,5 @@ pub shape-of-spec : {M : Type 1} → statement M
 shape-of-spec =
     tie.close
     (tie.spec Inv-loop μ-loop (λ c. passed-none _) (λ c. search needs) (λ c. search needs) (λ c. search needs)
-    (λ c κs. search needs) (λ c. let i = inside c in search needs) (λ c. search needs) (λ c. search needs) (λ c. inside c)
-    (λ c κs. search needs) returns add-at loop-less loop-again returns-2)
+    (λ c κs. search needs) (λ c. let i = inside c in search needs) (λ c. search needs) (λ c. search needs)
+    (λ c. inside c) (λ c κs. search needs) returns add-at loop-less loop-again returns-2)

@@ -133,6 +133,5 @@ returns c =
 pub quarter-spec : {M : Type 1} → statement M
 quarter-spec =
     tie.close
-    (tie.spec Inv-loop μ-loop loop-holds add-loop add-k entry-requires (λ c κs. tt) sub-entry
-    entry-requires-2 (λ c κs. tt) mul-if1 mul-if1-2 loop-less loop-again loop-less-2 loop-again-2
-    cast-result returns)
+    (tie.spec Inv-loop μ-loop loop-holds add-loop add-k entry-requires (λ c κs. tt) sub-entry entry-requires-2
+    (λ c κs. tt) mul-if1 mul-if1-2 loop-less loop-again loop-less-2 loop-again-2 cast-result returns)

@@ -185,7 +185,7 @@ extent-of-leading-sheet-spec =
     tie.close
     (tie.spec Inv-loop μ-loop (λ c κs. search needs) loop-holds (λ c κs. search needs) (λ c. search needs)
     (λ c. search needs) returns (λ c κs. search needs) (λ c. search needs) (λ c. search needs) returns-2
-    (λ c κs. byte-inv _ _ _ (is-byte (byted c)) .0) (λ c. search needs) (λ c. search needs) returns-3 (λ c κs. search needs)
-    (λ c. search needs) (λ c. search needs) returns-4 (λ c κs. search needs) (λ c. search needs)
-    (λ c. search needs) returns-5 size-for-requires add-next (λ c κs. search needs) add-count returns-6
-    (λ c κs. search needs) add-n loop-less loop-again)
+    (λ c κs. byte-inv _ _ _ (is-byte (byted c)) .0) (λ c. search needs) (λ c. search needs) returns-3
+    (λ c κs. search needs) (λ c. search needs) (λ c. search needs) returns-4 (λ c κs. search needs)
+    (λ c. search needs) (λ c. search needs) returns-5 size-for-requires add-next (λ c κs. search needs)
+    add-count returns-6 (λ c κs. search needs) add-n loop-less loop-again)

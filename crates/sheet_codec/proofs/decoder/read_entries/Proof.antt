@@ -161,7 +161,8 @@ pub read-entries-spec : {M : Type 1} → statement M
 read-entries-spec =
     tie.close
     (tie.spec Inv-loop μ-loop loop-holds (λ c κs. search needs) (λ c. search needs) (λ c. search needs)
-    (λ c. c .before .before .before .loop .inv .2) returns (λ c κs. search needs) (λ c. search needs) (λ c. search needs) same-length-2 returns-2
-    (λ c κs. byte-inv _ _ _ (is-byte (byted c)) .0) (λ c. search needs) (λ c. search needs) same-length-3 returns-3 (λ c. let b = bounds c in omega arith)
-    (λ c κs. let b = bounds (c .before) in omega arith) (λ c κs. search needs) same-length-4 returns-4 size-for-requires add-at add-n
-    loop-less loop-again)
+    (λ c. c .before .before .before .loop .inv .2) returns (λ c κs. search needs) (λ c. search needs)
+    (λ c. search needs) same-length-2 returns-2 (λ c κs. byte-inv _ _ _ (is-byte (byted c)) .0)
+    (λ c. search needs) (λ c. search needs) same-length-3 returns-3 (λ c. let b = bounds c in omega arith)
+    (λ c κs. let b = bounds (c .before) in omega arith) (λ c κs. search needs) same-length-4 returns-4
+    size-for-requires add-at add-n loop-less loop-again)

@@ -76,5 +76,5 @@ pub write-records-spec : {M : Type 1} → statement M
 write-records-spec =
     tie.close
     (tie.spec Inv-loop μ-loop loop-holds (λ c κs. omega arith) (λ c. search needs) (λ c. search needs)
-    (λ c. c .before .before .before .loop .inv .2) returns (λ c κs. bounds (c .before) .2) (λ c κs. search needs) same-length-2 returns-2 add-n loop-less
-    loop-again)
+    (λ c. c .before .before .before .loop .inv .2) returns (λ c κs. bounds (c .before) .2)
+    (λ c κs. search needs) same-length-2 returns-2 add-n loop-less loop-again)

@@ -21,5 +21,5 @@ returns c = appending-end _ _ _ (c .before .loop .inv) (c .loop-test .left)
 pub size-of-spec : {M : Type 1} → statement M
 size-of-spec =
     tie.close
-    (tie.spec Inv-loop μ-loop (λ c. appending-start _) (λ c. search needs) (λ c κs. c .before .before .loop .inv .small) (λ c. search needs)
-    (λ c. search needs) loop-again returns)
+    (tie.spec Inv-loop μ-loop (λ c. appending-start _) (λ c. search needs)
+    (λ c κs. c .before .before .loop .inv .small) (λ c. search needs) (λ c. search needs) loop-again returns)

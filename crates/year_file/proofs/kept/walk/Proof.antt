@@ -81,4 +81,5 @@ walk-spec =
     tie.close
     (tie.spec Inv-loop μ-loop loop-holds sheet-at-requires (λ c. omega arith) add-lost (λ c. omega arith)
     loop-again put-stretch-requires add-end sub-put-text part-put-text-start part-put-text-end
-    (λ c κs. search needs) loop-less-2 loop-again-2 (λ c κs. c .before .before .loop .inv .before .within) same-length same-length-2 returns)
+    (λ c κs. search needs) loop-less-2 loop-again-2 (λ c κs. c .before .before .loop .inv .before .within)
+    same-length same-length-2 returns)

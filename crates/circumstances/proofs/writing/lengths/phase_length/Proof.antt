@@ -70,5 +70,6 @@ loop-again c =
 pub phase-length-spec : {M : Type 1} → statement M
 phase-length-spec =
     tie.close
-    (tie.spec Inv-loop μ-loop loop-holds (λ c κs. (c .before .before .pre .1, c .loop .inv .0)) (λ c. search needs) (λ c. search needs) returns
-    (λ c κs. search needs) (λ c κs. search needs) add-n loop-less loop-again)
+    (tie.spec Inv-loop μ-loop loop-holds (λ c κs. (c .before .before .pre .1, c .loop .inv .0))
+    (λ c. search needs) (λ c. search needs) returns (λ c κs. search needs) (λ c κs. search needs) add-n
+    loop-less loop-again)

@@ -89,6 +89,6 @@ returns c =
 pub fill-spec : {M : Type 1} → statement M
 fill-spec =
     tie.close
-    (tie.spec Inv-loop μ-loop (λ c. (omega arith, refl, refl)) (λ c. search needs) shared-slice-copy-out-unit (λ c. search needs)
-    (λ c. search needs) double-of-requires (λ c. search needs) slice-write-room (λ c. search needs)
-    (λ c. search needs) loop-again (λ c. c .before .loop .inv .1) returns)
+    (tie.spec Inv-loop μ-loop (λ c. (omega arith, refl, refl)) (λ c. search needs) shared-slice-copy-out-unit
+    (λ c. search needs) (λ c. search needs) double-of-requires (λ c. search needs) slice-write-room
+    (λ c. search needs) (λ c. search needs) loop-again (λ c. c .before .loop .inv .1) returns)

@@ -34,5 +34,6 @@ returns-4 c = search needs
 pub shows-spec : {M : Type 1} → statement M
 shows-spec =
     tie.close
-    (tie.spec (λ c κs. omega (arith, ap natAbs (read c))) (λ c. search needs) (λ c. search needs) (λ c. search needs) (λ c. search needs)
-    (λ c. search needs) (λ c. search needs) returns returns-2 returns-3 returns-4)
+    (tie.spec (λ c κs. omega (arith, ap natAbs (read c))) (λ c. search needs) (λ c. search needs)
+    (λ c. search needs) (λ c. search needs) (λ c. search needs) (λ c. search needs) returns returns-2
+    returns-3 returns-4)

@@ -28,5 +28,5 @@ returns-2 c = star-refused _ (sym (c .before .before .get-star .ensures .0) ∙ 
 pub asked-spec : {M : Type 1} → statement M
 asked-spec =
     tie.close
-    (tie.spec (λ c κs. search needs) (λ c. search needs) (λ c. sym (holds (c .before) .small .all)) (λ c κs. holds (c .before) .small)
-    (λ c κs. search needs) (λ c. search needs) returns returns-2)
+    (tie.spec (λ c κs. search needs) (λ c. search needs) (λ c. sym (holds (c .before) .small .all))
+    (λ c κs. holds (c .before) .small) (λ c κs. search needs) (λ c. search needs) returns returns-2)

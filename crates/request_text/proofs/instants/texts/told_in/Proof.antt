@@ -51,5 +51,5 @@ pub told-in-spec : {M : Type 1} → statement M
 told-in-spec =
     tie.close
     (tie.spec Inv-loop μ-loop (λ c. walked-none _) (λ c. search needs) (λ c. search needs) (λ c. search needs)
-    (λ c κs. search needs) (λ c. let i = inside c in search needs) (λ c. search needs) (λ c. search needs) (λ c. inside c)
-    (λ c κs. search needs) add-at add-line loop-less loop-again returns)
+    (λ c κs. search needs) (λ c. let i = inside c in search needs) (λ c. search needs) (λ c. search needs)
+    (λ c. inside c) (λ c κs. search needs) add-at add-line loop-less loop-again returns)

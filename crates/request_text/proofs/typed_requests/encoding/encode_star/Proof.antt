@@ -24,4 +24,5 @@ returns-2 c =
 pub encode-star-spec : {M : Type 1} → statement M
 encode-star-spec =
     tie.close
-    (tie.spec (λ c κs. search needs) (λ c. search needs) returns (λ c. search needs) (λ c κs. search needs) (λ c. sym (made (c .before .before) .size)) (λ c κs. search needs) returns-2)
+    (tie.spec (λ c κs. search needs) (λ c. search needs) returns (λ c. search needs) (λ c κs. search needs)
+    (λ c. sym (made (c .before .before) .size)) (λ c κs. search needs) returns-2)
