@@ -2,4 +2,6 @@ pub mod Sheet
 -- what to believe: what a caller gets of one second, and of the share at it
 pub mod Second
 pub mod Shares
+-- the horizon at one second
+pub mod Horizons
 pub mod laws

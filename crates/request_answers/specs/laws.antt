@@ -2,3 +2,4 @@ pub mod SheetLaws
 -- laws, for callers
 pub mod SecondLaws
 pub mod ShareLaws
+pub mod HorizonLaws

@@ -11,7 +11,7 @@ ghost use Rattle.request_format.specs.declared.fields.Shape.the-variants.{Eclip
 ghost use Rattle.request_answers.specs.Second.{wish, secondAsked, sinesAsked, numberCount, secondInto, secondGiven, numbersAfter, GivenMeans};
 
 // What bytes of that shape ask for, or refusal 10.
-fn wish(shape: Shape, request: &[u8]) -> Asked
+pub fn wish(shape: Shape, request: &[u8]) -> Asked
     ensures { λ r. ⌜ r ≡ wish shape (now (request .entry)) ⌝ }
 {
     match shape {

@@ -103,7 +103,7 @@ pub struct Second {
 }
 
 // The sines and cosines of H and d.
-fn orientation_of(table: &[u32], h: i64, d: i64) -> Orientation
+pub fn orientation_of(table: &[u32], h: i64, d: i64) -> Orientation
     requires { ⌜ (Sines (now table)) × (natAbs h ≤ 10000000000) × (natAbs d ≤ 10000000000) ⌝ }
     ensures { λ r. ⌜ IsOrientation h d r ⌝ }
 {

@@ -10,6 +10,7 @@ pub mod Ranges
 pub mod Moments
 pub mod Sizes
 pub mod DirectionLaws
+pub mod DirectionMirror
 pub mod MagnitudeLaws
 pub mod Examples
 pub mod MirrorLaws

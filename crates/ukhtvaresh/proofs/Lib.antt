@@ -1,2 +1,3 @@
 -- what several proofs use
+pub mod Horizons
 pub mod Seconds

@@ -1,5 +1,6 @@
 pub mod Replies
 pub mod Seconds
+pub mod Horizons
 pub mod Shares
 pub mod Listing
 pub mod Fits

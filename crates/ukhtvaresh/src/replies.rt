@@ -7,6 +7,7 @@ ghost use Rattle.ukhtvaresh.specs.Listing.{listingReply};
 ghost use Rattle.ukhtvaresh.specs.MendReply.{mendReply};
 ghost use Rattle.ukhtvaresh.specs.Positions.{doublesReply};
 ghost use Rattle.ukhtvaresh.specs.Seconds.{secondReply};
+ghost use Rattle.ukhtvaresh.specs.Horizons.{horizonReply};
 ghost use Rattle.ukhtvaresh.specs.Shares.{shareReply};
 ghost use Rattle.ukhtvaresh.specs.Fits.{fitReply};
 ghost use Rattle.ukhtvaresh.specs.NetworkReply.{networkReply};
@@ -145,6 +146,18 @@ pub fn second_reply(count: u64, second: seconds::OneSecond) -> Reply
             value: count,
         },
         seconds::OneSecond::Refused(refusal) => refused(refusal),
+    }
+}
+
+pub fn horizon_reply(found: horizon::OneHorizon) -> Reply
+    ensures { λ r. ⌜ r ≡ horizonReply found ⌝ }
+{
+    match found {
+        horizon::OneHorizon::Is(_) => Reply {
+            number: 0,
+            value: 3,
+        },
+        horizon::OneHorizon::Refused(refusal) => refused(refusal),
     }
 }
 

@@ -1,0 +1,4 @@
+-- laws, for callers
+pub mod AltitudeLaws
+pub mod HorizonLaws
+pub mod MirrorLaws

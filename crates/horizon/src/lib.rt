@@ -1,0 +1,134 @@
+// The horizon at a second of an occultation: altitude and azimuth of the Sun or the star, and the direction of the
+// zenith from it. No refraction, no dip.
+pub mod altitudes;
+
+use requests::Occultation;
+use shadow::Orientation;
+use sheet_types::refusals::Checked;
+use sheet_types::refusals::Refusal;
+ghost use mathlib.Core.Path.{_≡_};
+ghost use Prim.Native.Nat.{_≤_};
+ghost use lib.IntN.{natAbs};
+ghost use Rattle.rounding.specs.Value.{Value};
+ghost use Rattle.sine_table.specs.Table.{S, Sines};
+ghost use Rattle.elements.specs.Sizes.{AxisSizes};
+ghost use Rattle.shadow_geometry.specs.Direction.{direction};
+ghost use Rattle.shadow.specs.Shadow.{OrientationSizes};
+ghost use Rattle.requests.specs.RequestLaws.{InLimits};
+ghost use Rattle.horizon.specs.Horizon.{altitudeSine, east, north, zenithEast, zenithNorth, horizonOf, horizonAt, horizonAnswer, horizonSines};
+
+// Where the Sun or the star stands.
+pub struct Horizon {
+    // tenths of a degree, rounded down, -900 to 900
+    pub altitude: i64,
+    // tenths of a degree from north through east, 0 to 3599, or 65,535 where it stands in the zenith or the nadir
+    pub azimuth: u16,
+    // the direction of the zenith from its centre, likewise
+    pub zenith: u16,
+}
+
+// The horizon at one second, or why there is none.
+pub enum OneHorizon {
+    Is(Horizon),
+    Refused(Refusal),
+}
+
+// The sine of the altitude, not yet kept within ±10^8.
+fn altitude_sine(sine: i64, cosine: i64, o: Orientation) -> i64
+    requires { ⌜ (natAbs sine ≤ 100000000) × (natAbs cosine ≤ 100000000) × (OrientationSizes o) ⌝ }
+    ensures { λ r. ⌜ Value (altitudeSine sine cosine o) 200000000 r ⌝ }
+{
+    let hcosine = o.hcosine;
+    let dsine = o.dsine;
+    let dcosine = o.dcosine;
+    let q = rounding::near_unit(cosine * hcosine);
+    rounding::near_unit(sine * dsine + q * dcosine)
+}
+
+// The azimuth.
+fn azimuth(table: &[u32], sine: i64, cosine: i64, o: Orientation) -> u16
+    requires { ⌜ (Sines (now table)) × (natAbs sine ≤ 100000000) × (natAbs cosine ≤ 100000000) × (OrientationSizes o) ⌝ }
+    ensures { λ r. ⌜ r ≡ direction S (east o) (north sine cosine o) ⌝ }
+{
+    let hsine = o.hsine;
+    let hcosine = o.hcosine;
+    let dsine = o.dsine;
+    let dcosine = o.dcosine;
+    let q = rounding::near_unit(sine * hcosine);
+    let east = rounding::near_unit(0 - dcosine * hsine);
+    let north = rounding::near_unit(cosine * dsine - q * dcosine);
+    shadow::directions::direction(table, east, north)
+}
+
+// The direction of the zenith.
+fn zenith(table: &[u32], sine: i64, cosine: i64, o: Orientation) -> u16
+    requires { ⌜ (Sines (now table)) × (natAbs sine ≤ 100000000) × (natAbs cosine ≤ 100000000) × (OrientationSizes o) ⌝ }
+    ensures { λ r. ⌜ r ≡ direction S (zenithEast cosine o) (zenithNorth sine cosine o) ⌝ }
+{
+    let hsine = o.hsine;
+    let hcosine = o.hcosine;
+    let dsine = o.dsine;
+    let dcosine = o.dcosine;
+    let q = rounding::near_unit(cosine * hcosine);
+    let east = rounding::near_unit(cosine * hsine);
+    let north = rounding::near_unit(sine * dcosine - q * dsine);
+    shadow::directions::direction(table, east, north)
+}
+
+// The three, of the sine and the cosine of the latitude and of the sines and cosines of H and d.
+fn horizon_of(table: &[u32], sine: i64, cosine: i64, o: Orientation) -> Horizon
+    requires { ⌜ (Sines (now table)) × (natAbs sine ≤ 100000000) × (natAbs cosine ≤ 100000000) × (OrientationSizes o) ⌝ }
+    ensures { λ r. ⌜ r ≡ horizonOf sine cosine o ⌝ }
+{
+    let a = altitudes::kept(altitude_sine(sine, cosine, o));
+    let altitude = altitudes::altitude(table, a);
+    let azimuth = azimuth(table, sine, cosine, o);
+    let zenith = zenith(table, sine, cosine, o);
+    Horizon {
+        altitude,
+        azimuth,
+        zenith,
+    }
+}
+
+// The horizon at a second of an occultation within its limits, with the sine table lent.
+pub fn horizon_within(table: &[u32], o: Occultation, t: i64) -> Horizon
+    requires { ⌜ (Sines (now table)) × (InLimits o) × (natAbs t ≤ 10800) ⌝ }
+    ensures { λ r. ⌜ r ≡ horizonAt o t ⌝ }
+{
+    let s = o.station;
+    let body = o.body;
+    let axis = elements::stars::axis_of(body);
+    let place = station::geocentric(table, s);
+    let mu = axis.mu;
+    let declination = axis.d;
+    let longitude = place.longitude;
+    let latitude = s.latitude;
+    let h = elements::quadratic_at(mu, t) + longitude;
+    let d = elements::quadratic_at(declination, t);
+    let orientation = shadow::orientation_of(table, h, d);
+    let angle = sine::reduced(latitude);
+    let sine = sine::sine(table, angle);
+    let cosine = sine::cosine(table, angle);
+    horizon_of(table, sine, cosine, orientation)
+}
+
+// The horizon at second t of an occultation, which may lie outside its window; `sines` is room for table S.
+pub fn horizon_at(o: Occultation, t: i64, sines: &mut [u32]) -> OneHorizon
+    ensures answer { λ r. ⌜ r ≡ horizonAnswer o t (now (sines .entry)) ⌝ }
+    ensures sines { λ r. ⌜ now (sines .exit) ≡ horizonSines o t (now (sines .entry)) ⌝ }
+{
+    let inside = requests::windows::in_span(t);
+    if !inside {
+        return OneHorizon::Refused(Refusal {
+            number: 1,
+            place: 0,
+        });
+    }
+    let c = requests::admission::admit(o, sines);
+    if let Checked::Refused(refusal) = c {
+        return OneHorizon::Refused(refusal);
+    }
+    let x = horizon_within(sines, o, t);
+    OneHorizon::Is(x)
+}
