@@ -11,12 +11,6 @@ use Rattle.request_answers.proofs.one_second.Small.{small}
 use Rattle.request_answers.proofs.one_horizon.put_horizon.Statement.{statement}
 use Rattle.request_answers.proofs.one_horizon.put_horizon.Tie as tie
 
-slice-set-from-azimuth : tie.Need-slice-set-from-azimuth
-slice-set-from-azimuth c = simp length-set (omega arith)
-
-slice-set-from-zenith : tie.Need-slice-set-from-zenith
-slice-set-from-zenith c = simp length-set (omega arith)
-
 same-length : tie.Need-same-length
 same-length c = length-sets (c .before .before .before .args .room .now) 0 (_ ∷ _ ∷ _ ∷ [])
 
@@ -32,5 +26,5 @@ returns c =
 pub put-horizon-spec : {M : Type 1} → statement M
 put-horizon-spec =
     tie.close
-    (tie.spec (λ c. search needs) (λ c. search needs) (λ c. search needs) slice-set-from-azimuth slice-set-from-zenith
-    same-length returns)
+    (tie.spec (λ c. search needs) (λ c. search needs) (λ c. search needs) (λ c. simp length-set (omega arith))
+    (λ c. simp length-set (omega arith)) same-length returns)
