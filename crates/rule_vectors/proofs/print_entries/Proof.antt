@@ -16,11 +16,11 @@ abbrev μ-loop : tie.MeasureT-loop
 μ-loop states seconds cursor₀ cursor = length (decoded 0 states) - cursor .at
 
 step-requires : tie.Need-step-requires Inv-loop μ-loop
-step-requires c κs = (c .before .before .before .pre .1, c .loop .inv)
+step-requires c κs = (c .before .before .pre .1, c .loop .inv)
 
 -- the step took the next entry
 onward : (c : tie.After-print-entry Inv-loop μ-loop)
-    → Took 0 (c .before .before .before .before .before .before .before .before .args .states .now)
+    → Took 0 (c .before .before .before .before .before .before .before .args .states .now)
     (c .before .before .before .before .before .loop .cursor .at)
     (c .before .before .found .given .0 .0) (c .before .before .found .given .0 .1 .0)
 onward c = took _ _ _ _ _ _ (c .before .before .before .before .step .ensures) (c .before .before .found .given .1)
@@ -31,6 +31,6 @@ loop-less c = let o = onward c in omega (arith, o .further, o .within)
 pub print-entries-spec : {M : Type 1} → statement M
 print-entries-spec =
     tie.close
-    (tie.spec Inv-loop μ-loop (λ c. at-start _ _ _ (c .before .before .pre .0)) step-requires
+    (tie.spec Inv-loop μ-loop (λ c. at-start _ _ _ (c .before .pre .0)) step-requires
     (λ c. search needs) (λ c. search needs) (λ c. search needs) (λ c κs. search needs) loop-less
     (λ c. onward c .cursor))
