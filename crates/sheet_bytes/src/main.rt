@@ -5,6 +5,7 @@ use libc::STDIN_FILENO;
 use program_io::ERROR;
 use program_io::OUTPUT;
 use program_io::Text;
+use sheet_types::refusals::Refusal;
 ghost use mathlib.Core.Path.{_≡_};
 ghost use mathlib.Core.List.{List};
 ghost use Prim.Native.Nat.{ℕ};
@@ -34,7 +35,7 @@ fn put_refusal(out: &mut [u8; 65536], number: u32, place: usize) -> usize
     ensures line { λ r. ⌜ take r (now (out .exit)) ≡ refusalLine number place ⌝ }
     ensures counts { λ r. ⌜ Counts r (now (out .exit)) ⌝ }
 {
-    listing_lines::lines::put_refusal_line(out, 0, number as u64, place as u64)
+    listing_lines::lines::put_refused(out, 0, Refusal { number, place })
 }
 
 // The text of the program's input, of which `length` bytes were read, and the output that it goes to. The array has a
