@@ -2,12 +2,22 @@
  *
  * Lengths are in 10^-8 of the Earth's equatorial radius, angles in 10^-6 degree, times in whole seconds of
  * ephemeris time from the reference instant. East longitude is positive.
+ * Latitude is geodetic, on Krasovsky's spheroid (6,378,245 m, flattening 1:298.3) with its centre at the Earth's
+ * centre. The library converts no datum. A latitude and longitude by WGS84 put the station up to 55.6 units, 3.5 m,
+ * from its place. Those of Pulkovo 1942, whose spheroid is Krasovsky's with its centre 165 m away, must be converted
+ * first. No sheet says whether the Sun is above the horizon: ukhtvaresh_horizon does, for any second.
  *
  * Each function but ukhtvaresh_root answers the number of the refusal, 0 for none. *value gets the length, the count, the share or the
  * station on success, the refusal's place otherwise. Buffers are untouched on refusal; on success what lies past the result is. The room for
  * the sine table, `sines`, alone is filled on some refusals too: see UKHTVARESH_SINES_LENGTH.
- * No function reads or writes outside the lengths it is given, and none keeps a pointer. A length of 0 is allowed,
- * with any pointer that is not null. A buffer that is written, *value among them, must not overlap any other.
+ * No function reads or writes outside the lengths it is given, and none keeps a pointer. A buffer that is written,
+ * *value among them, must not overlap any other. A length of 0 is allowed. No pointer may be null: neither that of a
+ * buffer, also one of length 0, nor `value`, `kept`, `noted` and `rounds`. Each must be aligned for its type: 8 bytes
+ * for int64_t, uint64_t, double and ukhtvaresh_node, 4 for uint32_t and ukhtvaresh_entry, 1 for bytes.
+ * Functions may run at the same time in several threads, each with buffers of its own. A call takes some 36,000 bytes
+ * of stack for a sheet, 47,000 for a network, and less than 4,000 for anything else (measured with the x86-64 archive,
+ * not proved: bench/calls/run).
+ * The floating-point environment matters to ukhtvaresh_doubles alone: see there.
  *
  *   number                                           place
  *    1  window or guard outside its range            0 window, 1 guard
@@ -60,8 +70,9 @@ extern "C" {
  *     mu        0 to 359,999,999   14,900,000 to 15,100,000   +-100
  *     tan f     400,000 to 500,000 (10^-8)
  *   kind 03, then the station's number (unsigned, 2 bytes, 1 to 999), and signed, 4 bytes each, its geodetic latitude
- *     (+-90,000,000), longitude (+-180,000,000, east positive), height (-500 to 9,000 metres) and delta T (-10,000 to
- *     20,000 hundredths of a second; ephemeris time less universal time, 0 for elements by universal time);
+ *     on Krasovsky's spheroid (+-90,000,000), longitude (+-180,000,000, east positive), height (-500 to 9,000 metres)
+ *     and delta T (-10,000 to 20,000 hundredths of a second; ephemeris time less universal time, 0 for elements by
+ *     universal time);
  *   kind 04, then first and last second of the window (signed, 2 bytes each), -10,800 <= first <= last <= 10,800, and the
  *     guard (unsigned, 2 bytes, 16 to 1,000 units of 10^-8 of the Earth's equatorial radius): how near to a cone's edge
  *     nothing is sure. A larger guard only withholds: what is sure under it is sure, with the same answer, under every
@@ -79,7 +90,7 @@ enum {
     UKHTVARESH_LEAVE_CENTRAL = 0x21,
     UKHTVARESH_GRAZE_CENTRAL = 0x22,
     UKHTVARESH_OPEN_CENTRAL = 0x23,
-    UKHTVARESH_CLOSEST = 0x30, /* second, magnitude; 0 after a star's entry */
+    UKHTVARESH_CLOSEST = 0x30, /* second, and the magnitude at it; 0 after a star's entry */
     UKHTVARESH_SHARE = 0x31,   /* share; once, directly after closest, or left out; never after a star's entry */
     UKHTVARESH_ENTER_STAR = 0x40, /* from, to, direction; a star's entries stand in place of penumbra and central */
     UKHTVARESH_LEAVE_STAR = 0x41, /* from, to, direction */
@@ -89,6 +100,8 @@ enum {
 };
 
 /* An entry of a sheet: its kind and the kind's fields in their order, 0 for what the kind does not use.
+ * Closest is the second of the window at which the axis is closest to the station in the fundamental plane. It is not
+ * quite that of the greatest magnitude, which came up to 14 s from it at 1,200 drawn places (almanac/moves.py).
  * A second is stored plus 10,800, 0 to 21,600. Direction: tenths of a degree, north through east, 0 to 3599, or
  * 65,535 for none. Magnitude: millionths, 0 to 1,300,000. Share: the covered part of the Sun's disc at the closest second,
  * millionths, 0 to 1,000,000. Station: 1 to 999. Guard: 16 to 1,000.
@@ -255,6 +268,11 @@ enum {
 /* Elements from tables: seven hourly rows of apparent places from the Earth's centre, each the Sun's x, y, z and the Moon's x, y, z
  * in 10^-8 of the Earth's equatorial radius, right-handed, the third to the north pole. The eight values of each row, in the
  * order of the rows, at the start of `values`. *value: 56.
+ * The Sun's radius is 109.04847 Earth radii, document 02's. That is 959.63" at one astronomical unit only for a solar
+ * parallax of 8.80". So set the Sun at its distance in astronomical units times 1 / sin 8.80" = 23,439.18 Earth radii,
+ * and not times today's 23,454.8 (149,597,870.7 km over 6,378.137): with that the Sun is 0.64" too small, and second
+ * and third contact come 1.8 s wrong in the median and up to 8.5 s (almanac/moves.py).
+ * The Moon's distance is the true one over the equatorial radius; her radius is 0.272274.
  * Refusals: 10 for another length than 42; 11 with the first row in which the Moon is not 55 to 65 radii off, the Sun not 23,000 to
  * 24,000, or the size of the sine of the axis' declination above 0.43 (ends are accepted); 4 with place 56 where values_len is
  * below 56. Any numbers may be given. Lengths count numbers. */
@@ -263,7 +281,10 @@ uint64_t ukhtvaresh_from_tables(const int64_t *rows, size_t rows_len, int64_t *v
 
 /* The root of n: the largest whole number whose square is at most n, for any n. It takes two bits of n a round, from the top.
  * *rounds: how many rounds that are, one for each two bits up to the highest one set, a single bit at the top counting as two;
- * 0 for n = 0, at most 30 for n below 2^60, 32 at most. The answer is the root and not the number of a refusal: there is none. */
+ * 0 for n = 0, at most 30 for n below 2^60, 32 at most. The answer is the root and not the number of a refusal: there
+ * is none.
+ * The number is that of document 02's definition, and of the one loop that the function runs. It counts rounds and not
+ * time: no contract here speaks of time. */
 uint64_t ukhtvaresh_root(uint64_t n, uint64_t *rounds);
 
 /* A stretch of dropped bytes in ukhtvaresh_mend's notes: its start and its length, 8 bytes each, big-endian. */
@@ -297,6 +318,9 @@ uint64_t ukhtvaresh_sheet_of_doubles(const double *elements, size_t elements_len
 
 /* The other way: 23 whole units, the elements and a longitude, as doubles at the start of `doubles`, the longitude in degrees, each by one
  * division by 10^8 or, of angles, by 1,000,000. Read as above each gives its unit back, for every unit in its range. *value: 23.
+ * This is for the rounding mode that a C program starts with, to nearest. The division obeys fesetround: under
+ * FE_UPWARD 7 to 10 of the 23 doubles were one ulp larger for the requests of examples/. Read again these too gave
+ * their units.
  * Refusals: 10 for another length than 23; 2 with the first element outside its range; 3 with place 2 for the longitude; 4 with place 23 where
  * doubles_len is below that. Lengths count numbers. */
 uint64_t ukhtvaresh_doubles(const int64_t *units, size_t units_len, double *doubles, size_t doubles_len, uint64_t *value);
@@ -305,7 +329,7 @@ uint64_t ukhtvaresh_doubles(const int64_t *units, size_t units_len, double *doub
  * An array of these is the memory that ukhtvaresh_network takes. */
 typedef struct ukhtvaresh_node {
     int64_t number;    /* 1 to 999, each used once in the list */
-    int64_t latitude;  /* geodetic, 10^-6 degree, +-90,000,000 */
+    int64_t latitude;  /* geodetic on Krasovsky's spheroid, 10^-6 degree, +-90,000,000 */
     int64_t longitude; /* 10^-6 degree, +-180,000,000, east positive */
     int64_t height;    /* metres, -500 to 9,000 */
     int64_t delta_t;   /* hundredths of a second, -10,000 to 20,000 */
@@ -319,9 +343,10 @@ typedef struct ukhtvaresh_node {
 #define UKHTVARESH_STATIONS 64
 
 /* The whole network in one list: in `steps`, in list order, how many steps each station's clock is from the antenna, 1 if it follows 0,
- * else one more than the station it follows, and 0 past the list. *value: the number of the station that sees the eclipse first, the
- * one whose first enter penumbra, in the sheet that it gets alone, has the smallest "to"; the first in the list among equals, 0 if none
- * enters. No sheet is written. stations_len counts stations, the other lengths numbers.
+ * else one more than the station it follows, and 0 past the list. *value: the number of the station that the penumbra
+ * reaches first, the one whose first enter penumbra, in the sheet that it gets alone, has the smallest "to"; the first
+ * in the list among equals, 0 if none enters. The Sun may be below the horizon there. No sheet is written. stations_len
+ * counts stations, the other lengths numbers.
  * Refusals, the first of them: 10 unless eclipse_len is 25 and steps_len 64; 19; 1; 2; 3; 14; 15; 16; 4 with place 901 where sines_len is
  * below that. `sines` is filled on success only. */
 uint64_t ukhtvaresh_network(const int64_t *eclipse, size_t eclipse_len, const ukhtvaresh_node *stations, size_t stations_len,

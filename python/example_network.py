@@ -1,4 +1,7 @@
-"""Eleven clocks and one antenna, 30 June 1954: how far each clock is from it, and who sees the eclipse first: python3 python/example_network.py"""
+"""Eleven clocks and one antenna, 30 June 1954: how far each clock is from it, and where the penumbra comes first.
+
+    python3 python/example_network.py
+"""
 
 import sys
 from pathlib import Path

@@ -6,8 +6,9 @@ radius; `read` takes a sheet apart, `write` puts entries together as one, `listi
 second, `star_second` that of a star, and `share` the share at a second. `mirror` gives the request beyond the equator, `fit` judges coefficients that a spreadsheet made
 of seven hourly values, `from_tables` makes elements from tables of Sun and Moon, `root` gives a square root with its rounds, `mend`
 takes the damaged parts out of a file of sheets, `sheet_of_doubles` makes the sheet of positions that come as doubles, `doubles` makes
-doubles of whole units; `network` tells of a list of stations how far each clock is from the antenna and who sees the eclipse first. Each
-is a thin call of the proved function of the same name in libukhtvaresh.so, which the script `build` makes.
+doubles of whole units; `network` says of a list of stations how far each clock is from the antenna and which one the
+penumbra reaches first. Each is a thin call of the proved function of the same name in libukhtvaresh.so, which the
+script `build` makes.
 
 `horizon` and `star_horizon` give the altitude, the azimuth and the direction of the zenith of the Sun and of a star at a
 second, without refraction and dip.
@@ -20,6 +21,11 @@ integers; a float, a Decimal, a bool, a string or None raises NotWhole with the 
 whole numbers outside their ranges. A function whose name ends in `_into` writes to the caller's memory. It first checks
 that the memory is writable, that its elements have the right type and follow one another, and that no two such buffers
 overlap; otherwise it raises TypeError or ValueError with the buffer's name. It copies what it reads before it writes.
+
+Latitude is geodetic, on Krasovsky's spheroid (6,378,245 m, flattening 1:298.3) with its centre at the Earth's centre.
+The library converts no datum. A latitude and longitude by WGS84 put the station up to 55.6 units, 3.5 m, from its
+place. Those of Pulkovo 1942, whose spheroid is Krasovsky's with its centre 165 m away, must be converted first. No
+sheet says whether the Sun is above the horizon: `horizon` does, for any second.
 """
 
 import ctypes
@@ -257,7 +263,7 @@ class Station:
     """A station."""
 
     number: int  # 1 to 999
-    latitude: int  # geodetic, 10^-6 degree, ±90,000,000
+    latitude: int  # geodetic on Krasovsky's spheroid, 10^-6 degree, ±90,000,000
     longitude: int  # 10^-6 degree, ±180,000,000, east positive
     height: int  # metres, -500 to 9,000
     delta_t: int  # ephemeris less universal time, hundredths of a second, -10,000 to 20,000; 0 for elements by universal time
@@ -421,7 +427,10 @@ class Open:
 
 @dataclass(frozen=True)
 class Closest:
-    """The second at which the axis is closest to the station; magnitude in millionths, 0 after an entry of a star."""
+    """The second at which the axis is closest to the station; its magnitude in millionths, 0 after an entry of a star.
+
+    It is the second of least distance in the fundamental plane; the greatest magnitude came up to 14 s from it.
+    """
 
     second: int
     magnitude: int
@@ -857,7 +866,10 @@ def fit(coefficients: Sequence[int], tabulated: Sequence[int], tolerance: int) -
 
 @dataclass(frozen=True)
 class Root:
-    """The root of a number, and the rounds in which it is found."""
+    """The root of a number, and the rounds in which it is found.
+
+    The number of rounds is that of the definition and of the one loop that runs. It says nothing of time.
+    """
 
     root: int  # the largest whole number whose square is at most the number
     rounds: int  # one for each two bits up to the highest one set, a single bit at the top counting as two; 0 to 32
@@ -879,7 +891,10 @@ ROWS = 7
 
 @dataclass(frozen=True)
 class Row:
-    """Apparent places from the Earth's centre at one hour, 10^-8 of its equatorial radius; the third to the north pole."""
+    """Apparent places from the Earth's centre at one hour, 10^-8 of its equatorial radius; the third to the north pole.
+
+    The Sun is set for a parallax of 8.80": see from_tables.
+    """
 
     sun_x: int  # the Sun, 23,000 to 24,000 radii off
     sun_y: int
@@ -924,7 +939,14 @@ def from_tables_into(rows: Iterable[int], values) -> int:
 
 
 def from_tables(rows: Iterable[Row]) -> List[Besselian]:
-    """The Besselian elements of seven hourly rows. Refusals: 10 for another count than seven, 11 with the first bad row."""
+    """The Besselian elements of seven hourly rows. Refusals: 10 unless they are seven, 11 with the first bad row.
+
+    The Sun's radius is document 02's, 109.04847 Earth radii. That is 959.63" at one astronomical unit only for a solar
+    parallax of 8.80", so set the Sun at its distance in astronomical units times 1 / sin 8.80" = 23,439.18 Earth radii,
+    and not times today's 23,454.8: with that the Sun is 0.64" too small, and second and third contact come
+    1.8 s wrong in the median and up to 8.5 s.
+    The Moon's distance is the true one over the equatorial radius.
+    """
     values, listed = (ctypes.c_int64 * 56)(), []
     for at, row in enumerate(_items(rows, "rows")):
         _instance(row, Row, f"row {at}")
@@ -1094,7 +1116,8 @@ class Network:
     """What is said of a list.
 
     steps: how many steps each station's clock is from the antenna, in the list's order: 1 if it follows 0, else one more than the
-    station it follows. first: the number of the station that sees the eclipse first, None if none enters.
+    station it follows. first: the number of the station that the penumbra reaches first, whether or not the Sun is up
+    there, None if none enters.
     """
 
     steps: List[int]
@@ -1138,7 +1161,7 @@ def network_into(eclipse: Sequence[int], stations: Sequence[Node], steps) -> Opt
 
 
 def network(elements: Elements, window: Window, stations: Sequence[Node], guard: int = LEAST_GUARD) -> Network:
-    """How far the clocks of a list are from the antenna, and who sees the eclipse first.
+    """How far the clocks of a list are from the antenna, and which station the penumbra reaches first.
 
     The first is the station whose first Enter of the penumbra, in the sheet that it gets alone, has the smallest `to`, the first in the
     list among equals. Refusals, the first of them: 19, 1, 2, 3, 14, 15, 16.

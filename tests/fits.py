@@ -1,5 +1,6 @@
 #!/usr/bin/env python3
-"""The input and the expected output of the program `fitted`, by the words of document 02, wish 14: tests/fits.py CRATE
+"""Test vectors of fits for the program `rule_vectors`, by the words of document 02, wish 14. tests/vectors.py puts them
+into the program's input and expected output.
 
 A fit is four coefficients, seven tabulated values and a tolerance. From x of 30 June 1954, which the least squares of the
 hourly values 9h to 15h of source document 001 give, each number is set to the ends of the ranges and of its type, and moved
@@ -7,7 +8,6 @@ by what is left of the tolerance. Then come fits that break two rules at once, a
 """
 import random
 import struct
-import sys
 
 X = (
     (-19_869_267, 55_341_229, -3_333, -800),
@@ -82,11 +82,7 @@ def fits():
                 yield coefficients, tuple(tabulated), tolerance
 
 
-if __name__ == "__main__":
-    every = list(dict.fromkeys(fits()))
-    with open(sys.argv[1] + "/stdin", "wb") as file:
-        for coefficients, tabulated, tolerance in every:
-            file.write(struct.pack(">12q", *coefficients, *tabulated, tolerance))
-    with open(sys.argv[1] + "/stdout", "w") as file:
-        for fit in every:
-            file.write(answer(*fit) + "\n")
+def vectors():
+    for coefficients, tabulated, tolerance in dict.fromkeys(fits()):
+        body = struct.pack(">12q", *coefficients, *tabulated, tolerance)
+        yield body, answer(coefficients, tabulated, tolerance) + "\n"

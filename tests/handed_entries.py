@@ -1,8 +1,9 @@
 #!/usr/bin/env python3
-"""Makes crates/handed_entries/stdin and stdout: lists of entries, good and damaged, and what a writer has to answer.
+"""Test vectors of the writer for the program `sheet_vectors`: lists of entries, good and damaged, and what a writer has
+to answer.
 
 The answers come from the rules of documents 01 and 02, as in stored_sheets.py, whose table and rules of one record are used here.
-Run in the repository's root: python3 tests/handed_entries.py
+tests/vectors.py puts them into the program's input and expected output.
 """
 import os
 import struct
@@ -104,16 +105,7 @@ def lists():
         yield listed([HEAD, (code, [16000, 16001]), OCCULTED[3], END])
 
 
-if __name__ == "__main__":
-    every = list(lists())
-    stdin = b"".join(struct.pack(">H", len(l)) + b"".join(struct.pack(">I", x & 0xFFFFFFFF) for x in l) for l in every)
-    assert len(stdin) <= 98304, len(stdin)
-    every = [[x & 0xFFFFFFFF for x in l] for l in every]
-    open("crates/handed_entries/stdin", "wb").write(stdin)
-    open("crates/handed_entries/stdout", "w").write("".join(line + "\n" for l in every for line in lines(l)))
-    kinds = {}
-    for l in every:
-        word = lines(l)[0].split(" short")[0].split()
-        key = "sheet" if word[1] == "sheet" else "refused " + word[2]
-        kinds[key] = kinds.get(key, 0) + 1
-    print(len(every), "lists,", len(stdin), "bytes:", dict(sorted(kinds.items())))
+def vectors():
+    for numbers in lists():
+        numbers = [number & 0xFFFFFFFF for number in numbers]
+        yield struct.pack(f">{len(numbers)}I", *numbers), "".join(line + "\n" for line in lines(numbers))

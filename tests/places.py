@@ -1,14 +1,12 @@
 #!/usr/bin/env python3
-"""The input and the expected output of the program `places`, from the lines `latitude height R P` of the reference.
+"""Test vectors of places for the program `rule_vectors`, from the lines `latitude height R P` of the reference.
 
-    (cd tests/reference && cargo build --offline --release)
-    tests/reference/target/release/vectors places | python3 tests/places.py crates/places
+tests/vectors.py puts them into the program's input and expected output.
 
 Among the lines are the latitudes of table 22 of source document 001, 0 to 90 degrees at height 0, and its example.
 After them come stations outside their ranges, whose answer is the word `refused`.
 """
 import struct
-import sys
 
 REFUSED = [
     (90_000_001, 0),
@@ -21,14 +19,13 @@ REFUSED = [
     (55_755_000, -(2**31)),
 ]
 
-lines = sys.stdin.read().splitlines()
-stations = [tuple(map(int, line.split()))[:2] for line in lines]
-assert all((1_000_000 * degree, 0) in stations for degree in range(91))
-assert "55755000 166 56403879 82301160" in lines
 
-lines += [f"{latitude} {height} refused" for latitude, height in REFUSED]
-with open(sys.argv[1] + "/stdin", "wb") as file:
-    for station in stations + REFUSED:
-        file.write(struct.pack(">ii", *station))
-with open(sys.argv[1] + "/stdout", "w") as file:
-    file.writelines(line + "\n" for line in lines)
+def vectors(given):
+    """Those of the reference's lines, and the refused."""
+    lines = given.splitlines()
+    stations = [tuple(map(int, line.split()))[:2] for line in lines]
+    assert all((1_000_000 * degree, 0) in stations for degree in range(91))
+    assert "55755000 166 56403879 82301160" in lines
+    lines += [f"{latitude} {height} refused" for latitude, height in REFUSED]
+    for station, line in zip(stations + REFUSED, lines):
+        yield struct.pack(">qq", *station), line + "\n"

@@ -1,8 +1,9 @@
 #!/usr/bin/env python3
 """Doubles as whole units, by the words of document 02, wish 5, with exact fractions.
 
-    python3 tests/readings.py FOLDER        makes FOLDER/stdin and stdout, those of crates/readings
-    rt check readings && python3 tests/readings.py [DOUBLES] [SEED]   holds the program against it
+tests/vectors.py puts 1,503 of them into the input and the expected output of the program `rule_vectors`.
+
+    rt check rule_vectors && python3 tests/readings.py [DOUBLES] [SEED]     compares the program with it on others
 """
 
 import math
@@ -13,8 +14,8 @@ import sys
 from fractions import Fraction
 from pathlib import Path
 
-PROGRAM = Path(__file__).resolve().parent.parent / "target/bin/readings"
-ROOM = 2048  # doubles that the program takes
+PROGRAM = Path(__file__).resolve().parent.parent / "target/bin/rule_vectors"
+AT_ONCE = 2048  # doubles for one run of the program
 
 SCALES = (10**6, 15 * 10**6, 10**8)  # of degrees, of hours, of lengths and tangents
 
@@ -76,8 +77,14 @@ def cases():
     return [bits(x) for x in xs] + NOT_FINITE + [draw.randrange(2**64) for _ in range(200)]
 
 
-def packed(patterns):
-    return b"".join(struct.pack(">Q", pattern) for pattern in patterns)
+def vectors():
+    for pattern in cases():
+        yield struct.pack(">Q", pattern), line(double(pattern))
+
+
+def records(patterns):
+    """The doubles as the program reads them: the letter, eight bytes."""
+    return b"".join(struct.pack(">cHQ", b"d", 8, pattern) for pattern in patterns)
 
 
 def check(count, seed):
@@ -95,20 +102,14 @@ def check(count, seed):
 
     tried = 0
     while tried < count:
-        patterns = [drawn() for _ in range(ROOM)]
+        patterns = [drawn() for _ in range(AT_ONCE)]
         told = "".join(line(double(pattern)) for pattern in patterns)
-        got = subprocess.run([PROGRAM], input=packed(patterns), capture_output=True)
+        got = subprocess.run([PROGRAM], input=records(patterns), capture_output=True)
         assert got.stdout.decode() == told, [(hex(p), a, b) for p, a, b in zip(patterns, got.stdout.decode().split("\n"), told.split("\n")) if a != b][:3]
-        tried += ROOM
+        tried += AT_ONCE
     print(f"tests/readings.py: the program and the fractions agree on {tried} doubles")
 
 
 if __name__ == "__main__":
-    if len(sys.argv) > 1 and not sys.argv[1].isdigit():
-        folder, patterns = Path(sys.argv[1]), cases()
-        assert len(patterns) <= ROOM, len(patterns)
-        folder.joinpath("stdin").write_bytes(packed(patterns))
-        folder.joinpath("stdout").write_text("".join(line(double(pattern)) for pattern in patterns))
-    else:
-        count, seed = (list(map(int, sys.argv[1:3])) + [100_000, 1][len(sys.argv) - 1 :])[:2]
-        check(count, seed)
+    count, seed = (list(map(int, sys.argv[1:3])) + [100_000, 1][len(sys.argv) - 1 :])[:2]
+    check(count, seed)

@@ -1,12 +1,15 @@
 #!/usr/bin/env python3
-"""What the program `shares` must print, computed from the words of document 02, wish 4.
+"""Test vectors of the covered share for the program `rule_vectors`, from the words of document 02, wish 4.
 
-    python3 tests/shares.py > crates/shares/stdout
-    python3 tests/shares.py N                        N rows drawn anywhere, for the reference to compare
+tests/vectors.py puts them into the program's input and expected output.
+
+    python3 tests/shares.py        the rows, L1 L2 M share
+    python3 tests/shares.py N      N rows drawn anywhere, for the reference to compare
 
 The share is reckoned as the sentences stand, with exact fractions.
 """
 import random
+import struct
 import sys
 from fractions import Fraction
 from math import floor, isqrt, sqrt
@@ -34,7 +37,7 @@ def share(L1, L2, M):
 
 
 def row(i):
-    """L1, L2 and M of the program."""
+    """L1, L2 and M: near the middle of the eclipse in the first half of the rows, anywhere in the second."""
     distance = i * 1_234_567 % 6_200_001 if i < 150 else i * 11_234_567 % 62_000_001
     return 48_860_000 + i * 5_234_567 % 12_280_001, i * 7_654_321 % 12_280_001 - 6_140_000, distance**2 + i
 
@@ -47,17 +50,27 @@ def draw():
     return L1, L2, min(10**18, max(0, far + random.randint(-20, 20)) ** 2 + random.randint(-2, 2) ** 2)
 
 
+def checked(L1, L2, M):
+    """The row's share, which is all of the Sun in a total eclipse, and none outside the penumbra."""
+    covered = share(L1, L2, M)
+    assert 0 <= covered <= 1_000_000
+    if L2 < 0 and sqrt(M) < -L2 - 16:
+        assert covered == 1_000_000
+    if sqrt(M) > L1 + 16:
+        assert covered == 0
+    return covered
+
+
+def vectors():
+    for numbers in map(row, range(300)):
+        yield struct.pack(">qqq", *numbers), " ".join(map(str, (*numbers, checked(*numbers)))) + "\n"
+
+
 def main():
     count = int(sys.argv[1]) if len(sys.argv) > 1 else 0
     random.seed(1954)
     for L1, L2, M in (draw() for _ in range(count)) if count else map(row, range(300)):
-        covered = share(L1, L2, M)
-        assert 0 <= covered <= 1_000_000
-        if L2 < 0 and sqrt(M) < -L2 - 16:
-            assert covered == 1_000_000
-        if sqrt(M) > L1 + 16:
-            assert covered == 0
-        print(L1, L2, M, covered)
+        print(L1, L2, M, checked(L1, L2, M))
 
 
 if __name__ == "__main__":

@@ -1,8 +1,9 @@
 #!/usr/bin/env python3
-"""What the program `sines` must print, computed from document 01's words alone, with exact fractions.
+"""Test vectors of sine and cosine for the program `rule_vectors`, from document 01's words alone, with exact fractions.
 
-    python3 tests/sines.py > crates/sines/stdout
+tests/vectors.py puts them into the program's input and expected output.
 """
+import struct
 from fractions import Fraction
 from math import ceil, factorial, floor
 
@@ -41,7 +42,7 @@ def cosine(a):
 
 
 def angle(i):
-    """The angles of the program."""
+    """Borders of quadrants and octants, tenths of a degree, each with the angles beside it, and angles anywhere."""
     if i < 51:
         return i // 3 * 45_000_000 + i % 3 - 360_000_001
     if i < 351:
@@ -61,9 +62,9 @@ def by_turns(a):
     return sine(a), cosine(a)
 
 
-same = 0
-for i in range(1000):
-    a = angle(i) % 360_000_000
-    print(angle(i), *by_quadrants(a), *by_turns(a))
-    same += by_quadrants(a) == by_turns(a)
-print(f"the same at {same} of 1000 angles")
+def vectors():
+    """A thousand angles, each with its sine and cosine both ways, which are the same."""
+    for i in range(1000):
+        a = angle(i) % 360_000_000
+        assert by_quadrants(a) == by_turns(a)
+        yield struct.pack(">q", angle(i)), " ".join(map(str, (angle(i), *by_quadrants(a), *by_turns(a)))) + "\n"

@@ -1,8 +1,9 @@
 #!/usr/bin/env python3
-"""Makes crates/stored_sheets/stdin and stdout: stored sheets, good and damaged, and what a reader has to answer.
+"""Test vectors of the reader for the program `sheet_vectors`: stored sheets, good and damaged, and what a reader has to
+answer.
 
 The answers come from the rules of documents 01 and 02, worked out here over lists of records; nothing is taken from the crates.
-Run in the repository's root: python3 tests/stored_sheets.py
+tests/vectors.py puts them into the program's input and expected output.
 """
 import struct
 
@@ -266,20 +267,6 @@ def damaged_stars():
                     yield encode(STARRED[:i] + [(kind, fields[:j] + [value] + fields[j + 1:])] + STARRED[i + 1:])
 
 
-def main():
-    frames = list(damaged())
-    stdin = b"".join(struct.pack(">H", len(d)) + d for d in frames)
-    assert len(stdin) <= 131072, len(stdin)
-    lines = [line for d in frames for line in answers(d)]
-    open("crates/stored_sheets/stdin", "wb").write(stdin)
-    open("crates/stored_sheets/stdout", "w").write("".join(l + "\n" for l in lines))
-    kinds = {}
-    for d in frames:
-        first = answers(d)[0].split(" is ")[1].split(" short")[0].split()
-        key = first[0] if first[0] == "sheet" else "refused " + first[1]
-        kinds[key] = kinds.get(key, 0) + 1
-    print(len(frames), "sheets,", len(stdin), "bytes:", dict(sorted(kinds.items())))
-
-
-if __name__ == "__main__":
-    main()
+def vectors():
+    for sheet in damaged():
+        yield sheet, "".join(line + "\n" for line in answers(sheet))

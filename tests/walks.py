@@ -1,8 +1,8 @@
 #!/usr/bin/env python3
-"""The expected output of the program `walks`, from the words of document 01, "Entries of a sheet", and from no walk:
-every two seconds of the window are held against the rules, one by one.
+"""Test vectors of contacts for the program `rule_vectors`, from the words of document 01, "Entries of a sheet", and from
+no walk: every two seconds of the window are compared with the rules, one by one.
 
-    python3 tests/walks.py > crates/walks/stdout
+tests/vectors.py puts them into the program's input and expected output.
 """
 from itertools import combinations
 
@@ -36,10 +36,12 @@ def entries(states):
     return sorted(found)
 
 
-for length in range(7):
-    for number in range(3 ** length):
-        states = [number // 3 ** k % 3 for k in range(length)]
-        line = "".join(map(str, states))
-        for start, end, kind in entries(states):
-            line += f" {kind}{start}-{end}"
-        print(line)
+def vectors():
+    """Every window of up to six seconds."""
+    for length in range(7):
+        for number in range(3 ** length):
+            states = [number // 3 ** k % 3 for k in range(length)]
+            line = "".join(map(str, states))
+            for start, end, kind in entries(states):
+                line += f" {kind}{start}-{end}"
+            yield bytes(states), line + "\n"

@@ -25,42 +25,53 @@ from pathlib import Path
 WIDTH = 110
 
 
-def balanced(text):
-    return all(text.count(a) == text.count(b) for a, b in ('()', '[]', '{}'))
+def arguments(text):
+    """The words of a text, those in brackets together; None where the brackets do not match."""
+    words, word, depth = [], '', 0
+    for sign in text:
+        depth += (sign in '([{') - (sign in ')]}')
+        if depth < 0:
+            return None
+        if sign == ' ' and depth == 0:
+            words += [word] if word else []
+            word = ''
+        else:
+            word += sign
+    return words + [word] if depth == 0 else None
 
 
 def fill(lines):
-    """The lines of a file with each run of one-line arguments after `(tie.spec` filled."""
+    """The lines of a file with the arguments of each `tie.spec` filled, where no argument has lines of its own."""
     out, at = [], 0
     while at < len(lines):
         line = lines[at]
-        out.append(line)
-        at += 1
-        if line.strip() not in ('(tie.spec', 'tie.spec'):
-            continue
         indent = line[:len(line) - len(line.lstrip())]
-        held = line
-        out.pop()
-        while at < len(lines) and lines[at].startswith(indent) and lines[at].strip() and not lines[at].strip().startswith('--'):
-            word = lines[at].strip()
-            own = lines[at][:len(lines[at]) - len(lines[at].lstrip())] == indent
-            last = word.endswith(')') and not balanced(word) and word.count(')') > word.count('(')
-            plain = own and (balanced(word) or last) and '--' not in word
-            following = lines[at + 1] if at + 1 < len(lines) else ''
-            deeper = following.startswith(indent + ' ')
-            if plain and not deeper and held is not None and len(held) + 1 + len(word) <= WIDTH:
+        if not line.startswith(indent + '(tie.spec'):
+            out.append(line)
+            at += 1
+            continue
+        block = [line.strip()]
+        while at + len(block) < len(lines) and '\n'.join(block).count('(') > '\n'.join(block).count(')'):
+            following = lines[at + len(block)]
+            if not following.startswith(indent) or following[len(indent):len(indent) + 1] in ('', ' ', '-'):
+                break
+            block.append(following.strip())
+        text = ' '.join(block)
+        words = arguments(text[1:-1]) if text.endswith(')') else None
+        if words is None or text.count('(') != text.count(')'):
+            out.append(line)
+            at += 1
+            continue
+        held = indent + '(' + words[0]
+        for i, word in enumerate(words[1:]):
+            word += ')' if i == len(words) - 2 else ''
+            if len(held) + 1 + len(word) <= WIDTH:
                 held += ' ' + word
             else:
-                if held is not None:
-                    out.append(held)
-                held = lines[at] if plain and not deeper else None
-                if held is None:
-                    out.append(lines[at])
-            at += 1
-            if last:
-                break
-        if held is not None:
-            out.append(held)
+                out.append(held)
+                held = indent + word
+        out.append(held)
+        at += len(block)
     return out
 
 

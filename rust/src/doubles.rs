@@ -23,7 +23,7 @@ pub struct Survey {
     pub longitude: Longitude,
     /// Its number, 1 to 999.
     pub number: i64,
-    /// Its geodetic latitude, 10^-6 degree, ±90,000,000.
+    /// Its geodetic latitude on Krasovsky's spheroid, 10^-6 degree, ±90,000,000.
     pub latitude: i64,
     /// Its height, metres, -500 to 9,000.
     pub height: i64,

@@ -70,7 +70,7 @@ pub enum Entry {
     },
     /// The second at which the axis is closest to the station.
     Closest {
-        /// The second.
+        /// The second of least distance in the fundamental plane; the greatest magnitude came up to 14 s from it.
         second: i64,
         /// Its magnitude, millionths, 0 to 1,300,000; 0 after an entry of a star.
         magnitude: u32,

@@ -380,7 +380,7 @@ pub fn sheet_of_doubles(
     answer(number, value)
 }
 
-// The number of the station that sees the eclipse first, 0 for none.
+// The number of the station that the penumbra reaches first, 0 for none.
 pub fn network(eclipse: &[i64], stations: &[Node], steps: &mut [u64]) -> Result<usize, Refusal> {
     let mut value = 0;
     // SAFETY: as in `made`; `Node` has the header's layout, and the length of `stations` counts its structs, the others numbers.

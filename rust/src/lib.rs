@@ -8,11 +8,17 @@
 //! equator; [`fit`] judges coefficients that a spreadsheet made, [`from_tables`] makes elements from tables of Sun and
 //! Moon, [`root`] gives a square root with its rounds,
 //! [`mend()`] takes the damaged parts out of a file of sheets, [`sheet_of_doubles`] makes the sheet of positions that come as doubles,
-//! [`doubles()`] makes doubles of whole units; [`network()`] tells of a list of stations how far each clock is from the antenna and who sees
-//! the eclipse first. Each is a thin call of the proved function of the same name in `libukhtvaresh.a`.
+//! [`doubles()`] makes doubles of whole units; [`network()`] says of a list of stations how far each clock is from the
+//! antenna and which station the penumbra reaches first. Each is a thin call of the proved function of the same name in
+//! `libukhtvaresh.a`.
 //!
 //! Lengths are in 10^-8 of the Earth's equatorial radius, angles in 10^-6 degree, times in whole seconds of
 //! ephemeris time from the reference instant. East longitude is positive. "Document 01" is the paper whose rules the library keeps.
+//!
+//! Latitude is geodetic, on Krasovsky's spheroid (6,378,245 m, flattening 1:298.3) with its centre at the Earth's
+//! centre. The library converts no datum. A latitude and longitude by WGS84 put the station up to 55.6 units, 3.5 m,
+//! from its place. Those of Pulkovo 1942, whose spheroid is Krasovsky's with its centre 165 m away, must be converted
+//! first. No sheet says whether the Sun is above the horizon: [`horizon()`] does, for any second.
 //!
 //! ```
 //! use ukhtvaresh::{listing, read, sheet_vec, Elements, Entry, Phase, Request, Station, Window};
@@ -230,7 +236,9 @@ pub fn fit(coefficients: &[i64; 4], tabulated: &[i64; 7], tolerance: i64) -> Res
 pub struct Root {
     /// The largest whole number whose square is at most the number.
     pub root: u64,
-    /// One round for each two bits up to the highest one set, a single bit at the top counting as two; 0 to 32.
+    /// One round for each two bits up to the highest one set, a single bit at the top counting as two; 0 to 32. It is
+    /// the number of the definition and of the one loop that runs. It counts rounds and not time: no contract speaks of
+    /// time.
     pub rounds: u32,
 }
 

@@ -14,7 +14,7 @@ pub const ECLIPSE_LENGTH: usize = 25;
 pub struct Node {
     /// Number, 1 to 999, each used once in the list.
     pub number: i64,
-    /// Geodetic latitude, 10^-6 degree, ±90,000,000.
+    /// Geodetic latitude on Krasovsky's spheroid, 10^-6 degree, ±90,000,000.
     pub latitude: i64,
     /// Longitude, 10^-6 degree, ±180,000,000, east positive.
     pub longitude: i64,
@@ -84,7 +84,8 @@ pub struct Network {
     /// How many steps each station's clock is from the antenna, in the list's order: 1 if it follows 0, else one more than the station
     /// it follows.
     pub steps: Vec<u64>,
-    /// The number of the station that sees the eclipse first; `None` if none enters.
+    /// The number of the station that the penumbra reaches first, whether or not the Sun is up there; `None` if none
+    /// enters.
     pub first: Option<i64>,
 }
 
@@ -111,7 +112,8 @@ pub fn network(eclipse: &Eclipse, stations: &[Node]) -> Result<Network, Refusal>
     Ok(Network { steps: steps[..stations.len()].to_vec(), first })
 }
 
-/// The same from 25 numbers into room for 64 steps, 0 past the list; gives the station that sees the eclipse first.
+/// The same from 25 numbers into a buffer of 64 steps, 0 past the list; gives the station that the penumbra reaches
+/// first.
 ///
 /// On refusal all of `steps` keeps what it held. Refusals, the first of them: 10 for other lengths than 25 and 64, 19, 1, 2, 3, 14, 15,
 /// 16.

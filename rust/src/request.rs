@@ -124,7 +124,7 @@ impl Elements {
 pub struct Station {
     /// Number, 1 to 999.
     pub number: i64,
-    /// Geodetic latitude, 10^-6 degree, ±90,000,000.
+    /// Geodetic latitude on Krasovsky's spheroid, 10^-6 degree, ±90,000,000.
     pub latitude: i64,
     /// Longitude, 10^-6 degree, ±180,000,000, east positive.
     pub longitude: i64,

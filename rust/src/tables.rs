@@ -17,7 +17,7 @@ pub struct Position {
 /// A row of the tables: the apparent places of Sun and Moon at one hour.
 #[derive(Clone, Copy, Debug, Default, PartialEq, Eq, Hash)]
 pub struct Row {
-    /// The Sun, 23,000 to 24,000 radii off.
+    /// The Sun, 23,000 to 24,000 radii off: set for a parallax of 8.80", see [`from_tables`].
     pub sun: Position,
     /// The Moon, 55 to 65 radii off.
     pub moon: Position,
@@ -45,6 +45,12 @@ pub struct Besselian {
 }
 
 /// The Besselian elements of seven hourly rows.
+///
+/// The Sun's radius is document 02's, 109.04847 Earth radii. That is 959.63" at one astronomical unit only for a solar
+/// parallax of 8.80", so set the Sun at its distance in astronomical units times 1 / sin 8.80" = 23,439.18 Earth radii,
+/// and not times today's 23,454.8: with that the Sun is 0.64" too small, and second and third contact come 1.8 s
+/// wrong in the median and up to 8.5 s.
+/// The Moon's distance is the true one over the equatorial radius.
 ///
 /// Refusals: 11 with the first row in which the Moon or the Sun is outside its distances or the size of the sine of d is above 0.43.
 pub fn from_tables(rows: &[Row; ROWS]) -> Result<[Besselian; ROWS], Refusal> {

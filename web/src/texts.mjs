@@ -65,7 +65,8 @@ export const TEXTS = {
       [
         clock ? "A contact lies between the two times given, which are rounded outward." : "A contact lies between the two seconds given.",
         `Direction: of the Moon's centre from the ${star ? "star" : "Sun's"}, from north through east.`,
-        "Circular limbs; no refraction, and it is not asked what stands above the horizon.",
+        ...(star ? [] : ["Axis closest: the shadow's axis is nearest, within some 16 s of the greatest magnitude."]),
+        "Circular limbs, no refraction; nothing is said of the horizon. Latitude is geodetic on Krasovsky's spheroid.",
         ...(clock ? ["UT is universal time, ET ephemeris time."] : []),
       ].join(" "),
     none: "In this window the shadow's edge does not pass the station: there is no contact.",
@@ -92,10 +93,11 @@ export const TEXTS = {
     const percent = (millionths, decimals) => (Math.floor(millionths / 10 ** (4 - decimals)) / 10 ** decimals).toFixed(decimals);
     switch (entry.name) {
       case "closest":
-        if (star) return ["Star nearest to the Moon's centre", ""];
-        if (entry.magnitude === 0) return ["Moon nearest to the Sun's centre", "nothing of the Sun is covered"];
+        // the second of least distance in the fundamental plane; the greatest magnitude may come some seconds from it
+        if (star) return ["Axis closest", "the axis through the Moon is closest to the station"];
+        if (entry.magnitude === 0) return ["Axis closest", "nothing of the Sun is covered"];
         return [
-          entry.second === head.first || entry.second === head.last ? "Greatest in this window" : "Greatest eclipse",
+          entry.second === head.first || entry.second === head.last ? "Axis closest in this window" : "Axis closest",
           `magnitude ${(entry.magnitude / 1e6).toFixed(6)}, ${percent(share, 2)} % of the disc covered`,
         ];
       case "enter":

@@ -138,8 +138,12 @@ fn foot(table: &[u32], o: Occultation, place: Place, n: usize, k: usize) -> usiz
     0
 }
 
-// A distance that some second of a window of n reaches: that of seventeen seconds, then along the path's tangent from
-// the closest of them, twice.
+// A distance that some second of a window of n reaches: the least of seventeen seconds, and of the second to which two
+// steps along the path's tangent lead from the closest of them. The promise only limits the result: some second of the
+// window is at most this distance away (`Reached`), and a smaller distance may be reached too. The rules leave this
+// open. Document 01 says what a sheet holds, and not which seconds are computed for it. `crate::bisection::fill`
+// passes over seconds that are farther away than this distance, and promises the closest of all by an equation. So a
+// larger distance costs time and changes no byte.
 pub fn reach(table: &[u32], o: Occultation, place: Place, n: usize, shadows: [Sample; 17]) -> u64
     requires { ⌜ (Sines (now table)) × (InLimits o) × (place ≡ placeOf (o .station)) × (n ≡ secondCount (o .window)) × (99 < n) × (Spread o n shadows) ⌝ }
     ensures { λ r. ⌜ Reached o n r ⌝ }

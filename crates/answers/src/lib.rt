@@ -1,25 +1,11 @@
-// The answer to a request's bytes as text: the listing of its sheet, or the line of its refusal; and as a stored
-// sheet, with that line apart.
+// The answer to a request's bytes as text: the listing of its sheet, or the line of its refusal.
 use calendar::Reference;
 use circumstances::Answer;
-use listings::Text;
-use sheet_types::refusals::Refusal;
 ghost use mathlib.Core.Path.{_≡_};
-ghost use lib.ListN.{length};
-ghost use Rattle.request_answers.specs.Sheet.{bufferFor, sinesFor, starBuffer, starSines, Begins, sheetStored};
+ghost use Rattle.request_answers.specs.Sheet.{bufferFor, sinesFor, starBuffer, starSines};
 ghost use Rattle.request_answers.specs.laws.SheetLaws.{Fits};
-ghost use Rattle.decimal_text.specs.Texts.{Put, Counts};
-ghost use Rattle.listing_lines.specs.Lines.{refusalLine};
-ghost use Rattle.listings.specs.Answers.{text, answered, roomWith};
-ghost use Rattle.answers.specs.Answers.{timedBy, answerText, starText, timedText, starTimedText, errorLine};
-
-// How many bytes of each room go out.
-pub struct Streams {
-    // of the sheet's room, to standard output
-    pub output: usize,
-    // of the line's room, to standard error; more than the room has where the room is shorter than the line
-    pub error: usize,
-}
+ghost use Rattle.decimal_text.specs.Texts.{Put};
+ghost use Rattle.answers.specs.Answers.{timedBy, answerText, starText, timedText, starTimedText};
 
 // The text of an answer whose sheet stands at the room's start, with times where the reference is an instant.
 fn put_text(answer: Answer, room: &[u8], out: &mut [u8], reference: Reference, deltat: i64) -> usize
@@ -91,50 +77,4 @@ pub fn put_timed_star_answer(
     let deltat = request_format::input::stars::deltat(request);
     let answer = request_answers::sheets::star_sheet(request, sines, room);
     put_text(answer, room, out, reference, deltat)
-}
-
-// The same as `put_answer` where `out` holds the text, and how long it is; or 4, which is of `out` alone, and `out` as
-// it was. What is refused of the request, 4 of the sheet's room among it, is what the text tells.
-pub fn answer(request: &[u8], sines: &mut [u32], room: &mut [u8], out: &mut [u8]) -> Text
-    ensures answer { λ r. ⌜ r ≡ answered (length (now (out .entry))) (text (answerText (now (request .entry)) (now (sines .entry)) (now (room .entry)))) ⌝ }
-    ensures text { λ r. ⌜ now (out .exit) ≡ roomWith (text (answerText (now (request .entry)) (now (sines .entry)) (now (room .entry)))) (now (out .entry)) ⌝ }
-    ensures sheet { λ r. ⌜ now (room .exit) ≡ bufferFor (now (request .entry)) (now (sines .entry)) (now (room .entry)) ⌝ }
-    ensures sines { λ r. ⌜ now (sines .exit) ≡ sinesFor (now (request .entry)) (now (sines .entry)) ⌝ }
-{
-    let answer = request_answers::sheets::sheet(request, sines, room);
-    let mut none = [0u8; 0];
-    let need = put_text(answer, room, &mut none, Reference::Nothing, 0);
-    if out.len() < need {
-        return Text::Refused(Refusal {
-            number: 4,
-            place: need,
-        });
-    }
-    put_text(answer, room, out, Reference::Nothing, 0);
-    Text::Written(need)
-}
-
-// What program `sheet_bytes` writes: the sheet as it is stored, at its room's start; or the line of the refusal, as
-// far as its room goes.
-pub fn stored(request: &[u8], sines: &mut [u32], room: &mut [u8], line: &mut [u8]) -> Streams
-    ensures output { λ r. ⌜ Begins (r .output) (now (room .exit)) (sheetStored (now (request .entry)) (now (sines .entry)) (now (room .entry))) ⌝ }
-    ensures error { λ r. ⌜ Put (now (line .entry)) 0 (errorLine (now (request .entry)) (now (sines .entry)) (now (room .entry))) (now (line .exit)) (r .error) ⌝ }
-    ensures sheet { λ r. ⌜ now (room .exit) ≡ bufferFor (now (request .entry)) (now (sines .entry)) (now (room .entry)) ⌝ }
-    ensures sines { λ r. ⌜ now (sines .exit) ≡ sinesFor (now (request .entry)) (now (sines .entry)) ⌝ }
-    ensures counts { λ r. ⌜ Counts (r .output) (now (room .exit)) ⌝ }
-{
-    let answer = request_answers::sheets::sheet(request, sines, room);
-    match answer {
-        Answer::Written(written) => Streams {
-            output: written,
-            error: 0,
-        },
-        Answer::Refused(refusal) => {
-            let end = listing_lines::lines::put_refused(line, 0, refusal);
-            Streams {
-                output: 0,
-                error: end,
-            }
-        }
-    }
 }

@@ -6,6 +6,7 @@ use native.Mathlib.Nat.{mul-one, mul-comm, mul-left-comm, mul-right-comm, mul-ad
 use lib.Pow.{pow-add, pow-pos, pow-mono}
 use Rattle.rounding.specs.Near.{halfUp}
 use Rattle.binary64.specs.laws.Fields.{sizeOf}
+use Rattle.binary64.specs.laws.ReadingLaws.{twice-positive}
 
 -- where a size is too large; the weight of the leading digit
 abbrev limit : ℕ
@@ -23,11 +24,8 @@ shared x n d p =
 
 -- c·d ≤ n
 pub at-least : (c n d : ℕ) → 0 < d → c * d ≤ n → c ≤ halfUp n d
-at-least c n d p h = le-div-iff-mul-le (twice d p) .1 (go (c * (2 * d)) (c * d) (mul-left-comm c 2 d) h)
+at-least c n d p h = le-div-iff-mul-le (twice-positive d p) .1 (go (c * (2 * d)) (c * d) (mul-left-comm c 2 d) h)
   where
-    twice : (d : ℕ) → 0 < d → 0 < 2 * d
-    twice d p = omega arith
-
     go : (x y : ℕ) → x ≡ 2 * y → y ≤ n → x ≤ 2 * n + d
     go x y e l = omega arith
 

@@ -8,6 +8,7 @@ use native.Mathlib.Nat.{mod-eq-of-lt, le-trans}
 use lib.Pow.{pow-add, pow-pos, pow-mono, pow-lt}
 use lib.Dec.{lit<}
 use Rattle.rounding.specs.Near.{halfUp}
+use Rattle.binary64.specs.laws.ReadingLaws.{twice-positive}
 
 -- what 64 bits count; where a size is too large; what q is split by
 abbrev word : ℕ
@@ -25,11 +26,8 @@ part = 2 ^ 26
 low-nat : (a b D E W : ℕ) → 0 < D → E * D ≡ W → halfUp (a * W + b) D ≡ a * E + (2 * b + D) / (2 * D)
 low-nat a b D E W p e =
     ap (λ (n : ℕ). n / (2 * D)) (split (a * W) (ap (λ (w : ℕ). a * w) (sym e) ∙ sym (mul-assoc a E D)))
-    ∙ mul-add-div-right (twice D p) (a * E) (2 * b + D)
+    ∙ mul-add-div-right (twice-positive D p) (a * E) (2 * b + D)
   where
-    twice : (D : ℕ) → 0 < D → 0 < 2 * D
-    twice D p = omega arith
-
     split : (x : ℕ) → x ≡ a * E * D → 2 * (x + b) + D ≡ a * E * (2 * D) + (2 * b + D)
     split x q = let m : a * E * (2 * D) ≡ 2 * (a * E * D) = mul-left-comm (a * E) 2 D in omega arith
 
@@ -102,11 +100,8 @@ twice-pow k = pow-add 2 k 1 ∙ mul-comm (2 ^ k) 2
 -- ---- with the numbers as variables: E·D is 2^26, and L·E is 2^63
 module _ (a b D E L : ℕ) (l : b < part) (d : 0 < D) (e : E * D ≡ part) (m : L * E ≡ limit) where
   low-part : (2 * b + D) / (2 * D) ≤ E
-  low-part = let h : (2 * b + D) / (2 * D) < suc E = div-lt-iff-lt-mul (twice D d) .1 (under (suc E * (2 * D)) (E * D) scale e) in omega arith
+  low-part = let h : (2 * b + D) / (2 * D) < suc E = div-lt-iff-lt-mul (twice-positive D d) .1 (under (suc E * (2 * D)) (E * D) scale e) in omega arith
     where
-      twice : (D : ℕ) → 0 < D → 0 < 2 * D
-      twice D p = omega arith
-
       scale : suc E * (2 * D) ≡ 2 * (E * D) + 2 * D
       scale =
           let x : E * (2 * D) ≡ 2 * (E * D) = mul-left-comm E 2 D in

@@ -44,6 +44,8 @@ fn write_phase(
     ensures { λ r. ⌜ r ≡ start + bytesNeeded phase (entries (decoded k (now (runs .entry)))) ⌝ }
     ensures { λ r. ⌜ now (buf .exit) ≡ sets (now (buf .entry)) start (bytesOf (map (entryOf (courseOf o) phase) (entries (decoded k (now (runs .entry)))))) ⌝ }
 {
+    let w = o.window;
+    let seconds = requests::windows::second_count(w);
     let mut at = start;
     let mut c = contacts::Cursor {
         at: 0,
@@ -51,7 +53,7 @@ fn write_phase(
         was: 0,
     };
     loop {
-        let contacts::Next::Found(entry, next) = contacts::step(runs, k, c) else {
+        let contacts::Next::Found(entry, next) = contacts::step(runs, k, seconds, c) else {
             return at;
         };
         let e = local_circumstances::entries::entry_for(table, o, place, phase, entry);

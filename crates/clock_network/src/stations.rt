@@ -56,7 +56,7 @@ pub fn put(h: Held, i: usize, n: Node) -> Held
 }
 
 // How many nodes of a list of n there is room for.
-pub fn least(n: usize) -> usize
+fn least(n: usize) -> usize
     ensures { λ r. ⌜ r ≡ least64 n ⌝ }
 {
     if n < 64 { n } else { 64 }

@@ -2,9 +2,8 @@
 // the antenna, and the first of the smallest seconds. These are inner functions, for the crate above; they know no
 // station and no shadow.
 ghost use mathlib.Core.Path.{_≡_};
-ghost use Prim.Native.Nat.{ℕ, _+_, _<_, _≤_};
-ghost use lib.ListN.{length, getD};
-ghost use lib.IntN.{ℤ, pos};
+ghost use Prim.Native.Nat.{_+_, _<_, _≤_};
+ghost use lib.ListN.{length};
 ghost use Rattle.clock_network.specs.laws.First.{First};
 ghost use Rattle.clock_network.specs.Steps.{At, Distinct, StepsAre, Zero};
 ghost use Rattle.clock_network.specs.laws.Search.{Small, NextIs, ReadyIs};

@@ -6,7 +6,8 @@ use mathlib.Core.Bool.{Bool, true, false}
 use native.Mathlib.Omega.{arith}
 use native.Mathlib.Nat.{add-zero}
 use borrow.Author.Tests.{lt-ltb}
-use lib.ListN.{length, getD, drop, replicate, length-append, length-drop, length-replicate, getD-replicate, List·getD-append, drop-of-length-le}
+use lib.ListN.{length, getD, drop, replicate, length-append, length-drop, length-replicate, getD-replicate}
+use lib.ListN.{List·getD-append, drop-of-length-le}
 use lib.Seq.{drop-drop, drop-at, getD-drop}
 use Rattle.run_length.specs.declared.Run.{Run}
 use Rattle.run_length.specs.Runs.{decoded, RunAt}
@@ -14,9 +15,9 @@ use Rattle.run_length.specs.laws.RunsLaws.{decoded-none}
 use Rattle.contacts.specs.declared.Cursor.{Cursor}
 use Rattle.contacts.specs.declared.entries.Entry.{Entry}
 use Rattle.contacts.specs.declared.entries.Entry.the-variants.{Enter, Leave, Graze, Open}
-use Rattle.contacts.specs.declared.Next.{Next}
 use Rattle.contacts.specs.declared.Next.the-variants.{Found, Done}
-use Rattle.contacts.specs.Entries.{sure, unsure, Last, none, last, state, side, if-so, between, atSecond, atEnd, walk, from, to, someBetween}
+use Rattle.contacts.specs.Entries.{sure, unsure, Last, last, state, side, if-so, between, someBetween}
+use Rattle.contacts.specs.Entries.{atSecond, atEnd, walk, from, to}
 use Rattle.contacts.specs.laws.BetweenLaws.{between-some, between-none}
 use Rattle.contacts.specs.Step.{entriesFrom, lastBefore, Stands, At, Stepped}
 
@@ -39,10 +40,6 @@ side-one (suc x) n = refl
 between-next : (a : Bool) (f t : ℕ) → f + 1 ≡ t → between a a f t ≡ []
 between-next false f t e = rw (between-none f t (omega arith))
 between-next true f t e = rw (between-none f t (omega arith))
-
--- nor at the window's end, just after a sure second
-atEnd-next : (a : Bool) (i : ℕ) → 0 < i → atEnd (last a (i - 1)) i ≡ []
-atEnd-next a i h = rw (between-none (i - 1) i (omega arith))
 
 -- the entry between two sure seconds, by their bytes
 pub graze : (w x f t : ℕ) → w ≡ x → f + 1 < t → between (side w) (side x) f t ≡ Graze f t ∷ []
@@ -91,15 +88,59 @@ past-sure l x h (suc n) t p u =
     let f : t + suc n ≡ t + n + 1 = omega arith in
     rw (state-sure x h) (ap (λ (es : List Entry). atSecond l (sure (side x)) t ++ es) (past-same x h n t u ∙ rw (e, f)))
 
+-- the entries that second i and those after it add, after the last sure second
+unfoldable pub walkFrom : List ℕ → Last → ℕ → List Entry
+walkFrom s l i = walk l i (drop i s)
+
+module _ (s : List ℕ) where
+  last-before : (i : ℕ) → 0 < i → lastBefore s i ≡ last (side (getD s (i - 1) 0)) (i - 1)
+  last-before zero h = absurd (omega arith)
+  last-before (suc n) h = let e : suc n - 1 ≡ n = omega arith in rw e
+
+  pub as-walk : (i : ℕ) → entriesFrom s i ≡ walkFrom s (lastBefore s i) i
+  unfolding entriesFrom walkFrom
+  as-walk i = refl
+
+  -- past the window's last second
+  at-end : (l : Last) (n : ℕ) → n ≡ length s → walkFrom s l n ≡ atEnd l n
+  unfolding walkFrom
+  at-end l n e = rw (drop-of-length-le s {i = n} (omega arith))
+
+  end-adds-none : (n : ℕ) → atEnd (lastBefore s n) n ≡ []
+  end-adds-none zero = refl
+  end-adds-none (suc n) = rw (between-none n (suc n) (omega arith))
+
+  pub none-at-end : (n : ℕ) → n ≡ length s → entriesFrom s n ≡ []
+  none-at-end n e = as-walk n ∙ at-end (lastBefore s n) n e ∙ end-adds-none n
+
+  -- the open entry of a spell that begins at second i and lasts to the window's end
+  open-at-end : (i n : ℕ) → i < n → atEnd (lastBefore s i) n ≡ Open (i - 1) (n - 1) ∷ []
+  open-at-end zero n h = rw (lt-ltb 0 n h)
+  open-at-end (suc i) n h = let e : suc i - 1 ≡ i = omega arith in rw (e, between-some i n (omega arith))
+
+  -- a sure second that adds nothing: the window's first, or one of the side of the second before
+  quiet : (i : ℕ) (b : Bool) → (0 < i → side (getD s (i - 1) 0) ≡ b) → atSecond (lastBefore s i) (sure b) i ≡ []
+  quiet zero b same = refl
+  quiet (suc n) b same =
+      let e : suc n - 1 ≡ n = omega arith in
+      let a : side (getD s n 0) ≡ b = rw e at (same (omega arith)) in
+      rw a (between-next b n (suc n) (omega arith))
+
 module _ (k : ℕ) (bytes : List ℕ) where
   abbrev s : List ℕ
   s = decoded k bytes
 
-  -- the entries that second i and those after it add, where its run is at place p
-  unfoldable pub walkAt : Last → ℕ → ℕ → List Entry
-  walkAt l i p = walk l i (decoded k (drop p bytes))
+  -- where there is a second, there is a run
+  some-bytes : (u : List ℕ) → 0 < length (decoded k u) → 0 < length u
+  some-bytes [] h = absurd (omega (arith, ap length (decoded-none k)))
+  some-bytes (b ∷ u) h = omega arith
 
-  -- where a run ends, the next stands
+  pub run-there : (i p : ℕ) → Stands k bytes i p → i < length s → p < length bytes
+  run-there i p here h =
+      let m = some-bytes (drop p bytes) (omega (arith, length-drop i s, ap length (here .left))) in
+      omega (arith, m, length-drop p bytes)
+
+  -- a stride: the seconds of the run at second i
   module _ (i p : ℕ) (here : Stands k bytes i p) (r : Run) (run : RunAt k bytes p r) where
     abbrev these : List ℕ
     these = replicate (r .seconds) (r .state)
@@ -113,12 +154,14 @@ module _ (k : ℕ) (bytes : List ℕ) where
     states : drop i s ≡ these ++ others
     states = here .left ∙ run .states
 
+    -- where it ends, the next stands
     pub stands-after : Stands k bytes (i + r .seconds) (r .after)
     stands-after =
         record {
           second = omega (arith, here .second, length-drop i s, ap length states, length-append these others, size);
           byte = run .within;
-          left = sym (drop-drop (r .seconds) i s) ∙ ap (drop (r .seconds)) states ∙ drop-at these others (r .seconds) size;
+          left =
+              sym (drop-drop (r .seconds) i s) ∙ ap (drop (r .seconds)) states ∙ drop-at these others (r .seconds) size;
           whole = run .whole;
         }
 
@@ -146,102 +189,67 @@ module _ (k : ℕ) (bytes : List ℕ) where
           start = λ e. absurd (omega (arith, run .some));
         }
 
-  -- past the window; an unsure run; a sure one
-  module _ (l : Last) (i p : ℕ) where
-    at-end : p ≡ length bytes → walkAt l i p ≡ atEnd l i
-    unfolding walkAt
-    at-end e = rw (drop-of-length-le bytes {i = p} (omega arith), decoded-none k)
+    -- the walk over it: an unsure one, a sure one
+    split : drop i s ≡ these ++ drop (i + r .seconds) s
+    split = states ∙ ap (λ (u : List ℕ). these ++ u) (sym (stands-after .left))
 
-    module _ (r : Run) (run : RunAt k bytes p r) where
-      pub at-unsure : 1 < r .state → walkAt l i p ≡ walkAt l (i + r .seconds) (r .after)
-      unfolding walkAt
-      at-unsure u = rw (run .states) (past-unsure l (r .state) u (r .seconds) i (decoded k (drop (r .after) bytes)))
+    pub past-spell : (l : Last) → 1 < r .state → walkFrom s l i ≡ walkFrom s l (i + r .seconds)
+    unfolding walkFrom
+    past-spell l u = rw split (past-unsure l (r .state) u (r .seconds) i (drop (i + r .seconds) s))
 
-      at-sure : r .state ≤ 1
-          → walkAt l i p ≡ atSecond l (sure (side (r .state))) i ++ walkAt (last (side (r .state)) (i + r .seconds - 1)) (i + r .seconds) (r .after)
-      unfolding walkAt
-      at-sure u = rw (run .states) (past-sure l (r .state) u (r .seconds) i (run .some) (decoded k (drop (r .after) bytes)))
+    sure-left : (l : Last) → r .state ≤ 1
+        → walkFrom s l i ≡ atSecond l (sure (side (r .state))) i ++ entriesFrom s (i + r .seconds)
+    unfolding walkFrom entriesFrom
+    sure-left l u =
+        rw (last-before s (i + r .seconds) (omega (arith, run .some)), last-state)
+        (rw split (past-sure l (r .state) u (r .seconds) i (run .some) (drop (i + r .seconds) s)))
 
-  -- what is left at a cursor: at the start, after a second
-  pub from-start : entriesFrom s 0 ≡ walkAt none 0 0
-  unfolding entriesFrom walkAt
-  from-start = refl
-
-  last-before : (at : ℕ) → 0 < at → lastBefore s at ≡ last (side (getD s (at - 1) 0)) (at - 1)
-  last-before zero h = absurd (omega arith)
-  last-before (suc n) h = let e : suc n - 1 ≡ n = omega arith in rw e
-
-  pub from-cursor : (c : Cursor) → At k bytes c → 0 < c .at
-      → entriesFrom s (c .at) ≡ walkAt (last (side (c .was)) (c .at - 1)) (c .at) (c .run)
-  unfolding entriesFrom walkAt
-  from-cursor c a h = rw (last-before (c .at) h, a .before h, a .stands .left)
-
-  -- after the sure second i - 1
-  module _ (i p : ℕ) (h : 0 < i) where
-    pub same-side : (w : ℕ) (r : Run) → RunAt k bytes p r → r .state ≤ 1 → r .state ≡ w
-        → walkAt (last (side w) (i - 1)) i p ≡ walkAt (last (side w) (i + r .seconds - 1)) (i + r .seconds) (r .after)
-    same-side w r run u e = at-sure (last (side w) (i - 1)) i p r run u ∙ rw (e, between-next (side w) (i - 1) i (omega arith))
-
-    pub sure-end : (a : Bool) → p ≡ length bytes → walkAt (last a (i - 1)) i p ≡ []
-    sure-end a e = at-end (last a (i - 1)) i p e ∙ atEnd-next a i h
+    -- a sure one that adds no entry
+    pub past-quiet : r .state ≤ 1 → (0 < i → side (getD s (i - 1) 0) ≡ side (r .state))
+        → entriesFrom s i ≡ entriesFrom s (i + r .seconds)
+    past-quiet u same = as-walk s i ∙ sure-left (lastBefore s i) u ∙ rw (quiet s i (side (r .state)) same)
 
   -- the answers
-  pub done : (at : ℕ) → entriesFrom s at ≡ [] → Stepped k bytes at Done
-  done at e = record { rest = e; forward = tt }
+  pub done : (at i : ℕ) → entriesFrom s at ≡ entriesFrom s i → i ≡ length s → Stepped k bytes at Done
+  done at i l e = record { rest = l ∙ none-at-end s i e; forward = tt }
 
-  pub found : (at : ℕ) (e : Entry) (c : Cursor) → entriesFrom s at ≡ e ∷ entriesFrom s (c .at) → At k bytes c → at < c .at → from e ≤ to e
-      → to e < c .at → Stepped k bytes at (Found e c)
+  found : (at : ℕ) (e : Entry) (c : Cursor) → entriesFrom s at ≡ e ∷ entriesFrom s (c .at) → At k bytes c
+      → at < c .at → from e ≤ to e → to e < c .at → Stepped k bytes at (Found e c)
   found at e c l a h f t = record { rest = l; forward = (h, a, f, omega (arith, a .stands .second)) }
 
-  -- an answer at a later cursor with the same entries left
-  pub earlier : (at at' : ℕ) (r : Next) → entriesFrom s at ≡ entriesFrom s at' → at ≤ at' → Stepped k bytes at' r → Stepped k bytes at r
-  earlier at at' Done e h r = done at (e ∙ r .rest)
-  earlier at at' (Found d c) e h r =
-      record { rest = e ∙ r .rest; forward = (omega (arith, r .forward .0), r .forward .1, r .forward .2, r .forward .3) }
-
-  -- at a sure run: the entry that its first second makes
-  module _ (t p : ℕ) (here : Stands k bytes t p) (r : Run) (run : RunAt k bytes p r) (u : r .state ≤ 1) where
+  -- at the sure second t, which ends the search from second i on
+  module _ (at i t p : ℕ) (l : entriesFrom s at ≡ walkFrom s (lastBefore s i) t) (o : at ≤ i) (q : i ≤ t)
+      (here : Stands k bytes t p) (r : Run) (run : RunAt k bytes p r) (u : r .state ≤ 1) where
     abbrev next : Cursor
     next = record { at = t + r .seconds; run = r .after; was = r .state }
 
-    sure-left : (l : Last) → walkAt l t p ≡ atSecond l (sure (side (r .state))) t ++ entriesFrom s (next .at)
-    sure-left l = at-sure l t p r run u ∙ rw (from-cursor next (at-after t p here r run) (omega (arith, run .some)))
+    sure-found : (e : Entry) → atSecond (lastBefore s i) (sure (side (r .state))) t ≡ e ∷ [] → from e ≤ to e → to e ≡ t
+        → Stepped k bytes at (Found e next)
+    sure-found e b f d =
+        found at e next (l ∙ sure-left t p here r run (lastBefore s i) u ∙ rw b) (at-after t p here r run)
+        (omega (arith, run .some)) f (omega (arith, run .some))
 
-    pub sure-found : (at : ℕ) (a : Bool) (f : ℕ) (e : Entry) → entriesFrom s at ≡ walkAt (last a f) t p → f ≤ t → at ≤ t
-        → between a (side (r .state)) f t ≡ e ∷ [] → Stepped k bytes at (Found e next)
-    sure-found at a f e l o q b =
-        let ends = between-ends a (side (r .state)) f t e b in
-        found at e next (l ∙ sure-left (last a f) ∙ rw b) (at-after t p here r run)
-        (omega (arith, run .some)) (omega arith) (omega (arith, run .some))
+    -- an entry after the sure second i - 1
+    pub between-found : (w : ℕ) (e : Entry) → 0 < i → side (getD s (i - 1) 0) ≡ side w
+        → between (side w) (side (r .state)) (i - 1) t ≡ e ∷ [] → Stepped k bytes at (Found e next)
+    between-found w e h z b =
+        let ends = between-ends (side w) (side (r .state)) (i - 1) t e b in
+        sure-found e (rw (last-before s i h, z) b) (omega arith) (ends .1)
 
-    -- before the first sure second
-    pub start-sure : t ≡ 0 → walkAt none t p ≡ entriesFrom s (next .at)
-    start-sure e = sure-left none ∙ rw e
+    -- the open entry of a spell at the window's start
+    pub open-start : i ≡ 0 → 0 < t → Stepped k bytes at (Found (Open 0 t) next)
+    open-start z h = sure-found (Open 0 t) (rw (z, lt-ltb 0 t h)) (omega arith) refl
 
-    pub open-start : (t ≡ 0 → ⊥) → entriesFrom s 0 ≡ walkAt none t p → Stepped k bytes 0 (Found (Open 0 t) next)
-    open-start n l =
-        found 0 (Open 0 t) next (l ∙ sure-left none ∙ rw (lt-ltb 0 t (omega arith))) (at-after t p here r run)
-        (omega (arith, run .some)) (omega arith) (omega (arith, run .some))
-
-  -- at the end, after unsure seconds
-  module _ (n p : ℕ) (here : Stands k bytes n p) (h : 0 < n) (u : 1 < getD s (n - 1) 0) (e : p ≡ length bytes) where
-    abbrev end : Cursor
-    end = record { at = n; run = p; was = 2 }
-
-    at-last : At k bytes end
-    at-last = record { stands = here; before = λ _. sym (side-one (getD s (n - 1) 0) (λ z. omega arith)); start = λ z. absurd (omega arith) }
-
-    none-after : entriesFrom s n ≡ []
-    none-after = from-cursor end at-last h ∙ sure-end n p h true e
-
-    pub open-end : (at : ℕ) (a : Bool) (f : ℕ) → entriesFrom s at ≡ walkAt (last a f) n p → f + 1 < n → at < n
-        → Stepped k bytes at (Found (Open f (n - 1)) end)
-    open-end at a f l q o =
-        found at (Open f (n - 1)) end (l ∙ at-end (last a f) n p e ∙ rw (between-some f n q, none-after)) at-last o (omega arith) (omega arith)
-
-    pub open-whole : entriesFrom s 0 ≡ walkAt none n p → Stepped k bytes 0 (Found (Open 0 (n - 1)) end)
-    open-whole l =
-        found 0 (Open 0 (n - 1)) end (l ∙ at-end none n p e ∙ rw (lt-ltb 0 n h, none-after)) at-last h (omega arith) (omega arith)
-
-  pub start-end : (i p : ℕ) → i ≡ 0 → p ≡ length bytes → walkAt none i p ≡ []
-  start-end i p z e = at-end none i p e ∙ rw z
+  -- at the window's end, in a spell from second i on
+  pub open-end : (at i n p : ℕ) → entriesFrom s at ≡ walkFrom s (lastBefore s i) n → at ≤ i → i < n → Stands k bytes n p
+      → 1 < getD s (n - 1) 0 → n ≡ length s
+      → Stepped k bytes at (Found (Open (i - 1) (n - 1)) (record { at = n; run = p; was = 2 }))
+  open-end at i n p l o q here u e =
+      found at (Open (i - 1) (n - 1)) (record { at = n; run = p; was = 2 })
+      (l ∙ at-end s (lastBefore s i) n e ∙ rw (open-at-end s i n q, none-at-end s n e))
+      record {
+        stands = here;
+        before = λ _. sym (side-one (getD s (n - 1) 0) (λ z. omega arith));
+        start = λ z. absurd (omega arith);
+      }
+      (omega arith) (omega arith) (omega arith)

@@ -7,9 +7,9 @@ pub mod entries;
 use crate::entries::Entry;
 ghost use mathlib.Core.Path.{_≡_};
 ghost use mathlib.Core.List.{[], _∷_};
-ghost use Prim.Native.Nat.{_+_, _≤_, _<_};
+ghost use Prim.Native.Nat.{_+_, _-_, _≤_, _<_};
 ghost use lib.ListN.{length};
-ghost use Rattle.run_length.specs.Runs.{decoded, Whole};
+ghost use Rattle.run_length.specs.Runs.{decoded};
 ghost use Rattle.contacts.specs.Entries.{between, side};
 ghost use Rattle.contacts.specs.Step.{At, Stepped};
 
@@ -47,93 +47,72 @@ fn entry_between(was: u8, is: u8, from: usize, to: usize) -> Entry
     Entry::Leave { from, to }
 }
 
-// The next entry, where the second before the cursor is sure.
-fn after_sure(runs: &[u8], phase: usize, c: Cursor) -> Next
-    requires { ⌜ (0 < c .at) × (length (decoded phase (now runs)) ≤ 21601) × At phase (now runs) c ⌝ }
+// The second before another, or the window's first, which has none before it.
+fn second_before(second: usize) -> usize
+    ensures { λ r. ⌜ r ≡ second - 1 ⌝ }
+{
+    if second == 0 { 0 } else { second - 1 }
+}
+
+// The next entry at a cursor, with the cursor after it, of the first phase (0) or the second; `seconds` is how many the
+// window has. The first cursor is at 0, 0; any other is one that a step gave.
+pub fn step(runs: &[u8], phase: usize, seconds: usize, c: Cursor) -> Next
+    requires { ⌜ (length (decoded phase (now runs)) ≡ seconds) × At phase (now runs) c ⌝ }
     ensures { λ r. ⌜ Stepped phase (now (runs .entry)) (c .at) r ⌝ }
 {
-    let was = side_of(c.was);
-    let mut i = c.at;
+    let mut second = c.at;
     let mut run = c.run;
+    let mut was = side_of(c.was);
+    // Over the seconds, to the window's last. A stride takes seconds of equal state, a run of the bytes, at once.
     let to = 'seconds: loop {
-        if run == runs.len() {
+        if second == seconds {
             return Next::Done;
         }
-        let here = run_length::run_at(runs, run, phase);
-        if 1 < here.state {
-            // an unsure spell: the first sure second ends the search at once
-            let mut j = i + here.seconds;
-            run = here.after;
-            while run < runs.len() {
+        let stride = run_length::run_at(runs, run, phase);
+        if 1 < stride.state {
+            // An unsure spell, which may begin with the window: the first sure second ends the search at once.
+            let mut ahead = second + stride.seconds;
+            run = stride.after;
+            while ahead < seconds {
                 let next = run_length::run_at(runs, run, phase);
                 if next.state <= 1 {
-                    break 'seconds j;
+                    break 'seconds ahead;
                 }
-                j += next.seconds;
+                ahead += next.seconds;
                 run = next.after;
             }
-            let from = i - 1;
-            let to = j - 1;
-            return Next::Found(Entry::Open { from, to }, Cursor { at: j, run, was: 2 });
+            let from = second_before(second);
+            let to = seconds - 1;
+            return Next::Found(
+                Entry::Open { from, to },
+                Cursor {
+                    at: seconds,
+                    run,
+                    was: 2,
+                },
+            );
         }
-        if here.state != was {
-            break 'seconds i;
+        // A sure second whose side is not that of the second before it.
+        if 0 < second && stride.state != was {
+            break 'seconds second;
         }
-        i += here.seconds;
-        run = here.after;
+        was = stride.state;
+        second += stride.seconds;
+        run = stride.after;
     };
-    // the rest of the run of `to` adds nothing
-    let from = i - 1;
+    // `to` is sure, and the rest of its stride adds nothing.
     let last = run_length::run_at(runs, run, phase);
-    let found = entry_between(was, last.state, from, to);
     let end = to + last.seconds;
     let after = Cursor {
         at: end,
         run: last.after,
         was: last.state,
     };
+    // The spell began with the window, and no sure second is before it.
+    if second == 0 {
+        return Next::Found(Entry::Open { from: 0, to }, after);
+    }
+    let from = second - 1;
+    let found = entry_between(was, last.state, from, to);
     Next::Found(found, after)
-}
-
-// The first entry.
-fn first_entry(runs: &[u8], phase: usize) -> Next
-    requires { ⌜ (length (decoded phase (now runs)) ≤ 21601) × Whole (now runs) ⌝ }
-    ensures { λ r. ⌜ Stepped phase (now (runs .entry)) 0 r ⌝ }
-{
-    let mut i = 0;
-    let mut run = 0;
-    while run < runs.len() {
-        let here = run_length::run_at(runs, run, phase);
-        let next = i + here.seconds;
-        if here.state <= 1 {
-            let after = Cursor {
-                at: next,
-                run: here.after,
-                was: here.state,
-            };
-            if i == 0 {
-                return after_sure(runs, phase, after);
-            }
-            return Next::Found(Entry::Open { from: 0, to: i }, after);
-        }
-        i = next;
-        run = here.after;
-    }
-    if i == 0 {
-        return Next::Done;
-    }
-    let to = i - 1;
-    Next::Found(Entry::Open { from: 0, to }, Cursor { at: i, run, was: 2 })
-}
-
-// The next entry at a cursor, with the cursor after it, of the first phase (0) or the second.
-// The first cursor is at 0, 0; any other is one that a step gave.
-pub fn step(runs: &[u8], phase: usize, c: Cursor) -> Next
-    requires { ⌜ (length (decoded phase (now runs)) ≤ 21601) × At phase (now runs) c ⌝ }
-    ensures { λ r. ⌜ Stepped phase (now (runs .entry)) (c .at) r ⌝ }
-{
-    if c.at == 0 {
-        return first_entry(runs, phase);
-    }
-    after_sure(runs, phase, c)
 }

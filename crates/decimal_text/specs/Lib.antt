@@ -2,5 +2,4 @@ pub mod Decimals
 pub mod Texts
 pub mod Patterns
 pub mod Rows
-pub mod RowLaws
 pub mod laws

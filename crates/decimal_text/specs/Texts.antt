@@ -1,10 +1,10 @@
--- A text put at a place of a room that is lent, as far as the room goes.
+-- A text put at a place of a caller's array, as far as the array goes.
 use Prim.Native.Nat.{ℕ, _+_, _≤_, min}
 use Prim.Native.Char.{code}
 use Prim.Native.String.{String, [] as ε, _∷_ as _then_}
 use mathlib.Core.Path.{_≡_}
 use mathlib.Core.List.{List, [], _∷_}
-use lib.ListN.{length, take}
+use lib.ListN.{length, take, replicate}
 use lib.Seq.{sets}
 
 -- the bytes of a text
@@ -25,3 +25,7 @@ pub record Put (old : List ℕ) (at : ℕ) (text new : List ℕ) (r : ℕ) : Typ
 -- n counts bytes at the start of a room. The second part follows from the first: a caller's `&out[..n]` asks for it.
 abbrev pub Counts : ℕ → List ℕ → Type 0
 Counts n out = (n ≤ length out) × (n ≡ length (take n out))
+
+-- an array that holds n times the same
+pub record Copies (x n : ℕ) (l : List ℕ) : Type 0 where
+  pub is : l ≡ replicate n x

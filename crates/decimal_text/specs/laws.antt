@@ -2,4 +2,4 @@ pub mod DecimalLaws
 pub mod TextLaws
 pub mod PatternLaws
 pub mod Examples
-pub mod CountedLaws
+pub mod RowLaws

@@ -3,12 +3,12 @@
 pub mod stars;
 
 ghost use mathlib.Core.Path.{_≡_};
-ghost use Prim.Native.Nat.{_+_, _*_, _≤_, _<_};
+ghost use Prim.Native.Nat.{_+_, _*_, _≤_};
 ghost use lib.IntN.{natAbs};
 ghost use lib.ListN.{length};
 ghost use Rattle.rounding.specs.Value.{Value};
 ghost use Rattle.elements.specs.Polynomial.{step, quadraticAt, cubicAt};
-ghost use Rattle.elements.specs.Elements.{fields, cubicFrom, quadraticFrom, elementsOf, rangeOf, elementsChecked};
+ghost use Rattle.elements.specs.Elements.{fields, cubicFrom, quadraticFrom, elementsOf, elementsChecked};
 ghost use Rattle.elements.specs.Sizes.{CubicSizes, QuadraticSizes};
 
 // c0 + c1 t + c2 t^2 + c3 t^3 with t in hours: a length, 10^-8 of the Earth's equatorial radius.
@@ -137,7 +137,7 @@ const HIGHS: [i64; 22] = [
 ];
 
 // The elements as a list, in document 01's order.
-pub fn listed(e: Elements) -> [i64; 22]
+fn listed(e: Elements) -> [i64; 22]
     ensures { λ r. ⌜ r ≡ fields e ⌝ }
 {
     let axis = e.axis;
@@ -221,22 +221,14 @@ pub fn from_numbers(n: &[i64]) -> Elements
     }
 }
 
-// Whether every element is in its range, or the first that is not, 0 to 21.
-fn in_range(e: Elements) -> rounding::Limits
-    ensures { λ r. ⌜ r ≡ rangeOf e ⌝ }
-{
-    let values = listed(e);
-    let lows = LOWS;
-    let highs = HIGHS;
-    rounding::first_out_of_range(&values, &lows, &highs)
-}
-
 // Refusal 2 with the first element that is out of its range, 0 to 21.
 pub fn check(e: Elements) -> sheet_types::refusals::Checked
     ensures { λ r. ⌜ r ≡ elementsChecked e ⌝ }
 {
-    let limits = in_range(e);
-    sheet_types::refusals::of_limits(2, limits)
+    let values = listed(e);
+    let lows = LOWS;
+    let highs = HIGHS;
+    sheet_types::refusals::of_ranges(2, &values, &lows, &highs)
 }
 
 // One step of a value at t seconds: p times t over an hour to the nearest, and the next lower coefficient.

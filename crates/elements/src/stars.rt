@@ -7,6 +7,7 @@ use sheet_types::refusals::Checked;
 ghost use mathlib.Core.Path.{_≡_};
 ghost use Prim.Native.Nat.{_≤_};
 ghost use lib.ListN.{length};
+ghost use Rattle.sheet_types.specs.Refusals.{ofLimits};
 ghost use Rattle.elements.specs.Stars.{starFields, starOf, starRangeOf, radiusRangeOf, starChecked, constant, starAxis, axisOf, bodyChecked};
 
 // Ranges of the twelve numbers: x, y, d0, mu.
@@ -82,38 +83,36 @@ pub fn from_numbers(n: &[i64]) -> Star
     }
 }
 
-// Whether every element is in its range, or the first that is not, 0 to 11.
-fn in_range(s: Star) -> rounding::Limits
-    ensures { λ r. ⌜ r ≡ starRangeOf s ⌝ }
+// Refusal 2 with the first element that is out of its range, 0 to 11.
+fn check_elements(s: Star) -> Checked
+    ensures { λ r. ⌜ r ≡ ofLimits 2 (starRangeOf s) ⌝ }
 {
     let values = listed(s);
     let lows = LOWS;
     let highs = HIGHS;
-    rounding::first_out_of_range(&values, &lows, &highs)
+    sheet_types::refusals::of_ranges(2, &values, &lows, &highs)
 }
 
-// Whether the radius is in its range.
-fn radius_in_range(radius: i64) -> rounding::Limits
-    ensures { λ r. ⌜ r ≡ radiusRangeOf radius ⌝ }
+// Refusal 13 with place 0 for a radius that is out of its range.
+fn check_radius(radius: i64) -> Checked
+    ensures { λ r. ⌜ r ≡ ofLimits 13 (radiusRangeOf radius) ⌝ }
 {
     let values = [radius];
     let lows = [27_200_000i64];
     let highs = [27_300_000i64];
-    rounding::first_out_of_range(&values, &lows, &highs)
+    sheet_types::refusals::of_ranges(13, &values, &lows, &highs)
 }
 
 // Refusal 2 with the first element that is out of its range, 0 to 11; then 13 with place 0 for the radius.
 fn check(s: Star) -> Checked
     ensures { λ r. ⌜ r ≡ starChecked s ⌝ }
 {
-    let limits = in_range(s);
-    let of_elements = sheet_types::refusals::of_limits(2, limits);
+    let of_elements = check_elements(s);
     if let Checked::Refused(refusal) = of_elements {
         return Checked::Refused(refusal);
     }
     let radius = s.radius;
-    let of_radius = radius_in_range(radius);
-    sheet_types::refusals::of_limits(13, of_radius)
+    check_radius(radius)
 }
 
 // What does not change: no other coefficient.

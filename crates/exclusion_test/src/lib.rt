@@ -116,6 +116,10 @@ fn widened(guard: i64, h: usize) -> i64
 }
 
 // Whether two computed seconds, h apart, show that neither the closest second nor a change of state lies between them.
+// The promise only limits the result: `true` is answered only where they show it, and `false` may be answered
+// anywhere. The rules leave this open. Document 01 says what a sheet holds, and not which seconds are computed for it.
+// After `false` `adaptive_sampling::bisection::fill` computes seconds between the two, and promises by an equation the
+// same states and the same closest second. So a needless `false` costs time and changes no byte.
 pub fn clear(guard: i64, near: u64, a: Sample, b: Sample, h: usize) -> bool
     requires { ⌜ (natAbs guard ≤ 1000) × (near ≤ 1000000001) × (SampleSizes a) × (SampleSizes b) ⌝ }
     ensures { λ r. ⌜ (r ≡ true → Passed guard near h a b) ⌝ }

@@ -1,23 +1,19 @@
 -- The horizon at a second of an occultation: the altitude and the azimuth of the Sun or the star over the plane at
 -- right angles to the spheroid's normal, and the direction of the zenith from it. A rule of our own, beside the
 -- documents: no refraction and no dip. Definitions only.
-use mathlib.Core.Bool.{cond}
 use mathlib.Core.List.{List}
 use Prim.Native.Nat.{ℕ}
-use lib.IntN.{ℤ, pos, negℤ, _+ℤ_, _-ℤ_, _*ℤ_}
+use lib.IntN.{ℤ, negℤ, _+ℤ_, _-ℤ_, _*ℤ_}
 use Rattle.rounding.specs.Units.{one}
 use Rattle.rounding.specs.Near.{near}
 use Rattle.sheet_types.specs.declared.refusals.Checked.{Checked}
 use Rattle.sheet_types.specs.declared.refusals.Checked.the-variants as C
-use Rattle.sheet_types.specs.Refusals.{refusal}
 use Rattle.sine_table.specs.Table.{S}
 use Rattle.sine.specs.Sine.{sine, cosine}
 use Rattle.shadow_geometry.specs.Shadow.{Moment, H, d}
 use Rattle.shadow_geometry.specs.Direction.{direction}
 use Rattle.shadow.specs.declared.Orientation.{Orientation}
 use Rattle.requests.specs.declared.Occultation.{Occultation}
-use Rattle.requests.specs.Windows.{inSpan}
-use Rattle.requests.specs.Admission.{admitted, sinesAfter}
 use Rattle.seconds.specs.Seconds.{momentAt}
 use Rattle.seconds.specs.OneSecond.{secondChecked, secondSines}
 use Rattle.horizon.specs.declared.Horizon.{Horizon}

@@ -11,7 +11,6 @@ ghost use Prim.Native.Nat.{_≤_};
 ghost use lib.IntN.{natAbs};
 ghost use Rattle.rounding.specs.Value.{Value};
 ghost use Rattle.sine_table.specs.Table.{S, Sines};
-ghost use Rattle.elements.specs.Sizes.{AxisSizes};
 ghost use Rattle.shadow_geometry.specs.Direction.{direction};
 ghost use Rattle.shadow.specs.Shadow.{OrientationSizes};
 ghost use Rattle.requests.specs.RequestLaws.{InLimits};

@@ -4,7 +4,6 @@ use sheet_format::kinds::Entry;
 use sheet_format::kinds::Kind;
 use sheet_types::phases::Phase;
 use sheet_types::refusals::Refusal;
-ghost use mathlib.Core.List.{_++_};
 ghost use Rattle.decimal_text.specs.Texts.{letters, Put};
 ghost use Rattle.listing_lines.specs.Lines.{nameOf, headLine, contactLine, unsureLine, closestLine, shareLine, textOf, endFor, lineOf, numbered, refusalText, refusalLine};
 
@@ -138,7 +137,7 @@ pub fn put_refusal(out: &mut [u8], at: usize, number: u64, place: u64) -> usize
 }
 
 // The same as a line of its own.
-pub fn put_refusal_line(out: &mut [u8], at: usize, number: u64, place: u64) -> usize
+fn put_refusal_line(out: &mut [u8], at: usize, number: u64, place: u64) -> usize
     ensures { λ r. ⌜ Put (now (out .entry)) at (refusalLine number place) (now (out .exit)) r ⌝ }
 {
     let end = put_refusal(out, at, number, place);

@@ -10,8 +10,7 @@ ghost use mathlib.Core.Path.{_≡_};
 ghost use lib.ListN.{length};
 ghost use Rattle.sheet_codec.specs.Sheets.{readSheet};
 ghost use Rattle.decimal_text.specs.Texts.{Put};
-ghost use Rattle.listing_lines.specs.Lines.{refusalLine};
-ghost use Rattle.listings.specs.Answers.{text, answered, roomWith};
+ghost use Rattle.listings.specs.Answers.{answered, roomWith};
 ghost use Rattle.listings.specs.Listings.{listingOf, told, timed, printed};
 ghost use Rattle.listings.specs.laws.ListingLaws.{IsSheet, Laid};
 
@@ -103,21 +102,4 @@ pub fn put_listing(out: &mut [u8], at: usize, sheet: &[u8]) -> usize
     ensures { λ r. ⌜ Put (now (out .entry)) at (printed (told (now (sheet .entry)))) (now (out .exit)) r ⌝ }
 {
     put_timed_listing(out, at, sheet, Reference::Nothing, 0)
-}
-
-// The line of a refusal, at the room's start, and how long it is; or 4, and the room as it was.
-pub fn refusal_line(number: u64, place: u64, out: &mut [u8]) -> Text
-    ensures { λ r. ⌜ r ≡ answered (length (now (out .entry))) (text (refusalLine number place)) ⌝ }
-    ensures { λ r. ⌜ now (out .exit) ≡ roomWith (text (refusalLine number place)) (now (out .entry)) ⌝ }
-{
-    let mut none = [0u8; 0];
-    let need = listing_lines::lines::put_refusal_line(&mut none, 0, number, place);
-    if out.len() < need {
-        return Text::Refused(Refusal {
-            number: 4,
-            place: need,
-        });
-    }
-    listing_lines::lines::put_refusal_line(out, 0, number, place);
-    Text::Written(need)
 }

@@ -5,10 +5,12 @@ use libc::STDERR_FILENO;
 use libc::STDIN_FILENO;
 use libc::STDOUT_FILENO;
 ghost use mathlib.Core.Path.{_≡_};
-ghost use Prim.Native.Nat.{_+_, _≤_};
+ghost use mathlib.Core.List.{List};
+ghost use Prim.Native.Nat.{ℕ, _+_, _≤_};
 ghost use lib.ListN.{length, take};
 ghost use Rattle.decimal_text.specs.Texts.{Put, Counts};
 ghost use Rattle.decimal_text.specs.Rows.{eachPart};
+ghost use Rattle.program_io.specs.Inputs.{Read};
 ghost use Rattle.mend.specs.Printed.{noteLine, tooLong, output, error};
 
 // How many bytes of each room go out.
@@ -90,21 +92,44 @@ fn mended(file: &[u8], sheets: &mut [u8], notes: &mut [u8], text: &mut [u8]) -> 
     }
 }
 
-fn room() -> [u8; 196608] {
+fn room() -> [u8; 196608]
+    ensures { λ r. ⌜ 196608 ≡ length r ⌝ }
+{
     [0; 196608]
 }
 
-fn main() {
-    let mut file = room();
-    let length = io::read_full(STDIN_FILENO, &mut file);
-    let mut sheets = room();
+// What the program writes of its input, of which `size` bytes were read: of the sheets' array to standard output, of
+// the text's to standard error.
+fn respond(
+    input: &[u8; 196608],
+    size: usize,
+    sheets: &mut [u8; 196608],
+    text: &mut [u8; 196608],
+) -> Streams
+    requires { ⌜ Counts size (now input) ⌝ }
+    ensures output { λ r. ⌜ ((s : List ℕ) → Read s (now (input .entry)) size → take (r .output) (now (sheets .exit)) ≡ output 196608 196608 s) ⌝ }
+    ensures error { λ r. ⌜ ((s : List ℕ) → Read s (now (input .entry)) size → take (r .error) (now (text .exit)) ≡ take 196608 (error 196608 196608 s)) ⌝ }
+    ensures counts { λ r. ⌜ Counts (r .output) (now (sheets .exit)) × Counts (r .error) (now (text .exit)) ⌝ }
+{
     // a stretch and the sheet behind it have 18 bytes at least; a note has 16, and a line as many and the digits of
     // the stretch's length
     let mut notes = room();
+    let all: &[u8] = input;
+    let streams = mended(&all[..size], sheets, &mut notes, text);
+    Streams {
+        output: streams.output,
+        error: decimal_text::clipped(text, streams.error),
+    }
+}
+
+fn main() {
+    let mut input = room();
+    let length = io::read_full(STDIN_FILENO, &mut input);
+    let mut sheets = room();
     let mut text = room();
-    let streams = mended(&file[..length], &mut sheets, &mut notes, &mut text);
+    let streams = respond(&input, length, &mut sheets, &mut text);
     let output = streams.output;
-    let error = decimal_text::clipped(&text, streams.error);
+    let error = streams.error;
     io::write_all(STDOUT_FILENO, &sheets[..output]);
     io::write_all(STDERR_FILENO, &text[..error]);
 }

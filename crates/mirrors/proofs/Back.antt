@@ -3,7 +3,6 @@ use mathlib.Core.Path.{_≡_, ap, _∙_}
 use Prim.Native.Nat.{ℕ, _^_, _≤_, _<_}
 use native.Mathlib.Omega.{arith}
 use native.Mathlib.Decide.{decLt}
-use lib.Dec.{lit≤}
 use lib.IntN.{ℤ, natAbs}
 use lib.Signed.{mag}
 use mir.Syntax.{w64}
@@ -25,6 +24,3 @@ pub opposite-back : (most : ℕ) → most ≤ 9223372036854775807 → (z r : ℤ
 opposite-back most m z r h e =
     let q : r ≡ opposite most z = e ∙ ap (opposite most) (read-result z h) in
     rw q (read-result (opposite most z) (opposite-fits most m z h))
-
-pub opposite-back-64 : (z r : ℤ) → mag z < 2 ^ 63 → r ≡ opposite 9223372036854775807 (toZ w64 (ofZ w64 z)) → toZ w64 (ofZ w64 r) ≡ opposite 9223372036854775807 z
-opposite-back-64 z r h e = opposite-back 9223372036854775807 (lit≤ tt) z r h e

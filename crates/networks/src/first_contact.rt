@@ -31,13 +31,14 @@ fn first_enter(w: requests::windows::Window, runs: &[u8]) -> u32
     requires { ⌜ (WindowHolds w) × (Whole (now runs)) × (length (decoded 0 (now runs)) ≡ secondCount w) ⌝ }
     ensures { λ r. ⌜ r ≡ firstEnter (map (shifted (stored (w .first))) (entries (decoded 0 (now (runs .entry))))) ⌝ }
 {
+    let seconds = requests::windows::second_count(w);
     let mut c = contacts::Cursor {
         at: 0,
         run: 0,
         was: 0,
     };
     loop {
-        let contacts::Next::Found(entry, next) = contacts::step(runs, 0, c) else {
+        let contacts::Next::Found(entry, next) = contacts::step(runs, 0, seconds, c) else {
             return 21_601;
         };
         let enters = is_enter(entry);

@@ -1,8 +1,7 @@
 -- What is answered means what it says, and how the code comes to it.
 --   means-answer    the answer means what it says
 --   answered-sizes  a second that is answered has L1, L2 and M within the sizes of `share`
---   share-by        the answer, by what is answered of the second
-use mathlib.Core.Path.{_≡_, refl, sym, ap}
+use mathlib.Core.Path.{_≡_, refl, sym}
 use mathlib.Core.Bool.{Bool, true, false}
 use mathlib.Core.List.{List}
 use Prim.Native.Nat.{ℕ, _≤_}
@@ -57,7 +56,3 @@ module _ (q : Request) (τ : ℤ) (sines : List ℕ) where
       (λ i h.
       let is = share-at (q .elements) (placeOf (q .station)) τ in
       (sym is, rw (← is) (share-means q i τ h)))
-
-  pub share-by : {x : OneSecond} → x ≡ secondAnswer (ofEclipse q) τ sines → shareBy x ≡ shareAnswer q τ sines
-  unfolding shareAnswer
-  share-by e = ap shareBy e

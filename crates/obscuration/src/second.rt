@@ -1,5 +1,4 @@
 // How much of the Sun is gone at a second of an eclipse.
-use requests::Request;
 use seconds::OneSecond;
 use sheet_types::refusals::Refusal;
 ghost use mathlib.Core.Path.{_≡_};
@@ -9,10 +8,8 @@ ghost use Rattle.sine_table.specs.Table.{Sines};
 ghost use Rattle.obscuration.specs.Share.{share, Sizes};
 ghost use Rattle.elements.specs.Sizes.{ElementSizes};
 ghost use Rattle.station.specs.Sizes.{PlaceSizes};
-ghost use Rattle.requests.specs.Requests.{ofEclipse};
-ghost use Rattle.seconds.specs.OneSecond.{secondSines};
 ghost use Rattle.obscuration.specs.Covered.{shareAt};
-ghost use Rattle.obscuration.specs.Answer.{shareBy, shareAnswer, AnswerMeans};
+ghost use Rattle.obscuration.specs.Answer.{shareBy};
 ghost use Rattle.obscuration.specs.AnswerLaws.{AnsweredSizes};
 
 // The covered share of the Sun's disc at one second, or why there is none.
@@ -52,16 +49,4 @@ pub fn of_second(second: OneSecond) -> OneShare
         }
         OneSecond::Refused(refusal) => OneShare::Refused(refusal),
     }
-}
-
-// The share at second t of a request; t may lie outside its window. Refused as the second is; `sines` is room for
-// table S.
-pub fn share(q: Request, t: i64, sines: &mut [u32]) -> OneShare
-    ensures answer { λ r. ⌜ r ≡ shareAnswer q t (now (sines .entry)) ⌝ }
-    ensures sines { λ r. ⌜ now (sines .exit) ≡ secondSines (ofEclipse q) t (now (sines .entry)) ⌝ }
-    ensures means { λ r. ⌜ AnswerMeans q t r ⌝ }
-{
-    let o = requests::of_eclipse(q);
-    let second = seconds::second(o, t, sines);
-    of_second(second)
 }

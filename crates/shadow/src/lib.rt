@@ -163,7 +163,7 @@ pub fn offset_at(table: &[u32], axis: elements::Axis, place: station::Place, t: 
 }
 
 // L of a cone at second t, at height ζ: l less the cone's term.
-pub fn radius_at(cone: elements::Cone, zeta: i64, t: i64) -> i64
+fn radius_at(cone: elements::Cone, zeta: i64, t: i64) -> i64
     requires { ⌜ (ConeSizes 60000000 cone) × (natAbs zeta ≤ 202000000) × (natAbs t ≤ 10800) ⌝ }
     ensures { λ r. ⌜ Value (radiusAt cone zeta t) 600000000 r ⌝ }
 {
@@ -220,7 +220,7 @@ fn share(n: i64, d: i64) -> u32
 }
 
 // The magnitude in millionths, of L1, of L2 with its sign, of M and of the state of central.
-pub fn magnitude(l1: i64, l2: i64, m: i64, central: u8) -> u32
+fn magnitude(l1: i64, l2: i64, m: i64, central: u8) -> u32
     requires { ⌜ (natAbs l1 ≤ 600000000) × (natAbs l2 ≤ 600000000) × (natAbs m ≤ 1000000000000000000) × (pos 0 ≤ℤ m) ⌝ }
     requires { ⌜ (pos 0 <ℤ l1) × ((pos 23 *ℤ pos (natAbs l2)) ≤ℤ (pos 3 *ℤ l1)) ⌝ }
     ensures { λ r. ⌜ (r ≡ magnitude (stateOf central) l1 l2 m) × (r ≤ 1300000) ⌝ }

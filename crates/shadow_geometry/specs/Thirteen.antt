@@ -3,14 +3,14 @@
 -- hold strictly, which the states at a guard of 13 need (States).
 use mathlib.Core.Path.{_≡_, _∙_, ap}
 use mathlib.Core.List.{[], _∷_}
-use mathlib.Core.Logic.{⊎-elim}
 use Prim.Native.Nat.{ℕ, _+_, _*_, _≤_}
 use native.Mathlib.Omega.{arith}
 use lib.Dec.{lit≤}
 use lib.IntN.{ℤ, pos, negℤ, natAbs, _+ℤ_, _-ℤ_, _*ℤ_, -ℤ-+ℤ-cancel}
 use lib.Signed.{_≤ℤ_, _<ℤ_, clashℤ}
 use Rattle.rounding.specs.Parts.{sum, opposite}
-use Rattle.rounding.specs.laws.Order.{zs, ≤ℤ-total, <ℤ-≤, le-natAbs, neg-natAbs, natAbs-by, natAbs-sum, natAbs-product, natAbs-opposite}
+use Rattle.rounding.specs.laws.Order.{zs, <ℤ-≤, le-natAbs, neg-natAbs, natAbs-by}
+use Rattle.rounding.specs.laws.Order.{natAbs-sum, natAbs-product, natAbs-opposite, by-contra-<}
 use Rattle.rounding.specs.laws.Ring.{num, _⊕_, _⊖_, _⊗_, opp, ring, v0, v1, v2, v3, v4, v5}
 use Rattle.rounding.specs.laws.Cert.{leq, less, lit, sq, _⊞_, _⊠_, certify, certify-<}
 use Rattle.sheet_types.specs.declared.phases.Phase.{Phase}
@@ -58,9 +58,6 @@ reach D p q x y a ha hx hy h =
     (certify 0 e (c ⊗ c ⊕ d ⊗ d) (num 1026 ⊗ v0 ⊗ (num 1026 ⊗ v0))
     (lit 10000 ⊠ leq (r ⊗ r) (num 7 ⊗ v0 ⊗ (num 7 ⊗ v0)) (squares-of-size (p -ℤ x) (7 * D) hx)
     ⊞ lit 2500 ⊠ leq (s ⊗ s) (num 15 ⊗ v0 ⊗ (num 15 ⊗ v0)) (squares-of-size (pos 2 *ℤ (q -ℤ y)) (15 * D) twice) ⊞ lit 176 ⊠ sq v0) tt)
-
-pub by-contra-< : (a b : ℤ) → (b ≤ℤ a → ⊥) → a <ℤ b
-by-contra-< a b f = ⊎-elim (λ (h : b ≤ℤ a). absurd (f h)) (λ h. h) (≤ℤ-total b a)
 
 pub apart-sym : (a b : ℤ) → natAbs (a -ℤ b) ≡ natAbs (b -ℤ a)
 apart-sym a b = ap natAbs (ring (a ∷ b ∷ []) (v0 ⊖ v1) (opp (v1 ⊖ v0)) tt) ∙ natAbs-opposite (b -ℤ a)

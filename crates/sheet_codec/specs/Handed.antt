@@ -29,7 +29,7 @@ ofNamed l i at Named.Unknown = Refused (refusal 5 at)
 ofNamed l i at (Named.Is k) = Is (numbered l i k) (at + sizeOf k)
 
 -- "6 (the list stops before its end entry) .. at the place their record has or would have": the i-th entry of a list,
--- whose record stands at byte `at`; the last one to three numbers are an entry cut short
+-- whose record stands at byte `at`; the last one to four numbers are an entry cut short
 unfoldable pub handedAt : List ℕ → ℕ → ℕ → Record
 handedAt l i at = cond (leb (i * 5 + 5) (length l)) (ofNamed l i at (kindFor (getD l (i * 5) 0))) (Refused (refusal 6 at))
 

@@ -3,5 +3,4 @@ pub mod Handed
 pub mod RoundTrip
 pub mod HandWorked
 pub mod OldSheets
-pub mod Passes
 pub mod laws

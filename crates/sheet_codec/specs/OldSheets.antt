@@ -27,10 +27,10 @@ use Rattle.sheet_format.specs.laws.EntryLaws.{length-bytes, bytes-cons}
 use Rattle.sheet_format.specs.Records.{entryAt, recordAt}
 use Rattle.sheet_format.specs.laws.RecordLaws.{by-body, byte-there, body-whole}
 use Rattle.sheet_rules.specs.Rules.{start, reached, kindInOrder, fieldsHold}
-use Rattle.sheet_rules.specs.laws.RuleLaws.{judged-unsound}
+use Rattle.sheet_rules.specs.laws.RuleLaws.{order-kept, fields-broken}
 use Rattle.sheet_codec.specs.Sheets.{refused, storedAt, readSheet, readWhole}
 use Rattle.sheet_codec.specs.laws.WellFormed.{WellFormed}
-use Rattle.sheet_codec.specs.laws.GivenLaws.{from-broken}
+use Rattle.sheet_codec.specs.laws.GivenLaws.{from-unsound}
 
 -- "01 head | station, first, last (2 bytes each)"
 abbrev pub oldHead : (station first last : ℕ) → List ℕ
@@ -47,7 +47,7 @@ guard-broken s long first large =
     let d : guardHolds (e .d) ≡ false = not-right (leb 16 (e .d)) (lt-leb (e .d) 1000 (omega arith)) in
     let others = leb 1 (e .a) && leb (e .a) 999 && leb (e .b) (e .c) && leb (e .c) 21600 in
     let bad : fieldsHold start e ≡ false = not-right (plain e) (not-right others d) in
-    from-broken (storedAt s) (length s) start 0 0 e 9 got (refusal 7 0) (judged-unsound start 0 e refl bad)
+    from-unsound (storedAt s) (length s) start 0 0 e 9 got (order-kept start e refl) (fields-broken start e bad)
 
 -- ---- an old sheet
 

@@ -8,15 +8,13 @@ use Rattle.sheet_types.specs.declared.refusals.Refusal.{Refusal}
 use Rattle.sheet_types.specs.Refusals.{refusal}
 use Rattle.sheet_format.specs.declared.kinds.Entry.{Entry}
 use Rattle.sheet_format.specs.declared.kinds.Progress.{Progress}
-use Rattle.sheet_rules.specs.declared.rules.Judgement.{Judgement}
-use Rattle.sheet_rules.specs.declared.rules.Judgement.the-variants.{Next, Broken}
 use Rattle.sheet_format.specs.declared.records.Record.{Record}
 use Rattle.sheet_format.specs.declared.records.Record.the-variants.{Is, Refused}
 use Rattle.sheet_codec.specs.declared.decoder.Extent.{Extent}
 use Rattle.sheet_codec.specs.declared.decoder.Extent.the-variants as X
 use Rattle.sheet_format.specs.Kinds.{isEnd}
 use Rattle.sheet_format.specs.RecordEntries.{numbersOf}
-use Rattle.sheet_rules.specs.Rules.{start, afterOf, judgementOf}
+use Rattle.sheet_rules.specs.Rules.{start, afterOf, orderOf, fieldsOf, ofFields, ofOrder}
 use Rattle.sheet_format.specs.Records.{recordAt}
 
 -- what a list of bytes, or of numbers, is as a sheet: its entries, head and end among them, and its length in bytes;
@@ -29,14 +27,11 @@ abbrev pub more : Entry → Sheet → Sheet
 more e (sheet es n) = sheet (e ∷ es) n
 more e (refused r) = refused r
 
--- "in it 5, 6, 8, 7": what was read or handed over at a place is refused (5, 6) or judged by the rules (8, 7)
-abbrev pub ofJudgement : Entry → ℕ → Judgement → Record
-ofJudgement e next (Next p) = Is e next
-ofJudgement e next (Broken r) = Refused r
-
+-- "in it 5, 6, 8, 7": what was read or handed over at a place is refused (5, 6), or judged by the rules: of order (8),
+-- then of fields (7)
 abbrev pub judged : Progress → ℕ → Record → Record
 judged p at (Refused r) = Refused r
-judged p at (Is e next) = ofJudgement e next (judgementOf p at e)
+judged p at (Is e next) = ofOrder at (ofFields at (Is e next) (fieldsOf p e)) (orderOf p e)
 
 -- the end record ends the sheet; another is followed by what comes after it
 abbrev pub onward : Record → (Entry → ℕ → Sheet) → Sheet

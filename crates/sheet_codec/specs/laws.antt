@@ -1,4 +1,5 @@
 pub mod WellFormed
+pub mod Passes
 pub mod SheetLaws
 pub mod GivenLaws
 pub mod StoredLaws

@@ -5,7 +5,8 @@ use sheet_format::kinds::Entry;
 use sheet_format::kinds::Named;
 use sheet_format::records::Body;
 use sheet_format::records::Byte;
-use sheet_rules::rules::Judgement;
+use sheet_rules::rules::FieldRule;
+use sheet_rules::rules::OrderRule;
 use sheet_types::refusals::Refusal;
 ghost use mathlib.Core.Path.{_≡_};
 ghost use mathlib.Core.List.{[], _∷_};
@@ -13,25 +14,12 @@ ghost use Prim.Native.Nat.{_+_, _*_, _≤_};
 ghost use lib.ListN.{length};
 ghost use lib.Seq.{sets};
 ghost use Rattle.sheet_codec.specs.Sheets.{extentOf, readSheet, readWhole, readInto, roomAfter};
-ghost use Rattle.sheet_codec.specs.Passes.{brokenOf, RoomFor, filled};
+ghost use Rattle.sheet_codec.specs.laws.Passes.{RoomFor, filled};
 
 // How many entries a sheet has, head and end among them, and how many bytes.
 pub enum Extent {
     Sheet { entries: usize, length: usize },
     Refused(Refusal),
-}
-
-// A broken rule's refusal, passed on.
-pub fn broken(judged: Judgement) -> Extent
-    ensures { λ r. ⌜ r ≡ brokenOf judged ⌝ }
-{
-    match judged {
-        Judgement::Next(_) => Extent::Refused(Refusal {
-            number: 8,
-            place: 0,
-        }),
-        Judgement::Broken(refusal) => Extent::Refused(refusal),
-    }
 }
 
 // How many entries and bytes the sheet has that `s` begins with, whatever stands after it; or its refusal.
@@ -60,18 +48,19 @@ pub fn extent_of_leading_sheet(s: &[u8]) -> Extent
                 place: at,
             });
         };
-        if !sheet_rules::rules::in_order(p, entry) {
+        let OrderRule::Kept = sheet_rules::rules::order_of(p, entry) else {
             return Extent::Refused(Refusal {
                 number: 8,
                 place: at,
             });
-        }
-        if !sheet_rules::fields::rule_holds(p, entry) {
+        };
+        // An entry that is read is plain.
+        let FieldRule::Kept = sheet_rules::rules::fields_of(p, true, entry) else {
             return Extent::Refused(Refusal {
                 number: 7,
                 place: at,
             });
-        }
+        };
         let next = at + sheet_format::kinds::size_for(code, kind);
         if sheet_format::kinds::is_end(kind) {
             let count = n + 1;

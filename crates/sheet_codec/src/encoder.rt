@@ -2,16 +2,16 @@
 use crate::decoder::Extent;
 use sheet_format::kinds::Entry;
 use sheet_format::kinds::Named;
-use sheet_format::kinds::Progress;
 use sheet_format::records::Record;
-use sheet_rules::rules::Judgement;
+use sheet_rules::rules::FieldRule;
+use sheet_rules::rules::OrderRule;
 use sheet_types::refusals::Refusal;
 ghost use mathlib.Core.Path.{_≡_};
 ghost use Prim.Native.Nat.{_*_, _≤_};
 ghost use lib.ListN.{length};
 ghost use Rattle.sheet_codec.specs.Sheets.{extentOf};
 ghost use Rattle.sheet_codec.specs.Handed.{handedAt, listSheet, listWhole, writeInto, bufferAfterList};
-ghost use Rattle.sheet_codec.specs.Passes.{refusedOf, BufferFor, emitted};
+ghost use Rattle.sheet_codec.specs.laws.Passes.{refusedOf, BufferFor, emitted};
 
 // A record's refusal, passed on.
 fn refused(got: Record) -> Extent
@@ -67,10 +67,12 @@ pub fn extent_of_leading_entries(l: &[u32]) -> Extent
         let Record::Is(entry, next) = given else {
             return refused(given);
         };
+        let OrderRule::Kept = sheet_rules::rules::order_of(p, entry) else {
+            return Extent::Refused(Refusal { number: 8, place });
+        };
         let plain = sheet_format::kinds::is_plain(entry);
-        let judged = sheet_rules::rules::judge(p, place, plain, entry);
-        let Judgement::Next(further) = judged else {
-            return crate::decoder::broken(judged);
+        let FieldRule::Kept = sheet_rules::rules::fields_of(p, plain, entry) else {
+            return Extent::Refused(Refusal { number: 7, place });
         };
         let kind = entry.kind;
         if sheet_format::kinds::is_end(kind) {
@@ -80,15 +82,7 @@ pub fn extent_of_leading_entries(l: &[u32]) -> Extent
                 length: next,
             };
         }
-        let stage = further.stage;
-        let crossing = further.crossing;
-        p = Progress {
-            first: further.first,
-            stage,
-            last: further.last,
-            crossing,
-            until: further.until,
-        };
+        p = sheet_rules::rules::after(p, entry);
         place = next;
         n += 1;
     }

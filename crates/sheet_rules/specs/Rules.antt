@@ -12,8 +12,12 @@ use Rattle.sheet_format.specs.declared.kinds.Crossing.{Crossing}
 use Rattle.sheet_format.specs.declared.kinds.Crossing.the-variants as C
 use Rattle.sheet_format.specs.declared.kinds.Progress.{Progress}
 use Rattle.sheet_format.specs.declared.kinds.Entry.{Entry}
-use Rattle.sheet_rules.specs.declared.rules.Judgement.{Judgement}
-use Rattle.sheet_rules.specs.declared.rules.Judgement.the-variants.{Next, Broken}
+use Rattle.sheet_format.specs.declared.records.Record.{Record}
+use Rattle.sheet_format.specs.declared.records.Record.the-variants.{Refused}
+use Rattle.sheet_rules.specs.declared.rules.OrderRule.{OrderRule}
+use Rattle.sheet_rules.specs.declared.rules.OrderRule.the-variants as O
+use Rattle.sheet_rules.specs.declared.rules.FieldRule.{FieldRule}
+use Rattle.sheet_rules.specs.declared.rules.FieldRule.the-variants as F
 use Rattle.sheet_format.specs.Kinds.{table, plain}
 use Rattle.sheet_format.specs.FieldRules.{isWithin}
 use Rattle.sheet_rules.specs.Order.{mayCome, closestAfter, repeats}
@@ -75,16 +79,25 @@ inOrder p e = kindInOrder p e (e .kind)
 abbrev pub fieldsHold : Progress → Entry → Bool
 fieldsHold p e = plain e && table (e .kind) .rule p e
 
--- ---- the answer
+-- ---- the answers
 
--- "in it .. 8, 7": the answer to both tests, of an entry whose record stands at `at`.
--- "7 | a field breaks a reader's rule | as 5", "8 | order broken | as 5": "first byte of that record"
-abbrev pub verdictOn : ℕ → Bool → Bool → Progress → Judgement
-verdictOn at ordered sound next = cond ordered (cond sound (Next next) (Broken (refusal 7 at))) (Broken (refusal 8 at))
+-- whether an entry keeps the order
+unfoldable pub orderOf : Progress → Entry → OrderRule
+orderOf p e = cond (inOrder p e) O.Kept O.Broken
 
--- where it is known whether the entry is plain
-unfoldable pub judgedAs : Bool → Progress → ℕ → Entry → Judgement
-judgedAs isPlain p at e = verdictOn at (inOrder p e) (isPlain && table (e .kind) .rule p e) (afterOf p e)
+-- whether its fields keep their rules, where it is known whether it is plain
+unfoldable pub fieldsAs : Bool → Progress → Entry → FieldRule
+fieldsAs isPlain p e = cond (isPlain && table (e .kind) .rule p e) F.Kept F.Broken
 
-abbrev pub judgementOf : Progress → ℕ → Entry → Judgement
-judgementOf p at e = judgedAs (plain e) p at e
+abbrev pub fieldsOf : Progress → Entry → FieldRule
+fieldsOf p e = fieldsAs (plain e) p e
+
+-- "7 | a field breaks a reader's rule | as 5": "first byte of that record", which stands at `at`
+abbrev pub ofFields : ℕ → Record → FieldRule → Record
+ofFields at given F.Kept = given
+ofFields at given F.Broken = Refused (refusal 7 at)
+
+-- "8 | order broken | as 5"
+abbrev pub ofOrder : ℕ → Record → OrderRule → Record
+ofOrder at given O.Kept = given
+ofOrder at given O.Broken = Refused (refusal 8 at)

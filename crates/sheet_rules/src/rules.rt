@@ -1,5 +1,5 @@
-// The rules of a sheet. Reader and writer both go by `in_order`, `crate::fields::rule_holds` and `after`; `judge` puts
-// the three together.
+// The rules of a sheet. Reader and writer ask of each entry `order_of`, refusal 8, then `fields_of`, refusal 7;
+// `after` is how far the sheet has then come.
 
 use sheet_format::kinds::Crossing;
 use sheet_format::kinds::Entry;
@@ -7,15 +7,21 @@ use sheet_format::kinds::Kind;
 use sheet_format::kinds::Progress;
 use sheet_format::kinds::Stage;
 use sheet_types::phases::Phase;
-use sheet_types::refusals::Refusal;
 ghost use mathlib.Core.Path.{_≡_};
-ghost use Rattle.sheet_rules.specs.Rules.{start, phaseInOrder, crossingKept, passed, reached, inOrder, afterOf, verdictOn, judgedAs};
+ghost use Rattle.sheet_rules.specs.Rules.{start, phaseInOrder, crossingKept, passed, reached, inOrder, afterOf};
+ghost use Rattle.sheet_rules.specs.Rules.{orderOf, fieldsAs};
 ghost use Rattle.sheet_rules.specs.laws.Stages.{crossingOf, crossingAfter};
 
-// What the rules say of an entry: how far the sheet has come after it, or the refusal.
-pub enum Judgement {
-    Next(Progress),
-    Broken(Refusal),
+// Whether an entry keeps the order of a sheet: refusal 8 where it does not.
+pub enum OrderRule {
+    Kept,
+    Broken,
+}
+
+// Whether an entry's fields keep their rules: refusal 7 where they do not.
+pub enum FieldRule {
+    Kept,
+    Broken,
 }
 
 // Nothing has been read.
@@ -119,7 +125,7 @@ fn crossing_after(crossing: Crossing, kept: Crossing) -> Crossing
 // ---- an entry, by the stage of its kind
 
 // Whether it may come next.
-pub fn in_order(p: Progress, entry: Entry) -> bool
+fn in_order(p: Progress, entry: Entry) -> bool
     ensures { λ r. ⌜ r ≡ inOrder p entry ⌝ }
 {
     let kind = entry.kind;
@@ -167,34 +173,27 @@ pub fn after(p: Progress, entry: Entry) -> Progress
     }
 }
 
-// ---- the answer
+// ---- the answers
 
-// The answer to both tests, order (8) before fields (7).
-fn verdict(at: usize, ordered: bool, sound: bool, next: Progress) -> Judgement
-    ensures { λ r. ⌜ r ≡ verdictOn at ordered sound next ⌝ }
+// Whether an entry may come after what came before it.
+pub fn order_of(p: Progress, entry: Entry) -> OrderRule
+    ensures { λ r. ⌜ r ≡ orderOf p entry ⌝ }
 {
-    if !ordered {
-        return Judgement::Broken(Refusal {
-            number: 8,
-            place: at,
-        });
+    if in_order(p, entry) {
+        OrderRule::Kept
+    } else {
+        OrderRule::Broken
     }
-    if !sound {
-        return Judgement::Broken(Refusal {
-            number: 7,
-            place: at,
-        });
-    }
-    Judgement::Next(next)
 }
 
-// How far the sheet has come after an entry whose record stands at `at`, or the rule that it breaks.
-// `plain` is what else is asked of its fields: that what its kind does not use is 0.
-pub fn judge(p: Progress, at: usize, plain: bool, entry: Entry) -> Judgement
-    ensures { λ r. ⌜ r ≡ judgedAs plain p at entry ⌝ }
+// Whether an entry's fields keep the rule of its kind.
+// `plain` is what else is asked of them: that what its kind does not use is 0.
+pub fn fields_of(p: Progress, plain: bool, entry: Entry) -> FieldRule
+    ensures { λ r. ⌜ r ≡ fieldsAs plain p entry ⌝ }
 {
-    let ordered = in_order(p, entry);
-    let sound = crate::fields::rule_holds(p, entry);
-    let next = after(p, entry);
-    verdict(at, ordered, plain & sound, next)
+    if plain & crate::fields::rule_holds(p, entry) {
+        FieldRule::Kept
+    } else {
+        FieldRule::Broken
+    }
 }

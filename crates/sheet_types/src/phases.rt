@@ -15,14 +15,7 @@ pub enum Phase {
     Star,
 }
 
-// How many phases an eclipse has.
-pub fn eclipse_count() -> usize
-    ensures { λ r. ⌜ r ≡ length eclipse ⌝ }
-{
-    2
-}
-
-// The k-th of them, from 0, in the order of a sheet.
+// The k-th phase of an eclipse, from 0, in the order of a sheet.
 pub fn eclipse_phase(k: usize) -> Phase
     requires { ⌜ k < length eclipse ⌝ }
     ensures { λ r. ⌜ r ≡ getD eclipse k Penumbra ⌝ }

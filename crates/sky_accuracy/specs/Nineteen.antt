@@ -8,7 +8,7 @@ use native.Mathlib.Nat.{le-of-eq}
 use lib.IntN.{ℤ, pos, negℤ, natAbs, _+ℤ_, _-ℤ_, _*ℤ_}
 use lib.Signed.{_≤ℤ_, _<ℤ_, clashℤ}
 use Rattle.sheet_types.specs.declared.phases.Phase.{Phase}
-use Rattle.rounding.specs.laws.Order.{by-contra, natAbs-product, le-natAbs, neg-natAbs}
+use Rattle.rounding.specs.laws.Order.{by-contra, natAbs-product, le-natAbs, neg-natAbs, by-contra-<}
 use Rattle.rounding.specs.laws.Ring.{num, _⊕_, _⊖_, _⊗_, opp, v0, v1, v2, v3, v4, v5}
 use Rattle.rounding.specs.laws.Cert.{fact, leq, less, lit, sq, _⊞_, _⊠_, certify, certify-<}
 use Rattle.elements.specs.declared.Cone.{Cone}
@@ -16,7 +16,7 @@ use Rattle.elements.specs.Sizes.{AxisSizes}
 use Rattle.station.specs.Sizes.{StationSizes}
 use Rattle.shadow_geometry.specs.Shadow.{_²}
 use Rattle.shadow_geometry.specs.Exact.{D, exact-u, exact-v, exact-L, exact-M, exact-edge, AtMost, Less, AtLeast}
-use Rattle.shadow_geometry.specs.Thirteen.{edge-apart, by-contra-<}
+use Rattle.shadow_geometry.specs.Thirteen.{edge-apart}
 use Rattle.shadow_geometry.specs.laws.Triangle.{le-of-squares, triangle}
 use Rattle.sky_accuracy.specs.laws.Latitude.{up, natural}
 use Rattle.sky_accuracy.specs.TrueShadow.{Sky, momentOfSky, K, sin-H, cos-H, sin-d, cos-d, Q, R, P, T, true-u, true-v, true-L, true-M, true-edge}

@@ -1,6 +1,9 @@
--- Demand 3 of the sky. In the customer's words:
+-- Demand 3 of Bessel's formulas with nothing rounded. The sentence is ours; no document has it:
 --   "A second said to be inside or outside by a sheet with a guard of 32 or more is truly so, for the elements and the station as they are given;
 --   and an enter or a leave lies truly between its two seconds."
+-- "Truly" is by these formulas, with circular limbs, on the spheroid with document 01's E = 99,330,658.
+-- Krasovsky's flattening 1:298.3 itself gives 99,330,657.838, which moves a place by up to 0.094 of a unit; for that E
+-- nothing is proved here.
 -- It is demand 3 (courses, Demand3) with the true answers in place of the exact ones. Definitions only.
 use lib.IntN.{ℤ, pos, _+ℤ_}
 use Rattle.elements.specs.Stars.{axisOf}

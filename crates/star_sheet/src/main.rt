@@ -1,20 +1,50 @@
 // Reads a star request, 79 bytes, from standard input, and prints the listing of its contact sheet; or its refusal.
 use libc::STDIN_FILENO;
 use libc::STDOUT_FILENO;
+ghost use mathlib.Core.Path.{_≡_};
+ghost use mathlib.Core.List.{List};
+ghost use Prim.Native.Nat.{ℕ};
+ghost use lib.ListN.{take};
+ghost use Rattle.decimal_text.specs.Texts.{Counts, Copies};
+ghost use Rattle.program_io.specs.Inputs.{Read};
+ghost use Rattle.star_sheet.specs.Printed.{printed};
 
-// 29 bytes of text at most for 5 bytes of a sheet, and the head and closest lines.
+// As many bytes for the sheet as program `sheet` has.
+fn sheet_room() -> [u8; 65536]
+    ensures { λ r. ⌜ Copies 0 65536 r ⌝ }
+{
+    [0; 65536]
+}
+
+// Table S.
+fn sines_room() -> [u32; 901]
+    ensures { λ r. ⌜ Copies 0 901 r ⌝ }
+{
+    [0; 901]
+}
+
+// The text of the program's input, of which `length` bytes were read: the array has a byte more than a request, so
+// that a longer input is seen.
+fn respond(input: &[u8; 80], length: usize, out: &mut [u8; 400000]) -> usize
+    requires { ⌜ Counts length (now input) ⌝ }
+    ensures text { λ r. ⌜ ((s : List ℕ) → Read s (now (input .entry)) length → take r (now (out .exit)) ≡ take 400000 (printed s)) ⌝ }
+    ensures counts { λ r. ⌜ Counts r (now (out .exit)) ⌝ }
+{
+    let mut sines = sines_room();
+    let mut room = sheet_room();
+    let all: &[u8] = input;
+    let end = answers::put_star_answer(&all[..length], &mut sines, &mut room, out);
+    decimal_text::clipped(out, end)
+}
+
 fn text_room() -> [u8; 400000] {
-    [0u8; 400000]
+    [0; 400000]
 }
 
 fn main() {
-    // a byte more than a request has, so that longer input is seen
-    let mut request = [0u8; 80];
-    let length = io::read_full(STDIN_FILENO, &mut request);
-    let mut room = io::large_buffer();
+    let mut input = [0u8; 80];
+    let length = io::read_full(STDIN_FILENO, &mut input);
     let mut text = text_room();
-    let mut sines = [0u32; 901];
-    let end = answers::put_star_answer(&request[..length], &mut sines, &mut room, &mut text);
-    let written = decimal_text::clipped(&text, end);
-    io::write_all(STDOUT_FILENO, &text[..written]);
+    let end = respond(&input, length, &mut text);
+    io::write_all(STDOUT_FILENO, &text[..end]);
 }

@@ -4,7 +4,7 @@ ghost use Prim.Native.Nat.{_≤_, _+_, _*_};
 ghost use lib.IntN.{natAbs};
 ghost use Rattle.rounding.specs.Value.{Value};
 ghost use Rattle.sine_table.specs.Table.{Sines};
-ghost use Rattle.station.specs.Station.{fields, rangeOf, stationChecked};
+ghost use Rattle.station.specs.Station.{fields, stationChecked};
 ghost use Rattle.station.specs.Sizes.{StationSizes};
 ghost use Rattle.station.specs.Place.{C, ephemerisLongitude, placeOf};
 
@@ -38,7 +38,7 @@ const LOWS: [i64; 5] = [1, -90_000_000, -180_000_000, -500, -10_000];
 const HIGHS: [i64; 5] = [999, 90_000_000, 180_000_000, 9_000, 20_000];
 
 // The numbers of the record, in their order.
-pub fn listed(s: Station) -> [i64; 5]
+fn listed(s: Station) -> [i64; 5]
     ensures { λ r. ⌜ r ≡ fields s ⌝ }
 {
     let number = s.number;
@@ -49,22 +49,14 @@ pub fn listed(s: Station) -> [i64; 5]
     [number, latitude, longitude, height, deltat]
 }
 
-// Whether every number is in its range, or the first that is not: 0 number, 1 latitude, 2 longitude, 3 height, 4 ΔT.
-fn in_range(s: Station) -> rounding::Limits
-    ensures { λ r. ⌜ r ≡ rangeOf s ⌝ }
+// Refusal 3 with the first number that is out of its range: 0 number, 1 latitude, 2 longitude, 3 height, 4 ΔT.
+pub fn check(s: Station) -> sheet_types::refusals::Checked
+    ensures { λ r. ⌜ r ≡ stationChecked s ⌝ }
 {
     let values = listed(s);
     let lows = LOWS;
     let highs = HIGHS;
-    rounding::first_out_of_range(&values, &lows, &highs)
-}
-
-// Refusal 3 with the first number that is out of its range, as above.
-pub fn check(s: Station) -> sheet_types::refusals::Checked
-    ensures { λ r. ⌜ r ≡ stationChecked s ⌝ }
-{
-    let limits = in_range(s);
-    sheet_types::refusals::of_limits(3, limits)
+    sheet_types::refusals::of_ranges(3, &values, &lows, &highs)
 }
 
 // (1 - flattening)^2 of Krasovsky's spheroid, 10^-8.

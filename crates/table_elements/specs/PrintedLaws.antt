@@ -13,7 +13,7 @@ use Rattle.sheet_types.specs.declared.refusals.Refusal.{Refusal}
 use Rattle.decimal_text.specs.Texts.{letters, Put}
 use Rattle.decimal_text.specs.Decimals.{decimal}
 use Rattle.decimal_text.specs.laws.TextLaws.{put-nil, Putting, putting-start, putting-turn, putting-end}
-use Rattle.decimal_text.specs.RowLaws.{put-as, joined}
+use Rattle.decimal_text.specs.laws.RowLaws.{put-as, joined}
 use Rattle.listing_lines.specs.Lines.{refusalLine}
 use Rattle.besselian_rows.specs.declared.tables.Answer.{Answer}
 use Rattle.besselian_rows.specs.declared.tables.Answer.the-variants.{Made, Refused}

@@ -5,6 +5,7 @@ use mathlib.Core.List.{List, [], _∷_, _++_}
 use lib.Dec.{eqb, ltb}
 use lib.IntN.{ℤ, pos, _-ℤ_}
 use lib.ListN.{length, take, drop}
+use lib.Seq.{sets}
 use Rattle.tokens.specs.declared.Class.the-variants as C
 use Rattle.tokens.specs.Text.{isIn, runOf, allOf, startOf, before}
 use Rattle.table_elements.specs.declared.typed_rows.Fault.{Fault}
@@ -69,6 +70,12 @@ contentOf line = take (runOf C.Said line) line
 
 unfoldable pub lineOf : List ℕ → Said
 lineOf line = saidBy [] (wordsOf (suc (length (contentOf line))) (contentOf line))
+
+-- the numbers after a line: the six of a row are stored from place `start` on; any other line leaves them as they were
+abbrev pub numbersAfter : Said → (start : ℕ) (old : List ℤ) → List ℤ
+numbersAfter (row ns) start old = sets old start ns
+numbersAfter nothing start old = old
+numbersAfter (faulty f) start old = old
 
 -- ---- a text
 

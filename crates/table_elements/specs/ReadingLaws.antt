@@ -2,14 +2,15 @@
 use Prim.Native.Nat.{ℕ, suc, _+_, _-_, _≤_, _<_}
 use mathlib.Core.Path.{_≡_, refl, sym, ap, _∙_}
 use mathlib.Core.Bool.{Bool, true, false, cond}
-use mathlib.Core.List.{List, [], _∷_, _++_, append-assoc, append-nil}
+use mathlib.Core.List.{List, [], _∷_, _++_}
 use native.Mathlib.Nat.{add-zero}
+use native.Mathlib.Numerals.{add-one}
 use native.Mathlib.Omega.{arith}
-use borrow.Author.Tests.{lt-ltb, le-ltb, eqb-true, ne-eqb}
-use lib.Dec.{eqb}
-use lib.IntN.{ℤ}
-use lib.ListN.{length, length-append, length-drop, take, drop, set, length-set}
-use lib.Seq.{take-suc-set, drop-drop}
+use borrow.Author.Tests.{lt-ltb, le-ltb, ltb-true, ltb-false, eqb-true, ne-eqb}
+use lib.Dec.{eqb, ltb}
+use lib.IntN.{ℤ, pos}
+use lib.ListN.{length, length-append, length-drop, getD, take, drop, set, length-set}
+use lib.Seq.{take-suc-set, take-all, take-at, length-take-le, drop-cons, drop-drop, sets, sets-eq}
 use Rattle.tokens.specs.declared.Class.the-variants as C
 use Rattle.tokens.specs.Text.{runOf}
 use Rattle.tokens.specs.laws.TextLaws.{run-le, rest-is}
@@ -20,7 +21,8 @@ use Rattle.table_elements.specs.declared.typed_rows.Number.the-variants 
 use Rattle.table_elements.specs.declared.typed_rows.Word.{Word}
 use Rattle.table_elements.specs.declared.typed_rows.Line.{Line}
 use Rattle.table_elements.specs.declared.typed_rows.Line.the-variants as L
-use Rattle.table_elements.specs.Reading.{numberOf, wordsOf, Said, nothing, row, faulty, whole, saidBy, contentOf, lineOf}
+use Rattle.table_elements.specs.Reading.{Said, nothing, row, faulty}
+use Rattle.table_elements.specs.Reading.{numberOf, wordsOf, whole, saidBy, contentOf, lineOf, numbersAfter}
 
 -- what a line says, without its numbers
 abbrev pub answerOf : Said → Line
@@ -50,17 +52,13 @@ next-is s at gap size e q =
     let w : size ≡ runOf C.Word (drop (at + gap) s) = q ∙ ap (runOf C.Word) (rest-is s (at + gap)) in
     rw (w, g)
 
--- the numbers of a line follow those at the start of a room
-pub record Stored (s : Said) (start : ℕ) (old new : List ℤ) : Type 0 where
-  pub none : s ≡ nothing → take start new ≡ take start old
-  pub some : (ns : List ℤ) → s ≡ row ns → (length ns ≡ 6) × (take (start + 6) new ≡ take start old ++ ns)
+-- where a line is a row, these are its numbers
+abbrev pub IsRow : Said → List ℤ → Type 0
+IsRow s numbers = (ns : List ℤ) → s ≡ row ns → numbers ≡ ns
 
-stored-faulty : {s : Said} {x : Fault} {start : ℕ} {old new : List ℤ} → s ≡ faulty x → Stored s start old new
-stored-faulty t =
-    record {
-      none = λ q. let z : _≡_ {A = ℕ} 0 1 = cc in absurd (omega arith);
-      some = λ ns q. let z : _≡_ {A = ℕ} 0 1 = cc in absurd (omega arith);
-    }
+-- a fault is no row
+faulty-row : {s : Said} {x : Fault} {numbers : List ℤ} → s ≡ faulty x → IsRow s numbers
+faulty-row t ns q = let z : _≡_ {A = ℕ} 0 1 = cc in absurd (omega arith)
 
 -- ---- words
 
@@ -110,43 +108,101 @@ module _ (ns : List ℤ) where
       by false true = refl
       by false false = refl
 
-  store-whole : (start : ℕ) (old numbers : List ℤ) → take (start + length ns) numbers ≡ take start old ++ ns → Stored (whole ns) start old numbers
-  store-whole start old numbers e =
-      by-count (λ s. Stored s start old numbers)
-      (λ h. record { none = λ q. empty h; some = λ ms q. let z : _≡_ {A = ℕ} 0 1 = cc in absurd (omega arith) })
-      (λ h. record {
-        none = λ q. let z : _≡_ {A = ℕ} 0 1 = cc in absurd (omega arith);
-        some = λ ms q. let t : ns ≡ ms = cc in (ap length (sym t) ∙ h, ap (λ k. take (start + k) numbers) (sym h) ∙ e ∙ ap (λ l. take start old ++ l) t);
-      })
-      (record {
-        none = λ q. let z : _≡_ {A = ℕ} 0 1 = cc in absurd (omega arith);
-        some = λ ms q. let z : _≡_ {A = ℕ} 0 1 = cc in absurd (omega arith);
-      })
-    where
-      nil : (l : List ℤ) → length l ≡ 0 → l ≡ []
-      nil [] h = refl
-      nil (x ∷ l) h = absurd (omega arith)
+  row-whole : (numbers : List ℤ) → length numbers ≡ 6 → take (length ns) numbers ≡ ns → IsRow (whole ns) numbers
+  row-whole numbers l e =
+      by-count (λ s. IsRow s numbers)
+      (λ h ms q. let z : _≡_ {A = ℕ} 0 1 = cc in absurd (omega arith))
+      (λ h ms q. let t : ns ≡ ms = cc in sym (take-all (length ns) numbers (omega arith)) ∙ e ∙ t)
+      (λ ms q. let z : _≡_ {A = ℕ} 0 1 = cc in absurd (omega arith))
 
-      empty : length ns ≡ 0 → take start numbers ≡ take start old
-      empty h =
-          let k : start ≡ start + length ns = omega arith in
-          ap (λ j. take j numbers) k ∙ e ∙ ap (λ l. take start old ++ l) (nil ns h) ∙ append-nil (take start old)
+  six-whole : (ms : List ℤ) → whole ns ≡ row ms → length ms ≡ 6
+  six-whole =
+      by-count (λ s. (ms : List ℤ) → s ≡ row ms → length ms ≡ 6)
+      (λ h ms q. let z : _≡_ {A = ℕ} 0 1 = cc in absurd (omega arith))
+      (λ h ms q. let t : ns ≡ ms = cc in ap length (sym t) ∙ h)
+      (λ ms q. let z : _≡_ {A = ℕ} 0 1 = cc in absurd (omega arith))
 
-pub record Taking (line content : List ℕ) (old numbers : List ℤ) (start at column : ℕ) : Type 0 where
+-- a row has six numbers
+six-said : (ws : List (List ℕ)) (ns ms : List ℤ) → saidBy ns ws ≡ row ms → length ms ≡ 6
+six-said [] ns ms q = six-whole ns ms (sym (said-nil ns) ∙ q)
+six-said (w ∷ ws) ns ms q = by (numberOf w) refl (ltb (length ns) 6) refl (λ longer. six-said ws longer ms)
+  where
+    by : (n : Number) → numberOf w ≡ n → (b : Bool) → ltb (length ns) 6 ≡ b
+        → ((longer : List ℤ) → saidBy longer ws ≡ row ms → length ms ≡ 6) → length ms ≡ 6
+    by (N.Faulty f) e b t go = let x = said-faulty ns w ws f e in let z : _≡_ {A = ℕ} 0 1 = cc in absurd (omega arith)
+    by (N.Is n) e true t go = go (ns ++ (n ∷ [])) (sym (said-next ns w ws n e (ltb-true (length ns) 6 t)) ∙ q)
+    by (N.Is n) e false t go =
+        let x = said-more ns w ws n e (ltb-false (length ns) 6 t) in
+        let z : _≡_ {A = ℕ} 0 1 = cc in
+        absurd (omega arith)
+
+-- the numbers after a line, by what is answered of it
+pub after-row : (s : Said) (start : ℕ) (old new six : List ℤ) → L.Row ≡ answerOf s → IsRow s six
+    → new ≡ sets old start six → new ≡ numbersAfter s start old
+after-row (row ns) start old new six a i e = e ∙ ap (sets old start) (i ns refl)
+after-row nothing start old new six a i e = let z : _≡_ {A = ℕ} 0 1 = cc in absurd (omega arith)
+after-row (faulty f) start old new six a i e = let z : _≡_ {A = ℕ} 0 1 = cc in absurd (omega arith)
+
+pub after-nothing : (s : Said) (start : ℕ) (old : List ℤ) → L.Nothing ≡ answerOf s → old ≡ numbersAfter s start old
+after-nothing (row ns) start old a = let z : _≡_ {A = ℕ} 0 1 = cc in absurd (omega arith)
+after-nothing nothing start old a = refl
+after-nothing (faulty f) start old a = refl
+
+pub after-faulty : (s : Said) (start : ℕ) (old : List ℤ) (x : Fault) → L.Faulty x ≡ answerOf s
+    → old ≡ numbersAfter s start old
+after-faulty (row ns) start old x a = let z : _≡_ {A = ℕ} 0 1 = cc in absurd (omega arith)
+after-faulty nothing start old x a = refl
+after-faulty (faulty f) start old x a = refl
+
+-- the same for a reader of rows: those before `start` stay, and a row's follow them
+pub record Stored (s : Said) (start : ℕ) (old new : List ℤ) : Type 0 where
+  pub none : s ≡ nothing → take start new ≡ take start old
+  pub some : (ns : List ℤ) → s ≡ row ns → (length ns ≡ 6) × (take (start + 6) new ≡ take start old ++ ns)
+
+pub after-stored : (line : List ℕ) (start : ℕ) (old new : List ℤ) → start + 6 ≤ length old
+    → new ≡ numbersAfter (lineOf line) start old → Stored (lineOf line) start old new
+unfolding lineOf
+after-stored line start old new h e =
+    record {
+      none = λ t. ap (take start) (e ∙ ap (λ s. numbersAfter s start old) t);
+      some = λ ns t.
+          let six : length ns ≡ 6 = six-said _ [] ns t in
+          let k : length (take start old ++ ns) ≡ start + 6 =
+          length-append (take start old) ns ∙ omega (arith, length-take-le start old (omega arith)) in
+          let s : sets old start ns ≡ (take start old ++ ns) ++ drop (start + length ns) old =
+          sets-eq ns old start (omega arith) in
+          (six, ap (take (start + 6)) (e ∙ ap (λ x. numbersAfter x start old) t ∙ s) ∙ take-at _ _ (start + 6) k);
+    }
+
+-- ---- the stores of a row, place by place
+
+pub put-start : (six old : List ℤ) (start : ℕ) → sets old (start + 0) (drop 0 six) ≡ sets old start six
+put-start six old start = rw add-zero
+
+pub put-turn : (six numbers : List ℤ) (start i : ℕ) → i < length six
+    → sets (set numbers (start + i) (getD six i (pos 0))) (start + (i + 1)) (drop (i + 1) six)
+    ≡ sets numbers (start + i) (drop i six)
+put-turn six numbers start i h =
+    let k : start + (i + 1) ≡ suc (start + i) = omega arith in
+    rw (k, add-one i, drop-cons six i (pos 0))
+
+-- the words before byte `at` are taken, and their numbers stored
+pub record Taking (line content : List ℕ) (numbers : List ℤ) (at column : ℕ) : Type 0 where
   pub fuel : ℕ
   pub ns : List ℤ
   pub count : length ns ≡ column
   pub few : column ≤ 6
   pub within : at ≤ length content
   pub enough : length content < at + fuel
-  pub same : length numbers ≡ length old
-  pub stored : take (start + column) numbers ≡ take start old ++ ns
+  pub same : length numbers ≡ 6
+  pub stored : take column numbers ≡ ns
   pub left : saidBy ns (wordsOf fuel (drop at content)) ≡ lineOf line
 
-module _ (line content : List ℕ) (old : List ℤ) (start : ℕ) where
-  pub taking-start : content ≡ contentOf line → Taking line content old old start 0 0
+module _ (line content : List ℕ) where
+  pub taking-start : (numbers : List ℤ) → length numbers ≡ 6 → content ≡ contentOf line
+      → Taking line content numbers 0 0
   unfolding lineOf
-  taking-start e =
+  taking-start numbers six e =
       record {
         fuel = suc (length content);
         ns = [];
@@ -154,12 +210,13 @@ module _ (line content : List ℕ) (old : List ℤ) (start : ℕ) where
         few = omega arith;
         within = omega arith;
         enough = omega arith;
-        same = refl;
-        stored = ap (λ k. take k old) (add-zero start) ∙ sym (append-nil (take start old));
+        same = six;
+        stored = refl;
         left = rw e;
       }
 
-  module _ (numbers : List ℤ) (at column : ℕ) (f : Taking line content old numbers start at column) (w : Word) (is : w ≡ nextWord content at) where
+  module _ (numbers : List ℤ) (at column : ℕ) (f : Taking line content numbers at column)
+      (w : Word) (is : w ≡ nextWord content at) where
     size : ℕ
     size = runOf C.Word (drop (w .from) content)
 
@@ -192,12 +249,12 @@ module _ (line content : List ℕ) (old : List ℤ) (start : ℕ) where
     fuelled = omega (arith, f .enough, f .within)
 
     -- no word is left
-    pub taking-end : w .from ≡ w .end → (lineWith column ≡ answerOf (lineOf line)) × Stored (lineOf line) start old numbers
+    pub taking-end : w .from ≡ w .end → (lineWith column ≡ answerOf (lineOf line)) × IsRow (lineOf line) numbers
     taking-end h =
         let e : whole (f .ns) ≡ lineOf line =
         sym (said-nil (f .ns)) ∙ ap (saidBy (f .ns)) (sym (ap (λ k. wordsOf k (drop at content)) fuelled ∙ words-none more (drop at content) (drop (w .from) content) size rest size-is (omega (arith, end-is)))) ∙ f .left in (
           ap lineWith (sym (f .count)) ∙ answer-whole (f .ns) ∙ ap answerOf e,
-          rw (← e) (store-whole (f .ns) start old numbers (ap (λ k. take (start + k) numbers) (f .count) ∙ f .stored)),
+          rw (← e) (row-whole (f .ns) numbers (f .same) (ap (λ k. take k numbers) (f .count) ∙ f .stored)),
         )
 
     module _ (h : w .from ≡ w .end → ⊥) (number : Number) (said : number ≡ numberOf (take (w .end - w .from) (drop (w .from) content))) where
@@ -210,19 +267,20 @@ module _ (line content : List ℕ) (old : List ℤ) (start : ℕ) where
       next : wordsOf (f .fuel) (drop at content) ≡ take size (drop (w .from) content) ∷ wordsOf more (drop size (drop (w .from) content))
       next = ap (λ k. wordsOf k (drop at content)) fuelled ∙ words-next more (drop at content) (drop (w .from) content) size rest size-is some
 
-      pub taking-faulty : (x : Fault) → number ≡ N.Faulty x → (faultOf number ≡ answerOf (lineOf line)) × Stored (lineOf line) start old numbers
+      pub taking-faulty : (x : Fault) → number ≡ N.Faulty x
+          → (faultOf number ≡ answerOf (lineOf line)) × IsRow (lineOf line) numbers
       taking-faulty x e =
           let t : lineOf line ≡ faulty x = sym (f .left) ∙ ap (saidBy (f .ns)) next ∙ said-faulty (f .ns) _ _ x (sym q ∙ e) in
-          (ap faultOf e ∙ sym (ap answerOf t), stored-faulty t)
+          (ap faultOf e ∙ sym (ap answerOf t), faulty-row t)
 
       module _ (z : ℤ) (e : number ≡ N.Is z) where
-        pub taking-more : column ≡ 6 → (L.Faulty F.More ≡ answerOf (lineOf line)) × Stored (lineOf line) start old numbers
+        pub taking-more : column ≡ 6 → (L.Faulty F.More ≡ answerOf (lineOf line)) × IsRow (lineOf line) numbers
         taking-more c =
             let t : lineOf line ≡ faulty F.More = sym (f .left) ∙ ap (saidBy (f .ns)) next ∙ said-more (f .ns) _ _ z (sym q ∙ e) (omega (arith, f .count)) in
-            (sym (ap answerOf t), stored-faulty t)
+            (sym (ap answerOf t), faulty-row t)
 
-        pub taking-turn : (column ≡ 6 → ⊥) → start + 6 ≤ length old → Taking line content old (set numbers (start + column) z) start (w .end) (column + 1)
-        taking-turn c room =
+        pub taking-turn : (column ≡ 6 → ⊥) → Taking line content (set numbers column z) (w .end) (column + 1)
+        taking-turn c =
             let low : column < 6 = omega (arith, f .few, c) in
             record {
               fuel = more;
@@ -231,11 +289,10 @@ module _ (line content : List ℕ) (old : List ℤ) (start : ℕ) where
               few = omega arith;
               within = word-within .2;
               enough = omega (arith, f .enough, word-within, end-is, some);
-              same = length-set numbers (start + column) z ∙ f .same;
+              same = length-set numbers column z ∙ f .same;
               stored =
-                  let k : start + (column + 1) ≡ suc (start + column) = omega arith in
-                  ap (λ j. take j (set numbers (start + column) z)) k ∙ take-suc-set numbers (start + column) z (omega (arith, f .same))
-                  ∙ ap (λ l. l ++ (z ∷ [])) (f .stored) ∙ append-assoc (take start old) (f .ns) (z ∷ []);
+                  rw (add-one column)
+                  (take-suc-set numbers column z (omega (arith, f .same)) ∙ ap (λ l. l ++ (z ∷ [])) (f .stored));
               left =
                   ap (λ l. saidBy (f .ns ++ (z ∷ [])) (wordsOf more l)) (ap (λ k. drop k content) end-is ∙ sym (drop-drop size (w .from) content))
                   ∙ sym (said-next (f .ns) _ _ z (sym q ∙ e) (omega (arith, f .count))) ∙ ap (saidBy (f .ns)) (sym next) ∙ f .left;

@@ -3,9 +3,10 @@ use tokens::Class;
 ghost use mathlib.Core.Path.{_≡_};
 ghost use Prim.Native.Nat.{_+_, _-_, _*_, _≤_};
 ghost use lib.ListN.{length};
-ghost use Rattle.table_elements.specs.Reading.{appended, withSign, numberOf, lineOf};
+ghost use lib.Seq.{sets};
+ghost use Rattle.table_elements.specs.Reading.{appended, withSign, numberOf, lineOf, numbersAfter};
 ghost use Rattle.table_elements.specs.NumberLaws.{capped};
-ghost use Rattle.table_elements.specs.ReadingLaws.{answerOf, lineWith, faultOf, nextWord, Stored};
+ghost use Rattle.table_elements.specs.ReadingLaws.{answerOf, lineWith, faultOf, nextWord, IsRow};
 
 // Why a text is refused.
 pub enum Fault {
@@ -135,11 +136,11 @@ fn next_word(content: &[u8], at: usize) -> Word
     Word { from, end }
 }
 
-// What a line says; its numbers go into the room, from place `start` on.
-pub fn read_line(line: &[u8], numbers: &mut [i64], start: usize) -> Line
-    requires { ⌜ start + 6 ≤ length (now numbers) ⌝ }
+// What a line says. The numbers before its end or its first fault are at the start of the row.
+fn read_row(line: &[u8], row: &mut [i64]) -> Line
+    requires { ⌜ length (now row) ≡ 6 ⌝ }
     ensures { λ r. ⌜ r ≡ answerOf (lineOf (now (line .entry))) ⌝ }
-    ensures { λ r. ⌜ Stored (lineOf (now (line .entry))) start (now (numbers .entry)) (now (numbers .exit)) ⌝ }
+    ensures { λ r. ⌜ IsRow (lineOf (now (line .entry))) (now (row .exit)) ⌝ }
 {
     let said = tokens::run(line, Class::Said);
     let content = &line[..said];
@@ -159,9 +160,39 @@ pub fn read_line(line: &[u8], numbers: &mut [i64], start: usize) -> Line
         if column == 6 {
             return Line::Faulty(Fault::More);
         }
-        let place = start + column;
-        numbers[place] = value;
+        row[column] = value;
         column += 1;
         at = end;
+    }
+}
+
+// The numbers of a row, stored from place `start` on.
+fn put_row(row: &[i64], numbers: &mut [i64], start: usize)
+    requires { ⌜ start + length (now row) ≤ length (now numbers) ⌝ }
+    ensures { λ r. ⌜ now (numbers .exit) ≡ sets (now (numbers .entry)) start (now (row .entry)) ⌝ }
+{
+    let mut i = 0;
+    while i < row.len() {
+        numbers[start + i] = row[i];
+        i += 1;
+    }
+}
+
+// What a line says. The six numbers of a row are stored from place `start` on. Any other line leaves the buffer as it
+// was.
+pub fn read_line(line: &[u8], numbers: &mut [i64], start: usize) -> Line
+    requires { ⌜ start + 6 ≤ length (now numbers) ⌝ }
+    ensures { λ r. ⌜ r ≡ answerOf (lineOf (now (line .entry))) ⌝ }
+    ensures { λ r. ⌜ now (numbers .exit) ≡ numbersAfter (lineOf (now (line .entry))) start (now (numbers .entry)) ⌝ }
+{
+    let mut row = [0i64; 6];
+    let said = read_row(line, &mut row);
+    match said {
+        Line::Row => {
+            put_row(&row, numbers, start);
+            Line::Row
+        }
+        Line::Nothing => Line::Nothing,
+        Line::Faulty(fault) => Line::Faulty(fault),
     }
 }

@@ -1,30 +1,21 @@
--- The ways of an answer: what is put, and what is stored.
-use mathlib.Core.Path.{_≡_, refl, sym, ap, subst, _∙_}
-use mathlib.Core.List.{List, []}
-use Prim.Native.Nat.{ℕ, _≤_, _<_}
-use native.Mathlib.Omega.{arith}
+-- The ways of an answer: what is put.
+use mathlib.Core.Path.{_≡_, refl, ap, _∙_}
+use mathlib.Core.List.{List}
+use Prim.Native.Nat.{ℕ}
 use lib.IntN.{ℤ, pos}
-use lib.ListN.{length, take}
-use lib.Seq.{length-take-le}
+use lib.ListN.{take}
 use Rattle.sheet_types.specs.declared.refusals.Refusal.{Refusal}
-use Rattle.sheet_types.specs.Refusals.{refusal}
 use Rattle.circumstances.specs.declared.Answer.{Answer}
 use Rattle.circumstances.specs.declared.Answer.the-variants as A
-use Rattle.request_answers.specs.Sheet.{answerTo, bufferFor, sinesFor, starAnswer, starBuffer, Begins, storedBy, sheetStored}
-use Rattle.request_answers.specs.laws.SheetLaws.{fits-written, fits}
-use Rattle.decimal_text.specs.Texts.{Put, Counts}
-use Rattle.decimal_text.specs.laws.TextLaws.{put-nil}
+use Rattle.request_answers.specs.Sheet.{answerTo, bufferFor, starAnswer, starBuffer}
+use Rattle.decimal_text.specs.Texts.{Put}
 use Rattle.request_format.specs.Input.{deltaOf, starDelta}
 use Rattle.calendar.specs.declared.Reference.{Reference}
 use Rattle.calendar.specs.declared.Reference.the-variants as R
 use Rattle.listing_lines.specs.Lines.{refusalLine}
-use Rattle.listings.specs.declared.Text.{Text}
-use Rattle.listings.specs.declared.Text.the-variants as T
-use Rattle.listings.specs.Answers.{text, answered, roomWith}
-use Rattle.listings.specs.laws.AnswerLaws.{text-short, text-full}
 use Rattle.listings.specs.Listings.{timed, printed}
 use Rattle.listings.specs.laws.ListingLaws.{timed-off}
-use Rattle.answers.specs.Answers.{textBy, answerText, starText, timedBy, timedText, starTimedText, errorBy, errorLine}
+use Rattle.answers.specs.Answers.{textBy, answerText, starText, timedBy, timedText, starTimedText}
 
 -- ---- an answer and the bytes that it left
 
@@ -63,51 +54,3 @@ module _ (request sines room : List ℕ) (a : Answer) (is : a ≡ answerTo reque
   pub timed-is : (k : Reference) (d : ℤ) → d ≡ deltaOf request → timedBy k d a left ≡ timedText k request sines room
   unfolding timedText
   timed-is k d e = rw (is, by-rule, e)
-
-  stored-is : storedBy a left ≡ sheetStored request sines room
-  unfolding sheetStored
-  stored-is = rw (is, by-rule)
-
-  error-is : errorBy a ≡ errorLine request sines room
-  unfolding errorLine
-  error-is = rw is
-
-  module _ (full : List ℕ) (by-fill : full ≡ sinesFor request sines) where
-    -- what `stored` promises: how many bytes go out, n of the sheet's room and r of the line's; and what the rooms hold
-    abbrev Promised : ℕ → List ℕ → List ℕ → ℕ → Type 0
-    Promised n line after r = Begins n left (sheetStored request sines room)
-        × (Put line 0 (errorLine request sines room) after r
-        × ((left ≡ bufferFor request sines room) × ((full ≡ sinesFor request sines) × Counts n left)))
-
-    pub stored-written : (n : ℕ) → a ≡ A.Written n → length left ≡ length room → (line : List ℕ) → Promised n line line 0
-    stored-written n e l line =
-        let h : n ≤ length left = fits-written a left n e (fits request sines room a is left l) in
-        let t : take n left ≡ sheetStored request sines room = ap (λ (b : Answer). storedBy b left) (sym e) ∙ stored-is in
-        let u : [] ≡ errorLine request sines room = ap errorBy (sym e) ∙ error-is in
-        let k = sym (length-take-le n left h) in
-        (record { count = k ∙ ap length t; bytes = t }, (rw (← u) (put-nil line 0 (omega arith)), (by-rule, (by-fill, (h, k)))))
-
-    pub stored-refused : (x : Refusal) → a ≡ A.Refused x → (line after : List ℕ) (r : ℕ) → Put line 0 (refusalLine (x .number) (x .place)) after r
-        → Promised 0 line after r
-    stored-refused x e line after r p =
-        let t : [] ≡ sheetStored request sines room = ap (λ (b : Answer). storedBy b left) (sym e) ∙ stored-is in
-        let u : refusalLine (x .number) (x .place) ≡ errorLine request sines room = ap errorBy (sym e) ∙ error-is in
-        (record { count = ap length t; bytes = t }, (rw (← u) p, (by-rule, (by-fill, (omega arith, refl)))))
-
-    -- ---- what `answer` promises: its answer, the text's room, and what the other rooms hold
-    abbrev PromisedText : Text → (out new : List ℕ) → Type 0
-    PromisedText r out new = (r ≡ answered (length out) (text (answerText request sines room)))
-        × ((new ≡ roomWith (text (answerText request sines room)) out) × ((left ≡ bufferFor request sines room) × (full ≡ sinesFor request sines)))
-
-    -- the text was measured in a room of no bytes; no slice fills the memory
-    module _ (none after out : List ℕ) (need : ℕ) (m : Put none 0 (timedBy R.Nothing (pos 0) a left) after need) (h : length out < 18446744073709551615) where
-      measured : Put none 0 (answerText request sines room) after need
-      measured = subst (λ (t : List ℕ). Put none 0 t after need) text-is m
-
-      pub short-told : length out < need → PromisedText (T.Refused (refusal 4 need)) out out
-      short-told g = let s = text-short (answerText request sines room) none after out need measured h g in (s .0, (s .1, (by-rule, by-fill)))
-
-      pub full-told : need ≤ length out → (new : List ℕ) (r : ℕ) → Put out 0 (timedBy R.Nothing (pos 0) a left) new r → PromisedText (T.Written need) out new
-      full-told g new r p =
-          let s = text-full (answerText request sines room) none after out need measured h g new r (subst (λ (t : List ℕ). Put out 0 t new r) text-is p) in
-          (s .0, (s .1, (by-rule, by-fill)))

@@ -6,13 +6,11 @@ use borrow.Author.Needs.{needs}
 use Rattle.big_endian.proofs.put_two.Statement.{statement}
 use Rattle.big_endian.proofs.put_two.Tie as tie
 
-slice-write-buf-2 : tie.Need-slice-write-buf-2
-slice-write-buf-2 c = simp length-set (omega arith)
-
 returns : tie.Need-returns
 returns c = rw add-one
 
 pub put-two-spec : {M : Type 1} → statement M
 put-two-spec =
     tie.close
-    (tie.spec (λ c. search needs) (λ c. search needs) (λ c. search needs) (λ c. search needs) slice-write-buf-2 (λ c. search needs) returns)
+    (tie.spec (λ c. search needs) (λ c. search needs) (λ c. search needs) (λ c. search needs)
+    (λ c. simp length-set (omega arith)) (λ c. search needs) returns)

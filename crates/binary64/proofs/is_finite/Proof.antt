@@ -13,13 +13,10 @@ held c = subst T (sym (c .good .0 .1)) tt
 returns : tie.Need-returns
 returns c = sym (ap finite (is-nan (c .before .args .x) (c .if1 .taken)))
 
-float-to-bits-bits : tie.Need-float-to-bits-bits
-float-to-bits-bits c = no-nan (c .before .args .x) (c .if1 .left)
-
 returns-2 : tie.Need-returns-2
 returns-2 c =
     let t = c .before in
     sym (finite-fields (t .args .x) (held t))
 
 pub is-finite-spec : {M : Type 1} → statement M
-is-finite-spec = tie.close (tie.spec returns float-to-bits-bits returns-2)
+is-finite-spec = tie.close (tie.spec returns (λ c. no-nan (c .before .args .x) (c .if1 .left)) returns-2)

@@ -42,15 +42,15 @@ fitted-large s n h = rw (signed-size s n, le-ltb n (2 ^ 63) h)
 
 -- ---- the units of a double of the sign s and the size a / c
 
+pub twice-positive : (d : ℕ) → 0 < d → 0 < 2 * d
+twice-positive d p = omega arith
+
 -- equal fractions have the same nearest whole number
 halfUp-same : (n d m c : ℕ) → 0 < d → 0 < c → n * c ≡ m * d → halfUp n d ≡ halfUp m c
 halfUp-same n d m c D C e =
-    div-same (2 * n + d) (2 * d) (2 * m + c) (2 * c) (twice d D) (twice c C)
+    div-same (2 * n + d) (2 * d) (2 * m + c) (2 * c) (twice-positive d D) (twice-positive c C)
     (cross n d c ∙ ap (λ (x : ℕ). 4 * x + 2 * (d * c)) e ∙ ap (λ (x : ℕ). 4 * (m * d) + 2 * x) (mul-comm d c) ∙ sym (cross m c d))
   where
-    twice : (d : ℕ) → 0 < d → 0 < 2 * d
-    twice d p = omega arith
-
     cross : (n d c : ℕ) → (2 * n + d) * (2 * c) ≡ 4 * (n * c) + 2 * (d * c)
     cross n d c =
         let a : (2 * n + d) * (2 * c) ≡ 2 * n * (2 * c) + d * (2 * c) = add-mul (2 * n) d (2 * c) in

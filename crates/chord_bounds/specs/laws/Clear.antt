@@ -1,16 +1,12 @@
 -- Two seconds that are h apart, and one between them: if both ends are far enough on one side, so is the one between.
 use mathlib.Core.List.{[], _∷_}
-use mathlib.Core.Logic.{⊎-elim}
 use lib.IntN.{ℤ, pos, _+ℤ_, _-ℤ_, _*ℤ_}
 use lib.Signed.{_≤ℤ_, _<ℤ_, clashℤ}
-use Rattle.rounding.specs.laws.Order.{≤ℤ-total, minus-nonneg, +ℤ-nonneg}
+use Rattle.rounding.specs.laws.Order.{minus-nonneg, +ℤ-nonneg, by-contra-<}
 use Rattle.rounding.specs.laws.Ring.{num, _⊕_, _⊖_, _⊗_, v0, v1, v2, v3, v4, v5, v6, v7}
 use Rattle.rounding.specs.laws.Cert.{leq, less, lit, sq, _⊞_, _⊠_, certify, certify-<}
 use Rattle.shadow_geometry.specs.Shadow.{_²}
 use Rattle.shadow_geometry.specs.laws.Triangle.{le-of-squares, triangle}
-
-by-contra-< : (a b : ℤ) → (b ≤ℤ a → ⊥) → a <ℤ b
-by-contra-< a b f = ⊎-elim (λ (h : b ≤ℤ a). absurd (f h)) (λ h. h) (≤ℤ-total b a)
 
 -- (u, v) is I after (p, q) and J before (x, y), H = I + J, and from the chord's point (in H-ths) it is off by at most
 -- 100 H³/8 and 190 H³/8

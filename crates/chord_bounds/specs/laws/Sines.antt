@@ -2,16 +2,15 @@
 --   two-cells              at most a tenth of a degree apart: with the first one's slope, up to 10.0035 units and 0.00461 a millionth
 --   sine-gap, cosine-gap   10^5 |s(y) - s(x)| ≤ 1,000,350 + 174,994 h, where |y - x| ≤ h ≤ 100,000
 --   sine-bend, cosine-bend 10^5 |s(z) - 2 s(y) + s(x)| ≤ 2,000,700 + 922 h + 174,533 g, where |z - y|, |y - x| ≤ h and |z - 2 y + x| ≤ g
-use mathlib.Core.Path.{_≡_, refl, sym, _∙_, ap, subst}
+use mathlib.Core.Path.{_≡_, sym, _∙_, ap, subst}
 use mathlib.Core.List.{[], _∷_}
 use mathlib.Core.Logic.{⊎-elim}
 use Prim.Native.Nat.{ℕ, zero, suc, _+_, _-_, _*_, _/_, _%_, _≤_, _<_}
 use native.Mathlib.Omega.{arith}
 use native.Mathlib.Nat.{mul-le-mul, mul-le-mul-right}
-use lib.IntN.{ℤ, pos, negsuc, negℤ, natAbs, _+ℤ_, _-ℤ_, _*ℤ_, +ℤ-assoc, negℤ-negℤ}
-use lib.Signed.{_≤ℤ_}
+use lib.IntN.{ℤ, pos, negℤ, natAbs, _+ℤ_, _-ℤ_, _*ℤ_, +ℤ-assoc, negℤ-negℤ}
 use Rattle.rounding.specs.Parts.{same, sum, opposite}
-use Rattle.rounding.specs.laws.Order.{parts-≤, natAbs-parts, natAbs-opposite, natAbs-sum, natAbs-product}
+use Rattle.rounding.specs.laws.Order.{parts-≤, natAbs-parts, natAbs-opposite, natAbs-sum, natAbs-product, nonneg-natAbs}
 use Rattle.rounding.specs.laws.Ring.{num, _⊕_, _⊖_, _⊗_, opp, ring, v0, v1, v2, v3, v4, v5, v6, v7}
 use Rattle.sine.specs.Sine.{sine, cosine}
 use Rattle.sine.specs.laws.SineLaws.{either, sine-first, cosine-first, sine-above, cosine-above}
@@ -171,11 +170,9 @@ record Lifted (j : ℕ) (z : ℤ) (n : ℕ) : Type 0 where
   is : pos n ≡ z +ℤ pos (360_000_000 * j)
 
 lift : (j : ℕ) (z : ℤ) → natAbs z ≤ 360_000_000 * j → Lifted j z (natAbs (z +ℤ pos (360_000_000 * j)))
-lift j z h = record { is = natural (z +ℤ pos (360_000_000 * j)) (parts-≤ (omega (arith, sum z (pos (360_000_000 * j)) .is, natAbs-parts z))) }
-  where
-    natural : (z : ℤ) → pos 0 ≤ℤ z → pos (natAbs z) ≡ z
-    natural (pos n) l = refl
-    natural (negsuc n) l = absurd (l .le)
+lift j z h =
+    let w = z +ℤ pos (360_000_000 * j) in
+    record { is = sym (nonneg-natAbs w (parts-≤ (omega (arith, sum z (pos (360_000_000 * j)) .is, natAbs-parts z)))) }
 
 lifted-sine : {j : ℕ} {z : ℤ} {n : ℕ} → Lifted j z n → f n ≡ sine z
 lifted-sine {j} {z} l = ap sine (l .is) ∙ sine-turns j z

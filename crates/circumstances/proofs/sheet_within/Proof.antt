@@ -23,9 +23,6 @@ fill-requires c κs =
     let b = c .before .before .before .before .before in
     (b .pre .0, b .pre .1, c .before .geocentric .ensures, room (b .args .o) (b .pre .1))
 
-array-share-prefix-runs : tie.Need-array-share-prefix-runs
-array-share-prefix-runs c = c .before .fill .ensures .0 .count
-
 slice-aggregate-sheet-from : tie.Need-slice-aggregate-sheet-from
 slice-aggregate-sheet-from c =
     let f = c .before .before in
@@ -51,5 +48,6 @@ returns c = (c .before .before .sheet-from .ensures .0, c .before .before .sheet
 pub sheet-within-spec : {M : Type 1} → statement M
 sheet-within-spec =
     tie.close
-    (tie.spec (λ c κs. search needs) (λ c. search needs) fill-requires array-share-prefix-runs
-    slice-aggregate-sheet-from sheet-from-requires same-length returns)
+    (tie.spec (λ c κs. search needs) (λ c. search needs) fill-requires
+    (λ c. c .before .fill .ensures .0 .count) slice-aggregate-sheet-from sheet-from-requires same-length
+    returns)

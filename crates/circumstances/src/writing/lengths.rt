@@ -30,9 +30,9 @@ fn kind_in(phase: Phase, entry: contacts::entries::Entry) -> Kind
     }
 }
 
-// How many bytes the entries of a phase take, from the states of the k-th.
-fn phase_length(phase: Phase, runs: &[u8], k: usize) -> usize
-    requires { ⌜ (Whole (now runs)) × (length (decoded k (now runs)) ≤ 21601) ⌝ }
+// How many bytes the entries of a phase take, from the states of the k-th, in a window of so many seconds.
+fn phase_length(phase: Phase, runs: &[u8], k: usize, seconds: usize) -> usize
+    requires { ⌜ (Whole (now runs)) × (length (decoded k (now runs)) ≡ seconds) × (seconds ≤ 21601) ⌝ }
     ensures { λ r. ⌜ (r ≡ bytesNeeded phase (entries (decoded k (now (runs .entry))))) × (r ≤ 367217) ⌝ }
 {
     let mut n: usize = 0;
@@ -42,7 +42,7 @@ fn phase_length(phase: Phase, runs: &[u8], k: usize) -> usize
         was: 0,
     };
     loop {
-        let contacts::Next::Found(entry, after) = contacts::step(runs, k, c) else {
+        let contacts::Next::Found(entry, after) = contacts::step(runs, k, seconds, c) else {
             return n;
         };
         let kind = kind_in(phase, entry);
@@ -57,8 +57,10 @@ fn nth_phase_length(o: Occultation, runs: &[u8], k: usize) -> usize
     ensures { λ r. ⌜ (r ≡ bytesNeeded (getD (phasesOf (o .body)) k Penumbra) (entries (statesOf o (getD (phasesOf (o .body)) k Penumbra)))) × (r ≤ 367217) ⌝ }
 {
     let body = o.body;
+    let w = o.window;
     let phase = shadow::bodies::nth_phase(body, k);
-    phase_length(phase, runs, k)
+    let seconds = requests::windows::second_count(w);
+    phase_length(phase, runs, k, seconds)
 }
 
 // How many bytes the entries of all phases take.

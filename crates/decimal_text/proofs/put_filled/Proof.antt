@@ -26,9 +26,6 @@ loop-again c =
     (read-result (t .number-at .result) (t .number-at .ok) ∙ t .number-at .ensures) _ _ _
     (c .before .before .before .put-piece .ensures) (c .number-after .ensures)
 
-same-length : tie.Need-same-length Inv-loop μ-loop
-same-length c = c .before .loop .inv .putting .same
-
 returns : tie.Need-returns Inv-loop μ-loop
 returns c = filling-end _ _ _ _ _ _ _ _ (c .before .loop .inv) (c .loop-test .left)
 
@@ -36,4 +33,5 @@ pub put-filled-spec : {M : Type 1} → statement M
 put-filled-spec =
     tie.close
     (tie.spec Inv-loop μ-loop loop-holds (λ c. omega arith) (λ c κs. search needs) (λ c κs. search needs)
-    (λ c κs. omega arith) (λ c. omega arith) (λ c. omega arith) loop-again same-length returns)
+    (λ c κs. omega arith) (λ c. omega arith) (λ c. omega arith) loop-again
+    (λ c. c .before .loop .inv .putting .same) returns)

@@ -51,15 +51,6 @@ size-is c =
     let d = pos 0 -ℤ next c in
     omega (arith, nonneg (not-below c), natAbs-parts d, is-minus (is-self (pos 0)) (sum z (pos 1)) .is, below z (negative c), natAbs-parts z, ap natAbs (read (c .before)))
 
-add-short : tie.Need-add-short
-add-short c = fits64 (next c) (next-small c)
-
-sub-short : tie.Need-sub-short
-sub-short c = fits (bounds c) short tt
-
-cast-result : tie.Need-cast-result
-cast-result c = unsigned (bounds c) short tt (not-below c)
-
 add-result : tie.Need-add-result
 add-result c = record { fits = omega (arith, ap natAbs (runs (bounds c) short tt), size-is c, fits64-natAbs (c .before .fits .x)) }
 
@@ -74,4 +65,4 @@ returns-2 : tie.Need-returns-2
 returns-2 c = ap natAbs (read (c .before))
 
 pub size-spec : {M : Type 1} → statement M
-size-spec = tie.close (tie.spec add-short sub-short cast-result add-result cast-result-2 returns returns-2)
+size-spec = tie.close (tie.spec (λ c. fits64 (next c) (next-small c)) (λ c. fits (bounds c) short tt) (λ c. unsigned (bounds c) short tt (not-below c)) add-result cast-result-2 returns returns-2)

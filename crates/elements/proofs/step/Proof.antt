@@ -30,14 +30,8 @@ after c =
     (arith, ap natAbs (given c), part-size (a .t) (a .p) 200000000 (c .before .pre .2) (c .before .pre .0)) in
     h ▹ c .before .pre .1 ▹ ends
 
-mul-near-hour : tie.Need-mul-near-hour
-mul-near-hour c = fits (bounds c) product tt
-
 near-hour-requires : tie.Need-near-hour-requires
 near-hour-requires c κs = within (bounds c) product 36000000000000000 tt
-
-add-result : tie.Need-add-result
-add-result c = fits (after c) (add (arg 0) (arg 1)) tt
 
 returns : tie.Need-returns
 unfolding step
@@ -55,4 +49,4 @@ returns c =
     }
 
 pub step-spec : {M : Type 1} → statement M
-step-spec = tie.close (tie.spec mul-near-hour near-hour-requires add-result returns)
+step-spec = tie.close (tie.spec (λ c. fits (bounds c) product tt) near-hour-requires (λ c. fits (after c) (add (arg 0) (arg 1)) tt) returns)

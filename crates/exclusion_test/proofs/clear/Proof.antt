@@ -110,14 +110,8 @@ outside-requires c κs =
 returns-2 : tie.Need-returns-2
 returns-2 c = λ t. absurd (false≢true t)
 
-shows-requires : tie.Need-shows-requires
-shows-requires c κs = handed (first (lows c))
-
 returns-3 : tie.Need-returns-3
 returns-3 c = λ t. absurd (false≢true t)
-
-shows-requires-2 : tie.Need-shows-requires-2
-shows-requires-2 c κs = handed (second (lows' c))
 
 returns-4 : tie.Need-returns-4
 returns-4 c = λ t.
@@ -138,4 +132,4 @@ pub clear-spec : {M : Type 1} → statement M
 clear-spec =
     tie.close
     (tie.spec returns widened-requires lowest-requires (λ c. search needs) outside-requires returns-2
-    shows-requires returns-3 shows-requires-2 returns-4)
+    (λ c κs. handed (first (lows c))) returns-3 (λ c κs. handed (second (lows' c))) returns-4)

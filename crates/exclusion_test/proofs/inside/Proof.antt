@@ -21,9 +21,6 @@ returns c = λ t. absurd (false≢true t)
 returns-2 : tie.Need-returns-2
 returns-2 c = λ t. absurd (false≢true t)
 
-sub-p : tie.Need-sub-p
-sub-p c = fits (bounds (c .before .before)) P tt
-
 mul-if3 : tie.Need-mul-if3
 mul-if3 c = fits (bounds (c .before .before)) (mul P P) tt
 
@@ -50,4 +47,4 @@ returns-5 c = λ t.
     }
 
 pub inside-spec : {M : Type 1} → statement M
-inside-spec = tie.close (tie.spec returns returns-2 sub-p mul-if3 returns-3 sub-q mul-if4 returns-4 returns-5)
+inside-spec = tie.close (tie.spec returns returns-2 (λ c. fits (bounds (c .before .before)) P tt) mul-if3 returns-3 sub-q mul-if4 returns-4 returns-5)

@@ -4,8 +4,8 @@ use mathlib.Core.List.{[], _∷_}
 use Prim.Native.Nat.{_≤_}
 use native.Mathlib.Omega.{arith}
 use lib.IntN.{ℤ, pos, negsuc, natAbs, _+ℤ_, _-ℤ_, _*ℤ_}
-use lib.Signed.{_≤ℤ_, _<ℤ_, quotZ}
-use Rattle.rounding.specs.laws.Order.{zs, parts-≤, +ℤ-nonneg, square-nonneg}
+use lib.Signed.{_≤ℤ_, quotZ}
+use Rattle.rounding.specs.laws.Order.{zs, parts-≤, +ℤ-nonneg, square-nonneg, ≤ℤ-refl, <ℤ-≤}
 use Rattle.rounding.specs.laws.Ring.{num, _⊕_, _⊖_, _⊗_, v0, v1, v2, v3}
 use Rattle.rounding.specs.laws.Cert.{leq, lit, _⊞_, _⊠_, certify}
 use Rattle.rounding.specs.laws.Code as K
@@ -46,12 +46,6 @@ less-quarter m n d h l =
 chord-nonneg : (a b : Sample) → pos 0 ≤ℤ chord a b
 chord-nonneg a b = +ℤ-nonneg (square-nonneg (b .u -ℤ a .u)) (square-nonneg (b .v -ℤ a .v))
 
-itself : (x : ℤ) → x ≤ℤ x
-itself x = omega (arith, zs)
-
-under : (x y : ℤ) → x <ℤ y → x ≤ℤ y
-under x y h = omega (arith, zs)
-
 lowest-of : (a b : Sample) (m : ℤ) → m ≤ℤ a .m → m ≤ℤ b .m → (r : ℤ) → r ≡ m -ℤ quotZ (chord a b +ℤ pos 3) (pos 4) → natAbs r ≤ 9000000000000000003 → Lowest a b r
 lowest-of a b m h k r e s =
     record {
@@ -66,18 +60,6 @@ start c = c .before .before .before .before .before .before .before .before
 sub-p : tie.Need-sub-p
 sub-p c = fits (bounds (c .before .before .before .before)) P tt
 
-sub-q : tie.Need-sub-q
-sub-q c = fits (bounds (start c)) Q tt
-
-mul-quarter : tie.Need-mul-quarter
-mul-quarter c = fits (bounds (start c)) (mul P P) tt
-
-mul-quarter-2 : tie.Need-mul-quarter-2
-mul-quarter-2 c = fits (bounds (start c)) (mul Q Q) tt
-
-add-quarter : tie.Need-add-quarter
-add-quarter c = fits (bounds (start c)) D tt
-
 add-quarter-2 : tie.Need-add-quarter-2
 add-quarter-2 c = fits (bounds (start c)) (add D (K.lit (pos 3))) tt
 
@@ -91,7 +73,7 @@ returns : tie.Need-returns
 returns c =
     let a = start (c .before .before .before) in
     let w = bounds a in
-    lowest-of (a .args .a) (a .args .b) (a .args .a .m) (itself (a .args .a .m)) (under (a .args .a .m) (a .args .b .m) (taken-< w (arg 2) (arg 5) tt (c .if1 .taken)))
+    lowest-of (a .args .a) (a .args .b) (a .args .a .m) (≤ℤ-refl (a .args .a .m)) (<ℤ-≤ (taken-< w (arg 2) (arg 5) tt (c .if1 .taken)))
     _ (runs w (sub (arg 2) quarter) tt) (within w (sub (arg 2) quarter) 9000000000000000003 tt)
 
 sub-result-2 : tie.Need-sub-result-2
@@ -101,11 +83,12 @@ returns-2 : tie.Need-returns-2
 returns-2 c =
     let a = start (c .before .before .before) in
     let w = bounds a in
-    lowest-of (a .args .a) (a .args .b) (a .args .b .m) (left-< w (arg 2) (arg 5) tt (c .if1 .left)) (itself (a .args .b .m))
+    lowest-of (a .args .a) (a .args .b) (a .args .b .m) (left-< w (arg 2) (arg 5) tt (c .if1 .left)) (≤ℤ-refl (a .args .b .m))
     _ (runs w (sub (arg 5) quarter) tt) (within w (sub (arg 5) quarter) 9000000000000000003 tt)
 
 pub lowest-spec : {M : Type 1} → statement M
 lowest-spec =
     tie.close
-    (tie.spec sub-p sub-q mul-quarter mul-quarter-2 add-quarter add-quarter-2 div-quarter sub-result returns
-    sub-result-2 returns-2)
+    (tie.spec sub-p (λ c. fits (bounds (start c)) Q tt) (λ c. fits (bounds (start c)) (mul P P) tt)
+    (λ c. fits (bounds (start c)) (mul Q Q) tt) (λ c. fits (bounds (start c)) D tt) add-quarter-2 div-quarter
+    sub-result returns sub-result-2 returns-2)

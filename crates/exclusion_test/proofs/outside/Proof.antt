@@ -1,9 +1,8 @@
 -- `exclusion_test::outside` meets its contract: w is the larger radius and g.
 use mathlib.Core.List.{[], _∷_}
-use native.Mathlib.Omega.{arith}
 use lib.IntN.{ℤ, _+ℤ_}
-use lib.Signed.{_≤ℤ_, _<ℤ_}
-use Rattle.rounding.specs.laws.Order.{zs}
+use lib.Signed.{_≤ℤ_}
+use Rattle.rounding.specs.laws.Order.{≤ℤ-refl, <ℤ-≤}
 use Rattle.rounding.specs.laws.Ring.{_⊕_, v0, v1, v2}
 use Rattle.rounding.specs.laws.Cert.{leq, certify}
 use Rattle.rounding.specs.laws.Code.{Code, arg, add, mul, Within, whole, ends, _▹_, fits, taken-<, left-<}
@@ -23,15 +22,6 @@ earlier = add (arg 1) (arg 3)
 more : (x y g : ℤ) → x ≤ℤ y → (x +ℤ g) ≤ℤ (y +ℤ g)
 more x y g h = certify 0 (x ∷ y ∷ g ∷ []) (v0 ⊕ v2) (v1 ⊕ v2) (leq v0 v1 h) tt
 
-under : (x y : ℤ) → x <ℤ y → x ≤ℤ y
-under x y h = omega (arith, zs)
-
-itself : (x : ℤ) → x ≤ℤ x
-itself x = omega (arith, zs)
-
-add-w : tie.Need-add-w
-add-w c = fits (bounds (c .before)) later tt
-
 mul-result : tie.Need-mul-result
 mul-result c = fits (bounds (c .before)) (mul later later) tt
 
@@ -42,13 +32,10 @@ returns c = λ t.
     let h = taken-< w (arg 1) (arg 2) tt (c .if1 .taken) in
     record {
       w = a .n +ℤ a .g;
-      start = more (a .k) (a .n) (a .g) (under (a .k) (a .n) h);
-      end = itself (a .n +ℤ a .g);
+      start = more (a .k) (a .n) (a .g) (<ℤ-≤ h);
+      end = ≤ℤ-refl (a .n +ℤ a .g);
       far = taken-< w (mul later later) (arg 0) tt t;
     }
-
-add-w-2 : tie.Need-add-w-2
-add-w-2 c = fits (bounds (c .before)) earlier tt
 
 mul-result-2 : tie.Need-mul-result-2
 mul-result-2 c = fits (bounds (c .before)) (mul earlier earlier) tt
@@ -59,10 +46,10 @@ returns-2 c = λ t.
     let w = bounds (c .before) in
     record {
       w = a .k +ℤ a .g;
-      start = itself (a .k +ℤ a .g);
+      start = ≤ℤ-refl (a .k +ℤ a .g);
       end = more (a .n) (a .k) (a .g) (left-< w (arg 1) (arg 2) tt (c .if1 .left));
       far = taken-< w (mul earlier earlier) (arg 0) tt t;
     }
 
 pub outside-spec : {M : Type 1} → statement M
-outside-spec = tie.close (tie.spec add-w mul-result returns add-w-2 mul-result-2 returns-2)
+outside-spec = tie.close (tie.spec (λ c. fits (bounds (c .before)) later tt) mul-result returns (λ c. fits (bounds (c .before)) earlier tt) mul-result-2 returns-2)

@@ -22,15 +22,6 @@ square = mul (arg 1) (arg 1)
 abbrev G : Code
 G = add (arg 0) (mul (arg 2) square)
 
-mul-result : tie.Need-mul-result
-mul-result c = fits (bounds c) square tt
-
-mul-result-2 : tie.Need-mul-result-2
-mul-result-2 c = fits (bounds c) (mul (arg 2) square) tt
-
-add-result : tie.Need-add-result
-add-result c = fits (bounds c) G tt
-
 returns : tie.Need-returns
 returns c =
     let a = c .before .args in
@@ -43,4 +34,4 @@ returns c =
     }
 
 pub widened-spec : {M : Type 1} → statement M
-widened-spec = tie.close (tie.spec (λ c κs. search needs) (λ c. search needs) mul-result mul-result-2 add-result returns)
+widened-spec = tie.close (tie.spec (λ c κs. search needs) (λ c. search needs) (λ c. fits (bounds c) square tt) (λ c. fits (bounds c) (mul (arg 2) square) tt) (λ c. fits (bounds c) G tt) returns)

@@ -10,7 +10,7 @@ use lib.Signed.{_≤ℤ_, _<ℤ_, leZ-yes}
 use Rattle.sheet_types.specs.States.{State, inside, outside, code}
 use Rattle.sheet_types.specs.declared.phases.Phase.{Phase}
 use Rattle.sheet_types.specs.declared.phases.Phase.the-variants.{Penumbra, Central, Star}
-use Rattle.rounding.specs.laws.Order.{zs, parts-≤, ≤ℤ-trans, natAbs-between}
+use Rattle.rounding.specs.laws.Order.{parts-≤, ≤ℤ-trans, natAbs-between, ≤ℤ-refl}
 use Rattle.rounding.specs.laws.Ring.{num, _⊕_, _⊖_, _⊗_, v0, v1, v2, v3, v4, v5}
 use Rattle.rounding.specs.laws.Cert.{leq, less, lit, _⊞_, _⊠_, certify-<}
 use Rattle.elements.specs.declared.Body.{Body}
@@ -62,9 +62,6 @@ in-moved {k} {m} {n} {o} {g} {k'} {m'} {n'} {o'} {g'} p q r s f i =
 
 signs-moved : {k n k' n' : ℤ} → k ≡ k' → n ≡ n' → OneSign k n → OneSign k' n'
 signs-moved {k} {n} {k'} {n'} p q o = subst (λ (z : ℤ). OneSign z n') p (subst (λ (z : ℤ). OneSign k z) q o)
-
-itself : (z : ℤ) → z ≤ℤ z
-itself z = omega (arith, zs)
 
 -- the state that a passed test shows
 abbrev shown : {A B : Type 0} → A ⊎ B → State
@@ -121,7 +118,7 @@ module _ (o : Occultation) (i : InLimits o) (σ : ℤ) (k j : ℕ) (some : 0 < k
         let y = in-moved (ap size (ia .radius n few .value)) (ia .m .value) (ap size (ib .radius n few .value)) (ib .m .value) wide-is (x .1) in
         Skip.inside (o .guard) guarded (axisOf (o .body)) (axis-sizes (o .body) (i .body)) (placeOf (o .station)) (placed o i) σ k j some first last
         (cone (o .body) φ) (cone-sizes (o .body) (i .body) φ) (wide (o .guard) (pos (k + j)))
-        (signs-moved (ia .radius n few .value) (ib .radius n few .value) (x .0)) (itself (wide (o .guard) (pos (k + j))))
+        (signs-moved (ia .radius n few .value) (ib .radius n few .value) (x .0)) (≤ℤ-refl (wide (o .guard) (pos (k + j))))
         (y .start) (y .end) (y .start-near) (y .end-near)
 
 -- what a passed test shows of a phase

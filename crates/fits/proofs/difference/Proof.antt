@@ -26,12 +26,6 @@ seconds-are : (c : tie.Start) → run (raw (c .args .i) ∷ []) seconds ≡ seco
 seconds-are c =
     runs (bounds c) seconds tt ∙ ap (λ (z : ℤ). hour *ℤ (z -ℤ pos 3)) (count-is (c .args .i) {m = 7} (omega (arith, c .pre .2)) tt)
 
-sub-hour : tie.Need-sub-hour
-sub-hour c = fits (bounds c) hours tt
-
-mul-cubic-at : tie.Need-mul-cubic-at
-mul-cubic-at c = fits (bounds c) seconds tt
-
 cubic-at-requires : tie.Need-cubic-at-requires
 cubic-at-requires c κs = (c .pre .0, rw (seconds-are c) (second-size (c .args .i) (c .pre .2)))
 
@@ -42,12 +36,9 @@ given c = rw (seconds-are (c .before)) at (c .cubic-at .ensures .value)
 after : (c : tie.After-cubic-at) → Within (whole (c .cubic-at .result) ∷ whole (c .before .args .tabulated) ∷ []) (501170000 ∷ 1000000000 ∷ [])
 after c = c .cubic-at .ensures .size ▹ c .before .pre .1 ▹ ends
 
-sub-result : tie.Need-sub-result
-sub-result c = fits (after c) (sub (arg 0) (arg 1)) tt
-
 returns : tie.Need-returns
 returns c = runs (after c) (sub (arg 0) (arg 1)) tt ∙ ap (λ (z : ℤ). z -ℤ c .before .args .tabulated) (given c)
 
 pub difference-spec : {M : Type 1} → statement M
 difference-spec =
-    tie.close (tie.spec (λ c. search needs) sub-hour mul-cubic-at cubic-at-requires sub-result returns)
+    tie.close (tie.spec (λ c. search needs) (λ c. fits (bounds c) hours tt) (λ c. fits (bounds c) seconds tt) cubic-at-requires (λ c. fits (after c) (sub (arg 0) (arg 1)) tt) returns)

@@ -15,9 +15,6 @@ bounds c = c .pre .1 ▹ ends
 abbrev opposite : Code
 opposite = sub (lit (pos 0)) (arg 0)
 
-sub-low : tie.Need-sub-low
-sub-low c = fits (bounds (c .before)) opposite tt
-
 returns : tie.Need-returns
 unfolding hourRanges
 returns c =
@@ -29,5 +26,5 @@ returns c =
 pub hours-in-range-spec : {M : Type 1} → statement M
 hours-in-range-spec =
     tie.close
-    (tie.spec (λ c κs. search needs) sub-low (λ c. search needs) (λ c. search needs) (λ c. search needs)
-    (λ c κs. search needs) returns)
+    (tie.spec (λ c κs. search needs) (λ c. fits (bounds (c .before)) opposite tt) (λ c. search needs)
+    (λ c. search needs) (λ c. search needs) (λ c κs. search needs) returns)

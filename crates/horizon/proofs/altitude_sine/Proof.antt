@@ -54,20 +54,8 @@ after c = q-size c ▹ bounds (c .before)
 abbrev height : Code
 height = add (mul (arg 1) (arg 4)) (mul (arg 0) (arg 5))
 
-mul-near-unit : tie.Need-mul-near-unit
-mul-near-unit c = fits (bounds c) (mul (arg 1) (arg 2)) tt
-
 near-unit-requires : tie.Need-near-unit-requires
 near-unit-requires c κs = within (bounds c) (mul (arg 1) (arg 2)) 1000000000000000000 tt
-
-mul-near-unit-2 : tie.Need-mul-near-unit-2
-mul-near-unit-2 c = fits (after c) (mul (arg 1) (arg 4)) tt
-
-mul-near-unit-3 : tie.Need-mul-near-unit-3
-mul-near-unit-3 c = fits (after c) (mul (arg 0) (arg 5)) tt
-
-add-near-unit : tie.Need-add-near-unit
-add-near-unit c = fits (after c) height tt
 
 near-unit-requires-2 : tie.Need-near-unit-requires-2
 near-unit-requires-2 c κs = within (after c) height 1000000000000000000 tt
@@ -86,5 +74,6 @@ returns c =
 pub altitude-sine-spec : {M : Type 1} → statement M
 altitude-sine-spec =
     tie.close
-    (tie.spec mul-near-unit near-unit-requires mul-near-unit-2 mul-near-unit-3 add-near-unit
-    near-unit-requires-2 returns)
+    (tie.spec (λ c. fits (bounds c) (mul (arg 1) (arg 2)) tt) near-unit-requires
+    (λ c. fits (after c) (mul (arg 1) (arg 4)) tt) (λ c. fits (after c) (mul (arg 0) (arg 5)) tt)
+    (λ c. fits (after c) height tt) near-unit-requires-2 returns)

@@ -1,8 +1,8 @@
 -- `horizon::azimuth` meets its contract: near of products of what it is handed, and their direction.
 use mathlib.Core.Path.{_≡_, ap, ap₂, _∙_}
 use mathlib.Core.List.{[], _∷_}
-use Prim.Native.Nat.{ℕ, _≤_}
-use lib.IntN.{ℤ, pos, negℤ, natAbs, _-ℤ_, _*ℤ_}
+use Prim.Native.Nat.{_≤_}
+use lib.IntN.{ℤ, pos, natAbs, _-ℤ_, _*ℤ_}
 use Rattle.rounding.specs.laws.Ring.{num, _⊖_, _⊗_, opp, ring, v0, v1}
 use Rattle.rounding.specs.laws.Code.{Code, arg, lit, sub, mul, Within, whole, ends, _▹_, fits, runs, within, sized, read-back, read-size}
 use Rattle.rounding.specs.Units.{one}
@@ -94,12 +94,6 @@ mul-near-unit c = fits (bounds c) inner tt
 near-unit-requires : tie.Need-near-unit-requires
 near-unit-requires c κs = within (bounds c) inner 1000000000000000000 tt
 
-mul-near-unit-2 : tie.Need-mul-near-unit-2
-mul-near-unit-2 c = fits (after c) (mul (arg 6) (arg 3)) tt
-
-sub-near-unit : tie.Need-sub-near-unit
-sub-near-unit c = fits (after c) eastward tt
-
 near-unit-requires-2 : tie.Need-near-unit-requires-2
 near-unit-requires-2 c κs = within (after c) eastward 1000000000000000000 tt
 
@@ -108,9 +102,6 @@ mul-near-unit-3 c = fits (after (c .before)) (mul (arg 2) (arg 5)) tt
 
 mul-near-unit-4 : tie.Need-mul-near-unit-4
 mul-near-unit-4 c = fits (after (c .before)) (mul (arg 0) (arg 6)) tt
-
-sub-near-unit-2 : tie.Need-sub-near-unit-2
-sub-near-unit-2 c = fits (after (c .before)) northward tt
 
 near-unit-requires-3 : tie.Need-near-unit-requires-3
 near-unit-requires-3 c κs = within (after (c .before)) northward 1000000000000000000 tt
@@ -128,5 +119,6 @@ returns c =
 pub azimuth-spec : {M : Type 1} → statement M
 azimuth-spec =
     tie.close
-    (tie.spec mul-near-unit near-unit-requires mul-near-unit-2 sub-near-unit near-unit-requires-2
-    mul-near-unit-3 mul-near-unit-4 sub-near-unit-2 near-unit-requires-3 direction-requires returns)
+    (tie.spec mul-near-unit near-unit-requires (λ c. fits (after c) (mul (arg 6) (arg 3)) tt)
+    (λ c. fits (after c) eastward tt) near-unit-requires-2 mul-near-unit-3 mul-near-unit-4
+    (λ c. fits (after (c .before)) northward tt) near-unit-requires-3 direction-requires returns)

@@ -113,9 +113,6 @@ quadratic-at-requires c κs =
     let s = g .before .before .before .before in
     (wider (axis-sized (g .before) .mu) (lit≤ tt) (lit≤ tt) (lit≤ tt), read-size (s .args .t) 10800 (s .pre .2) tt)
 
-add-h : tie.Need-add-h
-add-h c = fits (hour-angle c) sum tt
-
 quadratic-at-requires-2 : tie.Need-quadratic-at-requires-2
 quadratic-at-requires-2 c κs =
     (wider (axis-sized (place c .before) .d) (lit≤ tt) (lit≤ tt) (lit≤ tt), read-size (start c .args .t) 10800 (start c .pre .2) tt)
@@ -126,9 +123,6 @@ orientation-of-requires c κs =
 
 reduced-requires : tie.Need-reduced-requires
 reduced-requires c κs = let s = first c in read-size (s .args .o .station .latitude) 10000000000 (s .pre .1 .station .latitude) tt
-
-sine-requires : tie.Need-sine-requires
-sine-requires c κs = (first (c .before) .pre .0, angle-small c)
 
 cosine-requires : tie.Need-cosine-requires
 cosine-requires c κs = (first (c .before .before) .pre .0, angle-small (c .before))
@@ -156,5 +150,6 @@ returns c =
 pub horizon-within-spec : {M : Type 1} → statement M
 horizon-within-spec =
     tie.close
-    (tie.spec axis-of-requires (λ c κs. search needs) quadratic-at-requires add-h quadratic-at-requires-2
-    orientation-of-requires reduced-requires sine-requires cosine-requires horizon-of-requires returns)
+    (tie.spec axis-of-requires (λ c κs. search needs) quadratic-at-requires (λ c. fits (hour-angle c) sum tt)
+    quadratic-at-requires-2 orientation-of-requires reduced-requires
+    (λ c κs. (first (c .before) .pre .0, angle-small c)) cosine-requires horizon-of-requires returns)

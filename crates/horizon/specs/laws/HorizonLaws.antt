@@ -2,9 +2,9 @@
 --   altitude-within   the altitude lies in -900..900
 --   altitude-up, altitude-down   it is not below 0 exactly where the sine of the altitude, to the nearest unit, is not
 --   azimuth-within, zenith-within   at most 3599, or 65,535
-use mathlib.Core.Path.{_≡_, ap}
+use mathlib.Core.Path.{_≡_}
 use mathlib.Core.Logic.{_⊎_}
-use Prim.Native.Nat.{ℕ, _≤_}
+use Prim.Native.Nat.{_≤_}
 use lib.IntN.{ℤ, pos, natAbs}
 use lib.Signed.{_≤ℤ_, _<ℤ_}
 use Rattle.sine_table.specs.Table.{S}

@@ -3,7 +3,7 @@
 -- lie. So the two azimuths, and the two directions of the zenith, add up to 1799 or 1800 modulo 3600.
 use mathlib.Core.Path.{_≡_, refl, ap, _∙_}
 use mathlib.Core.List.{[], _∷_}
-use lib.IntN.{ℤ, negℤ, _+ℤ_, _-ℤ_, _*ℤ_}
+use lib.IntN.{ℤ, negℤ, _-ℤ_, _*ℤ_}
 use lib.Signed.{leZ-yes}
 use Rattle.rounding.specs.laws.Ring.{_⊕_, _⊖_, _⊗_, opp, ring, v0, v1, v2, v3}
 use Rattle.rounding.specs.Units.{one}

@@ -18,7 +18,7 @@ use Rattle.calendar.specs.declared.Scale.{Scale}
 use Rattle.calendar.specs.declared.Instant.{Instant}
 use Rattle.decimal_text.specs.Texts.{letters, Put}
 use Rattle.decimal_text.specs.laws.TextLaws.{put-nil}
-use Rattle.decimal_text.specs.RowLaws.{joined}
+use Rattle.decimal_text.specs.laws.RowLaws.{joined}
 use Rattle.listing_lines.specs.Lines.{textOf, endFor, lineOf, linesOf}
 use Rattle.calendar.specs.declared.Reference.{Reference}
 use Rattle.calendar.specs.declared.Reference.the-variants as R

@@ -1,11 +1,11 @@
 -- How the code comes by a time: it divides a natural number, which is the hundredths and 100,000 days, and takes the
 -- days off again.
 use Prim.Native.Nat.{ℕ, zero, suc, _+_, _/_, _%_, _<_}
-use mathlib.Core.Path.{_≡_, refl, sym, ap, ap₂, _∙_}
+use mathlib.Core.Path.{_≡_, sym, ap, ap₂, _∙_}
 use mathlib.Core.List.{List, [], _∷_, _++_}
 use native.Mathlib.Omega.{arith}
 use native.Mathlib.Nat.{div-add-mod, mod-lt}
-use lib.IntN.{ℤ, pos, negsuc, natAbs, _+ℤ_, _-ℤ_, _*ℤ_}
+use lib.IntN.{ℤ, pos, negsuc, _+ℤ_, _-ℤ_, _*ℤ_}
 use lib.Signed.{_≤ℤ_, _<ℤ_}
 use lib.ListN.{length}
 use Rattle.rounding.specs.Near.{floorZ}
@@ -17,7 +17,7 @@ use Rattle.rounding.specs.laws.Cert.{leq, less, equ, _⊞_, certify, certify-<}
 use Rattle.decimal_text.specs.Decimals.{signed}
 use Rattle.decimal_text.specs.Texts.{letters, Put}
 use Rattle.decimal_text.specs.laws.TextLaws.{put-nil}
-use Rattle.decimal_text.specs.RowLaws.{joined}
+use Rattle.decimal_text.specs.laws.RowLaws.{joined}
 use Rattle.listing_lines.specs.Times.{ofDayText, dayText, timeText}
 
 -- ---- rounding down after a shift by s times the divisor
@@ -66,10 +66,6 @@ time-up n m e =
     let f = floor-shifted n 10 86400000000 m (omega arith) e in
     days-up (floorZ n (pos 10)) (m / 10)
     (ap (λ z. z +ℤ pos 86400000000) f ∙ ring (pos (m / 10) ∷ pos 86400000000 ∷ []) (v0 ⊖ v1 ⊕ v1) v0 tt)
-
-pub natural : (z : ℤ) → pos 0 ≤ℤ z → z ≡ pos (natAbs z)
-natural (pos n) h = refl
-natural (negsuc n) h = absurd (h .le)
 
 -- ---- the day
 

@@ -1,7 +1,7 @@
 -- `listings::put_listing` meets its contract: the listing with no clock is the sheet's own.
 use mathlib.Core.Path.{ap}
 use lib.IntN.{pos}
-use Rattle.decimal_text.specs.RowLaws.{put-as}
+use Rattle.decimal_text.specs.laws.RowLaws.{put-as}
 use Rattle.listings.specs.Listings.{printed}
 use Rattle.listings.specs.laws.ListingLaws.{timed-off}
 use borrow.Author.Needs.{needs}

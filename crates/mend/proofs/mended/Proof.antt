@@ -4,7 +4,7 @@ use mathlib.Core.Path.{refl, sym, _∙_}
 use native.Mathlib.Omega.{arith}
 use lib.ListN.{length}
 use Rattle.decimal_text.specs.Texts.{Counts}
-use Rattle.decimal_text.specs.RowLaws.{put-as}
+use Rattle.decimal_text.specs.laws.RowLaws.{put-as}
 use Rattle.mend.specs.laws.PrintedLaws.{too-long, refused-out, kept-first, notes-first, all-told}
 use borrow.Author.Needs.{needs}
 use Rattle.mend.proofs.mended.Statement.{statement}
@@ -24,12 +24,6 @@ noted c = let m = c .before .before .before .before .before .before .before .men
 -- the input's length is one of 64 bits
 short : (c : tie.After-mend) → length (c .before .before .before .before .before .before .before .before .args .file .now) < 18446744073709551616
 short c = omega arith
-
-slice-reshare-prefix-put-notes : tie.Need-slice-reshare-prefix-put-notes
-slice-reshare-prefix-put-notes c = noted (c .before) .0
-
-slice-aggregate-put-notes : tie.Need-slice-aggregate-put-notes
-slice-aggregate-put-notes c = noted (c .before .before) .1
 
 returns-2 : tie.Need-returns-2
 returns-2 c =
@@ -52,6 +46,6 @@ pub mended-spec : {M : Type 1} → statement M
 mended-spec =
     tie.close
     (tie.spec (λ c κs. search needs) (λ c. search needs) returns (λ c κs. search needs) (λ c. search needs)
-    slice-reshare-prefix-put-notes slice-aggregate-put-notes (λ c κs. search needs) (λ c. search needs)
+    (λ c. noted (c .before) .0) (λ c. noted (c .before .before) .1) (λ c κs. search needs) (λ c. search needs)
     (λ c κs. search needs) (λ c. search needs) (λ c. search needs) (λ c. search needs) returns-2
     (λ c. search needs) (λ c. search needs) (λ c. search needs) returns-3)

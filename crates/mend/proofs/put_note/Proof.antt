@@ -4,7 +4,7 @@ use mathlib.Core.Path.{ap}
 use native.Mathlib.Omega.{arith}
 use lib.ListN.{length}
 use Rattle.decimal_text.specs.Decimals.{decimal}
-use Rattle.decimal_text.specs.RowLaws.{joined, put-as}
+use Rattle.decimal_text.specs.laws.RowLaws.{joined, put-as}
 use Rattle.mend.specs.Printed.{droppedLine, noteLine}
 use borrow.Author.Needs.{needs}
 use Rattle.mend.proofs.put_note.Statement.{statement}

@@ -3,7 +3,7 @@ use Prim.Native.Nat.{_/_, _-_}
 use native.Mathlib.Omega.{arith}
 use lib.ListN.{length, length-take, length-drop}
 use Rattle.decimal_text.specs.Rows.{part}
-use Rattle.decimal_text.specs.RowLaws.{Rows, rows-start, rows-end, parts-turn}
+use Rattle.decimal_text.specs.laws.RowLaws.{Rows, rows-start, rows-end, parts-turn}
 use Rattle.mend.specs.Printed.{noteLine}
 use borrow.Author.Needs.{needs}
 use Rattle.mend.proofs.put_notes.Statement.{statement}
@@ -24,9 +24,6 @@ put-note-requires c κs = simp (length-take, length-drop) (omega arith)
 loop-again : tie.Need-loop-again Inv-loop μ-loop
 loop-again c = parts-turn 16 noteLine _ _ _ _ _ _ _ (c .before .before .before .before .before .before .loop .inv) (c .before .before .before .before .before .loop-test .taken) _ _ (c .before .before .put-note .ensures)
 
-same-length : tie.Need-same-length Inv-loop μ-loop
-same-length c = c .before .loop .inv .same
-
 returns : tie.Need-returns Inv-loop μ-loop
 returns c = rows-end _ _ _ _ _ _ _ (c .before .loop .inv) (c .loop-test .left)
 
@@ -35,4 +32,4 @@ put-notes-spec =
     tie.close
     (tie.spec Inv-loop μ-loop loop-holds (λ c. search needs) (λ c. search needs) (λ c. search needs)
     (λ c. search needs) (λ c. search needs) put-note-requires (λ c. search needs) (λ c. search needs)
-    loop-again same-length returns)
+    loop-again (λ c. c .before .loop .inv .same) returns)

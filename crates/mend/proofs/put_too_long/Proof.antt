@@ -1,6 +1,6 @@
 -- `mend::put_too_long` meets its contract: word, number and word, one after the other.
 use native.Mathlib.Omega.{arith}
-use Rattle.decimal_text.specs.RowLaws.{joined}
+use Rattle.decimal_text.specs.laws.RowLaws.{joined}
 use Rattle.mend.specs.Printed.{tooLong}
 use borrow.Author.Needs.{needs}
 use Rattle.mend.proofs.put_too_long.Statement.{statement}

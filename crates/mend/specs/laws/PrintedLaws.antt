@@ -1,5 +1,5 @@
 -- The lines of a file's notes are those of its stretches; and what the program's ways leave.
-use Prim.Native.Nat.{ℕ, zero, suc, _+_, _-_, _*_, _/_, _≤_, _<_}
+use Prim.Native.Nat.{ℕ, zero, suc, _+_, _-_, _*_, _/_, _≤_, _<_, min}
 use mathlib.Core.Path.{_≡_, refl, sym, ap, _∙_}
 use mathlib.Core.List.{List, [], _∷_, _++_, append-assoc, append-nil}
 use native.Mathlib.Omega.{arith}
@@ -9,8 +9,11 @@ use lib.Seq.{take-at, drop-at, drop-drop}
 use Rattle.sheet_types.specs.declared.refusals.Refusal.{Refusal}
 use Rattle.decimal_text.specs.Texts.{Put, Counts}
 use Rattle.decimal_text.specs.Rows.{rows, part, eachPart}
-use Rattle.decimal_text.specs.RowLaws.{put-as}
+use Rattle.decimal_text.specs.laws.RowLaws.{put-as}
 use Rattle.listing_lines.specs.Lines.{refusalLine}
+use Rattle.program_io.specs.Inputs.{Read}
+use Rattle.program_io.specs.laws.InputLaws.{read-same}
+use Rattle.program_io.specs.laws.OutputLaws.{put-cut}
 use Rattle.year_file.specs.declared.mending.Answer.{Answer}
 use Rattle.year_file.specs.declared.mending.Answer.the-variants.{Mended, Refused}
 use Rattle.year_file.specs.Walk.{Stretch, kept, stretches, noteOf, notesOf, notes}
@@ -108,3 +111,23 @@ module _ (file sheets room sheets' room' : List ℕ) (r : Answer) (q : r ≡ ans
       let e : eachPart 16 noteLine (take n room') ≡ error (length sheets) (length room) file =
       ap (eachPart 16 noteLine) (notes-first .0) ∙ note-lines file g ∙ o .1 in
       (kept-first .0 ∙ o .0, put-as _ _ old 0 new end e p)
+
+-- ---- what was read
+
+-- a file that fills the array is too long, and so is the whole input; any other was read whole
+module _ (array : List ℕ) (n : ℕ) (c : n ≤ length array) (l : length array ≡ 196608) (input : List ℕ) (q : Read input array n) where
+  same-output : output 196608 196608 (take n array) ≡ output 196608 196608 input
+  same-output = read-same input array n q (output 196608 196608) [] (λ s k. sym (too-long s 196608 196608 (omega arith) .0)) c
+
+  same-error : error 196608 196608 (take n array) ≡ error 196608 196608 input
+  same-error = read-same input array n q (error 196608 196608) (tooLong 196608) (λ s k. sym (too-long s 196608 196608 (omega arith) .1)) c
+
+  pub sheets-out : (a b : ℕ) (text : List ℕ) → a ≡ 196608 → b ≡ 196608 → text ≡ output a b (take n array) → text ≡ output 196608 196608 input
+  sheets-out a b text e f p = p ∙ ap (λ x. output x b (take n array)) e ∙ ap (λ x. output 196608 x (take n array)) f ∙ same-output
+
+  pub text-out : (a b end r : ℕ) (old new : List ℕ) → a ≡ 196608 → b ≡ 196608 → length old ≡ 196608 → Put old 0 (error a b (take n array)) new end
+      → r ≡ min end (length new) → take r new ≡ take 196608 (error 196608 196608 input)
+  text-out a b end r old new e f k p m =
+      put-cut (error a b (take n array)) old new end p (omega arith) r m .0
+      ∙ ap (λ j. take j (error a b (take n array))) k
+      ∙ ap (take 196608) (ap (λ x. error x b (take n array)) e ∙ ap (λ x. error 196608 x (take n array)) f ∙ same-error)

@@ -41,9 +41,6 @@ returns-2 c =
     let t = c .before in
     room-short _ (bytes t) _ (shaped t) _ (omega (arith, c .if1 .taken))
 
-slice-aggregate-put-text : tie.Need-slice-aggregate-put-text
-slice-aggregate-put-text c = sym (made-length (c .before .before))
-
 returns-3 : tie.Need-returns-3
 returns-3 c =
     let p = c .before .before .before .before .before in
@@ -54,5 +51,5 @@ pub mirror-bytes-spec : {M : Type 1} → statement M
 mirror-bytes-spec =
     tie.close
     (tie.spec (λ c κs. search needs) (λ c. search needs) returns (λ c. search needs) returns-2
-    (λ c κs. search needs) (λ c κs. search needs) slice-aggregate-put-text (λ c κs. search needs)
-    (λ c. search needs) returns-3)
+    (λ c κs. search needs) (λ c κs. search needs) (λ c. sym (made-length (c .before .before)))
+    (λ c κs. search needs) (λ c. search needs) returns-3)

@@ -8,9 +8,6 @@ use Rattle.mirrors.proofs.Back.{opposite-back}
 use Rattle.mirrors.proofs.turn.Statement.{statement}
 use Rattle.mirrors.proofs.turn.Tie as tie
 
-opposite-requires : tie.Need-opposite-requires
-opposite-requires c κs = leZ-yes tt
-
 returns : tie.Need-returns
 returns c =
     let s = c .before .before in
@@ -20,5 +17,5 @@ returns c =
 pub turn-spec : {M : Type 1} → statement M
 turn-spec =
     tie.close
-    (tie.spec (λ c. search needs) (λ c. search needs) opposite-requires (λ c. search needs)
+    (tie.spec (λ c. search needs) (λ c. search needs) (λ c κs. leZ-yes tt) (λ c. search needs)
     (λ c. search needs) returns)

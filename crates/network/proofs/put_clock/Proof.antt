@@ -2,7 +2,7 @@
 use native.Mathlib.Omega.{arith}
 use Prim.Native.Nat.{_<_}
 use lib.ListN.{length}
-use Rattle.decimal_text.specs.RowLaws.{joined}
+use Rattle.decimal_text.specs.laws.RowLaws.{joined}
 use Rattle.network.specs.Printed.{clockText}
 use borrow.Author.Needs.{needs}
 use Rattle.network.proofs.put_clock.Statement.{statement}

@@ -1,6 +1,6 @@
 -- `network::put_fault` meets its contract: each arm is a case of the definition.
 use mathlib.Core.Path.{sym, ap}
-use Rattle.decimal_text.specs.RowLaws.{put-as}
+use Rattle.decimal_text.specs.laws.RowLaws.{put-as}
 use Rattle.network.specs.Printed.{faultText}
 use borrow.Author.Needs.{needs}
 use Rattle.network.proofs.put_fault.Statement.{statement}

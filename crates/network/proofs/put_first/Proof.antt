@@ -4,7 +4,7 @@ use native.Mathlib.Omega.{arith}
 use Prim.Native.Nat.{_<_}
 use lib.ListN.{length}
 use Rattle.rounding.specs.laws.Code.{read-result}
-use Rattle.decimal_text.specs.RowLaws.{joined, put-as}
+use Rattle.decimal_text.specs.laws.RowLaws.{joined, put-as}
 use Rattle.network.specs.laws.PrintedLaws.{first-none, first-some}
 use borrow.Author.Needs.{needs}
 use Rattle.network.proofs.put_first.Statement.{statement}

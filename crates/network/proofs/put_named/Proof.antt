@@ -2,7 +2,7 @@
 use mathlib.Core.Path.{sym, ap}
 use native.Mathlib.Omega.{arith}
 use lib.Seq.{length-take-le}
-use Rattle.decimal_text.specs.RowLaws.{joined, put-as}
+use Rattle.decimal_text.specs.laws.RowLaws.{joined, put-as}
 use Rattle.network.specs.Printed.{firstLine, namedText}
 use borrow.Author.Needs.{needs}
 use Rattle.network.proofs.put_named.Statement.{statement}

@@ -5,7 +5,7 @@ use mir.ValLaws.{toZ-ofZ}
 use native.Mathlib.Omega.{arith}
 use Prim.Native.Nat.{_<_}
 use lib.ListN.{length}
-use Rattle.decimal_text.specs.RowLaws.{also, filled-as, joined, put-as}
+use Rattle.decimal_text.specs.laws.RowLaws.{also, filled-as, joined, put-as}
 use Rattle.network.specs.Printed.{stationLine}
 use Rattle.network.specs.laws.PrintedLaws.{station-filled}
 use borrow.Author.Needs.{needs}

@@ -4,7 +4,7 @@ use mathlib.Core.Path.{refl}
 use Prim.Native.Nat.{_-_}
 use native.Mathlib.Omega.{arith}
 use Rattle.rounding.specs.laws.Code.{read-result}
-use Rattle.decimal_text.specs.RowLaws.{Rows, rows-start, rows-turn, rows-end, put-as}
+use Rattle.decimal_text.specs.laws.RowLaws.{Rows, rows-start, rows-turn, rows-end, put-as}
 use Rattle.network.specs.laws.PrintedLaws.{lineAt, line-is, lines-all}
 use borrow.Author.Needs.{needs}
 use Rattle.network.proofs.put_stations.Statement.{statement}
@@ -26,9 +26,6 @@ loop-again c =
     rows-turn _ _ _ _ _ _ _ (l .before .loop .inv) (l .loop-test .taken) _ _
     (put-as _ _ _ _ _ _ (line-is (a .t2 .nodes) (a .t2 .count) (a .steps .now) (l .before .loop .k) _ _ (l .loop-test .taken) (read-result _ (c .before .before .before .before .before .struct-told .given .0 .1)) refl) (c .before .before .put-station .ensures))
 
-same-length : tie.Need-same-length Inv-loop μ-loop
-same-length c = c .before .loop .inv .same
-
 returns : tie.Need-returns Inv-loop μ-loop
 returns c = put-as _ _ _ _ _ _ (lines-all (c .before .before .before .before .args .t2 .nodes) (c .before .before .before .before .args .t2 .count) (c .before .before .before .before .args .steps .now) (omega (arith, c .before .before .before .before .pre))) (rows-end _ _ _ _ _ _ _ (c .before .loop .inv) (c .loop-test .left))
 
@@ -36,5 +33,5 @@ pub put-stations-spec : {M : Type 1} → statement M
 put-stations-spec =
     tie.close
     (tie.spec Inv-loop μ-loop loop-holds (λ c. search needs) (λ c. search needs) (λ c. search needs)
-    (λ c. search needs) (λ c κs. search needs) (λ c. search needs) (λ c. search needs) loop-again same-length
-    returns)
+    (λ c. search needs) (λ c κs. search needs) (λ c. search needs) (λ c. search needs) loop-again
+    (λ c. c .before .loop .inv .same) returns)

@@ -8,7 +8,7 @@ use lib.ListN.{replicate}
 use Rattle.clock_network.specs.declared.stations.Held.{Held}
 use Rattle.clock_network.specs.Nodes.{Holds}
 use Rattle.clock_network.specs.laws.HeldLaws.{held-holds}
-use Rattle.decimal_text.specs.RowLaws.{put-as}
+use Rattle.decimal_text.specs.laws.RowLaws.{put-as}
 use Rattle.decimal_text.specs.laws.TextLaws.{put-nil}
 use Rattle.network_text.specs.declared.Typed.the-variants as T
 use Rattle.network.specs.Printed.{answerText, zeros}

@@ -17,9 +17,6 @@ Inv-loop n out₀ k₀ out k = Copied n out k
 abbrev μ-loop : tie.MeasureT-loop
 μ-loop n out₀ k₀ out k = 25 - k
 
-loop-holds : tie.Need-loop-holds Inv-loop μ-loop
-loop-holds c = copied-start _ (c .pre) _ refl
-
 shared-slice-copy-out-value : tie.Need-shared-slice-copy-out-value Inv-loop μ-loop
 shared-slice-copy-out-value c = omega (arith, c .place-of .ensures .1, c .before .before .before .pre)
 
@@ -36,6 +33,6 @@ returns c = copied-all _ (c .before .before .pre) _ _ (c .before .loop .inv) (c 
 pub eclipse-in-spec : {M : Type 1} → statement M
 eclipse-in-spec =
     tie.close
-    (tie.spec Inv-loop μ-loop loop-holds (λ c κs. search needs) (λ c. search needs)
+    (tie.spec Inv-loop μ-loop (λ c. copied-start _ (c .pre) _ refl) (λ c κs. search needs) (λ c. search needs)
     shared-slice-copy-out-value (λ c. search needs) (λ c. search needs) (λ c. search needs)
     (λ c. search needs) loop-again returns)

@@ -80,12 +80,6 @@ slice-set-of-found c = let l = lent (c .before .before) in omega arith
 loop-holds : tie.Need-loop-holds Inv-loop μ-loop
 loop-holds c = let s = c .before .before .before in walked-start _ _ _ _ (s .pre .0) (s .pre .1) (c .empty .ensures)
 
-add-end : tie.Need-add-end Inv-loop μ-loop
-add-end c = let i = inside c in search needs
-
-part-take-end : tie.Need-part-take-end Inv-loop μ-loop
-part-take-end c = inside c
-
 take-requires : tie.Need-take-requires Inv-loop μ-loop
 take-requires c κs =
     let r = c .before .before .before in
@@ -127,9 +121,6 @@ loop-again c =
     line-taken _ _ _ _ _ _ w _ (loop r .loop-test .taken) (ran r) _ _ _ (sym (c .before .enum-told2 .given .1) ∙ answered n) (stations n)
     (n .take .ensures .1 .0) (n .take .ensures .1 .1) (n .take .kept .1 .1 .1 .0 ∙ w .marked) (n .take .kept .1 .1 .1 .1 .0 ∙ w .fields)
 
-slice-reshare-prefix-complete : tie.Need-slice-reshare-prefix-complete Inv-loop μ-loop
-slice-reshare-prefix-complete c = omega (arith, walked (c .before) .marked)
-
 slice-aggregate-complete : tie.Need-slice-aggregate-complete Inv-loop μ-loop
 slice-aggregate-complete c = let l = c .before .before in sym (length-take-le 29 (l .loop .marks) (omega (arith, walked l .marked)))
 
@@ -149,8 +140,8 @@ pub read-spec : {M : Type 1} → statement M
 read-spec =
     tie.close
     (tie.spec Inv-loop μ-loop slice-set-of-found (λ c κs. search needs) loop-holds (λ c. search needs)
-    (λ c. search needs) (λ c. search needs) (λ c κs. search needs) add-end (λ c. search needs)
-    (λ c. search needs) part-take-end take-requires (λ c. search needs) same-length same-length-2 returns
-    (λ c. search needs) add-at add-line loop-less loop-again slice-reshare-prefix-complete
-    slice-aggregate-complete (λ c κs. search needs) (λ c κs. search needs) same-length-3 same-length-4
-    returns-2)
+    (λ c. search needs) (λ c. search needs) (λ c κs. search needs) (λ c. let i = inside c in search needs)
+    (λ c. search needs) (λ c. search needs) (λ c. inside c) take-requires (λ c. search needs) same-length
+    same-length-2 returns (λ c. search needs) add-at add-line loop-less loop-again
+    (λ c. omega (arith, walked (c .before) .marked)) slice-aggregate-complete (λ c κs. search needs)
+    (λ c κs. search needs) same-length-3 same-length-4 returns-2)

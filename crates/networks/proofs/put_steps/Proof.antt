@@ -15,9 +15,6 @@ Inv-loop told steps₀ i₀ steps i = (i ≤ 64) × (length steps ≡ 64) × (ta
 abbrev μ-loop : tie.MeasureT-loop
 μ-loop told steps₀ i₀ steps i = 64 - i
 
-loop-holds : tie.Need-loop-holds Inv-loop μ-loop
-loop-holds c = (omega arith, c .pre .1, refl)
-
 cast-steps : tie.Need-cast-steps Inv-loop μ-loop
 cast-steps c = record { fits = omega (arith, c .shared-slice-known .given (c .before .before .loop .i)) }
 
@@ -46,5 +43,6 @@ returns c =
 pub put-steps-spec : {M : Type 1} → statement M
 put-steps-spec =
     tie.close
-    (tie.spec Inv-loop μ-loop loop-holds (λ c. search needs) cast-steps (λ c. search needs)
-    (λ c. search needs) (λ c. search needs) (λ c. search needs) loop-again same-length returns)
+    (tie.spec Inv-loop μ-loop (λ c. (omega arith, c .pre .1, refl)) (λ c. search needs) cast-steps
+    (λ c. search needs) (λ c. search needs) (λ c. search needs) (λ c. search needs) loop-again same-length
+    returns)

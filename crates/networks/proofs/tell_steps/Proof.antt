@@ -30,12 +30,6 @@ clocks-counted c =
     let n = c .before in
     prefix-length clockOf (held n .nodes) (c .clocks .result) (held n .count) (c .clocks .ensures) (start n .pre .0 .1) (start n .pre .0 .0)
 
-slice-aggregate-all-steps : tie.Need-slice-aggregate-all-steps
-slice-aggregate-all-steps c = sym (numbers-counted (c .before .before))
-
-slice-aggregate-all-steps-2 : tie.Need-slice-aggregate-all-steps-2
-slice-aggregate-all-steps-2 c = sym (clocks-counted (c .before .before))
-
 all-steps-requires : tie.Need-all-steps-requires
 all-steps-requires c κs =
     let k = c .before .before in
@@ -54,6 +48,7 @@ returns c =
 pub tell-steps-spec : {M : Type 1} → statement M
 tell-steps-spec =
     tie.close
-    (tie.spec (λ c κs. search needs) (λ c κs. search needs) (λ c. search needs) slice-aggregate-all-steps
-    (λ c. search needs) slice-aggregate-all-steps-2 all-steps-requires (λ c. search needs) put-steps-requires
+    (tie.spec (λ c κs. search needs) (λ c κs. search needs) (λ c. search needs)
+    (λ c. sym (numbers-counted (c .before .before))) (λ c. search needs)
+    (λ c. sym (clocks-counted (c .before .before))) all-steps-requires (λ c. search needs) put-steps-requires
     (λ c. search needs) returns)

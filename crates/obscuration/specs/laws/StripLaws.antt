@@ -20,7 +20,7 @@ use lib.Dec.{leb}
 use lib.IntN.{ℤ, pos, negsuc, negℤ, natAbs, _+ℤ_, _-ℤ_, _*ℤ_}
 use lib.Signed.{_≤ℤ_, _<ℤ_, quotZ}
 use Rattle.rounding.specs.Parts.{posP, sum, opposite, product}
-use Rattle.rounding.specs.laws.Order.{zs, ≤-parts, nonneg, natAbs-parts, natAbs-le}
+use Rattle.rounding.specs.laws.Order.{zs, ≤-parts, nonneg, natAbs-parts, natAbs-le, pos-part, square-natAbs}
 use Rattle.rounding.specs.laws.Ring.{num, _⊖_, _⊗_, opp, ring, v0, v1}
 use Rattle.rounding.specs.laws.Cert.{leq, less, lit, sq, _⊞_, _⊠_, certify}
 use Rattle.rounding.specs.Near.{floorZ}
@@ -125,10 +125,6 @@ offset-by (negsuc x) i h = absurd (h .le)
 abbrev gap : (r x : ℤ) → ℤ
 gap r x = r *ℤ r -ℤ x *ℤ x
 
-pos-part : (z : ℤ) (n : ℕ) → z ≤ℤ pos n → posP z ≤ n
-pos-part (pos a) n h = omega (arith, zs)
-pos-part (negsuc a) n h = omega arith
-
 pos-mono : (y z : ℤ) → y ≤ℤ z → posP y ≤ posP z
 pos-mono (pos a) (pos b) h = omega (arith, zs)
 pos-mono (pos a) (negsuc b) h = absurd (h .le)
@@ -138,14 +134,10 @@ pos-above : (z : ℤ) → pos 1 ≤ℤ z → 1 ≤ posP z
 pos-above (pos a) h = omega (arith, zs)
 pos-above (negsuc a) h = absurd (h .le)
 
-square-size : (r : ℤ) → r *ℤ r ≡ pos (natAbs r * natAbs r)
-square-size (pos a) = refl
-square-size (negsuc a) = refl
-
 gap-size : (r x : ℤ) → posP (gap r x) ≤ natAbs r * natAbs r
 gap-size r x =
     pos-part (gap r x) (natAbs r * natAbs r)
-    (rw (sym (square-size r)) (certify 0 (r ∷ x ∷ []) (v0 ⊗ v0 ⊖ v1 ⊗ v1) (v0 ⊗ v0) (sq v1) tt))
+    (rw (sym (square-natAbs r)) (certify 0 (r ∷ x ∷ []) (v0 ⊗ v0 ⊖ v1 ⊗ v1) (v0 ⊗ v0) (sq v1) tt))
 
 gap-fits : (r x : ℤ) → natAbs r ≤ 40000000 → posP (gap r x) < 18446744073709551616
 gap-fits r x h = omega (arith, gap-size r x, mul-le-mul h h)

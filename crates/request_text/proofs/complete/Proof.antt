@@ -13,9 +13,6 @@ Inv-loop marks k₀ k = Given marks k
 abbrev μ-loop : tie.MeasureT-loop
 μ-loop marks k₀ k = length marks - k
 
-loop-holds : tie.Need-loop-holds Inv-loop μ-loop
-loop-holds c = refl
-
 returns : tie.Need-returns Inv-loop μ-loop
 returns c = given-not _ _ (c .before .before .before .loop .inv) (c .before .before .loop-test .taken) (c .if1 .taken)
 
@@ -28,5 +25,5 @@ returns-2 c = given-all _ _ (c .before .loop .inv) (c .loop-test .left)
 pub complete-spec : {M : Type 1} → statement M
 complete-spec =
     tie.close
-    (tie.spec Inv-loop μ-loop loop-holds (λ c. search needs) returns (λ c. search needs) (λ c. search needs)
+    (tie.spec Inv-loop μ-loop (λ c. refl) (λ c. search needs) returns (λ c. search needs) (λ c. search needs)
     loop-again returns-2)

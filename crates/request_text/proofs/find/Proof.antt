@@ -56,15 +56,6 @@ tested c b e =
     let f = c .before .before .before in
     ap (λ (r : Field). named (nameOf r) (start f .args .said .now)) (sym (is f)) ∙ sym (c .is-named .ensures) ∙ e
 
-loop-holds : tie.Need-loop-holds Inv-loop μ-loop
-loop-holds c = finding-start _ _
-
-field-at-requires : tie.Need-field-at-requires Inv-loop μ-loop
-field-at-requires c κs = short c
-
-array-share-prefix-name : tie.Need-array-share-prefix-name Inv-loop μ-loop
-array-share-prefix-name c = room (c .before)
-
 slice-aggregate-is-named : tie.Need-slice-aggregate-is-named Inv-loop μ-loop
 slice-aggregate-is-named c = sym (length-take-le _ _ (room (c .before .before)))
 
@@ -84,6 +75,6 @@ returns-2 c = finding-none _ _ _ (c .before .loop .inv) (omega (arith, c .loop-t
 pub find-spec : {M : Type 1} → statement M
 find-spec =
     tie.close
-    (tie.spec Inv-loop μ-loop (λ c κs. search needs) loop-holds field-at-requires array-share-prefix-name
-    slice-aggregate-is-named (λ c κs. search needs) returns (λ c. search needs) (λ c. search needs) loop-again
-    returns-2)
+    (tie.spec Inv-loop μ-loop (λ c κs. search needs) (λ c. finding-start _ _) (λ c κs. short c)
+    (λ c. room (c .before)) slice-aggregate-is-named (λ c κs. search needs) returns (λ c. search needs)
+    (λ c. search needs) loop-again returns-2)

@@ -14,9 +14,6 @@ Inv-loop said name i₀ i = Named name said i
 abbrev μ-loop : tie.MeasureT-loop
 μ-loop said name i₀ i = length name - i
 
-loop-holds : tie.Need-loop-holds Inv-loop μ-loop
-loop-holds c = named-start _ _
-
 returns : tie.Need-returns Inv-loop μ-loop
 returns c = named-short _ _ _ (c .before .before .loop .inv) (c .before .loop-test .taken) (c .if1 .taken)
 
@@ -44,6 +41,6 @@ returns-4 c = named-followed _ _ _ (c .before .before .before .before .loop .inv
 pub is-named-spec : {M : Type 1} → statement M
 is-named-spec =
     tie.close
-    (tie.spec Inv-loop μ-loop loop-holds returns shared-slice-read-if2 (λ c. search needs) returns-2
-    (λ c. search needs) (λ c. search needs) loop-again returns-3 shared-slice-read-x (λ c κs. search needs)
-    returns-4)
+    (tie.spec Inv-loop μ-loop (λ c. named-start _ _) returns shared-slice-read-if2 (λ c. search needs)
+    returns-2 (λ c. search needs) (λ c. search needs) loop-again returns-3 shared-slice-read-x
+    (λ c κs. search needs) returns-4)

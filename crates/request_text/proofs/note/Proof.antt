@@ -14,9 +14,6 @@ use Rattle.request_text.proofs.note.Tie as tie
 field : (c : tie.After-known-told2) → InRoom (length (c .before .before .before .args .marks .now)) (L.Given (c .before .line2 .given .0 .0) (c .before .line2 .given .0 .1 .0))
 field c = subst (InRoom (length (c .before .before .before .args .marks .now))) (c .before .line2 .given .1) (c .before .before .before .pre .1)
 
-slice-read-if1 : tie.Need-slice-read-if1
-slice-read-if1 c = let f = field (c .before) in omega arith
-
 returns : tie.Need-returns
 returns c = note-twice _ _ _ _ _ (c .before .before .before .line2 .given .1) (c .if1 .taken)
 
@@ -44,6 +41,6 @@ returns-4 c =
 pub note-spec : {M : Type 1} → statement M
 note-spec =
     tie.close
-    (tie.spec (λ c. search needs) (λ c. search needs) (λ c. search needs) slice-read-if1 returns
-    slice-write-marks mul-value slice-set-from-value returns-2 returns-3 (λ c. search needs)
-    (λ c. search needs) returns-4)
+    (tie.spec (λ c. search needs) (λ c. search needs) (λ c. search needs)
+    (λ c. let f = field (c .before) in omega arith) returns slice-write-marks mul-value slice-set-from-value
+    returns-2 returns-3 (λ c. search needs) (λ c. search needs) returns-4)

@@ -86,12 +86,6 @@ loop-holds c =
     let s = c .before .before .before in
     rw (c .count-of .ensures) (typing-start _ _ _ _ (s .pre .0) (s .pre .1))
 
-add-end : tie.Need-add-end Inv-loop μ-loop
-add-end c = let i = inside c in search needs
-
-part-number-in-end : tie.Need-part-number-in-end Inv-loop μ-loop
-part-number-in-end c = inside c
-
 note-requires : tie.Need-note-requires Inv-loop μ-loop
 note-requires c κs =
     let l = loop (c .before .before .before .before) .before in
@@ -167,9 +161,9 @@ pub read-spec : {M : Type 1} → statement M
 read-spec =
     tie.close
     (tie.spec Inv-loop μ-loop (λ c κs. search needs) sub-required mul-found slice-set-of-found loop-holds
-    (λ c. search needs) (λ c. search needs) (λ c. search needs) (λ c κs. search needs) add-end
-    (λ c. search needs) (λ c. search needs) part-number-in-end (λ c κs. search needs) note-requires
-    (λ c. search needs) same-length same-length-2 returns (λ c. search needs) add-at add-line loop-less
-    loop-again slice-reshare-prefix-complete slice-aggregate-complete (λ c κs. search needs)
-    (λ c. search needs) same-length-3 same-length-4 returns-2 (λ c. search needs) same-length-5 same-length-6
-    returns-3)
+    (λ c. search needs) (λ c. search needs) (λ c. search needs) (λ c κs. search needs)
+    (λ c. let i = inside c in search needs) (λ c. search needs) (λ c. search needs) (λ c. inside c)
+    (λ c κs. search needs) note-requires (λ c. search needs) same-length same-length-2 returns
+    (λ c. search needs) add-at add-line loop-less loop-again slice-reshare-prefix-complete
+    slice-aggregate-complete (λ c κs. search needs) (λ c. search needs) same-length-3 same-length-4 returns-2
+    (λ c. search needs) same-length-5 same-length-6 returns-3)

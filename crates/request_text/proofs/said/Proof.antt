@@ -15,4 +15,5 @@ returns c = said-is _ _ _ (c .before .before .before .run .ensures .0) (c .befor
 pub said-spec : {M : Type 1} → statement M
 said-spec =
     tie.close
-    (tie.spec (λ c κs. search needs) slice-aggregate-content (λ c κs. search needs) (λ c. search needs) (λ c. search needs) (λ c. search needs) returns)
+    (tie.spec (λ c κs. search needs) slice-aggregate-content (λ c κs. search needs) (λ c. search needs)
+    (λ c. search needs) (λ c. search needs) returns)

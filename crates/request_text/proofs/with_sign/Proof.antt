@@ -22,9 +22,6 @@ minus-is (suc k) = rw (le-leb 1 (suc k) (omega arith)) (ap negsuc (omega arith))
 abbrev minus : Code
 minus = sub (lit (pos 0)) (arg 0)
 
-sub-result : tie.Need-sub-result
-sub-result c = fits (bounds _ (c .before .pre)) minus tt
-
 returns : tie.Need-returns
 returns c =
     let n = c .before .args .n in
@@ -34,4 +31,4 @@ returns-2 : tie.Need-returns-2
 returns-2 c = let n = c .before .args .n in count-is n (c .before .pre) tt ∙ sym (sign-none _ n (c .if1 .left))
 
 pub with-sign-spec : {M : Type 1} → statement M
-with-sign-spec = tie.close (tie.spec (λ c. search needs) sub-result returns returns-2)
+with-sign-spec = tie.close (tie.spec (λ c. search needs) (λ c. fits (bounds _ (c .before .pre)) minus tt) returns returns-2)

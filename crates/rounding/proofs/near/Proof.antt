@@ -27,17 +27,8 @@ bounds c = c .pre .0 ▹ c .pre .1 ▹ ends
 above-zero : {k : ℤ} → pos 1 ≤ℤ k → pos 0 <ℤ k
 above-zero h = omega (arith, zs)
 
-div-half : tie.Need-div-half
-div-half c = (omega arith, fits (bounds c) Half tt)
-
-sub-result : tie.Need-sub-result
-sub-result c = fits (bounds (c .before)) Less tt
-
 div-result : tie.Need-div-result
 div-result c = (above (bounds (c .before)) (arg 1) tt (above-zero (c .before .pre .2)), fits (bounds (c .before)) (quo Less (arg 1)) tt)
-
-add-result : tie.Need-add-result
-add-result c = fits (bounds (c .before)) More tt
 
 div-result-2 : tie.Need-div-result-2
 div-result-2 c = (above (bounds (c .before)) (arg 1) tt (above-zero (c .before .pre .2)), fits (bounds (c .before)) (quo More (arg 1)) tt)
@@ -53,4 +44,4 @@ returns-2 c =
     ∙ near-above (c .before .args .n) (c .before .args .k) (c .before .pre .2) (left-< (bounds (c .before)) (arg 0) (lit (pos 0)) tt (c .if1 .left))
 
 pub near-spec : {M : Type 1} → statement M
-near-spec = tie.close (tie.spec div-half sub-result div-result add-result div-result-2 returns returns-2)
+near-spec = tie.close (tie.spec (λ c. (omega arith, fits (bounds c) Half tt)) (λ c. fits (bounds (c .before)) Less tt) div-result (λ c. fits (bounds (c .before)) More tt) div-result-2 returns returns-2)

@@ -63,6 +63,9 @@ pub ≤ℤ-trans : {a b c : ℤ} → a ≤ℤ b → b ≤ℤ c → a ≤ℤ c
 pub <ℤ-≤ : {a b : ℤ} → a <ℤ b → a ≤ℤ b
 <ℤ-≤ h = parts-≤ (omega (arith, <-parts h))
 
+pub ≤ℤ-refl : (a : ℤ) → a ≤ℤ a
+≤ℤ-refl a = parts-≤ (omega arith)
+
 pub ≤ℤ-<ℤ-trans : {a b c : ℤ} → a ≤ℤ b → b <ℤ c → a <ℤ c
 ≤ℤ-<ℤ-trans h k = parts-< (omega (arith, ≤-parts h, <-parts k))
 
@@ -77,6 +80,10 @@ pub ≤ℤ-total : (a b : ℤ) → (a ≤ℤ b) ⊎ (b <ℤ a)
 pub by-contra : (a b : ℤ) → (b <ℤ a → ⊥) → a ≤ℤ b
 by-contra a b f = ⊎-elim (λ h. h) (λ (h : b <ℤ a). absurd (f h)) (≤ℤ-total a b)
 
+-- a < b where b ≤ a is absurd
+pub by-contra-< : (a b : ℤ) → (b ≤ℤ a → ⊥) → a <ℤ b
+by-contra-< a b f = ⊎-elim (λ (h : b ≤ℤ a). absurd (f h)) (λ h. h) (≤ℤ-total b a)
+
 pub negℤ-mono : {a b : ℤ} → a ≤ℤ b → negℤ b ≤ℤ negℤ a
 negℤ-mono {a} {b} h = parts-≤ (omega (arith, ≤-parts h, opposite a .is, opposite b .is))
 
@@ -84,6 +91,15 @@ negℤ-mono {a} {b} h = parts-≤ (omega (arith, ≤-parts h, opposite a .is, op
 pub nonneg : {a : ℤ} → pos 0 ≤ℤ a → negP a ≡ 0
 nonneg {a = pos n} h = refl
 nonneg {a = negsuc n} h = absurd (h .le)
+
+pub nonneg-natAbs : (z : ℤ) → pos 0 ≤ℤ z → z ≡ pos (natAbs z)
+nonneg-natAbs (pos n) h = refl
+nonneg-natAbs (negsuc n) h = absurd (h .le)
+
+-- z ≤ n says that z's part above 0 is at most n
+pub pos-part : (z : ℤ) (n : ℕ) → z ≤ℤ pos n → posP z ≤ n
+pos-part (pos a) n h = omega (arith, ≤-parts h)
+pos-part (negsuc a) n h = omega arith
 
 pub *ℤ-nonneg : {a b : ℤ} → pos 0 ≤ℤ a → pos 0 ≤ℤ b → pos 0 ≤ℤ (a *ℤ b)
 *ℤ-nonneg {a = pos m} {b = pos n} h k = parts-≤ (omega arith)

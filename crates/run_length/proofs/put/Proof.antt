@@ -7,9 +7,6 @@ use Rattle.run_length.specs.laws.RunsLaws.{written-two}
 use Rattle.run_length.proofs.put.Statement.{statement}
 use Rattle.run_length.proofs.put.Tie as tie
 
-slice-write-runs-2 : tie.Need-slice-write-runs-2
-slice-write-runs-2 c = simp length-set (omega (arith, c .pre .3))
-
 returns : tie.Need-returns
 returns c = let p = c .pre in written-two _ _ _ _ (p .0) (p .4) (p .1) (p .3) _ _ refl refl
 
@@ -17,5 +14,5 @@ pub put-spec : {M : Type 1} → statement M
 put-spec =
     tie.close
     (tie.spec (λ c. search needs) (λ c. search needs) (λ c. search needs) (λ c. search needs)
-    (λ c. search needs) (λ c. search needs) (λ c. search needs) slice-write-runs-2 (λ c. search needs)
-    (λ c. search needs) returns)
+    (λ c. search needs) (λ c. search needs) (λ c. search needs)
+    (λ c. simp length-set (omega (arith, c .pre .3))) (λ c. search needs) (λ c. search needs) returns)

@@ -71,26 +71,14 @@ eta = sub (mul (arg 2) (arg 6)) (mul (arg 0) (arg 5))
 abbrev zeta : Code
 zeta = add (mul (arg 2) (arg 5)) (mul (arg 0) (arg 6))
 
-mul-near-unit : tie.Need-mul-near-unit
-mul-near-unit c = fits (bounds c) (mul (arg 0) (arg 3)) tt
-
 near-unit-requires : tie.Need-near-unit-requires
 near-unit-requires c κs = within (bounds c) (mul (arg 0) (arg 3)) 1000000000000000000 tt
-
-mul-near-unit-2 : tie.Need-mul-near-unit-2
-mul-near-unit-2 c = fits (after c) xi tt
-
-near-unit-requires-2 : tie.Need-near-unit-requires-2
-near-unit-requires-2 c κs = within (after c) xi 1000000000000000000 tt
 
 mul-near-unit-3 : tie.Need-mul-near-unit-3
 mul-near-unit-3 c = fits (after (c .before)) (mul (arg 2) (arg 6)) tt
 
 mul-near-unit-4 : tie.Need-mul-near-unit-4
 mul-near-unit-4 c = fits (after (c .before)) (mul (arg 0) (arg 5)) tt
-
-sub-near-unit : tie.Need-sub-near-unit
-sub-near-unit c = fits (after (c .before)) eta tt
 
 near-unit-requires-3 : tie.Need-near-unit-requires-3
 near-unit-requires-3 c κs = within (after (c .before)) eta 1000000000000000000 tt
@@ -100,9 +88,6 @@ mul-near-unit-5 c = fits (after (c .before .before)) (mul (arg 2) (arg 5)) tt
 
 mul-near-unit-6 : tie.Need-mul-near-unit-6
 mul-near-unit-6 c = fits (after (c .before .before)) (mul (arg 0) (arg 6)) tt
-
-add-near-unit : tie.Need-add-near-unit
-add-near-unit c = fits (after (c .before .before)) zeta tt
 
 near-unit-requires-4 : tie.Need-near-unit-requires-4
 near-unit-requires-4 c κs = within (after (c .before .before)) zeta 1000000000000000000 tt
@@ -134,6 +119,7 @@ returns c =
 pub coordinates-of-spec : {M : Type 1} → statement M
 coordinates-of-spec =
     tie.close
-    (tie.spec mul-near-unit near-unit-requires mul-near-unit-2 near-unit-requires-2 mul-near-unit-3
-    mul-near-unit-4 sub-near-unit near-unit-requires-3 mul-near-unit-5 mul-near-unit-6 add-near-unit
-    near-unit-requires-4 returns)
+    (tie.spec (λ c. fits (bounds c) (mul (arg 0) (arg 3)) tt) near-unit-requires (λ c. fits (after c) xi tt)
+    (λ c κs. within (after c) xi 1000000000000000000 tt) mul-near-unit-3 mul-near-unit-4
+    (λ c. fits (after (c .before)) eta tt) near-unit-requires-3 mul-near-unit-5 mul-near-unit-6
+    (λ c. fits (after (c .before .before)) zeta tt) near-unit-requires-4 returns)

@@ -74,12 +74,6 @@ short = sub (arg 1) (arg 0)
 abbrev sum : Code
 sum = add (arg 1) (arg 2)
 
-add-sum : tie.Need-add-sum
-add-sum c = fits (bounds c) both tt
-
-sub-share : tie.Need-sub-share
-sub-share c = fits (bounds (c .before)) less tt
-
 share-requires : tie.Need-share-requires
 share-requires c κs =
     let w = bounds (c .before) in (
@@ -102,15 +96,6 @@ returns c =
 cast-root : tie.Need-cast-root
 cast-root c = unsigned (bounds (c .before)) (arg 2) tt (c .before .pre .0 .3)
 
-root-requires : tie.Need-root-requires
-root-requires c κs = tt
-
-cast-share : tie.Need-cast-share
-cast-share c = fits (after c) (arg 0) tt
-
-sub-share-2 : tie.Need-sub-share-2
-sub-share-2 c = fits (after c) short tt
-
 share-requires-2 : tie.Need-share-requires-2
 share-requires-2 c κs =
     let w = after c in
@@ -130,5 +115,6 @@ returns-2 c =
 pub magnitude-spec : {M : Type 1} → statement M
 magnitude-spec =
     tie.close
-    (tie.spec add-sum sub-share share-requires returns cast-root root-requires cast-share sub-share-2
-    share-requires-2 returns-2)
+    (tie.spec (λ c. fits (bounds c) both tt) (λ c. fits (bounds (c .before)) less tt) share-requires returns
+    cast-root (λ c κs. tt) (λ c. fits (after c) (arg 0) tt) (λ c. fits (after c) short tt) share-requires-2
+    returns-2)

@@ -133,9 +133,6 @@ quadratic-at-requires c κs =
     let s = c .before .before .before .before .before .before in
     (wider (s .pre .1 .mu) (lit≤ tt) (lit≤ tt) (lit≤ tt), read-size (s .args .t) 10800 (second s) tt)
 
-add-h : tie.Need-add-h
-add-h c = fits (hour-angle c) sum tt
-
 quadratic-at-requires-2 : tie.Need-quadratic-at-requires-2
 quadratic-at-requires-2 c κs = let s = start c in (wider (s .pre .1 .d) (lit≤ tt) (lit≤ tt) (lit≤ tt), read-size (s .args .t) 10800 (second s) tt)
 
@@ -143,29 +140,11 @@ orientation-of-requires : tie.Need-orientation-of-requires
 orientation-of-requires c κs =
     (start (c .before) .pre .0, within (hour-angle (c .before)) sum 10000000000 tt, read-size (c .quadratic-at2 .result) 10000000000 (d-is c .size) tt)
 
-coordinates-of-requires : tie.Need-coordinates-of-requires
-coordinates-of-requires c κs = (first c .pre .2, orientation-sizes c)
-
 cubic-at-requires : tie.Need-cubic-at-requires
 cubic-at-requires c κs = let s = begun (c .before .before .before) in (s .pre .1 .x, read-size (s .args .t) 10800 (second s) tt)
 
-sub-u : tie.Need-sub-u
-sub-u c = fits (east c) U tt
-
 cubic-at-requires-2 : tie.Need-cubic-at-requires-2
 cubic-at-requires-2 c κs = let s = begun (seen c) in (s .pre .1 .y, read-size (s .args .t) 10800 (second s) tt)
-
-sub-v : tie.Need-sub-v
-sub-v c = fits (sides c) N tt
-
-mul-m : tie.Need-mul-m
-mul-m c = fits (sides c) (mul U U) tt
-
-mul-m-2 : tie.Need-mul-m-2
-mul-m-2 c = fits (sides c) (mul N N) tt
-
-add-m : tie.Need-add-m
-add-m c = fits (sides c) squares tt
 
 returns : tie.Need-returns
 unfolding u v
@@ -188,5 +167,8 @@ returns c =
 pub offset-at-spec : {M : Type 1} → statement M
 offset-at-spec =
     tie.close
-    (tie.spec quadratic-at-requires add-h quadratic-at-requires-2 orientation-of-requires
-    coordinates-of-requires cubic-at-requires sub-u cubic-at-requires-2 sub-v mul-m mul-m-2 add-m returns)
+    (tie.spec quadratic-at-requires (λ c. fits (hour-angle c) sum tt) quadratic-at-requires-2
+    orientation-of-requires (λ c κs. (first c .pre .2, orientation-sizes c)) cubic-at-requires
+    (λ c. fits (east c) U tt) cubic-at-requires-2 (λ c. fits (sides c) N tt)
+    (λ c. fits (sides c) (mul U U) tt) (λ c. fits (sides c) (mul N N) tt) (λ c. fits (sides c) squares tt)
+    returns)

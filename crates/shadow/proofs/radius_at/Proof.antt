@@ -42,9 +42,6 @@ l-is c = let s = start (c .before .before) in rw (read-back (s .args .t) (s .pre
 after : (c : tie.After-quadratic-at) → Within (whole (c .quadratic-at .result) ∷ whole (c .before .near-unit .result) ∷ []) (500000000 ∷ 1010000 ∷ [])
 after c = l-is c .size ▹ term-small (c .before) ▹ ends
 
-mul-near-unit : tie.Need-mul-near-unit
-mul-near-unit c = fits (bounds c) product tt
-
 near-unit-requires : tie.Need-near-unit-requires
 near-unit-requires c κs = within (bounds c) product 1000000000000000000 tt
 
@@ -52,9 +49,6 @@ quadratic-at-requires : tie.Need-quadratic-at-requires
 quadratic-at-requires c κs =
     let s = start (c .before) in
     (wider (s .pre .0 .l) (lit≤ tt) (lit≤ tt) (lit≤ tt), read-size (s .args .t) 10800 (s .pre .2) tt)
-
-sub-result : tie.Need-sub-result
-sub-result c = fits (after c) (sub (arg 0) (arg 1)) tt
 
 returns : tie.Need-returns
 returns c =
@@ -64,4 +58,4 @@ returns c =
     }
 
 pub radius-at-spec : {M : Type 1} → statement M
-radius-at-spec = tie.close (tie.spec mul-near-unit near-unit-requires quadratic-at-requires sub-result returns)
+radius-at-spec = tie.close (tie.spec (λ c. fits (bounds c) product tt) near-unit-requires quadratic-at-requires (λ c. fits (after c) (sub (arg 0) (arg 1)) tt) returns)

@@ -31,9 +31,6 @@ quotient-is c = floor-is (c .before .args .n) (c .before .args .d) (left-< (boun
 returns : tie.Need-returns
 returns c = sym (millionths-neg (c .before .args .n) (c .before .args .d) (taken-< (bounds (c .before)) (arg 0) (lit (pos 0)) tt (c .if1 .taken)))
 
-mul-q : tie.Need-mul-q
-mul-q c = fits (bounds (c .before)) product tt
-
 div-q : tie.Need-div-q
 div-q c = (above (bounds (c .before)) (arg 1) tt (c .before .pre .2), fits (bounds (c .before)) quotient tt)
 
@@ -51,4 +48,4 @@ returns-2 : tie.Need-returns-2
 returns-2 c = ap natAbs (runs (bounds (c .before)) quotient tt ∙ quotient-is c)
 
 pub share-spec : {M : Type 1} → statement M
-share-spec = tie.close (tie.spec returns mul-q div-q cast-result returns-2)
+share-spec = tie.close (tie.spec returns (λ c. fits (bounds (c .before)) product tt) div-q cast-result returns-2)

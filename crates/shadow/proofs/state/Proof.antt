@@ -28,12 +28,6 @@ not-inside c h =
     let w = bounds (c .before) in
     ⊎-elim (λ p. left-< w (arg 2) (mul inner inner) tt (p .1 .left)) (λ e. clashℤ h (left-< w (arg 0) (arg 1) tt (e .left))) (c .if1 .came)
 
-sub-inner : tie.Need-sub-inner
-sub-inner c = fits (bounds c) inner tt
-
-add-outer : tie.Need-add-outer
-add-outer c = fits (bounds c) outer tt
-
 mul-if2 : tie.Need-mul-if2
 mul-if2 c = fits (bounds (c .before)) (mul inner inner) tt
 
@@ -60,4 +54,4 @@ returns-3 c =
     sym (ap code (state-edge (a .guard) (a .l) (a .m) unsure (not-inside (c .before), left-< w (mul outer outer) (arg 2) tt (c .if3 .left))))
 
 pub state-spec : {M : Type 1} → statement M
-state-spec = tie.close (tie.spec sub-inner add-outer mul-if2 returns mul-if3 returns-2 returns-3)
+state-spec = tie.close (tie.spec (λ c. fits (bounds c) inner tt) (λ c. fits (bounds c) outer tt) mul-if2 returns mul-if3 returns-2 returns-3)

@@ -53,10 +53,10 @@ module _ (S : ℕ → ℕ) (h : Rising S) where
         omega (
           arith,
           lt-of-not-le
-          (λ (g : k + j < 899).
-          let e : 900 - (899 - k) ≡ suc k = omega arith in
-          let f : 900 - suc k ≡ 899 - k = omega arith in
-          clashℤ (rw e at (b .above (899 - k) (omega arith) (omega arith))) (<ℤ-≤ (rw f at (a .above (suc k) (omega arith) (omega arith))))),
+              (λ (g : k + j < 899).
+              let e : 900 - (899 - k) ≡ suc k = omega arith in
+              let f : 900 - suc k ≡ 899 - k = omega arith in
+              clashℤ (rw e at (b .above (899 - k) (omega arith) (omega arith))) (<ℤ-≤ (rw f at (a .above (suc k) (omega arith) (omega arith))))),
         )
 
     at-most : {k j : ℕ} → Largest S u v 899 k → Largest S v u 899 j → k + j ≤ 900
@@ -64,9 +64,9 @@ module _ (S : ℕ → ℕ) (h : Rising S) where
         omega (
           arith,
           lt-of-not-le
-          (λ (g : 900 < k + j).
-          crossed u v (S (900 - k)) (S j) (S (900 - j)) (S k) hu hv (h .rises (900 - k) j (omega arith) (omega (arith, b .small)))
-          (h .rises (900 - j) k (omega arith) (omega (arith, a .small))) (a .holds) (b .holds)),
+              (λ (g : 900 < k + j).
+              crossed u v (S (900 - k)) (S j) (S (900 - j)) (S k) hu hv (h .rises (900 - k) j (omega arith) (omega (arith, b .small)))
+              (h .rises (900 - j) k (omega arith) (omega (arith, a .small))) (a .holds) (b .holds)),
         )
 
     pub quarters : (quarter S u v + quarter S v u ≡ 899) ⊎ (quarter S u v + quarter S v u ≡ 900)
@@ -85,7 +85,7 @@ module _ (S : ℕ → ℕ) (h : Rising S) where
             small = omega arith;
             holds = certify 0 (v ∷ pos (S 0) ∷ pos (S 900) ∷ []) (v0 ⊗ v1) (num 0 ⊗ v2) (fact v0 (<ℤ-≤ hv) ⊠ equ v1 (num 0) (ap pos (h .none))) tt;
             above = λ j i k. certify-< 0 (v ∷ pos (S j) ∷ pos (S (900 - j)) ∷ []) (num 0 ⊗ v2) (v0 ⊗ v1)
-            (less (num 0) v0 hv ⊠ less (num 0) v1 (omega (arith, zs, h .rises 0 j i (omega arith), h .none)) ⊞ less (num 0) v0 hv ⊞ less (num 0) v1 (omega (arith, zs, h .rises 0 j i (omega arith), h .none))) tt;
+                (less (num 0) v0 hv ⊠ less (num 0) v1 (omega (arith, zs, h .rises 0 j i (omega arith), h .none)) ⊞ less (num 0) v0 hv ⊞ less (num 0) v1 (omega (arith, zs, h .rises 0 j i (omega arith), h .none))) tt;
           }
 
   -- ---- the five cases, of (u, v) and (u, -v)

@@ -13,7 +13,7 @@ use lib.IntN.{ℤ, pos, negsuc, negℤ, natAbs, _+ℤ_, _-ℤ_, _*ℤ_}
 use lib.Signed.{_≤ℤ_, _<ℤ_, clashℤ}
 use Rattle.sheet_types.specs.States.{State, inside, outside, unsure}
 use Rattle.rounding.specs.Parts.{posP, sum, product}
-use Rattle.rounding.specs.laws.Order.{zs, by-contra, natAbs-parts, neg-natAbs}
+use Rattle.rounding.specs.laws.Order.{zs, by-contra, natAbs-parts, neg-natAbs, pos-part}
 use Rattle.rounding.specs.laws.Ring.{num, _⊕_, _⊖_, _⊗_, opp, v0, v1, v2, v3}
 use Rattle.rounding.specs.laws.Cert.{leq, less, lit, _⊞_, _⊠_, certify, certify-<}
 use Rattle.rounding.specs.Near.{floorZ}
@@ -42,10 +42,6 @@ unfolding magnitude
 magnitude-else inside L1 L2 M h = absurd (h refl)
 magnitude-else outside L1 L2 M h = refl
 magnitude-else unsure L1 L2 M h = refl
-
-pos-part : (z : ℤ) (n : ℕ) → z ≤ℤ pos n → posP z ≤ n
-pos-part (pos a) n h = omega (arith, zs)
-pos-part (negsuc a) n h = omega arith
 
 -- d q ≤ 10^6 n ≤ 1.3·10^6 d
 millionths-limit : (n d : ℤ) → pos 0 <ℤ d → (pos 10 *ℤ n) ≤ℤ (pos 13 *ℤ d) → millionths n d ≤ 1300000

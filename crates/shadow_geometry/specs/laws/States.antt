@@ -20,7 +20,7 @@ use Rattle.sheet_types.specs.declared.phases.Phase.the-variants.{Penumbra, Cent
 use Rattle.elements.specs.declared.Cone.{Cone}
 use Rattle.elements.specs.Sizes.{ConeSizes}
 use Rattle.shadow_geometry.specs.Shadow.{Moment, _², L, M, edge, state}
-use Rattle.shadow_geometry.specs.Exact.{Less, AtLeast, DiffersAtMost, ExactlyInside, ExactlyOutside, WithinUnits}
+use Rattle.shadow_geometry.specs.Exact.{Less, AtLeast, DiffersAtMost, ExactlyInside, WithinUnits}
 use Rattle.shadow_geometry.specs.laws.ExactLaws.{less-mono, least-not-less}
 use Rattle.shadow_geometry.specs.laws.Ranges.{MomentSizes}
 use Rattle.shadow_geometry.specs.laws.Sizes.{L1-positive}

@@ -19,7 +19,7 @@ use Rattle.sheet_codec.specs.Sheets.{Sheet, sheet, refused, storedAt, re
 use Rattle.sheet_codec.specs.Handed.{handedAt, listSheet, writeInto, bufferAfterList}
 use Rattle.sheet_codec.specs.laws.SheetLaws.{read-start, list-start, extent-inv, extent-refused}
 use Rattle.sheet_codec.specs.RoundTrip.{list-length}
-use Rattle.sheet_codec.specs.Passes.{RoomFor, filled, BufferFor, emitted}
+use Rattle.sheet_codec.specs.laws.Passes.{RoomFor, filled, BufferFor, emitted}
 use Rattle.sheet_codec.proofs.decoder.Passing.{Parts, Passing}
 
 pub of-numbers : Parts numbers numbersOf

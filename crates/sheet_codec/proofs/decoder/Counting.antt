@@ -4,17 +4,19 @@ use Prim.Native.Nat.{ℕ, suc, _+_, _-_, _<_}
 use mathlib.Core.Path.{_≡_, sym, ap, _∙_}
 use mathlib.Core.Bool.{true, false}
 use Rattle.sheet_types.specs.declared.refusals.Refusal.{Refusal}
+use Rattle.sheet_types.specs.Refusals.{refusal}
 use Rattle.sheet_format.specs.declared.kinds.Entry.{Entry}
 use Rattle.sheet_format.specs.declared.kinds.Progress.{Progress}
 use Rattle.sheet_format.specs.declared.records.Record.{Record}
 use Rattle.sheet_format.specs.declared.records.Record.the-variants.{Is, Refused}
-use Rattle.sheet_rules.specs.declared.rules.Judgement.the-variants.{Next, Broken}
+use Rattle.sheet_rules.specs.declared.rules.OrderRule.the-variants as O
+use Rattle.sheet_rules.specs.declared.rules.FieldRule.the-variants as F
 use Rattle.sheet_codec.specs.declared.decoder.Extent.the-variants as X
 use Rattle.sheet_format.specs.Kinds.{isEnd}
-use Rattle.sheet_rules.specs.Rules.{judgementOf}
+use Rattle.sheet_rules.specs.Rules.{afterOf, orderOf, fieldsOf}
 use Rattle.sheet_codec.specs.Sheets.{Sheet, sheetFrom, extentOf}
-use Rattle.sheet_codec.specs.laws.GivenLaws.{from-refused, from-broken, from-end, extent-turn}
-use Rattle.sheet_codec.specs.Passes.{extent}
+use Rattle.sheet_codec.specs.laws.GivenLaws.{from-refused, from-disorder, from-unsound, from-end, extent-turn}
+use Rattle.sheet_codec.specs.laws.Passes.{extent}
 
 pub record Counting (given : ℕ → ℕ → Record) (len : ℕ) (w : Sheet) (p : Progress) (n at : ℕ) : Type 0 where
   pub is : extentOf w ≡ extent n (sheetFrom given (suc (len - n)) p n at)
@@ -24,12 +26,16 @@ module _ {given : ℕ → ℕ → Record} {len : ℕ} {w : Sheet} {p : Progress}
   count-refused r q = sym (f .is ∙ ap (extent n) (from-refused given (len - n) p n at r q))
 
   module _ (e : Entry) (next : ℕ) (q : given n at ≡ Is e next) where
-    pub count-broken : (r : Refusal) → judgementOf p at e ≡ Broken r → X.Refused r ≡ extentOf w
-    count-broken r t = sym (f .is ∙ ap (extent n) (from-broken given (len - n) p n at e next q r t))
+    pub count-disorder : orderOf p e ≡ O.Broken → X.Refused (refusal 8 at) ≡ extentOf w
+    count-disorder t = sym (f .is ∙ ap (extent n) (from-disorder given (len - n) p n at e next q t))
 
-    pub count-end : (further : Progress) → judgementOf p at e ≡ Next further → isEnd (e .kind) ≡ true → X.Sheet (n + 1) next ≡ extentOf w
-    count-end further t b = sym (f .is ∙ ap (extent n) (from-end given (len - n) p n at e next q further t b))
+    module _ (t : orderOf p e ≡ O.Kept) where
+      pub count-unsound : fieldsOf p e ≡ F.Broken → X.Refused (refusal 7 at) ≡ extentOf w
+      count-unsound u = sym (f .is ∙ ap (extent n) (from-unsound given (len - n) p n at e next q t u))
 
-    pub count-more : (further : Progress) → judgementOf p at e ≡ Next further → isEnd (e .kind) ≡ false → n < len
-        → Counting given len w further (n + 1) next
-    count-more further t b h = record { is = f .is ∙ extent-turn given len p further n at e next q t b h }
+      pub count-end : fieldsOf p e ≡ F.Kept → isEnd (e .kind) ≡ true → X.Sheet (n + 1) next ≡ extentOf w
+      count-end u b = sym (f .is ∙ ap (extent n) (from-end given (len - n) p n at e next q t u b))
+
+      pub count-more : fieldsOf p e ≡ F.Kept → isEnd (e .kind) ≡ false → n < len
+          → Counting given len w (afterOf p e) (n + 1) next
+      count-more u b h = record { is = f .is ∙ extent-turn given len p n at e next q t u b h }

@@ -9,15 +9,18 @@ use Rattle.sheet_format.specs.declared.kinds.Entry.{Entry}
 use Rattle.sheet_format.specs.declared.kinds.Progress.{Progress}
 use Rattle.sheet_format.specs.declared.records.Record.{Record}
 use Rattle.sheet_format.specs.declared.records.Record.the-variants.{Is, Refused}
-use Rattle.sheet_rules.specs.declared.rules.Judgement.{Judgement}
-use Rattle.sheet_rules.specs.declared.rules.Judgement.the-variants.{Next, Broken}
+use Rattle.sheet_types.specs.Refusals.{refusal}
+use Rattle.sheet_rules.specs.declared.rules.OrderRule.{OrderRule}
+use Rattle.sheet_rules.specs.declared.rules.OrderRule.the-variants as O
+use Rattle.sheet_rules.specs.declared.rules.FieldRule.{FieldRule}
+use Rattle.sheet_rules.specs.declared.rules.FieldRule.the-variants as F
 use Rattle.sheet_codec.specs.declared.decoder.Extent.the-variants as X
 use Rattle.sheet_format.specs.Kinds.{isEnd}
-use Rattle.sheet_rules.specs.Rules.{inOrder, fieldsHold, afterOf, judgementOf}
-use Rattle.sheet_rules.specs.laws.RuleLaws.{next-inv}
+use Rattle.sheet_rules.specs.Rules.{inOrder, fieldsHold, afterOf, orderOf, fieldsOf, ofFields, ofOrder}
+use Rattle.sheet_rules.specs.laws.RuleLaws.{order-kept-inv, fields-kept-inv}
 use Rattle.rounding.specs.laws.Tests.{distinct}
-use Rattle.sheet_codec.specs.Sheets.{Sheet, sheet, refused, more, onward, sheetFrom, ofJudgement, judged}
-use Rattle.sheet_codec.specs.Passes.{extent}
+use Rattle.sheet_codec.specs.Sheets.{Sheet, sheet, refused, more, onward, sheetFrom, judged}
+use Rattle.sheet_codec.specs.laws.Passes.{extent}
 
 module _ (given : ℕ → ℕ → Record) (fuel : ℕ) (p : Progress) (i at : ℕ) where
   by-judged : (r : Record) → judged p at (given i at) ≡ r → sheetFrom given (suc fuel) p i at ≡ onward r
@@ -29,20 +32,25 @@ module _ (given : ℕ → ℕ → Record) (fuel : ℕ) (p : Progress) (i at : �
   from-refused r q = by-judged (Refused r) (ap (judged p at) q)
 
   module _ (e : Entry) (n : ℕ) (got : given i at ≡ Is e n) where
-    pub from-broken : (r : Refusal) → judgementOf p at e ≡ Broken r → sheetFrom given (suc fuel) p i at ≡ refused r
-    from-broken r t = by-judged (Refused r) (ap (judged p at) got ∙ ap (ofJudgement e n) t)
+    -- by the answers to both questions
+    asked : (o : OrderRule) (f : FieldRule) → orderOf p e ≡ o → fieldsOf p e ≡ f
+        → judged p at (given i at) ≡ ofOrder at (ofFields at (Is e n) f) o
+    asked o f t u = ap (judged p at) got ∙ rw (t, u)
 
-    taken : (q : Progress) → judgementOf p at e ≡ Next q → judged p at (given i at) ≡ Is e n
-    taken q t = ap (judged p at) got ∙ ap (ofJudgement e n) t
+    pub from-disorder : orderOf p e ≡ O.Broken → sheetFrom given (suc fuel) p i at ≡ refused (refusal 8 at)
+    from-disorder t = by-judged (Refused (refusal 8 at)) (asked O.Broken (fieldsOf p e) t refl)
 
-    pub from-end : (q : Progress) → judgementOf p at e ≡ Next q → isEnd (e .kind) ≡ true → sheetFrom given (suc fuel) p i at ≡ sheet (e ∷ []) n
-    from-end q t b = by-judged (Is e n) (taken q t) ∙ rw b
+    module _ (t : orderOf p e ≡ O.Kept) where
+      pub from-unsound : fieldsOf p e ≡ F.Broken → sheetFrom given (suc fuel) p i at ≡ refused (refusal 7 at)
+      from-unsound u = by-judged (Refused (refusal 7 at)) (asked O.Kept F.Broken t u)
 
-    pub from-more : (q : Progress) → judgementOf p at e ≡ Next q → isEnd (e .kind) ≡ false
-        → sheetFrom given (suc fuel) p i at ≡ more e (sheetFrom given fuel q (i + 1) n)
-    from-more q t b =
-        by-judged (Is e n) (taken q t) ∙ (rw b)
-        ∙ ap (λ x. more e (sheetFrom given fuel x (i + 1) n)) (sym (next-inv p at e q t .2))
+      module _ (u : fieldsOf p e ≡ F.Kept) where
+        pub from-end : isEnd (e .kind) ≡ true → sheetFrom given (suc fuel) p i at ≡ sheet (e ∷ []) n
+        from-end b = by-judged (Is e n) (asked O.Kept F.Kept t u) ∙ rw b
+
+        pub from-more : isEnd (e .kind) ≡ false
+            → sheetFrom given (suc fuel) p i at ≡ more e (sheetFrom given fuel (afterOf p e) (i + 1) n)
+        from-more b = by-judged (Is e n) (asked O.Kept F.Kept t u) ∙ rw b
 
 -- ---- what the first record tells of a sheet
 
@@ -61,50 +69,54 @@ module _ (given : ℕ → ℕ → Record) (fuel : ℕ) (p : Progress) (i at : �
   never : (r : Refusal) → sheetFrom given (suc fuel) p i at ≡ refused r → Went given fuel p i at es len
   never r q = let t : refused r ≡ sheet es len = sym q ∙ w in let z : _≡_ {A = ℕ} 0 1 = cc in absurd (omega arith)
 
-  module _ (e : Entry) (n : ℕ) (q : given i at ≡ Is e n) (further : Progress) (t : judgementOf p at e ≡ Next further) where
-    rules : (inOrder p e ≡ true) × (fieldsHold p e ≡ true) × (further ≡ afterOf p e)
-    rules = next-inv p at e further t
+  module _ (e : Entry) (n : ℕ) (q : given i at ≡ Is e n) where
+    module _ (t : orderOf p e ≡ O.Kept) (u : fieldsOf p e ≡ F.Kept) where
+      goes-on : (v : Sheet) → sheetFrom given fuel (afterOf p e) (i + 1) n ≡ v → isEnd (e .kind) ≡ false
+          → more e v ≡ sheet es len → Went given fuel p i at es len
+      goes-on (refused r) f b m = let z : _≡_ {A = ℕ} 0 1 = cc in absurd (omega arith)
+      goes-on (sheet ds k) f b m =
+          let l : k ≡ len = cc in
+          record {
+            e = e;
+            n = n;
+            tail = ds;
+            got = q;
+            order = order-kept-inv p e t;
+            fields = fields-kept-inv p e u;
+            all = cc;
+            last = λ g. absurd (distinct (sym g ∙ b));
+            goes = λ _. f ∙ ap (sheet ds) l;
+          }
 
-    goes-on : (v : Sheet) → sheetFrom given fuel further (i + 1) n ≡ v → isEnd (e .kind) ≡ false → more e v ≡ sheet es len → Went given fuel p i at es len
-    goes-on (refused r) f b m = let z : _≡_ {A = ℕ} 0 1 = cc in absurd (omega arith)
-    goes-on (sheet ds k) f b m =
-        let l : k ≡ len = cc in
-        record {
-          e = e;
-          n = n;
-          tail = ds;
-          got = q;
-          order = rules .0;
-          fields = rules .1;
-          all = cc;
-          last = λ g. absurd (distinct (sym g ∙ b));
-          goes = λ _. ap (λ x. sheetFrom given fuel x (i + 1) n) (sym (rules .2)) ∙ f ∙ ap (sheet ds) l;
-        }
+      which : (b : Bool) → isEnd (e .kind) ≡ b → Went given fuel p i at es len
+      which true b =
+          let m : sheet (e ∷ []) n ≡ sheet es len = sym (from-end given fuel p i at e n q t u b) ∙ w in
+          record {
+            e = e;
+            n = n;
+            tail = [];
+            got = q;
+            order = order-kept-inv p e t;
+            fields = fields-kept-inv p e u;
+            all = cc;
+            last = λ _. (refl, cc);
+            goes = λ f. absurd (distinct (sym b ∙ f));
+          }
+      which false b =
+          goes-on (sheetFrom given fuel (afterOf p e) (i + 1) n) refl b
+          (sym (from-more given fuel p i at e n q t u b) ∙ w)
 
-    which : (b : Bool) → isEnd (e .kind) ≡ b → Went given fuel p i at es len
-    which true b =
-        let m : sheet (e ∷ []) n ≡ sheet es len = sym (from-end given fuel p i at e n q further t b) ∙ w in
-        record {
-          e = e;
-          n = n;
-          tail = [];
-          got = q;
-          order = rules .0;
-          fields = rules .1;
-          all = cc;
-          last = λ _. (refl, cc);
-          goes = λ f. absurd (distinct (sym b ∙ f));
-        }
-    which false b =
-        goes-on (sheetFrom given fuel further (i + 1) n) refl b (sym (from-more given fuel p i at e n q further t b) ∙ w)
+    by-fields : orderOf p e ≡ O.Kept → (f : FieldRule) → fieldsOf p e ≡ f → Went given fuel p i at es len
+    by-fields t F.Broken u = never (refusal 7 at) (from-unsound given fuel p i at e n q t u)
+    by-fields t F.Kept u = which t u (isEnd (e .kind)) refl
 
-  by-judgement : (e : Entry) (n : ℕ) → given i at ≡ Is e n → (j : Judgement) → judgementOf p at e ≡ j → Went given fuel p i at es len
-  by-judgement e n q (Broken r) t = never r (from-broken given fuel p i at e n q r t)
-  by-judgement e n q (Next further) t = which e n q further t (isEnd (e .kind)) refl
+    by-order : (o : OrderRule) → orderOf p e ≡ o → Went given fuel p i at es len
+    by-order O.Broken t = never (refusal 8 at) (from-disorder given fuel p i at e n q t)
+    by-order O.Kept t = by-fields t (fieldsOf p e) refl
 
   by-record : (r : Record) → given i at ≡ r → Went given fuel p i at es len
   by-record (Refused r) q = never r (from-refused given fuel p i at r q)
-  by-record (Is e n) q = by-judgement e n q (judgementOf p at e) refl
+  by-record (Is e n) q = by-order e n q (orderOf p e) refl
 
   pub from-inv : Went given fuel p i at es len
   from-inv = by-record (given i at) refl
@@ -119,10 +131,12 @@ extent-more : (k : ℕ) (e : Entry) (w : Sheet) → extent k (more e w) ≡ exte
 extent-more k e (sheet es n) = ap (λ m. X.Sheet m n) (omega arith)
 extent-more k e (refused r) = refl
 
-pub extent-turn : (given : ℕ → ℕ → Record) (len : ℕ) (p q : Progress) (i at : ℕ) (e : Entry) (n : ℕ) → given i at ≡ Is e n
-    → judgementOf p at e ≡ Next q → isEnd (e .kind) ≡ false → i < len
-    → extent i (sheetFrom given (suc (len - i)) p i at) ≡ extent (i + 1) (sheetFrom given (suc (len - (i + 1))) q (i + 1) n)
-extent-turn given len p q i at e n got t b h =
+pub extent-turn : (given : ℕ → ℕ → Record) (len : ℕ) (p : Progress) (i at : ℕ) (e : Entry) (n : ℕ) → given i at ≡ Is e n
+    → orderOf p e ≡ O.Kept → fieldsOf p e ≡ F.Kept → isEnd (e .kind) ≡ false → i < len
+    → extent i (sheetFrom given (suc (len - i)) p i at)
+    ≡ extent (i + 1) (sheetFrom given (suc (len - (i + 1))) (afterOf p e) (i + 1) n)
+extent-turn given len p i at e n got t u b h =
     let f : len - i ≡ suc (len - (i + 1)) = omega arith in
-    ap (extent i) (from-more given (len - i) p i at e n got q t b ∙ ap (λ k. more e (sheetFrom given k q (i + 1) n)) f)
-    ∙ extent-more i e (sheetFrom given (suc (len - (i + 1))) q (i + 1) n)
+    ap (extent i)
+    (from-more given (len - i) p i at e n got t u b ∙ ap (λ k. more e (sheetFrom given k (afterOf p e) (i + 1) n)) f)
+    ∙ extent-more i e (sheetFrom given (suc (len - (i + 1))) (afterOf p e) (i + 1) n)

@@ -16,7 +16,7 @@ use Rattle.sheet_codec.specs.declared.decoder.Extent.the-variants as X
 use Rattle.sheet_rules.specs.Rules.{start}
 use Rattle.sheet_codec.specs.Sheets.{Sheet, sheet, refused, sheetFrom, storedAt, alone, readSheet, readWhole, extentOf}
 use Rattle.sheet_codec.specs.Handed.{handedAt, listSheet, listWhole}
-use Rattle.sheet_codec.specs.Passes.{extent}
+use Rattle.sheet_codec.specs.laws.Passes.{extent}
 
 -- ---- where a loop begins
 

@@ -14,7 +14,7 @@ use Rattle.sheet_format.specs.Kinds.{isEnd, sizeOf}
 use Rattle.sheet_format.specs.RecordEntries.{bytesOf}
 use Rattle.sheet_format.specs.laws.EntryLaws.{bytes-nil, length-bytes-cons}
 use Rattle.sheet_rules.specs.Rules.{afterOf}
-use Rattle.sheet_rules.specs.laws.RuleLaws.{judged-next}
+use Rattle.sheet_rules.specs.laws.RuleLaws.{order-kept, fields-kept}
 use Rattle.sheet_codec.specs.Sheets.{sheet, more, sheetFrom}
 use Rattle.sheet_codec.specs.laws.GivenLaws.{from-end, from-more, from-inv, from-nothing}
 use Rattle.sheet_codec.specs.laws.WellFormed.{WellFormed}
@@ -36,16 +36,17 @@ module _ (given : ℕ → ℕ → Record) where
   from-well (e ∷ es) p w i at zero st h = absurd (omega arith)
   from-well (e ∷ es) p w i at (suc fuel) st h =
       let next = at + sizeOf (e .kind) in
-      let j = judged-next p at e (w .0) (w .1) in
+      let o = order-kept p e (w .0) in
+      let f = fields-kept p e (w .1) in
       let long = length-bytes-cons e es in
       (elim (isEnd (e .kind)) as (λ b. isEnd (e .kind) ≡ b → cond b (es ≡ []) (WellFormed (afterOf p e) es)
       → sheetFrom given (suc fuel) p i at ≡ sheet (e ∷ es) (at + length (bytesOf (e ∷ es)))) [
         | true ↦ λ b none.
             let short : length (bytesOf es) ≡ 0 = ap (λ x. length (bytesOf x)) none ∙ ap length bytes-nil in
-            from-end given fuel p i at e next (st .0) (afterOf p e) j b
+            from-end given fuel p i at e next (st .0) o f b
             ∙ ap (λ x. sheet (e ∷ x) next) (sym none) ∙ ap (sheet (e ∷ es)) (omega arith)
         | false ↦ λ b v.
-            from-more given fuel p i at e next (st .0) (afterOf p e) j b
+            from-more given fuel p i at e next (st .0) o f b
             ∙ ap (more e) (from-well es (afterOf p e) v (i + 1) next fuel (st .1) (omega arith)) ∙ ap (sheet (e ∷ es)) (omega arith)
       ]) refl (w .2)
 

@@ -1,8 +1,11 @@
 -- What callers use of checks.
-use mathlib.Core.Path.{_≡_, refl, sym, subst, ap}
+use mathlib.Core.Path.{_≡_, refl, sym, subst, ap, _∙_}
+use mathlib.Core.List.{List}
 use Prim.Native.Nat.{ℕ}
+use lib.IntN.{ℤ}
 use Rattle.rounding.specs.declared.Limits.{Limits}
 use Rattle.rounding.specs.declared.Limits.the-variants.{InRange, OutOfRange}
+use Rattle.rounding.specs.Limits.{firstOutOfRange, rows}
 use Rattle.sheet_types.specs.declared.refusals.Refusal.{Refusal}
 use Rattle.sheet_types.specs.declared.refusals.Checked.{Checked}
 use Rattle.sheet_types.specs.declared.refusals.Checked.the-variants.{Within, Refused}
@@ -48,3 +51,9 @@ numberIn (Refused r) = r .number
 
 pub refused-number : {c : Checked} {r : Refusal} → c ≡ Refused r → r .number ≡ numberIn c
 refused-number {c} {r} e = sym (ap numberIn e)
+
+-- what is checked of values that are listed is what is checked of the list
+pub ranges-listed : {c : Checked} {xs ys : List ℤ} (number : ℕ) (ls hs : List ℤ)
+    → c ≡ ofLimits number (firstOutOfRange 0 (rows xs ls hs)) → xs ≡ ys
+    → c ≡ ofLimits number (firstOutOfRange 0 (rows ys ls hs))
+ranges-listed number ls hs e f = e ∙ ap (λ (zs : List ℤ). ofLimits number (firstOutOfRange 0 (rows zs ls hs))) f

@@ -62,14 +62,8 @@ mul-gain c = record { fits = omega (arith, cr-small (within c) (parts c)) }
 mul-loss : tie.Need-mul-loss
 mul-loss c = record { fits = omega (arith, sw-small (within c) (parts c)) }
 
-sub-near-unsigned : tie.Need-sub-near-unsigned
-sub-near-unsigned c = taken (within c) (parts c)
-
 near-unsigned-requires-3 : tie.Need-near-unsigned-requires-3
 near-unsigned-requires-3 c κs = (omega (arith, cr-small (within c) (parts c)), omega arith, omega arith)
-
-add-sum : tie.Need-add-sum
-add-sum c = record { fits = omega (arith, step-fits c) }
 
 returns : tie.Need-returns
 returns c =
@@ -85,5 +79,5 @@ first-quadrant-spec =
     tie.close
     (tie.spec (λ c. search needs) (λ c κs. search needs) mul-square near-unsigned-requires-2
     (λ c κs. search needs) (λ c κs. search needs) (λ c. search needs) (λ c κs. search needs)
-    (λ c κs. search needs) mul-gain mul-loss sub-near-unsigned near-unsigned-requires-3 add-sum
-    (λ c. search needs) returns returns-2)
+    (λ c κs. search needs) mul-gain mul-loss (λ c. taken (within c) (parts c)) near-unsigned-requires-3
+    (λ c. record { fits = omega (arith, step-fits c) }) (λ c. search needs) returns returns-2)

@@ -55,9 +55,6 @@ module _ (c : tie.Start) where
 rem-r : tie.Need-rem-r
 rem-r c = (above (bounds c) turn tt (ltZ-yes tt), fits (bounds c) (quo (arg 0) turn) tt)
 
-add-result : tie.Need-add-result
-add-result c = fits (bounds (c .before)) (add rest turn) tt
-
 cast-result : tie.Need-cast-result
 cast-result c = unsigned (bounds (c .before)) (add rest turn) tt (not-negative (below (c .before) (c .if1 .taken)))
 
@@ -71,4 +68,4 @@ returns-2 : tie.Need-returns-2
 returns-2 c = is-reduced (ap natAbs (runs (bounds (c .before)) rest tt ∙ not-below (c .before) (c .if1 .left)))
 
 pub reduced-spec : {M : Type 1} → statement M
-reduced-spec = tie.close (tie.spec rem-r add-result cast-result cast-result-2 returns returns-2)
+reduced-spec = tie.close (tie.spec rem-r (λ c. fits (bounds (c .before)) (add rest turn) tt) cast-result cast-result-2 returns returns-2)

@@ -125,9 +125,6 @@ add-entry c = let l = c .before .loop in entry-fits (suc (l .k)) _ (omega arith)
 shared-slice-copy-out-wide-signed : tie.Need-shared-slice-copy-out-wide-signed Inv-loop μ-loop
 shared-slice-copy-out-wide-signed c = omega (arith, c .before .before .before .pre .0 .size)
 
-add-step : tie.Need-add-step Inv-loop μ-loop
-add-step c = rw (d-is c) (step-fits _ _ _ _ (next c))
-
 loop-again : tie.Need-loop-again Inv-loop μ-loop
 loop-again c =
     let a = c .before .before .before in
@@ -140,17 +137,8 @@ loop-again c =
           (ap (λ z. toZ w64 (ofZ w64 (step c +ℤ z))) (d-is c) ∙ toZ-ofZ w64 _ (step-fits _ _ _ _ g)) g,
     )
 
-cast-room-2 : tie.Need-cast-room-2 Inv-loop μ-loop
-cast-room-2 c = stored 899 _ (omega arith) (entry-is c)
-
 slice-write-room-2 : tie.Need-slice-write-room-2 Inv-loop μ-loop
 slice-write-room-2 c = omega (arith, same (c .before), long (c .before))
-
-add-room : tie.Need-add-room Inv-loop μ-loop
-add-room c = entry-fits 900 _ (omega arith) (last-is c)
-
-cast-room-3 : tie.Need-cast-room-3 Inv-loop μ-loop
-cast-room-3 c = stored 900 _ (omega arith) (last-read c)
 
 slice-write-room-3 : tie.Need-slice-write-room-3 Inv-loop μ-loop
 slice-write-room-3 c = simp length-set (omega (arith, same (c .before), long (c .before)))
@@ -165,6 +153,8 @@ pub sum-up-spec : {M : Type 1} → statement M
 sum-up-spec =
     tie.close
     (tie.spec Inv-loop μ-loop (λ c. search needs) loop-holds cast-room (λ c. search needs) slice-write-room
-    add-entry (λ c. search needs) shared-slice-copy-out-wide-signed (λ c κs. search needs) add-step
-    (λ c. search needs) (λ c. search needs) loop-again cast-room-2 slice-write-room-2 add-room cast-room-3
+    add-entry (λ c. search needs) shared-slice-copy-out-wide-signed (λ c κs. search needs)
+    (λ c. rw (d-is c) (step-fits _ _ _ _ (next c))) (λ c. search needs) (λ c. search needs) loop-again
+    (λ c. stored 899 _ (omega arith) (entry-is c)) slice-write-room-2
+    (λ c. entry-fits 900 _ (omega arith) (last-is c)) (λ c. stored 900 _ (omega arith) (last-read c))
     slice-write-room-3 same-length returns)

@@ -14,11 +14,8 @@ read c = toZ-ofZ w16 (c .args .x) (c .fits .x)
 wider : {z : ℤ} → SFits w16 z → SFits w64 z
 wider f = record { sfits = omega (arith, f .sfits) }
 
-cast-result : tie.Need-cast-result
-cast-result c = rw (read c) (wider (c .fits .x))
-
 returns : tie.Need-returns
 returns c = rw (read c) (toZ-ofZ w64 (c .args .x) (wider (c .fits .x)))
 
 pub wide-signed-spec : {M : Type 1} → statement M
-wide-signed-spec = tie.close (tie.spec cast-result returns)
+wide-signed-spec = tie.close (tie.spec (λ c. rw (read c) (wider (c .fits .x))) returns)

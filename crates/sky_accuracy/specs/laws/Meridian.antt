@@ -14,10 +14,11 @@ use native.Mathlib.Nat.{le-of-mul-le-mul-left, mul-le-mul-left, mul-pos, le-tran
 use lib.Dec.{leb→le}
 use lib.IntN.{ℤ, pos, negℤ, natAbs, _+ℤ_, _-ℤ_, _*ℤ_}
 use lib.Signed.{_≤ℤ_, _<ℤ_, clashℤ}
-use Rattle.rounding.specs.laws.Order.{≤-parts, <-parts, ≤ℤ-trans, ≤ℤ-total, by-contra, natAbs-le, natAbs-between, le-natAbs, natAbs-sum, natAbs-minus, natAbs-product}
+use Rattle.rounding.specs.laws.Order.{≤-parts, <-parts, ≤ℤ-trans, ≤ℤ-total, by-contra, natAbs-le, natAbs-between}
+use Rattle.rounding.specs.laws.Order.{le-natAbs, natAbs-sum, natAbs-minus, natAbs-product, square-natAbs}
 use Rattle.rounding.specs.laws.Ring.{var, num, _⊕_, _⊖_, _⊗_, opp, ring, v0, v1, v2, v3, v4, v5, v6, v7, v8, v9}
 use Rattle.rounding.specs.laws.Cert.{fact, leq, less, lit, sq, _⊞_, _⊠_, certify, certify-<}
-use Rattle.sky_accuracy.specs.laws.Sizes.{Known, by, plus, less as minus, times, self, square-size}
+use Rattle.sky_accuracy.specs.laws.Sizes.{Known, by, plus, less as minus, times, self}
 use Rattle.sky_accuracy.specs.laws.Latitude.{Latitude, weighted, up, down, natural, circle-high, true-low, true-high, rule-low, rule-high, true-positive, rule-positive, C-least, n-least, n-most}
 
 cancel : (k x y : ℤ) → pos 1 ≤ℤ k → (k *ℤ x) ≤ℤ (k *ℤ y) → x ≤ℤ y
@@ -167,8 +168,8 @@ module _ {K m n a b p : ℕ} {C q P Q : ℤ} (x : Latitude K m n a b C (pos p) q
     joint =
         let v = pos A ∷ pos B ∷ pos K ∷ [] in
         let on : (pos 10_000_000_000_000_000 *ℤ (pos A *ℤ pos A +ℤ pos B *ℤ pos B -ℤ pos K *ℤ pos K)) ≤ℤ (pos K *ℤ pos K)
-        = subst (λ (y : ℤ). (pos 10_000_000_000_000_000 *ℤ (y +ℤ pos (B * B) -ℤ pos (K * K))) ≤ℤ pos (K * K)) (square-size P)
-        (subst (λ (z : ℤ). (pos 10_000_000_000_000_000 *ℤ (P *ℤ P +ℤ z -ℤ pos (K * K))) ≤ℤ pos (K * K)) (square-size Q) (circle-high x)) in
+        = subst (λ (y : ℤ). (pos 10_000_000_000_000_000 *ℤ (y +ℤ pos (B * B) -ℤ pos (K * K))) ≤ℤ pos (K * K)) (square-natAbs P)
+        (subst (λ (z : ℤ). (pos 10_000_000_000_000_000 *ℤ (P *ℤ P +ℤ z -ℤ pos (K * K))) ≤ℤ pos (K * K)) (square-natAbs Q) (circle-high x)) in
         certify 4_828_439_999_999_999_999_999 v (num 100_000 ⊗ ((v0 ⊕ v1) ⊗ v1)) (num 120_712 ⊗ (v2 ⊗ v2))
         (lit 10_000_000_000_000_000 ⊠ (sq (num 241_422 ⊗ v0 ⊖ num 100_000 ⊗ v1) ⊞ lit 182_084 ⊠ sq v1)
         ⊞ lit 58_284_582_084 ⊠ leq (num 10_000_000_000_000_000 ⊗ (v0 ⊗ v0 ⊕ v1 ⊗ v1 ⊖ v2 ⊗ v2)) (v2 ⊗ v2) on

@@ -9,7 +9,7 @@ use native.Mathlib.Nat.{mul-le-mul, mul-le-mul-left}
 use lib.Dec.{leb→le}
 use lib.IntN.{ℤ, pos, natAbs, _+ℤ_, _-ℤ_, _*ℤ_}
 use lib.Signed.{_≤ℤ_, leZ-yes}
-use Rattle.rounding.specs.laws.Order.{≤-parts, le-natAbs, natAbs-sum, natAbs-product}
+use Rattle.rounding.specs.laws.Order.{≤-parts, le-natAbs, natAbs-sum, natAbs-product, square-natAbs}
 use Rattle.rounding.specs.laws.Ring.{num, _⊕_, _⊖_, _⊗_, ring, v0, v1, v2, v3, v4, v5, v6, v7, v8, v9}
 use Rattle.rounding.specs.laws.Cert.{fact, leq, lit, sq, _⊞_, _⊠_, certify}
 use Rattle.rounding.specs.Units.{one}
@@ -23,7 +23,7 @@ use Rattle.sine_accuracy.specs.TrueSine.{trueSine, trueCosine}
 use Rattle.sine_accuracy.specs.laws.EveryAngle.{sine-everywhere, cosine-everywhere}
 use Rattle.sine_accuracy.specs.laws.Circle as True
 use Rattle.sky_accuracy.specs.TruePlace.{underTrue, TrueC, placeCommon, trueR, trueP, PlaceClose}
-use Rattle.sky_accuracy.specs.laws.Sizes.{Known, OnCircle, by, plus, times, self, square-size}
+use Rattle.sky_accuracy.specs.laws.Sizes.{Known, OnCircle, by, plus, times, self}
 use Rattle.sky_accuracy.specs.laws.Circle.{squares}
 use Rattle.sky_accuracy.specs.laws.Curvature.{curvature, C-positive, C-most}
 use Rattle.sky_accuracy.specs.laws.Latitude.{weighted, Latitude, up, natural}
@@ -258,8 +258,8 @@ module _ (latitude height : ℤ) (hl : natAbs latitude ≤ 90000000) (hh : natAb
 
   circle-sizes : (pos 10_000_000_000_000_000 *ℤ (pos (natAbs κ) *ℤ pos (natAbs κ) +ℤ pos (natAbs σ) *ℤ pos (natAbs σ) -ℤ pos K *ℤ pos K)) ≤ℤ (pos K *ℤ pos K)
   circle-sizes =
-      subst (λ (y : ℤ). (pos 10_000_000_000_000_000 *ℤ (y +ℤ pos (natAbs σ * natAbs σ) -ℤ pos (K * K))) ≤ℤ pos (K * K)) (square-size κ)
-      (subst (λ (z : ℤ). (pos 10_000_000_000_000_000 *ℤ (κ *ℤ κ +ℤ z -ℤ pos (K * K))) ≤ℤ pos (K * K)) (square-size σ)
+      subst (λ (y : ℤ). (pos 10_000_000_000_000_000 *ℤ (y +ℤ pos (natAbs σ * natAbs σ) -ℤ pos (K * K))) ≤ℤ pos (K * K)) (square-natAbs κ)
+      (subst (λ (z : ℤ). (pos 10_000_000_000_000_000 *ℤ (κ *ℤ κ +ℤ z -ℤ pos (K * K))) ≤ℤ pos (K * K)) (square-natAbs σ)
       (le-natAbs _ (times 10_000_000_000_000_000 (κ *ℤ κ +ℤ σ *ℤ σ -ℤ pos (K * K)) (on-circle-turned .on))))
 
   pub place-size : (pos (natAbs (trueR t height)) *ℤ pos (natAbs (trueR t height)) +ℤ pos (natAbs (trueP t height)) *ℤ pos (natAbs (trueP t height)))

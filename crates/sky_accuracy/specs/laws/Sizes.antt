@@ -1,8 +1,7 @@
 -- What is known of a sine or a cosine s of the rule, and sums and products of sizes.
-use mathlib.Core.Path.{_≡_, refl}
 use Prim.Native.Nat.{ℕ, _+_, _*_, _≤_}
 use native.Mathlib.Omega.{arith}
-use lib.IntN.{ℤ, pos, negsuc, natAbs, _+ℤ_, _-ℤ_, _*ℤ_}
+use lib.IntN.{ℤ, pos, natAbs, _+ℤ_, _-ℤ_, _*ℤ_}
 use Rattle.rounding.specs.laws.Order.{natAbs-sum, natAbs-minus, natAbs-product, natAbs-product-le}
 
 -- s is S over K to 1.79 units, and at most 1
@@ -28,7 +27,3 @@ times k z h = omega (arith, natAbs-product (pos k) z)
 
 pub self : (y : ℤ) → natAbs y ≤ natAbs y
 self y = omega arith
-
-pub square-size : (z : ℤ) → z *ℤ z ≡ pos (natAbs z * natAbs z)
-square-size (pos k) = refl
-square-size (negsuc k) = refl

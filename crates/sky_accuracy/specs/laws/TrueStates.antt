@@ -8,7 +8,7 @@ use lib.IntN.{ℤ, pos, negℤ, _+ℤ_, _-ℤ_, _*ℤ_}
 use lib.Signed.{_≤ℤ_, clashℤ, leZ-yes}
 use Rattle.sheet_types.specs.declared.phases.Phase.{Phase}
 use Rattle.sheet_types.specs.States.{inside, outside}
-use Rattle.rounding.specs.laws.Order.{<ℤ-≤, by-contra}
+use Rattle.rounding.specs.laws.Order.{<ℤ-≤, by-contra, by-contra-<}
 use Rattle.rounding.specs.laws.Ring.{num, _⊕_, _⊖_, _⊗_, opp, ring, v0, v1, v2, v3}
 use Rattle.rounding.specs.laws.Cert.{fact, leq, less, lit, sq, _⊞_, _⊠_, certify, certify-<}
 use Rattle.elements.specs.declared.Cone.{Cone}
@@ -16,7 +16,7 @@ use Rattle.shadow_geometry.specs.Shadow.{_², L, M, edge, state}
 use Rattle.shadow_geometry.specs.Exact.{D, Less, AtLeast, exact-edge, WithinUnits}
 use Rattle.shadow_geometry.specs.laws.ExactLaws.{less-mono, least-not-less}
 use Rattle.shadow_geometry.specs.laws.StateLaws.{state-says}
-use Rattle.shadow_geometry.specs.Thirteen.{Thirteen, by-contra-<}
+use Rattle.shadow_geometry.specs.Thirteen.{Thirteen}
 use Rattle.sky_accuracy.specs.laws.Latitude.{natural}
 use Rattle.sky_accuracy.specs.TrueShadow.{Sky, momentOfSky, T, true-M, true-edge, TrulyInside, TrulyWithinUnits}
 use Rattle.sky_accuracy.specs.Nineteen.{Nineteen}

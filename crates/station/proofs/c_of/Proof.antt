@@ -60,21 +60,6 @@ w-high c = let b = c .before .before in rw (w-is c) (root-high (b .args .sine) (
 w-back : (c : tie.After-root) → toZ w64 (ofZ w64 (pos (c .root .result))) ≡ pos (c .root .result)
 w-back c = read-back (pos (c .root .result)) {m = 141421357} (w-high c) tt
 
-mul-near-unit : tie.Need-mul-near-unit
-mul-near-unit c = fits (bounds c) sE tt
-
-near-unit-requires : tie.Need-near-unit-requires
-near-unit-requires c κs = within (bounds c) sE 1000000000000000000 tt
-
-mul-under : tie.Need-mul-under
-mul-under c = fits (after c) (mul (arg 0) (arg 0)) tt
-
-mul-under-2 : tie.Need-mul-under-2
-mul-under-2 c = fits (after c) (mul (arg 1) (arg 2)) tt
-
-add-under : tie.Need-add-under
-add-under c = fits (after c) U tt
-
 cast-root : tie.Need-cast-root
 cast-root c =
     let b = c .before in
@@ -99,4 +84,6 @@ returns c =
 pub c-of-spec : {M : Type 1} → statement M
 c-of-spec =
     tie.close
-    (tie.spec mul-near-unit near-unit-requires mul-under mul-under-2 add-under cast-root (λ c κs. search needs) cast-near near-requires returns)
+    (tie.spec (λ c. fits (bounds c) sE tt) (λ c κs. within (bounds c) sE 1000000000000000000 tt)
+    (λ c. fits (after c) (mul (arg 0) (arg 0)) tt) (λ c. fits (after c) (mul (arg 1) (arg 2)) tt)
+    (λ c. fits (after c) U tt) cast-root (λ c κs. search needs) cast-near near-requires returns)

@@ -27,14 +27,8 @@ turned c =
     let t : natAbs (c .near .result) ≤ 835614 = rw (turn-is c) (turn-size (c .before .args .deltat) (c .before .pre .1)) in
     c .before .pre .0 ▹ t ▹ ends
 
-mul-near : tie.Need-mul-near
-mul-near c = fits (bounds c) product tt
-
 near-requires : tie.Need-near-requires
 near-requires c κs = (within (bounds c) product 4000000000000000000 tt, lit≤ tt, leZ-yes tt)
-
-sub-result : tie.Need-sub-result
-sub-result c = fits (turned c) (sub (arg 0) (arg 1)) tt
 
 value : (c : tie.After-near) → c .before .args .longitude -ℤ c .near .result ≡ ephemerisLongitude (c .before .args .longitude) (c .before .args .deltat)
 unfolding ephemerisLongitude
@@ -47,4 +41,4 @@ returns c =
     record { value = e; size = rw e (longitude-size (s .args .longitude) (s .args .deltat) (s .pre .0) (s .pre .1)) }
 
 pub ephemeris-longitude-spec : {M : Type 1} → statement M
-ephemeris-longitude-spec = tie.close (tie.spec mul-near near-requires sub-result returns)
+ephemeris-longitude-spec = tie.close (tie.spec (λ c. fits (bounds c) product tt) near-requires (λ c. fits (turned c) (sub (arg 0) (arg 1)) tt) returns)

@@ -140,9 +140,6 @@ reduced-requires c κs =
     let b = c .before .before .before .before .before in
     read-size (b .args .s .latitude) 10000000000 (b .pre .1 .latitude) tt
 
-sine-requires : tie.Need-sine-requires
-sine-requires c κs = (start c .pre .0, angle-small c)
-
 cosine-requires : tie.Need-cosine-requires
 cosine-requires c κs = (start (c .before) .pre .0, angle-small (c .before))
 
@@ -152,32 +149,11 @@ c-of-requires c κs =
     let k = c .cosine in
     rw (read-back (s .result) (s .ensures .small) tt, read-back (k .result) (k .ensures .small) tt) (s .ensures .small, k .ensures .small, circle c)
 
-mul-near-unit : tie.Need-mul-near-unit
-mul-near-unit c = fits (after-C c) CE tt
-
-near-unit-requires : tie.Need-near-unit-requires
-near-unit-requires c κs = within (after-C c) CE 1000000000000000000 tt
-
-mul-near : tie.Need-mul-near
-mul-near c = fits (height c) scaled-up tt
-
 near-requires : tie.Need-near-requires
 near-requires c κs = (within (height c) scaled-up 4000000000000000000 tt, lit≤ tt, leZ-yes tt)
 
-add-near-unit : tie.Need-add-near-unit
-add-near-unit c = fits (equator c) (add (arg 0) (arg 1)) tt
-
-mul-near-unit-2 : tie.Need-mul-near-unit-2
-mul-near-unit-2 c = fits (equator c) scaled tt
-
 near-unit-requires-2 : tie.Need-near-unit-requires-2
 near-unit-requires-2 c κs = within (equator c) scaled 1000000000000000000 tt
-
-add-near-unit-2 : tie.Need-add-near-unit-2
-add-near-unit-2 c = fits (axis c) (add (arg 0) (arg 1)) tt
-
-mul-near-unit-3 : tie.Need-mul-near-unit-3
-mul-near-unit-3 c = fits (axis c) scaled tt
 
 near-unit-requires-3 : tie.Need-near-unit-requires-3
 near-unit-requires-3 c κs = within (axis c) scaled 1000000000000000000 tt
@@ -229,6 +205,8 @@ returns c =
 pub geocentric-spec : {M : Type 1} → statement M
 geocentric-spec =
     tie.close
-    (tie.spec reduced-requires sine-requires cosine-requires c-of-requires mul-near-unit near-unit-requires
-    mul-near near-requires add-near-unit mul-near-unit-2 near-unit-requires-2 add-near-unit-2 mul-near-unit-3
-    near-unit-requires-3 ephemeris-longitude-requires returns)
+    (tie.spec reduced-requires (λ c κs. (start c .pre .0, angle-small c)) cosine-requires c-of-requires
+    (λ c. fits (after-C c) CE tt) (λ c κs. within (after-C c) CE 1000000000000000000 tt)
+    (λ c. fits (height c) scaled-up tt) near-requires (λ c. fits (equator c) (add (arg 0) (arg 1)) tt)
+    (λ c. fits (equator c) scaled tt) near-unit-requires-2 (λ c. fits (axis c) (add (arg 0) (arg 1)) tt)
+    (λ c. fits (axis c) scaled tt) near-unit-requires-3 ephemeris-longitude-requires returns)

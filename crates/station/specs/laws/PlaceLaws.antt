@@ -1,14 +1,15 @@
 -- How large W, C, Z, h, R and P are; `place-sizes`: so every station in its ranges has its place within the sizes that
 -- the shadow asks.
-use mathlib.Core.Path.{_≡_, refl, subst}
+use mathlib.Core.Path.{_≡_, subst}
 use mathlib.Core.List.{[], _∷_}
 use Prim.Native.Nat.{ℕ, _+_, _*_, _≤_}
 use native.Mathlib.Omega.{arith}
 use native.Mathlib.Nat.{mul-le-mul, lt-of-not-le}
-use lib.IntN.{ℤ, pos, negsuc, negℤ, natAbs, _+ℤ_, _*ℤ_}
+use lib.IntN.{ℤ, pos, negℤ, natAbs, _+ℤ_, _*ℤ_}
 use lib.Signed.{_≤ℤ_, leZ-yes}
 use Rattle.rounding.specs.Parts.{sum, opposite}
-use Rattle.rounding.specs.laws.Order.{zs, *ℤ-nonneg, ≤-parts, ≤ℤ-trans, le-natAbs, neg-natAbs, natAbs-sum, natAbs-minus, square-natAbs, natAbs-product-le}
+use Rattle.rounding.specs.laws.Order.{zs, *ℤ-nonneg, ≤-parts, ≤ℤ-trans, le-natAbs, neg-natAbs}
+use Rattle.rounding.specs.laws.Order.{natAbs-sum, natAbs-minus, square-natAbs, natAbs-product-le, nonneg-natAbs}
 use Rattle.rounding.specs.laws.Ring.{num, _⊕_, _⊖_, _⊗_, opp, ring, v0, v1, v2}
 use Rattle.rounding.specs.laws.Cert.{leq, lit, sq, _⊞_, _⊠_, certify}
 use Rattle.rounding.specs.Units.{one}
@@ -22,10 +23,6 @@ use Rattle.sine.specs.laws.SizeLaws.{square-sum}
 use Rattle.station.specs.declared.Station.{Station}
 use Rattle.station.specs.Place.{equatorialRadius, E, under, W, C, Z, h, R, P, turnIn, ephemerisLongitude, placeOf}
 use Rattle.station.specs.Sizes.{StationSizes, PlaceSizes}
-
-nonneg-natAbs : (z : ℤ) → pos 0 ≤ℤ z → z ≡ pos (natAbs z)
-nonneg-natAbs (pos n) l = refl
-nonneg-natAbs (negsuc n) l = absurd (l .le)
 
 -- s and c are a sine and a cosine: of size at most 1, the sum of their squares nearly 1
 module _ (s c : ℤ) (hs : natAbs s ≤ 100000000) (hc : natAbs c ≤ 100000000) (q : 9960000000000000 ≤ natAbs s * natAbs s + natAbs c * natAbs c) where

@@ -1,6 +1,6 @@
 -- `streams::put_stop` meets its contract: the parts of the line, one after the other.
 use native.Mathlib.Omega.{arith}
-use Rattle.decimal_text.specs.RowLaws.{joined}
+use Rattle.decimal_text.specs.laws.RowLaws.{joined}
 use Rattle.streams.specs.Streams.{stopLine}
 use borrow.Author.Needs.{needs}
 use Rattle.streams.proofs.put_stop.Statement.{statement}

@@ -2,6 +2,7 @@
 use Rattle.table_elements.specs.declared.typed_rows.Fault.{Fault}
 use Rattle.table_elements.specs.declared.typed_rows.Line.the-variants as L
 use borrow.Author.Needs.{needs}
+use Rattle.table_elements.specs.ReadingLaws.{after-stored}
 use Rattle.table_elements.specs.PrintedLaws.{Reading, reading-start, reading-within, reading-turn, fault-output, end-output, end-whole, end-begun}
 use lib.ListN.{length}
 use mathlib.Core.Path.{_≡_, sym}
@@ -49,8 +50,9 @@ loop-again : tie.Need-loop-again Inv-loop μ-loop
 loop-again c =
     let read = c .before .before .before .before .before .before .before .before in
     let l = read .before .before .before .before .before in
+    let stored = after-stored _ _ _ _ (omega (arith, l .before .loop .inv .room)) (read .read-line .ensures .1) in
     reading-turn _ _ _ _ _ _ _ _ (l .before .loop .inv) (l .loop-test .taken) _ (read .before .before .before .run .ensures .0) _ (read .read-line .ensures .0) _
-    (read .read-line .kept .1 .0) _ _ _ (not-faulty (c .before .before .before .before .before .before)) (read .read-line .ensures .1) (c .before .before .before .put-whole .ensures) (c .rows-after .ensures)
+    (read .read-line .kept .1 .0) _ _ _ (not-faulty (c .before .before .before .before .before .before)) stored (c .before .before .before .put-whole .ensures) (c .rows-after .ensures)
 
 returns-2 : tie.Need-returns-2 Inv-loop μ-loop
 returns-2 c =

@@ -19,4 +19,5 @@ returns-4 c = rw (c .before .enum-told3 .given .1, ne-eqb _ _ (c .if1 .left))
 pub rows-after-spec : {M : Type 1} → statement M
 rows-after-spec =
     tie.close
-    (tie.spec (λ c. search needs) (λ c. search needs) (λ c. search needs) returns (λ c. search needs) returns-2 returns-3 returns-4)
+    (tie.spec (λ c. search needs) (λ c. search needs) (λ c. search needs) returns (λ c. search needs)
+    returns-2 returns-3 returns-4)

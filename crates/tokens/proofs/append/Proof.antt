@@ -12,12 +12,6 @@ Inv-loop n s digits total₀ k₀ total k = Appended n s digits total k
 abbrev μ-loop : tie.MeasureT-loop
 μ-loop n s digits total₀ k₀ total k = digits - k
 
-loop-holds : tie.Need-loop-holds Inv-loop μ-loop
-loop-holds c = append-start _ _ _ (c .before .pre)
-
-with-digit-requires : tie.Need-with-digit-requires Inv-loop μ-loop
-with-digit-requires c κs = c .before .before .loop .inv .2
-
 loop-again : tie.Need-loop-again Inv-loop μ-loop
 loop-again c =
     let inside = c .before .before in
@@ -29,5 +23,5 @@ returns c = append-all _ _ _ _ _ (c .before .loop .inv) (c .loop-test .left)
 pub append-spec : {M : Type 1} → statement M
 append-spec =
     tie.close
-    (tie.spec Inv-loop μ-loop loop-holds (λ c κs. search needs) with-digit-requires (λ c. search needs)
-    (λ c. search needs) loop-again returns)
+    (tie.spec Inv-loop μ-loop (λ c. append-start _ _ _ (c .before .pre)) (λ c κs. search needs)
+    (λ c κs. c .before .before .loop .inv .2) (λ c. search needs) (λ c. search needs) loop-again returns)

@@ -15,9 +15,6 @@ Inv-loop s class n₀ n = Ran class s n
 abbrev μ-loop : tie.MeasureT-loop
 μ-loop s class n₀ n = length s - n
 
-loop-holds : tie.Need-loop-holds Inv-loop μ-loop
-loop-holds c = ran-none _ _
-
 returns : tie.Need-returns Inv-loop μ-loop
 returns c =
     let inside = c .before .before .before in
@@ -34,5 +31,5 @@ returns-2 c = ran-all _ _ _ (c .before .loop .inv) (c .loop-test .left)
 pub run-spec : {M : Type 1} → statement M
 run-spec =
     tie.close
-    (tie.spec Inv-loop μ-loop loop-holds (λ c. search needs) (λ c κs. search needs) returns
+    (tie.spec Inv-loop μ-loop (λ c. ran-none _ _) (λ c. search needs) (λ c κs. search needs) returns
     (λ c. search needs) (λ c. search needs) loop-again returns-2)

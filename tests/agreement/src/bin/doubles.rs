@@ -1,11 +1,11 @@
-//! `doubles SURVEYS PATTERNS SEED [READINGS]`: the compiled library's positions as doubles against document 02, wish 5, in plain Rust.
+//! `doubles SURVEYS PATTERNS SEED [PROGRAM]`: the compiled library's positions as doubles against document 02, wish 5, in plain Rust.
 //!
 //! - a sheet for each survey, its doubles units exactly, about the halves beside them, at the ends of the ranges and past them, too large,
 //!   not finite, any bits; the longitude in degrees and in hours; of other lengths, another mark, in rooms of all sizes. Compared: the
 //!   refusal's number, the value, and both buffers with 64 numbers past their ends;
 //! - as many lists of units as doubles, at the ends of their ranges and past them, of other lengths; the doubles are compared bit by bit, and
 //!   read back by the reference they give their units;
-//! - where READINGS names the program `readings`, the units of PATTERNS doubles, any bits or about a half, at all three scales.
+//! - where PROGRAM names the program `rule_vectors`, the units of PATTERNS doubles, any bits or about a half, at all three scales.
 //!
 //! Prints counts; the first difference stops it with all that gives it again.
 
@@ -199,7 +199,7 @@ fn written(random: &mut Random, count: u64) {
     print("doubles", &replies);
 }
 
-/// How many doubles the program takes at once.
+/// How many doubles the program is given in a run.
 const AT_ONCE: usize = 2048;
 
 fn readings(random: &mut Random, count: u64, program: &str) {
@@ -224,12 +224,14 @@ fn readings(random: &mut Random, count: u64, program: &str) {
             });
             expected += &format!("{}\n", texts.join(" "));
         }
-        let input: Vec<u8> = patterns.iter().flat_map(|pattern| pattern.to_be_bytes()).collect();
+        // a record each: the letter, the number of its bytes, and the double's bits
+        let input: Vec<u8> =
+            patterns.iter().flat_map(|pattern| [&b"d\0\x08"[..], &pattern.to_be_bytes()].concat()).collect();
         let mut run = Command::new(program)
             .stdin(Stdio::piped())
             .stdout(Stdio::piped())
             .spawn()
-            .expect("the program readings");
+            .expect("the program rule_vectors");
         run.stdin.take().expect("a pipe").write_all(&input).expect("written");
         let printed = String::from_utf8(run.wait_with_output().expect("its output").stdout).expect("text");
         if printed != expected {
@@ -247,7 +249,7 @@ fn main() {
     let mut number = |otherwise| {
         words
             .next()
-            .map_or(otherwise, |word| word.parse().expect("usage: doubles SURVEYS PATTERNS SEED [READINGS]"))
+            .map_or(otherwise, |word| word.parse().expect("usage: doubles SURVEYS PATTERNS SEED [PROGRAM]"))
     };
     let (surveys, patterns, seed) = (number(100_000), number(10_000_000), number(1));
     let mut random = Random::new(seed);

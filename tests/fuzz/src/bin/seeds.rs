@@ -6,7 +6,6 @@ use agreement::{draws, files, horizons, sheets, stars};
 use fuzz::networks;
 use fuzz::requests::{LEAVE_NUMBERS, LEAVE_SECOND, LEAVE_SHAPE, OTHER_SINES, WITH_SHARE};
 use reference::random::Random;
-use reference::request::REQUEST_LENGTH;
 use reference::sample_network;
 use reference::sheet;
 use std::fs;
@@ -22,20 +21,26 @@ fn stored(file: &str) -> Vec<u8> {
     fs::read(&path).unwrap_or_else(|error| panic!("{}: {error}", path.display()))
 }
 
-/// Each sheet of program `stored_sheets` stands after its length in two bytes.
-fn stored_sheets() -> Vec<Vec<u8>> {
-    let all = stored("crates/stored_sheets/stdin");
+/// The records of one letter that program `sheet_vectors` is given: a letter, the length in two bytes, the bytes.
+fn records(letter: u8) -> Vec<Vec<u8>> {
+    let all = stored("crates/sheet_vectors/stdin");
     let mut rest = &all[..];
-    let mut sheets = vec![stored("crates/listing/stdin")];
-    while let [high, low, more @ ..] = rest {
-        let (sheet, after) = more.split_at(usize::from(*high) << 8 | usize::from(*low));
-        sheets.push(sheet.to_vec());
+    let mut records = Vec::new();
+    while let [first, high, low, more @ ..] = rest {
+        let (record, after) = more.split_at(usize::from(*high) << 8 | usize::from(*low));
+        if *first == letter {
+            records.push(record.to_vec());
+        }
         rest = after;
     }
-    sheets
+    records
 }
 
-/// Each case of program `cases` is a room in two bytes, the input's length in one, and the input in one byte more than a request has.
+fn stored_sheets() -> Vec<Vec<u8>> {
+    [vec![stored("crates/listing/stdin")], records(b'r')].concat()
+}
+
+/// A request's record begins with the room for its sheet, in two bytes.
 fn stored_requests() -> Vec<Vec<u8>> {
     let files = [
         "examples/moscow1954.bin",
@@ -43,9 +48,7 @@ fn stored_requests() -> Vec<Vec<u8>> {
         "examples/hopkinsville2017.bin",
         "crates/sheet/stdin",
     ];
-    let cases = stored("crates/cases/stdin");
-    let inputs =
-        cases.chunks_exact(3 + REQUEST_LENGTH + 1).map(|case| case[3..3 + usize::from(case[2])].to_vec());
+    let inputs = records(b'q').into_iter().map(|record| record[2..].to_vec());
     files.iter().map(|file| stored(file)).chain(inputs).collect()
 }
 

@@ -1,5 +1,5 @@
-//! `program_check SEED N PROGRAM`: draws N requests, has the compiled program `cases` answer them, a hundred a run, and
-//! compares each answer with this implementation's: the listing, or the refusal.
+//! `program_check SEED N PROGRAM`: draws N requests, has the compiled program `sheet_vectors` answer them, a hundred a
+//! run, and compares each answer with this implementation's: the listing, or the refusal.
 //!
 //! Requests lie within their ranges (for which rounding matters, or as eclipses are, with windows up to all of
 //! -10,800..10,800), just outside them, anywhere, and are no requests at all; the room is large, just enough,
@@ -15,10 +15,10 @@ use std::collections::BTreeMap;
 use std::io::{Read, Write};
 use std::process::{Command, Stdio};
 
-/// The most room that a case of the program can name.
+/// The most room that a record of the program can name.
 const MOST_ROOM: usize = 65_535;
 
-/// How many cases the program is given in a run: it takes 65,536 bytes of them, and prints 400,000 at most.
+/// How many cases the program is given in a run: it takes 262,144 bytes of them.
 const BATCH: usize = 100;
 
 struct Case {
@@ -27,13 +27,11 @@ struct Case {
 }
 
 impl Case {
-    /// As the program reads it: room, length of the input, the input in 116 bytes.
+    /// As the program reads it: a letter, how many bytes follow, the room, the input.
     fn bytes(&self) -> Vec<u8> {
-        let mut bytes = (self.room as u16).to_be_bytes().to_vec();
-        bytes.push(self.input.len() as u8);
-        bytes.extend(&self.input);
-        bytes.resize(3 + REQUEST_LENGTH + 1, 0);
-        bytes
+        let length = 2 + self.input.len() as u16;
+        let room = self.room as u16;
+        [b"q", &length.to_be_bytes()[..], &room.to_be_bytes()[..], &self.input].concat()
     }
 
     fn answer(&self) -> String {

@@ -16,9 +16,6 @@ returns c =
     let e : a .args .n - 1 ≡ 0 = omega (arith, c .if1 .taken) in
     (rw e (a .pre .1 .1), refl)
 
-sub-j : tie.Need-sub-j
-sub-j c = some (c .before .before .before)
-
 sample-of-requires : tie.Need-sample-of-requires
 sample-of-requires c κs = let a = c .before .before .before in let p = a .pre .0 in (p .0, p .1, p .2, omega (arith, some a, p .3))
 
@@ -32,4 +29,4 @@ returns-2 : tie.Need-returns-2
 returns-2 c = search needs
 
 pub few-seconds-spec : {M : Type 1} → statement M
-few-seconds-spec = tie.close (tie.spec returns sub-j sample-of-requires each-second-requires (λ c. search needs) returns-2)
+few-seconds-spec = tie.close (tie.spec returns (λ c. some (c .before .before .before)) sample-of-requires each-second-requires (λ c. search needs) returns-2)

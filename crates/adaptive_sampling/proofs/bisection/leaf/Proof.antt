@@ -13,12 +13,6 @@ bounds c = c .pre .0 ▹ count-size (c .args .near) (c .pre .1) tt ▹ ends
 abbrev W : Code
 W = add (arg 1) (arg 0)
 
-add-w : tie.Need-add-w
-add-w c = fits (bounds c) W tt
-
-mul-limit : tie.Need-mul-limit
-mul-limit c = fits (bounds c) (mul W W) tt
-
 returns : tie.Need-returns
 returns c = omega arith
 
@@ -29,4 +23,4 @@ returns-3 : tie.Need-returns-3
 returns-3 c = omega arith
 
 pub leaf-spec : {M : Type 1} → statement M
-leaf-spec = tie.close (tie.spec (λ c. search needs) add-w mul-limit returns returns-2 returns-3)
+leaf-spec = tie.close (tie.spec (λ c. search needs) (λ c. fits (bounds c) W tt) (λ c. fits (bounds c) (mul W W) tt) returns returns-2 returns-3)

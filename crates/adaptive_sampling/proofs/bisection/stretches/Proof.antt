@@ -80,9 +80,6 @@ loop-again c =
       subst (λ (i : ℕ). Kept (a .args .o) (a .args .near) i (c .before .before .between .last .1 .1 .1 .1 .0) (c .before .before .between .result)) f (r .0),
     )
 
-same-length : tie.Need-same-length Inv-loop μ-loop
-same-length c = c .before .loop .inv .1
-
 returns : tie.Need-returns Inv-loop μ-loop
 returns c =
     let l = c .before in
@@ -95,4 +92,4 @@ stretches-spec =
     tie.close
     (tie.spec Inv-loop μ-loop loop-holds (λ c. search needs) stop-requires stop-requires-2 (λ c. search needs)
     (λ c. search needs) (λ c. search needs) (λ c. search needs) between-requires loop-less loop-again
-    same-length returns)
+    (λ c. c .before .loop .inv .1) returns)

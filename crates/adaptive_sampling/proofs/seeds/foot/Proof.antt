@@ -67,21 +67,6 @@ add-offset-of c = omega (arith, start c .pre .4, few (start c))
 offset-of-requires-2 : tie.Need-offset-of-requires-2
 offset-of-requires-2 c κs = let a = start c in (a .pre .0, a .pre .1, a .pre .2, omega (arith, a .pre .3, a .pre .4))
 
-sub-p : tie.Need-sub-p
-sub-p c = fits (bounds (both c)) P tt
-
-sub-q : tie.Need-sub-q
-sub-q c = fits (bounds (both4 c)) Q tt
-
-mul-square : tie.Need-mul-square
-mul-square c = fits (bounds (both4 c)) (mul P P) tt
-
-mul-square-2 : tie.Need-mul-square-2
-mul-square-2 c = fits (bounds (both4 c)) (mul Q Q) tt
-
-add-square : tie.Need-add-square
-add-square c = fits (bounds (both4 c)) square tt
-
 cast-rate : tie.Need-cast-rate
 cast-rate c =
     let x = both4 c .before .offset-of .result in
@@ -93,12 +78,6 @@ add-rate c = record { fits = omega (arith, within (bounds (both4 c)) square 4000
 
 mul-along : tie.Need-mul-along
 mul-along c = fits (bounds (both4 (c .before .before))) (mul (arg 0) P) tt
-
-mul-along-2 : tie.Need-mul-along-2
-mul-along-2 c = fits (bounds (both6 c)) (mul (arg 1) Q) tt
-
-add-along : tie.Need-add-along
-add-along c = fits (bounds (both6 c)) along tt
 
 sub-before : tie.Need-sub-before
 sub-before c = fits (bounds (both6 (c .before))) (sub (K.lit (pos 0)) along) tt
@@ -133,9 +112,6 @@ cast-back c =
     let w = bounds (both6 (c .before)) in
     unsigned w along tt (left-< w along (K.lit (pos 0)) tt (c .if1 .left))
 
-sub-result-2 : tie.Need-sub-result-2
-sub-result-2 c = omega (arith, c .if3 .taken)
-
 returns-3 : tie.Need-returns-3
 returns-3 c = omega (arith, start2 (both6 (c .before .before)) .pre .4, c .if3 .taken)
 
@@ -145,7 +121,9 @@ returns-4 c = omega (arith, start2 (both6 (c .before .before)) .pre .4)
 pub foot-spec : {M : Type 1} → statement M
 foot-spec =
     tie.close
-    (tie.spec offset-of-requires add-offset-of offset-of-requires-2 sub-p sub-q mul-square mul-square-2
-    add-square cast-rate add-rate mul-along mul-along-2 add-along sub-before cast-ahead (λ c. search needs)
-    sub-room sub-room-2 add-result returns sub-result returns-2 cast-back (λ c. search needs) sub-result-2
-    returns-3 returns-4)
+    (tie.spec offset-of-requires add-offset-of offset-of-requires-2 (λ c. fits (bounds (both c)) P tt)
+    (λ c. fits (bounds (both4 c)) Q tt) (λ c. fits (bounds (both4 c)) (mul P P) tt)
+    (λ c. fits (bounds (both4 c)) (mul Q Q) tt) (λ c. fits (bounds (both4 c)) square tt) cast-rate add-rate
+    mul-along (λ c. fits (bounds (both6 c)) (mul (arg 1) Q) tt) (λ c. fits (bounds (both6 c)) along tt)
+    sub-before cast-ahead (λ c. search needs) sub-room sub-room-2 add-result returns sub-result returns-2
+    cast-back (λ c. search needs) (λ c. omega (arith, c .if3 .taken)) returns-3 returns-4)

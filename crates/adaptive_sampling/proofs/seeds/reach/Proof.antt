@@ -43,9 +43,6 @@ seen c =
 closest-requires : tie.Need-closest-requires
 closest-requires c κs = let a = c .before in (some a .0, some a .1, square-sizes (a .args .o) (a .args .n) (a .args .shadows) (a .pre .5))
 
-sub-if1 : tie.Need-sub-if1
-sub-if1 c = omega (arith, c .before .before .pre .4)
-
 sub-start : tie.Need-sub-start
 sub-start c = omega (arith, c .before .before .before .pre .4)
 
@@ -81,5 +78,5 @@ returns c = seen-root (seen (c .before .before)) (c .root .result) (root-is c)
 pub reach-spec : {M : Type 1} → statement M
 reach-spec =
     tie.close
-    (tie.spec closest-requires sub-if1 sub-start foot-requires foot-requires-2 square-of-requires
-    closer-requires cast-root (λ c κs. search needs) add-result returns)
+    (tie.spec closest-requires (λ c. omega (arith, c .before .before .pre .4)) sub-start foot-requires
+    foot-requires-2 square-of-requires closer-requires cast-root (λ c κs. search needs) add-result returns)

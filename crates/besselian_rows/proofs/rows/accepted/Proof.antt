@@ -73,9 +73,6 @@ returns-2 c =
     let e = sym (sun-is (c .before)) ∙ not-true (c .before .at-distance2 .result) (c .if2 .taken) in
     sym (ap₂ (λ (s t : Bool). s && (t && level (Gx p) (Gy p) (Gz p))) (moon-holds (c .before)) e)
 
-sub-is-level : tie.Need-sub-is-level
-sub-is-level c = fits (xs (c .before .before)) D tt
-
 sub-is-level-2 : tie.Need-sub-is-level-2
 sub-is-level-2 c = fits (ys (c .before .before .before .before)) D tt
 
@@ -98,5 +95,5 @@ returns-3 c =
 pub accepted-spec : {M : Type 1} → statement M
 accepted-spec =
     tie.close
-    (tie.spec (λ c κs. search needs) returns (λ c κs. search needs) returns-2 sub-is-level sub-is-level-2
-    sub-is-level-3 is-level-requires returns-3)
+    (tie.spec (λ c κs. search needs) returns (λ c κs. search needs) returns-2
+    (λ c. fits (xs (c .before .before)) D tt) sub-is-level-2 sub-is-level-3 is-level-requires returns-3)

@@ -90,5 +90,6 @@ returns-4 c =
 pub at-distance-spec : {M : Type 1} → statement M
 at-distance-spec =
     tie.close
-    (tie.spec (λ c κs. search needs) returns (λ c κs. search needs) returns-2 (λ c κs. search needs) returns-3 sum-of-squares-requires square-requires square-requires-2
-    (λ c κs. search needs) (λ c κs. search needs) returns-4)
+    (tie.spec (λ c κs. search needs) returns (λ c κs. search needs) returns-2 (λ c κs. search needs) returns-3
+    sum-of-squares-requires square-requires square-requires-2 (λ c κs. search needs) (λ c κs. search needs)
+    returns-4)

@@ -19,12 +19,9 @@ Minus = sub (lit (pos 0)) (arg 0)
 minus-is : (m : ℤ) → pos 0 -ℤ m ≡ negℤ m
 minus-is m = ring (m ∷ []) (num 0 ⊖ v0) (opp v0) tt
 
-sub-result : tie.Need-sub-result
-sub-result c = fits (bounds c) Minus tt
-
 returns : tie.Need-returns
 unfolding beyond
 returns c = rw (runs (bounds c) Minus tt ∙ minus-is (c .args .m), read-back (c .args .m) (c .pre) tt, toZ-ofZ w64 (c .args .x) (c .fits .x))
 
 pub beyond-spec : {M : Type 1} → statement M
-beyond-spec = tie.close (tie.spec sub-result returns)
+beyond-spec = tie.close (tie.spec (λ c. fits (bounds c) Minus tt) returns)

@@ -19,12 +19,6 @@ use Rattle.besselian_rows.proofs.rows.elements_of.Tie as tie
 accepts : (c : tie.Start) → Accepted (c .args .p)
 accepts c = accepted-is (c .args .p) (c .pre)
 
-find-axis-requires : tie.Need-find-axis-requires
-find-axis-requires c κs = accepts c
-
-find-directions-requires : tie.Need-find-directions-requires
-find-directions-requires c κs = (accepts (c .before), c .find-axis .ensures)
-
 find-plane-requires : tie.Need-find-plane-requires
 find-plane-requires c κs = (accepts (c .before .before), c .find-directions .ensures)
 
@@ -95,5 +89,5 @@ returns c =
 pub elements-of-spec : {M : Type 1} → statement M
 elements-of-spec =
     tie.close
-    (tie.spec find-axis-requires find-directions-requires find-plane-requires find-cone-requires
-    find-cone-requires-2 add-t7 sub-t8 returns)
+    (tie.spec (λ c κs. accepts c) (λ c κs. (accepts (c .before), c .find-axis .ensures)) find-plane-requires
+    find-cone-requires find-cone-requires-2 add-t7 sub-t8 returns)

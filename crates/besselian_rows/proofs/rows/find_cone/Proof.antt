@@ -64,9 +64,6 @@ bounds c =
 abbrev ZT : Code
 ZT = mul (arg 0) (arg 1)
 
-mul-near : tie.Need-mul-near
-mul-near c = fits (bounds c) ZT tt
-
 near-requires : tie.Need-near-requires
 near-requires c κs = (within (bounds c) ZT 4000000000000000000 tt, lit≤ tt, leZ-yes tt)
 
@@ -121,5 +118,5 @@ returns c =
 pub find-cone-spec : {M : Type 1} → statement M
 find-cone-spec =
     tie.close
-    (tie.spec sub-root (λ c κs. search needs) (λ c. search needs) near-unsigned-requires cast-tangent mul-near near-requires mul-near-unsigned-2
-    near-unsigned-requires-2 cast-foot returns)
+    (tie.spec sub-root (λ c κs. search needs) (λ c. search needs) near-unsigned-requires cast-tangent
+    (λ c. fits (bounds c) ZT tt) near-requires mul-near-unsigned-2 near-unsigned-requires-2 cast-foot returns)

@@ -90,9 +90,6 @@ z-is c =
     ∙ turn-same (read-back (p .moonz) (moon-sizes p (h .moon) .2) tt) (back (d .sind) (Sizes.sin-d-size p h) tt)
     (back (q-is (c .before .before .before .before .before .before .before .before)) (Sizes.q-size p h) tt) (back (d .cosd) (Sizes.cos-d-size p h) tt)
 
-sub-west : tie.Need-sub-west
-sub-west c = fits (west (c .before .before)) Opposite tt
-
 turned-requires : tie.Need-turned-requires
 turned-requires c κs =
     let s = c .before .before .before .before .before in
@@ -116,9 +113,6 @@ turned-requires-2 c κs =
       read-size (p .moony) 13000000000 (moon-sizes p (h .moon) .1) tt,
       back-size 100000000 (d .sina) (Sizes.sin-a-size p h) tt,
     )
-
-sub-inward : tie.Need-sub-inward
-sub-inward c = fits (inward c) Opposite tt
 
 turned-requires-3 : tie.Need-turned-requires-3
 turned-requires-3 c κs =
@@ -158,4 +152,4 @@ returns c =
     }
 
 pub find-plane-spec : {M : Type 1} → statement M
-find-plane-spec = tie.close (tie.spec sub-west turned-requires turned-requires-2 sub-inward turned-requires-3 turned-requires-4 returns)
+find-plane-spec = tie.close (tie.spec (λ c. fits (west (c .before .before)) Opposite tt) turned-requires turned-requires-2 (λ c. fits (inward c) Opposite tt) turned-requires-3 turned-requires-4 returns)

@@ -29,9 +29,6 @@ n-is c = count-is (c .args .n) (c .pre .1) tt
 some : (c : tie.Start) → pos 1 ≤ℤ pos (c .args .n)
 some c = omega (arith, zs, c .pre .2)
 
-mul-near : tie.Need-mul-near
-mul-near c = fits (bounds c) G tt
-
 near-requires : tie.Need-near-requires
 near-requires c κs =
     let l : c .args .n ≤ 10000000000000000 = omega (arith, c .pre .1) in
@@ -50,4 +47,4 @@ returns c =
     record { value = read-back (c .near .result) h tt ∙ e; size = read-size (c .near .result) 100000000 h tt }
 
 pub share-spec : {M : Type 1} → statement M
-share-spec = tie.close (tie.spec mul-near (λ c. search needs) near-requires returns)
+share-spec = tie.close (tie.spec (λ c. fits (bounds c) G tt) (λ c. search needs) near-requires returns)

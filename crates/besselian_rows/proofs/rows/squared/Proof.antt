@@ -13,9 +13,6 @@ bounds c = c .pre ▹ ends
 abbrev GG : Code
 GG = mul (arg 0) (arg 0)
 
-mul-result : tie.Need-mul-result
-mul-result c = fits (bounds c) GG tt
-
 cast-result : tie.Need-cast-result
 cast-result c = unsigned (bounds c) GG tt (square-nonneg (c .args .g))
 
@@ -23,4 +20,4 @@ returns : tie.Need-returns
 returns c = ap natAbs (runs (bounds c) GG tt) ∙ natAbs-product (c .args .g) (c .args .g)
 
 pub squared-spec : {M : Type 1} → statement M
-squared-spec = tie.close (tie.spec mul-result cast-result returns)
+squared-spec = tie.close (tie.spec (λ c. fits (bounds c) GG tt) cast-result returns)

@@ -19,9 +19,6 @@ bounds c = c .pre .0 ▹ c .pre .1 ▹ ends
 abbrev D : Code
 D = sub (arg 0) (arg 1)
 
-sub-near : tie.Need-sub-near
-sub-near c = fits (bounds c) D tt
-
 near-requires : tie.Need-near-requires
 near-requires c κs = (within (bounds c) D 4000000000000000000 tt, lit≤ tt, leZ-yes tt)
 
@@ -34,4 +31,4 @@ returns c =
     record { value = read-back (c .near .result) h tt ∙ e; size = read-size (c .near .result) 2406500000 h tt }
 
 pub thousands-spec : {M : Type 1} → statement M
-thousands-spec = tie.close (tie.spec sub-near near-requires returns)
+thousands-spec = tie.close (tie.spec (λ c. fits (bounds c) D tt) near-requires returns)

@@ -16,15 +16,6 @@ bounds c = c .pre .0 ▹ c .pre .1 ▹ c .pre .2 ▹ c .pre .3 ▹ ends
 abbrev W : Code
 W = add (mul (arg 0) (arg 1)) (mul (arg 2) (arg 3))
 
-mul-near : tie.Need-mul-near
-mul-near c = fits (bounds c) (mul (arg 0) (arg 1)) tt
-
-mul-near-2 : tie.Need-mul-near-2
-mul-near-2 c = fits (bounds c) (mul (arg 2) (arg 3)) tt
-
-add-near : tie.Need-add-near
-add-near c = fits (bounds c) W tt
-
 near-requires : tie.Need-near-requires
 near-requires c κs = (within (bounds c) W 4000000000000000000 tt, lit≤ tt, leZ-yes tt)
 
@@ -32,4 +23,4 @@ returns : tie.Need-returns
 returns c = read-result (c .near .result) (c .near .ok) ∙ c .near .ensures ∙ ap (λ (z : ℤ). near z (pos 100000000)) (runs (bounds (c .before)) W tt)
 
 pub turned-spec : {M : Type 1} → statement M
-turned-spec = tie.close (tie.spec mul-near mul-near-2 add-near near-requires returns)
+turned-spec = tie.close (tie.spec (λ c. fits (bounds c) (mul (arg 0) (arg 1)) tt) (λ c. fits (bounds c) (mul (arg 2) (arg 3)) tt) (λ c. fits (bounds c) W tt) near-requires returns)

@@ -27,12 +27,6 @@ bounds c =
 abbrev MA : Code
 MA = add (arg 0) (arg 1)
 
-add-floor-million : tie.Need-add-floor-million
-add-floor-million c = fits (bounds c) MA tt
-
-floor-million-requires-2 : tie.Need-floor-million-requires-2
-floor-million-requires-2 c κs = within (bounds c) MA 1000000000000000000 tt
-
 second : (c : tie.After-floor-million2) → IsFloor (c .before .before .args .mid +ℤ c .before .floor-million .result) (c .floor-million2 .result)
 second c = rw (runs (bounds (c .before)) MA tt) at (c .floor-million2 .ensures)
 
@@ -43,9 +37,6 @@ ends-in c =
     (arith, second c .size, ap natAbs (runs (bounds (c .before)) MA tt), within (bounds (c .before)) MA 1000000000000000000 tt) in
     c .before .before .pre .0 ▹ h ▹ ends
 
-add-result : tie.Need-add-result
-add-result c = fits (ends-in c) MA tt
-
 returns : tie.Need-returns
 returns c =
     let b = c .before .before in
@@ -54,4 +45,4 @@ returns c =
     ∙ carried (b .args .high) (b .args .mid) (b .args .low)
 
 pub not-negative-spec : {M : Type 1} → statement M
-not-negative-spec = tie.close (tie.spec floor-million-requires add-floor-million floor-million-requires-2 add-result returns)
+not-negative-spec = tie.close (tie.spec floor-million-requires (λ c. fits (bounds c) MA tt) (λ c κs. within (bounds c) MA 1000000000000000000 tt) (λ c. fits (ends-in c) MA tt) returns)

@@ -21,17 +21,8 @@ HL = mul (mul (lit (pos 2)) (arg 0)) (arg 1)
 abbrev LL : Code
 LL = mul (arg 1) (arg 1)
 
-mul-t4 : tie.Need-mul-t4
-mul-t4 c = fits (bounds c) HH tt
-
 mul-t5 : tie.Need-mul-t5
 mul-t5 c = fits (bounds c) (mul (lit (pos 2)) (arg 0)) tt
-
-mul-t6 : tie.Need-mul-t6
-mul-t6 c = fits (bounds c) HL tt
-
-mul-t7 : tie.Need-mul-t7
-mul-t7 c = fits (bounds c) LL tt
 
 returns : tie.Need-returns
 returns c =
@@ -50,4 +41,4 @@ returns c =
     }
 
 pub square-spec : {M : Type 1} → statement M
-square-spec = tie.close (tie.spec (λ c κs. search needs) (λ c κs. search needs) mul-t4 mul-t5 mul-t6 mul-t7 returns)
+square-spec = tie.close (tie.spec (λ c κs. search needs) (λ c κs. search needs) (λ c. fits (bounds c) HH tt) mul-t5 (λ c. fits (bounds c) HL tt) (λ c. fits (bounds c) LL tt) returns)

@@ -30,25 +30,16 @@ one-stored : (start before after n : List ℤ) (i : ℕ) (b : Besselian) → b �
     → after ≡ sets before (8 * i) (eight b) → after ≡ sets start 0 (valuesOf n (i + 1))
 one-stored start before after n i b e f a = a ∙ rw (e, f) (one-more start n i)
 
-row-at-requires : tie.Need-row-at-requires Inv-loop μ-loop
-row-at-requires c κs = (c .before .before .pre .0, omega arith)
-
 elements-of-requires : tie.Need-elements-of-requires Inv-loop μ-loop
 elements-of-requires c κs =
     let s = c .before .before .before in
     ap accepted (c .row-at .ensures) ∙ accepted-at (s .args .rows .now) (c .before .before .loop .i) (s .pre .1) (omega arith)
-
-mul-at : tie.Need-mul-at Inv-loop μ-loop
-mul-at c = record { fits = omega arith }
 
 store-requires : tie.Need-store-requires Inv-loop μ-loop
 store-requires c κs =
     let l = c .before .before .before .before .loop in
     let s = c .before .before .before .before .before in
     omega (arith, l .inv .1, s .pre .2)
-
-add-i : tie.Need-add-i Inv-loop μ-loop
-add-i c = record { fits = omega arith }
 
 loop-again : tie.Need-loop-again Inv-loop μ-loop
 loop-again c =
@@ -62,9 +53,6 @@ loop-again c =
           (made .elements-of .ensures .0 ∙ ap elementsOf (made .before .row-at .ensures)) (l .inv .2) (stored .ensures),
     )
 
-same-length : tie.Need-same-length Inv-loop μ-loop
-same-length c = c .before .loop .inv .1
-
 returns : tie.Need-returns Inv-loop μ-loop
 returns c =
     let l = c .before .loop in
@@ -74,4 +62,4 @@ returns c =
 
 pub fill-spec : {M : Type 1} → statement M
 fill-spec =
-    tie.close (tie.spec Inv-loop μ-loop loop-holds row-at-requires elements-of-requires mul-at store-requires add-i (λ c. omega arith) loop-again same-length returns)
+    tie.close (tie.spec Inv-loop μ-loop loop-holds (λ c κs. (c .before .before .pre .0, omega arith)) elements-of-requires (λ c. record { fits = omega arith }) store-requires (λ c. record { fits = omega arith }) (λ c. omega arith) loop-again (λ c. c .before .loop .inv .1) returns)

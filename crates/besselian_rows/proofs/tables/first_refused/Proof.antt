@@ -24,12 +24,6 @@ abbrev μ-loop : tie.MeasureT-loop
 left : (n : List ℤ) (i : ℕ) → suc i ≤ 7 → firstRefused n i (7 - i) ≡ firstRefused n i (suc (7 - (i + 1)))
 left n i h = ap (firstRefused n i) (omega arith)
 
-loop-holds : tie.Need-loop-holds Inv-loop μ-loop
-loop-holds c = (omega arith, refl)
-
-row-at-requires : tie.Need-row-at-requires Inv-loop μ-loop
-row-at-requires c κs = (c .before .before .pre, omega arith)
-
 returns : tie.Need-returns Inv-loop μ-loop
 returns c =
     let at = c .before .before .before .before in
@@ -38,9 +32,6 @@ returns c =
     let test = c .before .accepted in
     let e = ap accepted (sym (c .before .before .row-at .ensures)) ∙ sym (test .ensures) ∙ not-true (test .result) (c .if1 .taken) in
     sym (at .loop .inv .1 ∙ left n i (omega arith) ∙ refused-here n i (7 - (i + 1)) e)
-
-add-i : tie.Need-add-i Inv-loop μ-loop
-add-i c = record { fits = omega arith }
 
 loop-again : tie.Need-loop-again Inv-loop μ-loop
 loop-again c =
@@ -64,4 +55,4 @@ returns-2 c =
 
 pub first-refused-spec : {M : Type 1} → statement M
 first-refused-spec =
-    tie.close (tie.spec Inv-loop μ-loop loop-holds row-at-requires (λ c κs. search needs) returns add-i (λ c. omega arith) loop-again returns-2)
+    tie.close (tie.spec Inv-loop μ-loop (λ c. (omega arith, refl)) (λ c κs. (c .before .before .pre, omega arith)) (λ c κs. search needs) returns (λ c. record { fits = omega arith }) (λ c. omega arith) loop-again returns-2)

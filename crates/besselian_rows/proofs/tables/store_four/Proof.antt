@@ -8,15 +8,6 @@ use Rattle.besselian_rows.specs.laws.TablesLaws.{four-stores}
 use Rattle.besselian_rows.proofs.tables.store_four.Statement.{statement}
 use Rattle.besselian_rows.proofs.tables.store_four.Tie as tie
 
-slice-set-from-b : tie.Need-slice-set-from-b
-slice-set-from-b c = simp length-set (omega arith)
-
-slice-set-from-c : tie.Need-slice-set-from-c
-slice-set-from-c c = simp length-set (omega arith)
-
-slice-set-from-d : tie.Need-slice-set-from-d
-slice-set-from-d c = simp length-set (omega arith)
-
 returns : tie.Need-returns
 returns c =
     rw (toZ-ofZ w64 _ (c .fits .a), toZ-ofZ w64 _ (c .fits .b), toZ-ofZ w64 _ (c .fits .c), toZ-ofZ w64 _ (c .fits .d))
@@ -25,6 +16,7 @@ returns c =
 pub store-four-spec : {M : Type 1} → statement M
 store-four-spec =
     tie.close
-    (tie.spec (λ c. search needs) (λ c. search needs) (λ c. search needs) (λ c. search needs) slice-set-from-b
-    (λ c. search needs) (λ c. search needs) slice-set-from-c (λ c. search needs) (λ c. search needs)
-    slice-set-from-d (λ c. search needs) returns)
+    (tie.spec (λ c. search needs) (λ c. search needs) (λ c. search needs) (λ c. search needs)
+    (λ c. simp length-set (omega arith)) (λ c. search needs) (λ c. search needs)
+    (λ c. simp length-set (omega arith)) (λ c. search needs) (λ c. search needs)
+    (λ c. simp length-set (omega arith)) (λ c. search needs) returns)

@@ -92,9 +92,6 @@ loop-again c =
           ∙ stores-next o (l .k) h (a .buf .now) (a .start),
     )
 
-same-length : tie.Need-same-length Inv-loop μ-loop
-same-length c = c .before .loop .inv .1
-
 returns : tie.Need-returns Inv-loop μ-loop
 returns c =
     let a = c .before .before .before .before .before .before .args in
@@ -109,4 +106,4 @@ pub write-phases-spec : {M : Type 1} → statement M
 write-phases-spec =
     tie.close
     (tie.spec Inv-loop μ-loop (λ c κs. search needs) loop-holds write-nth-phase-requires add-k loop-less
-    loop-again same-length returns)
+    loop-again (λ c. c .before .loop .inv .1) returns)

@@ -93,14 +93,8 @@ returns-3 c = λ l k.
 array-share-prefix-numbers : tie.Need-array-share-prefix-numbers
 array-share-prefix-numbers c = let few = sized (asked (c .before)) .1 in search needs
 
-slice-aggregate-check-clocks : tie.Need-slice-aggregate-check-clocks
-slice-aggregate-check-clocks c = sym (numbers-counted (c .before .before))
-
 array-share-prefix-clocks : tie.Need-array-share-prefix-clocks
 array-share-prefix-clocks c = let few = sized (asked (c .before .before)) .1 in search needs
-
-slice-aggregate-check-clocks-2 : tie.Need-slice-aggregate-check-clocks-2
-slice-aggregate-check-clocks-2 c = sym (clocks-counted (c .before .before))
 
 check-clocks-requires : tie.Need-check-clocks-requires
 check-clocks-requires c κs =
@@ -124,5 +118,5 @@ check-spec =
     tie.close
     (tie.spec returns (λ c κs. search needs) (λ c. search needs) returns-2 (λ c. search needs)
     check-stations-requires (λ c. search needs) returns-3 (λ c. search needs) (λ c κs. search needs)
-    (λ c κs. search needs) array-share-prefix-numbers slice-aggregate-check-clocks array-share-prefix-clocks
-    slice-aggregate-check-clocks-2 check-clocks-requires returns-4)
+    (λ c κs. search needs) array-share-prefix-numbers (λ c. sym (numbers-counted (c .before .before)))
+    array-share-prefix-clocks (λ c. sym (clocks-counted (c .before .before))) check-clocks-requires returns-4)

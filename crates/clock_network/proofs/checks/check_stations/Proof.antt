@@ -48,9 +48,6 @@ module _ (c : tie.After-check Inv-loop μ-loop) where
       ap (λ (n : Node). stationChecked (n .station)) (getD-take (held .count) (held .nodes) i blankNode (inside .loop-test .taken))
       ∙ sym (c .check .ensures)
 
-loop-holds : tie.Need-loop-holds Inv-loop μ-loop
-loop-holds c = (omega arith, refl)
-
 add-place : tie.Need-add-place Inv-loop μ-loop
 add-place c =
     let k = c .before .before .before .before in
@@ -81,6 +78,6 @@ returns-2 c =
 pub check-stations-spec : {M : Type 1} → statement M
 check-stations-spec =
     tie.close
-    (tie.spec Inv-loop μ-loop loop-holds (λ c. search needs) (λ c. search needs) (λ c κs. search needs)
-    (λ c. search needs) (λ c. search needs) add-place returns (λ c. search needs) (λ c. search needs)
-    (λ c. search needs) loop-again returns-2)
+    (tie.spec Inv-loop μ-loop (λ c. (omega arith, refl)) (λ c. search needs) (λ c. search needs)
+    (λ c κs. search needs) (λ c. search needs) (λ c. search needs) add-place returns (λ c. search needs)
+    (λ c. search needs) (λ c. search needs) loop-again returns-2)

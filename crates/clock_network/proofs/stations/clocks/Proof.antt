@@ -18,9 +18,6 @@ Inv-loop h a₀ i₀ a i = (i ≤ 64) × ((length a ≡ 64) × (take i a ≡ tak
 abbrev μ-loop : tie.MeasureT-loop
 μ-loop h a₀ i₀ a i = 64 - i
 
-loop-holds : tie.Need-loop-holds Inv-loop μ-loop
-loop-holds c = (search needs, (refl, refl))
-
 loop-again : tie.Need-loop-again Inv-loop μ-loop
 loop-again c =
     let l = c .before .before .before .before .args .t1 .nodes in let i = c .before .before .before .loop .i in let a = c .before .before .before .loop .a in
@@ -35,5 +32,5 @@ returns c =
 pub clocks-spec : {M : Type 1} → statement M
 clocks-spec =
     tie.close
-    (tie.spec Inv-loop μ-loop loop-holds (λ c. search needs) (λ c. search needs) (λ c. search needs)
-    (λ c. search needs) (λ c. search needs) (λ c. search needs) loop-again returns)
+    (tie.spec Inv-loop μ-loop (λ c. (search needs, (refl, refl))) (λ c. search needs) (λ c. search needs)
+    (λ c. search needs) (λ c. search needs) (λ c. search needs) (λ c. search needs) loop-again returns)

@@ -1,12 +1,12 @@
 -- `clock_network::strata::first_repeat` meets its contract: no place before i repeats a number; the number at i does
 -- where its first place is earlier.
-use Prim.Native.Nat.{ℕ, _≤_, _<_, _-_}
+use Prim.Native.Nat.{_-_}
 use native.Mathlib.Omega.{arith}
 use borrow.Author.Needs.{needs}
 use borrow.Author.Count.{below-more}
 use lib.ListN.{length, getD}
 use lib.IntN.{pos}
-use Rattle.clock_network.specs.laws.First.{First}
+use Rattle.clock_network.specs.laws.First.{First, Searched, first-found, first-none}
 use Rattle.clock_network.specs.Steps.{At, Repeats}
 use Rattle.clock_network.specs.laws.Laws.{placed, repeats-yes, repeats-no}
 use Rattle.clock_network.specs.laws.DefinedLaws.{repeat-is}
@@ -17,7 +17,7 @@ use Rattle.clock_network.proofs.strata.first_repeat.Lts as lts
 use Rattle.clock_network.proofs.strata.place.Reads as place-reads
 
 abbrev Inv-loop : tie.InvT-loop
-Inv-loop numbers i₀ i = (i ≤ length numbers) × ((k : ℕ) → k < i → Repeats numbers k → ⊥)
+Inv-loop numbers i₀ i = Searched (Repeats numbers) (length numbers) i
 
 abbrev μ-loop : tie.MeasureT-loop
 μ-loop numbers i₀ i = length numbers - i
@@ -28,21 +28,21 @@ here : (c : lts.After-place (place-reads.Asked, place-reads.Learnt) reads.Pre re
 here c = let ns = c .before .before .before .before .args .numbers .now in placed ns (length ns) (c .place .result) (getD ns (c .before .before .before .loop .i) (pos 0)) (record { sfits = c .before .x .given }) (c .place .ensures)
 
 returns : tie.Need-returns Inv-loop μ-loop
-returns c = repeat-is (c .before .before .before .before .before .args .numbers .now) _ (record {
-  within = search needs;
-  before = c .before .before .before .before .loop .inv .1;
-  found = λ l. repeats-yes (c .before .before .before .before .before .args .numbers .now) (c .before .before .before .before .loop .i) (c .before .place .result) (here (c .before)) (c .if1 .taken) l;
-})
+returns c =
+    let s = c .before .before .before .before in
+    let ns = s .before .args .numbers .now in
+    let yes = repeats-yes ns (s .loop .i) (c .before .place .result) (here (c .before)) (c .if1 .taken) (omega arith) in
+    repeat-is ns _ (first-found (s .loop .inv) yes)
 
 loop-again : tie.Need-loop-again Inv-loop μ-loop
-loop-again c = (search needs, below-more _ _ (c .before .before .before .before .loop .inv .1) (repeats-no (c .before .before .before .before .before .args .numbers .now) (c .before .before .before .before .loop .i) (c .before .place .result) (here (c .before)) (c .if1 .left)))
+loop-again c =
+    let s = c .before .before .before .before in
+    let ns = s .before .args .numbers .now in
+    let no = repeats-no ns (s .loop .i) (c .before .place .result) (here (c .before)) (c .if1 .left) in
+    (search needs, below-more _ _ (s .loop .inv .1) no)
 
 returns-2 : tie.Need-returns-2 Inv-loop μ-loop
-returns-2 c = repeat-is (c .before .before .args .numbers .now) _ (record {
-  within = search needs;
-  before = c .before .loop .inv .1;
-  found = λ l. absurd (omega arith);
-})
+returns-2 c = repeat-is (c .before .before .args .numbers .now) _ (first-none (c .before .loop .inv) (omega arith))
 
 pub first-repeat-spec : {M : Type 1} → statement M
 first-repeat-spec =

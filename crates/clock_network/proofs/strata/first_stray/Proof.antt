@@ -1,6 +1,6 @@
 -- `clock_network::strata::first_stray` meets its contract: no place before i is stray; the one at i is where its clock
 -- is not 0 and its number has no place.
-use Prim.Native.Nat.{ℕ, _≤_, _<_, _-_}
+use Prim.Native.Nat.{_-_}
 use native.Mathlib.Omega.{arith}
 use borrow.Author.Needs.{needs}
 use borrow.Author.Count.{below-more}
@@ -10,7 +10,7 @@ use mir.Syntax.{w64}
 use mir.Val.{ofZ}
 use mathlib.Core.Path.{_≡_, ap}
 use mathlib.Core.Logic.{⊎-elim}
-use Rattle.clock_network.specs.laws.First.{First}
+use Rattle.clock_network.specs.laws.First.{First, Searched, first-found, first-none}
 use Rattle.clock_network.specs.laws.Bits.{zero-bits}
 use Rattle.clock_network.specs.Steps.{At, Stray}
 use Rattle.clock_network.specs.laws.Laws.{placed, stray-yes, stray-no}
@@ -22,7 +22,7 @@ use Rattle.clock_network.proofs.strata.first_stray.Lts as lts
 use Rattle.clock_network.proofs.strata.place.Reads as place-reads
 
 abbrev Inv-loop : tie.InvT-loop
-Inv-loop numbers clocks i₀ i = (i ≤ length numbers) × ((k : ℕ) → k < i → Stray numbers clocks k → ⊥)
+Inv-loop numbers clocks i₀ i = Searched (Stray numbers clocks) (length numbers) i
 
 abbrev μ-loop : tie.MeasureT-loop
 μ-loop numbers clocks i₀ i = length numbers - i
@@ -39,11 +39,13 @@ other : (c : lts.Then1 (place-reads.Asked, place-reads.Learnt) reads.Pre reads.P
 other c e = c .if1 .taken (ap (ofZ w64) e)
 
 returns : tie.Need-returns Inv-loop μ-loop
-returns c = stray-is (c .before .before .before .before .before .before .args .numbers .now) (c .before .before .before .before .before .before .args .clocks .now) _ (record {
-  within = search needs;
-  before = c .before .before .before .before .before .loop .inv .1;
-  found = λ l. stray-yes (c .before .before .before .before .before .before .args .numbers .now) (c .before .before .before .before .before .before .args .clocks .now) (c .before .before .before .before .before .loop .i) (c .before .place .result) (here (c .before)) (other (c .before .before)) (c .if2 .taken);
-})
+returns c =
+    let s = c .before .before .before .before .before in
+    let ns = s .before .args .numbers .now in
+    let cs = s .before .args .clocks .now in
+    let other-number = other (c .before .before) in
+    let yes = stray-yes ns cs (s .loop .i) (c .before .place .result) (here (c .before)) other-number (c .if2 .taken) in
+    stray-is ns cs _ (first-found (s .loop .inv) yes)
 
 loop-again : tie.Need-loop-again Inv-loop μ-loop
 loop-again c =
@@ -57,11 +59,9 @@ loop-again c =
     )
 
 returns-2 : tie.Need-returns-2 Inv-loop μ-loop
-returns-2 c = stray-is (c .before .before .args .numbers .now) (c .before .before .args .clocks .now) _ (record {
-  within = search needs;
-  before = c .before .loop .inv .1;
-  found = λ l. absurd (omega arith);
-})
+returns-2 c =
+    let a = c .before .before .args in
+    stray-is (a .numbers .now) (a .clocks .now) _ (first-none (c .before .loop .inv) (omega arith))
 
 pub first-stray-spec : {M : Type 1} → statement M
 first-stray-spec =

@@ -16,9 +16,6 @@ Inv-loop numbers clocks steps i₀ i = (i ≤ length numbers) × ((k : ℕ) → 
 abbrev μ-loop : tie.MeasureT-loop
 μ-loop numbers clocks steps i₀ i = length numbers - i
 
-loop-holds : tie.Need-loop-holds Inv-loop μ-loop
-loop-holds c = (search needs, λ k l. absurd (omega arith))
-
 returns : tie.Need-returns Inv-loop μ-loop
 returns c = (search needs, (c .before .before .if1 .taken, (c .if2 .taken, (c .before .next-steps .ensures .told (c .if2 .taken), c .before .next-steps .ensures .small))))
 
@@ -31,5 +28,5 @@ returns-2 c = λ i l. c .before .loop .inv .1 i (omega arith)
 pub ready-place-spec : {M : Type 1} → statement M
 ready-place-spec =
     tie.close
-    (tie.spec Inv-loop μ-loop loop-holds (λ c. search needs) (λ c κs. search needs) returns
-    (λ c. search needs) (λ c. search needs) loop-again returns-2)
+    (tie.spec Inv-loop μ-loop (λ c. (search needs, λ k l. absurd (omega arith))) (λ c. search needs)
+    (λ c κs. search needs) returns (λ c. search needs) (λ c. search needs) loop-again returns-2)

@@ -20,9 +20,6 @@ Inv-loop numbers clocks steps₀ steps = (length steps ≡ 64) × (Sound numbers
 abbrev μ-loop : tie.MeasureT-loop
 μ-loop numbers clocks steps₀ steps = zeros steps
 
-loop-holds : tie.Need-loop-holds Inv-loop μ-loop
-loop-holds c = (refl, (sound-start _ _, small-start))
-
 -- what a turn found
 took : (c : lts.After-known-told (ready-place-reads.Asked, ready-place-reads.Learnt) reads.Pre reads.Post Inv-loop μ-loop)
     → let b = c .before .before .before .before .before .before in
@@ -66,5 +63,6 @@ loop-again c =
 pub search-spec : {M : Type 1} → statement M
 search-spec =
     tie.close
-    (tie.spec Inv-loop μ-loop loop-holds (λ c. search needs) (λ c κs. search needs) (λ c. search needs)
-    (λ c. search needs) returns array-write-steps loop-less loop-again)
+    (tie.spec Inv-loop μ-loop (λ c. (refl, (sound-start _ _, small-start))) (λ c. search needs)
+    (λ c κs. search needs) (λ c. search needs) (λ c. search needs) returns array-write-steps loop-less
+    loop-again)

@@ -12,9 +12,6 @@ use Rattle.float_requests.proofs.survey.sheet.Tie as tie
 asked : (c : tie.After-of-eclipse) → c .of-eclipse .result ≡ ofEclipse (heldRequest (requestOf (c .before .before .before .before .args .s)))
 asked c = c .of-eclipse .ensures ∙ ap ofEclipse (c .before .request-of .ensures)
 
-check-requires : tie.Need-check-requires
-check-requires c κs = asked c
-
 returns : tie.Need-returns
 returns c =
     let known = c .before .c .given in
@@ -31,5 +28,5 @@ returns-2 c =
 pub sheet-spec : {M : Type 1} → statement M
 sheet-spec =
     tie.close
-    (tie.spec (λ c κs. search needs) (λ c κs. search needs) check-requires (λ c. search needs) returns
+    (tie.spec (λ c κs. search needs) (λ c κs. search needs) (λ c κs. asked c) (λ c. search needs) returns
     (λ c. search needs) (λ c κs. search needs) (λ c. search needs) (λ c. search needs) returns-2)

@@ -1,13 +1,11 @@
 -- `horizon::altitudes::altitude` meets its contract: where a is below 0, -1 - a is counted instead, whose largest is
 -- one less than the smallest that is meant.
-use mathlib.Core.Path.{_≡_, refl, sym, ap, _∙_}
+use mathlib.Core.Path.{_≡_, sym, ap, _∙_}
 use mathlib.Core.List.{[], _∷_}
 use Prim.Native.Nat.{ℕ, suc, _≤_, _<_}
 use native.Mathlib.Omega.{arith}
 use lib.IntN.{ℤ, pos, negsuc, negℤ, natAbs, _-ℤ_}
 use lib.Signed.{_≤ℤ_, _<ℤ_}
-use mir.Syntax.{w64}
-use mir.Val.{toZ, ofZ}
 use Rattle.rounding.specs.Parts.{sum, opposite}
 use Rattle.rounding.specs.laws.Order.{zs, ≤ℤ-antisym, fits64}
 use Rattle.rounding.specs.laws.Code.{Code, arg, lit, sub, Within, whole, raw, ends, _▹_, fits, runs, unsigned, taken-<, left-<, count-is, count-size, read-back}
@@ -67,9 +65,6 @@ sub-largest-under c = fits (bounds (c .before .before)) mirrored tt
 cast-largest-under : tie.Need-cast-largest-under
 cast-largest-under c = unsigned (bounds (c .before .before)) mirrored tt (mirrored-above (c .before .before .args .a) (under-zero c))
 
-largest-under-requires : tie.Need-largest-under-requires
-largest-under-requires c κs = c .before .before .pre .0
-
 cast-result : tie.Need-cast-result
 cast-result c = fits64 (pos (c .largest-under .result)) (omega (arith, few _ (c .largest-under .ensures)))
 
@@ -91,9 +86,6 @@ returns c =
 cast-largest-under-2 : tie.Need-cast-largest-under-2
 cast-largest-under-2 c = unsigned (bounds (c .before .before)) (arg 0) tt (over-zero c)
 
-largest-under-requires-2 : tie.Need-largest-under-requires-2
-largest-under-requires-2 c κs = c .before .before .pre .0
-
 cast-result-2 : tie.Need-cast-result-2
 cast-result-2 c = fits64 (pos (c .largest-under2 .result)) (omega (arith, few _ (c .largest-under2 .ensures)))
 
@@ -108,5 +100,5 @@ returns-2 c =
 pub altitude-spec : {M : Type 1} → statement M
 altitude-spec =
     tie.close
-    (tie.spec sub-largest-under cast-largest-under largest-under-requires cast-result sub-result returns
-    cast-largest-under-2 largest-under-requires-2 cast-result-2 returns-2)
+    (tie.spec sub-largest-under cast-largest-under (λ c κs. c .before .before .pre .0) cast-result sub-result
+    returns cast-largest-under-2 (λ c κs. c .before .before .pre .0) cast-result-2 returns-2)

@@ -2,7 +2,7 @@
 -- bits.
 use mathlib.Core.Path.{sym, _∙_}
 use mathlib.Core.List.{[], _∷_}
-use lib.IntN.{pos, negℤ}
+use lib.IntN.{negℤ}
 use Rattle.rounding.specs.Units.{one}
 use Rattle.rounding.specs.laws.Code.{arg, lit, Within, whole, ends, _▹_, taken-<, left-<, read-back}
 use Rattle.horizon.specs.laws.AltitudeLaws.{kept-high, kept-low, kept-same}

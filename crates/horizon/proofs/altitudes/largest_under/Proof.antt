@@ -1,13 +1,10 @@
 -- `horizon::altitudes::largest_under` meets its contract: low's sine is at most a and, since the table rises, those
 -- from high on are more; so when high is next to low, low is the largest. Each round brings them nearer.
-use mathlib.Core.Path.{_≡_, sym, ap, _∙_, subst}
-use mathlib.Core.Logic.{⊎-elim}
+use mathlib.Core.Path.{_≡_, _∙_, subst}
 use Prim.Native.Nat.{ℕ, _+_, _-_, _/_, _≤_, _<_}
 use native.Mathlib.Omega.{arith}
-use native.Mathlib.Nat.{eq-or-lt-of-le}
 use Rattle.sine_table.specs.Table.{S}
 use Rattle.sine_table.specs.laws.TableLaws.{entry-0}
-use Rattle.sine_table.specs.laws.Rising.{S-rises}
 use Rattle.horizon.specs.Altitude.{LargestUnder, largestUnder}
 use Rattle.horizon.specs.laws.AltitudeLaws.{largest-unique, under-is, rises-≤}
 use Rattle.horizon.proofs.altitudes.largest_under.Statement.{statement}
@@ -39,9 +36,6 @@ Inv-loop table a low₀ high₀ low high = Between a low high
 abbrev μ-loop : tie.MeasureT-loop
 μ-loop table a low₀ high₀ low high = high - low
 
-loop-holds : tie.Need-loop-holds Inv-loop μ-loop
-loop-holds c = start (c .before .args .a)
-
 add-loop : tie.Need-add-loop Inv-loop μ-loop
 add-loop c = omega (arith, c .loop .inv .apart, c .loop .inv .high-le)
 
@@ -50,9 +44,6 @@ add-k c = omega (arith, c .before .loop .inv .apart, c .before .loop .inv .high-
 
 entry-requires : tie.Need-entry-requires Inv-loop μ-loop
 entry-requires c κs = (c .before .before .before .pre, omega (arith, c .before .loop .inv .apart, c .before .loop .inv .high-le))
-
-wide-requires : tie.Need-wide-requires Inv-loop μ-loop
-wide-requires c κs = tt
 
 -- the sine of a round
 module _ (c : tie.After-wide Inv-loop μ-loop) where
@@ -98,5 +89,5 @@ returns c =
 pub largest-under-spec : {M : Type 1} → statement M
 largest-under-spec =
     tie.close
-    (tie.spec Inv-loop μ-loop loop-holds add-loop add-k entry-requires wide-requires loop-less loop-again
-    loop-less-2 loop-again-2 returns)
+    (tie.spec Inv-loop μ-loop (λ c. start (c .before .args .a)) add-loop add-k entry-requires (λ c κs. tt)
+    loop-less loop-again loop-less-2 loop-again-2 returns)

@@ -5,7 +5,7 @@ use mir.Syntax.{w64}
 use mir.Val.{toZ, ofZ}
 use mir.ValLaws.{toZ-ofZ}
 use Rattle.decimal_text.specs.laws.TextLaws.{put-nil}
-use Rattle.decimal_text.specs.RowLaws.{put-as}
+use Rattle.decimal_text.specs.laws.RowLaws.{put-as}
 use Rattle.listing_lines.specs.Clock.{behind}
 use Rattle.listing_lines.specs.laws.ClockLaws.{behind-shown}
 use borrow.Author.Needs.{needs}

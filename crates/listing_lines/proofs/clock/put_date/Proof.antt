@@ -1,6 +1,6 @@
 -- `listing_lines::clock::put_date` meets its contract: its parts, one after the other.
 use native.Mathlib.Omega.{arith}
-use Rattle.decimal_text.specs.RowLaws.{joined}
+use Rattle.decimal_text.specs.laws.RowLaws.{joined}
 use borrow.Author.Needs.{needs}
 use Rattle.listing_lines.proofs.clock.put_date.Statement.{statement}
 use Rattle.listing_lines.proofs.clock.put_date.Tie as tie

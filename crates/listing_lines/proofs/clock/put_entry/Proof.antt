@@ -3,7 +3,7 @@ use mathlib.Core.Path.{_≡_, ap}
 use mir.Syntax.{w64}
 use mir.Val.{toZ, ofZ}
 use mir.ValLaws.{toZ-ofZ}
-use Rattle.decimal_text.specs.RowLaws.{put-as}
+use Rattle.decimal_text.specs.laws.RowLaws.{put-as}
 use Rattle.listing_lines.specs.Clock.{timedLine}
 use Rattle.listing_lines.specs.laws.ClockLaws.{line-off, line-at}
 use borrow.Author.Needs.{needs}

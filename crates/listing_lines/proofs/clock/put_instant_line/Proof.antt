@@ -1,6 +1,6 @@
 -- `listing_lines::clock::put_instant_line` meets its contract: its name, then the instant.
 use native.Mathlib.Omega.{arith}
-use Rattle.decimal_text.specs.RowLaws.{joined}
+use Rattle.decimal_text.specs.laws.RowLaws.{joined}
 use borrow.Author.Needs.{needs}
 use Rattle.listing_lines.proofs.clock.put_instant_line.Statement.{statement}
 use Rattle.listing_lines.proofs.clock.put_instant_line.Tie as tie

@@ -4,7 +4,7 @@ use native.Mathlib.Omega.{arith}
 use mir.Syntax.{w64}
 use mir.Val.{toZ, ofZ}
 use mir.ValLaws.{toZ-ofZ}
-use Rattle.decimal_text.specs.RowLaws.{put-as, joined}
+use Rattle.decimal_text.specs.laws.RowLaws.{put-as, joined}
 use Rattle.listing_lines.specs.Clock.{scalesText}
 use borrow.Author.Needs.{needs}
 use Rattle.listing_lines.proofs.clock.put_scales.Statement.{statement}

@@ -10,7 +10,7 @@ use Rattle.rounding.specs.Near.{floorZ}
 use Rattle.rounding.specs.laws.Code.{Code, arg, add, Within, whole, ends, _▹_, fits, runs, within}
 use Rattle.sheet_format.specs.StoredSeconds.{secondOf}
 use Rattle.decimal_text.specs.Texts.{letters}
-use Rattle.decimal_text.specs.RowLaws.{put-as, joined}
+use Rattle.decimal_text.specs.laws.RowLaws.{put-as, joined}
 use Rattle.listing_lines.specs.Times.{timeText}
 use Rattle.listing_lines.specs.Clock.{timeIn}
 use borrow.Author.Needs.{needs}

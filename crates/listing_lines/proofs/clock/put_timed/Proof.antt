@@ -6,7 +6,7 @@ use mir.Syntax.{w64}
 use mir.Val.{toZ, ofZ}
 use mir.ValLaws.{toZ-ofZ}
 use Rattle.rounding.specs.laws.Code.{read-result}
-use Rattle.decimal_text.specs.RowLaws.{put-as, joined}
+use Rattle.decimal_text.specs.laws.RowLaws.{put-as, joined}
 use Rattle.listing_lines.specs.Lines.{textOf, endFor}
 use Rattle.listing_lines.specs.Clock.{known, behind}
 use borrow.Author.Needs.{needs}

@@ -5,7 +5,7 @@ use mir.Syntax.{w64}
 use mir.Val.{toZ, ofZ}
 use mir.ValLaws.{toZ-ofZ}
 use Rattle.rounding.specs.laws.Order.{ltZ-true, ltZ-false}
-use Rattle.decimal_text.specs.RowLaws.{put-as}
+use Rattle.decimal_text.specs.laws.RowLaws.{put-as}
 use Rattle.listing_lines.specs.Times.{dayText}
 use Rattle.listing_lines.specs.laws.TimeLaws.{day-before, day-after, same-day}
 use borrow.Author.Needs.{needs}

@@ -2,7 +2,7 @@
 use native.Mathlib.Omega.{arith}
 use Rattle.decimal_text.specs.Decimals.{signed}
 use Rattle.decimal_text.specs.Texts.{letters}
-use Rattle.decimal_text.specs.RowLaws.{put-as, joined}
+use Rattle.decimal_text.specs.laws.RowLaws.{put-as, joined}
 use mathlib.Core.List.{_++_}
 use mathlib.Core.Path.{_≡_, ap}
 use mir.Syntax.{w64}

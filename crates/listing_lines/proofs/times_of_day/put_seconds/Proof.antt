@@ -1,6 +1,6 @@
 -- `listing_lines::times_of_day::put_seconds` meets its contract: its parts, one after the other.
 use native.Mathlib.Omega.{arith}
-use Rattle.decimal_text.specs.RowLaws.{joined}
+use Rattle.decimal_text.specs.laws.RowLaws.{joined}
 use Rattle.listing_lines.specs.Times.{secondsText}
 use borrow.Author.Needs.{needs}
 use Rattle.listing_lines.proofs.times_of_day.put_seconds.Statement.{statement}

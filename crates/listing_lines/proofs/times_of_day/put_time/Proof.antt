@@ -8,11 +8,11 @@ use lib.IntN.{pos, natAbs, _+ℤ_, _-ℤ_}
 use lib.Signed.{_≤ℤ_}
 use Rattle.rounding.specs.Near.{floorZ}
 use Rattle.rounding.specs.Parts.{sum, opposite}
-use Rattle.rounding.specs.laws.Order.{zs, neg-natAbs, fits64}
+use Rattle.rounding.specs.laws.Order.{zs, neg-natAbs, fits64, nonneg-natAbs}
 use Rattle.rounding.specs.laws.Code.{Code, arg, lit, add, sub, run, Within, raw, whole, ends, _▹_, fits, runs, within, unsigned, count-is, count-size}
-use Rattle.decimal_text.specs.RowLaws.{put-as, joined}
+use Rattle.decimal_text.specs.laws.RowLaws.{put-as, joined}
 use Rattle.listing_lines.specs.Times.{ofDayText, dayText, timeText}
-use Rattle.listing_lines.specs.laws.TimeLaws.{time-up, natural}
+use Rattle.listing_lines.specs.laws.TimeLaws.{time-up}
 use borrow.Author.Needs.{needs}
 use Rattle.listing_lines.proofs.times_of_day.put_time.Statement.{statement}
 use Rattle.listing_lines.proofs.times_of_day.put_time.Tie as tie
@@ -35,7 +35,7 @@ module _ (s : tie.Start) where
   divided = natAbs (run (whole (s .args .n) ∷ []) up)
 
   shifted : s .args .n +ℤ pos 864000000000 ≡ pos divided
-  shifted = natural _ not-below ∙ ap (λ z. pos (natAbs z)) (sym (runs bounds up tt))
+  shifted = nonneg-natAbs _ not-below ∙ ap (λ z. pos (natAbs z)) (sym (runs bounds up tt))
 
   days : divided / 10 / 864000 ≤ 1724000000000
   days = omega (arith, within bounds up 1724000000000 tt)
@@ -50,17 +50,8 @@ module _ (s : tie.Start) where
       (runs day-bounds down tt ∙ ap (λ z. z -ℤ pos 100000) (count-is (divided / 10 / 864000) days tt))
       ∙ sym (time-up (s .args .n) divided shifted)
 
-add-tenths : tie.Need-add-tenths
-add-tenths c = fits (bounds (c .before)) up tt
-
 cast-tenths : tie.Need-cast-tenths
 cast-tenths c = unsigned (bounds (c .before)) up tt (not-below (c .before))
-
-cast-day : tie.Need-cast-day
-cast-day c = fits64 _ (omega (arith, days (c .before)))
-
-sub-day : tie.Need-sub-day
-sub-day c = fits (day-bounds (c .before)) down tt
 
 returns : tie.Need-returns
 returns c = put-as _ _ _ _ _ _ (text (c .before .before .before .before .before .before .before .before .before)) (joined (omega arith) (c .before .before .before .before .before .before .put-of-day .ensures) (c .before .before .put-day .ensures))
@@ -68,5 +59,6 @@ returns c = put-as _ _ _ _ _ _ (text (c .before .before .before .before .before 
 pub put-time-spec : {M : Type 1} → statement M
 put-time-spec =
     tie.close
-    (tie.spec add-tenths cast-tenths cast-day sub-day (λ c κs. search needs) (λ c κs. search needs)
-    (λ c. search needs) returns)
+    (tie.spec (λ c. fits (bounds (c .before)) up tt) cast-tenths
+    (λ c. fits64 _ (omega (arith, days (c .before)))) (λ c. fits (day-bounds (c .before)) down tt)
+    (λ c κs. search needs) (λ c κs. search needs) (λ c. search needs) returns)

@@ -1,6 +1,6 @@
 -- `listing_lines::times_of_day::put_two` meets its contract: the last digit of the tenth, then that of the number.
 use native.Mathlib.Omega.{arith}
-use Rattle.decimal_text.specs.RowLaws.{joined}
+use Rattle.decimal_text.specs.laws.RowLaws.{joined}
 use borrow.Author.Needs.{needs}
 use Rattle.listing_lines.proofs.times_of_day.put_two.Statement.{statement}
 use Rattle.listing_lines.proofs.times_of_day.put_two.Tie as tie

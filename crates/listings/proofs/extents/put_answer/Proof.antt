@@ -1,6 +1,6 @@
 -- `listings::extents::put_answer` meets its contract: the word, then the answer.
 use native.Mathlib.Omega.{arith}
-use Rattle.decimal_text.specs.RowLaws.{joined}
+use Rattle.decimal_text.specs.laws.RowLaws.{joined}
 use borrow.Author.Needs.{needs}
 use Rattle.listings.proofs.extents.put_answer.Statement.{statement}
 use Rattle.listings.proofs.extents.put_answer.Tie as tie

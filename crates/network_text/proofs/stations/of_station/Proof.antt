@@ -29,30 +29,6 @@ word c =
     let r = c .before .before in
     word-within _ _ _ _ (r .before .before .before .loop .inv) (r .before .before .loop-test .taken) _ (r .run .ensures .0) _ (c .run2 .ensures .0)
 
-loop-holds : tie.Need-loop-holds Inv-loop μ-loop
-loop-holds c = rowed-start _ _ refl
-
-sub-run : tie.Need-sub-run Inv-loop μ-loop
-sub-run c = omega (arith, c .before .loop .inv .place)
-
-part-run-start : tie.Need-part-run-start Inv-loop μ-loop
-part-run-start c = c .before .loop .inv .place
-
-add-from : tie.Need-add-from Inv-loop μ-loop
-add-from c = let g = gap c in search needs
-
-sub-run-2 : tie.Need-sub-run-2 Inv-loop μ-loop
-sub-run-2 c = let g = gap c in search needs
-
-part-run-start-2 : tie.Need-part-run-start-2 Inv-loop μ-loop
-part-run-start-2 c = gap c
-
-add-end : tie.Need-add-end Inv-loop μ-loop
-add-end c = let g = word c in search needs
-
-part-word-of-end : tie.Need-part-word-of-end Inv-loop μ-loop
-part-word-of-end c = word c
-
 returns : tie.Need-returns Inv-loop μ-loop
 returns c =
     let w = c .before .before .before in
@@ -71,12 +47,6 @@ loop-again c =
     (rowed-turn _ _ _ _ (one .before .before .before .loop .inv) (one .before .before .loop-test .taken) _ (one .run .ensures .0) _ (two .run2 .ensures .0)
     _ (w .word-of .ensures) z (c .before .word .given .1))
 
-sub-all : tie.Need-sub-all Inv-loop μ-loop
-sub-all c = omega (arith, c .before .loop .inv .place)
-
-part-all-start : tie.Need-part-all-start Inv-loop μ-loop
-part-all-start c = c .before .loop .inv .place
-
 returns-2 : tie.Need-returns-2 Inv-loop μ-loop
 returns-2 c =
     let a = c .before in
@@ -92,8 +62,11 @@ returns-3 c =
 pub of-station-spec : {M : Type 1} → statement M
 of-station-spec =
     tie.close
-    (tie.spec Inv-loop μ-loop loop-holds sub-run part-run-start (λ c. search needs) (λ c κs. search needs)
-    add-from sub-run-2 part-run-start-2 (λ c. search needs) (λ c κs. search needs) add-end (λ c. search needs)
-    (λ c. search needs) part-word-of-end (λ c κs. search needs) (λ c. search needs) (λ c. search needs)
-    (λ c. search needs) (λ c. search needs) returns (λ c. search needs) (λ c. search needs) loop-again sub-all
-    part-all-start (λ c. search needs) (λ c κs. search needs) returns-2 (λ c κs. search needs) returns-3)
+    (tie.spec Inv-loop μ-loop (λ c. rowed-start _ _ refl) (λ c. omega (arith, c .before .loop .inv .place))
+    (λ c. c .before .loop .inv .place) (λ c. search needs) (λ c κs. search needs)
+    (λ c. let g = gap c in search needs) (λ c. let g = gap c in search needs) (λ c. gap c) (λ c. search needs)
+    (λ c κs. search needs) (λ c. let g = word c in search needs) (λ c. search needs) (λ c. search needs)
+    (λ c. word c) (λ c κs. search needs) (λ c. search needs) (λ c. search needs) (λ c. search needs)
+    (λ c. search needs) returns (λ c. search needs) (λ c. search needs) loop-again
+    (λ c. omega (arith, c .before .loop .inv .place)) (λ c. c .before .loop .inv .place) (λ c. search needs)
+    (λ c κs. search needs) returns-2 (λ c κs. search needs) returns-3)

@@ -9,7 +9,7 @@ use lib.IntN.{natAbs}
 use lib.ListN.{length}
 use Rattle.rounding.specs.laws.Code.{read-back, read-size}
 use Rattle.requests.specs.Windows.{secondCount}
-use Rattle.requests.specs.WindowLaws.{seconds-few, second-size}
+use Rattle.requests.specs.WindowLaws.{second-size}
 use Rattle.run_length.specs.Runs.{decoded}
 use Rattle.contacts.specs.Entries.{entries}
 use Rattle.contacts.specs.laws.Shifted.{shifted}
@@ -23,17 +23,17 @@ use Rattle.networks.proofs.first_contact.first_enter.Statement.{stateme
 use Rattle.networks.proofs.first_contact.first_enter.Tie as tie
 
 abbrev Inv-loop : tie.InvT-loop
-Inv-loop w runs c₀ c =
+Inv-loop w runs seconds c₀ c =
     let b = stored (w .first) in
     let s = decoded 0 runs in
     At 0 runs c × (firstEnter (map (shifted b) (entriesFrom s (c .at))) ≡ firstEnter (map (shifted b) (entries s)))
 
 abbrev μ-loop : tie.MeasureT-loop
-μ-loop w runs c₀ c = length (decoded 0 runs) - c .at
+μ-loop w runs seconds c₀ c = length (decoded 0 runs) - c .at
 
 -- the places before
 abbrev start : tie.At-loop Inv-loop μ-loop → tie.Start Inv-loop μ-loop
-start c = c .before .before
+start c = c .before .before .before
 
 abbrev looped : tie.After-known-told Inv-loop μ-loop → tie.At-loop Inv-loop μ-loop
 looped c = c .before .before .before .before
@@ -45,13 +45,11 @@ onward c = took _ _ _ _ _ _ (c .before .before .before .step .ensures) (c .befor
 
 loop-holds : tie.Need-loop-holds Inv-loop μ-loop
 loop-holds c =
-    let a = c .before in
+    let a = c .before .before in
     (at-start 0 (a .args .runs .now) 0 (a .pre .1), ap (λ es. firstEnter (map (shifted (stored (a .args .w .first))) es)) (all-at-start (decoded 0 (a .args .runs .now))))
 
 step-requires : tie.Need-step-requires Inv-loop μ-loop
-step-requires c κs =
-    let a = start c in
-    (omega (arith, a .pre .2, seconds-few (a .args .w) (a .pre .0)), c .loop .inv .0)
+step-requires c κs = (start c .pre .2 ∙ sym (c .before .second-count .ensures), c .loop .inv .0)
 
 returns : tie.Need-returns Inv-loop μ-loop
 returns c =
@@ -115,6 +113,6 @@ loop-again c =
 pub first-enter-spec : {M : Type 1} → statement M
 first-enter-spec =
     tie.close
-    (tie.spec Inv-loop μ-loop loop-holds step-requires (λ c. search needs) (λ c. search needs) returns
-    (λ c κs. search needs) (λ c κs. search needs) nth-second-requires store-second-requires returns-2
-    loop-less loop-again)
+    (tie.spec Inv-loop μ-loop (λ c κs. search needs) loop-holds step-requires (λ c. search needs)
+    (λ c. search needs) returns (λ c κs. search needs) (λ c κs. search needs) nth-second-requires
+    store-second-requires returns-2 loop-less loop-again)

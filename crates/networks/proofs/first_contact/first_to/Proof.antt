@@ -37,9 +37,6 @@ fill-requires c κs =
     let b = c .before .before .before .before .before .before in
     rw e (b .pre .0, b .pre .1, c .before .geocentric .ensures, room (b .args .q) (b .pre .1))
 
-array-share-prefix-runs : tie.Need-array-share-prefix-runs
-array-share-prefix-runs c = c .before .fill .ensures .0 .count
-
 slice-aggregate-first-enter : tie.Need-slice-aggregate-first-enter
 slice-aggregate-first-enter c =
     let f = c .before .before in
@@ -68,4 +65,4 @@ pub first-to-spec : {M : Type 1} → statement M
 first-to-spec =
     tie.close
     (tie.spec (λ c κs. search needs) (λ c κs. search needs) (λ c. search needs) fill-requires
-    array-share-prefix-runs slice-aggregate-first-enter first-enter-requires returns)
+    (λ c. c .before .fill .ensures .0 .count) slice-aggregate-first-enter first-enter-requires returns)

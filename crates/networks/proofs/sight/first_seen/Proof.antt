@@ -65,12 +65,6 @@ module _ (c : tie.After-struct-told) where
       subst (λ (n : Node). InLimits (ofEclipse (requestOf (start found .args .e) (n .station)))) in-list
       (start found .pre .3 (best .earliest .result) (omega (arith, test .if1 .taken, list-counted found)))
 
-first-tos-requires : tie.Need-first-tos-requires
-first-tos-requires c κs = c .before .pre
-
-slice-aggregate-earliest : tie.Need-slice-aggregate-earliest
-slice-aggregate-earliest c = sym (counted (c .before))
-
 cast-result : tie.Need-cast-result
 cast-result c = cast-unsigned (there c .station .number) (fits c) (omega (arith, zs, within c .station .number .0))
 
@@ -88,5 +82,5 @@ returns-2 c =
 pub first-seen-spec : {M : Type 1} → statement M
 first-seen-spec =
     tie.close
-    (tie.spec first-tos-requires (λ c. search needs) slice-aggregate-earliest (λ c κs. search needs)
-    (λ c. search needs) (λ c. search needs) cast-result returns returns-2)
+    (tie.spec (λ c κs. c .before .pre) (λ c. search needs) (λ c. sym (counted (c .before)))
+    (λ c κs. search needs) (λ c. search needs) (λ c. search needs) cast-result returns returns-2)

@@ -46,9 +46,6 @@ module _ (c : tie.After-request Inv-loop μ-loop) where
       c .request .ensures
       ∙ ap (λ (n : Node). requestOf (start .args .e) (n .station)) (sym (getD-take (start .args .n) (start .args .t3 .nodes) i blankNode (inside .loop-test .taken)))
 
-loop-holds : tie.Need-loop-holds Inv-loop μ-loop
-loop-holds c = (omega arith, refl, refl)
-
 first-to-requires : tie.Need-first-to-requires Inv-loop μ-loop
 first-to-requires c κs = (start c .pre .0, subst (λ (q : Request). InLimits (ofEclipse q)) (sym (asked c)) (start c .pre .3 (i c) (within c)))
 
@@ -75,6 +72,6 @@ returns c =
 pub first-tos-spec : {M : Type 1} → statement M
 first-tos-spec =
     tie.close
-    (tie.spec Inv-loop μ-loop loop-holds (λ c. search needs) (λ c. search needs) (λ c κs. search needs)
-    first-to-requires (λ c. search needs) (λ c. search needs) (λ c. search needs) (λ c. search needs)
-    loop-again returns)
+    (tie.spec Inv-loop μ-loop (λ c. (omega arith, refl, refl)) (λ c. search needs) (λ c. search needs)
+    (λ c κs. search needs) first-to-requires (λ c. search needs) (λ c. search needs) (λ c. search needs)
+    (λ c. search needs) loop-again returns)

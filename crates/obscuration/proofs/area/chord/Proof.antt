@@ -21,15 +21,6 @@ bounds c = c .pre .0 ▹ c .pre .1 ▹ ends
 abbrev square : Code
 square = sub (mul (arg 0) (arg 0)) (mul (arg 1) (arg 1))
 
-mul-square : tie.Need-mul-square
-mul-square c = fits (bounds c) (mul (arg 0) (arg 0)) tt
-
-mul-square-2 : tie.Need-mul-square-2
-mul-square-2 c = fits (bounds c) (mul (arg 1) (arg 1)) tt
-
-sub-square : tie.Need-sub-square
-sub-square c = fits (bounds c) square tt
-
 returns : tie.Need-returns
 returns c =
     let a = c .before .args in
@@ -61,9 +52,6 @@ module _ (c : tie.Else1) where
 cast-n : tie.Need-cast-n
 cast-n c = unsigned (bounds (c .before)) square tt (on c)
 
-root-from-requires : tie.Need-root-from-requires
-root-from-requires c κs = (lit≤ tt, lit≤ tt, small (c .before))
-
 returns-2 : tie.Need-returns-2
 returns-2 c = found (c .before .before) (c .root-from .ensures)
 
@@ -76,5 +64,6 @@ returns-3 c = found (c .before .before) (c .root-from2 .ensures)
 pub chord-spec : {M : Type 1} → statement M
 chord-spec =
     tie.close
-    (tie.spec mul-square mul-square-2 sub-square returns cast-n root-from-requires returns-2
+    (tie.spec (λ c. fits (bounds c) (mul (arg 0) (arg 0)) tt) (λ c. fits (bounds c) (mul (arg 1) (arg 1)) tt)
+    (λ c. fits (bounds c) square tt) returns cast-n (λ c κs. (lit≤ tt, lit≤ tt, small (c .before))) returns-2
     root-from-requires-2 returns-3)

@@ -27,17 +27,8 @@ along = mul (arg 1) (arg 0)
 abbrev result : Code
 result = add opposite (quo along (lit (pos 1000)))
 
-sub-result : tie.Need-sub-result
-sub-result c = fits (bounds c) opposite tt
-
-mul-result : tie.Need-mul-result
-mul-result c = fits (bounds c) along tt
-
 div-result : tie.Need-div-result
 div-result c = (lit< tt, fits (bounds c) (quo along (lit (pos 1000))) tt)
-
-add-result : tie.Need-add-result
-add-result c = fits (bounds c) result tt
 
 returns : tie.Need-returns
 returns c =
@@ -49,4 +40,5 @@ returns c =
 pub offset-spec : {M : Type 1} → statement M
 offset-spec =
     tie.close
-    (tie.spec (λ c. search needs) (λ c. search needs) sub-result (λ c. search needs) mul-result div-result add-result returns)
+    (tie.spec (λ c. search needs) (λ c. search needs) (λ c. fits (bounds c) opposite tt) (λ c. search needs)
+    (λ c. fits (bounds c) along tt) div-result (λ c. fits (bounds c) result tt) returns)

@@ -77,9 +77,6 @@ div-y-2 c = above (c .before .before .args .n) (c .before .loop .y) (c .loop-tes
 add-y-2 : tie.Need-add-y-2 Inv-loop μ-loop
 add-y-2 c = omega (arith, falls c, c .before .loop .inv .1)
 
-loop-less : tie.Need-loop-less Inv-loop μ-loop
-loop-less c = omega (arith, falls c)
-
 loop-again : tie.Need-loop-again Inv-loop μ-loop
 loop-again c =
     let n = c .before .before .args .n in
@@ -95,4 +92,5 @@ returns c =
 pub root-from-spec : {M : Type 1} → statement M
 root-from-spec =
     tie.close
-    (tie.spec Inv-loop μ-loop (λ c. search needs) add-y loop-holds mul-loop div-y-2 add-y-2 loop-less loop-again returns)
+    (tie.spec Inv-loop μ-loop (λ c. search needs) add-y loop-holds mul-loop div-y-2 add-y-2
+    (λ c. omega (arith, falls c)) loop-again returns)

@@ -47,23 +47,8 @@ module _ (c : tie.Start) where
       runs bounds (quo less two) tt
       ∙ half-pos (l1 -ℤ l2) (omega (arith, zs, c .pre .low, c .pre .central, natAbs-parts l2, sum l1 (negℤ l2) .is, opposite l2 .is))
 
-add-r : tie.Need-add-r
-add-r c = fits (bounds c) both tt
-
-div-r : tie.Need-div-r
-div-r c = (lit< tt, fits (bounds c) (quo both two) tt)
-
-sub-n : tie.Need-sub-n
-sub-n c = fits (bounds c) less tt
-
-div-n : tie.Need-div-n
-div-n c = (lit< tt, fits (bounds c) (quo less two) tt)
-
 cast-root : tie.Need-cast-root
 cast-root c = unsigned (bounds c) (arg 2) tt (c .pre .square)
-
-root-requires : tie.Need-root-requires
-root-requires c κs = tt
 
 module _ (c : tie.After-root) where
   abbrev s : tie.Start
@@ -98,4 +83,6 @@ returns c =
 pub share-spec : {M : Type 1} → statement M
 share-spec =
     tie.close
-    (tie.spec add-r div-r sub-n div-n cast-root root-requires cast-share-of share-of-requires returns)
+    (tie.spec (λ c. fits (bounds c) both tt) (λ c. (lit< tt, fits (bounds c) (quo both two) tt))
+    (λ c. fits (bounds c) less tt) (λ c. (lit< tt, fits (bounds c) (quo less two) tt)) cast-root (λ c κs. tt)
+    cast-share-of share-of-requires returns)

@@ -89,9 +89,6 @@ chord-requires c κs =
       c .before .before .loop .inv .sun-small,
     )
 
-sub-chord : tie.Need-sub-chord Inv-loop μ-loop
-sub-chord c = fits (bounds (c .before)) aside tt
-
 chord-requires-2 : tie.Need-chord-requires-2 Inv-loop μ-loop
 chord-requires-2 c κs =
     let s = start (c .before) in (
@@ -99,9 +96,6 @@ chord-requires-2 c κs =
       within (bounds (c .before)) aside 1100000000 tt,
       c .before .before .before .loop .inv .moon-small,
     )
-
-lesser-of-requires : tie.Need-lesser-of-requires Inv-loop μ-loop
-lesser-of-requires c κs = tt
 
 module _ (c : tie.After-lesser-of Inv-loop μ-loop) where
   abbrev o : tie.After-offset Inv-loop μ-loop
@@ -139,12 +133,6 @@ add-covered c = omega (arith, sun-small c, lesser-small c, inv c .few, inv c .le
 
 add-whole : tie.Need-add-whole Inv-loop μ-loop
 add-whole c = omega (arith, sun-small c, inv c .few, inv c .small)
-
-add-i : tie.Need-add-i Inv-loop μ-loop
-add-i c = omega (arith, inv c .few)
-
-loop-less : tie.Need-loop-less Inv-loop μ-loop
-loop-less c = omega (arith, o c .before .loop-test .taken)
 
 loop-again : tie.Need-loop-again Inv-loop μ-loop
 loop-again c =
@@ -201,6 +189,7 @@ returns c = answer c
 pub share-of-spec : {M : Type 1} → statement M
 share-of-spec =
     tie.close
-    (tie.spec Inv-loop μ-loop loop-holds offset-requires chord-requires sub-chord chord-requires-2
-    lesser-of-requires add-covered add-whole add-i loop-less loop-again mul-result div-result cast-result
-    returns)
+    (tie.spec Inv-loop μ-loop loop-holds offset-requires chord-requires
+    (λ c. fits (bounds (c .before)) aside tt) chord-requires-2 (λ c κs. tt) add-covered add-whole
+    (λ c. omega (arith, inv c .few)) (λ c. omega (arith, o c .before .loop-test .taken)) loop-again mul-result
+    div-result cast-result returns)

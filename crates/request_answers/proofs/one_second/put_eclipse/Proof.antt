@@ -11,27 +11,6 @@ use Rattle.request_answers.proofs.one_second.Small.{small}
 use Rattle.request_answers.proofs.one_second.put_eclipse.Statement.{statement}
 use Rattle.request_answers.proofs.one_second.put_eclipse.Tie as tie
 
-slice-set-from-v : tie.Need-slice-set-from-v
-slice-set-from-v c = simp length-set (omega arith)
-
-slice-set-from-l1 : tie.Need-slice-set-from-l1
-slice-set-from-l1 c = simp length-set (omega arith)
-
-slice-set-from-l2 : tie.Need-slice-set-from-l2
-slice-set-from-l2 c = simp length-set (omega arith)
-
-slice-set-from-penumbra : tie.Need-slice-set-from-penumbra
-slice-set-from-penumbra c = simp length-set (omega arith)
-
-slice-set-from-central : tie.Need-slice-set-from-central
-slice-set-from-central c = simp length-set (omega arith)
-
-slice-set-from-magnitude : tie.Need-slice-set-from-magnitude
-slice-set-from-magnitude c = simp length-set (omega arith)
-
-slice-set-from-direction : tie.Need-slice-set-from-direction
-slice-set-from-direction c = simp length-set (omega arith)
-
 same-length : tie.Need-same-length
 same-length c = length-sets (c .before .before .before .before .before .before .before .before .before .args .room .now) 0 (_ ∷ _ ∷ _ ∷ _ ∷ _ ∷ _ ∷ _ ∷ _ ∷ [])
 
@@ -58,5 +37,7 @@ pub put-eclipse-spec : {M : Type 1} → statement M
 put-eclipse-spec =
     tie.close
     (tie.spec (λ c. search needs) (λ c. search needs) (λ c. search needs) (λ c. search needs)
-    (λ c. search needs) slice-set-from-v slice-set-from-l1 slice-set-from-l2 slice-set-from-penumbra
-    slice-set-from-central slice-set-from-magnitude slice-set-from-direction same-length returns)
+    (λ c. search needs) (λ c. simp length-set (omega arith)) (λ c. simp length-set (omega arith))
+    (λ c. simp length-set (omega arith)) (λ c. simp length-set (omega arith))
+    (λ c. simp length-set (omega arith)) (λ c. simp length-set (omega arith))
+    (λ c. simp length-set (omega arith)) same-length returns)

@@ -11,18 +11,6 @@ use Rattle.request_answers.proofs.one_second.Small.{small}
 use Rattle.request_answers.proofs.one_second.put_star.Statement.{statement}
 use Rattle.request_answers.proofs.one_second.put_star.Tie as tie
 
-slice-set-from-v : tie.Need-slice-set-from-v
-slice-set-from-v c = simp length-set (omega arith)
-
-slice-set-from-radius : tie.Need-slice-set-from-radius
-slice-set-from-radius c = simp length-set (omega arith)
-
-slice-set-from-state : tie.Need-slice-set-from-state
-slice-set-from-state c = simp length-set (omega arith)
-
-slice-set-from-direction : tie.Need-slice-set-from-direction
-slice-set-from-direction c = simp length-set (omega arith)
-
 same-length : tie.Need-same-length
 same-length c = length-sets (c .before .before .before .before .before .before .args .room .now) 0 (_ ∷ _ ∷ _ ∷ _ ∷ _ ∷ [])
 
@@ -45,5 +33,6 @@ returns c =
 pub put-star-spec : {M : Type 1} → statement M
 put-star-spec =
     tie.close
-    (tie.spec (λ c. search needs) (λ c. search needs) (λ c. search needs) slice-set-from-v
-    slice-set-from-radius slice-set-from-state slice-set-from-direction same-length returns)
+    (tie.spec (λ c. search needs) (λ c. search needs) (λ c. search needs) (λ c. simp length-set (omega arith))
+    (λ c. simp length-set (omega arith)) (λ c. simp length-set (omega arith))
+    (λ c. simp length-set (omega arith)) same-length returns)

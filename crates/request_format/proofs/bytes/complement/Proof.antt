@@ -41,21 +41,12 @@ itself c =
     let s = c .before in
     runs (bounds s) (arg 0) tt ∙ complement-above (s .args .n) (s .args .whole) (left-< (bounds s) (arg 0) (lit (pos 0)) tt (c .if1 .left))
 
-add-result : tie.Need-add-result
-add-result c = fits (bounds (c .before)) shifted tt
-
-cast-result-2 : tie.Need-cast-result-2
-cast-result-2 c = cast (c .before) _ (shifted-is c)
-
 returns : tie.Need-returns
 returns c = ap natAbs (shifted-is c)
-
-cast-result-3 : tie.Need-cast-result-3
-cast-result-3 c = cast (c .before) _ (itself c)
 
 returns-2 : tie.Need-returns-2
 returns-2 c = ap natAbs (itself c)
 
 pub complement-spec : {M : Type 1} → statement M
 complement-spec =
-    tie.close (tie.spec (λ c. search needs) add-result cast-result-2 returns cast-result-3 returns-2)
+    tie.close (tie.spec (λ c. search needs) (λ c. fits (bounds (c .before)) shifted tt) (λ c. cast (c .before) _ (shifted-is c)) returns (λ c. cast (c .before) _ (itself c)) returns-2)

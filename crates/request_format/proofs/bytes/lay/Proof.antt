@@ -69,9 +69,6 @@ module _ (c : tie.After-n Inv-loop μ-loop) where
 loop-holds : tie.Need-loop-holds Inv-loop μ-loop
 loop-holds c = putting-start _ _ _ (c .before .before .pre .0) (c .before .before .pre .1)
 
-field-at-requires : tie.Need-field-at-requires Inv-loop μ-loop
-field-at-requires c κs = short c
-
 mul-n : tie.Need-mul-n Inv-loop μ-loop
 mul-n c = record { fits = omega (arith, short (c .before), c .before .before .before .before .before .pre .0) }
 
@@ -118,6 +115,6 @@ returns-2 c = putting-end _ _ _ _ _ (c .before .before .before .before .pre .0) 
 pub lay-spec : {M : Type 1} → statement M
 lay-spec =
     tie.close
-    (tie.spec Inv-loop μ-loop (λ c κs. search needs) loop-holds field-at-requires mul-n
+    (tie.spec Inv-loop μ-loop (λ c κs. search needs) loop-holds (λ c κs. short c) mul-n
     shared-slice-copy-out-n (λ c κs. search needs) same-length returns put-field-requires add-k loop-less
     loop-again same-length-2 returns-2)

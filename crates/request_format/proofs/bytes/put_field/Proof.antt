@@ -24,9 +24,6 @@ start-room : (c : tie.After-put-kind)
     → c .put-kind .result + bytesIn (c .before .before .before .args .field .3) ≤ length (c .before .before .before .args .out .now)
 start-room c = omega (arith, room (c .before .before .before), c .put-kind .ensures .0)
 
-put-kind-requires : tie.Need-put-kind-requires
-put-kind-requires c κs = kind-room (c .before .before)
-
 put-number-requires : tie.Need-put-number-requires
 put-number-requires c κs =
     let s = c .before .before .before .before .before .before in
@@ -49,5 +46,5 @@ returns c =
 pub put-field-spec : {M : Type 1} → statement M
 put-field-spec =
     tie.close
-    (tie.spec put-kind-requires put-number-requires (λ c κs. search needs) add-result (λ c. search needs)
-    returns)
+    (tie.spec (λ c κs. kind-room (c .before .before)) put-number-requires (λ c κs. search needs) add-result
+    (λ c. search needs) returns)

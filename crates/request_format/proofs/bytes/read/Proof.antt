@@ -39,15 +39,6 @@ module _ (c : tie.After-part-at Inv-loop μ-loop) where
   found p e =
       ap (λ (f : Field). partOf f (start .args .bytes .now) (loop .loop .at)) (sym (c .before .field-at .ensures)) ∙ sym (c .part-at .ensures) ∙ e
 
-loop-holds : tie.Need-loop-holds Inv-loop μ-loop
-loop-holds c = getting-start _ _ _ (c .before .before .pre)
-
-field-at-requires : tie.Need-field-at-requires Inv-loop μ-loop
-field-at-requires c κs = short c
-
-part-at-requires : tie.Need-part-at-requires Inv-loop μ-loop
-part-at-requires c κs = c .before .before .loop .inv .place
-
 same-length : tie.Need-same-length Inv-loop μ-loop
 same-length c = let p = c .before .before in loop p .loop .inv .room ∙ sym (start p .pre)
 
@@ -84,6 +75,7 @@ returns-3 c = getting-end _ _ _ _ _ (c .before .before .loop .inv) (ended (c .be
 pub read-spec : {M : Type 1} → statement M
 read-spec =
     tie.close
-    (tie.spec Inv-loop μ-loop (λ c κs. search needs) loop-holds field-at-requires part-at-requires
-    (λ c. search needs) (λ c. search needs) same-length returns mul-n slice-set-from-n (λ c. search needs)
-    (λ c. search needs) loop-again same-length-2 returns-2 same-length-3 returns-3)
+    (tie.spec Inv-loop μ-loop (λ c κs. search needs) (λ c. getting-start _ _ _ (c .before .before .pre))
+    (λ c κs. short c) (λ c κs. c .before .before .loop .inv .place) (λ c. search needs) (λ c. search needs)
+    same-length returns mul-n slice-set-from-n (λ c. search needs) (λ c. search needs) loop-again
+    same-length-2 returns-2 same-length-3 returns-3)

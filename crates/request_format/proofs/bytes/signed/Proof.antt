@@ -30,12 +30,6 @@ returns c =
     let h : n ≤ 4294967295 = omega arith in
     count-is n h tt ∙ sym (signed-below (c .before .args .half) n (c .if1 .taken))
 
-mul-result : tie.Need-mul-result
-mul-result c = fits (bounds c) twice tt
-
-sub-result : tie.Need-sub-result
-sub-result c = fits (bounds c) (sub (arg 0) twice) tt
-
 returns-2 : tie.Need-returns-2
 returns-2 c =
     let n = c .before .args .n in
@@ -45,4 +39,4 @@ returns-2 c =
     ∙ sym (signed-above half n (c .if1 .left))
 
 pub signed-spec : {M : Type 1} → statement M
-signed-spec = tie.close (tie.spec (λ c. search needs) returns (λ c. search needs) mul-result sub-result returns-2)
+signed-spec = tie.close (tie.spec (λ c. search needs) returns (λ c. search needs) (λ c. fits (bounds c) twice tt) (λ c. fits (bounds c) (sub (arg 0) twice) tt) returns-2)

@@ -16,12 +16,6 @@ holds c =
     held Eclipse (g .before .before .before .args .input .now) _ _ (λ i. let b = g .before .before .shared-slice-known .given i in omega arith)
     (sym (g .get .ensures .0) ∙ c .enum-told .given .1) (g .get .ensures .1)
 
-slice-aggregate-request-from : tie.Need-slice-aggregate-request-from
-slice-aggregate-request-from c = sym (holds (c .before) .small .all)
-
-request-from-requires : tie.Need-request-from-requires
-request-from-requires c κs = holds (c .before) .small
-
 returns : tie.Need-returns
 returns c = ap I.Is (c .request-from .ensures) ∙ sym (eclipse-held _ _ (holds (c .before .before)))
 
@@ -31,5 +25,5 @@ returns-2 c = input-refused _ (sym (c .before .before .get .ensures .0) ∙ c .e
 pub request-spec : {M : Type 1} → statement M
 request-spec =
     tie.close
-    (tie.spec (λ c κs. search needs) (λ c. search needs) slice-aggregate-request-from request-from-requires
-    (λ c. search needs) returns returns-2)
+    (tie.spec (λ c κs. search needs) (λ c. search needs) (λ c. sym (holds (c .before) .small .all))
+    (λ c κs. holds (c .before) .small) (λ c. search needs) returns returns-2)

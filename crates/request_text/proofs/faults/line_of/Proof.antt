@@ -28,25 +28,10 @@ module _ (c : tie.After-run Inv-loop μ-loop) where
   inside : loop .before .loop .start + c .run .result ≤ length (loop .before .before .before .args .text .now)
   inside = line-within _ _ _ (loop .loop-test .taken) ran
 
-loop-holds : tie.Need-loop-holds Inv-loop μ-loop
-loop-holds c = seek-start _ _
-
-add-end : tie.Need-add-end Inv-loop μ-loop
-add-end c = let i = inside c in search needs
-
-part-result-end : tie.Need-part-result-end Inv-loop μ-loop
-part-result-end c = inside (c .before)
-
 returns : tie.Need-returns Inv-loop μ-loop
 returns c =
     let r = c .before .before in
     sym (seek-hit _ _ _ _ (loop r .before .loop .inv) _ (loop r .loop-test .taken) (ran r) (c .before .if1 .taken))
-
-add-start : tie.Need-add-start Inv-loop μ-loop
-add-start c = let i = inside (c .before) in search needs
-
-loop-less : tie.Need-loop-less Inv-loop μ-loop
-loop-less c = let i = inside (c .before) in search needs
 
 loop-again : tie.Need-loop-again Inv-loop μ-loop
 loop-again c =
@@ -59,6 +44,8 @@ returns-2 c = sym (seek-end _ _ _ _ (c .before .before .loop .inv) (c .before .l
 pub line-of-spec : {M : Type 1} → statement M
 line-of-spec =
     tie.close
-    (tie.spec Inv-loop μ-loop loop-holds (λ c. search needs) (λ c. search needs) (λ c. search needs)
-    (λ c κs. search needs) add-end (λ c. search needs) (λ c. search needs) part-result-end returns
-    (λ c. search needs) add-start loop-less loop-again (λ c. search needs) returns-2)
+    (tie.spec Inv-loop μ-loop (λ c. seek-start _ _) (λ c. search needs) (λ c. search needs)
+    (λ c. search needs) (λ c κs. search needs) (λ c. let i = inside c in search needs) (λ c. search needs)
+    (λ c. search needs) (λ c. inside (c .before)) returns (λ c. search needs)
+    (λ c. let i = inside (c .before) in search needs) (λ c. let i = inside (c .before) in search needs)
+    loop-again (λ c. search needs) returns-2)

@@ -18,9 +18,6 @@ room c = subst (λ (f : Field). f .1 ≤ length (f .0)) (sym (c .field-at .ensur
 returns : tie.Need-returns
 returns c = put-as _ _ _ _ _ _ _ refl (sym (name-none _ _ (omega (arith, c .if1 .taken, c .before .count-of .ensures)))) (put-nil _ _ (omega arith))
 
-array-share-prefix-name : tie.Need-array-share-prefix-name
-array-share-prefix-name c = room (c .before .before)
-
 slice-aggregate-put-text : tie.Need-slice-aggregate-put-text
 slice-aggregate-put-text c = sym (length-take-le _ _ (room (c .before .before .before)))
 
@@ -32,5 +29,5 @@ returns-2 c =
 pub put-name-spec : {M : Type 1} → statement M
 put-name-spec =
     tie.close
-    (tie.spec
-    (λ c κs. search needs) returns (λ c κs. search needs) array-share-prefix-name slice-aggregate-put-text (λ c κs. search needs) (λ c. search needs) returns-2)
+    (tie.spec (λ c κs. search needs) returns (λ c κs. search needs) (λ c. room (c .before .before))
+    slice-aggregate-put-text (λ c κs. search needs) (λ c. search needs) returns-2)

@@ -11,4 +11,5 @@ returns c = rw (← c .hundredths-of .ensures, ← c .before .two-at2 .ensures .
 pub instant-at-spec : {M : Type 1} → statement M
 instant-at-spec =
     tie.close
-    (tie.spec (λ c κs. search needs) (λ c κs. search needs) (λ c κs. search needs) (λ c κs. search needs) returns)
+    (tie.spec (λ c κs. search needs) (λ c κs. search needs) (λ c κs. search needs) (λ c κs. search needs)
+    returns)

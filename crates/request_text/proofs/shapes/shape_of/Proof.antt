@@ -28,15 +28,6 @@ module _ (c : tie.After-run Inv-loop μ-loop) where
   inside : loop .before .loop .at + c .run .result ≤ length (loop .before .before .before .args .text .now)
   inside = line-within _ _ _ (loop .loop-test .taken) ran
 
-loop-holds : tie.Need-loop-holds Inv-loop μ-loop
-loop-holds c = passed-none _
-
-add-end : tie.Need-add-end Inv-loop μ-loop
-add-end c = let i = inside c in search needs
-
-part-names-radius-end : tie.Need-part-names-radius-end Inv-loop μ-loop
-part-names-radius-end c = inside c
-
 returns : tie.Need-returns Inv-loop μ-loop
 returns c =
     let r = c .before .before .before in
@@ -59,6 +50,6 @@ returns-2 c = passed-all _ _ (c .before .loop .inv) (c .loop-test .left)
 pub shape-of-spec : {M : Type 1} → statement M
 shape-of-spec =
     tie.close
-    (tie.spec Inv-loop μ-loop loop-holds (λ c. search needs) (λ c. search needs) (λ c. search needs)
-    (λ c κs. search needs) add-end (λ c. search needs) (λ c. search needs) part-names-radius-end
-    (λ c κs. search needs) returns add-at loop-less loop-again returns-2)
+    (tie.spec Inv-loop μ-loop (λ c. passed-none _) (λ c. search needs) (λ c. search needs) (λ c. search needs)
+    (λ c κs. search needs) (λ c. let i = inside c in search needs) (λ c. search needs) (λ c. search needs)
+    (λ c. inside c) (λ c κs. search needs) returns add-at loop-less loop-again returns-2)

@@ -21,13 +21,10 @@ bounds c =
 cast-result : tie.Need-cast-result
 cast-result c = fits64 (pos (c .args .k)) (omega (arith, few c))
 
-add-result : tie.Need-add-result
-add-result c = fits (bounds c) (add (arg 0) (arg 1)) tt
-
 returns : tie.Need-returns
 returns c =
     let s = c .before .before in
     runs (bounds c) (add (arg 0) (arg 1)) tt ∙ ap (λ (z : ℤ). s .args .w .first +ℤ z) (count-is (s .args .k) {m = 21600} (few s) tt)
 
 pub nth-second-spec : {M : Type 1} → statement M
-nth-second-spec = tie.close (tie.spec cast-result add-result returns)
+nth-second-spec = tie.close (tie.spec cast-result (λ c. fits (bounds c) (add (arg 0) (arg 1)) tt) returns)

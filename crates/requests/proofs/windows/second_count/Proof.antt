@@ -21,9 +21,6 @@ bounds c =
 abbrev difference : Code
 difference = sub (arg 0) (arg 1)
 
-sub-result : tie.Need-sub-result
-sub-result c = fits (bounds c) difference tt
-
 cast-result : tie.Need-cast-result
 cast-result c = unsigned (bounds c) difference tt (minus-nonneg (c .before .before .pre .ordered))
 
@@ -37,4 +34,4 @@ returns c =
     add-one (natAbs (run (whole (w .last) ∷ whole (w .first) ∷ []) difference)) ∙ ap (λ (z : ℤ). suc (natAbs z)) (runs (bounds c) difference tt)
 
 pub second-count-spec : {M : Type 1} → statement M
-second-count-spec = tie.close (tie.spec sub-result cast-result add-result returns)
+second-count-spec = tie.close (tie.spec (λ c. fits (bounds c) difference tt) cast-result add-result returns)

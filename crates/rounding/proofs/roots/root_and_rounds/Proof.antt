@@ -15,9 +15,6 @@ Inv-loop n rounds i₀ held₀ i held = Holds n i (held .root) (held .rest)
 abbrev μ-loop : tie.MeasureT-loop
 μ-loop n rounds i₀ held₀ i held = i
 
-sub-rounds : tie.Need-sub-rounds Inv-loop μ-loop
-sub-rounds c = omega (arith, leading-le 64 (c .args .n))
-
 loop-holds : tie.Need-loop-holds Inv-loop μ-loop
 loop-holds c = subst (λ (i : ℕ). Holds (c .args .n) i 0 0) (sym (rounds-leading (c .args .n))) (start (c .args .n) (omega arith))
 
@@ -26,9 +23,6 @@ round-requires c κs =
     let l = c .before .loop in
     let e : l .i ≡ l .i - 1 + 1 = omega arith in
     subst (λ (i : ℕ). Holds (c .before .before .args .n) i (l .held .root) (l .held .rest)) e (l .inv)
-
-loop-again : tie.Need-loop-again Inv-loop μ-loop
-loop-again c = c .round .ensures
 
 returns : tie.Need-returns Inv-loop μ-loop
 returns c =
@@ -44,4 +38,4 @@ returns c =
     }
 
 pub root-and-rounds-spec : {M : Type 1} → statement M
-root-and-rounds-spec = tie.close (tie.spec Inv-loop μ-loop sub-rounds loop-holds (λ c. omega arith) round-requires (λ c. omega arith) loop-again returns)
+root-and-rounds-spec = tie.close (tie.spec Inv-loop μ-loop (λ c. omega (arith, leading-le 64 (c .args .n))) loop-holds (λ c. omega arith) round-requires (λ c. omega arith) (λ c. c .round .ensures) returns)

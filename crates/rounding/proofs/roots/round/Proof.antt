@@ -11,21 +11,6 @@ use Rattle.rounding.proofs.roots.round.Reads as reads
 in-hand : (c : lts.Start reads.Pre reads.Post) → Small (c .args .i + 1) (c .args .held .root) (c .args .held .rest)
 in-hand c = small (c .args .n) (c .args .i + 1) (c .args .held .root) (c .args .held .rest) (omega arith) (c .pre)
 
-mul-rest : tie.Need-mul-rest
-mul-rest c = let s = in-hand (c .before) in omega arith
-
-mul-rest-2 : tie.Need-mul-rest-2
-mul-rest-2 c = let s = in-hand (c .before) in omega arith
-
-cast-rest : tie.Need-cast-rest
-cast-rest c = let s = in-hand (c .before) in omega arith
-
-shr-rest : tie.Need-shr-rest
-shr-rest c = let s = in-hand (c .before) in omega arith
-
-add-rest : tie.Need-add-rest
-add-rest c = let s = in-hand (c .before) in omega arith
-
 mul-t : tie.Need-mul-t
 mul-t c = let s = in-hand (c .before .before) in omega arith
 
@@ -50,4 +35,4 @@ returns-2 c =
 
 pub round-spec : {M : Type 1} → statement M
 round-spec =
-    tie.close (tie.spec mul-rest mul-rest-2 cast-rest shr-rest add-rest mul-t add-t mul-root add-t14 returns returns-2)
+    tie.close (tie.spec (λ c. let s = in-hand (c .before) in omega arith) (λ c. let s = in-hand (c .before) in omega arith) (λ c. let s = in-hand (c .before) in omega arith) (λ c. let s = in-hand (c .before) in omega arith) (λ c. let s = in-hand (c .before) in omega arith) mul-t add-t mul-root add-t14 returns returns-2)

@@ -9,7 +9,7 @@ use lib.IntN.{ℤ, pos, negsuc, negℤ, natAbs}
 use lib.Signed.{_≤ℤ_, _<ℤ_, nonNeg}
 use mir.Syntax.{w16, w64}
 use mir.Val.{Fits, toZ, ofZ}
-use Rattle.rounding.specs.laws.Order.{zs, <ℤ-≤, ≤ℤ-antisym}
+use Rattle.rounding.specs.laws.Order.{zs, <ℤ-≤, ≤ℤ-antisym, nonneg-natAbs}
 use Rattle.rounding.specs.laws.Code.{Code, arg, lit, Within, whole, ends, _▹_, unsigned, taken-<, left-<, read-back, read-size}
 use Rattle.sine_table.specs.Table.{S}
 use Rattle.shadow_geometry.specs.Direction.{quarter, direction}
@@ -18,10 +18,6 @@ use Rattle.shadow.proofs.directions.direction.Statement.{statement}
 use Rattle.shadow.proofs.directions.direction.Tie as tie
 
 -- ---- sizes
-notbelow : (z : ℤ) → pos 0 ≤ℤ z → pos (natAbs z) ≡ z
-notbelow (pos n) h = refl
-notbelow (negsuc n) h = absurd (omega (arith, zs))
-
 notabove : (z : ℤ) → z ≤ℤ pos 0 → pos (natAbs z) ≡ negℤ z
 notabove (pos zero) h = refl
 notabove (pos (suc n)) h = absurd (omega (arith, zs))
@@ -47,16 +43,16 @@ few n x y h e = record { fits = omega (arith, quarter-le S x y) }
 
 module _ (u v : ℤ) {a b r : ℕ} (ea : a ≡ natAbs u) (eb : b ≡ natAbs v) where
   first : pos 0 ≤ℤ u → pos 0 <ℤ v → r ≡ quarter S (pos a) (pos b) → r ≡ direction S u v
-  first h k e = e ∙ ap₂ (quarter S) (ap pos ea ∙ notbelow u h) (ap pos eb ∙ notbelow v (<ℤ-≤ k)) ∙ sym (direction-first S h k)
+  first h k e = e ∙ ap₂ (quarter S) (ap pos ea ∙ sym (nonneg-natAbs u h)) (ap pos eb ∙ sym (nonneg-natAbs v (<ℤ-≤ k))) ∙ sym (direction-first S h k)
 
   second : pos 0 <ℤ u → v ≤ℤ pos 0 → r ≡ quarter S (pos b) (pos a) → 900 + r ≡ direction S u v
-  second h k e = ap (λ (n : ℕ). 900 + n) (e ∙ ap₂ (quarter S) (ap pos eb ∙ notabove v k) (ap pos ea ∙ notbelow u (<ℤ-≤ h))) ∙ sym (direction-second S h k)
+  second h k e = ap (λ (n : ℕ). 900 + n) (e ∙ ap₂ (quarter S) (ap pos eb ∙ notabove v k) (ap pos ea ∙ sym (nonneg-natAbs u (<ℤ-≤ h)))) ∙ sym (direction-second S h k)
 
   third : u ≤ℤ pos 0 → v <ℤ pos 0 → r ≡ quarter S (pos a) (pos b) → 1800 + r ≡ direction S u v
   third h k e = ap (λ (n : ℕ). 1800 + n) (e ∙ ap₂ (quarter S) (ap pos ea ∙ notabove u h) (ap pos eb ∙ notabove v (<ℤ-≤ k))) ∙ sym (direction-third S h k)
 
   fourth : u <ℤ pos 0 → pos 0 ≤ℤ v → r ≡ quarter S (pos b) (pos a) → 2700 + r ≡ direction S u v
-  fourth h k e = ap (λ (n : ℕ). 2700 + n) (e ∙ ap₂ (quarter S) (ap pos eb ∙ notbelow v k) (ap pos ea ∙ notabove u (<ℤ-≤ h))) ∙ sym (direction-fourth S h k)
+  fourth h k e = ap (λ (n : ℕ). 2700 + n) (e ∙ ap₂ (quarter S) (ap pos eb ∙ sym (nonneg-natAbs v k)) (ap pos ea ∙ notabove u (<ℤ-≤ h))) ∙ sym (direction-fourth S h k)
 
 none : (u v : ℤ) → u ≡ pos 0 → v ≡ pos 0 → 65535 ≡ direction S u v
 none u v e f = sym (ap₂ (direction S) e f ∙ direction-none S)

@@ -79,17 +79,11 @@ module _ (c : tie.After-wide2 Inv-loop μ-loop) where
   falling : c .wide2 .result ≡ S (900 - at)
   falling = c .wide2 .ensures ∙ c .before .entry2 .ensures .value
 
-wide-requires : tie.Need-wide-requires Inv-loop μ-loop
-wide-requires c κs = tt
-
 sub-entry : tie.Need-sub-entry Inv-loop μ-loop
 sub-entry c = let b = c .before .before .before .loop .inv in omega (arith, b .apart, b .high-le)
 
 entry-requires-2 : tie.Need-entry-requires-2 Inv-loop μ-loop
 entry-requires-2 c κs = (c .before .before .before .before .before .pre .0, omega arith)
-
-wide-requires-2 : tie.Need-wide-requires-2 Inv-loop μ-loop
-wide-requires-2 c κs = tt
 
 mul-if1 : tie.Need-mul-if1 Inv-loop μ-loop
 mul-if1 c =
@@ -139,6 +133,5 @@ returns c =
 pub quarter-spec : {M : Type 1} → statement M
 quarter-spec =
     tie.close
-    (tie.spec Inv-loop μ-loop loop-holds add-loop add-k entry-requires wide-requires sub-entry
-    entry-requires-2 wide-requires-2 mul-if1 mul-if1-2 loop-less loop-again loop-less-2 loop-again-2
-    cast-result returns)
+    (tie.spec Inv-loop μ-loop loop-holds add-loop add-k entry-requires (λ c κs. tt) sub-entry entry-requires-2
+    (λ c κs. tt) mul-if1 mul-if1-2 loop-less loop-again loop-less-2 loop-again-2 cast-result returns)

@@ -1,22 +1,21 @@
 -- `sheet_codec::decoder::extent_of_leading_sheet` meets its contract. Byte, kind and body together are the record that
--- stands there (`there`), and its judgement is the rules' answer, so each turn of the loop is one of the sheet
--- (`Counting`).
-use Rattle.sheet_codec.proofs.decoder.Counting.{Counting, count-refused, count-broken, count-end, count-more}
+-- stands there (`there`); order and fields are asked of it as the definition asks them. So each turn of the loop is
+-- one of the sheet (`Counting`).
+use Rattle.sheet_codec.proofs.decoder.Counting.{Counting, count-refused, count-disorder, count-unsound, count-end, count-more}
 use Rattle.sheet_codec.specs.Sheets.{storedAt, readSheet}
 use Rattle.sheet_codec.specs.laws.SheetLaws.{read-start, extent-start}
-use Rattle.sheet_rules.specs.Rules.{inOrder, fieldsHold, afterOf, judgementOf}
-use Rattle.sheet_rules.specs.laws.RuleLaws.{judged-next, judged-disorder, judged-unsound}
+use Rattle.sheet_rules.specs.Rules.{orderOf, fieldsAs, fieldsOf}
 use Rattle.sheet_format.specs.laws.KindLaws.{kind-inv}
 use Rattle.sheet_format.specs.declared.kinds.Progress.{Progress}
 use Rattle.sheet_format.specs.laws.RecordLaws.{by-byte, by-kind, by-body, byte-inv, body-inv, read-plain, record-bounds}
 use Rattle.sheet_format.specs.Records.{byteAt, bodyAt, recordAt}
-use Rattle.sheet_format.specs.Kinds.{table, kindFor, sizeOf, isEnd, plain}
+use Rattle.sheet_format.specs.Kinds.{kindFor, sizeOf, isEnd, plain}
 use Rattle.sheet_format.specs.declared.kinds.Entry.{Entry}
 use Rattle.sheet_format.specs.declared.kinds.Kind.{Kind}
 use Rattle.sheet_format.specs.declared.records.Record.the-variants.{Is}
-use Rattle.sheet_rules.specs.declared.rules.Judgement.the-variants.{Next}
-use mathlib.Core.Bool.{true, _&&_}
-use borrow.Author.Tests.{not-true, not-false}
+use Rattle.sheet_rules.specs.declared.rules.OrderRule.the-variants as O
+use Rattle.sheet_rules.specs.declared.rules.FieldRule.the-variants as F
+use mathlib.Core.Bool.{true}
 use Rattle.sheet_format.specs.declared.records.Byte.the-variants as Byte
 use Rattle.sheet_format.specs.declared.kinds.Named.the-variants as Named
 use Rattle.sheet_format.specs.declared.records.Body.the-variants as Body
@@ -87,55 +86,58 @@ returns-2 : tie.Need-returns-2 Inv-loop μ-loop
 returns-2 c = count-refused (turn (c .before .before .before) .loop .inv .2) _
     (sym (by-kind _ _ _ _ (is-byte (c .before .before .before)) (sym (c .before .before .kind-for .ensures) ∙ c .enum-told2 .given .1)))
 
-body-at-requires : tie.Need-body-at-requires Inv-loop μ-loop
-body-at-requires c κs = byte-inv _ _ _ (is-byte (byted c)) .0
-
 returns-3 : tie.Need-returns-3 Inv-loop μ-loop
 returns-3 c = count-refused (turn (byted (c .before .before .before)) .loop .inv .2) _
     (sym (by-body _ _ _ _ _ (is-byte (byted (c .before .before .before))) (is-kind (c .before .before .before))
     (sym (c .before .before .body-at .ensures) ∙ c .enum-told3 .given .1)))
 
--- what is read is plain
-plain-entry : (c : tie.After-known-told3 Inv-loop μ-loop) → plain (entry c) ≡ true
-plain-entry c = ap plain (body-inv _ _ _ _ (is-body c) .1) ∙ read-plain (kind (named c)) (input (from c)) (from c .loop .at + 1)
-
--- the answers of the rules
+-- what came before the entry
 abbrev before-entry : tie.After-known-told3 Inv-loop μ-loop → Progress
 before-entry c = from c .loop .p
 
-ordered : (c : tie.After-in-order Inv-loop μ-loop) → inOrder (before-entry (c .before)) (entry (c .before)) ≡ c .in-order .result
-ordered c = sym (c .in-order .ensures)
-
-sound : (c : tie.After-rule-holds Inv-loop μ-loop) → let t = c .before .before .before in
-    fieldsHold (before-entry t) (entry t) ≡ c .rule-holds .result
-sound c = let t = c .before .before .before in
-    ap (λ b. b && table (entry t .kind) .rule (before-entry t) (entry t)) (plain-entry t) ∙ sym (c .rule-holds .ensures)
-
 returns-4 : tie.Need-returns-4 Inv-loop μ-loop
 returns-4 c =
-    let t = c .before .before in
-    count-broken (from t .loop .inv .2) _ _ (there t) _
-    (judged-disorder _ _ _ (ordered (c .before) ∙ not-true (c .before .in-order .result) (c .if1 .taken)))
+    let t = c .before .before .before in
+    count-disorder (from t .loop .inv .2) _ _ (there t)
+    (sym (c .before .before .order-of .ensures) ∙ c .enum-told5 .given .1)
 
-in-its-place : (c : tie.After-rule-holds Inv-loop μ-loop) → let t = c .before .before .before in inOrder (before-entry t) (entry t) ≡ true
-in-its-place c = ordered (c .before .before) ∙ not-false (c .before .before .in-order .result) (c .before .if1 .left)
+-- the place of the code where the order is kept, and the record there
+abbrev placed : tie.After-enum-told4 Inv-loop μ-loop → tie.After-known-told3 Inv-loop μ-loop
+placed c = c .before .before .before
+
+in-its-place : (c : tie.After-enum-told4 Inv-loop μ-loop)
+    → orderOf (before-entry (placed c)) (entry (placed c)) ≡ O.Kept
+in-its-place c = sym (c .before .before .order-of .ensures) ∙ c .enum-told4 .given .1
+
+-- what is read is plain
+plain-entry : (c : tie.After-known-told3 Inv-loop μ-loop) → plain (entry c) ≡ true
+plain-entry c =
+    ap plain (body-inv _ _ _ _ (is-body c) .1) ∙ read-plain (kind (named c)) (input (from c)) (from c .loop .at + 1)
+
+fields-asked : (c : tie.After-fields-of Inv-loop μ-loop) → let t = placed (c .before) in
+    fieldsOf (before-entry t) (entry t) ≡ c .fields-of .result
+fields-asked c = let t = placed (c .before) in
+    ap (λ b. fieldsAs b (before-entry t) (entry t)) (plain-entry t) ∙ sym (c .fields-of .ensures)
 
 returns-5 : tie.Need-returns-5 Inv-loop μ-loop
 returns-5 c =
-    let t = c .before .before .before .before in
-    count-broken (from t .loop .inv .2) _ _ (there t) _
-    (judged-unsound _ _ _ (in-its-place (c .before)) (sound (c .before) ∙ not-true (c .before .rule-holds .result) (c .if2 .taken)))
+    let k = c .before .before .before in
+    let t = placed k in
+    count-unsound (from t .loop .inv .2) _ _ (there t) (in-its-place k)
+    (fields-asked (c .before .before) ∙ c .enum-told7 .given .1)
 
-size-for-requires : tie.Need-size-for-requires Inv-loop μ-loop
-size-for-requires c κs = kind-inv _ _ (is-kind (named (c .before .before .before .before)))
+-- the place of the code where the record kept all rules
+abbrev kept : tie.After-enum-told6 Inv-loop μ-loop → tie.After-enum-told4 Inv-loop μ-loop
+kept c = c .before .before .before
 
 abbrev read : tie.After-size-for Inv-loop μ-loop → tie.After-known-told3 Inv-loop μ-loop
-read c = c .before .before .before .before .before
+read c = placed (kept (c .before))
 
-took : (c : tie.After-size-for Inv-loop μ-loop)
-    → judgementOf (before-entry (read c)) (from (read c) .loop .at) (entry (read c)) ≡ Next (afterOf (before-entry (read c)) (entry (read c)))
-took c = judged-next _ _ _ (in-its-place (c .before .before))
-    (sound (c .before .before) ∙ not-false (c .before .before .rule-holds .result) (c .before .if2 .left))
+sound : (c : tie.After-size-for Inv-loop μ-loop) → fieldsOf (before-entry (read c)) (entry (read c)) ≡ F.Kept
+sound c = fields-asked (c .before .before .before) ∙ c .before .enum-told6 .given .1
+
+size-for-requires : tie.Need-size-for-requires Inv-loop μ-loop
+size-for-requires c κs = kind-inv _ _ (is-kind (named (placed (kept c))))
 
 bounds : (c : tie.After-known-told3 Inv-loop μ-loop) → (from c .loop .at < after c) × (after c ≤ length (input (from c)))
 bounds c = record-bounds _ _ _ _ (there c)
@@ -151,9 +153,12 @@ add-count c = let t = read (c .before .before) in let b = bounds t in
     omega (arith, from t .loop .inv .1, from t .before .before .before .good .0 .1)
 
 returns-6 : tie.Need-returns-6 Inv-loop μ-loop
-returns-6 c = let t = read (c .before .before) in
-    rw (c .before .before .size-for .ensures .0)
-    (count-end (from t .loop .inv .2) _ _ (there t) _ (took (c .before .before)) (ended (c .before) ∙ c .if3 .taken))
+returns-6 c =
+    let k = c .before .before in
+    let t = read k in
+    rw (k .size-for .ensures .0)
+    (count-end (from t .loop .inv .2) _ _ (there t) (in-its-place (kept (k .before))) (sound k)
+    (ended (c .before) ∙ c .if1 .taken))
 
 add-n : tie.Need-add-n Inv-loop μ-loop
 add-n c = let t = read (c .before .before .before) in let b = bounds t in
@@ -164,14 +169,15 @@ loop-less c = let b = bounds (read (c .before .before .before)) in let z = c .be
 
 loop-again : tie.Need-loop-again Inv-loop μ-loop
 loop-again c =
-    let t = read (c .before .before .before) in
+    let k = c .before .before .before in
+    let t = read k in
     let b = bounds t in
-    let z = c .before .before .before .size-for .ensures .0 in (
+    let z = k .size-for .ensures .0 in (
       omega arith,
       omega (arith, from t .loop .inv .1),
       rw (z, c .after .ensures)
-          (count-more (from t .loop .inv .2) _ _ (there t) _ (took (c .before .before .before)) (ended (c .before .before) ∙ c .before .if3 .left)
-          (omega (arith, from t .loop .inv .1))),
+          (count-more (from t .loop .inv .2) _ _ (there t) (in-its-place (kept (k .before))) (sound k)
+          (ended (c .before .before) ∙ c .before .if1 .left) (omega (arith, from t .loop .inv .1))),
     )
 
 pub extent-of-leading-sheet-spec : {M : Type 1} → statement M
@@ -179,6 +185,7 @@ extent-of-leading-sheet-spec =
     tie.close
     (tie.spec Inv-loop μ-loop (λ c κs. search needs) loop-holds (λ c κs. search needs) (λ c. search needs)
     (λ c. search needs) returns (λ c κs. search needs) (λ c. search needs) (λ c. search needs) returns-2
-    body-at-requires (λ c. search needs) (λ c. search needs) returns-3 (λ c κs. search needs) returns-4
-    (λ c κs. search needs) returns-5 size-for-requires add-next (λ c κs. search needs) add-count returns-6
-    (λ c κs. search needs) add-n loop-less loop-again)
+    (λ c κs. byte-inv _ _ _ (is-byte (byted c)) .0) (λ c. search needs) (λ c. search needs) returns-3
+    (λ c κs. search needs) (λ c. search needs) (λ c. search needs) returns-4 (λ c κs. search needs)
+    (λ c. search needs) (λ c. search needs) returns-5 size-for-requires add-next (λ c κs. search needs)
+    add-count returns-6 (λ c κs. search needs) add-n loop-less loop-again)

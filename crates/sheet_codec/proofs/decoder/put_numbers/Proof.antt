@@ -11,18 +11,6 @@ use Rattle.sheet_codec.proofs.decoder.put_numbers.Tie as tie
 add-four : (n : ℕ) → n + 4 ≡ suc (suc (suc (suc n)))
 add-four n = omega arith
 
-slice-write-room-2 : tie.Need-slice-write-room-2
-slice-write-room-2 c = simp length-set (omega arith)
-
-slice-write-room-3 : tie.Need-slice-write-room-3
-slice-write-room-3 c = simp length-set (omega arith)
-
-slice-write-room-4 : tie.Need-slice-write-room-4
-slice-write-room-4 c = simp length-set (omega arith)
-
-slice-write-room-5 : tie.Need-slice-write-room-5
-slice-write-room-5 c = simp length-set (omega arith)
-
 returns : tie.Need-returns
 returns c = simp (add-one, add-two, add-three, add-four)
 
@@ -30,6 +18,7 @@ pub put-numbers-spec : {M : Type 1} → statement M
 put-numbers-spec =
     tie.close
     (tie.spec (λ c. search needs) (λ c. search needs) (λ c. search needs) (λ c. search needs)
-    slice-write-room-2 (λ c. search needs) (λ c. search needs) slice-write-room-3 (λ c. search needs)
-    (λ c. search needs) slice-write-room-4 (λ c. search needs) (λ c. search needs) slice-write-room-5
-    (λ c. search needs) returns)
+    (λ c. simp length-set (omega arith)) (λ c. search needs) (λ c. search needs)
+    (λ c. simp length-set (omega arith)) (λ c. search needs) (λ c. search needs)
+    (λ c. simp length-set (omega arith)) (λ c. search needs) (λ c. search needs)
+    (λ c. simp length-set (omega arith)) (λ c. search needs) returns)

@@ -3,7 +3,7 @@
 use Rattle.sheet_codec.proofs.decoder.Answers.{room-for, read-refused, read-short, read-full}
 use Rattle.sheet_codec.specs.laws.SheetLaws.{whole-same}
 use Rattle.sheet_codec.specs.Sheets.{extentOf, readWhole}
-use Rattle.sheet_codec.specs.Passes.{filled}
+use Rattle.sheet_codec.specs.laws.Passes.{filled}
 use Rattle.sheet_codec.specs.declared.decoder.Extent.the-variants as X
 use mathlib.Core.Path.{_≡_, sym, ap, _∙_}
 use borrow.Author.Needs.{needs}

@@ -4,7 +4,7 @@
 use Rattle.sheet_codec.proofs.decoder.Passing.{Passing, pass-never, pass-fits, pass-end, pass-more}
 use Rattle.sheet_codec.proofs.decoder.Answers.{of-numbers, reading-starts}
 use Rattle.sheet_codec.specs.Sheets.{storedAt, readSheet}
-use Rattle.sheet_codec.specs.Passes.{filled}
+use Rattle.sheet_codec.specs.laws.Passes.{filled}
 use Rattle.sheet_format.specs.RecordEntries.{numbersOf}
 use Rattle.sheet_format.specs.laws.KindLaws.{kind-inv}
 use lib.Seq.{sets}
@@ -63,9 +63,6 @@ after c = from c .loop .at + sizeOf (kind (named c))
 loop-holds : tie.Need-loop-holds Inv-loop μ-loop
 loop-holds c = (omega arith, omega arith, refl, reading-starts _ _ (c .before .before .pre))
 
-same-length : tie.Need-same-length Inv-loop μ-loop
-same-length c = c .before .before .before .loop .inv .2
-
 returns : tie.Need-returns Inv-loop μ-loop
 returns c = absurd (pass-never of-numbers (c .before .before .before .loop .inv .3) _
     (sym (by-byte _ _ _ (sym (c .before .before .byte-at .ensures) ∙ c .enum-told .given .1))))
@@ -93,9 +90,6 @@ returns-2 : tie.Need-returns-2 Inv-loop μ-loop
 returns-2 c = absurd (pass-never of-numbers (turn (c .before .before .before) .loop .inv .3) _
     (sym (by-kind _ _ _ _ (is-byte (c .before .before .before)) (sym (c .before .before .kind-for .ensures) ∙ c .enum-told2 .given .1))))
 
-body-at-requires : tie.Need-body-at-requires Inv-loop μ-loop
-body-at-requires c κs = byte-inv _ _ _ (is-byte (byted c)) .0
-
 same-length-3 : tie.Need-same-length-3 Inv-loop μ-loop
 same-length-3 c = turn (byted (c .before .before .before)) .loop .inv .2
 
@@ -109,12 +103,6 @@ bounds : (c : tie.After-known-told3 Inv-loop μ-loop)
 bounds c =
     let b = record-bounds _ _ _ _ (there c) in
     (b .0, b .1, pass-fits of-numbers (from c .loop .inv .3) _ _ (there c))
-
-mul-place : tie.Need-mul-place Inv-loop μ-loop
-mul-place c = let b = bounds c in omega arith
-
-put-numbers-requires : tie.Need-put-numbers-requires Inv-loop μ-loop
-put-numbers-requires c κs = let b = bounds (c .before) in omega arith
 
 -- the code that was read is the entry's kind's
 code-is : (c : tie.After-known-told3 Inv-loop μ-loop) → byted (named c) .before .code .given .0 .0 ≡ codeOf (entry c .kind)
@@ -173,7 +161,8 @@ pub read-entries-spec : {M : Type 1} → statement M
 read-entries-spec =
     tie.close
     (tie.spec Inv-loop μ-loop loop-holds (λ c κs. search needs) (λ c. search needs) (λ c. search needs)
-    same-length returns (λ c κs. search needs) (λ c. search needs) (λ c. search needs) same-length-2 returns-2
-    body-at-requires (λ c. search needs) (λ c. search needs) same-length-3 returns-3 mul-place
-    put-numbers-requires (λ c κs. search needs) same-length-4 returns-4 size-for-requires add-at add-n
-    loop-less loop-again)
+    (λ c. c .before .before .before .loop .inv .2) returns (λ c κs. search needs) (λ c. search needs)
+    (λ c. search needs) same-length-2 returns-2 (λ c κs. byte-inv _ _ _ (is-byte (byted c)) .0)
+    (λ c. search needs) (λ c. search needs) same-length-3 returns-3 (λ c. let b = bounds c in omega arith)
+    (λ c κs. let b = bounds (c .before) in omega arith) (λ c κs. search needs) same-length-4 returns-4
+    size-for-requires add-at add-n loop-less loop-again)

@@ -34,4 +34,5 @@ returns-3 c = sym (found-is (c .before) ∙ rw
 pub extent-of-entries-spec : {M : Type 1} → statement M
 extent-of-entries-spec =
     tie.close
-    (tie.spec (λ c κs. search needs) (λ c. search needs) (λ c. search needs) returns (λ c. search needs) returns-2 returns-3)
+    (tie.spec (λ c κs. search needs) (λ c. search needs) (λ c. search needs) returns (λ c. search needs)
+    returns-2 returns-3)

@@ -5,7 +5,7 @@ use Rattle.sheet_codec.specs.laws.SheetLaws.{list-same}
 use Rattle.sheet_codec.specs.RoundTrip.{list-length}
 use Rattle.sheet_codec.specs.Handed.{listWhole}
 use Rattle.sheet_codec.specs.Sheets.{extentOf}
-use Rattle.sheet_codec.specs.Passes.{emitted}
+use Rattle.sheet_codec.specs.laws.Passes.{emitted}
 use Rattle.sheet_codec.specs.declared.decoder.Extent.the-variants as X
 use mathlib.Core.Path.{_≡_, sym, ap, _∙_}
 use borrow.Author.Needs.{needs}

@@ -4,7 +4,7 @@ use Rattle.sheet_codec.proofs.decoder.Passing.{Passing, pass-never, pas
 use Rattle.sheet_codec.proofs.decoder.Answers.{of-bytes, writing-starts}
 use Rattle.sheet_codec.specs.Handed.{handedAt, listSheet}
 use Rattle.sheet_codec.specs.laws.HandedLaws.{handed-bounds}
-use Rattle.sheet_codec.specs.Passes.{emitted}
+use Rattle.sheet_codec.specs.laws.Passes.{emitted}
 use Rattle.sheet_format.specs.RecordEntries.{bytesOf}
 use Rattle.sheet_format.specs.laws.EntryLaws.{length-bytes}
 use Rattle.sheet_format.specs.Kinds.{sizeOf}
@@ -28,9 +28,6 @@ abbrev μ-loop : tie.MeasureT-loop
 loop-holds : tie.Need-loop-holds Inv-loop μ-loop
 loop-holds c = (omega arith, omega arith, refl, writing-starts _ _ (c .before .before .pre))
 
-same-length : tie.Need-same-length Inv-loop μ-loop
-same-length c = c .before .before .before .loop .inv .2
-
 returns : tie.Need-returns Inv-loop μ-loop
 returns c = absurd (pass-never of-bytes (c .before .before .before .loop .inv .3) _ (sym (c .before .before .handed-at .ensures) ∙ c .enum-told .given .1))
 
@@ -46,9 +43,6 @@ bounds c =
     let b = handed-bounds _ _ _ _ _ (there c) in
     let f = pass-fits of-bytes (c .before .before .before .before .loop .inv .3) _ _ (there c) in
     (b .0, omega (arith, b .1, b .2), omega (arith, f, length-bytes (c .before .entry .given .0 .0)), b .1)
-
-put-requires : tie.Need-put-requires Inv-loop μ-loop
-put-requires c κs = bounds (c .before) .2
 
 same-length-2 : tie.Need-same-length-2 Inv-loop μ-loop
 same-length-2 c = c .before .before .before .before .put .kept .0 ∙
@@ -82,5 +76,5 @@ pub write-records-spec : {M : Type 1} → statement M
 write-records-spec =
     tie.close
     (tie.spec Inv-loop μ-loop loop-holds (λ c κs. omega arith) (λ c. search needs) (λ c. search needs)
-    same-length returns put-requires (λ c κs. search needs) same-length-2 returns-2 add-n loop-less
-    loop-again)
+    (λ c. c .before .before .before .loop .inv .2) returns (λ c κs. bounds (c .before) .2)
+    (λ c κs. search needs) same-length-2 returns-2 add-n loop-less loop-again)

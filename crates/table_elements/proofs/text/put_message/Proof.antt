@@ -1,6 +1,6 @@
 -- `table_elements::text::put_message` meets its contract, case by case.
 use Rattle.table_elements.specs.Printed.{messageOf}
-use Rattle.decimal_text.specs.RowLaws.{put-as}
+use Rattle.decimal_text.specs.laws.RowLaws.{put-as}
 use mathlib.Core.Path.{sym, ap}
 use borrow.Author.Needs.{needs}
 use Rattle.table_elements.proofs.text.put_message.Statement.{statement}

@@ -1,92 +1,35 @@
--- `table_elements::typed_rows::read_line` meets its contract: the words before byte `at` are taken, and their numbers
--- stored.
-use Rattle.table_elements.specs.NumberLaws.{number-size}
-use Rattle.rounding.specs.laws.Code.{read-back}
+-- `table_elements::typed_rows::read_line` meets its contract: the numbers are stored where the line is a row, and only
+-- there.
 use borrow.Author.Needs.{needs}
-use Rattle.table_elements.specs.ReadingLaws.{Taking, taking-start, word-within, taking-end, taking-faulty, taking-more, taking-turn}
-use lib.Seq.{length-take-le}
-use lib.ListN.{length, take}
-use mathlib.Core.Path.{sym, ap, _∙_}
-use Prim.Native.Nat.{_-_, _≤_}
-use native.Mathlib.Omega.{arith}
+use mathlib.Core.Path.{sym, _∙_}
+use Rattle.table_elements.specs.Reading.{lineOf}
+use Rattle.table_elements.specs.ReadingLaws.{after-row, after-nothing, after-faulty}
 use Rattle.table_elements.proofs.typed_rows.read_line.Statement.{statement}
 use Rattle.table_elements.proofs.typed_rows.read_line.Tie as tie
 
-abbrev Inv-loop : tie.InvT-loop
-Inv-loop line numbers₀ start said content at₀ column₀ numbers at column = Taking line content numbers₀ numbers start at column
-
-abbrev μ-loop : tie.MeasureT-loop
-μ-loop line numbers₀ start said content at₀ column₀ numbers at column = length content - at
-
-slice-aggregate-content : tie.Need-slice-aggregate-content Inv-loop μ-loop
-slice-aggregate-content c = sym (length-take-le _ _ (omega (arith, c .before .run .ensures .1)))
-
-loop-holds : tie.Need-loop-holds Inv-loop μ-loop
-loop-holds c = taking-start _ _ _ _ (ap (λ k. take k (c .before .before .before .args .line .now)) (c .before .run .ensures .0))
-
-next-word-requires : tie.Need-next-word-requires Inv-loop μ-loop
-next-word-requires c κs = c .loop .inv .within
-
-same-length : tie.Need-same-length Inv-loop μ-loop
-same-length c = c .before .before .before .loop .inv .same
-
-returns : tie.Need-returns Inv-loop μ-loop
+returns : tie.Need-returns
 returns c =
-    let w = c .before .before in
-    let t = taking-end _ _ _ _ _ _ _ (w .before .loop .inv) _ (w .next-word .ensures) (c .before .if1 .taken) in
-    (c .line-with .ensures ∙ t .0, t .1)
+    let r = c .before .before .before .before .before .before .before in
+    let a = sym (c .before .before .before .before .enum-told .given .1) ∙ r .read-row .ensures .0 in
+    (a, after-row _ _ _ _ _ a (r .read-row .ensures .1) (c .before .put-row .ensures))
 
--- the word lies within the line
-bounds : (c : tie.After-next-word Inv-loop μ-loop) → let w = c .next-word .result in
-    (c .before .loop .at ≤ w .from) × (w .from ≤ w .end) × (w .end ≤ length (take (c .before .before .before .run .result) (c .before .before .before .before .before .args .line .now)))
-bounds c = word-within _ _ _ _ _ _ _ (c .before .loop .inv) _ (c .next-word .ensures)
-
-sub-number-of : tie.Need-sub-number-of Inv-loop μ-loop
-sub-number-of c = let b = bounds (c .before) in omega arith
-
-part-number-of-start : tie.Need-part-number-of-start Inv-loop μ-loop
-part-number-of-start c = let b = bounds (c .before) in omega arith
-
-part-number-of-end : tie.Need-part-number-of-end Inv-loop μ-loop
-part-number-of-end c = let b = bounds (c .before) in omega arith
-
-same-length-2 : tie.Need-same-length-2 Inv-loop μ-loop
-same-length-2 c = c .before .before .before .before .before .before .before .loop .inv .same
-
-returns-2 : tie.Need-returns-2 Inv-loop μ-loop
+returns-2 : tie.Need-returns-2
 returns-2 c =
-    let n = c .before .before .before in
-    let w = n .before .before .before in
-    let t = taking-faulty _ _ _ _ _ _ _ (w .before .loop .inv) _ (w .next-word .ensures) (n .before .before .if1 .left) _ (n .number-of .ensures) _ (c .before .enum-told .given .1) in
-    (c .fault-of .ensures ∙ t .0, t .1)
+    let r = c .before .before .before in
+    let x = r .before .before .before .args in
+    let a = sym (c .enum-told2 .given .1) ∙ r .read-row .ensures .0 in
+    (a, after-nothing (lineOf (x .line .now)) (x .start) (x .numbers .now) a)
 
-same-length-3 : tie.Need-same-length-3 Inv-loop μ-loop
-same-length-3 c = c .before .before .before .before .before .before .before .before .loop .inv .same
-
-returns-3 : tie.Need-returns-3 Inv-loop μ-loop
+returns-3 : tie.Need-returns-3
 returns-3 c =
-    let n = c .before .before .before .before in
-    let w = n .before .before .before in
-    taking-more _ _ _ _ _ _ _ (w .before .loop .inv) _ (w .next-word .ensures) (n .before .before .if1 .left) _ (n .number-of .ensures) _
-    (c .before .before .number .given .1) (c .if2 .taken)
-
-loop-less : tie.Need-loop-less Inv-loop μ-loop
-loop-less c = let b = bounds (c .before .before .before .before .before .before .before) in omega (arith, c .before .before .before .before .before .before .if1 .left)
-
-loop-again : tie.Need-loop-again Inv-loop μ-loop
-loop-again c =
-    let z = c .before .before .number .given .0 .0 in
-    let n = c .before .before .before .before in
-    let w = n .before .before .before in
-    rw (read-back z (number-size _ z (sym (n .number-of .ensures) ∙ c .before .before .number .given .1)) tt)
-    (taking-turn _ _ _ _ _ _ _ (w .before .loop .inv) _ (w .next-word .ensures) (n .before .before .if1 .left) _ (n .number-of .ensures) z
-    (c .before .before .number .given .1) (c .if2 .left) (w .before .before .before .before .before .pre))
+    let r = c .before .before .before .before in
+    let x = r .before .before .before .args in
+    let a = sym (c .before .said .given .1) ∙ r .read-row .ensures .0 in
+    (a, after-faulty (lineOf (x .line .now)) (x .start) (x .numbers .now) _ a)
 
 pub read-line-spec : {M : Type 1} → statement M
 read-line-spec =
     tie.close
-    (tie.spec Inv-loop μ-loop (λ c κs. search needs) slice-aggregate-content loop-holds next-word-requires
-    (λ c κs. search needs) same-length returns sub-number-of part-number-of-start part-number-of-end
-    (λ c κs. search needs) (λ c. search needs) (λ c. search needs) (λ c κs. search needs) same-length-2
-    returns-2 same-length-3 returns-3 (λ c. search needs) (λ c. search needs) (λ c. search needs)
-    (λ c. search needs) loop-less loop-again)
+    (tie.spec (λ c. search needs) (λ c κs. search needs) (λ c. search needs) (λ c. search needs)
+    (λ c κs. search needs) (λ c. search needs) (λ c. search needs) (λ c. search needs) returns returns-2
+    returns-3)

@@ -12,12 +12,6 @@ Inv-loop digits n₀ i₀ n i = Appending digits n i
 abbrev μ-loop : tie.MeasureT-loop
 μ-loop digits n₀ i₀ n i = length digits - i
 
-loop-holds : tie.Need-loop-holds Inv-loop μ-loop
-loop-holds c = appending-start _
-
-with-digit-requires : tie.Need-with-digit-requires Inv-loop μ-loop
-with-digit-requires c κs = c .before .before .loop .inv .small
-
 loop-again : tie.Need-loop-again Inv-loop μ-loop
 loop-again c = appending-turn _ _ _ (c .before .before .before .loop .inv) (c .before .before .loop-test .taken) _ (c .with-digit .ensures)
 
@@ -27,5 +21,5 @@ returns c = appending-end _ _ _ (c .before .loop .inv) (c .loop-test .left)
 pub size-of-spec : {M : Type 1} → statement M
 size-of-spec =
     tie.close
-    (tie.spec Inv-loop μ-loop loop-holds (λ c. search needs) with-digit-requires (λ c. search needs)
-    (λ c. search needs) loop-again returns)
+    (tie.spec Inv-loop μ-loop (λ c. appending-start _) (λ c. search needs)
+    (λ c κs. c .before .before .loop .inv .small) (λ c. search needs) (λ c. search needs) loop-again returns)

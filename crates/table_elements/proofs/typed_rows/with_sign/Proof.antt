@@ -15,9 +15,6 @@ bounds n h = count-size n h tt ▹ ends
 abbrev minus : Code
 minus = sub (lit (pos 0)) (arg 0)
 
-sub-result : tie.Need-sub-result
-sub-result c = fits (bounds _ (c .before .pre)) minus tt
-
 returns : tie.Need-returns
 returns c =
     let n = c .before .args .n in
@@ -27,4 +24,4 @@ returns-2 : tie.Need-returns-2
 returns-2 c = count-is (c .before .args .n) (c .before .pre) tt ∙ rw (ne-eqb _ _ (c .if1 .left))
 
 pub with-sign-spec : {M : Type 1} → statement M
-with-sign-spec = tie.close (tie.spec (λ c. search needs) sub-result returns returns-2)
+with-sign-spec = tie.close (tie.spec (λ c. search needs) (λ c. fits (bounds _ (c .before .pre)) minus tt) returns returns-2)

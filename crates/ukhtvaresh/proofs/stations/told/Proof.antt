@@ -6,9 +6,6 @@ use Rattle.ukhtvaresh.specs.NetworkReply.{networkReply}
 use Rattle.ukhtvaresh.proofs.stations.told.Statement.{statement}
 use Rattle.ukhtvaresh.proofs.stations.told.Tie as tie
 
-network-requires : tie.Need-network-requires
-network-requires c κs = c .before .before .before .before .pre
-
 returns : tie.Need-returns
 returns c = λ l k.
     let a = c .before .before .before .before .before .network .ensures l k in
@@ -16,4 +13,4 @@ returns c = λ l k.
     record { is-number = ap (λ (x : Reply). x .number) e; is-value = ap (λ (x : Reply). x .value) e; is-room = a .room; is-steps = a .told }
 
 pub told-spec : {M : Type 1} → statement M
-told-spec = tie.close (tie.spec network-requires (λ c κs. search needs) (λ c. search needs) (λ c. search needs) returns)
+told-spec = tie.close (tie.spec (λ c κs. c .before .before .before .before .pre) (λ c κs. search needs) (λ c. search needs) (λ c. search needs) returns)

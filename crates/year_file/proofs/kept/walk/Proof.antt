@@ -63,9 +63,6 @@ loop-again-2 c =
     walking-keep _ _ _ _ _ _ _ _ _ (l .inv) n (t .before .sheet-at .ensures) (bounds t .0) _ _
     (c .before .before .before .before .before .before .before .put-stretch .ensures) _ _ (rw e at (c .before .before .put-text .ensures))
 
-put-stretch-requires-2 : tie.Need-put-stretch-requires-2 Inv-loop μ-loop
-put-stretch-requires-2 c κs = c .before .before .loop .inv .before .within
-
 same-length : tie.Need-same-length Inv-loop μ-loop
 same-length c = c .before .before .before .before .before .loop .inv .keeping .same
 
@@ -84,4 +81,5 @@ walk-spec =
     tie.close
     (tie.spec Inv-loop μ-loop loop-holds sheet-at-requires (λ c. omega arith) add-lost (λ c. omega arith)
     loop-again put-stretch-requires add-end sub-put-text part-put-text-start part-put-text-end
-    (λ c κs. search needs) loop-less-2 loop-again-2 put-stretch-requires-2 same-length same-length-2 returns)
+    (λ c κs. search needs) loop-less-2 loop-again-2 (λ c κs. c .before .before .loop .inv .before .within)
+    same-length same-length-2 returns)

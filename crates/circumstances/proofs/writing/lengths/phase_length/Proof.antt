@@ -15,13 +15,13 @@ use Rattle.circumstances.proofs.writing.lengths.phase_length.Statement.
 use Rattle.circumstances.proofs.writing.lengths.phase_length.Tie as tie
 
 abbrev Inv-loop : tie.InvT-loop
-Inv-loop phase runs k n₀ c₀ n c =
+Inv-loop phase runs k seconds n₀ c₀ n c =
     At k runs c
     × (n + bytesNeeded phase (entriesFrom (decoded k runs) (c .at)) ≡ bytesNeeded phase (entries (decoded k runs)))
     × (n ≤ 17 * c .at)
 
 abbrev μ-loop : tie.MeasureT-loop
-μ-loop phase runs k n₀ c₀ n c = length (decoded k runs) - c .at
+μ-loop phase runs k seconds n₀ c₀ n c = length (decoded k runs) - c .at
 
 -- the step took the next entry
 onward : (c : tie.After-known-told Inv-loop μ-loop)
@@ -44,20 +44,19 @@ loop-holds c =
     let a = c .before .args in
     (at-start (a .k) (a .runs .now) 0 (c .before .pre .0), omega (arith, ap (bytesNeeded (a .phase)) (all-at-start (decoded (a .k) (a .runs .now)))), omega arith)
 
-step-requires : tie.Need-step-requires Inv-loop μ-loop
-step-requires c κs = (c .before .before .pre .1, c .loop .inv .0)
-
 returns : tie.Need-returns Inv-loop μ-loop
 returns c =
     let a = c .before .before .before .before .before .args in
     let l = c .before .before .before .loop in
     let z = ap (bytesNeeded (a .phase)) (none-left (a .k) (a .runs .now) (l .c .at) _ (c .before .before .step .ensures) (c .enum-told .given .1)) ∙ needed-nil (a .phase) in
-    (omega (arith, l .inv .1, z), omega (arith, l .inv .2, l .inv .0 .stands .second, c .before .before .before .before .before .pre .1))
+    let p = c .before .before .before .before .before .pre in
+    (omega (arith, l .inv .1, z), omega (arith, l .inv .2, l .inv .0 .stands .second, p))
 
 add-n : tie.Need-add-n Inv-loop μ-loop
 add-n c =
     let l = c .before .before .before .before .before .before .loop in
-    record { fits = omega (arith, l .inv .2, l .inv .0 .stands .second, c .before .before .before .before .before .before .before .before .pre .1, c .size-of .ensures .1) }
+    let p = c .before .before .before .before .before .before .before .before .pre in
+    record { fits = omega (arith, l .inv .2, l .inv .0 .stands .second, p, c .size-of .ensures .1) }
 
 loop-less : tie.Need-loop-less Inv-loop μ-loop
 loop-less c = let o = onward (c .before .before) in omega (arith, o .further, o .within)
@@ -71,5 +70,6 @@ loop-again c =
 pub phase-length-spec : {M : Type 1} → statement M
 phase-length-spec =
     tie.close
-    (tie.spec Inv-loop μ-loop loop-holds step-requires (λ c. search needs) (λ c. search needs) returns
-    (λ c κs. search needs) (λ c κs. search needs) add-n loop-less loop-again)
+    (tie.spec Inv-loop μ-loop loop-holds (λ c κs. (c .before .before .pre .1, c .loop .inv .0))
+    (λ c. search needs) (λ c. search needs) returns (λ c κs. search needs) (λ c κs. search needs) add-n
+    loop-less loop-again)

@@ -68,9 +68,6 @@ add-length c =
 add-k : tie.Need-add-k Inv-loop μ-loop
 add-k c = record { fits = omega (arith, c .before .loop-test .taken, few c) }
 
-loop-less : tie.Need-loop-less Inv-loop μ-loop
-loop-less c = omega (arith, c .before .loop-test .taken)
-
 loop-again : tie.Need-loop-again Inv-loop μ-loop
 loop-again c =
     let l = c .before .before .loop in
@@ -90,4 +87,4 @@ pub phases-length-spec : {M : Type 1} → statement M
 phases-length-spec =
     tie.close
     (tie.spec Inv-loop μ-loop (λ c κs. search needs) loop-holds nth-phase-length-requires add-length add-k
-    loop-less loop-again returns)
+    (λ c. omega (arith, c .before .loop-test .taken)) loop-again returns)

@@ -25,9 +25,6 @@ Inv-loop units room₀ table i₀ room i = (i ≤ 23) × (length room ≡ length
 abbrev μ-loop : tie.MeasureT-loop
 μ-loop units room₀ table i₀ room i = 23 - i
 
-loop-holds : tie.Need-loop-holds Inv-loop μ-loop
-loop-holds c = (omega arith, refl, refl)
-
 shared-slice-copy-out-unit : tie.Need-shared-slice-copy-out-unit Inv-loop μ-loop
 shared-slice-copy-out-unit c = let s = c .before .before .before in omega (arith, s .pre .0 .count)
 
@@ -78,9 +75,6 @@ loop-again c =
           (omega (arith, doubles-length scales (s .args .units .now) (s .pre .0 .count), s .pre .0 .count)) (l .inv .2) (given c),
     )
 
-same-length : tie.Need-same-length Inv-loop μ-loop
-same-length c = c .before .loop .inv .1
-
 returns : tie.Need-returns Inv-loop μ-loop
 returns c =
     let l = c .before .loop in
@@ -95,6 +89,6 @@ returns c =
 pub fill-spec : {M : Type 1} → statement M
 fill-spec =
     tie.close
-    (tie.spec Inv-loop μ-loop loop-holds (λ c. search needs) shared-slice-copy-out-unit (λ c. search needs)
-    (λ c. search needs) double-of-requires (λ c. search needs) slice-write-room (λ c. search needs)
-    (λ c. search needs) loop-again same-length returns)
+    (tie.spec Inv-loop μ-loop (λ c. (omega arith, refl, refl)) (λ c. search needs) shared-slice-copy-out-unit
+    (λ c. search needs) (λ c. search needs) double-of-requires (λ c. search needs) slice-write-room
+    (λ c. search needs) (λ c. search needs) loop-again (λ c. c .before .loop .inv .1) returns)

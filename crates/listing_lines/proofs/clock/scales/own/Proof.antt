@@ -28,12 +28,6 @@ hundred = mul (lit (pos 100)) (arg 1)
 abbrev both : Code
 both = add (arg 0) hundred
 
-mul-result : tie.Need-mul-result
-mul-result c = fits (bounds c) hundred tt
-
-add-result : tie.Need-add-result
-add-result c = fits (bounds c) both tt
-
 returns : tie.Need-returns
 unfolding own
 returns c =
@@ -45,4 +39,4 @@ returns c =
     }
 
 pub own-spec : {M : Type 1} → statement M
-own-spec = tie.close (tie.spec (λ c. search needs) (λ c κs. search needs) mul-result add-result returns)
+own-spec = tie.close (tie.spec (λ c. search needs) (λ c κs. search needs) (λ c. fits (bounds c) hundred tt) (λ c. fits (bounds c) both tt) returns)

@@ -19,9 +19,6 @@ read c = toZ-ofZ w64 (c .args .deltat) (c .fits .deltat)
 known : (c : tie.After-abs) → leZ (pos 1) (toZ w64 (ofZ w64 (c .abs .result))) ≡ leb 1 (natAbs (c .before .args .deltat))
 known c = ap (leZ (pos 1)) (read-result (c .abs .result) (c .abs .ok) ∙ c .abs .ensures ∙ ap (λ z. pos (natAbs z)) (read (c .before)))
 
-abs-requires : tie.Need-abs-requires
-abs-requires c κs = omega (arith, ap natAbs (read c))
-
 returns : tie.Need-returns
 returns c = search needs
 
@@ -37,5 +34,6 @@ returns-4 c = search needs
 pub shows-spec : {M : Type 1} → statement M
 shows-spec =
     tie.close
-    (tie.spec abs-requires (λ c. search needs) (λ c. search needs) (λ c. search needs) (λ c. search needs)
-    (λ c. search needs) (λ c. search needs) returns returns-2 returns-3 returns-4)
+    (tie.spec (λ c κs. omega (arith, ap natAbs (read c))) (λ c. search needs) (λ c. search needs)
+    (λ c. search needs) (λ c. search needs) (λ c. search needs) (λ c. search needs) returns returns-2
+    returns-3 returns-4)

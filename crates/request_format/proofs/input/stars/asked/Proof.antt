@@ -17,12 +17,6 @@ holds c =
     held Star (g .before .before .before .args .input .now) _ _ (λ i. let b = g .before .before .shared-slice-known .given i in omega arith)
     (sym (g .get-star .ensures .0) ∙ c .enum-told .given .1) (g .get-star .ensures .1)
 
-slice-aggregate-request-from : tie.Need-slice-aggregate-request-from
-slice-aggregate-request-from c = sym (holds (c .before) .small .all)
-
-request-from-requires : tie.Need-request-from-requires
-request-from-requires c κs = holds (c .before) .small
-
 returns : tie.Need-returns
 returns c =
     let told = c .before .before .before in
@@ -34,5 +28,5 @@ returns-2 c = star-refused _ (sym (c .before .before .get-star .ensures .0) ∙ 
 pub asked-spec : {M : Type 1} → statement M
 asked-spec =
     tie.close
-    (tie.spec (λ c κs. search needs) (λ c. search needs) slice-aggregate-request-from request-from-requires
-    (λ c κs. search needs) (λ c. search needs) returns returns-2)
+    (tie.spec (λ c κs. search needs) (λ c. search needs) (λ c. sym (holds (c .before) .small .all))
+    (λ c κs. holds (c .before) .small) (λ c κs. search needs) (λ c. search needs) returns returns-2)

@@ -12,15 +12,9 @@ use Rattle.request_text.proofs.instants.texts.read_after.Tie as tie
 within : (c : tie.After-said) → 7 ≤ length (c .said .result .now)
 within c = omega (arith, ap length (c .said .ensures), name-within _ (c .before .before .pre))
 
-sub-read : tie.Need-sub-read
-sub-read c = omega (arith, within c)
-
-part-read-start : tie.Need-part-read-start
-part-read-start c = omega (arith, within c)
-
 returns : tie.Need-returns
 returns c = c .read .ensures ∙ ap instantOf (after-name _ _ (c .before .before .said .ensures))
 
 pub read-after-spec : {M : Type 1} → statement M
 read-after-spec =
-    tie.close (tie.spec (λ c κs. search needs) sub-read part-read-start (λ c. search needs) (λ c κs. search needs) returns)
+    tie.close (tie.spec (λ c κs. search needs) (λ c. omega (arith, within c)) (λ c. omega (arith, within c)) (λ c. search needs) (λ c κs. search needs) returns)

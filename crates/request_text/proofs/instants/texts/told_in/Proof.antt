@@ -28,15 +28,6 @@ module _ (c : tie.After-run Inv-loop μ-loop) where
   inside : loop .before .loop .at + c .run .result ≤ length (loop .before .before .before .args .text .now)
   inside = line-within _ _ _ (loop .loop-test .taken) ran
 
-loop-holds : tie.Need-loop-holds Inv-loop μ-loop
-loop-holds c = walked-none _
-
-add-end : tie.Need-add-end Inv-loop μ-loop
-add-end c = let i = inside c in search needs
-
-part-told-after-end : tie.Need-part-told-after-end Inv-loop μ-loop
-part-told-after-end c = inside c
-
 add-at : tie.Need-add-at Inv-loop μ-loop
 add-at c = let i = inside (c .before .before) in search needs
 
@@ -59,6 +50,6 @@ returns c = walked-all _ _ _ _ (c .before .loop .inv) (c .loop-test .left)
 pub told-in-spec : {M : Type 1} → statement M
 told-in-spec =
     tie.close
-    (tie.spec Inv-loop μ-loop loop-holds (λ c. search needs) (λ c. search needs) (λ c. search needs)
-    (λ c κs. search needs) add-end (λ c. search needs) (λ c. search needs) part-told-after-end
-    (λ c κs. search needs) add-at add-line loop-less loop-again returns)
+    (tie.spec Inv-loop μ-loop (λ c. walked-none _) (λ c. search needs) (λ c. search needs) (λ c. search needs)
+    (λ c κs. search needs) (λ c. let i = inside c in search needs) (λ c. search needs) (λ c. search needs)
+    (λ c. inside c) (λ c κs. search needs) add-at add-line loop-less loop-again returns)

@@ -16,9 +16,6 @@ made c =
 returns : tie.Need-returns
 returns c = refused-kept _ _ _ (c .before .before .numbers2 .ensures .0) _ _ _ (c .enum-told .given .1)
 
-slice-aggregate-put-text : tie.Need-slice-aggregate-put-text
-slice-aggregate-put-text c = sym (made (c .before .before) .size)
-
 returns-2 : tie.Need-returns-2
 returns-2 c =
     let put = c .before .before .before in
@@ -27,4 +24,5 @@ returns-2 c =
 pub encode-eclipse-spec : {M : Type 1} → statement M
 encode-eclipse-spec =
     tie.close
-    (tie.spec (λ c κs. search needs) (λ c. search needs) returns (λ c. search needs) (λ c κs. search needs) slice-aggregate-put-text (λ c κs. search needs) returns-2)
+    (tie.spec (λ c κs. search needs) (λ c. search needs) returns (λ c. search needs) (λ c κs. search needs)
+    (λ c. sym (made (c .before .before) .size)) (λ c κs. search needs) returns-2)

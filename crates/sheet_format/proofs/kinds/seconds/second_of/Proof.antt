@@ -19,11 +19,8 @@ module _ (c : tie.Start) where
 abbrev less : Code
 less = sub (arg 0) (lit (pos 10800))
 
-sub-result : tie.Need-sub-result
-sub-result c = fits (bounds c) less tt
-
 returns : tie.Need-returns
 returns c = runs (bounds c) less tt ∙ ap (λ (z : ℤ). z -ℤ pos 10800) (count-is (c .args .stored) (small c) tt)
 
 pub second-of-spec : {M : Type 1} → statement M
-second-of-spec = tie.close (tie.spec (λ c. search needs) sub-result returns)
+second-of-spec = tie.close (tie.spec (λ c. search needs) (λ c. fits (bounds c) less tt) returns)

@@ -22,9 +22,6 @@ shifted = add (arg 0) (lit (pos 10800))
 low : (c : tie.Start) → negℤ (pos 10800) ≤ℤ c .args .second
 low c = neg-natAbs (c .args .second) (c .pre)
 
-add-result : tie.Need-add-result
-add-result c = fits (bounds c) shifted tt
-
 cast-result : tie.Need-cast-result
 cast-result c =
     let h : pos 0 ≤ℤ (c .args .second +ℤ pos 10800) = omega (arith, zs, low c, sum (c .args .second) (pos 10800) .is, opposite (pos 10800) .is) in
@@ -37,4 +34,4 @@ returns c =
     (z, omega (arith, within (bounds c) shifted 21600 tt))
 
 pub store-second-spec : {M : Type 1} → statement M
-store-second-spec = tie.close (tie.spec add-result cast-result returns)
+store-second-spec = tie.close (tie.spec (λ c. fits (bounds c) shifted tt) cast-result returns)

@@ -3,9 +3,6 @@ use borrow.Author.Needs.{needs}
 use Rattle.sheet_format.proofs.records.bytes.two_if.Statement.{statement}
 use Rattle.sheet_format.proofs.records.bytes.two_if.Tie as tie
 
-two-at-requires : tie.Need-two-at-requires
-two-at-requires c κs = c .before .before .pre (c .if1 .taken)
-
 returns : tie.Need-returns
 returns c = rw (c .before .if1 .taken) (c .two-at .ensures)
 
@@ -13,4 +10,4 @@ returns-2 : tie.Need-returns-2
 returns-2 c = search needs
 
 pub two-if-spec : {M : Type 1} → statement M
-two-if-spec = tie.close (tie.spec two-at-requires returns returns-2)
+two-if-spec = tie.close (tie.spec (λ c κs. c .before .before .pre (c .if1 .taken)) returns returns-2)

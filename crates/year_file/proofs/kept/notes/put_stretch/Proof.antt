@@ -19,4 +19,5 @@ returns-2 c =
 pub put-stretch-spec : {M : Type 1} → statement M
 put-stretch-spec =
     tie.close
-    (tie.spec returns (λ c. search needs) (λ c κs. search needs) (λ c κs. search needs) (λ c. search needs) returns-2)
+    (tie.spec returns (λ c. search needs) (λ c κs. search needs) (λ c κs. search needs) (λ c. search needs)
+    returns-2)
