@@ -31,6 +31,5 @@ loop-less c = let o = onward c in omega (arith, o .further, o .within)
 pub print-entries-spec : {M : Type 1} → statement M
 print-entries-spec =
     tie.close
-    (tie.spec Inv-loop μ-loop (λ c. at-start _ _ _ (c .before .pre .0)) step-requires
-    (λ c. search needs) (λ c. search needs) (λ c. search needs) (λ c κs. search needs) loop-less
-    (λ c. onward c .cursor))
+    (tie.spec Inv-loop μ-loop (λ c. at-start _ _ _ (c .before .pre .0)) step-requires (λ c. search needs)
+    (λ c. search needs) (λ c. search needs) (λ c κs. search needs) loop-less (λ c. onward c .cursor))
