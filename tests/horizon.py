@@ -108,14 +108,14 @@ class Tally:
         self.count = self.other = self.missed = 0
         self.farthest = 0.0
 
-    def add(self, distance, told):
+    def add(self, distance, case):
         self.count += 1
         self.other += distance > 0
         self.farthest = max(self.farthest, distance)
         if distance > self.most:
             self.missed += 1
             if self.missed <= 3:
-                print(f"MISS: {self.name} is {distance:.6f} tenths off: {told}")
+                print(f"MISS: {self.name} is {distance:.6f} tenths off: {case}")
 
     def line(self):
         return (
@@ -137,14 +137,14 @@ def main():
         found = (u.star_horizon if star else u.horizon)(request.to_bytes(), second)
         azimuth, elevation = (math.degrees(angle) * 10 for angle in erfa.hd2ae(hour_angle, declination, latitude))
         zenith = math.degrees(erfa.hd2pa(hour_angle, declination, latitude)) * 10
-        told = (request, second, found, (elevation, azimuth, zenith))
+        case = (request, second, found, (elevation, azimuth, zenith))
         none += found.azimuth is None or found.zenith is None
         if abs(elevation) >= 890:
-            steep.add(outside(elevation, found.altitude), told)
+            steep.add(outside(elevation, found.altitude), case)
             continue
-        altitudes.add(outside(elevation, found.altitude), told)
+        altitudes.add(outside(elevation, found.altitude), case)
         for tally, value, direction in ((azimuths, azimuth, found.azimuth), (zeniths, zenith, found.zenith)):
-            tally.add(math.inf if direction is None else outside_turn(value, direction), told)
+            tally.add(math.inf if direction is None else outside_turn(value, direction), case)
     print(f"{count} draws, seed {seed}, ERFA {erfa.__version__}; without azimuth or zenith {none}")
     tallies = (altitudes, steep, azimuths, zeniths)
     for tally in tallies:
