@@ -10,8 +10,8 @@ doubles of whole units; `network` says of a list of stations how far each clock 
 penumbra reaches first. Each is a thin call of the proved function of the same name in libukhtvaresh.so, which the
 script `build` makes.
 
-`horizon` and `star_horizon` give the altitude, the azimuth and the direction of the zenith of the Sun and of a star at a
-second, without refraction and dip.
+`horizon` and `star_horizon` give the altitude and azimuth of the Sun and of a star at a second, and the direction of
+the zenith from it, without refraction and dip.
 
 Lengths are in 10^-8 of the Earth's equatorial radius, angles in 10^-6 degree, times in whole seconds of
 ephemeris time from the reference instant. East longitude is positive. "Document 01" is the paper whose rules the library keeps.
