@@ -15,9 +15,6 @@ Inv-loop states seconds cursor₀ cursor = At 0 states cursor
 abbrev μ-loop : tie.MeasureT-loop
 μ-loop states seconds cursor₀ cursor = length (decoded 0 states) - cursor .at
 
-step-requires : tie.Need-step-requires Inv-loop μ-loop
-step-requires c κs = (c .before .before .pre .1, c .loop .inv)
-
 -- the step took the next entry
 onward : (c : tie.After-print-entry Inv-loop μ-loop)
     → Took 0 (c .before .before .before .before .before .before .before .args .states .now)
@@ -31,5 +28,6 @@ loop-less c = let o = onward c in omega (arith, o .further, o .within)
 pub print-entries-spec : {M : Type 1} → statement M
 print-entries-spec =
     tie.close
-    (tie.spec Inv-loop μ-loop (λ c. at-start _ _ _ (c .before .pre .0)) step-requires (λ c. search needs)
-    (λ c. search needs) (λ c. search needs) (λ c κs. search needs) loop-less (λ c. onward c .cursor))
+    (tie.spec Inv-loop μ-loop (λ c. at-start _ _ _ (c .before .pre .0))
+    (λ c κs. (c .before .before .pre .1, c .loop .inv)) (λ c. search needs) (λ c. search needs)
+    (λ c. search needs) (λ c κs. search needs) loop-less (λ c. onward c .cursor))
