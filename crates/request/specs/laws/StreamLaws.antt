@@ -1,25 +1,51 @@
--- The bytes that go out of each room.
-use mathlib.Core.Path.{_≡_, refl}
+-- What is written of the text that was read is what is written of the whole input, and goes to the output that it is
+-- of.
+use Prim.Native.Nat.{ℕ, _≤_}
+use mathlib.Core.Path.{_≡_, refl, sym, _∙_}
 use mathlib.Core.List.{List}
-use Prim.Native.Nat.{ℕ}
 use native.Mathlib.Omega.{arith}
-use lib.ListN.{take}
-use Rattle.decimal_text.specs.Texts.{Counts}
+use borrow.Author.Tests.{lt-ltb}
+use lib.IntN.{pos}
+use lib.ListN.{length, take}
+use Rattle.decimal_text.specs.Texts.{letters}
 use Rattle.calendar.specs.declared.Reference.{Reference}
+use Rattle.request_format.specs.declared.fields.Shape.{Shape}
+use Rattle.request_format.specs.declared.fields.Shape.the-variants as S
+use Rattle.request_format.specs.Request.{sizeFor}
+use Rattle.program_io.specs.Inputs.{Read}
+use Rattle.program_io.specs.Outputs.{Sent, toOutput, toError}
+use Rattle.program_io.specs.laws.InputLaws.{read-same}
 use Rattle.request_text.specs.laws.RoomLaws.{Bytes, Message}
-use Rattle.request_text.specs.Meaning.{errorOf}
+use Rattle.request_text.specs.Meaning.{refused, meaningOf, errorOf}
 use Rattle.request.specs.Streams.{outputOf}
 
--- what `respond` promises: n bytes go out of the request's room, r of the message's
-abbrev Promised : List ℕ → ℕ → List ℕ → List ℕ → ℕ → Type 0
-Promised text n out message r = (take n out ≡ outputOf text) × ((take r message ≡ errorOf text) × (Counts n out × Counts r message))
+-- a request has 115 bytes at most
+size-le : (shape : Shape) → sizeFor shape ≤ 115
+size-le S.Eclipse = omega arith
+size-le S.Star = omega arith
 
--- no bytes
-none : (room : List ℕ) → Counts 0 room
-none room = (omega arith, refl)
+pub request-fits : {text : List ℕ} {k : ℕ} {x : Reference} {room : List ℕ} → Bytes text k x room
+    → length (take k room) ≤ 115
+request-fits b = omega (arith, b .counts, b .size, size-le (b .shape))
 
-pub request-out : {text : List ℕ} {n : ℕ} {x : Reference} {out : List ℕ} (message : List ℕ) → Bytes text n x out → Promised text n out message 0
-request-out message b = rw (b .is) (b .bytes, (refl, (b .counts, none message)))
+-- a text that fills the array is too long
+long-meaning : (text : List ℕ) → 65537 ≤ length text
+    → meaningOf text ≡ refused (letters "the text has more than 65,536 bytes\n")
+unfolding meaningOf
+long-meaning text h = rw (lt-ltb 65536 (length text) (omega arith))
 
-pub message-out : {text : List ℕ} {r : ℕ} {message : List ℕ} (out : List ℕ) → Message text r message → Promised text 0 out message r
-message-out out m = rw (m .is) (refl, (m .bytes, (none out, m .counts)))
+module _ (array : List ℕ) (n : ℕ) (c : n ≤ length array) (l : length array ≡ 65537) (input : List ℕ)
+    (q : Read input array n) where
+  same-meaning : meaningOf input ≡ meaningOf (take n array)
+  same-meaning =
+      sym
+      (read-same input array n q meaningOf (refused (letters "the text has more than 65,536 bytes\n"))
+      (λ s k. long-meaning s (omega arith)) c)
+
+  pub request-out : {k : ℕ} {x : Reference} {room : List ℕ} → Bytes (take n array) k x room → (text : List ℕ)
+      → text ≡ take k room → Sent (pos 1) text (outputOf input) (errorOf input)
+  request-out b text e = rw (same-meaning ∙ b .is) (toOutput refl (e ∙ b .bytes) refl)
+
+  pub message-out : {k : ℕ} {room : List ℕ} → Message (take n array) k room
+      → Sent (pos 2) (take k room) (outputOf input) (errorOf input)
+  message-out m = rw (same-meaning ∙ m .is) (toError refl refl (m .bytes))
