@@ -1,5 +1,6 @@
--- What the program writes of a typed text, given a room for table S and one for the sheet.
--- What a text is: typed_requests, Meaning; the answer with clock times: answers, Answers.
+-- What the program writes of its input, all bytes of it, a typed text: with 901 numbers for table S and 65,536 bytes
+-- for the sheet. These are definitions. What a text is: request_text, Meaning; the answer with clock times: answers,
+-- Answers.
 use mathlib.Core.Bool.{cond}
 use mathlib.Core.List.{List, []}
 use Prim.Native.Nat.{ℕ}
@@ -7,6 +8,7 @@ use lib.Dec.{eqb}
 use lib.ListN.{length}
 use Rattle.request_format.specs.Request.{bytesFor}
 use Rattle.calendar.specs.declared.Reference.{Reference}
+use Rattle.program_io.specs.Inputs.{zeros}
 use Rattle.request_text.specs.Meaning.{Meaning, asked, refused, meaningOf}
 use Rattle.answers.specs.Answers.{timedText, starTimedText}
 
@@ -14,10 +16,13 @@ use Rattle.answers.specs.Answers.{timedText, starTimedText}
 unfoldable pub textBy : Reference → (request sines room : List ℕ) → List ℕ
 textBy k request sines room = cond (eqb (length request) 79) (starTimedText k request sines room) (timedText k request sines room)
 
--- to standard output: the answer to the bytes of the numbers typed, or nothing
-abbrev pub outputBy : Meaning → (sines room : List ℕ) → List ℕ
-outputBy (asked shape ns x) sines room = textBy x (bytesFor shape ns) sines room
-outputBy (refused message) sines room = []
+unfoldable pub answerText : Reference → (request : List ℕ) → List ℕ
+answerText k request = textBy k request (zeros 901) (zeros 65536)
 
-abbrev pub outputOf : (text sines room : List ℕ) → List ℕ
-outputOf text sines room = outputBy (meaningOf text) sines room
+-- to standard output: the answer to the bytes of the numbers typed, or nothing
+abbrev pub outputBy : Meaning → List ℕ
+outputBy (asked shape ns x) = answerText x (bytesFor shape ns)
+outputBy (refused message) = []
+
+abbrev pub outputOf : List ℕ → List ℕ
+outputOf text = outputBy (meaningOf text)

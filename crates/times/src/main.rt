@@ -4,23 +4,39 @@
 use answers::put_timed_answer;
 use answers::put_timed_star_answer;
 use calendar::Reference;
-use libc::STDERR_FILENO;
 use libc::STDIN_FILENO;
-use libc::STDOUT_FILENO;
+use program_io::ERROR;
+use program_io::OUTPUT;
+use program_io::Text;
 use request_format::fields::LENGTH;
 use request_format::fields::STAR_LENGTH;
 use request_text::typed_requests::Answer;
 use request_text::typed_requests::MESSAGE;
-ghost use mathlib.Core.Path.{_≡_};
+ghost use mathlib.Core.List.{List};
+ghost use Prim.Native.Nat.{ℕ};
 ghost use lib.ListN.{take};
-ghost use Rattle.decimal_text.specs.Texts.{Put, Counts};
+ghost use Rattle.decimal_text.specs.Texts.{Put, Counts, Copies};
+ghost use Rattle.program_io.specs.Inputs.{Read};
+ghost use Rattle.program_io.specs.Outputs.{Sent};
 ghost use Rattle.request_text.specs.Meaning.{errorOf};
 ghost use Rattle.times.specs.Printed.{textBy, outputOf};
 
-// How many bytes of each room go out; of the text's more than the room has where the text is longer.
-struct Streams {
-    output: usize,
-    error: usize,
+// As many bytes for the sheet as program `sheet` has.
+fn sheet_room() -> [u8; 65536]
+    ensures { λ r. ⌜ Copies 0 65536 r ⌝ }
+{
+    [0; 65536]
+}
+
+// Table S.
+fn sines_room() -> [u32; 901]
+    ensures { λ r. ⌜ Copies 0 901 r ⌝ }
+{
+    [0; 901]
+}
+
+fn message_room() -> [u8; MESSAGE] {
+    [0; MESSAGE]
 }
 
 // The answer to a request's bytes, a star's by their number. Times are shown where there is an instant.
@@ -39,66 +55,52 @@ fn put_text(
     put_timed_answer(request, reference, sines, room, out)
 }
 
-// What the program writes: the listing or the refusal of a typed request; or what is wrong with the text.
-fn respond(
-    text: &[u8],
-    message: &mut [u8; MESSAGE],
-    sines: &mut [u32],
-    room: &mut [u8],
-    out: &mut [u8],
-) -> Streams
-    ensures output { λ r. ⌜ Put (now (out .entry)) 0 (outputOf (now (text .entry)) (now (sines .entry)) (now (room .entry))) (now (out .exit)) (r .output) ⌝ }
-    ensures error { λ r. ⌜ take (r .error) (now (message .exit)) ≡ errorOf (now (text .entry)) ⌝ }
-    ensures counts { λ r. ⌜ Counts (r .error) (now (message .exit)) ⌝ }
+// What the program writes of its input, of which `length` bytes were read, and the output that it goes to: the listing
+// or the refusal of a typed request, or what is wrong with the text. The text's array has a byte more than is taken, so
+// that a longer text is seen. A listing has 91 bytes at most for 5 bytes of a sheet, and the lines of head, instant and
+// closest.
+fn respond(text: &[u8; 65537], length: usize, out: &mut [u8; 1200000]) -> Text
+    requires { ⌜ Counts length (now text) ⌝ }
+    ensures text { λ r. ⌜ ((s : List ℕ) → Read s (now (text .entry)) length → Sent (r .descriptor) (take (r .length) (now (out .exit))) (take 1200000 (outputOf s)) (take 1200000 (errorOf s))) ⌝ }
+    ensures counts { λ r. ⌜ Counts (r .length) (now (out .exit)) ⌝ }
 {
+    let all: &[u8] = text;
+    let mut sines = sines_room();
+    let mut room = sheet_room();
     let mut bytes = [0u8; LENGTH];
-    let answer = request_text::typed_requests::read(text, &mut bytes, message);
+    let mut message = message_room();
+    let answer = request_text::typed_requests::read(&all[..length], &mut bytes, &mut message);
     match answer {
-        Answer::Request(length, reference) => {
-            let end = put_text(&bytes[..length], reference, sines, room, out);
-            Streams {
-                output: end,
-                error: 0,
+        Answer::Request(size, reference) => {
+            let end = put_text(&bytes[..size], reference, &mut sines, &mut room, out);
+            Text {
+                descriptor: OUTPUT,
+                length: decimal_text::clipped(out, end),
             }
         }
-        Answer::Refused(length) => Streams {
-            output: 0,
-            error: length,
-        },
+        Answer::Refused(size) => {
+            let told = decimal_text::put_text(out, 0, &message[..size]);
+            Text {
+                descriptor: ERROR,
+                length: decimal_text::clipped(out, told),
+            }
+        }
     }
 }
 
-// A byte more than is taken, so that a longer text is seen.
 fn text_room() -> [u8; 65537] {
-    [0u8; 65537]
+    [0; 65537]
 }
 
-fn message_room() -> [u8; MESSAGE] {
-    [0u8; MESSAGE]
-}
-
-// 91 bytes of text at most for 5 bytes of a sheet, and the lines of head, instant and closest.
-fn lines_room() -> [u8; 1_200_000] {
-    [0u8; 1_200_000]
+fn lines_room() -> [u8; 1200000] {
+    [0; 1200000]
 }
 
 fn main() {
-    let mut text = text_room();
-    let length = io::read_full(STDIN_FILENO, &mut text);
-    let mut message = message_room();
-    let mut sines = [0u32; 901];
-    let mut room = io::large_buffer();
+    let mut input = text_room();
+    let length = io::read_full(STDIN_FILENO, &mut input);
     let mut lines = lines_room();
-    let streams = respond(
-        &text[..length],
-        &mut message,
-        &mut sines,
-        &mut room,
-        &mut lines,
-    );
-    let output = decimal_text::clipped(&lines, streams.output);
-    let error = streams.error;
-    // one of the two has no bytes, and then no call is made
-    io::write_all(STDOUT_FILENO, &lines[..output]);
-    io::write_all(STDERR_FILENO, &message[..error]);
+    let text = respond(&input, length, &mut lines);
+    let end = text.length;
+    io::write_all(text.descriptor, &lines[..end]);
 }
