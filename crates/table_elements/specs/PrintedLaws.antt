@@ -18,8 +18,8 @@ use Rattle.listing_lines.specs.Lines.{refusalLine}
 use Rattle.besselian_rows.specs.declared.tables.Answer.{Answer}
 use Rattle.besselian_rows.specs.declared.tables.Answer.the-variants.{Made, Refused}
 use Rattle.besselian_rows.specs.Tables.{answerTo, valuesOf, valuesAfter}
-use Rattle.table_elements.specs.declared.Read.{Read}
-use Rattle.table_elements.specs.declared.Read.the-variants as R
+use Rattle.table_elements.specs.declared.Extent.{Extent}
+use Rattle.table_elements.specs.declared.Extent.the-variants as R
 use Rattle.table_elements.specs.declared.typed_rows.Fault.{Fault}
 use Rattle.table_elements.specs.declared.typed_rows.Fault.the-variants as F
 use Rattle.table_elements.specs.declared.typed_rows.Line.{Line}
@@ -44,11 +44,11 @@ rowsAfter L.Nothing k = k
 rowsAfter (L.Faulty f) k = k
 
 -- how many bytes the tables of a text take, and what is told of its fault
-abbrev pub outputOf : Read → ℕ
+abbrev pub outputOf : Extent → ℕ
 outputOf (R.Whole o) = o
 outputOf (R.Faulty o k f) = o
 
-abbrev pub errorOf : Read → List ℕ
+abbrev pub errorOf : Extent → List ℕ
 errorOf (R.Whole o) = []
 errorOf (R.Faulty o k f) = faultLine k f
 

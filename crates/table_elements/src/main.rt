@@ -12,14 +12,16 @@ use libc::STDIN_FILENO;
 use libc::STDOUT_FILENO;
 use tokens::Class;
 ghost use mathlib.Core.Path.{_≡_};
-ghost use Prim.Native.Nat.{_≤_};
-ghost use lib.ListN.{length};
-ghost use Rattle.decimal_text.specs.Texts.{Put};
+ghost use mathlib.Core.List.{List};
+ghost use Prim.Native.Nat.{ℕ, _≤_};
+ghost use lib.ListN.{length, take};
+ghost use Rattle.decimal_text.specs.Texts.{Put, Counts};
+ghost use Rattle.program_io.specs.Inputs.{Read};
 ghost use Rattle.table_elements.specs.Printed.{printed};
 ghost use Rattle.table_elements.specs.PrintedLaws.{wholeText, rowsAfter, whole, outputOf, errorOf};
 
 // How far a text was read, and how many bytes its tables take.
-pub enum Read {
+pub enum Extent {
     Whole {
         output: usize,
     },
@@ -79,7 +81,7 @@ fn rows_after(said: Line, row: usize) -> usize
 }
 
 // The text of all tables, or of those before the first fault; and which that is.
-fn put_tables(text: &[u8], out: &mut [u8]) -> Read
+fn put_tables(text: &[u8], out: &mut [u8]) -> Extent
     requires { ⌜ length (now text) ≤ 65536 ⌝ }
     ensures { λ r. ⌜ Put (now (out .entry)) 0 (whole (now (text .entry)) .output) (now (out .exit)) (outputOf r) ⌝ }
     ensures { λ r. ⌜ whole (now (text .entry)) .error ≡ errorOf r ⌝ }
@@ -94,7 +96,7 @@ fn put_tables(text: &[u8], out: &mut [u8]) -> Read
         let end = from + length;
         let said = crate::typed_rows::read_line(&text[from..end], &mut numbers, 6 * row);
         if let Line::Faulty(fault) = said {
-            return Read::Faulty {
+            return Extent::Faulty {
                 output,
                 line,
                 fault,
@@ -106,10 +108,10 @@ fn put_tables(text: &[u8], out: &mut [u8]) -> Read
         from = end + 1;
     }
     if row == 0 {
-        return Read::Whole { output };
+        return Extent::Whole { output };
     }
     let fault = Fault::Unfinished;
-    Read::Faulty {
+    Extent::Faulty {
         output,
         line,
         fault,
@@ -117,7 +119,7 @@ fn put_tables(text: &[u8], out: &mut [u8]) -> Read
 }
 
 // The text of the tables, and the first fault.
-fn respond(text: &[u8], out: &mut [u8], message: &mut [u8]) -> Streams
+fn put_streams(text: &[u8], out: &mut [u8], message: &mut [u8]) -> Streams
     ensures { λ r. ⌜ Put (now (out .entry)) 0 (printed (now (text .entry)) .output) (now (out .exit)) (r .output) ⌝ }
     ensures { λ r. ⌜ Put (now (message .entry)) 0 (printed (now (text .entry)) .error) (now (message .exit)) (r .error) ⌝ }
 {
@@ -127,8 +129,8 @@ fn respond(text: &[u8], out: &mut [u8], message: &mut [u8]) -> Streams
     }
     let read = put_tables(text, out);
     match read {
-        Read::Whole { output } => Streams { output, error: 0 },
-        Read::Faulty {
+        Extent::Whole { output } => Streams { output, error: 0 },
+        Extent::Faulty {
             output,
             line,
             fault,
@@ -139,14 +141,34 @@ fn respond(text: &[u8], out: &mut [u8], message: &mut [u8]) -> Streams
     }
 }
 
-// A byte more than is taken, so that a longer text is seen.
-fn text_room() -> [u8; 65537] {
-    [0u8; 65537]
+// What the program writes of its input, of which `size` bytes were read: of the lines' array to standard output, of the
+// message's to standard error. The text's array has a byte more than is taken, so that a longer text is seen. An
+// accepted row takes 33 bytes at least, and its line 78 at most.
+fn respond(
+    text: &[u8; 65537],
+    size: usize,
+    lines: &mut [u8; 160000],
+    message: &mut [u8; 128],
+) -> Streams
+    requires { ⌜ Counts size (now text) ⌝ }
+    ensures output { λ r. ⌜ ((s : List ℕ) → Read s (now (text .entry)) size → take (r .output) (now (lines .exit)) ≡ take 160000 (printed s .output)) ⌝ }
+    ensures error { λ r. ⌜ ((s : List ℕ) → Read s (now (text .entry)) size → take (r .error) (now (message .exit)) ≡ take 128 (printed s .error)) ⌝ }
+    ensures counts { λ r. ⌜ Counts (r .output) (now (lines .exit)) × Counts (r .error) (now (message .exit)) ⌝ }
+{
+    let all: &[u8] = text;
+    let streams = put_streams(&all[..size], lines, message);
+    Streams {
+        output: decimal_text::clipped(lines, streams.output),
+        error: decimal_text::clipped(message, streams.error),
+    }
 }
 
-// An accepted row takes 33 bytes at least, and its line 78 at most.
-fn lines_room() -> [u8; 160_000] {
-    [0u8; 160_000]
+fn text_room() -> [u8; 65537] {
+    [0; 65537]
+}
+
+fn lines_room() -> [u8; 160000] {
+    [0; 160000]
 }
 
 fn main() {
@@ -154,11 +176,9 @@ fn main() {
     let length = io::read_full(STDIN_FILENO, &mut text);
     let mut lines = lines_room();
     let mut message = [0u8; 128];
-    let streams = respond(&text[..length], &mut lines, &mut message);
+    let streams = respond(&text, length, &mut lines, &mut message);
     let output = streams.output;
     let error = streams.error;
-    let written = decimal_text::clipped(&lines, output);
-    let told = decimal_text::clipped(&message, error);
-    io::write_all(STDOUT_FILENO, &lines[..written]);
-    io::write_all(STDERR_FILENO, &message[..told]);
+    io::write_all(STDOUT_FILENO, &lines[..output]);
+    io::write_all(STDERR_FILENO, &message[..error]);
 }

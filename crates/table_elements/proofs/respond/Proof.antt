@@ -1,32 +1,29 @@
--- `table_elements::respond` meets its contract: too long a text, a whole one, or one with a fault.
-use Rattle.table_elements.specs.PrintedLaws.{errorOf, respond-by, respond-long}
-use Rattle.decimal_text.specs.laws.TextLaws.{put-nil}
-use mathlib.Core.Path.{refl, ap, _∙_}
+-- `table_elements::respond` meets its contract: what is written of the text that was read is what is written of the
+-- whole input.
 use native.Mathlib.Omega.{arith}
+use Rattle.table_elements.specs.laws.StreamLaws.{output-out, error-out}
 use borrow.Author.Needs.{needs}
 use Rattle.table_elements.proofs.respond.Statement.{statement}
 use Rattle.table_elements.proofs.respond.Tie as tie
 
 returns : tie.Need-returns
-returns c = respond-long _ (c .before .before .before .before .before .if1 .taken) _ _ _ _ (c .before .before .put-text .ensures)
-
-returns-2 : tie.Need-returns-2
-returns-2 c =
-    let put = c .before .before .before .before .before in
-    let is = c .before .read .given .1 in
-    respond-by _ (put .before .before .if1 .left) _ _ _ (rw is at (put .put-tables .ensures .0)) _ (put .put-tables .ensures .1 ∙ ap errorOf is) _ _ _ _ refl
-    (put-nil _ _ (omega arith))
-
-returns-3 : tie.Need-returns-3
-returns-3 c =
-    let put = c .before .before .before .before .before .before .before .before .before in
-    let is = c .before .before .before .before .before .read2 .given .1 in
-    respond-by _ (put .before .before .if1 .left) _ _ _ (rw is at (put .put-tables .ensures .0)) _ (put .put-tables .ensures .1 ∙ ap errorOf is) _ _ _ _ refl
-    (c .before .before .put-fault .ensures)
+returns c =
+    let lines = c .before .before .before in
+    let put = lines .before .before .before in
+    let start = put .before .before .before .before .before in (
+      (λ s q.
+          output-out _ _ (start .pre .0) (omega arith) s q _ _ _ _ (lines .clipped .ensures .0) (omega arith)
+          (put .put-streams .ensures .0)),
+      (
+        (λ s q.
+            error-out _ _ (start .pre .0) (omega arith) s q _ _ _ _ (c .clipped2 .ensures .0) (omega arith)
+            (put .put-streams .ensures .1)),
+        (lines .clipped .ensures .1, c .clipped2 .ensures .1),
+      ),
+    )
 
 pub respond-spec : {M : Type 1} → statement M
 respond-spec =
     tie.close
-    (tie.spec (λ c. search needs) (λ c κs. search needs) (λ c. search needs) returns (λ c κs. search needs)
-    (λ c. search needs) (λ c. search needs) (λ c κs. search needs) (λ c. search needs) returns-2
-    (λ c. search needs) (λ c. search needs) returns-3)
+    (tie.spec (λ c. search needs) (λ c κs. search needs) (λ c κs. search needs) (λ c κs. search needs)
+    returns)
