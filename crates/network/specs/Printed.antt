@@ -1,10 +1,11 @@
--- What the program writes of a typed network.
+-- What the program writes of its input, all bytes of it, a typed network: with 901 numbers for table S and 64 for the
+-- steps.
 use Prim.Native.Nat.{ℕ}
 use mathlib.Core.Bool.{Bool, cond}
 use mathlib.Core.List.{List, [], _++_}
 use lib.Dec.{ltb}
 use lib.IntN.{ℤ}
-use lib.ListN.{length, getD, replicate}
+use lib.ListN.{length, getD}
 use Rattle.sheet_format.specs.StoredSeconds.{secondOf}
 use Rattle.clock_network.specs.Defined.{earliestOf}
 use Rattle.clock_network.specs.declared.stations.Node.{Node}
@@ -21,6 +22,7 @@ use Rattle.decimal_text.specs.Texts.{letters}
 use Rattle.listing_lines.specs.Lines.{refusalLine}
 use Rattle.request_format.specs.declared.fields.Shape.the-variants as S
 use Rattle.request_text.specs.Messages.{messageOf}
+use Rattle.program_io.specs.Inputs.{zeros}
 use Rattle.network_text.specs.declared.Fault.{Fault}
 use Rattle.network_text.specs.declared.Fault.the-variants as F
 use Rattle.network_text.specs.Typing.{Typing, given, refused, typingOf, eclipseIn}
@@ -52,10 +54,6 @@ answerBy (A.Refused r) tos l steps = refusalLine (r .number) (r .place)
 -- the rooms for table S and for the steps are lent
 unfoldable pub answerText : (sines steps : List ℕ) → List ℤ → List Node → List ℕ
 answerText sines steps ns l = answerBy (answerTo ns l sines steps) (tosOf (eclipseOf ns) l) l (stepsFor ns l sines steps)
-
--- those that the program lends
-abbrev pub zeros : ℕ → List ℕ
-zeros n = replicate n 0
 
 -- ---- a fault
 

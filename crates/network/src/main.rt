@@ -3,30 +3,27 @@
 // fault is told on standard error with its line, and nothing is printed.
 use clock_network::checks::Eclipse;
 use clock_network::stations::Held;
-use libc::STDERR_FILENO;
 use libc::STDIN_FILENO;
-use libc::STDOUT_FILENO;
 use network_text::Fault;
 use network_text::Typed;
 use networks::Answer;
+use program_io::ERROR;
+use program_io::OUTPUT;
+use program_io::Text;
 use request_format::fields::Shape;
 ghost use mathlib.Core.Path.{_≡_};
-ghost use mathlib.Core.List.{List};
-ghost use Prim.Native.Nat.{_≤_};
+ghost use mathlib.Core.List.{List, _++_};
+ghost use Prim.Native.Nat.{ℕ, _≤_};
 ghost use lib.ListN.{length, take};
 ghost use Rattle.sine_table.specs.Table.{Sines};
 ghost use Rattle.clock_network.specs.declared.stations.Node.{Node};
 ghost use Rattle.clock_network.specs.Nodes.{Holds};
 ghost use Rattle.clock_network.specs.CheckLaws.{AllWithin};
 ghost use Rattle.networks.specs.Network.{tosOf};
-ghost use Rattle.decimal_text.specs.Texts.{Put};
-ghost use Rattle.network.specs.Printed.{clockText, faultText, stationLine, stationLines, firstLine, namedText, answerText, zeros, output, error};
-
-// How many bytes go to standard output, and to standard error.
-struct Streams {
-    output: usize,
-    error: usize,
-}
+ghost use Rattle.decimal_text.specs.Texts.{Put, Counts};
+ghost use Rattle.program_io.specs.Inputs.{Read, zeros};
+ghost use Rattle.program_io.specs.Outputs.{Sent};
+ghost use Rattle.network.specs.Printed.{clockText, faultText, stationLine, stationLines, firstLine, namedText, answerText, output, error};
 
 // ---- a fault
 
@@ -128,16 +125,16 @@ fn put_answer(out: &mut [u8], eclipse: &[i64; 25], h: Held) -> usize
     }
 }
 
-// What the program writes: the answer to a typed network, or what is wrong with it.
-fn respond(text: &[u8], out: &mut [u8], message: &mut [u8]) -> Streams
-    ensures { λ r. ⌜ Put (now (out .entry)) 0 (output (now (text .entry))) (now (out .exit)) (r .output) ⌝ }
-    ensures { λ r. ⌜ Put (now (message .entry)) 0 (error (now (text .entry))) (now (message .exit)) (r .error) ⌝ }
+// The answer to a typed network, or what is wrong with it; and the output that it goes to. The other has nothing.
+fn put_written(text: &[u8], out: &mut [u8]) -> Text
+    ensures text { λ r. ⌜ Put (now (out .entry)) 0 (output (now (text .entry)) ++ error (now (text .entry))) (now (out .exit)) (r .length) ⌝ }
+    ensures sent { λ r. ⌜ Sent (r .descriptor) (output (now (text .entry)) ++ error (now (text .entry))) (output (now (text .entry))) (error (now (text .entry))) ⌝ }
 {
     if 65536 < text.len() {
-        let long = decimal_text::put_text(message, 0, b"the text has more than 65,536 bytes\n");
-        return Streams {
-            output: 0,
-            error: long,
+        let long = decimal_text::put_text(out, 0, b"the text has more than 65,536 bytes\n");
+        return Text {
+            descriptor: ERROR,
+            length: long,
         };
     }
     let mut eclipse = [0i64; 25];
@@ -147,40 +144,50 @@ fn respond(text: &[u8], out: &mut [u8], message: &mut [u8]) -> Streams
     match typed {
         Typed::Network => {
             let printed = put_answer(out, &eclipse, held);
-            Streams {
-                output: printed,
-                error: 0,
+            Text {
+                descriptor: OUTPUT,
+                length: printed,
             }
         }
         Typed::Refused(line, fault) => {
-            let told = put_fault(message, text, line, fault);
-            Streams {
-                output: 0,
-                error: told,
+            let told = put_fault(out, text, line, fault);
+            Text {
+                descriptor: ERROR,
+                length: told,
             }
         }
     }
 }
 
-// A byte more than is taken, so that a longer text is seen.
-fn text_room() -> [u8; 65537] {
-    [0u8; 65537]
+// What the program writes of its input, of which `length` bytes were read, and the output that it goes to. The text's
+// array has a byte more than is taken, so that a longer text is seen. No message is longer than 65,623 bytes: its word
+// is a part of the text. 64 lines of `station 999 steps 64` and one of `first 999 to -10800` are shorter.
+fn respond(text: &[u8; 65537], length: usize, out: &mut [u8; 65623]) -> Text
+    requires { ⌜ Counts length (now text) ⌝ }
+    ensures text { λ r. ⌜ ((s : List ℕ) → Read s (now (text .entry)) length → Sent (r .descriptor) (take (r .length) (now (out .exit))) (take 65623 (output s)) (take 65623 (error s))) ⌝ }
+    ensures counts { λ r. ⌜ Counts (r .length) (now (out .exit)) ⌝ }
+{
+    let all: &[u8] = text;
+    let written = put_written(&all[..length], out);
+    Text {
+        descriptor: written.descriptor,
+        length: decimal_text::clipped(out, written.length),
+    }
 }
 
-// No message is longer: its word is a part of the text.
-fn message_room() -> [u8; 65_623] {
-    [0u8; 65_623]
+fn text_room() -> [u8; 65537] {
+    [0; 65537]
+}
+
+fn written_room() -> [u8; 65623] {
+    [0; 65623]
 }
 
 fn main() {
-    let mut text = text_room();
-    let length = io::read_full(STDIN_FILENO, &mut text);
-    // 64 lines of `station 999 steps 64`, and one of `first 999 to -10800`
-    let mut lines = [0u8; 2048];
-    let mut message = message_room();
-    let streams = respond(&text[..length], &mut lines, &mut message);
-    let output = decimal_text::clipped(&lines, streams.output);
-    let error = decimal_text::clipped(&message, streams.error);
-    io::write_all(STDOUT_FILENO, &lines[..output]);
-    io::write_all(STDERR_FILENO, &message[..error]);
+    let mut input = text_room();
+    let length = io::read_full(STDIN_FILENO, &mut input);
+    let mut bytes = written_room();
+    let text = respond(&input, length, &mut bytes);
+    let end = text.length;
+    io::write_all(text.descriptor, &bytes[..end]);
 }

@@ -13,7 +13,7 @@ use Rattle.clock_network.specs.laws.HeldLaws.{some-list, listed}
 use Rattle.networks.specs.declared.Answer.the-variants as A
 use Rattle.networks.specs.Network.{answerTo}
 use Rattle.decimal_text.specs.laws.RowLaws.{put-as}
-use Rattle.network.specs.Printed.{zeros}
+use Rattle.program_io.specs.Inputs.{zeros}
 use Rattle.network.specs.laws.PrintedLaws.{named-sines, named-as, named-within, refused-text}
 use borrow.Author.Needs.{needs}
 use Rattle.network.proofs.put_answer.Statement.{statement}

@@ -1,10 +1,12 @@
 -- What is printed, part by part.
-use Prim.Native.Nat.{ℕ, _≤_, _<_}
+use Prim.Native.Nat.{ℕ, _≤_, _<_, min}
 use mathlib.Core.Path.{_≡_, refl, sym, ap, subst, _∙_}
-use mathlib.Core.List.{List, [], _∷_, _++_}
+use mathlib.Core.List.{List, [], _∷_, _++_, append-nil}
+use mir.Syntax.{w32}
+use mir.Val.{toZ, ofZ}
 use native.Mathlib.Omega.{arith}
 use borrow.Author.Tests.{lt-ltb, le-ltb}
-use lib.IntN.{ℤ}
+use lib.IntN.{ℤ, pos}
 use lib.ListN.{length, getD, take}
 use lib.Seq.{getD-take, length-take-le}
 use Rattle.sine_table.specs.Table.{Sines}
@@ -29,12 +31,16 @@ use Rattle.networks.specs.Enters.{never}
 use Rattle.decimal_text.specs.Decimals.{decimal, signed}
 use Rattle.decimal_text.specs.Patterns.{piece, filled}
 use Rattle.decimal_text.specs.Rows.{rows}
-use Rattle.decimal_text.specs.Texts.{letters}
+use Rattle.decimal_text.specs.Texts.{letters, Put}
 use Rattle.listing_lines.specs.Lines.{refusalLine}
+use Rattle.program_io.specs.Inputs.{Read, zeros}
+use Rattle.program_io.specs.Outputs.{Sent, toOutput, toError}
+use Rattle.program_io.specs.laws.InputLaws.{read-same}
+use Rattle.program_io.specs.laws.OutputLaws.{put-cut}
 use Rattle.network_text.specs.declared.Fault.{Fault}
 use Rattle.network_text.specs.declared.Typed.the-variants as T
 use Rattle.network_text.specs.Typing.{Typing, given, refused, typingOf, answerOf, held, heldFrom, numbersFrom}
-use Rattle.network.specs.Printed.{stationLine, stationLines, toText, firstLine, namedText, answerBy, answerText, zeros, faultText, outputBy, output, errorBy, error}
+use Rattle.network.specs.Printed.{stationLine, stationLines, toText, firstLine, namedText, answerBy, answerText, faultText, outputBy, output, errorBy, error}
 
 -- ---- the lines of the stations
 
@@ -171,3 +177,53 @@ module _ (text : List ℕ) where
               printed = ap (λ x. answerText (zeros 901) (zeros 64) (numbersFrom x old) l) q ∙ sym (output-is ∙ ap outputBy q);
               silent = sym (error-is ∙ ap (errorBy text) q);
             }
+
+-- ---- one of the two outputs has nothing
+
+module _ (text x : List ℕ) where
+  pub to-error : [] ≡ output text → x ≡ error text
+      → (x ≡ output text ++ error text) × Sent (pos 2) (output text ++ error text) (output text) (error text)
+  to-error o e =
+      let w : error text ≡ output text ++ error text = ap (λ l. l ++ error text) o in
+      (e ∙ w, toError refl o (sym w))
+
+  pub to-output : x ≡ output text → [] ≡ error text
+      → (x ≡ output text ++ error text) × Sent (pos 1) (output text ++ error text) (output text) (error text)
+  to-output o e =
+      let w : output text ≡ output text ++ error text = sym (append-nil (output text)) ∙ ap (λ l. output text ++ l) e in
+      (o ∙ w, toOutput refl (sym w) e)
+
+-- ---- what was read
+
+-- a text that fills the array is too long, and so is the whole input; any other was read whole
+module _ (array : List ℕ) (n : ℕ) (c : n ≤ length array) (l : length array ≡ 65537) (input : List ℕ)
+    (q : Read input array n) where
+  same-output : output (take n array) ≡ output input
+  same-output = read-same input array n q output [] (λ s k. sym (long-output s (omega arith))) c
+
+  same-error : error (take n array) ≡ error input
+  same-error =
+      read-same input array n q error (letters "the text has more than 65,536 bytes\n")
+      (λ s k. sym (long-error s (omega arith))) c
+
+  -- a field of 32 bits, read from one struct and stored in another
+  pub text-out : (d : ℤ) (old new : List ℕ) (end r : ℕ) → length old ≡ 65623
+      → Put old 0 (output (take n array) ++ error (take n array)) new end
+      → Sent d (output (take n array) ++ error (take n array)) (output (take n array)) (error (take n array))
+      → r ≡ min end (length new)
+      → Sent (toZ w32 (ofZ w32 d)) (take r new) (take 65623 (output input)) (take 65623 (error input))
+  text-out d old new end r k p s e = by s
+    where
+      cut : take r new ≡ take 65623 (output (take n array) ++ error (take n array))
+      cut =
+          put-cut (output (take n array) ++ error (take n array)) old new end p (omega arith) r e .0
+          ∙ ap (λ j. take j (output (take n array) ++ error (take n array))) k
+
+      by : Sent d (output (take n array) ++ error (take n array)) (output (take n array)) (error (take n array))
+          → Sent (toZ w32 (ofZ w32 d)) (take r new) (take 65623 (output input)) (take 65623 (error input))
+      by (toOutput a o m) =
+          toOutput (ap (λ z. toZ w32 (ofZ w32 z)) a) (cut ∙ ap (take 65623) (o ∙ same-output))
+          (ap (take 65623) (m ∙ same-error))
+      by (toError a o m) =
+          toError (ap (λ z. toZ w32 (ofZ w32 z)) a) (ap (take 65623) (o ∙ same-output))
+          (cut ∙ ap (take 65623) (m ∙ same-error))
