@@ -5,8 +5,8 @@ use lib.IntN.{ℤ, pos, natAbs, _+ℤ_, _-ℤ_, _*ℤ_}
 use lib.Signed.{_≤ℤ_, _<ℤ_}
 use Rattle.obscuration.specs.Share.{share, rOf, nOf, mOf, Sizes}
 
--- "the total phase is sure": "L2 below zero is total", and central is "*inside* if L > 16 and M < (L-16)²", L the size
--- of L2, with a guard g for 16
+-- "the total phase is sure": "L2 below zero is total", and central is inside: L > g and M < (L-g)², where L is the size
+-- of L2 and g the guard
 pub record TotalSure (g L2 M : ℤ) : Type 0 where
   pub total : L2 <ℤ pos 0
   pub over : g <ℤ pos (natAbs L2)

@@ -76,7 +76,8 @@ numbersAfter shape (O.Refused r) old = old
 -- ---- what its states mean
 
 -- "Where our program says inside or outside, that is the exact answer. It says unsure only where the exact distance
--- lies within 29 units of the cone's edge", with the guard plus 13 for 29: of the number at place k of the room
+-- lies" "within the guard plus 13" units "of the cone's edge" (document 02, wish 9): of the number at place k of the
+-- buffer
 abbrev pub StateMeans : Occultation → ℤ → Phase → (room : List ℤ) (k : ℕ) → Type 0
 StateMeans o τ φ room k = SaidRightly (stateOf (natAbs (getD room k (pos 0)))) (ExactlyInside o φ τ) (WithinUnits o (unsureUnits o) φ τ)
 

@@ -27,7 +27,7 @@ use Rattle.request_format.specs.declared.input.Asked.the-variants as A
 abbrev pub number : List ℤ → ℕ → ℤ
 number ns k = getD ns k (pos 0)
 
--- "number .., latitude, longitude, height", and ΔT: from number k on
+-- "number .., latitude, longitude, height", and ΔT (document 02, wish 1): from number k on
 unfoldable pub stationFrom : ℕ → List ℤ → Station
 stationFrom k ns =
     record {

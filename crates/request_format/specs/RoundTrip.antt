@@ -16,7 +16,7 @@ use Rattle.request_format.specs.laws.LayoutLaws as Any
 use Rattle.request_format.specs.Request.{piecesFor, sizeFor, putFor, bytesFor, readingFor}
 use Rattle.request_format.specs.laws.RowByteLaws.{pieces-count}
 
--- "exactly 109 bytes", 4 of ΔT and 2 of the guard
+-- exactly 115 bytes: document 01's 109, 4 of ΔT (document 02, wish 1) and 2 of the guard (wish 9)
 pub size-is : sizeFor S.Eclipse ≡ 115
 size-is = refl
 

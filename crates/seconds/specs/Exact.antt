@@ -26,7 +26,7 @@ abbrev pub unsureUnits : Occultation → ℕ
 unsureUnits o = natAbs (o .guard) + 13
 
 -- "Where our program says inside or outside, that is the exact answer. It says unsure only where the exact distance
--- lies within 29 units of the cone's edge": of the two states of a second that was answered
+-- lies" "within the guard plus 13" units "of the cone's edge" (wish 9): of the two states of a second
 pub record SecondMeans (o : Occultation) (τ : ℤ) (x : Second) : Type 0 where
   pub penumbra : SaidRightly (stateOf (x .penumbra)) (ExactlyInside o (firstPhase o) τ) (WithinUnits o (unsureUnits o) (firstPhase o) τ)
   pub central : SaidRightly (stateOf (x .central)) (ExactlyInside o (secondPhase o) τ) (WithinUnits o (unsureUnits o) (secondPhase o) τ)

@@ -58,7 +58,8 @@ cone (B.Star s) φ = cylinderOf s
 
 -- ---- the letters
 
--- "H is μ plus longitude": the hour angle, both to the east
+-- Document 02, wish 1: "H becomes μ plus longitude less near(ΔT·417,807/10,000)": the hour angle. The longitude of the
+-- place is already less the turn in ΔT (station, Place), and is positive to the east.
 unfoldable pub H : Moment → ℤ
 H m = μAt (m .axis) (m .τ) +ℤ m .place .longitude
 
@@ -105,8 +106,8 @@ edge Penumbra L1 = L1
 edge Central L2 = pos (natAbs L2)
 edge Star L = L
 
--- "*inside* if L > 16 and M < (L-16)²; *outside* if M > (L+16)²; otherwise *unsure*", with the guard g for 16, r for L
--- and s for M
+-- Document 02, wish 9: "Each 16 in the shadow rules becomes the guard". So it is inside if L > g and M < (L-g)²; outside
+-- if M > (L+g)²; otherwise unsure. Here r is L and s is M.
 unfoldable pub state : (g r s : ℤ) → State
 state g r s =
     cond (ltZ g r && ltZ s ((r -ℤ g) ²)) inside

@@ -32,7 +32,7 @@ use Rattle.sheet_codec.specs.Sheets.{refused, storedAt, readSheet, readW
 use Rattle.sheet_codec.specs.laws.WellFormed.{WellFormed}
 use Rattle.sheet_codec.specs.laws.GivenLaws.{from-unsound}
 
--- "01 head | station, first, last (2 bytes each)"
+-- a head as it was before document 02, wish 9: station, first, last, and no guard
 abbrev pub oldHead : (station first last : ℕ) → List ℕ
 oldHead station first last = 0x01 ∷ (two station ++ (two first ++ two last))
 

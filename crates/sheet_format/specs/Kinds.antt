@@ -38,10 +38,10 @@ base Penumbra = 0x10
 base Central = 0x20
 base Star = 0x40
 
--- "01 head: station, first, last (2 bytes each)"; "10, 11 enter, leave penumbra; 20, 21 central: from, to, direction
--- (2 each)"; "12, 13 graze, open penumbra; 22, 23 central: from, to (2 each)"; "30 closest: second (2), magnitude
--- (4)"; "7F end: none". Document 02, wish 9: "The request and, at its end, the head record gain a guard of 16 to
--- 1,000, two bytes." Wish 4: "A new kind 31 with a 4-byte body stands once, directly after closest".
+-- "01 head: station, first, last (2 bytes each)", and at its end, by document 02, wish 9, "a guard of 16 to 1,000, two
+-- bytes"; "10, 11 enter, leave penumbra; 20, 21 central: from, to, direction (2 each)"; "12, 13 graze, open penumbra;
+-- 22, 23 central: from, to (2 each)"; "30 closest: second (2), magnitude (4)"; "7F end: none". Wish 4: "A new kind 31
+-- with a 4-byte body stands once, directly after closest".
 abbrev pub table : Kind → Row
 table K.Head = row 0x01 (fields Two Two Two Two) S.Head (λ p e. headHolds (e .a) (e .b) (e .c) (e .d))
 table (K.Enter φ) = row (base φ) (fields Two Two Two Absent) (S.Phase φ) (λ p e. spanHolds p (e .a) (e .b) && isDirection (e .c))

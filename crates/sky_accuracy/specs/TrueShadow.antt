@@ -36,7 +36,7 @@ fine = 466_560_000_000_000
 abbrev pub true-d : Sky → ℤ
 true-d y = exact-quadratic (y .axis .d) (y .τ) *ℤ pos 10_000
 
--- "H is μ plus longitude"; document 02, wish 1: "less near(ΔT·417,807/10,000)", here without near
+-- document 02, wish 1: "H becomes μ plus longitude less near(ΔT·417,807/10,000)", here without near
 abbrev pub true-H : Sky → ℤ
 true-H y =
     exact-quadratic (y .axis .mu) (y .τ) *ℤ pos 10_000 +ℤ y .station .longitude *ℤ pos fine -ℤ y .station .deltat *ℤ pos 417_807 *ℤ hour ³

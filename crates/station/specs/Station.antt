@@ -26,6 +26,7 @@ ranges s =
 unfoldable pub rangeOf : Station → Limits
 rangeOf s = firstOutOfRange 0 (ranges s)
 
--- "3 | a station value outside its range | first: 0 number, 1 latitude, 2 longitude, 3 height"; and 4 ΔT
+-- "3 | a station value outside its range | first: 0 number, 1 latitude, 2 longitude, 3 height"; document 02,
+-- wish 1: "3 with place 4 for ΔT, after height"
 abbrev pub stationChecked : Station → Checked
 stationChecked s = ofLimits 3 (rangeOf s)

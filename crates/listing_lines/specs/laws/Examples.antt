@@ -29,7 +29,7 @@ pub of-a-star : linesOf (
 unfolding linesOf lineOf textOf endFor filled piece signed decimal digitsOf
 of-a-star = refl
 
--- "42 gives refusal 4 with place 43"; document 02, wish 9: "with 45 and 44 bytes for 43 and 42"
+-- document 02, wish 9: "with 45 and 44 bytes for 43 and 42": a buffer of 44 bytes gives refusal 4 with place 45
 pub refused : refusalLine 4 45 ≡ letters "refused 4 45\n"
 unfolding refusalLine refusalText decimal digitsOf
 refused = refl

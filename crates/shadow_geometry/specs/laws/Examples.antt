@@ -41,7 +41,7 @@ inside-by-one : state (pos 16) r ((r -ℤ pos 16) ² -ℤ pos 1) ≡ inside
 unfolding state
 inside-by-one = refl
 
--- "*inside* if L > 16": a cone of 16 units has no inside
+-- "the cases in document 01 use guard 16": a cone of 16 units has no inside
 none-inside : state (pos 16) (pos 16) (pos 0) ≡ unsure
 unfolding state
 none-inside = refl
