@@ -1,15 +1,15 @@
 -- Demand 3, in the customer's words, with "within the guard plus 13" for 29, as document 02, wish 9, says:
 --   "Take any elements, station and window within the limits. From the same sines, cosines and station place, decide
---   for each whole second of the window, with no rounding at all, whether the station is inside the penumbra. Where our
---   program says inside or outside, that is the exact answer. It says unsure only where the exact distance lies" "within
---   the guard plus 13" units "of the cone's edge. In the sheet, whose entries are those that document 01 makes from our
---   program's answers, each change of the exact answer from one second of the window to the next lies in exactly one
---   entry of the penumbra. Each enter runs from a second exactly outside to one exactly inside, each leave the other
---   way, so neither is given where no change is. Enters and leaves alternate. The same holds for the central phase, with
---   its own exact answer and its own entries."
--- Wish 7: "demand 3's statement" holds "for both shadows, for a star with its one phase in place of penumbra and central
--- and the radius as the exact L". It is one claim about a course, every second of its window, and the entries in the
--- bytes written for it. Definitions only.
+--   for each whole second of the window, with no rounding at all, whether the station is inside the penumbra. Where
+--   our program says inside or outside, that is the exact answer. It says unsure only where the exact distance lies"
+--   "within the guard plus 13" units "of the cone's edge. In the sheet, whose entries are those that document 01
+--   makes from our program's answers, each change of the exact answer from one second of the window to the next lies
+--   in exactly one entry of the penumbra. Each enter runs from a second exactly outside to one exactly inside, each
+--   leave the other way, so neither is given where no change is. Enters and leaves alternate. The same holds for the
+--   central phase, with its own exact answer and its own entries."
+-- Wish 7: "demand 3's statement" holds "for both shadows, for a star with its one phase in place of penumbra and
+-- central and the radius as the exact L". It is one claim about a course, every second of its window, and the entries
+-- in the bytes written for it. Definitions only.
 use mathlib.Core.Path.{_≡_}
 use mathlib.Core.List.{List, [], _∷_, _++_}
 use Prim.Native.Nat.{ℕ, _+_}

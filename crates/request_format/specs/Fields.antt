@@ -111,8 +111,8 @@ window = record { kind = 0x04; numbers = number W.Signed2 "first" 0 ∷ number W
 abbrev pub alike : List Record
 alike = station ∷ window ∷ []
 
--- "numbers big-endian: kind 02 ..; kind 03 ..; kind 04 .."; with ΔT (document 02, wish 1) and the guard (wish 9) exactly
--- 115 bytes
+-- "numbers big-endian: kind 02 ..; kind 03 ..; kind 04 .."; with ΔT (document 02, wish 1) and the guard (wish 9)
+-- exactly 115 bytes
 abbrev pub layoutOf : Shape → List Record
 layoutOf S.Eclipse = elements ∷ alike
 layoutOf S.Star = starElements ∷ alike

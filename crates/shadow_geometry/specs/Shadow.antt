@@ -106,8 +106,8 @@ edge Penumbra L1 = L1
 edge Central L2 = pos (natAbs L2)
 edge Star L = L
 
--- Document 02, wish 9: "Each 16 in the shadow rules becomes the guard". So it is inside if L > g and M < (L-g)²; outside
--- if M > (L+g)²; otherwise unsure. Here r is L and s is M.
+-- Document 02, wish 9: "Each 16 in the shadow rules becomes the guard". So it is inside if L > g and M < (L-g)²;
+-- outside if M > (L+g)²; otherwise unsure. Here r is L and s is M.
 unfoldable pub state : (g r s : ℤ) → State
 state g r s =
     cond (ltZ g r && ltZ s ((r -ℤ g) ²)) inside

@@ -33,8 +33,8 @@ listing-well =
     (well-step _ (step-leave Central 4800 16800 10701 C.Enter 10899 10901 (omega arith) (omega arith) (omega arith) 900 refl (omega arith) refl)
     (well-closest Central 4800 16800 10901 C.Leave 10800 1037735 (omega arith) (omega arith) (omega arith))))))))
 
--- document 02, wish 9: "the cases in document 01 use guard 16, with 45 and 44 bytes for 43 and 42": a buffer of 45 bytes
--- succeeds
+-- document 02, wish 9: "the cases in document 01 use guard 16, with 45 and 44 bytes for 43 and 42": a buffer of 45
+-- bytes succeeds
 pub listing-length : length (bytesOf listing) ≡ 45
 unfolding listing bytesOf
 listing-length = refl

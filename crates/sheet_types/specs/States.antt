@@ -22,8 +22,8 @@ stateOf (suc zero) = inside
 stateOf (suc (suc n)) = unsure
 
 -- Demand 3: "Where our program says inside or outside, that is the exact answer. It says unsure only where the exact
--- distance lies" "within the guard plus 13" units "of the cone's edge" (document 02, wish 9). The parameters are what is
--- said, that the second is exactly inside, and that it lies so near the edge.
+-- distance lies" "within the guard plus 13" units "of the cone's edge" (document 02, wish 9). The parameters are what
+-- is said, that the second is exactly inside, and that it lies so near the edge.
 pub record SaidRightly (said : State) (Inside Near : Type 0) : Type 0 where
   pub inside-is : said ≡ inside → Inside
   pub outside-is : said ≡ outside → Inside → ⊥
