@@ -56,12 +56,15 @@ def swiss():
 
 
 def contacts(request):
-    """From and to of the four contacts, in ephemeris seconds, and the closest entry; None for a contact that is not there."""
+    """From and to of the four contacts, in ephemeris seconds, and the closest entry; None for a contact that is not
+    there."""
     made = [None] * 4
     for entry in ukhtvaresh.read(ukhtvaresh.sheet(request.to_bytes())):
         if isinstance(entry, (ukhtvaresh.Enter, ukhtvaresh.Leave)):
             inner = entry.phase is ukhtvaresh.Phase.CENTRAL
-            made[(1 if inner else 0) if isinstance(entry, ukhtvaresh.Enter) else (2 if inner else 3)] = (entry.from_, entry.to)
+            made[
+                (1 if inner else 0) if isinstance(entry, ukhtvaresh.Enter) else (2 if inner else 3)
+            ] = (entry.from_, entry.to)
         if isinstance(entry, ukhtvaresh.Closest):
             closest = entry
     return made, closest
@@ -73,7 +76,8 @@ def clock(days):
 
 
 def moment(request, contact, inner):
-    """A contact to a part of a second: between its two seconds, where the library's u, v and L have the edge if they go evenly."""
+    """A contact to a part of a second: between its two seconds, where the library's u, v and L have the edge if they
+    go evenly."""
     def outside(at):
         second = ukhtvaresh.second(request.to_bytes(), at)
         return sqrt(second.u**2 + second.v**2) - (abs(second.l2) if inner else second.l1)
@@ -102,10 +106,15 @@ def radii(said):
     found = {"document 02's radii": ([], [], []), "their radii": ([], [], [])}
     ours_took, dated_took, theirs_took = [], [], []
     for date in ECLIPSES:
-        print(f"\n{written(date)}: universal time by Swiss Ephemeris; in brackets theirs less ours, s, with document 02's radii and with theirs")
+        print(
+            f"\n{written(date)}: universal time by Swiss Ephemeris; in brackets theirs less ours, s, "
+            "with document 02's radii and with theirs"
+        )
         for number, (name, latitude, longitude, height) in enumerate(PLACES, 1):
             *given, greatest, magnitude, _, delta_t, took = next(said)[:9]
-            station = ukhtvaresh.Station(number, round(latitude * 10**6), round(longitude * 10**6), height, round(delta_t * 100))
+            station = ukhtvaresh.Station(
+                number, round(latitude * 10**6), round(longitude * 10**6), height, round(delta_t * 100)
+            )
             began = time.perf_counter()
             instant, made, request = request_for(SOURCES["swiss"], date, station, guard=16)
             dated_took.append(time.perf_counter() - began)
@@ -124,7 +133,10 @@ def radii(said):
                     sys.exit(f"{name}: contact {NAMES[k]} is in one of the two only")
                 if contact == 0:
                     continue
-                off = [contact * 86400 - zero - moment(each, seen[k], k in (1, 2)) for each, (seen, _) in zip(asked, sheets)]
+                off = [
+                    contact * 86400 - zero - moment(each, seen[k], k in (1, 2)) for each,
+                    (seen, _) in zip(asked, sheets)
+                ]
                 for group, value in zip(found.values(), off):
                     group[k in (1, 2)].append(value)
                 line += f"  {NAMES[k]} {clock(contact)} [{off[0]:+.2f} {off[1]:+.2f}]"
@@ -140,13 +152,20 @@ def radii(said):
         print(f"  {name:20} first and last contacts {told(outer)}; second and third {told(inner)};", end=" ")
         print(f"magnitude from {min(magnitude):+.5f} to {max(magnitude):+.5f}")
     middle = [sorted(times)[len(times) // 2] * 1000 for times in (theirs_took, ours_took, dated_took)]
-    print("\nMedian times: swe_sol_eclipse_when_loc %.2f ms; our sheet of 21,601 seconds %.2f ms;" % tuple(middle[:2]), end=" ")
+    print(
+        "\nMedian times: swe_sol_eclipse_when_loc %.2f ms; our sheet of 21,601 seconds %.2f ms;" % tuple(middle[:2]),
+        end=" "
+    )
     print("ours from the date on, with swetest run some fifteen times, %.0f ms" % middle[2])
 
 
 def sources():
-    """The other sources against Swiss Ephemeris: the Moon's place against the Sun's, and what it makes of the contacts of ten places."""
-    print("\nOther sources against Swiss Ephemeris: the Moon less the Sun at the middle hour, then the contacts of the ten places")
+    """The other sources against Swiss Ephemeris: the Moon's place against the Sun's, and what it makes of the
+    contacts of ten places."""
+    print(
+        "\nOther sources against Swiss Ephemeris: the Moon less the Sun at the middle hour, "
+        "then the contacts of the ten places"
+    )
     for name in ("moshier", "erfa"):
         for date in ECLIPSES:
             off, contact_off = None, []
@@ -160,7 +179,9 @@ def sources():
                     print(f"  {name}: not here (python3-erfa wants /usr/bin/python3)")
                     return
                 if off is None:
-                    (swiss_ra, swiss_dec), (ra, dec) = (tuple(m - s for m, s in zip(angles(p.moon), angles(p.sun))) for p in places)
+                    (swiss_ra, swiss_dec), (ra, dec) = (
+                        tuple(m - s for m, s in zip(angles(p.moon), angles(p.sun))) for p in places
+                    )
                     off = ((ra - swiss_ra) * cos(angles(places[0].moon)[1]), dec - swiss_dec)
                 if other_instant != instant:
                     continue
@@ -168,7 +189,10 @@ def sources():
                     if one and two:
                         contact_off.append(moment(other, two, k in (1, 2)) - moment(request, one, k in (1, 2)))
             seconds = [degrees(angle) * 3600 for angle in off]
-            print(f"  {name:8} {written(date)}: {seconds[0]:+.2f}\" east, {seconds[1]:+.2f}\" north; contacts {told(contact_off)}")
+            print(
+                f"  {name:8} {written(date)}: {seconds[0]:+.2f}\" east, {seconds[1]:+.2f}\" north; "
+                f"contacts {told(contact_off)}"
+            )
 
 
 WHERE = {

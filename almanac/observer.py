@@ -1,11 +1,12 @@
 #!/usr/bin/env python3
-"""Sun and Moon as seen from a station, against the same from the Earth's centre less the station's place, in seconds of arc to the east.
+"""Sun and Moon as seen from a station, against the same from the Earth's centre less the station's place, in seconds
+of arc to the east.
 
     /usr/bin/python3 almanac/observer.py
 
-The difference should be diurnal aberration, alike for both, so that the elements of an eclipse, which are for the Earth's centre, serve every
-station. Swiss Ephemeris' own places for a station, and ERFA's reduction done for the station in full: light time, and aberration by the
-observer's own velocity.
+The difference should be diurnal aberration, alike for both, so that the elements of an eclipse, which are for the
+Earth's centre, serve every station. Swiss Ephemeris' own places for a station, and ERFA's reduction done for the
+station in full: light time, and aberration by the observer's own velocity.
 """
 
 from math import asin, atan2, cos, degrees, pi, radians, sin, sqrt
@@ -13,7 +14,8 @@ from math import asin, atan2, cos, degrees, pi, radians, sin, sqrt
 from places import AU, julian_day, swetest
 
 PLACE = ("Hopkinsville", 36.8656, -87.4886, 165)
-TIMES = [(2017, 8, 21, 18), (2023, 10, 14, 17), (2024, 4, 8, 19)]  # the hour of universal time near the greatest eclipse there
+# the hour of universal time near the greatest eclipse there
+TIMES = [(2017, 8, 21, 18), (2023, 10, 14, 17), (2024, 4, 8, 19)]
 DELTA_T = 69.0  # s; a tenth more or less is nothing here
 
 
@@ -73,7 +75,9 @@ def by_erfa(time):
             vector = position(fraction - delay) - start
             distance = numpy.linalg.norm(vector)
             delay = distance / light_day
-        direction = erfa.ab(vector / distance, speed, numpy.linalg.norm(heliocentric["p"]), sqrt(1 - float(speed @ speed)))
+        direction = erfa.ab(
+            vector / distance, speed, numpy.linalg.norm(heliocentric["p"]), sqrt(1 - float(speed @ speed))
+        )
         return to_date @ direction * distance * AU
 
     def sun(days):
@@ -95,7 +99,10 @@ def main():
             except ImportError:
                 print(f"{name}: not here (python3-erfa wants /usr/bin/python3)")
                 break
-            print(f'{name:16} {time[0]}-{time[1]:02}-{time[2]:02}  Sun {sun:+.3f}"  Moon {moon:+.3f}"  the Moon against the Sun {moon - sun:+.3f}"')
+            print(
+                f'{name:16} {time[0]}-{time[1]:02}-{time[2]:02}  Sun {sun:+.3f}"  Moon {moon:+.3f}"  '
+                f'the Moon against the Sun {moon - sun:+.3f}"'
+            )
 
 
 if __name__ == "__main__":

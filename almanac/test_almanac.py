@@ -100,13 +100,17 @@ class Packages(unittest.TestCase):
     def test_missing_files(self):
         """swetest computes by another theory where it has no file, and says so: that is no place of the Moon."""
         for name, words in (
-            ("sepl_18.se1", "sepl_18.se1, for the years 1800 to 2399, is not installed. Debian's package swe-basic-data"),
+            (
+                "sepl_18.se1",
+                "sepl_18.se1, for the years 1800 to 2399, is not installed. Debian's package swe-basic-data"
+            ),
             ("semo_24.se1", "semo_24.se1, for the years 2400 to 2999, is not installed. Debian's package swe-standard"),
             ("seplm06.se1", "seplm06.se1, for the years -600 to -1, is not installed. Debian's package swe-standard"),
             ("sepl_54.se1", "Debian's package swe-standard-data ends in 5399: take an earlier date"),
             ("sefstars.txt", "sefstars.txt is not installed. Debian's package swe-basic-data has it"),
         ):
-            text = f"Sun 1 2 3\nMoon 1 2 3\nwarning: SwissEph file '{name}' not found in PATH '.'\nusing Moshier eph.;\n"
+            warning = f"warning: SwissEph file '{name}' not found in PATH '.'"
+            text = f"Sun 1 2 3\nMoon 1 2 3\n{warning}\nusing Moshier eph.;\n"
             with mock.patch("places.run_swetest", return_value=text):
                 with self.assertRaises(Missing) as raised:
                     swetest("-p01")

@@ -6,7 +6,8 @@
  *     from the same places and radii. Times are days of universal time from the date's 0h; 0 for none.
  *   when_loc FIRST LAST     all solar eclipses of these years, a line each: YEAR MONTH DAY HOUR of greatest eclipse,
  *     and C where it is central somewhere, else P.
- * It links libswe, which binds who hands the program on; the almanac calls it, and `swetest`, as programs and reads their text.
+ * It links libswe, which binds who hands the program on; the almanac calls it, and `swetest`, as programs and reads
+ * their text.
  *   cc -O2 almanac/when_loc.c -lswe -lm -o target/when_loc
  */
 #define _POSIX_C_SOURCE 199309L

@@ -7,16 +7,16 @@
  * from its place. Those of Pulkovo 1942, whose spheroid is Krasovsky's with its centre 165 m away, must be converted
  * first. No sheet says whether the Sun is above the horizon: ukhtvaresh_horizon does, for any second.
  *
- * Each function but ukhtvaresh_root answers the number of the refusal, 0 for none. *value gets the length, the count, the share or the
- * station on success, the refusal's place otherwise. Buffers are untouched on refusal; on success what lies past the result is. The room for
- * the sine table, `sines`, alone is filled on some refusals too: see UKHTVARESH_SINES_LENGTH.
- * No function reads or writes outside the lengths it is given, and none keeps a pointer. A buffer that is written,
- * *value among them, must not overlap any other. A length of 0 is allowed. No pointer may be null: neither that of a
- * buffer, also one of length 0, nor `value`, `kept`, `noted` and `rounds`. Each must be aligned for its type: 8 bytes
- * for int64_t, uint64_t, double and ukhtvaresh_node, 4 for uint32_t and ukhtvaresh_entry, 1 for bytes.
- * Functions may run at the same time in several threads, each with buffers of its own. A call takes some 36,000 bytes
- * of stack for a sheet, 47,000 for a network, and less than 4,000 for anything else (measured with the x86-64 archive,
- * not proved: bench/calls/run).
+ * Each function but ukhtvaresh_root answers the number of the refusal, 0 for none. *value gets the length, the count,
+ * the share or the station on success, the refusal's place otherwise. Buffers are untouched on refusal; on success
+ * what lies past the result is. The room for the sine table, `sines`, alone is filled on some refusals too: see
+ * UKHTVARESH_SINES_LENGTH. No function reads or writes outside the lengths it is given, and none keeps a pointer. A
+ * buffer that is written, *value among them, must not overlap any other. A length of 0 is allowed. No pointer may be
+ * null: neither that of a buffer, also one of length 0, nor `value`, `kept`, `noted` and `rounds`. Each must be
+ * aligned for its type: 8 bytes for int64_t, uint64_t, double and ukhtvaresh_node, 4 for uint32_t and
+ * ukhtvaresh_entry, 1 for bytes. Functions may run at the same time in several threads, each with buffers of its own.
+ * A call takes some 36,000 bytes of stack for a sheet, 47,000 for a network, and less than 4,000 for anything else
+ * (measured with the x86-64 archive, not proved: bench/calls/run).
  * The floating-point environment matters to ukhtvaresh_doubles alone: see there.
  *
  *   number                                           place
@@ -73,10 +73,10 @@ extern "C" {
  *     on Krasovsky's spheroid (+-90,000,000), longitude (+-180,000,000, east positive), height (-500 to 9,000 metres)
  *     and delta T (-10,000 to 20,000 hundredths of a second; ephemeris time less universal time, 0 for elements by
  *     universal time);
- *   kind 04, then first and last second of the window (signed, 2 bytes each), -10,800 <= first <= last <= 10,800, and the
- *     guard (unsigned, 2 bytes, 16 to 1,000 units of 10^-8 of the Earth's equatorial radius): how near to a cone's edge
- *     nothing is sure. A larger guard only withholds: what is sure under it is sure, with the same answer, under every
- *     smaller one. */
+ *   kind 04, then first and last second of the window (signed, 2 bytes each), -10,800 <= first <= last <= 10,800,
+ *     and the guard (unsigned, 2 bytes, 16 to 1,000 units of 10^-8 of the Earth's equatorial radius): the half-width
+ *     of the undecided band around a cone's edge. A larger guard only withholds: what is sure under it is sure, with
+ *     the same answer, under every smaller one. */
 #define UKHTVARESH_REQUEST_LENGTH 115
 
 /* Kinds of entries. Enter, leave, graze and open are the paper's words. */
@@ -99,23 +99,24 @@ enum {
     UKHTVARESH_END = 0x7F
 };
 
-/* An entry of a sheet: its kind and the kind's fields in their order, 0 for what the kind does not use.
- * Closest is the second of the window at which the axis is closest to the station in the fundamental plane. It is not
- * quite that of the greatest magnitude, which came up to 14 s from it at 1,200 drawn places (almanac/moves.py).
- * A second is stored plus 10,800, 0 to 21,600. Direction: tenths of a degree, north through east, 0 to 3599, or
- * 65,535 for none. Magnitude: millionths, 0 to 1,300,000. Share: the covered part of the Sun's disc at the closest second,
- * millionths, 0 to 1,000,000. Station: 1 to 999. Guard: 16 to 1,000.
+/* An entry of a sheet: its kind and the kind's fields in their order, 0 for what the kind does not use. Closest is
+ * the second of the window at which the axis is closest to the station in the fundamental plane. It is not quite that
+ * of the greatest magnitude, which came up to 14 s from it at 1,200 drawn places (almanac/moves.py). A second is
+ * stored plus 10,800, 0 to 21,600. Direction: tenths of a degree, north through east, 0 to 3599, or 65,535 for none.
+ * Magnitude: millionths, 0 to 1,300,000. Share: the covered part of the Sun's disc at the closest second, millionths,
+ * 0 to 1,000,000. Station: 1 to 999. Guard: 16 to 1,000.
  * An array of these is the memory that ukhtvaresh_read fills and ukhtvaresh_write takes, five numbers an entry. */
 typedef struct ukhtvaresh_entry {
     uint32_t kind;
     uint32_t fields[4];
 } ukhtvaresh_entry;
 
-/* How many numbers a caller lends for the sine table, in `sines`. The library stores no table, only differences, 1.8 KB in place of
- * 3.6: each call sums them up in this room, whatever it held before, and looks its sines up there. So one room serves call after
- * call, but not two at the same time. It is filled once only the 4 of the sheet, or of a second's numbers, can still refuse, and
- * is untouched on every refusal before that; its own, 4 with place 901, is the last of these. What lies past its 901 numbers is
- * untouched. Nothing need be read from it: it holds 10^8 times the sine of each tenth of a degree from 0 to 90. */
+/* How many numbers a caller lends for the sine table, in `sines`. The library stores no table, only differences, 1.8
+ * KB in place of 3.6: each call sums them up in this room, whatever it held before, and looks its sines up there. So
+ * one room serves call after call, but not two at the same time. It is filled once only the 4 of the sheet, or of a
+ * second's numbers, can still refuse, and is untouched on every refusal before that; its own, 4 with place 901, is
+ * the last of these. What lies past its 901 numbers is untouched. Nothing need be read from it: it holds 10^8 times
+ * the sine of each tenth of a degree from 0 to 90. */
 #define UKHTVARESH_SINES_LENGTH 901
 
 /* The contact sheet of a request, at the start of `sheet`. *value: its length in bytes. sines_len counts numbers.
@@ -123,30 +124,32 @@ typedef struct ukhtvaresh_entry {
 uint64_t ukhtvaresh_sheet(const uint8_t *request, size_t request_len, uint32_t *sines, size_t sines_len, uint8_t *sheet,
                           size_t sheet_len, uint64_t *value);
 
-/* The same sheet with one entry more, the share at its closest second, between closest and end: 5 bytes longer. Nothing in the
- * request's bytes asks for it, so ukhtvaresh_sheet never writes it. Parameters, *value and refusals as above. */
+/* The same sheet with one entry more, the share at its closest second, between closest and end: 5 bytes longer.
+ * Nothing in the request's bytes asks for it, so ukhtvaresh_sheet never writes it. Parameters, *value and refusals as
+ * above. */
 uint64_t ukhtvaresh_sheet_and_share(const uint8_t *request, size_t request_len, uint32_t *sines, size_t sines_len,
                                     uint8_t *sheet, size_t sheet_len, uint64_t *value);
 
 /* The length of a star request in bytes. Numbers are big-endian:
- *   kind 05, then 13 signed 4-byte numbers: x0 x1 x2 x3, y0 y1 y2 y3, d0, mu0 mu1 mu2, radius; coefficients per hour. x and y are the
- *     Moon's centre in the plane through the Earth's centre at right angles to the star's direction, d0 is the star's declination, mu
- *     its hour angle; ranges of x, y and mu as above, d0 +-30,000,000, the Moon's radius 27,200,000 to 27,300,000 (k = 0.2725 is
- *     27,250,000);
+ *   kind 05, then 13 signed 4-byte numbers: x0 x1 x2 x3, y0 y1 y2 y3, d0, mu0 mu1 mu2, radius; coefficients per hour.
+ *     x and y are the Moon's centre in the plane through the Earth's centre at right angles to the star's direction,
+ *     d0 is the star's declination, mu its hour angle; ranges of x, y and mu as above, d0 +-30,000,000, the Moon's
+ *     radius 27,200,000 to 27,300,000 (k = 0.2725 is 27,250,000);
  *   kinds 03 and 04 as above. */
 #define UKHTVARESH_STAR_REQUEST_LENGTH 79
 
-/* The sheet of a star behind the Moon, at the start of `sheet`: head, entries of the star, closest with magnitude 0, end. The shadow is
- * a cylinder of the Moon's radius: one phase and no cone, and the guard as for an eclipse. Enter is where the star vanishes, leave where
- * it appears again; the direction is that of the Moon's centre from the star, so on the Moon's edge the star is at the opposite one.
- * Parameters and *value as of ukhtvaresh_sheet. Refusals, the first of them: 10; 1; 2 with place 0 to 11; 13; 3; 4 with place 901 where
- * sines_len is below that; 4. */
+/* The sheet of a star behind the Moon, at the start of `sheet`: head, entries of the star, closest with magnitude 0,
+ * end. The shadow is a cylinder of the Moon's radius: one phase and no cone, and the guard as for an eclipse. Enter
+ * is where the star vanishes, leave where it appears again; the direction is that of the Moon's centre from the star,
+ * so on the Moon's edge the star is at the opposite one. Parameters and *value as of ukhtvaresh_sheet. Refusals, the
+ * first of them: 10; 1; 2 with place 0 to 11; 13; 3; 4 with place 901 where sines_len is below that; 4. */
 uint64_t ukhtvaresh_star(const uint8_t *request, size_t request_len, uint32_t *sines, size_t sines_len, uint8_t *sheet,
                          size_t sheet_len, uint64_t *value);
 
-/* How much of the Sun's disc the Moon covers at a second of a request, -10,800 to 10,800, also outside its window. *value: the share
- * itself, millionths rounded down, 0 to 1,000,000: 1,000,000 wherever the total phase is sure, 0 where the penumbra is surely left.
- * Refusals: 10; 1 for the window or the second, then for the guard; 2; 3; 4 with place 901 where sines_len is below that. */
+/* How much of the Sun's disc the Moon covers at a second of a request, -10,800 to 10,800, also outside its window.
+ * *value: the share itself, millionths rounded down, 0 to 1,000,000: 1,000,000 wherever the total phase is sure, 0
+ * where the penumbra is surely left. Refusals: 10; 1 for the window or the second, then for the guard; 2; 3; 4 with
+ * place 901 where sines_len is below that. */
 uint64_t ukhtvaresh_share(const uint8_t *request, size_t request_len, int64_t second, uint32_t *sines, size_t sines_len,
                           uint64_t *value);
 
@@ -163,10 +166,11 @@ enum {
     UKHTVARESH_NUMBERS    /* how many: 8 */
 };
 
-/* The shadow at a second of a request, -10,800 to 10,800, also outside its window. *value: 8.
- * Refusals: 10; 1 for the window or the second, then for the guard; 2; 3; 4 with place 901 where sines_len is below that; 4 with place 8 where
- * shadow_len is below 8. The lengths count numbers. */
-uint64_t ukhtvaresh_second(const uint8_t *request, size_t request_len, int64_t second, uint32_t *sines, size_t sines_len,
+/* The shadow at a second of a request, -10,800 to 10,800, also outside its window. *value: 8. Refusals: 10; 1 for the
+ * window or the second, then for the guard; 2; 3; 4 with place 901 where sines_len is below that; 4 with place 8
+ * where shadow_len is below 8. The lengths count numbers. */
+uint64_t ukhtvaresh_second(const uint8_t *request, size_t request_len, int64_t second, uint32_t *sines,
+                           size_t sines_len,
                            int64_t *shadow, size_t shadow_len, uint64_t *value);
 
 /* The numbers of one second of a star, in `shadow`: see ukhtvaresh_star_second. */
@@ -174,14 +178,14 @@ enum {
     UKHTVARESH_STAR_U,         /* axis less station, to the east: the Moon's centre from the star, +-602,170,000 */
     UKHTVARESH_STAR_V,         /* the same to the north, +-703,170,000 */
     UKHTVARESH_STAR_L,         /* the Moon's radius, as in the request */
-    UKHTVARESH_STAR_STATE,     /* 0 outside, 1 inside, 2 unsure: within the guard plus 13 units of the cylinder's edge */
+    UKHTVARESH_STAR_STATE,     /* 0 outside, 1 inside, 2 unsure: within the guard plus 13 units of the edge */
     UKHTVARESH_STAR_DIRECTION, /* tenths of a degree, north through east, 0 to 3599, or 65,535 for none */
     UKHTVARESH_STAR_NUMBERS    /* how many: 5 */
 };
 
-/* The shadow at a second of a star request, -10,800 to 10,800, also outside its window. *value: 5.
- * Refusals: 10; 1 for the window or the second, then for the guard; 2 with place 0 to 11; 13; 3; 4 with place 901 where sines_len is below that;
- * 4 with place 5 where shadow_len is below 5. The lengths count numbers. */
+/* The shadow at a second of a star request, -10,800 to 10,800, also outside its window. *value: 5. Refusals: 10; 1
+ * for the window or the second, then for the guard; 2 with place 0 to 11; 13; 3; 4 with place 901 where sines_len is
+ * below that; 4 with place 5 where shadow_len is below 5. The lengths count numbers. */
 uint64_t ukhtvaresh_star_second(const uint8_t *request, size_t request_len, int64_t second, uint32_t *sines,
                                 size_t sines_len, int64_t *shadow, size_t shadow_len, uint64_t *value);
 
@@ -212,16 +216,16 @@ uint64_t ukhtvaresh_horizon(const uint8_t *request, size_t request_len, int64_t 
 uint64_t ukhtvaresh_star_horizon(const uint8_t *request, size_t request_len, int64_t second, uint32_t *sines,
                                  size_t sines_len, int64_t *horizon, size_t horizon_len, uint64_t *value);
 
-/* The mirror of a request, at the start of `mirrored`: all y and d coefficients and the latitude with the other sign, nothing
- * else changed. *value: 115. Any numbers: -2^31, which has no opposite in its bytes, stays as it is.
- * The sheet of the mirror of a request within the limits has the same entries, of the same seconds, magnitude, share and length;
- * their directions differ. A request that is refused 1, 2 or 3 and its mirror are refused alike.
- * Refusals: 10; 4 with the length. */
+/* The mirror of a request, at the start of `mirrored`: all y and d coefficients and the latitude with the other sign,
+ * nothing else changed. *value: 115. Any numbers: -2^31, which has no opposite in its bytes, stays as it is. The
+ * sheet of the mirror of a request within the limits has the same entries, of the same seconds, magnitude, share and
+ * length; their directions differ. A request that is refused 1, 2 or 3 and its mirror are refused alike. Refusals:
+ * 10; 4 with the length. */
 uint64_t ukhtvaresh_mirror(const uint8_t *request, size_t request_len, uint8_t *mirrored, size_t mirrored_len,
                            uint64_t *value);
 
-/* The entries of a sheet, head and end among them, at the start of `entries`. *value: how many entries.
- * Refusals: the first faulty record's, in it 5, 6, 8, 7; 9; then 4 with the number of entries. In a sheet with a star's entry an
+/* The entries of a sheet, head and end among them, at the start of `entries`. *value: how many entries. Refusals: the
+ * first faulty record's, in it 5, 6, 8, 7; 9; then 4 with the number of entries. In a sheet with a star's entry an
  * eclipse's entry or a share breaks order, 8, and a magnitude above 0 breaks a rule, 7.
  * entries_len counts numbers, five an entry. A sheet from before heads had a guard gives 7 with place 0. */
 uint64_t ukhtvaresh_read(const uint8_t *sheet, size_t sheet_len, uint32_t *entries, size_t entries_len,
@@ -242,12 +246,13 @@ uint64_t ukhtvaresh_listing(const uint8_t *sheet, size_t sheet_len, uint8_t *tex
  * accepted exactly if the tolerance is 0 to 1,000, the tabulated values are +-1,000,000,000, the coefficients in the
  * ranges of x, and at each hour the value by the rule (x at that second) differs from the tabulated one by at most the
  * tolerance. *value: 0.
- * Refusals, the first of them: 10 unless coefficients_len is 4 and tabulated_len 7; 18; 2; 17. The lengths count numbers. */
+ * Refusals, the first of them: 10 unless coefficients_len is 4 and tabulated_len 7; 18; 2; 17. The lengths count
+ * numbers. */
 uint64_t ukhtvaresh_fit(const int64_t *coefficients, size_t coefficients_len, const int64_t *tabulated,
                         size_t tabulated_len, int64_t tolerance, uint64_t *value);
 
-/* The values of one row, in `values`: see ukhtvaresh_from_tables. x, y, l1, l2 in 10^-8 of the Earth's equatorial radius,
- * within 1,000 units of the exact value; sines, cosines and tangents in 10^-8, within 4. */
+/* The values of one row, in `values`: see ukhtvaresh_from_tables. x, y, l1, l2 in 10^-8 of the Earth's equatorial
+ * radius, within 1,000 units of the exact value; sines, cosines and tangents in 10^-8, within 4. */
 enum {
     UKHTVARESH_ROW_X,      /* the Moon from the Earth's centre across the axis, to the east */
     UKHTVARESH_ROW_Y,      /* the same to the north */
@@ -265,24 +270,24 @@ enum {
 #define UKHTVARESH_ROWS_LENGTH 42
 #define UKHTVARESH_VALUES_LENGTH 56
 
-/* Elements from tables: seven hourly rows of apparent places from the Earth's centre, each the Sun's x, y, z and the Moon's x, y, z
- * in 10^-8 of the Earth's equatorial radius, right-handed, the third to the north pole. The eight values of each row, in the
- * order of the rows, at the start of `values`. *value: 56.
+/* Elements from tables: seven hourly rows of apparent places from the Earth's centre, each the Sun's x, y, z and the
+ * Moon's x, y, z in 10^-8 of the Earth's equatorial radius, right-handed, the third to the north pole. The eight
+ * values of each row, in the order of the rows, at the start of `values`. *value: 56.
  * The Sun's radius is 109.04847 Earth radii, document 02's. That is 959.63" at one astronomical unit only for a solar
  * parallax of 8.80". So set the Sun at its distance in astronomical units times 1 / sin 8.80" = 23,439.18 Earth radii,
  * and not times today's 23,454.8 (149,597,870.7 km over 6,378.137): with that the Sun is 0.64" too small, and second
  * and third contact come 1.8 s wrong in the median and up to 8.5 s (almanac/moves.py).
- * The Moon's distance is the true one over the equatorial radius; her radius is 0.272274.
- * Refusals: 10 for another length than 42; 11 with the first row in which the Moon is not 55 to 65 radii off, the Sun not 23,000 to
- * 24,000, or the size of the sine of the axis' declination above 0.43 (ends are accepted); 4 with place 56 where values_len is
+ * The Moon's distance is the true one over the equatorial radius; her radius is 0.272274. Refusals: 10 for another
+ * length than 42; 11 with the first row in which the Moon is not 55 to 65 radii off, the Sun not 23,000 to 24,000, or
+ * the size of the sine of the axis' declination above 0.43 (ends are accepted); 4 with place 56 where values_len is
  * below 56. Any numbers may be given. Lengths count numbers. */
 uint64_t ukhtvaresh_from_tables(const int64_t *rows, size_t rows_len, int64_t *values, size_t values_len,
                                 uint64_t *value);
 
-/* The root of n: the largest whole number whose square is at most n, for any n. It takes two bits of n a round, from the top.
- * *rounds: how many rounds that are, one for each two bits up to the highest one set, a single bit at the top counting as two;
- * 0 for n = 0, at most 30 for n below 2^60, 32 at most. The answer is the root and not the number of a refusal: there
- * is none.
+/* The root of n: the largest whole number whose square is at most n, for any n. It takes two bits of n a round, from
+ * the top. *rounds: how many rounds that are, one for each two bits up to the highest one set, a single bit at the
+ * top counting as two; 0 for n = 0, at most 30 for n below 2^60, 32 at most. The answer is the root and not the
+ * number of a refusal: there is none.
  * The number is that of document 02's definition, and of the one loop that the function runs. It counts rounds and not
  * time: no contract here speaks of time. */
 uint64_t ukhtvaresh_root(uint64_t n, uint64_t *rounds);
@@ -290,43 +295,48 @@ uint64_t ukhtvaresh_root(uint64_t n, uint64_t *rounds);
 /* A stretch of dropped bytes in ukhtvaresh_mend's notes: its start and its length, 8 bytes each, big-endian. */
 #define UKHTVARESH_STRETCH_LENGTH 16
 
-/* Mends a file of sheets appended to one another. From the start: where a whole well-formed sheet begins, it is kept, and the walk goes
- * on behind it; otherwise one byte is dropped. The kept sheets in their order at the start of `sheets`, each unbroken stretch of dropped
- * bytes in order at the start of `dropped`. *kept, *noted: how many bytes each has.
- * A file of nothing but well-formed sheets comes out unchanged with *noted 0; so does what was kept, mended again. Kept bytes and the
- * lengths of the stretches add up to file_len. As many bytes as the file has are enough for `sheets`, and 16 more for `dropped`.
- * Its time went by the file's length on every file that was tried, hostile ones too: measured, not proved.
- * Refusal: 4, where a room is short, the room of `sheets` first; *kept is the length needed, and *noted is 0. */
+/* Mends a file of sheets appended to one another. From the start: where a whole well-formed sheet begins, it is kept,
+ * and the walk goes on behind it; otherwise one byte is dropped. The kept sheets in their order at the start of
+ * `sheets`, each unbroken stretch of dropped bytes in order at the start of `dropped`. *kept, *noted: how many bytes
+ * each has.
+ * A file of nothing but well-formed sheets comes out unchanged with *noted 0; so does what was kept, mended again.
+ * Kept bytes and the lengths of the stretches add up to file_len. As many bytes as the file has are enough for
+ * `sheets`, and 16 more for `dropped`. Its time went by the file's length on every file that was tried, hostile ones
+ * too: measured, not proved. Refusal: 4, where a room is short, the room of `sheets` first; *kept is the length
+ * needed, and *noted is 0. */
 uint64_t ukhtvaresh_mend(const uint8_t *file, size_t file_len, uint8_t *sheets, size_t sheets_len, uint8_t *dropped,
                          size_t dropped_len, uint64_t *kept, uint64_t *noted);
 
-/* How many doubles the elements are, how many with the longitude, and how many whole numbers the rest of a survey is. */
+/* How many doubles the elements are, how many with the longitude, and how many whole numbers the rest of a survey is.
+ * */
 #define UKHTVARESH_ELEMENTS_LENGTH 22
 #define UKHTVARESH_DOUBLES_LENGTH 23
 #define UKHTVARESH_REST_LENGTH 7
 
-/* The contact sheet of a survey, at the start of `sheet`: the elements as 22 doubles in the order of a request, lengths in Earth radii, angles in
- * degrees, tangents as they are; the longitude, east positive, in degrees where `hours` is 0, in hours of time, 15 degrees each, where it is
- * 1; and in whole numbers, 7 of them, the rest: the station's number, latitude, height and delta T, first and last second, guard, as in a
- * request. A double is read as the binary fraction that it exactly is, to the nearest whole unit, halves away from zero; then the sheet is
- * that of the request in whole units. *value: its length in bytes. Lengths count numbers.
- * Refusals, the first of them: 10 for other lengths, or another `hours` than 0 and 1; 1; 12; 2; 3 (a unit too large for 64 bits is outside its
- * range); 4 with place 901 where sines_len is below that; 4. */
+/* The contact sheet of a survey, at the start of `sheet`: the elements as 22 doubles in the order of a request,
+ * lengths in Earth radii, angles in degrees, tangents as they are; the longitude, east positive, in degrees where
+ * `hours` is 0, in hours of time, 15 degrees each, where it is 1; and in whole numbers, 7 of them, the rest: the
+ * station's number, latitude, height and delta T, first and last second, guard, as in a request. A double is read as
+ * the binary fraction that it exactly is, to the nearest whole unit, halves away from zero; then the sheet is that of
+ * the request in whole units. *value: its length in bytes. Lengths count numbers. Refusals, the first of them: 10 for
+ * other lengths, or another `hours` than 0 and 1; 1; 12; 2; 3 (a unit too large for 64 bits is outside its range); 4
+ * with place 901 where sines_len is below that; 4. */
 uint64_t ukhtvaresh_sheet_of_doubles(const double *elements, size_t elements_len, double longitude, uint64_t hours,
                                      const int64_t *rest, size_t rest_len, uint32_t *sines, size_t sines_len,
                                      uint8_t *sheet, size_t sheet_len, uint64_t *value);
 
-/* The other way: 23 whole units, the elements and a longitude, as doubles at the start of `doubles`, the longitude in degrees, each by one
- * division by 10^8 or, of angles, by 1,000,000. Read as above each gives its unit back, for every unit in its range. *value: 23.
- * This is for the rounding mode that a C program starts with, to nearest. The division obeys fesetround: under
- * FE_UPWARD 7 to 10 of the 23 doubles were one ulp larger for the requests of examples/. Read again these too gave
- * their units.
- * Refusals: 10 for another length than 23; 2 with the first element outside its range; 3 with place 2 for the longitude; 4 with place 23 where
- * doubles_len is below that. Lengths count numbers. */
-uint64_t ukhtvaresh_doubles(const int64_t *units, size_t units_len, double *doubles, size_t doubles_len, uint64_t *value);
+/* The other way: 23 whole units, the elements and a longitude, as doubles at the start of `doubles`, the longitude in
+ * degrees, each by one division by 10^8 or, of angles, by 1,000,000. Read as above each gives its unit back, for
+ * every unit in its range. *value: 23. This is for the rounding mode that a C program starts with, to nearest. The
+ * division obeys fesetround: under FE_UPWARD 7 to 10 of the 23 doubles were one ulp larger for the requests of
+ * examples/. Read again these too gave their units.
+ * Refusals: 10 for another length than 23; 2 with the first element outside its range; 3 with place 2 for the
+ * longitude; 4 with place 23 where doubles_len is below that. Lengths count numbers. */
+uint64_t ukhtvaresh_doubles(const int64_t *units, size_t units_len, double *doubles, size_t doubles_len,
+                            uint64_t *value);
 
-/* A station of a network's list: what a request has of it, and the number of the station whose clock it follows, 0 being the antenna.
- * An array of these is the memory that ukhtvaresh_network takes. */
+/* A station of a network's list: what a request has of it, and the number of the station whose clock it follows, 0
+ * being the antenna. An array of these is the memory that ukhtvaresh_network takes. */
 typedef struct ukhtvaresh_node {
     int64_t number;    /* 1 to 999, each used once in the list */
     int64_t latitude;  /* geodetic on Krasovsky's spheroid, 10^-6 degree, +-90,000,000 */
@@ -336,20 +346,22 @@ typedef struct ukhtvaresh_node {
     int64_t clock;     /* 0 or the number of a station in the list */
 } ukhtvaresh_node;
 
-/* How many numbers the eclipse of a network has: the 22 elements, first and last second of the window, guard, as in a request. */
+/* How many numbers the eclipse of a network has: the 22 elements, first and last second of the window, guard, as in a
+ * request. */
 #define UKHTVARESH_ECLIPSE_LENGTH 25
 
 /* How many steps there are, and how many stations a list may have. */
 #define UKHTVARESH_STATIONS 64
 
-/* The whole network in one list: in `steps`, in list order, how many steps each station's clock is from the antenna, 1 if it follows 0,
- * else one more than the station it follows, and 0 past the list. *value: the number of the station that the penumbra
- * reaches first, the one whose first enter penumbra, in the sheet that it gets alone, has the smallest "to"; the first
- * in the list among equals, 0 if none enters. The Sun may be below the horizon there. No sheet is written. stations_len
- * counts stations, the other lengths numbers.
- * Refusals, the first of them: 10 unless eclipse_len is 25 and steps_len 64; 19; 1; 2; 3; 14; 15; 16; 4 with place 901 where sines_len is
- * below that. `sines` is filled on success only. */
-uint64_t ukhtvaresh_network(const int64_t *eclipse, size_t eclipse_len, const ukhtvaresh_node *stations, size_t stations_len,
+/* The whole network in one list: in `steps`, in list order, how many steps each station's clock is from the antenna,
+ * 1 if it follows 0, else one more than the station it follows, and 0 past the list. *value: the number of the
+ * station that the penumbra reaches first, the one whose first enter penumbra, in the sheet that it gets alone, has
+ * the smallest "to"; the first in the list among equals, 0 if none enters. The Sun may be below the horizon there. No
+ * sheet is written. stations_len counts stations, the other lengths numbers.
+ * Refusals, the first of them: 10 unless eclipse_len is 25 and steps_len 64; 19; 1; 2; 3; 14; 15; 16; 4 with place
+ * 901 where sines_len is below that. `sines` is filled on success only. */
+uint64_t ukhtvaresh_network(const int64_t *eclipse, size_t eclipse_len, const ukhtvaresh_node *stations,
+                            size_t stations_len,
                             uint32_t *sines, size_t sines_len, uint64_t *steps, size_t steps_len, uint64_t *value);
 
 #ifdef __cplusplus

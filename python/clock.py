@@ -1,14 +1,14 @@
 """Seconds of a sheet as times of day, by the rules of docs/CLOCK.md.
 
-An instant, the date and time of τ = 0, is carried beside a request and is no part of its bytes. `Instant.read` takes its typed form, `instant_in`
-finds it in a typed request, `times` and `nearest` print seconds, `listing` is the sheet's listing with clock times. Everything is in whole
-numbers.
+An instant, the date and time of τ = 0, is carried beside a request and is no part of its bytes. `Instant.read` takes
+its typed form, `instant_in` finds it in a typed request, `times` and `nearest` print seconds, `listing` is the
+sheet's listing with clock times. Everything is in whole numbers.
 
     python3 python/clock.py < REQUEST.txt
     python3 python/clock.py "2017-08-21 18:00:00 ET" < examples/hopkinsville2017.txt
 
-print that listing for a typed request with a line `instant ..`, or with the instant as an argument. They want the program `request`
-(`rt check request`) and the shared library (`rt staticlib ukhtvaresh && python/build`).
+print that listing for a typed request with a line `instant ..`, or with the instant as an argument. They want the
+program `request` (`rt check request`) and the shared library (`rt staticlib ukhtvaresh && python/build`).
 """
 
 import operator
@@ -158,7 +158,8 @@ _REQUEST = Path(__file__).resolve().parent.parent / "target" / "bin" / "request"
 
 
 def encoded(text: bytes) -> Tuple[Optional[Instant], bytes]:
-    """The instant and the bytes of a typed request, these by the program `request`; Malformed with the first line at fault."""
+    """The instant and the bytes of a typed request, these by the program `request`; Malformed with the first line at
+    fault."""
     ran = subprocess.run([_REQUEST], input=text, capture_output=True, check=False)
     told = re.fullmatch(r"line (\d+): (.*)\n", ran.stderr.decode(errors="replace"), re.DOTALL)
     if told:

@@ -1,9 +1,10 @@
 """From tables of Sun and Moon to a contact sheet: Moscow, 30 June 1954. python3 python/example_tables.py
 
-Seven hourly rows give x, y, d, l1, l2 at seven hours. A cubic is fitted to x and y and a quadratic to d, l1 and l2, in exact
-fractions, rounded to units and accepted only if it keeps within a stated tolerance of the hourly values. tan f is the middle row's;
-mu is the sidereal time at Greenwich, which the user gives, less the axis' right ascension. Then the request, then the sheet.
-The handbook's elements (examples/moscow1954.txt) give another sheet: the two are printed side by side.
+Seven hourly rows give x, y, d, l1, l2 at seven hours. A cubic is fitted to x and y and a quadratic to d, l1 and l2,
+in exact fractions, rounded to units and accepted only if it keeps within a stated tolerance of the hourly values. tan
+f is the middle row's; mu is the sidereal time at Greenwich, which the user gives, less the axis' right ascension.
+Then the request, then the sheet. The handbook's elements (examples/moscow1954.txt) give another sheet: the two are
+printed side by side.
 """
 
 from dataclasses import replace
@@ -50,10 +51,14 @@ def farthest(fit, values):
 
 
 def accept(name, fit, values):
-    """The fit, accepted by the library (document 02, wish 14) or refused; a quadratic is a cubic whose last coefficient is 0."""
+    """The fit, accepted by the library (document 02, wish 14) or refused; a quadratic is a cubic whose last
+    coefficient is 0."""
     tolerance = TOLERANCES[name]
     ukhtvaresh.fit(fit + [0] * (4 - len(fit)), values, tolerance)
-    print(f"{name:2} {' '.join(map(str, fit))}: within {farthest(fit, values)} units of the hourly values, {tolerance} allowed")
+    print(
+        f"{name:2} {' '.join(map(str, fit))}: within {farthest(fit, values)} units of the hourly values, "
+        f"{tolerance} allowed"
+    )
     return fit
 
 

@@ -8,7 +8,8 @@ from ukhtvaresh import Refused, _index, fit
 
 
 def cubic(tabulated: Sequence[int], tolerance: int) -> List[int]:
-    """The least-squares cubic of seven tabulated hourly values, to the nearest units, if `fit` accepts it; else Refused.
+    """The least-squares cubic of seven tabulated hourly values, to the nearest units, if `fit` accepts it; else
+    Refused.
 
     The squares are least in exact fractions; halves of a unit go away from zero.
     """
@@ -21,7 +22,8 @@ def cubic(tabulated: Sequence[int], tolerance: int) -> List[int]:
 
 
 def _least_squares(tabulated: Sequence[int]) -> List[Fraction]:
-    """c0 .. c3 with the least sum of squares of c0 + c1 h + c2 h² + c3 h³ less the value, over the hours h from -3 to 3.
+    """c0 .. c3 with the least sum of squares of c0 + c1 h + c2 h² + c3 h³ less the value, over the hours h from -3 to
+    3.
 
     The hours are symmetric, so the even and the odd powers part: each pair of coefficients has two equations.
     """

@@ -1,4 +1,5 @@
-"""Document 02's positions as doubles through the module: a real eclipse both ways, against exact fractions, every refusal in its order.
+"""Document 02's positions as doubles through the module: a real eclipse both ways, against exact fractions, every
+refusal in its order.
 
 python3 python/test_doubles.py
 """
@@ -47,7 +48,10 @@ def units(x, scale):
 def survey(request=MOSCOW, **changes):
     elements, longitude = doubles(request.elements, request.station.longitude)
     station = request.station
-    made = Survey(elements, longitude, station.number, station.latitude, station.height, station.delta_t, request.window, request.guard)
+    made = Survey(
+        elements, longitude, station.number, station.latitude, station.height, station.delta_t,
+        request.window, request.guard
+    )
     return dataclasses.replace(made, **changes)
 
 
@@ -140,7 +144,9 @@ class Doubles(unittest.TestCase):
             self.assertEqual(sheet_of_doubles(given), sheet(request.to_bytes()))
 
     def test_refusals_in_their_order(self):
-        everything = survey(elements=[math.inf] * 22, longitude=Hours(math.nan), number=0, window=Window(1, 0), guard=15)
+        everything = survey(
+            elements=[math.inf] * 22, longitude=Hours(math.nan), number=0, window=Window(1, 0), guard=15
+        )
         for count in (0, 21, 23):
             self.refused(10, 0, sheet_of_doubles, dataclasses.replace(everything, elements=[math.nan] * count))
         self.refused(1, 0, sheet_of_doubles, everything)
@@ -158,7 +164,9 @@ class Doubles(unittest.TestCase):
             for field in range(22):
                 self.refused(2, field, sheet_of_doubles, with_element(survey(number=0), field, large))
             self.refused(3, 2, sheet_of_doubles, survey(longitude=Degrees(large), height=9_001))
-        for field, change in enumerate(({"number": 1_000}, {"latitude": 2**70}, {"longitude": Hours(13.0)}, {"height": -501}, {"delta_t": 20_001})):
+        for field, change in enumerate(
+            ({"number": 1_000}, {"latitude": 2**70}, {"longitude": Hours(13.0)}, {"height": -501}, {"delta_t": 20_001})
+        ):
             self.refused(3, field, sheet_of_doubles, survey(**change))
         self.assertEqual(str(Refused(12, 22)), "refused 12 22: a double that is not finite")
 

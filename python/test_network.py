@@ -1,5 +1,5 @@
-"""The whole network in one list (document 02, wish 10), through the module: steps, the first station, every refusal in its order, and the
-room for the sine table.
+"""The whole network in one list (document 02, wish 10), through the module: steps, the first station, every refusal
+in its order, and the room for the sine table.
 
 python3 python/test_network.py
 """

@@ -49,7 +49,8 @@ def second_of(request, at, lent, length):
 
 class Room(unittest.TestCase):
     def filled(self, sines):
-        """Document 01's entries 0, 300 and 900, that each is more than the one before it, and what lies past the table."""
+        """Document 01's entries 0, 300 and 900, that each is more than the one before it, and what lies past the
+        table."""
         self.assertEqual((sines[0], sines[300], sines[900]), (0, 50_000_000, 100_000_000))
         self.assertTrue(all(a < b for a, b in zip(sines[:900], sines[1:901])))
         self.assertEqual(sines[901:], old(len(sines) - PAST)[901:])

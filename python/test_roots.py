@@ -20,7 +20,9 @@ class Roots(unittest.TestCase):
 
     def test_squares_and_their_neighbours(self):
         draw = random.Random(6)
-        sides = {2**k + d for k in range(33) for d in (-2, -1, 0, 1)} | {draw.randrange(2 ** draw.randrange(33)) for _ in range(20_000)}
+        sides = {2**k + d for k in range(33) for d in (-2, -1, 0, 1)} | {
+            draw.randrange(2 ** draw.randrange(33)) for _ in range(20_000)
+        }
         for side in sides:
             for n in (side**2 - 1, side**2, side**2 + 1):
                 if 0 <= n < 2**64:

@@ -1,4 +1,5 @@
-"""How much of the Sun is gone (document 02, wish 4), through the module: in a sheet, at a second, read, written and listed.
+"""How much of the Sun is gone (document 02, wish 4), through the module: in a sheet, at a second, read, written and
+listed.
 
 python3 python/test_shares.py
 """

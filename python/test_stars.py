@@ -1,4 +1,5 @@
-"""Stars behind the Moon (document 02, wish 7), through the module: sheets made, refused, read, written, listed and mended.
+"""Stars behind the Moon (document 02, wish 7), through the module: sheets made, refused, read, written, listed and
+mended.
 
 python3 python/test_stars.py
 """
@@ -204,7 +205,9 @@ class Stars(unittest.TestCase):
         for magnitude in (1, 1_300_000, 2**32):
             self.refuses_into(7, 16, write_into, [head, enter, Closest(0, magnitude), end])
         stored = write(ENTRIES)
-        for at, byte, number, place in ((16, 0x11, 8, 16), (9, 0x20, 8, 16), (16, 0x40, 8, 16), (16, 0x44, 5, 16), (29, 1, 7, 23)):
+        for at, byte, number, place in (
+            (16, 0x11, 8, 16), (9, 0x20, 8, 16), (16, 0x40, 8, 16), (16, 0x44, 5, 16), (29, 1, 7, 23)
+        ):
             changed = stored[:at] + bytes([byte]) + stored[at + 1 :]
             self.refuses(number, place, read, changed)
             self.refuses(number, place, listing, changed)

@@ -1,4 +1,5 @@
-"""Elements from tables of Sun and Moon: the books' rows, random rows against document 02's own formulas, limits, every refusal.
+"""Elements from tables of Sun and Moon: the books' rows, random rows against document 02's own formulas, limits,
+every refusal.
 
 python3 python/test_tables.py
 """
@@ -24,7 +25,8 @@ def books():
 
 
 def exact(row):
-    """The wish's formulas as they stand, roots and all, to 60 digits: x, y, sin d, cos d, tan f1, tan f2, l1, l2 in units."""
+    """The wish's formulas as they stand, roots and all, to 60 digits: x, y, sin d, cos d, tan f1, tan f2, l1, l2 in
+    units."""
     sun = [Decimal(c) for c in (row.sun_x, row.sun_y, row.sun_z)]
     moon = [Decimal(c) for c in (row.moon_x, row.moon_y, row.moon_z)]
     g = [s - m for s, m in zip(sun, moon)]

@@ -327,8 +327,12 @@ class Guards(Case):
 
     def test_larger_guards_withhold(self):
         elements = HAND_WORKED.elements
-        # an axis that goes past the penumbra 500 units off its edge, and one that stands 500 units inside the central cone
-        beside = replace(HAND_WORKED, elements=replace(elements, x0=54_000_500, x1=0, y1=36_000_000), window=Window(-60, 60))
+        # an axis that goes past the penumbra 500 units off its edge, and one that stands 500 units inside the central
+        # cone
+        beside = replace(
+            HAND_WORKED, elements=replace(elements, x0=54_000_500, x1=0, y1=36_000_000),
+            window=Window(-60, 60)
+        )
         within = replace(HAND_WORKED, elements=replace(elements, x0=999_500, x1=0), window=Window(0, 2))
         for guard in (16, 499):
             self.assertEqual(len(read(sheet(replace(beside, guard=guard).to_bytes()))), 3)
@@ -355,7 +359,8 @@ class EphemerisTime(Case):
         west = replace(request.station, delta_t=0, longitude=request.station.longitude - 287_451)
         self.assertEqual(sheet(replace(request, station=west).to_bytes()), sheet(request.to_bytes()))
         enter = read(sheet(request.to_bytes()))[1]
-        self.assertEqual((enter.phase, enter.from_, enter.to), (PENUMBRA, -3740, -3739))  # 16:56:31.2 to 32.2 universal time
+        # 16:56:31.2 to 32.2 universal time
+        self.assertEqual((enter.phase, enter.from_, enter.to), (PENUMBRA, -3740, -3739))
 
 
 def undirected(entry):
@@ -371,7 +376,9 @@ class Mirror(Case):
         a, b = read(sheet(north)), read(sheet(south))
         self.assertEqual([undirected(entry) for entry in a], [undirected(entry) for entry in b])
         x, y = second(north, 100), second(south, 100)
-        self.assertEqual((x.u, x.v, x.penumbra, x.central, x.magnitude), (y.u, -y.v, y.penumbra, y.central, y.magnitude))
+        self.assertEqual(
+            (x.u, x.v, x.penumbra, x.central, x.magnitude), (y.u, -y.v, y.penumbra, y.central, y.magnitude)
+        )
 
     def test_refused(self):
         self.refuses(10, 0, mirror, b"")

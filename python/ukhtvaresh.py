@@ -1,20 +1,21 @@
 """Local circumstances of a solar eclipse, and of a star behind the Moon, in whole numbers, from a proved library.
 
-From the elements of an eclipse, a station, a window of seconds and a guard, `sheet` makes the station's contact sheet,
-`sheet_and_share` the same with the covered share of the Sun's disc; `star` makes that of a star from its elements and the Moon's
-radius; `read` takes a sheet apart, `write` puts entries together as one, `listing` gives a sheet as text, `second` the shadow at one
-second, `star_second` that of a star, and `share` the share at a second. `mirror` gives the request beyond the equator, `fit` judges coefficients that a spreadsheet made
-of seven hourly values, `from_tables` makes elements from tables of Sun and Moon, `root` gives a square root with its rounds, `mend`
-takes the damaged parts out of a file of sheets, `sheet_of_doubles` makes the sheet of positions that come as doubles, `doubles` makes
-doubles of whole units; `network` says of a list of stations how far each clock is from the antenna and which one the
-penumbra reaches first. Each is a thin call of the proved function of the same name in libukhtvaresh.so, which the
-script `build` makes.
+From the elements of an eclipse, a station, a window of seconds and a guard, `sheet` makes the station's contact
+sheet, `sheet_and_share` the same with the covered share of the Sun's disc; `star` makes that of a star from its
+elements and the Moon's radius; `read` takes a sheet apart, `write` puts entries together as one, `listing` gives a
+sheet as text, `second` the shadow at one second, `star_second` that of a star, and `share` the share at a second.
+`mirror` gives the request beyond the equator, `fit` judges coefficients that a spreadsheet made of seven hourly
+values, `from_tables` makes elements from tables of Sun and Moon, `root` gives a square root with its rounds, `mend`
+takes the damaged parts out of a file of sheets, `sheet_of_doubles` makes the sheet of positions that come as doubles,
+`doubles` makes doubles of whole units; `network` says of a list of stations how far each clock is from the antenna
+and which one the penumbra reaches first. Each is a thin call of the proved function of the same name in
+libukhtvaresh.so, which the script `build` makes.
 
 `horizon` and `star_horizon` give the altitude and azimuth of the Sun and of a star at a second, and the direction of
 the zenith from it, without refraction and dip.
 
-Lengths are in 10^-8 of the Earth's equatorial radius, angles in 10^-6 degree, times in whole seconds of
-ephemeris time from the reference instant. East longitude is positive. "Document 01" is the paper whose rules the library keeps.
+Lengths are in 10^-8 of the Earth's equatorial radius, angles in 10^-6 degree, times in whole seconds of ephemeris
+time from the reference instant. East longitude is positive. "Document 01" is the paper whose rules the library keeps.
 
 A number is taken exactly or not at all. Whole numbers are ints, or other types with `__index__` such as numpy's
 integers; a float, a Decimal, a bool, a string or None raises NotWhole with the field's name. The library itself refuses
@@ -73,11 +74,13 @@ _GUARD_WORDS = "guard outside its range"  # of 1 with place 1
 
 
 class Refused(Exception):
-    """Why a request, a sheet, a list of entries, a fit or a network is refused: number and place of document 01's table, and words.
+    """Why a request, a sheet, a list of entries, a fit or a network is refused: number and place of document 01's
+    table, and words.
 
-    place: 1 is 0 for the window, 1 for the guard; 2, 3 the first such field, 3 of a network ten times the list place plus that; 4 the
-    length needed; 5 to 9 the record's first byte; 11 the row; 12 the first such field, 22 for the longitude; 14 to 16 the first such list
-    place, counted from 0; 17 the first such hour, 0 to 6; 18 is 0 for the tolerance, 1 to 7 for the first such tabulated value; else 0.
+    place: 1 is 0 for the window, 1 for the guard; 2, 3 the first such field, 3 of a network ten times the list place
+        plus that; 4 the length needed; 5 to 9 the record's first byte; 11 the row; 12 the first such field, 22 for
+        the longitude; 14 to 16 the first such list place, counted from 0; 17 the first such hour, 0 to 6; 18 is 0 for
+        the tolerance, 1 to 7 for the first such tabulated value; else 0.
     """
 
     def __init__(self, number: int, place: int):
@@ -266,7 +269,8 @@ class Station:
     latitude: int  # geodetic on Krasovsky's spheroid, 10^-6 degree, ±90,000,000
     longitude: int  # 10^-6 degree, ±180,000,000, east positive
     height: int  # metres, -500 to 9,000
-    delta_t: int  # ephemeris less universal time, hundredths of a second, -10,000 to 20,000; 0 for elements by universal time
+    # ephemeris less universal time, hundredths of a second, -10,000 to 20,000; 0 for elements by universal time
+    delta_t: int
 
 
 @dataclass(frozen=True)
@@ -281,8 +285,8 @@ class Window:
 class Request:
     """What a sheet is asked for. Numbers outside document 01's ranges are the library's to refuse.
 
-    guard: how near to a cone's edge nothing is sure, in 10^-8 of the Earth's equatorial radius, 16 to 1,000. A larger guard
-    only withholds: what is sure under it is sure, with the same answer, under every smaller one.
+    guard: how near to a cone's edge nothing is sure, in 10^-8 of the Earth's equatorial radius, 16 to 1,000. A larger
+        guard only withholds: what is sure under it is sure, with the same answer, under every smaller one.
     """
 
     elements: Elements
@@ -671,7 +675,8 @@ _rooms = threading.local()
 
 
 def _sines():
-    """The room for the sine table, which each call fills anew, and its length: one for each thread, lent to call after call."""
+    """The room for the sine table, which each call fills anew, and its length: one for each thread, lent to call
+    after call."""
     if not hasattr(_rooms, "sines"):
         _rooms.sines = (ctypes.c_uint32 * _SINES)()
     return _rooms.sines, _SINES
@@ -706,7 +711,8 @@ def sheet(request: bytes) -> bytes:
 
 
 def sheet_and_share_into(request: bytes, buffer) -> int:
-    """As sheet_into, but the sheet has the covered share at its closest second, a Share between Closest and End: 5 bytes more."""
+    """As sheet_into, but the sheet has the covered share at its closest second, a Share between Closest and End: 5
+    bytes more."""
     lent, request = _lent(buffer, "buffer"), _bytes(request, "request")
     return _call("sheet_and_share", request, len(request), *_sines(), *lent)
 
@@ -719,9 +725,9 @@ def sheet_and_share(request: bytes) -> bytes:
 def star_into(request: bytes, buffer) -> int:
     """Puts the sheet of a star behind the Moon at the start of a writable buffer; gives its length in bytes.
 
-    Its entries are of Phase.STAR: Enter where the star vanishes, Leave where it appears again. A direction is that of the Moon's
-    centre from the star. The closest second has magnitude 0. The bytes past the sheet, and on refusal all bytes, keep what they
-    held. Refusals, the first of them: 10, 1, 2, 13, 3, 4.
+    Its entries are of Phase.STAR: Enter where the star vanishes, Leave where it appears again. A direction is that of
+    the Moon's centre from the star. The closest second has magnitude 0. The bytes past the sheet, and on refusal all
+    bytes, keep what they held. Refusals, the first of them: 10, 1, 2, 13, 3, 4.
     """
     lent, request = _lent(buffer, "buffer"), _bytes(request, "request")
     return _call("star", request, len(request), *_sines(), *lent)
@@ -735,8 +741,8 @@ def star(request: bytes) -> bytes:
 def share(request: bytes, second: int) -> int:
     """How much of the Sun's disc the Moon covers at a second of a request, -10,800 to 10,800, also outside its window.
 
-    Millionths, rounded down, 0 to 1,000,000: 1,000,000 wherever the total phase is sure, 0 where the penumbra is surely left.
-    Refusals, the first of them: 10, 1 (for the window or the second, then for the guard), 2, 3.
+    Millionths, rounded down, 0 to 1,000,000: 1,000,000 wherever the total phase is sure, 0 where the penumbra is
+    surely left. Refusals, the first of them: 10, 1 (for the window or the second, then for the guard), 2, 3.
     """
     request, second = _bytes(request, "request"), _signed(second, "second")
     return _call("share", request, len(request), second, *_sines())
@@ -796,9 +802,10 @@ def star_horizon(request: bytes, second: int) -> Horizon:
 def mirror(request: bytes) -> bytes:
     """The mirror of a request: all y and d coefficients and the latitude with the other sign, nothing else changed.
 
-    Any numbers: -2^31, which has no opposite in its bytes, stays as it is. The sheet of the mirror of a request within
-    the limits has the same entries, of the same seconds, magnitude, share and length; their directions differ. A request that
-    is refused 1, 2 or 3 and its mirror are refused alike. Taken twice the mirror is the first request. Refusal: 10.
+    Any numbers: -2^31, which has no opposite in its bytes, stays as it is. The sheet of the mirror of a request
+    within the limits has the same entries, of the same seconds, magnitude, share and length; their directions differ.
+    A request that is refused 1, 2 or 3 and its mirror are refused alike. Taken twice the mirror is the first request.
+    Refusal: 10.
     """
     request = _bytes(request, "request")
     mirrored = bytearray(REQUEST_LENGTH)
@@ -850,9 +857,9 @@ def listing(sheet: bytes) -> str:
 def fit(coefficients: Sequence[int], tabulated: Sequence[int], tolerance: int) -> None:
     """Accepts a cubic's four coefficients for seven tabulated hourly values, -3 to 3, or raises Refused.
 
-    Accepted exactly if the tolerance is 0 to 1,000 units, the tabulated values are within ±10^9, the coefficients in the
-    ranges of x, and at each hour the value of document 01's rule differs from the tabulated one by at most the tolerance.
-    Refusals, the first of them: 10 (not four and seven), 18, 2, 17.
+    Accepted exactly if the tolerance is 0 to 1,000 units, the tabulated values are within ±10^9, the coefficients in
+    the ranges of x, and at each hour the value of document 01's rule differs from the tabulated one by at most the
+    tolerance. Refusals, the first of them: 10 (not four and seven), 18, 2, 17.
     """
     lists = [
         *_listed(coefficients, "coefficients", lambda value, at: _signed(value, f"coefficient {at}")),
@@ -968,7 +975,8 @@ class Stretch:
 
 @dataclass(frozen=True)
 class Mended:
-    """A file mended: the kept sheets in their order, and what was dropped, in order, with kept bytes between two stretches."""
+    """A file mended: the kept sheets in their order, and what was dropped, in order, with kept bytes between two
+    stretches."""
 
     sheets: bytes
     stretches: List[Stretch]
@@ -977,8 +985,9 @@ class Mended:
 def mend_into(file: bytes, sheets, dropped) -> Tuple[int, int]:
     """Mends a file into two writable buffers, which must not overlap; gives how many bytes each then has.
 
-    `sheets` gets the kept sheets, `dropped` 16 bytes for each stretch, its start and its length, 8 each, big-endian. The
-    bytes past them, and on refusal all bytes, keep what they held. Refusal: 4 with the length needed, `sheets` first.
+    `sheets` gets the kept sheets, `dropped` 16 bytes for each stretch, its start and its length, 8 each, big-endian.
+    The bytes past them, and on refusal all bytes, keep what they held. Refusal: 4 with the length needed, `sheets`
+    first.
     """
     kept_room, notes_room = _lent(sheets, "sheets"), _lent(dropped, "dropped")
     _apart(kept_room, "sheets", notes_room, "dropped")
@@ -996,10 +1005,10 @@ def mend_into(file: bytes, sheets, dropped) -> Tuple[int, int]:
 def mend(file: bytes) -> Mended:
     """Mends a file of sheets appended to one another, of any size.
 
-    From the start: where a whole well-formed sheet begins, it is kept, and the walk goes on behind it; otherwise one byte is
-    dropped. A file of nothing but well-formed sheets comes out unchanged with no stretch. Kept bytes and the lengths of the
-    stretches add up to the file's length. Its time went by that length on every file that
-    was tried: measured, not proved.
+    From the start: where a whole well-formed sheet begins, it is kept, and the walk goes on behind it; otherwise one
+    byte is dropped. A file of nothing but well-formed sheets comes out unchanged with no stretch. Kept bytes and the
+    lengths of the stretches add up to the file's length. Its time went by that length on every file that was tried:
+    measured, not proved.
     """
     file = _bytes(file, "file")
     # a stretch and the sheet behind it have 18 bytes at least, and behind the last there may be none
@@ -1032,10 +1041,10 @@ Longitude = Union[Degrees, Hours]
 class Survey:
     """What a sheet is asked for, as it was surveyed.
 
-    elements: 22 floats, also a numpy array of them, in the order of Elements; lengths in Earth radii, angles in degrees,
-    tangents as they are. A float is read as the binary fraction that it exactly is, to the nearest whole unit, halves away from
-    zero. The rest is in whole numbers, as in Station and Request: latitude 55_755_000 is 55.755 degrees, delta_t 6_880
-    is 68.8 seconds.
+    elements: 22 floats, also a numpy array of them, in the order of Elements; lengths in Earth radii, angles in
+        degrees, tangents as they are. A float is read as the binary fraction that it exactly is, to the nearest whole
+        unit, halves away from zero. The rest is in whole numbers, as in Station and Request: latitude 55_755_000 is
+        55.755 degrees, delta_t 6_880 is 68.8 seconds.
     """
 
     elements: Sequence[float]
@@ -1049,10 +1058,12 @@ class Survey:
 
 
 def sheet_of_doubles_into(survey: Survey, buffer) -> int:
-    """Puts the contact sheet of a survey at the start of a writable buffer; gives its length: the sheet of the request in whole units.
+    """Puts the contact sheet of a survey at the start of a writable buffer; gives its length: the sheet of the
+    request in whole units.
 
-    The bytes past the sheet, and on refusal all bytes, keep what they held. Refusals, the first of them: 10 for another count
-    than 22; 1; 12 with the first float that is not finite; 2, 3 (a unit too large for 64 bits is outside its range); 4.
+    The bytes past the sheet, and on refusal all bytes, keep what they held. Refusals, the first of them: 10 for
+    another count than 22; 1; 12 with the first float that is not finite; 2, 3 (a unit too large for 64 bits is
+    outside its range); 4.
     """
     lent = _lent(buffer, "buffer")
     _instance(survey, Survey, "survey")
@@ -1079,19 +1090,21 @@ def _unit_name(at: int) -> Tuple[str, str]:
 
 
 def doubles_into(units: Iterable[int], room) -> int:
-    """Puts 23 units, the elements and a longitude, as doubles at the start of `room`; gives 23. The longitude is in degrees.
+    """Puts 23 units, the elements and a longitude, as doubles at the start of `room`; gives 23. The longitude is in
+    degrees.
 
-    `room` is a writable buffer of doubles: a numpy array of float64, an array.array("d"), a ctypes array of c_double. What lies past
-    the 23, and on refusal all of it, keeps what it held. Each double is one division by 10^8 or, of angles, by 1,000,000; read again
-    it gives its unit back, for every unit in its range. Refusals: 10 for another count than 23; 2; 3 with 2 for the longitude;
-    then 4 with 23.
+    `room` is a writable buffer of doubles: a numpy array of float64, an array.array("d"), a ctypes array of c_double.
+    What lies past the 23, and on refusal all of it, keeps what it held. Each double is one division by 10^8 or, of
+    angles, by 1,000,000; read again it gives its unit back, for every unit in its range. Refusals: 10 for another
+    count than 23; 2; 3 with 2 for the longitude; then 4 with 23.
     """
     lent = _lent(room, "room", _DOUBLES)
     return _call("doubles", *_listed(units, "units", lambda value, at: _signed(value, *_unit_name(at))), *lent)
 
 
 def doubles(elements: Union[Elements, Iterable[int]], longitude: int) -> Tuple[List[float], Degrees]:
-    """Elements and a longitude in whole units as floats. Refusals: 10 for another count than 22; 2; 3 with 2 for the longitude."""
+    """Elements and a longitude in whole units as floats. Refusals: 10 for another count than 22; 2; 3 with 2 for the
+    longitude."""
     room = (ctypes.c_double * 23)()
     units = _fields(elements, Elements, "elements") if isinstance(elements, Elements) else _items(elements, "elements")
     doubles_into([*units, _index(longitude, "longitude")], room)
@@ -1115,9 +1128,9 @@ class Node:
 class Network:
     """What is said of a list.
 
-    steps: how many steps each station's clock is from the antenna, in the list's order: 1 if it follows 0, else one more than the
-    station it follows. first: the number of the station that the penumbra reaches first, whether or not the Sun is up
-    there, None if none enters.
+    steps: how many steps each station's clock is from the antenna, in the list's order: 1 if it follows 0, else one
+        more than the station it follows. first: the number of the station that the penumbra reaches first, whether or
+        not the Sun is up there, None if none enters.
     """
 
     steps: List[int]
@@ -1163,8 +1176,8 @@ def network_into(eclipse: Sequence[int], stations: Sequence[Node], steps) -> Opt
 def network(elements: Elements, window: Window, stations: Sequence[Node], guard: int = LEAST_GUARD) -> Network:
     """How far the clocks of a list are from the antenna, and which station the penumbra reaches first.
 
-    The first is the station whose first Enter of the penumbra, in the sheet that it gets alone, has the smallest `to`, the first in the
-    list among equals. Refusals, the first of them: 19, 1, 2, 3, 14, 15, 16.
+    The first is the station whose first Enter of the penumbra, in the sheet that it gets alone, has the smallest
+    `to`, the first in the list among equals. Refusals, the first of them: 19, 1, 2, 3, 14, 15, 16.
     """
     stations = _items(stations, "stations")
     steps = (ctypes.c_uint64 * STATIONS)()

@@ -1,8 +1,10 @@
 #!/usr/bin/env python3
-"""Holds the clock times of Python against those of the page, and both against the rules of docs/CLOCK.md in exact fractions.
+"""Holds the clock times of Python against those of the page, and both against the rules of docs/CLOCK.md in exact
+fractions.
 
     python3 tests/clock_times.py [QUESTIONS] [SEED]         wants node; the library's listings too, if it is built
-    python3 tests/clock_times.py program [TEXTS] [SEED]     the program `times` against Python (`rt check times request`; the library, as
+    python3 tests/clock_times.py program [TEXTS] [SEED]     the program `times` against Python (`rt check times
+                                                            request`; the library, as
                                                             python/clock.py wants it)
 """
 
@@ -22,7 +24,10 @@ from request import instant_line, is_instant, typed_instant  # noqa: E402
 
 def typed_text(draw):
     """A text with lines of an instant, and of other names."""
-    others = ["x0 1", "", "# instant 2017-08-21 18:00:00 ET", "instants 1", "station 7", "  \t", "Instant 1", "instant# 1", "\r"]
+    others = [
+        "x0 1", "", "# instant 2017-08-21 18:00:00 ET", "instants 1", "station 7", "  \t", "Instant 1",
+        "instant# 1", "\r"
+    ]
     lines = [draw.choice(others) for _ in range(draw.randrange(6))]
     for _ in range(draw.choice([0, 1, 1, 1, 2, 3])):
         lines.insert(draw.randint(0, len(lines)), instant_line(draw))
@@ -46,7 +51,9 @@ def in_python(question):
 
 def seconds_of(printed):
     """Seconds from 0h of the instant's day."""
-    hours, minutes, seconds, tenth, day = re.fullmatch(r"([01]\d|2[0-3]):([0-5]\d):([0-5]\d)\.(\d)([+-]1d)?", printed).groups()
+    hours, minutes, seconds, tenth, day = re.fullmatch(
+        r"([01]\d|2[0-3]):([0-5]\d):([0-5]\d)\.(\d)([+-]1d)?", printed
+    ).groups()
     days = int(day[:-1]) if day else 0
     return days * 86400 + int(hours) * 3600 + int(minutes) * 60 + int(seconds) + Fraction(int(tenth), 10)
 
@@ -107,8 +114,11 @@ EXAMPLES = ["hopkinsville2017", "moscow1954", "kiev1954", "potsdam1956", "kansas
 
 
 def typed_request(draw):
-    """An example's text with another ΔT and window, most with one instant among its lines, some with a fault or a refusal."""
-    values = {"delta t": draw.choice(["0", "68.8", "-100", "200", f"{draw.randint(-10000, 20000) / 100:.2f}", "200.01"])}
+    """An example's text with another ΔT and window, most with one instant among its lines, some with a fault or a
+    refusal."""
+    values = {
+        "delta t": draw.choice(["0", "68.8", "-100", "200", f"{draw.randint(-10000, 20000) / 100:.2f}", "200.01"])
+    }
     first = draw.choice([-10800, draw.randint(-10800, 10800), -5400])
     values["first"], values["last"] = str(first), str(min(10800, first + draw.choice([0, 1, 600, 7200, 21600])))
     if draw.random() < 0.05:
@@ -155,7 +165,10 @@ def program(count, draw):
 
 def main():
     if sys.argv[1:2] == ["program"]:
-        program(int(sys.argv[2]) if len(sys.argv) > 2 else 500, random.Random(int(sys.argv[3]) if len(sys.argv) > 3 else 1954))
+        program(
+            int(sys.argv[2]) if len(sys.argv) > 2 else 500,
+            random.Random(int(sys.argv[3]) if len(sys.argv) > 3 else 1954)
+        )
         return
     count = int(sys.argv[1]) if len(sys.argv) > 1 else 20000
     draw = random.Random(int(sys.argv[2]) if len(sys.argv) > 2 else 1954)

@@ -4,10 +4,11 @@
     rt staticlib ukhtvaresh && python/build
     python3 tests/discs.py
 
-Takes the elements of examples/*.bin, total eclipses, at each one's station and at others, every second from -10,800 to 10,800; and the
-same with both cones wider by one amount, as if the Moon were farther off, which makes them annular. The library gives radii, distance and
-share. Prints for each station where the share stands lowest and highest to the area, in millionths, and last the worst of all, of the
-total eclipses and of the annular ones; more than 1,000 millionths (0.001) is a failure.
+Takes the elements of examples/*.bin, total eclipses, at each one's station and at others, every second from -10,800
+to 10,800; and the same with both cones wider by one amount, as if the Moon were farther off, which makes them
+annular. The library gives radii, distance and share. Prints for each station where the share stands lowest and
+highest to the area, in millionths, and last the worst of all, of the total eclipses and of the annular ones; more
+than 1,000 millionths (0.001) is a failure.
 """
 import sys
 from dataclasses import replace
@@ -36,7 +37,8 @@ def area(L1, L2, M):
 
 
 def differences(request):
-    """The share less the area, the second, and whether it is a sure central one; of every second at which the discs overlap."""
+    """The share less the area, the second, and whether it is a sure central one; of every second at which the discs
+    overlap."""
     found = []
     for at in range(-10_800, 10_801):
         shadow = second(request, at)

@@ -2,9 +2,10 @@
 """Test vectors of fits for the program `rule_vectors`, by the words of document 02, wish 14. tests/vectors.py puts them
 into the program's input and expected output.
 
-A fit is four coefficients, seven tabulated values and a tolerance. From x of 30 June 1954, which the least squares of the
-hourly values 9h to 15h of source document 001 give, each number is set to the ends of the ranges and of its type, and moved
-by what is left of the tolerance. Then come fits that break two rules at once, and cubics whose worst hour is each of the seven.
+A fit is four coefficients, seven tabulated values and a tolerance. From x of 30 June 1954, which the least squares of
+the hourly values 9h to 15h of source document 001 give, each number is set to the ends of the ranges and of its type,
+and moved by what is left of the tolerance. Then come fits that break two rules at once, and cubics whose worst hour
+is each of the seven.
 """
 import random
 import struct
@@ -18,8 +19,9 @@ RANGES_OF_X = (200_000_000, 100_000_000, 100_000, 10_000)
 
 
 def near(n, k):
-    """Document 01: the floor of (2n+k)/(2k)."""
-    return (2 * n + k) // (2 * k)
+    """Document 01, as document 02, wish 3, changes it: to the nearest, halves away from zero."""
+    size = (2 * abs(n) + k) // (2 * k)
+    return size if n >= 0 else -size
 
 
 def value(coefficients, second):

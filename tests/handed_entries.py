@@ -2,8 +2,8 @@
 """Test vectors of the writer for the program `sheet_vectors`: lists of entries, good and damaged, and what a writer has
 to answer.
 
-The answers come from the rules of documents 01 and 02, as in stored_sheets.py, whose table and rules of one record are used here.
-tests/vectors.py puts them into the program's input and expected output.
+The answers come from the rules of documents 01 and 02, as in stored_sheets.py, whose table and rules of one record
+are used here. tests/vectors.py puts them into the program's input and expected output.
 """
 import os
 import struct
@@ -11,8 +11,8 @@ import sys
 
 sys.path.insert(0, os.path.dirname(__file__))
 from stored_sheets import (  # noqa: E402
-    BARE, CENTRAL, ECLIPSED, END, GOOD, HEAD, INSTANT, LISTING, MIXED, OCCULTED, SHARES, STARRED, TABLE, encode, fields_hold, order_holds,
-    star_entries)
+    BARE, CENTRAL, ECLIPSED, END, GOOD, HEAD, INSTANT, LISTING, MIXED, OCCULTED, SHARES, STARRED, TABLE, encode,
+    fields_hold, order_holds, star_entries)
 
 
 def judge(numbers):
@@ -69,7 +69,9 @@ def lists():
     for records in (LISTING, CENTRAL, ECLIPSED, OCCULTED):
         good = listed(records)
         for i in range(len(good)):  # each number changed in turn
-            for value in (0, good[i] + 1) if records in (CENTRAL, OCCULTED) else (0, 1, good[i] + 1, good[i] + 65536, 0xFFFFFFFF):
+            for value in (0, good[i] + 1) if records in (CENTRAL, OCCULTED) else (
+                0, 1, good[i] + 1, good[i] + 65536, 0xFFFFFFFF
+            ):
                 yield good[:i] + [value] + good[i + 1:]
         for n in range(len(good)):  # each prefix
             yield good[:n]
@@ -94,14 +96,16 @@ def lists():
         for i in range(len(records)):
             yield listed(records[:i] + records[i + 1:])
     for kind, fields in star_entries():
-        for i in range(len(OCCULTED) + 1):  # an eclipse's entry in a star's sheet, in every place, and a star's in an eclipse's
+        # an eclipse's entry in a star's sheet, in every place, and a star's in an eclipse's
+        for i in range(len(OCCULTED) + 1):
             yield listed(OCCULTED[:i] + [(kind - 0x30, fields)] + OCCULTED[i:])
         for i in (1, 3, 5, 6):
             yield listed(LISTING[:i] + [(kind, fields)] + LISTING[i:])
         for magnitude in (0, 1, 1300000):  # a magnitude after a star entry of each kind, and a share
             yield listed([HEAD, (kind, fields), (0x30, [9065, magnitude]), END])
         yield listed([HEAD, (kind, fields), (0x30, [9065, 0]), (0x31, [0]), END])
-    for code in (0x3F, 0x44, 0x140, 0x40000000):  # kinds next to a star's, and its byte with others before and behind it
+    # kinds next to a star's, and its byte with others before and behind it
+    for code in (0x3F, 0x44, 0x140, 0x40000000):
         yield listed([HEAD, (code, [16000, 16001]), OCCULTED[3], END])
 
 

@@ -45,7 +45,8 @@ def sheets():
 
 
 def repeated(count, end=b"", kind=0x13):
-    """An open entry of one second again and again, with a head in each two of them: from each of those a read goes on to the end."""
+    """An open entry of one second again and again, with a head in each two of them: from each of those a read goes on
+    to the end."""
     return bytes([kind, 0x01, 0x00, 0x01, 0x00]) * count + end
 
 

@@ -6,10 +6,10 @@
 
 The second wants `cargo build --offline --release` in tests/reference.
 
-A text has the lines of a typed request but for those of its station, and a line `station NUMBER LATITUDE LONGITUDE HEIGHT DELTA_T
-CLOCK` for each station, in their order, before, after or between the others. The program prints `station NUMBER steps N` for each, then
-`first NUMBER to SECOND`, or `first 0` if none enters; or `refused NUMBER PLACE`. The first line with a fault goes to standard error, and
-nothing is printed.
+A text has the lines of a typed request but for those of its station, and a line
+`station NUMBER LATITUDE LONGITUDE HEIGHT DELTA_T CLOCK` for each station, in their order, before, after or between
+the others. The program prints `station NUMBER steps N` for each, then `first NUMBER to SECOND`, or `first 0` if none
+enters; or `refused NUMBER PLACE`. The first line with a fault goes to standard error, and nothing is printed.
 """
 
 import random
@@ -48,8 +48,12 @@ def number(name, word, places, bounds):
 
 
 def node(words):
-    """The six numbers of a station. A missing word is no number; the last must be a station's number and end the line."""
-    numbers = [number(name, word, places, bounds) for word, (name, places, bounds) in zip(words + [b""] * len(STATION), STATION)]
+    """The six numbers of a station. A missing word is no number; the last must be a station's number and end the
+    line."""
+    numbers = [
+        number(name, word, places, bounds) for word,
+        (name, places, bounds) in zip(words + [b""] * len(STATION), STATION)
+    ]
     clock, wrong = units(b" ".join(words[len(STATION) :]), 0, UNSIGNED2)
     if wrong:
         raise Fault(b"clock is not a station's number")
@@ -120,12 +124,17 @@ def decimal(value, places):
 def station_line(draw, numbers, wrong):
     words = [decimal(value, places) for value, (_, places, _) in zip(numbers, NODE)]
     if wrong and draw.random() < 0.7:
-        others = ["", "x", "-", "1e3", "0.0000001", "0.001", "1.5", "99999999999", "-1", "65536", "2147.483648", "+7", "007."]
+        others = [
+            "", "x", "-", "1e3", "0.0000001", "0.001", "1.5", "99999999999", "-1", "65536", "2147.483648",
+            "+7", "007."
+        ]
         words[draw.randrange(6)] = draw.choice(others)
     elif wrong:
         words = words[: draw.randrange(6)] + words[: draw.randrange(6)]
     space = draw.choice([" ", " ", "  ", "\t"])
-    return draw.choice(["", "", " ", "\t"]) + space.join(["station", *words]) + draw.choice(["", "", " ", "\r", " # a comment", "#x0 1"])
+    return draw.choice(["", "", " ", "\t"]) + space.join(["station", *words]) + draw.choice(
+        ["", "", " ", "\r", " # a comment", "#x0 1"]
+    )
 
 
 def network(draw):
@@ -137,13 +146,20 @@ def network(draw):
     for place, number in enumerate(numbers):
         clock = draw.choice([0, *numbers[:place]])
         moved = [value + draw.choice([0, 0, draw.randint(-200000, 200000)]) for value in draw.choice(places)[1:3]]
-        stations.append([number, *moved, draw.choice([0, 0, draw.randint(-500, 9000)]), draw.choice([0, 0, draw.randint(-10000, 20000)]), clock])
+        stations.append(
+            [
+                number, *moved, draw.choice([0, 0, draw.randint(-500, 9000)]),
+                draw.choice([0, 0, draw.randint(-10000, 20000)]), clock
+            ]
+        )
     if draw.random() < 0.5:
         draw.shuffle(stations)
     for _ in range(draw.choice([0, 0, 0, 1, 1, 2]) if stations else 0):
         station = draw.choice(stations)
         field = draw.choice([0, 1, 2, 3, 4, 5, 5, 5])
-        station[field] = draw.choice([0, 1000, 90_000_001, -90_000_001, 180_000_001, 9001, -501, -10001, 20001, *(numbers * 2)])
+        station[field] = draw.choice(
+            [0, 1000, 90_000_001, -90_000_001, 180_000_001, 9001, -501, -10001, 20001, *(numbers * 2)]
+        )
     first = draw.randint(-2000, 1000)
     eclipse[22:] = [first, first + draw.choice([0, 10, 300, 300, 2000]), draw.choice([16, 16, 16, 100, 1000])]
     if draw.random() < 0.1:
@@ -174,7 +190,10 @@ def text(draw):
     elif fault < 0.1:
         lines.insert(draw.randint(0, len(lines)), draw.choice(lines))
     elif fault < 0.15:
-        others = ["station", "stations 1 0 0 0 0 0", "station1 0 0 0 0 0", "Station 1 0 0 0 0 0", "latitude 5", "delta t 0", "clock 0", "x4 0", "x0", "last 1 2"]
+        others = [
+            "station", "stations 1 0 0 0 0 0", "station1 0 0 0 0 0", "Station 1 0 0 0 0 0", "latitude 5",
+            "delta t 0", "clock 0", "x4 0", "x0", "last 1 2"
+        ]
         lines.insert(draw.randint(0, len(lines)), draw.choice(others))
     made = bytearray("\n".join(lines).encode() + draw.choice([b"\n", b"\n", b"", b"\n\n"]))
     if fault > 0.85:

@@ -1,5 +1,6 @@
 #!/usr/bin/env python3
-"""Holds the program `request` as the page runs it, in WebAssembly, against the program itself and against the reading of tests/request.py.
+"""Holds the program `request` as the page runs it, in WebAssembly, against the program itself and against the reading
+of tests/request.py.
 
     web/build && python3 tests/page_texts.py [TEXTS] [SEED]         wants node
 """
@@ -36,7 +37,10 @@ def main():
         native = subprocess.run([request.PROGRAM], input=text, capture_output=True, check=False)
         wanted = request.answer(text)
         if not (output, error) == (native.stdout, native.stderr) == wanted:
-            sys.exit(f"{text!r}\npage    {output!r} {error!r}\nprogram {native.stdout!r} {native.stderr!r}\nreading {wanted!r}")
+            sys.exit(
+                f"{text!r}\npage    {output!r} {error!r}\nprogram {native.stdout!r} {native.stderr!r}\n"
+                f"reading {wanted!r}"
+            )
     print(f"{len(texts)} texts, no difference between page, program and reading")
 
 

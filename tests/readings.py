@@ -71,7 +71,10 @@ def cases():
     xs += [x for unit in LENGTHS + BORDERS for x in about(unit, SCALES[2])]
     # k/128 degree and k/512 radii have a half of a unit where k is odd; so have k/128 hours
     xs += [sign * k / n for k in (1, 3, 127, 12_345) for n in (64, 128, 256, 512, 1024) for sign in (1, -1)]
-    xs += [0.0, -0.0, 5e-324, -5e-324, 2.2250738585072014e-308, 2.225073858507201e-308, sys.float_info.max, -sys.float_info.max]
+    xs += [
+        0.0, -0.0, 5e-324, -5e-324, 2.2250738585072014e-308, 2.225073858507201e-308, sys.float_info.max,
+        -sys.float_info.max
+    ]
     draw = random.Random(1954)
     xs += [draw.choice((1, -1)) * draw.randrange(2**53) * 2.0 ** draw.randrange(-120, 20) for _ in range(400)]
     return [bits(x) for x in xs] + NOT_FINITE + [draw.randrange(2**64) for _ in range(200)]
@@ -105,7 +108,10 @@ def check(count, seed):
         patterns = [drawn() for _ in range(AT_ONCE)]
         told = "".join(line(double(pattern)) for pattern in patterns)
         got = subprocess.run([PROGRAM], input=records(patterns), capture_output=True)
-        assert got.stdout.decode() == told, [(hex(p), a, b) for p, a, b in zip(patterns, got.stdout.decode().split("\n"), told.split("\n")) if a != b][:3]
+        assert got.stdout.decode() == told, [
+            (hex(p), a, b) for p, a,
+            b in zip(patterns, got.stdout.decode().split("\n"), told.split("\n")) if a != b
+        ][:3]
         tried += AT_ONCE
     print(f"tests/readings.py: the program and the fractions agree on {tried} doubles")
 

@@ -21,7 +21,10 @@ UNSIGNED2 = (0, 2**16 - 1)
 
 # name, decimals of a unit, what its bytes hold: of an eclipse, of a star
 LENGTHS = [(name, 8, SIGNED4) for name in "x0 x1 x2 x3 y0 y1 y2 y3".split()]
-STATION = [("station", 0, UNSIGNED2), ("latitude", 6, SIGNED4), ("longitude", 6, SIGNED4), ("height", 0, SIGNED4), ("delta t", 2, SIGNED4)]
+STATION = [
+    ("station", 0, UNSIGNED2), ("latitude", 6, SIGNED4), ("longitude", 6, SIGNED4), ("height", 0, SIGNED4),
+    ("delta t", 2, SIGNED4)
+]
 WINDOW = [("first", 0, SIGNED2), ("last", 0, SIGNED2), ("guard", 0, UNSIGNED2)]
 FIELDS = (
     LENGTHS
@@ -32,7 +35,9 @@ FIELDS = (
     + STATION
     + WINDOW
 )
-STAR_FIELDS = LENGTHS + [(name, 6, SIGNED4) for name in "d0 mu0 mu1 mu2".split()] + [("radius", 8, SIGNED4)] + STATION + WINDOW
+STAR_FIELDS = LENGTHS + [
+    (name, 6, SIGNED4) for name in "d0 mu0 mu1 mu2".split()
+] + [("radius", 8, SIGNED4)] + STATION + WINDOW
 FORMS = {len(FIELDS): (2, ">B22iBHiiiiBhhH"), len(STAR_FIELDS): (5, ">B13iBHiiiiBhhH")}
 LEFT_OUT = {"guard": 16}  # what stands for a name that need not be typed
 NUMBER = re.compile(rb"[+-]?([0-9]+\.?[0-9]*|\.[0-9]+)")
@@ -147,9 +152,13 @@ def typed(draw, name, places, bounds):
 
 def typed_instant(draw):
     """Words of an instant, most of them good."""
-    date = datetime.date.fromordinal(draw.randint(datetime.date(1583, 1, 1).toordinal(), datetime.date(9999, 12, 31).toordinal()))
+    date = datetime.date.fromordinal(
+        draw.randint(datetime.date(1583, 1, 1).toordinal(), datetime.date(9999, 12, 31).toordinal())
+    )
     day = f"{date.year:04}-{date.month:02}-{date.day:02}"
-    time = draw.choice([f"{draw.randrange(24):02}:{draw.randrange(60):02}:{draw.randrange(60):02}", "00:00:00", "23:59:59", "12:00:00"])
+    time = draw.choice(
+        [f"{draw.randrange(24):02}:{draw.randrange(60):02}:{draw.randrange(60):02}", "00:00:00", "23:59:59", "12:00:00"]
+    )
     time += draw.choice(["", "", ".0", f".{draw.randrange(10)}", f".{draw.randrange(100):02}"])
     words = f"{day}{draw.choice([' ', ' ', '  ', chr(9), ' ' + chr(13)])}{time} {draw.choice(['ET', 'UT'])}"
     if draw.random() < 0.3:
@@ -162,18 +171,38 @@ def typed_instant(draw):
 
 # ends of the calendar and of the day, leap days, and forms that are not quite it
 ODD_INSTANTS = [
-    *("1582-12-31 00:00:00 ET", "1583-01-01 00:00:00 ET", "2017-02-29 00:00:00 ET", "2000-02-29 00:00:00 UT", "1900-02-29 00:00:00 UT"),
-    *("2017-8-21 18:00:00 ET", "2017-08-21 24:00:00 ET", "2017-08-21 18:60:00 ET", "2017-08-21 18:00:60 UT", "2017-00-10 18:00:00 UT"),
-    *("2017-13-10 18:00:00 UT", "2017-04-31 18:00:00 UT", "2017-04-00 18:00:00 UT", "2017-08-21 18:00 ET", "2017-08-21 18:00:00", ""),
-    *("2017-08-21T18:00:00 ET", "2017-08-21 18:00:00ET", "2017-08-21 18:00:00. ET", "2017-08-21 18:00:00.123 ET", "2017-08-21 18:00:00 TT"),
-    *("2017-08-21 18:00:00 et", "２017-08-21 18:00:00 ET", "2017-08-21 18:00:00 ET x", "-2017-08-21 18:00:00 ET", "2017-08-21 18:00:00 UTC"),
-    *("9999-12-31 23:59:59.99 UT", "2024-02-29 00:00:00 UT", "2100-02-29 00:00:00 UT", "0000-01-01 00:00:00 ET", "2017-08-21 18:00:00.5x UT"),
+    *(
+        "1582-12-31 00:00:00 ET", "1583-01-01 00:00:00 ET", "2017-02-29 00:00:00 ET",
+        "2000-02-29 00:00:00 UT", "1900-02-29 00:00:00 UT"
+    ),
+    *(
+        "2017-8-21 18:00:00 ET", "2017-08-21 24:00:00 ET", "2017-08-21 18:60:00 ET",
+        "2017-08-21 18:00:60 UT", "2017-00-10 18:00:00 UT"
+    ),
+    *(
+        "2017-13-10 18:00:00 UT", "2017-04-31 18:00:00 UT", "2017-04-00 18:00:00 UT", "2017-08-21 18:00 ET",
+        "2017-08-21 18:00:00", ""
+    ),
+    *(
+        "2017-08-21T18:00:00 ET", "2017-08-21 18:00:00ET", "2017-08-21 18:00:00. ET",
+        "2017-08-21 18:00:00.123 ET", "2017-08-21 18:00:00 TT"
+    ),
+    *(
+        "2017-08-21 18:00:00 et", "２017-08-21 18:00:00 ET", "2017-08-21 18:00:00 ET x",
+        "-2017-08-21 18:00:00 ET", "2017-08-21 18:00:00 UTC"
+    ),
+    *(
+        "9999-12-31 23:59:59.99 UT", "2024-02-29 00:00:00 UT", "2100-02-29 00:00:00 UT",
+        "0000-01-01 00:00:00 ET", "2017-08-21 18:00:00.5x UT"
+    ),
 ]
 
 
 def instant_line(draw):
     words = draw.choice([" ", " ", "\t", "  ", ""]) + typed_instant(draw)
-    return draw.choice(["", "", " ", "\t"]) + "instant" + words + draw.choice(["", "", "", "\r", " ", " # a comment", "#"])
+    return draw.choice(["", "", " ", "\t"]) + "instant" + words + draw.choice(
+        ["", "", "", "\r", " ", " # a comment", "#"]
+    )
 
 
 def text(draw):
@@ -193,7 +222,10 @@ def text(draw):
     elif fault < 0.2:
         lines.insert(draw.randint(0, len(lines)), draw.choice(lines))
     elif fault < 0.25:
-        others = ["x4 0", "tanf1 0", "X0 1", "x0", "tan  f1 1", "latitude55", "last 1 2", "-", "=", "d1 0", "radius 0", "radius", "radius#", "instants 1", "Instant"]
+        others = [
+            "x4 0", "tanf1 0", "X0 1", "x0", "tan  f1 1", "latitude55", "last 1 2", "-", "=", "d1 0",
+            "radius 0", "radius", "radius#", "instants 1", "Instant"
+        ]
         lines.insert(draw.randint(0, len(lines)), draw.choice(others))
     made = bytearray("\n".join(lines).encode() + draw.choice([b"\n", b"\n", b"", b"\n\n"]))
     if fault > 0.8:
@@ -210,10 +242,14 @@ def text(draw):
 
 
 def faults(fields):
-    """Each field missing, twice, no number, a fraction, too large; and the guard left out, in other spellings, without its number."""
+    """Each field missing, twice, no number, a fraction, too large; and the guard left out, in other spellings,
+    without its number."""
     plain = ["%s %s" % (name, 1) for name, _, _ in fields]
     yield "\n".join(plain)
-    for line in ["# guard 17", "Guard 17", "guards 17", "guard17", "guard", *(f"guard {value}" for value in [-1, 15, 16, 1001, "16.0", 65536])]:
+    for line in [
+        "# guard 17", "Guard 17", "guards 17", "guard17", "guard",
+        *(f"guard {value}" for value in [-1, 15, 16, 1001, "16.0", 65536])
+    ]:
         yield "\n".join(plain[:-1] + [line])
     for k in range(len(fields)):
         name, places, (low, high) = fields[k]
@@ -227,7 +263,8 @@ def faults(fields):
 
 
 def shapes():
-    """Texts of the one request with a line of the other: an eclipse with a radius, a star with each name that only an eclipse has."""
+    """Texts of the one request with a line of the other: an eclipse with a radius, a star with each name that only an
+    eclipse has."""
     eclipse = ["%s %s" % (name, 1) for name, _, _ in FIELDS]
     star = ["%s %s" % (name, 1) for name, _, _ in STAR_FIELDS]
     named = ["radius 1", "\tradius 1", "radius", "radius# 1", "radius\t", "radius\r"]
@@ -240,12 +277,16 @@ def shapes():
 
 
 def instants():
-    """An eclipse and a star with an instant at every kind of place: good, each odd one, doubled; and with another fault before or behind it."""
+    """An eclipse and a star with an instant at every kind of place: good, each odd one, doubled; and with another
+    fault before or behind it."""
     good = "instant 2017-08-21 18:00:00 ET"
     for fields in FIELDS, STAR_FIELDS:
         plain = ["%s %s" % (name, 1) for name, _, _ in fields]
         for place in 0, 12, len(plain):
-            for line in [good, good + "#", "\t" + good + "\r", "instant", "instant#", "# " + good, "instants 1", "Instant 1", "instant\t" + good[8:]]:
+            for line in [
+                good, good + "#", "\t" + good + "\r", "instant", "instant#", "# " + good, "instants 1",
+                "Instant 1", "instant\t" + good[8:]
+            ]:
                 yield "\n".join(plain[:place] + [line] + plain[place:])
             for odd in ODD_INSTANTS:
                 yield "\n".join(plain[:place] + [f"instant {odd}"] + plain[place:])
@@ -279,7 +320,8 @@ def texts(count, seed):
 
 
 def compare(program, texts, answer, kind_of, most):
-    """Holds a program against `answer`, text by text, and tells how many there were of each kind. `most` texts unless one is typed."""
+    """Holds a program against `answer`, text by text, and tells how many there were of each kind. `most` texts unless
+    one is typed."""
     count = int(sys.argv[1]) if len(sys.argv) > 1 else most
     seed = int(sys.argv[2]) if len(sys.argv) > 2 else 1954
     kinds = {}
@@ -287,7 +329,9 @@ def compare(program, texts, answer, kind_of, most):
         ran = subprocess.run([program], input=given, capture_output=True)
         wanted = answer(given)
         if (ran.stdout, ran.stderr) != wanted:
-            sys.exit(f"text {tried}: {given!r}\nwrote  {ran.stdout!r} {ran.stderr!r}\nwanted {wanted[0]!r} {wanted[1]!r}")
+            sys.exit(
+                f"text {tried}: {given!r}\nwrote  {ran.stdout!r} {ran.stderr!r}\nwanted {wanted[0]!r} {wanted[1]!r}"
+            )
         kind = re.sub(rb"line \d+: ((tan f\d|delta t|[a-z0-9]+) (?=is|has))?", b"", wanted[1])
         kind = re.sub(rb"(?s)(?<=unknown name) .*", b"", kind).decode().strip() or kind_of(wanted[0])
         kinds[kind] = kinds.get(kind, 0) + 1

@@ -1,7 +1,9 @@
-"""Rows of Sun and Moon for 30 June 1954, 9h to 15h Universal Time: python3 tests/rows1954.py > rows, as in examples/rows1954.txt.
+"""Rows of Sun and Moon for 30 June 1954, 9h to 15h Universal Time: python3 tests/rows1954.py > rows, as in
+examples/rows1954.txt.
 
-Source document 001, section 14, prints right ascension, declination and distance of the Sun and right ascension, declination and
-parallax of the Moon for 9h, 11h, 13h and 15h, and corrections to them. The hours between come from the cubic through the four.
+Source document 001, section 14, prints right ascension, declination and distance of the Sun and right ascension,
+declination and parallax of the Moon for 9h, 11h, 13h and 15h, and corrections to them. The hours between come from
+the cubic through the four.
 """
 
 from fractions import Fraction

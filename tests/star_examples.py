@@ -1,9 +1,10 @@
 #!/usr/bin/env python3
-"""Star requests from source document 000: python3 tests/star_examples.py FOLDER makes NAME.txt and NAME.bin of each, as in examples/.
+"""Star requests from source document 000: python3 tests/star_examples.py FOLDER makes NAME.txt and NAME.bin of each,
+as in examples/.
 
-potsdam1956 is the occultation worked in chapter VI, section 3; kansas1949 is the second station of chapter XIII, section 5. What
-the book prints stands here as it is printed; the elements are made of it by its own formulas, in double precision. Without a
-folder it says how far the book's figures and contacts are from what is computed here.
+potsdam1956 is the occultation worked in chapter VI, section 3; kansas1949 is the second station of chapter XIII,
+section 5. What the book prints stands here as it is printed; the elements are made of it by its own formulas, in
+double precision. Without a folder it says how far the book's figures and contacts are from what is computed here.
 """
 
 import struct
@@ -12,7 +13,9 @@ from math import asin, atan2, cos, degrees, hypot, pi, radians, sin, sqrt
 from pathlib import Path
 
 SIDEREAL = 1.0027379  # sidereal time in mean time, the book's figure
-NAMES = "x0 x1 x2 x3 y0 y1 y2 y3 d0 mu0 mu1 mu2 radius station latitude longitude height delta_t first last guard".split()
+NAMES = (
+    "x0 x1 x2 x3 y0 y1 y2 y3 d0 mu0 mu1 mu2 radius station latitude longitude height delta_t first last guard"
+).split()
 PLACES = [8] * 8 + [6] * 4 + [8, 0, 6, 6, 0, 2, 0, 0, 0]  # decimals of a unit
 GUARD = 16  # where none is typed
 
@@ -92,12 +95,16 @@ POTSDAM = {
 
 
 def potsdam(book_place=None):
-    """About 18h13m ephemeris time, 22.05 s before the instant of the Moon's place: x and y go on at that instant's rates."""
+    """About 18h13m ephemeris time, 22.05 s before the instant of the Moon's place: x and y go on at that instant's
+    rates."""
     b = POTSDAM
     before = 22.05 / 3600
 
     def moved(hours):
-        return axis([b["moon"][0] + b["rates"][0] * hours, b["moon"][1] + b["rates"][1] * hours, b["moon"][2]], b["star"])
+        return axis(
+            [b["moon"][0] + b["rates"][0] * hours, b["moon"][1] + b["rates"][1] * hours, b["moon"][2]],
+            b["star"]
+        )
 
     step = 1e-3
     now, sooner, later = moved(0), moved(-step), moved(step)
@@ -195,7 +202,10 @@ def kansas(number=2):
 
 def numbers(made, station, latitude, longitude, height, delta_t, first, last, guard=GUARD):
     """The 21 numbers in whole units."""
-    typed = [*made.x, *made.y, made.declination, *made.mu, made.k, station, latitude, longitude, height, delta_t, first, last, guard]
+    typed = [
+        *made.x, *made.y, made.declination, *made.mu, made.k, station, latitude, longitude, height, delta_t,
+        first, last, guard
+    ]
     return [round(number * 10**places) for number, places in zip(typed, PLACES)]
 
 
@@ -228,18 +238,24 @@ COMMON = {
 }
 
 POTSDAM_TEXT = COMMON | {
-    "": "# Occultation of α Cancri at Potsdam, 22 March 1956: source document 000, chapter VI, section 3. Seconds count from 18h13m\n"
-    "# ephemeris time, coefficients are per hour; lengths in equatorial radii of the Earth, angles in degrees, longitude east\n"
-    "# positive, height in metres. The book has the Moon's place and rates at one instant, so x and y have no higher coefficients.",
+    "": "# Occultation of α Cancri at Potsdam, 22 March 1956: source document 000, chapter VI, section 3. "
+    "Seconds count from 18h13m\n"
+    "# ephemeris time, coefficients are per hour; lengths in equatorial radii of the Earth, angles in degrees, "
+    "longitude east\n"
+    "# positive, height in metres. The book has the Moon's place and rates at one instant, "
+    "so x and y have no higher coefficients.",
     "mu0": "\n# its hour angle at Greenwich, as if the Earth kept ephemeris time",
     "station": "\n# Geodetic Institute, Helmert's tower: 52°22'54.8\" N, 0h52m16.11s E, 91 m",
     "delta_t": "# ephemeris time less universal time, seconds",
-    "guard": "\n# the Moon's right ascension has three decimals of a second, 0.000004 of a radius: nothing is to be sure within 400 units",
+    "guard": "\n# the Moon's right ascension has three decimals of a second, 0.000004 of a radius: "
+    "nothing is to be sure within 400 units",
 }
 
 KANSAS_TEXT = COMMON | {
-    "": "# Occultation of ZC 2540 in Kansas, 1 September 1949: source document 000, chapter XIII, section 5, station 2. Seconds count from 3h\n"
-    "# Universal Time, coefficients are per hour; lengths in equatorial radii of the Earth, angles in degrees, longitude east\n"
+    "": "# Occultation of ZC 2540 in Kansas, 1 September 1949: source document 000, chapter XIII, section 5, "
+    "station 2. Seconds count from 3h\n"
+    "# Universal Time, coefficients are per hour; lengths in equatorial radii of the Earth, angles in degrees, "
+    "longitude east\n"
     "# positive, height in metres. x and y are cubics through the book's seven hourly places of the Moon.",
     "mu0": "\n# its hour angle at Greenwich",
     "station": "\n# 39°23' N, 96°48' W in the book; to more digits from the ξ and η that it prints",
@@ -275,9 +291,15 @@ def report():
         beyond = (hypot(*made.apart(at - 3)) - made.k) * metres
         contacts = [made.contact(outside, made.closest()) for outside in (-5400, 9000)]
         print("Station %d: latitude %.6f, longitude %.6f" % (number, *station_of(number)))
-        print(f"  at the time observed, {(at - 3) * 3600:.3f} s: x {x:.0f}, y {y:.0f}, distance less radius {beyond:.0f} m")
+        print(
+            f"  at the time observed, {(at - 3) * 3600:.3f} s: x {x:.0f}, y {y:.0f}, "
+            f"distance less radius {beyond:.0f} m"
+        )
         print("  contacts at", ", ".join(f"{second:.2f} s, {direction:.2f}°" for second, direction in contacts))
-    rows = [axis((*moon, between(KANSAS["parallax"], hour)), KANSAS["star"]) for hour, moon in enumerate(KANSAS["moon"])]
+    rows = [
+        axis((*moon, between(KANSAS["parallax"], hour)), KANSAS["star"]) for hour,
+        moon in enumerate(KANSAS["moon"])
+    ]
     for name, column, cubic_of in (("x", 0, made.x), ("y", 1, made.y)):
         off = [round((value(cubic_of, hour) - rows[hour + 3][column]) * 1e8) for hour in range(-3, 4)]
         print(f"  the cubic of {name} less the rows, 10^-8:", *off)

@@ -2,8 +2,8 @@
 """Test vectors of the reader for the program `sheet_vectors`: stored sheets, good and damaged, and what a reader has to
 answer.
 
-The answers come from the rules of documents 01 and 02, worked out here over lists of records; nothing is taken from the crates.
-tests/vectors.py puts them into the program's input and expected output.
+The answers come from the rules of documents 01 and 02, worked out here over lists of records; nothing is taken from
+the crates. tests/vectors.py puts them into the program's input and expected output.
 """
 import struct
 
@@ -20,7 +20,8 @@ for family, base in (("penumbra", 0x10), ("central", 0x20), ("star", 0x40)):
     TABLE[base + 2] = ("graze", family, (2, 2))
     TABLE[base + 3] = ("open", family, (2, 2))
 ECLIPSE = ("penumbra", "central")
-PLACE = {"head": 0, "penumbra": 1, "central": 2, "star": 1, "closest": 3, "share": 4, "end": 5}  # the star in place of penumbra and central
+# the star in place of penumbra and central
+PLACE = {"head": 0, "penumbra": 1, "central": 2, "star": 1, "closest": 3, "share": 4, "end": 5}
 DUE = (0, 3, 5)  # head, closest, end; a share may be left out
 
 
@@ -35,8 +36,8 @@ def section(kind):
 
 
 def order_holds(before, record):
-    """Whether a record may stand after those before it: families in order, head, closest and end exactly once, share at most once; no star
-    beside an eclipse or a share."""
+    """Whether a record may stand after those before it: families in order, head, closest and end exactly once, share
+    at most once; no star beside an eclipse or a share."""
     mine, seen = section(record[0]), [section(r[0]) for r in before]
     here, places = PLACE[mine], [PLACE[s] for s in seen]
     if places and here < max(places):
@@ -147,19 +148,33 @@ def answers(data):
 
 HEAD, END = (0x01, [7, 4800, 16800, 16]), (0x7F, [])
 CLOSEST = (0x30, [10800, 1037735])
-LISTING = [HEAD, (0x10, [5399, 5401, 2700]), (0x11, [16199, 16201, 900]), (0x20, [10699, 10701, 2700]), (0x21, [10899, 10901, 900]), CLOSEST, END]
-MIXED = [(0x01, [999, 0, 21600, 1000]), (0x13, [0, 40]), (0x11, [40, 42, 3599]), (0x12, [100, 200]), (0x10, [200, 201, 65535]), (0x12, [201, 203]),
-         (0x11, [203, 21599, 0]), (0x13, [21599, 21600]), (0x22, [0, 2]), (0x20, [2, 3, 1]), (0x23, [21599, 21600]), (0x30, [21600, 1300000]), END]
+LISTING = [
+    HEAD, (0x10, [5399, 5401, 2700]), (0x11, [16199, 16201, 900]), (0x20, [10699, 10701, 2700]),
+    (0x21, [10899, 10901, 900]), CLOSEST, END
+]
+MIXED = [
+    (0x01, [999, 0, 21600, 1000]), (0x13, [0, 40]), (0x11, [40, 42, 3599]), (0x12, [100, 200]),
+    (0x10, [200, 201, 65535]), (0x12, [201, 203]), (0x11, [203, 21599, 0]), (0x13, [21599, 21600]), (0x22, [0, 2]),
+    (0x20, [2, 3, 1]), (0x23, [21599, 21600]), (0x30, [21600, 1300000]), END
+]
 BARE = [(0x01, [1, 5, 5, 16]), (0x30, [5, 0]), END]
 INSTANT = [(0x01, [12, 16200, 16200, 17]), (0x13, [16200, 16200]), (0x23, [16200, 16200]), (0x30, [16200, 0]), END]
-CENTRAL = [(0x01, [3, 10, 90, 999]), (0x21, [10, 20, 5]), (0x20, [20, 30, 6]), (0x21, [31, 90, 7]), (0x30, [10, 1]), END]
-SHARED = [(0x01, [5, 100, 300, 16]), (0x10, [120, 122, 900]), (0x22, [150, 160]), (0x30, [200, 512345]), (0x31, [405728]), END]
+CENTRAL = [
+    (0x01, [3, 10, 90, 999]), (0x21, [10, 20, 5]), (0x20, [20, 30, 6]), (0x21, [31, 90, 7]), (0x30, [10, 1]),
+    END
+]
+SHARED = [
+    (0x01, [5, 100, 300, 16]), (0x10, [120, 122, 900]), (0x22, [150, 160]), (0x30, [200, 512345]),
+    (0x31, [405728]), END
+]
 ECLIPSED = [(0x01, [1, 5, 5, 16]), (0x30, [5, 1300000]), (0x31, [1000000]), END]
 OCCULTED = [HEAD, (0x40, [7321, 7323, 655]), (0x41, [10807, 10809, 3077]), (0x30, [9065, 0]), END]
-STARRED = [(0x01, [999, 0, 21600, 1000]), (0x43, [0, 40]), (0x41, [40, 42, 3599]), (0x42, [42, 200]), (0x40, [200, 201, 65535]),
+STARRED = [(0x01, [999, 0, 21600, 1000]), (0x43, [0, 40]), (0x41, [40, 42, 3599]), (0x42, [42, 200]),
+           (0x40, [200, 201, 65535]),
            (0x43, [21599, 21600]), (0x30, [21600, 0]), END]
 GOOD = [LISTING, MIXED, BARE, INSTANT, CENTRAL, SHARED, ECLIPSED, OCCULTED, STARRED]
-SHARES = (0, 1, 255, 256, 65535, 65536, 999999, 1000000, 1000001, 1000256, 0x01000000, 0x80000000, 0xFFFFFFFF)  # at and past the limit
+# at and past the limit
+SHARES = (0, 1, 255, 256, 65535, 65536, 999999, 1000000, 1000001, 1000256, 0x01000000, 0x80000000, 0xFFFFFFFF)
 
 
 def old(records):
@@ -208,7 +223,8 @@ def damaged():
         for records in (LISTING, BARE, ECLIPSED):
             for i in range(len(records) + 1):
                 yield encode(records[:i] + [(0x31, [millionths])] + records[i:])
-    for record in SHARED + [(0x11, [250, 260, 0]), (0x21, [250, 260, 0]), (0x13, [290, 300])]:  # each record where the end is due
+    # each record where the end is due
+    for record in SHARED + [(0x11, [250, 260, 0]), (0x21, [250, 260, 0]), (0x13, [290, 300])]:
         yield encode(SHARED[:5] + [record, END])
     for tail in (b"\x7f", b"\x00", b"\x01\x00\x07", encode(BARE)):  # bytes after the end
         for records in (BARE, LISTING, SHARED):
@@ -244,20 +260,23 @@ def damaged_stars():
             yield encode(records[:i] + [records[i]] + records[i:])
             if i + 1 < len(records):
                 yield encode(records[:i] + [records[i + 1], records[i]] + records[i + 2:])
-    for kind, fields in star_entries():  # star and eclipse entries in one sheet, each in every place; of the star's own family too
+    # star and eclipse entries in one sheet, each in every place; of the star's own family too
+    for kind, fields in star_entries():
         for i in range(len(OCCULTED) + 1):
             for base in (0x10, 0x20, 0x40):
                 yield encode(OCCULTED[:i] + [(kind - 0x40 + base, fields)] + OCCULTED[i:])
         for records in (LISTING, BARE):
             for i in range(len(records) + 1):
                 yield encode(records[:i] + [(kind, fields)] + records[i:])
-        for magnitude in (0, 1, 256, 65536, 1300000, 1300001, 0xFFFFFFFF):  # a magnitude after a star entry of each kind, and a share
+        # a magnitude after a star entry of each kind, and a share
+        for magnitude in (0, 1, 256, 65536, 1300000, 1300001, 0xFFFFFFFF):
             yield encode([HEAD, (kind, fields), (0x30, [9065, magnitude]), END])
             yield encode([HEAD, (kind, fields), (0x30, [9065, magnitude]), (0x31, [magnitude]), END])
     for millionths in (0, 1000001):  # a share in every place
         for i in range(len(OCCULTED) + 1):
             yield encode(OCCULTED[:i] + [(0x31, [millionths])] + OCCULTED[i:])
-    for code in (0x00, 0x02, 0x0F, 0x14, 0x1F, 0x24, 0x2F, 0x32, 0x3F, 0x44, 0x4F, 0x50, 0x53, 0x7E, 0x80, 0xC0):  # kinds next to those of the table
+    # kinds next to those of the table
+    for code in (0x00, 0x02, 0x0F, 0x14, 0x1F, 0x24, 0x2F, 0x32, 0x3F, 0x44, 0x4F, 0x50, 0x53, 0x7E, 0x80, 0xC0):
         yield good[:9] + bytes([code]) + good[10:]
         yield good[:-1] + bytes([code])
     for i, (kind, fields) in enumerate(STARRED):  # each field at and past its limits

@@ -1,11 +1,12 @@
 #!/usr/bin/env python3
-"""Streams of requests for the program `stream`; the answers are those of tests/reference, which finds the requests' ends itself.
+"""Streams of requests for the program `stream`; the answers are those of tests/reference, which finds the requests'
+ends itself.
 
     python3 tests/stream.py FOLDER                          makes FOLDER/stdin and stdout, those of crates/stream
     rt check stream && python3 tests/stream.py [STREAMS] [SEED]   holds the program against it, standard error too
 
-Both want `cargo build --offline --release` in tests/reference. With programs `sheet_bytes` and `star_sheet` built, each fiftieth stream is
-also answered by them, request by request.
+Both want `cargo build --offline --release` in tests/reference. With programs `sheet_bytes` and `star_sheet` built,
+each fiftieth stream is also answered by them, request by request.
 """
 
 import random
@@ -31,7 +32,8 @@ def with_number(request, at, value, width=4):
 
 
 def gate():
-    """The stream of the gate: good requests, one refused by each of 1, 2 and 3, and one that the input's end cuts short."""
+    """The stream of the gate: good requests, one refused by each of 1, 2 and 3, and one that the input's end cuts
+    short."""
     moscow, kiev, potsdam, kansas = map(example, ["moscow1954", "kiev1954", "potsdam1956", "kansas1949"])
     element = with_number(moscow, 1 + 4 * 5, 100_000_001)  # y1
     latitude = with_number(potsdam, 54 + 2, 90_000_001)
@@ -130,7 +132,10 @@ def one_by_one(data):
 
 def listings(year):
     """The listings of a year file's sheets, each by program `listing`; its ends are found by the kinds' lengths."""
-    bodies = {0x01: 8, 0x10: 6, 0x11: 6, 0x12: 4, 0x13: 4, 0x20: 6, 0x21: 6, 0x22: 4, 0x23: 4, 0x30: 6, 0x40: 6, 0x41: 6, 0x42: 4, 0x43: 4, 0x7F: 0}
+    bodies = {
+        0x01: 8, 0x10: 6, 0x11: 6, 0x12: 4, 0x13: 4, 0x20: 6, 0x21: 6, 0x22: 4, 0x23: 4, 0x30: 6, 0x40: 6,
+        0x41: 6, 0x42: 4, 0x43: 4, 0x7F: 0
+    }
     found, start, at = [], 0, 0
     while at < len(year):
         kind = year[at]
@@ -165,7 +170,10 @@ def main():
         bytes_out += len(output)
         refused += error.count(b"refused")
         stopped += error.count(b"stopped")
-    print(f"{len(streams)} streams of {sum(map(len, streams))} bytes alike, {bytes_out} bytes of sheets; {refused} refusals, {stopped} stops; {alone} one by one")
+    print(
+        f"{len(streams)} streams of {sum(map(len, streams))} bytes alike, {bytes_out} bytes of sheets; "
+        f"{refused} refusals, {stopped} stops; {alone} one by one"
+    )
 
 
 if __name__ == "__main__":

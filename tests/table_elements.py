@@ -1,9 +1,11 @@
-"""What program `table_elements` reads and prints, made another way: python3 tests/table_elements.py FOLDER writes stdin and stdout there;
-python3 tests/table_elements.py --faults PROGRAM runs a compiled program on bad input and compares what it tells.
+"""What program `table_elements` reads and prints, made another way: python3 tests/table_elements.py FOLDER writes
+stdin and stdout there; python3 tests/table_elements.py --faults PROGRAM runs a compiled program on bad input and
+compares what it tells.
 
-The tables: the books' rows; distances and the sine of d at their limits and a unit off, each in every row; the ends of 64 bits; random
-rows. The values follow the rule of the crate `besselian` (`Rounded`) in Python's whole numbers, and each is held against its exact
-value by squares. No quotient met here is half a unit from two whole numbers, so it does not matter which way halves go.
+The tables: the books' rows; distances and the sine of d at their limits and a unit off, each in every row; the ends
+of 64 bits; random rows. The values follow the rule of the crate `besselian` (`Rounded`) in Python's whole numbers,
+and each is held against its exact value by squares. No quotient met here is half a unit from two whole numbers, so it
+does not matter which way halves go.
 """
 
 import random
@@ -91,7 +93,8 @@ def judge(row, eight):
 def edges():
     """Rows at a limit and a unit off it, on both sides."""
     sun, moon = (2_345_678_901_235, 0, 0), (0, 5_912_345_679, 0)
-    # exactly 55 and 65, 23,000 and 24,000 radii: 9² + 6² + 2² = 11², 12² + 4² + 3² = 13², 22² + 6² + 3² = 23², 16² + 16² + 8² = 24²
+    # exactly 55 and 65, 23,000 and 24,000 radii: 9² + 6² + 2² = 11², 12² + 4² + 3² = 13², 22² + 6² + 3² = 23², 16² +
+    # 16² + 8² = 24²
     for (a, b, c), unit in (((9, 6, 2), 500_000_000), ((12, 4, 3), 500_000_000)):
         for off in (-1, 0, 1):
             yield [*sun, a * unit, -b * unit, c * unit + off]

@@ -1,8 +1,8 @@
 #!/usr/bin/env python3
 """Input and expected output of the program `times`: python3 tests/times.py FOLDER
 
-The input is the typed request of Hopkinsville, 2017, with its instant; the output its listing, which tests/reference gives, with the times of
-day that python/clock.py prints behind each second.
+The input is the typed request of Hopkinsville, 2017, with its instant; the output its listing, which tests/reference
+gives, with the times of day that python/clock.py prints behind each second.
 """
 import sys
 from pathlib import Path
@@ -27,7 +27,10 @@ def behind(instant, delta_t, words):
 
 
 text = (TOP / f"examples/{NAME}.txt").read_text()
-typed = dict(line.split(None, 1) for line in (TOP / "examples/instants.txt").read_text().splitlines() if not line.startswith("#"))[NAME]
+typed = dict(
+    line.split(None, 1) for line in (TOP / "examples/instants.txt").read_text().splitlines()
+    if not line.startswith("#")
+)[NAME]
 delta_t = next(line.split()[2] for line in text.splitlines() if line.startswith("delta t"))
 hundredths = round(float(delta_t) * 100)
 instant = clock.Instant.read(typed.encode())

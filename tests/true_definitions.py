@@ -1,9 +1,10 @@
 #!/usr/bin/env python3
 """The true shadow as it is defined, against 50 digits: tests/true_definitions.py SEED N
 
-Evaluates the definitions of true_sine (Series, Angles), true_place (TruePlace) and true_shadow (TrueShadow), whole number by whole number, at N
-drawn seconds of eclipses, and holds u, v and L against the page "The shadow at one second" in 50 digits, with sines by their own series. Prints the
-largest difference in units; what is cut off series, π and C must stay below 10^-7.
+Evaluates the definitions of true_sine (Series, Angles), true_place (TruePlace) and true_shadow (TrueShadow), whole
+number by whole number, at N drawn seconds of eclipses, and holds u, v and L against the page "The shadow at one
+second" in 50 digits, with sines by their own series. Prints the largest difference in units; what is cut off series,
+π and C must stay below 10^-7.
 """
 import math
 import random
@@ -40,7 +41,10 @@ def arc(w):
 
 
 def series(a, first):
-    terms = (arc(a) ** n * DENOMINATOR ** (21 - n) * (math.factorial(21) // math.factorial(n)) for n in range(first, 22, 2))
+    terms = (
+        arc(a) ** n * DENOMINATOR ** (21 - n) * (math.factorial(21) // math.factorial(n))
+        for n in range(first, 22, 2)
+    )
     return sum(-term if i % 2 else term for i, term in enumerate(terms))
 
 
@@ -109,11 +113,16 @@ def page(w):
     normal = 1 / (c * c + e * s * s).sqrt()
     h = Decimal(w["height"]) / 6_378_245
     r, p = (normal + h) * c * 10**8, (e * normal + h) * s * 10**8
-    return value["x"] - r * sh, value["y"] - (p * cd - r * ch * sd), value["l"] - (p * sd + r * ch * cd) * w["tangent"] / 10**8
+    return value["x"] - r * sh, value["y"] - (
+        p * cd - r * ch * sd
+    ), value["l"] - (p * sd + r * ch * cd) * w["tangent"] / 10**8
 
 
 def draw():
-    position = [random.randint(-(10**8), 10**8), random.randint(-(10**8), 10**8), random.randint(-(10**5), 10**5), random.randint(-(10**4), 10**4)]
+    position = [
+        random.randint(-(10**8), 10**8), random.randint(-(10**8), 10**8), random.randint(-(10**5), 10**5),
+        random.randint(-(10**4), 10**4)
+    ]
     return {
         "x": position,
         "y": position[::-1][2:] + position[2:],

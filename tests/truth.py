@@ -1,14 +1,16 @@
 #!/usr/bin/env python3
 """How far the rule is from the sky, searched for: tests/truth.py SEED CLIMBS
 
-Draws stations and elements within their ranges and climbs from each to a worse one, of eclipses and of stars by turns; holds the rule of
-document 01 against true sines, the true spheroid and unrounded angles, and prints the worst found of
+Draws stations and elements within their ranges and climbs from each to a worse one, of eclipses and of stars by
+turns; holds the rule of document 01 against true sines, the true spheroid and unrounded angles, and prints the worst
+found of
 
     a sine or a cosine; R and P; and the distance less L, of the true shadow against the exact one of demand 3
 
-in units of 10^-8. Stops where one is beyond what is proved: 2, 5, 5½ and 19; and where a second said to be inside or outside under a guard
-of 32 is truly not so. The rule is in whole numbers and the exact shadow in fractions, the true one in doubles, which are good to 10^-6 of a
-unit here; the worst is computed once more in 50 digits. Nothing is shared with the proofs or with tests/reference.
+in units of 10^-8. Stops where one is beyond what is proved: 2, 5, 5½ and 19; and where a second said to be inside or
+outside under a guard of 32 is truly not so. The rule is in whole numbers and the exact shadow in fractions, the true
+one in doubles, which are good to 10^-6 of a unit here; the worst is computed once more in 50 digits. Nothing is
+shared with the proofs or with tests/reference.
 """
 import math
 import random
@@ -117,7 +119,8 @@ def angles(w):
     """H and d in whole millionths as the rule has them, and without rounding."""
     turn = near(w["deltat"] * 417_807, 10_000)
     rule = rule_value(w["mu"], w["second"]) + w["longitude"] - turn, rule_value(w["d"], w["second"])
-    exact = (Fraction(exact_value(w["mu"], w["second"]), HOURS) + w["longitude"] - Fraction(w["deltat"] * 417_807, 10_000),
+    turn = Fraction(w["deltat"] * 417_807, 10_000)
+    exact = (Fraction(exact_value(w["mu"], w["second"]), HOURS) + w["longitude"] - turn,
              Fraction(exact_value(w["d"], w["second"]), HOURS))
     return rule, exact
 
@@ -132,7 +135,10 @@ def moves(w, digits=False):
     else:
         sines = [rule_sines(z) for z in (h, d)]
     exact = shadow(r, p, *sines, w["tangent"] if not digits else Decimal(w["tangent"]), ONE)
-    true = shadow(*true_place(w["latitude"], w["height"], digits), true_sines(true_h, digits), true_sines(true_d, digits), w["tangent"])
+    true = shadow(
+        *true_place(w["latitude"], w["height"], digits), true_sines(true_h, digits),
+        true_sines(true_d, digits), w["tangent"]
+    )
     tangent = 1, 1, ONE
     return [t / k - e / k for t, e, k in zip(true, exact, tangent)]
 
@@ -149,8 +155,14 @@ def difference(w, digits=False):
     (h, d), (true_h, true_d) = angles(w)
     r, p = rule_place(w["latitude"], w["height"])
     x, y, l = (number(exact_value(w[name], w["second"])) / HOURS for name in ("x", "y", "l"))
-    exact = shadow(number(r), number(p), *[tuple(map(number, rule_sines(z))) for z in (h, d)], number(w["tangent"]) / ONE, ONE)
-    true = shadow(*true_place(w["latitude"], w["height"], digits), true_sines(true_h, digits), true_sines(true_d, digits), number(w["tangent"]) / ONE)
+    exact = shadow(
+        number(r), number(p), *[tuple(map(number, rule_sines(z))) for z in (h, d)],
+        number(w["tangent"]) / ONE, ONE
+    )
+    true = shadow(
+        *true_place(w["latitude"], w["height"], digits), true_sines(true_h, digits),
+        true_sines(true_d, digits), number(w["tangent"]) / ONE
+    )
     return [root((x - e) ** 2 + (y - n) ** 2) - (l - t) for e, n, t in (exact, true)]
 
 
@@ -166,7 +178,8 @@ def draw(star):
         "height": random.choice((9000, random.randint(-500, 9000))),
         "deltat": random.randint(-10_000, 20_000),
         "mu": [random.randint(0, 359_999_999), random.randint(14_900_000, 15_100_000), random.randint(-100, 100)],
-        "d": [random.choice((-limit, limit, random.randint(-limit, limit)))] + ([0, 0] if star else [random.randint(-20_000, 20_000), random.randint(-100, 100)]),
+        "d": [random.choice((-limit, limit, random.randint(-limit, limit)))]
+        + ([0, 0] if star else [random.randint(-20_000, 20_000), random.randint(-100, 100)]),
         "tangent": random.randint(low, high),
         "second": random.choice((-1, 1)) * random.randint(10_000, 10_800),
     }
@@ -205,15 +218,21 @@ def step(w):
 
 
 def with_axis(w, beyond, sign=0):
-    """x, y and l so that the move counts whole: the axis lies where it points, or opposite, so many units beyond the edge."""
+    """x, y and l so that the move counts whole: the axis lies where it points, or opposite, so many units beyond the
+    edge."""
     east, north, term = moves(w)
     length = math.hypot(east, north) or 1.0
     sign = sign or (1 if term > 0 else -1)
     rule = angles(w)[0]
-    xi, eta, term = shadow(*rule_place(w["latitude"], w["height"]), *[rule_sines(z) for z in rule], w["tangent"] / ONE, ONE)
+    xi, eta, term = shadow(
+        *rule_place(w["latitude"], w["height"]), *[rule_sines(z) for z in rule], w["tangent"] / ONE, ONE
+    )
     l = 27_200_000 if w["star"] else 55_000_000
     away = -sign * (l - term + beyond)
-    return dict(w, x=[round(xi + away * east / length), 0, 0, 0], y=[round(eta + away * north / length), 0, 0, 0], l=[l, 0, 0])
+    return dict(
+        w, x=[round(xi + away * east / length), 0, 0, 0], y=[round(eta + away * north / length), 0, 0, 0],
+        l=[l, 0, 0]
+    )
 
 
 def said(w, guard):
@@ -266,7 +285,9 @@ def main():
             best = off(place)
             for _ in range(STEPS):
                 far = int(10 ** random.uniform(0, 8))
-                new = within(place[0] + random.randint(-far, far), 0, 90_000_000), random.choice((place[1], random.randint(-500, 9000)))
+                new = within(
+                    place[0] + random.randint(-far, far), 0, 90_000_000
+                ), random.choice((place[1], random.randint(-500, 9000)))
                 if (found := off(new)) > best:
                     place, best = new, found
             note(name, best, (5, 5.5)[which], place)

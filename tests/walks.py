@@ -1,6 +1,6 @@
 #!/usr/bin/env python3
-"""Test vectors of contacts for the program `rule_vectors`, from the words of document 01, "Entries of a sheet", and from
-no walk: every two seconds of the window are compared with the rules, one by one.
+"""Test vectors of contacts for the program `rule_vectors`, from the words of document 01, "Entries of a sheet", and
+from no walk: every two seconds of the window are compared with the rules, one by one.
 
 tests/vectors.py puts them into the program's input and expected output.
 """

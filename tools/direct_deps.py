@@ -82,15 +82,24 @@ class Types:
             return (crate if other in ('super', 'crate') else other, name)
         declared = r'(?ms)^\s*(?:pub )?(?:struct|enum) (\w+)(.*?(?:^\}|;$))'
         for name, body in re.findall(declared, text):
-            for field, variant, rest in re.findall(r'(?m)(?:^|[,({])\s*(?:pub )?(?:(\w+): )?(?=(?:(\w+)\()?)([^,\n]+)', body):
+            for field, variant, rest in re.findall(
+                r'(?m)(?:^|[,({])\s*(?:pub )?(?:(\w+): )?(?=(?:(\w+)\()?)([^,\n]+)', body
+            ):
                 kinds = [of(*found) for found in re.findall(path, rest)]
-                self.fields.setdefault((crate, name), []).extend((field or name + '::' + variant, kind) for kind in kinds)
+                self.fields.setdefault((crate, name), []).extend(
+                    (field or name + '::' + variant, kind) for kind in kinds
+                )
         text = re.sub(declared, '', re.sub(r'(?m)^\s*(?:ensures|requires|invariant)\b.*$', '', text))
         for name, signature in re.findall(r'(?s)\bfn (\w+)(.*?)\{', text):
             self.signatures.setdefault((crate, name), set()).update(of(*found) for found in re.findall(path, signature))
         self.seen[crate] |= {of(*found) for found in re.findall(path, text)}
-        self.seen[crate] |= {('call', other, name) for other, name in re.findall(r'(?<![\w:])([a-z]\w*)::(?:[a-z]\w*::)*([a-z]\w*)\(', text)}
-        self.taken[crate] |= set(re.findall(r'\.([a-z_]\w*)\b(?!\()', text)) | set(re.findall(r'\b([A-Z]\w*::[A-Z]\w*)\((?!_\))', text))
+        self.seen[crate] |= {
+            ('call', other, name) for other,
+            name in re.findall(r'(?<![\w:])([a-z]\w*)::(?:[a-z]\w*::)*([a-z]\w*)\(', text)
+        }
+        self.taken[crate] |= set(re.findall(r'\.([a-z_]\w*)\b(?!\()', text)) | set(
+            re.findall(r'\b([A-Z]\w*::[A-Z]\w*)\((?!_\))', text)
+        )
         text = re.sub(r'(?m)^\s*\S.*?=>|\blet [^=;]*=', '', text)     # patterns make nothing
         self.made[crate] |= {of(*found) for found in re.findall(path + r'(?:::[A-Z]\w*)?(?: \{|\()', text)}
 
@@ -102,7 +111,9 @@ class Types:
             if item not in seen:
                 seen.add(item)
                 found |= {kind for field, kind in self.fields.get(item, ()) if wanted(field)}
-                todo += self.signatures.get(item[1:], ()) if item[0] == 'call' else [kind for _, kind in self.fields.get(item, ())]
+                todo += self.signatures.get(item[1:], ()) if item[0] == 'call' else [
+                    kind for _, kind in self.fields.get(item, ())
+                ]
         return {kind[0] for kind in found if kind in self.fields}
 
     def needed(self, crate):

@@ -5,8 +5,8 @@
     unused_imports.py --write    remove them, and lines that import nothing more
     unused_imports.py --check    exit status 1 if there is one
 
-An operator such as `_+_` is used where one of its parts stands. A module named by `as` counts as used. A name in a `ruleset`
-counts as used by whoever imports the ruleset. Only lines of the form `use PATH.{a, b}` are looked at."""
+An operator such as `_+_` is used where one of its parts stands. A module named by `as` counts as used. A name in a
+`ruleset` counts as used by whoever imports the ruleset. Only lines of the form `use PATH.{a, b}` are looked at."""
 import argparse
 import re
 from pathlib import Path

@@ -1,5 +1,5 @@
-//! Nanoseconds a sine, by quadrants and by turns over the table lent once a call; and to fill a room with the table. The best of 200 runs
-//! of each, in turn.
+//! Nanoseconds a sine, by quadrants and by turns over the table lent once a call; and to fill a room with the table.
+//! The best of 200 runs of each, in turn.
 use std::hint::black_box;
 use std::time::Instant;
 

@@ -41,7 +41,8 @@ int main(int count, char **words) {
     int rounds = atoi(words[3]);
     static uint32_t sines[901], entries[100000];
     static uint8_t sheets[2][65536];
-    printf("%-28s %10s %10s %8s %10s %10s %8s\n", "request", "sheet, us", "now, us", "ratio", "read, us", "now, us", "ratio");
+    printf("%-28s %10s %10s %8s %10s %10s %8s\n", "request", "sheet, us", "now, us", "ratio", "read, us", "now, us",
+           "ratio");
     for (int w = 4; w < count; w++) {
         uint8_t request[116];
         FILE *file = fopen(words[w], "rb");
@@ -68,8 +69,8 @@ int main(int count, char **words) {
             printf("DIFFERENCE: %s\n", words[w]);
             return 1;
         }
-        printf("%-28s %10.2f %10.2f %8.3f %10.3f %10.3f %8.3f\n", words[w], best[0], best[1], best[1] / best[0], read[0], read[1],
-               read[1] / read[0]);
+        printf("%-28s %10.2f %10.2f %8.3f %10.3f %10.3f %8.3f\n", words[w], best[0], best[1], best[1] / best[0],
+               read[0], read[1], read[1] / read[0]);
     }
     return 0;
 }

@@ -1,5 +1,6 @@
-//! The covered share, proved and in plain Rust, timed in turns in one process: best of many runs, in microseconds a share. And the
-//! reference's sheet of 21,601 seconds, of which a share is so many parts. First the two are compared on drawn numbers.
+//! The covered share, proved and in plain Rust, timed in turns in one process: best of many runs, in microseconds a
+//! share. And the reference's sheet of 21,601 seconds, of which a share is so many parts. First the two are compared
+//! on drawn numbers.
 //!
 //!     RATTLE_STATICLIB=.. cargo run --offline --release
 

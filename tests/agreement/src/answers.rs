@@ -37,7 +37,8 @@ pub fn second(request: &[u8], second: i64, sines: &mut [u32], shadow: &mut [i64]
     Ok(8)
 }
 
-/// The five numbers of one second of a star, likewise: 10, 1, 2, 13, 3, 4 for the room for table S, 4 for the numbers' own.
+/// The five numbers of one second of a star, likewise: 10, 1, 2, 13, 3, 4 for the room for table S, 4 for the
+/// numbers' own.
 pub fn star_second(
     request: &[u8],
     second: i64,

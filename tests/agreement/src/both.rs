@@ -1,5 +1,6 @@
-//! One call of the library and of the reference: compared are the refusal's number, the value beside it, and each whole buffer with 64
-//! numbers past its end, the room for table S among them. The first difference stops the program with all that gives it again.
+//! One call of the library and of the reference: compared are the refusal's number, the value beside it, and each
+//! whole buffer with 64 numbers past its end, the room for table S among them. The first difference stops the program
+//! with all that gives it again.
 
 use crate::answers;
 use crate::library::{self, Reply};

@@ -13,7 +13,8 @@ pub fn whole_sheet(random: &mut Random) -> Vec<u8> {
     bytes
 }
 
-/// An open entry of one second again and again, in which heads may stand; a sheet may begin before it, an end may follow.
+/// An open entry of one second again and again, in which heads may stand; a sheet may begin before it, an end may
+/// follow.
 fn repeated(random: &mut Random) -> Vec<u8> {
     let [high, low] = (random.below(4) as u16 * 256 + random.below(4) as u16).to_be_bytes();
     let kind = [0x13, 0x23, 0x43][random.below(3) as usize];

@@ -6,9 +6,9 @@ use reference::random::Random;
 /// Coefficients, tabulated values and the tolerance.
 pub type Fit = (Vec<i64>, Vec<i64>, i64);
 
-/// Coefficients in the ranges of x, often at their ends, and tabulated values that are off by at most the tolerance, often by exactly
-/// that. Half of them with up to three numbers changed, to the ends of their ranges, one beyond or any number; some with a list that
-/// is longer or shorter.
+/// Coefficients in the ranges of x, often at their ends, and tabulated values that are off by at most the tolerance,
+/// often by exactly that. Half of them with up to three numbers changed, to the ends of their ranges, one beyond or
+/// any number; some with a list that is longer or shorter.
 pub fn draw(random: &mut Random) -> Fit {
     let mut coefficients = [0, 1, 2, 3].map(|k| match random.below(4) {
         0 => *ELEMENT_RANGES[k].start(),

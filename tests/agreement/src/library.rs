@@ -320,7 +320,8 @@ pub fn root(n: u64) -> (u64, u64) {
     (root, rounds)
 }
 
-/// The number of the refusal, 0 for none; the bytes written into the first room, or the place; those written into the second.
+/// The number of the refusal, 0 for none; the bytes written into the first room, or the place; those written into the
+/// second.
 pub type MendReply = (u64, u64, u64);
 
 pub fn mend(file: &[u8], sheets: &mut [u8], dropped: &mut [u8]) -> MendReply {

@@ -1,18 +1,24 @@
 //! `agreement REQUESTS SHEETS SEED`: the compiled library against document 01 in plain Rust.
 //!
-//! Compared for each call: the refusal's number, the value beside it, and each whole buffer with 64 numbers past its end; the room for
-//! table S among them, of no numbers, 900, 901, 902, or any count.
+//! Compared for each call: the refusal's number, the value beside it, and each whole buffer with 64 numbers past its
+//! end; the room for table S among them, of no numbers, 900, 901, 902, or any count.
 //!
-//! - a sheet for each request, within and outside the limits, under guards of all sizes, near the edge, slow, along it, of other shapes;
-//!   its room exact, one less, none, plenty; and of each request within the limits the states of its seconds under a larger guard: unsure,
+//! - a sheet for each request, within and outside the limits, under guards of all sizes, near the edge, slow, along
+//!   it, of other shapes;
+//!   its room exact, one less, none, plenty; and of each request within the limits the states of its seconds under a
+//!   larger guard: unsure,
 //!   or as they were;
-//! - the sheet with its share for each request likewise: it is the other one with the share of the closest second before the end;
+//! - the sheet with its share for each request likewise: it is the other one with the share of the closest second
+//!   before the end;
 //! - eight seconds of each request, within ±10,800 and outside, and their shares;
-//! - as many shares as requests where the discs overlap, central, at the edge of the total phase, or anywhere: 1,000,000 where that phase
+//! - as many shares as requests where the discs overlap, central, at the edge of the total phase, or anywhere:
+//!   1,000,000 where that phase
 //!   is sure, 0 where the penumbra is surely left;
-//! - the mirror of each request; its sheet, with the share or without, and its seconds against the request's own, directions left out;
+//! - the mirror of each request; its sheet, with the share or without, and its seconds against the request's own,
+//!   directions left out;
 //!   the mirror of the mirror;
-//! - sheets, whole and damaged, of eclipses with a share and without and of stars, read and listed; and entries, whole and damaged,
+//! - sheets, whole and damaged, of eclipses with a share and without and of stars, read and listed; and entries,
+//!   whole and damaged,
 //!   written; what was read is written again, and the other way;
 //! - as many fits as sheets, within the tolerance and at its edge, with numbers changed, of other lengths;
 //! - as many roots as sheets, with their rounds, and those of all numbers up to 70,000.
@@ -121,7 +127,8 @@ fn beside_north(reply: Reply, shadow: &[i64; 8]) -> (Reply, [i64; 7]) {
     (reply, [u, v, l1, l2, penumbra, central, magnitude])
 }
 
-/// A request and its mirror: the same answer, the same entries but for directions, the same seconds but for v's sign, the same shares.
+/// A request and its mirror: the same answer, the same entries but for directions, the same seconds but for v's sign,
+/// the same shares.
 fn compare_mirror(random: &mut Random, request: &[u8], asked: &Asked, sheet: &Left<u8>) {
     let ((number, length), mirrored) = mirror_both(random, request, 200);
     if number != 0 {
@@ -164,8 +171,8 @@ fn compare_mirror(random: &mut Random, request: &[u8], asked: &Asked, sheet: &Le
     }
 }
 
-/// A request within the limits under a larger guard: at seconds of its window the same numbers, and states the same or unsure. How many
-/// states were withheld.
+/// A request within the limits under a larger guard: at seconds of its window the same numbers, and states the same
+/// or unsure. How many states were withheld.
 fn compare_guards(random: &mut Random, bytes: &[u8]) -> u64 {
     let Ok(request) = Request::from_bytes(bytes) else { return 0 };
     if request.check().is_err() {

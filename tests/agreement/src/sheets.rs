@@ -4,8 +4,8 @@ use reference::random::Random;
 use reference::shadow::{GUARD, GUARDS};
 use reference::sheet::{self, Record, WORDS};
 
-/// A well-formed sheet as entries, with many entries, grazes and opens among them, of an eclipse or of a star. Every other one of an
-/// eclipse, or with no entry of a phase, has a share.
+/// A well-formed sheet as entries, with many entries, grazes and opens among them, of an eclipse or of a star. Every
+/// other one of an eclipse, or with no entry of a phase, has a share.
 pub fn entries(random: &mut Random) -> Vec<u32> {
     let (a, b) = (random.below(21_601) as u32, random.below(21_601) as u32);
     let (first, last) = (a.min(b), a.max(b));
@@ -100,8 +100,8 @@ fn put_at_limit(random: &mut Random, entries: &mut [u32]) {
     };
 }
 
-/// Damage a sheet: fields at limits, bytes changed, cut, records dropped, doubled or exchanged, a star's record among an eclipse's or the
-/// other way, bytes after it, the head without its guard, as it was before; or leave it.
+/// Damage a sheet: fields at limits, bytes changed, cut, records dropped, doubled or exchanged, a star's record among
+/// an eclipse's or the other way, bytes after it, the head without its guard, as it was before; or leave it.
 pub fn damage(random: &mut Random, sheet: &mut Vec<u8>) {
     for _ in 0..random.below(3) {
         match random.below(14) {
@@ -149,7 +149,8 @@ pub fn damage(random: &mut Random, sheet: &mut Vec<u8>) {
     }
 }
 
-/// Damage entries: fields at limits, numbers changed, also to those that no body holds, cut, entries dropped, doubled or exchanged; or leave them.
+/// Damage entries: fields at limits, numbers changed, also to those that no body holds, cut, entries dropped, doubled
+/// or exchanged; or leave them.
 pub fn damage_entries(random: &mut Random, entries: &mut Vec<u32>) {
     for _ in 0..random.below(3) {
         match random.below(12) {

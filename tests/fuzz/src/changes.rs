@@ -78,8 +78,8 @@ fn put_at_limit(random: &mut Random, request: &mut Request) {
     }
 }
 
-/// A number at a limit or past it, or the axis near the cone's edge or slow at a second of the window; what is no request
-/// becomes one, and its numbers come within their limits.
+/// A number at a limit or past it, or the axis near the cone's edge or slow at a second of the window; what is no
+/// request becomes one, and its numbers come within their limits.
 pub fn change_request(random: &mut Random, bytes: &mut Vec<u8>) {
     let Ok(mut request) = Request::from_bytes(bytes) else { return give_shape(bytes) };
     let within = request.check().is_ok();

@@ -1,8 +1,8 @@
 //! Targets for libFuzzer: an input goes to the compiled library and to the reference, and any difference aborts.
 //!
-//! Compared: the refusal's number, the value beside it, and each whole buffer with 64 numbers past its end. The library is there twice:
-//! the archive itself, and its guide, the same module compiled with counters on its edges, so that the fuzzer sees the library's own
-//! branches.
+//! Compared: the refusal's number, the value beside it, and each whole buffer with 64 numbers past its end. The
+//! library is there twice: the archive itself, and its guide, the same module compiled with counters on its edges, so
+//! that the fuzzer sees the library's own branches.
 
 pub mod changes;
 pub mod networks;

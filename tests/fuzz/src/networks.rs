@@ -42,7 +42,8 @@ fn node(leave: u8, bytes: &[u8]) -> network::Node {
     network::Node::from_fields(fields)
 }
 
-/// The bytes of a network, or nothing if a number has no room in them: a request whose station is not used, then the stations.
+/// The bytes of a network, or nothing if a number has no room in them: a request whose station is not used, then the
+/// stations.
 pub fn packed(asked: &Network) -> Option<Vec<u8>> {
     let Network { elements, window, guard, .. } = *asked;
     let unused = hand_worked();
@@ -72,8 +73,8 @@ fn old_steps(at: usize) -> u64 {
     (at as u64 + 1).wrapping_mul(0x9E37_79B9_7F4A_7C15)
 }
 
-/// Two bytes for the room, one for what is left as it stands, then the eclipse as a request and the stations. With `LEAVE_SHAPE` the lengths
-/// of eclipse and steps may be others.
+/// Two bytes for the room, one for what is left as it stands, then the eclipse as a request and the stations. With
+/// `LEAVE_SHAPE` the lengths of eclipse and steps may be others.
 pub fn network(input: &[u8]) {
     let &[near, far, leave, ref raw @ ..] = input else { return };
     let Some(asked) = unpacked(leave, raw) else { return };
@@ -104,7 +105,8 @@ pub fn network(input: &[u8]) {
     both_agree("ukhtvaresh_network with counters", raw, rooms, &guided, &theirs);
 }
 
-/// A station taken out, doubled or moved, a clock or a number that is another's, a fault of the list; what is no network becomes one.
+/// A station taken out, doubled or moved, a clock or a number that is another's, a fault of the list; what is no
+/// network becomes one.
 pub fn change(random: &mut Random, bytes: &mut Vec<u8>) {
     let asked = unpacked(LEAVE_NUMBERS, bytes).filter(|asked| !asked.nodes.is_empty());
     let mut asked = asked.unwrap_or_else(|| draw(random));

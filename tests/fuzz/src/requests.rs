@@ -102,7 +102,8 @@ pub(crate) fn both_agree<T: PartialEq + Debug>(
     must_agree(&format!("the sines of {what}"), given, lent, &ours.1, &theirs.1);
 }
 
-/// Bits of the byte before a request: what is left as it stands. The rest is mended, so that not every change ends in a refusal.
+/// Bits of the byte before a request: what is left as it stands. The rest is mended, so that not every change ends in
+/// a refusal.
 pub const LEAVE_SHAPE: u8 = 0x01;
 pub const LEAVE_NUMBERS: u8 = 0x02;
 

@@ -116,8 +116,8 @@ fn put_at_limit(random: &mut Random, request: &mut StarRequest) {
     }
 }
 
-/// A number at a limit or past it, or the axis near the cylinder's edge, along it or slow at a second of the window; what is no request
-/// becomes one, and its numbers come within their limits.
+/// A number at a limit or past it, or the axis near the cylinder's edge, along it or slow at a second of the window;
+/// what is no request becomes one, and its numbers come within their limits.
 pub fn change(random: &mut Random, bytes: &mut Vec<u8>) {
     let Ok(mut request) = StarRequest::from_bytes(bytes) else { return give_shape(bytes) };
     match random.below(8) {

@@ -1,4 +1,5 @@
-//! A shadow's axis put near the edge at a second, along it, or slowed down over the station: what makes a request difficult.
+//! A shadow's axis put near the edge at a second, along it, or slowed down over the station: what makes a request
+//! difficult.
 
 use crate::elements::{ELEMENT_RANGES, FARTHEST};
 use crate::random::Random;
@@ -18,7 +19,8 @@ pub trait Axis: Copy {
     fn coefficients(&mut self) -> [&mut [i64; 4]; 2];
 }
 
-/// How far from the cone's edge: at most 40 units either way under document 01's guard, farther out by what another is more.
+/// How far from the cone's edge: at most 40 units either way under document 01's guard, farther out by what another
+/// is more.
 pub fn beyond(random: &mut Random, guard: i64) -> i64 {
     let drawn = random.within(&(-40..=40));
     drawn + (guard - GUARD) * drawn.signum()

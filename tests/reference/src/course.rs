@@ -1,4 +1,5 @@
-//! What demand 3 speaks of: the seconds and the sheet of a request within its ranges, an eclipse's or a star's, phase by phase.
+//! What demand 3 speaks of: the seconds and the sheet of a request within its ranges, an eclipse's or a star's, phase
+//! by phase.
 
 use crate::elements::{Window, ELEMENT_RANGES, FARTHEST, STATION_RANGES};
 use crate::exact::{units, Edge, Exact, ExactStar};

@@ -1,4 +1,5 @@
-//! Positions as doubles: document 02, wish 5. Nothing here computes with doubles; they are taken apart and put together as bits.
+//! Positions as doubles: document 02, wish 5. Nothing here computes with doubles; they are taken apart and put
+//! together as bits.
 
 use crate::elements::{Elements, Station, Window, ELEMENT_RANGES, STATION_RANGES};
 use crate::refusal::Refusal;
@@ -93,8 +94,8 @@ fn in_range(unit: i128, range: &RangeInclusive<i64>) -> bool {
     (i128::from(*range.start())..=i128::from(*range.end())).contains(&unit)
 }
 
-/// The sheet of 22 doubles, a longitude in degrees (0) or hours (1), and number, latitude, height, ΔT, first, last, guard: 10, 1, 12, 2, 3, 4
-/// for the room for table S, 4 for the sheet's own.
+/// The sheet of 22 doubles, a longitude in degrees (0) or hours (1), and number, latitude, height, ΔT, first, last,
+/// guard: 10, 1, 12, 2, 3, 4 for the room for table S, 4 for the sheet's own.
 pub fn sheet(
     elements: &[f64],
     longitude: f64,

@@ -1,10 +1,9 @@
-//! `reference sheet`: 115 bytes on standard input, the listing on standard output.
-//! `reference star`: the 79 bytes of a star request on standard input, the listing on standard output.
-//! `reference network`: whole numbers on standard input, a line of 25 for the eclipse, then a line of six for each station; the steps and
-//! the first station on standard output.
-//! `reference stream`: requests one after the other on standard input, their sheets on standard output, refusals on standard error.
-//! `reference time N`: either input, its sheet written N times; prints nanoseconds a sheet.
-//! `reference seconds`: 115 bytes, a line `second L1 L2 M share` for each second of its window.
+//! `reference sheet`: 115 bytes on standard input, the listing on standard output. `reference star`: the 79 bytes of
+//! a star request on standard input, the listing on standard output. `reference network`: whole numbers on standard
+//! input, a line of 25 for the eclipse, then a line of six for each station; the steps and the first station on
+//! standard output. `reference stream`: requests one after the other on standard input, their sheets on standard
+//! output, refusals on standard error. `reference time N`: either input, its sheet written N times; prints
+//! nanoseconds a sheet. `reference seconds`: 115 bytes, a line `second L1 L2 M share` for each second of its window.
 //! `reference shares`: lines that begin with L1, L2 and M on standard input, a line `L1 L2 M share` for each.
 
 use reference::listing::{program, sheet_of_input, star_of_input, star_program, ROOM};

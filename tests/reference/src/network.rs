@@ -111,8 +111,8 @@ impl Network {
         self.nodes.iter().position(|node| node.station.number == number)
     }
 
-    /// How many steps the clock at a place is from the antenna, or nothing if its chain never reaches 0: such a chain comes to some
-    /// station twice, so it has more steps than the list has stations.
+    /// How many steps the clock at a place is from the antenna, or nothing if its chain never reaches 0: such a chain
+    /// comes to some station twice, so it has more steps than the list has stations.
     fn steps_of(&self, place: usize) -> Option<u64> {
         let mut clock = self.nodes[place].clock;
         let mut steps = 1;
@@ -131,8 +131,8 @@ impl Network {
         (0..self.nodes.len()).filter_map(|place| self.steps_of(place)).collect()
     }
 
-    /// The station whose first enter penumbra, in the sheet that it gets alone, has the smallest "to"; the first in the list among
-    /// equals. Of a list that is not refused.
+    /// The station whose first enter penumbra, in the sheet that it gets alone, has the smallest "to"; the first in
+    /// the list among equals. Of a list that is not refused.
     pub fn first(&self) -> Option<First> {
         let entered = |node: &Node| {
             let records = self.request(node).check().expect("a request within its ranges").records();
@@ -145,8 +145,9 @@ impl Network {
     }
 }
 
-/// The number of the station that sees the eclipse first, 0 if none enters, and the steps in lent room, 0 past the list. Refusals: 10
-/// for other lengths than 25 and 64; 19, 1, 2, 3, 14, 15, 16; 4 for the room for table S. After a refusal both rooms hold what they held.
+/// The number of the station that sees the eclipse first, 0 if none enters, and the steps in lent room, 0 past the
+/// list. Refusals: 10 for other lengths than 25 and 64; 19, 1, 2, 3, 14, 15, 16; 4 for the room for table S. After a
+/// refusal both rooms hold what they held.
 pub fn network(
     eclipse: &[i64],
     nodes: &[Node],
@@ -162,8 +163,8 @@ pub fn network(
     Ok(network.first().map_or(0, |first| first.number as u64))
 }
 
-/// What the program `network` prints: a line for each station with its steps, then the station that sees the eclipse first with the
-/// second; or the refusal.
+/// What the program `network` prints: a line for each station with its steps, then the station that sees the eclipse
+/// first with the second; or the refusal.
 pub fn program(eclipse: &[i64], nodes: &[Node]) -> String {
     let network = Network::from_numbers(eclipse, nodes).and_then(|network| network.check().map(|()| network));
     let network = match network {

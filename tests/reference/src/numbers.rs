@@ -13,7 +13,8 @@ pub const fn root(n: i64) -> i64 {
     n.isqrt()
 }
 
-/// Rounds of the root of n: the binary digits are crossed off two at a time from the right, a single one left over by itself; 0 has none.
+/// Rounds of the root of n: the binary digits are crossed off two at a time from the right, a single one left over by
+/// itself; 0 has none.
 pub fn rounds(n: u64) -> u64 {
     let mut digits = match n {
         0 => String::new(),

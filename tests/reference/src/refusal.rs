@@ -11,7 +11,8 @@ pub enum Refusal {
     Guard,
     /// 2: an element is outside its range; the first such field, 0..21, of a star 0..11.
     Element(usize),
-    /// 3: a station value is outside its range; the first such field, 0..4, in a network's list ten times the list place plus that.
+    /// 3: a station value is outside its range; the first such field, 0..4, in a network's list ten times the list
+    /// place plus that.
     Station(usize),
     /// 4: the room is too short; the length or count it needs.
     Room(usize),

@@ -50,8 +50,8 @@ pub fn station_and_window(bytes: &[u8; STATION_AND_WINDOW]) -> Result<(Station, 
     Ok((station, Window { first, last }, u16::from_be_bytes(two(24)).into()))
 }
 
-/// A request's bytes: the kind of its elements, their numbers, then station, window and guard; nothing if a number has no
-/// room in them.
+/// A request's bytes: the kind of its elements, their numbers, then station, window and guard; nothing if a number
+/// has no room in them.
 pub fn request_bytes(
     kind: u8,
     numbers: &[i64],
@@ -77,9 +77,9 @@ pub fn request_bytes(
 }
 
 impl Request {
-    /// From exactly 115 bytes, which never ask for the share: kind 02 and 22 signed 4-byte numbers; kind 03 and number (unsigned, 2 bytes),
-    /// latitude, longitude, height, ΔT (signed, 4 each); kind 04 and first, last (signed, 2 each), guard (unsigned,
-    /// 2 bytes); big-endian. Refused as 10 otherwise. Ranges are not looked at.
+    /// From exactly 115 bytes, which never ask for the share: kind 02 and 22 signed 4-byte numbers; kind 03 and
+    /// number (unsigned, 2 bytes), latitude, longitude, height, ΔT (signed, 4 each); kind 04 and first, last (signed,
+    /// 2 each), guard (unsigned, 2 bytes); big-endian. Refused as 10 otherwise. Ranges are not looked at.
     pub fn from_bytes(bytes: &[u8]) -> Result<Request, Refusal> {
         let bytes: &[u8; REQUEST_LENGTH] = bytes.try_into().map_err(|_| Refusal::Shape)?;
         let Some((elements, tail)) = bytes.split_last_chunk() else { return Err(Refusal::Shape) };

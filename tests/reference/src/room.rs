@@ -19,8 +19,8 @@ pub fn fill(sines: &mut [u32]) -> Result<(), Refusal> {
     Ok(())
 }
 
-/// The sheet of a program's input, or its refusal: 10, 1, 2, 3, 4 for the room for table S, 4 for the sheet's own, which alone leaves
-/// that room filled.
+/// The sheet of a program's input, or its refusal: 10, 1, 2, 3, 4 for the room for table S, 4 for the sheet's own,
+/// which alone leaves that room filled.
 pub fn sheet_of_input(input: &[u8], sines: &mut [u32], buffer: &mut [u8]) -> Result<usize, Refusal> {
     sheet_for(Request::from_bytes(input)?, sines, buffer)
 }
@@ -49,8 +49,8 @@ fn fill_and_write(records: &[Record], sines: &mut [u32], buffer: &mut [u8]) -> R
     copy_into(&bytes_of(records), buffer)
 }
 
-/// The share at a second of a program's input, also outside its window: 10, 1 for the window or the second, then for the guard, 2, 3,
-/// 4 for the room for table S.
+/// The share at a second of a program's input, also outside its window: 10, 1 for the window or the second, then for
+/// the guard, 2, 3, 4 for the room for table S.
 pub fn share_of_input(input: &[u8], second: i64, sines: &mut [u32]) -> Result<i64, Refusal> {
     let request = Request::from_bytes(input)?;
     if !(-FARTHEST..=FARTHEST).contains(&second) {

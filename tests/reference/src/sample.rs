@@ -92,8 +92,8 @@ pub(crate) fn place_and_second(random: &mut Random) -> (Station, i64, i64) {
     let place_manner = if random.once_in(2) { Manner::AtLimits } else { Manner::Anywhere };
     let [number, latitude, longitude, height] =
         [0, 1, 2, 3].map(|k| field(random, &STATION_RANGES[k], place_manner));
-    // ΔT and the guard have a lot of their own, told by the other numbers, and are 0 and 16 every other time: what was drawn before
-    // they came stays.
+    // ΔT and the guard have a lot of their own, told by the other numbers, and are 0 and 16 every other time: what
+    // was drawn before they came stays.
     let mut own = Random::new((number ^ latitude << 10 ^ longitude << 20 ^ height << 40) as u64);
     let delta_t = if own.once_in(2) { 0 } else { field(&mut own, &STATION_RANGES[4], place_manner) };
     let station = Station { number, latitude, longitude, height, delta_t };

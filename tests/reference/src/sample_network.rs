@@ -1,5 +1,5 @@
-//! Networks to try: stars, chains, trees, rings and chains into rings, clocks of no station, numbers used twice; stations side by side, at
-//! one place, or anywhere.
+//! Networks to try: stars, chains, trees, rings and chains into rings, clocks of no station, numbers used twice;
+//! stations side by side, at one place, or anywhere.
 
 use crate::elements::{Elements, Station, Window, ELEMENT_RANGES, FARTHEST, STATION_RANGES};
 use crate::network::{Network, Node, MOST};
@@ -137,8 +137,8 @@ fn past(random: &mut Random, range: &RangeInclusive<i64>) -> i64 {
     }
 }
 
-/// One fault: a list of another length, a number outside its range, a number used twice, a clock of no station, a station that follows
-/// itself, two that follow each other.
+/// One fault: a list of another length, a number outside its range, a number used twice, a clock of no station, a
+/// station that follows itself, two that follow each other.
 pub fn fault(random: &mut Random, network: &mut Network) {
     let sort = random.below(10);
     if sort == 0 {

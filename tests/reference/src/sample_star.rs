@@ -8,8 +8,8 @@ use crate::shadow::GUARD;
 use crate::star::{star_ranges, Cylinder, StarElements, StarRequest, RADII};
 use std::f64::consts::TAU;
 
-/// At the north pole, which does not turn: the axis comes from the west, 10,000 units a second, and is over it at second 0, so that the
-/// edge is there at -2725 and 2725.
+/// At the north pole, which does not turn: the axis comes from the west, 10,000 units a second, and is over it at
+/// second 0, so that the edge is there at -2725 and 2725.
 pub fn over_the_pole() -> StarRequest {
     StarRequest {
         elements: StarElements::from_fields([0, 36_000_000, 0, 0, 99_664_768, 0, 0, 0, 0, 0, 15_000_000, 0]),
@@ -26,7 +26,8 @@ pub fn draw(random: &mut Random, manner: Manner) -> StarRequest {
     let mut fields = ranges.clone().map(|range| field(random, &range, manner));
     let mut radius = field(random, &RADII, manner);
     if let Manner::Natural = manner {
-        // The Moon's speed, the star's declination and the time of day are anything usual; its radius is one of the books'.
+        // The Moon's speed, the star's declination and the time of day are anything usual; its radius is one of the
+        // books'.
         fields[0] = random.within(&(-60_000_000..=60_000_000));
         fields[1] = random.within(&(45_000_000..=60_000_000));
         fields[4] = random.within(&(-100_000_000..=100_000_000));

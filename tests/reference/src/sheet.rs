@@ -48,7 +48,8 @@ fn widths(kind: u32) -> Option<&'static [usize]> {
     }
 }
 
-/// What a record is for, in the order of a sheet; penumbra and central are an eclipse's, and star stands in their place.
+/// What a record is for, in the order of a sheet; penumbra and central are an eclipse's, and star stands in their
+/// place.
 #[derive(Clone, Copy, PartialEq, Eq, PartialOrd, Ord, Debug)]
 pub enum Family {
     Head,

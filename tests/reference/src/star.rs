@@ -1,4 +1,5 @@
-//! Document 02, wish 7: a star behind the Moon. The shadow is a cylinder, so its radius at the station is the Moon's own.
+//! Document 02, wish 7: a star behind the Moon. The shadow is a cylinder, so its radius at the station is the Moon's
+//! own.
 
 use crate::elements::{first_outside, value_at, Station, Window, ELEMENT_RANGES, FARTHEST};
 use crate::place::{place, Place};
@@ -72,8 +73,8 @@ pub const STAR_KIND_PLACES: [usize; 3] = [0, 53, 72];
 pub const STAR_KIND: u8 = 5;
 
 impl StarRequest {
-    /// From exactly 79 bytes: kind 05, the twelve elements and the radius (signed, 4 bytes each); then kinds 03 and 04 as in
-    /// an eclipse's; big-endian. Refused as 10 otherwise. Ranges are not looked at.
+    /// From exactly 79 bytes: kind 05, the twelve elements and the radius (signed, 4 bytes each); then kinds 03 and
+    /// 04 as in an eclipse's; big-endian. Refused as 10 otherwise. Ranges are not looked at.
     pub fn from_bytes(bytes: &[u8]) -> Result<StarRequest, Refusal> {
         let bytes: &[u8; STAR_LENGTH] = bytes.try_into().map_err(|_| Refusal::Shape)?;
         let Some((elements, tail)) = bytes.split_last_chunk() else { return Err(Refusal::Shape) };
@@ -110,8 +111,8 @@ impl StarRequest {
         Ok(Occultation { request: *self, place, east: self.station.east() })
     }
 
-    /// The five numbers of one second, in or outside the window: u, v, L, the state (0 outside, 1 inside, 2 unsure) and the direction.
-    /// Refused as 1 for the second too, 2, 13 or 3.
+    /// The five numbers of one second, in or outside the window: u, v, L, the state (0 outside, 1 inside, 2 unsure)
+    /// and the direction. Refused as 1 for the second too, 2, 13 or 3.
     pub fn second(&self, second: i64) -> Result<[i64; 5], Refusal> {
         if !(-FARTHEST..=FARTHEST).contains(&second) {
             return Err(Refusal::Window);
@@ -125,8 +126,8 @@ impl StarRequest {
         Ok([found.u, found.v, found.l, state, found.direction()])
     }
 
-    /// Write the sheet at the start of the buffer and give its length, or refuse as 1, 2, 13, 3 or 4 and leave the buffer
-    /// alone.
+    /// Write the sheet at the start of the buffer and give its length, or refuse as 1, 2, 13, 3 or 4 and leave the
+    /// buffer alone.
     pub fn sheet(&self, buffer: &mut [u8]) -> Result<usize, Refusal> {
         copy_into(&bytes_of(&self.check()?.records()), buffer)
     }

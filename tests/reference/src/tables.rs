@@ -1,8 +1,9 @@
-//! Elements from tables of Sun and Moon (document 02, wish 2): which rows are refused, and how far values may lie from the exact ones.
+//! Elements from tables of Sun and Moon (document 02, wish 2): which rows are refused, and how far values may lie
+//! from the exact ones.
 //!
-//! The document leaves open how the values are made, so here they are judged, not made. Directions are vectors: with G from the
-//! Moon's centre to the Sun's, east is (-Gy, Gx, 0) and north G × east, so an exact value is a product of whole vectors over the root
-//! of a whole number. Squares are compared over whole numbers.
+//! The document leaves open how the values are made, so here they are judged, not made. Directions are vectors: with
+//! G from the Moon's centre to the Sun's, east is (-Gy, Gx, 0) and north G × east, so an exact value is a product of
+//! whole vectors over the root of a whole number. Squares are compared over whole numbers.
 
 use crate::refusal::Refusal;
 use crate::wide::Wide;
@@ -49,7 +50,8 @@ pub fn accepted(row: &Row) -> bool {
         && (whole(100) * g[2]).square() <= whole(43).square() * dot(g, g)
 }
 
-/// Where `value` lies to the exact a / √b: below 0 if it is more than `e` too small, above 0 if it is more than `e` too large.
+/// Where `value` lies to the exact a / √b: below 0 if it is more than `e` too small, above 0 if it is more than `e`
+/// too large.
 fn side(value: i64, e: i64, a: Wide, b: Wide) -> i32 {
     // c √b against a, both squared with their signs
     let signed = |x: Wide| if x.is_negative() { -x.square() } else { x.square() };

@@ -83,7 +83,11 @@ impl<C: Course> Tally<C> {
         println!("limits touched: {touched} of {}", 2 * self.limits.len());
         for (family, counts) in C::FAMILIES.iter().zip(&self.phases) {
             let ([outside, inside, unsure], [enter, leave, graze, open]) = (counts.states, counts.entries);
-            println!("{family:?}: outside {outside}, inside {inside}, unsure {unsure}, within the guard plus 24 of the edge {}", counts.close);
+            println!(
+                "{family:?}: outside {outside}, inside {inside}, unsure {unsure}, \
+                 within the guard plus 24 of the edge {}",
+                counts.close
+            );
             println!("{family:?}: entries: enter {enter}, leave {leave}, graze {graze}, open {open}");
         }
         println!(

@@ -162,8 +162,8 @@ fn enter_of(asked: &Network, node: &Node) -> Option<i64> {
     Some(i64::from(enter.fields[1]) - FARTHEST)
 }
 
-/// The refusal by the clocks alone, from what the words say of numbers: the antenna has the steps 0, and whoever follows one with steps has
-/// one more; who is never reached has no chain to 0.
+/// The refusal by the clocks alone, from what the words say of numbers: the antenna has the steps 0, and whoever
+/// follows one with steps has one more; who is never reached has no chain to 0.
 fn by_levels(nodes: &[Node]) -> Result<Vec<u64>, (u32, usize)> {
     let numbers: Vec<i64> = nodes.iter().map(|node| node.station.number).collect();
     if let Some(place) = (0..nodes.len()).find(|&place| numbers[..place].contains(&numbers[place])) {

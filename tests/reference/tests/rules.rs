@@ -252,7 +252,8 @@ fn room_for_the_sheet() {
     assert_eq!((&longer[..45], &longer[45..]), (&buffer[..], &[0xA5; 7][..]));
 }
 
-/// The guard is in the head of the sheet and not in its listing; outside its range it comes after the window and before the elements.
+/// The guard is in the head of the sheet and not in its listing; outside its range it comes after the window and
+/// before the elements.
 #[test]
 fn guards_of_requests() {
     for guard in GUARDS {
@@ -488,7 +489,8 @@ fn each_fault_of_entries() {
     assert_eq!(write(&[], &mut []), Err(Refusal::Cut(0)));
 }
 
-/// A whole sheet of the old form, without the guard: its next record stands where the guard is, and no kind begins a number below 1,000.
+/// A whole sheet of the old form, without the guard: its next record stands where the guard is, and no kind begins a
+/// number below 1,000.
 #[test]
 fn old_sheets() {
     let (sheet, _) = hand_worked_sheet();

@@ -83,7 +83,8 @@ fn grazes() {
     assert_eq!(grazing(1_000), "station 7 from -60 to 60\ngraze star -17 17\nclosest 0 0\n");
 }
 
-/// The cylinder is the shadow of an eclipse whose declination stays, but for L: u, v and direction are the same at every second.
+/// The cylinder is the shadow of an eclipse whose declination stays, but for L: u, v and direction are the same at
+/// every second.
 #[test]
 fn the_axis_of_an_eclipse_without_its_cones() {
     let mut random = Random::new(7);

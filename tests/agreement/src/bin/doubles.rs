@@ -1,11 +1,16 @@
-//! `doubles SURVEYS PATTERNS SEED [PROGRAM]`: the compiled library's positions as doubles against document 02, wish 5, in plain Rust.
+//! `doubles SURVEYS PATTERNS SEED [PROGRAM]`: the compiled library's positions as doubles against document 02, wish
+//! 5, in plain Rust.
 //!
-//! - a sheet for each survey, its doubles units exactly, about the halves beside them, at the ends of the ranges and past them, too large,
-//!   not finite, any bits; the longitude in degrees and in hours; of other lengths, another mark, in rooms of all sizes. Compared: the
+//! - a sheet for each survey, its doubles units exactly, about the halves beside them, at the ends of the ranges and
+//!   past them, too large,
+//!   not finite, any bits; the longitude in degrees and in hours; of other lengths, another mark, in rooms of all
+//!   sizes. Compared: the
 //!   refusal's number, the value, and both buffers with 64 numbers past their ends;
-//! - as many lists of units as doubles, at the ends of their ranges and past them, of other lengths; the doubles are compared bit by bit, and
+//! - as many lists of units as doubles, at the ends of their ranges and past them, of other lengths; the doubles are
+//!   compared bit by bit, and
 //!   read back by the reference they give their units;
-//! - where PROGRAM names the program `rule_vectors`, the units of PATTERNS doubles, any bits or about a half, at all three scales.
+//! - where PROGRAM names the program `rule_vectors`, the units of PATTERNS doubles, any bits or about a half, at all
+//!   three scales.
 //!
 //! Prints counts; the first difference stops it with all that gives it again.
 
@@ -37,7 +42,8 @@ fn beside(x: f64, up: bool) -> f64 {
     }
 }
 
-/// A double that is read as the unit: exactly its own, within its half, or at the half, where it may be read as the next.
+/// A double that is read as the unit: exactly its own, within its half, or at the half, where it may be read as the
+/// next.
 fn about(random: &mut Random, unit: i64, scale: u64) -> f64 {
     match random.below(4) {
         0 | 1 => double(unit, scale),

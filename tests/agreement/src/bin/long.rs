@@ -1,8 +1,10 @@
-//! `long REQUESTS SEED`: the compiled library's sheets of long windows against documents 01 and 02 in plain Rust, which compute every second.
+//! `long REQUESTS SEED`: the compiled library's sheets of long windows against documents 01 and 02 in plain Rust,
+//! which compute every second.
 //!
-//! Requests lie within their limits, three of four of eclipses, the others of stars: as drawn, near an edge, slow, standing still, at a pole, along
-//! an edge, near the point of the central cone; guards of 16 to 1,000; one window in four is all 21,601 seconds, one short, the others any
-//! length about the second that was arranged. Compared: the refusal's number, the length, and the whole buffer with 64 bytes past its end.
+//! Requests lie within their limits, three of four of eclipses, the others of stars: as drawn, near an edge, slow,
+//! standing still, at a pole, along an edge, near the point of the central cone; guards of 16 to 1,000; one window in
+//! four is all 21,601 seconds, one short, the others any length about the second that was arranged. Compared: the
+//! refusal's number, the length, and the whole buffer with 64 bytes past its end.
 //!
 //! Prints counts; the first difference stops it with all that gives it again.
 

@@ -1,11 +1,12 @@
-//! `network LISTS SEED`: the compiled library's answers to lists of stations against document 02, wish 10, in plain Rust.
+//! `network LISTS SEED`: the compiled library's answers to lists of stations against document 02, wish 10, in plain
+//! Rust.
 //!
-//! Compared for each call: the refusal's number, the value beside it, and the rooms for steps and for table S with 64 numbers past their
-//! ends. Lists are stars, chains, trees, rings and chains into rings, of 1 to 64 stations side by side, at one place or anywhere, in any
-//! order; with numbers used twice, clocks of no station, numbers outside their ranges, up to the ends of 64 bits; none, 65 and more; other
-//! lengths of the eclipse, of the steps and of the room for table S.
-//! Of each list that is not refused the named station is held against the sheets that the library writes one by one, and the steps
-//! against what each clock says.
+//! Compared for each call: the refusal's number, the value beside it, and the rooms for steps and for table S with 64
+//! numbers past their ends. Lists are stars, chains, trees, rings and chains into rings, of 1 to 64 stations side by
+//! side, at one place or anywhere, in any order; with numbers used twice, clocks of no station, numbers outside their
+//! ranges, up to the ends of 64 bits; none, 65 and more; other lengths of the eclipse, of the steps and of the room
+//! for table S. Of each list that is not refused the named station is held against the sheets that the library writes
+//! one by one, and the steps against what each clock says.
 //!
 //! Prints counts; the first difference stops it with all that gives it again.
 
@@ -62,12 +63,15 @@ impl Counts {
         let parts: Vec<String> =
             self.replies.iter().map(|(number, count)| format!("{number}: {count}")).collect();
         println!("network calls by number {}", parts.join(", "));
-        println!("network {lists} lists answered, {stations} stations, of them {entered} enter; a station named in {named},");
+        println!(
+        "network {lists} lists answered, {stations} stations, of them {entered} enter; a station named in {named},"
+    );
         println!("network another at the same second in {ties}; {steps} steps at most");
     }
 }
 
-/// Every list of one to three stations with numbers 1 to 3, also used twice, and clocks 0 to 4, at one place and in a window of one second.
+/// Every list of one to three stations with numbers 1 to 3, also used twice, and clocks 0 to 4, at one place and in a
+/// window of one second.
 fn small_lists(random: &mut Random, counts: &mut Counts) {
     let asked = shaped(random, Shape::Star, 1);
     let station = asked.nodes[0].station;

@@ -1,8 +1,9 @@
-//! `tables N SEED`: the compiled library's elements from tables of Sun and Moon against document 02, wish 2, in plain Rust.
+//! `tables N SEED`: the compiled library's elements from tables of Sun and Moon against document 02, wish 2, in plain
+//! Rust.
 //!
-//! Compared for each call: the refusal's number, the value beside it, the numbers past the values, on refusal all numbers; and each
-//! value is held against its exact one. Rows are drawn near the ecliptic and anywhere, at their limits and one unit off, at the ends of
-//! 64 bits; lists of other lengths, and rooms that are short.
+//! Compared for each call: the refusal's number, the value beside it, the numbers past the values, on refusal all
+//! numbers; and each value is held against its exact one. Rows are drawn near the ecliptic and anywhere, at their
+//! limits and one unit off, at the ends of 64 bits; lists of other lengths, and rooms that are short.
 //!
 //! Prints counts; the first difference stops it with all that gives it again.
 
@@ -31,7 +32,8 @@ fn at_limit(random: &mut Random, place: &mut [i64; 3], exact: i64) {
     }
 }
 
-/// A place exactly `limit` units off, by whole numbers whose squares add up to one: 9² + 6² + 2² = 11² and the like; or one unit beside it.
+/// A place exactly `limit` units off, by whole numbers whose squares add up to one: 9² + 6² + 2² = 11² and the like;
+/// or one unit beside it.
 fn exactly(random: &mut Random, limit: i64) -> [i64; 3] {
     let (shares, whole) = match limit {
         5_500_000_000 => ([9, 6, 2], 11),

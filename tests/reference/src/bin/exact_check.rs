@@ -1,16 +1,18 @@
-//! `exact_check SEED N [star]`: draws requests until N seconds are looked at, of eclipses or of stars, and holds the rules of
-//! document 01 against the exact values at every second of every window:
+//! `exact_check SEED N [star]`: draws requests until N seconds are looked at, of eclipses or of stars, and holds the
+//! rules of document 01 against the exact values at every second of every window:
 //!
-//! - under each of several guards and the request's own, inside and outside are never exactly wrong, and an unsure second lies
-//!   within the guard plus 13 units of the edge; what is sure under one of them is sure, with the same answer, under all smaller ones;
+//! - under each of several guards and the request's own, inside and outside are never exactly wrong, and an unsure
+//!   second lies
+//!   within the guard plus 13 units of the edge; what is sure under one of them is sure, with the same answer, under
+//!   all smaller ones;
 //! - u is within 7 units of its exact value, v within 7½, L1 and L2 within 3, the radius of a star's cylinder within 0;
 //! - the 13-unit law, for several t;
 //! - the sheet: every exact change lies in exactly one entry of its phase, enters and leaves run between the
 //!   exact answers they claim and alternate, and the sheet read and written again is the same.
 //!
-//! Requests lie anywhere in their ranges, at their limits, near the edge, along it, with a shadow that
-//! stands almost still, with a central cone that comes to a point at the station, with a star's cylinder whose axis goes through it.
-//! Prints counts and the worst values found; the first broken claim stops it with the request and the second.
+//! Requests lie anywhere in their ranges, at their limits, near the edge, along it, with a shadow that stands almost
+//! still, with a central cone that comes to a point at the station, with a star's cylinder whose axis goes through
+//! it. Prints counts and the worst values found; the first broken claim stops it with the request and the second.
 
 use reference::course::{off, Course, Phased, Second};
 use reference::elements::{Window, FARTHEST};

@@ -55,7 +55,10 @@ fn main() -> ExitCode {
         "reads" => reads(&mut random),
         "writes" => writes(&mut random),
         _ => {
-            eprintln!("usage: vectors sines | places | directions | states | shadows | sheets | shared | listings | reads | writes");
+            eprintln!(
+                "usage: vectors sines | places | directions | states | shadows | sheets | shared | listings | \
+                 reads | writes"
+            );
             return ExitCode::FAILURE;
         }
     };

@@ -1,8 +1,9 @@
 //! `worst_star SEED N`: how far a star's distance less L can be from the exact one, by choice and not by luck.
 //!
-//! At second ±10,799, where each rounding of a value at a second can be a half, x3, x2, x1 are chosen so that the three roundings
-//! err the same way, and y3, y2, y1 too; N stations are drawn for ξ and η that err most against them, the declination at its limits
-//! or anywhere; then the axis is put on the cylinder's edge in the direction of the error. Prints the worst found.
+//! At second ±10,799, where each rounding of a value at a second can be a half, x3, x2, x1 are chosen so that the
+//! three roundings err the same way, and y3, y2, y1 too; N stations are drawn for ξ and η that err most against them,
+//! the declination at its limits or anywhere; then the axis is put on the cylinder's edge in the direction of the
+//! error. Prints the worst found.
 
 use reference::axis::put;
 use reference::course::{Course, Second};
