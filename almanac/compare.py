@@ -90,7 +90,7 @@ def written(date):
     return "%04d-%02d-%02d" % date
 
 
-def told(values):
+def summary(values):
     mean = sum(values) / len(values)
     return f"{len(values):3} from {min(values):+.2f} to {max(values):+.2f} s, mean {mean:+.2f}"
 
@@ -149,7 +149,7 @@ def radii(said):
             print(f"{line}  greatest {clock(greatest)} [{later:+.1f}] {magnitude:.5f} [{less[0]:+.5f} {less[1]:+.5f}]")
     print("\nTheirs less ours")
     for name, (outer, inner, magnitude) in found.items():
-        print(f"  {name:20} first and last contacts {told(outer)}; second and third {told(inner)};", end=" ")
+        print(f"  {name:20} first and last contacts {summary(outer)}; second and third {summary(inner)};", end=" ")
         print(f"magnitude from {min(magnitude):+.5f} to {max(magnitude):+.5f}")
     middle = [sorted(times)[len(times) // 2] * 1000 for times in (theirs_took, ours_took, dated_took)]
     print(
@@ -176,7 +176,7 @@ def sources():
                     other_instant, _, other = request_for(SOURCES[name], date, station, guard=16)
                     places = [SOURCES[source](instant)[3] for source in ("swiss", name)]
                 except ImportError:
-                    print(f"  {name}: not here (python3-erfa wants /usr/bin/python3)")
+                    print(f"  {name}: not here (python3-erfa needs /usr/bin/python3)")
                     return
                 if off is None:
                     (swiss_ra, swiss_dec), (ra, dec) = (
@@ -191,7 +191,7 @@ def sources():
             seconds = [degrees(angle) * 3600 for angle in off]
             print(
                 f"  {name:8} {written(date)}: {seconds[0]:+.2f}\" east, {seconds[1]:+.2f}\" north; "
-                f"contacts {told(contact_off)}"
+                f"contacts {summary(contact_off)}"
             )
 
 

@@ -97,7 +97,7 @@ def main():
             try:
                 sun, moon = shifts(time)
             except ImportError:
-                print(f"{name}: not here (python3-erfa wants /usr/bin/python3)")
+                print(f"{name}: not here (python3-erfa needs /usr/bin/python3)")
                 break
             print(
                 f'{name:16} {time[0]}-{time[1]:02}-{time[2]:02}  Sun {sun:+.3f}"  Moon {moon:+.3f}"  '

@@ -9,7 +9,7 @@
  *
  * Each function but ukhtvaresh_root answers the number of the refusal, 0 for none. *value gets the length, the count,
  * the share or the station on success, the refusal's place otherwise. Buffers are untouched on refusal; on success
- * what lies past the result is. The room for the sine table, `sines`, alone is filled on some refusals too: see
+ * what lies past the result is. The buffer for the sine table, `sines`, alone is filled on some refusals too: see
  * UKHTVARESH_SINES_LENGTH. No function reads or writes outside the lengths it is given, and none keeps a pointer. A
  * buffer that is written, *value among them, must not overlap any other. A length of 0 is allowed. No pointer may be
  * null: neither that of a buffer, also one of length 0, nor `value`, `kept`, `noted` and `rounds`. Each must be
@@ -26,7 +26,7 @@
  *    3  a station value outside its range            first: 0 number, 1 latitude, 2 longitude, 3 height, 4 delta T;
  *       of a network's list                          ten times the list place, counted from 0, plus that
  *    4  the buffer is too short                      the length it needs (bytes; entries for ukhtvaresh_read);
- *       of the room for the sine table               901
+ *       of the buffer for the sine table             901
  *    5  kind not in the table                        first byte of that record
  *    6  the sheet ends inside a record or before     first byte of that record, or the input's length
  *       the end record
@@ -111,9 +111,9 @@ typedef struct ukhtvaresh_entry {
     uint32_t fields[4];
 } ukhtvaresh_entry;
 
-/* How many numbers a caller lends for the sine table, in `sines`. The library stores no table, only differences, 1.8
- * KB in place of 3.6: each call sums them up in this room, whatever it held before, and looks its sines up there. So
- * one room serves call after call, but not two at the same time. It is filled once only the 4 of the sheet, or of a
+/* The length of the caller's buffer for the sine table, `sines`. The library stores no table, only differences, 1.8
+ * KB in place of 3.6: each call sums them up in this buffer, whatever it held before, and looks its sines up there. So
+ * one buffer serves call after call, but not two at the same time. It is filled once only the 4 of the sheet, or of a
  * second's numbers, can still refuse, and is untouched on every refusal before that; its own, 4 with place 901, is
  * the last of these. What lies past its 901 numbers is untouched. Nothing need be read from it: it holds 10^8 times
  * the sine of each tenth of a degree from 0 to 90. */
@@ -198,7 +198,7 @@ enum {
 };
 
 /* Where the Sun's centre is in the station's sky at a second of a request, -10,800 to 10,800, also outside its window.
- * The horizon is the plane at right angles to the spheroid's normal, so the altitude goes by the geodetic latitude.
+ * The horizon is the plane at right angles to the spheroid's normal, so the altitude depends on the geodetic latitude.
  * No refraction and no dip. At the horizon refraction lifts the Sun by about half a degree.
  * An angle from the zenith is a direction, such as a contact's, less the zenith of the same second, modulo 3600.
  * Azimuth and zenith are none only straight overhead or straight down, where both lengths that each comes from are 0.
@@ -302,7 +302,7 @@ uint64_t ukhtvaresh_root(uint64_t n, uint64_t *rounds);
  * A file of nothing but well-formed sheets comes out unchanged with *noted 0; so does what was kept, mended again.
  * Kept bytes and the lengths of the stretches add up to file_len. As many bytes as the file has are enough for
  * `sheets`, and 16 more for `dropped`. Its time went by the file's length on every file that was tried, hostile ones
- * too: measured, not proved. Refusal: 4, where a room is short, the room of `sheets` first; *kept is the length
+ * too: measured, not proved. Refusal: 4, where a buffer is short, the buffer of `sheets` first; *kept is the length
  * needed, and *noted is 0. */
 uint64_t ukhtvaresh_mend(const uint8_t *file, size_t file_len, uint8_t *sheets, size_t sheets_len, uint8_t *dropped,
                          size_t dropped_len, uint64_t *kept, uint64_t *noted);

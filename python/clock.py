@@ -7,7 +7,7 @@ sheet's listing with clock times. Everything is in whole numbers.
     python3 python/clock.py < REQUEST.txt
     python3 python/clock.py "2017-08-21 18:00:00 ET" < examples/hopkinsville2017.txt
 
-print that listing for a typed request with a line `instant ..`, or with the instant as an argument. They want the
+print that listing for a typed request with a line `instant ..`, or with the instant as an argument. They need the
 program `request` (`rt check request`) and the shared library (`rt staticlib ukhtvaresh && python/build`).
 """
 

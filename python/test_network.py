@@ -1,5 +1,5 @@
 """The whole network in one list (document 02, wish 10), through the module: steps, the first station, every refusal
-in its order, and the room for the sine table.
+in its order, and the buffer for the sine table.
 
 python3 python/test_network.py
 """
@@ -34,7 +34,7 @@ import network as typed  # noqa: E402  the reader of typed lists
 
 MOSCOW = Request.from_bytes((EXAMPLES / "moscow1954.bin").read_bytes())
 KIEV = Request.from_bytes((EXAMPLES / "kiev1954.bin").read_bytes())
-OLD = 0xA5A5_A5A5_A5A5_A5A5  # what a room for steps holds before a call
+OLD = 0xA5A5_A5A5_A5A5_A5A5  # what a buffer for steps holds before a call
 
 
 def listed(*clocks):
@@ -143,7 +143,7 @@ class Lists(unittest.TestCase):
 
     def test_the_room_for_the_sine_table(self):
         def called(stations, lent):
-            """Number, value, steps, and what the room of so many numbers holds, with 64 past its end."""
+            """Number, value, steps, and what the buffer of so many numbers holds, with 64 past its end."""
             sines = (ctypes.c_uint32 * (lent + 64))(*[7] * (lent + 64))
             steps = (ctypes.c_uint64 * STATIONS)(*[OLD] * STATIONS)
             nodes = (ukhtvaresh._Node * len(stations))(

@@ -1,4 +1,4 @@
-"""The room for the sine table that a caller of the library lends (document 02, wish 8), and the module's own.
+"""The buffer for the sine table that a caller of the library provides (document 02, wish 8), and the module's own.
 
 python3 python/test_room.py
 """
@@ -15,7 +15,7 @@ from ukhtvaresh import Request, second, share, sheet, sheet_and_share, star
 EXAMPLES = Path(__file__).resolve().parent.parent / "examples"
 MOSCOW = (EXAMPLES / "moscow1954.bin").read_bytes()
 POTSDAM = (EXAMPLES / "potsdam1956.bin").read_bytes()  # a star
-PAST = 64  # numbers past the room, which nobody may write
+PAST = 64  # numbers past the buffer, which nobody may write
 LENGTHS = (0, 900, 901, 902)
 
 
@@ -24,7 +24,7 @@ def old(lent):
 
 
 def called(name, request, between, lent, *room):
-    """Number, value, and what the room of so many numbers holds, with those past its end."""
+    """Number, value, and what the buffer of so many numbers holds, with those past its end."""
     sines = (ctypes.c_uint32 * (lent + PAST))(*old(lent))
     value = ctypes.c_uint64()
     function = getattr(ukhtvaresh._library, "ukhtvaresh_" + name)

@@ -562,8 +562,9 @@ class StarSecond:
 class Horizon:
     """Where the Sun's centre or a star is in the station's sky at one second, in tenths of a degree.
 
-    No refraction and no dip. The horizon is the plane at right angles to the spheroid's normal, so the altitude goes by
-    the geodetic latitude. An angle from the zenith is a direction, such as a contact's, less `zenith`, modulo 3,600.
+    No refraction and no dip. The horizon is the plane at right angles to the spheroid's normal, so the altitude
+    depends on the geodetic latitude. An angle from the zenith is a direction, such as a contact's, less `zenith`,
+    modulo 3,600.
     """
 
     altitude: int  # rounded down, -900 to 900; below 0 it is under the horizon
@@ -675,7 +676,7 @@ _rooms = threading.local()
 
 
 def _sines():
-    """The room for the sine table, which each call fills anew, and its length: one for each thread, lent to call
+    """The buffer for the sine table, which each call fills again, and its length: one for each thread, used in call
     after call."""
     if not hasattr(_rooms, "sines"):
         _rooms.sines = (ctypes.c_uint32 * _SINES)()

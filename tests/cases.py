@@ -2,9 +2,9 @@
 """Test vectors of requests for the program `sheet_vectors`, from the reference implementation. tests/vectors.py puts
 them into the program's input and expected output.
 
-A record is the room for the sheet (2 bytes) and the request. The answers are the reference's: `vectors sheets` gives
-rooms, requests and sheets, `vectors listings` the listings. Its room of 65,536 bytes does not fit two bytes: 65,535
-stands for it here, and no sheet of these is longer.
+A record is the length of the buffer for the sheet (2 bytes) and the request. The answers are the reference's:
+`vectors sheets` gives lengths, requests and sheets, `vectors listings` the listings. Its length of 65,536 does not
+fit two bytes: 65,535 stands for it here, and no sheet of these is longer.
 """
 
 PROGRAM_ROOM = 65536

@@ -1,11 +1,11 @@
 #!/usr/bin/env python3
-"""Holds the clock times of Python against those of the page, and both against the rules of docs/CLOCK.md in exact
+"""Compares the clock times of Python with those of the page, and both with the rules of docs/CLOCK.md in exact
 fractions.
 
-    python3 tests/clock_times.py [QUESTIONS] [SEED]         wants node; the library's listings too, if it is built
+    python3 tests/clock_times.py [QUESTIONS] [SEED]         needs node; the library's listings too, if it is built
     python3 tests/clock_times.py program [TEXTS] [SEED]     the program `times` against Python (`rt check times
                                                             request`; the library, as
-                                                            python/clock.py wants it)
+                                                            python/clock.py needs it)
 """
 
 import json

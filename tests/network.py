@@ -2,9 +2,9 @@
 """Reads a typed list of stations, for the program `network`, a second way; the answers are those of tests/reference.
 
     python3 tests/network.py units < TEXT        whole units: a line of 25 for the eclipse, then a line of six a station
-    rt check network && python3 tests/network.py [TEXTS] [SEED]    holds the program against it
+    rt check network && python3 tests/network.py [TEXTS] [SEED]    compares the program with it
 
-The second wants `cargo build --offline --release` in tests/reference.
+The second needs `cargo build --offline --release` in tests/reference.
 
 A text has the lines of a typed request but for those of its station, and a line
 `station NUMBER LATITUDE LONGITUDE HEIGHT DELTA_T CLOCK` for each station, in their order, before, after or between

@@ -2,7 +2,7 @@
 """Holds the program `request` as the page runs it, in WebAssembly, against the program itself and against the reading
 of tests/request.py.
 
-    web/build && python3 tests/page_texts.py [TEXTS] [SEED]         wants node
+    web/build && python3 tests/page_texts.py [TEXTS] [SEED]         needs node
 """
 
 import struct

@@ -1,5 +1,5 @@
 #!/usr/bin/env python3
-"""Holds the program `request` against a reading of typed requests that shares no code with it.
+"""Compares the program `request` with a reading of typed requests that shares no code with it.
 
     rt check request && python3 tests/request.py [TEXTS] [SEED]
 """
@@ -296,7 +296,7 @@ def instants():
             for fault in "bogus 1", "x0", "x0 1":
                 for first, then in (fault, "instant"), ("instant", fault), (good, fault), (fault, good):
                     yield "\n".join(plain[:place] + [first, then] + plain[place:])
-        # a missing name is told last
+        # a missing name is reported last
         yield "\n".join(plain[1:] + [good])
         yield "\n".join(plain[1:] + ["instant"])
 
@@ -320,7 +320,7 @@ def texts(count, seed):
 
 
 def compare(program, texts, answer, kind_of, most):
-    """Holds a program against `answer`, text by text, and tells how many there were of each kind. `most` texts unless
+    """Compares a program with `answer`, text by text, and prints how many there were of each kind. `most` texts unless
     one is typed."""
     count = int(sys.argv[1]) if len(sys.argv) > 1 else most
     seed = int(sys.argv[2]) if len(sys.argv) > 2 else 1954

@@ -133,7 +133,7 @@ def answers(data):
     if begins[0]:
         if length < len(data):
             whole = short = (False, 9, length)
-        elif len(records) > 3:  # room for three entries
+        elif len(records) > 3:  # buffer for three entries
             short = (False, 4, len(records))
     lines = ["begins %s is %s short %s" % (word(begins), word(whole), word(short))]
     if whole[0]:

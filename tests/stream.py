@@ -3,9 +3,9 @@
 ends itself.
 
     python3 tests/stream.py FOLDER                          makes FOLDER/stdin and stdout, those of crates/stream
-    rt check stream && python3 tests/stream.py [STREAMS] [SEED]   holds the program against it, standard error too
+    rt check stream && python3 tests/stream.py [STREAMS] [SEED]   compares the program with it, standard error too
 
-Both want `cargo build --offline --release` in tests/reference. With programs `sheet_bytes` and `star_sheet` built,
+Both need `cargo build --offline --release` in tests/reference. With programs `sheet_bytes` and `star_sheet` built,
 each fiftieth stream is also answered by them, request by request.
 """
 

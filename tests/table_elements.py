@@ -4,7 +4,7 @@ compares what it tells.
 
 The tables: the books' rows; distances and the sine of d at their limits and a unit off, each in every row; the ends
 of 64 bits; random rows. The values follow the rule of the crate `besselian` (`Rounded`) in Python's whole numbers,
-and each is held against its exact value by squares. No quotient met here is half a unit from two whole numbers, so it
+and each is compared with its exact value by squares. No quotient met here is half a unit from two whole numbers, so it
 does not matter which way halves go.
 """
 
@@ -186,7 +186,7 @@ def faults(program):
     for text, told in cases.items():
         run = subprocess.run([program], input=text.encode(), capture_output=True)
         assert run.stderr.decode() == told and run.stdout == b"", (text[:80], run.stderr, run.stdout)
-    print(f"{len(cases)} bad inputs told as they should be")
+    print(f"{len(cases)} bad inputs reported as they should be")
 
 
 if __name__ == "__main__":

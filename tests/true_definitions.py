@@ -2,7 +2,7 @@
 """The true shadow as it is defined, against 50 digits: tests/true_definitions.py SEED N
 
 Evaluates the definitions of true_sine (Series, Angles), true_place (TruePlace) and true_shadow (TrueShadow), whole
-number by whole number, at N drawn seconds of eclipses, and holds u, v and L against the page "The shadow at one
+number by whole number, at N drawn seconds of eclipses, and compares u, v and L with the page "The shadow at one
 second" in 50 digits, with sines by their own series. Prints the largest difference in units; what is cut off series,
 π and C must stay below 10^-7.
 """

@@ -2,7 +2,7 @@
 """How far the rule is from the sky, searched for: tests/truth.py SEED CLIMBS
 
 Draws stations and elements within their ranges and climbs from each to a worse one, of eclipses and of stars by
-turns; holds the rule of document 01 against true sines, the true spheroid and unrounded angles, and prints the worst
+turns; compares the rule of document 01 with true sines, the true spheroid and unrounded angles, and prints the worst
 found of
 
     a sine or a cosine; R and P; and the distance less L, of the true shadow against the exact one of demand 3

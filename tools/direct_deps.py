@@ -5,10 +5,10 @@ A crate names another in src/ (`other::f`, `use other::T`) and in src/, specs/ a
 (`Rattle.other.`), and in the lines that its must-fail edits, here and under tests/edits, put in.
 Comments do not count. Of the kit's libraries (std is given to all) those named in src/ are listed.
 
-Beside these the kit wants the crate that declares the type of a field which src/ takes (`q.window`), of
+Beside these the kit needs the crate that declares the type of a field which src/ takes (`q.window`), of
 what a pattern binds (`Fault::Typed(wrong)`), and every type inside a value which src/ makes (`Entry {
 kind, .. }` with a phase inside the kind), though no file names it. Without it: "a value is reached here
-whose type `c` cannot name, since no library that `c` uses declares it". It goes by the names of fields
+whose type `c` cannot name, since no library that `c` uses declares it". It uses the names of fields
 and variants, so at times it lists one too many.
 
     direct_deps.py           print the new crates.txt's size and what would change

@@ -4,7 +4,7 @@
     python3 almanac/catalogue/make_catalogue.py > eclipses.txt
     python3 almanac/catalogue/make_catalogue.py --check [EVERY]
 
-The second form makes every tenth record, or every EVERY-th, anew, with its search, and compares every number with the
+The second form makes every tenth record, or every EVERY-th, again, with its search, and compares every number with the
 catalogue. Both need Debian's packages swetest (2.10.03) and swe-basic-data. The first takes about 20 seconds.
 
 The script finds the eclipses twice: by the new moons (daily places, then hourly ones, then the distance at which the
@@ -258,7 +258,7 @@ def version() -> str:
 
 
 def check(every: int) -> List[Tuple[int, int, int]]:
-    """Makes every so many records of the catalogue anew; the dates of those in which a number differs."""
+    """Makes every so many records of the catalogue again; the dates of those in which a number differs."""
     wrong = []
     for one, eclipse in list(zip(listed(), eclipses()))[::every]:
         each = eclipse_at(new_moon_near(eclipse.instant()))
@@ -275,7 +275,7 @@ def main():
         if wrong:
             dates = ", ".join("%04d-%02d-%02d" % date for date in wrong)
             sys.exit(f"these eclipses differ from the catalogue: {dates}")
-        print(f"{len(eclipses()[::every])} of {len(eclipses())} eclipses made anew: all numbers are the same")
+        print(f"{len(eclipses()[::every])} of {len(eclipses())} eclipses made again: all numbers are the same")
         return
     theirs = listed()
     ours, moons = found()

@@ -1,7 +1,7 @@
 #!/usr/bin/env python3
 """Tests of the catalogue of eclipses: python3 almanac/catalogue/test_catalogue.py
 
-Those that make records anew need Debian's packages swetest and swe-basic-data, and are skipped without them.
+Those that make records again need Debian's packages swetest and swe-basic-data, and are skipped without them.
 """
 
 import shutil
@@ -107,7 +107,7 @@ class Records(unittest.TestCase):
 @needs_swetest
 class Anew(unittest.TestCase):
     def test_tenth_made_anew(self):
-        """A tenth of the records, made anew from Swiss Ephemeris: every number is the same."""
+        """A tenth of the records, made again from Swiss Ephemeris: every number is the same."""
         from catalogue.make_catalogue import check
 
         self.assertEqual(check(10), [])

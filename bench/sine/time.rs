@@ -1,4 +1,4 @@
-//! Nanoseconds a sine, by quadrants and by turns over the table lent once a call; and to fill a room with the table.
+//! Nanoseconds a sine, by quadrants and by turns over one table for each call; and to fill a buffer with the table.
 //! The best of 200 runs of each, in turn.
 use std::hint::black_box;
 use std::time::Instant;

@@ -271,7 +271,7 @@ fn long_list(of_each: u32) -> Vec<u32> {
     entries
 }
 
-/// The same with kinds in no pattern: a graze, or the next of enter and leave, by lot.
+/// The same with kinds in no pattern: a graze, or the next of enter and leave, at random.
 fn drawn_list(of_each: u32) -> Vec<u32> {
     let mut random = Random::new(7);
     let mut entries = vec![0x01, 999, 0, 21_600, 16];

@@ -10,7 +10,7 @@ use reference::shadow::{Phase, State};
 use reference::sheet::{copy_into, records_of};
 use reference::star::StarRequest;
 
-/// The eight numbers of one second, from a room for table S: 10, 1, 2, 3, 4 for that room, 4 for the numbers' own.
+/// The eight numbers of one second, from a buffer for table S: 10, 1, 2, 3, 4 for that buffer, 4 for the numbers' own.
 pub fn second(request: &[u8], second: i64, sines: &mut [u32], shadow: &mut [i64]) -> Result<usize, Refusal> {
     let request = Request::from_bytes(request)?;
     if !(-FARTHEST..=FARTHEST).contains(&second) {
@@ -37,7 +37,7 @@ pub fn second(request: &[u8], second: i64, sines: &mut [u32], shadow: &mut [i64]
     Ok(8)
 }
 
-/// The five numbers of one second of a star, likewise: 10, 1, 2, 13, 3, 4 for the room for table S, 4 for the
+/// The five numbers of one second of a star, likewise: 10, 1, 2, 13, 3, 4 for the buffer for table S, 4 for the
 /// numbers' own.
 pub fn star_second(
     request: &[u8],
@@ -51,7 +51,7 @@ pub fn star_second(
     Ok(5)
 }
 
-/// The three numbers of a horizon in their buffer: 4 for the room for table S, 4 for the numbers' own.
+/// The three numbers of a horizon in their buffer: 4 for the buffer for table S, 4 for the numbers' own.
 fn horizon_into(found: Horizon, sines: &mut [u32], horizon: &mut [i64]) -> Result<usize, Refusal> {
     room::fill(sines)?;
     horizon.get_mut(..3).ok_or(Refusal::Room(3))?.copy_from_slice(&found.numbers());

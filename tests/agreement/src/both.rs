@@ -1,5 +1,5 @@
 //! One call of the library and of the reference: compared are the refusal's number, the value beside it, and each
-//! whole buffer with 64 numbers past its end, the room for table S among them. The first difference stops the program
+//! whole buffer with 64 numbers past its end, the buffer for table S among them. The first difference stops the program
 //! with all that gives it again.
 
 use crate::answers;
@@ -119,7 +119,7 @@ pub fn second_both(
     ours
 }
 
-/// What it leaves in the room for table S, since it fills no other.
+/// What it leaves in the buffer for table S, since it fills no other.
 pub fn share_both(random: &mut Random, request: &[u8], second: i64, lent: usize) -> Left<u32> {
     let old = buffer(random, lent, |bits| bits as u32);
     let mut ours = ((0, 0), old.clone());

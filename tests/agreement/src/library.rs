@@ -320,7 +320,7 @@ pub fn root(n: u64) -> (u64, u64) {
     (root, rounds)
 }
 
-/// The number of the refusal, 0 for none; the bytes written into the first room, or the place; those written into the
+/// The number of the refusal, 0 for none; the bytes written into the first buffer, or the place; those written into the
 /// second.
 pub type MendReply = (u64, u64, u64);
 

@@ -1,11 +1,11 @@
 //! `agreement REQUESTS SHEETS SEED`: the compiled library against document 01 in plain Rust.
 //!
 //! Compared for each call: the refusal's number, the value beside it, and each whole buffer with 64 numbers past its
-//! end; the room for table S among them, of no numbers, 900, 901, 902, or any count.
+//! end; the buffer for table S among them, of no numbers, 900, 901, 902, or any count.
 //!
 //! - a sheet for each request, within and outside the limits, under guards of all sizes, near the edge, slow, along
 //!   it, of other shapes;
-//!   its room exact, one less, none, plenty; and of each request within the limits the states of its seconds under a
+//!   its buffer exact, one less, none, plenty; and of each request within the limits the states of its seconds under a
 //!   larger guard: unsure,
 //!   or as they were;
 //! - the sheet with its share for each request likewise: it is the other one with the share of the closest second
@@ -101,7 +101,7 @@ impl Counts {
     }
 }
 
-/// The entries of a sheet that the library read with room enough, by the library.
+/// The entries of a sheet that the library read with a buffer that is long enough, by the library.
 fn entries_of(random: &mut Random, sheet: &[u8]) -> Option<Vec<u32>> {
     let ((number, count), mut entries) = read_both(random, sheet, WORDS * sheet.len());
     entries.truncate(WORDS * count as usize);
@@ -282,7 +282,7 @@ fn sheet(random: &mut Random, counts: &mut Counts) {
 
     sheets::damage(random, &mut bytes);
     let room = match random.below(3) {
-        // rooms that are no whole number of entries too
+        // buffers that are no whole number of entries too
         0 => draws::room(random, entries.len()),
         1 => WORDS * draws::room(random, entries.len() / WORDS),
         _ => WORDS * bytes.len(),

@@ -12,7 +12,7 @@ pub fn stations(asked: &Network) -> Vec<Node> {
     asked.nodes.iter().map(|node| Node(node.fields())).collect()
 }
 
-/// Both answers to an eclipse and a list: the reply and both rooms, each with 64 numbers past its end.
+/// Both answers to an eclipse and a list: the reply and both buffers, each with 64 numbers past its end.
 pub fn network_both(
     random: &mut Random,
     eclipse: &[i64],

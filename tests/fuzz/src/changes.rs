@@ -15,7 +15,7 @@ extern "C" {
 /// Changes an input of which `head` bytes come before the sheet or request. Its new length, at most `most`.
 ///
 /// # Safety
-/// `data` has room for `most` bytes and holds `size`.
+/// `data` can hold `most` bytes and holds `size`.
 pub unsafe fn mutate(
     data: *mut u8,
     size: usize,
@@ -29,7 +29,7 @@ pub unsafe fn mutate(
         return LLVMFuzzerMutate(data, size, most);
     }
     let input = std::slice::from_raw_parts_mut(data, most);
-    // The room too, and often just enough or one less: two bytes of many would seldom be met.
+    // The buffer too, and often just enough or one less: two bytes of many would seldom be met.
     if random.once_in(4) {
         input[0] = [0, 1, 0xFF, random.below(256) as u8][random.below(4) as usize];
         input[1] = if random.once_in(2) { 0 } else { random.below(8) as u8 };

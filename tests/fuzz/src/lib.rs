@@ -52,12 +52,12 @@ struct Left<T> {
     buffer: Vec<T>,
 }
 
-/// What a room of bytes holds before a call.
+/// What a buffer of bytes holds before a call.
 fn old_byte(at: usize) -> u8 {
     (at as u8).wrapping_mul(167) ^ 0xA5
 }
 
-/// And a room of numbers.
+/// And a buffer of numbers.
 fn old_number(at: usize) -> u32 {
     (at as u32).wrapping_mul(0x9E37_79B9) ^ 0xA5A5_5A5A
 }
@@ -103,12 +103,13 @@ fn must_come_back(sheet: &[u8]) {
     }
 }
 
-/// The room to lend where `needed` would do: from exactly that to far less and far more, by two bytes of the input.
+/// The length of the buffer where `needed` would do: from exactly that to far less and far more, by two bytes of the
+/// input.
 fn room(needed: usize, near: u8, far: u8) -> usize {
     needed.saturating_add_signed((near as i8 as isize) << (far % 8))
 }
 
-/// Two bytes for the room, then the sheet.
+/// Two bytes for the buffer's length, then the sheet.
 pub fn read(input: &[u8]) {
     let &[near, far, ref stored @ ..] = input else { return };
     let records = sheet::records_of(stored);
@@ -123,7 +124,7 @@ pub fn read(input: &[u8]) {
     }
 }
 
-/// Two bytes for the room, then the sheet.
+/// Two bytes for the buffer's length, then the sheet.
 pub fn listing(input: &[u8]) {
     let &[near, far, ref stored @ ..] = input else { return };
     let needed = match answers::listing(stored, &mut []) {
@@ -138,7 +139,7 @@ pub fn listing(input: &[u8]) {
     must_agree("ukhtvaresh_listing with counters", stored, room, &guided, &theirs);
 }
 
-/// Two bytes for the room, then the numbers of the entries, four bytes each, the highest first.
+/// Two bytes for the buffer's length, then the numbers of the entries, four bytes each, the highest first.
 pub fn write(input: &[u8]) {
     let &[near, far, ref raw @ ..] = input else { return };
     let entries: Vec<u32> =
@@ -177,7 +178,7 @@ fn guide_mended(file: &[u8], sheets: &mut [u8], dropped: &mut [u8]) -> MendReply
     (number, kept, noted)
 }
 
-/// Two bytes for each of the two rooms, then the file.
+/// Two bytes for the length of each of the two buffers, then the file.
 pub fn mend(input: &[u8]) {
     let &[near, far, near_notes, far_notes, ref file @ ..] = input else { return };
     let mended = mend::mend(file);

@@ -42,7 +42,7 @@ fn node(leave: u8, bytes: &[u8]) -> network::Node {
     network::Node::from_fields(fields)
 }
 
-/// The bytes of a network, or nothing if a number has no room in them: a request whose station is not used, then the
+/// The bytes of a network, or nothing if a number does not fit in them: a request whose station is not used, then the
 /// stations.
 pub fn packed(asked: &Network) -> Option<Vec<u8>> {
     let Network { elements, window, guard, .. } = *asked;
@@ -73,8 +73,8 @@ fn old_steps(at: usize) -> u64 {
     (at as u64 + 1).wrapping_mul(0x9E37_79B9_7F4A_7C15)
 }
 
-/// Two bytes for the room, one for what is left as it stands, then the eclipse as a request and the stations. With
-/// `LEAVE_SHAPE` the lengths of eclipse and steps may be others.
+/// Two bytes for the buffer's length, one for what is left as it stands, then the eclipse as a request and the
+/// stations. With `LEAVE_SHAPE` the lengths of eclipse and steps may be others.
 pub fn network(input: &[u8]) {
     let &[near, far, leave, ref raw @ ..] = input else { return };
     let Some(asked) = unpacked(leave, raw) else { return };

@@ -68,7 +68,7 @@ pub(crate) type SheetExport =
 pub(crate) type SecondExport =
     unsafe extern "C" fn(*const u8, usize, i64, *mut u32, usize, *mut i64, usize, *mut u64) -> u64;
 
-/// The room for table S: 901 numbers, or another count where that bit of the byte before a request says so.
+/// The buffer for table S: 901 numbers, or another count where that bit of the byte before a request says so.
 pub const OTHER_SINES: u8 = 0x08;
 
 pub(crate) fn sines_room(leave: u8, near: u8, far: u8) -> usize {
@@ -78,7 +78,7 @@ pub(crate) fn sines_room(leave: u8, near: u8, far: u8) -> usize {
     [0, SINES - 1, SINES + 1, usize::from(near)][usize::from(far >> 3) % 4]
 }
 
-/// What a call left that is lent this room too: its buffer, and this room.
+/// What a call left in its buffer and in the buffer for table S.
 pub(crate) fn left_lent<T>(
     lent: usize,
     room: usize,
@@ -144,7 +144,7 @@ pub(crate) fn give_shape(bytes: &mut Vec<u8>) {
     }
 }
 
-/// Long windows are slow, and the fuzzer would stay with them: one input in sixteen has one, any change draws anew.
+/// Long windows are slow, and the fuzzer would stay with them: one input in sixteen has one, any change draws again.
 pub(crate) fn short(window: Window, leave: u8, raw: &[u8]) -> Window {
     let sum: u32 = raw.iter().copied().map(u32::from).sum();
     if sum % 16 == u32::from(leave >> 4) {
@@ -205,7 +205,7 @@ pub(crate) fn sheets_agree(
 /// Bit of the byte before a request, for `sheet`: it is asked for with its share.
 pub const WITH_SHARE: u8 = 0x04;
 
-/// Two bytes for the room, one for what is left as it stands, then the request.
+/// Two bytes for the buffer's length, one for what is left as it stands, then the request.
 pub fn sheet(input: &[u8]) {
     let &[near, far, leave, ref raw @ ..] = input else { return };
     let request = request(leave, raw);
@@ -219,7 +219,7 @@ pub fn sheet(input: &[u8]) {
     } else {
         Asked { name: "ukhtvaresh_sheet", call: library::sheet, counted: guide_sheet }
     };
-    // The sheet once, and only then the room, since the seconds of a window are most of the work.
+    // The sheet once, and only then the buffer, since the seconds of a window are most of the work.
     let found = Request::from_bytes(&request).and_then(|request| Request { share, ..request }.check());
     let found = found.map(|circumstances| sheet::bytes_of(&circumstances.records()));
     sheets_agree(&asked, &request, found, [near, far, leave]);
@@ -228,7 +228,7 @@ pub fn sheet(input: &[u8]) {
 /// The same bit, for `second`, `share` and the horizons: the second is left as it stands.
 pub const LEAVE_SECOND: u8 = 0x04;
 
-/// What stands before the request and its second: two bytes for the room, one for what is left as it stands.
+/// What stands before the request and its second: two bytes for the buffer's length, one for what is left as it stands.
 pub(crate) type Head = [u8; 3];
 
 /// These, then eight bytes for the second, then the request, which `made` mends.
@@ -244,7 +244,7 @@ pub(crate) fn request_and_second(
     Some(([near, far, leave], made(leave, raw), second))
 }
 
-/// The share at a second; it fills no room but that for table S.
+/// The share at a second; it fills no buffer but that for table S.
 pub fn share(input: &[u8]) {
     let Some(([near, far, leave], request, second)) = request_and_second(input, request) else { return };
     let lent = sines_room(leave, near, far);

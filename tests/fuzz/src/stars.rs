@@ -71,7 +71,7 @@ fn request(leave: u8, raw: &[u8]) -> Vec<u8> {
     request.to_bytes().expect("numbers no wider than they were").to_vec()
 }
 
-/// Two bytes for the room, one for what is left as it stands, then the request.
+/// Two bytes for the buffer's length, one for what is left as it stands, then the request.
 pub fn star(input: &[u8]) {
     let &[near, far, leave, ref raw @ ..] = input else { return };
     let request = request(leave, raw);
@@ -81,7 +81,7 @@ pub fn star(input: &[u8]) {
     sheets_agree(&asked, &request, found, [near, far, leave]);
 }
 
-/// Two bytes for the room, one for what is left as it stands, eight for the second, then the request.
+/// Two bytes for the buffer's length, one for what is left as it stands, eight for the second, then the request.
 pub fn horizon(input: &[u8]) {
     let Some((head, request, second)) = request_and_second(input, request) else { return };
     let asked = Moment {

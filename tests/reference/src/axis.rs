@@ -27,7 +27,7 @@ pub fn beyond(random: &mut Random, guard: i64) -> i64 {
 }
 
 /// Change x or y so that its value at a second moves by `shift`: the constant, and where that meets its
-/// limit the hourly change. False, and nothing changed, where neither has room.
+/// limit the hourly change. False, and nothing changed, where neither can change that far.
 fn move_by(coefficients: &mut [i64; 4], second: i64, shift: i64) -> bool {
     let wanted = coefficients[0] + shift;
     let constant = wanted.clamp(*ELEMENT_RANGES[0].start(), *ELEMENT_RANGES[0].end());
@@ -46,7 +46,7 @@ fn move_by(coefficients: &mut [i64; 4], second: i64, shift: i64) -> bool {
 }
 
 /// Put the axis at a distance of L plus `beyond` from the station at a second, in the direction `angle`
-/// (radians). False where the elements have no room for it.
+/// (radians). False where the elements cannot be moved that far.
 pub fn put<A: Axis>(request: &mut A, second: i64, phase: A::Phase, beyond: i64, angle: f64) -> bool {
     let distance = (request.l(second, phase) + beyond).max(0) as f64;
     let (sine, cosine) = angle.sin_cos();
@@ -61,7 +61,7 @@ pub fn put<A: Axis>(request: &mut A, second: i64, phase: A::Phase, beyond: i64, 
     done
 }
 
-/// Put the axis near the edge in any direction that the elements have room for, if there is one.
+/// Put the axis near the edge in any direction that the elements allow, if there is one.
 pub fn put_near_edge<A: Axis>(random: &mut Random, request: &mut A, second: i64, phase: A::Phase) {
     for _ in 0..12 {
         let beyond = beyond(random, request.guard());
@@ -90,7 +90,7 @@ pub fn slow_down<A: Axis>(request: &mut A, second: i64, u_rate: i64, v_rate: i64
 }
 
 /// Let the axis pass along the edge at a second: its way at right angles to the direction of the station,
-/// L plus `beyond` off. False where the elements have no room for it.
+/// L plus `beyond` off. False where the elements cannot be moved that far.
 pub fn put_along_edge<A: Axis>(request: &mut A, second: i64, phase: A::Phase, beyond: i64) -> bool {
     let (_, (u, v)) = way(request, second);
     put(request, second, phase, beyond, (v as f64).atan2(-u as f64))

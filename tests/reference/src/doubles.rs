@@ -29,7 +29,7 @@ pub const SCALES: [u64; 22] = {
 /// Numbers of a survey beside its doubles.
 pub const REST: usize = 7;
 
-/// Beyond this no unit is told apart: every range ends long before.
+/// Beyond this no two units are told apart: every range ends long before.
 const FAR: i128 = 1 << 120;
 
 /// The nearest whole unit to a finite double, halves away from zero; nothing where it is not finite.
@@ -95,7 +95,7 @@ fn in_range(unit: i128, range: &RangeInclusive<i64>) -> bool {
 }
 
 /// The sheet of 22 doubles, a longitude in degrees (0) or hours (1), and number, latitude, height, ΔT, first, last,
-/// guard: 10, 1, 12, 2, 3, 4 for the room for table S, 4 for the sheet's own.
+/// guard: 10, 1, 12, 2, 3, 4 for the buffer for table S, 4 for the sheet's own.
 pub fn sheet(
     elements: &[f64],
     longitude: f64,

@@ -6,7 +6,7 @@ use crate::request::Request;
 use crate::sheet::{records_of, Family, Record, Role};
 use crate::star::StarRequest;
 
-/// The room that programs `sheet` and `star_sheet` lend.
+/// The buffer that programs `sheet` and `star_sheet` provide.
 pub const ROOM: usize = 65_536;
 
 /// The line of a record, if it has one.
@@ -46,7 +46,7 @@ pub fn star_of_input(input: &[u8], buffer: &mut [u8]) -> Result<usize, Refusal> 
     StarRequest::from_bytes(input)?.sheet(buffer)
 }
 
-/// The listing of the sheet that is written into the program's room, or the refusal.
+/// The listing of the sheet that is written into the program's buffer, or the refusal.
 fn printed(write: impl FnOnce(&mut [u8]) -> Result<usize, Refusal>) -> String {
     let mut buffer = vec![0; ROOM];
     match write(&mut buffer).and_then(|length| records_of(&buffer[..length])) {

@@ -53,8 +53,8 @@ pub fn notes(stretches: &[(u64, u64)]) -> Vec<u8> {
         .collect()
 }
 
-/// Mends into two lent rooms; how many bytes each then has. "4 with the length needed where a room is short, sheets'
-/// room first, nothing written."
+/// Mends into two buffers of the caller; how many bytes each then has. "4 with the length needed where a room is
+/// short, sheets' room first, nothing written."
 pub fn mend_into(file: &[u8], sheets: &mut [u8], dropped: &mut [u8]) -> Result<(usize, usize), Refusal> {
     let mended = mend(file);
     let notes = notes(&mended.stretches);

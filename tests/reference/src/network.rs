@@ -145,9 +145,9 @@ impl Network {
     }
 }
 
-/// The number of the station that sees the eclipse first, 0 if none enters, and the steps in lent room, 0 past the
-/// list. Refusals: 10 for other lengths than 25 and 64; 19, 1, 2, 3, 14, 15, 16; 4 for the room for table S. After a
-/// refusal both rooms hold what they held.
+/// The number of the station that sees the eclipse first, 0 if none enters, and the steps in the caller's buffer, 0
+/// past the list. Refusals: 10 for other lengths than 25 and 64; 19, 1, 2, 3, 14, 15, 16; 4 for the buffer for table
+/// S. After a refusal both buffers hold what they held.
 pub fn network(
     eclipse: &[i64],
     nodes: &[Node],

@@ -14,7 +14,7 @@ pub enum Refusal {
     /// 3: a station value is outside its range; the first such field, 0..4, in a network's list ten times the list
     /// place plus that.
     Station(usize),
-    /// 4: the room is too short; the length or count it needs.
+    /// 4: the buffer is too short; the length or count it needs.
     Room(usize),
     /// 5: a kind that is not in the table; the first byte of that record.
     Kind(usize),

@@ -51,7 +51,7 @@ pub fn station_and_window(bytes: &[u8; STATION_AND_WINDOW]) -> Result<(Station, 
 }
 
 /// A request's bytes: the kind of its elements, their numbers, then station, window and guard; nothing if a number
-/// has no room in them.
+/// does not fit in them.
 pub fn request_bytes(
     kind: u8,
     numbers: &[i64],
@@ -91,7 +91,7 @@ impl Request {
         Ok(Request { elements, station, window, guard, share: false })
     }
 
-    /// The 115 bytes of a request but for its wish for the share, or nothing if a number has no room in them.
+    /// The 115 bytes of a request but for its wish for the share, or nothing if a number does not fit in them.
     pub fn to_bytes(&self) -> Option<[u8; REQUEST_LENGTH]> {
         let bytes = request_bytes(2, &self.elements.fields(), &self.station, &self.window, self.guard)?;
         bytes.try_into().ok()

@@ -1,4 +1,4 @@
-//! The room for table S that a caller lends: document 02, wish 8.
+//! The buffer for table S that a caller provides: document 02, wish 8.
 
 use crate::elements::FARTHEST;
 use crate::refusal::Refusal;
@@ -10,7 +10,7 @@ use crate::star::StarRequest;
 /// How many numbers of it a request fills.
 pub const SINES: usize = 901;
 
-/// Fill the room with table S, or refuse as 4 with place 901 where it is shorter and leave it alone.
+/// Fill the buffer with table S, or refuse as 4 with place 901 where it is shorter and leave it alone.
 pub fn fill(sines: &mut [u32]) -> Result<(), Refusal> {
     let room = sines.get_mut(..SINES).ok_or(Refusal::Room(SINES))?;
     for (number, entry) in room.iter_mut().zip(S) {
@@ -19,8 +19,8 @@ pub fn fill(sines: &mut [u32]) -> Result<(), Refusal> {
     Ok(())
 }
 
-/// The sheet of a program's input, or its refusal: 10, 1, 2, 3, 4 for the room for table S, 4 for the sheet's own,
-/// which alone leaves that room filled.
+/// The sheet of a program's input, or its refusal: 10, 1, 2, 3, 4 for the buffer for table S, 4 for the sheet's own,
+/// which alone leaves that buffer filled.
 pub fn sheet_of_input(input: &[u8], sines: &mut [u32], buffer: &mut [u8]) -> Result<usize, Refusal> {
     sheet_for(Request::from_bytes(input)?, sines, buffer)
 }
@@ -50,7 +50,7 @@ fn fill_and_write(records: &[Record], sines: &mut [u32], buffer: &mut [u8]) -> R
 }
 
 /// The share at a second of a program's input, also outside its window: 10, 1 for the window or the second, then for
-/// the guard, 2, 3, 4 for the room for table S.
+/// the guard, 2, 3, 4 for the buffer for table S.
 pub fn share_of_input(input: &[u8], second: i64, sines: &mut [u32]) -> Result<i64, Refusal> {
     let request = Request::from_bytes(input)?;
     if !(-FARTHEST..=FARTHEST).contains(&second) {

@@ -92,7 +92,7 @@ pub(crate) fn place_and_second(random: &mut Random) -> (Station, i64, i64) {
     let place_manner = if random.once_in(2) { Manner::AtLimits } else { Manner::Anywhere };
     let [number, latitude, longitude, height] =
         [0, 1, 2, 3].map(|k| field(random, &STATION_RANGES[k], place_manner));
-    // ΔT and the guard have a lot of their own, told by the other numbers, and are 0 and 16 every other time: what
+    // ΔT and the guard are drawn separately, by the other numbers, and are 0 and 16 every other time: what
     // was drawn before they came stays.
     let mut own = Random::new((number ^ latitude << 10 ^ longitude << 20 ^ height << 40) as u64);
     let delta_t = if own.once_in(2) { 0 } else { field(&mut own, &STATION_RANGES[4], place_manner) };
@@ -141,7 +141,7 @@ impl Axis for Request {
     }
 }
 
-/// Make the central cone come to a point near the station at a second: L2 becomes `size`, if l2 has room.
+/// Make the central cone come to a point near the station at a second: L2 becomes `size`, if l2 can change that far.
 pub fn shrink_central(request: &mut Request, second: i64, size: i64) {
     let constant = request.elements.l2[0] - shadow(request, second).l2 + size;
     if ELEMENT_RANGES[14].contains(&constant) {

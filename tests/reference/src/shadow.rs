@@ -41,7 +41,7 @@ pub struct Shadow {
     pub l2: i64,
 }
 
-/// The steps between elements and shadow, also wanted by the exact values.
+/// The steps between elements and shadow, also used by the exact values.
 #[derive(Clone, Copy, PartialEq, Eq, Debug)]
 pub struct Turned {
     /// sine and cosine of the local hour angle H.

@@ -218,9 +218,9 @@ pub fn records_of(sheet: &[u8]) -> Result<Vec<Record>, Refusal> {
     Ok(records)
 }
 
-/// Read a sheet into lent room, five numbers an entry: kind, then fields. Every record is an entry, head
+/// Read a sheet into the caller's buffer, five numbers an entry: kind, then fields. Every record is an entry, head
 /// and end too. The number of entries, or the sheet's first fault, or 4 with the number of entries where
-/// the room holds fewer. After a refusal the room holds its old numbers.
+/// the buffer holds fewer. After a refusal the buffer holds its old numbers.
 pub fn read(sheet: &[u8], room: &mut [u32]) -> Result<usize, Refusal> {
     let records = records_of(sheet)?;
     if room.len() / WORDS < records.len() {

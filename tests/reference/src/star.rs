@@ -87,7 +87,7 @@ impl StarRequest {
         Ok(StarRequest { elements, radius, station, window, guard })
     }
 
-    /// The 79 bytes of a request, or nothing if a number has no room in them.
+    /// The 79 bytes of a request, or nothing if a number does not fit in them.
     pub fn to_bytes(&self) -> Option<[u8; STAR_LENGTH]> {
         let numbers = [&self.elements.fields()[..], &[self.radius]].concat();
         let bytes = request_bytes(STAR_KIND, &numbers, &self.station, &self.window, self.guard)?;

@@ -5,7 +5,7 @@ use crate::refusal::Refusal;
 use crate::request::REQUEST_LENGTH;
 use crate::star::STAR_LENGTH;
 
-/// The sheets of all requests one after the other, and what is told of those that are refused. It stops at bytes that
+/// The sheets of all requests one after the other, and a line for each that is refused. It stops at bytes that
 /// are no request's.
 pub fn stream(input: &[u8]) -> (Vec<u8>, String) {
     let (mut sheets, mut told) = (Vec::new(), String::new());

@@ -91,7 +91,7 @@ pub fn first_far(row: &Row, values: &[i64]) -> Option<usize> {
     exact.iter().zip(values).position(|(&(e, a, b), &value)| side(value, e, a, b) != 0)
 }
 
-/// What is refused, with so much room for the values: 10, 11, 4.
+/// What is refused, with a buffer of so many values: 10, 11, 4.
 pub fn check(numbers: &[i64], room: usize) -> Result<[Row; ROWS], Refusal> {
     if numbers.len() != NUMBERS {
         return Err(Refusal::Shape);

@@ -20,7 +20,7 @@ fn at_pole(clocks: &[(i64, i64)]) -> Network {
     Network { elements: request.elements, window: request.window, guard: request.guard, nodes }
 }
 
-/// The answer, the steps and the room for table S, after a look that a refusal leaves both rooms alone.
+/// The answer, the steps and the buffer for table S, after a look that a refusal leaves both buffers alone.
 fn answer(asked: &Network, lent: usize) -> (Result<u64, Refusal>, [u64; MOST]) {
     let (mut sines, mut steps) = (vec![7; lent], [u64::MAX; MOST]);
     let result = network(&asked.eclipse(), &asked.nodes, &mut sines, &mut steps);
@@ -120,7 +120,7 @@ fn the_first_refusal() {
         assert_eq!(network(&eclipse, &asked.nodes, &mut [], &mut steps[..MOST]), Err(Refusal::Shape));
     }
     assert_eq!(steps, [5; 2 * MOST]);
-    // the last: the room for table S
+    // the last: the buffer for table S
     let asked = at_pole(&[(1, 0)]);
     for lent in [0, SINES - 1] {
         assert_eq!(answer(&asked, lent).0, Err(Refusal::Room(SINES)));
@@ -256,7 +256,7 @@ fn drawn_enters() {
     assert!(entered > 100 && equal > 30 && none > 50, "{entered} {equal} {none}");
 }
 
-/// Any network, with faults of any kind: a refusal leaves both rooms, and every number of a refusal is met.
+/// Any network, with faults of any kind: a refusal leaves both buffers, and every number of a refusal is met.
 #[test]
 fn drawn_networks() {
     let mut random = Random::new(13);

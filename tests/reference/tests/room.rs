@@ -1,4 +1,4 @@
-//! The room for table S: document 02, wish 8.
+//! The buffer for table S: document 02, wish 8.
 
 use reference::elements::{Elements, Station, Window};
 use reference::refusal::Refusal;
@@ -7,7 +7,7 @@ use reference::room::{fill, sheet_of_input, SINES};
 use reference::sample::hand_worked;
 use reference::sine_table::S;
 
-/// What a room of so many numbers holds after the call, and the answer.
+/// What a buffer of so many numbers holds after the call, and the answer.
 fn after(input: &[u8], lent: usize, length: usize) -> (Result<usize, Refusal>, Vec<u32>, Vec<u32>) {
     let old: Vec<u32> = (0..lent as u32).map(|at| at.wrapping_mul(0x9E37_79B9)).collect();
     let mut sines = old.clone();

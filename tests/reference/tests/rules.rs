@@ -428,7 +428,7 @@ fn order_of_a_family() {
         sheet(&[0x10, 0, 10, 0, 11, 0, 0, 0x12, 0, 11, 0, 13, 0x10, 0, 13, 0, 14, 0, 0]),
         Err(Refusal::Order(21))
     );
-    // Each family begins anew, and penumbra does not come back.
+    // Each family begins again, and penumbra does not come back.
     assert!(sheet(&[0x10, 0, 18, 0, 19, 0, 0, 0x20, 0, 10, 0, 11, 0, 0]).is_ok());
     assert_eq!(sheet(&[0x20, 0, 10, 0, 11, 0, 0, 0x10, 0, 18, 0, 19, 0, 0]), Err(Refusal::Order(16)));
     // Opens touch an end of the window; one second is enough.
@@ -482,7 +482,7 @@ fn each_fault_of_entries() {
     assert_eq!(with(8, 0x1_0000), Err(Refusal::Field(9)));
     assert_eq!(with(7, u32::MAX), Err(Refusal::Field(9)));
     assert_eq!(with(10, 0x10), Err(Refusal::Order(16)));
-    // After the end entry: 9, before the room is looked at.
+    // After the end entry: 9, before the buffer's length is checked.
     for more in [&[0x7F][..], &[5, 5], &[0x7F, 0, 0, 0, 0], &[0xFFFF, 1, 2, 3, 4, 5]] {
         assert_eq!(write(&[&words, more].concat(), &mut []), Err(Refusal::After(45)));
     }

@@ -71,7 +71,7 @@ fn room_for_it() {
     assert_eq!((&buffer[..50], &buffer[50..]), (&sheet[..], &[0xA5; 14][..]));
 }
 
-/// 10, 1, 2, 3 and the 4 of the room for table S, for a sheet and for a second.
+/// 10, 1, 2, 3 and the 4 of the buffer for table S, for a sheet and for a second.
 #[test]
 fn requests_refused() {
     let request = hand_worked();

@@ -174,7 +174,7 @@ fn inputs_of_another_shape() {
     assert_eq!(StarElements::from_fields(fields).fields(), fields);
 }
 
-/// The room for table S: shorter it is refused before the sheet's own room, which alone leaves it filled.
+/// The buffer for table S: shorter it is refused before the sheet's own buffer, which alone leaves it filled.
 #[test]
 fn rooms() {
     let request = over_the_pole().to_bytes().unwrap();

@@ -3,7 +3,7 @@
 //!
 //! - a sheet for each survey, its doubles units exactly, about the halves beside them, at the ends of the ranges and
 //!   past them, too large,
-//!   not finite, any bits; the longitude in degrees and in hours; of other lengths, another mark, in rooms of all
+//!   not finite, any bits; the longitude in degrees and in hours; of other lengths, another mark, in buffers of all
 //!   sizes. Compared: the
 //!   refusal's number, the value, and both buffers with 64 numbers past their ends;
 //! - as many lists of units as doubles, at the ends of their ranges and past them, of other lengths; the doubles are
@@ -140,7 +140,7 @@ fn sheets(random: &mut Random, count: u64) {
             must_agree("ukhtvaresh_sheet_of_doubles", &given, &ours, &theirs);
             must_agree("its sines", &given, &(ours.0, our_sines), &(theirs.0, their_sines));
             replies[ours.0 .0 as usize] += 1;
-            // once more with room enough
+            // once more with a buffer that is long enough
             if ours.0 .0 != 4 || ours.0 .1 == 901 {
                 break;
             }

@@ -2,11 +2,11 @@
 //! at SECONDS seconds of eclipses that are not refused and as many of stars, and at refused ones between them.
 //!
 //! Compared for each call: the refusal's number, the value beside it, and each whole buffer with 64 numbers past its
-//! end, the room for table S among them. Each request is asked for eight seconds: any of -10,800 to 10,800, their ends,
-//! those of the window, or outside. Half of the requests are drawn as in `agreement` and `stars`: within their limits,
-//! outside them, or of another shape, with rooms that are exact, too short or longer. In the other half the Sun or the
-//! star is overhead, straight down, rising, setting or on the meridian at a second, and the station often at a pole or
-//! on the equator.
+//! end, the buffer for table S among them. Each request is asked for eight seconds: any of -10,800 to 10,800, their
+//! ends, those of the window, or outside. Half of the requests are drawn as in `agreement` and `stars`: within their
+//! limits, outside them, or of another shape, with buffers that are exact, too short or longer. In the other half the
+//! Sun or the star is overhead, straight down, rising, setting or on the meridian at a second, and the station often
+//! at a pole or on the equator.
 //!
 //! The mirror of each second that is not refused has the same altitude; azimuths, and zeniths, add up to 1799 or 1800
 //! modulo 3600, or both are none. An altitude is -900 to 900, a direction 0 to 3599 or 65,535.

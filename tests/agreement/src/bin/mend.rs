@@ -1,7 +1,7 @@
 //! `mend FILES SEED`: the compiled library's mending of year files against document 02, wish 11, in plain Rust.
 //!
-//! Compared for each call: the refusal's number, both values, and both rooms with 64 bytes past their ends. Files are
-//! drawn whole and damaged, the rooms exact, one short, none, plenty; and a file of three sheets has holes of every
+//! Compared for each call: the refusal's number, both values, and both buffers with 64 bytes past their ends. Files are
+//! drawn whole and damaged, the buffers exact, one short, none, plenty; and a file of three sheets has holes of every
 //! length at every place: bytes that are missing, and bytes that are 0, 1 or 255. What was kept is mended again.
 //!
 //! Prints counts; the first difference stops it with all that gives it again.
@@ -13,7 +13,7 @@ use reference::random::Random;
 
 const PAST: usize = 64;
 
-/// A room with canaries past its end.
+/// A buffer with canaries past its end.
 fn room(random: &mut Random, length: usize) -> Vec<u8> {
     (0..length + PAST).map(|_| random.bits() as u8).collect()
 }
@@ -36,8 +36,8 @@ fn both(random: &mut Random, file: &[u8], sheets: usize, dropped: usize) -> Mend
     our_reply
 }
 
-/// The library and the reference in rooms that do; what was kept then mended again: nothing changes, nothing is
-/// dropped.
+/// The library and the reference in buffers that are long enough; what was kept then mended again: nothing changes,
+/// nothing is dropped.
 fn with_room(random: &mut Random, file: &[u8]) -> usize {
     let mended = mend(file);
     both(random, file, mended.sheets.len(), 16 * mended.stretches.len());

@@ -1,11 +1,11 @@
 //! `network LISTS SEED`: the compiled library's answers to lists of stations against document 02, wish 10, in plain
 //! Rust.
 //!
-//! Compared for each call: the refusal's number, the value beside it, and the rooms for steps and for table S with 64
+//! Compared for each call: the refusal's number, the value beside it, and the buffers for steps and for table S with 64
 //! numbers past their ends. Lists are stars, chains, trees, rings and chains into rings, of 1 to 64 stations side by
 //! side, at one place or anywhere, in any order; with numbers used twice, clocks of no station, numbers outside their
-//! ranges, up to the ends of 64 bits; none, 65 and more; other lengths of the eclipse, of the steps and of the room
-//! for table S. Of each list that is not refused the named station is held against the sheets that the library writes
+//! ranges, up to the ends of 64 bits; none, 65 and more; other lengths of the eclipse, of the steps and of the buffer
+//! for table S. Of each list that is not refused the named station is compared with the sheets that the library writes
 //! one by one, and the steps against what each clock says.
 //!
 //! Prints counts; the first difference stops it with all that gives it again.
@@ -33,7 +33,7 @@ struct Counts {
 }
 
 impl Counts {
-    /// A list in rooms that do, then in others, with an eclipse of another length once in a while.
+    /// A list in buffers that are long enough, then in others, with an eclipse of another length once in a while.
     fn compare(&mut self, random: &mut Random, asked: &Network) {
         let ((number, named), steps) = network_both(random, &asked.eclipse(), asked, SINES, MOST);
         *self.replies.entry(number).or_default() += 1;

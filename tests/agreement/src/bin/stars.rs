@@ -2,9 +2,9 @@
 //! plain Rust.
 //!
 //! Compared for each call: the refusal's number, the value beside it, and each whole buffer with 64 numbers past its
-//! end, the room for table S among them. Requests lie within their limits (anywhere, at them, as occultations are;
+//! end, the buffer for table S among them. Requests lie within their limits (anywhere, at them, as occultations are;
 //! near the cylinder's edge, slow, at a pole, along the edge, through the axis), outside them, or have another shape;
-//! the rooms are exact, one less, none, plenty. Each sheet is read, written again and listed by both. Eight seconds
+//! the buffers are exact, one less, none, plenty. Each sheet is read, written again and listed by both. Eight seconds
 //! of each request, within ±10,800 and outside, and of each sheet the seconds at which its entries have their
 //! directions: these are the same.
 //!

@@ -2,8 +2,8 @@
 //! Rust.
 //!
 //! Compared for each call: the refusal's number, the value beside it, the numbers past the values, on refusal all
-//! numbers; and each value is held against its exact one. Rows are drawn near the ecliptic and anywhere, at their
-//! limits and one unit off, at the ends of 64 bits; lists of other lengths, and rooms that are short.
+//! numbers; and each value is compared with its exact one. Rows are drawn near the ecliptic and anywhere, at their
+//! limits and one unit off, at the ends of 64 bits; lists of other lengths, and buffers that are short.
 //!
 //! Prints counts; the first difference stops it with all that gives it again.
 
@@ -32,7 +32,7 @@ fn at_limit(random: &mut Random, place: &mut [i64; 3], exact: i64) {
     }
 }
 
-/// A place exactly `limit` units off, by whole numbers whose squares add up to one: 9² + 6² + 2² = 11² and the like;
+/// A place exactly `limit` units off, by whole numbers whose squares add up to one: 9² + 6² + 2² = 11² and so on;
 /// or one unit beside it.
 fn exactly(random: &mut Random, limit: i64) -> [i64; 3] {
     let (shares, whole) = match limit {

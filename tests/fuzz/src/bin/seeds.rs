@@ -13,7 +13,7 @@ use std::path::{Path, PathBuf};
 
 const DRAWN: usize = 500;
 
-/// Exactly the room that is needed.
+/// Exactly the length that is needed.
 const ROOM: [u8; 2] = [0, 0];
 
 fn stored(file: &str) -> Vec<u8> {
@@ -40,7 +40,7 @@ fn stored_sheets() -> Vec<Vec<u8>> {
     [vec![stored("crates/listing/stdin")], records(b'r')].concat()
 }
 
-/// A request's record begins with the room for its sheet, in two bytes.
+/// A request's record begins with the length of the buffer for its sheet, in two bytes.
 fn stored_requests() -> Vec<Vec<u8>> {
     let files = [
         "examples/moscow1954.bin",
@@ -109,7 +109,7 @@ fn main() {
     let shared = [head[0], head[1], head[2] | WITH_SHARE];
     put(&sheet, &shared, stored_requests(), "shared");
     put(&sheet, &shared, (0..DRAWN).map(|_| draws::request(&mut random)), "shared_drawn");
-    // the same with a room for table S that is shorter or longer by one
+    // the same with a buffer for table S that is shorter or longer by one
     let others = [0x08, 0x10].map(|far| [ROOM[0], far, head[2] | OTHER_SINES]);
     for (head, from) in others.iter().zip(["short", "long"]) {
         put(&sheet, head, stored_requests(), from);

@@ -12,7 +12,7 @@ pub unsafe extern "C" fn LLVMFuzzerTestOneInput(data: *const u8, size: usize) ->
 }
 
 /// # Safety
-/// `data` has room for `most` bytes and holds `size`.
+/// `data` can hold `most` bytes and holds `size`.
 #[no_mangle]
 pub unsafe extern "C" fn LLVMFuzzerCustomMutator(
     data: *mut u8,

@@ -2,7 +2,7 @@
 //! run, and compares each answer with this implementation's: the listing, or the refusal.
 //!
 //! Requests lie within their ranges (for which rounding matters, or as eclipses are, with windows up to all of
-//! -10,800..10,800), just outside them, anywhere, and are no requests at all; the room is large, just enough,
+//! -10,800..10,800), just outside them, anywhere, and are no requests at all; the buffer is large, just enough,
 //! one byte short, or small. Prints what was compared; the first difference stops it.
 
 use reference::elements::{Window, ELEMENT_RANGES, FARTHEST, STATION_RANGES};
@@ -15,7 +15,7 @@ use std::collections::BTreeMap;
 use std::io::{Read, Write};
 use std::process::{Command, Stdio};
 
-/// The most room that a record of the program can name.
+/// The longest buffer that a record of the program can name.
 const MOST_ROOM: usize = 65_535;
 
 /// How many cases the program is given in a run: it takes 262,144 bytes of them.
@@ -27,7 +27,7 @@ struct Case {
 }
 
 impl Case {
-    /// As the program reads it: a letter, how many bytes follow, the room, the input.
+    /// As the program reads it: a letter, how many bytes follow, the buffer's length, the input.
     fn bytes(&self) -> Vec<u8> {
         let length = 2 + self.input.len() as u16;
         let room = self.room as u16;

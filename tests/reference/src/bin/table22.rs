@@ -1,4 +1,4 @@
-//! `table22`: the station's place held against table 22 of source document 001, which prints ρ sin φ' and
+//! `table22`: the station's place compared with table 22 of source document 001, which prints ρ sin φ' and
 //! ρ cos φ' on Krasovsky's spheroid for each degree of latitude to five decimals, as differences from sin φ
 //! and cos φ, their logarithms and ρ². Prints each figure that differs by more than half its last digit, with
 //! the value by the rules; then the book's example.

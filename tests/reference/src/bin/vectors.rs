@@ -11,17 +11,17 @@
 //! | directions | u v direction |
 //! | states | L M guard state |
 //! | shadows | request u v L1 L2 penumbra central direction magnitude |
-//! | sheets | room request sheet |
-//! | shared | room request sheet |
+//! | sheets | length request sheet |
+//! | shared | length request sheet |
 //! | listings | request listing |
-//! | reads | room sheet count entries |
-//! | writes | room entries sheet |
+//! | reads | length sheet count entries |
+//! | writes | length entries sheet |
 //!
-//! States are 0 outside, 1 inside, 2 unsure. A request is the 115 bytes of program `sheet`; in `shadows` its
-//! window is the one second that the line is about; in `sheets`, `shared` and `listings` it may have another
-//! length. In `shared` the request asks for the share too, beside its bytes. A listing is what program `sheet`
-//! prints, each end of a line written `;`. Room is in bytes for `sheets`, `shared` and `writes`, in entries for
-//! `reads`. Entries are numbers separated by commas, five an entry: kind, then the fields of its body in their
+//! States are 0 outside, 1 inside, 2 unsure. A request is the 115 bytes of program `sheet`; in `shadows` its window
+//! is the one second that the line is about; in `sheets`, `shared` and `listings` it may have another length. In
+//! `shared` the request asks for the share too, beside its bytes. A listing is what program `sheet` prints, each end
+//! of a line written `;`. The length is that of the buffer, in bytes for `sheets`, `shared` and `writes`, in entries
+//! for `reads`. Entries are numbers separated by commas, five an entry: kind, then the fields of its body in their
 //! order, 0 where the kind has fewer; an empty list is `-`. Every record of a sheet is an entry, head and end too.
 
 use reference::elements::{Elements, Station, Window, ELEMENT_RANGES, FARTHEST, STATION_RANGES};
@@ -252,7 +252,7 @@ fn listings(random: &mut Random) -> Vec<String> {
     with_program_room.map(|(_, input)| line(&[&hex(&input), &program(&input).replace('\n', ";")])).collect()
 }
 
-/// Program inputs and the room for their sheets: whole sheets, short room, then the sorts below.
+/// Program inputs and the buffer for their sheets: whole sheets, a short buffer, then the sorts below.
 fn inputs(random: &mut Random) -> Vec<(usize, Vec<u8>)> {
     let hand = sample::hand_worked();
     let mut requests = Vec::new();
@@ -458,7 +458,7 @@ fn read_line(room: usize, bytes: &[u8]) -> String {
 }
 
 /// Well-formed sheets; the same cut, lengthened, with records dropped, doubled or exchanged, with a byte
-/// changed; short room.
+/// changed; a short buffer.
 fn reads(random: &mut Random) -> Vec<String> {
     let mut hand = vec![0; 45];
     sample::hand_worked().sheet(&mut hand).expect("room enough");
@@ -531,7 +531,7 @@ fn write_line(room: usize, entries: &[u32]) -> String {
 }
 
 /// Lists that keep all rules; the same cut at every length, lengthened, with a number changed, with entries
-/// dropped, doubled or exchanged; short room.
+/// dropped, doubled or exchanged; a short buffer.
 fn writes(random: &mut Random) -> Vec<String> {
     let mut sheet = vec![0; 45];
     sample::hand_worked().sheet(&mut sheet).expect("room enough");
