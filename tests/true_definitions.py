@@ -113,9 +113,8 @@ def page(w):
     normal = 1 / (c * c + e * s * s).sqrt()
     h = Decimal(w["height"]) / 6_378_245
     r, p = (normal + h) * c * 10**8, (e * normal + h) * s * 10**8
-    return value["x"] - r * sh, value["y"] - (
-        p * cd - r * ch * sd
-    ), value["l"] - (p * sd + r * ch * cd) * w["tangent"] / 10**8
+    term = (p * sd + r * ch * cd) * w["tangent"] / 10**8
+    return value["x"] - r * sh, value["y"] - (p * cd - r * ch * sd), value["l"] - term
 
 
 def draw():

@@ -285,9 +285,8 @@ def main():
             best = off(place)
             for _ in range(STEPS):
                 far = int(10 ** random.uniform(0, 8))
-                new = within(
-                    place[0] + random.randint(-far, far), 0, 90_000_000
-                ), random.choice((place[1], random.randint(-500, 9000)))
+                latitude = within(place[0] + random.randint(-far, far), 0, 90_000_000)
+                new = latitude, random.choice((place[1], random.randint(-500, 9000)))
                 if (found := off(new)) > best:
                     place, best = new, found
             note(name, best, (5, 5.5)[which], place)
