@@ -105,9 +105,6 @@ module _ (k : Reference) (d : ℤ) (s old : List ℕ) (begin : ℕ) (out : List 
     pub laying-bounds : (from < next) × (next ≤ length s)
     laying-bounds = record-bounds s from e next q
 
-    pub laying-same : length new ≡ length old
-    laying-same = further .same
-
     pub laying-end : isEnd (e .kind) ≡ true → Laid k d (readSheet s) old begin new r
     laying-end b =
         let t : timedLines k d (first .tail) ≡ [] = ap (timedLines k d) (first .last (ended ∙ b) .0) ∙ lines-nil k d in
