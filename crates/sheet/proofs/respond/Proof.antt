@@ -9,12 +9,12 @@ use Rattle.sheet.proofs.respond.Tie as tie
 
 returns : tie.Need-returns
 returns c =
-    let put = c .before .before in (
-      text-out Eclipse _ _ _ _ _ _ (put .before .before .pre .0) (omega arith) (omega arith) (omega arith) (put .put-printed .ensures) (c .clipped .ensures .0),
+    let put = c .before .before .before in (
+      text-out Eclipse _ _ _ _ _ _ (put .before .before .before .before .pre .0) (omega arith) (omega arith) (omega arith) (put .put-printed .ensures) (c .clipped .ensures .0),
       c .clipped .ensures .1,
     )
 
 pub respond-spec : {M : Type 1} → statement M
 respond-spec =
     tie.close
-    (tie.spec (λ c. search needs) (λ c. search needs) (λ c κs. search needs) (λ c κs. search needs) returns)
+    (tie.spec (λ c. search needs) (λ c. search needs) (λ c κs. search needs) returns)
