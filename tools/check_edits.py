@@ -2,8 +2,8 @@
 """Checks must-fail edits: whether each still fits its file, and where the checker refused it.
 
     check_edits.py [--check]      prints each edit whose `old:` text is not in the file that it names, and, of the edits
-                                  that were tried, each that was refused elsewhere than at a promise or a law
-    check_edits.py --logs [DIR]   prints where each edit was refused; DIR is the tree that was tried, this one by default
+                                  under crates/ that were tried, each that was refused elsewhere than at a promise or law
+    check_edits.py --logs [DIR]   prints where each of these was refused, in the tree DIR, by default this one
 
 `rt must-fail` leaves a log for each edit, target/must-fail/CRATE/LABEL/.log. The first error counts; errors that only
 say that something else was not admitted do not. It is at a promise if it is in `returns`, a need of a function's proof,
@@ -16,6 +16,8 @@ from pathlib import Path
 
 ROOT = Path(__file__).resolve().parent.parent
 ERROR = re.compile(r'^\S*?/((?:proofs|specs|src)/\S*?):\d+:\d+: error: (?:`([^`]*)`: )?(.*)')
+# a function that needs no proof file
+UNPROVED = re.compile(r'^fn (\S+): no proof: .*`search` does not close `([^`]*)`')
 
 
 def edits():
@@ -42,24 +44,29 @@ def faults(path, crate):
 
 def refused_at(log):
     """Where the first error is: ('promise' | 'law' | 'elsewhere', file, name)."""
+    unproved = None
     for line in log.read_text(errors='replace').splitlines():
+        unproved = unproved or UNPROVED.match(line)
         error = ERROR.match(line)
         if not error or 'was not admitted' in error[3]:
             continue
         file, name = error[1], error[2] or ''
-        if file.startswith('specs/'):
-            return 'law', file, name
-        if re.fullmatch(r'(.*-)?returns(-\d+)?', name):
-            return 'promise', file, name
-        return 'elsewhere', file, name
-    return 'elsewhere', '', 'no error of a proof'
+        return 'law' if file.startswith('specs/') else of_need(name), file, name
+    if unproved:
+        return of_need(unproved[2]), unproved[1], unproved[2]
+    return 'elsewhere', str(log), 'no error of a proof'
+
+
+def of_need(name):
+    return 'promise' if re.fullmatch(r'(.*-)?returns(-\d+)?', name) else 'elsewhere'
 
 
 def refusals(tree):
-    for path, crate in edits():
-        log = tree / 'target' / 'must-fail' / crate / path.stem / '.log'
+    for path in sorted(tree.glob('crates/*/must-fail/*.edit')):
+        label = '%s/%s' % (path.parts[-3], path.stem)
+        log = tree / 'target' / 'must-fail' / label / '.log'
         if log.is_file() and log.stat().st_mtime >= path.stat().st_mtime:
-            yield path, *refused_at(log)
+            yield label, *refused_at(log)
 
 
 def main():
@@ -72,10 +79,10 @@ def main():
             misfits += 1
             print('%s: %s' % (path.relative_to(ROOT), fault))
     count = {'promise': 0, 'law': 0, 'elsewhere': 0}
-    for path, place, file, name in refusals(tree):
+    for label, place, file, name in refusals(tree):
         count[place] += 1
         if listing or place == 'elsewhere':
-            print('%s: refused at %s: `%s` of %s' % (path.relative_to(ROOT), place, name, file))
+            print('%s: refused %s: `%s` of %s' % (label, place if place == 'elsewhere' else 'at a ' + place, name, file))
     print('%d edits do not fit; refused at a promise %d, at a law %d, elsewhere %d' %
           (misfits, count['promise'], count['law'], count['elsewhere']))
     return 1 if misfits or count['elsewhere'] else 0
