@@ -6,23 +6,27 @@ use lib.IntN.{ℤ}
 use lib.ListN.{take}
 use Rattle.circumstances.specs.declared.Answer.{Answer}
 use Rattle.circumstances.specs.declared.Answer.the-variants as A
-use Rattle.request_answers.specs.Sheet.{answerTo, bufferFor, starAnswer, starBuffer}
+use Rattle.request_answers.specs.Second.{wish}
+use Rattle.request_answers.specs.Sheet.{answerBy, bufferBy, answerTo, bufferFor, starAnswer, starBuffer}
+use Rattle.request_format.specs.declared.fields.Shape.{Shape}
 use Rattle.request_format.specs.Input.{deltaOf, starDelta}
 use Rattle.calendar.specs.declared.Reference.{Reference}
 use Rattle.listing_lines.specs.Lines.{refusalLine}
 use Rattle.listings.specs.Listings.{told, timed, printed}
+use Rattle.program_io.specs.Inputs.{zeros}
 
 -- the listing of the bytes that the sheet has in the room; or "A refusal prints `refused`, number, place."
 abbrev pub textBy : Answer → List ℕ → List ℕ
 textBy (A.Written n) room = printed (told (take n room))
 textBy (A.Refused r) room = refusalLine (r .number) (r .place)
 
-unfoldable pub answerText : (request sines room : List ℕ) → List ℕ
-answerText request sines room = textBy (answerTo request sines room) (bufferFor request sines room)
+-- of what bytes of that shape ask for
+unfoldable pub answerText : Shape → (request sines room : List ℕ) → List ℕ
+answerText shape request sines room = textBy (answerBy (wish shape request) sines room) (bufferBy (wish shape request) sines room)
 
--- of a star request's bytes
-unfoldable pub starText : (request sines room : List ℕ) → List ℕ
-starText request sines room = textBy (starAnswer request sines room) (starBuffer request sines room)
+-- what a program prints: the answer with 901 numbers for table S and "65,536 bytes for the sheet"
+unfoldable pub printedFor : Shape → List ℕ → List ℕ
+printedFor shape request = answerText shape request (zeros 901) (zeros 65536)
 
 -- ---- with clock times
 

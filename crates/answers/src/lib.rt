@@ -1,11 +1,13 @@
 // The answer to a request's bytes as text: the listing of its sheet, or the line of its refusal.
 use calendar::Reference;
 use circumstances::Answer;
+use request_format::fields::Shape;
 ghost use mathlib.Core.Path.{_≡_};
-ghost use Rattle.request_answers.specs.Sheet.{bufferFor, sinesFor, starBuffer, starSines};
+ghost use Rattle.request_answers.specs.Second.{wish};
+ghost use Rattle.request_answers.specs.Sheet.{bufferBy, sinesBy, bufferFor, sinesFor, starBuffer, starSines};
 ghost use Rattle.request_answers.specs.laws.SheetLaws.{Fits};
-ghost use Rattle.decimal_text.specs.Texts.{Put};
-ghost use Rattle.answers.specs.Answers.{timedBy, answerText, starText, timedText, starTimedText};
+ghost use Rattle.decimal_text.specs.Texts.{Put, Copies};
+ghost use Rattle.answers.specs.Answers.{timedBy, answerText, printedFor, timedText, starTimedText};
 
 // The text of an answer whose sheet stands at the room's start, with times where the reference is an instant.
 fn put_text(answer: Answer, room: &[u8], out: &mut [u8], reference: Reference, deltat: i64) -> usize
@@ -24,28 +26,48 @@ fn put_text(answer: Answer, room: &[u8], out: &mut [u8], reference: Reference, d
     }
 }
 
-// The sheet of a request in its room, with `sines` for table S, and the text of the answer from the start of `out` on,
-// as far as that goes; the place after it.
-pub fn put_answer(request: &[u8], sines: &mut [u32], room: &mut [u8], out: &mut [u8]) -> usize
-    ensures text { λ r. ⌜ Put (now (out .entry)) 0 (answerText (now (request .entry)) (now (sines .entry)) (now (room .entry))) (now (out .exit)) r ⌝ }
-    ensures sheet { λ r. ⌜ now (room .exit) ≡ bufferFor (now (request .entry)) (now (sines .entry)) (now (room .entry)) ⌝ }
-    ensures sines { λ r. ⌜ now (sines .exit) ≡ sinesFor (now (request .entry)) (now (sines .entry)) ⌝ }
+// The sheet of a request of that shape in its room, with `sines` for table S, and the text of the answer from the start
+// of `out` on, as far as that goes; the place after it.
+pub fn put_answer(
+    shape: Shape,
+    request: &[u8],
+    sines: &mut [u32],
+    room: &mut [u8],
+    out: &mut [u8],
+) -> usize
+    ensures text { λ r. ⌜ Put (now (out .entry)) 0 (answerText shape (now (request .entry)) (now (sines .entry)) (now (room .entry))) (now (out .exit)) r ⌝ }
+    ensures sheet { λ r. ⌜ now (room .exit) ≡ bufferBy (wish shape (now (request .entry))) (now (sines .entry)) (now (room .entry)) ⌝ }
+    ensures sines { λ r. ⌜ now (sines .exit) ≡ sinesBy (wish shape (now (request .entry))) (now (sines .entry)) ⌝ }
 {
-    let answer = request_answers::sheets::sheet(request, sines, room);
+    let answer = request_answers::sheets::of_shape(shape, request, sines, room);
     put_text(answer, room, out, Reference::Nothing, 0)
 }
 
-// The same of a star request.
-pub fn put_star_answer(request: &[u8], sines: &mut [u32], room: &mut [u8], out: &mut [u8]) -> usize
-    ensures text { λ r. ⌜ Put (now (out .entry)) 0 (starText (now (request .entry)) (now (sines .entry)) (now (room .entry))) (now (out .exit)) r ⌝ }
-    ensures sheet { λ r. ⌜ now (room .exit) ≡ starBuffer (now (request .entry)) (now (sines .entry)) (now (room .entry)) ⌝ }
-    ensures sines { λ r. ⌜ now (sines .exit) ≡ starSines (now (request .entry)) (now (sines .entry)) ⌝ }
+// "Program `sheet` lends 65,536 bytes for the sheet." The other programs provide as many.
+pub fn sheet_room() -> [u8; 65536]
+    ensures { λ r. ⌜ Copies 0 65536 r ⌝ }
 {
-    let answer = request_answers::sheets::star_sheet(request, sines, room);
-    put_text(answer, room, out, Reference::Nothing, 0)
+    [0; 65536]
 }
 
-// The same as `put_answer` with times by the reference and the ΔT of the request's station.
+// The buffer for table S that a program provides.
+pub fn sines_room() -> [u32; 901]
+    ensures { λ r. ⌜ Copies 0 901 r ⌝ }
+{
+    [0; 901]
+}
+
+// What a program prints for a request of that shape, from the start of `out` on, as far as that goes; the place after
+// it.
+pub fn put_printed(shape: Shape, request: &[u8], out: &mut [u8]) -> usize
+    ensures { λ r. ⌜ Put (now (out .entry)) 0 (printedFor shape (now (request .entry))) (now (out .exit)) r ⌝ }
+{
+    let mut sines = sines_room();
+    let mut room = sheet_room();
+    put_answer(shape, request, &mut sines, &mut room, out)
+}
+
+// The answer to an eclipse's bytes with times by the reference and the ΔT of the request's station.
 pub fn put_timed_answer(
     request: &[u8],
     reference: Reference,

@@ -8,7 +8,9 @@ use sheet_types::refusals::Checked;
 use sheet_types::refusals::Refusal;
 ghost use mathlib.Core.Path.{_≡_};
 ghost use Prim.Native.Nat.{_≤_};
-ghost use lib.IntN.{natAbs};
+ghost use lib.IntN.{natAbs, _-ℤ_, _*ℤ_};
+ghost use Rattle.rounding.specs.Units.{one};
+ghost use Rattle.rounding.specs.Near.{near};
 ghost use Rattle.rounding.specs.Value.{Value};
 ghost use Rattle.sine_table.specs.Table.{S, Sines};
 ghost use Rattle.shadow_geometry.specs.Direction.{direction};
@@ -44,6 +46,17 @@ fn altitude_sine(sine: i64, cosine: i64, o: Orientation) -> i64
     rounding::near_unit(sine * dsine + q * dcosine)
 }
 
+// The direction of the point that lies near(a·b) to the east and near(c·d - near(e·f)·g) to the north, over 10^8 each.
+fn bearing(table: &[u32], a: i64, b: i64, c: i64, d: i64, e: i64, f: i64, g: i64) -> u16
+    requires { ⌜ (Sines (now table)) × (natAbs a ≤ 100000000) × (natAbs b ≤ 100000000) × (natAbs c ≤ 100000000) × (natAbs d ≤ 100000000) × (natAbs e ≤ 100000000) × (natAbs f ≤ 100000000) × (natAbs g ≤ 100000000) ⌝ }
+    ensures { λ r. ⌜ r ≡ direction S (near (a *ℤ b) one) (near (c *ℤ d -ℤ near (e *ℤ f) one *ℤ g) one) ⌝ }
+{
+    let q = rounding::near_unit(e * f);
+    let east = rounding::near_unit(a * b);
+    let north = rounding::near_unit(c * d - q * g);
+    shadow::directions::direction(table, east, north)
+}
+
 // The azimuth.
 fn azimuth(table: &[u32], sine: i64, cosine: i64, o: Orientation) -> u16
     requires { ⌜ (Sines (now table)) × (natAbs sine ≤ 100000000) × (natAbs cosine ≤ 100000000) × (OrientationSizes o) ⌝ }
@@ -53,10 +66,17 @@ fn azimuth(table: &[u32], sine: i64, cosine: i64, o: Orientation) -> u16
     let hcosine = o.hcosine;
     let dsine = o.dsine;
     let dcosine = o.dcosine;
-    let q = rounding::near_unit(sine * hcosine);
-    let east = rounding::near_unit(0 - dcosine * hsine);
-    let north = rounding::near_unit(cosine * dsine - q * dcosine);
-    shadow::directions::direction(table, east, north)
+    let opposite = 0 - dcosine;
+    bearing(
+        table,
+        opposite,
+        hsine,
+        cosine,
+        dsine,
+        sine,
+        hcosine,
+        dcosine,
+    )
 }
 
 // The direction of the zenith.
@@ -68,10 +88,7 @@ fn zenith(table: &[u32], sine: i64, cosine: i64, o: Orientation) -> u16
     let hcosine = o.hcosine;
     let dsine = o.dsine;
     let dcosine = o.dcosine;
-    let q = rounding::near_unit(cosine * hcosine);
-    let east = rounding::near_unit(cosine * hsine);
-    let north = rounding::near_unit(sine * dcosine - q * dsine);
-    shadow::directions::direction(table, east, north)
+    bearing(table, cosine, hsine, sine, dcosine, cosine, hcosine, dsine)
 }
 
 // The three, of the sine and the cosine of the latitude and of the sines and cosines of H and d.

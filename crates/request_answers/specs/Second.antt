@@ -30,6 +30,11 @@ abbrev pub wish : Shape → (request : List ℕ) → Asked
 wish Eclipse request = eclipseAsked (inputOf request)
 wish Star request = starAsked request
 
+-- that, where they are of the shape
+abbrev pub wished : Shape → (request : List ℕ) → Occultation
+wished Eclipse request = ofEclipse (requestOf request)
+wished Star request = ofStar (starRequestOf request)
+
 -- "Requests: 10, 1, 2, 3": the shape comes first. Document 02, wish 7: of a star 13 "after 2"; wish 8: then the 4 of
 -- the room for table S
 abbrev pub secondAsked : Asked → ℤ → (sines : List ℕ) → OneSecond

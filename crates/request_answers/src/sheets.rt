@@ -1,12 +1,14 @@
 // The sheet of a request's bytes, an eclipse's or a star's.
 use circumstances::Answer;
+use request_format::fields::Shape;
 use request_format::input::Asked;
 ghost use mathlib.Core.Path.{_≡_};
 ghost use Rattle.requests.specs.Requests.{ofEclipse, ofStar};
 ghost use Rattle.requests.specs.Shares.{withShare};
 ghost use Rattle.circumstances.specs.Demand3.{Claimed};
 ghost use Rattle.request_format.specs.Input.{requestOf, starRequestOf};
-ghost use Rattle.request_answers.specs.Sheet.{answerTo, bufferFor, sinesFor, sharedAnswer, sharedBuffer, sharedSines, starAnswer, starBuffer, starSines};
+ghost use Rattle.request_answers.specs.Second.{wish, wished};
+ghost use Rattle.request_answers.specs.Sheet.{answerBy, bufferBy, sinesBy, answerTo, bufferFor, sinesFor, sharedAnswer, sharedBuffer, sharedSines, starAnswer, starBuffer, starSines};
 ghost use Rattle.request_answers.specs.laws.SheetLaws.{Made};
 
 // The sheet of what is asked for.
@@ -19,6 +21,18 @@ fn sheet_for(asked: Asked, sines: &mut [u32], buf: &mut [u8]) -> Answer
     }
 }
 
+// The contact sheet of a request of that shape, in the caller's buffer; `sines` is the buffer for table S. Any bytes and
+// any buffers.
+pub fn of_shape(shape: Shape, request: &[u8], sines: &mut [u32], buf: &mut [u8]) -> Answer
+    ensures answer { λ r. ⌜ r ≡ answerBy (wish shape (now (request .entry))) (now (sines .entry)) (now (buf .entry)) ⌝ }
+    ensures buffer { λ r. ⌜ now (buf .exit) ≡ bufferBy (wish shape (now (request .entry))) (now (sines .entry)) (now (buf .entry)) ⌝ }
+    ensures sines { λ r. ⌜ now (sines .exit) ≡ sinesBy (wish shape (now (request .entry))) (now (sines .entry)) ⌝ }
+    ensures demand3 { λ r. ⌜ Claimed (wished shape (now (request .entry))) r (now (buf .exit)) ⌝ }
+{
+    let asked = crate::one_second::wish(shape, request);
+    sheet_for(asked, sines, buf)
+}
+
 // The contact sheet of the program's input, in the caller's buffer; `sines` is room for table S. Any bytes, any room,
 // any buffer.
 pub fn sheet(request: &[u8], sines: &mut [u32], buf: &mut [u8]) -> Answer
@@ -27,8 +41,7 @@ pub fn sheet(request: &[u8], sines: &mut [u32], buf: &mut [u8]) -> Answer
     ensures sines { λ r. ⌜ now (sines .exit) ≡ sinesFor (now (request .entry)) (now (sines .entry)) ⌝ }
     ensures demand3 { λ r. ⌜ Claimed (ofEclipse (requestOf (now (request .entry)))) r (now (buf .exit)) ⌝ }
 {
-    let asked = request_format::input::of_eclipse(request_format::input::request(request));
-    sheet_for(asked, sines, buf)
+    of_shape(Shape::Eclipse, request, sines, buf)
 }
 
 // The sheet of the same request with the covered share after the closest second.
@@ -52,6 +65,5 @@ pub fn star_sheet(request: &[u8], sines: &mut [u32], buf: &mut [u8]) -> Answer
     ensures sines { λ r. ⌜ now (sines .exit) ≡ starSines (now (request .entry)) (now (sines .entry)) ⌝ }
     ensures demand3 { λ r. ⌜ Claimed (ofStar (starRequestOf (now (request .entry)))) r (now (buf .exit)) ⌝ }
 {
-    let asked = request_format::input::stars::asked(request);
-    sheet_for(asked, sines, buf)
+    of_shape(Shape::Star, request, sines, buf)
 }

@@ -10,25 +10,11 @@ ghost use mathlib.Core.Path.{_≡_};
 ghost use mathlib.Core.List.{List};
 ghost use Prim.Native.Nat.{ℕ};
 ghost use lib.ListN.{take};
-ghost use Rattle.decimal_text.specs.Texts.{Counts, Copies};
+ghost use Rattle.decimal_text.specs.Texts.{Counts};
 ghost use Rattle.listing_lines.specs.Lines.{refusalLine};
 ghost use Rattle.program_io.specs.Inputs.{Read};
 ghost use Rattle.program_io.specs.Outputs.{Sent};
 ghost use Rattle.sheet_bytes.specs.Streams.{output, error};
-
-// As many bytes for the sheet as program `sheet` has.
-fn sheet_room() -> [u8; 65536]
-    ensures { λ r. ⌜ Copies 0 65536 r ⌝ }
-{
-    [0; 65536]
-}
-
-// Table S.
-fn sines_room() -> [u32; 901]
-    ensures { λ r. ⌜ Copies 0 901 r ⌝ }
-{
-    [0; 901]
-}
 
 // The line of a refusal, at the array's start.
 fn put_refusal(out: &mut [u8; 65536], number: u32, place: usize) -> usize
@@ -45,8 +31,8 @@ fn respond(input: &[u8; 116], length: usize, out: &mut [u8; 65536]) -> Text
     ensures text { λ r. ⌜ ((s : List ℕ) → Read s (now (input .entry)) length → Sent (r .descriptor) (take (r .length) (now (out .exit))) (output s) (error s)) ⌝ }
     ensures counts { λ r. ⌜ Counts (r .length) (now (out .exit)) ⌝ }
 {
-    let mut sines = sines_room();
-    let mut room = sheet_room();
+    let mut sines = answers::sines_room();
+    let mut room = answers::sheet_room();
     let all: &[u8] = input;
     let answer = request_answers::sheets::sheet(&all[..length], &mut sines, &mut room);
     match answer {

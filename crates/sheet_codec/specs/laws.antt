@@ -2,6 +2,7 @@ pub mod WellFormed
 pub mod Passes
 pub mod SheetLaws
 pub mod GivenLaws
+pub mod Rests
 pub mod StoredLaws
 pub mod HandedLaws
 pub mod WellFormedLaws

@@ -15,6 +15,7 @@
 // Any other record is `malformed`.
 use libc::STDIN_FILENO;
 use libc::STDOUT_FILENO;
+use request_format::fields::Shape;
 use sheet_codec::decoder::Extent;
 ghost use mathlib.Core.Path.{_≡_};
 ghost use Prim.Native.Nat.{_+_, _*_, _/_, _≤_};
@@ -45,7 +46,7 @@ fn listing_room() -> [u8; 262_144] {
 fn print_listing(request: &[u8], room: &mut [u8]) {
     let mut sines = [0u32; 901];
     let mut text = listing_room();
-    let end = answers::put_answer(request, &mut sines, room, &mut text);
+    let end = answers::put_answer(Shape::Eclipse, request, &mut sines, room, &mut text);
     let length = decimal_text::clipped(&text, end);
     print_text(&text[..length]);
 }

@@ -2,8 +2,8 @@
 -- "65,536 bytes for the sheet". This is a definition. The answer as text: answers, Answers.
 use mathlib.Core.List.{List}
 use Prim.Native.Nat.{ℕ}
-use Rattle.program_io.specs.Inputs.{zeros}
-use Rattle.answers.specs.Answers.{starText}
+use Rattle.request_format.specs.declared.fields.Shape.the-variants.{Star}
+use Rattle.answers.specs.Answers.{printedFor}
 
-unfoldable pub printed : List ℕ → List ℕ
-printed input = starText input (zeros 901) (zeros 65536)
+abbrev pub printed : List ℕ → List ℕ
+printed input = printedFor Star input

@@ -1,27 +1,14 @@
 // Reads a star request, 79 bytes, from standard input, and prints the listing of its contact sheet; or its refusal.
 use libc::STDIN_FILENO;
 use libc::STDOUT_FILENO;
+use request_format::fields::Shape;
 ghost use mathlib.Core.Path.{_≡_};
 ghost use mathlib.Core.List.{List};
 ghost use Prim.Native.Nat.{ℕ};
 ghost use lib.ListN.{take};
-ghost use Rattle.decimal_text.specs.Texts.{Counts, Copies};
+ghost use Rattle.decimal_text.specs.Texts.{Counts};
 ghost use Rattle.program_io.specs.Inputs.{Read};
 ghost use Rattle.star_sheet.specs.Printed.{printed};
-
-// As many bytes for the sheet as program `sheet` has.
-fn sheet_room() -> [u8; 65536]
-    ensures { λ r. ⌜ Copies 0 65536 r ⌝ }
-{
-    [0; 65536]
-}
-
-// Table S.
-fn sines_room() -> [u32; 901]
-    ensures { λ r. ⌜ Copies 0 901 r ⌝ }
-{
-    [0; 901]
-}
 
 // The text of the program's input, of which `length` bytes were read: the array has a byte more than a request, so
 // that a longer input is seen.
@@ -30,10 +17,8 @@ fn respond(input: &[u8; 80], length: usize, out: &mut [u8; 400000]) -> usize
     ensures text { λ r. ⌜ ((s : List ℕ) → Read s (now (input .entry)) length → take r (now (out .exit)) ≡ take 400000 (printed s)) ⌝ }
     ensures counts { λ r. ⌜ Counts r (now (out .exit)) ⌝ }
 {
-    let mut sines = sines_room();
-    let mut room = sheet_room();
     let all: &[u8] = input;
-    let end = answers::put_star_answer(&all[..length], &mut sines, &mut room, out);
+    let end = answers::put_printed(Shape::Star, &all[..length], out);
     decimal_text::clipped(out, end)
 }
 

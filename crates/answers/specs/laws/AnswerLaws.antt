@@ -7,15 +7,17 @@ use lib.ListN.{take}
 use Rattle.sheet_types.specs.declared.refusals.Refusal.{Refusal}
 use Rattle.circumstances.specs.declared.Answer.{Answer}
 use Rattle.circumstances.specs.declared.Answer.the-variants as A
-use Rattle.request_answers.specs.Sheet.{answerTo, bufferFor, starAnswer, starBuffer}
-use Rattle.decimal_text.specs.Texts.{Put}
+use Rattle.request_answers.specs.Second.{wish}
+use Rattle.request_answers.specs.Sheet.{answerBy, bufferBy, answerTo, bufferFor, starAnswer, starBuffer}
+use Rattle.decimal_text.specs.Texts.{Put, Copies}
+use Rattle.request_format.specs.declared.fields.Shape.{Shape}
 use Rattle.request_format.specs.Input.{deltaOf, starDelta}
 use Rattle.calendar.specs.declared.Reference.{Reference}
 use Rattle.calendar.specs.declared.Reference.the-variants as R
 use Rattle.listing_lines.specs.Lines.{refusalLine}
 use Rattle.listings.specs.Listings.{timed, printed}
 use Rattle.listings.specs.laws.ListingLaws.{timed-off}
-use Rattle.answers.specs.Answers.{textBy, answerText, starText, timedBy, timedText, starTimedText}
+use Rattle.answers.specs.Answers.{textBy, answerText, printedFor, timedBy, timedText, starTimedText}
 
 -- ---- an answer and the bytes that it left
 
@@ -31,14 +33,23 @@ off : (a : Answer) (room : List ℕ) → timedBy R.Nothing (pos 0) a room ≡ te
 off (A.Written n) room = ap printed (timed-off (pos 0) (take n room))
 off (A.Refused r) room = refl
 
+-- ---- what bytes of a shape are answered
+
+module _ (shape : Shape) (request sines room : List ℕ) (a : Answer) (is : a ≡ answerBy (wish shape request) sines room)
+    (left : List ℕ) (by-rule : left ≡ bufferBy (wish shape request) sines room) where
+  pub text-is : timedBy R.Nothing (pos 0) a left ≡ answerText shape request sines room
+  unfolding answerText
+  text-is = off a left ∙ rw (is, by-rule)
+
+-- with a program's buffers
+pub printed-is : (shape : Shape) (request sines room : List ℕ) → Copies 0 901 sines → Copies 0 65536 room → answerText shape request sines room ≡ printedFor shape request
+unfolding printedFor
+printed-is shape request sines room t b = rw (t .is, b .is)
+
 -- ---- what a star request's bytes are answered
 
 module _ (request sines room : List ℕ) (a : Answer) (is : a ≡ starAnswer request sines room)
     (left : List ℕ) (by-rule : left ≡ starBuffer request sines room) where
-  pub star-text : timedBy R.Nothing (pos 0) a left ≡ starText request sines room
-  unfolding starText
-  star-text = off a left ∙ rw (is, by-rule)
-
   pub star-timed : (k : Reference) (d : ℤ) → d ≡ starDelta request → timedBy k d a left ≡ starTimedText k request sines room
   unfolding starTimedText
   star-timed k d e = rw (is, by-rule, e)
@@ -47,10 +58,6 @@ module _ (request sines room : List ℕ) (a : Answer) (is : a ≡ starAnswer req
 
 module _ (request sines room : List ℕ) (a : Answer) (is : a ≡ answerTo request sines room)
     (left : List ℕ) (by-rule : left ≡ bufferFor request sines room) where
-  pub text-is : timedBy R.Nothing (pos 0) a left ≡ answerText request sines room
-  unfolding answerText
-  text-is = off a left ∙ rw (is, by-rule)
-
   pub timed-is : (k : Reference) (d : ℤ) → d ≡ deltaOf request → timedBy k d a left ≡ timedText k request sines room
   unfolding timedText
   timed-is k d e = rw (is, by-rule, e)

@@ -9,7 +9,7 @@ use native.Mathlib.Omega.{arith}
 use lib.ListN.{length}
 use Rattle.sheet_format.specs.declared.records.Record.the-variants.{Is}
 use Rattle.sheet_format.specs.Records.{recordAt}
-use Rattle.listings.specs.laws.ListingLaws.{Laying, laying-start, laying-never, laying-same, laying-bounds, laying-end, laying-more}
+use Rattle.listings.specs.laws.ListingLaws.{Laying, laying-start, laying-never, laying-bounds, laying-end, laying-more}
 use borrow.Author.Needs.{needs}
 use Rattle.listings.proofs.put_lines.Statement.{statement}
 use Rattle.listings.proofs.put_lines.Tie as tie
@@ -35,7 +35,9 @@ returns : tie.Need-returns Inv-loop μ-loop
 returns c = absurd (laying-never _ _ _ _ _ _ _ _ (c .before .before .before .loop .inv) _ (sym (c .before .before .record-at .ensures) ∙ c .enum-told .given .1))
 
 same-length-2 : tie.Need-same-length-2 Inv-loop μ-loop
-same-length-2 c = let t = c .before .before .before .before .before .before in laying-same _ _ _ _ _ _ _ _ (t .before .before .before .before .loop .inv) _ _ (took t) _ _ (c .before .before .before .before .put-entry .ensures)
+same-length-2 c =
+    let t = c .before .before .before .before .before .before in
+    c .before .before .before .before .put-entry .kept .0 ∙ t .before .before .before .before .loop .inv .putting .same
 
 returns-2 : tie.Need-returns-2 Inv-loop μ-loop
 returns-2 c =

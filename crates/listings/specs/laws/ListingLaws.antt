@@ -1,6 +1,6 @@
 -- The lines of a sheet being put, one record after the other; and the two passes over a sheet, which measure its lines
 -- and put them.
-use Prim.Native.Nat.{ℕ, suc, _+_, _-_, _≤_, _<_}
+use Prim.Native.Nat.{ℕ, _+_, _-_, _≤_, _<_}
 use mathlib.Core.Path.{_≡_, refl, sym, ap, _∙_}
 use mathlib.Core.List.{List, [], _++_}
 use mathlib.Core.Bool.{true, false}
@@ -10,16 +10,15 @@ use lib.ListN.{length}
 use Rattle.sheet_types.specs.declared.refusals.Refusal.{Refusal}
 use Rattle.sheet_types.specs.Refusals.{refusal}
 use Rattle.sheet_format.specs.declared.kinds.Entry.{Entry}
-use Rattle.sheet_format.specs.declared.kinds.Progress.{Progress}
 use Rattle.sheet_format.specs.declared.records.Record.the-variants.{Is, Refused}
 use Rattle.sheet_format.specs.Kinds.{isEnd}
-use Rattle.sheet_rules.specs.Rules.{start, afterOf}
+use Rattle.sheet_rules.specs.Rules.{start}
 use Rattle.sheet_format.specs.Records.{recordAt}
 use Rattle.sheet_format.specs.laws.RecordLaws.{record-bounds}
 use Rattle.sheet_codec.specs.declared.decoder.Extent.the-variants as X
-use Rattle.sheet_codec.specs.Sheets.{Sheet, sheet, refused, sheetFrom, storedAt, readSheet, readWhole, extentOf}
+use Rattle.sheet_codec.specs.Sheets.{Sheet, sheet, refused, storedAt, readSheet, readWhole, extentOf}
 use Rattle.sheet_codec.specs.laws.SheetLaws.{read-start, extent-inv, extent-refused, whole-same}
-use Rattle.sheet_codec.specs.laws.GivenLaws.{Went, from-inv}
+use Rattle.sheet_codec.specs.laws.Rests.{Rest, rest-there, behind, rest-split, rest-last, rest-more}
 use Rattle.decimal_text.specs.Texts.{Put}
 use Rattle.decimal_text.specs.laws.TextLaws.{Putting, putting-start, putting-turn, putting-end}
 use Rattle.listings.specs.declared.Text.{Text}
@@ -46,17 +45,14 @@ Laid k d (sheet es n) old at new r = Put old at (timedLines k d es) new r
 
 -- the lines of the records before `from` are put, up to `at`
 pub record Laying (k : Reference) (d : ℤ) (s old : List ℕ) (begin : ℕ) (out : List ℕ) (from at : ℕ) : Type 0 where
-  pub p : Progress
   pub n : ℕ
   pub all : List Entry
   pub size : ℕ
-  pub es : List Entry
-  pub len : ℕ
   pub whole : readSheet s ≡ sheet all size
-  pub left : sheetFrom (storedAt s) (suc (length s - n)) p n from ≡ sheet es len
+  pub rest : Rest (storedAt s) (length s) n from
   pub low : n ≤ from
   pub within : from ≤ length s
-  pub putting : Putting old begin (timedLines k d all) out at (timedLines k d es)
+  pub putting : Putting old begin (timedLines k d all) out at (timedLines k d (rest .es))
 
 pub laying-start : (k : Reference) (d : ℤ) (s out : List ℕ) (at : ℕ) → at < 18446744073709551616 → length out < 18446744073709551616 → IsSheet (readSheet s)
     → Laying k d s out at out 0 at
@@ -66,66 +62,45 @@ laying-start k d s out at f l h = by (readSheet s) refl h
     by (refused r) q h = absurd h
     by (sheet es n) q h =
         record {
-          p = start;
           n = 0;
           all = es;
           size = n;
-          es = es;
-          len = n;
           whole = q;
-          left = sym (read-start s) ∙ q;
+          rest = record { p = start; es = es; long = n; is = sym (read-start s) ∙ q };
           low = omega arith;
           within = omega arith;
           putting = putting-start out at (timedLines k d es) f l;
         }
 
 module _ (k : Reference) (d : ℤ) (s old : List ℕ) (begin : ℕ) (out : List ℕ) (from at : ℕ) (f : Laying k d s old begin out from at) where
-  first : Went (storedAt s) (length s - f .n) (f .p) (f .n) from (f .es) (f .len)
-  first = from-inv (storedAt s) (length s - f .n) (f .p) (f .n) from (f .es) (f .len) (f .left)
-
   pub laying-never : (r : Refusal) → recordAt s from ≡ Refused r → ⊥
-  laying-never r q = let t = first .got in let z : _≡_ {A = ℕ} 0 1 = cc in omega arith
+  laying-never r q = rest-there (f .rest) r q
 
   module _ (e : Entry) (next : ℕ) (q : recordAt s from ≡ Is e next) (new : List ℕ) (r : ℕ) (put : Put out at (timedLine k d e) new r) where
-    same-entry : first .e ≡ e
-    same-entry = let t = first .got in cc
+    split : timedLines k d (f .rest .es) ≡ timedLine k d e ++ timedLines k d (behind (f .rest))
+    split = ap (timedLines k d) (rest-split (f .rest) e next q) ∙ lines-cons k d e (behind (f .rest))
 
-    same-next : first .n ≡ next
-    same-next = let t = first .got in cc
-
-    ended : isEnd (first .e .kind) ≡ isEnd (e .kind)
-    ended = ap (λ x. isEnd (x .kind)) same-entry
-
-    split : timedLines k d (f .es) ≡ timedLine k d e ++ timedLines k d (first .tail)
-    split = ap (timedLines k d) (first .all) ∙ lines-cons k d (first .e) (first .tail) ∙ ap (λ x. timedLine k d x ++ timedLines k d (first .tail)) same-entry
-
-    further : Putting old begin (timedLines k d (f .all)) new r (timedLines k d (first .tail))
-    further = putting-turn old begin (timedLines k d (f .all)) out at (timedLine k d e) (timedLines k d (first .tail)) new r (rw split at (f .putting)) put
+    further : Putting old begin (timedLines k d (f .all)) new r (timedLines k d (behind (f .rest)))
+    further =
+        putting-turn old begin (timedLines k d (f .all)) out at (timedLine k d e) (timedLines k d (behind (f .rest))) new r (rw split at (f .putting)) put
 
     pub laying-bounds : (from < next) × (next ≤ length s)
     laying-bounds = record-bounds s from e next q
 
-    pub laying-same : length new ≡ length old
-    laying-same = further .same
-
     pub laying-end : isEnd (e .kind) ≡ true → Laid k d (readSheet s) old begin new r
     laying-end b =
-        let t : timedLines k d (first .tail) ≡ [] = ap (timedLines k d) (first .last (ended ∙ b) .0) ∙ lines-nil k d in
+        let t : timedLines k d (behind (f .rest)) ≡ [] = ap (timedLines k d) (rest-last (f .rest) e next q b) ∙ lines-nil k d in
         rw (f .whole) (putting-end old begin (timedLines k d (f .all)) new r (rw t at further))
 
     pub laying-more : isEnd (e .kind) ≡ false → Laying k d s old begin new next r
     laying-more b =
         let c = laying-bounds in
-        let j : length s - f .n ≡ suc (length s - (f .n + 1)) = omega (arith, f .low) in
         record {
-          p = afterOf (f .p) (first .e);
           n = f .n + 1;
           all = f .all;
           size = f .size;
-          es = first .tail;
-          len = f .len;
           whole = f .whole;
-          left = rw (← j, ← same-next) (first .goes (ended ∙ b));
+          rest = rest-more (f .rest) e next q b (omega (arith, f .low));
           low = omega (arith, f .low);
           within = c .1;
           putting = further;

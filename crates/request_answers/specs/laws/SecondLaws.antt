@@ -9,9 +9,9 @@ use lib.Dec.{leb}
 use lib.IntN.{ℤ}
 use lib.ListN.{length}
 use Rattle.shadow.specs.declared.Second.{Second}
+use Rattle.sheet_types.specs.declared.refusals.Refusal.{Refusal}
 use Rattle.sheet_types.specs.Refusals.{refusal}
 use Rattle.requests.specs.declared.Occultation.{Occultation}
-use Rattle.requests.specs.Requests.{ofEclipse, ofStar}
 use Rattle.seconds.specs.declared.OneSecond.{OneSecond}
 use Rattle.seconds.specs.declared.OneSecond.the-variants as O
 use Rattle.seconds.specs.OneSecond.{secondAnswer}
@@ -21,9 +21,9 @@ use Rattle.request_format.specs.declared.fields.Shape.{Shape}
 use Rattle.request_format.specs.declared.fields.Shape.the-variants.{Eclipse, Star}
 use Rattle.request_format.specs.declared.input.Asked.{Asked}
 use Rattle.request_format.specs.declared.input.Asked.the-variants as W
-use Rattle.request_format.specs.Input.{inputOf, requestOf, starRequestOf}
-use Rattle.request_format.specs.laws.InputLaws.{request-is, asked-is, star-request-is}
-use Rattle.request_answers.specs.Second.{wish, secondAsked, numberCount, secondInto, secondGiven, numbersAfter, NumbersMean, GivenMeans}
+use Rattle.request_format.specs.Input.{inputOf, requestOf}
+use Rattle.request_format.specs.laws.InputLaws.{request-is, shape-is, asked-is, asked-shape, star-request-is, star-shape-is}
+use Rattle.request_answers.specs.Second.{wish, wished, secondAsked, numberCount, secondInto, secondGiven, numbersAfter, NumbersMean, GivenMeans}
 
 module _ (n k : ℕ) (x : Second) where
   pub second-short : k < n → secondInto n k (O.Is x) ≡ O.Refused (refusal 4 n)
@@ -43,14 +43,14 @@ module _ (n k : ℕ) (x : Second) where
 
 -- ---- what stands in the room means what the second that was given means
 
--- what bytes of that shape ask for, where they have it
-abbrev wished : Shape → (request : List ℕ) → Occultation
-wished Eclipse request = ofEclipse (requestOf request)
-wished Star request = ofStar (starRequestOf request)
-
-wish-is : (shape : Shape) (request : List ℕ) (o : Occultation) → wish shape request ≡ W.Is o → o ≡ wished shape request
+pub wish-is : (shape : Shape) (request : List ℕ) (o : Occultation) → wish shape request ≡ W.Is o → o ≡ wished shape request
 wish-is Eclipse request o e = asked-is (inputOf request) (requestOf request) (request-is request) o e
 wish-is Star request o e = star-request-is request o e
+
+-- what is not of the shape is refused with 10
+pub wish-shape : (shape : Shape) (request : List ℕ) (r : Refusal) → wish shape request ≡ W.Refused r → r ≡ refusal 10 0
+wish-shape Eclipse request r e = asked-shape (inputOf request) (shape-is request) r e
+wish-shape Star request r e = star-shape-is request r e
 
 numbers-mean : (shape : Shape) (request : List ℕ) (τ : ℤ) (x : Second) (old : List ℤ) → SecondMeans (wished shape request) τ x
     → NumbersMean shape request τ (numbersAfter shape (O.Is x) old)

@@ -9,19 +9,22 @@ use Rattle.sheet_types.specs.Refusals.{refusal}
 use Rattle.requests.specs.Shares.{withShare}
 use Rattle.requests.specs.declared.Request.{Request}
 use Rattle.requests.specs.declared.Occultation.{Occultation}
-use Rattle.requests.specs.Requests.{ofEclipse, ofStar}
+use Rattle.requests.specs.Requests.{ofEclipse}
 use Rattle.circumstances.specs.declared.Answer.{Answer}
 use Rattle.circumstances.specs.declared.Answer.the-variants as A
 use Rattle.circumstances.specs.Sheet.{sheetAnswer, sheetBuffer, sheetSines}
 use Rattle.circumstances.specs.Demand3.{Claimed}
 use Rattle.circumstances.specs.laws.Claims as Claims
+use Rattle.request_format.specs.declared.fields.Shape.{Shape}
 use Rattle.request_format.specs.declared.input.Input.{Input}
 use Rattle.request_format.specs.declared.input.Input.the-variants as I
 use Rattle.request_format.specs.declared.input.Asked.{Asked}
 use Rattle.request_format.specs.declared.input.Asked.the-variants as W
-use Rattle.request_format.specs.Input.{inputOf, requestOf, sharing, eclipseAsked, starAsked, starRequestOf}
-use Rattle.request_format.specs.laws.InputLaws.{request-is, shape-is, asked-is, asked-shape, star-request-is, star-shape-is}
-use Rattle.request_answers.specs.Sheet.{answerBy, answerTo, bufferBy, bufferFor, sinesBy, sinesFor, sharedAnswer, sharedBuffer, sharedSines, starAnswer, starBuffer, starSines}
+use Rattle.request_format.specs.Input.{inputOf, requestOf, sharing, eclipseAsked, starAsked}
+use Rattle.request_format.specs.laws.InputLaws.{request-is, shape-is, asked-is, asked-shape}
+use Rattle.request_answers.specs.Second.{wish, wished}
+use Rattle.request_answers.specs.Sheet.{answerBy, answerTo, bufferBy, sinesBy, sharedAnswer, sharedBuffer, sharedSines, starAnswer}
+use Rattle.request_answers.specs.laws.SecondLaws.{wish-is, wish-shape}
 
 -- ---- the sheet of what was asked for
 
@@ -52,37 +55,32 @@ module _ (i : Asked) (sines old : List ℕ) where
       by (W.Refused x) f g h =
           subst (λ (y : Answer). Claimed o y new) (sym (g ∙ ap A.Refused (shape x f))) (λ (four : 10 ≡ 4). absurd (omega arith))
 
--- ---- of the bytes of an eclipse as they are, and with a share asked for; of a star's
+-- ---- of the bytes of a request as they are; of an eclipse's with a share asked for
 
--- of an input whose request, where there is one, is q
-module _ (i : Input) (q : Request) (is : (p : Request) → i ≡ I.Is p → p ≡ q) (shape : (x : Refusal) → i ≡ I.Refused x → x ≡ refusal 10 0) where
-  claimed-eclipse : (sines old : List ℕ) (r : Answer) (new : List ℕ) → r ≡ answerBy (eclipseAsked i) sines old → ClaimedBy (eclipseAsked i) r new
-      → Claimed (ofEclipse q) r new
-  claimed-eclipse sines old r new e c = claimed (eclipseAsked i) sines old (ofEclipse q) (asked-is i q is) (asked-shape i shape) r new e c
-
-abbrev pub Promised : (input sines old : List ℕ) → Answer → (new room : List ℕ) → Type 0
-Promised s sines old r new room = (r ≡ answerTo s sines old)
-    × ((new ≡ bufferFor s sines old) × ((room ≡ sinesFor s sines) × Claimed (ofEclipse (requestOf s)) r new))
+abbrev pub Promised : Shape → (input sines old : List ℕ) → Answer → (new room : List ℕ) → Type 0
+Promised shape s sines old r new room = (r ≡ answerBy (wish shape s) sines old)
+    × ((new ≡ bufferBy (wish shape s) sines old) × ((room ≡ sinesBy (wish shape s) sines) × Claimed (wished shape s) r new))
 
 abbrev pub PromisedShared : (input sines old : List ℕ) → Answer → (new room : List ℕ) → Type 0
 PromisedShared s sines old r new room = (r ≡ sharedAnswer s sines old)
     × ((new ≡ sharedBuffer s sines old) × ((room ≡ sharedSines s sines) × Claimed (ofEclipse (withShare (requestOf s))) r new))
 
-abbrev pub PromisedStar : (input sines old : List ℕ) → Answer → (new room : List ℕ) → Type 0
-PromisedStar s sines old r new room = (r ≡ starAnswer s sines old)
-    × ((new ≡ starBuffer s sines old) × ((room ≡ starSines s sines) × Claimed (ofStar (starRequestOf s)) r new))
-
 module _ (s sines old : List ℕ) where
-  pub promised : (r : Answer) (new room : List ℕ) → Made (eclipseAsked (inputOf s)) sines old r new room → Promised s sines old r new room
-  unfolding answerTo bufferFor sinesFor
-  promised r new room m =
-      (m .0, (m .1 .0, (m .1 .1 .0, claimed-eclipse (inputOf s) (requestOf s) (request-is s) (shape-is s) sines old r new (m .0) (m .1 .1 .1))))
+  pub promised : (shape : Shape) (r : Answer) (new room : List ℕ) → Made (wish shape s) sines old r new room → Promised shape s sines old r new room
+  promised shape r new room m =
+      (m .0, (m .1 .0, (m .1 .1 .0, claimed (wish shape s) sines old (wished shape s) (wish-is shape s) (wish-shape shape s) r new (m .0) (m .1 .1 .1))))
 
   pub promised-shared : (r : Answer) (new room : List ℕ) → Made (eclipseAsked (sharing (inputOf s))) sines old r new room → PromisedShared s sines old r new room
   unfolding sharedAnswer sharedBuffer sharedSines
   promised-shared r new room m =
-      (m .0, (m .1 .0, (m .1 .1 .0, claimed-eclipse (sharing (inputOf s)) (withShare (requestOf s)) is shape sines old r new (m .0) (m .1 .1 .1))))
+      (m .0, (m .1 .0, (m .1 .1 .0, claimed (eclipseAsked i) sines old (ofEclipse q) (asked-is i q is) (asked-shape i shape) r new (m .0) (m .1 .1 .1))))
     where
+      i : Input
+      i = sharing (inputOf s)
+
+      q : Request
+      q = withShare (requestOf s)
+
       is : (p : Request) → sharing (inputOf s) ≡ I.Is p → p ≡ withShare (requestOf s)
       is p e = by (inputOf s) refl e
         where
@@ -97,11 +95,6 @@ module _ (s sines old : List ℕ) where
           by (I.Is q) f g = let z : _≡_ {A = ℕ} 0 1 = cc in absurd (omega arith)
           by (I.Refused y) f g = let h : y ≡ x = cc in sym h ∙ shape-is s y f
 
-  pub promised-star : (r : Answer) (new room : List ℕ) → Made (starAsked s) sines old r new room → PromisedStar s sines old r new room
-  unfolding starAnswer starBuffer starSines
-  promised-star r new room m =
-      (m .0, (m .1 .0, (m .1 .1 .0, claimed (starAsked s) sines old (ofStar (starRequestOf s)) (star-request-is s) (star-shape-is s) r new (m .0) (m .1 .1 .1))))
-
 -- ---- what was written fits
 
 -- the room
@@ -112,7 +105,7 @@ Fits (A.Refused r) room = Unit {0}
 pub fits-written : (a : Answer) (room : List ℕ) (n : ℕ) → a ≡ A.Written n → Fits a room → n ≤ length room
 fits-written a room n e f = subst (λ (b : Answer). Fits b room) e f
 
-fits-by : (i : Asked) (sines old : List ℕ) (a : Answer) → a ≡ answerBy i sines old → (left : List ℕ) → length left ≡ length old → Fits a left
+pub fits-by : (i : Asked) (sines old : List ℕ) (a : Answer) → a ≡ answerBy i sines old → (left : List ℕ) → length left ≡ length old → Fits a left
 fits-by (W.Is o) sines old (A.Written n) e left l = omega (arith, Claims.written-fits o sines old n (sym e), l)
 fits-by (W.Is o) sines old (A.Refused r) e left l = tt
 fits-by (W.Refused x) sines old (A.Written n) e left l = let z : _≡_ {A = ℕ} 0 1 = cc in absurd (omega arith)

@@ -36,12 +36,9 @@ reading-starts s room h = by (readSheet s) refl h
     by (refused r) q h = absurd h
     by (sheet es n) q h =
         record {
-          p = start;
-          es = es;
-          long = n;
-          is = sym (read-start s) ∙ q;
+          rest = record { p = start; es = es; long = n; is = sym (read-start s) ∙ q };
           fits = omega (arith, length-numbers es);
-          rest = ap (λ w. filled w room) (sym q);
+          left = ap (λ w. filled w room) (sym q);
         }
 
 pub writing-starts : (l buf : List ℕ) → BufferFor (listSheet l) (length buf)
@@ -52,12 +49,9 @@ writing-starts l buf h = by (listSheet l) refl h
     by (refused r) q h = absurd h
     by (sheet es n) q h =
         record {
-          p = start;
-          es = es;
-          long = n;
-          is = sym (list-start l) ∙ q;
+          rest = record { p = start; es = es; long = n; is = sym (list-start l) ∙ q };
           fits = omega (arith, list-length l es n q);
-          rest = ap (λ w. emitted w buf) (sym q);
+          left = ap (λ w. emitted w buf) (sym q);
         }
 
 module _ (w : Sheet) where

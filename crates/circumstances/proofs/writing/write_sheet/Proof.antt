@@ -80,7 +80,7 @@ write-closing-requires c κs =
     let w = c .before .before .before in
     let b = w .before .before .before .before .before .before .before .before .before .before in (
       (b .pre .0 .0, b .pre .0 .1, b .pre .0 .2, b .pre .0 .3),
-      omega (arith, after-phases w, kept w, sheet-is (b .args .o), b .pre .1 .1),
+      omega (arith, w .write-phases .ensures .0, after-phases w, kept w, sheet-is (b .args .o), b .pre .1 .1),
     )
 
 returns : tie.Need-returns

@@ -85,17 +85,20 @@ store-second-requires c κs = read-size (c .before .before .nth-second .result) 
 store-second-requires-2 : tie.Need-store-second-requires-2
 store-second-requires-2 c κs = read-size (c .before .nth-second2 .result) 10800 (later-small (c .before)) tt
 
+-- a direction may be asked for at either second
 direction-at-requires : tie.Need-direction-at-requires
 direction-at-requires c κs =
     let n = c .before .before .before .before in
-    let b = n .before .before .before .before .before .before in
-    (b .pre .0, b .pre .1, b .pre .2, read-size (n .nth-second2 .result) 10800 (later-small n) tt)
+    let e = n .before .before in
+    let b = e .before .before .before .before in
+    (b .pre .0, b .pre .1, b .pre .2, omega (arith, read-size (n .nth-second2 .result) 10800 (later-small n) tt, read-size (e .nth-second .result) 10800 (earlier-small e) tt))
 
 direction-at-requires-2 : tie.Need-direction-at-requires-2
 direction-at-requires-2 c κs =
-    let n = c .before .before .before .before .before .before in
-    let b = n .before .before .before .before in
-    (b .pre .0, b .pre .1, b .pre .2, read-size (n .nth-second .result) 10800 (earlier-small n) tt)
+    let n = c .before .before .before .before in
+    let e = n .before .before in
+    let b = e .before .before .before .before in
+    (b .pre .0, b .pre .1, b .pre .2, omega (arith, read-size (n .nth-second2 .result) 10800 (later-small n) tt, read-size (e .nth-second .result) 10800 (earlier-small e) tt))
 
 returns : tie.Need-returns
 returns c =
