@@ -1,15 +1,13 @@
 -- The two hundredths of a second between which a contact lies. A rule of our own (docs/CONTACTS.md). Definitions only.
 use mathlib.Core.Bool.{Bool, cond}
-use Prim.Native.Nat.{ℕ, zero, suc, _+_, _-_, _/_, _≤_}
+use Prim.Native.Nat.{ℕ, zero, suc, _+_, _-_, _/_}
 use lib.Dec.{eqb, ltb}
 use lib.IntN.{ℤ, pos, natAbs, _+ℤ_, _-ℤ_, _*ℤ_}
 use Rattle.sheet_types.specs.declared.phases.Phase.{Phase}
 use Rattle.sheet_types.specs.States.{State, code}
 use Rattle.elements.specs.declared.Body.{Body}
 use Rattle.elements.specs.Stars.{axisOf}
-use Rattle.elements.specs.Sizes.{AxisSizes, ConeSizes}
 use Rattle.station.specs.declared.Place.{Place}
-use Rattle.station.specs.Sizes.{PlaceSizes}
 use Rattle.shadow_geometry.specs.Shadow.{cone, L, M, edge, state}
 use Rattle.contact_times.specs.declared.hundredths.Crossing.{Crossing}
 use Rattle.contact_times.specs.declared.search.Bracket.{Bracket}
@@ -63,10 +61,3 @@ bracketOf c from to =
     let first = from *ℤ pos 100 in
     let start = code (stateAt c first) in
     cond (eqb (start + code (stateAt c (to *ℤ pos 100))) 1) (narrowed c first start (natAbs (to *ℤ pos 100 -ℤ first))) B.NoContact
-
--- ---- what the code takes
-pub record CrossingSizes (c : Crossing) : Type 0 where
-  pub axis : AxisSizes 90000000 (c .axis)
-  pub cone : ConeSizes 60000000 (c .cone)
-  pub place : PlaceSizes (c .place)
-  pub guard : natAbs (c .guard) ≤ 1000

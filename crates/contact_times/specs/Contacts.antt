@@ -34,7 +34,7 @@ usedGuard g = cond (ltZ g (pos 32)) (pos 32) g
 abbrev pub crossing : Occultation → Phase → Crossing
 crossing o φ = crossingOf (usedGuard (o .guard)) (o .body) (placeOf (o .station)) φ
 
--- "phase 0 penumbra, 1 central"; of a star "phase 0 only": a place in the list of the shadow's phases
+-- "phase 0 is the penumbra, 1 central; of a star 0 alone": a place in the list of the shadow's phases
 unfoldable pub phaseHolds : Body → ℤ → Bool
 phaseHolds b φ = leZ (pos 0) φ && ltb (natAbs φ) (length (phasesOf b))
 
@@ -45,8 +45,9 @@ phaseAt b φ = getD (phasesOf b) (natAbs φ) Penumbra
 unfoldable pub phaseChecked : Body → ℤ → Checked
 phaseChecked b φ = cond (phaseHolds b φ) C.Within (C.Refused (refusal 22 0))
 
--- "1 (window, then from and to: no window, place 0; then the guard, place 1); 2; 3; 22 .. with place 0 ..; 4 with place
--- 901". The request's window and these two seconds have the same refusal, so either may come first
+-- "1 with place 0 for the window, then for two seconds that are no window, then with place 1 for the guard; 2; of a
+-- star 13; 3; 22 with place 0 ..; 4 with place 901". The window and the two seconds have the same refusal, so either
+-- may come first
 unfoldable pub contactChecked : Occultation → (φ from to : ℤ) → List ℕ → Checked
 contactChecked o φ from to sines =
     cond (windowHolds (record { first = from; last = to })) (andThen (checked o) (andThen (phaseChecked (o .body) φ) (roomChecked sines)))

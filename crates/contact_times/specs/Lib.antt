@@ -4,4 +4,6 @@ pub mod Parts
 pub mod Brackets
 -- and what is answered of an occultation
 pub mod Contacts
+-- sizes
+pub mod Sizes
 pub mod laws

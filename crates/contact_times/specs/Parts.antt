@@ -1,6 +1,7 @@
--- The shadow at a part of an hour. Document 01 cuts the hour into 3,600 seconds; here it is cut into n parts, 360,000 for hundredths of a second. The
--- elements take their values there by document 01's own rule, and the shadow is document 01's of elements that stand still at these values.
--- Definitions only. At a whole second it is the shadow at that second (WholeSeconds).
+-- The shadow at a part of an hour. Document 01 cuts the hour into 3,600 seconds; here it is cut into n parts, 360,000
+-- for hundredths of a second. The elements take their values there by document 01's own rule, and the shadow is
+-- document 01's of elements that stand still at these values. Definitions only. At a whole second it is the shadow at
+-- that second (WholeSeconds).
 use Prim.Native.Nat.{ℕ, _*_}
 use lib.IntN.{ℤ, pos, _+ℤ_, _*ℤ_}
 use Rattle.rounding.specs.Near.{near}
@@ -17,8 +18,8 @@ use Rattle.shadow_geometry.specs.Exact.{_³}
 abbrev pub hundredths : ℕ
 hundredths = 360_000
 
--- "Coefficients are per hour. A value at τ starts from the highest coefficient and repeats: multiply by τ, near over 3600, add the next lower.", with n
--- for 3600 and τ in n-ths of an hour
+-- "Coefficients are per hour. A value at τ starts from the highest coefficient and repeats: multiply by τ, near over
+-- 3600, add the next lower.", with n for 3600 and τ in n-ths of an hour
 unfoldable pub stepBy : (n : ℕ) (τ p lower : ℤ) → ℤ
 stepBy n τ p lower = near (p *ℤ τ) (pos n) +ℤ lower
 

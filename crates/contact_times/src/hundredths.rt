@@ -11,7 +11,8 @@ ghost use Rattle.station.specs.Sizes.{PlaceSizes};
 ghost use Rattle.shadow_geometry.specs.Shadow.{edge};
 ghost use Rattle.shadow.specs.Shadow.{radiusAt, IsOffset};
 ghost use Rattle.contact_times.specs.Parts.{hundredths, stepBy, quadraticBy, cubicBy, axisBy, coneBy};
-ghost use Rattle.contact_times.specs.Brackets.{stateAt, CrossingSizes};
+ghost use Rattle.contact_times.specs.Brackets.{stateAt};
+ghost use Rattle.contact_times.specs.Sizes.{CrossingSizes};
 
 // One phase of a shadow at a station, under a guard.
 pub struct Crossing {

@@ -5,7 +5,8 @@ ghost use Prim.Native.Nat.{_≤_, _<_};
 ghost use lib.IntN.{pos, natAbs, _+ℤ_};
 ghost use lib.Signed.{_≤ℤ_};
 ghost use Rattle.sine_table.specs.Table.{Sines};
-ghost use Rattle.contact_times.specs.Brackets.{sideOf, sideAt, lastBelow, narrowed, bracketOf, CrossingSizes};
+ghost use Rattle.contact_times.specs.Brackets.{sideOf, sideAt, lastBelow, narrowed, bracketOf};
+ghost use Rattle.contact_times.specs.Sizes.{CrossingSizes};
 
 // Where a contact lies.
 pub enum Bracket {

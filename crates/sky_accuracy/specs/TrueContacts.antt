@@ -1,9 +1,9 @@
 -- What is claimed of the contacts of a sheet. In the customer's words:
 --   "Of each enter and leave of a sheet with a guard of 32 or more two hundredths of a second are found, in order and
---   between its two seconds. At the one the station is truly outside and at the other truly inside, for the elements and
---   the station as they are given; so the true contact lies between them."
--- Definitions only. The sentence is ours; no document has it. That a contact lies between is by words: the true u, v and
--- L are continuous in time.
+--   between its two seconds. At the one the station is truly outside and at the other truly inside, for the elements
+--   and the station as they are given; so the true contact lies between them."
+-- Definitions only. The sentence is ours; no document has it. That a contact lies between is by words: the true u, v
+-- and L are continuous in time.
 use mathlib.Core.Path.{_≡_}
 use mathlib.Core.Logic.{_⊎_}
 use lib.IntN.{ℤ, pos, _*ℤ_}

@@ -1,8 +1,8 @@
--- The true shadow at a part of an hour: the page "The shadow at one second" once more, with n parts of an hour for 3,600
--- seconds, from the elements and the station as they are given, with no rounding and with true sines and the true place
--- in place of the rule's. The seconds are the case 3,600, hundredths of a second the case 360,000; how finely the hour is
--- cut does not matter (TrueSeconds). Definitions only. Each value is a numerator over a denominator that its comment
--- names; u, v and L stand over one.
+-- The true shadow at a part of an hour: the page "The shadow at one second" once more, with n parts of an hour for
+-- 3,600 seconds, from the elements and the station as they are given, with no rounding and with true sines and the true
+-- place in place of the rule's. The seconds are the case 3,600, hundredths of a second the case 360,000; how finely the
+-- hour is cut does not matter (TrueSeconds). Definitions only. Each value is a numerator over a denominator that its
+-- comment names; u, v and L stand over one.
 use Prim.Native.Nat.{ℕ, _*_}
 use lib.IntN.{ℤ, pos, _+ℤ_, _-ℤ_, _*ℤ_}
 use Rattle.sheet_types.specs.declared.phases.Phase.{Phase}

@@ -1,5 +1,5 @@
 -- `contact_times::cone_of` meets its contract: of either body.
-use mathlib.Core.Path.{_≡_, sym, ap, _∙_}
+use mathlib.Core.Path.{sym, ap, _∙_}
 use borrow.Author.Needs.{needs}
 use Rattle.elements.specs.declared.Body.{Body}
 use Rattle.shadow_geometry.specs.Shadow.{cone}

@@ -1,4 +1,5 @@
--- `contact_times::contact` meets its contract: the phase's cone, the axis and the place are put together, and the search is that of hundredths.
+-- `contact_times::contact` meets its contract: the phase's cone, the axis and the place are put together, and the
+-- search is that of hundredths.
 use mathlib.Core.Path.{_≡_, refl, sym, ap, _∙_, subst}
 use lib.IntN.{ℤ}
 use borrow.Author.Needs.{needs}
@@ -10,7 +11,8 @@ use Rattle.elements.specs.declared.Axis.{Axis}
 use Rattle.elements.specs.declared.Cone.{Cone}
 use Rattle.station.specs.declared.Place.{Place}
 use Rattle.contact_times.specs.declared.hundredths.Crossing.{Crossing}
-use Rattle.contact_times.specs.Brackets.{bracketOf, CrossingSizes}
+use Rattle.contact_times.specs.Brackets.{bracketOf}
+use Rattle.contact_times.specs.Sizes.{CrossingSizes}
 use Rattle.requests.specs.RequestLaws.{InLimits}
 use Rattle.rounding.specs.laws.Order.{natAbs-between}
 use Rattle.contact_times.specs.Contacts.{usedGuard, crossing}

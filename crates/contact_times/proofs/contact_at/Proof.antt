@@ -8,7 +8,7 @@ use lib.ListN.{getD}
 use mir.Syntax.{w64}
 use mir.Val.{toZ, ofZ}
 use mir.ValLaws.{toZ-ofZ}
-use Rattle.rounding.specs.laws.Code.{read-back, read-size}
+use Rattle.rounding.specs.laws.Code.{read-size}
 use Rattle.sheet_types.specs.declared.phases.Phase.{Phase}
 use Rattle.sheet_types.specs.declared.phases.Phase.the-variants.{Penumbra}
 use Rattle.sheet_types.specs.declared.refusals.Checked.the-variants as C
@@ -77,9 +77,6 @@ returns c =
 cast-nth-phase : tie.Need-cast-nth-phase
 cast-nth-phase c = let s = start (was c) in as-natural (s .args .phase) (s .fits .phase) (held c .phase .0)
 
-nth-phase-requires : tie.Need-nth-phase-requires
-nth-phase-requires c κs = rw (phase-is (was c)) (held c .phase .1)
-
 contact-requires : tie.Need-contact-requires
 contact-requires c κs =
     let t = c .before .before in
@@ -99,12 +96,15 @@ returns-2 c =
     let w = was t in
     let a = start w .args in
     let e : c .before .before .before .nth-phase .result ≡ phaseAt (a .o .body) (a .phase) =
-    c .before .before .before .nth-phase .ensures ∙ ap (λ (z : ℤ). getD (phasesOf (a .o .body)) (natAbs z) Penumbra) (phase-is w) in
-    (contact-is (a .o) (a .phase) (a .from) (a .to) (a .sines .now) C.Within (within t) _
-    (c .found .ensures ∙ ap found (c .before .contact .ensures) ∙ bracket-same (a .o) e (from-is w) (to-is w)), left w)
+    c .before .before .before .nth-phase .ensures ∙ ap (λ (z : ℤ). getD (phasesOf (a .o .body)) (natAbs z) Penumbra) (phase-is w) in (
+      contact-is (a .o) (a .phase) (a .from) (a .to) (a .sines .now) C.Within (within t) _
+          (c .found .ensures ∙ ap found (c .before .contact .ensures) ∙ bracket-same (a .o) e (from-is w) (to-is w)),
+      left w,
+    )
 
 pub contact-at-spec : {M : Type 1} → statement M
 contact-at-spec =
     tie.close
-    (tie.spec (λ c κs. search needs) (λ c. search needs) (λ c. search needs) returns (λ c. search needs) cast-nth-phase nth-phase-requires
-    contact-requires (λ c κs. search needs) (λ c. search needs) returns-2)
+    (tie.spec (λ c κs. search needs) (λ c. search needs) (λ c. search needs) returns (λ c. search needs)
+    cast-nth-phase (λ c κs. rw (phase-is (was c)) (held c .phase .1)) contact-requires (λ c κs. search needs)
+    (λ c. search needs) returns-2)

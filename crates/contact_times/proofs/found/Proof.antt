@@ -2,7 +2,6 @@
 use mathlib.Core.Path.{ap, sym}
 use borrow.Author.Needs.{needs}
 use Rattle.rounding.specs.laws.Code.{read-result}
-use Rattle.contact_times.specs.declared.search.Bracket.{Bracket}
 use Rattle.contact_times.specs.Contacts.{found}
 use Rattle.contact_times.proofs.found.Statement.{statement}
 use Rattle.contact_times.proofs.found.Tie as tie

@@ -1,5 +1,5 @@
--- Laws of halving: more rounds than the distance change nothing (`halved-enough`); one round (`halved-up`, `halved-down`, `halved-end`); and what is found
--- (`halved-is`).
+-- Laws of halving: more rounds than the distance change nothing (`halved-enough`); one round (`halved-up`,
+-- `halved-down`, `halved-end`); and what is found (`halved-is`).
 use mathlib.Core.Path.{_≡_, refl, sym, _∙_, ap, subst}
 use mathlib.Core.Bool.{Bool, true, false, cond}
 use Prim.Native.Nat.{ℕ, zero, suc, _+_, _-_, _/_, _≤_, _<_}

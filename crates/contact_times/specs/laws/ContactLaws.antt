@@ -8,7 +8,7 @@ use native.Mathlib.Omega.{arith}
 use lib.Dec.{T, ltb, lit≤}
 use lib.IntN.{ℤ, pos, natAbs}
 use lib.ListN.{length}
-use lib.Signed.{_≤ℤ_, _<ℤ_, leZ, ltZ, leZ-yes, clashℤ, nonNeg, yes-nonNeg, natAbs-le}
+use lib.Signed.{_≤ℤ_, leZ, ltZ, leZ-yes, clashℤ, nonNeg, yes-nonNeg, natAbs-le}
 use mir.Syntax.{w64}
 use mir.Val.{toZ, ofZ, Fits, SFits}
 use mir.ValLaws.{toZ-ofZ}
@@ -34,7 +34,7 @@ use Rattle.requests.specs.RequestLaws.{InLimits, in-limits}
 use Rattle.requests.specs.Windows.{windowHolds}
 use Rattle.requests.specs.WindowLaws.{WindowHolds, window-holds}
 use Rattle.requests.specs.Admission.{roomChecked, sinesAfter}
-use Rattle.contact_times.specs.Brackets.{CrossingSizes}
+use Rattle.contact_times.specs.Sizes.{CrossingSizes}
 use Rattle.contact_times.specs.laws.SecondStates.{cone-sizes}
 use Rattle.contact_times.specs.declared.OneContact.{OneContact}
 use Rattle.contact_times.specs.Contacts.{usedGuard, crossing, phaseHolds, phaseChecked, contactChecked, contactBy, contactAnswer, contactSines}

@@ -1,9 +1,8 @@
--- L at a part of an hour is not negative where its constant is 1,400,000 or more, as the penumbra's and the Moon's radius are (`L-positive`); so the edge of each
--- phase and a guard are not (`edge-sign`).
-use mathlib.Core.Path.{_≡_, ap}
+-- L at a part of an hour is not negative where its constant is 1,400,000 or more, as the penumbra's and the Moon's
+-- radius are (`L-positive`); so the edge of each phase and a guard are not (`edge-sign`).
 use Prim.Native.Nat.{ℕ, _+_, _*_, _≤_}
 use native.Mathlib.Omega.{arith}
-use lib.IntN.{ℤ, pos, negℤ, natAbs, _+ℤ_, _-ℤ_, _*ℤ_}
+use lib.IntN.{ℤ, pos, negℤ, natAbs, _+ℤ_, _*ℤ_}
 use lib.Signed.{_≤ℤ_, leZ-yes}
 use Rattle.sheet_types.specs.declared.phases.Phase.{Phase}
 use Rattle.sheet_types.specs.declared.phases.Phase.the-variants.{Penumbra, Central, Star}

@@ -1,8 +1,9 @@
--- What is found between two seconds: two hundredths between them, in order, of which the first has the state of the first second and the last that of the last
--- (`bracket-ends`); and where one second is outside and the other inside they are found (`bracket-found`).
-use mathlib.Core.Path.{_≡_, refl, sym, _∙_, ap, subst}
+-- What is found between two seconds: two hundredths between them, in order, of which the first has the state of the
+-- first second and the last that of the last (`bracket-ends`); and where one second is outside and the other inside
+-- they are found (`bracket-found`).
+use mathlib.Core.Path.{_≡_, refl, _∙_, ap, subst}
 use mathlib.Core.Bool.{Bool, true, false, cond}
-use Prim.Native.Nat.{ℕ, zero, suc, _+_, _-_, _≤_, _<_}
+use Prim.Native.Nat.{ℕ, _+_, _-_, _≤_, _<_}
 use native.Mathlib.Omega.{arith}
 use lib.Dec.{eqb, ltb}
 use lib.IntN.{ℤ, pos, negℤ, natAbs, _+ℤ_, _-ℤ_, _*ℤ_}

@@ -1,6 +1,7 @@
--- Values at a part of an hour: what stands still is what it is (`still-..`), how large they are, and how far they are from the exact ones: a step adds half
--- a unit to three times the error before it, so ½, 2, 6½ units after one, two and three steps, whatever the coefficients and whatever n.
-use mathlib.Core.Path.{_≡_, refl, _∙_, ap}
+-- Values at a part of an hour: what stands still is what it is (`still-..`), how large they are, and how far they are
+-- from the exact ones: a step adds half a unit to three times the error before it, so ½, 2, 6½ units after one, two and
+-- three steps, whatever the coefficients and whatever n.
+use mathlib.Core.Path.{_≡_, _∙_, ap}
 use mathlib.Core.List.{[], _∷_}
 use Prim.Native.Nat.{ℕ, _+_, _*_, _≤_}
 use native.Mathlib.Omega.{arith}

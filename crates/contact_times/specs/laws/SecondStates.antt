@@ -1,16 +1,13 @@
 -- The state at a part of an hour does not depend on how finely the hour is cut (`state-same`), and 3,600 parts are the
 -- seconds of a sheet (`second-same`); so at a whole second the state at a hundredth is the sheet's (`hundredth-same`).
-use mathlib.Core.Path.{_≡_, _∙_, ap, ap₂, sym}
+use mathlib.Core.Path.{_≡_, _∙_, ap₂}
 use lib.Dec.{lit≤}
-use mathlib.Core.List.{[], _∷_}
 use Prim.Native.Nat.{ℕ, _*_, _≤_}
 use native.Mathlib.Omega.{arith}
-use lib.IntN.{ℤ, pos, natAbs, _*ℤ_}
+use lib.IntN.{ℤ, pos, _*ℤ_}
 use Rattle.sheet_types.specs.declared.phases.Phase.{Phase}
 use Rattle.sheet_types.specs.declared.phases.Phase.the-variants.{Penumbra, Central, Star}
-use Rattle.sheet_types.specs.States.{State}
 use Rattle.rounding.specs.laws.Order.{natAbs-between}
-use Rattle.rounding.specs.laws.Ring.{num, _⊗_, ring, v0}
 use Rattle.elements.specs.declared.Cone.{Cone}
 use Rattle.elements.specs.declared.Body.{Body}
 use Rattle.elements.specs.declared.Body.the-variants as B

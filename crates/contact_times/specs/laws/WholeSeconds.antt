@@ -6,14 +6,13 @@ use mathlib.Core.List.{[], _∷_}
 use Prim.Native.Nat.{ℕ, _+_, _*_, _≤_, _<_}
 use native.Mathlib.Omega.{arith}
 use native.Mathlib.Nat.{mul-le-mul-left}
-use lib.IntN.{ℤ, pos, natAbs, _+ℤ_, _-ℤ_, _*ℤ_}
-use lib.Signed.{_≤ℤ_, clashℤ, leZ-yes}
+use lib.IntN.{ℤ, pos, _+ℤ_, _-ℤ_, _*ℤ_}
+use lib.Signed.{_≤ℤ_, clashℤ}
 use Rattle.rounding.specs.laws.Order.{zs, by-contra, natAbs-product}
-use Rattle.rounding.specs.laws.Ring.{num, _⊕_, _⊖_, _⊗_, ring, v0, v1, v2}
+use Rattle.rounding.specs.laws.Ring.{num, _⊗_, ring, v0, v1, v2}
 use Rattle.rounding.specs.laws.Cert.{leq, less, lit, _⊞_, _⊠_, certify, certify-<}
 use Rattle.rounding.specs.Near.{near}
-use Rattle.rounding.specs.laws.NearLaws.{Nearest, near-is, near-unique}
-use Rattle.rounding.specs.Units.{hour}
+use Rattle.rounding.specs.laws.NearLaws.{near-is, near-unique}
 use Rattle.elements.specs.declared.Cubic.{Cubic}
 use Rattle.elements.specs.declared.Quadratic.{Quadratic}
 use Rattle.elements.specs.declared.Axis.{Axis}

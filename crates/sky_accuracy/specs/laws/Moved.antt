@@ -1,6 +1,7 @@
--- From 13 to 32 units, over any denominators: the exact point (E, N) and radius Ke stand over D, the true (Ut, Vt) and Kt over T. Where the points are at most
--- 18.818 units apart and the radii 0.1235, the true distance less Kt differs from the exact one less Ke by less than 19 units (`nineteen`); and so what a
--- state says under a guard of 32 or more of numbers known to 13 units is true (`inside-true`, `outside-true`, `unsure-true`).
+-- From 13 to 32 units, over any denominators: the exact point (E, N) and radius Ke stand over D, the true (Ut, Vt) and
+-- Kt over T. Where the points are at most 18.818 units apart and the radii 0.1235, the true distance less Kt differs
+-- from the exact one less Ke by less than 19 units (`nineteen`); and so what a state says under a guard of 32 or more
+-- of numbers known to 13 units is true (`inside-true`, `outside-true`, `unsure-true`).
 use mathlib.Core.Path.{_≡_, subst}
 use mathlib.Core.List.{[], _∷_}
 use Prim.Native.Nat.{ℕ}

@@ -1,15 +1,15 @@
 -- u, v and L at a part of an hour are known as well as at a second: 7, 7½ and 2.505 units from their values without
--- rounding, from the same sines and place (`approximate`), so all laws over `Approximate` (13 units) hold there too. At a
--- second these values are demand 3's exact ones (`u-exact`, `v-exact`, `L-exact`).
--- Why: x and y are 6½ units off, l is 2 (PartErrors). ξ is ½ off, η and ζ are 1 off (shadow_geometry, Errors). The
--- cone's term is ½ off, and ζ's 1 times tan f.
+-- rounding, from the same sines and place (`approximate`), so all laws over `Approximate` (13 units) hold there too. At
+-- a second these values are demand 3's exact ones (`u-exact`, `v-exact`, `L-exact`). Why: x and y are 6½ units off, l
+-- is 2 (PartErrors). ξ is ½ off, η and ζ are 1 off (shadow_geometry, Errors). The cone's term is ½ off, and ζ's 1 times
+-- tan f.
 use mathlib.Core.Path.{_≡_, refl, _∙_, ap}
 use mathlib.Core.List.{[], _∷_}
 use Prim.Native.Nat.{ℕ, _+_, _*_, _≤_}
 use native.Mathlib.Omega.{arith}
 use native.Mathlib.Nat.{mul-le-mul, mul-le-mul-left, mul-pos}
 use lib.Dec.{lit≤}
-use lib.IntN.{ℤ, pos, natAbs, _+ℤ_, _-ℤ_, _*ℤ_}
+use lib.IntN.{ℤ, pos, natAbs, _-ℤ_, _*ℤ_}
 use lib.Signed.{leZ-yes}
 use Rattle.sheet_types.specs.declared.phases.Phase.{Phase}
 use Rattle.rounding.specs.laws.Order.{natAbs-sum, natAbs-minus, natAbs-product}
@@ -20,7 +20,7 @@ use Rattle.rounding.specs.laws.NearLaws.{near-error}
 use Rattle.elements.specs.declared.Axis.{Axis}
 use Rattle.elements.specs.declared.Cone.{Cone}
 use Rattle.station.specs.declared.Place.{Place}
-use Rattle.shadow_geometry.specs.Shadow.{Moment, momentOf, _², H, d, q, ξ, η, ζ, u, v, L, edge}
+use Rattle.shadow_geometry.specs.Shadow.{Moment, momentOf, _², H, ξ, η, ζ, u, v, L, edge}
 use Rattle.shadow_geometry.specs.Exact.{_³, exact-q, exact-ξ, exact-η, exact-ζ, exact-term}
 use Rattle.shadow_geometry.specs.Exact as Exact
 use Rattle.shadow_geometry.specs.laws.Errors.{η-error, ζ-error}

@@ -1,10 +1,10 @@
--- The true contact lies between the two hundredths of a bracket: where of two seconds one is outside and the other inside,
--- under the larger of the request's guard and 32, two hundredths are found between them, and the station is truly outside
--- at the one and truly inside at the other (`enters`, `leaves`). What is said at any hundredth is true (`inside-at`,
--- `outside-at`, `near-at`).
-use mathlib.Core.Path.{_≡_, sym, _∙_, ap}
+-- The true contact lies between the two hundredths of a bracket: where of two seconds one is outside and the other
+-- inside, under the larger of the request's guard and 32, two hundredths are found between them, and the station is
+-- truly outside at the one and truly inside at the other (`enters`, `leaves`). What is said at any hundredth is true
+-- (`inside-at`, `outside-at`, `near-at`).
+use mathlib.Core.Path.{_≡_, _∙_, ap}
 use mathlib.Core.List.{[], _∷_}
-use Prim.Native.Nat.{ℕ, _+_, _≤_}
+use Prim.Native.Nat.{_+_, _≤_}
 use native.Mathlib.Omega.{arith}
 use lib.Dec.{lit≤}
 use lib.IntN.{ℤ, pos, natAbs, _+ℤ_, _*ℤ_}

@@ -2,12 +2,12 @@
 -- (`contacts-true`).
 -- Why: an enter runs from a second that is said to be outside to one said to be inside (contacts, CalledFor), and these
 -- are the states of the hundredths there (TrueBrackets).
-use mathlib.Core.Path.{_≡_, refl, sym, subst, subst₂, ap, _∙_}
+use mathlib.Core.Path.{_≡_, refl, sym, ap, _∙_}
 use mathlib.Core.Bool.{true, false}
 use mathlib.Core.List.{List, [], _∷_, map}
-use Prim.Native.Nat.{ℕ, _+_, _≤_, _<_}
+use Prim.Native.Nat.{ℕ, _≤_, _<_}
 use native.Mathlib.Omega.{arith}
-use lib.IntN.{ℤ, pos, natAbs, _+ℤ_}
+use lib.IntN.{ℤ, pos, natAbs}
 use lib.ListN.{length}
 use lib.Signed.{_≤ℤ_, _<ℤ_}
 use Rattle.rounding.specs.Parts.{sum}
@@ -23,7 +23,6 @@ use Rattle.contacts.specs.Entries.{sure, state, entries, All}
 use Rattle.contacts.specs.CalledFor.{CalledFor}
 use Rattle.contacts.specs.laws.CalledForLaws.{each-called-for}
 use Rattle.contacts.specs.laws.Shifted.{shifted}
-use Rattle.sheet_format.specs.StoredSeconds.{secondOf}
 use Rattle.requests.specs.declared.Occultation.{Occultation}
 use Rattle.requests.specs.RequestLaws.{InLimits}
 use Rattle.seconds.specs.Seconds as Seconds

@@ -1,11 +1,12 @@
--- The true shadow does not depend on how finely the hour is cut: at c·τ of c·n parts it is that at τ of n parts. u, v and
--- L are the same fractions, numerators and T both c^15 times as large (`u-same`, `v-same`, `L-same`), so it is truly
--- inside at the one just where it is at the other (`inside-same`, `inside-also`): at 100·τ hundredths as at second τ.
+-- The true shadow does not depend on how finely the hour is cut: at c·τ of c·n parts it is that at τ of n parts. u, v
+-- and L are the same fractions, numerators and T both c^15 times as large (`u-same`, `v-same`, `L-same`), so it is
+-- truly inside at the one just where it is at the other (`inside-same`, `inside-also`): at 100·τ hundredths as at
+-- second τ.
 use mathlib.Core.Path.{_≡_, sym, _∙_, ap, ap₂, subst₂}
 use mathlib.Core.List.{[], _∷_}
 use Prim.Native.Nat.{ℕ, _*_, _≤_}
 use native.Mathlib.Nat.{mul-pos, mul-assoc}
-use lib.IntN.{ℤ, pos, natAbs, _+ℤ_, _-ℤ_, _*ℤ_}
+use lib.IntN.{ℤ, pos, natAbs, _-ℤ_, _*ℤ_}
 use lib.Signed.{_≤ℤ_}
 use Rattle.sheet_types.specs.declared.phases.Phase.{Phase}
 use Rattle.rounding.specs.laws.Ring.{num, _⊕_, _⊖_, _⊗_, ring, v0, v1, v2, v3, v4, v5, v6}
@@ -14,7 +15,7 @@ use Rattle.elements.specs.declared.Cubic.{Cubic}
 use Rattle.elements.specs.declared.Quadratic.{Quadratic}
 use Rattle.elements.specs.declared.Cone.{Cone}
 use Rattle.station.specs.Place.{placeOf}
-use Rattle.shadow_geometry.specs.Shadow.{Moment, _², H, d, edge}
+use Rattle.shadow_geometry.specs.Shadow.{Moment, H, d, edge}
 use Rattle.shadow_geometry.specs.Exact.{Less}
 use Rattle.sine_accuracy.specs.Series.{denominator, common}
 use Rattle.sine_accuracy.specs.TrueSine.{trueSine, trueCosine}

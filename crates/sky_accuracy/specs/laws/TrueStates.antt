@@ -1,14 +1,14 @@
 -- What is said at a part of an hour under a guard of 32 units or more is true: inside is truly inside (`truly-inside`),
 -- outside is truly outside (`truly-outside`), and an unsure one lies within the guard and 32 units of the true edge
--- (`truly-near`). Why: u, v and L are known to 13 units from values without rounding (ShadowErrors); that exact point is
--- at most 18.818 units from the true one (Displacement), and the exact L at most 0.1235 from the true L (`moved-here`);
--- and so by Moved.
+-- (`truly-near`). Why: u, v and L are known to 13 units from values without rounding (ShadowErrors); that exact point
+-- is at most 18.818 units from the true one (Displacement), and the exact L at most 0.1235 from the true L
+-- (`moved-here`); and so by Moved.
 use mathlib.Core.Path.{_≡_, refl, sym, _∙_, ap}
 use mathlib.Core.List.{[], _∷_}
 use Prim.Native.Nat.{ℕ, _*_, _≤_}
 use native.Mathlib.Nat.{mul-pos, le-of-eq}
 use lib.Dec.{lit≤, leb→le}
-use lib.IntN.{ℤ, pos, negℤ, natAbs, _+ℤ_, _-ℤ_, _*ℤ_}
+use lib.IntN.{ℤ, pos, natAbs, _+ℤ_, _-ℤ_, _*ℤ_}
 use lib.Signed.{_≤ℤ_}
 use Rattle.sheet_types.specs.declared.phases.Phase.{Phase}
 use Rattle.sheet_types.specs.declared.phases.Phase.the-variants.{Penumbra, Central, Star}
@@ -31,7 +31,7 @@ use Rattle.sky_accuracy.specs.TruePlace.{placeCommon}
 use Rattle.sky_accuracy.specs.laws.Latitude.{up, natural}
 use Rattle.sky_accuracy.specs.laws.Displacement.{east, north, along, moved, deep}
 use Rattle.contact_times.specs.Parts.{coneBy, cube, exactQuadratic, exactCubic}
-use Rattle.sky_accuracy.specs.TrueShadow.{Sky, momentOfSky, fine, K, sin-H, cos-H, sin-d, cos-d, Q, R, P, T, true-ξ, true-η, true-ζ, true-u, true-v, true-L, true-M, true-edge, TrulyInside, TrulyWithinUnits}
+use Rattle.sky_accuracy.specs.TrueShadow.{Sky, momentOfSky, K, sin-H, cos-H, sin-d, cos-d, Q, R, P, T, true-ξ, true-η, true-ζ, true-u, true-v, true-L, true-edge, TrulyInside, TrulyWithinUnits}
 use Rattle.sky_accuracy.specs.laws.ShadowErrors as Errors
 use Rattle.sky_accuracy.specs.laws.ShadowErrors.{D, exact-u, exact-v, exact-L, approximate}
 use Rattle.sky_accuracy.specs.laws.SkyLaws.{known}

@@ -9,7 +9,6 @@ use mir.Val.{toZ, ofZ}
 use Rattle.rounding.specs.laws.Code.{read-back, read-size}
 use Rattle.rounding.specs.Value.{Value}
 use Rattle.sheet_types.specs.declared.phases.Phase.{Phase}
-use Rattle.sheet_types.specs.declared.phases.Phase.the-variants.{Penumbra, Central, Star}
 use Rattle.shadow_geometry.specs.Shadow.{edge}
 use Rattle.contact_times.proofs.hundredths.edge_of.Statement.{statement}
 use Rattle.contact_times.proofs.hundredths.edge_of.Tie as tie

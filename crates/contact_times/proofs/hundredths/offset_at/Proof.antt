@@ -1,4 +1,5 @@
--- `contact_times::hundredths::offset_at` meets its contract: each call gives its letter of the page, and the letters are put together.
+-- `contact_times::hundredths::offset_at` meets its contract: each call gives its letter of the page, and the letters
+-- are put together.
 use mathlib.Core.Path.{_≡_, sym, ap, ap₂, _∙_}
 use mathlib.Core.List.{[], _∷_}
 use Prim.Native.Nat.{_≤_}

@@ -1,14 +1,12 @@
 -- `contact_times::hundredths::state_at` meets its contract: each call gives its letter.
-use mathlib.Core.Path.{_≡_, ap, _∙_}
-use Prim.Native.Nat.{_≤_}
-use lib.IntN.{ℤ, pos, natAbs}
-use Rattle.sheet_types.specs.States.{code}
+use mathlib.Core.Path.{_∙_}
+use lib.IntN.{pos}
 use Rattle.rounding.specs.laws.Code.{read-back, read-size}
 use Rattle.rounding.specs.Value.{Value}
 use Rattle.shadow_geometry.specs.Shadow.{L, M, edge, state}
 use Rattle.shadow.specs.Shadow.{IsOffset}
 use Rattle.contact_times.specs.Parts.{hundredths, axisBy, coneBy, momentBy}
-use Rattle.contact_times.specs.Brackets.{stateBy, stateAt}
+use Rattle.contact_times.specs.Brackets.{stateBy}
 use Rattle.contact_times.proofs.hundredths.state_at.Statement.{statement}
 use Rattle.contact_times.proofs.hundredths.state_at.Tie as tie
 

@@ -1,5 +1,6 @@
--- `contact_times::search::contact_bracket` meets its contract: the two states, and where one is outside and one inside, the search between them.
-use mathlib.Core.Path.{_≡_, refl, sym, ap, _∙_}
+-- `contact_times::search::contact_bracket` meets its contract: the two states, and where one is outside and one inside,
+-- the search between them.
+use mathlib.Core.Path.{_≡_, refl, ap, _∙_}
 use mathlib.Core.List.{[], _∷_}
 use Prim.Native.Nat.{ℕ, _+_, _≤_, _<_}
 use native.Mathlib.Omega.{arith}
@@ -10,7 +11,7 @@ use borrow.Author.Tests.{eq-eqb, ne-eqb}
 use Rattle.rounding.specs.laws.Order.{<ℤ-≤, minus-nonneg}
 use Rattle.rounding.specs.laws.Ring.{num, _⊗_, v0, v1}
 use Rattle.rounding.specs.laws.Cert.{less, lit as litC, _⊞_, _⊠_, certify-<}
-use Rattle.rounding.specs.laws.Code.{Code, arg, lit, add, sub, mul, Within, whole, raw, ends, _▹_, fits, run, runs, within, unsigned, read-back, read-size}
+use Rattle.rounding.specs.laws.Code.{Code, arg, lit, sub, mul, Within, whole, ends, _▹_, fits, run, runs, within, unsigned}
 use Rattle.contact_times.specs.declared.hundredths.Crossing.{Crossing}
 use Rattle.contact_times.specs.declared.search.Bracket.the-variants as B
 use Rattle.contact_times.specs.Brackets.{stateAt, narrowed, bracketOf}

@@ -1,4 +1,5 @@
--- `contact_times::search::last_below` meets its contract: each round halves as `halved` does, so what is left to halve gives the same as the whole.
+-- `contact_times::search::last_below` meets its contract: each round halves as `halved` does, so what is left to halve
+-- gives the same as the whole.
 use mathlib.Core.Path.{_≡_, refl, sym, ap, _∙_}
 use mathlib.Core.Bool.{Bool, true, false}
 use Prim.Native.Nat.{ℕ, _+_, _-_, _/_, _≤_, _<_}

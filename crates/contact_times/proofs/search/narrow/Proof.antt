@@ -1,13 +1,13 @@
 -- `contact_times::search::narrow` meets its contract: two searches, the second from where the first ended.
-use mathlib.Core.Path.{_≡_, sym, ap, ap₂, _∙_}
+use mathlib.Core.Path.{_≡_, ap, ap₂, _∙_}
 use mathlib.Core.List.{[], _∷_}
-use Prim.Native.Nat.{ℕ, _+_, _≤_, _<_}
+use Prim.Native.Nat.{ℕ, _+_, _≤_}
 use native.Mathlib.Omega.{arith}
-use lib.IntN.{ℤ, pos, natAbs, _+ℤ_}
+use lib.IntN.{ℤ, pos, _+ℤ_}
 use mir.Syntax.{w64}
 use mir.Val.{toZ, ofZ}
 use Rattle.rounding.specs.laws.Order.{fits64}
-use Rattle.rounding.specs.laws.Code.{Code, arg, add, Within, whole, raw, ends, _▹_, fits, run, runs, read-back, read-size, count-is, count-size}
+use Rattle.rounding.specs.laws.Code.{Code, arg, add, Within, whole, raw, ends, _▹_, fits, runs, read-back, count-is, count-size}
 use Rattle.contact_times.specs.declared.search.Bracket.the-variants as B
 use Rattle.contact_times.specs.Brackets.{lastBelow, narrowed}
 use Rattle.contact_times.proofs.search.narrow.Statement.{statement}

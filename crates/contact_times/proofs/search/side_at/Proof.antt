@@ -1,12 +1,11 @@
 -- `contact_times::search::side_at` meets its contract: the state there, seen from the first.
-use mathlib.Core.Path.{_≡_, sym, ap, ap₂, _∙_}
+use mathlib.Core.Path.{_≡_, ap, _∙_}
 use mathlib.Core.List.{[], _∷_}
-use Prim.Native.Nat.{ℕ, _≤_}
-use native.Mathlib.Omega.{arith}
-use lib.IntN.{ℤ, pos, natAbs, _+ℤ_}
+use Prim.Native.Nat.{ℕ}
+use lib.IntN.{ℤ, pos, _+ℤ_}
 use borrow.Author.Needs.{needs}
 use Rattle.sheet_types.specs.States.{code}
-use Rattle.rounding.specs.laws.Code.{Code, arg, add, Within, whole, raw, ends, _▹_, fits, run, runs, read-back, count-is, count-size}
+use Rattle.rounding.specs.laws.Code.{Code, arg, add, Within, whole, raw, ends, _▹_, fits, run, runs, count-is, count-size}
 use Rattle.contact_times.specs.Brackets.{stateAt, sideOf, sideAt}
 use Rattle.contact_times.proofs.search.side_at.Statement.{statement}
 use Rattle.contact_times.proofs.search.side_at.Tie as tie

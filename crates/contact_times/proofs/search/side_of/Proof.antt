@@ -1,8 +1,6 @@
 -- `contact_times::search::side_of` meets its contract, test by test.
-use mathlib.Core.Path.{_≡_, refl, sym}
-use mathlib.Core.Bool.{cond}
+use mathlib.Core.Path.{_≡_, refl}
 use Prim.Native.Nat.{ℕ}
-use lib.Dec.{eqb}
 use borrow.Author.Tests.{eq-eqb, ne-eqb}
 use Rattle.contact_times.specs.Brackets.{sideOf}
 use Rattle.contact_times.proofs.search.side_of.Statement.{statement}
