@@ -49,6 +49,8 @@
  *       fit outside its range
  *   19  the list of a network is empty or has more   0
  *       than 64 stations
+ *   22  no such phase, or no contact                 0 phase, 1 the two seconds are not one surely outside and one
+ *                                                    surely inside
  */
 #ifndef UKHTVARESH_H
 #define UKHTVARESH_H
@@ -215,6 +217,33 @@ uint64_t ukhtvaresh_horizon(const uint8_t *request, size_t request_len, int64_t 
  * below 3. The lengths count numbers. */
 uint64_t ukhtvaresh_star_horizon(const uint8_t *request, size_t request_len, int64_t second, uint32_t *sines,
                                  size_t sines_len, int64_t *horizon, size_t horizon_len, uint64_t *value);
+
+/* Hundredths of a second between which a contact lies, in `bracket`: see ukhtvaresh_contact. */
+enum {
+    UKHTVARESH_EARLIER,        /* from the reference instant, -1,080,000 to 1,080,000 */
+    UKHTVARESH_LATER,          /* later than that */
+    UKHTVARESH_BRACKET_NUMBERS /* how many: 2 */
+};
+
+/* Where the contact of a phase (0 penumbra, 1 central) between two seconds of a request lies, such as those of an enter
+ * or a leave: -10,800 <= from <= to <= 10,800, also outside its window. One of the two seconds must be surely outside and
+ * the other surely inside, under the larger of the request's guard and 32: of a sheet with a guard of 32 or more every
+ * enter and leave is so. At the earlier of the two hundredths the station is truly on the side of `from` and at the later
+ * truly on that of `to`: by Bessel's formulas with nothing rounded, for circular limbs, the elements as given and the
+ * station on Krasovsky's spheroid. So the true contact lies between them. Limb, refraction and the elements' own errors
+ * are not in it. *value: 2.
+ * Refusals, the first of them: 10; 1 with place 0 for the window or for from and to, then with place 1 for the guard; 2;
+ * 3; 22 with place 0 for a phase that is neither 0 nor 1; 4 with place 901 where sines_len is below that; 22 with place 1
+ * where the two seconds are not as said; 4 with place 2 where bracket_len is below 2. The lengths count numbers. */
+uint64_t ukhtvaresh_contact(const uint8_t *request, size_t request_len, int64_t phase, int64_t from, int64_t to,
+                            uint32_t *sines, size_t sines_len, int64_t *bracket, size_t bracket_len, uint64_t *value);
+
+/* The same of the star of a star request, whose one phase is 0. *value: 2.
+ * Refusals, the first of them: 10; 1 as above; 2 with place 0 to 11; 13; 3; 22 with place 0 for a phase that is not 0;
+ * then as above. */
+uint64_t ukhtvaresh_star_contact(const uint8_t *request, size_t request_len, int64_t phase, int64_t from, int64_t to,
+                                 uint32_t *sines, size_t sines_len, int64_t *bracket, size_t bracket_len,
+                                 uint64_t *value);
 
 /* The mirror of a request, at the start of `mirrored`: all y and d coefficients and the latitude with the other sign,
  * nothing else changed. *value: 115. Any numbers: -2^31, which has no opposite in its bytes, stays as it is. The

@@ -206,6 +206,14 @@ class WholeNumbers(unittest.TestCase):
         for call in (ukhtvaresh.star_second, ukhtvaresh.star_horizon):
             self.takes_only_whole_numbers("second", lambda second: call(POTSDAM, second), 20, "seconds")
 
+    def test_seconds_of_a_contact(self):
+        penumbra = ukhtvaresh.Phase.PENUMBRA
+        self.takes_only_whole_numbers("from_", lambda from_: ukhtvaresh.contact(MOSCOW, penumbra, from_, 36), 35, "seconds")
+        self.takes_only_whole_numbers("to", lambda to: ukhtvaresh.contact(MOSCOW, penumbra, 35, to), 36, "seconds")
+        for phase in (0, "penumbra", None):
+            with self.assertRaises(TypeError):
+                ukhtvaresh.contact(MOSCOW, phase, 35, 36)
+
     def test_surveys(self):
         for name in "number latitude height delta_t guard".split():
             self.takes_only_whole_numbers(
@@ -419,6 +427,8 @@ class OtherTypes(unittest.TestCase):
             ("request", lambda request: ukhtvaresh.share(request, 0)),
             ("request", lambda request: ukhtvaresh.horizon(request, 0)),
             ("request", lambda request: ukhtvaresh.star_horizon(request, 0)),
+            ("request", lambda request: ukhtvaresh.contact(request, ukhtvaresh.Phase.PENUMBRA, 0, 1)),
+            ("request", lambda request: ukhtvaresh.star_contact(request, 0, 1)),
             ("request", ukhtvaresh.mirror),
             ("sheet", ukhtvaresh.read),
             ("sheet", ukhtvaresh.listing),

@@ -12,7 +12,8 @@ and which one the penumbra reaches first. Each is a thin call of the proved func
 libukhtvaresh.so, which the script `build` makes.
 
 `horizon` and `star_horizon` give the altitude and azimuth of the Sun and of a star at a second, and the direction of
-the zenith from it, without refraction and dip.
+the zenith from it, without refraction and dip. `contact` and `star_contact` give the two hundredths of a second between
+which a contact lies.
 
 Lengths are in 10^-8 of the Earth's equatorial radius, angles in 10^-6 degree, times in whole seconds of ephemeris
 time from the reference instant. East longitude is positive. "Document 01" is the paper whose rules the library keeps.
@@ -69,8 +70,10 @@ _WORDS = {
     17: "a fit further from a tabulated value than the tolerance",
     18: "a tolerance or a tabulated value outside its range",
     19: "a list of no station or of more than 64",
+    22: "no such phase",
 }
 _GUARD_WORDS = "guard outside its range"  # of 1 with place 1
+_NO_CONTACT_WORDS = "two seconds that are not one surely outside and one surely inside"  # of 22 with place 1
 
 
 class Refused(Exception):
@@ -80,13 +83,14 @@ class Refused(Exception):
     place: 1 is 0 for the window, 1 for the guard; 2, 3 the first such field, 3 of a network ten times the list place
         plus that; 4 the length needed; 5 to 9 the record's first byte; 11 the row; 12 the first such field, 22 for
         the longitude; 14 to 16 the first such list place, counted from 0; 17 the first such hour, 0 to 6; 18 is 0 for
-        the tolerance, 1 to 7 for the first such tabulated value; else 0.
+        the tolerance, 1 to 7 for the first such tabulated value; 22, the library's own, is 0 for the phase, 1 for the
+        two seconds; else 0.
     """
 
     def __init__(self, number: int, place: int):
         self.number = number
         self.place = place
-        self.words = _GUARD_WORDS if (number, place) == (1, 1) else _WORDS[number]
+        self.words = {(1, 1): _GUARD_WORDS, (22, 1): _NO_CONTACT_WORDS}.get((number, place)) or _WORDS[number]
         super().__init__(number, place)
 
     def __str__(self) -> str:
@@ -572,6 +576,19 @@ class Horizon:
     zenith: Optional[int]  # direction of the zenith from the Sun's centre or the star, likewise
 
 
+@dataclass(frozen=True)
+class Bracket:
+    """Two hundredths of a second from the reference instant, between which a contact lies.
+
+    At the earlier the station is truly on the side of the first of the two seconds, at the later truly on that of the
+    second: by Bessel's formulas with nothing rounded, for circular limbs, the elements as given, and the station on
+    Krasovsky's spheroid. Limb, refraction and the elements' own errors are not in it.
+    """
+
+    earlier: int  # -1,080,000 to 1,080,000
+    later: int
+
+
 # ---- the library
 
 
@@ -593,6 +610,9 @@ def _load() -> ctypes.CDLL:
     library.ukhtvaresh_star_second.argtypes = library.ukhtvaresh_second.argtypes
     library.ukhtvaresh_horizon.argtypes = library.ukhtvaresh_second.argtypes
     library.ukhtvaresh_star_horizon.argtypes = library.ukhtvaresh_second.argtypes
+    asked = [ctypes.c_int64, ctypes.c_int64, ctypes.c_int64]
+    library.ukhtvaresh_contact.argtypes = [data, length, *asked, room, length, room, length, value]
+    library.ukhtvaresh_star_contact.argtypes = library.ukhtvaresh_contact.argtypes
     library.ukhtvaresh_mirror.argtypes = [data, length, room, length, value]
     library.ukhtvaresh_read.argtypes = [data, length, room, length, value]
     library.ukhtvaresh_write.argtypes = [room, length, room, length, value]
@@ -605,8 +625,8 @@ def _load() -> ctypes.CDLL:
     library.ukhtvaresh_sheet_of_doubles.argtypes = survey + [room, length, room, length, value]
     library.ukhtvaresh_doubles.argtypes = [room, length, room, length, value]
     library.ukhtvaresh_network.argtypes = [room, length, room, length, room, length, room, length, value]
-    names = "sheet sheet_and_share star second star_second share horizon star_horizon mirror read write listing fit"
-    names += " from_tables root mend sheet_of_doubles doubles network"
+    names = "sheet sheet_and_share star second star_second share horizon star_horizon contact star_contact mirror read"
+    names += " write listing fit from_tables root mend sheet_of_doubles doubles network"
     for name in names.split():
         getattr(library, "ukhtvaresh_" + name).restype = ctypes.c_uint64
     return library
@@ -798,6 +818,39 @@ def star_horizon(request: bytes, second: int) -> Horizon:
     Refusals, the first of them: 10, 1 (for the window or the second, then for the guard), 2, 13, 3.
     """
     return _horizon("star_horizon", request, second)
+
+
+# The number of a phase; an eclipse has no phase of a star.
+_PHASES = {Phase.PENUMBRA: 0, Phase.CENTRAL: 1, Phase.STAR: 2}
+
+
+def _contact(name: str, request: bytes, phase: int, from_: int, to: int) -> Bracket:
+    """The bracket that one of two functions gives."""
+    request, from_, to = _bytes(request, "request"), _signed(from_, "from_"), _signed(to, "to")
+    bracket = (ctypes.c_int64 * 2)()
+    _call(name, request, len(request), phase, from_, to, *_sines(), bracket, 2)
+    return Bracket(*bracket)
+
+
+def contact(request: bytes, phase: Phase, from_: int, to: int) -> Bracket:
+    """Where the contact of a phase between two seconds of a request lies, such as those of an enter or a leave.
+
+    -10,800 <= from_ <= to <= 10,800, also outside its window. One of the two seconds must be surely outside and the other
+    surely inside, under the larger of the request's guard and 32; of a sheet with a guard of 32 or more every enter and
+    leave is so.
+    Refusals, the first of them: 10, 1 (for the window or the two seconds, then for the guard), 2, 3, 22.
+    """
+    if not isinstance(phase, Phase):
+        raise TypeError(f"phase is {phase!r}, not a Phase")
+    return _contact("contact", request, _PHASES[phase], from_, to)
+
+
+def star_contact(request: bytes, from_: int, to: int) -> Bracket:
+    """The same of the star of a star request.
+
+    Refusals, the first of them: 10, 1 (for the window or the two seconds, then for the guard), 2, 13, 3, 22.
+    """
+    return _contact("star_contact", request, 0, from_, to)
 
 
 def mirror(request: bytes) -> bytes:

@@ -1,10 +1,10 @@
 #!/usr/bin/env python3
 """The true shadow as it is defined, against 50 digits: tests/true_definitions.py SEED N
 
-Evaluates the definitions of true_sine (Series, Angles), true_place (TruePlace) and true_shadow (TrueShadow), whole
-number by whole number, at N drawn seconds of eclipses, and compares u, v and L with the page "The shadow at one
-second" in 50 digits, with sines by their own series. Prints the largest difference in units; what is cut off series,
-π and C must stay below 10^-7.
+Evaluates the definitions of sine_accuracy (Series, Angles) and of sky_accuracy (TruePlace, TrueShadow), whole number by
+whole number, at N random seconds of eclipses and at N random hundredths of a second, and compares u, v and L with the
+page "The shadow at one second" in 50 digits, with sines by their own series. Prints the largest difference in units;
+what is cut off the series, π and C must stay below 10^-7.
 """
 import math
 import random
@@ -20,10 +20,11 @@ def near(n, k):
     return -near(-n, k) if n < 0 else (2 * n + k) // (2 * k)
 
 
-def rounded(coefficients, second):
+def rounded(coefficients, time, parts):
+    """The rule's value at so many parts of an hour."""
     value = 0
     for c in reversed(coefficients):
-        value = near(value * second, 3600) + c
+        value = near(value * time, parts) + c
     return value
 
 
@@ -31,9 +32,6 @@ def rounded(coefficients, second):
 
 DENOMINATOR = 180_000_000 * 10**20
 COMMON = math.factorial(21) * DENOMINATOR**21
-FINE = 3600**3 * 10_000
-REST = 2 * (DENOMINATOR * FINE) ** 2
-K = COMMON * REST
 
 
 def arc(w):
@@ -54,21 +52,27 @@ def whole(z):
     return [(s, c), (c, -s), (-s, -c), (-c, s)][quarter]
 
 
-def angle(z, w):
-    (s, c), sine, cosine = whole(z), 2 * DENOMINATOR * FINE * arc(w), REST - arc(w) ** 2
+def angle(z, w, fine):
+    """The sine and the cosine of z millionths of a degree and w fine-ths of one more."""
+    rest = 2 * (DENOMINATOR * fine) ** 2
+    (s, c), sine, cosine = whole(z), 2 * DENOMINATOR * fine * arc(w), rest - arc(w) ** 2
     return s * cosine + c * sine, c * cosine - s * sine
 
 
-def exact(coefficients, second):
-    return sum(c * second**i * 3600 ** (3 - i) for i, c in enumerate(coefficients))
+def exact(coefficients, time, parts):
+    """The value without rounding, over the cube of the parts."""
+    return sum(c * time**i * parts ** (3 - i) for i, c in enumerate(coefficients))
 
 
 def defined(w):
-    second = w["second"]
-    h = rounded(w["mu"], second) + w["longitude"] - near(w["deltat"] * 417_807, 10_000)
-    d = rounded(w["d"], second)
-    h_rest = exact(w["mu"], second) * 10_000 + w["longitude"] * FINE - w["deltat"] * 417_807 * 3600**3 - FINE * h
-    d_rest = exact(w["d"], second) * 10_000 - FINE * d
+    time, parts = w["time"], w["parts"]
+    cube = parts**3
+    fine = cube * 10_000
+    k = COMMON * 2 * (DENOMINATOR * fine) ** 2
+    h = rounded(w["mu"], time, parts) + w["longitude"] - near(w["deltat"] * 417_807, 10_000)
+    d = rounded(w["d"], time, parts)
+    h_rest = exact(w["mu"], time, parts) * 10_000 + w["longitude"] * fine - w["deltat"] * 417_807 * cube - fine * h
+    d_rest = exact(w["d"], time, parts) * 10_000 - fine * d
     s, c = whole(w["latitude"])
     under = 10**8 * c * c + 99_330_658 * s * s
     m = 10**20
@@ -78,13 +82,13 @@ def defined(w):
     q = 6_378_245 * m * COMMON
     r = 10**8 * (n * 6_378_245 + w["height"] * m) * c
     p = (99_330_658 * (n * 6_378_245) + 10**8 * (w["height"] * m)) * s
-    (sh, ch), (sd, cd) = angle(h, h_rest), angle(d, d_rest)
-    xi, eta, zeta = r * sh * K, p * cd * K - r * ch * sd, p * sd * K + r * ch * cd
-    t = 3600**3 * 10**8 * q * K * K
+    (sh, ch), (sd, cd) = angle(h, h_rest, fine), angle(d, d_rest, fine)
+    xi, eta, zeta = r * sh * k, p * cd * k - r * ch * sd, p * sd * k + r * ch * cd
+    t = cube * 10**8 * q * k * k
     return [Fraction(value, t) for value in (
-        (exact(w["x"], second) * q * K * K - xi * 3600**3) * 10**8,
-        (exact(w["y"], second) * q * K * K - eta * 3600**3) * 10**8,
-        exact(w["l"], second) * q * K * K * 10**8 - zeta * w["tangent"] * 3600**3,
+        (exact(w["x"], time, parts) * q * k * k - xi * cube) * 10**8,
+        (exact(w["y"], time, parts) * q * k * k - eta * cube) * 10**8,
+        exact(w["l"], time, parts) * q * k * k * 10**8 - zeta * w["tangent"] * cube,
     )]
 
 
@@ -104,7 +108,7 @@ def sines(degrees_in_millionths):
 
 
 def page(w):
-    hours = Decimal(w["second"]) / 3600
+    hours = Decimal(w["time"]) / w["parts"]
     value = {name: sum(Decimal(c) * hours**i for i, c in enumerate(w[name])) for name in ("x", "y", "l", "mu", "d")}
     sh, ch = sines(value["mu"] + w["longitude"] - Decimal(w["deltat"]) * 417_807 / 10_000)
     sd, cd = sines(value["d"])
@@ -117,7 +121,7 @@ def page(w):
     return value["x"] - r * sh, value["y"] - (p * cd - r * ch * sd), value["l"] - term
 
 
-def draw():
+def draw(parts):
     position = [
         random.randint(-(10**8), 10**8), random.randint(-(10**8), 10**8), random.randint(-(10**5), 10**5),
         random.randint(-(10**4), 10**4)
@@ -133,15 +137,17 @@ def draw():
         "longitude": random.randint(-180_000_000, 180_000_000),
         "height": random.randint(-500, 9000),
         "deltat": random.randint(-10_000, 20_000),
-        "second": random.randint(-10_800, 10_800),
+        "time": random.randint(-3 * parts, 3 * parts),
+        "parts": parts,
     }
 
 
 random.seed(int(sys.argv[1]))
-worst = Decimal(0)
-for _ in range(int(sys.argv[2])):
-    w = draw()
-    for a, b in zip(defined(w), page(w)):
-        worst = max(worst, abs(Decimal(a.numerator) / a.denominator - b))
-assert worst < Decimal(10) ** -7, worst
-print(f"largest difference {worst:.1E} units")
+for name, parts in (("seconds", 3_600), ("hundredths", 360_000)):
+    worst = Decimal(0)
+    for _ in range(int(sys.argv[2])):
+        w = draw(parts)
+        for a, b in zip(defined(w), page(w)):
+            worst = max(worst, abs(Decimal(a.numerator) / a.denominator - b))
+    assert worst < Decimal(10) ** -7, worst
+    print(f"{name}: largest difference {worst:.1E} units")

@@ -82,6 +82,30 @@ extern "C" {
         horizon_len: usize,
         value: *mut u64,
     ) -> u64;
+    fn ukhtvaresh_contact(
+        request: *const u8,
+        request_len: usize,
+        phase: i64,
+        from: i64,
+        to: i64,
+        sines: *mut u32,
+        sines_len: usize,
+        bracket: *mut i64,
+        bracket_len: usize,
+        value: *mut u64,
+    ) -> u64;
+    fn ukhtvaresh_star_contact(
+        request: *const u8,
+        request_len: usize,
+        phase: i64,
+        from: i64,
+        to: i64,
+        sines: *mut u32,
+        sines_len: usize,
+        bracket: *mut i64,
+        bracket_len: usize,
+        value: *mut u64,
+    ) -> u64;
     fn ukhtvaresh_mirror(
         request: *const u8,
         request_len: usize,
@@ -264,6 +288,42 @@ fn numbers_at(
         )
     });
     answer(number, value)
+}
+
+pub fn contact(request: &[u8], phase: i64, from: i64, to: i64) -> Result<[i64; 2], Refusal> {
+    bracket_of(ukhtvaresh_contact, request, [phase, from, to])
+}
+
+pub fn star_contact(request: &[u8], phase: i64, from: i64, to: i64) -> Result<[i64; 2], Refusal> {
+    bracket_of(ukhtvaresh_star_contact, request, [phase, from, to])
+}
+
+type ContactExport =
+    unsafe extern "C" fn(*const u8, usize, i64, i64, i64, *mut u32, usize, *mut i64, usize, *mut u64) -> u64;
+
+// The two hundredths of a contact, of a phase and two seconds.
+fn bracket_of(
+    export: ContactExport,
+    request: &[u8],
+    [phase, from, to]: [i64; 3],
+) -> Result<[i64; 2], Refusal> {
+    let (mut value, mut bracket) = (0, [0; 2]);
+    // SAFETY: as in `made`; the lengths of `sines` and `bracket` count numbers, as the library does.
+    let number = SINES.with_borrow_mut(|sines| unsafe {
+        export(
+            request.as_ptr(),
+            request.len(),
+            phase,
+            from,
+            to,
+            sines.as_mut_ptr(),
+            sines.len(),
+            bracket.as_mut_ptr(),
+            bracket.len(),
+            &mut value,
+        )
+    });
+    answer(number, value).map(|_| bracket)
 }
 
 pub fn mirror(request: &[u8], mirrored: &mut [u8]) -> Result<usize, Refusal> {

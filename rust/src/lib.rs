@@ -4,8 +4,8 @@
 //! [`sheet_and_share`] the same with the covered share of the Sun's disc; [`star()`] makes that of a star from its elements and the
 //! Moon's radius; [`read`] takes a sheet apart, [`write()`] puts entries together as one, [`listing`] gives a sheet as text, [`second`]
 //! the shadow at one second, [`star_second`] that of a star, [`share`] the share at a second, [`horizon()`] and
-//! [`star_horizon`] the altitude and azimuth of the Sun and of a star at a second, [`mirror`] the request beyond the
-//! equator; [`fit`] judges coefficients that a spreadsheet made, [`from_tables`] makes elements from tables of Sun and
+//! [`star_horizon`] the altitude and azimuth of the Sun and of a star at a second, [`contact()`] and [`star_contact`] the
+//! two hundredths of a second between which a contact lies, [`mirror`] the request beyond the equator; [`fit`] judges coefficients that a spreadsheet made, [`from_tables`] makes elements from tables of Sun and
 //! Moon, [`root`] gives a square root with its rounds,
 //! [`mend()`] takes the damaged parts out of a file of sheets, [`sheet_of_doubles`] makes the sheet of positions that come as doubles,
 //! [`doubles()`] makes doubles of whole units; [`network()`] says of a list of stations how far each clock is from the
@@ -53,6 +53,7 @@
 #![deny(clippy::cast_possible_truncation, clippy::cast_possible_wrap, clippy::cast_sign_loss)]
 #![warn(missing_docs)]
 
+mod contact;
 mod doubles;
 mod entry;
 #[allow(unsafe_code)]
@@ -65,6 +66,7 @@ mod request;
 mod star;
 mod tables;
 
+pub use contact::{contact, star_contact, Bracket};
 pub use doubles::{doubles, doubles_into, sheet_of_doubles, sheet_of_doubles_vec, Longitude, Survey};
 pub use entry::{Entry, Phase};
 pub use horizon::{horizon, star_horizon, Horizon};

@@ -4,7 +4,7 @@ use std::fmt;
 /// Why a request, a sheet, a list of entries, a fit or a network is refused.
 ///
 /// [`number`](Refusal::number) and [`place`](Refusal::place) are those of document 01's table of refusals; 11 to 19
-/// are document 02's.
+/// are document 02's, 22 is the library's own.
 #[derive(Clone, Copy, Debug, PartialEq, Eq, Hash)]
 pub enum Refusal {
     /// 1: the window, or the second asked for, is outside its range (place 0).
@@ -94,10 +94,14 @@ pub enum Refusal {
     },
     /// 19: a network's list is empty or has more than 64 stations (place 0; document 02).
     List,
+    /// 22: the shadow has no phase of that number (place 0; of no document).
+    Phase,
+    /// 22: two seconds are not one surely outside and one surely inside (place 1; of no document).
+    NoContact,
 }
 
 impl Refusal {
-    /// The refusal's number, 1 to 19.
+    /// The refusal's number, 1 to 22.
     pub fn number(self) -> u64 {
         match self {
             Refusal::Window | Refusal::Guard => 1,
@@ -119,15 +123,16 @@ impl Refusal {
             Refusal::Hour { .. } => 17,
             Refusal::Given { .. } => 18,
             Refusal::List => 19,
+            Refusal::Phase | Refusal::NoContact => 22,
         }
     }
 
     /// The refusal's place: a field, a length, a byte, a row, an hour or a list place, as the number says; of 1 it is 0 for the window,
-    /// 1 for the guard; of 10, 13 and 19 it is 0.
+    /// 1 for the guard; of 10, 13 and 19 it is 0; of 22 it is 0 for the phase, 1 for the two seconds.
     pub fn place(self) -> u64 {
         match self {
-            Refusal::Window | Refusal::Shape | Refusal::Radius | Refusal::List => 0,
-            Refusal::Guard => 1,
+            Refusal::Window | Refusal::Shape | Refusal::Radius | Refusal::List | Refusal::Phase => 0,
+            Refusal::Guard | Refusal::NoContact => 1,
             Refusal::Element { field } | Refusal::Station { field } | Refusal::NotFinite { field } => field,
             Refusal::Room { needed } => needed,
             Refusal::Row { row } => row,
@@ -167,6 +172,8 @@ impl Refusal {
             17 => Refusal::Hour { hour: place },
             18 => Refusal::Given { place },
             19 => Refusal::List,
+            22 if place == 0 => Refusal::Phase,
+            22 => Refusal::NoContact,
             _ => unreachable!("the library gives only numbers of the table"),
         }
     }
@@ -195,6 +202,8 @@ impl fmt::Display for Refusal {
             Refusal::Hour { .. } => "a fit further from a tabulated value than the tolerance",
             Refusal::Given { .. } => "a tolerance or a tabulated value outside its range",
             Refusal::List => "a list of no station or of more than 64",
+            Refusal::Phase => "no such phase",
+            Refusal::NoContact => "two seconds that are not one surely outside and one surely inside",
         };
         write!(f, "refused {} {}: {words}", self.number(), self.place())
     }

@@ -83,6 +83,11 @@ export function* draws(count, seed, made) {
   }
 
   const second = () => (often(0.97) ? within(-10_800, 10_800) : one([-10_801, 10_801, 2 ** 40]));
+  // a phase and two seconds, most often in order
+  const contact = () => {
+    const seconds = [second(), second()];
+    return [often(0.9) ? within(0, 1) : within(-2, 3), ...(often(0.9) ? seconds.sort((a, b) => a - b) : seconds)];
+  };
   const near = (numbers) => numbers.map((n) => n + (often(0.1) ? within(-2_000, 2_000) : 0));
   const rows = readFileSync(join(examples, "rows1954.txt"), "utf8").split("\n").filter((line) => line && !line.startsWith("#"));
   const ROWS = rows.flatMap((line) => line.split(/\s+/).map(Number));
@@ -96,6 +101,8 @@ export function* draws(count, seed, made) {
     star_second: () => [[buffer(request(true)), sines(), room(often(0.97) ? 5 : within(0, 6), 8)], [second()]],
     horizon: () => [[buffer(request(false)), sines(), room(often(0.97) ? 3 : within(0, 4), 8)], [second()]],
     star_horizon: () => [[buffer(request(true)), sines(), room(often(0.97) ? 3 : within(0, 4), 8)], [second()]],
+    contact: () => [[buffer(request(false)), sines(), room(often(0.97) ? 2 : within(0, 3), 8)], contact()],
+    star_contact: () => [[buffer(request(true)), sines(), room(often(0.97) ? 2 : within(0, 3), 8)], contact()],
     mirror: () => [buffer(request(false)), room(often(0.95) ? 115 : within(0, 130))],
     read: () => [buffer(sheet()), room(often(0.9) ? 400 : within(0, 30), 4)],
     write() {

@@ -14,10 +14,11 @@ const seed = Number(process.argv[3] ?? 1954);
 // in the order of native.c
 const NAMES =
   ("sheet sheet_and_share star share second mirror read write listing fit from_tables root mend sheet_of_doubles " +
-    "doubles network star_second horizon star_horizon").split(" ");
+    "doubles network star_second horizon star_horizon contact star_contact").split(" ");
 // the arguments of each: B a buffer with its length, I a whole number, D a double, V a value
 const FORMS =
-  "BBBV BBBV BBBV BIBV BIBBV BBV BBV BBV BBV BBIV BBV IV BBBVV BDIBBBV BBV BBBBV BIBBV BIBBV BIBBV".split(" ");
+  ("BBBV BBBV BBBV BIBV BIBBV BBV BBV BBV BBV BBIV BBV IV BBBVV BDIBBBV BBV BBBBV BIBBV BIBBV BIBBV BIIIBBV " +
+    "BIIIBBV").split(" ");
 
 const { instance } = await WebAssembly.instantiate(readFileSync(join(made, "ukhtvaresh.wasm")), {});
 const { memory, __heap_base: base } = instance.exports;
@@ -92,7 +93,8 @@ if (!native.equals(wasm)) {
   process.exit(1);
 }
 const REQUESTS =
-  "sheet sheet_and_share star share second star_second horizon star_horizon mirror sheet_of_doubles network".split(" ");
+  ("sheet sheet_and_share star share second star_second horizon star_horizon contact star_contact mirror " +
+    "sheet_of_doubles network").split(" ");
 const requests = lengths.filter(([, name]) => REQUESTS.includes(name)).length;
 console.log(`${lengths.length} calls, ${requests} of them requests, ${wasm.length.toLocaleString("en")} bytes compared, no difference`);
 for (const [name, kinds] of Object.entries(counts)) {

@@ -58,6 +58,8 @@ int main(void)
         case 16: number = ukhtvaresh_star_second(U8(0), i[0], U32(1), I64(2), v); break;
         case 17: number = ukhtvaresh_horizon(U8(0), i[0], U32(1), I64(2), v); break;
         case 18: number = ukhtvaresh_star_horizon(U8(0), i[0], U32(1), I64(2), v); break;
+        case 19: number = ukhtvaresh_contact(U8(0), i[0], i[1], i[2], U32(1), I64(2), v); break;
+        case 20: number = ukhtvaresh_star_contact(U8(0), i[0], i[1], i[2], U32(1), I64(2), v); break;
         default: return 1;
         }
         fwrite(&number, 8, 1, stdout);

@@ -4,4 +4,6 @@ pub mod Second
 pub mod Shares
 -- the horizon at one second
 pub mod Horizons
+-- the contact between two seconds
+pub mod Contacts
 pub mod laws

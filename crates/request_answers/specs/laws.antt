@@ -3,3 +3,4 @@ pub mod SheetLaws
 pub mod SecondLaws
 pub mod ShareLaws
 pub mod HorizonLaws
+pub mod ContactLaws

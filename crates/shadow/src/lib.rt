@@ -122,7 +122,7 @@ pub fn orientation_of(table: &[u32], h: i64, d: i64) -> Orientation
 }
 
 // ξ, η and ζ of a place.
-fn coordinates_of(place: station::Place, o: Orientation) -> Coordinates
+pub fn coordinates_of(place: station::Place, o: Orientation) -> Coordinates
     requires { ⌜ (PlaceSizes place) × (OrientationSizes o) ⌝ }
     ensures { λ x. ⌜ AreCoordinates place o x ⌝ }
 {

@@ -1,6 +1,7 @@
 pub mod Replies
 pub mod Seconds
 pub mod Horizons
+pub mod Contacts
 pub mod Shares
 pub mod Listing
 pub mod Fits

@@ -1,4 +1,6 @@
-// A request: its sheet with a share, one second, its mirror; a star's sheet; elements and a longitude as doubles.
+// A request: its sheet with a share, one second, a contact, its mirror; a star's sheet; elements and a longitude as
+// doubles.
+mod contacts;
 mod horizons;
 mod mirror;
 mod positions;

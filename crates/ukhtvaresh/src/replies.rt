@@ -8,6 +8,7 @@ ghost use Rattle.ukhtvaresh.specs.MendReply.{mendReply};
 ghost use Rattle.ukhtvaresh.specs.Positions.{doublesReply};
 ghost use Rattle.ukhtvaresh.specs.Seconds.{secondReply};
 ghost use Rattle.ukhtvaresh.specs.Horizons.{horizonReply};
+ghost use Rattle.ukhtvaresh.specs.Contacts.{contactReply};
 ghost use Rattle.ukhtvaresh.specs.Shares.{shareReply};
 ghost use Rattle.ukhtvaresh.specs.Fits.{fitReply};
 ghost use Rattle.ukhtvaresh.specs.NetworkReply.{networkReply};
@@ -15,7 +16,7 @@ ghost use Rattle.ukhtvaresh.specs.NetworkReply.{networkReply};
 // What a caller gets.
 pub struct Reply {
     // number of the refusal, 1 to 10, of tables 11 too, of doubles 12, of a star 13, of a network 14, 15, 16, 19, of a
-    // fit 17, 18; 0 for none
+    // fit 17, 18, of a contact 22; 0 for none
     pub number: u64,
     // length of the sheet, count of the entries or of the numbers, 0 for a fit, a network's first station; or the
     // refusal's place
@@ -158,6 +159,18 @@ pub fn horizon_reply(found: horizon::OneHorizon) -> Reply
             value: 3,
         },
         horizon::OneHorizon::Refused(refusal) => refused(refusal),
+    }
+}
+
+pub fn contact_reply(found: contact_times::OneContact) -> Reply
+    ensures { λ r. ⌜ r ≡ contactReply found ⌝ }
+{
+    match found {
+        contact_times::OneContact::Is(_, _) => Reply {
+            number: 0,
+            value: 2,
+        },
+        contact_times::OneContact::Refused(refusal) => refused(refusal),
     }
 }
 

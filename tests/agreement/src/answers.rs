@@ -1,5 +1,6 @@
 //! What the library is to answer where the reference has no function of the same shape.
 
+use reference::contact::Crossing;
 use reference::elements::FARTHEST;
 use reference::horizon::Horizon;
 use reference::listing;
@@ -76,6 +77,40 @@ pub fn star_horizon(
     horizon: &mut [i64],
 ) -> Result<usize, Refusal> {
     horizon_into(StarRequest::from_bytes(request)?.horizon(second)?, sines, horizon)
+}
+
+/// The two hundredths of a contact in their buffer: 4 for the room for table S, 22 for the two seconds, 4 for the numbers'
+/// own.
+fn bracket_into(
+    crossing: Crossing,
+    [_, from, to]: [i64; 3],
+    sines: &mut [u32],
+    bracket: &mut [i64],
+) -> Result<usize, Refusal> {
+    room::fill(sines)?;
+    let found = crossing.bracket(from, to)?;
+    bracket.get_mut(..2).ok_or(Refusal::Room(2))?.copy_from_slice(&found);
+    Ok(2)
+}
+
+/// The contact of a phase between two seconds: 10, 1, 2, 3, 22 for the phase, then as above.
+pub fn contact(
+    request: &[u8],
+    asked @ [phase, from, to]: [i64; 3],
+    sines: &mut [u32],
+    bracket: &mut [i64],
+) -> Result<usize, Refusal> {
+    bracket_into(Request::from_bytes(request)?.crossing(phase, from, to)?, asked, sines, bracket)
+}
+
+/// The same of a star: 10, 1, 2, 13, 3, 22 for the phase, then as above.
+pub fn star_contact(
+    request: &[u8],
+    asked @ [phase, from, to]: [i64; 3],
+    sines: &mut [u32],
+    bracket: &mut [i64],
+) -> Result<usize, Refusal> {
+    bracket_into(StarRequest::from_bytes(request)?.crossing(phase, from, to)?, asked, sines, bracket)
 }
 
 /// The listing of a sheet as bytes of text.

@@ -119,6 +119,42 @@ pub fn second_both(
     ours
 }
 
+/// What a contact of a request is asked by.
+pub struct Contact {
+    name: &'static str,
+    ours: fn(&[u8], [i64; 3], &mut [u32], &mut [i64]) -> library::Reply,
+    theirs: fn(&[u8], [i64; 3], &mut [u32], &mut [i64]) -> Result<usize, Refusal>,
+}
+
+/// Of an eclipse.
+pub const CONTACT: Contact =
+    Contact { name: "ukhtvaresh_contact", ours: library::contact, theirs: answers::contact };
+
+/// Of a star.
+pub const STAR_CONTACT: Contact =
+    Contact { name: "ukhtvaresh_star_contact", ours: library::star_contact, theirs: answers::star_contact };
+
+/// Of a phase and two seconds, from a room for table S and one for the numbers.
+pub fn contact_both(
+    random: &mut Random,
+    asked: &Contact,
+    request: &[u8],
+    numbers: [i64; 3],
+    [lent, room]: [usize; 2],
+) -> Left<i64> {
+    let old_sines = buffer(random, lent, |bits| bits as u32);
+    let old = buffer(random, room, |bits| bits as i64);
+    let (mut ours, mut our_sines) = (((0, 0), old.clone()), old_sines.clone());
+    ours.0 = (asked.ours)(request, numbers, &mut our_sines[..lent], &mut ours.1[..room]);
+    let (mut theirs, mut their_sines) = (((0, 0), old), old_sines);
+    let made = (asked.theirs)(request, numbers, &mut their_sines[..lent], &mut theirs.1[..room]);
+    theirs.0 = reply(made, |count| count as u64);
+    must_agree(asked.name, &(request, numbers, lent, room), &ours, &theirs);
+    let sines = ((ours.0, our_sines), (theirs.0, their_sines));
+    must_agree(&format!("the sines of {}", asked.name), &(request, numbers, lent, room), &sines.0, &sines.1);
+    ours
+}
+
 /// What it leaves in the buffer for table S, since it fills no other.
 pub fn share_both(random: &mut Random, request: &[u8], second: i64, lent: usize) -> Left<u32> {
     let old = buffer(random, lent, |bits| bits as u32);

@@ -76,6 +76,30 @@ extern "C" {
         horizon_len: usize,
         value: *mut u64,
     ) -> u64;
+    fn ukhtvaresh_contact(
+        request: *const u8,
+        request_len: usize,
+        phase: i64,
+        from: i64,
+        to: i64,
+        sines: *mut u32,
+        sines_len: usize,
+        bracket: *mut i64,
+        bracket_len: usize,
+        value: *mut u64,
+    ) -> u64;
+    fn ukhtvaresh_star_contact(
+        request: *const u8,
+        request_len: usize,
+        phase: i64,
+        from: i64,
+        to: i64,
+        sines: *mut u32,
+        sines_len: usize,
+        bracket: *mut i64,
+        bracket_len: usize,
+        value: *mut u64,
+    ) -> u64;
     fn ukhtvaresh_mirror(
         request: *const u8,
         request_len: usize,
@@ -230,6 +254,44 @@ pub fn horizon(request: &[u8], second: i64, sines: &mut [u32], horizon: &mut [i6
 /// The horizon of a star request.
 pub fn star_horizon(request: &[u8], second: i64, sines: &mut [u32], horizon: &mut [i64]) -> Reply {
     numbers_at(ukhtvaresh_star_horizon, request, second, sines, horizon)
+}
+
+pub fn contact(request: &[u8], asked: [i64; 3], sines: &mut [u32], bracket: &mut [i64]) -> Reply {
+    bracket_of(ukhtvaresh_contact, request, asked, sines, bracket)
+}
+
+/// The contact of a star request.
+pub fn star_contact(request: &[u8], asked: [i64; 3], sines: &mut [u32], bracket: &mut [i64]) -> Reply {
+    bracket_of(ukhtvaresh_star_contact, request, asked, sines, bracket)
+}
+
+type ContactExport =
+    unsafe extern "C" fn(*const u8, usize, i64, i64, i64, *mut u32, usize, *mut i64, usize, *mut u64) -> u64;
+
+/// The contact that an export gives, of a phase and two seconds.
+fn bracket_of(
+    export: ContactExport,
+    request: &[u8],
+    [phase, from, to]: [i64; 3],
+    sines: &mut [u32],
+    bracket: &mut [i64],
+) -> Reply {
+    let mut value = UNSET;
+    let number = unsafe {
+        export(
+            request.as_ptr(),
+            request.len(),
+            phase,
+            from,
+            to,
+            sines.as_mut_ptr(),
+            sines.len(),
+            bracket.as_mut_ptr(),
+            bracket.len(),
+            &mut value,
+        )
+    };
+    (number, value)
 }
 
 type SecondExport =

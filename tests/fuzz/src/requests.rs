@@ -1,4 +1,4 @@
-//! What begins with a request: its sheet, a second, a share, a horizon; each has a buffer for table S.
+//! What begins with a request: its sheet, a second, a share, a horizon, a contact; each has a buffer for table S.
 
 use crate::{left, must_agree, must_come_back, old_byte, old_number, reply, room, Left, PAST};
 use agreement::answers;
@@ -52,6 +52,18 @@ extern "C" {
         room_len: usize,
         value: *mut u64,
     ) -> u64;
+    fn guide_contact(
+        input: *const u8,
+        length: usize,
+        phase: i64,
+        from: i64,
+        to: i64,
+        sines: *mut u32,
+        sines_len: usize,
+        room: *mut i64,
+        room_len: usize,
+        value: *mut u64,
+    ) -> u64;
     fn guide_share(
         input: *const u8,
         length: usize,
@@ -67,6 +79,9 @@ pub(crate) type SheetExport =
 
 pub(crate) type SecondExport =
     unsafe extern "C" fn(*const u8, usize, i64, *mut u32, usize, *mut i64, usize, *mut u64) -> u64;
+
+pub(crate) type ContactExport =
+    unsafe extern "C" fn(*const u8, usize, i64, i64, i64, *mut u32, usize, *mut i64, usize, *mut u64) -> u64;
 
 /// The buffer for table S: 901 numbers, or another count where that bit of the byte before a request says so.
 pub const OTHER_SINES: u8 = 0x08;
@@ -225,7 +240,7 @@ pub fn sheet(input: &[u8]) {
     sheets_agree(&asked, &request, found, [near, far, leave]);
 }
 
-/// The same bit, for `second`, `share` and the horizons: the second is left as it stands.
+/// The same bit, for `second`, `share`, the horizons and the contacts: the seconds are left as they stand.
 pub const LEAVE_SECOND: u8 = 0x04;
 
 /// What stands before the request and its second: two bytes for the buffer's length, one for what is left as it stands.
@@ -315,4 +330,61 @@ pub fn horizon(input: &[u8]) {
         found: answers::horizon,
     };
     numbers_agree(&asked, &request, second, head);
+}
+
+/// The same, then a byte for the phase, eight bytes for each of the two seconds, then the request. Where the seconds are
+/// not left as they stand, they are in their range and in order.
+pub(crate) fn request_and_contact(
+    input: &[u8],
+    made: fn(u8, &[u8]) -> Vec<u8>,
+) -> Option<(Head, Vec<u8>, [i64; 3])> {
+    let (&[near, far, leave, phase], rest) = input.split_first_chunk()?;
+    let (&from, rest) = rest.split_first_chunk()?;
+    let (&to, raw) = rest.split_first_chunk()?;
+    let (mut from, mut to) = (i64::from_be_bytes(from), i64::from_be_bytes(to));
+    if leave & LEAVE_SECOND == 0 {
+        let [a, b] = [from, to].map(|second| into_range(second >> 1, &(-FARTHEST..=FARTHEST)));
+        (from, to) = (a.min(b), a.max(b));
+    }
+    Some(([near, far, leave], made(leave, raw), [i64::from(phase as i8), from, to]))
+}
+
+/// What gives the contact of a request: its name and the functions of library, guide and reference.
+pub(crate) struct Contact {
+    pub name: &'static str,
+    pub call: fn(&[u8], [i64; 3], &mut [u32], &mut [i64]) -> Reply,
+    pub counted: ContactExport,
+    pub found: fn(&[u8], [i64; 3], &mut [u32], &mut [i64]) -> Result<usize, Refusal>,
+}
+
+/// A contact by the library, by its guide and by the reference.
+pub(crate) fn brackets_agree(asked: &Contact, request: &[u8], numbers: [i64; 3], [near, far, leave]: Head) {
+    let rooms @ [lent, room] = [sines_room(leave, near, far), room(2, near, far)];
+    let old = |at: usize| (at as i64).wrapping_mul(0x9E37_79B9_7F4A_7C15_u64 as i64);
+    let theirs = left_lent(lent, room, old, |sines, room| reply((asked.found)(request, numbers, sines, room)));
+    let ours = left_lent(lent, room, old, |sines, room| (asked.call)(request, numbers, sines, room));
+    both_agree(asked.name, request, rooms, &ours, &theirs);
+    let guided = left_lent(lent, room, old, |sines, room| {
+        let mut value = 0;
+        let [phase, from, to] = numbers;
+        let (length, sines_len, room_len) = (request.len(), sines.len(), room.len());
+        let (request, sines, room) = (request.as_ptr(), sines.as_mut_ptr(), room.as_mut_ptr());
+        let number = unsafe {
+            (asked.counted)(request, length, phase, from, to, sines, sines_len, room, room_len, &mut value)
+        };
+        (number, value)
+    });
+    both_agree(&format!("{} with counters", asked.name), request, rooms, &guided, &theirs);
+}
+
+/// The two hundredths of a contact.
+pub fn contact(input: &[u8]) {
+    let Some((head, request, numbers)) = request_and_contact(input, request) else { return };
+    let asked = Contact {
+        name: "ukhtvaresh_contact",
+        call: library::contact,
+        counted: guide_contact,
+        found: answers::contact,
+    };
+    brackets_agree(&asked, &request, numbers, head);
 }

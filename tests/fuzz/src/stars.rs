@@ -1,8 +1,8 @@
-//! A star request, its sheet and its horizon.
+//! A star request, its sheet, its horizon and its contacts.
 
 use crate::requests::{
-    into_range, into_ranges, numbers_agree, request_and_second, sheets_agree, short, window_within, Asked,
-    Moment, LEAVE_NUMBERS, LEAVE_SHAPE,
+    brackets_agree, into_range, into_ranges, numbers_agree, request_and_contact, request_and_second,
+    sheets_agree, short, window_within, Asked, Contact, Moment, LEAVE_NUMBERS, LEAVE_SHAPE,
 };
 use agreement::answers;
 use agreement::library;
@@ -33,6 +33,18 @@ extern "C" {
         input: *const u8,
         length: usize,
         second: i64,
+        sines: *mut u32,
+        sines_len: usize,
+        room: *mut i64,
+        room_len: usize,
+        value: *mut u64,
+    ) -> u64;
+    fn guide_star_contact(
+        input: *const u8,
+        length: usize,
+        phase: i64,
+        from: i64,
+        to: i64,
         sines: *mut u32,
         sines_len: usize,
         room: *mut i64,
@@ -92,6 +104,19 @@ pub fn horizon(input: &[u8]) {
         found: answers::star_horizon,
     };
     numbers_agree(&asked, &request, second, head);
+}
+
+/// Two bytes for the room, one for what is left as it stands, one for the phase, eight for each of two seconds, then the
+/// request.
+pub fn contact(input: &[u8]) {
+    let Some((head, request, numbers)) = request_and_contact(input, request) else { return };
+    let asked = Contact {
+        name: "ukhtvaresh_star_contact",
+        call: library::star_contact,
+        counted: guide_star_contact,
+        found: answers::star_contact,
+    };
+    brackets_agree(&asked, &request, numbers, head);
 }
 
 /// One number of a request at or next to its limits, or anywhere within them.

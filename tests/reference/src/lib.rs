@@ -5,6 +5,7 @@
 //! whole seconds from the reference instant. East longitude is positive.
 
 pub mod axis;
+pub mod contact;
 pub mod course;
 pub mod doubles;
 pub mod elements;

@@ -46,6 +46,10 @@ pub enum Refusal {
     Given(usize),
     /// 19: the list of a network is empty or has more than 64 stations (0).
     List,
+    /// 22: the number of a phase that the shadow does not have (0). Ours, of no document.
+    NoPhase,
+    /// 22: two seconds that are not one surely outside and one surely inside (1). Ours, of no document.
+    NoContact,
 }
 
 impl Refusal {
@@ -70,13 +74,14 @@ impl Refusal {
             Refusal::Hour(_) => 17,
             Refusal::Given(_) => 18,
             Refusal::List => 19,
+            Refusal::NoPhase | Refusal::NoContact => 22,
         }
     }
 
     pub fn place(self) -> usize {
         match self {
-            Refusal::Window | Refusal::Shape | Refusal::Radius | Refusal::List => 0,
-            Refusal::Guard => 1,
+            Refusal::Window | Refusal::Shape | Refusal::Radius | Refusal::List | Refusal::NoPhase => 0,
+            Refusal::Guard | Refusal::NoContact => 1,
             Refusal::Element(place)
             | Refusal::Station(place)
             | Refusal::Room(place)

@@ -4,24 +4,27 @@
 --   truth           the sheet
 -- Why: each second is said rightly of the true answers (`truly-said`), and demand 3 follows from that for any answers
 -- (courses, Demand3Laws).
-use mathlib.Core.Path.{_≡_, refl, sym, subst, _∙_}
+use mathlib.Core.Path.{_≡_, refl, ap, subst, _∙_}
 use mathlib.Core.Bool.{Bool, true, false, cond}
 use mathlib.Core.List.{List, _++_}
 use Prim.Native.Nat.{ℕ, _+_}
 use native.Mathlib.Omega.{arith}
-use lib.Dec.{leb}
-use lib.IntN.{ℤ, pos, natAbs}
+use lib.Dec.{leb, lit≤}
+use lib.IntN.{ℤ, pos, natAbs, _+ℤ_}
 use lib.ListN.{length, drop}
-use lib.Signed.{_≤ℤ_}
+use lib.Signed.{_≤ℤ_, leZ-yes}
+use Rattle.rounding.specs.laws.Order.{≤ℤ-trans, nonneg-natAbs}
 use Rattle.sheet_types.specs.declared.refusals.Refusal.{Refusal}
 use Rattle.sheet_types.specs.declared.refusals.Checked.{Checked}
 use Rattle.sheet_types.specs.declared.refusals.Checked.the-variants as C
 use Rattle.sheet_types.specs.Refusals.{refusal}
 use Rattle.sheet_types.specs.declared.phases.Phase.{Phase}
+use Rattle.elements.specs.Stars.{axisOf}
 use Rattle.elements.specs.StarLaws.{axis-sizes}
 use Rattle.station.specs.Place.{placeOf}
-use Rattle.shadow_geometry.specs.Shadow.{cone}
-use Rattle.shadow.specs.laws.SecondLaws.{state-at, tangent-small}
+use Rattle.shadow_geometry.specs.Shadow.{momentOf, cone}
+use Rattle.shadow_geometry.specs.Exact.{D, exact-u, exact-v, exact-edge}
+use Rattle.shadow.specs.laws.SecondLaws.{tangent-small}
 use Rattle.requests.specs.declared.Occultation.{Occultation}
 use Rattle.requests.specs.Windows.{InWindow}
 use Rattle.requests.specs.WindowLaws.{in-window-size}
@@ -29,8 +32,7 @@ use Rattle.requests.specs.RequestLaws.{InLimits}
 use Rattle.requests.specs.Admission.{admitted}
 use Rattle.requests.specs.laws.AdmissionLaws.{admitted-within}
 use Rattle.seconds.specs.Seconds.{stateAt}
-use Rattle.seconds.specs.laws.SecondLaws.{each-second}
-use Rattle.seconds.specs.Errors.{errors-proved}
+use Rattle.contact_times.specs.laws.SecondStates.{second-same}
 use Rattle.local_circumstances.specs.Courses.{sheetOf}
 use Rattle.local_circumstances.specs.Demand3.{EachSecond, Demand3}
 use Rattle.local_circumstances.specs.laws.Demand3Laws.{changes-once, ends-exact, turns-alternate}
@@ -41,17 +43,34 @@ use Rattle.circumstances.specs.Sheet.{answerBy, bufferBy, sheetAnswer, sheetBuf
 use Rattle.local_circumstances.specs.laws.CourseSound.{sound}
 use Rattle.circumstances.specs.laws.SheetSound.{reads-back}
 use Rattle.sky_accuracy.specs.TruePlace.{TrueC}
-use Rattle.sky_accuracy.specs.Nineteen.{Nineteen, nineteen}
-use Rattle.sky_accuracy.specs.laws.TrueStates.{truly-inside, truly-outside, truly-near}
-use Rattle.sky_accuracy.specs.Truth.{skyAt, trueAnswers}
+use Rattle.sky_accuracy.specs.TrueShadow.{T, true-u, true-v, true-edge, TrulyWithinUnits}
+use Rattle.sky_accuracy.specs.Nineteen.{Nineteen}
+use Rattle.sky_accuracy.specs.Truth.{skyAt, seconds, trueAnswers}
+use Rattle.sky_accuracy.specs.laws.ShadowErrors.{u-exact, v-exact, L-exact}
+use Rattle.sky_accuracy.specs.laws.Moved.{nineteen}
+use Rattle.sky_accuracy.specs.laws.TrueStates.{moved-here}
+use Rattle.sky_accuracy.specs.laws.SaidTruly.{inside-by, outside-by, near-by}
 
 -- "The true distance less the true L differs from the exact one of demand 3 by less than 19 units": at every second of
 -- an occultation within its limits
 pub true-distance : (o : Occultation) (c : TrueC (o .station .latitude)) → InLimits o → (τ : ℤ) → InWindow (o .window) τ → (φ : Phase)
-    → Nineteen φ (skyAt o c τ) (cone (o .body) φ)
+    → let m = momentOf (axisOf (o .body)) (placeOf (o .station)) τ in
+    let k = cone (o .body) φ in
+    let y = skyAt o c seconds τ in
+    Nineteen D (T y) (exact-u m) (exact-v m) (exact-edge φ m k) (true-u y) (true-v y) (true-edge φ y k)
 true-distance o c i τ w φ =
-    nineteen (skyAt o c τ) (in-window-size (o .window) (i .window) τ w) (axis-sizes (o .body) (i .body)) (i .station) (cone (o .body) φ)
-    (tangent-small (o .body) (i .body) φ) φ
+    let a = axisOf (o .body) in
+    let p = placeOf (o .station) in
+    let k = cone (o .body) φ in
+    let y = skyAt o c seconds τ in
+    let n = nineteen (moved-here y (lit≤ tt) (in-window-size (o .window) (i .window) τ w) (axis-sizes (o .body) (i .body)) (i .station) k (tangent-small (o .body) (i .body) φ) φ) in
+    rw (← u-exact a p τ, ← v-exact a p τ, ← L-exact a p τ k) n
+
+-- the guard and 13 units, and 19 more
+same-units : (g : ℤ) → pos 0 ≤ℤ g → g +ℤ pos 32 ≡ pos (natAbs g + 13) +ℤ pos 19
+same-units g h =
+    let e : natAbs g + 32 ≡ natAbs g + 13 + 19 = omega arith in
+    ap (λ (z : ℤ). z +ℤ pos 32) (nonneg-natAbs g h) ∙ ap pos e
 
 module _ (o : Occultation) (guard : pos 32 ≤ℤ o .guard) (c : TrueC (o .station .latitude)) where
   module _ (i : InLimits o) where
@@ -59,15 +78,13 @@ module _ (o : Occultation) (guard : pos 32 ≤ℤ o .guard) (c : TrueC (o .stati
     unfolding stateAt
     truly-said φ l τ w =
         let h = in-window-size (o .window) (i .window) τ w in
-        let y = skyAt o c τ in
-        let k = cone (o .body) φ in
-        let n = true-distance o c i τ w φ in
-        let t = errors-proved o i τ w .distance φ in
-        let is = sym (state-at (o .guard) (o .body) (placeOf (o .station)) φ τ) in
+        let is = second-same (o .guard) (o .body) (placeOf (o .station)) φ τ in
         record {
-          inside-is = λ s. truly-inside φ y k n t (o .guard) guard (is ∙ s);
-          outside-is = λ s. truly-outside φ y k n t (o .guard) guard (is ∙ s);
-          unsure-is = λ s. truly-near φ y k n (pos (natAbs (o .guard) + 13)) (each-second o i τ h φ .unsure-is s);
+          inside-is = λ s. inside-by o c i (o .guard) guard φ seconds (lit≤ tt) τ h (is ∙ s);
+          outside-is = λ s. outside-by o c i (o .guard) guard φ seconds (lit≤ tt) τ h (is ∙ s);
+          unsure-is = λ s.
+              subst (λ (u : ℤ). TrulyWithinUnits u φ (skyAt o c seconds τ) (cone (o .body) φ)) (same-units (o .guard) (≤ℤ-trans (leZ-yes tt) guard))
+              (near-by o c i (o .guard) guard φ seconds (lit≤ tt) τ h (is ∙ s));
         }
 
     true-sheet : (rest : List ℕ) → Demand3 (courseOf o) (trueAnswers o c) (length (sheetBytes o)) (sheetBytes o ++ rest)

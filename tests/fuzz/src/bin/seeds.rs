@@ -1,5 +1,5 @@
 //! `seeds FOLDER`: what the fuzzer starts from, in FOLDER/read, listing, sheet, star, second, share, horizon,
-//! star_horizon, network, write and mend: the requests and sheets that the repository holds, and some drawn as
+//! star_horizon, contact, star_contact, network, write and mend: the requests and sheets that the repository holds, and some drawn as
 //! tests/agreement draws them.
 
 use agreement::{draws, files, horizons, sheets, stars};
@@ -150,4 +150,16 @@ fn main() {
         Some([&second.to_be_bytes()[..], &request.to_bytes()?].concat())
     });
     put(&of_stars, &head, placed, "placed");
+    // contacts of the first second to each hour, of either phase
+    for phase in [0, 1] {
+        let asked = |to: i64| [&head[..], &[phase], &(-3_600_i64).to_be_bytes(), &to.to_be_bytes()].concat();
+        for to in [0, 1_560, 1_600, 3_600, 10_800] {
+            put(&folder.join("contact"), &asked(to), stored_requests(), &format!("phase{phase}_to{to}_"));
+            put(&folder.join("star_contact"), &asked(to), stored_stars(), &format!("phase{phase}_to{to}_"));
+        }
+        let drawn = (0..DRAWN).map(|_| draws::request(&mut random)).collect::<Vec<_>>();
+        put(&folder.join("contact"), &asked(0), drawn, &format!("phase{phase}_drawn"));
+        let drawn = (0..DRAWN).map(|_| stars::request(&mut random)).collect::<Vec<_>>();
+        put(&folder.join("star_contact"), &asked(0), drawn, &format!("phase{phase}_drawn"));
+    }
 }
