@@ -2,13 +2,14 @@
 """Compares the clock times of Python with those of the page, and both with the rules of docs/CLOCK.md in exact fractions.
 
     python3 tests/clock_times.py [QUESTIONS] [SEED]         wants node; the library's listings too, if it is built
-    python3 tests/clock_times.py program [TEXTS] [SEED]     the program `times` against Python (`rt check times request`; the library, as
-                                                            python/clock.py wants it)
+    python3 tests/clock_times.py program [TEXTS] [SEED]     the program `times` compared with tests/reference and python/clock.py
+                                                            (`rt check times`; cargo built tests/reference)
 """
 
 import json
 import random
 import re
+import struct
 import subprocess
 import sys
 from dataclasses import replace
@@ -18,7 +19,8 @@ from pathlib import Path
 TOP = Path(__file__).resolve().parent.parent
 sys.path.append(str(TOP / "python"))
 import clock  # noqa: E402
-from request import instant_line, is_instant, typed_instant  # noqa: E402
+import times  # noqa: E402
+from request import answer, instant_line, is_instant, typed_instant  # noqa: E402
 
 
 def typed_text(draw):
@@ -132,21 +134,11 @@ def typed_request(draw):
 
 def by_python(text):
     """What `times` is to write: standard output and standard error."""
-    import ukhtvaresh
-
-    try:
-        instant, request = clock.encoded(text)
-    except clock.Malformed as wrong:
-        return "", f"{wrong}\n"
-    star = request[0] == 5
-    try:
-        sheet = (ukhtvaresh.star if star else ukhtvaresh.sheet)(request)
-    except ukhtvaresh.Refused as refused:
-        return f"refused {refused.number} {refused.place}\n", ""
-    if instant is None:
-        return ukhtvaresh.listing(sheet), ""
-    kind = ukhtvaresh.StarRequest if star else ukhtvaresh.Request
-    return clock.listing(sheet, instant, kind.from_bytes(request).station.delta_t), ""
+    request, wrong = answer(text)
+    if wrong:
+        return "", wrong.decode()
+    (delta_t,) = struct.unpack(">i", request[-11:-7])
+    return times.with_times(times.observed(request), clock.instant_in(text), delta_t), ""
 
 
 def program(count, draw):

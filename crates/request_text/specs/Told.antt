@@ -10,7 +10,6 @@ use Rattle.request_text.specs.Lines.{said, namesInstant, namesOffset}
 use Rattle.request_text.specs.declared.instants.Reading.{Reading}
 use Rattle.request_text.specs.declared.instants.Reading.the-variants as R
 use Rattle.request_text.specs.declared.instants.Wrong.the-variants as Wrong
-use Rattle.calendar.specs.declared.Instant.{Instant}
 use Rattle.calendar.specs.declared.Reference.{Reference}
 use Rattle.calendar.specs.declared.Reference.the-variants as Ref
 use Rattle.request_text.specs.declared.instants.Told.{Told}

@@ -24,5 +24,5 @@ returns c =
 pub put-timed-answer-spec : {M : Type 1} → statement M
 put-timed-answer-spec =
     tie.close
-    (tie.spec (λ c κs. search needs) (λ c κs. search needs) (λ c κs. search needs) put-text-requires (λ c. search needs)
-    (λ c. search needs) (λ c. search needs) returns)
+    (tie.spec (λ c κs. search needs) (λ c κs. search needs) (λ c κs. search needs) put-text-requires
+    (λ c. search needs) (λ c. search needs) (λ c. search needs) returns)

@@ -6,7 +6,7 @@ use mathlib.Core.List.{List, [], _∷_, _++_}
 use native.Mathlib.Omega.{arith}
 use lib.IntN.{ℤ, pos, negsuc, natAbs, _-ℤ_}
 use lib.Signed.{_≤ℤ_, _<ℤ_}
-use lib.ListN.{length, replicate}
+use lib.ListN.{replicate}
 use Rattle.rounding.specs.Parts.{is-self, is-minus}
 use Rattle.rounding.specs.laws.Order.{zs, <-parts, ≤ℤ-antisym}
 use Rattle.sheet_types.specs.declared.refusals.Checked.{Checked}

@@ -1,5 +1,5 @@
 -- `listings::sky::altitude_by` meets its contract: by the sign; it is small, so its opposite fits.
-use mathlib.Core.Path.{_≡_, sym, ap, _∙_}
+use mathlib.Core.Path.{sym, ap, _∙_}
 use mathlib.Core.List.{[], _∷_}
 use Prim.Native.Nat.{_≤_}
 use native.Mathlib.Omega.{arith}
@@ -7,9 +7,8 @@ use lib.IntN.{ℤ, pos, natAbs, _-ℤ_}
 use lib.Signed.{_≤ℤ_, _<ℤ_}
 use Rattle.rounding.specs.Parts.{is-self, is-minus}
 use Rattle.rounding.specs.laws.Order.{zs, nonneg-natAbs}
-use Rattle.rounding.specs.laws.Code.{Code, arg, lit, sub, run, Within, whole, ends, _▹_, fits, runs, unsigned, taken-<, left-<}
+use Rattle.rounding.specs.laws.Code.{Code, arg, lit, sub, Within, whole, ends, _▹_, fits, runs, unsigned, taken-<, left-<}
 use Rattle.listings.specs.laws.SkyLaws.{below-is, above-is}
-use borrow.Author.Needs.{needs}
 use Rattle.listings.proofs.sky.altitude_by.Statement.{statement}
 use Rattle.listings.proofs.sky.altitude_by.Tie as tie
 
@@ -35,7 +34,6 @@ returns c =
 
 returns-2 : tie.Need-returns-2
 returns-2 c = above-is _ _ (over c) (ap natAbs (runs (bounds (c .before)) (arg 0) tt))
-
 
 pub altitude-by-spec : {M : Type 1} → statement M
 altitude-by-spec = tie.close (tie.spec (λ c. fits (bounds (c .before)) opposed tt) (λ c. unsigned (bounds (c .before)) opposed tt (opposed-above _ (under c))) returns (λ c. unsigned (bounds (c .before)) (arg 0) tt (over c)) returns-2)

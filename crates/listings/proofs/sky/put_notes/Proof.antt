@@ -14,4 +14,5 @@ returns-2 c = rw (c .before .before .before .before .before .sky .given .1) (c .
 pub put-notes-spec : {M : Type 1} → statement M
 put-notes-spec =
     tie.close
-    (tie.spec (λ c. search needs) (λ c. search needs) (λ c κs. search needs) returns (λ c. search needs) returns-2)
+    (tie.spec (λ c. search needs) (λ c. search needs) (λ c κs. search needs) returns (λ c. search needs)
+    returns-2)

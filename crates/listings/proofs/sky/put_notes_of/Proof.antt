@@ -7,7 +7,7 @@ use Rattle.listings.proofs.sky.put_notes_of.Statement.{statement}
 use Rattle.listings.proofs.sky.put_notes_of.Tie as tie
 
 returns : tie.Need-returns
-returns c = 
+returns c =
     let last = c .before .before in
     let second = last .before .before .before .before .before .before in
     let first = second .before .before .before .before .before .before in
@@ -18,4 +18,6 @@ returns c =
 pub put-notes-of-spec : {M : Type 1} → statement M
 put-notes-of-spec =
     tie.close
-    (tie.spec (λ c κs. search needs) (λ c κs. search needs) (λ c κs. search needs) (λ c. search needs) (λ c. search needs) (λ c κs. search needs) (λ c. search needs) (λ c. search needs) (λ c κs. search needs) (λ c. search needs) (λ c. search needs) (λ c κs. search needs) (λ c. search needs) returns)
+    (tie.spec (λ c κs. search needs) (λ c κs. search needs) (λ c κs. search needs) (λ c. search needs)
+    (λ c. search needs) (λ c κs. search needs) (λ c. search needs) (λ c. search needs) (λ c κs. search needs)
+    (λ c. search needs) (λ c. search needs) (λ c κs. search needs) (λ c. search needs) returns)

@@ -71,5 +71,5 @@ in-scale-spec =
     (λ c. fits (bounds (c .before .before .before .before)) more tt)
     (λ c. fits (bounds (c .before .before .before .before)) (atomic more) tt)
     (λ c. fits (bounds (c .before .before .before .before)) seconds tt)
-    (λ c. fits (bounds (c .before .before .before .before)) (utc more) tt) returns returns-2 returns-3 returns-4
-    returns-5 returns-6)
+    (λ c. fits (bounds (c .before .before .before .before)) (utc more) tt) returns returns-2 returns-3
+    returns-4 returns-5 returns-6)

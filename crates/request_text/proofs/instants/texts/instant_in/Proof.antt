@@ -54,6 +54,7 @@ returns c = walked-all Told toldAfter (T.Is Ref.Nothing) _ _ _ _ (c .before .loo
 pub instant-in-spec : {M : Type 1} → statement M
 instant-in-spec =
     tie.close
-    (tie.spec Inv-loop μ-loop (λ c. walked-none Told toldAfter (T.Is Ref.Nothing) _) (λ c. search needs) (λ c. search needs) (λ c. search needs)
-    (λ c κs. search needs) (λ c. let i = inside c in search needs) (λ c. search needs) (λ c. search needs)
-    (λ c. inside c) (λ c κs. search needs) add-at add-line loop-less loop-again returns)
+    (tie.spec Inv-loop μ-loop (λ c. walked-none Told toldAfter (T.Is Ref.Nothing) _) (λ c. search needs)
+    (λ c. search needs) (λ c. search needs) (λ c κs. search needs) (λ c. let i = inside c in search needs)
+    (λ c. search needs) (λ c. search needs) (λ c. inside c) (λ c κs. search needs) add-at add-line loop-less
+    loop-again returns)

@@ -53,6 +53,7 @@ returns c = walked-all Offset offsetAfter O.None _ _ _ _ (c .before .loop .inv) 
 pub offset-in-spec : {M : Type 1} → statement M
 offset-in-spec =
     tie.close
-    (tie.spec Inv-loop μ-loop (λ c. walked-none Offset offsetAfter O.None _) (λ c. search needs) (λ c. search needs) (λ c. search needs)
-    (λ c κs. search needs) (λ c. let i = inside c in search needs) (λ c. search needs) (λ c. search needs)
-    (λ c. inside c) (λ c κs. search needs) add-at add-line loop-less loop-again returns)
+    (tie.spec Inv-loop μ-loop (λ c. walked-none Offset offsetAfter O.None _) (λ c. search needs)
+    (λ c. search needs) (λ c. search needs) (λ c κs. search needs) (λ c. let i = inside c in search needs)
+    (λ c. search needs) (λ c. search needs) (λ c. inside c) (λ c κs. search needs) add-at add-line loop-less
+    loop-again returns)

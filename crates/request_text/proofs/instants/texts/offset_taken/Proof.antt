@@ -22,4 +22,5 @@ returns-5 c = rw (c .enum-told3 .given .1)
 pub offset-taken-spec : {M : Type 1} → statement M
 offset-taken-spec =
     tie.close
-    (tie.spec (λ c. search needs) returns (λ c. search needs) returns-2 (λ c. search needs) returns-3 returns-4 returns-5)
+    (tie.spec (λ c. search needs) returns (λ c. search needs) returns-2 (λ c. search needs) returns-3
+    returns-4 returns-5)
