@@ -6,10 +6,10 @@
 
 The second needs `cargo build --offline --release` in tests/reference.
 
-A text has the lines of a typed request but for those of its station, and a line
-`station NUMBER LATITUDE LONGITUDE HEIGHT DELTA_T CLOCK` for each station, in their order, before, after or between
-the others. The program prints `station NUMBER steps N` for each, then `first NUMBER to SECOND`, or `first 0` if none
-enters; or `refused NUMBER PLACE`. The first line with a fault goes to standard error, and nothing is printed.
+A text has the lines of a typed request but for those of its station, and a line `station NUMBER LATITUDE LONGITUDE HEIGHT DELTA_T
+CLOCK` for each station, in their order, before, after or between the others. The program prints `station NUMBER steps N` for each, then
+`first NUMBER to SECOND sun up` (or `sun down`), or `first 0` if none enters; or `refused NUMBER PLACE`. The first line with a fault goes to standard error, and
+nothing is printed.
 """
 
 import random

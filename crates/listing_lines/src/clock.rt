@@ -1,4 +1,4 @@
-// Seconds of a sheet as times of day, in ephemeris and in universal time, and the line of an entry with them
+// Seconds of a sheet as times of day, in ephemeris time, universal time and UTC, and the line of an entry with them
 // (docs/CLOCK.md). A `put_` function stores a text at a place of a room, as far as the room goes, and gives the place
 // after it (`decimals`).
 mod scales;
@@ -15,9 +15,16 @@ ghost use lib.IntN.{pos, natAbs, _+ℤ_};
 ghost use Rattle.rounding.specs.Near.{floorZ};
 ghost use Rattle.sheet_format.specs.StoredSeconds.{secondOf};
 ghost use Rattle.decimal_text.specs.Texts.{letters, Put};
-ghost use Rattle.listing_lines.specs.Lines.{textOf, endFor};
+ghost use Rattle.listing_lines.specs.Lines.{textOf};
 ghost use Rattle.listing_lines.specs.Times.{timeText};
-ghost use Rattle.listing_lines.specs.Clock.{timeIn, known, nameOf, dateText, instantText, timesIn, scaleText, scalesText, shownFor, behind, timedLine};
+ghost use Rattle.listing_lines.specs.Clock.{timeIn, known, typedName, nameOf, dateText, instantText, timesIn, scaleText, scalesText, shownFor, behind, timedText, tenthsText, altitudeText, timedLine};
+
+// The scales in which times are printed.
+pub enum TimeScale {
+    ET,
+    UT,
+    UTC,
+}
 
 // Stored seconds that are shown as times.
 pub enum Seconds {
@@ -27,6 +34,13 @@ pub enum Seconds {
     Contact(u32, u32),
 }
 
+// What is printed of an altitude: nothing; or tenths of a degree above or below the horizon.
+pub enum Altitude {
+    Nothing,
+    Above(u64),
+    Below(u64),
+}
+
 // What follows an entry's text: the line of the instant, or times.
 pub enum Shown {
     Nothing,
@@ -34,12 +48,22 @@ pub enum Shown {
     Times(Seconds),
 }
 
-fn put_name(out: &mut [u8], at: usize, scale: Scale) -> usize
-    ensures { λ r. ⌜ Put (now (out .entry)) at (nameOf scale) (now (out .exit)) r ⌝ }
+fn put_typed_name(out: &mut [u8], at: usize, scale: Scale) -> usize
+    ensures { λ r. ⌜ Put (now (out .entry)) at (typedName scale) (now (out .exit)) r ⌝ }
 {
     match scale {
         Scale::Ephemeris => decimal_text::put_text(out, at, b"ET"),
         Scale::Universal => decimal_text::put_text(out, at, b"UT"),
+    }
+}
+
+fn put_name(out: &mut [u8], at: usize, shown: TimeScale) -> usize
+    ensures { λ r. ⌜ Put (now (out .entry)) at (nameOf shown) (now (out .exit)) r ⌝ }
+{
+    match shown {
+        TimeScale::ET => decimal_text::put_text(out, at, b"ET"),
+        TimeScale::UT => decimal_text::put_text(out, at, b"UT"),
+        TimeScale::UTC => decimal_text::put_text(out, at, b"UTC"),
     }
 }
 
@@ -71,21 +95,21 @@ pub fn put_instant(out: &mut [u8], at: usize, i: Instant) -> usize
     let point = decimal_text::put_byte(out, seconds, b'.');
     let decimals = crate::times_of_day::put_two(out, point, n);
     let last = decimal_text::put_byte(out, decimals, b' ');
-    put_name(out, last, scale)
+    put_typed_name(out, last, scale)
 }
 
-// The time of a stored second, at the floor of its hundredths plus `more` over 10, after a blank.
+// The time of a stored second, at the floor of its thousandths plus `more` over 100, after a blank.
 fn put_second(
     out: &mut [u8],
     at: usize,
-    shown: Scale,
+    shown: TimeScale,
     i: Instant,
     deltat: i64,
     stored: u32,
     more: i64,
 ) -> usize
-    requires { ⌜ (natAbs deltat ≤ 20000) × (natAbs more ≤ 9) ⌝ }
-    ensures { λ r. ⌜ Put (now (out .entry)) at (letters " " ++ timeText (floorZ (timeIn shown i deltat (secondOf stored) +ℤ more) (pos 10))) (now (out .exit)) r ⌝ }
+    requires { ⌜ (natAbs deltat ≤ 20000) × (natAbs more ≤ 99) ⌝ }
+    ensures { λ r. ⌜ Put (now (out .entry)) at (letters " " ++ timeText (floorZ (timeIn shown i deltat (secondOf stored) +ℤ more) (pos 100))) (now (out .exit)) r ⌝ }
 {
     let n = scales::time_in(shown, i, deltat, stored);
     let blank = decimal_text::put_byte(out, at, b' ');
@@ -96,7 +120,7 @@ fn put_second(
 fn put_times(
     out: &mut [u8],
     at: usize,
-    shown: Scale,
+    shown: TimeScale,
     i: Instant,
     deltat: i64,
     seconds: Seconds,
@@ -105,10 +129,10 @@ fn put_times(
     ensures { λ r. ⌜ Put (now (out .entry)) at (timesIn shown i deltat seconds) (now (out .exit)) r ⌝ }
 {
     match seconds {
-        Seconds::Moment(second) => put_second(out, at, shown, i, deltat, second, 5),
+        Seconds::Moment(second) => put_second(out, at, shown, i, deltat, second, 50),
         Seconds::Contact(from, to) => {
             let next = put_second(out, at, shown, i, deltat, from, 0);
-            put_second(out, next, shown, i, deltat, to, 9)
+            put_second(out, next, shown, i, deltat, to, 99)
         }
     }
 }
@@ -117,7 +141,7 @@ fn put_times(
 fn put_scale(
     out: &mut [u8],
     at: usize,
-    shown: Scale,
+    shown: TimeScale,
     i: Instant,
     deltat: i64,
     seconds: Seconds,
@@ -126,7 +150,8 @@ fn put_scale(
     ensures { λ r. ⌜ Put (now (out .entry)) at (scaleText shown i deltat seconds) (now (out .exit)) r ⌝ }
 {
     let typed = i.scale;
-    if scales::shows(typed, shown, deltat) {
+    let offset = i.offset;
+    if scales::shows(typed, shown, deltat, offset % 100) {
         let blank = decimal_text::put_byte(out, at, b' ');
         let name = put_name(out, blank, shown);
         return put_times(out, name, shown, i, deltat, seconds);
@@ -134,13 +159,14 @@ fn put_scale(
     at
 }
 
-// Both scales.
+// All scales.
 fn put_scales(out: &mut [u8], at: usize, i: Instant, deltat: i64, seconds: Seconds) -> usize
     requires { ⌜ natAbs deltat ≤ 20000 ⌝ }
     ensures { λ r. ⌜ Put (now (out .entry)) at (scalesText i deltat seconds) (now (out .exit)) r ⌝ }
 {
-    let next = put_scale(out, at, Scale::Ephemeris, i, deltat, seconds);
-    put_scale(out, next, Scale::Universal, i, deltat, seconds)
+    let universal = put_scale(out, at, TimeScale::ET, i, deltat, seconds);
+    let coordinated = put_scale(out, universal, TimeScale::UT, i, deltat, seconds);
+    put_scale(out, coordinated, TimeScale::UTC, i, deltat, seconds)
 }
 
 // ---- the line of an entry
@@ -153,8 +179,8 @@ fn put_instant_line(out: &mut [u8], at: usize, i: Instant) -> usize
     put_instant(out, next, i)
 }
 
-// A new kind is an arm here and a row of `shownFor`.
-fn shown_for(kind: Kind, a: u32, b: u32) -> Shown
+// What is shown of a kind with its first two fields. A new kind is an arm here and a row of `shownFor`.
+pub fn shown_for(kind: Kind, a: u32, b: u32) -> Shown
     ensures { λ r. ⌜ r ≡ shownFor kind a b ⌝ }
 {
     match kind {
@@ -185,29 +211,68 @@ fn put_behind(out: &mut [u8], at: usize, i: Instant, deltat: i64, entry: Entry) 
     }
 }
 
-// An entry's line with an instant.
+// An entry's text with an instant.
 fn put_timed(out: &mut [u8], at: usize, entry: Entry, i: Instant, deltat: i64) -> usize
-    ensures { λ r. ⌜ Put (now (out .entry)) at (textOf entry ++ behind i (known deltat) entry ++ endFor (entry .kind)) (now (out .exit)) r ⌝ }
+    ensures { λ r. ⌜ Put (now (out .entry)) at (textOf entry ++ behind i (known deltat) entry) (now (out .exit)) r ⌝ }
 {
     let d = scales::known(deltat);
     let text = crate::lines::put_entry_text(out, at, entry);
-    let times = put_behind(out, text, i, d, entry);
-    let kind = entry.kind;
-    crate::lines::put_end(out, times, kind)
+    put_behind(out, text, i, d, entry)
 }
 
-// The line of an entry with its times; `deltat` is the station's, in hundredths of a second. Any instant, any ΔT.
+// An entry's text, with its times where the reference is an instant.
+fn put_times_of(out: &mut [u8], at: usize, entry: Entry, reference: Reference, deltat: i64) -> usize
+    ensures { λ r. ⌜ Put (now (out .entry)) at (timedText reference deltat entry) (now (out .exit)) r ⌝ }
+{
+    match reference {
+        Reference::Nothing => crate::lines::put_entry_text(out, at, entry),
+        Reference::At(i) => put_timed(out, at, entry, i, deltat),
+    }
+}
+
+// ---- the altitude
+
+// n tenths of a degree.
+fn put_tenths(out: &mut [u8], at: usize, n: u64) -> usize
+    ensures { λ r. ⌜ Put (now (out .entry)) at (tenthsText n) (now (out .exit)) r ⌝ }
+{
+    let point = decimal_text::put_number(out, at, n / 10);
+    let tenth = decimal_text::put_byte(out, point, b'.');
+    crate::times_of_day::put_digit(out, tenth, n)
+}
+
+// An altitude, where there is one.
+fn put_altitude(out: &mut [u8], at: usize, altitude: Altitude) -> usize
+    ensures { λ r. ⌜ Put (now (out .entry)) at (altitudeText altitude) (now (out .exit)) r ⌝ }
+{
+    match altitude {
+        Altitude::Nothing => at,
+        Altitude::Above(n) => {
+            let next = decimal_text::put_text(out, at, b" alt ");
+            put_tenths(out, next, n)
+        }
+        Altitude::Below(n) => {
+            let next = decimal_text::put_text(out, at, b" alt -");
+            let end = put_tenths(out, next, n);
+            decimal_text::put_text(out, end, b" below the horizon")
+        }
+    }
+}
+
+// The line of an entry with its times and the altitude; `deltat` is the station's, in hundredths of a second. Any
+// instant, any ΔT, any altitude.
 pub fn put_entry(
     out: &mut [u8],
     at: usize,
     entry: Entry,
     reference: Reference,
     deltat: i64,
+    altitude: Altitude,
 ) -> usize
-    ensures { λ r. ⌜ Put (now (out .entry)) at (timedLine reference deltat entry) (now (out .exit)) r ⌝ }
+    ensures { λ r. ⌜ Put (now (out .entry)) at (timedLine reference deltat altitude entry) (now (out .exit)) r ⌝ }
 {
-    match reference {
-        Reference::Nothing => crate::lines::put_entry(out, at, entry),
-        Reference::At(i) => put_timed(out, at, entry, i, deltat),
-    }
+    let times = put_times_of(out, at, entry, reference, deltat);
+    let seen = put_altitude(out, times, altitude);
+    let kind = entry.kind;
+    crate::lines::put_end(out, seen, kind)
 }

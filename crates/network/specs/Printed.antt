@@ -13,7 +13,13 @@ use Rattle.clock_network.specs.Held.{blankNode}
 use Rattle.clock_network.specs.Nodes.{numberOf}
 use Rattle.networks.specs.declared.Answer.{Answer}
 use Rattle.networks.specs.declared.Answer.the-variants as A
-use Rattle.clock_network.specs.Checks.{eclipseOf}
+use Rattle.clock_network.specs.declared.checks.Eclipse.{Eclipse}
+use Rattle.clock_network.specs.Checks.{eclipseOf, requestOf}
+use Rattle.station.specs.declared.Station.{Station}
+use Rattle.requests.specs.Requests.{ofEclipse}
+use Rattle.listing_lines.specs.declared.clock.Altitude.{Altitude}
+use Rattle.listing_lines.specs.declared.clock.Altitude.the-variants as Sun
+use Rattle.listings.specs.Sky.{altitudeAt}
 use Rattle.networks.specs.Network.{tosOf, answerTo, stepsFor}
 use Rattle.networks.specs.Enters.{never}
 use Rattle.decimal_text.specs.Decimals.{decimal, signed}
@@ -36,24 +42,37 @@ stationLine number steps = letters "station " ++ signed number ++ letters " step
 unfoldable pub stationLines : List Node → List ℕ → List ℕ
 stationLines l steps = rows (λ k. stationLine (numberOf (getD l k blankNode)) (getD steps k 0)) (length l)
 
--- "and the one that sees it first": `first NUMBER to SECOND`, the second as in a listing, or `first 0` if none enters
-abbrev pub toText : List ℕ → ℕ → List ℕ
-toText tos best = cond (ltb best (length tos)) (letters " to " ++ signed (secondOf (getD tos best 0)) ++ letters "\n") (letters "\n")
+-- whether the Sun is above the horizon of a station at second τ, by the altitude there (listings, Sky)
+unfoldable pub sunAt : Eclipse → Station → ℤ → Altitude
+sunAt e s τ = altitudeAt (ofEclipse (requestOf e s)) τ
 
-unfoldable pub firstLine : ℕ → List ℕ → List ℕ
-firstLine named tos = letters "first " ++ decimal named ++ toText tos (earliestOf tos never)
+unfoldable pub sunText : Altitude → List ℕ
+sunText Sun.Nothing = []
+sunText (Sun.Above n) = letters " sun up"
+sunText (Sun.Below n) = letters " sun down"
 
-unfoldable pub namedText : ℕ → List ℕ → List Node → List ℕ → List ℕ
-namedText named tos l steps = stationLines l steps ++ firstLine named tos
+-- "to" of a station's first enter, as in a listing, and the Sun at that second
+unfoldable pub toLine : Eclipse → Station → ℕ → List ℕ
+toLine e s to = letters " to " ++ signed (secondOf to) ++ sunText (sunAt e s (secondOf to)) ++ letters "\n"
+
+-- "and the one that sees it first": `first NUMBER to SECOND`, or `first 0` if none enters
+abbrev pub toText : Eclipse → List Node → List ℕ → ℕ → List ℕ
+toText e l tos best = cond (ltb best (length tos)) (toLine e (getD l best blankNode .station) (getD tos best 0)) (letters "\n")
+
+unfoldable pub firstLine : Eclipse → List Node → ℕ → List ℕ → List ℕ
+firstLine e l named tos = letters "first " ++ decimal named ++ toText e l tos (earliestOf tos never)
+
+unfoldable pub namedText : Eclipse → ℕ → List ℕ → List Node → List ℕ → List ℕ
+namedText e named tos l steps = stationLines l steps ++ firstLine e l named tos
 
 -- by the library's answer
-abbrev pub answerBy : Answer → List ℕ → List Node → List ℕ → List ℕ
-answerBy (A.Named n) tos l steps = namedText n tos l steps
-answerBy (A.Refused r) tos l steps = refusalLine (r .number) (r .place)
+abbrev pub answerBy : Answer → Eclipse → List ℕ → List Node → List ℕ → List ℕ
+answerBy (A.Named n) e tos l steps = namedText e n tos l steps
+answerBy (A.Refused r) e tos l steps = refusalLine (r .number) (r .place)
 
 -- the rooms for table S and for the steps are lent
 unfoldable pub answerText : (sines steps : List ℕ) → List ℤ → List Node → List ℕ
-answerText sines steps ns l = answerBy (answerTo ns l sines steps) (tosOf (eclipseOf ns) l) l (stepsFor ns l sines steps)
+answerText sines steps ns l = answerBy (answerTo ns l sines steps) (eclipseOf ns) (tosOf (eclipseOf ns) l) l (stepsFor ns l sines steps)
 
 -- ---- a fault
 

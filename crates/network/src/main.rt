@@ -1,9 +1,11 @@
 // Reads a typed network from standard input: the elements and the window as in a typed request, and a line a station.
-// It prints each station with its steps and the station that sees the eclipse first; or `refused`, number and place. A
-// fault is told on standard error with its line, and nothing is printed.
+// It prints each station with its steps and the station whose first enter comes first, with whether the Sun is above
+// its horizon then; or `refused`, number and place. A fault is told on standard error with its line, and nothing is
+// printed.
 use clock_network::checks::Eclipse;
 use clock_network::stations::Held;
 use libc::STDIN_FILENO;
+use listing_lines::clock::Altitude;
 use network_text::Fault;
 use network_text::Typed;
 use networks::Answer;
@@ -23,7 +25,7 @@ ghost use Rattle.networks.specs.Network.{tosOf};
 ghost use Rattle.decimal_text.specs.Texts.{Put, Counts};
 ghost use Rattle.program_io.specs.Inputs.{Read, zeros};
 ghost use Rattle.program_io.specs.Outputs.{Sent};
-ghost use Rattle.network.specs.Printed.{clockText, faultText, stationLine, stationLines, firstLine, namedText, answerText, output, error};
+ghost use Rattle.network.specs.Printed.{clockText, faultText, stationLine, stationLines, sunText, sunAt, toLine, firstLine, namedText, answerText, output, error};
 
 // ---- a fault
 
@@ -82,9 +84,43 @@ fn put_stations(out: &mut [u8], h: Held, steps: &[u64]) -> usize
     at
 }
 
-// The station that sees the eclipse first, and when: by the "to" of each station's first enter, as it is stored.
-fn put_first(out: &mut [u8], at: usize, named: u64, tos: &[u32]) -> usize
-    ensures { λ r. ⌜ Put (now (out .entry)) at (firstLine named (now (tos .entry))) (now (out .exit)) r ⌝ }
+// Whether the Sun is above the horizon, after a blank.
+fn put_sun(out: &mut [u8], at: usize, altitude: Altitude) -> usize
+    ensures { λ r. ⌜ Put (now (out .entry)) at (sunText altitude) (now (out .exit)) r ⌝ }
+{
+    match altitude {
+        Altitude::Nothing => at,
+        Altitude::Above(_) => decimal_text::put_text(out, at, b" sun up"),
+        Altitude::Below(_) => decimal_text::put_text(out, at, b" sun down"),
+    }
+}
+
+// The Sun's altitude at a second of a station.
+fn sun_at(e: Eclipse, s: station::Station, t: i64) -> Altitude
+    ensures { λ r. ⌜ r ≡ sunAt e s t ⌝ }
+{
+    let q = clock_network::checks::request(e, s);
+    let o = requests::of_eclipse(q);
+    listings::sky::altitude_at(o, t)
+}
+
+// The second "to" of a station's first enter, as it is stored, and whether the Sun is up there then.
+fn put_to(out: &mut [u8], at: usize, to: u32, e: Eclipse, s: station::Station) -> usize
+    ensures { λ r. ⌜ Put (now (out .entry)) at (toLine e s to) (now (out .exit)) r ⌝ }
+{
+    let second = sheet_format::kinds::seconds::second_of(to);
+    let altitude = sun_at(e, s, second);
+    let numbers = [second];
+    let said = decimal_text::put_filled(out, at, b" to #", &numbers);
+    let sun = put_sun(out, said, altitude);
+    decimal_text::put_byte(out, sun, b'\n')
+}
+
+// The station whose first enter comes first, and when: by the "to" of each station's first enter, as it is stored. This
+// says nothing of the horizon; whether the Sun is up there is said behind it.
+fn put_first(out: &mut [u8], at: usize, named: u64, tos: &[u32], e: Eclipse, h: Held) -> usize
+    requires { ⌜ (length (now tos) ≤ 64) × (length (h .nodes) ≡ 64) ⌝ }
+    ensures { λ r. ⌜ Put (now (out .entry)) at (firstLine e (take (length (now (tos .entry))) (h .nodes)) named (now (tos .entry))) (now (out .exit)) r ⌝ }
 {
     let best = clock_network::strata::earliest(tos, 21_601);
     let word = decimal_text::put_text(out, at, b"first ");
@@ -93,19 +129,20 @@ fn put_first(out: &mut [u8], at: usize, named: u64, tos: &[u32]) -> usize
         return decimal_text::put_byte(out, end, b'\n');
     }
     let to = tos[best];
-    let numbers = [sheet_format::kinds::seconds::second_of(to)];
-    decimal_text::put_filled(out, end, b" to #\n", &numbers)
+    let x = h.nodes[best];
+    let s = x.station;
+    put_to(out, end, to, e, s)
 }
 
 // The lines of a list that has an answer.
 fn put_named(out: &mut [u8], named: u64, e: Eclipse, h: Held, table: &[u32], steps: &[u64]) -> usize
     requires { ⌜ (Sines (now table)) × (h .count ≤ 64) × (length (h .nodes) ≡ 64) × (AllWithin e (take (h .count) (h .nodes))) × (length (now steps) ≡ 64) ⌝ }
-    ensures { λ r. ⌜ Put (now (out .entry)) 0 (namedText named (tosOf e (take (h .count) (h .nodes))) (take (h .count) (h .nodes)) (now (steps .entry))) (now (out .exit)) r ⌝ }
+    ensures { λ r. ⌜ Put (now (out .entry)) 0 (namedText e named (tosOf e (take (h .count) (h .nodes))) (take (h .count) (h .nodes)) (now (steps .entry))) (now (out .exit)) r ⌝ }
 {
     let n = h.count;
     let tos = networks::sight::first_tos(table, e, h, n);
     let next = put_stations(out, h, steps);
-    put_first(out, next, named, &tos[..n])
+    put_first(out, next, named, &tos[..n], e, h)
 }
 
 // What is printed of the eclipse's numbers and a list.
@@ -161,7 +198,7 @@ fn put_written(text: &[u8], out: &mut [u8]) -> Text
 
 // What the program writes of its input, of which `length` bytes were read, and the output that it goes to. The text's
 // array has a byte more than is taken, so that a longer text is seen. No message is longer than 65,623 bytes: its word
-// is a part of the text. 64 lines of `station 999 steps 64` and one of `first 999 to -10800` are shorter.
+// is a part of the text. 64 lines of `station 999 steps 64` and one of `first 999 to -10800 sun down` are shorter.
 fn respond(text: &[u8; 65537], length: usize, out: &mut [u8; 65623]) -> Text
     requires { ⌜ Counts length (now text) ⌝ }
     ensures text { λ r. ⌜ ((s : List ℕ) → Read s (now (text .entry)) length → Sent (r .descriptor) (take (r .length) (now (out .exit))) (take 65623 (output s)) (take 65623 (error s))) ⌝ }

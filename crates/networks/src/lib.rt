@@ -1,5 +1,5 @@
-// The whole network in one list: the steps of each station's clock from the antenna, and the station that sees the
-// eclipse first. The list is taken as a value (crate `nodes`).
+// The whole network in one list: the steps of each station's clock from the antenna, and the station whose first enter
+// comes first; this says nothing of the horizon. The list is taken as a value (crate `nodes`).
 pub mod first_contact;
 pub mod sight;
 
@@ -16,7 +16,7 @@ ghost use Rattle.clock_network.specs.Nodes.{numbersOf, clocksOf, Holds};
 ghost use Rattle.clock_network.specs.Checks.{eclipseOf};
 ghost use Rattle.networks.specs.AnswerLaws.{Answered, Answers};
 
-// The number of the station that sees the eclipse first, 0 for none, or why the list has no answer.
+// The number of the station whose first enter comes first, 0 for none, or why the list has no answer.
 pub enum Answer {
     Named(u64),
     Refused(Refusal),

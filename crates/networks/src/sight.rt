@@ -1,4 +1,4 @@
-// Which station sees the eclipse first.
+// The station whose first enter comes first; this says nothing of the horizon.
 use clock_network::checks::Eclipse;
 use clock_network::stations::Held;
 ghost use mathlib.Core.Path.{_≡_};

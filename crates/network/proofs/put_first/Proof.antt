@@ -1,9 +1,8 @@
--- `network::put_first` meets its contract: the station; then the second, where one is named.
-use mathlib.Core.Path.{_∙_}
+-- `network::put_first` meets its contract: the station; then the second and the Sun, where one is named.
+use mathlib.Core.Path.{refl}
 use native.Mathlib.Omega.{arith}
 use Prim.Native.Nat.{_<_}
 use lib.ListN.{length}
-use Rattle.rounding.specs.laws.Code.{read-result}
 use Rattle.decimal_text.specs.laws.RowLaws.{joined, put-as}
 use Rattle.network.specs.laws.PrintedLaws.{first-none, first-some}
 use borrow.Author.Needs.{needs}
@@ -27,25 +26,22 @@ returns c =
     let n = t .before .before .before in
     let w = word n in
     let h = fits w in
-    put-as _ _ _ _ _ _ (first-none _ _ _ (found w .earliest .ensures) (t .if1 .taken))
+    put-as _ _ _ _ _ _ (first-none _ _ _ _ _ (found w .earliest .ensures) (t .if1 .taken))
     (joined h (joined h (w .put-text .ensures) (n .put-number .ensures)) (b .put-byte .ensures))
 
 returns-2 : tie.Need-returns-2
 returns-2 c =
-    let f = c .before .before in
-    let s = f .before .before .before .before in
-    let t = s .before .before in
+    let p = c .before .before in
+    let t = p .before .before .before .before .before in
     let n = t .before .before .before in
     let w = word n in
     let h = fits w in
-    put-as _ _ _ _ _ _
-    (first-some _ _ _ (found w .earliest .ensures) (omega (arith, t .if1 .left)) _ (read-result (s .second-of .result) (s .second-of .ok) ∙ s .second-of .ensures))
-    (joined h (joined h (w .put-text .ensures) (n .put-number .ensures)) (f .put-filled .ensures))
+    put-as _ _ _ _ _ _ (first-some _ _ _ _ _ (found w .earliest .ensures) (omega (arith, t .if1 .left)) _ _ refl refl)
+    (joined h (joined h (w .put-text .ensures) (n .put-number .ensures)) (p .put-to .ensures))
 
 pub put-first-spec : {M : Type 1} → statement M
 put-first-spec =
     tie.close
     (tie.spec (λ c κs. search needs) (λ c. search needs) (λ c κs. search needs) (λ c κs. search needs)
     (λ c κs. search needs) (λ c. search needs) returns (λ c. search needs) (λ c. search needs)
-    (λ c κs. search needs) (λ c. search needs) (λ c. search needs) (λ c κs. search needs) (λ c. search needs)
-    returns-2)
+    (λ c. search needs) (λ c. search needs) (λ c κs. search needs) (λ c. search needs) returns-2)

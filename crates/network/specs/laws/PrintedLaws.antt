@@ -1,6 +1,6 @@
 -- What is printed, part by part.
 use Prim.Native.Nat.{ℕ, _≤_, _<_, min}
-use mathlib.Core.Path.{_≡_, refl, sym, ap, subst, _∙_}
+use mathlib.Core.Path.{_≡_, refl, sym, ap, ap₂, subst, _∙_}
 use mathlib.Core.List.{List, [], _∷_, _++_, append-nil}
 use mir.Syntax.{w32}
 use mir.Val.{toZ, ofZ}
@@ -32,6 +32,8 @@ use Rattle.decimal_text.specs.Decimals.{decimal, signed}
 use Rattle.decimal_text.specs.Patterns.{piece, filled}
 use Rattle.decimal_text.specs.Rows.{rows}
 use Rattle.decimal_text.specs.Texts.{letters, Put}
+use Rattle.station.specs.declared.Station.{Station}
+use Rattle.listing_lines.specs.declared.clock.Altitude.{Altitude}
 use Rattle.listing_lines.specs.Lines.{refusalLine}
 use Rattle.program_io.specs.Inputs.{Read, zeros}
 use Rattle.program_io.specs.Outputs.{Sent, toOutput, toError}
@@ -40,7 +42,7 @@ use Rattle.program_io.specs.laws.OutputLaws.{put-cut}
 use Rattle.network_text.specs.declared.Fault.{Fault}
 use Rattle.network_text.specs.declared.Typed.the-variants as T
 use Rattle.network_text.specs.Typing.{Typing, given, refused, typingOf, answerOf, held, heldFrom, numbersFrom}
-use Rattle.network.specs.Printed.{stationLine, stationLines, toText, firstLine, namedText, answerBy, answerText, faultText, outputBy, output, errorBy, error}
+use Rattle.network.specs.Printed.{stationLine, stationLines, sunAt, sunText, toLine, toText, firstLine, namedText, answerBy, answerText, faultText, outputBy, output, errorBy, error}
 
 -- ---- the lines of the stations
 
@@ -63,26 +65,40 @@ station-filled z = refl
 
 -- ---- the first
 
-to-filled : (z : ℤ) → filled (z ∷ []) 0 (letters " to #\n") ≡ letters " to " ++ signed z ++ letters "\n"
+pub to-filled : (z : ℤ) → filled (z ∷ []) 0 (letters " to #") ≡ letters " to " ++ signed z
 unfolding filled piece
-to-filled z = refl
+to-filled z = ap (λ l. letters " to " ++ l) (append-nil (signed z))
 
-module _ (tos : List ℕ) (named best : ℕ) (e : best ≡ earliestOf tos never) where
-  first-by : (letters "first " ++ decimal named) ++ toText tos best ≡ firstLine named tos
+-- its parts: the second, the Sun, the end of the line
+pub to-line : (e : Eclipse) (s : Station) (to : ℕ) (z : ℤ) (x : Altitude) → z ≡ secondOf to → x ≡ sunAt e s z
+    → filled (z ∷ []) 0 (letters " to #") ++ sunText x ++ letters "\n" ≡ toLine e s to
+unfolding toLine
+to-line e s to z x p q =
+    ap₂ (λ a b. a ++ sunText b ++ letters "\n") (to-filled z ∙ ap (λ k. letters " to " ++ signed k) p) (q ∙ ap (sunAt e s) p)
+
+module _ (e : Eclipse) (nodes : List Node) (tos : List ℕ) (named best : ℕ) (q : best ≡ earliestOf tos never) where
+  first-by : (letters "first " ++ decimal named) ++ toText e (take (length tos) nodes) tos best ≡ firstLine e (take (length tos) nodes) named tos
   unfolding firstLine
-  first-by = ap (λ k. (letters "first " ++ decimal named) ++ toText tos k) e
+  first-by = ap (λ k. (letters "first " ++ decimal named) ++ toText e (take (length tos) nodes) tos k) q
 
-  pub first-none : length tos ≤ best → (letters "first " ++ decimal named) ++ letters "\n" ≡ firstLine named tos
+  pub first-none : length tos ≤ best → (letters "first " ++ decimal named) ++ letters "\n" ≡ firstLine e (take (length tos) nodes) named tos
   first-none h = sym (ap (λ t. (letters "first " ++ decimal named) ++ t) none) ∙ first-by
     where
-      none : toText tos best ≡ letters "\n"
+      none : toText e (take (length tos) nodes) tos best ≡ letters "\n"
       none = rw (le-ltb best (length tos) h)
 
-  pub first-some : best < length tos → (z : ℤ) → z ≡ secondOf (getD tos best 0) → (letters "first " ++ decimal named) ++ filled (z ∷ []) 0 (letters " to #\n") ≡ firstLine named tos
-  first-some h z q = ap (λ t. (letters "first " ++ decimal named) ++ t) (to-filled z ∙ sym some) ∙ first-by
+  pub first-some : best < length tos → (s : Station) (to : ℕ) → s ≡ getD nodes best blankNode .station → to ≡ getD tos best 0
+      → (letters "first " ++ decimal named) ++ toLine e s to ≡ firstLine e (take (length tos) nodes) named tos
+  first-some h s to p r = ap (λ t. (letters "first " ++ decimal named) ++ t) (sym some) ∙ first-by
     where
-      some : toText tos best ≡ letters " to " ++ signed z ++ letters "\n"
-      some = rw (lt-ltb best (length tos) h, q)
+      some : toText e (take (length tos) nodes) tos best ≡ toLine e s to
+      some = rw (lt-ltb best (length tos) h, getD-take (length tos) nodes best blankNode h, p, r)
+
+-- of the first n of some numbers
+pub first-as : (e : Eclipse) (nodes : List Node) (tos : List ℕ) (n named : ℕ) (ts : List ℕ) → n ≤ length tos → take n tos ≡ ts
+    → firstLine e (take (length (take n tos)) nodes) named (take n tos) ≡ firstLine e (take n nodes) named ts
+first-as e nodes tos n named ts h q =
+    ap (λ k. firstLine e (take k nodes) named (take n tos)) (length-take-le n tos h) ∙ ap (firstLine e (take n nodes) named) q
 
 -- ---- a list that has an answer
 
@@ -110,21 +126,21 @@ module _ (sines steps : List ℕ) (ns : List ℤ) (l : List Node) (n : ℕ) wher
     unfolding sinesFor
     named-sines = subst (λ (c : Checked). Sines (sinesAfter c sines)) (sym admission) (filled-sines sines)
 
-    named-text : namedText n (tosOf (eclipseOf ns) l) l (stepsFor ns l sines steps) ≡ answerText sines steps ns l
+    named-text : namedText (eclipseOf ns) n (tosOf (eclipseOf ns) l) l (stepsFor ns l sines steps) ≡ answerText sines steps ns l
     unfolding answerText
-    named-text = ap (λ a. answerBy a (tosOf (eclipseOf ns) l) l (stepsFor ns l sines steps)) (sym e)
+    named-text = ap (λ a. answerBy a (eclipseOf ns) (tosOf (eclipseOf ns) l) l (stepsFor ns l sines steps)) (sym e)
 
     -- of what is held
-    pub named-as : (x : Eclipse) (m : List Node) (ss : List ℕ) → x ≡ eclipseOf ns → m ≡ l → ss ≡ stepsFor ns l sines steps → namedText n (tosOf x m) m ss ≡ answerText sines steps ns l
+    pub named-as : (x : Eclipse) (m : List Node) (ss : List ℕ) → x ≡ eclipseOf ns → m ≡ l → ss ≡ stepsFor ns l sines steps → namedText x n (tosOf x m) m ss ≡ answerText sines steps ns l
     named-as x m ss p q r =
-        ap (λ y. namedText n (tosOf y m) m ss) p ∙ ap (λ y. namedText n (tosOf (eclipseOf ns) y) y ss) q ∙ ap (namedText n (tosOf (eclipseOf ns) l) l) r ∙ named-text
+        ap (λ y. namedText y n (tosOf y m) m ss) p ∙ ap (λ y. namedText (eclipseOf ns) n (tosOf (eclipseOf ns) y) y ss) q ∙ ap (namedText (eclipseOf ns) n (tosOf (eclipseOf ns) l) l) r ∙ named-text
 
     pub named-within : (x : Eclipse) (m : List Node) → x ≡ eclipseOf ns → m ≡ l → (length m ≤ 64) × AllWithin x m
     named-within x m p q = rw (p, q) (at-most (eclipseOf ns) l named-checked, all-within (eclipseOf ns) l named-checked)
 
 pub refused-text : (sines steps : List ℕ) (ns : List ℤ) (l : List Node) (r : Refusal) → answerTo ns l sines steps ≡ A.Refused r → refusalLine (r .number) (r .place) ≡ answerText sines steps ns l
 unfolding answerText
-refused-text sines steps ns l r e = ap (λ a. answerBy a (tosOf (eclipseOf ns) l) l (stepsFor ns l sines steps)) (sym e)
+refused-text sines steps ns l r e = ap (λ a. answerBy a (eclipseOf ns) (tosOf (eclipseOf ns) l) l (stepsFor ns l sines steps)) (sym e)
 
 -- ---- a text
 
