@@ -821,7 +821,7 @@ def star_horizon(request: bytes, second: int) -> Horizon:
 
 
 # The number of a phase; an eclipse has no phase of a star.
-_PHASES = {Phase.PENUMBRA: 0, Phase.CENTRAL: 1, Phase.STAR: 2}
+_PHASE_NUMBERS = {Phase.PENUMBRA: 0, Phase.CENTRAL: 1, Phase.STAR: 2}
 
 
 def _contact(name: str, request: bytes, phase: int, from_: int, to: int) -> Bracket:
@@ -842,7 +842,7 @@ def contact(request: bytes, phase: Phase, from_: int, to: int) -> Bracket:
     """
     if not isinstance(phase, Phase):
         raise TypeError(f"phase is {phase!r}, not a Phase")
-    return _contact("contact", request, _PHASES[phase], from_, to)
+    return _contact("contact", request, _PHASE_NUMBERS[phase], from_, to)
 
 
 def star_contact(request: bytes, from_: int, to: int) -> Bracket:

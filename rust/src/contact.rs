@@ -25,9 +25,9 @@ pub struct Bracket {
 /// ```
 /// use ukhtvaresh::{contact, Bracket, Phase, Refusal};
 ///
-/// let hopkinsville = include_bytes!("../../examples/hopkinsville2017.bin");
+/// let hopkinsville = include_bytes!("../../examples/hopkinsville2017.bin"); // its guard is 100
 /// let second_contact = contact(hopkinsville, Phase::Central, 1_550, 1_551)?;
-/// assert_eq!(second_contact, Bracket { earlier: 155_019, later: 155_020 });
+/// assert_eq!(second_contact, Bracket { earlier: 155_018, later: 155_021 });
 /// # Ok::<(), Refusal>(())
 /// ```
 pub fn contact(request: &[u8], phase: Phase, from: i64, to: i64) -> Result<Bracket, Refusal> {

@@ -1,7 +1,5 @@
 // The hundredths between which a contact lies, through the safe functions: the examples, at the limits, refused.
-use ukhtvaresh::{
-    contact, read, sheet_vec, star_contact, star_vec, Bracket, Entry, Phase, Refusal, Request, StarRequest,
-};
+use ukhtvaresh::{contact, read, sheet_vec, star_contact, star_vec, Bracket, Entry, Phase, Refusal};
 
 fn example(name: &str) -> Vec<u8> {
     std::fs::read(format!("{}/../examples/{name}", env!("CARGO_MANIFEST_DIR"))).expect("an example")
@@ -18,7 +16,9 @@ fn guarded(mut request: Vec<u8>, guard: u16) -> Vec<u8> {
 fn all_bracketed(entries: &[Entry], find: impl Fn(Phase, i64, i64) -> Result<Bracket, Refusal>) -> usize {
     let mut count = 0;
     for entry in entries {
-        let (Entry::Enter { phase, from, to, .. } | Entry::Leave { phase, from, to, .. }) = *entry else { continue };
+        let (Entry::Enter { phase, from, to, .. } | Entry::Leave { phase, from, to, .. }) = *entry else {
+            continue;
+        };
         let Bracket { earlier, later } = find(phase, from, to).expect("a bracket");
         assert!(100 * from <= earlier && earlier < later && later <= 100 * to, "{entry:?}");
         assert!(later - earlier <= 3, "{entry:?} {earlier} {later}");
@@ -32,7 +32,11 @@ fn every_contact_of_the_examples() {
     for (name, contacts) in [("hopkinsville2017.bin", 4), ("moscow1954.bin", 2), ("kiev1954.bin", 4)] {
         let request = guarded(example(name), 32);
         let entries = read(&sheet_vec(&request).expect("a sheet")).expect("entries");
-        assert_eq!(all_bracketed(&entries, |phase, from, to| contact(&request, phase, from, to)), contacts, "{name}");
+        assert_eq!(
+            all_bracketed(&entries, |phase, from, to| contact(&request, phase, from, to)),
+            contacts,
+            "{name}"
+        );
     }
     for name in ["potsdam1956.bin", "kansas1949.bin"] {
         let request = guarded(example(name), 32);
@@ -73,8 +77,6 @@ fn refused() {
     assert_eq!(contact(&request, Phase::Star, 1_550, 1_551), Err(Refusal::Phase));
     assert_eq!((Refusal::Phase.number(), Refusal::Phase.place()), (22, 0));
     assert_eq!((Refusal::NoContact.number(), Refusal::NoContact.place()), (22, 1));
-    let far = Request::from_bytes(&request).map(|request| Request { guard: 16, ..request });
-    assert!(far.is_ok());
     assert_eq!(star_contact(&request, 0, 1), Err(Refusal::Shape));
-    assert!(StarRequest::from_bytes(&example("potsdam1956.bin")).is_ok());
+    assert_eq!(star_contact(&example("potsdam1956.bin"), -10_800, -10_799), Err(Refusal::NoContact));
 }

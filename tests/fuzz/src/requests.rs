@@ -361,7 +361,8 @@ pub(crate) struct Contact {
 pub(crate) fn brackets_agree(asked: &Contact, request: &[u8], numbers: [i64; 3], [near, far, leave]: Head) {
     let rooms @ [lent, room] = [sines_room(leave, near, far), room(2, near, far)];
     let old = |at: usize| (at as i64).wrapping_mul(0x9E37_79B9_7F4A_7C15_u64 as i64);
-    let theirs = left_lent(lent, room, old, |sines, room| reply((asked.found)(request, numbers, sines, room)));
+    let theirs =
+        left_lent(lent, room, old, |sines, room| reply((asked.found)(request, numbers, sines, room)));
     let ours = left_lent(lent, room, old, |sines, room| (asked.call)(request, numbers, sines, room));
     both_agree(asked.name, request, rooms, &ours, &theirs);
     let guided = left_lent(lent, room, old, |sines, room| {

@@ -13,7 +13,8 @@ use reference::shadow::Phase;
 #[test]
 fn hand_worked_contacts() {
     let request = hand_worked();
-    let bracket = |phase, from, to| request.crossing(phase, from, to).and_then(|crossing| crossing.bracket(from, to));
+    let bracket =
+        |phase, from, to| request.crossing(phase, from, to).and_then(|crossing| crossing.bracket(from, to));
     assert_eq!(bracket(0, -5_401, -5_399), Ok([-540_001, -539_999]));
     assert_eq!(bracket(0, 5_399, 5_401), Ok([539_999, 540_001]));
     assert_eq!(bracket(1, -101, -99), Ok([-10_001, -9_999]));
@@ -25,7 +26,9 @@ fn hand_worked_contacts() {
 
 #[test]
 fn the_guard_is_at_least_32() {
-    for (guard, bracket) in [(16, [-540_001, -539_999]), (32, [-540_001, -539_999]), (99, [-540_001, -539_999])] {
+    for (guard, bracket) in
+        [(16, [-540_001, -539_999]), (32, [-540_001, -539_999]), (99, [-540_001, -539_999])]
+    {
         let request = reference::request::Request { guard, ..hand_worked() };
         let crossing = request.crossing(0, -5_401, -5_399).expect("within its ranges");
         assert_eq!(crossing.bracket(-5_401, -5_399), Ok(bracket), "{guard}");
@@ -52,11 +55,15 @@ fn stars() {
 fn whole_seconds() {
     let mut random = Random::new(43);
     for _ in 0..1_000 {
-        let coefficients = [2, 1, 0, 0].map(|zeros| random.within(&(-200_000_000..=200_000_000)) / 10_i64.pow(4 - zeros));
+        let coefficients =
+            [2, 1, 0, 0].map(|zeros| random.within(&(-200_000_000..=200_000_000)) / 10_i64.pow(4 - zeros));
         let second = random.within(&(-10_800..=10_800));
         let at_second = elements::value_at(&coefficients, second);
         assert_eq!(value_at(&coefficients, Time { above: second, below: 1 }), at_second);
-        assert_eq!(value_at(&coefficients, Time { above: HUNDREDTHS * second, below: HUNDREDTHS }), at_second);
+        assert_eq!(
+            value_at(&coefficients, Time { above: HUNDREDTHS * second, below: HUNDREDTHS }),
+            at_second
+        );
         let request = sample::draw(&mut random, Manner::Anywhere);
         let Ok(circumstances) = request.check() else { continue };
         let guard = request.guard.max(32);
@@ -72,7 +79,10 @@ fn whole_seconds() {
 fn refusals_in_their_order() {
     let request = hand_worked();
     let refused = |phase, from, to| {
-        request.crossing(phase, from, to).and_then(|crossing| crossing.bracket(from, to)).expect_err("a refusal")
+        request
+            .crossing(phase, from, to)
+            .and_then(|crossing| crossing.bracket(from, to))
+            .expect_err("a refusal")
     };
     assert_eq!(refused(7, 1, 0), Refusal::Window);
     assert_eq!(refused(0, -10_801, 0), Refusal::Window);

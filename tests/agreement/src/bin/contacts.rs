@@ -18,7 +18,9 @@ use reference::elements::Window;
 use reference::random::Random;
 use reference::request::Request;
 use reference::room::SINES;
-use reference::sheet::{Record, ENTER_CENTRAL, ENTER_PENUMBRA, ENTER_STAR, LEAVE_CENTRAL, LEAVE_PENUMBRA, LEAVE_STAR};
+use reference::sheet::{
+    Record, ENTER_CENTRAL, ENTER_PENUMBRA, ENTER_STAR, LEAVE_CENTRAL, LEAVE_PENUMBRA, LEAVE_STAR,
+};
 use reference::star::StarRequest;
 use std::collections::BTreeMap;
 use std::time::Instant;
@@ -31,7 +33,7 @@ const EACH: u64 = 4;
 struct Seen {
     /// calls by number and, of 1, 4 and 22, place.
     numbers: BTreeMap<(u64, u64), u64>,
-    /// brackets by their width in hundredths.
+    /// brackets by their width in hundredths, 11 for any above 10.
     widths: BTreeMap<i64, u64>,
     /// enters and leaves of sheets with a guard of 32 or more.
     entries: u64,
@@ -48,8 +50,14 @@ impl Seen {
         let parts = self.numbers.iter().map(|((number, place), n)| format!("{number} {place}: {n}"));
         println!("{name:13} {total} calls, by number and place {}", parts.collect::<Vec<_>>().join(", "));
         let widths = self.widths.iter().map(|(width, n)| format!("{width}: {n}"));
-        println!("{name:13} brackets by width in hundredths {}", widths.collect::<Vec<_>>().join(", "));
-        println!("{name:13} {} enters and leaves of sheets with a guard of 32 or more, each with a bracket", self.entries);
+        println!(
+            "{name:13} brackets by width in hundredths, 11 for more than 10: {}",
+            widths.collect::<Vec<_>>().join(", ")
+        );
+        println!(
+            "{name:13} {} enters and leaves of sheets with a guard of 32 or more, each with a bracket",
+            self.entries
+        );
     }
 }
 
@@ -131,7 +139,7 @@ fn compare(
     if value != 2 || earlier < from * HUNDREDTHS || later <= earlier || to * HUNDREDTHS < later {
         differ("no bracket between the seconds", request, numbers);
     }
-    *seen.widths.entry(later - earlier).or_default() += 1;
+    *seen.widths.entry((later - earlier).min(11)).or_default() += 1;
     true
 }
 
