@@ -1,0 +1,3 @@
+pub mod FromTables
+pub mod Answers
+pub mod laws
