@@ -1,7 +1,9 @@
--- The 22 elements from seven hourly rows and the sidereal time at Greenwich at these hours. These are definitions.
+-- The 22 elements from seven hourly rows of Sun and Moon, the radii of both, and the sidereal time at Greenwich at these
+-- hours. The rule is ours (docs/ELEMENTS.md). Definitions only.
 use lib.IntN.{ℤ, pos, negsuc, natAbs, _+ℤ_, _-ℤ_, _*ℤ_}
 use Rattle.sine.specs.Sine.{reduced}
 use Rattle.besselian_rows.specs.declared.besselian.Row.{Row}
+use Rattle.besselian_rows.specs.declared.besselian.Radii.{Radii}
 use Rattle.besselian_rows.specs.declared.besselian.Besselian.{Besselian}
 use Rattle.besselian_rows.specs.Rounded as row
 use Rattle.elements.specs.declared.Quadratic.{Quadratic}
@@ -12,28 +14,30 @@ use Rattle.angles.specs.Angles.{arcsine, argument}
 use Rattle.element_fits.specs.declared.Rows.{Rows}
 use Rattle.element_fits.specs.declared.Hour.{Hour}
 use Rattle.element_fits.specs.declared.Hours.{Hours}
+use Rattle.element_fits.specs.declared.Columns.{Columns}
+use Rattle.element_fits.specs.declared.Fitting.{Fitting}
 
 -- ---- one row
 -- the right ascension of the axis: the angle of its direction on the equator
 unfoldable pub ascension : Row → ℤ
 ascension p = pos (argument (row.cos-a p) (row.sin-a p))
 
-unfoldable pub hourOf : Row → Hour
-hourOf p =
-    let b = row.elementsOf p in
+unfoldable pub hourOf : Radii → Row → Hour
+hourOf k p =
+    let b = row.elementsOf k p in
     record { x = b .x; y = b .y; d = arcsine (b .sind); l1 = b .l1; l2 = b .l2; ascension = ascension p }
 
 -- ---- all rows
-unfoldable pub hoursOf : Rows → Hours
-hoursOf t =
+unfoldable pub hoursOf : Radii → Rows → Hours
+hoursOf k t =
     record {
-      h0 = hourOf (t .r0);
-      h1 = hourOf (t .r1);
-      h2 = hourOf (t .r2);
-      h3 = hourOf (t .r3);
-      h4 = hourOf (t .r4);
-      h5 = hourOf (t .r5);
-      h6 = hourOf (t .r6);
+      h0 = hourOf k (t .r0);
+      h1 = hourOf k (t .r1);
+      h2 = hourOf k (t .r2);
+      h3 = hourOf k (t .r3);
+      h4 = hourOf k (t .r4);
+      h5 = hourOf k (t .r5);
+      h6 = hourOf k (t .r6);
     }
 
 -- one value at the seven hours
@@ -84,16 +88,31 @@ hourAngles g a middle =
 unfoldable pub hourAngle : Quadratic → (middle : ℤ) → Quadratic
 hourAngle q middle = record { c0 = pos (reduced (middle +ℤ q .c0)); c1 = q .c1 +ℤ pos 15_000_000; c2 = q .c2 }
 
--- ---- the elements: cubics for x and y, quadratics for d, l1, l2 and μ; tan f of the middle row
-unfoldable pub fitted : Hours → Hourly → (tanf1 tanf2 : ℤ) → Elements
-fitted h g tanf1 tanf2 =
-    let a = eachAscension h in
-    let middle = turn (g .v3) (a .v3) (pos 0) in
+-- ---- the elements
+
+-- the hour angle of the middle row
+unfoldable pub middleOf : Hours → Hourly → ℤ
+middleOf h g = turn (g .v3) (h .h3 .ascension) (pos 0)
+
+-- what is fitted: six values at the seven hours
+unfoldable pub columnsOf : Hours → Hourly → (middle : ℤ) → Columns
+columnsOf h g middle =
+    record { x = eachX h; y = eachY h; d = eachD h; l1 = eachL1 h; l2 = eachL2 h; mu = hourAngles g (eachAscension h) middle }
+
+-- "x, y: cubics; l1, l2, d, μ: quadratics; tan f: the middle row's"
+unfoldable pub fitted : Columns → (middle tanf1 tanf2 : ℤ) → Elements
+fitted c middle tanf1 tanf2 =
     record {
-      axis = record { x = cubic (eachX h); y = cubic (eachY h); d = quadratic (eachD h); mu = hourAngle (quadratic (hourAngles g a middle)) middle };
-      penumbra = record { l = quadratic (eachL1 h); tanf = tanf1 };
-      central = record { l = quadratic (eachL2 h); tanf = tanf2 };
+      axis = record { x = cubic (c .x); y = cubic (c .y); d = quadratic (c .d); mu = hourAngle (quadratic (c .mu)) middle };
+      penumbra = record { l = quadratic (c .l1); tanf = tanf1 };
+      central = record { l = quadratic (c .l2); tanf = tanf2 };
     }
 
-unfoldable pub elementsOf : Rows → Hourly → Elements
-elementsOf t g = let b = row.elementsOf (t .r3) in fitted (hoursOf t) g (b .tanf1) (b .tanf2)
+-- of all rows: the columns, and the elements
+unfoldable pub fittingOf : Radii → Rows → Hourly → Fitting
+fittingOf k t g =
+    let h = hoursOf k t in
+    let m = middleOf h g in
+    let b = row.elementsOf k (t .r3) in
+    let c = columnsOf h g m in
+    record { columns = c; elements = fitted c m (b .tanf1) (b .tanf2) }

@@ -1,4 +1,3 @@
 pub mod Sizes
 pub mod Laws
 pub mod AnswersLaws
-pub mod Meaning

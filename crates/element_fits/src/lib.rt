@@ -1,18 +1,28 @@
-// The 22 elements of an eclipse from seven hourly rows of Sun and Moon and the sidereal time at Greenwich at these hours, all in whole numbers.
+// The 22 elements of an eclipse from seven hourly rows of Sun and Moon and the sidereal time at Greenwich at these hours,
+// all in whole numbers. In module `numbers` from and to the caller's numbers.
+pub mod numbers;
+
+use elements::Cubic;
+use elements::Elements;
+use elements::Quadratic;
+use least_squares::Hourly;
+use rounding::Limits;
+use sheet_types::refusals::Checked;
+use sheet_types::refusals::Refusal;
 ghost use mathlib.Core.Path.{_≡_};
 ghost use mathlib.Core.Bool.{true};
 ghost use Prim.Native.Nat.{_≤_, _<_};
 ghost use lib.IntN.{pos, natAbs};
 ghost use Rattle.rounding.specs.Value.{Value};
 ghost use Rattle.sine_table.specs.Table.{Sines};
-ghost use Rattle.besselian_rows.specs.Exact.{accepted};
+ghost use Rattle.besselian_rows.specs.Exact.{accepted, RadiiInRange};
 ghost use Rattle.besselian_rows.specs.laws.AcceptedLaws.{Accepted};
-ghost use Rattle.element_fits.specs.FromTables.{ascension, hourOf, hoursOf, eachX, eachY, eachD, eachL1, eachL2, eachAscension, turn, offset, hourAngles, hourAngle, fitted, elementsOf};
-ghost use Rattle.element_fits.specs.Answers.{unless, firstRefused, close, missed, raised, firstMissed, answerTo};
 ghost use Rattle.least_squares.specs.LeastSquares.{cubic, quadratic};
-ghost use Rattle.element_fits.specs.laws.Sizes.{AllAccepted, HoursSizes};
 ghost use Rattle.least_squares.specs.Sizes.{HourlySizes, CoefficientSizes};
 ghost use Rattle.elements.specs.Sizes.{QuadraticSizes};
+ghost use Rattle.element_fits.specs.FromTables.{ascension, hourOf, hoursOf, eachX, eachY, eachD, eachL1, eachL2, eachAscension, turn, offset, hourAngles, hourAngle, middleOf, columnsOf, fitted, fittingOf};
+ghost use Rattle.element_fits.specs.Answers.{unless, off, close, missed, larger, misfit, raised, firstMissed, misfitsOf, judged};
+ghost use Rattle.element_fits.specs.laws.Sizes.{AllAccepted, HoursSizes, ColumnsSizes};
 
 // The rows of the tables, at the hours -3 to 3.
 pub struct Rows {
@@ -35,7 +45,7 @@ pub struct Hour {
     pub ascension: i64,
 }
 
-// The same of all rows.
+// The same of all rows, at the hours -3 to 3.
 pub struct Hours {
     pub h0: Hour,
     pub h1: Hour,
@@ -59,11 +69,15 @@ fn ascension(table: &[u32], p: besselian_rows::besselian::Row) -> i64
 }
 
 // What one row gives.
-fn hour_of(table: &[u32], p: besselian_rows::besselian::Row) -> Hour
-    requires { ⌜ (Sines (now table)) × (accepted p ≡ true) ⌝ }
-    ensures { λ r. ⌜ r ≡ hourOf p ⌝ }
+fn hour_of(
+    table: &[u32],
+    p: besselian_rows::besselian::Row,
+    k: besselian_rows::besselian::Radii,
+) -> Hour
+    requires { ⌜ (Sines (now table)) × (accepted p ≡ true) × (RadiiInRange k) ⌝ }
+    ensures { λ r. ⌜ r ≡ hourOf k p ⌝ }
 {
-    let b = besselian_rows::rows::elements_of(p);
+    let b = besselian_rows::rows::elements_of(p, k);
     let x = b.x;
     let y = b.y;
     let sind = b.sind;
@@ -99,17 +113,17 @@ fn offset(t: i64, middle: i64) -> i64
 }
 
 // What all rows give.
-fn hours_of(table: &[u32], t: Rows) -> Hours
-    requires { ⌜ (Sines (now table)) × (AllAccepted t) ⌝ }
-    ensures { λ r. ⌜ r ≡ hoursOf t ⌝ }
+fn hours_of(table: &[u32], t: Rows, k: besselian_rows::besselian::Radii) -> Hours
+    requires { ⌜ (Sines (now table)) × (AllAccepted t) × (RadiiInRange k) ⌝ }
+    ensures { λ r. ⌜ r ≡ hoursOf k t ⌝ }
 {
-    let h0 = hour_of(table, t.r0);
-    let h1 = hour_of(table, t.r1);
-    let h2 = hour_of(table, t.r2);
-    let h3 = hour_of(table, t.r3);
-    let h4 = hour_of(table, t.r4);
-    let h5 = hour_of(table, t.r5);
-    let h6 = hour_of(table, t.r6);
+    let h0 = hour_of(table, t.r0, k);
+    let h1 = hour_of(table, t.r1, k);
+    let h2 = hour_of(table, t.r2, k);
+    let h3 = hour_of(table, t.r3, k);
+    let h4 = hour_of(table, t.r4, k);
+    let h5 = hour_of(table, t.r5, k);
+    let h6 = hour_of(table, t.r6, k);
     Hours {
         h0,
         h1,
@@ -122,7 +136,7 @@ fn hours_of(table: &[u32], t: Rows) -> Hours
 }
 
 // x at the seven hours.
-fn each_x(h: Hours) -> least_squares::Hourly
+fn each_x(h: Hours) -> Hourly
     ensures { λ r. ⌜ r ≡ eachX h ⌝ }
 {
     let h0 = h.h0;
@@ -132,7 +146,7 @@ fn each_x(h: Hours) -> least_squares::Hourly
     let h4 = h.h4;
     let h5 = h.h5;
     let h6 = h.h6;
-    least_squares::Hourly {
+    Hourly {
         v0: h0.x,
         v1: h1.x,
         v2: h2.x,
@@ -144,7 +158,7 @@ fn each_x(h: Hours) -> least_squares::Hourly
 }
 
 // y at the seven hours.
-fn each_y(h: Hours) -> least_squares::Hourly
+fn each_y(h: Hours) -> Hourly
     ensures { λ r. ⌜ r ≡ eachY h ⌝ }
 {
     let h0 = h.h0;
@@ -154,7 +168,7 @@ fn each_y(h: Hours) -> least_squares::Hourly
     let h4 = h.h4;
     let h5 = h.h5;
     let h6 = h.h6;
-    least_squares::Hourly {
+    Hourly {
         v0: h0.y,
         v1: h1.y,
         v2: h2.y,
@@ -166,7 +180,7 @@ fn each_y(h: Hours) -> least_squares::Hourly
 }
 
 // d at the seven hours.
-fn each_d(h: Hours) -> least_squares::Hourly
+fn each_d(h: Hours) -> Hourly
     ensures { λ r. ⌜ r ≡ eachD h ⌝ }
 {
     let h0 = h.h0;
@@ -176,7 +190,7 @@ fn each_d(h: Hours) -> least_squares::Hourly
     let h4 = h.h4;
     let h5 = h.h5;
     let h6 = h.h6;
-    least_squares::Hourly {
+    Hourly {
         v0: h0.d,
         v1: h1.d,
         v2: h2.d,
@@ -188,7 +202,7 @@ fn each_d(h: Hours) -> least_squares::Hourly
 }
 
 // l1 at the seven hours.
-fn each_l1(h: Hours) -> least_squares::Hourly
+fn each_l1(h: Hours) -> Hourly
     ensures { λ r. ⌜ r ≡ eachL1 h ⌝ }
 {
     let h0 = h.h0;
@@ -198,7 +212,7 @@ fn each_l1(h: Hours) -> least_squares::Hourly
     let h4 = h.h4;
     let h5 = h.h5;
     let h6 = h.h6;
-    least_squares::Hourly {
+    Hourly {
         v0: h0.l1,
         v1: h1.l1,
         v2: h2.l1,
@@ -210,7 +224,7 @@ fn each_l1(h: Hours) -> least_squares::Hourly
 }
 
 // l2 at the seven hours.
-fn each_l2(h: Hours) -> least_squares::Hourly
+fn each_l2(h: Hours) -> Hourly
     ensures { λ r. ⌜ r ≡ eachL2 h ⌝ }
 {
     let h0 = h.h0;
@@ -220,7 +234,7 @@ fn each_l2(h: Hours) -> least_squares::Hourly
     let h4 = h.h4;
     let h5 = h.h5;
     let h6 = h.h6;
-    least_squares::Hourly {
+    Hourly {
         v0: h0.l2,
         v1: h1.l2,
         v2: h2.l2,
@@ -232,7 +246,7 @@ fn each_l2(h: Hours) -> least_squares::Hourly
 }
 
 // The right ascension at the seven hours.
-fn each_ascension(h: Hours) -> least_squares::Hourly
+fn each_ascension(h: Hours) -> Hourly
     ensures { λ r. ⌜ r ≡ eachAscension h ⌝ }
 {
     let h0 = h.h0;
@@ -242,7 +256,7 @@ fn each_ascension(h: Hours) -> least_squares::Hourly
     let h4 = h.h4;
     let h5 = h.h5;
     let h6 = h.h6;
-    least_squares::Hourly {
+    Hourly {
         v0: h0.ascension,
         v1: h1.ascension,
         v2: h2.ascension,
@@ -264,10 +278,10 @@ fn relative(g: i64, a: i64, hour: i64, middle: i64) -> i64
 
 // The hour angles of all rows, from that of the middle one and 15 degrees an hour.
 fn hour_angles(
-    g: least_squares::Hourly,
-    a: least_squares::Hourly,
+    g: Hourly,
+    a: Hourly,
     middle: i64,
-) -> least_squares::Hourly
+) -> Hourly
     requires { ⌜ (HourlySizes 360_000_000 g) × (HourlySizes 360_000_000 a) × (natAbs middle ≤ 765_000_000) ⌝ }
     ensures { λ r. ⌜ r ≡ hourAngles g a middle ⌝ }
 {
@@ -278,7 +292,7 @@ fn hour_angles(
     let v4 = relative(g.v4, a.v4, 1, middle);
     let v5 = relative(g.v5, a.v5, 2, middle);
     let v6 = relative(g.v6, a.v6, 3, middle);
-    least_squares::Hourly {
+    Hourly {
         v0,
         v1,
         v2,
@@ -290,7 +304,7 @@ fn hour_angles(
 }
 
 // μ: the quadratic of these, with the middle row's hour angle and 15 degrees an hour put back.
-fn hour_angle(q: elements::Quadratic, middle: i64) -> elements::Quadratic
+fn hour_angle(q: Quadratic, middle: i64) -> Quadratic
     requires { ⌜ (QuadraticSizes 900_000_000 180_000_000 180_000_000 q) × (natAbs middle ≤ 765_000_000) ⌝ }
     ensures { λ r. ⌜ r ≡ hourAngle q middle ⌝ }
 {
@@ -299,156 +313,204 @@ fn hour_angle(q: elements::Quadratic, middle: i64) -> elements::Quadratic
     let c2 = q.c2;
     let c0 = sine::reduced(middle + b0) as i64;
     let c1 = b1 + 15_000_000;
-    elements::Quadratic { c0, c1, c2 }
+    Quadratic { c0, c1, c2 }
 }
 
-// The elements of what all rows give, with the sidereal time at Greenwich at these hours and the tangents.
-fn fitted(h: Hours, g: least_squares::Hourly, tanf1: i64, tanf2: i64) -> elements::Elements
-    requires { ⌜ (HoursSizes h) × (HourlySizes 360_000_000 g) × (natAbs tanf1 ≤ 600_000) × (natAbs tanf2 ≤ 600_000) ⌝ }
-    ensures { λ r. ⌜ r ≡ fitted h g tanf1 tanf2 ⌝ }
+// Six values at the seven hours, which are fitted. mu: the hour angle less 15 degrees an hour, from that of the middle row.
+pub struct Columns {
+    pub x: Hourly,
+    pub y: Hourly,
+    pub d: Hourly,
+    pub l1: Hourly,
+    pub l2: Hourly,
+    pub mu: Hourly,
+}
+
+// The hour angle of the middle row.
+fn middle_of(h: Hours, g: Hourly) -> i64
+    requires { ⌜ (HoursSizes h) × (HourlySizes 360_000_000 g) ⌝ }
+    ensures { λ r. ⌜ Value (middleOf h g) 765_000_000 r ⌝ }
 {
-    let xs = each_x(h);
-    let ys = each_y(h);
-    let ds = each_d(h);
-    let l1s = each_l1(h);
-    let l2s = each_l2(h);
+    let h3 = h.h3;
+    turn(g.v3, h3.ascension, 0)
+}
+
+// What all rows give, as six columns.
+fn columns_of(h: Hours, g: Hourly, middle: i64) -> Columns
+    requires { ⌜ (HoursSizes h) × (HourlySizes 360_000_000 g) × (natAbs middle ≤ 765_000_000) ⌝ }
+    ensures { λ r. ⌜ r ≡ columnsOf h g middle ⌝ }
+{
+    let x = each_x(h);
+    let y = each_y(h);
+    let d = each_d(h);
+    let l1 = each_l1(h);
+    let l2 = each_l2(h);
     let ascensions = each_ascension(h);
-    let x = least_squares::cubic(xs);
-    let y = least_squares::cubic(ys);
-    let d = least_squares::quadratic(ds);
-    let l1 = least_squares::quadratic(l1s);
-    let l2 = least_squares::quadratic(l2s);
-    let middle = turn(g.v3, ascensions.v3, 0);
-    let angles = hour_angles(g, ascensions, middle);
-    let q = least_squares::quadratic(angles);
+    let mu = hour_angles(g, ascensions, middle);
+    Columns {
+        x,
+        y,
+        d,
+        l1,
+        l2,
+        mu,
+    }
+}
+
+// The elements of six columns, with the middle row's hour angle and tangents.
+fn fitted(c: Columns, middle: i64, tanf1: i64, tanf2: i64) -> Elements
+    requires { ⌜ (ColumnsSizes c) × (natAbs middle ≤ 765_000_000) × (natAbs tanf1 ≤ 600_000) × (natAbs tanf2 ≤ 600_000) ⌝ }
+    ensures { λ r. ⌜ r ≡ fitted c middle tanf1 tanf2 ⌝ }
+{
+    let x = least_squares::cubic(c.x);
+    let y = least_squares::cubic(c.y);
+    let d = least_squares::quadratic(c.d);
+    let l1 = least_squares::quadratic(c.l1);
+    let l2 = least_squares::quadratic(c.l2);
+    let q = least_squares::quadratic(c.mu);
     let mu = hour_angle(q, middle);
     let axis = elements::Axis { x, y, d, mu };
     let penumbra = elements::Cone { l: l1, tanf: tanf1 };
     let central = elements::Cone { l: l2, tanf: tanf2 };
-    elements::Elements {
+    Elements {
         axis,
         penumbra,
         central,
     }
 }
 
-// The elements of rows that are accepted.
-fn elements_of(table: &[u32], t: Rows, g: least_squares::Hourly) -> elements::Elements
-    requires { ⌜ (Sines (now table)) × (AllAccepted t) × (HourlySizes 360_000_000 g) ⌝ }
-    ensures { λ r. ⌜ r ≡ elementsOf t g ⌝ }
+// The columns of some rows, and the elements that are fitted to them.
+pub struct Fitting {
+    pub columns: Columns,
+    pub elements: Elements,
+}
+
+fn fitting_of(table: &[u32], t: Rows, g: Hourly, k: besselian_rows::besselian::Radii) -> Fitting
+    requires { ⌜ (Sines (now table)) × (AllAccepted t) × (HourlySizes 360_000_000 g) × (RadiiInRange k) ⌝ }
+    ensures { λ r. ⌜ r ≡ fittingOf k t g ⌝ }
 {
-    let h = hours_of(table, t);
-    let b = besselian_rows::rows::elements_of(t.r3);
+    let h = hours_of(table, t, k);
+    let middle = middle_of(h, g);
+    let columns = columns_of(h, g, middle);
+    let b = besselian_rows::rows::elements_of(t.r3, k);
     let tanf1 = b.tanf1;
     let tanf2 = b.tanf2;
-    fitted(h, g, tanf1, tanf2)
+    let made = fitted(columns, middle, tanf1, tanf2);
+    Fitting {
+        columns,
+        elements: made,
+    }
 }
+
+// ---- how far a fit is from its values
 
 // What was found before, or this place where nothing was found and it is not good.
-fn unless(found: rounding::Limits, good: bool, place: usize) -> rounding::Limits
+fn unless(found: Limits, good: bool, place: usize) -> Limits
     ensures { λ r. ⌜ r ≡ unless found good place ⌝ }
 {
-    if let rounding::Limits::OutOfRange(i) = found {
-        return rounding::Limits::OutOfRange(i);
+    if let Limits::OutOfRange(i) = found {
+        return Limits::OutOfRange(i);
     }
     if good {
-        return rounding::Limits::InRange;
+        return Limits::InRange;
     }
-    rounding::Limits::OutOfRange(place)
+    Limits::OutOfRange(place)
 }
 
-// Whether each row is accepted, or the first that is not, 0 to 6.
-fn first_refused(t: Rows) -> rounding::Limits
-    ensures { λ r. ⌜ r ≡ firstRefused t ⌝ }
-{
-    let a0 = besselian_rows::rows::accepted(t.r0);
-    let f0 = unless(rounding::Limits::InRange, a0, 0);
-    let a1 = besselian_rows::rows::accepted(t.r1);
-    let f1 = unless(f0, a1, 1);
-    let a2 = besselian_rows::rows::accepted(t.r2);
-    let f2 = unless(f1, a2, 2);
-    let a3 = besselian_rows::rows::accepted(t.r3);
-    let f3 = unless(f2, a3, 3);
-    let a4 = besselian_rows::rows::accepted(t.r4);
-    let f4 = unless(f3, a4, 4);
-    let a5 = besselian_rows::rows::accepted(t.r5);
-    let f5 = unless(f4, a5, 5);
-    let a6 = besselian_rows::rows::accepted(t.r6);
-    unless(f5, a6, 6)
-}
-
-// Whether a cubic's value at an hour is within a tolerance of v.
-fn close(c: elements::Cubic, t: i64, v: i64, tolerance: u64) -> bool
+// How far a cubic's value at hour t is from v.
+fn off(c: Cubic, t: i64, v: i64) -> u64
     requires { ⌜ (CoefficientSizes 1_000_000_000_000 c) × (natAbs t ≤ 3) × (natAbs v ≤ 100_000_000_000) ⌝ }
-    ensures { λ r. ⌜ r ≡ close c t v tolerance ⌝ }
+    ensures value { λ r. ⌜ r ≡ off c t v ⌝ }
+    ensures small { λ r. ⌜ r ≤ 50_000_000_000_000 ⌝ }
 {
     let c0 = c.c0;
     let c1 = c.c1;
     let c2 = c.c2;
     let c3 = c.c3;
     let off = ((c3 * t + c2) * t + c1) * t + c0 - v;
-    let size = rounding::abs(off) as u64;
+    rounding::abs(off) as u64
+}
+
+// Whether that is at most the tolerance.
+fn close(c: Cubic, t: i64, v: i64, tolerance: u64) -> bool
+    requires { ⌜ (CoefficientSizes 1_000_000_000_000 c) × (natAbs t ≤ 3) × (natAbs v ≤ 100_000_000_000) ⌝ }
+    ensures { λ r. ⌜ r ≡ close c t v tolerance ⌝ }
+{
+    let size = off(c, t, v);
     size <= tolerance
 }
 
-// What was found before, or this place where the cubic is not close at each hour.
-fn missed(
-    found: rounding::Limits,
-    c: elements::Cubic,
-    v: least_squares::Hourly,
-    tolerance: u64,
-    place: usize,
-) -> rounding::Limits
-    requires { ⌜ (CoefficientSizes 1_000_000_000_000 c) × (HourlySizes 100_000_000_000 v) ⌝ }
+// What was found before, or `place` and the first hour, 0 to 6, at which the cubic is not close.
+fn missed(found: Limits, c: Cubic, v: Hourly, tolerance: u64, place: usize) -> Limits
+    requires { ⌜ (CoefficientSizes 1_000_000_000_000 c) × (HourlySizes 100_000_000_000 v) × (place ≤ 50) ⌝ }
     ensures { λ r. ⌜ r ≡ missed found c v tolerance place ⌝ }
 {
     let b0 = close(c, -3, v.v0, tolerance);
     let f0 = unless(found, b0, place);
     let b1 = close(c, -2, v.v1, tolerance);
-    let f1 = unless(f0, b1, place);
+    let f1 = unless(f0, b1, place + 1);
     let b2 = close(c, -1, v.v2, tolerance);
-    let f2 = unless(f1, b2, place);
+    let f2 = unless(f1, b2, place + 2);
     let b3 = close(c, 0, v.v3, tolerance);
-    let f3 = unless(f2, b3, place);
+    let f3 = unless(f2, b3, place + 3);
     let b4 = close(c, 1, v.v4, tolerance);
-    let f4 = unless(f3, b4, place);
+    let f4 = unless(f3, b4, place + 4);
     let b5 = close(c, 2, v.v5, tolerance);
-    let f5 = unless(f4, b5, place);
+    let f5 = unless(f4, b5, place + 5);
     let b6 = close(c, 3, v.v6, tolerance);
-    unless(f5, b6, place)
+    unless(f5, b6, place + 6)
+}
+
+fn larger(a: u64, b: u64) -> u64
+    requires { ⌜ (a ≤ 50_000_000_000_000) × (b ≤ 50_000_000_000_000) ⌝ }
+    ensures value { λ r. ⌜ r ≡ larger a b ⌝ }
+    ensures small { λ r. ⌜ r ≤ 50_000_000_000_000 ⌝ }
+{
+    if a < b { b } else { a }
+}
+
+// How far a cubic is from seven values at most.
+fn misfit(c: Cubic, v: Hourly) -> u64
+    requires { ⌜ (CoefficientSizes 1_000_000_000_000 c) × (HourlySizes 100_000_000_000 v) ⌝ }
+    ensures value { λ r. ⌜ r ≡ misfit c v ⌝ }
+    ensures small { λ r. ⌜ r ≤ 50_000_000_000_000 ⌝ }
+{
+    let o0 = off(c, -3, v.v0);
+    let o1 = off(c, -2, v.v1);
+    let m1 = larger(o0, o1);
+    let o2 = off(c, -1, v.v2);
+    let m2 = larger(m1, o2);
+    let o3 = off(c, 0, v.v3);
+    let m3 = larger(m2, o3);
+    let o4 = off(c, 1, v.v4);
+    let m4 = larger(m3, o4);
+    let o5 = off(c, 2, v.v5);
+    let m5 = larger(m4, o5);
+    let o6 = off(c, 3, v.v6);
+    larger(m5, o6)
 }
 
 // A quadratic as a cubic.
-fn raised(q: elements::Quadratic) -> elements::Cubic
+fn raised(q: Quadratic) -> Cubic
     ensures { λ r. ⌜ r ≡ raised q ⌝ }
 {
     let c0 = q.c0;
     let c1 = q.c1;
     let c2 = q.c2;
-    elements::Cubic { c0, c1, c2, c3: 0 }
+    Cubic { c0, c1, c2, c3: 0 }
 }
 
 // The same of the cubic of least squares, and of the quadratic.
-fn cubic_missed(
-    found: rounding::Limits,
-    v: least_squares::Hourly,
-    tolerance: u64,
-    place: usize,
-) -> rounding::Limits
-    requires { ⌜ HourlySizes 100_000_000_000 v ⌝ }
+fn cubic_missed(found: Limits, v: Hourly, tolerance: u64, place: usize) -> Limits
+    requires { ⌜ (HourlySizes 100_000_000_000 v) × (place ≤ 50) ⌝ }
     ensures { λ r. ⌜ r ≡ missed found (cubic v) v tolerance place ⌝ }
 {
     let c = least_squares::cubic(v);
     missed(found, c, v, tolerance, place)
 }
 
-fn quadratic_missed(
-    found: rounding::Limits,
-    v: least_squares::Hourly,
-    tolerance: u64,
-    place: usize,
-) -> rounding::Limits
-    requires { ⌜ HourlySizes 100_000_000_000 v ⌝ }
+fn quadratic_missed(found: Limits, v: Hourly, tolerance: u64, place: usize) -> Limits
+    requires { ⌜ (HourlySizes 100_000_000_000 v) × (place ≤ 50) ⌝ }
     ensures { λ r. ⌜ r ≡ missed found (raised (quadratic v)) v tolerance place ⌝ }
 {
     let q = least_squares::quadratic(v);
@@ -456,54 +518,123 @@ fn quadratic_missed(
     missed(found, c, v, tolerance, place)
 }
 
-// Whether each fit is close to its values at all hours, or the first that is not: x, y, d, l1, l2, μ, 0 to 5.
-fn first_missed(h: Hours, g: least_squares::Hourly, tolerance: u64) -> rounding::Limits
-    requires { ⌜ (HoursSizes h) × (HourlySizes 360_000_000 g) ⌝ }
-    ensures { λ r. ⌜ r ≡ firstMissed h g tolerance ⌝ }
+fn cubic_misfit(v: Hourly) -> i64
+    requires { ⌜ HourlySizes 100_000_000_000 v ⌝ }
+    ensures { λ r. ⌜ Value (pos (misfit (cubic v) v)) 50_000_000_000_000 r ⌝ }
 {
-    let xs = each_x(h);
-    let ys = each_y(h);
-    let ds = each_d(h);
-    let l1s = each_l1(h);
-    let l2s = each_l2(h);
-    let ascensions = each_ascension(h);
-    let middle = turn(g.v3, ascensions.v3, 0);
-    let angles = hour_angles(g, ascensions, middle);
-    let f0 = cubic_missed(rounding::Limits::InRange, xs, tolerance, 0);
-    let f1 = cubic_missed(f0, ys, tolerance, 1);
-    let f2 = quadratic_missed(f1, ds, tolerance, 2);
-    let f3 = quadratic_missed(f2, l1s, tolerance, 3);
-    let f4 = quadratic_missed(f3, l2s, tolerance, 4);
-    quadratic_missed(f4, angles, tolerance, 5)
+    let c = least_squares::cubic(v);
+    misfit(c, v) as i64
+}
+
+fn quadratic_misfit(v: Hourly) -> i64
+    requires { ⌜ HourlySizes 100_000_000_000 v ⌝ }
+    ensures { λ r. ⌜ Value (pos (misfit (raised (quadratic v)) v)) 50_000_000_000_000 r ⌝ }
+{
+    let q = least_squares::quadratic(v);
+    let c = raised(q);
+    misfit(c, v) as i64
+}
+
+// Whether each fit is close to its values at all hours, or the first that is not: ten times the fit, of x, y, d, l1, l2
+// and mu, 0 to 5, and the hour.
+fn first_missed(c: Columns, tolerance: u64) -> Limits
+    requires { ⌜ ColumnsSizes c ⌝ }
+    ensures { λ r. ⌜ r ≡ firstMissed c tolerance ⌝ }
+{
+    let f0 = cubic_missed(Limits::InRange, c.x, tolerance, 0);
+    let f1 = cubic_missed(f0, c.y, tolerance, 10);
+    let f2 = quadratic_missed(f1, c.d, tolerance, 20);
+    let f3 = quadratic_missed(f2, c.l1, tolerance, 30);
+    let f4 = quadratic_missed(f3, c.l2, tolerance, 40);
+    quadratic_missed(f4, c.mu, tolerance, 50)
+}
+
+// How far each fit is from its values at most, at any of the seven hours.
+pub struct Misfits {
+    pub x: i64,
+    pub y: i64,
+    pub d: i64,
+    pub l1: i64,
+    pub l2: i64,
+    pub mu: i64,
+}
+
+fn misfits_of(c: Columns) -> Misfits
+    requires { ⌜ ColumnsSizes c ⌝ }
+    ensures { λ r. ⌜ r ≡ misfitsOf c ⌝ }
+{
+    let x = cubic_misfit(c.x);
+    let y = cubic_misfit(c.y);
+    let d = quadratic_misfit(c.d);
+    let l1 = quadratic_misfit(c.l1);
+    let l2 = quadratic_misfit(c.l2);
+    let mu = quadratic_misfit(c.mu);
+    Misfits {
+        x,
+        y,
+        d,
+        l1,
+        l2,
+        mu,
+    }
+}
+
+// ---- the answer
+
+// Elements with their misfits.
+pub struct Fits {
+    pub elements: Elements,
+    pub misfits: Misfits,
 }
 
 // The elements, or why there are none.
 pub enum Answer {
-    Made(elements::Elements),
+    Made(Fits),
+    // 10: not 42, 7 and 3 numbers
+    // 18: the tolerance is not 0 to 1,000, place 0
+    // 21: a radius, 0 to 2, or a sidereal angle, 3 to 9, out of its range
     // 11: the first row, 0 to 6, that is not accepted
+    // 4: less room than 901 numbers for table S, 22 for the elements, 6 for the misfits
     // 2: the first element out of its range, 0 to 21
-    // 20: the first fit, of x, y, d, l1, l2 and μ, 0 to 5, that differs from a value of its own at an hour by more than the tolerance
-    Refused(sheet_types::refusals::Refusal),
+    // 17: ten times the first fit, of x, y, d, l1, l2 and mu, 0 to 5, that misses one of its values by more than the
+    // tolerance, and the first such hour, 0 to 6
+    Refused(Refusal),
 }
 
-// The elements of seven rows, with the sidereal time at Greenwich at their hours, 0 to 359,999,999 each, if the fits keep within the tolerance.
-pub fn elements(table: &[u32], t: Rows, g: least_squares::Hourly, tolerance: u64) -> Answer
-    requires { ⌜ (Sines (now table)) × (HourlySizes 360_000_000 g) ⌝ }
-    ensures { λ r. ⌜ r ≡ answerTo t g tolerance ⌝ }
+// Elements in their ranges whose fits keep within the tolerance, or 2 or 17.
+fn judged(f: Fitting, tolerance: u64) -> Answer
+    requires { ⌜ ColumnsSizes (f .columns) ⌝ }
+    ensures { λ r. ⌜ r ≡ judged f tolerance ⌝ }
 {
-    let found = first_refused(t);
-    if let rounding::Limits::OutOfRange(place) = found {
-        return Answer::Refused(sheet_types::refusals::Refusal { number: 11, place });
-    }
-    let e = elements_of(table, t, g);
-    let checked = elements::check(e);
-    if let sheet_types::refusals::Checked::Refused(refusal) = checked {
+    let columns = f.columns;
+    let made = f.elements;
+    let checked = elements::check(made);
+    if let Checked::Refused(refusal) = checked {
         return Answer::Refused(refusal);
     }
-    let h = hours_of(table, t);
-    let missed = first_missed(h, g, tolerance);
-    if let rounding::Limits::OutOfRange(place) = missed {
-        return Answer::Refused(sheet_types::refusals::Refusal { number: 20, place });
+    let missed = first_missed(columns, tolerance);
+    if let Limits::OutOfRange(place) = missed {
+        return Answer::Refused(Refusal { number: 17, place });
     }
-    Answer::Made(e)
+    let misfits = misfits_of(columns);
+    Answer::Made(Fits {
+        elements: made,
+        misfits,
+    })
+}
+
+// The elements of seven accepted rows, with the sidereal time at Greenwich at their hours and the radii of Sun and Moon;
+// or 2 or 17. `table` is table S.
+fn fits_of(
+    table: &[u32],
+    t: Rows,
+    g: Hourly,
+    k: besselian_rows::besselian::Radii,
+    tolerance: u64,
+) -> Answer
+    requires { ⌜ (Sines (now table)) × (AllAccepted t) × (HourlySizes 360_000_000 g) × (RadiiInRange k) ⌝ }
+    ensures { λ r. ⌜ r ≡ judged (fittingOf k t g) tolerance ⌝ }
+{
+    let f = fitting_of(table, t, g, k);
+    judged(f, tolerance)
 }

@@ -1,5 +1,4 @@
--- `element_fits::hours_of` meets its contract: seven calls. Assumes nothing.
-use borrow.Author.Needs.{needs}
+-- `element_fits::hours_of` meets its contract: seven calls.
 use Rattle.element_fits.specs.FromTables.{hoursOf}
 use Rattle.element_fits.proofs.hours_of.Statement.{statement}
 use Rattle.element_fits.proofs.hours_of.Tie as tie
@@ -18,4 +17,14 @@ returns c =
     )
 
 pub hours-of-spec : {M : Type 1} → statement M
-hours-of-spec = tie.close (tie.spec (λ c κs. search needs) (λ c κs. search needs) (λ c κs. search needs) (λ c κs. search needs) (λ c κs. search needs) (λ c κs. search needs) (λ c κs. search needs) returns)
+hours-of-spec =
+    tie.close
+    (tie.spec
+    (λ c κs. let s = c .before in (s .pre .0, s .pre .1 .r0, s .pre .2))
+    (λ c κs. let s = c .before .before in (s .pre .0, s .pre .1 .r1, s .pre .2))
+    (λ c κs. let s = c .before .before .before in (s .pre .0, s .pre .1 .r2, s .pre .2))
+    (λ c κs. let s = c .before .before .before .before in (s .pre .0, s .pre .1 .r3, s .pre .2))
+    (λ c κs. let s = c .before .before .before .before .before in (s .pre .0, s .pre .1 .r4, s .pre .2))
+    (λ c κs. let s = c .before .before .before .before .before .before in (s .pre .0, s .pre .1 .r5, s .pre .2))
+    (λ c κs. let s = c .before .before .before .before .before .before .before in (s .pre .0, s .pre .1 .r6, s .pre .2))
+    returns)

@@ -8,8 +8,9 @@ use Rattle.rounding.specs.laws.Order.{natAbs-by, natAbs-sum, natAbs-minus}
 use Rattle.sine.specs.Sine.{reduced}
 use Rattle.sine.specs.laws.SineLaws.{reduced-below}
 use Rattle.besselian_rows.specs.declared.besselian.Row.{Row}
-use Rattle.besselian_rows.specs.Exact.{S1, S2}
-use Rattle.besselian_rows.specs.Rounded.{S1², S2², cos-a, sin-a, slope, foot, elementsOf}
+use Rattle.besselian_rows.specs.declared.besselian.Radii.{Radii}
+use Rattle.besselian_rows.specs.Exact.{S1, S2, RadiiInRange}
+use Rattle.besselian_rows.specs.Rounded.{millions, cos-a, sin-a, slope, foot, elementsOf}
 use Rattle.besselian_rows.specs.laws.AcceptedLaws.{Accepted, accepted-is}
 use Rattle.besselian_rows.specs.laws.Sizes as row
 use Rattle.angles.specs.Angles.{argument}
@@ -20,23 +21,39 @@ use Rattle.least_squares.specs.LeastSquares.{cubic, quadratic}
 use Rattle.least_squares.specs.Sizes.{HourlySizes, CoefficientSizes, cubic-sizes, quadratic-sizes}
 use Rattle.element_fits.specs.declared.Rows.{Rows}
 use Rattle.element_fits.specs.declared.Hours.{Hours}
-use Rattle.element_fits.specs.FromTables.{ascension, hourOf, hoursOf, eachX, eachY, eachD, eachL1, eachL2, eachAscension, offset, hourAngles}
+use Rattle.element_fits.specs.FromTables.{ascension, hourOf, hoursOf, eachX, eachY, eachD, eachL1, eachL2, eachAscension, offset, hourAngles, middleOf, columnsOf, fittingOf}
 use Rattle.element_fits.specs.Answers.{raised}
-use Rattle.element_fits.specs.laws.Sizes.{AllAccepted, HourSizes, HoursSizes}
+use Rattle.element_fits.specs.laws.Sizes.{AllAccepted, HourSizes, HoursSizes, ColumnsSizes}
 
 pub ascension-size : (p : Row) → natAbs (ascension p) ≤ 360_000_000
 unfolding ascension
 ascension-size p = omega (arith, argument-below (cos-a p) (sin-a p))
 
-pub hour-sizes : (p : Row) → Accepted p → HourSizes (hourOf p)
+pub hour-sizes : (k : Radii) → RadiiInRange k → (p : Row) → Accepted p → HourSizes (hourOf k p)
 unfolding hourOf elementsOf
-hour-sizes p h =
+hour-sizes k i p h =
+    let s1 = millions (S1 k) in
+    let s2 = millions (S2 k) in
+    let one = row.penumbra k i in
+    let two = row.central k i in
     record {
       x = omega (arith, row.x-size p h);
       y = omega (arith, row.y-size p h);
       d = arcsine-size _;
-      l1 = omega (arith, natAbs-sum (slope p S1 S1²) (foot p S1 S1²), row.slope-size p h S1 S1² row.penumbra, row.foot-size p h S1 S1² row.penumbra);
-      l2 = omega (arith, natAbs-minus (slope p S2 S2²) (foot p S2 S2²), row.slope-size p h S2 S2² row.central, row.foot-size p h S2 S2² row.central);
+      l1 =
+          omega (
+            arith,
+            natAbs-sum (slope p (S1 k) s1) (foot p (S1 k) s1 (k .penumbra)),
+            row.slope-size p h (S1 k) s1 (k .penumbra) one,
+            row.foot-size p h (S1 k) s1 (k .penumbra) one,
+          );
+      l2 =
+          omega (
+            arith,
+            natAbs-minus (slope p (S2 k) s2) (foot p (S2 k) s2 (k .central)),
+            row.slope-size p h (S2 k) s2 (k .central) two,
+            row.foot-size p h (S2 k) s2 (k .central) two,
+          );
       ascension = ascension-size p;
     }
 
@@ -48,9 +65,9 @@ offset-size t middle =
     natAbs-by (pos r -ℤ pos 180_000_000) (omega (arith, sum (pos r) (negℤ (pos 180_000_000)) .is, opposite (pos 180_000_000) .is, l))
     (omega (arith, sum (pos r) (negℤ (pos 180_000_000)) .is, opposite (pos 180_000_000) .is, l))
 
-pub sine-size : (p : Row) → Accepted p → natAbs (elementsOf p .sind) ≤ 100_000_000
+pub sine-size : (k : Radii) (p : Row) → Accepted p → natAbs (elementsOf k p .sind) ≤ 100_000_000
 unfolding elementsOf
-sine-size p h = row.sin-d-size p h
+sine-size k p h = row.sin-d-size p h
 
 -- ---- all rows
 pub each-x-sizes : {h : Hours} → HoursSizes h → HourlySizes 100_000_000_000 (eachX h)
@@ -138,26 +155,42 @@ hour-angles-sizes g a middle =
       v6 = offset-size _ middle;
     }
 
-pub hours-sizes : (t : Rows) → AllAccepted t → HoursSizes (hoursOf t)
+pub hours-sizes : (k : Radii) → RadiiInRange k → (t : Rows) → AllAccepted t → HoursSizes (hoursOf k t)
 unfolding hoursOf
-hours-sizes t h =
+hours-sizes k i t h =
     record {
-      h0 = hour-sizes (t .r0) (accepted-is (t .r0) (h .r0));
-      h1 = hour-sizes (t .r1) (accepted-is (t .r1) (h .r1));
-      h2 = hour-sizes (t .r2) (accepted-is (t .r2) (h .r2));
-      h3 = hour-sizes (t .r3) (accepted-is (t .r3) (h .r3));
-      h4 = hour-sizes (t .r4) (accepted-is (t .r4) (h .r4));
-      h5 = hour-sizes (t .r5) (accepted-is (t .r5) (h .r5));
-      h6 = hour-sizes (t .r6) (accepted-is (t .r6) (h .r6));
+      h0 = hour-sizes k i (t .r0) (accepted-is (t .r0) (h .r0));
+      h1 = hour-sizes k i (t .r1) (accepted-is (t .r1) (h .r1));
+      h2 = hour-sizes k i (t .r2) (accepted-is (t .r2) (h .r2));
+      h3 = hour-sizes k i (t .r3) (accepted-is (t .r3) (h .r3));
+      h4 = hour-sizes k i (t .r4) (accepted-is (t .r4) (h .r4));
+      h5 = hour-sizes k i (t .r5) (accepted-is (t .r5) (h .r5));
+      h6 = hour-sizes k i (t .r6) (accepted-is (t .r6) (h .r6));
     }
 
-pub tanf1-size : (p : Row) → Accepted p → natAbs (elementsOf p .tanf1) ≤ 600_000
+pub tanf1-size : (k : Radii) → RadiiInRange k → (p : Row) → Accepted p → natAbs (elementsOf k p .tanf1) ≤ 600_000
 unfolding elementsOf
-tanf1-size p h = row.tan-size p h S1 S1² row.penumbra
+tanf1-size k i p h = row.tan-size p h (S1 k) (millions (S1 k)) (k .penumbra) (row.penumbra k i)
 
-pub tanf2-size : (p : Row) → Accepted p → natAbs (elementsOf p .tanf2) ≤ 600_000
+pub tanf2-size : (k : Radii) → RadiiInRange k → (p : Row) → Accepted p → natAbs (elementsOf k p .tanf2) ≤ 600_000
 unfolding elementsOf
-tanf2-size p h = row.tan-size p h S2 S2² row.central
+tanf2-size k i p h = row.tan-size p h (S2 k) (millions (S2 k)) (k .central) (row.central k i)
+
+pub columns-sizes : (h : Hours) (g : Hourly) (middle : ℤ) → HoursSizes h → ColumnsSizes (columnsOf h g middle)
+unfolding columnsOf
+columns-sizes h g middle s =
+    record {
+      x = each-x-sizes s;
+      y = each-y-sizes s;
+      d = each-d-sizes s;
+      l1 = each-l1-sizes s;
+      l2 = each-l2-sizes s;
+      mu = hour-angles-sizes g (eachAscension h) middle;
+    }
+
+pub fitting-sizes : (k : Radii) → RadiiInRange k → (t : Rows) → AllAccepted t → (g : Hourly) → ColumnsSizes (fittingOf k t g .columns)
+unfolding fittingOf
+fitting-sizes k i t h g = columns-sizes (hoursOf k t) g (middleOf (hoursOf k t) g) (hours-sizes k i t h)
 
 -- ---- the coefficients of fits
 pub cubic-coefficients : (v : Hourly) → HourlySizes 100_000_000_000 v → CoefficientSizes 1_000_000_000_000 (cubic v)

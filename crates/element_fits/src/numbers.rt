@@ -1,0 +1,1 @@
+// From and to the caller's numbers.
