@@ -44,7 +44,7 @@ pub fn row_at(rows: &[i64], i: usize) -> crate::besselian::Row
     }
 }
 
-fn first_refused(rows: &[i64]) -> Verdict
+pub fn first_refused(rows: &[i64]) -> Verdict
     requires { ⌜ length (now rows) ≡ 42 ⌝ }
     ensures { λ r. ⌜ r ≡ firstRefused (now (rows .entry)) 0 7 ⌝ }
 {

@@ -1,3 +1,4 @@
 pub mod Sizes
 pub mod Laws
 pub mod AnswersLaws
+pub mod NumbersLaws
