@@ -30,7 +30,7 @@ returns c =
     let z = s .args .e in
     elements-stored (s .args .room .now) z (s .pre) (x .put-cubic .ensures) (y .put-cubic2 .ensures) (d .put-quadratic .ensures)
     (l1 .put-quadratic2 .ensures) (l2 .put-quadratic3 .ensures) (mu .put-quadratic4 .ensures)
-    (read-tangents _ _ (z .penumbra .tanf) (z .central .tanf) (tangents .before .before .struct-told .given .1 .0 .1)
+    (read-tangents (mu .put-quadratic4 .last .0) (tangents .put-tangents .last .0) (z .penumbra .tanf) (z .central .tanf) (tangents .before .before .struct-told .given .1 .0 .1)
     (tangents .before .struct-told2 .given .1 .0 .1) (tangents .put-tangents .ensures))
 
 pub put-elements-spec : {M : Type 1} → statement M
