@@ -1,19 +1,17 @@
 -- The elements of a row as they are computed, in 64 bits: the axis in thousands of units, then near and root. Document
 -- 02 leaves the way open and limits the errors (`Exact`); the code's promise is this and that.
-use Prim.Native.Nat.{ℕ, _+_, _*_, _-_}
+use Prim.Native.Nat.{ℕ, _+_, _*_, _-_, _/_}
 use lib.IntN.{ℤ, pos, natAbs, _+ℤ_, _-ℤ_, _*ℤ_}
 use Rattle.rounding.specs.Near.{near}
 use Rattle.rounding.specs.Root.{root}
 use Rattle.besselian_rows.specs.declared.besselian.Row.{Row}
+use Rattle.besselian_rows.specs.declared.besselian.Radii.{Radii}
 use Rattle.besselian_rows.specs.declared.besselian.Besselian.{Besselian}
-use Rattle.besselian_rows.specs.Exact.{one, Gx, Gy, Gz, S1, S2, k}
+use Rattle.besselian_rows.specs.Exact.{one, Gx, Gy, Gz, S1, S2}
 
--- S1² and S2² in millions, to the nearest
-abbrev pub S1² : ℕ
-S1² = 119510250687135
-
-abbrev pub S2² : ℕ
-S2² = 118322608162304
+-- S² in millions, to the nearest
+unfoldable pub millions : ℕ → ℕ
+millions S = (S * S + 500000) / 1000000
 
 module _ (p : Row) where
   -- the axis, in thousands
@@ -73,22 +71,29 @@ module _ (p : Row) where
     unfoldable pub tan-f : ℤ
     tan-f = near (pos (S * 100000)) (pos T)
 
-    -- z tan f, and 0.272274/cos f
+    -- z tan f, and k/cos f
     unfoldable pub slope : ℤ
     slope = near (z *ℤ tan-f) one
 
-    unfoldable pub foot : ℤ
-    foot = near (pos k *ℤ pos R) (pos T)
+    unfoldable pub foot : ℕ → ℤ
+    foot k = near (pos k *ℤ pos R) (pos T)
 
-unfoldable pub elementsOf : Row → Besselian
-elementsOf p =
+  -- the penumbra, whose l is the sum of the two terms, and the central cone, whose l is their difference
+  abbrev pub l1 : (S s k : ℕ) → ℤ
+  l1 S s k = slope S s +ℤ foot S s k
+
+  abbrev pub l2 : (S s k : ℕ) → ℤ
+  l2 S s k = slope S s -ℤ foot S s k
+
+unfoldable pub elementsOf : Radii → Row → Besselian
+elementsOf k p =
     record {
       x = x p;
       y = y p;
       sind = sin-d p;
       cosd = cos-d p;
-      tanf1 = tan-f p S1 S1²;
-      tanf2 = tan-f p S2 S2²;
-      l1 = slope p S1 S1² +ℤ foot p S1 S1²;
-      l2 = slope p S2 S2² -ℤ foot p S2 S2²;
+      tanf1 = tan-f p (S1 k) (millions (S1 k));
+      tanf2 = tan-f p (S2 k) (millions (S2 k));
+      l1 = l1 p (S1 k) (millions (S1 k)) (k .penumbra);
+      l2 = l2 p (S2 k) (millions (S2 k)) (k .central);
     }

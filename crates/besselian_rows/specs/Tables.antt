@@ -8,7 +8,7 @@ use lib.ListN.{length, getD, drop}
 use Rattle.sheet_types.specs.Refusals.{refusal}
 use Rattle.besselian_rows.specs.declared.besselian.Row.{Row}
 use Rattle.besselian_rows.specs.declared.besselian.Besselian.{Besselian}
-use Rattle.besselian_rows.specs.Exact.{accepted, Faithful}
+use Rattle.besselian_rows.specs.Exact.{document02, accepted, Faithful}
 use Rattle.besselian_rows.specs.Rounded.{elementsOf}
 use Rattle.besselian_rows.specs.declared.tables.Verdict.{Verdict}
 use Rattle.besselian_rows.specs.declared.tables.Verdict.the-variants as Rows
@@ -52,10 +52,10 @@ answerTo n room = cond (eqb (length n) 42) (inRoom (firstRefused n 0 7) room) (R
 abbrev pub eight : Besselian → List ℤ
 eight b = b .x ∷ b .y ∷ b .sind ∷ b .cosd ∷ b .tanf1 ∷ b .tanf2 ∷ b .l1 ∷ b .l2 ∷ []
 
--- of the first k rows
+-- of the first k rows, with document 02's radii
 unfoldable pub valuesOf : List ℤ → ℕ → List ℤ
 valuesOf n zero = []
-valuesOf n (suc k) = valuesOf n k ++ eight (elementsOf (rowAt n k))
+valuesOf n (suc k) = valuesOf n k ++ eight (elementsOf document02 (rowAt n k))
 
 -- after a refusal the room holds its old numbers, after success the numbers past the values do
 abbrev pub valuesAfter : Answer → List ℤ → List ℤ → List ℤ
@@ -78,5 +78,5 @@ elementsAt v i =
 
 -- "Against the exact value, .. within 4 units and .. within 1,000": said of the numbers in the caller's room
 abbrev pub Claimed : Answer → List ℤ → List ℤ → Type 0
-Claimed Made n after = (i : ℕ) → i < 7 → Faithful (rowAt n i) (elementsAt after i)
+Claimed Made n after = (i : ℕ) → i < 7 → Faithful document02 (rowAt n i) (elementsAt after i)
 Claimed (Refused r) n after = Unit

@@ -12,6 +12,16 @@ pub struct Row {
     pub moonz: i64,
 }
 
+// The radii of Sun and Moon, 10^-8 of the Earth's equatorial radius. Document 02 has 10,904,847,000 and 27,227,400 twice.
+pub struct Radii {
+    // the Sun's: 10,890,000,000 to 10,930,000,000
+    pub sun: u64,
+    // the Moon's for the penumbra: 27,200,000 to 27,300,000
+    pub penumbra: u64,
+    // the Moon's for the central cone: 27,200,000 to 27,300,000
+    pub central: u64,
+}
+
 // The elements of one row.
 pub struct Besselian {
     // the Moon from the Earth's centre, across the axis: to the east and to the north, 10^-8 radius

@@ -6,8 +6,8 @@ ghost use lib.IntN.{pos, natAbs, _+ℤ_, _-ℤ_, _*ℤ_};
 ghost use lib.Signed.{_≤ℤ_};
 ghost use Rattle.rounding.specs.Near.{near};
 ghost use Rattle.rounding.specs.Value.{Value};
-ghost use Rattle.besselian_rows.specs.Exact.{between, level, accepted, Faithful};
-ghost use Rattle.besselian_rows.specs.Rounded.{elementsOf};
+ghost use Rattle.besselian_rows.specs.Exact.{between, level, accepted, RadiiInRange, Faithful};
+ghost use Rattle.besselian_rows.specs.Rounded.{millions, elementsOf};
 ghost use Rattle.besselian_rows.specs.laws.AcceptedLaws.{Accepted};
 ghost use Rattle.besselian_rows.specs.laws.Sizes.{IsRadii};
 ghost use Rattle.besselian_rows.specs.laws.Parts.{beyond, Given, IsAxis, IsDirections, IsPlane, IsCone};
@@ -85,12 +85,12 @@ pub fn accepted(p: crate::besselian::Row) -> bool
 // ---- the axis
 
 // The axis in thousands of units, and the squares of its lengths on the equator and whole.
-struct Axis {
-    gx: i64,
-    gy: i64,
-    gz: i64,
-    flat: u64,
-    whole: u64,
+pub struct Axis {
+    pub gx: i64,
+    pub gy: i64,
+    pub gz: i64,
+    pub flat: u64,
+    pub whole: u64,
 }
 
 fn thousands(a: i64, b: i64) -> i64
@@ -107,7 +107,7 @@ fn squared(g: i64) -> u64
     (g * g) as u64
 }
 
-fn find_axis(p: crate::besselian::Row) -> Axis
+pub fn find_axis(p: crate::besselian::Row) -> Axis
     requires { ⌜ Accepted p ⌝ }
     ensures { λ r. ⌜ IsAxis p r ⌝ }
 {
@@ -129,13 +129,13 @@ fn find_axis(p: crate::besselian::Row) -> Axis
 }
 
 // The axis' lengths on the equator and whole, in thousands; cosine and sine of a, sine and cosine of d.
-struct Directions {
-    r: u64,
-    n: u64,
-    cosa: i64,
-    sina: i64,
-    sind: i64,
-    cosd: i64,
+pub struct Directions {
+    pub r: u64,
+    pub n: u64,
+    pub cosa: i64,
+    pub sina: i64,
+    pub sind: i64,
+    pub cosd: i64,
 }
 
 // g / n in 10^-8.
@@ -146,7 +146,7 @@ fn share(g: i64, n: u64) -> i64
     rounding::near(g * 100_000_000, n as i64)
 }
 
-fn find_directions(p: crate::besselian::Row, a: Axis) -> Directions
+pub fn find_directions(p: crate::besselian::Row, a: Axis) -> Directions
     requires { ⌜ Accepted p × IsAxis p a ⌝ }
     ensures { λ r. ⌜ IsDirections p r ⌝ }
 {
@@ -197,22 +197,30 @@ fn find_plane(p: crate::besselian::Row, d: Directions) -> Plane
 
 // ---- the cones
 
-// A cone's tangent, and the two terms of l: z tan f and 0.272274/cos f.
+// A cone's tangent, and the two terms of l: z tan f and k/cos f.
 struct Cone {
     tangent: i64,
     slope: i64,
     foot: i64,
 }
 
-// radii: the sum or difference of the radii in units; square: its square in millions.
-fn find_cone(p: crate::besselian::Row, whole: u64, n: u64, z: i64, radii: u64, square: u64) -> Cone
-    requires { ⌜ Accepted p × Given p whole n z × IsRadii radii square ⌝ }
-    ensures { λ r. ⌜ IsCone p radii square r ⌝ }
+// radii: the sum or difference of the radii in units; square: its square in millions; moon: the Moon's radius.
+fn find_cone(
+    p: crate::besselian::Row,
+    whole: u64,
+    n: u64,
+    z: i64,
+    radii: u64,
+    square: u64,
+    moon: u64,
+) -> Cone
+    requires { ⌜ Accepted p × Given p whole n z × IsRadii radii square moon ⌝ }
+    ensures { λ r. ⌜ IsCone p radii square moon r ⌝ }
 {
     let t = rounding::root(whole - square);
     let tangent = rounding::near_unsigned(radii * 100_000, t) as i64;
     let slope = rounding::near(z * tangent, 100_000_000);
-    let foot = rounding::near_unsigned(27_227_400 * n, t) as i64;
+    let foot = rounding::near_unsigned(moon * n, t) as i64;
     Cone {
         tangent: tangent,
         slope: slope,
@@ -220,17 +228,40 @@ fn find_cone(p: crate::besselian::Row, whole: u64, n: u64, z: i64, radii: u64, s
     }
 }
 
-// The elements of a row that is accepted.
-pub fn elements_of(p: crate::besselian::Row) -> crate::besselian::Besselian
-    requires { ⌜ accepted p ≡ true ⌝ }
-    ensures value { λ r. ⌜ r ≡ elementsOf p ⌝ }
-    ensures faithful { λ r. ⌜ Faithful p r ⌝ }
+// The square of a sum or difference of the radii in millions, to the nearest. It has 21 digits, so it is made of
+// hundred thousands and the rest.
+fn in_millions(radii: u64) -> u64
+    requires { ⌜ radii ≤ 10957300000 ⌝ }
+    ensures { λ r. ⌜ r ≡ millions radii ⌝ }
 {
+    let high = radii / 100_000;
+    let low = radii % 100_000;
+    let whole = high * high;
+    let cross = high * low;
+    let rest = low * low;
+    10_000 * whole + (200_000 * cross + rest + 500_000) / 1_000_000
+}
+
+// The elements of a row that is accepted, with these radii.
+pub fn elements_of(
+    p: crate::besselian::Row,
+    k: crate::besselian::Radii,
+) -> crate::besselian::Besselian
+    requires { ⌜ (accepted p ≡ true) × RadiiInRange k ⌝ }
+    ensures value { λ r. ⌜ r ≡ elementsOf k p ⌝ }
+    ensures faithful { λ r. ⌜ Faithful k p r ⌝ }
+{
+    let moon1 = k.penumbra;
+    let moon2 = k.central;
+    let sum = k.sun + moon1;
+    let difference = k.sun - moon2;
+    let square1 = in_millions(sum);
+    let square2 = in_millions(difference);
     let a = find_axis(p);
     let d = find_directions(p, a);
     let f = find_plane(p, d);
-    let penumbra = find_cone(p, a.whole, d.n, f.z, 10_932_074_400, 119_510_250_687_135);
-    let central = find_cone(p, a.whole, d.n, f.z, 10_877_619_600, 118_322_608_162_304);
+    let penumbra = find_cone(p, a.whole, d.n, f.z, sum, square1, moon1);
+    let central = find_cone(p, a.whole, d.n, f.z, difference, square2, moon2);
     crate::besselian::Besselian {
         x: f.x,
         y: f.y,

@@ -22,7 +22,7 @@ pub enum Verdict {
 }
 
 // Row i: the Sun's x, y, z and the Moon's.
-fn row_at(rows: &[i64], i: usize) -> crate::besselian::Row
+pub fn row_at(rows: &[i64], i: usize) -> crate::besselian::Row
     requires { ⌜ (length (now rows) ≡ 42) × (i < 7) ⌝ }
     ensures { λ r. ⌜ r ≡ rowAt (now (rows .entry)) i ⌝ }
 {
@@ -44,7 +44,7 @@ fn row_at(rows: &[i64], i: usize) -> crate::besselian::Row
     }
 }
 
-fn first_refused(rows: &[i64]) -> Verdict
+pub fn first_refused(rows: &[i64]) -> Verdict
     requires { ⌜ length (now rows) ≡ 42 ⌝ }
     ensures { λ r. ⌜ r ≡ firstRefused (now (rows .entry)) 0 7 ⌝ }
 {
@@ -116,7 +116,12 @@ fn fill(rows: &[i64], values: &mut [i64])
     let mut i: usize = 0;
     while i < 7 {
         let p = row_at(rows, i);
-        let b = crate::rows::elements_of(p);
+        let k = crate::besselian::Radii {
+            sun: 10_904_847_000,
+            penumbra: 27_227_400,
+            central: 27_227_400,
+        };
+        let b = crate::rows::elements_of(p, k);
         let at = 8 * i;
         store(values, at, b);
         i += 1;

@@ -143,7 +143,7 @@ axis-error r R z Z q g G Q hr hR hZ h1 h3 h4 =
     )
 
 -- the cone's terms: 10^6 R T u is C S, and 10^6 R T w is k N
-pub slope-error : (R T S : ℕ) (z t u C : ℤ) → 1990000000 ≤ T → S ≤ 10932074400 → natAbs z ≤ 19500000000
+pub slope-error : (R T S : ℕ) (z t u C : ℤ) → 1990000000 ≤ T → S ≤ 10957300000 → natAbs z ≤ 19500000000
     → 2 * natAbs (pos 100000000 *ℤ u -ℤ z *ℤ t) ≤ 100000000
     → 2 * natAbs (pos T *ℤ t -ℤ pos (S * 100000)) ≤ T
     → natAbs (pos (1000 * R) *ℤ z -ℤ C) ≤ 200875 * R
@@ -175,20 +175,20 @@ slope-error R T S z t u C hT hS hz hu ht hC =
       mul-le-mul-left R hT,
     )
 
-pub foot-error : (R T : ℕ) (w N : ℤ) → 1990000000 ≤ T
-    → 2 * natAbs (pos T *ℤ w -ℤ pos 27227400 *ℤ pos R) ≤ T
+pub foot-error : (R T k : ℕ) (w N : ℤ) → 1990000000 ≤ T → k ≤ 27300000
+    → 2 * natAbs (pos T *ℤ w -ℤ pos k *ℤ pos R) ≤ T
     → natAbs (pos (1000000 * (R * R)) -ℤ N) ≤ 6000000 * R
-    → natAbs (pos (1000 * R * (1000 * T)) *ℤ w -ℤ pos 27227400 *ℤ N) ≤ 600000 * (R * T)
-foot-error R T w N hT hw hN =
-    let a = pos T *ℤ w -ℤ pos 27227400 *ℤ pos R in
+    → natAbs (pos (1000 * R * (1000 * T)) *ℤ w -ℤ pos k *ℤ N) ≤ 600000 * (R * T)
+foot-error R T k w N hT hk hw hN =
+    let a = pos T *ℤ w -ℤ pos k *ℤ pos R in
     let b = pos (1000000 * (R * R)) -ℤ N in
     omega (
       arith,
-      ap natAbs (ring (pos R ∷ pos T ∷ w ∷ N ∷ []) (num 1000 ⊗ v0 ⊗ (num 1000 ⊗ v1) ⊗ v2 ⊖ num 27227400 ⊗ v3)
-          (num 1000000 ⊗ v0 ⊗ (v1 ⊗ v2 ⊖ num 27227400 ⊗ v0) ⊕ num 27227400 ⊗ (num 1000000 ⊗ (v0 ⊗ v0) ⊖ v3)) tt),
-      natAbs-sum (pos (1000000 * R) *ℤ a) (pos 27227400 *ℤ b),
+      ap natAbs (ring (pos R ∷ pos T ∷ w ∷ N ∷ pos k ∷ []) (num 1000 ⊗ v0 ⊗ (num 1000 ⊗ v1) ⊗ v2 ⊖ v4 ⊗ v3)
+          (num 1000000 ⊗ v0 ⊗ (v1 ⊗ v2 ⊖ v4 ⊗ v0) ⊕ v4 ⊗ (num 1000000 ⊗ (v0 ⊗ v0) ⊖ v3)) tt),
+      natAbs-sum (pos (1000000 * R) *ℤ a) (pos k *ℤ b),
       natAbs-product (pos (1000000 * R)) a,
-      natAbs-product (pos 27227400) b,
+      natAbs-product-le (pos k) b 27300000 (6000000 * R) hk hN,
       mul-le-mul-left R hw,
       mul-le-mul-left R hT,
     )

@@ -12,10 +12,11 @@ use Rattle.rounding.specs.laws.Order.{zs, natAbs-sum, natAbs-minus, natAbs-oppo
 use Rattle.rounding.specs.laws.Ring.{num, _⊕_, _⊖_, _⊗_, opp, ring, v0, v1, v2, v3, v4, v5}
 use Rattle.rounding.specs.laws.NearLaws.{near-error}
 use Rattle.besselian_rows.specs.declared.besselian.Row.{Row}
+use Rattle.besselian_rows.specs.declared.besselian.Radii.{Radii}
 use Rattle.besselian_rows.specs.laws.CloseLaws.{close, product-close}
 use Rattle.besselian_rows.specs.laws.ErrorSteps.{turn, flat-error, north-error, axis-error, root-error, slope-error, foot-error, sum-error, difference-error}
-use Rattle.besselian_rows.specs.Exact.{_², one, Gx, Gy, Gz, P, N, Q, C, S1, S2, k, Close, Faithful}
-use Rattle.besselian_rows.specs.Rounded.{gx, gy, gz, flat, whole, r, R, cos-a, sin-a, sin-d, cos-d, x, q, y, z, S1², S2², T, tan-f, slope, foot, elementsOf}
+use Rattle.besselian_rows.specs.Exact.{_², one, Gx, Gy, Gz, P, N, Q, C, S1, S2, RadiiInRange, Close, Faithful}
+use Rattle.besselian_rows.specs.Rounded.{gx, gy, gz, flat, whole, r, R, cos-a, sin-a, sin-d, cos-d, x, q, y, z, millions, T, tan-f, slope, foot, elementsOf}
 use Rattle.besselian_rows.specs.laws.AcceptedLaws.{Accepted, moon-sizes}
 use Rattle.besselian_rows.specs.laws.AxisSizes
 use Rattle.besselian_rows.specs.laws.Sizes
@@ -178,9 +179,9 @@ module _ (p : Row) (h : Accepted p) where
       let i = AxisSizes.R-root p h in
       omega (arith, root-error (N p) (whole p) (R p) (3000000 * R p + 750000) (i .low) (omega (arith, i .high)) (AxisSizes.N-error p h), AxisSizes.R-low p h)
 
-  module _ (S s : ℕ) (c : IsRadii S s) where
+  module _ (S s k : ℕ) (c : IsRadii S s k) where
     T-1 : pos 1 ≤ℤ pos (T p S s)
-    T-1 = omega (arith, zs, Sizes.T-low p h S s c)
+    T-1 = omega (arith, zs, Sizes.T-low p h S s k c)
 
     tan-error : 2 * natAbs (pos (T p S s) *ℤ tan-f p S s -ℤ pos (S * 100000)) ≤ T p S s
     unfolding tan-f
@@ -188,8 +189,8 @@ module _ (p : Row) (h : Accepted p) where
 
     pub tan-close : Close 4 (tan-f p S s) (one *ℤ pos S) (N p -ℤ pos S ²)
     tan-close =
-        close (Sizes.M-bracket p h S s c) 4 (500 * T p S s) (tan-f p S s) (one *ℤ pos S) err
-        (omega (arith, Sizes.tan-size p h S s c, Sizes.T-low p h S s c))
+        close (Sizes.M-bracket p h S s k c) 4 (500 * T p S s) (tan-f p S s) (one *ℤ pos S) err
+        (omega (arith, Sizes.tan-size p h S s k c, Sizes.T-low p h S s k c))
       where
         err : natAbs (pos (1000 * T p S s) *ℤ tan-f p S s -ℤ one *ℤ pos S) ≤ 500 * T p S s
         err =
@@ -204,49 +205,49 @@ module _ (p : Row) (h : Accepted p) where
     unfolding slope
     slope-step = near-error (z p *ℤ tan-f p S s) one (leZ-yes tt)
 
-    foot-step : 2 * natAbs (pos (T p S s) *ℤ foot p S s -ℤ pos k *ℤ pos (R p)) ≤ T p S s
+    foot-step : 2 * natAbs (pos (T p S s) *ℤ foot p S s k -ℤ pos k *ℤ pos (R p)) ≤ T p S s
     unfolding foot
     foot-step = near-error (pos k *ℤ pos (R p)) (pos (T p S s)) T-1
 
     u-error : natAbs (pos (1000 * R p * (1000 * T p S s)) *ℤ slope p S s -ℤ C p *ℤ pos S) ≤ 99150000 * (R p * T p S s)
-    u-error = slope-error (R p) (T p S s) S (z p) (tan-f p S s) (slope p S s) (C p) (Sizes.T-low p h S s c) (c .radii)
+    u-error = slope-error (R p) (T p S s) S (z p) (tan-f p S s) (slope p S s) (C p) (Sizes.T-low p h S s k c) (c .radii)
         (Sizes.z-size p h) slope-step tan-error z-error
 
-    w-error : natAbs (pos (1000 * R p * (1000 * T p S s)) *ℤ foot p S s -ℤ pos k *ℤ N p) ≤ 600000 * (R p * T p S s)
-    w-error = foot-error (R p) (T p S s) (foot p S s) (N p) (Sizes.T-low p h S s c) foot-step N-root-error
+    w-error : natAbs (pos (1000 * R p * (1000 * T p S s)) *ℤ foot p S s k -ℤ pos k *ℤ N p) ≤ 600000 * (R p * T p S s)
+    w-error = foot-error (R p) (T p S s) k (foot p S s k) (N p) (Sizes.T-low p h S s k c) (c .moon) foot-step N-root-error
 
     -- l, whichever its sign: within 1,000 of A/√(N (N − S²))
-    l-close : (l A : ℤ) → natAbs l ≤ 171454800
+    l-close : (l A : ℤ) → natAbs l ≤ 171600000
         → natAbs (pos (1000 * R p * (1000 * T p S s)) *ℤ l -ℤ A) ≤ 99150000 * (R p * T p S s) + 600000 * (R p * T p S s)
         → Close 1000 l A (N p *ℤ (N p -ℤ pos S ²))
     l-close l A hl err =
-        product-close (Sizes.N-bracket p h) (Sizes.M-bracket p h S s c) (AxisSizes.R-low p h) (Sizes.T-low p h S s c) 1000 99750000 171454800
+        product-close (Sizes.N-bracket p h) (Sizes.M-bracket p h S s k c) (AxisSizes.R-low p h) (Sizes.T-low p h S s k c) 1000 99750000 171600000
         l A (omega (arith, err)) hl (lit≤ tt)
 
-    pub plus-close : Close 1000 (slope p S s +ℤ foot p S s) (C p *ℤ pos S +ℤ pos k *ℤ N p) (N p *ℤ (N p -ℤ pos S ²))
+    pub plus-close : Close 1000 (slope p S s +ℤ foot p S s k) (C p *ℤ pos S +ℤ pos k *ℤ N p) (N p *ℤ (N p -ℤ pos S ²))
     plus-close =
-        l-close (slope p S s +ℤ foot p S s) (C p *ℤ pos S +ℤ pos k *ℤ N p)
-        (omega (arith, natAbs-sum (slope p S s) (foot p S s), Sizes.slope-size p h S s c, Sizes.foot-size p h S s c))
-        (sum-error (1000 * R p * (1000 * T p S s)) (99150000 * (R p * T p S s)) (600000 * (R p * T p S s)) (slope p S s) (foot p S s) (C p *ℤ pos S)
+        l-close (slope p S s +ℤ foot p S s k) (C p *ℤ pos S +ℤ pos k *ℤ N p)
+        (omega (arith, natAbs-sum (slope p S s) (foot p S s k), Sizes.slope-size p h S s k c, Sizes.foot-size p h S s k c))
+        (sum-error (1000 * R p * (1000 * T p S s)) (99150000 * (R p * T p S s)) (600000 * (R p * T p S s)) (slope p S s) (foot p S s k) (C p *ℤ pos S)
         (pos k *ℤ N p) u-error w-error)
 
-    pub minus-close : Close 1000 (slope p S s -ℤ foot p S s) (C p *ℤ pos S -ℤ pos k *ℤ N p) (N p *ℤ (N p -ℤ pos S ²))
+    pub minus-close : Close 1000 (slope p S s -ℤ foot p S s k) (C p *ℤ pos S -ℤ pos k *ℤ N p) (N p *ℤ (N p -ℤ pos S ²))
     minus-close =
-        l-close (slope p S s -ℤ foot p S s) (C p *ℤ pos S -ℤ pos k *ℤ N p)
-        (omega (arith, natAbs-minus (slope p S s) (foot p S s), Sizes.slope-size p h S s c, Sizes.foot-size p h S s c))
-        (difference-error (1000 * R p * (1000 * T p S s)) (99150000 * (R p * T p S s)) (600000 * (R p * T p S s)) (slope p S s) (foot p S s) (C p *ℤ pos S)
+        l-close (slope p S s -ℤ foot p S s k) (C p *ℤ pos S -ℤ pos k *ℤ N p)
+        (omega (arith, natAbs-minus (slope p S s) (foot p S s k), Sizes.slope-size p h S s k c, Sizes.foot-size p h S s k c))
+        (difference-error (1000 * R p * (1000 * T p S s)) (99150000 * (R p * T p S s)) (600000 * (R p * T p S s)) (slope p S s) (foot p S s k) (C p *ℤ pos S)
         (pos k *ℤ N p) u-error w-error)
 
-pub faithful : (p : Row) → Accepted p → Faithful p (elementsOf p)
+pub faithful : (k : Radii) → RadiiInRange k → (p : Row) → Accepted p → Faithful k p (elementsOf k p)
 unfolding elementsOf
-faithful p h =
+faithful k i p h =
     record {
       x = x-close p h;
       y = y-close p h;
       sin-d = sin-d-close p h;
       cos-d = cos-d-close p h;
-      tan-f1 = tan-close p h S1 S1² penumbra;
-      tan-f2 = tan-close p h S2 S2² central;
-      l1 = plus-close p h S1 S1² penumbra;
-      l2 = minus-close p h S2 S2² central;
+      tan-f1 = tan-close p h (S1 k) (millions (S1 k)) (k .penumbra) (penumbra k i);
+      tan-f2 = tan-close p h (S2 k) (millions (S2 k)) (k .central) (central k i);
+      l1 = plus-close p h (S1 k) (millions (S1 k)) (k .penumbra) (penumbra k i);
+      l2 = minus-close p h (S2 k) (millions (S2 k)) (k .central) (central k i);
     }

@@ -41,9 +41,9 @@ pub record Given (p : Row) (w n : ℕ) (c : ℤ) : Type 0 where
   pub length : n ≡ v.R p
   pub z : c ≡ v.z p
 
-pub record IsCone (p : Row) (S s : ℕ) (k : Cone) : Type 0 where
+pub record IsCone (p : Row) (S s m : ℕ) (k : Cone) : Type 0 where
   pub tangent : k .tangent ≡ v.tan-f p S s
   pub slope : k .slope ≡ v.slope p S s
-  pub foot : k .foot ≡ v.foot p S s
+  pub foot : k .foot ≡ v.foot p S s m
   pub slope-size : natAbs (k .slope) ≤ 117000000
-  pub foot-size : natAbs (k .foot) ≤ 54454800
+  pub foot-size : natAbs (k .foot) ≤ 54600000

@@ -1,36 +1,65 @@
 -- How large the values of an accepted row are, and the brackets of its three roots.
 use mathlib.Core.Path.{_≡_, ap}
 use mathlib.Core.List.{[], _∷_}
-use Prim.Native.Nat.{ℕ, _+_, _*_, _-_, _≤_}
+use Prim.Native.Nat.{ℕ, _+_, _*_, _-_, _/_, _≤_}
 use native.Mathlib.Omega.{arith}
 use native.Mathlib.Nat.{mul-le-mul, mul-le-mul-left, lt-of-not-le}
 use lib.Dec.{lit≤}
-use lib.IntN.{ℤ, pos, natAbs, _+ℤ_, _-ℤ_, _*ℤ_}
+use lib.IntN.{ℤ, pos, negℤ, natAbs, _+ℤ_, _-ℤ_, _*ℤ_}
 use lib.Signed.{leZ-yes}
-use Rattle.rounding.specs.laws.Order.{zs, natAbs-sum, natAbs-minus, natAbs-product, natAbs-product-le}
+use Rattle.rounding.specs.Parts.{sum, opposite}
+use Rattle.rounding.specs.laws.Order.{zs, natAbs-by, natAbs-sum, natAbs-minus, natAbs-product, natAbs-product-le}
 use Rattle.rounding.specs.laws.Ring.{_⊕_, _⊖_, _⊗_, ring, v0, v1, v2, v3}
 use Rattle.rounding.specs.Near.{near}
 use Rattle.rounding.specs.laws.NearLaws.{near-size}
 use Rattle.rounding.specs.Root.{IsRoot}
 use Rattle.rounding.specs.laws.RootLaws.{root-is}
 use Rattle.besselian_rows.specs.declared.besselian.Row.{Row}
+use Rattle.besselian_rows.specs.declared.besselian.Radii.{Radii}
 use Rattle.besselian_rows.specs.laws.CloseLaws.{Bracket, root-bracket}
-use Rattle.besselian_rows.specs.Exact.{_², one, P, N, S1, S2, k}
-use Rattle.besselian_rows.specs.Rounded.{S1², S2², gx, gy, gz, flat, whole, r, R, cos-a, sin-a, sin-d, cos-d, x, q, y, z, T, tan-f, slope, foot}
+use Rattle.besselian_rows.specs.Exact.{_², one, P, N, S1, S2, document02, RadiiInRange}
+use Rattle.besselian_rows.specs.Rounded.{millions, gx, gy, gz, flat, whole, r, R, cos-a, sin-a, sin-d, cos-d, x, q, y, z, T, tan-f, slope, foot}
 use Rattle.besselian_rows.specs.laws.AcceptedLaws.{Accepted, moon-sizes}
 use Rattle.besselian_rows.specs.laws.AxisSizes
 
--- the sum or difference of the radii, and its square in millions
-pub record IsRadii (S s : ℕ) : Type 0 where
-  pub radii : S ≤ 10932074400
-  pub square : s ≤ 119510250687135
+-- the sum or difference of the radii, its square in millions, and the Moon's radius
+pub record IsRadii (S s k : ℕ) : Type 0 where
+  pub radii : S ≤ 10957300000
+  pub square : s ≤ 120062423290000
   pub near : natAbs (pos S ² -ℤ pos (1000000 * s)) ≤ 500000
+  pub moon : k ≤ 27300000
 
-pub penumbra : IsRadii S1 S1²
-penumbra = record { radii = lit≤ tt; square = lit≤ tt; near = lit≤ tt }
+-- of radii in their ranges
+in-millions : (S k : ℕ) → S ≤ 10957300000 → k ≤ 27300000 → IsRadii S (millions S) k
+unfolding millions
+in-millions S k h l =
+    let q = (S * S + 500000) / 1000000 in
+    record {
+      radii = h;
+      square = omega (arith, mul-le-mul h h);
+      near =
+          natAbs-by (pos (S * S) -ℤ pos (1000000 * q))
+          (omega (arith, sum (pos (S * S)) (negℤ (pos (1000000 * q))) .is, opposite (pos (1000000 * q)) .is))
+          (omega (arith, sum (pos (S * S)) (negℤ (pos (1000000 * q))) .is, opposite (pos (1000000 * q)) .is));
+      moon = l;
+    }
 
-pub central : IsRadii S2 S2²
-central = record { radii = lit≤ tt; square = lit≤ tt; near = lit≤ tt }
+pub penumbra : (k : Radii) → RadiiInRange k → IsRadii (S1 k) (millions (S1 k)) (k .penumbra)
+penumbra k h = in-millions (S1 k) (k .penumbra) (omega (arith, h .sun-high, h .penumbra-high)) (h .penumbra-high)
+
+pub central : (k : Radii) → RadiiInRange k → IsRadii (S2 k) (millions (S2 k)) (k .central)
+central k h = in-millions (S2 k) (k .central) (omega (arith, h .sun-high)) (h .central-high)
+
+pub ranged : RadiiInRange document02
+ranged =
+    record {
+      sun-low = lit≤ tt;
+      sun-high = lit≤ tt;
+      penumbra-low = lit≤ tt;
+      penumbra-high = lit≤ tt;
+      central-low = lit≤ tt;
+      central-high = lit≤ tt;
+    }
 
 -- the share of a length: |g| ≤ L
 share-size : (g : ℤ) (L : ℕ) → 1 ≤ L → natAbs g ≤ L → natAbs (near (g *ℤ one) (pos L)) ≤ 100000000
@@ -107,7 +136,7 @@ module _ (p : Row) (h : Accepted p) where
   unfolding whole
   whole-low = omega (arith, AxisSizes.flat-low p h)
 
-  module _ (S s : ℕ) (c : IsRadii S s) where
+  module _ (S s k : ℕ) (c : IsRadii S s k) where
     pub T-root : IsRoot (whole p - s) (T p S s)
     unfolding T
     T-root = root-is (whole p - s) (omega (arith, AxisSizes.whole-high p h))
@@ -166,6 +195,6 @@ module _ (p : Row) (h : Accepted p) where
     slope-size = near-size (z p *ℤ tan-f p S s) one 117000000 (leZ-yes tt)
         (omega (arith, natAbs-product-le (z p) (tan-f p S s) 19500000000 600000 z-size tan-size))
 
-    pub foot-size : natAbs (foot p S s) ≤ 54454800
+    pub foot-size : natAbs (foot p S s k) ≤ 54600000
     unfolding foot
-    foot-size = near-size (pos k *ℤ pos (R p)) (pos (T p S s)) 54454800 (omega (arith, zs, T-low)) (omega (arith, R-twice))
+    foot-size = near-size (pos k *ℤ pos (R p)) (pos (T p S s)) 54600000 (omega (arith, zs, T-low)) (omega (arith, mul-le-mul (c .moon) R-twice))

@@ -16,9 +16,10 @@ use Rattle.rounding.specs.laws.Stores.{sets-append}
 use Rattle.sheet_types.specs.declared.refusals.Refusal.{Refusal}
 use Rattle.sheet_types.specs.Refusals.{refusal}
 use Rattle.besselian_rows.specs.declared.besselian.Besselian.{Besselian}
-use Rattle.besselian_rows.specs.Exact.{accepted, Faithful}
+use Rattle.besselian_rows.specs.Exact.{document02, accepted, Faithful}
 use Rattle.besselian_rows.specs.Rounded.{elementsOf}
 use Rattle.besselian_rows.specs.laws.AcceptedLaws.{accepted-is}
+use Rattle.besselian_rows.specs.laws.Sizes.{ranged}
 use Rattle.besselian_rows.specs.laws.Errors.{faithful}
 use Rattle.besselian_rows.specs.declared.tables.Verdict.{Verdict}
 use Rattle.besselian_rows.specs.declared.tables.Verdict.the-variants as Rows
@@ -89,7 +90,7 @@ accepted-at n i e h = ap (λ (j : ℕ). accepted (rowAt n j)) (sym (zero-add i))
 pub length-values : (n : List ℤ) (k : ℕ) → length (valuesOf n k) ≡ 8 * k
 unfolding valuesOf
 length-values n zero = refl
-length-values n (suc k) = omega (arith, length-append (valuesOf n k) (eight (elementsOf (rowAt n k))), length-values n k)
+length-values n (suc k) = omega (arith, length-append (valuesOf n k) (eight (elementsOf document02 (rowAt n k))), length-values n k)
 
 -- four stores one after the other
 pub four-stores : (l : List ℤ) (at : ℕ) (a b c d : ℤ)
@@ -107,15 +108,15 @@ eight-stored l four all at b p q =
     q ∙ ap (λ (m : List ℤ). sets m (at + 4) (b .tanf1 ∷ b .tanf2 ∷ b .l1 ∷ b .l2 ∷ [])) p
     ∙ sym (sets-append (b .x ∷ b .y ∷ b .sind ∷ b .cosd ∷ []) (b .tanf1 ∷ b .tanf2 ∷ b .l1 ∷ b .l2 ∷ []) l at)
 
-values-last : (n : List ℤ) (k : ℕ) → valuesOf n k ++ eight (elementsOf (rowAt n k)) ≡ valuesOf n (k + 1)
+values-last : (n : List ℤ) (k : ℕ) → valuesOf n k ++ eight (elementsOf document02 (rowAt n k)) ≡ valuesOf n (k + 1)
 unfolding valuesOf
 values-last n k = rw (add-one k) refl
 
 pub one-more : (old n : List ℤ) (k : ℕ)
-    → sets (sets old 0 (valuesOf n k)) (8 * k) (eight (elementsOf (rowAt n k))) ≡ sets old 0 (valuesOf n (k + 1))
+    → sets (sets old 0 (valuesOf n k)) (8 * k) (eight (elementsOf document02 (rowAt n k))) ≡ sets old 0 (valuesOf n (k + 1))
 one-more old n k =
-    ap (λ (i : ℕ). sets (sets old 0 (valuesOf n k)) i (eight (elementsOf (rowAt n k)))) (omega (arith, length-values n k))
-    ∙ sym (sets-append (valuesOf n k) (eight (elementsOf (rowAt n k))) old 0)
+    ap (λ (i : ℕ). sets (sets old 0 (valuesOf n k)) i (eight (elementsOf document02 (rowAt n k)))) (omega (arith, length-values n k))
+    ∙ sym (sets-append (valuesOf n k) (eight (elementsOf document02 (rowAt n k))) old 0)
     ∙ ap (sets old 0) (values-last n k)
 
 pub all-stored : (n old : List ℤ) → 56 ≤ length old → sets old 0 (valuesOf n 7) ≡ valuesOf n 7 ++ drop 56 old
@@ -150,27 +151,27 @@ elements-first b rest = refl
 
 -- row i of k + 1 is the last, or one before it
 at-or-before : (n : List ℤ) (k i : ℕ) (tail : List ℤ)
-    → (i < k → elementsAt (valuesOf n k ++ tail) i ≡ elementsOf (rowAt n i)) → (k ≡ i → elementsAt tail 0 ≡ elementsOf (rowAt n i))
-    → i < suc k → elementsAt (valuesOf n k ++ tail) i ≡ elementsOf (rowAt n i)
+    → (i < k → elementsAt (valuesOf n k ++ tail) i ≡ elementsOf document02 (rowAt n i)) → (k ≡ i → elementsAt tail 0 ≡ elementsOf document02 (rowAt n i))
+    → i < suc k → elementsAt (valuesOf n k ++ tail) i ≡ elementsOf document02 (rowAt n i)
 at-or-before n k i tail before last h = go (leb (suc i) k) refl
   where
-    go : (b : Bool) → leb (suc i) k ≡ b → elementsAt (valuesOf n k ++ tail) i ≡ elementsOf (rowAt n i)
+    go : (b : Bool) → leb (suc i) k ≡ b → elementsAt (valuesOf n k ++ tail) i ≡ elementsOf document02 (rowAt n i)
     go true e = before (leb-true (suc i) k e)
     go false e =
         let same : k ≡ i = omega (arith, leb-false (suc i) k e) in
         elements-skip (valuesOf n k) tail i (omega (arith, length-values n k)) ∙ last same
 
-elements-at : (n : List ℤ) (k i : ℕ) (rest : List ℤ) → i < k → elementsAt (valuesOf n k ++ rest) i ≡ elementsOf (rowAt n i)
+elements-at : (n : List ℤ) (k i : ℕ) (rest : List ℤ) → i < k → elementsAt (valuesOf n k ++ rest) i ≡ elementsOf document02 (rowAt n i)
 unfolding valuesOf
 elements-at n zero i rest h = absurd (omega arith)
 elements-at n (suc k) i rest h =
-    ap (λ (l : List ℤ). elementsAt l i) (append-assoc (valuesOf n k) (eight (elementsOf (rowAt n k))) rest)
-    ∙ at-or-before n k i (eight (elementsOf (rowAt n k)) ++ rest) (λ (l : i < k). elements-at n k i (eight (elementsOf (rowAt n k)) ++ rest) l)
-    (λ (e : k ≡ i). elements-first (elementsOf (rowAt n k)) rest ∙ ap (λ (j : ℕ). elementsOf (rowAt n j)) e) h
+    ap (λ (l : List ℤ). elementsAt l i) (append-assoc (valuesOf n k) (eight (elementsOf document02 (rowAt n k))) rest)
+    ∙ at-or-before n k i (eight (elementsOf document02 (rowAt n k)) ++ rest) (λ (l : i < k). elements-at n k i (eight (elementsOf document02 (rowAt n k)) ++ rest) l)
+    (λ (e : k ≡ i). elements-first (elementsOf document02 (rowAt n k)) rest ∙ ap (λ (j : ℕ). elementsOf document02 (rowAt n j)) e) h
 
 pub claimed : (n old : List ℤ) → firstRefused n 0 7 ≡ Rows.Whole → Claimed Made n (valuesOf n 7 ++ drop 56 old)
 claimed n old e i h =
-    subst (Faithful (rowAt n i)) (sym (elements-at n 7 i (drop 56 old) h)) (faithful (rowAt n i) (accepted-is (rowAt n i) (accepted-at n i e h)))
+    subst (Faithful document02 (rowAt n i)) (sym (elements-at n 7 i (drop 56 old) h)) (faithful document02 ranged (rowAt n i) (accepted-is (rowAt n i) (accepted-at n i e h)))
 
 -- ---- the answer
 

@@ -3,6 +3,7 @@ use mathlib.Core.Path.{_≡_, ap, ap₂, _∙_}
 use mathlib.Core.List.{[], _∷_}
 use Prim.Native.Nat.{ℕ, _*_, _-_, _≤_}
 use native.Mathlib.Omega.{arith}
+use native.Mathlib.Nat.{mul-le-mul}
 use borrow.Author.Needs.{needs}
 use lib.Dec.{lit≤}
 use lib.IntN.{ℤ, pos, natAbs, _*ℤ_}
@@ -30,13 +31,13 @@ t-low : (c : tie.After-root) → 1990000000 ≤ c .root .result
 t-low c =
     let s = c .before in
     let k = s .pre .2 in
-    omega (arith, t-is c, Sizes.T-low (s .args .p) (s .pre .0) (s .args .radii) (s .args .square) k)
+    omega (arith, t-is c, Sizes.T-low (s .args .p) (s .pre .0) (s .args .radii) (s .args .square) (s .args .moon) k)
 
 t-high : (c : tie.After-root) → c .root .result ≤ 4200000000
 t-high c =
     let s = c .before in
     let k = s .pre .2 in
-    omega (arith, t-is c, Sizes.T-high (s .args .p) (s .pre .0) (s .args .radii) (s .args .square) k)
+    omega (arith, t-is c, Sizes.T-high (s .args .p) (s .pre .0) (s .args .radii) (s .args .square) (s .args .moon) k)
 
 near-unsigned-requires : tie.Need-near-unsigned-requires
 near-unsigned-requires c κs =
@@ -51,7 +52,7 @@ tan-high : (c : tie.After-near-unsigned) → c .near-unsigned .result ≤ 600000
 tan-high c =
     let s = c .before .before in
     let k = s .pre .2 in
-    omega (arith, ap natAbs (tan-is c), Sizes.tan-size (s .args .p) (s .pre .0) (s .args .radii) (s .args .square) k)
+    omega (arith, ap natAbs (tan-is c), Sizes.tan-size (s .args .p) (s .pre .0) (s .args .radii) (s .args .square) (s .args .moon) k)
 
 cast-tangent : tie.Need-cast-tangent
 cast-tangent c = fits64 (pos (c .near-unsigned .result)) (omega (arith, tan-high c))
@@ -78,25 +79,29 @@ slope-is c =
 n-high : (c : tie.After-near) → c .before .before .before .args .n ≤ 4200000000
 n-high c = let s = c .before .before .before in omega (arith, s .pre .1 .length, AxisSizes.R-high (s .args .p) (s .pre .0))
 
+-- the Moon's radius times the length
+foot-room : (c : tie.After-near) → c .before .before .before .args .moon * c .before .before .before .args .n ≤ 114660000000000000
+foot-room c = omega (arith, mul-le-mul (c .before .before .before .pre .2 .moon) (n-high c))
+
 mul-near-unsigned-2 : tie.Need-mul-near-unsigned-2
-mul-near-unsigned-2 c = record { fits = omega (arith, n-high c, t-high (c .before .before)) }
+mul-near-unsigned-2 c = record { fits = omega (arith, foot-room c) }
 
 near-unsigned-requires-2 : tie.Need-near-unsigned-requires-2
 near-unsigned-requires-2 c κs =
-    (omega (arith, n-high c, t-high (c .before .before)), omega (arith, t-high (c .before .before)), omega (arith, t-low (c .before .before)))
+    (omega (arith, foot-room c, t-high (c .before .before)), omega (arith, t-high (c .before .before)), omega (arith, t-low (c .before .before)))
 
 foot-is : (c : tie.After-near-unsigned2) → pos (c .near-unsigned2 .result)
-    ≡ foot (c .before .before .before .before .args .p) (c .before .before .before .before .args .radii) (c .before .before .before .before .args .square)
+    ≡ foot (c .before .before .before .before .args .p) (c .before .before .before .before .args .radii) (c .before .before .before .before .args .square) (c .before .before .before .before .args .moon)
 unfolding foot
 foot-is c =
-    c .near-unsigned2 .ensures ∙ ap₂ (λ (m n : ℕ). near (pos (27227400 * m)) (pos n)) (c .before .before .before .before .pre .1 .length)
+    c .near-unsigned2 .ensures ∙ ap₂ (λ (m n : ℕ). near (pos (c .before .before .before .before .args .moon * m)) (pos n)) (c .before .before .before .before .pre .1 .length)
     (t-is (c .before .before .before))
 
-foot-high : (c : tie.After-near-unsigned2) → c .near-unsigned2 .result ≤ 54454800
+foot-high : (c : tie.After-near-unsigned2) → c .near-unsigned2 .result ≤ 54600000
 foot-high c =
     let s = c .before .before .before .before in
     let k = s .pre .2 in
-    omega (arith, ap natAbs (foot-is c), Sizes.foot-size (s .args .p) (s .pre .0) (s .args .radii) (s .args .square) k)
+    omega (arith, ap natAbs (foot-is c), Sizes.foot-size (s .args .p) (s .pre .0) (s .args .radii) (s .args .square) (s .args .moon) k)
 
 cast-foot : tie.Need-cast-foot
 cast-foot c = fits64 (pos (c .near-unsigned2 .result)) (omega (arith, foot-high c))
@@ -106,7 +111,7 @@ returns c =
     let s = c .before .before .before .before in
     let k = s .pre .2 in
     let b = c .before .before in
-    let l = Sizes.slope-size (s .args .p) (s .pre .0) (s .args .radii) (s .args .square) k in
+    let l = Sizes.slope-size (s .args .p) (s .pre .0) (s .args .radii) (s .args .square) (s .args .moon) k in
     record {
       tangent = count-is (b .near-unsigned .result) (tan-high b) tt ∙ tan-is b;
       slope = back (slope-is (c .before)) l tt;

@@ -8,9 +8,10 @@ use lib.IntN.{ℤ}
 use lib.ListN.{length}
 use lib.Seq.{sets}
 use Rattle.besselian_rows.specs.declared.besselian.Besselian.{Besselian}
-use Rattle.besselian_rows.specs.Exact.{accepted}
+use Rattle.besselian_rows.specs.Exact.{document02, accepted}
 use Rattle.besselian_rows.specs.Rounded.{elementsOf}
 use Rattle.besselian_rows.specs.Tables.{rowAt, valuesOf, eight}
+use Rattle.besselian_rows.specs.laws.Sizes.{ranged}
 use Rattle.besselian_rows.specs.laws.TablesLaws.{accepted-at, one-more}
 use Rattle.besselian_rows.proofs.tables.fill.Statement.{statement}
 use Rattle.besselian_rows.proofs.tables.fill.Tie as tie
@@ -26,14 +27,14 @@ unfolding valuesOf
 loop-holds c = (omega arith, refl, refl)
 
 -- row i comes after i of them
-one-stored : (start before after n : List ℤ) (i : ℕ) (b : Besselian) → b ≡ elementsOf (rowAt n i) → before ≡ sets start 0 (valuesOf n i)
+one-stored : (start before after n : List ℤ) (i : ℕ) (b : Besselian) → b ≡ elementsOf document02 (rowAt n i) → before ≡ sets start 0 (valuesOf n i)
     → after ≡ sets before (8 * i) (eight b) → after ≡ sets start 0 (valuesOf n (i + 1))
 one-stored start before after n i b e f a = a ∙ rw (e, f) (one-more start n i)
 
 elements-of-requires : tie.Need-elements-of-requires Inv-loop μ-loop
 elements-of-requires c κs =
     let s = c .before .before .before in
-    ap accepted (c .row-at .ensures) ∙ accepted-at (s .args .rows .now) (c .before .before .loop .i) (s .pre .1) (omega arith)
+    (ap accepted (c .row-at .ensures) ∙ accepted-at (s .args .rows .now) (c .before .before .loop .i) (s .pre .1) (omega arith), ranged)
 
 store-requires : tie.Need-store-requires Inv-loop μ-loop
 store-requires c κs =
@@ -50,7 +51,7 @@ loop-again c =
       omega arith,
       stored .kept .0 ∙ l .inv .1,
       one-stored (s .args .values .now) (l .values) _ (s .args .rows .now) (l .i) (made .elements-of .result)
-          (made .elements-of .ensures .0 ∙ ap elementsOf (made .before .row-at .ensures)) (l .inv .2) (stored .ensures),
+          (made .elements-of .ensures .0 ∙ ap (elementsOf document02) (made .before .row-at .ensures)) (l .inv .2) (stored .ensures),
     )
 
 returns : tie.Need-returns Inv-loop μ-loop

@@ -1,0 +1,5 @@
+pub mod SearchLaws
+pub mod Rising
+pub mod ArcsineLaws
+pub mod ArgumentLaws
+pub mod AccuracyLaws

@@ -1,0 +1,5 @@
+-- what to believe
+pub mod FromTables
+pub mod Answers
+pub mod Numbers
+pub mod laws

@@ -1,0 +1,4 @@
+pub mod Sizes
+pub mod Laws
+pub mod AnswersLaws
+pub mod NumbersLaws

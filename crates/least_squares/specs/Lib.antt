@@ -1,0 +1,4 @@
+pub mod LeastSquares
+pub mod Sizes
+pub mod Exact
+pub mod laws

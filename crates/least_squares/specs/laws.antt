@@ -1,0 +1,3 @@
+pub mod Least
+pub mod Rounding
+pub mod MirrorLaws
