@@ -277,11 +277,7 @@ fn relative(g: i64, a: i64, hour: i64, middle: i64) -> i64
 }
 
 // The hour angles of all rows, from that of the middle one and 15 degrees an hour.
-fn hour_angles(
-    g: Hourly,
-    a: Hourly,
-    middle: i64,
-) -> Hourly
+fn hour_angles(g: Hourly, a: Hourly, middle: i64) -> Hourly
     requires { ⌜ (HourlySizes 360_000_000 g) × (HourlySizes 360_000_000 a) × (natAbs middle ≤ 765_000_000) ⌝ }
     ensures { λ r. ⌜ r ≡ hourAngles g a middle ⌝ }
 {

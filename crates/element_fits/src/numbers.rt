@@ -226,13 +226,7 @@ fn radii_at(radii: &[i64]) -> Radii
 }
 
 // The answer to numbers of which nothing was refused so far: 2, 17. `table` is table S.
-fn asked(
-    table: &[u32],
-    rows: &[i64],
-    sidereal: &[i64],
-    radii: &[i64],
-    tolerance: i64,
-) -> Answer
+fn asked(table: &[u32], rows: &[i64], sidereal: &[i64], radii: &[i64], tolerance: i64) -> Answer
     requires { ⌜ (Sines (now table)) × (Taken (now rows) (now sidereal) (now radii) tolerance) ⌝ }
     ensures { λ r. ⌜ r ≡ fitsAsked (now (rows .entry)) (now (sidereal .entry)) (now (radii .entry)) tolerance ⌝ }
 {

@@ -6,6 +6,7 @@ pub mod Shares
 pub mod Listing
 pub mod Fits
 pub mod TablesReply
+pub mod ElementsReply
 pub mod MendReply
 pub mod Positions
 pub mod NetworkReply

@@ -3,6 +3,7 @@
 ghost use mathlib.Core.Path.{_≡_};
 ghost use Rattle.ukhtvaresh.specs.Replies.{refusedReply, sheetReply, readReply, writeReply};
 ghost use Rattle.ukhtvaresh.specs.TablesReply.{tablesReply};
+ghost use Rattle.ukhtvaresh.specs.ElementsReply.{elementsReply};
 ghost use Rattle.ukhtvaresh.specs.Listing.{listingReply};
 ghost use Rattle.ukhtvaresh.specs.MendReply.{mendReply};
 ghost use Rattle.ukhtvaresh.specs.Positions.{doublesReply};
@@ -16,7 +17,7 @@ ghost use Rattle.ukhtvaresh.specs.NetworkReply.{networkReply};
 // What a caller gets.
 pub struct Reply {
     // number of the refusal, 1 to 10, of tables 11 too, of doubles 12, of a star 13, of a network 14, 15, 16, 19, of a
-    // fit 17, 18, of a contact 22; 0 for none
+    // fit 17, 18, of elements from rows 21 too, of a contact 22; 0 for none
     pub number: u64,
     // length of the sheet, count of the entries or of the numbers, 0 for a fit, a network's first station; or the
     // refusal's place
@@ -183,6 +184,18 @@ pub fn share_reply(share: obscuration::second::OneShare) -> Reply
             Reply { number: 0, value }
         }
         obscuration::second::OneShare::Refused(refusal) => refused(refusal),
+    }
+}
+
+pub fn elements_reply(answer: element_fits::Answer) -> Reply
+    ensures { λ r. ⌜ r ≡ elementsReply answer ⌝ }
+{
+    match answer {
+        element_fits::Answer::Made(_) => Reply {
+            number: 0,
+            value: 22,
+        },
+        element_fits::Answer::Refused(refusal) => refused(refusal),
     }
 }
 

@@ -30,9 +30,6 @@ module _ (c : tie.After-hours-of) where
   sizes : HoursSizes (c .hours-of .result)
   sizes = subst HoursSizes (sym (c .hours-of .ensures)) (hours-sizes (start .args .k) (start .pre .3) (start .args .t) (start .pre .1))
 
-middle-of-requires : tie.Need-middle-of-requires
-middle-of-requires c κs = (sizes c, start c .pre .2)
-
 columns-of-requires : tie.Need-columns-of-requires
 columns-of-requires c κs =
     (sizes (c .before), start (c .before) .pre .2, read-size (c .middle-of .result) 765_000_000 (c .middle-of .ensures .size) tt)
@@ -91,4 +88,4 @@ returns c =
 
 pub fitting-of-spec : {M : Type 1} → statement M
 fitting-of-spec =
-    tie.close (tie.spec (λ c κs. search needs) middle-of-requires columns-of-requires elements-of-requires fitted-requires returns)
+    tie.close (tie.spec (λ c κs. search needs) (λ c κs. (sizes c, start c .pre .2)) columns-of-requires elements-of-requires fitted-requires returns)

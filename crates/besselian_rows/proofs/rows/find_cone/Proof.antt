@@ -83,9 +83,6 @@ n-high c = let s = c .before .before .before in omega (arith, s .pre .1 .length,
 foot-room : (c : tie.After-near) → c .before .before .before .args .moon * c .before .before .before .args .n ≤ 114660000000000000
 foot-room c = omega (arith, mul-le-mul (c .before .before .before .pre .2 .moon) (n-high c))
 
-mul-near-unsigned-2 : tie.Need-mul-near-unsigned-2
-mul-near-unsigned-2 c = record { fits = omega (arith, foot-room c) }
-
 near-unsigned-requires-2 : tie.Need-near-unsigned-requires-2
 near-unsigned-requires-2 c κs =
     (omega (arith, foot-room c, t-high (c .before .before)), omega (arith, t-high (c .before .before)), omega (arith, t-low (c .before .before)))
@@ -124,4 +121,4 @@ pub find-cone-spec : {M : Type 1} → statement M
 find-cone-spec =
     tie.close
     (tie.spec sub-root (λ c κs. search needs) (λ c. search needs) near-unsigned-requires cast-tangent
-    (λ c. fits (bounds c) ZT tt) near-requires mul-near-unsigned-2 near-unsigned-requires-2 cast-foot returns)
+    (λ c. fits (bounds c) ZT tt) near-requires (λ c. record { fits = omega (arith, foot-room c) }) near-unsigned-requires-2 cast-foot returns)

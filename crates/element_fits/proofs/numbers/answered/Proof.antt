@@ -59,9 +59,11 @@ returns-2 c =
     let told = c .before .before .before in
     let m = met told in
     let a = start m .args in
-    let f = c .before .asked .ensures ∙ ap (fitsAsked (a .rows .now) (a .sidereal .now) (a .radii .now)) (tolerance-is m) in
-    (c .in-rooms .ensures ∙ ap (inRooms (a .room) (a .second)) f
-    ∙ sym (answer-asked (a .rows .now) (a .sidereal .now) (a .radii .now) (a .tolerance) (a .sines .now) (a .room) (a .second) (within told)), sines-are m)
+    let f = c .before .asked .ensures ∙ ap (fitsAsked (a .rows .now) (a .sidereal .now) (a .radii .now)) (tolerance-is m) in (
+      c .in-rooms .ensures ∙ ap (inRooms (a .room) (a .second)) f
+          ∙ sym (answer-asked (a .rows .now) (a .sidereal .now) (a .radii .now) (a .tolerance) (a .sines .now) (a .room) (a .second) (within told)),
+      sines-are m,
+    )
 
 pub answered-spec : {M : Type 1} → statement M
 answered-spec = tie.close (tie.spec (λ c κs. search needs) (λ c. search needs) (λ c. search needs) returns (λ c. search needs) asked-requires (λ c κs. search needs) (λ c. search needs) returns-2)

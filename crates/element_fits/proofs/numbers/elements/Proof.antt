@@ -55,9 +55,13 @@ returns c =
     let a = start m .args in
     let is = sym (known .given .1) ∙ answer-is m in (
       is,
-      (sines-are m,
-      (stored .put-elements .ensures ∙ ap (λ (x : Answer). elementsAfter x (a .elements .now)) is,
-      c .before .put-misfits .ensures ∙ ap (λ (x : Answer). misfitsAfter x (a .misfits .now)) is)),
+      (
+        sines-are m,
+        (
+          stored .put-elements .ensures ∙ ap (λ (x : Answer). elementsAfter x (a .elements .now)) is,
+          c .before .put-misfits .ensures ∙ ap (λ (x : Answer). misfitsAfter x (a .misfits .now)) is,
+        ),
+      ),
     )
 
 returns-2 : tie.Need-returns-2
