@@ -227,6 +227,11 @@ uint64_t ukhtvaresh_mirror(const uint8_t *request, size_t request_len, uint8_t *
 uint64_t ukhtvaresh_read(const uint8_t *sheet, size_t sheet_len, uint32_t *entries, size_t entries_len,
                          uint64_t *value);
 
+/* How long the well-formed sheet is that the bytes begin with, whatever follows it. *value: its length in bytes. Sheets
+ * of a year file follow each other: the next one begins where this one ends.
+ * Refusals: the first faulty record's, in it 5, 6, 8, 7, with the places of ukhtvaresh_read; never 9, nor 4. */
+uint64_t ukhtvaresh_extent(const uint8_t *bytes, size_t bytes_len, uint64_t *value);
+
 /* The sheet of entries, at the start of `sheet`. *value: its length in bytes.
  * Refusals: the first faulty entry's, in it 5, 8, 7; 6 where the list stops before its end entry or inside an entry;
  * 9; then 4. Places are those that the records have or would have in the sheet. entries_len counts numbers. */
