@@ -9,4 +9,5 @@ pub mod Told
 pub mod Encoded
 pub mod TypedMessages
 pub mod Meaning
+pub mod Outcomes
 pub mod laws
