@@ -9,13 +9,14 @@ pub enum Scale {
     Universal,
 }
 
-// The date and time of τ = 0 in a scale.
+// The date and time of τ = 0 in a scale, and what UTC needs beside them.
 pub struct Instant {
     pub year: u64, // 1583 to 9999, of the Gregorian calendar
     pub month: u64, // 1 to 12
     pub day: u64, // 1 to the month's last
     pub hundredths: u64, // of a second from 0h, 0 to 8,639,999
     pub scale: Scale,
+    pub offset: u64, // TAI less UTC in seconds, 10 to 99; 0 where it was not typed
 }
 
 // The instant of a text or for a listing, if there is one.

@@ -1,7 +1,7 @@
 -- Seconds of a sheet as times of day: docs/CLOCK.md, whose sentences are quoted. How a time is printed: times_of_day,
 -- Times. `Outward` says what they come to: a contact lies between its two printed times.
 use Prim.Native.Nat.{ℕ, _/_, _%_}
-use mathlib.Core.Bool.{Bool, true, cond}
+use mathlib.Core.Bool.{Bool, true, cond, _&&_}
 use mathlib.Core.List.{List, [], _∷_, _++_}
 use lib.Dec.{leb}
 use lib.IntN.{ℤ, pos, natAbs, _+ℤ_, _-ℤ_, _*ℤ_}
@@ -12,6 +12,8 @@ use Rattle.sheet_format.specs.declared.kinds.Entry.{Entry}
 use Rattle.sheet_format.specs.StoredSeconds.{secondOf}
 use Rattle.calendar.specs.declared.Scale.{Scale}
 use Rattle.calendar.specs.declared.Scale.the-variants.{Ephemeris, Universal}
+use Rattle.listing_lines.specs.declared.clock.TimeScale.{TimeScale}
+use Rattle.listing_lines.specs.declared.clock.TimeScale.the-variants.{ET, UT, UTC}
 use Rattle.calendar.specs.declared.Instant.{Instant}
 use Rattle.decimal_text.specs.Texts.{letters}
 use Rattle.listing_lines.specs.Lines.{textOf, endFor, lineOf}
@@ -29,52 +31,66 @@ use Rattle.listing_lines.specs.declared.clock.Shown.the-variants.{Nothin
 abbrev pub ofDay : Instant → ℤ
 ofDay i = pos (i .hundredths % 8640000)
 
--- I + 100τ
+-- n = 10 I + 1000τ
 unfoldable pub own : Instant → ℤ → ℤ
-own i τ = ofDay i +ℤ pos 100 *ℤ τ
+own i τ = pos 10 *ℤ ofDay i +ℤ pos 1000 *ℤ τ
 
--- | Scale typed | Ephemeris time of second τ | Universal time of second τ |
--- | ET | I + 100τ | I + 100τ - D |
--- | UT | I + 100τ + D | I + 100τ |
--- of the scale typed, the scale shown, D, and n for I + 100τ
-abbrev pub inScale : Scale → Scale → ℤ → ℤ → ℤ
-inScale Ephemeris Ephemeris d n = n
-inScale Ephemeris Universal d n = n -ℤ d
-inScale Universal Ephemeris d n = n +ℤ d
-inScale Universal Universal d n = n
+-- | Scale typed | Ephemeris time of second τ | Universal time of second τ | UTC of second τ |
+-- | ET | n | n - 10 D | n - 32,184 - 1000 A |
+-- | UT | n + 10 D | n | n + 10 D - 32,184 - 1000 A |
+-- of the scale typed, the scale shown, D, A and n
+abbrev pub inScale : Scale → TimeScale → ℤ → ℤ → ℤ → ℤ
+inScale Ephemeris ET d a n = n
+inScale Ephemeris UT d a n = n -ℤ pos 10 *ℤ d
+inScale Ephemeris UTC d a n = n -ℤ pos 32184 -ℤ pos 1000 *ℤ a
+inScale Universal ET d a n = n +ℤ pos 10 *ℤ d
+inScale Universal UT d a n = n
+inScale Universal UTC d a n = n +ℤ pos 10 *ℤ d -ℤ pos 32184 -ℤ pos 1000 *ℤ a
 
--- the hundredths of second τ in a scale
-unfoldable pub timeIn : Scale → Instant → ℤ → ℤ → ℤ
-timeIn shown i d τ = inScale (i .scale) shown d (own i τ)
+-- "A be TAI less UTC in seconds, at most 99, and 0 where it was not typed": less whole hundreds, where it is more
+abbrev pub offsetOf : Instant → ℕ
+offsetOf i = i .offset % 100
 
--- "With a ΔT of 0 only the instant's own scale is printed."
-abbrev pub shows : Scale → Scale → ℤ → Bool
-shows Ephemeris Ephemeris d = true
-shows Ephemeris Universal d = leb 1 (natAbs d)
-shows Universal Ephemeris d = leb 1 (natAbs d)
-shows Universal Universal d = true
+-- the thousandths of second τ in a scale
+unfoldable pub timeIn : TimeScale → Instant → ℤ → ℤ → ℤ
+timeIn shown i d τ = inScale (i .scale) shown d (pos (offsetOf i)) (own i τ)
+
+-- "With a ΔT of 0 only the instant's own scale is printed", and UTC where that is ET. "UTC is printed where A was
+-- typed and the ephemeris time is known."
+abbrev pub shows : Scale → TimeScale → ℤ → ℕ → Bool
+shows Ephemeris ET d a = true
+shows Ephemeris UT d a = leb 1 (natAbs d)
+shows Ephemeris UTC d a = leb 1 a
+shows Universal ET d a = leb 1 (natAbs d)
+shows Universal UT d a = true
+shows Universal UTC d a = leb 1 (natAbs d) && leb 1 a
 
 -- "ΔT is at most 200 s": one that no request has counts as 0
 unfoldable pub known : ℤ → ℤ
 known d = cond (leb (natAbs d) 20000) d (pos 0)
 
--- "Tenths of a second, outward. Of the two seconds of a contact the earlier is printed at the floor of its hundredths
--- over 10, the later at the ceiling", which of whole numbers is the floor of 9 more. "The closest second .. is printed
--- to the nearest tenth, halves up, the floor of its hundredths plus 5 over 10."
+-- "Tenths of a second, outward. Of the two seconds of a contact the earlier is printed at the floor of its thousandths
+-- over 100, the later at the ceiling", which of whole numbers is the floor of 99 more. "The closest second .. is
+-- printed to the nearest tenth, halves up, the floor of its thousandths plus 50 over 100."
 abbrev pub earlier : ℤ → ℤ
-earlier n = floorZ n (pos 10)
+earlier n = floorZ n (pos 100)
 
 abbrev pub later : ℤ → ℤ
-later n = floorZ (n +ℤ pos 9) (pos 10)
+later n = floorZ (n +ℤ pos 99) (pos 100)
 
 abbrev pub nearest : ℤ → ℤ
-nearest n = floorZ (n +ℤ pos 5) (pos 10)
+nearest n = floorZ (n +ℤ pos 50) (pos 100)
 
 -- ---- names and dates
 
-abbrev pub nameOf : Scale → List ℕ
-nameOf Ephemeris = letters "ET"
-nameOf Universal = letters "UT"
+abbrev pub typedName : Scale → List ℕ
+typedName Ephemeris = letters "ET"
+typedName Universal = letters "UT"
+
+abbrev pub nameOf : TimeScale → List ℕ
+nameOf ET = letters "ET"
+nameOf UT = letters "UT"
+nameOf UTC = letters "UTC"
 
 -- "`YYYY-MM-DD HH:MM:SS.FF SCALE`, always with two decimals"
 abbrev pub dateText : Instant → List ℕ
@@ -83,23 +99,24 @@ dateText i = two (i .year / 100) ++ two (i .year) ++ letters "-" ++ two (i .mont
 unfoldable pub instantText : Instant → List ℕ
 instantText i =
     let n = i .hundredths % 8640000 in
-    dateText i ++ letters " " ++ secondsText (n / 100) ++ letters "." ++ two n ++ letters " " ++ nameOf (i .scale)
+    dateText i ++ letters " " ++ secondsText (n / 100) ++ letters "." ++ two n ++ letters " " ++ typedName (i .scale)
 
 -- ---- the listing with clock times
 
 -- the times of stored seconds in a scale, each after a blank
-abbrev pub timesIn : Scale → Instant → ℤ → Seconds → List ℕ
+abbrev pub timesIn : TimeScale → Instant → ℤ → Seconds → List ℕ
 timesIn shown i d (Moment s) = letters " " ++ timeText (nearest (timeIn shown i d (secondOf s)))
 timesIn shown i d (Contact from to) =
     letters " " ++ timeText (earlier (timeIn shown i d (secondOf from))) ++ letters " " ++ timeText (later (timeIn shown i d (secondOf to)))
 
 -- the scale's name and the times, where it is shown
-unfoldable pub scaleText : Scale → Instant → ℤ → Seconds → List ℕ
-scaleText shown i d s = cond (shows (i .scale) shown d) (letters " " ++ nameOf shown ++ timesIn shown i d s) []
+unfoldable pub scaleText : TimeScale → Instant → ℤ → Seconds → List ℕ
+scaleText shown i d s = cond (shows (i .scale) shown d (offsetOf i)) (letters " " ++ nameOf shown ++ timesIn shown i d s) []
 
--- "followed by ` ET ` and its times in ephemeris time, then by ` UT ` and those in universal time"
+-- "followed by ` ET ` and its times in ephemeris time, by ` UT ` and those in universal time, then by ` UTC ` and those
+-- in UTC"
 unfoldable pub scalesText : Instant → ℤ → Seconds → List ℕ
-scalesText i d s = scaleText Ephemeris i d s ++ scaleText Universal i d s
+scalesText i d s = scaleText ET i d s ++ scaleText UT i d s ++ scaleText UTC i d s
 
 -- "two times for an entry with from and to, one for the closest second, none for a share"; "After the head line stands
 -- `instant ..`"

@@ -1,4 +1,4 @@
-// Seconds of a sheet as times of day, in ephemeris and in universal time, and the line of an entry with them
+// Seconds of a sheet as times of day, in ephemeris time, universal time and UTC, and the line of an entry with them
 // (docs/CLOCK.md). A `put_` function stores a text at a place of a room, as far as the room goes, and gives the place
 // after it (`decimals`).
 mod scales;
@@ -17,7 +17,14 @@ ghost use Rattle.sheet_format.specs.StoredSeconds.{secondOf};
 ghost use Rattle.decimal_text.specs.Texts.{letters, Put};
 ghost use Rattle.listing_lines.specs.Lines.{textOf, endFor};
 ghost use Rattle.listing_lines.specs.Times.{timeText};
-ghost use Rattle.listing_lines.specs.Clock.{timeIn, known, nameOf, dateText, instantText, timesIn, scaleText, scalesText, shownFor, behind, timedLine};
+ghost use Rattle.listing_lines.specs.Clock.{timeIn, known, typedName, nameOf, dateText, instantText, timesIn, scaleText, scalesText, shownFor, behind, timedLine};
+
+// The scales in which times are printed.
+pub enum TimeScale {
+    ET,
+    UT,
+    UTC,
+}
 
 // Stored seconds that are shown as times.
 pub enum Seconds {
@@ -34,12 +41,22 @@ pub enum Shown {
     Times(Seconds),
 }
 
-fn put_name(out: &mut [u8], at: usize, scale: Scale) -> usize
-    ensures { λ r. ⌜ Put (now (out .entry)) at (nameOf scale) (now (out .exit)) r ⌝ }
+fn put_typed_name(out: &mut [u8], at: usize, scale: Scale) -> usize
+    ensures { λ r. ⌜ Put (now (out .entry)) at (typedName scale) (now (out .exit)) r ⌝ }
 {
     match scale {
         Scale::Ephemeris => decimal_text::put_text(out, at, b"ET"),
         Scale::Universal => decimal_text::put_text(out, at, b"UT"),
+    }
+}
+
+fn put_name(out: &mut [u8], at: usize, shown: TimeScale) -> usize
+    ensures { λ r. ⌜ Put (now (out .entry)) at (nameOf shown) (now (out .exit)) r ⌝ }
+{
+    match shown {
+        TimeScale::ET => decimal_text::put_text(out, at, b"ET"),
+        TimeScale::UT => decimal_text::put_text(out, at, b"UT"),
+        TimeScale::UTC => decimal_text::put_text(out, at, b"UTC"),
     }
 }
 
@@ -71,21 +88,21 @@ pub fn put_instant(out: &mut [u8], at: usize, i: Instant) -> usize
     let point = decimal_text::put_byte(out, seconds, b'.');
     let decimals = crate::times_of_day::put_two(out, point, n);
     let last = decimal_text::put_byte(out, decimals, b' ');
-    put_name(out, last, scale)
+    put_typed_name(out, last, scale)
 }
 
-// The time of a stored second, at the floor of its hundredths plus `more` over 10, after a blank.
+// The time of a stored second, at the floor of its thousandths plus `more` over 100, after a blank.
 fn put_second(
     out: &mut [u8],
     at: usize,
-    shown: Scale,
+    shown: TimeScale,
     i: Instant,
     deltat: i64,
     stored: u32,
     more: i64,
 ) -> usize
-    requires { ⌜ (natAbs deltat ≤ 20000) × (natAbs more ≤ 9) ⌝ }
-    ensures { λ r. ⌜ Put (now (out .entry)) at (letters " " ++ timeText (floorZ (timeIn shown i deltat (secondOf stored) +ℤ more) (pos 10))) (now (out .exit)) r ⌝ }
+    requires { ⌜ (natAbs deltat ≤ 20000) × (natAbs more ≤ 99) ⌝ }
+    ensures { λ r. ⌜ Put (now (out .entry)) at (letters " " ++ timeText (floorZ (timeIn shown i deltat (secondOf stored) +ℤ more) (pos 100))) (now (out .exit)) r ⌝ }
 {
     let n = scales::time_in(shown, i, deltat, stored);
     let blank = decimal_text::put_byte(out, at, b' ');
@@ -96,7 +113,7 @@ fn put_second(
 fn put_times(
     out: &mut [u8],
     at: usize,
-    shown: Scale,
+    shown: TimeScale,
     i: Instant,
     deltat: i64,
     seconds: Seconds,
@@ -105,10 +122,10 @@ fn put_times(
     ensures { λ r. ⌜ Put (now (out .entry)) at (timesIn shown i deltat seconds) (now (out .exit)) r ⌝ }
 {
     match seconds {
-        Seconds::Moment(second) => put_second(out, at, shown, i, deltat, second, 5),
+        Seconds::Moment(second) => put_second(out, at, shown, i, deltat, second, 50),
         Seconds::Contact(from, to) => {
             let next = put_second(out, at, shown, i, deltat, from, 0);
-            put_second(out, next, shown, i, deltat, to, 9)
+            put_second(out, next, shown, i, deltat, to, 99)
         }
     }
 }
@@ -117,7 +134,7 @@ fn put_times(
 fn put_scale(
     out: &mut [u8],
     at: usize,
-    shown: Scale,
+    shown: TimeScale,
     i: Instant,
     deltat: i64,
     seconds: Seconds,
@@ -126,7 +143,8 @@ fn put_scale(
     ensures { λ r. ⌜ Put (now (out .entry)) at (scaleText shown i deltat seconds) (now (out .exit)) r ⌝ }
 {
     let typed = i.scale;
-    if scales::shows(typed, shown, deltat) {
+    let offset = i.offset;
+    if scales::shows(typed, shown, deltat, offset % 100) {
         let blank = decimal_text::put_byte(out, at, b' ');
         let name = put_name(out, blank, shown);
         return put_times(out, name, shown, i, deltat, seconds);
@@ -134,13 +152,14 @@ fn put_scale(
     at
 }
 
-// Both scales.
+// All scales.
 fn put_scales(out: &mut [u8], at: usize, i: Instant, deltat: i64, seconds: Seconds) -> usize
     requires { ⌜ natAbs deltat ≤ 20000 ⌝ }
     ensures { λ r. ⌜ Put (now (out .entry)) at (scalesText i deltat seconds) (now (out .exit)) r ⌝ }
 {
-    let next = put_scale(out, at, Scale::Ephemeris, i, deltat, seconds);
-    put_scale(out, next, Scale::Universal, i, deltat, seconds)
+    let universal = put_scale(out, at, TimeScale::ET, i, deltat, seconds);
+    let coordinated = put_scale(out, universal, TimeScale::UT, i, deltat, seconds);
+    put_scale(out, coordinated, TimeScale::UTC, i, deltat, seconds)
 }
 
 // ---- the line of an entry

@@ -67,13 +67,13 @@ fn put_day(out: &mut [u8], at: usize, day: i64) -> usize
     at
 }
 
-// n hundredths at the floor of their tenths. Division is of naturals: 100,000 days are added before it, and taken off
+// n thousandths at the floor of their tenths. Division is of naturals: 100,000 days are added before it, and taken off
 // after it. It has a `requires`, so it is none of the public promises.
 pub fn put_time(out: &mut [u8], at: usize, n: i64) -> usize
-    requires { ⌜ natAbs n ≤ 860000000000 ⌝ }
-    ensures { λ r. ⌜ Put (now (out .entry)) at (timeText (floorZ n (pos 10))) (now (out .exit)) r ⌝ }
+    requires { ⌜ natAbs n ≤ 8600000000000 ⌝ }
+    ensures { λ r. ⌜ Put (now (out .entry)) at (timeText (floorZ n (pos 100))) (now (out .exit)) r ⌝ }
 {
-    let tenths = (n + 864_000_000_000) as u64 / 10;
+    let tenths = (n + 8_640_000_000_000) as u64 / 100;
     let day = (tenths / 864_000) as i64 - 100_000;
     let next = put_of_day(out, at, tenths % 864_000);
     put_day(out, next, day)

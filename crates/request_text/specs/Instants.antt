@@ -1,4 +1,4 @@
--- The instant that is typed: the date and time of second 0. The table of docs/CLOCK.md, "The instant as it is typed".
+-- The instant that is typed: the date and time of second 0, and TAI less UTC. The table of docs/CLOCK.md, "The instant as it is typed".
 use Prim.Native.Nat.{ℕ, _+_, _*_}
 use mathlib.Core.Bool.{Bool, cond, _&&_, _||_}
 use mathlib.Core.List.{List}
@@ -40,7 +40,7 @@ hundredthsOf w = 100 * (3600 * twoAt w 0 + 60 * twoAt w 3 + twoAt w 6) + twoAt w
 
 unfoldable pub instantAt : List ℕ → List ℕ → Scale → Instant
 instantAt date time scale =
-    record { year = yearOf date; month = twoAt date 5; day = twoAt date 8; hundredths = hundredthsOf time; scale = scale }
+    record { year = yearOf date; month = twoAt date 5; day = twoAt date 8; hundredths = hundredthsOf time; scale = scale; offset = 0 }
 
 -- "`ET`, ephemeris time .., or `UT`, universal time"
 unfoldable pub inScale : List ℕ → List ℕ → List ℕ → Reading
@@ -58,3 +58,10 @@ timed date s = cond (isTime (wordIn s)) (scaled date (wordIn s) (afterWord s)) R
 -- "after the name and blanks stand, with blanks between them": date, time, scale
 unfoldable pub instantOf : List ℕ → Reading
 instantOf s = cond (isDate (wordIn s)) (timed (wordIn s) (afterWord s)) R.Malformed
+
+-- ---- TAI less UTC
+
+-- "whole seconds, two digits, 10 to 99", blanks before and behind; 0 for any other words
+unfoldable pub secondsIn : List ℕ → ℕ
+secondsIn s =
+    cond (allOf C.Blank (afterWord s) && hasForm (letters "00") (wordIn s) && leb 10 (twoAt (wordIn s) 0)) (twoAt (wordIn s) 0) 0

@@ -1,6 +1,6 @@
 -- What a line of a typed request says: a number of the request and its value in whole units.
 use Prim.Native.Nat.{ℕ}
-use mathlib.Core.Bool.{Bool, cond}
+use mathlib.Core.Bool.{Bool, cond, _||_}
 use mathlib.Core.List.{List}
 use lib.Dec.{eqb}
 use lib.IntN.{ℤ, pos, negℤ}
@@ -66,10 +66,16 @@ said l = drop (runOf C.Blank (content l)) (content l)
 unfoldable pub meaningOf : Shape → List ℕ → Line
 meaningOf shape l = cond (eqb (length (said l)) 0) L.Nothing (ofName shape (said l))
 
--- a line named `instant` gives the date and time of second 0, which is no number of the request: it is read by itself
--- (`instants`)
+-- a line named `instant` gives the date and time of second 0, one named `tai-utc` TAI less UTC then, which are no
+-- numbers of the request: they are read by themselves (`instants`)
 abbrev pub namesInstant : List ℕ → Bool
 namesInstant l = named (letters "instant") (said l)
 
+abbrev pub namesOffset : List ℕ → Bool
+namesOffset l = named (letters "tai-utc") (said l)
+
+abbrev pub namesClock : List ℕ → Bool
+namesClock l = namesInstant l || namesOffset l
+
 unfoldable pub numberIn : Shape → List ℕ → Line
-numberIn shape l = cond (namesInstant l) L.Nothing (meaningOf shape l)
+numberIn shape l = cond (namesClock l) L.Nothing (meaningOf shape l)

@@ -1,5 +1,5 @@
-// The instant that a person types with a request: the date and time of τ = 0, in ephemeris or universal time
-// (docs/CLOCK.md). The words of one are read here, a text's in `texts`.
+// The instant that a person types with a request: the date and time of τ = 0, in ephemeris or universal time, and
+// TAI less UTC then (docs/CLOCK.md). The words of one are read here, a text's in `texts`.
 mod forms;
 pub mod texts;
 
@@ -9,7 +9,7 @@ use calendar::Scale;
 use tokens::Class;
 ghost use mathlib.Core.Path.{_≡_};
 ghost use Rattle.request_text.specs.Lines.{wordIn, afterWord};
-ghost use Rattle.request_text.specs.Instants.{yearOf, isDate, timeForm, isTime, hundredthsOf, instantAt, inScale, instantOf};
+ghost use Rattle.request_text.specs.Instants.{yearOf, isDate, timeForm, isTime, hundredthsOf, instantAt, inScale, instantOf, secondsIn};
 
 // What words are read as.
 pub enum Reading {
@@ -18,12 +18,25 @@ pub enum Reading {
     Malformed,
 }
 
-// Why a line that names the instant is refused.
+// Why a line that names the instant or TAI-UTC is refused.
 pub enum Wrong {
-    // it is no date and time
+    // the instant is no date and time
     Malformed,
     // one was given before
     Twice,
+    // TAI-UTC is no whole number of seconds from 10 to 99
+    NotSeconds,
+    // one was given before
+    OffsetTwice,
+    // the text has no instant, or one before 1972
+    NeedsInstant,
+}
+
+// What a text says of TAI-UTC: nothing; the line, counted from 1, and the seconds; or the first line at fault.
+pub enum Offset {
+    None,
+    Is(usize, u64),
+    Refused(usize, Wrong),
 }
 
 // What a text says of the instant: one or none; or the first line at fault, counted from 1, and the fault.
@@ -114,6 +127,7 @@ fn instant_at(date: &[u8], time: &[u8], scale: Scale) -> Instant
         day,
         hundredths,
         scale,
+        offset: 0,
     }
 }
 
@@ -144,4 +158,19 @@ pub fn read(s: &[u8]) -> Reading
         return Reading::Malformed;
     }
     in_scale(date, time, word_in(scaled))
+}
+
+// The whole seconds from 10 to 99 that words are, `37` and blanks alone behind; 0 for any others.
+pub fn seconds_in(s: &[u8]) -> u64
+    ensures { λ r. ⌜ r ≡ secondsIn (now (s .entry)) ⌝ }
+{
+    let word = word_in(s);
+    let bare = tokens::all(after_word(s), Class::Blank);
+    let form = forms::has_form(word, b"00");
+    let seconds = forms::two_at(word, 0);
+    let right = bare & form & (10 <= seconds);
+    if !right {
+        return 0;
+    }
+    seconds
 }

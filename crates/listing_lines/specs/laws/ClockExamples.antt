@@ -16,10 +16,10 @@ use Rattle.calendar.specs.declared.Reference.the-variants as R
 use Rattle.listing_lines.specs.Times.{secondsText, ofDayText, dayText, timeText}
 use Rattle.listing_lines.specs.Clock.{own, timeIn, known, instantText, scaleText, scalesText, behind, timedLine, timedLines}
 
-abbrev instant : ℕ → ℕ → ℕ → ℕ → Scale → Instant
-instant y m d n s = record { year = y; month = m; day = d; hundredths = n; scale = s }
+abbrev instant : ℕ → ℕ → ℕ → ℕ → Scale → ℕ → Instant
+instant y m d n s a = record { year = y; month = m; day = d; hundredths = n; scale = s; offset = a }
 
-pub hopkinsville : timedLines (R.At (instant 2017 8 21 6480000 Ephemeris)) (pos 6880) (
+pub hopkinsville : timedLines (R.At (instant 2017 8 21 6480000 Ephemeris 0)) (pos 6880) (
     head 217 5400 19800 16 ∷ enter Penumbra 7060 7061 2928 ∷ leave Penumbra 17571 17572 1144
     ∷ enter Central 12350 12351 2960 ∷ leave Central 12510 12511 1119 ∷ closest 12430 1030585 ∷ share 1000000 ∷ end ∷ []
     )
@@ -28,7 +28,7 @@ unfolding timedLines timedLine behind scalesText scaleText instantText timeText 
 hopkinsville = refl
 
 -- before and after the instant's day; hundredths outward, and to the nearest tenth with halves up
-pub other-days : timedLines (R.At (instant 1999 12 31 8639905 Universal)) (negsuc 54) (
+pub other-days : timedLines (R.At (instant 1999 12 31 8639905 Universal 0)) (negsuc 54) (
     graze Star 10800 10801 ∷ opened Star 0 1 ∷ closest 10800 0 ∷ []
     )
     ≡ letters "graze star 0 1 ET 23:59:58.5 23:59:59.5 UT 23:59:59.0 00:00:00.1+1d\nopen star -10800 -10799 ET 20:59:58.5 20:59:59.5 UT 20:59:59.0 21:00:00.1\nclosest 0 0 ET 23:59:58.5 UT 23:59:59.1\n"
@@ -36,7 +36,7 @@ unfolding timedLines timedLine behind scalesText scaleText instantText timeText 
 other-days = refl
 
 -- "With a ΔT of 0 only the instant's own scale is printed."
-pub own-scale : timedLines (R.At (instant 1954 6 30 0 Universal)) (pos 0) (enter Penumbra 10799 10801 2700 ∷ [])
+pub own-scale : timedLines (R.At (instant 1954 6 30 0 Universal 0)) (pos 0) (enter Penumbra 10799 10801 2700 ∷ [])
     ≡ letters "enter penumbra -1 1 2700 UT 23:59:59.0-1d 00:00:01.0\n"
 unfolding timedLines timedLine behind scalesText scaleText instantText timeText dayText ofDayText secondsText known timeIn own textOf endFor filled piece signed decimal digitsOf
 own-scale = refl
@@ -46,3 +46,22 @@ pub none : timedLines R.Nothing (pos 6880) (head 7 4800 16800 16 ∷ enter Penum
     ≡ letters "station 7 from -6000 to 6000\nenter penumbra -5401 -5399 2700\n"
 unfolding timedLines timedLine lineOf textOf endFor filled piece signed decimal digitsOf
 none = refl
+
+-- "UTC is printed where A was typed and the ephemeris time is known": 32.184 s and 37 s before 18:00:00 lies
+-- 17:58:50.816, of which the tenths are outward and to the nearest
+pub with-utc : timedLines (R.At (instant 2017 8 21 6480000 Ephemeris 37)) (pos 6880) (
+    enter Penumbra 10800 10801 2928 ∷ closest 10800 1030585 ∷ []
+    )
+    ≡ letters "enter penumbra 0 1 2928 ET 18:00:00.0 18:00:01.0 UT 17:58:51.2 17:58:52.2 UTC 17:58:50.8 17:58:51.9\nclosest 0 1030585 ET 18:00:00.0 UT 17:58:51.2 UTC 17:58:50.8\n"
+unfolding timedLines timedLine behind scalesText scaleText instantText timeText dayText ofDayText secondsText known timeIn own textOf endFor filled piece signed decimal digitsOf
+with-utc = refl
+
+pub utc-of-universal : timedLines (R.At (instant 2017 8 21 6480000 Universal 37)) (pos 6880) (closest 10800 1 ∷ [])
+    ≡ letters "closest 0 1 ET 18:01:08.8 UT 18:00:00.0 UTC 17:59:59.6\n"
+unfolding timedLines timedLine behind scalesText scaleText instantText timeText dayText ofDayText secondsText known timeIn own textOf endFor filled piece signed decimal digitsOf
+utc-of-universal = refl
+
+pub no-utc : timedLines (R.At (instant 2017 8 21 6480000 Universal 37)) (pos 0) (closest 10800 1 ∷ [])
+    ≡ letters "closest 0 1 UT 18:00:00.0\n"
+unfolding timedLines timedLine behind scalesText scaleText instantText timeText dayText ofDayText secondsText known timeIn own textOf endFor filled piece signed decimal digitsOf
+no-utc = refl

@@ -14,7 +14,7 @@ use Rattle.rounding.specs.laws.Ring.{num, _⊕_, v0, ring}
 use Rattle.rounding.specs.Value.{Value}
 use Rattle.sheet_format.specs.declared.kinds.Entry.{Entry}
 use Rattle.sheet_format.specs.StoredSeconds.{secondOf}
-use Rattle.calendar.specs.declared.Scale.{Scale}
+use Rattle.listing_lines.specs.declared.clock.TimeScale.{TimeScale}
 use Rattle.calendar.specs.declared.Instant.{Instant}
 use Rattle.decimal_text.specs.Texts.{letters, Put}
 use Rattle.decimal_text.specs.laws.TextLaws.{put-nil}
@@ -26,31 +26,31 @@ use Rattle.listing_lines.specs.declared.clock.Seconds.{Seconds}
 use Rattle.listing_lines.specs.declared.clock.Seconds.the-variants.{Moment, Contact}
 use Rattle.listing_lines.specs.declared.clock.Shown.{Shown}
 use Rattle.listing_lines.specs.Times.{timeText}
-use Rattle.listing_lines.specs.Clock.{timeIn, known, shows, nameOf, timesIn, scaleText, shownFor, shownText, behind, timedLine, timedLines}
+use Rattle.listing_lines.specs.Clock.{offsetOf, timeIn, known, shows, nameOf, timesIn, scaleText, shownFor, shownText, behind, timedLine, timedLines}
 
--- the times of an entry: what is added before rounding down is 5, or 0 and 9
-module _ (shown : Scale) (i : Instant) (d : ℤ) (s : Seconds) (old : List ℕ) (at : ℕ) where
+-- the times of an entry: what is added before rounding down is 50, or 0 and 99
+module _ (shown : TimeScale) (i : Instant) (d : ℤ) (s : Seconds) (old : List ℕ) (at : ℕ) where
   abbrev rounded : ℕ → ℤ → List ℕ
-  rounded stored more = letters " " ++ timeText (floorZ (timeIn shown i d (secondOf stored) +ℤ more) (pos 10))
+  rounded stored more = letters " " ++ timeText (floorZ (timeIn shown i d (secondOf stored) +ℤ more) (pos 100))
 
-  pub times-of-moment : {k : ℕ} → s ≡ Moment k → (new : List ℕ) (r : ℕ) → Put old at (rounded k (pos 5)) new r → Put old at (timesIn shown i d s) new r
+  pub times-of-moment : {k : ℕ} → s ≡ Moment k → (new : List ℕ) (r : ℕ) → Put old at (rounded k (pos 50)) new r → Put old at (timesIn shown i d s) new r
   times-of-moment q new r p = rw q p
 
   pub times-of-contact : {f : ℕ} (t : ℕ) → s ≡ Contact f t → (mid new : List ℕ) (r q : ℕ) → length old < 18446744073709551616
-      → Put old at (rounded f (pos 0)) mid r → Put mid r (rounded t (pos 9)) new q → Put old at (timesIn shown i d s) new q
+      → Put old at (rounded f (pos 0)) mid r → Put mid r (rounded t (pos 99)) new q → Put old at (timesIn shown i d s) new q
   times-of-contact {f} t e mid new r q l p w =
       let n = timeIn shown i d (secondOf f) in
       let z : n +ℤ pos 0 ≡ n = ring (n ∷ []) (v0 ⊕ num 0) v0 tt in
       rw (e, append-assoc) (joined l (rw z at p) w)
 
 -- a scale, where it is shown
-module _ (shown : Scale) (i : Instant) (d : ℤ) (s : Seconds) (old : List ℕ) (at : ℕ) where
-  pub scale-shown : shows (i .scale) shown d ≡ true → (new : List ℕ) (r : ℕ)
+module _ (shown : TimeScale) (i : Instant) (d : ℤ) (s : Seconds) (old : List ℕ) (at : ℕ) where
+  pub scale-shown : shows (i .scale) shown d (offsetOf i) ≡ true → (new : List ℕ) (r : ℕ)
       → Put old at (letters " " ++ nameOf shown ++ timesIn shown i d s) new r → Put old at (scaleText shown i d s) new r
   unfolding scaleText
   scale-shown b new r p = rw b p
 
-  pub scale-hidden : shows (i .scale) shown d ≡ false → at < 18446744073709551616 → Put old at (scaleText shown i d s) old at
+  pub scale-hidden : shows (i .scale) shown d (offsetOf i) ≡ false → at < 18446744073709551616 → Put old at (scaleText shown i d s) old at
   unfolding scaleText
   scale-hidden b h = rw b (put-nil old at h)
 

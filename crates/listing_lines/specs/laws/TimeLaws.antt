@@ -1,4 +1,4 @@
--- How the code comes by a time: it divides a natural number, which is the hundredths and 100,000 days, and takes the
+-- How the code comes by a time: it divides a natural number, which is the thousandths and 100,000 days, and takes the
 -- days off again.
 use Prim.Native.Nat.{ℕ, zero, suc, _+_, _/_, _%_, _<_}
 use mathlib.Core.Path.{_≡_, sym, ap, ap₂, _∙_}
@@ -59,13 +59,13 @@ unfolding timeText
 days-up n m e =
     ap₂ (λ t d. ofDayText t ++ dayText d) (ap posP (rest-shifted n 864000 100000 m (omega arith) e)) (floor-shifted n 864000 100000 m (omega arith) e)
 
--- of the tenths of n hundredths, 100,000 days up
-pub time-up : (n : ℤ) (m : ℕ) → n +ℤ pos 864000000000 ≡ pos m
-    → timeText (floorZ n (pos 10)) ≡ ofDayText (m / 10 % 864000) ++ dayText (pos (m / 10 / 864000) -ℤ pos 100000)
+-- of the tenths of n thousandths, 100,000 days up
+pub time-up : (n : ℤ) (m : ℕ) → n +ℤ pos 8640000000000 ≡ pos m
+    → timeText (floorZ n (pos 100)) ≡ ofDayText (m / 100 % 864000) ++ dayText (pos (m / 100 / 864000) -ℤ pos 100000)
 time-up n m e =
-    let f = floor-shifted n 10 86400000000 m (omega arith) e in
-    days-up (floorZ n (pos 10)) (m / 10)
-    (ap (λ z. z +ℤ pos 86400000000) f ∙ ring (pos (m / 10) ∷ pos 86400000000 ∷ []) (v0 ⊖ v1 ⊕ v1) v0 tt)
+    let f = floor-shifted n 100 86400000000 m (omega arith) e in
+    days-up (floorZ n (pos 100)) (m / 100)
+    (ap (λ z. z +ℤ pos 86400000000) f ∙ ring (pos (m / 100) ∷ pos 86400000000 ∷ []) (v0 ⊖ v1 ⊕ v1) v0 tt)
 
 -- ---- the day
 

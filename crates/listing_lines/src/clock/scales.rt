@@ -1,4 +1,5 @@
-// From a second of a sheet to its time in a scale, in hundredths of a second from 0h of the instant's day.
+// From a second of a sheet to its time in a scale, in thousandths of a second from 0h of the instant's day.
+use super::TimeScale;
 use calendar::Instant;
 use calendar::Scale;
 ghost use mathlib.Core.Path.{_≡_};
@@ -8,56 +9,62 @@ ghost use Rattle.rounding.specs.Value.{Value};
 ghost use Rattle.sheet_format.specs.StoredSeconds.{secondOf};
 ghost use Rattle.listing_lines.specs.Clock.{own, inScale, timeIn, shows, known};
 
-// I + 100τ: the hundredths of a stored second in the instant's scale.
+// 10 I + 1000τ: the thousandths of a stored second in the instant's scale.
 fn own(i: Instant, stored: u32) -> i64
-    ensures { λ r. ⌜ Value (own i (secondOf stored)) 429506449499 r ⌝ }
+    ensures { λ r. ⌜ Value (own i (secondOf stored)) 4295064494990 r ⌝ }
 {
     let hundredths = i.hundredths;
     let day = (hundredths % 8_640_000) as i64;
     let second = sheet_format::kinds::seconds::second_of(stored);
-    day + 100 * second
+    10 * day + 1000 * second
 }
 
-// The same in a scale.
-fn in_scale(typed: Scale, shown: Scale, deltat: i64, n: i64) -> i64
-    requires { ⌜ (natAbs deltat ≤ 20000) × (natAbs n ≤ 429506449499) ⌝ }
-    ensures { λ r. ⌜ Value (inScale typed shown deltat n) 429506469499 r ⌝ }
+// The same in a scale; `offset` is TAI less UTC in seconds.
+fn in_scale(typed: Scale, shown: TimeScale, deltat: i64, offset: i64, n: i64) -> i64
+    requires { ⌜ (natAbs deltat ≤ 20000) × (natAbs offset ≤ 99) × (natAbs n ≤ 4295064494990) ⌝ }
+    ensures { λ r. ⌜ Value (inScale typed shown deltat offset n) 4295064826174 r ⌝ }
 {
     match typed {
         Scale::Ephemeris => match shown {
-            Scale::Ephemeris => n,
-            Scale::Universal => n - deltat,
+            TimeScale::ET => n,
+            TimeScale::UT => n - 10 * deltat,
+            TimeScale::UTC => n - 32_184 - 1000 * offset,
         },
         Scale::Universal => match shown {
-            Scale::Ephemeris => n + deltat,
-            Scale::Universal => n,
+            TimeScale::ET => n + 10 * deltat,
+            TimeScale::UT => n,
+            TimeScale::UTC => n + 10 * deltat - 32_184 - 1000 * offset,
         },
     }
 }
 
-pub fn time_in(shown: Scale, i: Instant, deltat: i64, stored: u32) -> i64
+pub fn time_in(shown: TimeScale, i: Instant, deltat: i64, stored: u32) -> i64
     requires { ⌜ natAbs deltat ≤ 20000 ⌝ }
-    ensures { λ r. ⌜ Value (timeIn shown i deltat (secondOf stored)) 429506469499 r ⌝ }
+    ensures { λ r. ⌜ Value (timeIn shown i deltat (secondOf stored)) 4295064826174 r ⌝ }
 {
     let n = own(i, stored);
     let typed = i.scale;
-    in_scale(typed, shown, deltat, n)
+    let seconds = i.offset;
+    let offset = (seconds % 100) as i64;
+    in_scale(typed, shown, deltat, offset, n)
 }
 
 // Whether the time is known in a scale.
-pub fn shows(typed: Scale, shown: Scale, deltat: i64) -> bool
+pub fn shows(typed: Scale, shown: TimeScale, deltat: i64, offset: u64) -> bool
     requires { ⌜ natAbs deltat ≤ 20000 ⌝ }
-    ensures { λ r. ⌜ r ≡ shows typed shown deltat ⌝ }
+    ensures { λ r. ⌜ r ≡ shows typed shown deltat offset ⌝ }
 {
     let size = rounding::abs(deltat);
     match typed {
         Scale::Ephemeris => match shown {
-            Scale::Ephemeris => true,
-            Scale::Universal => 1 <= size,
+            TimeScale::ET => true,
+            TimeScale::UT => 1 <= size,
+            TimeScale::UTC => 1 <= offset,
         },
         Scale::Universal => match shown {
-            Scale::Ephemeris => 1 <= size,
-            Scale::Universal => true,
+            TimeScale::ET => 1 <= size,
+            TimeScale::UT => true,
+            TimeScale::UTC => (1 <= size) & (1 <= offset),
         },
     }
 }

@@ -4,13 +4,13 @@ use mathlib.Core.Bool.{Bool, true, false, cond, _&&_, _||_}
 use mathlib.Core.List.{List, [], _∷_}
 use Prim.Native.Nat.{ℕ, zero, suc, _+_, _≤_}
 use native.Mathlib.Omega.{arith}
-use borrow.Author.Tests.{leb-true}
-use lib.Dec.{leb}
+use borrow.Author.Tests.{leb-true, eqb-false, ltb-false}
+use lib.Dec.{leb, eqb, ltb}
 use lib.ListN.{getD}
 use Rattle.request_format.specs.Rows.{letters}
 use Rattle.tokens.specs.declared.Class.the-variants as C
 use Rattle.tokens.specs.Text.{isIn, allOf, linesOf}
-use Rattle.request_text.specs.Lines.{wordIn, afterWord, namesInstant}
+use Rattle.request_text.specs.Lines.{wordIn, afterWord, namesInstant, namesOffset}
 use Rattle.calendar.specs.declared.Scale.{Scale}
 use Rattle.calendar.specs.declared.Scale.the-variants as S
 use Rattle.calendar.specs.declared.Instant.{Instant}
@@ -23,14 +23,19 @@ use Rattle.request_text.specs.declared.instants.Told.the-variants as T
 use Rattle.request_text.specs.Forms.{fits, hasForm, digitAt, twoAt}
 use Rattle.rounding.specs.laws.Tests.{both}
 use Rattle.calendar.specs.Calendar.{daysIn, isDay}
-use Rattle.request_text.specs.Instants.{yearOf, isDate, timeForm, isTime, hundredthsOf, instantAt, inScale, scaled, timed, instantOf}
-use Rattle.request_text.specs.Told.{afterName, taken, toldAfter, toldBy, toldIn}
+use Rattle.request_text.specs.Instants.{yearOf, isDate, timeForm, isTime, hundredthsOf, instantAt, inScale, scaled, timed, instantOf, secondsIn}
+use Rattle.request_text.specs.declared.instants.Offset.{Offset}
+use Rattle.request_text.specs.declared.instants.Offset.the-variants as O
+use Rattle.request_text.specs.declared.instants.Wrong.the-variants as Wrong
+use Rattle.request_text.specs.Told.{overLines, afterName, taken, toldAfter, instantIn, offsetTaken, offsetAfter, offsetIn, withOffset, toldIn}
 
 pub record InRange (x : Instant) : Type 0 where
   pub year : (1583 ≤ x .year) × (x .year ≤ 9999)
   pub month : (1 ≤ x .month) × (x .month ≤ 12)
   pub day : (1 ≤ x .day) × (x .day ≤ daysIn (x .year) (x .month))
   pub hundredths : x .hundredths ≤ 8639999
+  -- where TAI less UTC was typed
+  pub offset : (x .offset ≡ 0 → ⊥) → (10 ≤ x .offset) × (x .offset ≤ 99) × (1972 ≤ x .year)
 
 -- ---- digits
 
@@ -88,6 +93,7 @@ date-range w time scale d t =
             leb-true (twoAt time 6) 59 (s .1),
             decimals-le time (h .0),
           );
+      offset = λ k. absurd (k refl);
     }
 
 -- ---- the words, and a text
@@ -141,11 +147,90 @@ line-range i l (T.Is old) h = by (namesInstant l)
     by true = taken-range i (instantOf (afterName l)) old (words-range (afterName l))
     by false = h
 
-lines-range : (ls : List (List ℕ)) (i : ℕ) (told : Told) → ToldInRange told → ToldInRange (toldBy ls i told)
-unfolding toldBy
-lines-range [] i told h = h
-lines-range (l ∷ ls) i told h = lines-range ls (i + 1) (toldAfter i l told) (line-range i l told h)
+-- what each line keeps, all keep
+all-keep : (A : Type 0) (P : A → Type 0) (step : ℕ → List ℕ → A → A) → ((i : ℕ) (l : List ℕ) (told : A) → P told → P (step i l told))
+    → (ls : List (List ℕ)) (i : ℕ) (told : A) → P told → P (overLines A step ls i told)
+unfolding overLines
+all-keep A P step keep [] i told h = h
+all-keep A P step keep (l ∷ ls) i told h = all-keep A P step keep ls (i + 1) (step i l told) (keep i l told h)
+
+-- ---- TAI less UTC
+
+abbrev OffsetInRange : Offset → Type 0
+OffsetInRange O.None = Unit {0}
+OffsetInRange (O.Is i n) = (10 ≤ n) × (n ≤ 99)
+OffsetInRange (O.Refused i wrong) = Unit {0}
+
+seconds-range : (s : List ℕ) → (secondsIn s ≡ 0 → ⊥) → (10 ≤ secondsIn s) × (secondsIn s ≤ 99)
+unfolding secondsIn
+seconds-range s h = by (allOf C.Blank (afterWord s) && hasForm (letters "00") (wordIn s) && leb 10 n) refl h
+  where
+    n : ℕ
+    n = twoAt (wordIn s) 0
+
+    by : (b : Bool) → (allOf C.Blank (afterWord s) && hasForm (letters "00") (wordIn s) && leb 10 n) ≡ b → (cond b n 0 ≡ 0 → ⊥)
+        → (10 ≤ cond b n 0) × (cond b n 0 ≤ 99)
+    by true e h =
+        let t = both (allOf C.Blank (afterWord s) && hasForm (letters "00") (wordIn s)) (leb 10 n) e in
+        let f = both (allOf C.Blank (afterWord s)) (hasForm (letters "00") (wordIn s)) (t .0) in
+        (leb-true 10 n (t .1), two-le (letters "00") (wordIn s) 0 (f .1) refl refl)
+    by false e h = absurd (h refl)
+
+offset-range : (i : ℕ) (l : List ℕ) (old : Offset) → OffsetInRange old → OffsetInRange (offsetAfter i l old)
+offset-range i l old h = by (namesOffset l)
+  where
+    n : ℕ
+    n = secondsIn (afterName l)
+
+    first : (b : Bool) → eqb n 0 ≡ b → OffsetInRange (cond b (O.Refused i Wrong.NotSeconds) (O.Is i n))
+    first true e = tt
+    first false e = seconds-range (afterName l) (eqb-false n 0 e)
+
+    second : (b : Bool) → OffsetInRange (cond b (O.Refused i Wrong.NotSeconds) (O.Refused i Wrong.OffsetTwice))
+    second true = tt
+    second false = tt
+
+    given : (old : Offset) → OffsetInRange (offsetTaken i n old)
+    given O.None = first (eqb n 0) refl
+    given (O.Is j m) = second (eqb n 0)
+    given (O.Refused j wrong) = tt
+
+    by : (b : Bool) → OffsetInRange (cond b (offsetTaken i n old) old)
+    by true = given old
+    by false = h
+
+-- ---- both
+
+with-range : (told : Told) (offset : Offset) → ToldInRange told → OffsetInRange offset → ToldInRange (withOffset told offset)
+with-range told O.None h g = h
+with-range (T.Is Ref.Nothing) (O.Is i n) h g = tt
+with-range (T.Is (Ref.At x)) (O.Is i n) h g = by (ltb (x .year) 1972) refl
+  where
+    used : Instant
+    used = record { year = x .year; month = x .month; day = x .day; hundredths = x .hundredths; scale = x .scale; offset = n }
+
+    by : (b : Bool) → ltb (x .year) 1972 ≡ b → ToldInRange (cond b (T.Refused i Wrong.NeedsInstant) (T.Is (Ref.At used)))
+    by true e = tt
+    by false e =
+        record {
+          year = h .year;
+          month = h .month;
+          day = h .day;
+          hundredths = h .hundredths;
+          offset = λ k. (g .0, g .1, ltb-false (x .year) 1972 e);
+        }
+with-range (T.Refused j wrong) (O.Is i n) h g = tt
+with-range (T.Is x) (O.Refused i wrong) h g = tt
+with-range (T.Refused j other) (O.Refused i wrong) h g = by (ltb i j)
+  where
+    by : (b : Bool) → ToldInRange (cond b (T.Refused i wrong) (T.Refused j other))
+    by true = tt
+    by false = tt
 
 pub told-in-range : (text : List ℕ) (x : Instant) → toldIn text ≡ T.Is (Ref.At x) → InRange x
 unfolding toldIn
-told-in-range text x e = subst ToldInRange e (lines-range (linesOf text) 1 (T.Is Ref.Nothing) tt)
+told-in-range text x e =
+    subst ToldInRange e
+    (with-range (instantIn text) (offsetIn text)
+    (all-keep Told ToldInRange toldAfter line-range (linesOf text) 1 (T.Is Ref.Nothing) tt)
+    (all-keep Offset OffsetInRange offsetAfter offset-range (linesOf text) 1 O.None tt))

@@ -15,11 +15,11 @@ use Rattle.calendar.specs.declared.Reference.the-variants as Ref
 use Rattle.request_text.specs.declared.instants.Told.the-variants as T
 use Rattle.request_text.specs.Forms.{hasForm, twoAt}
 use Rattle.calendar.specs.Calendar.{isLeap, daysIn, isDay}
-use Rattle.request_text.specs.Instants.{isDate, timeForm, isTime, hundredthsOf, instantAt, inScale, scaled, timed, instantOf}
-use Rattle.request_text.specs.Told.{toldBy, toldIn}
+use Rattle.request_text.specs.Instants.{isDate, timeForm, isTime, hundredthsOf, instantAt, inScale, scaled, timed, instantOf, secondsIn}
+use Rattle.request_text.specs.Told.{overLines, toldIn}
 
 abbrev day : ℕ → ℕ → ℕ → ℕ → Scale → Instant
-day y m d t scale = record { year = y; month = m; day = d; hundredths = t; scale = scale }
+day y m d t scale = record { year = y; month = m; day = d; hundredths = t; scale = scale; offset = 0 }
 
 -- both scales; none, one and two decimals; the first and the last instant that can be typed; leap days; blanks
 pub good : map (λ (s : String). instantOf (letters s))
@@ -47,5 +47,18 @@ pub texts : map (λ (s : String). toldIn (letters s))
     ∷ "instant 2017-08-21 18:00:00 ET\n\ninstant 2017-08-21 18:00:00 ET" ∷ "instant 2017-08-21 18:00:00 ET\ninstant\n" ∷ "\ninstant#\ninstant 2017-08-21 18:00:00 ET" ∷ [])
     ≡ T.Is Ref.Nothing ∷ T.Is (Ref.At (day 2017 8 21 6480000 S.Ephemeris)) ∷ T.Is Ref.Nothing ∷ T.Refused 3 Wrong.Twice ∷ T.Refused 2 Wrong.Malformed
     ∷ T.Refused 2 Wrong.Malformed ∷ []
-unfolding toldIn toldBy instantOf timed scaled inScale instantAt hundredthsOf isTime timeForm isDate isDay daysIn isLeap hasForm twoAt runOf linesOf named
+unfolding toldIn overLines instantOf timed scaled inScale instantAt hundredthsOf isTime timeForm isDate isDay daysIn isLeap hasForm twoAt runOf linesOf named
 texts = refl
+
+-- TAI less UTC after the instant and before it; out of its range; no number; no instant; one before 1972; twice; with an
+-- instant at fault before it
+pub offsets : map (λ (s : String). toldIn (letters s))
+    ("instant 2017-08-21 18:00:00 ET\ntai-utc 37 # since 2017" ∷ "tai-utc\t99\ninstant 1972-01-01 00:00:00 UT" ∷ "tai-utc 09" ∷ "tai-utc 100\n" ∷ "tai-utc 37.0"
+    ∷ "x0 1\ntai-utc 10" ∷ "instant 1971-12-31 18:00:00 ET\ntai-utc 10" ∷ "tai-utc 37\ninstant 2017-08-21 18:00:00 ET\ntai-utc 37\n"
+    ∷ "instant\ntai-utc" ∷ "tai-utc\ninstant" ∷ [])
+    ≡ T.Is (Ref.At (record { year = 2017; month = 8; day = 21; hundredths = 6480000; scale = S.Ephemeris; offset = 37 }))
+    ∷ T.Is (Ref.At (record { year = 1972; month = 1; day = 1; hundredths = 0; scale = S.Universal; offset = 99 })) ∷ T.Refused 1 Wrong.NotSeconds
+    ∷ T.Refused 1 Wrong.NotSeconds ∷ T.Refused 1 Wrong.NotSeconds ∷ T.Refused 2 Wrong.NeedsInstant ∷ T.Refused 2 Wrong.NeedsInstant ∷ T.Refused 3 Wrong.OffsetTwice
+    ∷ T.Refused 1 Wrong.Malformed ∷ T.Refused 1 Wrong.NotSeconds ∷ []
+unfolding toldIn overLines instantOf secondsIn timed scaled inScale instantAt hundredthsOf isTime timeForm isDate isDay daysIn isLeap hasForm twoAt runOf linesOf named
+offsets = refl

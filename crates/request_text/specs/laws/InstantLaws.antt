@@ -1,9 +1,10 @@
 -- The words of an instant one after the other, as they are read.
-use mathlib.Core.Path.{_≡_, refl, ap, _∙_}
+use mathlib.Core.Path.{_≡_, refl, sym, ap, _∙_}
 use mathlib.Core.Bool.{Bool, true, false, cond, _&&_}
 use mathlib.Core.List.{List}
 use Prim.Native.Nat.{ℕ}
 use native.Mathlib.Omega.{arith}
+use lib.Dec.{leb}
 use lib.ListN.{take, drop}
 use Rattle.request_format.specs.Rows.{letters}
 use Rattle.tokens.specs.declared.Class.the-variants as C
@@ -13,8 +14,8 @@ use Rattle.tokens.specs.laws.NumberLaws.{part}
 use Rattle.request_text.specs.Lines.{valued, wordIn, afterWord}
 use Rattle.calendar.specs.declared.Scale.the-variants as S
 use Rattle.request_text.specs.declared.instants.Reading.the-variants as R
-use Rattle.request_text.specs.Forms.{hasForm}
-use Rattle.request_text.specs.Instants.{isDate, isTime, instantAt, inScale, scaled, timed, instantOf}
+use Rattle.request_text.specs.Forms.{hasForm, twoAt}
+use Rattle.request_text.specs.Instants.{isDate, isTime, instantAt, inScale, scaled, timed, instantOf, secondsIn}
 
 -- ---- a word, as it is cut out of a slice
 
@@ -72,3 +73,17 @@ module _ (s date after time scale behind : List ℕ) (a b c : Bool) (d : date �
       by true true false e = absurd (let q : _≡_ {A = ℕ} 0 1 = cc in omega arith)
       by true false c e = absurd (let q : _≡_ {A = ℕ} 0 1 = cc in omega arith)
       by false b c e = absurd (let q : _≡_ {A = ℕ} 0 1 = cc in omega arith)
+
+-- ---- TAI less UTC
+
+module _ (s word behind : List ℕ) (a b : Bool) (n : ℕ) (w : word ≡ wordIn s) (h : behind ≡ afterWord s) (x : a ≡ allOf C.Blank behind)
+    (y : b ≡ hasForm (letters "00") word) (z : n ≡ twoAt word 0) where
+  seconds-tested : cond (a && b && leb 10 n) n 0 ≡ secondsIn s
+  unfolding secondsIn
+  seconds-tested = rw (x, y, z, h, w)
+
+  pub seconds-none : (a && b && leb 10 n) ≡ false → 0 ≡ secondsIn s
+  seconds-none e = sym (ap (λ (t : Bool). cond t n 0) e) ∙ seconds-tested
+
+  pub seconds-some : (a && b && leb 10 n) ≡ true → n ≡ secondsIn s
+  seconds-some e = sym (ap (λ (t : Bool). cond t n 0) e) ∙ seconds-tested

@@ -29,7 +29,7 @@ use Rattle.request_text.specs.declared.Line.{Line}
 use Rattle.request_text.specs.declared.Line.the-variants as L
 use Rattle.request_text.specs.Names.{names, named, findIn}
 use Rattle.request_text.specs.laws.NameLaws.{found-at}
-use Rattle.request_text.specs.Lines.{withSign, fitted, valueOf, valued, ofValue, ofFound, ofName, said, meaningOf, namesInstant, numberIn}
+use Rattle.request_text.specs.Lines.{withSign, fitted, valueOf, valued, ofValue, ofFound, ofName, said, meaningOf, namesClock, numberIn}
 use Rattle.request_text.specs.Typing.{InRoom}
 
 -- ---- a number with its sign
@@ -198,7 +198,7 @@ module _ (shape : Shape) where
   -- ---- a line of a request
   pub number-in : (l : List ℕ) → InFields shape (said l) (numberIn shape l)
   unfolding numberIn
-  number-in l = by (namesInstant l)
+  number-in l = by (namesClock l)
     where
       by : (b : Bool) → InFields shape (said l) (cond b L.Nothing (meaningOf shape l))
       by true = tt
@@ -207,10 +207,10 @@ module _ (shape : Shape) where
   pub number-room : (l : List ℕ) (line : Line) (n : ℕ) → line ≡ numberIn shape l → n ≡ countOf shape → InRoom n line
   number-room l line n e c = rw (e, c) (in-room shape (said l) (numberIn shape l) (number-in l))
 
-  pub number-none : (l : List ℕ) → namesInstant l ≡ true → L.Nothing ≡ numberIn shape l
+  pub number-none : (l : List ℕ) → namesClock l ≡ true → L.Nothing ≡ numberIn shape l
   unfolding numberIn
   number-none l e = rw e
 
-  pub number-said : (l : List ℕ) → namesInstant l ≡ false → meaningOf shape l ≡ numberIn shape l
+  pub number-said : (l : List ℕ) → namesClock l ≡ false → meaningOf shape l ≡ numberIn shape l
   unfolding numberIn
   number-said l e = rw e

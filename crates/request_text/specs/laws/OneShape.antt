@@ -1,7 +1,7 @@
 -- No text gives all numbers of an eclipse and is taken for a star's, or the other way round (`shape-is`): an eclipse
 -- has no radius, and a star's must be typed.
 use mathlib.Core.Path.{_≡_, refl, sym, subst, _∙_}
-use mathlib.Core.Bool.{Bool, true, false, cond, not, _&&_}
+use mathlib.Core.Bool.{Bool, true, false, cond, not, _&&_, _||_}
 use mathlib.Core.List.{List, [], _∷_}
 use Prim.Native.Nat.{ℕ, zero, suc, _+_, _<_}
 use native.Mathlib.Omega.{arith}
@@ -63,19 +63,19 @@ nowhere ((c ∷ n) ∷ ns) k (x ∷ s) t e = by (eqb c 114) refl t (λ u. nowher
     by true q u go = absurd u
     by false q u go = find-miss (c ∷ n) ns k (x ∷ s) (rw (ne-eqb x c (λ r. eqb-false c 114 q (sym r ∙ x-is)))) ∙ go u
 
--- and no instant
-pub no-instant : (s : List ℕ) → named (letters "radius") s ≡ true → named (letters "instant") s ≡ false
+-- and no instant and no TAI-UTC
+pub no-clock : (s : List ℕ) → named (letters "radius") s ≡ true → (named (letters "instant") s || named (letters "tai-utc") s) ≡ false
 unfolding named
-no-instant [] e = refl
-no-instant (x ∷ s) e =
+no-clock [] e = refl
+no-clock (x ∷ s) e =
     let r : x ≡ 114 = eqb-true x 114 (both (eqb x 114) (named (letters "adius") s) e .0) in
-    rw (ne-eqb x 105 (λ q. omega arith))
+    rw (ne-eqb x 105 (λ q. omega arith), ne-eqb x 116 (λ q. omega arith))
 
 unknown : (l : List ℕ) → named radius (said l) ≡ true → numberIn S.Eclipse l ≡ L.Faulty Fault.Unknown
 unknown l e =
     sym (field-none S.Eclipse (said l) (nowhere (names S.Eclipse) 0 (said l) all-others e)
     ∙ meaning-some S.Eclipse l (said l) refl (λ q. omega (arith, named-length radius (said l) e))
-    ∙ number-said S.Eclipse l (no-instant (said l) e))
+    ∙ number-said S.Eclipse l (no-clock (said l) e))
 
 eclipse-lines : (ls : List (List ℕ)) (i : ℕ) (ns : List ℤ) (marks : List ℕ) (out : List ℤ) → readLines S.Eclipse ls i ns marks ≡ given out
     → shapeIn ls ≡ S.Eclipse

@@ -20,11 +20,14 @@ pub put-parts : (line : ℕ) (wrong : Wrong) (old one two new : List ℕ) (at p 
 unfolding instantMessage
 put-parts line wrong old one two new at p q r h a b c = put-then old two new at q r _ _ h (put-then old one two at p q _ _ h a b) c
 
-wrong-le : (wrong : Wrong) → length (wrongText wrong) ≤ 33
+wrong-le : (wrong : Wrong) → length (wrongText wrong) ≤ 58
 wrong-le W.Malformed = omega arith
 wrong-le W.Twice = omega arith
+wrong-le W.NotSeconds = omega arith
+wrong-le W.OffsetTwice = omega arith
+wrong-le W.NeedsInstant = omega arith
 
-pub instant-le : (i : ℕ) (wrong : Wrong) → i < 18446744073709551616 → length (instantMessage i wrong) ≤ 58
+pub instant-le : (i : ℕ) (wrong : Wrong) → i < 18446744073709551616 → length (instantMessage i wrong) ≤ 83
 unfolding instantMessage
 instant-le i wrong h =
     omega (

@@ -1,4 +1,4 @@
-// The message of a line that names the instant and is refused, put as far as the room goes (`decimals`).
+// The message of a line that names the instant or TAI-UTC and is refused, put as far as the room goes (`decimals`).
 use crate::instants::Wrong;
 ghost use Rattle.decimal_text.specs.Texts.{Put};
 ghost use Rattle.request_text.specs.TypedMessages.{wrongText, instantMessage};
@@ -10,6 +10,17 @@ fn put_wrong(out: &mut [u8], at: usize, wrong: Wrong) -> usize
     match wrong {
         Wrong::Malformed => decimal_text::put_text(out, at, b": instant is not a date and time\n"),
         Wrong::Twice => decimal_text::put_text(out, at, b": instant is given twice\n"),
+        Wrong::NotSeconds => decimal_text::put_text(
+            out,
+            at,
+            b": tai-utc is not a whole number of seconds from 10 to 99\n",
+        ),
+        Wrong::OffsetTwice => decimal_text::put_text(out, at, b": tai-utc is given twice\n"),
+        Wrong::NeedsInstant => decimal_text::put_text(
+            out,
+            at,
+            b": tai-utc needs an instant in 1972 or later\n",
+        ),
     }
 }
 

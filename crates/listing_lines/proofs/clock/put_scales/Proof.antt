@@ -16,9 +16,11 @@ read c = toZ-ofZ w64 (c .args .deltat) (c .fits .deltat)
 returns : tie.Need-returns
 unfolding scalesText
 returns c =
-    let a = c .before .before .before .before .before .before .before .before .before .args in
-    put-as _ _ _ _ _ _ (ap (λ d. scalesText (a .i) d (a .seconds)) (read (c .before .before .before .before .before .before .before .before .before)))
-    (joined (omega arith) (c .before .before .before .before .before .before .put-scale .ensures) (c .before .before .put-scale2 .ensures))
+    let first = c .before .before .before .before .before .before .before .before .before .before in
+    let a = first .before .before .before .args in
+    put-as _ _ _ _ _ _ (ap (λ d. scalesText (a .i) d (a .seconds)) (read (first .before .before .before)))
+    (joined (omega arith) (joined (omega arith) (first .put-scale .ensures) (c .before .before .before .before .before .before .put-scale2 .ensures))
+    (c .before .before .put-scale3 .ensures))
 
 pub put-scales-spec : {M : Type 1} → statement M
-put-scales-spec = tie.close (tie.spec (λ c κs. search needs) (λ c κs. search needs) (λ c. search needs) returns)
+put-scales-spec = tie.close (tie.spec (λ c κs. search needs) (λ c κs. search needs) (λ c κs. search needs) (λ c. search needs) returns)

@@ -1,4 +1,4 @@
--- `listing_lines::clock::put_second` meets its contract: a blank, then the time of the hundredths and what is added.
+-- `listing_lines::clock::put_second` meets its contract: a blank, then the time of the thousandths and what is added.
 use mathlib.Core.Path.{_≡_, ap, _∙_}
 use mathlib.Core.List.{[], _∷_, _++_}
 use native.Mathlib.Omega.{arith}
@@ -20,7 +20,7 @@ use Rattle.listing_lines.proofs.clock.put_second.Tie as tie
 read : (c : tie.Start) → toZ w64 (ofZ w64 (c .args .deltat)) ≡ c .args .deltat
 read c = toZ-ofZ w64 (c .args .deltat) (c .fits .deltat)
 
-bounds : (t : tie.After-time-in) → Within (whole (t .time-in .result) ∷ whole (t .before .before .args .more) ∷ []) (429506469499 ∷ 9 ∷ [])
+bounds : (t : tie.After-time-in) → Within (whole (t .time-in .result) ∷ whole (t .before .before .args .more) ∷ []) (4295064826174 ∷ 99 ∷ [])
 bounds t = t .time-in .ensures .size ▹ t .before .before .pre .1 ▹ ends
 
 abbrev both : Code
@@ -30,14 +30,14 @@ add-put-time : tie.Need-add-put-time
 add-put-time c = fits (bounds (c .before .before .before .before .before)) both tt
 
 put-time-requires : tie.Need-put-time-requires
-put-time-requires c κs = within (bounds (c .before .before .before .before .before)) both 860000000000 tt
+put-time-requires c κs = within (bounds (c .before .before .before .before .before)) both 8600000000000 tt
 
 returns : tie.Need-returns
 returns c =
     let t = c .before .before .before .before .before .before .before .before in
     let a = t .before .before .args in
     put-as _ _ _ _ _ _
-    (ap (λ z. letters " " ++ timeText (floorZ z (pos 10)))
+    (ap (λ z. letters " " ++ timeText (floorZ z (pos 100)))
     (runs (bounds t) both tt ∙ ap (λ n. n +ℤ a .more) (t .time-in .ensures .value ∙ ap (λ d. timeIn (a .shown) (a .i) d (secondOf (a .stored))) (read (t .before .before)))))
     (joined (omega arith) (c .before .before .before .before .before .before .put-byte .ensures) (c .before .before .put-time .ensures))
 

@@ -1,4 +1,4 @@
--- `listing_lines::times_of_day::put_time` meets its contract: what it divides is the hundredths and 100,000 days, a
+-- `listing_lines::times_of_day::put_time` meets its contract: what it divides is the thousandths and 100,000 days, a
 -- natural number (`time-up`).
 use mathlib.Core.Path.{_≡_, sym, ap, _∙_}
 use mathlib.Core.List.{[], _∷_, _++_}
@@ -18,36 +18,36 @@ use Rattle.listing_lines.proofs.times_of_day.put_time.Statement.{statem
 use Rattle.listing_lines.proofs.times_of_day.put_time.Tie as tie
 
 abbrev up : Code
-up = add (arg 0) (lit (pos 864000000000))
+up = add (arg 0) (lit (pos 8640000000000))
 
 abbrev down : Code
 down = sub (arg 0) (lit (pos 100000))
 
 module _ (s : tie.Start) where
-  bounds : Within (whole (s .args .n) ∷ []) (860000000000 ∷ [])
+  bounds : Within (whole (s .args .n) ∷ []) (8600000000000 ∷ [])
   bounds = s .pre ▹ ends
 
-  not-below : pos 0 ≤ℤ (s .args .n +ℤ pos 864000000000)
-  not-below = omega (arith, zs, neg-natAbs (s .args .n) (s .pre), sum (s .args .n) (pos 864000000000) .is, opposite (pos 860000000000) .is)
+  not-below : pos 0 ≤ℤ (s .args .n +ℤ pos 8640000000000)
+  not-below = omega (arith, zs, neg-natAbs (s .args .n) (s .pre), sum (s .args .n) (pos 8640000000000) .is, opposite (pos 8600000000000) .is)
 
   -- what is divided
   abbrev divided : ℕ
   divided = natAbs (run (whole (s .args .n) ∷ []) up)
 
-  shifted : s .args .n +ℤ pos 864000000000 ≡ pos divided
+  shifted : s .args .n +ℤ pos 8640000000000 ≡ pos divided
   shifted = nonneg-natAbs _ not-below ∙ ap (λ z. pos (natAbs z)) (sym (runs bounds up tt))
 
-  days : divided / 10 / 864000 ≤ 1724000000000
-  days = omega (arith, within bounds up 1724000000000 tt)
+  days : divided / 100 / 864000 ≤ 17240000000000
+  days = omega (arith, within bounds up 17240000000000 tt)
 
-  day-bounds : Within (raw (divided / 10 / 864000) ∷ []) (1724000000000 ∷ [])
-  day-bounds = count-size (divided / 10 / 864000) days tt ▹ ends
+  day-bounds : Within (raw (divided / 100 / 864000) ∷ []) (17240000000000 ∷ [])
+  day-bounds = count-size (divided / 100 / 864000) days tt ▹ ends
 
-  text : ofDayText (divided / 10 % 864000) ++ dayText (run (raw (divided / 10 / 864000) ∷ []) down)
-      ≡ timeText (floorZ (s .args .n) (pos 10))
+  text : ofDayText (divided / 100 % 864000) ++ dayText (run (raw (divided / 100 / 864000) ∷ []) down)
+      ≡ timeText (floorZ (s .args .n) (pos 100))
   text =
-      ap (λ d. ofDayText (divided / 10 % 864000) ++ dayText d)
-      (runs day-bounds down tt ∙ ap (λ z. z -ℤ pos 100000) (count-is (divided / 10 / 864000) days tt))
+      ap (λ d. ofDayText (divided / 100 % 864000) ++ dayText d)
+      (runs day-bounds down tt ∙ ap (λ z. z -ℤ pos 100000) (count-is (divided / 100 / 864000) days tt))
       ∙ sym (time-up (s .args .n) divided shifted)
 
 cast-tenths : tie.Need-cast-tenths

@@ -1,5 +1,5 @@
--- `listing_lines::clock::scales::own` meets its contract: less than a day, and a hundred times a number of 33 bits,
--- fit.
+-- `listing_lines::clock::scales::own` meets its contract: ten times less than a day of hundredths, and a thousand times
+-- a number of 33 bits, fit.
 use mathlib.Core.Path.{ap, ap₂, _∙_}
 use mathlib.Core.List.{[], _∷_}
 use Prim.Native.Nat.{_%_, _≤_}
@@ -22,11 +22,14 @@ module _ (c : tie.After-second-of) where
   bounds : Within (raw (c .before .args .i .hundredths % 8640000) ∷ whole (c .second-of .result) ∷ []) (8639999 ∷ 4294978095 ∷ [])
   bounds = count-size (c .before .args .i .hundredths % 8640000) day tt ▹ second ▹ ends
 
-abbrev hundred : Code
-hundred = mul (lit (pos 100)) (arg 1)
+abbrev ten : Code
+ten = mul (lit (pos 10)) (arg 0)
+
+abbrev thousand : Code
+thousand = mul (lit (pos 1000)) (arg 1)
 
 abbrev both : Code
-both = add (arg 0) hundred
+both = add ten thousand
 
 returns : tie.Need-returns
 unfolding own
@@ -34,9 +37,9 @@ returns c =
     record {
       value =
           runs (bounds c) both tt
-          ∙ ap₂ (λ (a s : ℤ). a +ℤ pos 100 *ℤ s) (count-is (c .before .args .i .hundredths % 8640000) (day c) tt) (c .second-of .ensures);
-      size = within (bounds c) both 429506449499 tt;
+          ∙ ap₂ (λ (a s : ℤ). pos 10 *ℤ a +ℤ pos 1000 *ℤ s) (count-is (c .before .args .i .hundredths % 8640000) (day c) tt) (c .second-of .ensures);
+      size = within (bounds c) both 4295064494990 tt;
     }
 
 pub own-spec : {M : Type 1} → statement M
-own-spec = tie.close (tie.spec (λ c. search needs) (λ c κs. search needs) (λ c. fits (bounds c) hundred tt) (λ c. fits (bounds c) both tt) returns)
+own-spec = tie.close (tie.spec (λ c. search needs) (λ c κs. search needs) (λ c. fits (bounds c) ten tt) (λ c. fits (bounds c) thousand tt) (λ c. fits (bounds c) both tt) returns)

@@ -1,5 +1,6 @@
 -- `listing_lines::clock::scales::shows` meets its contract: the instant's own scale, or a ΔT that is not 0.
 use mathlib.Core.Path.{_≡_, ap, _∙_}
+use mathlib.Core.Bool.{_&&_}
 use native.Mathlib.Omega.{arith}
 use lib.Dec.{leb}
 use lib.IntN.{pos, natAbs}
@@ -26,14 +27,22 @@ returns-2 : tie.Need-returns-2
 returns-2 c = rw (c .before .before .enum-told .given .1, c .enum-told3 .given .1) (known (c .before .before .before .before))
 
 returns-3 : tie.Need-returns-3
-returns-3 c = rw (c .before .before .enum-told4 .given .1, c .enum-told5 .given .1) (known (c .before .before .before .before))
+returns-3 c = rw (c .before .before .enum-told .given .1, c .enum-told4 .given .1)
 
 returns-4 : tie.Need-returns-4
-returns-4 c = search needs
+returns-4 c = rw (c .before .before .enum-told5 .given .1, c .enum-told6 .given .1) (known (c .before .before .before .before))
+
+returns-5 : tie.Need-returns-5
+returns-5 c = search needs
+
+returns-6 : tie.Need-returns-6
+returns-6 c =
+    rw (c .before .before .enum-told5 .given .1, c .enum-told8 .given .1)
+    (ap (λ b. b && leb 1 (c .before .before .before .before .before .args .offset)) (known (c .before .before .before .before)))
 
 pub shows-spec : {M : Type 1} → statement M
 shows-spec =
     tie.close
     (tie.spec (λ c κs. omega (arith, ap natAbs (read c))) (λ c. search needs) (λ c. search needs)
-    (λ c. search needs) (λ c. search needs) (λ c. search needs) (λ c. search needs) returns returns-2
-    returns-3 returns-4)
+    (λ c. search needs) (λ c. search needs) (λ c. search needs) (λ c. search needs) (λ c. search needs)
+    (λ c. search needs) returns returns-2 returns-3 returns-4 returns-5 returns-6)
