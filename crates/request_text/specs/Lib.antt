@@ -10,4 +10,5 @@ pub mod Encoded
 pub mod TypedMessages
 pub mod Meaning
 pub mod Outcomes
+pub mod Stored
 pub mod laws

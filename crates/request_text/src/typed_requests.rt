@@ -2,6 +2,7 @@
 // the instant, or the first fault as a line of text.
 mod encoding;
 mod messages;
+pub mod stored;
 
 use crate::Fault;
 use crate::Typed;
@@ -10,6 +11,8 @@ use crate::instants::Wrong;
 use calendar::Reference;
 use request_format::fields::LENGTH;
 ghost use mathlib.Core.Path.{_≡_};
+ghost use Prim.Native.Nat.{_+_, _≤_};
+ghost use lib.ListN.{length};
 ghost use Rattle.request_text.specs.Meaning.{meaningOf, answerOf, bytesAfter, messageAfter};
 ghost use Rattle.decimal_text.specs.Texts.{Put};
 ghost use Rattle.request_text.specs.Outcomes.{firstOf, outcomeOf, lineOf, reasonText};
@@ -95,7 +98,8 @@ pub fn line_of(reason: Reason) -> usize
 
 // The message that says why a text is no request.
 pub fn put_reason(out: &mut [u8], at: usize, text: &[u8], reason: Reason) -> usize
-    ensures { λ r. ⌜ Put (now (out .entry)) at (reasonText (now (text .entry)) reason) (now (out .exit)) r ⌝ }
+    ensures text { λ r. ⌜ Put (now (out .entry)) at (reasonText (now (text .entry)) reason) (now (out .exit)) r ⌝ }
+    ensures size { λ r. ⌜ length (reasonText (now (text .entry)) reason) ≤ 87 + length (now (text .entry)) ⌝ }
 {
     match reason {
         Reason::TooLong => {

@@ -12,7 +12,9 @@ use Rattle.request_format.specs.declared.fields.Shape.{Shape}
 use Rattle.request_format.specs.Request.{sizeFor}
 use Rattle.decimal_text.specs.Texts.{letters, Put}
 use Rattle.decimal_text.specs.laws.TextLaws.{capped-low}
+use Rattle.request_text.specs.declared.Fault.{Fault}
 use Rattle.request_text.specs.declared.Typed.{Typed}
+use Rattle.request_text.specs.declared.instants.Wrong.{Wrong}
 use Rattle.request_text.specs.Shapes.{shapeOf}
 use Rattle.request_text.specs.Typing.{Typing, given, typingOf}
 use Rattle.request_text.specs.Typing as typing
@@ -88,12 +90,32 @@ module _ (text : List ℕ) where
   short-outcome h shape s typed t told e n k o f = rw (le-ltb 65536 (length text) h, f, k, t, e, s)
 
   -- the bytes of a request are made; on a refusal nothing is
-  pub request-bytes : (n : ℕ) (x : Reference) → O.Request n x ≡ outcomeOf text → (old new : List ℕ)
-      → new ≡ bytesFrom (shapeOf text) (typingOf (shapeOf text) text) old → new ≡ bytesAfter (meaningOf text) old
-  request-bytes n x e old new b = let a = outcome-is (O.Request n x) e in rw (a .means) (b ∙ rw (a .typed))
+  pub request-bytes : (shape : Shape) → shape ≡ shapeOf text → (n : ℕ) (x : Reference) → O.Request n x ≡ outcomeOf text → (old new : List ℕ)
+      → new ≡ bytesFrom shape (typingOf shape text) old → new ≡ bytesAfter (meaningOf text) old
+  request-bytes shape s n x e old new b = let a = outcome-is (O.Request n x) e in rw (a .means) (b ∙ rw (s, a .typed))
 
   pub refused-bytes : (r : Reason) → O.Refused r ≡ outcomeOf text → (old : List ℕ) → old ≡ bytesAfter (meaningOf text) old
   refused-bytes r e old = rw (outcome-is (O.Refused r) e)
+
+  -- ---- what `put_reason` writes
+
+  pub put-known : (reason known : Reason) → reason ≡ known → (old new : List ℕ) (at r : ℕ) → Put old at (reasonText text known) new r
+      → length (reasonText text known) ≤ 87 + length text
+      → Put old at (reasonText text reason) new r × (length (reasonText text reason) ≤ 87 + length text)
+  put-known reason known e old new at r p h = rw e (p, h)
+
+  pub put-number : (shape : Shape) → shape ≡ shapeOf text → (i : ℕ) (fault : Fault) (old new : List ℕ) (at r : ℕ)
+      → Put old at (messageOf shape text i fault) new r → Put old at (reasonText text (R.Number i fault)) new r
+  put-number shape s i fault old new at r p = rw (← s) p
+
+  pub long-le : length (reasonText text R.TooLong) ≤ 87 + length text
+  long-le = omega arith
+
+  pub number-le : (i : ℕ) (fault : Fault) → i < 18446744073709551616 → length (reasonText text (R.Number i fault)) ≤ 87 + length text
+  number-le i fault h = message-le (shapeOf text) text i fault h
+
+  pub instant-small : (i : ℕ) (wrong : Wrong) → i < 18446744073709551616 → length (reasonText text (R.Instant i wrong)) ≤ 87 + length text
+  instant-small i wrong h = omega (arith, instant-le i wrong h)
 
   -- ---- what `read` answers
 
@@ -102,7 +124,7 @@ module _ (text : List ℕ) where
   request-answer n x e before =
       let a = outcome-is (O.Request n x) e in rw (a .means) (ap (λ (k : ℕ). A.Request k x) (a .size), refl)
 
-  reason-le : (r : Reason) → O.Refused r ≡ outcomeOf text → lineOf r < 18446744073709551616 → length (reasonText text r) ≤ 65623
+  pub reason-le : (r : Reason) → O.Refused r ≡ outcomeOf text → length (reasonText text r) ≤ 87 + length text → length (reasonText text r) ≤ 65623
   unfolding outcomeOf
   reason-le r e h = by (tooLong text) refl e
     where
@@ -110,14 +132,9 @@ module _ (text : List ℕ) where
           → O.Refused r ≡ cond b (O.Refused R.TooLong) (firstOf (sizeFor (shapeOf text)) (typing.answerOf (typingOf (shapeOf text) text)) (toldIn text))
           → length (reasonText text r) ≤ 65623
       by true q f = let z : r ≡ R.TooLong = cc in rw z (omega arith)
-      by false q f = small r h (ltb-false 65536 (length text) q)
-        where
-          small : (r : Reason) → lineOf r < 18446744073709551616 → length text ≤ 65536 → length (reasonText text r) ≤ 65623
-          small R.TooLong k s = omega arith
-          small (R.Number i fault) k s = omega (arith, message-le (shapeOf text) text i fault k)
-          small (R.Instant j wrong) k s = omega (arith, instant-le j wrong k)
+      by false q f = omega (arith, ltb-false 65536 (length text) q)
 
-  pub refused-answer : (r : Reason) → O.Refused r ≡ outcomeOf text → lineOf r < 18446744073709551616 → (before after : List ℕ) (n : ℕ)
+  pub refused-answer : (r : Reason) → O.Refused r ≡ outcomeOf text → length (reasonText text r) ≤ 87 + length text → (before after : List ℕ) (n : ℕ)
       → length before ≡ 65623 → Put before 0 (reasonText text r) after n
       → (A.Refused n ≡ answerOf (meaningOf text)) × (after ≡ messageAfter (meaningOf text) before)
   refused-answer r e h before after n g p =
