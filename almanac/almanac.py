@@ -136,14 +136,13 @@ def request_for(
 
 
 def utc_lines(instant: Instant) -> List[str]:
-    """What a clock that shows UTC is off, as a remark: `tai-utc` would be its line in a typed request."""
+    """The line `tai-utc`, from which UTC is printed; after the end of the list of leap seconds with a remark. None before 1972."""
     on = date(*instant[:3])
     number = leap_seconds.tai_utc(on)
     if number is None:
         return []
-    ends = f", presumed: the list of leap seconds ends on {leap_seconds.kept()[0]}"
-    presumed = ends if leap_seconds.expired(on) else ""
-    return [f"# UTC is ET less {number + 32.184:.3f} s (TAI - UTC is {number} s{presumed})"]
+    presumed = f" # presumed: the list of leap seconds ends on {leap_seconds.kept()[0]}" if leap_seconds.expired(on) else ""
+    return [f"tai-utc {number}{presumed}"]
 
 
 def typed(
@@ -159,8 +158,8 @@ def typed(
     off = ", ".join(f"{name} {units}" for name, units in made.off.items())
     lines = [f"# {' '.join(title.split())}: elements from apparent places of Sun and Moon by {source}, ephemeris time"]
     lines += [f"# fits within so many units of the hourly values: {off}"]
-    lines += [f"# {remark}" for remark in remarks] + utc_lines(instant)
-    lines += ["", f"instant {year:04}-{month:02}-{day:02} {hour:02}:00:00 ET", ""]
+    lines += [f"# {remark}" for remark in remarks]
+    lines += ["", f"instant {year:04}-{month:02}-{day:02} {hour:02}:00:00 ET", *utc_lines(instant), ""]
     for name, units in zip(NAMES, vars(made.elements).values()):
         lines.append(f"{name} {decimal(units, 6 if name.rstrip('012') in ANGLES else 8)}")
     lines += ["", *station_lines(request.station)]

@@ -99,7 +99,7 @@ def note(words: str):
 
 def run(name: str, main: Callable[[], None]):
     """Runs a command; a refusal or a missing package goes to standard error in one line, with exit status 1."""
-    from places import Missing
+    from places import Missing  # here, so that this module needs no other
 
     try:
         main()

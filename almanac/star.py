@@ -196,7 +196,7 @@ def typed(title: str, night: Night, local: Local, remarks: List[str]) -> str:
     request = local.request
     lines = [f"# {' '.join(title.split())}: {night.name} behind the Moon, places by Swiss Ephemeris, ephemeris time"]
     lines += [f"# fits within so many units of the hourly values: {off}", *(f"# {remark}" for remark in remarks)]
-    lines += [*utc_lines(local.instant), "", f"instant {year:04}-{month:02}-{day:02} {hour:02}:00:00 ET", ""]
+    lines += ["", f"instant {year:04}-{month:02}-{day:02} {hour:02}:00:00 ET", *utc_lines(local.instant), ""]
     for name, units in zip(NAMES, vars(request.elements).values()):
         lines.append(f"{name} {decimal(units, 8 if name[0] in 'xy' else 6)}")
     lines += [f"radius {decimal(request.radius, 8)}", "", *station_lines(request.station)]

@@ -218,7 +218,8 @@ class Visible(Case):
         text, _ = self.done("almanac.py", *DALLAS)
         listing = subprocess.run([TIMES], input=text, capture_output=True, text=True, check=True).stdout
         self.assertIn("instant 2024-04-08 19:00:00.00 ET\n", listing)
-        self.assertIn("enter central -1088 -1087 1993 ET 18:41:52.0 18:41:53.0 UT 18:40:42.9 18:40:44.0\n", listing)
+        times = "ET 18:41:52.0 18:41:53.0 UT 18:40:42.9 18:40:44.0 UTC 18:40:42.8 18:40:43.9"
+        self.assertIn(f"enter central -1088 -1087 1993 {times} alt ", listing)
         text, _ = self.done("almanac.py", "1954-06-30", "55.755", "37.57", "166")
         listing = subprocess.run([TIMES], input=text, capture_output=True, text=True, check=True).stdout
         self.assertRegex(listing, r"enter penumbra .* UT 12:00:3\d\.\d ")
@@ -226,17 +227,17 @@ class Visible(Case):
 
 
 class Utc(Case):
-    def test_remark(self):
+    def test_line(self):
         out, err = self.done("almanac.py", *DALLAS)
-        self.assertIn("# UTC is ET less 69.184 s (TAI - UTC is 37 s)\n", out)
+        self.assertIn(":00 ET\ntai-utc 37\n", out)
         out, err = self.done("almanac.py", "1999-08-11", "48.1", "11.6")
-        self.assertIn("# UTC is ET less 64.184 s (TAI - UTC is 32 s)\n", out)
+        self.assertIn(":00 ET\ntai-utc 32\n", out)
         out, err = self.done("almanac.py", "1954-06-30", "55.755", "37.57", "166")
-        self.assertNotIn("UTC", out)
+        self.assertNotIn("utc", out.lower())
 
     def test_after_the_list(self):
         out, err = self.done("almanac.py", "2027-08-02", "25.69", "32.64")
-        self.assertIn("TAI - UTC is 37 s, presumed: the list of leap seconds ends on 2027-06-28)\n", out)
+        self.assertIn("tai-utc 37 # presumed: the list of leap seconds ends on 2027-06-28\n", out)
         self.assertIn("note: the list of leap seconds ends on 2027-06-28", err)
 
 

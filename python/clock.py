@@ -1,8 +1,8 @@
 """Seconds of a sheet as times of day, by the rules of docs/CLOCK.md.
 
-An instant, the date and time of τ = 0, is carried beside a request and is no part of its bytes. `Instant.read` takes its typed form, `instant_in`
-finds it in a typed request, `times` and `nearest` print seconds, `listing` is the sheet's listing with clock times. Everything is in whole
-numbers.
+An instant, the date and time of τ = 0, is carried beside a request and is no part of its bytes; with it goes TAI less UTC, where that is
+known. `Instant.read` takes the typed form of an instant, `instant_in` finds both in a typed request, `times` and `nearest` print seconds,
+`listing` is the sheet's listing with clock times. Everything is in whole numbers.
 
     python3 python/clock.py < REQUEST.txt
     python3 python/clock.py "2017-08-21 18:00:00 ET" < examples/hopkinsville2017.txt
@@ -15,7 +15,7 @@ import operator
 import re
 import subprocess
 import sys
-from dataclasses import dataclass
+from dataclasses import dataclass, replace
 from enum import Enum
 from pathlib import Path
 from typing import Dict, Optional, Tuple
@@ -25,14 +25,16 @@ _FIRST_YEAR = 1583
 _FORM = re.compile(
     rb"([0-9]{4})-([0-9]{2})-([0-9]{2})[ \t\r]+([0-9]{2}):([0-9]{2}):([0-9]{2})(?:\.([0-9]{1,2}))?[ \t\r]+(ET|UT)"
 )
-_NAMED = re.compile(rb"instant(?![^ \t\r])")  # the name, with a blank or nothing after it
+_NAMED = re.compile(rb"(instant|tai-utc)(?![^ \t\r])")  # a name, with a blank or nothing after it
+_ATOMIC = 32_184  # thousandths of a second that ephemeris time is ahead of TAI
 
 
 class Scale(Enum):
-    """Ephemeris or universal time."""
+    """Ephemeris time, universal time, and UTC. An instant is typed in one of the first two."""
 
     ET = "ET"
     UT = "UT"
+    UTC = "UTC"
 
 
 class Malformed(Exception):
@@ -55,13 +57,15 @@ def _days(year: int, month: int) -> int:
 
 @dataclass(frozen=True)
 class Instant:
-    """The date and time of τ = 0 in a scale. The time is in hundredths of a second from 0h, 0 to 8,639,999."""
+    """The date and time of τ = 0 in a scale. The time is in hundredths of a second from 0h, 0 to 8,639,999. `offset` is TAI less UTC in
+    seconds, 10 to 99, or 0 where it is not known."""
 
     year: int
     month: int
     day: int
     hundredths: int
     scale: Scale
+    offset: int = 0
 
     @staticmethod
     def read(words: bytes) -> Optional["Instant"]:
@@ -85,12 +89,13 @@ class Instant:
 
 
 def instant_in(text: bytes) -> Optional[Instant]:
-    """The instant of a typed text that `request` takes, or None: what its line of that name says."""
-    for line in text.split(b"\n"):
-        said = line.split(b"#")[0].strip(b" \t\r")
-        if _NAMED.match(said):
-            return Instant.read(said[len(b"instant") :].strip(b" \t\r"))
-    return None
+    """The instant of a typed text that `request` takes, with TAI less UTC, or None: what the lines of these names say."""
+    said = [line.split(b"#")[0].strip(b" \t\r") for line in text.split(b"\n")]
+    given = {words[:7]: words[7:].strip(b" \t\r") for words in reversed(said) if _NAMED.match(words)}
+    instant = Instant.read(given[b"instant"]) if b"instant" in given else None
+    if instant is None or b"tai-utc" not in given:
+        return instant
+    return replace(instant, offset=int(given[b"tai-utc"]))
 
 
 def _whole(value, name: str, unit: str) -> int:
@@ -103,15 +108,19 @@ def _whole(value, name: str, unit: str) -> int:
     raise TypeError(f"{name} must be a whole number (int) in {unit}, not {value!r} ({type(value).__name__})") from None
 
 
-def _hundredths(instant: Instant, delta_t: int, second: int) -> Dict[Scale, int]:
-    """The time of a second in each scale that is known, ephemeris time first."""
+def _thousandths(instant: Instant, delta_t: int, second: int) -> Dict[Scale, int]:
+    """The time of a second in each scale that is known: ephemeris time first, UTC last."""
     delta_t, second = _whole(delta_t, "delta_t", "hundredths of a second"), _whole(second, "second", "seconds")
-    own = instant.hundredths + 100 * second
+    own = 10 * instant.hundredths + 1000 * second
     if delta_t == 0:
-        return {instant.scale: own}
-    if instant.scale is Scale.ET:
-        return {Scale.ET: own, Scale.UT: own - delta_t}
-    return {Scale.ET: own + delta_t, Scale.UT: own}
+        known = {instant.scale: own}
+    elif instant.scale is Scale.ET:
+        known = {Scale.ET: own, Scale.UT: own - 10 * delta_t}
+    else:
+        known = {Scale.ET: own + 10 * delta_t, Scale.UT: own}
+    if instant.offset and Scale.ET in known:
+        known[Scale.UTC] = known[Scale.ET] - _ATOMIC - 1000 * instant.offset
+    return known
 
 
 def _printed(tenths: int) -> str:
@@ -126,13 +135,13 @@ def times(instant: Instant, delta_t: int, from_: int, to: int) -> Dict[Scale, Tu
 
     delta_t: hundredths of a second, that of the request.
     """
-    earlier, later = _hundredths(instant, delta_t, from_), _hundredths(instant, delta_t, to)
-    return {scale: (_printed(earlier[scale] // 10), _printed(-(-later[scale] // 10))) for scale in earlier}
+    earlier, later = _thousandths(instant, delta_t, from_), _thousandths(instant, delta_t, to)
+    return {scale: (_printed(earlier[scale] // 100), _printed(-(-later[scale] // 100))) for scale in earlier}
 
 
 def nearest(instant: Instant, delta_t: int, second: int) -> Dict[Scale, str]:
     """The time of day of a second in each scale, to the nearest tenth, halves up."""
-    return {scale: _printed((n + 5) // 10) for scale, n in _hundredths(instant, delta_t, second).items()}
+    return {scale: _printed((n + 50) // 100) for scale, n in _thousandths(instant, delta_t, second).items()}
 
 
 def listing(sheet: bytes, instant: Instant, delta_t: int) -> str:

@@ -1,5 +1,5 @@
 #!/usr/bin/env python3
-"""Holds the clock times of Python against those of the page, and both against the rules of docs/CLOCK.md in exact fractions.
+"""Compares the clock times of Python with those of the page, and both with the rules of docs/CLOCK.md in exact fractions.
 
     python3 tests/clock_times.py [QUESTIONS] [SEED]         wants node; the library's listings too, if it is built
     python3 tests/clock_times.py program [TEXTS] [SEED]     the program `times` against Python (`rt check times request`; the library, as
@@ -11,6 +11,7 @@ import random
 import re
 import subprocess
 import sys
+from dataclasses import replace
 from fractions import Fraction
 from pathlib import Path
 
@@ -26,6 +27,8 @@ def typed_text(draw):
     lines = [draw.choice(others) for _ in range(draw.randrange(6))]
     for _ in range(draw.choice([0, 1, 1, 1, 2, 3])):
         lines.insert(draw.randint(0, len(lines)), instant_line(draw))
+    if draw.random() < 0.3:
+        lines.insert(draw.randint(0, len(lines)), f"tai-utc {draw.randint(10, 99)}")
     return "\n".join(lines) + draw.choice(["", "\n"])
 
 
@@ -37,11 +40,11 @@ def in_python(question):
         return None if read is None else str(read)
     if name == "text":
         read = clock.instant_in(given[0].encode())
-        return None if read is None else str(read)
-    instant = clock.Instant.read(given[0].encode())
+        return None if read is None else f"{read} {read.offset}"
+    instant = replace(clock.Instant.read(given[0].encode()), offset=given[1])
     if name == "times":
-        return {scale.value: list(pair) for scale, pair in clock.times(instant, *given[1:]).items()}
-    return {scale.value: time for scale, time in clock.nearest(instant, *given[1:]).items()}
+        return {scale.value: list(pair) for scale, pair in clock.times(instant, *given[2:]).items()}
+    return {scale.value: time for scale, time in clock.nearest(instant, *given[2:]).items()}
 
 
 def seconds_of(printed):
@@ -53,12 +56,15 @@ def seconds_of(printed):
 
 def judge(question, answer):
     """The rules: a time of each known scale, a contact between its two times, and these no farther off than a tenth."""
-    name, words, delta_t, *seconds = question
+    name, words, offset, delta_t, *seconds = question
     instant = clock.Instant.read(words.encode())
     own = instant.scale.value
-    assert list(answer) == ([own] if delta_t == 0 else ["ET", "UT"])
+    known = [own] if delta_t == 0 else ["ET", "UT"]
+    assert list(answer) == known + (["UTC"] if offset and "ET" in known else [])
+    ahead = {"ET": Fraction(delta_t, 100), "UT": 0}  # of universal time
     for scale, given in answer.items():
-        less = 0 if scale == own else (1 if scale == "UT" else -1) * Fraction(delta_t, 100)
+        # UTC is ephemeris time less 32.184 s less TAI - UTC
+        less = ahead[own] - (ahead["ET"] - Fraction(32184, 1000) - offset if scale == "UTC" else ahead[scale])
         exact = [Fraction(instant.hundredths, 100) + second - less for second in seconds]
         if name == "times":
             earlier, later = map(seconds_of, given)
@@ -119,6 +125,8 @@ def typed_request(draw):
         lines.append(f"{name} {values[name]}" if name else line)
     for _ in range(draw.choice([0, 1, 1, 1, 1, 1, 1, 1, 2])):
         lines.insert(draw.randint(0, len(lines)), "instant " + typed_instant(draw))
+    if draw.random() < 0.3:
+        lines.insert(draw.randint(0, len(lines)), f"tai-utc {draw.choice([37, draw.randint(9, 100)])}")
     return ("\n".join(lines) + "\n").encode()
 
 
@@ -171,7 +179,7 @@ def main():
             delta_t = draw.choice([0, draw.randint(-10000, 20000), 6880, draw.choice([-10000, 20000])])
             second = draw.choice([draw.randint(-10800, 10800), -10800, 10800, 0])
             later = [] if kind == "nearest" else [min(10800, second + draw.choice([1, 1, 2, 100]))]
-            questions.append([kind, words, delta_t, second, *later])
+            questions.append([kind, words, draw.choice([0, 0, 37, draw.randint(10, 99)]), delta_t, second, *later])
     for question, given in zip(questions, asked_of_page(questions)):
         wanted = in_python(question)
         if given != wanted:

@@ -65,6 +65,46 @@ def is_instant(words):
         return False
 
 
+def year_of(words):
+    return int(words[:4])
+
+
+def said_in(line):
+    """What a line says without its comment and the blanks around it."""
+    return line.split(b"#")[0].strip(b" \t\r")
+
+
+def clock_words(said, name):
+    """The words after the name, where the line has it; else None."""
+    return said[len(name) :].strip(b" \t\r") if re.match(re.escape(name) + rb"(?![^ \t\r])", said) else None
+
+
+def of_name(lines, name, good, wrong):
+    """The first line of that name and its words, if all is well; and the first fault among the lines of the name, each (line, ..)."""
+    taken = None
+    for count, line in enumerate(lines, 1):
+        words = clock_words(said_in(line), name)
+        if words is None:
+            continue
+        if not good(words):
+            return None, (count, name + b" is not " + wrong)
+        if taken:
+            return None, (count, name + b" is given twice")
+        taken = (count, words)
+    return taken, None
+
+
+def clock_fault(lines):
+    """The first fault of the lines that tell the instant and TAI-UTC, (line, message), or None."""
+    instant, wrong = of_name(lines, b"instant", is_instant, b"a date and time")
+    offset, other = of_name(lines, b"tai-utc", lambda w: re.fullmatch(rb"[1-9][0-9]", w), b"a whole number of seconds from 10 to 99")
+    if wrong or other:
+        return min(fault for fault in (wrong, other) if fault)
+    if offset and (instant is None or year_of(instant[1]) < 1972):
+        return offset[0], b"tai-utc needs an instant in 1972 or later"
+    return None
+
+
 def packed(n):
     kind, form = FORMS[len(n)]
     return struct.pack(form, kind, *n[:-8], 3, *n[-8:-3], 4, *n[-3:])
@@ -84,21 +124,16 @@ def answer(text):
     if lines[-1] == b"":
         lines.pop()
     given = {}
-    instants = 0
+    fault = clock_fault(lines)
     for count, line in enumerate(lines, 1):
 
         def refused(message):
             return b"", f"line {count}: ".encode() + message + b"\n"
 
-        said = line.split(b"#")[0].strip(b" \t\r")
-        if not said:
-            continue
-        if re.match(rb"instant(?![^ \t\r])", said):
-            if not is_instant(said[len(b"instant") :].strip(b" \t\r")):
-                return refused(b"instant is not a date and time")
-            instants += 1
-            if instants == 2:
-                return refused(b"instant is given twice")
+        if fault and fault[0] == count:
+            return refused(fault[1])
+        said = said_in(line)
+        if not said or any(clock_words(said, name) is not None for name in (b"instant", b"tai-utc")):
             continue
         for name, places, bounds in fields:
             rest = said[len(name) :]
@@ -176,6 +211,12 @@ def instant_line(draw):
     return draw.choice(["", "", " ", "\t"]) + "instant" + words + draw.choice(["", "", "", "\r", " ", " # a comment", "#"])
 
 
+def offset_line(draw):
+    """A line of TAI-UTC, most of them good."""
+    words = draw.choice(["37", "37", "10", "99", str(draw.randint(10, 99)), "09", "9", "100", "37.0", "+37", "-37", "3 7", "", "x"])
+    return draw.choice(["", "", " ", "\t"]) + "tai-utc" + draw.choice([" ", " ", "\t", ""]) + words + draw.choice(["", "", "\r", " # x", "#"])
+
+
 def text(draw):
     fields = draw.choice([FIELDS, STAR_FIELDS])
     lines = [typed(draw, *field) for field in fields]
@@ -187,13 +228,15 @@ def text(draw):
         lines.insert(draw.randint(0, len(lines)), draw.choice(["", "# a comment", "   ", "\t# x0 1", "#"]))
     for _ in range(draw.choice([0, 0, 0, 1, 1, 1, 1, 2])):
         lines.insert(draw.randint(0, len(lines)), instant_line(draw))
+    for _ in range(draw.choice([0, 0, 0, 1, 1, 2])):
+        lines.insert(draw.randint(0, len(lines)), offset_line(draw))
     fault = draw.random()
     if fault < 0.1:
         lines.pop(draw.randrange(len(lines)))
     elif fault < 0.2:
         lines.insert(draw.randint(0, len(lines)), draw.choice(lines))
     elif fault < 0.25:
-        others = ["x4 0", "tanf1 0", "X0 1", "x0", "tan  f1 1", "latitude55", "last 1 2", "-", "=", "d1 0", "radius 0", "radius", "radius#", "instants 1", "Instant"]
+        others = ["x4 0", "tanf1 0", "X0 1", "x0", "tan  f1 1", "latitude55", "last 1 2", "-", "=", "d1 0", "radius 0", "radius", "radius#", "instants 1", "Instant", "TAI-UTC 37"]
         lines.insert(draw.randint(0, len(lines)), draw.choice(others))
     made = bytearray("\n".join(lines).encode() + draw.choice([b"\n", b"\n", b"", b"\n\n"]))
     if fault > 0.8:

@@ -249,9 +249,9 @@ KANSAS_TEXT = COMMON | {
 
 def requests():
     b = POTSDAM
-    units = numbers(potsdam(), 156, b["latitude"], b["longitude"], b["height"], b["delta t"], -600, 5400, 400)
+    units = numbers(potsdam(), 156, b["latitude"], b["longitude"], b["height"], b["delta t"], -10800, 10800, 400)
     yield "potsdam1956", units, typed(units, POTSDAM_TEXT)
-    units = numbers(kansas(), 249, *station_of(2), KANSAS["stations"][2][0], 0, -5400, 9000)
+    units = numbers(kansas(), 249, *station_of(2), KANSAS["stations"][2][0], 0, -10800, 10800)
     yield "kansas1949", units, typed(units, KANSAS_TEXT, ["guard"])
 
 

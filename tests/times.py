@@ -1,10 +1,12 @@
 #!/usr/bin/env python3
 """Input and expected output of the program `times`: python3 tests/times.py FOLDER
 
-The input is the typed request of Hopkinsville, 2017, with its instant; the output its listing, which tests/reference gives, with the times of
-day that python/clock.py prints behind each second.
+The input is the typed request of Hopkinsville, 2017, with its instant and TAI-UTC; the output its listing with altitudes and notes, which
+tests/reference gives, with the times of day that python/clock.py prints behind each second.
 """
+import subprocess
 import sys
+from dataclasses import replace
 from pathlib import Path
 
 TOP = Path(__file__).resolve().parent.parent
@@ -12,6 +14,8 @@ sys.path.append(str(TOP / "python"))
 import clock  # noqa: E402
 
 NAME = "hopkinsville2017"
+TAI_UTC = 37  # in August 2017
+REFERENCE = TOP / "tests/reference/target/release/reference"
 FROM = {"enter": 2, "leave": 2, "graze": 2, "open": 2, "closest": 1}  # the word at which the seconds of a line begin
 
 
@@ -26,12 +30,33 @@ def behind(instant, delta_t, words):
     return "".join(f" {scale.value} {earlier} {later}" for scale, (earlier, later) in times.items())
 
 
-text = (TOP / f"examples/{NAME}.txt").read_text()
-typed = dict(line.split(None, 1) for line in (TOP / "examples/instants.txt").read_text().splitlines() if not line.startswith("#"))[NAME]
-delta_t = next(line.split()[2] for line in text.splitlines() if line.startswith("delta t"))
-hundredths = round(float(delta_t) * 100)
-instant = clock.Instant.read(typed.encode())
-folder = Path(sys.argv[1])
-(folder / "stdin").write_text(f"{text}instant {typed}\n")
-lines = (TOP / f"examples/{NAME}.listing").read_text().splitlines()
-(folder / "stdout").write_text("".join(f"{line}{behind(instant, hundredths, line.split())}\n" for line in lines))
+def with_times(listing, instant, delta_t):
+    """A listing with altitudes and notes, as tests/reference gives it, with the times of day."""
+    if instant is None or listing.startswith("refused"):
+        return listing
+    text = ""
+    for line in listing.splitlines():
+        plain, alt, altitude = line.partition(" alt ")
+        text += f"{plain}{behind(instant, delta_t, plain.split())}{alt}{altitude}\n"
+    return text
+
+
+def observed(request):
+    """The listing of a request's bytes with altitudes and notes."""
+    return subprocess.run([REFERENCE, "observer"], input=request, capture_output=True, check=True).stdout.decode()
+
+
+def main():
+    text = (TOP / f"examples/{NAME}.txt").read_text()
+    lines = (TOP / "examples/instants.txt").read_text().splitlines()
+    typed = dict(line.split(None, 1) for line in lines if not line.startswith("#"))[NAME]
+    delta_t = next(line.split()[2] for line in text.splitlines() if line.startswith("delta t"))
+    instant = replace(clock.Instant.read(typed.encode()), offset=TAI_UTC)
+    folder = Path(sys.argv[1])
+    (folder / "stdin").write_text(f"{text}instant {typed}\ntai-utc {TAI_UTC}\n")
+    listing = observed((TOP / f"examples/{NAME}.bin").read_bytes())
+    (folder / "stdout").write_text(with_times(listing, instant, round(float(delta_t) * 100)))
+
+
+if __name__ == "__main__":
+    main()

@@ -6,6 +6,12 @@ use lib.IntN.{ℤ}
 use lib.ListN.{take}
 use Rattle.circumstances.specs.declared.Answer.{Answer}
 use Rattle.circumstances.specs.declared.Answer.the-variants as A
+use Rattle.request_format.specs.declared.fields.Shape.the-variants as Shape
+use Rattle.request_format.specs.declared.input.Asked.{Asked}
+use Rattle.request_format.specs.declared.input.Asked.the-variants as W
+use Rattle.listings.specs.declared.sky.Sky.{Sky}
+use Rattle.listings.specs.declared.sky.Sky.the-variants as Sky
+use Rattle.request_answers.specs.Second.{wish}
 use Rattle.request_answers.specs.Sheet.{answerTo, bufferFor, starAnswer, starBuffer}
 use Rattle.request_format.specs.Input.{deltaOf, starDelta}
 use Rattle.calendar.specs.declared.Reference.{Reference}
@@ -26,16 +32,23 @@ starText request sines room = textBy (starAnswer request sines room) (starBuffer
 
 -- ---- with clock times
 
--- the same, with times by the reference and the station's ΔT
-abbrev pub timedBy : Reference → ℤ → Answer → List ℕ → List ℕ
-timedBy k d (A.Written n) room = printed (timed k d (take n room))
-timedBy k d (A.Refused r) room = refusalLine (r .number) (r .place)
+-- the same, with times by the reference and the station's ΔT, altitudes and notes
+abbrev pub timedBy : Reference → ℤ → Sky → Answer → List ℕ → List ℕ
+timedBy k d y (A.Written n) room = printed (timed k d y (take n room))
+timedBy k d y (A.Refused r) room = refusalLine (r .number) (r .place)
+
+-- an observer is told of the occultation that is asked for
+abbrev pub skyOf : Asked → Sky
+skyOf (W.Is o) = Sky.Over o
+skyOf (W.Refused r) = Sky.Nothing
 
 unfoldable pub timedText : Reference → (request sines room : List ℕ) → List ℕ
-timedText k request sines room = timedBy k (deltaOf request) (answerTo request sines room) (bufferFor request sines room)
+timedText k request sines room =
+    timedBy k (deltaOf request) (skyOf (wish Shape.Eclipse request)) (answerTo request sines room) (bufferFor request sines room)
 
 unfoldable pub starTimedText : Reference → (request sines room : List ℕ) → List ℕ
-starTimedText k request sines room = timedBy k (starDelta request) (starAnswer request sines room) (starBuffer request sines room)
+starTimedText k request sines room =
+    timedBy k (starDelta request) (skyOf (wish Shape.Star request)) (starAnswer request sines room) (starBuffer request sines room)
 
 -- ---- beside the sheet as it is stored
 

@@ -1,16 +1,39 @@
 // The answer to a request's bytes as text: the listing of its sheet, or the line of its refusal.
 use calendar::Reference;
 use circumstances::Answer;
+use listings::sky::Sky;
+use request_format::fields::Shape;
+use request_format::input::Asked;
 ghost use mathlib.Core.Path.{_≡_};
+ghost use Rattle.request_answers.specs.Second.{wish};
 ghost use Rattle.request_answers.specs.Sheet.{bufferFor, sinesFor, starBuffer, starSines};
 ghost use Rattle.request_answers.specs.laws.SheetLaws.{Fits};
 ghost use Rattle.decimal_text.specs.Texts.{Put};
-ghost use Rattle.answers.specs.Answers.{timedBy, answerText, starText, timedText, starTimedText};
+ghost use Rattle.answers.specs.Answers.{skyOf, timedBy, answerText, starText, timedText, starTimedText};
 
-// The text of an answer whose sheet stands at the room's start, with times where the reference is an instant.
-fn put_text(answer: Answer, room: &[u8], out: &mut [u8], reference: Reference, deltat: i64) -> usize
+// What an observer is told of: the occultation that bytes of that shape ask for.
+fn sky_of(shape: Shape, request: &[u8]) -> Sky
+    ensures { λ r. ⌜ r ≡ skyOf (wish shape (now (request .entry))) ⌝ }
+{
+    let asked = request_answers::one_second::wish(shape, request);
+    match asked {
+        Asked::Is(o) => Sky::Over(o),
+        Asked::Refused(_) => Sky::Nothing,
+    }
+}
+
+// The text of an answer whose sheet stands at the room's start, with times where the reference is an instant, and with
+// altitudes and notes where there is an occultation.
+fn put_text(
+    answer: Answer,
+    room: &[u8],
+    out: &mut [u8],
+    reference: Reference,
+    deltat: i64,
+    sky: Sky,
+) -> usize
     requires { ⌜ Fits answer (now room) ⌝ }
-    ensures { λ r. ⌜ Put (now (out .entry)) 0 (timedBy reference deltat answer (now (room .entry))) (now (out .exit)) r ⌝ }
+    ensures { λ r. ⌜ Put (now (out .entry)) 0 (timedBy reference deltat sky answer (now (room .entry))) (now (out .exit)) r ⌝ }
 {
     match answer {
         Answer::Written(written) => listings::put_timed_listing(
@@ -19,6 +42,7 @@ fn put_text(answer: Answer, room: &[u8], out: &mut [u8], reference: Reference, d
             &room[..written],
             reference,
             deltat,
+            sky,
         ),
         Answer::Refused(refusal) => listing_lines::lines::put_refused(out, 0, refusal),
     }
@@ -32,7 +56,7 @@ pub fn put_answer(request: &[u8], sines: &mut [u32], room: &mut [u8], out: &mut 
     ensures sines { λ r. ⌜ now (sines .exit) ≡ sinesFor (now (request .entry)) (now (sines .entry)) ⌝ }
 {
     let answer = request_answers::sheets::sheet(request, sines, room);
-    put_text(answer, room, out, Reference::Nothing, 0)
+    put_text(answer, room, out, Reference::Nothing, 0, Sky::Nothing)
 }
 
 // The same of a star request.
@@ -42,10 +66,10 @@ pub fn put_star_answer(request: &[u8], sines: &mut [u32], room: &mut [u8], out: 
     ensures sines { λ r. ⌜ now (sines .exit) ≡ starSines (now (request .entry)) (now (sines .entry)) ⌝ }
 {
     let answer = request_answers::sheets::star_sheet(request, sines, room);
-    put_text(answer, room, out, Reference::Nothing, 0)
+    put_text(answer, room, out, Reference::Nothing, 0, Sky::Nothing)
 }
 
-// The same as `put_answer` with times by the reference and the ΔT of the request's station.
+// The same as `put_answer` with times by the reference and the ΔT of the request's station, altitudes and notes.
 pub fn put_timed_answer(
     request: &[u8],
     reference: Reference,
@@ -58,8 +82,9 @@ pub fn put_timed_answer(
     ensures sines { λ r. ⌜ now (sines .exit) ≡ sinesFor (now (request .entry)) (now (sines .entry)) ⌝ }
 {
     let deltat = request_format::input::deltat(request);
+    let sky = sky_of(Shape::Eclipse, request);
     let answer = request_answers::sheets::sheet(request, sines, room);
-    put_text(answer, room, out, reference, deltat)
+    put_text(answer, room, out, reference, deltat, sky)
 }
 
 // The same of a star request.
@@ -75,6 +100,7 @@ pub fn put_timed_star_answer(
     ensures sines { λ r. ⌜ now (sines .exit) ≡ starSines (now (request .entry)) (now (sines .entry)) ⌝ }
 {
     let deltat = request_format::input::stars::deltat(request);
+    let sky = sky_of(Shape::Star, request);
     let answer = request_answers::sheets::star_sheet(request, sines, room);
-    put_text(answer, room, out, reference, deltat)
+    put_text(answer, room, out, reference, deltat, sky)
 }

@@ -15,13 +15,16 @@ use Rattle.calendar.specs.declared.Scale.the-variants.{Ephemeris, Universal}
 use Rattle.listing_lines.specs.declared.clock.TimeScale.{TimeScale}
 use Rattle.listing_lines.specs.declared.clock.TimeScale.the-variants.{ET, UT, UTC}
 use Rattle.calendar.specs.declared.Instant.{Instant}
+use Rattle.decimal_text.specs.Decimals.{digit, decimal}
 use Rattle.decimal_text.specs.Texts.{letters}
-use Rattle.listing_lines.specs.Lines.{textOf, endFor, lineOf}
+use Rattle.listing_lines.specs.Lines.{textOf, endFor}
 use Rattle.listing_lines.specs.Times.{two, secondsText, timeText}
 use Rattle.calendar.specs.declared.Reference.{Reference}
 use Rattle.calendar.specs.declared.Reference.the-variants as R
 use Rattle.listing_lines.specs.declared.clock.Seconds.{Seconds}
 use Rattle.listing_lines.specs.declared.clock.Seconds.the-variants.{Moment, Contact}
+use Rattle.listing_lines.specs.declared.clock.Altitude.{Altitude}
+use Rattle.listing_lines.specs.declared.clock.Altitude.the-variants as A
 use Rattle.listing_lines.specs.declared.clock.Shown.{Shown}
 use Rattle.listing_lines.specs.declared.clock.Shown.the-variants.{Nothing, InstantLine, Times}
 
@@ -139,11 +142,30 @@ shownText i d (Times s) = scalesText i d s
 unfoldable pub behind : Instant → ℤ → Entry → List ℕ
 behind i d e = shownText i d (shownFor (e .kind) (e .a) (e .b))
 
--- an entry's line; with an instant, what follows stands before its end
-unfoldable pub timedLine : Reference → ℤ → Entry → List ℕ
-timedLine R.Nothing d e = lineOf e
-timedLine (R.At i) d e = textOf e ++ behind i (known d) e ++ endFor (e .kind)
+-- an entry's text; with an instant, what follows it
+unfoldable pub timedText : Reference → ℤ → Entry → List ℕ
+timedText R.Nothing d e = textOf e
+timedText (R.At i) d e = textOf e ++ behind i (known d) e
 
-unfoldable pub timedLines : Reference → ℤ → List Entry → List ℕ
-timedLines k d [] = []
-timedLines k d (e ∷ es) = timedLine k d e ++ timedLines k d es
+-- ---- the altitude
+
+-- "in tenths of a degree, as `alt 45.3`": n tenths
+unfoldable pub tenthsText : ℕ → List ℕ
+tenthsText n = decimal (n / 10) ++ letters "." ++ (digit (n % 10) ∷ [])
+
+-- "and, where it is below 0, ` below the horizon`"
+unfoldable pub altitudeText : Altitude → List ℕ
+altitudeText A.Nothing = []
+altitudeText (A.Above n) = letters " alt " ++ tenthsText n
+altitudeText (A.Below n) = letters " alt -" ++ tenthsText n ++ letters " below the horizon"
+
+-- ---- the lines
+
+-- an entry's line, with an altitude
+unfoldable pub timedLine : Reference → ℤ → Altitude → Entry → List ℕ
+timedLine k d x e = timedText k d e ++ altitudeText x ++ endFor (e .kind)
+
+-- those of some entries, with the altitude x of each
+unfoldable pub timedLines : Reference → ℤ → (Entry → Altitude) → List Entry → List ℕ
+timedLines k d x [] = []
+timedLines k d x (e ∷ es) = timedLine k d (x e) e ++ timedLines k d x es

@@ -15,9 +15,9 @@ ghost use lib.IntN.{pos, natAbs, _+ℤ_};
 ghost use Rattle.rounding.specs.Near.{floorZ};
 ghost use Rattle.sheet_format.specs.StoredSeconds.{secondOf};
 ghost use Rattle.decimal_text.specs.Texts.{letters, Put};
-ghost use Rattle.listing_lines.specs.Lines.{textOf, endFor};
+ghost use Rattle.listing_lines.specs.Lines.{textOf};
 ghost use Rattle.listing_lines.specs.Times.{timeText};
-ghost use Rattle.listing_lines.specs.Clock.{timeIn, known, typedName, nameOf, dateText, instantText, timesIn, scaleText, scalesText, shownFor, behind, timedLine};
+ghost use Rattle.listing_lines.specs.Clock.{timeIn, known, typedName, nameOf, dateText, instantText, timesIn, scaleText, scalesText, shownFor, behind, timedText, tenthsText, altitudeText, timedLine};
 
 // The scales in which times are printed.
 pub enum TimeScale {
@@ -32,6 +32,13 @@ pub enum Seconds {
     Moment(u32),
     // from and to, outward
     Contact(u32, u32),
+}
+
+// What is printed of an altitude: nothing; or tenths of a degree above or below the horizon.
+pub enum Altitude {
+    Nothing,
+    Above(u64),
+    Below(u64),
 }
 
 // What follows an entry's text: the line of the instant, or times.
@@ -172,8 +179,8 @@ fn put_instant_line(out: &mut [u8], at: usize, i: Instant) -> usize
     put_instant(out, next, i)
 }
 
-// A new kind is an arm here and a row of `shownFor`.
-fn shown_for(kind: Kind, a: u32, b: u32) -> Shown
+// What is shown of a kind with its first two fields. A new kind is an arm here and a row of `shownFor`.
+pub fn shown_for(kind: Kind, a: u32, b: u32) -> Shown
     ensures { λ r. ⌜ r ≡ shownFor kind a b ⌝ }
 {
     match kind {
@@ -204,29 +211,74 @@ fn put_behind(out: &mut [u8], at: usize, i: Instant, deltat: i64, entry: Entry) 
     }
 }
 
-// An entry's line with an instant.
+// An entry's text with an instant.
 fn put_timed(out: &mut [u8], at: usize, entry: Entry, i: Instant, deltat: i64) -> usize
-    ensures { λ r. ⌜ Put (now (out .entry)) at (textOf entry ++ behind i (known deltat) entry ++ endFor (entry .kind)) (now (out .exit)) r ⌝ }
+    ensures { λ r. ⌜ Put (now (out .entry)) at (textOf entry ++ behind i (known deltat) entry) (now (out .exit)) r ⌝ }
 {
     let d = scales::known(deltat);
     let text = crate::lines::put_entry_text(out, at, entry);
-    let times = put_behind(out, text, i, d, entry);
-    let kind = entry.kind;
-    crate::lines::put_end(out, times, kind)
+    put_behind(out, text, i, d, entry)
 }
 
-// The line of an entry with its times; `deltat` is the station's, in hundredths of a second. Any instant, any ΔT.
-pub fn put_entry(
+// An entry's text, with its times where the reference is an instant.
+fn put_times_of(
     out: &mut [u8],
     at: usize,
     entry: Entry,
     reference: Reference,
     deltat: i64,
 ) -> usize
-    ensures { λ r. ⌜ Put (now (out .entry)) at (timedLine reference deltat entry) (now (out .exit)) r ⌝ }
+    ensures { λ r. ⌜ Put (now (out .entry)) at (timedText reference deltat entry) (now (out .exit)) r ⌝ }
 {
     match reference {
-        Reference::Nothing => crate::lines::put_entry(out, at, entry),
+        Reference::Nothing => crate::lines::put_entry_text(out, at, entry),
         Reference::At(i) => put_timed(out, at, entry, i, deltat),
     }
+}
+
+// ---- the altitude
+
+// n tenths of a degree.
+fn put_tenths(out: &mut [u8], at: usize, n: u64) -> usize
+    ensures { λ r. ⌜ Put (now (out .entry)) at (tenthsText n) (now (out .exit)) r ⌝ }
+{
+    let point = decimal_text::put_number(out, at, n / 10);
+    let tenth = decimal_text::put_byte(out, point, b'.');
+    crate::times_of_day::put_digit(out, tenth, n)
+}
+
+// An altitude, where there is one.
+fn put_altitude(out: &mut [u8], at: usize, altitude: Altitude) -> usize
+    ensures { λ r. ⌜ Put (now (out .entry)) at (altitudeText altitude) (now (out .exit)) r ⌝ }
+{
+    match altitude {
+        Altitude::Nothing => at,
+        Altitude::Above(n) => {
+            let next = decimal_text::put_text(out, at, b" alt ");
+            put_tenths(out, next, n)
+        }
+        Altitude::Below(n) => {
+            let next = decimal_text::put_text(out, at, b" alt -");
+            let end = put_tenths(out, next, n);
+            decimal_text::put_text(out, end, b" below the horizon")
+        }
+    }
+}
+
+// The line of an entry with its times and the altitude; `deltat` is the station's, in hundredths of a second. Any
+// instant, any ΔT, any altitude.
+pub fn put_entry(
+    out: &mut [u8],
+    at: usize,
+    entry: Entry,
+    reference: Reference,
+    deltat: i64,
+    altitude: Altitude,
+) -> usize
+    ensures { λ r. ⌜ Put (now (out .entry)) at (timedLine reference deltat altitude entry) (now (out .exit)) r ⌝ }
+{
+    let times = put_times_of(out, at, entry, reference, deltat);
+    let seen = put_altitude(out, times, altitude);
+    let kind = entry.kind;
+    crate::lines::put_end(out, seen, kind)
 }

@@ -9,7 +9,7 @@ ghost use Rattle.decimal_text.specs.Texts.{letters, Put};
 ghost use Rattle.listing_lines.specs.Times.{two, secondsText, ofDayText, dayText, timeText};
 
 // The last digit of a number.
-fn put_digit(out: &mut [u8], at: usize, n: u64) -> usize
+pub fn put_digit(out: &mut [u8], at: usize, n: u64) -> usize
     ensures { λ r. ⌜ Put (now (out .entry)) at (digit (n % 10) ∷ []) (now (out .exit)) r ⌝ }
 {
     let last = n % 10;

@@ -1,4 +1,5 @@
 pub mod Answers
+pub mod Sky
 pub mod Listings
 pub mod Extents
 pub mod laws

@@ -1,3 +1,4 @@
 pub mod AnswerLaws
+pub mod SkyLaws
 pub mod ListingLaws
 pub mod ExtentLaws

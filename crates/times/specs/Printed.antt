@@ -12,7 +12,8 @@ use Rattle.program_io.specs.Inputs.{zeros}
 use Rattle.request_text.specs.Meaning.{Meaning, asked, refused, meaningOf}
 use Rattle.answers.specs.Answers.{timedText, starTimedText}
 
--- the answer to a request's bytes: 79 are a star's. Times are shown where there is an instant.
+-- the answer to a request's bytes with altitudes and notes: 79 are a star's. Times are shown where there is an
+-- instant.
 unfoldable pub textBy : Reference → (request sines room : List ℕ) → List ℕ
 textBy k request sines room = cond (eqb (length request) 79) (starTimedText k request sines room) (timedText k request sines room)
 

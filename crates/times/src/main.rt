@@ -1,5 +1,5 @@
-// Reads a typed request from standard input, as `request` does, and prints the listing of its sheet; where the text
-// has an instant, with clock times (docs/CLOCK.md). A refusal is printed as `sheet` prints it; a fault of the text is
+// Reads a typed request from standard input, as `request` does, and prints the listing of its sheet with altitudes and
+// notes; where the text has an instant, with clock times (docs/CLOCK.md). A refusal is printed as `sheet` prints it; a fault of the text is
 // told on standard error with its line.
 use answers::put_timed_answer;
 use answers::put_timed_star_answer;
@@ -57,11 +57,11 @@ fn put_text(
 
 // What the program writes of its input, of which `length` bytes were read, and the output that it goes to: the listing
 // or the refusal of a typed request, or what is wrong with the text. The text's array has a byte more than is taken, so
-// that a longer text is seen. A listing has 91 bytes at most for 5 bytes of a sheet, and the lines of head, instant and
-// closest.
-fn respond(text: &[u8; 65537], length: usize, out: &mut [u8; 1200000]) -> Text
+// that a longer text is seen. A listing has 151 bytes at most for 5 bytes of a sheet, and the lines of head, instant,
+// closest and notes.
+fn respond(text: &[u8; 65537], length: usize, out: &mut [u8; 2000000]) -> Text
     requires { ⌜ Counts length (now text) ⌝ }
-    ensures text { λ r. ⌜ ((s : List ℕ) → Read s (now (text .entry)) length → Sent (r .descriptor) (take (r .length) (now (out .exit))) (take 1200000 (outputOf s)) (take 1200000 (errorOf s))) ⌝ }
+    ensures text { λ r. ⌜ ((s : List ℕ) → Read s (now (text .entry)) length → Sent (r .descriptor) (take (r .length) (now (out .exit))) (take 2000000 (outputOf s)) (take 2000000 (errorOf s))) ⌝ }
     ensures counts { λ r. ⌜ Counts (r .length) (now (out .exit)) ⌝ }
 {
     let all: &[u8] = text;
@@ -92,8 +92,8 @@ fn text_room() -> [u8; 65537] {
     [0; 65537]
 }
 
-fn lines_room() -> [u8; 1200000] {
-    [0; 1200000]
+fn lines_room() -> [u8; 2000000] {
+    [0; 2000000]
 }
 
 fn main() {

@@ -374,7 +374,7 @@ pub fn sheet_of_doubles(
     (number, value)
 }
 
-/// The steps of a network's clocks, and the station that sees the eclipse first.
+/// The steps of a network's clocks, and the station whose first enter comes first.
 pub fn network(eclipse: &[i64], stations: &[Node], sines: &mut [u32], steps: &mut [u64]) -> Reply {
     let mut value = UNSET;
     let number = unsafe {

@@ -17,6 +17,7 @@ pub mod mend;
 pub mod mirror;
 pub mod network;
 pub mod numbers;
+pub mod observer;
 pub mod place;
 pub mod random;
 pub mod refusal;

@@ -10,7 +10,7 @@ use crate::star::StarRequest;
 pub const ROOM: usize = 65_536;
 
 /// The line of a record, if it has one.
-fn line(record: &Record) -> Option<String> {
+pub fn line(record: &Record) -> Option<String> {
     let second = |field: u32| i64::from(field) - FARTHEST;
     let [a, b, c, _] = record.fields;
     let phase = match record.family() {

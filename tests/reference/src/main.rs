@@ -1,5 +1,6 @@
 //! `reference sheet`: 115 bytes on standard input, the listing on standard output.
 //! `reference star`: the 79 bytes of a star request on standard input, the listing on standard output.
+//! `reference observer`: the bytes of either request on standard input, the listing with altitudes and notes on standard output.
 //! `reference network`: whole numbers on standard input, a line of 25 for the eclipse, then a line of six for each station; the steps and
 //! the first station on standard output.
 //! `reference stream`: requests one after the other on standard input, their sheets on standard output, refusals on standard error.
@@ -9,6 +10,7 @@
 
 use reference::listing::{program, sheet_of_input, star_of_input, star_program, ROOM};
 use reference::network;
+use reference::observer;
 use reference::request::Request;
 use reference::share::share;
 use reference::star::STAR_LENGTH;
@@ -63,6 +65,10 @@ fn main() -> ExitCode {
             stdin().read_to_end(&mut input).expect("standard input can be read");
             star_program(&input)
         }
+        ["observer"] => {
+            stdin().read_to_end(&mut input).expect("standard input can be read");
+            observer::program(&input)
+        }
         ["stream"] => {
             stdin().read_to_end(&mut input).expect("standard input can be read");
             let (sheets, told) = stream(&input);
@@ -88,7 +94,7 @@ fn main() -> ExitCode {
         }
         ["shares"] => shares(&read_to_string(stdin()).expect("text on standard input")),
         _ => {
-            eprintln!("usage: reference sheet | star | stream | network | time N | seconds | shares");
+            eprintln!("usage: reference sheet | star | observer | stream | network | time N | seconds | shares");
             return ExitCode::FAILURE;
         }
     };

@@ -44,7 +44,7 @@ pub struct Network {
     pub nodes: Vec<Node>,
 }
 
-/// The station that sees the eclipse first.
+/// The station whose first enter comes first; this says nothing of the horizon.
 #[derive(Clone, Copy, PartialEq, Eq, Debug)]
 pub struct First {
     /// its number.
@@ -145,7 +145,7 @@ impl Network {
     }
 }
 
-/// The number of the station that sees the eclipse first, 0 if none enters, and the steps in lent room, 0 past the list. Refusals: 10
+/// The number of the station whose first enter comes first, 0 if none enters, and the steps in lent room, 0 past the list. Refusals: 10
 /// for other lengths than 25 and 64; 19, 1, 2, 3, 14, 15, 16; 4 for the room for table S. After a refusal both rooms hold what they held.
 pub fn network(
     eclipse: &[i64],
@@ -162,8 +162,8 @@ pub fn network(
     Ok(network.first().map_or(0, |first| first.number as u64))
 }
 
-/// What the program `network` prints: a line for each station with its steps, then the station that sees the eclipse first with the
-/// second; or the refusal.
+/// What the program `network` prints: a line for each station with its steps, then the station whose first enter comes first with the
+/// second, and whether the Sun is above its horizon then; or the refusal.
 pub fn program(eclipse: &[i64], nodes: &[Node]) -> String {
     let network = Network::from_numbers(eclipse, nodes).and_then(|network| network.check().map(|()| network));
     let network = match network {
@@ -175,7 +175,12 @@ pub fn program(eclipse: &[i64], nodes: &[Node]) -> String {
         writeln!(text, "station {} steps {steps}", node.station.number).expect("text grows");
     }
     match network.first() {
-        Some(First { number, to }) => writeln!(text, "first {number} to {to}"),
+        Some(First { number, to }) => {
+            let node = network.nodes.iter().find(|node| node.station.number == number).expect("a station of the list");
+            let horizon = network.request(node).horizon(to).expect("a second of the window");
+            let sun = if horizon.altitude < 0 { "down" } else { "up" };
+            writeln!(text, "first {number} to {to} sun {sun}")
+        }
         None => writeln!(text, "first 0"),
     }
     .expect("text grows");

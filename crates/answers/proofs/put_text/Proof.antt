@@ -18,10 +18,10 @@ returns : tie.Need-returns
 returns c =
     let a = c .before .before .before .before .before .before in
     let s = a .before .before .before .before in
-    put-written _ _ _ _ _ _ _ _ (a .answer .given .1) (rw (toZ-ofZ w64 (s .args .deltat) (s .fits .deltat)) at (c .before .before .put-timed-listing .ensures))
+    put-written _ _ _ _ _ _ _ _ _ (a .answer .given .1) (rw (toZ-ofZ w64 (s .args .deltat) (s .fits .deltat)) at (c .before .before .put-timed-listing .ensures))
 
 returns-2 : tie.Need-returns-2
-returns-2 c = put-refused _ _ _ _ _ _ _ _ (c .before .before .before .before .before .answer2 .given .1) (c .before .before .put-refused .ensures)
+returns-2 c = put-refused _ _ _ _ _ _ _ _ _ (c .before .before .before .before .before .answer2 .given .1) (c .before .before .put-refused .ensures)
 
 pub put-text-spec : {M : Type 1} → statement M
 put-text-spec =

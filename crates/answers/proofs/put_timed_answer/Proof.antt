@@ -15,13 +15,14 @@ put-text-requires c κs = let m = c .before .before .before .before .before .bef
 returns : tie.Need-returns
 returns c =
     let m = c .before .before .before .before .before .before .before .before .before in
-    let d = m .before .before .before .deltat in
-    let a = m .before .before .before .before .before .before .before .before .args in
-    let t = timed-is _ _ _ _ (m .sheet .ensures .0) _ (m .sheet .ensures .1 .0) (a .reference) _ (read-result (d .result) (d .ok) ∙ d .ensures) in
+    let y = m .before .before .before in
+    let d = y .before .deltat in
+    let a = y .before .before .before .before .before .before .args in
+    let t = timed-is _ _ _ _ (m .sheet .ensures .0) _ (m .sheet .ensures .1 .0) (a .reference) _ _ (read-result (d .result) (d .ok) ∙ d .ensures) (y .sky-of .ensures) in
     (rw (← t) (c .before .before .put-text .ensures), (m .sheet .ensures .1 .0, m .sheet .ensures .1 .1 .0))
 
 pub put-timed-answer-spec : {M : Type 1} → statement M
 put-timed-answer-spec =
     tie.close
-    (tie.spec (λ c κs. search needs) (λ c κs. search needs) put-text-requires (λ c. search needs)
+    (tie.spec (λ c κs. search needs) (λ c κs. search needs) (λ c κs. search needs) put-text-requires (λ c. search needs)
     (λ c. search needs) (λ c. search needs) returns)

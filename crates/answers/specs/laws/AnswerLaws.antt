@@ -15,19 +15,23 @@ use Rattle.calendar.specs.declared.Reference.the-variants as R
 use Rattle.listing_lines.specs.Lines.{refusalLine}
 use Rattle.listings.specs.Listings.{timed, printed}
 use Rattle.listings.specs.laws.ListingLaws.{timed-off}
-use Rattle.answers.specs.Answers.{textBy, answerText, starText, timedBy, timedText, starTimedText}
+use Rattle.request_format.specs.declared.fields.Shape.the-variants as S
+use Rattle.request_answers.specs.Second.{wish}
+use Rattle.listings.specs.declared.sky.Sky.{Sky}
+use Rattle.listings.specs.declared.sky.Sky.the-variants as Sky
+use Rattle.answers.specs.Answers.{textBy, answerText, starText, skyOf, timedBy, timedText, starTimedText}
 
 -- ---- an answer and the bytes that it left
 
-module _ (k : Reference) (d : ℤ) (a : Answer) (room old new : List ℕ) (r : ℕ) where
-  pub put-written : (n : ℕ) → a ≡ A.Written n → Put old 0 (printed (timed k d (take n room))) new r → Put old 0 (timedBy k d a room) new r
+module _ (k : Reference) (d : ℤ) (y : Sky) (a : Answer) (room old new : List ℕ) (r : ℕ) where
+  pub put-written : (n : ℕ) → a ≡ A.Written n → Put old 0 (printed (timed k d y (take n room))) new r → Put old 0 (timedBy k d y a room) new r
   put-written n e p = rw e p
 
-  pub put-refused : (x : Refusal) → a ≡ A.Refused x → Put old 0 (refusalLine (x .number) (x .place)) new r → Put old 0 (timedBy k d a room) new r
+  pub put-refused : (x : Refusal) → a ≡ A.Refused x → Put old 0 (refusalLine (x .number) (x .place)) new r → Put old 0 (timedBy k d y a room) new r
   put-refused x e p = rw e p
 
 -- with no clock
-off : (a : Answer) (room : List ℕ) → timedBy R.Nothing (pos 0) a room ≡ textBy a room
+off : (a : Answer) (room : List ℕ) → timedBy R.Nothing (pos 0) Sky.Nothing a room ≡ textBy a room
 off (A.Written n) room = ap printed (timed-off (pos 0) (take n room))
 off (A.Refused r) room = refl
 
@@ -35,22 +39,22 @@ off (A.Refused r) room = refl
 
 module _ (request sines room : List ℕ) (a : Answer) (is : a ≡ starAnswer request sines room)
     (left : List ℕ) (by-rule : left ≡ starBuffer request sines room) where
-  pub star-text : timedBy R.Nothing (pos 0) a left ≡ starText request sines room
+  pub star-text : timedBy R.Nothing (pos 0) Sky.Nothing a left ≡ starText request sines room
   unfolding starText
   star-text = off a left ∙ rw (is, by-rule)
 
-  pub star-timed : (k : Reference) (d : ℤ) → d ≡ starDelta request → timedBy k d a left ≡ starTimedText k request sines room
+  pub star-timed : (k : Reference) (d : ℤ) (y : Sky) → d ≡ starDelta request → y ≡ skyOf (wish S.Star request) → timedBy k d y a left ≡ starTimedText k request sines room
   unfolding starTimedText
-  star-timed k d e = rw (is, by-rule, e)
+  star-timed k d y e f = rw (is, by-rule, e, f)
 
 -- ---- what an eclipse's bytes are answered
 
 module _ (request sines room : List ℕ) (a : Answer) (is : a ≡ answerTo request sines room)
     (left : List ℕ) (by-rule : left ≡ bufferFor request sines room) where
-  pub text-is : timedBy R.Nothing (pos 0) a left ≡ answerText request sines room
+  pub text-is : timedBy R.Nothing (pos 0) Sky.Nothing a left ≡ answerText request sines room
   unfolding answerText
   text-is = off a left ∙ rw (is, by-rule)
 
-  pub timed-is : (k : Reference) (d : ℤ) → d ≡ deltaOf request → timedBy k d a left ≡ timedText k request sines room
+  pub timed-is : (k : Reference) (d : ℤ) (y : Sky) → d ≡ deltaOf request → y ≡ skyOf (wish S.Eclipse request) → timedBy k d y a left ≡ timedText k request sines room
   unfolding timedText
-  timed-is k d e = rw (is, by-rule, e)
+  timed-is k d y e f = rw (is, by-rule, e, f)

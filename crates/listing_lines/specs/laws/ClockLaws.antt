@@ -1,8 +1,8 @@
 -- What follows an entry, put part by part.
 use Prim.Native.Nat.{ℕ, _≤_, _<_}
-use mathlib.Core.Path.{_≡_, refl, ap}
+use mathlib.Core.Path.{_≡_, refl, ap, ap₂, _∙_}
 use mathlib.Core.Bool.{true, false}
-use mathlib.Core.List.{List, [], _∷_, _++_, append-assoc}
+use mathlib.Core.List.{List, [], _∷_, _++_, append-assoc, append-nil}
 use native.Mathlib.Omega.{arith}
 use lib.IntN.{ℤ, pos, negsuc, natAbs, _+ℤ_}
 use lib.Signed.{_≤ℤ_, _<ℤ_}
@@ -24,9 +24,11 @@ use Rattle.calendar.specs.declared.Reference.{Reference}
 use Rattle.calendar.specs.declared.Reference.the-variants as R
 use Rattle.listing_lines.specs.declared.clock.Seconds.{Seconds}
 use Rattle.listing_lines.specs.declared.clock.Seconds.the-variants.{Moment, Contact}
+use Rattle.listing_lines.specs.declared.clock.Altitude.{Altitude}
+use Rattle.listing_lines.specs.declared.clock.Altitude.the-variants as A
 use Rattle.listing_lines.specs.declared.clock.Shown.{Shown}
 use Rattle.listing_lines.specs.Times.{timeText}
-use Rattle.listing_lines.specs.Clock.{offsetOf, timeIn, known, shows, nameOf, timesIn, scaleText, shownFor, shownText, behind, timedLine, timedLines}
+use Rattle.listing_lines.specs.Clock.{offsetOf, timeIn, known, shows, nameOf, timesIn, scaleText, shownFor, shownText, behind, timedText, tenthsText, altitudeText, timedLine, timedLines}
 
 -- the times of an entry: what is added before rounding down is 50, or 0 and 99
 module _ (shown : TimeScale) (i : Instant) (d : ℤ) (s : Seconds) (old : List ℕ) (at : ℕ) where
@@ -60,30 +62,50 @@ pub behind-shown : (i : Instant) (d : ℤ) (e : Entry) (x : Shown) → x ≡ sho
 unfolding behind
 behind-shown i d e x q y w old at new r p = rw (← q, w) p
 
--- the line by the reference
+-- the text by the reference
 module _ (k : Reference) (d : ℤ) (e : Entry) (old : List ℕ) (at : ℕ) (new : List ℕ) (r : ℕ) where
-  pub line-off : k ≡ R.Nothing → Put old at (lineOf e) new r → Put old at (timedLine k d e) new r
-  unfolding timedLine
-  line-off q p = rw q p
+  pub text-off : k ≡ R.Nothing → Put old at (textOf e) new r → Put old at (timedText k d e) new r
+  unfolding timedText
+  text-off q p = rw q p
 
-  pub line-at : (i : Instant) → k ≡ R.At i → Put old at (textOf e ++ behind i (known d) e ++ endFor (e .kind)) new r → Put old at (timedLine k d e) new r
-  unfolding timedLine
-  line-at i q p = rw q p
+  pub text-at : (i : Instant) → k ≡ R.At i → Put old at (textOf e ++ behind i (known d) e) new r → Put old at (timedText k d e) new r
+  unfolding timedText
+  text-at i q p = rw q p
+
+-- an altitude
+module _ (x : Altitude) (old : List ℕ) (at : ℕ) where
+  pub altitude-none : x ≡ A.Nothing → at < 18446744073709551616 → Put old at (altitudeText x) old at
+  unfolding altitudeText
+  altitude-none q h = rw q (put-nil old at h)
+
+  pub altitude-up : (n : ℕ) → x ≡ A.Above n → (new : List ℕ) (r : ℕ) → Put old at (letters " alt " ++ tenthsText n) new r → Put old at (altitudeText x) new r
+  unfolding altitudeText
+  altitude-up n q new r p = rw q p
+
+  pub altitude-down : (n : ℕ) → x ≡ A.Below n → (new : List ℕ) (r : ℕ) → Put old at (letters " alt -" ++ tenthsText n ++ letters " below the horizon") new r
+      → Put old at (altitudeText x) new r
+  unfolding altitudeText
+  altitude-down n q new r p = rw q p
 
 -- the lines, as a loop puts them
-pub lines-nil : (k : Reference) (d : ℤ) → timedLines k d [] ≡ []
+pub lines-nil : (k : Reference) (d : ℤ) (x : Entry → Altitude) → timedLines k d x [] ≡ []
 unfolding timedLines
-lines-nil k d = refl
+lines-nil k d x = refl
 
-pub lines-cons : (k : Reference) (d : ℤ) (e : Entry) (es : List Entry) → timedLines k d (e ∷ es) ≡ timedLine k d e ++ timedLines k d es
+pub lines-cons : (k : Reference) (d : ℤ) (x : Entry → Altitude) (e : Entry) (es : List Entry)
+    → timedLines k d x (e ∷ es) ≡ timedLine k d (x e) e ++ timedLines k d x es
 unfolding timedLines
-lines-cons k d e es = refl
+lines-cons k d x e es = refl
 
--- with no clock they are document 01's
-pub lines-off : (d : ℤ) (es : List Entry) → timedLines R.Nothing d es ≡ linesOf es
-unfolding timedLines timedLine linesOf
-lines-off d [] = refl
-lines-off d (e ∷ es) = ap (λ x. lineOf e ++ x) (lines-off d es)
+-- with no clock and no altitude they are document 01's
+line-off : (d : ℤ) (e : Entry) → timedLine R.Nothing d A.Nothing e ≡ lineOf e
+unfolding timedLine timedText altitudeText lineOf
+line-off d e = ap (λ t. t ++ endFor (e .kind)) (append-nil (textOf e))
+
+pub lines-off : (d : ℤ) (x : Entry → Altitude) → ((e : Entry) → x e ≡ A.Nothing) → (es : List Entry) → timedLines R.Nothing d x es ≡ linesOf es
+unfolding timedLines linesOf
+lines-off d x h [] = refl
+lines-off d x h (e ∷ es) = ap₂ _++_ (ap (λ y. timedLine R.Nothing d y e) (h e) ∙ line-off d e) (lines-off d x h es)
 
 -- ---- a ΔT that a request can have
 

@@ -2,7 +2,7 @@
 -- and put them.
 use Prim.Native.Nat.{ℕ, suc, _+_, _-_, _≤_, _<_}
 use mathlib.Core.Path.{_≡_, refl, sym, ap, _∙_}
-use mathlib.Core.List.{List, [], _++_}
+use mathlib.Core.List.{List, [], _∷_, _++_, append-nil}
 use mathlib.Core.Bool.{true, false}
 use native.Mathlib.Omega.{arith}
 use lib.IntN.{ℤ, pos}
@@ -21,6 +21,7 @@ use Rattle.sheet_codec.specs.Sheets.{Sheet, sheet, refused, sheetFrom, storedAt
 use Rattle.sheet_codec.specs.laws.SheetLaws.{read-start, extent-inv, extent-refused, whole-same}
 use Rattle.sheet_codec.specs.laws.GivenLaws.{Went, from-inv}
 use Rattle.decimal_text.specs.Texts.{Put}
+use Rattle.decimal_text.specs.laws.RowLaws.{put-as, joined}
 use Rattle.decimal_text.specs.laws.TextLaws.{Putting, putting-start, putting-turn, putting-end}
 use Rattle.listings.specs.declared.Text.{Text}
 use Rattle.listings.specs.declared.Text.the-variants as T
@@ -29,6 +30,13 @@ use Rattle.calendar.specs.declared.Reference.the-variants as R
 use Rattle.listing_lines.specs.Clock.{timedLine, timedLines}
 use Rattle.listing_lines.specs.laws.ClockLaws.{lines-nil, lines-cons, lines-off}
 use Rattle.listing_lines.specs.Lines.{linesOf, refusalLine}
+use Rattle.listing_lines.specs.declared.clock.Altitude.{Altitude}
+use Rattle.listings.specs.declared.sky.Sky.{Sky}
+use Rattle.listings.specs.declared.sky.Sky.the-variants as Sky
+use Rattle.listings.specs.declared.sky.View.{View}
+use Rattle.listings.specs.declared.sky.View.the-variants as Seen
+use Rattle.listings.specs.Sky.{altitudeFor, viewAfter, viewOf, notesFor}
+use Rattle.listings.specs.laws.SkyLaws.{view-nil, view-cons}
 use Rattle.listings.specs.Answers.{text, answered, roomWith}
 use Rattle.listings.specs.laws.AnswerLaws.{text-short, text-full}
 use Rattle.listings.specs.Listings.{listingOf, timedOf, told, timed, printed}
@@ -37,15 +45,15 @@ abbrev pub IsSheet : Sheet → Type 0
 IsSheet (refused r) = ⊥
 IsSheet (sheet es n) = Unit
 
--- its lines by a clock are put at a place
-abbrev pub Laid : Reference → ℤ → Sheet → List ℕ → ℕ → List ℕ → ℕ → Type 0
-Laid k d (refused x) old at new r = ⊥
-Laid k d (sheet es n) old at new r = Put old at (timedLines k d es) new r
+-- its lines by a clock are put at a place, and what is seen at its contacts
+abbrev pub Laid : Reference → ℤ → Sky → Sheet → List ℕ → ℕ → List ℕ → ℕ → View → Type 0
+Laid k d y (refused x) old at new r v = ⊥
+Laid k d y (sheet es n) old at new r v = Put old at (timedLines k d (altitudeFor y) es) new r × (v ≡ viewOf y Seen.Nothing es)
 
 -- ---- the loop
 
--- the lines of the records before `from` are put, up to `at`
-pub record Laying (k : Reference) (d : ℤ) (s old : List ℕ) (begin : ℕ) (out : List ℕ) (from at : ℕ) : Type 0 where
+-- the lines of the records before `from` are put, up to `at`, and v is what was seen there
+pub record Laying (k : Reference) (d : ℤ) (y : Sky) (s old : List ℕ) (begin : ℕ) (out : List ℕ) (from at : ℕ) (v : View) : Type 0 where
   pub p : Progress
   pub n : ℕ
   pub all : List Entry
@@ -56,13 +64,14 @@ pub record Laying (k : Reference) (d : ℤ) (s old : List ℕ) (begin : ℕ) (ou
   pub left : sheetFrom (storedAt s) (suc (length s - n)) p n from ≡ sheet es len
   pub low : n ≤ from
   pub within : from ≤ length s
-  pub putting : Putting old begin (timedLines k d all) out at (timedLines k d es)
+  pub putting : Putting old begin (timedLines k d (altitudeFor y) all) out at (timedLines k d (altitudeFor y) es)
+  pub seen : viewOf y v es ≡ viewOf y Seen.Nothing all
 
-pub laying-start : (k : Reference) (d : ℤ) (s out : List ℕ) (at : ℕ) → at < 18446744073709551616 → length out < 18446744073709551616 → IsSheet (readSheet s)
-    → Laying k d s out at out 0 at
-laying-start k d s out at f l h = by (readSheet s) refl h
+pub laying-start : (k : Reference) (d : ℤ) (y : Sky) (s out : List ℕ) (at : ℕ) → at < 18446744073709551616 → length out < 18446744073709551616 → IsSheet (readSheet s)
+    → Laying k d y s out at out 0 at Seen.Nothing
+laying-start k d y s out at f l h = by (readSheet s) refl h
   where
-    by : (w : Sheet) → readSheet s ≡ w → IsSheet w → Laying k d s out at out 0 at
+    by : (w : Sheet) → readSheet s ≡ w → IsSheet w → Laying k d y s out at out 0 at Seen.Nothing
     by (refused r) q h = absurd h
     by (sheet es n) q h =
         record {
@@ -76,17 +85,22 @@ laying-start k d s out at f l h = by (readSheet s) refl h
           left = sym (read-start s) ∙ q;
           low = omega arith;
           within = omega arith;
-          putting = putting-start out at (timedLines k d es) f l;
+          putting = putting-start out at (timedLines k d (altitudeFor y) es) f l;
+          seen = refl;
         }
 
-module _ (k : Reference) (d : ℤ) (s old : List ℕ) (begin : ℕ) (out : List ℕ) (from at : ℕ) (f : Laying k d s old begin out from at) where
+module _ (k : Reference) (d : ℤ) (y : Sky) (s old : List ℕ) (begin : ℕ) (out : List ℕ) (from at : ℕ) (v : View) (f : Laying k d y s old begin out from at v) where
   first : Went (storedAt s) (length s - f .n) (f .p) (f .n) from (f .es) (f .len)
   first = from-inv (storedAt s) (length s - f .n) (f .p) (f .n) from (f .es) (f .len) (f .left)
 
   pub laying-never : (r : Refusal) → recordAt s from ≡ Refused r → ⊥
   laying-never r q = let t = first .got in let z : _≡_ {A = ℕ} 0 1 = cc in omega arith
 
-  module _ (e : Entry) (next : ℕ) (q : recordAt s from ≡ Is e next) (new : List ℕ) (r : ℕ) (put : Put out at (timedLine k d e) new r) where
+  module _ (e : Entry) (next : ℕ) (q : recordAt s from ≡ Is e next) (x : Altitude) (seen-at : x ≡ altitudeFor y e) (new : List ℕ) (r : ℕ)
+      (put-at : Put out at (timedLine k d x e) new r) where
+    put : Put out at (timedLine k d (altitudeFor y e) e) new r
+    put = put-as _ _ out at new r (ap (λ z. timedLine k d z e) seen-at) put-at
+
     same-entry : first .e ≡ e
     same-entry = let t = first .got in cc
 
@@ -96,11 +110,11 @@ module _ (k : Reference) (d : ℤ) (s old : List ℕ) (begin : ℕ) (out : List 
     ended : isEnd (first .e .kind) ≡ isEnd (e .kind)
     ended = ap (λ x. isEnd (x .kind)) same-entry
 
-    split : timedLines k d (f .es) ≡ timedLine k d e ++ timedLines k d (first .tail)
-    split = ap (timedLines k d) (first .all) ∙ lines-cons k d (first .e) (first .tail) ∙ ap (λ x. timedLine k d x ++ timedLines k d (first .tail)) same-entry
+    split : timedLines k d (altitudeFor y) (f .es) ≡ timedLine k d (altitudeFor y e) e ++ timedLines k d (altitudeFor y) (first .tail)
+    split = ap (timedLines k d (altitudeFor y)) (first .all) ∙ lines-cons k d (altitudeFor y) (first .e) (first .tail) ∙ ap (λ x. timedLine k d (altitudeFor y x) x ++ timedLines k d (altitudeFor y) (first .tail)) same-entry
 
-    further : Putting old begin (timedLines k d (f .all)) new r (timedLines k d (first .tail))
-    further = putting-turn old begin (timedLines k d (f .all)) out at (timedLine k d e) (timedLines k d (first .tail)) new r (rw split at (f .putting)) put
+    further : Putting old begin (timedLines k d (altitudeFor y) (f .all)) new r (timedLines k d (altitudeFor y) (first .tail))
+    further = putting-turn old begin (timedLines k d (altitudeFor y) (f .all)) out at (timedLine k d (altitudeFor y e) e) (timedLines k d (altitudeFor y) (first .tail)) new r (rw split at (f .putting)) put
 
     pub laying-bounds : (from < next) × (next ≤ length s)
     laying-bounds = record-bounds s from e next q
@@ -108,13 +122,21 @@ module _ (k : Reference) (d : ℤ) (s old : List ℕ) (begin : ℕ) (out : List 
     pub laying-same : length new ≡ length old
     laying-same = further .same
 
-    pub laying-end : isEnd (e .kind) ≡ true → Laid k d (readSheet s) old begin new r
-    laying-end b =
-        let t : timedLines k d (first .tail) ≡ [] = ap (timedLines k d) (first .last (ended ∙ b) .0) ∙ lines-nil k d in
-        rw (f .whole) (putting-end old begin (timedLines k d (f .all)) new r (rw t at further))
+    -- what is seen with this entry and after it
+    seen-on : viewOf y (viewAfter v e (altitudeFor y e)) (first .tail) ≡ viewOf y Seen.Nothing (f .all)
+    seen-on =
+        ap (λ x. viewOf y (viewAfter v x (altitudeFor y x)) (first .tail)) (sym same-entry)
+        ∙ sym (view-cons y v (first .e) (first .tail)) ∙ sym (ap (viewOf y v) (first .all)) ∙ f .seen
 
-    pub laying-more : isEnd (e .kind) ≡ false → Laying k d s old begin new next r
-    laying-more b =
+    pub laying-end : (w : View) → w ≡ viewAfter v e x → isEnd (e .kind) ≡ true → Laid k d y (readSheet s) old begin new r w
+    laying-end w q b =
+        let t : timedLines k d (altitudeFor y) (first .tail) ≡ [] = ap (timedLines k d (altitudeFor y)) (first .last (ended ∙ b) .0) ∙ lines-nil k d (altitudeFor y) in
+        let u : viewAfter v e (altitudeFor y e) ≡ viewOf y Seen.Nothing (f .all) =
+        sym (view-nil y _) ∙ ap (viewOf y (viewAfter v e (altitudeFor y e))) (sym (first .last (ended ∙ b) .0)) ∙ seen-on in
+        rw (f .whole) (putting-end old begin (timedLines k d (altitudeFor y) (f .all)) new r (rw t at further), q ∙ ap (viewAfter v e) seen-at ∙ u)
+
+    pub laying-more : (w : View) → w ≡ viewAfter v e x → isEnd (e .kind) ≡ false → Laying k d y s old begin new next r w
+    laying-more w q b =
         let c = laying-bounds in
         let j : length s - f .n ≡ suc (length s - (f .n + 1)) = omega (arith, f .low) in
         record {
@@ -129,26 +151,32 @@ module _ (k : Reference) (d : ℤ) (s old : List ℕ) (begin : ℕ) (out : List 
           low = omega (arith, f .low);
           within = c .1;
           putting = further;
+          seen = ap (λ z. viewOf y z (first .tail)) (q ∙ ap (viewAfter v e) seen-at) ∙ seen-on;
         }
 
 -- ---- measured, then put
 
-module _ (w : Sheet) (none after old : List ℕ) (need : ℕ) (m : Laid R.Nothing (pos 0) w none 0 after need) (h : length old < 18446744073709551615) where
+-- with no clock and no altitude the lines are the sheet's own
+plain : (es : List Entry) (old : List ℕ) (at : ℕ) (new : List ℕ) (r : ℕ) → Put old at (timedLines R.Nothing (pos 0) (altitudeFor Sky.Nothing) es) new r
+    → Put old at (linesOf es) new r
+plain es old at new r p = put-as _ _ old at new r (lines-off (pos 0) (altitudeFor Sky.Nothing) (λ e. refl) es) p
+
+module _ (w : Sheet) (none after old : List ℕ) (need : ℕ) (n : View) (m : Laid R.Nothing (pos 0) Sky.Nothing w none 0 after need n) (h : length old < 18446744073709551615) where
   pub sheet-short : length old < need → (T.Refused (refusal 4 need) ≡ answered (length old) (listingOf w)) × (old ≡ roomWith (listingOf w) old)
   sheet-short g = by w m
     where
-      by : (v : Sheet) → Laid R.Nothing (pos 0) v none 0 after need → (T.Refused (refusal 4 need) ≡ answered (length old) (listingOf v)) × (old ≡ roomWith (listingOf v) old)
+      by : (v : Sheet) → Laid R.Nothing (pos 0) Sky.Nothing v none 0 after need n → (T.Refused (refusal 4 need) ≡ answered (length old) (listingOf v)) × (old ≡ roomWith (listingOf v) old)
       by (refused r) q = absurd q
-      by (sheet es n) q = text-short (linesOf es) none after old need (rw (lines-off (pos 0)) at q) h g
+      by (sheet es size) q = text-short (linesOf es) none after old need (plain es none 0 after need (q .0)) h g
 
-  pub sheet-full : need ≤ length old → (new : List ℕ) (r : ℕ) → Laid R.Nothing (pos 0) w old 0 new r
+  pub sheet-full : need ≤ length old → (new : List ℕ) (r : ℕ) (p : View) → Laid R.Nothing (pos 0) Sky.Nothing w old 0 new r p
       → (T.Written need ≡ answered (length old) (listingOf w)) × (new ≡ roomWith (listingOf w) old)
-  sheet-full g new r d = by w m d
+  sheet-full g new r p d = by w m d
     where
-      by : (v : Sheet) → Laid R.Nothing (pos 0) v none 0 after need → Laid R.Nothing (pos 0) v old 0 new r
+      by : (v : Sheet) → Laid R.Nothing (pos 0) Sky.Nothing v none 0 after need n → Laid R.Nothing (pos 0) Sky.Nothing v old 0 new r p
           → (T.Written need ≡ answered (length old) (listingOf v)) × (new ≡ roomWith (listingOf v) old)
       by (refused x) q d = absurd q
-      by (sheet es n) q d = text-full (linesOf es) none after old need (rw (lines-off (pos 0)) at q) h g new r (rw (lines-off (pos 0)) at d)
+      by (sheet es size) q d = text-full (linesOf es) none after old need (plain es none 0 after need (q .0)) h g new r (plain es old 0 new r (d .0))
 
 -- ---- what the reader found
 
@@ -168,25 +196,27 @@ whole-told s m n old new r q a b = rw (whole-same s m n q) (a, b)
 
 -- ---- what is printed
 
-module _ (k : Reference) (d : ℤ) (s old : List ℕ) (at : ℕ) (new : List ℕ) (q : ℕ) where
+module _ (k : Reference) (d : ℤ) (y : Sky) (s old : List ℕ) (at : ℕ) (new : List ℕ) (q : ℕ) where
   pub refused-printed : (r : Refusal) → X.Refused r ≡ extentOf (readWhole s) → Put old at (refusalLine (r .number) (r .place)) new q
-      → Put old at (printed (timed k d s)) new q
+      → Put old at (printed (timed k d y s)) new q
   unfolding timed
   refused-printed r x p = rw (extent-refused (readWhole s) r x) p
 
-  pub sheet-printed : (m n : ℕ) → X.Sheet m n ≡ extentOf (readWhole s) → Laid k d (readSheet s) old at new q → Put old at (printed (timed k d s)) new q
+  pub sheet-printed : (m n : ℕ) → X.Sheet m n ≡ extentOf (readWhole s) → length old < 18446744073709551616 → (mid : List ℕ) (r : ℕ) (v : View)
+      → Laid k d y (readSheet s) old at mid r v → Put mid r (notesFor y v) new q → Put old at (printed (timed k d y s)) new q
   unfolding timed
-  sheet-printed m n x p = rw (whole-same s m n x) (by (readSheet s) p)
+  sheet-printed m n x l mid r v p w = rw (whole-same s m n x) (by (readSheet s) p)
     where
-      by : (w : Sheet) → Laid k d w old at new q → Put old at (printed (timedOf k d w)) new q
+      by : (z : Sheet) → Laid k d y z old at mid r v → Put old at (printed (timedOf k d y z)) new q
       by (refused r) p = absurd p
-      by (sheet es j) p = p
+      by (sheet es j) p = joined l (p .0) (put-as _ _ mid r new q (ap (notesFor y) (p .1)) w)
 
--- with no clock it is the sheet's own listing
-pub timed-off : (d : ℤ) (s : List ℕ) → timed R.Nothing d s ≡ told s
+-- with no clock and no occultation it is the sheet's own listing
+pub timed-off : (d : ℤ) (s : List ℕ) → timed R.Nothing d Sky.Nothing s ≡ told s
 unfolding timed told
 timed-off d s = by (readWhole s)
   where
-    by : (w : Sheet) → timedOf R.Nothing d w ≡ listingOf w
+    by : (w : Sheet) → timedOf R.Nothing d Sky.Nothing w ≡ listingOf w
     by (refused r) = refl
-    by (sheet es n) = ap text (lines-off d es)
+    by (sheet es n) =
+        ap text (append-nil (timedLines R.Nothing d (altitudeFor Sky.Nothing) es) ∙ lines-off d (altitudeFor Sky.Nothing) (λ e. refl) es)

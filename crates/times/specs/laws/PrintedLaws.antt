@@ -40,24 +40,24 @@ unfolding meaningOf
 long-meaning text h = rw (lt-ltb 65536 (length text) (omega arith))
 
 module _ (array old new : List ℕ) (n end r : ℕ) (c : n ≤ length array) (l : length array ≡ 65537)
-    (m : length old ≡ 1200000) (e : r ≡ min end (length new)) (input : List ℕ) (q : Read input array n) where
+    (m : length old ≡ 2000000) (e : r ≡ min end (length new)) (input : List ℕ) (q : Read input array n) where
   same-meaning : meaningOf input ≡ meaningOf (take n array)
   same-meaning =
       sym
       (read-same input array n q meaningOf (refused 0 (letters "the text has more than 65,536 bytes\n"))
       (λ s k. long-meaning s (omega arith)) c)
 
-  cut : (text : List ℕ) → Put old 0 text new end → take r new ≡ take 1200000 text
+  cut : (text : List ℕ) → Put old 0 text new end → take r new ≡ take 2000000 text
   cut text p = put-cut text old new end p (omega arith) r e .0 ∙ ap (λ j. take j text) m
 
   pub listing-out : {k : ℕ} {x : Reference} {bytes : List ℕ} → Bytes (take n array) k x bytes → (sines room : List ℕ)
       → Copies 0 901 sines → Copies 0 65536 room → Put old 0 (textBy x (take k bytes) sines room) new end
-      → Sent (pos 1) (take r new) (take 1200000 (outputOf input)) (take 1200000 (errorOf input))
+      → Sent (pos 1) (take r new) (take 2000000 (outputOf input)) (take 2000000 (errorOf input))
   listing-out {k} {x} {bytes} b sines room t s p =
       let a : textBy x (take k bytes) sines room ≡ answerText x (bytesFor (b .shape) (b .numbers)) =
       answer-is x (take k bytes) sines room t s ∙ ap (answerText x) (b .bytes) in
-      rw (same-meaning ∙ b .is) (toOutput refl (cut _ p ∙ ap (take 1200000) a) refl)
+      rw (same-meaning ∙ b .is) (toOutput refl (cut _ p ∙ ap (take 2000000) a) refl)
 
   pub message-out : {k : ℕ} {message : List ℕ} → Message (take n array) k message → Put old 0 (take k message) new end
-      → Sent (pos 2) (take r new) (take 1200000 (outputOf input)) (take 1200000 (errorOf input))
-  message-out g p = rw (same-meaning ∙ g .is) (toError refl refl (cut _ p ∙ ap (take 1200000) (g .bytes)))
+      → Sent (pos 2) (take r new) (take 2000000 (outputOf input)) (take 2000000 (errorOf input))
+  message-out g p = rw (same-meaning ∙ g .is) (toError refl refl (cut _ p ∙ ap (take 2000000) (g .bytes)))

@@ -1,11 +1,11 @@
--- `listing_lines::clock::put_entry` meets its contract: the line by the reference.
+-- `listing_lines::clock::put_entry` meets its contract: the text with its times, the altitude, the end of the line.
 use mathlib.Core.Path.{_≡_, ap}
+use native.Mathlib.Omega.{arith}
 use mir.Syntax.{w64}
 use mir.Val.{toZ, ofZ}
 use mir.ValLaws.{toZ-ofZ}
-use Rattle.decimal_text.specs.laws.RowLaws.{put-as}
+use Rattle.decimal_text.specs.laws.RowLaws.{put-as, joined}
 use Rattle.listing_lines.specs.Clock.{timedLine}
-use Rattle.listing_lines.specs.laws.ClockLaws.{line-off, line-at}
 use borrow.Author.Needs.{needs}
 use Rattle.listing_lines.proofs.clock.put_entry.Statement.{statement}
 use Rattle.listing_lines.proofs.clock.put_entry.Tie as tie
@@ -14,16 +14,14 @@ read : (c : tie.Start) → toZ w64 (ofZ w64 (c .args .deltat)) ≡ c .args .delt
 read c = toZ-ofZ w64 (c .args .deltat) (c .fits .deltat)
 
 returns : tie.Need-returns
-returns c = line-off _ _ _ _ _ _ _ (c .before .before .before .before .enum-told .given .1) (c .before .before .put-entry .ensures)
-
-returns-2 : tie.Need-returns-2
-returns-2 c =
-    let a = c .before .before .before .before .before .before .before .before .args in
-    put-as _ _ _ _ _ _ (ap (λ d. timedLine (a .reference) d (a .entry)) (read (c .before .before .before .before .before .before .before .before)))
-    (line-at _ _ _ _ _ _ _ _ (c .before .before .before .before .before .reference .given .1) (c .before .before .put-timed .ensures))
+unfolding timedLine
+returns c =
+    let seen = c .before .before .before .before .before .before in
+    let times = seen .before .before .before .before in
+    let s = times .before .before .before in
+    put-as _ _ _ _ _ _ (ap (λ d. timedLine (s .args .reference) d (s .args .altitude) (s .args .entry)) (read s))
+    (joined (omega arith) (joined (omega arith) (times .put-times-of .ensures) (seen .put-altitude .ensures)) (c .before .before .put-end .ensures))
 
 pub put-entry-spec : {M : Type 1} → statement M
 put-entry-spec =
-    tie.close
-    (tie.spec (λ c. search needs) (λ c κs. search needs) (λ c. search needs) (λ c κs. search needs)
-    (λ c. search needs) returns (λ c. search needs) returns-2)
+    tie.close (tie.spec (λ c κs. search needs) (λ c κs. search needs) (λ c κs. search needs) (λ c. search needs) returns)
