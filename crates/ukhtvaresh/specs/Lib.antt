@@ -8,4 +8,5 @@ pub mod TablesReply
 pub mod MendReply
 pub mod Positions
 pub mod NetworkReply
+pub mod Typed
 pub mod laws
