@@ -9,4 +9,5 @@ pub mod MendReply
 pub mod Positions
 pub mod NetworkReply
 pub mod Typed
+pub mod Times
 pub mod laws
