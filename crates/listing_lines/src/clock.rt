@@ -221,7 +221,13 @@ fn put_timed(out: &mut [u8], at: usize, entry: Entry, i: Instant, deltat: i64) -
 }
 
 // An entry's text, with its times where the reference is an instant.
-fn put_times_of(out: &mut [u8], at: usize, entry: Entry, reference: Reference, deltat: i64) -> usize
+fn put_times_of(
+    out: &mut [u8],
+    at: usize,
+    entry: Entry,
+    reference: Reference,
+    deltat: i64,
+) -> usize
     ensures { λ r. ⌜ Put (now (out .entry)) at (timedText reference deltat entry) (now (out .exit)) r ⌝ }
 {
     match reference {

@@ -202,7 +202,14 @@ fn put_words(out: &mut [u8], at: usize, body: Body, sun: &[u8], star: &[u8]) -> 
 }
 
 // A note where it holds.
-fn put_note(out: &mut [u8], at: usize, holds: bool, body: Body, sun: &[u8], star: &[u8]) -> usize
+fn put_note(
+    out: &mut [u8],
+    at: usize,
+    holds: bool,
+    body: Body,
+    sun: &[u8],
+    star: &[u8],
+) -> usize
     ensures { λ r. ⌜ Put (now (out .entry)) at (cond holds (noteFor body (now (sun .entry)) (now (star .entry))) []) (now (out .exit)) r ⌝ }
 {
     if holds {

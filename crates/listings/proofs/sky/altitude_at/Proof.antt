@@ -25,7 +25,7 @@ altitude-by-requires c κs =
     omega (arith, found-small _ _ _ _ (sym (f .found .given .1) ∙ f .before .before .before .horizon-at .ensures .0), ap natAbs (altitude-is c))
 
 returns : tie.Need-returns
-returns c =
+returns c = 
     let f = c .before .before .before in
     let h = f .before .before .before in
     let s = h .before .before in
@@ -34,7 +34,7 @@ returns c =
     ∙ ap (altitudeAt _) (read (s .before))
 
 returns-2 : tie.Need-returns-2
-returns-2 c =
+returns-2 c = 
     let h = c .before .before .before in
     let s = h .before .before in
     altitude-found _ _ _ (s .sines-room .ensures .is) _ (sym (c .enum-told .given .1) ∙ h .horizon-at .ensures .0) ∙ ap (altitudeAt _) (read (s .before))

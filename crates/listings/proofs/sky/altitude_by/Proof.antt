@@ -36,5 +36,6 @@ returns c =
 returns-2 : tie.Need-returns-2
 returns-2 c = above-is _ _ (over c) (ap natAbs (runs (bounds (c .before)) (arg 0) tt))
 
+
 pub altitude-by-spec : {M : Type 1} → statement M
 altitude-by-spec = tie.close (tie.spec (λ c. fits (bounds (c .before)) opposed tt) (λ c. unsigned (bounds (c .before)) opposed tt (opposed-above _ (under c))) returns (λ c. unsigned (bounds (c .before)) (arg 0) tt (over c)) returns-2)

@@ -12,5 +12,6 @@ returns-2 c = rw (c .enum-told2 .given .1)
 returns-3 : tie.Need-returns-3
 returns-3 c = rw (c .before .before .shown .given .1) (c .altitude-of .ensures)
 
+
 pub altitude-shown-spec : {M : Type 1} → statement M
 altitude-shown-spec = tie.close (tie.spec (λ c. search needs) (λ c. search needs) (λ c. search needs) (λ c κs. search needs) returns returns-2 returns-3)

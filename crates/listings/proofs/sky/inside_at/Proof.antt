@@ -13,13 +13,13 @@ read : (c : tie.Start) → toZ w64 (ofZ w64 (c .args .t)) ≡ c .args .t
 read c = toZ-ofZ w64 (c .args .t) (c .fits .t)
 
 returns : tie.Need-returns
-returns c =
+returns c = 
     let h = c .before .before .before .before in
     let s = h .before .before in
     inside-found _ _ _ (s .sines-room .ensures .is) _ (sym (c .before .found .given .1) ∙ h .second .ensures .0) ∙ ap (insideAt _) (read (s .before))
 
 returns-2 : tie.Need-returns-2
-returns-2 c =
+returns-2 c = 
     let h = c .before .before .before in
     let s = h .before .before in
     inside-found _ _ _ (s .sines-room .ensures .is) _ (sym (c .enum-told .given .1) ∙ h .second .ensures .0) ∙ ap (insideAt _) (read (s .before))

@@ -15,5 +15,6 @@ returns-3 c = rw (c .before .before .before .shown .given .1, c .enum-told3 .giv
 returns-4 : tie.Need-returns-4
 returns-4 c = rw (c .before .before .before .shown .given .1, c .enum-told4 .given .1)
 
+
 pub is-contact-spec : {M : Type 1} → statement M
 is-contact-spec = tie.close (tie.spec (λ c. search needs) (λ c. search needs) (λ c. search needs) (λ c. search needs) (λ c. search needs) returns returns-2 returns-3 returns-4)

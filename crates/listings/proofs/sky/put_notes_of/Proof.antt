@@ -7,7 +7,7 @@ use Rattle.listings.proofs.sky.put_notes_of.Statement.{statement}
 use Rattle.listings.proofs.sky.put_notes_of.Tie as tie
 
 returns : tie.Need-returns
-returns c =
+returns c = 
     let last = c .before .before in
     let second = last .before .before .before .before .before .before in
     let first = second .before .before .before .before .before .before in

@@ -18,5 +18,6 @@ returns-4 c = rw (c .before .before .enum-told3 .given .1, c .enum-told5 .given 
 returns-5 : tie.Need-returns-5
 returns-5 c = rw (c .before .before .enum-told3 .given .1, c .enum-told6 .given .1)
 
+
 pub seen-after-spec : {M : Type 1} → statement M
 seen-after-spec = tie.close (tie.spec (λ c. search needs) (λ c. search needs) (λ c. search needs) (λ c. search needs) (λ c. search needs) (λ c. search needs) returns returns-2 returns-3 returns-4 returns-5)

@@ -25,10 +25,9 @@ returns c = (long-outcome _ (omega arith), refused-bytes _ _ (long-outcome _ (om
 
 returns-2 : tie.Need-returns-2
 returns-2 c =
-    let first = c .before .before in (
-      found first,
-      request-bytes _ _ (shaped first .shape-of .ensures) _ _ (sym (c .enum-told .given .1) ∙ found first) _ _ (encoded first .encode .ensures .bytes),
-    )
+    let first = c .before .before in
+    (found first,
+    request-bytes _ _ (shaped first .shape-of .ensures) _ _ (sym (c .enum-told .given .1) ∙ found first) _ _ (encoded first .encode .ensures .bytes))
 
 returns-3 : tie.Need-returns-3
 returns-3 c =
