@@ -9,8 +9,9 @@
  *
  * Each function but ukhtvaresh_root answers the number of the refusal, 0 for none. *value gets the length, the count,
  * the share or the station on success, the refusal's place otherwise. Buffers are untouched on refusal; on success
- * what lies past the result is. The buffer for the sine table, `sines`, alone is filled on some refusals too: see
- * UKHTVARESH_SINES_LENGTH. No function reads or writes outside the lengths it is given, and none keeps a pointer. A
+ * what lies past the result is. The buffer for the sine table, `sines`, is filled on some refusals too: see
+ * UKHTVARESH_SINES_LENGTH. ukhtvaresh_typed writes its message on 20, and ukhtvaresh_times its sheet where only the
+ * text's buffer is too short. No function reads or writes outside the lengths it is given, and none keeps a pointer. A
  * buffer that is written, *value among them, must not overlap any other. A length of 0 is allowed. No pointer may be
  * null: neither that of a buffer, also one of length 0, nor `value`, `kept`, `noted` and `rounds`. Each must be
  * aligned for its type: 8 bytes for int64_t, uint64_t, double and ukhtvaresh_node, 4 for uint32_t and
@@ -33,8 +34,8 @@
  *    7  a field breaks a reader's rule               first byte of that record
  *    8  order broken                                 first byte of that record
  *    9  bytes after the end record                   first of them
- *   10  request, fit, tables, doubles or network    0
- *       not of their shape
+ *   10  request, fit, tables, doubles, network or   0
+ *       instant not of their shape
  *   11  a row of the tables outside its distances    first such row, 0 to 6
  *   12  a double that is not finite                  first such field, 0 to 21, 22 for the longitude
  *   13  the radius of a star request outside its     0
@@ -49,8 +50,10 @@
  *       fit outside its range
  *   19  the list of a network is empty or has more   0
  *       than 64 stations
+ *   20  an invalid line of a typed text              the line, from 1; 0 where the text is too long
  *   22  no such phase, or no contact                 0 phase, 1 the two seconds are not one surely outside and one
  *                                                    surely inside
+ *   23  a number of an instant outside its range     first: 0 scale, 1 date, 4 hundredths of a second, 5 TAI less UTC
  */
 #ifndef UKHTVARESH_H
 #define UKHTVARESH_H
@@ -260,6 +263,11 @@ uint64_t ukhtvaresh_mirror(const uint8_t *request, size_t request_len, uint8_t *
 uint64_t ukhtvaresh_read(const uint8_t *sheet, size_t sheet_len, uint32_t *entries, size_t entries_len,
                          uint64_t *value);
 
+/* How long the well-formed sheet is that the bytes begin with, whatever follows it. *value: its length in bytes. Sheets
+ * of a year file follow each other: the next one begins where this one ends.
+ * Refusals: the first faulty record's, in it 5, 6, 8, 7, with the places of ukhtvaresh_read; never 9, nor 4. */
+uint64_t ukhtvaresh_extent(const uint8_t *bytes, size_t bytes_len, uint64_t *value);
+
 /* The sheet of entries, at the start of `sheet`. *value: its length in bytes.
  * Refusals: the first faulty entry's, in it 5, 8, 7; 6 where the list stops before its end entry or inside an entry;
  * 9; then 4. Places are those that the records have or would have in the sheet. entries_len counts numbers. */
@@ -270,6 +278,35 @@ uint64_t ukhtvaresh_write(const uint32_t *entries, size_t entries_len, uint8_t *
  * null byte after the last. *value: its length in bytes.
  * Refusals: those of ukhtvaresh_read, but for 4 the length that the text needs. */
 uint64_t ukhtvaresh_listing(const uint8_t *sheet, size_t sheet_len, uint8_t *text, size_t text_len, uint64_t *value);
+
+/* The numbers of an instant, the date and time of tau = 0: see ukhtvaresh_typed and ukhtvaresh_times. */
+enum {
+    UKHTVARESH_SCALE,         /* 0 no instant, 1 ephemeris time, 2 universal time */
+    UKHTVARESH_YEAR,          /* 1583 to 9999, of the Gregorian calendar */
+    UKHTVARESH_MONTH,         /* 1 to 12 */
+    UKHTVARESH_DAY,           /* 1 to the month's last */
+    UKHTVARESH_HUNDREDTHS,    /* of a second from 0h, 0 to 8,639,999 */
+    UKHTVARESH_TAI_UTC,       /* TAI less UTC in seconds, 10 to 99 and only from 1972 on, or 0 for not given */
+    UKHTVARESH_INSTANT_LENGTH /* how many: 6 */
+};
+
+/* A typed text (docs/PROGRAMS.md) as a request: its bytes at the start of `request`, 115 or a star's 79, and the six numbers of
+ * its instant at the start of `instant`. *value: how many bytes.
+ * Refusals: 20 with the first invalid line; its message, which ends with a line feed, is then at the start of `message` and has
+ * no null byte; 4 with the length that is needed, of `request` before `instant`, or of `message`. Only 20 writes into `message`.
+ * instant_len counts numbers. */
+uint64_t ukhtvaresh_typed(const uint8_t *text, size_t text_len, uint8_t *request, size_t request_len, uint64_t *instant,
+                          size_t instant_len, uint8_t *message, size_t message_len, uint64_t *value);
+
+/* What the program `times` prints of a request, a star's if it has 79 bytes: the listing of its sheet with clock times
+ * by the instant, altitudes and notes (docs/CLOCK.md), at the start of `text`, with no null byte after it. *value: its length in
+ * bytes. The sheet itself is then in `sheet`. With scale 0 there are no clock times, and the other five numbers are not read.
+ * Refusals, the first of them: 10 for another instant_len than 6; 23; those of ukhtvaresh_sheet, or of ukhtvaresh_star, in their
+ * order; 4 with the length that the text needs. `sheet` and `sines` are left as those functions leave them, so on this last 4
+ * both are filled. On a 10 for the instant and on 23 they are untouched. instant_len and sines_len count numbers. */
+uint64_t ukhtvaresh_times(const uint8_t *request, size_t request_len, const uint64_t *instant, size_t instant_len,
+                          uint32_t *sines, size_t sines_len, uint8_t *sheet, size_t sheet_len, uint8_t *text,
+                          size_t text_len, uint64_t *value);
 
 /* Whether four coefficients, from a spreadsheet, may stand for seven tabulated hourly values, hours -3 to 3, in units:
  * accepted exactly if the tolerance is 0 to 1,000, the tabulated values are +-1,000,000,000, the coefficients in the

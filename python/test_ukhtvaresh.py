@@ -23,12 +23,14 @@ from ukhtvaresh import (
     State,
     Station,
     Window,
+    extent,
     listing,
     mirror,
     read,
     second,
     sheet,
     sheet_into,
+    sheets,
     write,
     write_into,
 )
@@ -125,6 +127,18 @@ class Sheets(Case):
         for name in ("moscow1954", "kiev1954"):
             found = listing(sheet(example(name + ".bin")))
             self.assertEqual(found, example(name + ".listing").decode())
+
+    def test_sheets_of_a_year_file(self):
+        stored = write(ENTRIES)
+        self.assertEqual(extent(stored), len(stored))
+        self.assertEqual(extent(stored + b"\0"), len(stored))
+        self.assertEqual(list(sheets(stored + stored)), [stored, stored])
+        self.assertEqual(list(sheets(b"")), [])
+        self.refuses(6, 0, extent, b"")
+        self.refuses(6, len(stored) - 1, extent, stored[:-1])
+        found = sheets(stored + b"\xff")
+        self.assertEqual(next(found), stored)
+        self.refuses(5, len(stored), next, found)
 
     def test_listings_and_their_refusals(self):
         stored = write(ENTRIES)

@@ -42,7 +42,7 @@ from decimal import Decimal
 from enum import Enum
 from numbers import Number, Real
 from pathlib import Path
-from typing import Callable, Iterable, List, Optional, Sequence, Tuple, Union
+from typing import Callable, Iterable, Iterator, List, Optional, Sequence, Tuple, Union
 
 REQUEST_LENGTH = 115  # bytes
 STAR_REQUEST_LENGTH = 79
@@ -615,6 +615,7 @@ def _load() -> ctypes.CDLL:
     library.ukhtvaresh_star_contact.argtypes = library.ukhtvaresh_contact.argtypes
     library.ukhtvaresh_mirror.argtypes = [data, length, room, length, value]
     library.ukhtvaresh_read.argtypes = [data, length, room, length, value]
+    library.ukhtvaresh_extent.argtypes = [data, length, value]
     library.ukhtvaresh_write.argtypes = [room, length, room, length, value]
     library.ukhtvaresh_listing.argtypes = [data, length, room, length, value]
     library.ukhtvaresh_fit.argtypes = [room, length, room, length, ctypes.c_int64, value]
@@ -626,7 +627,7 @@ def _load() -> ctypes.CDLL:
     library.ukhtvaresh_doubles.argtypes = [room, length, room, length, value]
     library.ukhtvaresh_network.argtypes = [room, length, room, length, room, length, room, length, value]
     names = "sheet sheet_and_share star second star_second share horizon star_horizon contact star_contact mirror read"
-    names += " write listing fit from_tables root mend sheet_of_doubles doubles network"
+    names += " extent write listing fit from_tables root mend sheet_of_doubles doubles network"
     for name in names.split():
         getattr(library, "ukhtvaresh_" + name).restype = ctypes.c_uint64
     return library
@@ -878,6 +879,31 @@ def read(sheet: bytes) -> List[Entry]:
     numbers = (ctypes.c_uint32 * (len(sheet) + 1))()
     count = _call("read", sheet, len(sheet), numbers, len(sheet))
     return [_entry(*numbers[5 * k : 5 * k + 5]) for k in range(count)]
+
+
+def extent(data: bytes) -> int:
+    """The length of the well-formed sheet that some bytes begin with, whatever follows it.
+
+    Refusals as read, but 9.
+    """
+    data = _bytes(data, "data")
+    return _call("extent", data, len(data))
+
+
+def sheets(file: bytes) -> Iterator[bytes]:
+    """The sheets of a year file, one after the other.
+
+    Bytes that are no sheet raise Refused, with the place in the whole file.
+    """
+    file = _bytes(file, "file")
+    at = 0
+    while at < len(file):
+        try:
+            length = extent(file[at:])
+        except Refused as refusal:
+            raise Refused(refusal.number, at + refusal.place) from None
+        yield file[at : at + length]
+        at += length
 
 
 def write_into(entries: Iterable[Entry], buffer) -> int:

@@ -127,6 +127,7 @@ extern "C" {
         sheet_len: usize,
         value: *mut u64,
     ) -> u64;
+    fn ukhtvaresh_extent(bytes: *const u8, bytes_len: usize, value: *mut u64) -> u64;
     fn ukhtvaresh_listing(
         sheet: *const u8,
         sheet_len: usize,
@@ -350,6 +351,13 @@ pub fn write(entries: &[u32], sheet: &mut [u8]) -> Result<usize, Refusal> {
     let number = unsafe {
         ukhtvaresh_write(entries.as_ptr(), entries.len(), sheet.as_mut_ptr(), sheet.len(), &mut value)
     };
+    answer(number, value)
+}
+
+pub fn extent(bytes: &[u8]) -> Result<usize, Refusal> {
+    let mut value = 0;
+    // SAFETY: as in `made`.
+    let number = unsafe { ukhtvaresh_extent(bytes.as_ptr(), bytes.len(), &mut value) };
     answer(number, value)
 }
 

@@ -218,6 +218,40 @@ pub fn write_vec(entries: &[Entry]) -> Result<Vec<u8>, Refusal> {
     whole(|buffer| ffi::write(&numbers, buffer))
 }
 
+/// The length of the well-formed sheet that some bytes begin with, whatever follows it. Refusals as [`read`], but 4 and
+/// 9.
+pub fn extent(bytes: &[u8]) -> Result<usize, Refusal> {
+    ffi::extent(bytes)
+}
+
+/// The sheets of a year file, one after the other; the last item is the refusal of the first bytes that are no sheet.
+///
+/// ```
+/// use ukhtvaresh::{extent, sheets, write_vec, Entry};
+/// let entries = [
+///     Entry::Head { station: 7, first: -60, last: 60, guard: 16 },
+///     Entry::Closest { second: 0, magnitude: 0 },
+///     Entry::End,
+/// ];
+/// let sheet = write_vec(&entries)?;
+/// let file = [sheet.clone(), sheet.clone()].concat();
+/// assert_eq!(extent(&file)?, sheet.len());
+/// assert_eq!(sheets(&file).collect::<Result<Vec<_>, _>>()?, [&sheet[..], &sheet[..]]);
+/// # Ok::<(), ukhtvaresh::Refusal>(())
+/// ```
+pub fn sheets(file: &[u8]) -> impl Iterator<Item = Result<&[u8], Refusal>> {
+    let mut rest = file;
+    std::iter::from_fn(move || {
+        if rest.is_empty() {
+            return None;
+        }
+        let answer = extent(rest);
+        let (sheet, after) = rest.split_at(answer.map_or(rest.len(), |length| length));
+        rest = after;
+        Some(answer.map(|_| sheet))
+    })
+}
+
 /// The listing of a sheet, as program `listing` prints it: a line for each entry but the end. Refusals as [`read`].
 pub fn listing(sheet: &[u8]) -> Result<String, Refusal> {
     let text = whole(|buffer| ffi::listing(sheet, buffer))?;

@@ -1,4 +1,6 @@
 // The answer to a request's bytes as text: the listing of its sheet, or the line of its refusal.
+pub mod timed;
+
 use calendar::Reference;
 use circumstances::Answer;
 use listings::sky::Sky;

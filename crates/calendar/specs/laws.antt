@@ -1,1 +1,2 @@
 pub mod CalendarLaws
+pub mod NumberLaws

@@ -7,7 +7,7 @@ use Rattle.request_text.specs.Meaning.{Meaning, asked, refused, meaningOf}
 -- to standard output: the bytes of the numbers typed, or nothing
 abbrev pub outputBy : Meaning → List ℕ
 outputBy (asked shape ns x) = bytesFor shape ns
-outputBy (refused message) = []
+outputBy (refused line message) = []
 
 abbrev pub outputOf : List ℕ → List ℕ
 outputOf text = outputBy (meaningOf text)

@@ -9,4 +9,6 @@ pub mod Told
 pub mod Encoded
 pub mod TypedMessages
 pub mod Meaning
+pub mod Outcomes
+pub mod Stored
 pub mod laws

@@ -20,48 +20,48 @@ use Rattle.request_text.specs.declared.typed_requests.Answer.{Answer}
 use Rattle.request_text.specs.declared.typed_requests.Answer.the-variants as A
 use Rattle.request_text.specs.TypedMessages.{instantMessage}
 
--- the numbers of a request and its instant; or the message of the first line at fault
+-- the numbers of a request and its instant; or the first invalid line and its message
 pub data Meaning : Type 0 where
   asked : Shape → List ℤ → Reference → Meaning
-  refused : List ℕ → Meaning
+  refused : ℕ → List ℕ → Meaning
 
 -- by what its lines say of the numbers and of the instant: "as everywhere, the first line that has a fault is told"
 abbrev pub meaningBy : Shape → List ℕ → Typing → Told → Meaning
 meaningBy shape text (given ns) (T.Is x) = asked shape ns x
-meaningBy shape text (given ns) (T.Refused j wrong) = refused (instantMessage j wrong)
-meaningBy shape text (typing.refused i fault) (T.Is x) = refused (messageOf shape text i fault)
+meaningBy shape text (given ns) (T.Refused j wrong) = refused j (instantMessage j wrong)
+meaningBy shape text (typing.refused i fault) (T.Is x) = refused i (messageOf shape text i fault)
 meaningBy shape text (typing.refused i fault) (T.Refused j wrong) =
-    refused (cond (ltb j i) (instantMessage j wrong) (messageOf shape text i fault))
+    cond (ltb j i) (refused j (instantMessage j wrong)) (refused i (messageOf shape text i fault))
 
--- a text with more bytes than are taken
+-- a text with more bytes than are taken; its line is 0
 abbrev pub tooLong : List ℕ → Bool
 tooLong text = ltb 65536 (length text)
 
 -- any other is read as the request that it is
 unfoldable pub meaningOf : List ℕ → Meaning
 meaningOf text =
-    cond (tooLong text) (refused (letters "the text has more than 65,536 bytes\n"))
+    cond (tooLong text) (refused 0 (letters "the text has more than 65,536 bytes\n"))
     (meaningBy (shapeOf text) text (typingOf (shapeOf text) text) (toldIn text))
 
 -- ---- what is answered, and the two rooms afterwards: what was not asked for is as it was
 
 abbrev pub answerOf : Meaning → Answer
 answerOf (asked shape ns x) = A.Request (sizeFor shape) x
-answerOf (refused message) = A.Refused (length message)
+answerOf (refused line message) = A.Refused (length message)
 
 abbrev pub bytesAfter : Meaning → List ℕ → List ℕ
 bytesAfter (asked shape ns x) old = bytesFor shape ns ++ drop (sizeFor shape) old
-bytesAfter (refused message) old = old
+bytesAfter (refused line message) old = old
 
 abbrev pub messageAfter : Meaning → List ℕ → List ℕ
 messageAfter (asked shape ns x) old = old
-messageAfter (refused message) old = message ++ drop (length message) old
+messageAfter (refused line message) old = message ++ drop (length message) old
 
 -- ---- what a program tells of a text on standard error: nothing, or what is wrong with it
 
 abbrev pub errorBy : Meaning → List ℕ
 errorBy (asked shape ns x) = []
-errorBy (refused message) = message
+errorBy (refused line message) = message
 
 abbrev pub errorOf : List ℕ → List ℕ
 errorOf text = errorBy (meaningOf text)

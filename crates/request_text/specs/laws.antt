@@ -22,3 +22,4 @@ pub mod Asked
 pub mod RoomLaws
 pub mod ReadBack
 pub mod SameRequest
+pub mod StoredLaws

@@ -23,7 +23,7 @@ answerText k request = textBy k request (zeros 901) (zeros 65536)
 -- to standard output: the answer to the bytes of the numbers typed, or nothing
 abbrev pub outputBy : Meaning → List ℕ
 outputBy (asked shape ns x) = answerText x (bytesFor shape ns)
-outputBy (refused message) = []
+outputBy (refused line message) = []
 
 abbrev pub outputOf : List ℕ → List ℕ
 outputOf text = outputBy (meaningOf text)

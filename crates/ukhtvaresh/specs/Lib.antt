@@ -10,4 +10,6 @@ pub mod ElementsReply
 pub mod MendReply
 pub mod Positions
 pub mod NetworkReply
+pub mod Typed
+pub mod Times
 pub mod laws

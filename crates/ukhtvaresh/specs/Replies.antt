@@ -6,7 +6,7 @@ use lib.ListN.{length}
 use Rattle.sheet_types.specs.declared.refusals.Refusal.{Refusal}
 use Rattle.sheet_codec.specs.declared.decoder.Extent.{Extent}
 use Rattle.sheet_codec.specs.declared.decoder.Extent.the-variants as X
-use Rattle.sheet_codec.specs.Sheets.{readWhole, readInto}
+use Rattle.sheet_codec.specs.Sheets.{readSheet, readWhole, extentOf, readInto}
 use Rattle.sheet_codec.specs.Handed.{listWhole, writeInto}
 use Rattle.circumstances.specs.declared.Answer.{Answer}
 use Rattle.circumstances.specs.declared.Answer.the-variants as A
@@ -38,3 +38,8 @@ writeGiven entries buffer = writeInto (length buffer) (listWhole entries)
 abbrev pub writeReply : Extent → Reply
 writeReply (X.Sheet entries n) = record { number = 0; value = n }
 writeReply (X.Refused r) = refusedReply r
+
+-- ---- the sheet that some bytes begin with: how many bytes it has
+-- "5, 6, 8, 7" with their places as in a sheet; what follows the sheet is not looked at
+abbrev pub extentGiven : List ℕ → Extent
+extentGiven bytes = extentOf (readSheet bytes)

@@ -6,6 +6,7 @@ pub mod replies;
 mod sheets;
 mod stations;
 mod tables;
+mod texts;
 
 ghost use mathlib.Core.Path.{_≡_};
 ghost use Rattle.rounding.specs.Rounds.{Reported};

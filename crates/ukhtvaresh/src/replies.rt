@@ -13,6 +13,7 @@ ghost use Rattle.ukhtvaresh.specs.Contacts.{contactReply};
 ghost use Rattle.ukhtvaresh.specs.Shares.{shareReply};
 ghost use Rattle.ukhtvaresh.specs.Fits.{fitReply};
 ghost use Rattle.ukhtvaresh.specs.NetworkReply.{networkReply};
+ghost use Rattle.ukhtvaresh.specs.Typed.{typedReply};
 
 // What a caller gets.
 pub struct Reply {
@@ -220,5 +221,24 @@ pub fn network_reply(answer: networks::Answer) -> Reply
             value: station,
         },
         networks::Answer::Refused(refusal) => refused(refusal),
+    }
+}
+
+pub fn typed_reply(stored: request_text::typed_requests::stored::Stored) -> Reply
+    ensures { λ r. ⌜ r ≡ typedReply stored ⌝ }
+{
+    match stored {
+        request_text::typed_requests::stored::Stored::Request(length) => {
+            let value = length as u64;
+            Reply { number: 0, value }
+        }
+        request_text::typed_requests::stored::Stored::Fault(line) => {
+            let value = line as u64;
+            Reply { number: 20, value }
+        }
+        request_text::typed_requests::stored::Stored::Short(length) => {
+            let value = length as u64;
+            Reply { number: 4, value }
+        }
     }
 }

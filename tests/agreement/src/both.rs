@@ -4,6 +4,7 @@
 
 use crate::answers;
 use crate::library::{self, Reply};
+use reference::mend;
 use reference::mirror::mirror;
 use reference::random::Random;
 use reference::refusal::Refusal;
@@ -174,6 +175,14 @@ pub fn read_both(random: &mut Random, sheet: &[u8], room: usize) -> Left<u32> {
     theirs.0 = reply(sheet::read(sheet, &mut theirs.1[..room]), |count| count as u64);
     must_agree("ukhtvaresh_read", &(sheet, room), &ours, &theirs);
     ours
+}
+
+/// It fills nothing.
+pub fn extent_both(bytes: &[u8]) -> Reply {
+    let ours = (library::extent(bytes), Vec::<u8>::new());
+    let theirs = (reply(mend::extent(bytes), |length| length as u64), Vec::new());
+    must_agree("ukhtvaresh_extent", &bytes, &ours, &theirs);
+    ours.0
 }
 
 pub fn write_both(random: &mut Random, entries: &[u32], room: usize) -> Left<u8> {

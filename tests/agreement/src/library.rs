@@ -114,6 +114,7 @@ extern "C" {
         entries_len: usize,
         value: *mut u64,
     ) -> u64;
+    fn ukhtvaresh_extent(bytes: *const u8, bytes_len: usize, value: *mut u64) -> u64;
     fn ukhtvaresh_write(
         entries: *const u32,
         entries_len: usize,
@@ -334,6 +335,12 @@ pub fn read(sheet: &[u8], entries: &mut [u32]) -> Reply {
     let number = unsafe {
         ukhtvaresh_read(sheet.as_ptr(), sheet.len(), entries.as_mut_ptr(), entries.len(), &mut value)
     };
+    (number, value)
+}
+
+pub fn extent(bytes: &[u8]) -> Reply {
+    let mut value = UNSET;
+    let number = unsafe { ukhtvaresh_extent(bytes.as_ptr(), bytes.len(), &mut value) };
     (number, value)
 }
 

@@ -26,7 +26,7 @@
 //! Prints counts; the first difference stops it with all that gives it again.
 
 use agreement::both::{
-    listing_both, mirror_both, must_agree, read_both, reply, second_both, share_both, sheet_both, write_both,
+    extent_both, listing_both, mirror_both, must_agree, read_both, reply, second_both, share_both, sheet_both, write_both,
     Asked, Left, PLAIN, SECOND, SHARED,
 };
 use agreement::draws;
@@ -73,6 +73,7 @@ struct Counts {
     shares: Count,
     mirrors: Count,
     reads: Count,
+    extents: Count,
     writes: Count,
     listings: Count,
     fits: Count,
@@ -87,6 +88,7 @@ impl Counts {
             shares: Count::new("share"),
             mirrors: Count::new("mirror"),
             reads: Count::new("read"),
+            extents: Count::new("extent"),
             writes: Count::new("write"),
             listings: Count::new("listing"),
             fits: Count::new("fit"),
@@ -94,8 +96,8 @@ impl Counts {
     }
 
     fn print(&self) {
-        let Counts { sheets, shared, seconds, shares, mirrors, reads, writes, listings, fits } = self;
-        for count in [sheets, shared, seconds, shares, mirrors, reads, writes, listings, fits] {
+        let Counts { sheets, shared, seconds, shares, mirrors, reads, extents, writes, listings, fits } = self;
+        for count in [sheets, shared, seconds, shares, mirrors, reads, extents, writes, listings, fits] {
             count.print();
         }
     }
@@ -274,6 +276,16 @@ fn share(random: &mut Random, count: &mut Count, covered: &mut Covered) {
     covered[usize::from(share > 0) + usize::from(share == 1_000_000)] += 1;
 }
 
+/// The bytes of a sheet with others after them: another sheet's, or any.
+fn followed(random: &mut Random, sheet: &[u8]) -> Vec<u8> {
+    let after = match random.below(3) {
+        0 => sheet.to_vec(),
+        1 => vec![random.below(256) as u8],
+        _ => (0..random.below(40)).map(|_| random.below(256) as u8).collect(),
+    };
+    [sheet, &after].concat()
+}
+
 fn sheet(random: &mut Random, counts: &mut Counts) {
     let mut entries = sheets::entries(random);
     let mut bytes = vec![0; 7 * entries.len()];
@@ -288,6 +300,8 @@ fn sheet(random: &mut Random, counts: &mut Counts) {
         _ => WORDS * bytes.len(),
     };
     counts.reads.add(read_both(random, &bytes, room).0 .0);
+    counts.extents.add(extent_both(&bytes).0);
+    counts.extents.add(extent_both(&followed(random, &bytes)).0);
     round_trip(random, &bytes);
     let needed = match library::listing(&bytes, &mut []) {
         (4, needed) => needed as usize,

@@ -119,6 +119,9 @@ pub fn read(input: &[u8]) {
     must_agree("ukhtvaresh_read", stored, room, &ours, &theirs);
     let guided = left(room, old_number, |room| guide(guide_read, stored, room));
     must_agree("ukhtvaresh_read with counters", stored, room, &guided, &theirs);
+    let theirs = left(0, old_byte, |_| reply(mend::extent(stored)));
+    let ours = left(0, old_byte, |_| library::extent(stored));
+    must_agree("ukhtvaresh_extent", stored, 0, &ours, &theirs);
     if records.is_ok() {
         must_come_back(stored);
     }

@@ -11,12 +11,12 @@ pub struct Mended {
 }
 
 /// The length of the whole well-formed sheet that some bytes begin with: all of them, or those before the first byte
-/// after the end record.
-fn sheet_length(bytes: &[u8]) -> Option<usize> {
+/// after the end record. Otherwise the reader's refusal.
+pub fn extent(bytes: &[u8]) -> Result<usize, Refusal> {
     match records_of(bytes) {
-        Ok(_) => Some(bytes.len()),
-        Err(Refusal::After(place)) => Some(place),
-        Err(_) => None,
+        Ok(_) => Ok(bytes.len()),
+        Err(Refusal::After(place)) => Ok(place),
+        Err(refusal) => Err(refusal),
     }
 }
 
@@ -25,9 +25,9 @@ pub fn mend(file: &[u8]) -> Mended {
     let mut dropped = vec![false; file.len()];
     let mut at = 0;
     while at < file.len() {
-        match sheet_length(&file[at..]) {
-            Some(length) => at += length,
-            None => {
+        match extent(&file[at..]) {
+            Ok(length) => at += length,
+            Err(_) => {
                 dropped[at] = true;
                 at += 1;
             }

@@ -30,7 +30,7 @@ request-fits b = omega (arith, b .counts, b .size, size-le (b .shape))
 
 -- a text that fills the array is too long
 long-meaning : (text : List ℕ) → 65537 ≤ length text
-    → meaningOf text ≡ refused (letters "the text has more than 65,536 bytes\n")
+    → meaningOf text ≡ refused 0 (letters "the text has more than 65,536 bytes\n")
 unfolding meaningOf
 long-meaning text h = rw (lt-ltb 65536 (length text) (omega arith))
 
@@ -39,7 +39,7 @@ module _ (array : List ℕ) (n : ℕ) (c : n ≤ length array) (l : length array
   same-meaning : meaningOf input ≡ meaningOf (take n array)
   same-meaning =
       sym
-      (read-same input array n q meaningOf (refused (letters "the text has more than 65,536 bytes\n"))
+      (read-same input array n q meaningOf (refused 0 (letters "the text has more than 65,536 bytes\n"))
       (λ s k. long-meaning s (omega arith)) c)
 
   pub request-out : {k : ℕ} {x : Reference} {room : List ℕ} → Bytes (take n array) k x room → (text : List ℕ)

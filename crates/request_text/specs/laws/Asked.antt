@@ -5,6 +5,7 @@ use mathlib.Core.List.{List}
 use Prim.Native.Nat.{ℕ, _≤_}
 use native.Mathlib.Omega.{arith}
 use borrow.Author.Tests.{le-ltb}
+use lib.Dec.{ltb}
 use lib.IntN.{ℤ}
 use lib.ListN.{length}
 use Rattle.request_format.specs.declared.fields.Shape.{Shape}
@@ -30,12 +31,17 @@ pub record Gives (text : List ℕ) (shape : Shape) (ns : List ℤ) (x : Referenc
   pub numbers : typingOf shape text ≡ given ns
   pub instant : toldIn text ≡ T.Is x
 
+not-asked : (b : Bool) (i j : ℕ) (m n : List ℕ) (shape : Shape) (ns : List ℤ) (x : Reference) → cond b (refused j m) (refused i n) ≡ asked shape ns x
+    → _≡_ {A = ℕ} 0 1
+not-asked true i j m n shape ns x e = cc
+not-asked false i j m n shape ns x e = cc
+
 pub asked-gives : (text : List ℕ) (shape : Shape) (ns : List ℤ) (x : Reference) → meaningOf text ≡ asked shape ns x → Gives text shape ns x
 unfolding meaningOf
 asked-gives text shape ns x e = by (tooLong text) (shapeOf text) refl (typingOf (shapeOf text) text) refl (toldIn text) refl e
   where
     by : (b : Bool) (s : Shape) → shapeOf text ≡ s → (t : Typing) → typingOf s text ≡ t → (told : Told) → toldIn text ≡ told
-        → cond b (refused (letters "the text has more than 65,536 bytes\n")) (meaningBy s text t told) ≡ asked shape ns x → Gives text shape ns x
+        → cond b (refused 0 (letters "the text has more than 65,536 bytes\n")) (meaningBy s text t told) ≡ asked shape ns x → Gives text shape ns x
     by true s p t q told r e = let z : _≡_ {A = ℕ} 0 1 = cc in absurd (omega arith)
     by false s p (given ms) q (T.Is y) r e =
         let a : s ≡ shape = cc in
@@ -44,7 +50,7 @@ asked-gives text shape ns x e = by (tooLong text) (shapeOf text) refl (typingOf 
         record { asks = p ∙ a; numbers = rw (← a, ← b) q; instant = rw (← c) r }
     by false s p (given ms) q (T.Refused j wrong) r e = let z : _≡_ {A = ℕ} 0 1 = cc in absurd (omega arith)
     by false s p (typing.refused i fault) q (T.Is y) r e = let z : _≡_ {A = ℕ} 0 1 = cc in absurd (omega arith)
-    by false s p (typing.refused i fault) q (T.Refused j wrong) r e = let z : _≡_ {A = ℕ} 0 1 = cc in absurd (omega arith)
+    by false s p (typing.refused i fault) q (T.Refused j wrong) r e = let z = not-asked (ltb j i) i j _ _ shape ns x e in absurd (omega arith)
 
 -- and the other way round
 pub gives-asked : (text : List ℕ) (shape : Shape) (ns : List ℤ) (x : Reference) → length text ≤ 65536 → Gives text shape ns x → meaningOf text ≡ asked shape ns x

@@ -31,8 +31,9 @@ pub record Bytes (text : List ℕ) (n : ℕ) (x : Reference) (room : List ℕ) :
 
 -- the text is refused with a message of n bytes, which are the first of the room
 pub record Message (text : List ℕ) (n : ℕ) (room : List ℕ) : Type 0 where
+  pub line : ℕ
   pub message : List ℕ
-  pub is : meaningOf text ≡ refused message
+  pub is : meaningOf text ≡ refused line message
   pub bytes : take n room ≡ message
   pub counts : Counts n room
 
@@ -46,14 +47,14 @@ module _ (text : List ℕ) (n : ℕ) (old room : List ℕ) where
           let d : y ≡ x = cc in
           let w = first (bytesFor shape ns) (drop (sizeFor shape) old) room n (asked-size text shape ns y q ∙ sym c) p in
           record { shape = shape; numbers = ns; is = q ∙ ap (asked shape ns) d; size = c; bytes = w .0; counts = w .1 }
-      by (refused m) q a p = let z : _≡_ {A = ℕ} 0 1 = cc in absurd (omega arith)
+      by (refused i m) q a p = let z : _≡_ {A = ℕ} 0 1 = cc in absurd (omega arith)
 
   pub message-first : A.Refused n ≡ answerOf (meaningOf text) → room ≡ messageAfter (meaningOf text) old → Message text n room
   message-first e b = by (meaningOf text) refl e b
     where
       by : (m : Meaning) → meaningOf text ≡ m → A.Refused n ≡ answerOf m → room ≡ messageAfter m old → Message text n room
       by (asked shape ns y) q a p = let z : _≡_ {A = ℕ} 0 1 = cc in absurd (omega arith)
-      by (refused m) q a p =
+      by (refused i m) q a p =
           let c : n ≡ length m = cc in
           let w = first m (drop (length m) old) room n (sym c) p in
-          record { message = m; is = q; bytes = w .0; counts = w .1 }
+          record { line = i; message = m; is = q; bytes = w .0; counts = w .1 }

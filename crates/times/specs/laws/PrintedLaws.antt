@@ -35,7 +35,7 @@ module _ (k : Reference) (request sines room : List ℕ) (t : Copies 0 901 sines
 
 -- a text that fills the array is too long
 long-meaning : (text : List ℕ) → 65537 ≤ length text
-    → meaningOf text ≡ refused (letters "the text has more than 65,536 bytes\n")
+    → meaningOf text ≡ refused 0 (letters "the text has more than 65,536 bytes\n")
 unfolding meaningOf
 long-meaning text h = rw (lt-ltb 65536 (length text) (omega arith))
 
@@ -44,7 +44,7 @@ module _ (array old new : List ℕ) (n end r : ℕ) (c : n ≤ length array) (l 
   same-meaning : meaningOf input ≡ meaningOf (take n array)
   same-meaning =
       sym
-      (read-same input array n q meaningOf (refused (letters "the text has more than 65,536 bytes\n"))
+      (read-same input array n q meaningOf (refused 0 (letters "the text has more than 65,536 bytes\n"))
       (λ s k. long-meaning s (omega arith)) c)
 
   cut : (text : List ℕ) → Put old 0 text new end → take r new ≡ take 2000000 text
