@@ -11,9 +11,9 @@ use Rattle.sheet_types.specs.Refusals.{refusal}
 use Rattle.elements.specs.declared.Cubic.{Cubic}
 use Rattle.elements.specs.declared.Quadratic.{Quadratic}
 use Rattle.elements.specs.Elements.{elementsChecked}
-use Rattle.least_squares.specs.declared.Hourly.{Hourly}
-use Rattle.least_squares.specs.LeastSquares.{cubic, quadratic}
-use Rattle.least_squares.specs.Exact.{cubicAtHour}
+use Rattle.element_fits.specs.declared.least_squares.Hourly.{Hourly}
+use Rattle.element_fits.specs.LeastSquares.{cubic, quadratic}
+use Rattle.element_fits.specs.Exact.{cubicAtHour}
 use Rattle.element_fits.specs.declared.Columns.{Columns}
 use Rattle.element_fits.specs.declared.Fitting.{Fitting}
 use Rattle.element_fits.specs.declared.Misfits.{Misfits}

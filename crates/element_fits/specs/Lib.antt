@@ -1,4 +1,8 @@
--- what to believe
+pub mod LeastSquares
+pub mod Sizes
+pub mod Exact
+pub mod Search
+pub mod Angles
 pub mod FromTables
 pub mod Answers
 pub mod Numbers

@@ -17,7 +17,7 @@ use Rattle.besselian_rows.specs.declared.besselian.Radii.{Radii}
 use Rattle.besselian_rows.specs.declared.tables.Verdict.{Verdict}
 use Rattle.besselian_rows.specs.declared.tables.Verdict.the-variants as T
 use Rattle.besselian_rows.specs.Tables.{number, rowAt, firstRefused}
-use Rattle.least_squares.specs.declared.Hourly.{Hourly}
+use Rattle.element_fits.specs.declared.least_squares.Hourly.{Hourly}
 use Rattle.element_fits.specs.declared.Rows.{Rows}
 use Rattle.element_fits.specs.declared.Misfits.{Misfits}
 use Rattle.element_fits.specs.declared.Answer.{Answer}

@@ -1,3 +1,11 @@
+pub mod Least
+pub mod Rounding
+pub mod MirrorLaws
+pub mod SearchLaws
+pub mod Rising
+pub mod ArcsineLaws
+pub mod ArgumentLaws
+pub mod AccuracyLaws
 pub mod Sizes
 pub mod Laws
 pub mod AnswersLaws

@@ -1,11 +1,13 @@
 // The 22 elements of an eclipse from seven hourly rows of Sun and Moon and the sidereal time at Greenwich at these hours,
 // all in whole numbers. In module `numbers` from and to the caller's numbers.
+pub mod angles;
+pub mod least_squares;
 pub mod numbers;
 
+use crate::least_squares::Hourly;
 use elements::Cubic;
 use elements::Elements;
 use elements::Quadratic;
-use least_squares::Hourly;
 use rounding::Limits;
 use sheet_types::refusals::Checked;
 use sheet_types::refusals::Refusal;
@@ -17,8 +19,8 @@ ghost use Rattle.rounding.specs.Value.{Value};
 ghost use Rattle.sine_table.specs.Table.{Sines};
 ghost use Rattle.besselian_rows.specs.Exact.{accepted, RadiiInRange};
 ghost use Rattle.besselian_rows.specs.laws.AcceptedLaws.{Accepted};
-ghost use Rattle.least_squares.specs.LeastSquares.{cubic, quadratic};
-ghost use Rattle.least_squares.specs.Sizes.{HourlySizes, CoefficientSizes};
+ghost use Rattle.element_fits.specs.LeastSquares.{cubic, quadratic};
+ghost use Rattle.element_fits.specs.Sizes.{HourlySizes, CoefficientSizes};
 ghost use Rattle.elements.specs.Sizes.{QuadraticSizes};
 ghost use Rattle.element_fits.specs.FromTables.{ascension, hourOf, hoursOf, eachX, eachY, eachD, eachL1, eachL2, eachAscension, turn, offset, hourAngles, hourAngle, middleOf, columnsOf, fitted, fittingOf};
 ghost use Rattle.element_fits.specs.Answers.{unless, off, close, missed, larger, misfit, raised, firstMissed, misfitsOf, judged};
@@ -65,7 +67,7 @@ fn ascension(table: &[u32], p: besselian_rows::besselian::Row) -> i64
     let directions = besselian_rows::rows::find_directions(p, axis);
     let x = directions.cosa;
     let y = directions.sina;
-    angles::argument(table, x, y) as i64
+    crate::angles::argument(table, x, y) as i64
 }
 
 // What one row gives.
@@ -83,7 +85,7 @@ fn hour_of(
     let sind = b.sind;
     let l1 = b.l1;
     let l2 = b.l2;
-    let d = angles::arcsine(table, sind);
+    let d = crate::angles::arcsine(table, sind);
     let ascension = ascension(table, p);
     Hour {
         x,
@@ -358,12 +360,12 @@ fn fitted(c: Columns, middle: i64, tanf1: i64, tanf2: i64) -> Elements
     requires { ⌜ (ColumnsSizes c) × (natAbs middle ≤ 765_000_000) × (natAbs tanf1 ≤ 600_000) × (natAbs tanf2 ≤ 600_000) ⌝ }
     ensures { λ r. ⌜ r ≡ fitted c middle tanf1 tanf2 ⌝ }
 {
-    let x = least_squares::cubic(c.x);
-    let y = least_squares::cubic(c.y);
-    let d = least_squares::quadratic(c.d);
-    let l1 = least_squares::quadratic(c.l1);
-    let l2 = least_squares::quadratic(c.l2);
-    let q = least_squares::quadratic(c.mu);
+    let x = crate::least_squares::cubic(c.x);
+    let y = crate::least_squares::cubic(c.y);
+    let d = crate::least_squares::quadratic(c.d);
+    let l1 = crate::least_squares::quadratic(c.l1);
+    let l2 = crate::least_squares::quadratic(c.l2);
+    let q = crate::least_squares::quadratic(c.mu);
     let mu = hour_angle(q, middle);
     let axis = elements::Axis { x, y, d, mu };
     let penumbra = elements::Cone { l: l1, tanf: tanf1 };
@@ -501,7 +503,7 @@ fn cubic_missed(found: Limits, v: Hourly, tolerance: u64, place: usize) -> Limit
     requires { ⌜ (HourlySizes 100_000_000_000 v) × (place ≤ 50) ⌝ }
     ensures { λ r. ⌜ r ≡ missed found (cubic v) v tolerance place ⌝ }
 {
-    let c = least_squares::cubic(v);
+    let c = crate::least_squares::cubic(v);
     missed(found, c, v, tolerance, place)
 }
 
@@ -509,7 +511,7 @@ fn quadratic_missed(found: Limits, v: Hourly, tolerance: u64, place: usize) -> L
     requires { ⌜ (HourlySizes 100_000_000_000 v) × (place ≤ 50) ⌝ }
     ensures { λ r. ⌜ r ≡ missed found (raised (quadratic v)) v tolerance place ⌝ }
 {
-    let q = least_squares::quadratic(v);
+    let q = crate::least_squares::quadratic(v);
     let c = raised(q);
     missed(found, c, v, tolerance, place)
 }
@@ -518,7 +520,7 @@ fn cubic_misfit(v: Hourly) -> i64
     requires { ⌜ HourlySizes 100_000_000_000 v ⌝ }
     ensures { λ r. ⌜ Value (pos (misfit (cubic v) v)) 50_000_000_000_000 r ⌝ }
 {
-    let c = least_squares::cubic(v);
+    let c = crate::least_squares::cubic(v);
     misfit(c, v) as i64
 }
 
@@ -526,7 +528,7 @@ fn quadratic_misfit(v: Hourly) -> i64
     requires { ⌜ HourlySizes 100_000_000_000 v ⌝ }
     ensures { λ r. ⌜ Value (pos (misfit (raised (quadratic v)) v)) 50_000_000_000_000 r ⌝ }
 {
-    let q = least_squares::quadratic(v);
+    let q = crate::least_squares::quadratic(v);
     let c = raised(q);
     misfit(c, v) as i64
 }

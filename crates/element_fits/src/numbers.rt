@@ -3,10 +3,10 @@
 use super::Answer;
 use super::Misfits;
 use super::Rows;
+use crate::least_squares::Hourly;
 use besselian_rows::besselian::Radii;
 use besselian_rows::tables::Verdict;
 use elements::Elements;
-use least_squares::Hourly;
 use sheet_types::refusals::Checked;
 use sheet_types::refusals::Refusal;
 ghost use mathlib.Core.Path.{_≡_};

@@ -1,10 +1,9 @@
 -- The text of an answer in a caller's buffer, and the instant's numbers before it.
 use Prim.Native.Nat.{ℕ, _≤_, _<_}
-use mathlib.Core.Path.{_≡_, refl, ap, _∙_}
+use mathlib.Core.Path.{_≡_, refl, ap}
 use mathlib.Core.List.{List}
 use borrow.Author.Tests.{eq-eqb, ne-eqb}
 use lib.IntN.{ℤ}
-use lib.Dec.{eqb}
 use lib.ListN.{length, getD}
 use Rattle.sheet_types.specs.declared.refusals.Refusal.{Refusal}
 use Rattle.sheet_types.specs.Refusals.{refusal}
@@ -22,7 +21,7 @@ use Rattle.request_answers.specs.Sheet.{answerTo, bufferFor, sinesFor, starAnsw
 use Rattle.listings.specs.declared.Text.{Text}
 use Rattle.listings.specs.declared.Text.the-variants as T
 use Rattle.listings.specs.declared.sky.Sky.{Sky}
-use Rattle.listings.specs.Answers.{Told, text, withheld, answered, roomWith}
+use Rattle.listings.specs.Answers.{Told, withheld, answered, roomWith}
 use Rattle.listings.specs.laws.AnswerLaws.{text-short, text-full}
 use Rattle.answers.specs.Answers.{timedBy, skyOf}
 use Rattle.answers.specs.Timed.{toldBy, timedTold, starTimedTold, Given, given, wrong, numbered, instantGiven, toldFor, sheetFor, tableFor}

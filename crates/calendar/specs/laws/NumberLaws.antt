@@ -1,9 +1,8 @@
 -- Six numbers of an instant, test by test.
 use Prim.Native.Nat.{ℕ, _≤_, _<_}
 use mathlib.Core.Path.{_≡_}
-use mathlib.Core.Bool.{true, false, _&&_}
+use mathlib.Core.Bool.{true, false}
 use borrow.Author.Tests.{eq-eqb, ne-eqb, lt-leb, le-leb}
-use lib.Dec.{leb, eqb}
 use Rattle.calendar.specs.declared.Scale.{Scale}
 use Rattle.calendar.specs.declared.Scale.the-variants as S
 use Rattle.calendar.specs.declared.Reference.the-variants as Ref

@@ -1,10 +1,10 @@
 -- `element_fits::columns_of` meets its contract: each value at the seven hours.
-use mathlib.Core.Path.{_≡_, sym, ap₂, subst, _∙_}
+use mathlib.Core.Path.{sym, ap₂, subst, _∙_}
 use borrow.Author.Needs.{needs}
 use lib.IntN.{ℤ}
 use Rattle.rounding.specs.laws.Code.{read-back, read-size}
-use Rattle.least_squares.specs.declared.Hourly.{Hourly}
-use Rattle.least_squares.specs.Sizes.{HourlySizes}
+use Rattle.element_fits.specs.declared.least_squares.Hourly.{Hourly}
+use Rattle.element_fits.specs.Sizes.{HourlySizes}
 use Rattle.element_fits.specs.FromTables.{hourAngles, columnsOf}
 use Rattle.element_fits.specs.laws.Laws.{each-ascension-sizes}
 use Rattle.element_fits.proofs.columns_of.Statement.{statement}
@@ -35,5 +35,5 @@ returns c =
 pub columns-of-spec : {M : Type 1} → statement M
 columns-of-spec =
     tie.close
-    (tie.spec (λ c κs. search needs) (λ c κs. search needs) (λ c κs. search needs) (λ c κs. search needs) (λ c κs. search needs)
-    (λ c κs. search needs) hour-angles-requires returns)
+    (tie.spec (λ c κs. search needs) (λ c κs. search needs) (λ c κs. search needs) (λ c κs. search needs)
+    (λ c κs. search needs) (λ c κs. search needs) hour-angles-requires returns)

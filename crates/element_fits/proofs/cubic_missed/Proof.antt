@@ -1,8 +1,7 @@
 -- `element_fits::cubic_missed` meets its contract: the fit, and the test.
-use mathlib.Core.Path.{_≡_, sym, ap, subst, _∙_}
-use borrow.Author.Needs.{needs}
+use mathlib.Core.Path.{sym, ap, subst, _∙_}
 use Rattle.elements.specs.declared.Cubic.{Cubic}
-use Rattle.least_squares.specs.Sizes.{CoefficientSizes}
+use Rattle.element_fits.specs.Sizes.{CoefficientSizes}
 use Rattle.element_fits.specs.Answers.{missed}
 use Rattle.element_fits.specs.laws.Laws.{cubic-coefficients}
 use Rattle.element_fits.proofs.cubic_missed.Statement.{statement}

@@ -11,7 +11,7 @@ use Rattle.besselian_rows.specs.Rounded.{elementsOf}
 use Rattle.besselian_rows.specs.laws.AcceptedLaws.{Accepted, accepted-is}
 use Rattle.besselian_rows.specs.laws.ReadLaws.{back, back-size}
 use Rattle.elements.specs.declared.Elements.{Elements}
-use Rattle.least_squares.specs.declared.Hourly.{Hourly}
+use Rattle.element_fits.specs.declared.least_squares.Hourly.{Hourly}
 use Rattle.element_fits.specs.declared.Rows.{Rows}
 use Rattle.element_fits.specs.declared.Hours.{Hours}
 use Rattle.element_fits.specs.declared.Columns.{Columns}

@@ -1,12 +1,11 @@
 -- `element_fits::hour_of` meets its contract. Assumes nothing.
-use mathlib.Core.Path.{_≡_, ap, _∙_}
-use borrow.Author.Needs.{needs}
+use mathlib.Core.Path.{ap, _∙_}
 use Rattle.besselian_rows.specs.declared.besselian.Besselian.{Besselian}
 use Rattle.besselian_rows.specs.Rounded.{elementsOf}
 use Rattle.besselian_rows.specs.laws.AcceptedLaws.{accepted-is}
 use Rattle.besselian_rows.specs.laws.ReadLaws.{back, back-size}
-use Rattle.angles.specs.Angles.{arcsine}
-use Rattle.angles.specs.laws.ArcsineLaws.{arcsine-size}
+use Rattle.element_fits.specs.Angles.{arcsine}
+use Rattle.element_fits.specs.laws.ArcsineLaws.{arcsine-size}
 use Rattle.element_fits.specs.FromTables.{hourOf}
 use Rattle.element_fits.specs.laws.Laws.{ascension-size, hour-sizes, sine-size}
 use Rattle.element_fits.proofs.hour_of.Statement.{statement}

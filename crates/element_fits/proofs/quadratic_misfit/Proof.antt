@@ -1,12 +1,12 @@
 -- `element_fits::quadratic_misfit` meets its contract: the fit, and how far it is off.
-use mathlib.Core.Path.{_≡_, sym, ap, subst, _∙_}
+use mathlib.Core.Path.{sym, ap, subst, _∙_}
 use native.Mathlib.Omega.{arith}
 use borrow.Author.Needs.{needs}
 use lib.IntN.{pos}
 use Rattle.rounding.specs.laws.Order.{fits64}
 use Rattle.rounding.specs.laws.Code.{count-is, count-size}
 use Rattle.elements.specs.declared.Cubic.{Cubic}
-use Rattle.least_squares.specs.Sizes.{CoefficientSizes}
+use Rattle.element_fits.specs.Sizes.{CoefficientSizes}
 use Rattle.element_fits.specs.Answers.{raised, misfit}
 use Rattle.element_fits.specs.laws.Laws.{quadratic-coefficients}
 use Rattle.element_fits.proofs.quadratic_misfit.Statement.{statement}

@@ -1,8 +1,8 @@
 -- `element_fits::quadratic_missed` meets its contract: the fit, as a cubic, and the test.
-use mathlib.Core.Path.{_≡_, sym, ap, subst, _∙_}
+use mathlib.Core.Path.{sym, ap, subst, _∙_}
 use borrow.Author.Needs.{needs}
 use Rattle.elements.specs.declared.Cubic.{Cubic}
-use Rattle.least_squares.specs.Sizes.{CoefficientSizes}
+use Rattle.element_fits.specs.Sizes.{CoefficientSizes}
 use Rattle.element_fits.specs.Answers.{missed, raised}
 use Rattle.element_fits.specs.laws.Laws.{quadratic-coefficients}
 use Rattle.element_fits.proofs.quadratic_missed.Statement.{statement}

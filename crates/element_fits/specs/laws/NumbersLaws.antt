@@ -12,7 +12,7 @@ use lib.ListN.{length, set, drop}
 use lib.Seq.{sets, sets-eq}
 use Rattle.rounding.specs.Limits.{EachInRange, firstOutOfRange}
 use Rattle.rounding.specs.laws.LimitsLaws.{each-in-range}
-use Rattle.rounding.specs.laws.Order.{zs, ≤-parts}
+use Rattle.rounding.specs.laws.Order.{zs}
 use Rattle.rounding.specs.laws.Tests.{both}
 use Rattle.sheet_types.specs.declared.refusals.Refusal.{Refusal}
 use Rattle.sheet_types.specs.declared.refusals.Checked.{Checked}
@@ -29,7 +29,7 @@ use Rattle.besselian_rows.specs.declared.tables.Verdict.the-variants as T
 use Rattle.besselian_rows.specs.Exact.{RadiiInRange}
 use Rattle.besselian_rows.specs.Tables.{number, firstRefused}
 use Rattle.besselian_rows.specs.laws.TablesLaws.{accepted-at}
-use Rattle.least_squares.specs.Sizes.{HourlySizes}
+use Rattle.element_fits.specs.Sizes.{HourlySizes}
 use Rattle.element_fits.specs.declared.Fits.{Fits}
 use Rattle.element_fits.specs.declared.Answer.{Answer}
 use Rattle.element_fits.specs.declared.Answer.the-variants.{Made, Refused}

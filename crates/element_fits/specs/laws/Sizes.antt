@@ -4,7 +4,7 @@ use mathlib.Core.Bool.{true}
 use Prim.Native.Nat.{_≤_}
 use lib.IntN.{natAbs}
 use Rattle.besselian_rows.specs.Exact.{accepted}
-use Rattle.least_squares.specs.Sizes.{HourlySizes}
+use Rattle.element_fits.specs.Sizes.{HourlySizes}
 use Rattle.element_fits.specs.declared.Rows.{Rows}
 use Rattle.element_fits.specs.declared.Hour.{Hour}
 use Rattle.element_fits.specs.declared.Hours.{Hours}

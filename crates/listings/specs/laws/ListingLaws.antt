@@ -111,7 +111,7 @@ module _ (k : Reference) (d : ℤ) (y : Sky) (s old : List ℕ) (begin : ℕ) (o
         let last = rest-last (f .rest) e next q b in
         let t : timedLines k d (altitudeFor y) (behind (f .rest)) ≡ [] = ap (timedLines k d (altitudeFor y)) last ∙ lines-nil k d (altitudeFor y) in
         let u : viewAfter v e (altitudeFor y e) ≡ viewOf y Seen.Nothing (f .all) =
-            sym (view-nil y _) ∙ ap (viewOf y (viewAfter v e (altitudeFor y e))) (sym last) ∙ seen-on in
+        sym (view-nil y _) ∙ ap (viewOf y (viewAfter v e (altitudeFor y e))) (sym last) ∙ seen-on in
         rw (f .whole) (putting-end old begin (timedLines k d (altitudeFor y) (f .all)) new r (rw t at further), m ∙ ap (viewAfter v e) seen-at ∙ u)
 
     pub laying-more : (w : View) → w ≡ viewAfter v e x → isEnd (e .kind) ≡ false → Laying k d y s old begin new next r w

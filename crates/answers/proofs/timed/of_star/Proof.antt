@@ -25,5 +25,5 @@ returns c =
 pub of-star-spec : {M : Type 1} → statement M
 of-star-spec =
     tie.close
-    (tie.spec (λ c κs. search needs) (λ c κs. search needs) (λ c κs. search needs) lay-requires (λ c. search needs)
-    (λ c. search needs) (λ c. search needs) returns)
+    (tie.spec (λ c κs. search needs) (λ c κs. search needs) (λ c κs. search needs) lay-requires
+    (λ c. search needs) (λ c. search needs) (λ c. search needs) returns)

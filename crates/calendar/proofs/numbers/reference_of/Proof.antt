@@ -49,5 +49,5 @@ returns-7 c =
 pub reference-of-spec : {M : Type 1} → statement M
 reference-of-spec =
     tie.close
-    (tie.spec returns returns-2 (λ c κs. search needs) returns-3 returns-4 returns-5 (λ c κs. search needs) returns-6
-    (λ c κs. search needs) returns-7)
+    (tie.spec returns returns-2 (λ c κs. search needs) returns-3 returns-4 returns-5 (λ c κs. search needs)
+    returns-6 (λ c κs. search needs) returns-7)

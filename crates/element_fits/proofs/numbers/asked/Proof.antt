@@ -6,8 +6,8 @@ use lib.IntN.{natAbs}
 use Rattle.rounding.specs.laws.Code.{read-back, read-size}
 use Rattle.besselian_rows.specs.declared.besselian.Radii.{Radii}
 use Rattle.besselian_rows.specs.Exact.{RadiiInRange}
-use Rattle.least_squares.specs.declared.Hourly.{Hourly}
-use Rattle.least_squares.specs.Sizes.{HourlySizes}
+use Rattle.element_fits.specs.declared.least_squares.Hourly.{Hourly}
+use Rattle.element_fits.specs.Sizes.{HourlySizes}
 use Rattle.element_fits.specs.declared.Rows.{Rows}
 use Rattle.element_fits.specs.FromTables.{fittingOf}
 use Rattle.element_fits.specs.Answers.{judged}
@@ -43,4 +43,5 @@ returns c =
 pub asked-spec : {M : Type 1} → statement M
 asked-spec =
     tie.close
-    (tie.spec (λ c κs. search needs) (λ c κs. search needs) (λ c κs. search needs) natural-requires fits-of-requires returns)
+    (tie.spec (λ c κs. search needs) (λ c κs. search needs) (λ c κs. search needs) natural-requires
+    fits-of-requires returns)

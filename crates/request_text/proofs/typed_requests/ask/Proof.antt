@@ -25,9 +25,10 @@ returns c = (long-outcome _ (omega arith), refused-bytes _ _ (long-outcome _ (om
 
 returns-2 : tie.Need-returns-2
 returns-2 c =
-    let first = c .before .before in
-    (found first,
-    request-bytes _ _ (shaped first .shape-of .ensures) _ _ (sym (c .enum-told .given .1) ∙ found first) _ _ (encoded first .encode .ensures .bytes))
+    let first = c .before .before in (
+      found first,
+      request-bytes _ _ (shaped first .shape-of .ensures) _ _ (sym (c .enum-told .given .1) ∙ found first) _ _ (encoded first .encode .ensures .bytes),
+    )
 
 returns-3 : tie.Need-returns-3
 returns-3 c =
@@ -37,5 +38,5 @@ returns-3 c =
 pub ask-spec : {M : Type 1} → statement M
 ask-spec =
     tie.close
-    (tie.spec returns (λ c κs. search needs) (λ c κs. search needs) (λ c κs. search needs) (λ c κs. search needs)
-    (λ c κs. search needs) (λ c. search needs) (λ c. search needs) returns-2 returns-3)
+    (tie.spec returns (λ c κs. search needs) (λ c κs. search needs) (λ c κs. search needs)
+    (λ c κs. search needs) (λ c κs. search needs) (λ c. search needs) (λ c. search needs) returns-2 returns-3)

@@ -19,8 +19,8 @@ returns-2 c =
     let measured = tested .before .before in
     let start = measured .before .before .before .before in
     let r =
-        message-kept _ _ (start .pre) (start .args .message .now) _ _ _ (measured .put-reason .ensures .0) (measured .put-reason .ensures .1)
-        (tested .if1 .left) _ _ (put .put-reason2 .ensures .0) in
+    message-kept _ _ (start .pre) (start .args .message .now) _ _ _ (measured .put-reason .ensures .0) (measured .put-reason .ensures .1)
+    (tested .if1 .left) _ _ (put .put-reason2 .ensures .0) in
     (ap Fault (c .line-of .ensures) ∙ r .0, r .1)
 
 pub explain-spec : {M : Type 1} → statement M

@@ -39,13 +39,13 @@ returns-2 c =
     let found = said .before .before .before in
     let a = found .before .before .before .before .before .before .before .before .args in
     let r =
-        refused-stored _ _ (sym (found .outcome2 .given .1) ∙ found .before .before .ask .ensures .0) (a .request .now) (a .instant .now)
-        (a .message .now) _ (said .explain .ensures .0) in
+    refused-stored _ _ (sym (found .outcome2 .given .1) ∙ found .before .before .ask .ensures .0) (a .request .now) (a .instant .now)
+    (a .message .now) _ (said .explain .ensures .0) in
     (r .0, (r .1 .0, (r .1 .1, said .explain .ensures .1)))
 
 pub store-spec : {M : Type 1} → statement M
 store-spec =
     tie.close
     (tie.spec (λ c κs. search needs) (λ c. search needs) array-share-prefix-bytes slice-aggregate-keep
-    (λ c κs. search needs) (λ c. search needs) explain-requires (λ c. search needs) (λ c. search needs) returns
-    (λ c. search needs) returns-2)
+    (λ c κs. search needs) (λ c. search needs) explain-requires (λ c. search needs) (λ c. search needs)
+    returns (λ c. search needs) returns-2)

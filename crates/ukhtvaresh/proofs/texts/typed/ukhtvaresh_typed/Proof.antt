@@ -15,4 +15,5 @@ returns c =
 pub ukhtvaresh-typed-spec : {M : Type 1} → statement M
 ukhtvaresh-typed-spec =
     tie.close
-    (tie.spec (λ c κs. search needs) (λ c κs. search needs) (λ c. search needs) (λ c. search needs) (λ c. search needs) returns)
+    (tie.spec (λ c κs. search needs) (λ c κs. search needs) (λ c. search needs) (λ c. search needs)
+    (λ c. search needs) returns)

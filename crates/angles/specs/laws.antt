@@ -1,5 +1,0 @@
-pub mod SearchLaws
-pub mod Rising
-pub mod ArcsineLaws
-pub mod ArgumentLaws
-pub mod AccuracyLaws

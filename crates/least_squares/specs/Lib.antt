@@ -1,4 +1,0 @@
-pub mod LeastSquares
-pub mod Sizes
-pub mod Exact
-pub mod laws

@@ -1,3 +1,0 @@
-pub mod Least
-pub mod Rounding
-pub mod MirrorLaws
