@@ -2,17 +2,11 @@
 pub mod CloseMeaning
 pub mod CloseLaws
 pub mod ErrorSteps
-pub mod AcceptedLaws
 pub mod AxisSizes
 pub mod Sizes
 -- the theorem
 pub mod Errors
--- laws
 pub mod WideLaws
--- what the parts give
-pub mod Parts
--- laws
 pub mod DistanceLaws
 pub mod ReadLaws
--- laws
 pub mod TablesLaws

@@ -8,9 +8,9 @@ ghost use Rattle.rounding.specs.Near.{near};
 ghost use Rattle.rounding.specs.Value.{Value};
 ghost use Rattle.besselian_rows.specs.Exact.{between, level, accepted, RadiiInRange, Faithful};
 ghost use Rattle.besselian_rows.specs.Rounded.{millions, elementsOf};
-ghost use Rattle.besselian_rows.specs.laws.AcceptedLaws.{Accepted};
+ghost use Rattle.besselian_rows.specs.AcceptedLaws.{Accepted};
 ghost use Rattle.besselian_rows.specs.laws.Sizes.{IsRadii};
-ghost use Rattle.besselian_rows.specs.laws.Parts.{beyond, Given, IsAxis, IsDirections, IsPlane, IsCone};
+ghost use Rattle.besselian_rows.specs.Parts.{beyond, Given, IsAxis, IsDirections, IsPlane, IsCone};
 
 // ---- refusals
 

@@ -18,7 +18,7 @@ ghost use lib.IntN.{pos, natAbs};
 ghost use Rattle.rounding.specs.Value.{Value};
 ghost use Rattle.sine_table.specs.Table.{Sines};
 ghost use Rattle.besselian_rows.specs.Exact.{accepted, RadiiInRange};
-ghost use Rattle.besselian_rows.specs.laws.AcceptedLaws.{Accepted};
+ghost use Rattle.besselian_rows.specs.AcceptedLaws.{Accepted};
 ghost use Rattle.element_fits.specs.LeastSquares.{cubic, quadratic};
 ghost use Rattle.element_fits.specs.Sizes.{HourlySizes, CoefficientSizes};
 ghost use Rattle.elements.specs.Sizes.{QuadraticSizes};

@@ -16,7 +16,7 @@ use Rattle.rounding.specs.laws.RootLaws.{root-is}
 use Rattle.besselian_rows.specs.declared.besselian.Row.{Row}
 use Rattle.besselian_rows.specs.Exact.{_², Gx, Gy, Gz, P, N}
 use Rattle.besselian_rows.specs.Rounded.{gx, gy, gz, flat, whole, r, R}
-use Rattle.besselian_rows.specs.laws.AcceptedLaws.{Accepted, moon-sizes, sun-sizes, sun-low}
+use Rattle.besselian_rows.specs.AcceptedLaws.{Accepted, moon-sizes, sun-sizes, sun-low}
 use Rattle.besselian_rows.specs.laws.ErrorSteps.{square-error}
 
 -- s² ≤ (s − m)² + 2 A B, for |s| ≤ A and |m| ≤ B

@@ -9,7 +9,7 @@ use Rattle.rounding.specs.laws.Order.{natAbs-le, leZ-true, ltZ-true, ltZ-false,
 use Rattle.rounding.specs.laws.Ring.{num, _⊕_, _⊗_, opp, v0, v1, v2, v3}
 use Rattle.rounding.specs.laws.Cert.{leq, less, lit, sq, _⊞_, _⊠_, certify, certify-<}
 use Rattle.besselian_rows.specs.Exact.{_², between}
-use Rattle.besselian_rows.specs.laws.Parts.{beyond}
+use Rattle.besselian_rows.specs.Parts.{beyond}
 
 -- farther than m in one coordinate is farther than m
 beyond-square : (x m : ℤ) → pos 0 ≤ℤ m → beyond x m ≡ true → m ² <ℤ (x ²)

@@ -17,7 +17,7 @@ use Rattle.besselian_rows.specs.laws.CloseLaws.{close, product-close}
 use Rattle.besselian_rows.specs.laws.ErrorSteps.{turn, flat-error, north-error, axis-error, root-error, slope-error, foot-error, sum-error, difference-error}
 use Rattle.besselian_rows.specs.Exact.{_², one, Gx, Gy, Gz, P, N, Q, C, S1, S2, RadiiInRange, Close, Faithful}
 use Rattle.besselian_rows.specs.Rounded.{gx, gy, gz, flat, whole, r, R, cos-a, sin-a, sin-d, cos-d, x, q, y, z, millions, T, tan-f, slope, foot, elementsOf}
-use Rattle.besselian_rows.specs.laws.AcceptedLaws.{Accepted, moon-sizes}
+use Rattle.besselian_rows.specs.AcceptedLaws.{Accepted, moon-sizes}
 use Rattle.besselian_rows.specs.laws.AxisSizes
 use Rattle.besselian_rows.specs.laws.Sizes
 use Rattle.besselian_rows.specs.laws.Sizes.{IsRadii, penumbra, central}

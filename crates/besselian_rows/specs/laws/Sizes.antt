@@ -19,7 +19,7 @@ use Rattle.besselian_rows.specs.declared.besselian.Radii.{Radii}
 use Rattle.besselian_rows.specs.laws.CloseLaws.{Bracket, root-bracket}
 use Rattle.besselian_rows.specs.Exact.{_², one, P, N, S1, S2, document02, RadiiInRange}
 use Rattle.besselian_rows.specs.Rounded.{millions, gx, gy, gz, flat, whole, r, R, cos-a, sin-a, sin-d, cos-d, x, q, y, z, T, tan-f, slope, foot}
-use Rattle.besselian_rows.specs.laws.AcceptedLaws.{Accepted, moon-sizes}
+use Rattle.besselian_rows.specs.AcceptedLaws.{Accepted, moon-sizes}
 use Rattle.besselian_rows.specs.laws.AxisSizes
 
 -- the sum or difference of the radii, its square in millions, and the Moon's radius

@@ -18,7 +18,7 @@ use Rattle.sheet_types.specs.Refusals.{refusal}
 use Rattle.besselian_rows.specs.declared.besselian.Besselian.{Besselian}
 use Rattle.besselian_rows.specs.Exact.{document02, accepted, Faithful}
 use Rattle.besselian_rows.specs.Rounded.{elementsOf}
-use Rattle.besselian_rows.specs.laws.AcceptedLaws.{accepted-is}
+use Rattle.besselian_rows.specs.AcceptedLaws.{accepted-is}
 use Rattle.besselian_rows.specs.laws.Sizes.{ranged}
 use Rattle.besselian_rows.specs.laws.Errors.{faithful}
 use Rattle.besselian_rows.specs.declared.tables.Verdict.{Verdict}

@@ -8,7 +8,7 @@ use Rattle.rounding.specs.laws.Code.{read-back, read-size}
 use Rattle.besselian_rows.specs.declared.besselian.Besselian.{Besselian}
 use Rattle.besselian_rows.specs.declared.besselian.Radii.{Radii}
 use Rattle.besselian_rows.specs.Rounded.{elementsOf}
-use Rattle.besselian_rows.specs.laws.AcceptedLaws.{Accepted, accepted-is}
+use Rattle.besselian_rows.specs.AcceptedLaws.{Accepted, accepted-is}
 use Rattle.besselian_rows.specs.laws.ReadLaws.{back, back-size}
 use Rattle.elements.specs.declared.Elements.{Elements}
 use Rattle.element_fits.specs.declared.least_squares.Hourly.{Hourly}

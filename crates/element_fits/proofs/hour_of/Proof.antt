@@ -2,7 +2,7 @@
 use mathlib.Core.Path.{ap, _∙_}
 use Rattle.besselian_rows.specs.declared.besselian.Besselian.{Besselian}
 use Rattle.besselian_rows.specs.Rounded.{elementsOf}
-use Rattle.besselian_rows.specs.laws.AcceptedLaws.{accepted-is}
+use Rattle.besselian_rows.specs.AcceptedLaws.{accepted-is}
 use Rattle.besselian_rows.specs.laws.ReadLaws.{back, back-size}
 use Rattle.element_fits.specs.Angles.{arcsine}
 use Rattle.element_fits.specs.laws.ArcsineLaws.{arcsine-size}

@@ -10,7 +10,7 @@ use Rattle.besselian_rows.specs.declared.besselian.Row.{Row}
 use Rattle.besselian_rows.specs.declared.besselian.Radii.{Radii}
 use Rattle.besselian_rows.specs.Exact.{S1, S2, RadiiInRange}
 use Rattle.besselian_rows.specs.Rounded.{millions, cos-a, sin-a, slope, foot, elementsOf}
-use Rattle.besselian_rows.specs.laws.AcceptedLaws.{Accepted, accepted-is}
+use Rattle.besselian_rows.specs.AcceptedLaws.{Accepted, accepted-is}
 use Rattle.besselian_rows.specs.laws.Sizes as row
 use Rattle.element_fits.specs.laws.ArcsineLaws.{arcsine-size}
 use Rattle.element_fits.specs.laws.ArgumentLaws.{argument-below}

@@ -8,7 +8,7 @@ use borrow.Author.Tests.{not-true, not-false}
 use Rattle.rounding.specs.laws.Code.{Code, arg, sub, Within, whole, ends, _▹_, fits, runs, within, read-result}
 use Rattle.besselian_rows.specs.declared.besselian.Row.{Row}
 use Rattle.besselian_rows.specs.Exact.{Gx, Gy, Gz, level, moonDistance, sunDistance, accepted}
-use Rattle.besselian_rows.specs.laws.AcceptedLaws.{moon-sizes, sun-sizes}
+use Rattle.besselian_rows.specs.AcceptedLaws.{moon-sizes, sun-sizes}
 use Rattle.besselian_rows.proofs.rows.accepted.Statement.{statement}
 use Rattle.besselian_rows.proofs.rows.accepted.Tie as tie
 

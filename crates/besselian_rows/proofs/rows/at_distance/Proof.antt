@@ -10,7 +10,7 @@ use mir.Syntax.{w64}
 use mir.ValLaws.{toZ-ofZ}
 use Rattle.rounding.specs.laws.Code.{read-back, read-size}
 use Rattle.besselian_rows.specs.Exact.{between}
-use Rattle.besselian_rows.specs.laws.Parts.{beyond}
+use Rattle.besselian_rows.specs.Parts.{beyond}
 use Rattle.besselian_rows.specs.laws.DistanceLaws.{beyond-x, beyond-y, beyond-z, not-beyond}
 use Rattle.besselian_rows.proofs.rows.at_distance.Statement.{statement}
 use Rattle.besselian_rows.proofs.rows.at_distance.Tie as tie

@@ -6,7 +6,7 @@ use mir.Syntax.{w64}
 use mir.ValLaws.{toZ-ofZ}
 use Rattle.rounding.specs.laws.Code.{Code, arg, lit, sub, Within, whole, ends, _▹_, fits, runs, read-back}
 use Rattle.rounding.specs.laws.Ring.{num, opp, _⊖_, ring, v0}
-use Rattle.besselian_rows.specs.laws.Parts.{beyond}
+use Rattle.besselian_rows.specs.Parts.{beyond}
 use Rattle.besselian_rows.proofs.rows.beyond.Statement.{statement}
 use Rattle.besselian_rows.proofs.rows.beyond.Tie as tie
 

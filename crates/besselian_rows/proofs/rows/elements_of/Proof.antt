@@ -11,7 +11,7 @@ use Rattle.besselian_rows.specs.declared.besselian.Besselian.{Besselian}
 use Rattle.besselian_rows.specs.declared.besselian.Radii.{Radii}
 use Rattle.besselian_rows.specs.Exact.{S1, S2, RadiiInRange, Faithful}
 use Rattle.besselian_rows.specs.Rounded.{tan-f, l1, l2, elementsOf}
-use Rattle.besselian_rows.specs.laws.AcceptedLaws.{Accepted, accepted-is}
+use Rattle.besselian_rows.specs.AcceptedLaws.{Accepted, accepted-is}
 use Rattle.besselian_rows.specs.laws.Sizes
 use Rattle.besselian_rows.specs.laws.Sizes.{IsRadii, penumbra, central}
 use Rattle.besselian_rows.specs.laws.Errors.{faithful}

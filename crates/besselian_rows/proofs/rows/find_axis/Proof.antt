@@ -7,7 +7,7 @@ use lib.IntN.{ℤ, natAbs}
 use Rattle.rounding.specs.laws.Code.{read-back, read-size}
 use Rattle.besselian_rows.specs.Rounded.{gx, gy, gz, flat, whole}
 use Rattle.besselian_rows.specs.laws.AxisSizes
-use Rattle.besselian_rows.specs.laws.AcceptedLaws.{moon-sizes, sun-sizes}
+use Rattle.besselian_rows.specs.AcceptedLaws.{moon-sizes, sun-sizes}
 use Rattle.besselian_rows.proofs.rows.find_axis.Statement.{statement}
 use Rattle.besselian_rows.proofs.rows.find_axis.Tie as tie
 

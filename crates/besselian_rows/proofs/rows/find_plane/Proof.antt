@@ -7,7 +7,7 @@ use Rattle.rounding.specs.laws.Ring.{num, _⊕_, _⊖_, _⊗_, ring, v0, v1, v2
 use Rattle.rounding.specs.laws.Code.{Code, arg, lit, sub, Within, whole, ends, _▹_, fits, runs, within, read-back, read-size}
 use Rattle.besselian_rows.specs.Exact.{one}
 use Rattle.besselian_rows.specs.Rounded.{x, q, y, z}
-use Rattle.besselian_rows.specs.laws.AcceptedLaws.{moon-sizes}
+use Rattle.besselian_rows.specs.AcceptedLaws.{moon-sizes}
 use Rattle.besselian_rows.specs.laws.Sizes
 use Rattle.besselian_rows.specs.laws.ReadLaws.{same-size, back, back-size}
 use Rattle.besselian_rows.proofs.rows.find_plane.Statement.{statement}
