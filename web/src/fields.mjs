@@ -105,9 +105,9 @@ export function withValue(text, name, value) {
   return lines.join("\n");
 }
 
-const COMMENT = /^[ \t]*#+[ \t]*([^:\r]*)/;
+const COMMENT = /^[ \t]*#+[ \t]*([^\r]*)/;
 
-// The title of a text, its first comment up to a colon; "" where it has none.
+// The title of a text, its first comment; "" where it has none.
 export function titleIn(text) {
   const comment = text.split("\n").find((line) => COMMENT.test(line));
   return comment === undefined ? "" : COMMENT.exec(comment)[1].trim();
@@ -118,6 +118,6 @@ export function withTitle(text, title) {
   const lines = text.split("\n");
   const at = lines.findIndex((line) => COMMENT.test(line));
   if (at < 0) return `# ${title}\n${text}`;
-  lines[at] = lines[at].replace(COMMENT, `# ${title.replaceAll(":", "")}`);
+  lines[at] = `# ${title}`;
   return lines.join("\n");
 }

@@ -1,0 +1,2 @@
+import { ENGLISH } from "./english.mjs";
+export const RUSSIAN_TEXTS = ENGLISH;
