@@ -39,3 +39,9 @@ export function matching(names, typed) {
   const ranked = names.map((name, at) => [rank(name), at]).filter(([order]) => order < 3);
   return ranked.sort(([a, m], [b, n]) => a - b || m - n).map(([, at]) => at);
 }
+
+const NEAR = 60_000; // 10^-6 degree
+
+// A city at a place, give or take some kilometres, or undefined.
+export const cityNear = (cities, latitude, longitude) =>
+  cities.find((city) => Math.abs(city.latitude - latitude) <= NEAR && Math.abs(city.longitude - longitude) <= NEAR);

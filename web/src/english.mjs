@@ -24,7 +24,6 @@ export const ENGLISH = {
   skip: "Skip to the sheet",
   languages: "Language",
   failed: "The page could not start: ",
-  missing: "This page was built without what makes elements from the catalogue, so only texts and examples are shown.",
   cities: {}, // names that differ from tzdata's
 
   choose: {
@@ -53,10 +52,11 @@ export const ENGLISH = {
   options: {
     title: "Options",
     radii: "Radii of Sun and Moon",
-    document02: "document 02 (one lunar radius, 0.272274)",
-    iau: "IAU (0.2725076 outside, 0.272281 inside)",
+    document02: "document 02 (k 0.272274)",
+    iau: "IAU (k 0.2725076, 0.272281)",
     radiiHint:
-      "Take the IAU's to compare with published times: the eclipse then begins earlier and ends later, by 2.3 s in the median.",
+      "k is the Moon's radius in the Earth's. Take the IAU's two, for outer and inner contacts, to compare with published times: " +
+      "the eclipse then begins earlier and ends later, by 2.3 s in the median.",
     deltaT: "\u0394T, s",
     deltaTHint: (seconds, source) =>
       `The catalogue has ${seconds} s, ${source}. A second more moves a contact by some 1.2 s in universal time (median; 7 s for 1 in 100).`,
@@ -70,7 +70,7 @@ export const ENGLISH = {
   map: {
     title: "Where it is seen",
     label: "Map of the world, coloured by the largest magnitude seen with the Sun up. Arrow keys move the cross, plus and minus zoom, Enter takes the place.",
-    hint: "Click to take a place; drag to move, wheel or buttons to zoom.",
+    hint: "Click to take a place; drag to move; the buttons, + and \u2212, or Ctrl and the wheel zoom.",
     closer: "Zoom in",
     farther: "Zoom out",
     whole: "Whole world",
@@ -183,7 +183,8 @@ export const ENGLISH = {
     someDown: "Grey rows: the Sun is below the horizon then, and nothing of it is seen.",
     presumed: (day) => `UTC is presumed: leap seconds are known up to ${day} only.`,
     noUtc: "There is no UTC before 1972: local time goes by universal time.",
-    forecast: "\u0394T of this date is a forecast, so local time, UTC and UT may be off by seconds or more.",
+    extrapolated: "\u0394T of this date is extrapolated, not observed: times may be off a little.",
+    forecast: "\u0394T of this date is a forecast: times may be off by seconds, by the end of the century by tens of seconds.",
     guard: "With a guard below 32 the sheet is right by the rules of document 01; it is not proved of Bessel's formulas with nothing rounded.",
     noContact: "In this window the shadow's edge does not pass the station: there is no contact.",
   },

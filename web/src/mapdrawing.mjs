@@ -7,7 +7,7 @@ export function mapColours(canvas) {
   const style = getComputedStyle(canvas);
   const of = (name) => style.getPropertyValue(`--map-${name}`).trim();
   const bands = Array.from({ length: BANDS }, (_, k) => of(k));
-  return { sea: of("sea"), coast: of("coast"), grid: of("grid"), place: of("place"), annular: of("annular"), total: of("total"), bands };
+  return { sea: of("sea"), coast: of("coast"), halo: of("halo"), grid: of("grid"), place: of("place"), annular: of("annular"), total: of("total"), bands };
 }
 
 const colourOf = ({ magnitude, kind }, colours) => {
@@ -43,13 +43,15 @@ function drawGrid(context, { west, north, scale }, { width, height }, colours) {
 }
 
 function drawCoasts(context, outline, { west, north, scale }, ratio, colours) {
-  context.strokeStyle = colours.coast;
-  context.lineWidth = 0.9 * ratio;
   context.lineJoin = "round";
   context.beginPath();
   for (const line of outline)
     line.forEach(([x, y], k) => context[k === 0 ? "moveTo" : "lineTo"]((x - west) * scale, (north - y) * scale));
-  context.stroke();
+  for (const [colour, wide] of [[colours.halo, 2.4], [colours.coast, 0.9]]) {
+    context.strokeStyle = colour;
+    context.lineWidth = wide * ratio;
+    context.stroke();
+  }
 }
 
 // A ring with a dot, light around dark so that it shows on every colour.

@@ -5,6 +5,7 @@ import { cellsOf } from "./grid.mjs";
 import { drawCell, drawOver, mapColours } from "./mapdrawing.mjs";
 
 const CELL = 2; // degrees of a cell of the whole world
+const CLOSER_CELL = 3; // of one twice as near, and so on in halves
 const CLOSEST = 64; // times
 const SLICE = 24; // milliseconds
 const STILL = 5; // pixels that a click may move
@@ -78,8 +79,8 @@ export function makeMap(library, outline, { pick, words }) {
     const own = ++run;
     if (!bytes) return;
     const times = 2 ** Math.ceil(Math.log2(view.zoom));
-    const size = CELL / times;
     const isWorld = times === 1;
+    const size = isWorld ? CELL : CLOSER_CELL / times;
     fine = [];
     if (isWorld) world = [];
     drawAll();

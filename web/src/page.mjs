@@ -1,10 +1,10 @@
 // The page: an eclipse and a place, or a text of one's own, to a sheet, a map and a list.
-import { LANGUAGES, TEXTS, dateWords, language, speak } from "./texts.mjs";
+import { LANGUAGES, TEXTS, cityName, dateWords, language, speak } from "./texts.mjs";
 import { html } from "./svg.mjs";
 import { loadLibrary } from "./library.mjs";
 import { loadRequest } from "./program.mjs";
 import { readCatalogue, nextAfter } from "./catalogue.mjs";
-import { readCities } from "./cities.mjs";
+import { cityNear, readCities } from "./cities.mjs";
 import { readOutline } from "./outline.mjs";
 import { clocksOf, readLeapSeconds, taiLessUtc } from "./scales.mjs";
 import { elementsOf, movedTo, requestAt, requestText, typedDecimal, widened } from "./making.mjs";
@@ -23,7 +23,7 @@ import { showSheet } from "./sheet.mjs";
 import { CATALOGUE, CITIES, EXAMPLES, LEAP_SECONDS, LIBRARY, MORE_CITIES, OUTLINE, REQUEST } from "./made.mjs";
 
 const $ = (id) => document.getElementById(id);
-const PAPER = 680; // pixels of the curve on paper
+const PAPER = 780; // pixels of the curve on paper
 const bytesOf = (base64) => Uint8Array.from(atob(base64), (letter) => letter.charCodeAt(0));
 const browserZone = () => Intl.DateTimeFormat().resolvedOptions().timeZone || "UTC";
 const degrees = (units) => units / 1e6;
@@ -43,7 +43,9 @@ function start(library, request) {
   const cities = readCities(CITIES, MORE_CITIES);
   const leapSeconds = readLeapSeconds(LEAP_SECONDS);
   const today = new Date().toISOString().slice(0, 10);
-  const home = cities.find(({ zone }) => zone === browserZone()) ?? cities.find(({ name }) => name === "London");
+  const ofBrowser = cities.find(({ zone, name }) => zone === browserZone() && zone.endsWith(name.replaceAll(" ", "_")));
+  const city = ofBrowser ?? cities.find(({ name }) => name === "London");
+  const home = { ...city, name: cityName(city) };
   // eclipse null: the text is one's own, or an example's
   const state = { eclipse: null, place: home, options: { radii: "document02", deltaT: null, guard: 32 }, example: "", text: "" };
   const looks = { scales: new Set(["local", "UTC"]), zenithUp: false };
@@ -124,7 +126,7 @@ function start(library, request) {
     made = requestAt(library, eclipse, place, chosen);
     const utc = taiLessUtc(leapSeconds, eclipse.date);
     const remarks = [
-      `${TEXTS.kinds[eclipse.kind]} eclipse of ${eclipse.date}, elements by the catalogue of 1900 to 2100, radii ${chosen.radii}`,
+      `eclipse of ${eclipse.date} by the catalogue of 1900 to 2100, elements by ephemeris time, radii ${chosen.radii}`,
       ...(utc ? [`UTC is ET less ${(32.184 + utc.seconds).toFixed(3)} s (TAI - UTC is ${utc.seconds} s${utc.presumed ? ", presumed" : ""})`] : []),
     ];
     const title = TEXTS.sheetTitle(dateWords(eclipse.date), place.name);
@@ -172,12 +174,13 @@ function start(library, request) {
     if (focus) $(focus)?.focus();
   }
 
-  // The place of a text, as far as it says one, so that map and list follow it.
+  // The place of a text, so that map and list follow it: by the name and zone of a city that is there, else by its coordinates.
   function followText({ numbers }) {
     const { latitude, longitude, height } = numbers;
     const same = state.place.latitude === latitude && state.place.longitude === longitude;
-    state.place = { ...state.place, latitude, longitude, height };
-    if (!same) state.place.name = titleIn(state.text) || placeWords(state.place).join(" ");
+    const city = same ? state.place : cityNear(cities, latitude, longitude);
+    state.place = { ...(city ?? { zone: null }), latitude, longitude, height };
+    if (!same) state.place.name = city ? cityName(city) : placeWords(state.place).join(" ");
   }
 
   let listed = "";

@@ -98,5 +98,11 @@ export function makePicker({ id, label, hint, options, pick, shown, visible }) {
     const item = event.target.closest("[data-at]");
     if (item) take(Number(item.dataset.at));
   });
-  return { element, show: () => (input.value = shown()), input };
+  // What the field has while nobody types in it, selected where the focus is, so that typing begins anew.
+  function show() {
+    if (typed) return;
+    input.value = shown();
+    if (input === document.activeElement) input.select();
+  }
+  return { element, show };
 }

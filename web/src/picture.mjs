@@ -78,7 +78,7 @@ export function picture(row, star, label, zenithUp) {
   const isTurned = zenithUp && row.horizon.zenith !== null;
   const up = isTurned ? row.horizon.zenith : 0;
   const bodies = star ? moonAndStar(row.place, up) : sunAndMoon(row.place, row.entry, up);
-  const night = row.horizon.altitude < UP;
+  const night = star || row.horizon.altitude < UP;
   const covered = !star && isCovered(row.place);
   const names = ["picture", ...(night ? ["night"] : covered ? ["totality"] : [])].join(" ");
   return svg(

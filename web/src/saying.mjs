@@ -56,10 +56,11 @@ export function notesOf(sheet, clocks, { source, expires }) {
     [sheet.rows.length === 1, said.noContact],
     [sheet.begun, said.begun],
     [sheet.goesOn, said.goesOn],
-    [downs > 0 && sheet.spell && !sheet.numbers.star, said.someDown],
+    [downs > 0 && sheet.seen && !sheet.seen.down, said.someDown],
     [clocks?.utc?.presumed, said.presumed(expires)],
     [clocks && !clocks.utc && clocks.civil === "UT" && sheet.instant.year < 1972, said.noUtc],
-    [source === "X" || source === "F", said.forecast],
+    [source === "X", said.extrapolated],
+    [source === "F", said.forecast],
     [sheet.numbers.guard < FINE_GUARD, said.guard],
   ]
     .filter(([holds]) => holds)
