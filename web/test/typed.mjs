@@ -34,10 +34,15 @@ await check("Hopkinsville's contacts in UT to hundredths, and the Moon where the
   await example("hopkinsville2017");
   await scale("UT", true);
   const shown = (await texts("td.UT")).map((cell) => cell.trim());
-  const within = ["16:56:31.2", "18:24:41.2", "18:26:01", "18:27:21.2", "19:51:42.2"]; // what the sheet's seconds begin with
-  assert.equal(shown.length, within.length);
-  shown.forEach((cell, k) => assert.equal(cell.slice(0, 8), within[k].slice(0, 8), cell));
-  shown.filter((_, k) => k !== 2).forEach((cell) => assert.match(cell, /^\d\d:\d\d:\d\d\.\d\d–\d\d\.\d\d$/));
+  // the two times of the listing between which each lies
+  const listed = [["16:56:31.2", "16:56:32.2"], ["18:24:41.2", "18:24:42.2"], null, ["18:27:21.2", "18:27:22.2"], ["19:51:42.2", "19:51:43.2"]];
+  assert.equal(shown.length, listed.length);
+  assert.equal(shown[2], "18:26:01");
+  shown.forEach((cell, k) => {
+    if (!listed[k]) return;
+    const [, minutes, from, to] = /^(\d\d:\d\d):(\d\d\.\d\d)–(\d\d\.\d\d)$/.exec(cell);
+    assert.ok(listed[k][0] <= `${minutes}:${from}` && from < to && `${minutes}:${to}` <= `${listed[k][1]}0`, cell);
+  });
   const moons = await page.run(`[...document.querySelectorAll(".pictures svg")].map((each) => { const moon = each.querySelector(".moon");
     return [Number(moon.getAttribute("cx")) - 100, Number(moon.getAttribute("cy")) - 100]; })`);
   assert.ok(moons[0][0] > 60 && moons.at(-1)[0] < -60, "the Moon comes from the west, on the right, and leaves to the east");
