@@ -127,7 +127,8 @@ function sheetOf(library, bytes, instant) {
   const head = entries[0];
   const sky = skyOf(library, bytes, star);
   const phases = star ? ["star"] : ["penumbra", "central"];
-  const spell = spellOf(entries, phases[0]);
+  const begun = sky.state(phases[0], head.first) === "inside";
+  const spell = spellOf(entries, phases[0]) ?? (begun ? [head.first, head.last] : null);
   const share = entries.find((entry) => entry.name === "share")?.share ?? null;
   const timed = entries.filter((entry) => !["head", "share", "end"].includes(entry.name));
   timed.push(...horizonEntries(library, bytes, star, sky, spell));
@@ -159,7 +160,7 @@ function sheetOf(library, bytes, instant) {
     entries: library.read(plain),
     listing: library.listing(plain),
     seen: star ? null : seenOf(library, bytes, entries),
-    begun: sky.state(phases[0], head.first) === "inside",
+    begun,
     goesOn: sky.state(phases[0], head.last) === "inside",
     durations: Object.fromEntries(phases.map((phase) => [phase, durationsOf(rows, phase)])),
     curve: star ? null : readingsAlong(sky, head, spell, rows.map((row) => row.second)),

@@ -51,7 +51,8 @@ export function eclipsePicker(eclipses, today, { pick, chosen, goes }) {
     },
     pick: ({ key }) => pick(key),
     visible: (element, { eclipse }) => {
-      element.querySelector(".goes").textContent = goes(eclipse);
+      // one after the other, so that the list stays quick
+      setTimeout(() => element.isConnected && (element.querySelector(".goes").textContent = goes(eclipse)));
     },
   });
 }

@@ -217,6 +217,7 @@ export const ENGLISH = {
   to: "to",
   high: (degrees) => `${degrees}\u00b0 high`,
   down: "below the horizon",
+  edge: "at the horizon",
   azimuth: (degrees, side) => `${degrees}\u00b0 ${side}`,
   sides: ["N", "NE", "E", "SE", "S", "SW", "W", "NW"],
   point: {

@@ -77,6 +77,8 @@ export function makeMap(library, outline, { pick, words }) {
 
   async function compute() {
     const own = ++run;
+    said.textContent = "";
+    element.dataset.state = "none";
     if (!bytes) return;
     const times = 2 ** Math.ceil(Math.log2(view.zoom));
     const isWorld = times === 1;

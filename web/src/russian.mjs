@@ -214,6 +214,7 @@ export const RUSSIAN_TEXTS = {
   to: "\u2013",
   high: (degrees) => `высота ${degrees}\u00b0`,
   down: "под горизонтом",
+  edge: "у горизонта",
   azimuth: (degrees, side) => `${degrees}\u00b0 ${side}`,
   sides: ["С", "СВ", "В", "ЮВ", "Ю", "ЮЗ", "З", "СЗ"],
   point: {

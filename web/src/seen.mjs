@@ -36,13 +36,15 @@ function nearestUp(isUp, down, end, close) {
 // null where no eclipse is there; { down: true } with the altitude at the closest second where the Sun is down throughout.
 export function seenOf(library, bytes, entries, close = 1) {
   const closest = entries.find((entry) => entry.name === "closest");
-  const spell = spellOf(entries, "penumbra");
-  if (closest.magnitude === 0 || spell === null) return null;
+  if (closest.magnitude === 0) return null;
+  // without a contact, and with the Sun covered, the whole window lies in the eclipse
+  const spell = spellOf(entries, "penumbra") ?? [entries[0].first, entries[0].last];
   const altitude = (second) => library.horizon(bytes, second).altitude;
   const atClosest = altitude(closest.second);
   if (atClosest >= UP) {
-    const central = entries.some((entry) => entry.phase === "central" && isContact(entry));
-    const kind = !central ? "partial" : closest.magnitude >= 1_000_000 ? "total" : "annular";
+    const isTotal = closest.magnitude >= 1_000_000;
+    const central = isTotal || entries.some((entry) => entry.phase === "central" && isContact(entry));
+    const kind = !central ? "partial" : isTotal ? "total" : "annular";
     return { kind, second: closest.second, magnitude: closest.magnitude, altitude: atClosest, spell, atClosest: true };
   }
   const isUp = (second) => altitude(second) >= UP;

@@ -33,11 +33,13 @@ export function timesOf(row, clocks, name, day) {
   return [html("span", { class: "time" }, `${earlier}\u2013${shortened(earlier, later)}`), ...mark(days)];
 }
 
-function sunCell(row, star) {
+function sunCell(row) {
   const { altitude, azimuth } = row.horizon;
-  const up = html("span", { class: "time" }, isDown(row) ? `${degreesText(altitude)}\u00b0` : TEXTS.high(degreesText(altitude)));
+  const words = degreesText(altitude);
+  const up = html("span", { class: "time" }, altitude < 0 ? `${words}\u00b0` : TEXTS.high(words));
   const side = azimuth === null ? "" : TEXTS.azimuth(degreesText(azimuth), sideOf(azimuth, TEXTS.sides));
-  return [up, ...(isDown(row) ? [html("strong", { class: "below" }, TEXTS.down)] : []), html("small", { class: "time" }, side)];
+  const said = isDown(row) ? TEXTS.down : altitude < 0 ? TEXTS.edge : "";
+  return [up, ...(said ? [html("strong", { class: "below" }, said)] : []), html("small", { class: "time" }, side)];
 }
 
 function pointCell(row) {
@@ -65,19 +67,21 @@ export function contactsTable(sheet, clocks, scales) {
   const { star } = sheet.numbers;
   const days = Object.fromEntries(scales.filter((name) => name !== "seconds").map((name) => [name, dayOf(sheet, clocks, name)]));
   const names = ["number", "what", ...scales, star ? "star" : "sun", "point"];
-  const cell = (name, ...children) => html("td", { class: name, "data-label": columns[name] }, ...children);
+  const cell = (name, ...children) => html("td", { role: "cell", class: name, "data-label": columns[name] }, ...children);
   const rowOf = (row) => {
     const [title, meaning] = wordsOf(row, sheet);
     return html(
       "tr",
-      { class: isDown(row) ? `${row.entry.name} down` : row.entry.name },
+      { role: "row", class: isDown(row) ? `${row.entry.name} down` : row.entry.name },
       cell("number", String(row.number)),
       cell("what", html("strong", {}, title), ...(meaning ? [html("small", {}, meaning)] : [])),
       ...scales.map((name) => (name === "seconds" ? cell(name, ...secondsCell(row)) : cell(name, ...timesOf(row, clocks, name, days[name])))),
-      cell(star ? "star" : "sun", ...sunCell(row, star)),
+      cell(star ? "star" : "sun", ...sunCell(row)),
       cell("point", ...pointCell(row)),
     );
   };
-  const labels = names.map((name) => html("th", { scope: "col", class: name }, columns[name]));
-  return html("table", { class: "contacts" }, html("thead", {}, html("tr", {}, ...labels)), html("tbody", {}, ...sheet.rows.map(rowOf)));
+  // the roles stay where a narrow window lays the table out in blocks
+  const labels = names.map((name) => html("th", { role: "columnheader", scope: "col", class: name }, columns[name]));
+  const head = html("thead", { role: "rowgroup" }, html("tr", { role: "row" }, ...labels));
+  return html("table", { role: "table", class: "contacts" }, head, html("tbody", { role: "rowgroup" }, ...sheet.rows.map(rowOf)));
 }
