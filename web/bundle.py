@@ -1,8 +1,9 @@
-"""Puts the page together as one file: python3 web/bundle.py FOLDER, which has ukhtvaresh.wasm and request.wasm (`web/build` runs it).
+"""Puts the page together as one file: python3 web/bundle.py FOLDER (`web/build` runs it).
 
-A browser gives a page from a file no origin: it refuses to import modules or to fetch a library beside it. So the modules of web/src become
-one classic script, in the order of their imports, without the words `import` and `export`, in a function of its own. Style, examples, data and
-the library, in base64, are in the page too. Names at the top of the modules must differ from each other, which is checked.
+FOLDER has ukhtvaresh.wasm and request.wasm. A browser gives a page from a file no origin: it refuses to import modules
+or to fetch a library beside it. So the modules of web/src become one classic script, in the order of their imports,
+without the words `import` and `export`, in a function of its own. Style, examples, data and the library, in base64, are
+in the page too. Names at the top of the modules must differ from each other, which is checked.
 """
 
 import base64

@@ -3,8 +3,8 @@
 
     python3 web/data/make_cities.py [/usr/share/zoneinfo] > web/data/cities.txt
 
-zone.tab has a zone for every country, so that Oslo and Prague are in it; zone1970.tab, which has only zones that differ since 1970, has
-fewer cities. What it has and zone.tab has not is added.
+zone.tab has a zone for every country, so that Oslo and Prague are in it; zone1970.tab, which has only zones that differ
+since 1970, has fewer cities. What it has and zone.tab has not is added.
 """
 
 import re
@@ -14,7 +14,8 @@ from typing import Dict, Tuple
 
 HEAD = """\
 # Cities from tzdata {version}, zone.tab (public domain), by make_cities.py.
-# Latitude and east longitude in 0.0001 degree (good to a minute of arc), country (ISO 3166), time zone; the city is the zone's last part.
+# Latitude and east longitude in 0.0001 degree (good to a minute of arc), country (ISO 3166), time zone.
+# The city is the zone's last part.
 """
 
 

@@ -6,9 +6,9 @@ r-cran-rnaturalearthdata has it.
     python3 web/data/make_outline.py FOLDER coastline50 2 > web/data/outline.txt
     python3 web/data/make_outline.py --draw web/data/outline.txt outline.png
 
-A line of the outline is a polyline: longitude and latitude of its first point in tenths of a degree, then differences from point to
-point. Points nearer than TOLERANCE tenths to the line between their neighbours are left out (Douglas and Peucker), and so are rings
-smaller than that. R is not needed: its lazy-load files are read here.
+A line of the outline is a polyline: longitude and latitude of its first point in tenths of a degree, then differences
+from point to point. Points nearer than TOLERANCE tenths to the line between their neighbours are left out (Douglas and
+Peucker), and so are rings smaller than that. R is not needed: its lazy-load files are read here.
 """
 
 import gzip
@@ -21,7 +21,8 @@ from typing import List, Tuple
 
 Point = Tuple[int, int]
 HEAD = """\
-# Coasts of the world from Natural Earth, {layer}, public domain (naturalearthdata.com), by make_outline.py; tolerance {tolerance} tenths of a degree.
+# Coasts of the world from Natural Earth, {layer}, public domain (naturalearthdata.com), by make_outline.py.
+# Tolerance {tolerance} tenths of a degree.
 # A polyline a line: longitude and latitude in tenths of a degree, then differences from point to point.
 """
 
@@ -89,7 +90,8 @@ def loaded(folder: Path, name: str):
     block = (folder / "Rdata.rdb").read_bytes()[offset : offset + size]
     kind, body = block[4:5], block[5:]
     if kind == b"Z":
-        data = lzma.decompress(body, lzma.FORMAT_RAW, filters=[{"id": lzma.FILTER_LZMA2, "preset": 6 | lzma.PRESET_EXTREME}])
+        filters = [{"id": lzma.FILTER_LZMA2, "preset": 6 | lzma.PRESET_EXTREME}]
+        data = lzma.decompress(body, lzma.FORMAT_RAW, filters=filters)
     else:
         data = zlib.decompress(block[4:])
     return Serialized(data).item()

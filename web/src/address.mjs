@@ -1,4 +1,5 @@
-// The address of what is shown, behind the # of the page's own: an eclipse of the catalogue at a place, an example, or a text.
+// The address of what is shown, behind the # of the page's own: an eclipse of the catalogue at a place, an example, or
+// a text.
 import { RADII, typedDecimal } from "./making.mjs";
 import { coordinatesIn } from "./coordinates.mjs";
 
@@ -26,18 +27,27 @@ export function addressOf({ eclipse, place, options, example, text }, language) 
   return asked.toString();
 }
 
-// What an address asks for: { eclipse: a date, place, options } as far as it says so, { example } or { text }, and own fields.
+// What an address asks for: { eclipse: a date, place, options } as far as it says so, { example } or { text }, and own
+// fields.
 export function askedBy(hash) {
   const asked = new URLSearchParams(hash.replace(/^#/, ""));
   const made = { language: asked.get("lang"), fields: [...asked] };
-  if (asked.has("text") || asked.has("example")) return { ...made, text: asked.get("text"), example: asked.get("example") };
+  if (asked.has("text") || asked.has("example")) return {
+    ...made,
+    text: asked.get("text"),
+    example: asked.get("example"),
+  };
   if (DATE.test(asked.get("eclipse") ?? "")) made.eclipse = asked.get("eclipse");
   const at = coordinatesIn(asked.get("at") ?? "");
   if (at) {
     const height = whole(asked.get("height"), -500, 9000) ?? 0;
     made.place = { ...at, height, name: asked.get("name") || "", zone: asked.get("zone") };
   }
-  const deltaT = asked.has("deltat") ? whole(String(Math.round(Number(asked.get("deltat")) * 100)), -10_000, 20_000) : null;
+  const deltaT = asked.has("deltat") ? whole(
+    String(Math.round(Number(asked.get("deltat")) * 100)),
+    -10_000,
+    20_000,
+  ) : null;
   const radii = Object.hasOwn(RADII, asked.get("radii") ?? "") ? asked.get("radii") : "document02";
   return { ...made, options: { radii, deltaT, guard: whole(asked.get("guard"), 16, 1000) ?? 32 } };
 }

@@ -5,16 +5,20 @@ const wrapped = (tenths) => ((tenths % CIRCLE) + CIRCLE) % CIRCLE;
 
 export const degreesText = (tenths) => `${tenths < 0 ? "\u2212" : ""}${(Math.abs(tenths) / 10).toFixed(1)}`;
 
-// The point of contact as seen from the middle of the Sun, or of the Moon for a star, and where the Moon's centre lies where that
-// is another direction: { north, zenith, moon: { north, zenith } or null }; null where the sheet has no direction. The direction
-// on the sheet is that of the Moon's centre from the Sun's. The limbs touch on that side, but at second and third contact of a
-// total eclipse, where the Moon hides the whole Sun, on the opposite one; and a star touches the Moon's limb there, too.
+// The point of contact as seen from the middle of the Sun, or of the Moon for a star, and where the Moon's centre lies
+// where that is another direction: { north, zenith, moon: { north, zenith } or null }; null where the sheet has no
+// direction. The direction on the sheet is that of the Moon's centre from the Sun's. The limbs touch on that side, but
+// at second and third contact of a total eclipse, where the Moon hides the whole Sun, on the opposite one; and a star
+// touches the Moon's limb there, too.
 export function contactAngles({ entry, place, horizon }) {
   if (entry.direction === null) return null;
   const fromZenith = (direction) => (horizon.zenith === null ? null : wrapped(direction - horizon.zenith));
   const opposite = entry.phase === "star" || (entry.phase === "central" && place.total);
   const north = opposite ? wrapped(entry.direction + CIRCLE / 2) : entry.direction;
-  const moon = opposite && entry.phase !== "star" ? { north: entry.direction, zenith: fromZenith(entry.direction) } : null;
+  const moon = opposite && entry.phase !== "star" ? {
+    north: entry.direction,
+    zenith: fromZenith(entry.direction),
+  } : null;
   return { north, zenith: fromZenith(north), moon };
 }
 

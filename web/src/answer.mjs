@@ -1,5 +1,5 @@
-// From a typed text to what the page shows: the rows of the sheet with brackets and places in the sky, or what is wrong and where.
-// The proved program `request` reads the text, the proved library does the rest.
+// From a typed text to what the page shows: the rows of the sheet with brackets and places in the sky, or what is wrong
+// and where. The proved program `request` reads the text, the proved library does the rest.
 import { instantIn } from "./clock.mjs";
 import { Refused } from "./library.mjs";
 import { STAR_KIND, numbersOf, fieldsOf, lineNaming } from "./fields.mjs";
@@ -23,7 +23,8 @@ function encoded(request, text) {
   return error === "" ? { bytes: output, instant: instantIn(text) } : { fault: typedFault(error) };
 }
 
-// The second of an entry at which its picture is drawn: where its direction is taken, the middle of a spell that has none.
+// The second of an entry at which its picture is drawn: where its direction is taken, the middle of a spell that has
+// none.
 function pictureSecond(entry) {
   if (entry.second !== undefined) return entry.second;
   if (entry.name === "enter") return entry.to;

@@ -25,7 +25,8 @@ function summed(line) {
   return values;
 }
 
-// Seven rows of Sun and Moon, 42 numbers, and seven sidereal angles around a reference hour, as ukhtvaresh_elements takes them.
+// Seven rows of Sun and Moon, 42 numbers, and seven sidereal angles around a reference hour, as ukhtvaresh_elements
+// takes them.
 export function tablesAround(eclipse, hour) {
   const columns = eclipse.lines.map(summed);
   const rows = Array.from({ length: HOURS }, (_, k) => columns.map((column) => column[k + hour + 1]));

@@ -41,7 +41,9 @@ export function eclipsePicker(eclipses, today, { pick, chosen, goes }) {
     id: "eclipse",
     label: TEXTS.choose.eclipse,
     hint: TEXTS.choose.eclipseHint,
-    shown: () => (chosen() ? `${dateWords(chosen().date)}, ${TEXTS.kinds[chosen().kind].toLowerCase()}` : TEXTS.choose.ownText),
+    shown: () => (
+      chosen() ? `${dateWords(chosen().date)}, ${TEXTS.kinds[chosen().kind].toLowerCase()}` : TEXTS.choose.ownText
+    ),
     options(typed) {
       const asked = plainName(typed);
       const kept = [coming, past].map((list) => list.filter((each) => asked === "" || fits(each, asked)).map(option));
@@ -105,7 +107,12 @@ export function deviceButton({ pick, said }) {
 export function placeFields(zones, own, { chosen, change }) {
   const height = html("input", { id: "height", inputmode: "numeric", autocomplete: "off" });
   const option = (zone) => html("option", { value: zone }, zone.replaceAll("_", " "));
-  const zone = html("select", { id: "zone" }, html("option", { value: "" }, TEXTS.choose.zoneOfBrowser(own)), ...zones.map(option));
+  const zone = html(
+    "select",
+    { id: "zone" },
+    html("option", { value: "" }, TEXTS.choose.zoneOfBrowser(own)),
+    ...zones.map(option),
+  );
   height.addEventListener("input", () => {
     const metres = Number(height.value.replace(/[\u2212\u2013]/g, "-").trim());
     const good = height.value.trim() !== "" && Number.isInteger(metres) && metres >= -500 && metres <= 9000;
@@ -116,7 +123,12 @@ export function placeFields(zones, own, { chosen, change }) {
   const label = (words, input) => html("label", {}, html("span", {}, words), input);
   const where = html("p", { class: "where", id: "where" });
   return {
-    element: html("div", {}, where, html("div", { class: "fields" }, label(TEXTS.choose.height, height), label(TEXTS.choose.zone, zone))),
+    element: html(
+      "div",
+      {},
+      where,
+      html("div", { class: "fields" }, label(TEXTS.choose.height, height), label(TEXTS.choose.zone, zone)),
+    ),
     show() {
       const place = chosen();
       where.textContent = placeWords(place).join("  ");

@@ -1,5 +1,5 @@
-// A latitude and a longitude as people paste them, to 10^-6 degree: "32.7767, -96.7970", 32°46'36"N 96°47'49"W, 32° 46.6′ N,
-// decimal commas ("32,7767 -96,7970"), the minus sign −, "N 32.7767 W 96.7970", "lat 32.8 lon -96.8".
+// A latitude and a longitude as people paste them, to 10^-6 degree: "32.7767, -96.7970", 32°46'36"N 96°47'49"W, 32°
+// 46.6′ N, decimal commas ("32,7767 -96,7970"), the minus sign −, "N 32.7767 W 96.7970", "lat 32.8 lon -96.8".
 
 const MINUS = /[\u2212\u2013\u2012\ufe63\uff0d]/g; // minus signs and dashes that stand for -
 const MARKS = [
@@ -8,10 +8,8 @@ const MARKS = [
   [/['\u2032\u2019\u2018\u00b4`]/g, "\u2032 "],
 ];
 const NUMBER = String.raw`\d+(?:\.\d+)?`;
-const ANGLE = new RegExp(
-  String.raw`^([NSEW])?\s*([+-]?)\s*(${NUMBER})\s*\u00b0?\s*(?:(${NUMBER})\s*\u2032?\s*(?:(${NUMBER})\s*\u2033?\s*)?)?([NSEW])?$`,
-  "i",
-);
+const PARTS = String.raw`(${NUMBER})\s*\u00b0?\s*(?:(${NUMBER})\s*\u2032?\s*(?:(${NUMBER})\s*\u2033?\s*)?)?`;
+const ANGLE = new RegExp(String.raw`^([NSEW])?\s*([+-]?)\s*${PARTS}([NSEW])?$`, "i");
 const SIDES = { N: [0, 1], S: [0, -1], E: [1, 1], W: [1, -1] };
 const RUSSIAN = [[/с\.?\s*ш\.?/gi, "N"], [/ю\.?\s*ш\.?/gi, "S"], [/в\.?\s*д\.?/gi, "E"], [/з\.?\s*д\.?/gi, "W"]];
 export const LIMITS = [90_000_000, 180_000_000];
@@ -39,7 +37,8 @@ function withPoints(words) {
   return commas >= 2 || /\d,\d+[\s;\u00b0NSEW]/i.test(words) ? words.replace(/(\d),(?=\d)/g, "$1.") : words;
 }
 
-// The two parts of a pair: at a comma, a semicolon or a slash, behind a letter of the first side, or at the blanks in the middle.
+// The two parts of a pair: at a comma, a semicolon or a slash, behind a letter of the first side, or at the blanks in
+// the middle.
 function partsOf(words) {
   const parted = words.split(/[,;/]/).map((part) => part.trim());
   if (parted.length === 2) return [parted];

@@ -1,4 +1,5 @@
-// A cursor on the curve that reads off time, magnitude, share and altitude at a second: by the pointer or by the keyboard.
+// A cursor on the curve that reads off time, magnitude, share and altitude at a second: by the pointer or by the
+// keyboard.
 import { TEXTS } from "./texts.mjs";
 import { html } from "./svg.mjs";
 import { degreesText } from "./angles.mjs";
@@ -25,7 +26,13 @@ export function withCursor({ drawing, x, first, last, left, right }, sheet, cloc
     drawing.setAttribute("aria-valuenow", String(at));
     drawing.setAttribute("aria-valuetext", said.textContent);
   }
-  const attributes = { role: "slider", tabindex: "0", "aria-label": TEXTS.graph.label, "aria-valuemin": first, "aria-valuemax": last };
+  const attributes = {
+    role: "slider",
+    tabindex: "0",
+    "aria-label": TEXTS.graph.label,
+    "aria-valuemin": first,
+    "aria-valuemax": last,
+  };
   for (const [name, value] of Object.entries(attributes)) drawing.setAttribute(name, value);
   const point = (event) => {
     const box = drawing.getBoundingClientRect();
@@ -35,8 +42,8 @@ export function withCursor({ drawing, x, first, last, left, right }, sheet, cloc
   drawing.addEventListener("pointermove", point);
   drawing.addEventListener("pointerdown", point);
   drawing.addEventListener("keydown", (event) => {
-    const to = event.key === "Home" ? first : event.key === "End" ? last : event.key in KEYS ? at + KEYS[event.key] : null;
-    if (to === null) return;
+    const to = { Home: first, End: last }[event.key] ?? at + KEYS[event.key];
+    if (Number.isNaN(to)) return;
     event.preventDefault();
     move(to);
   });

@@ -19,7 +19,8 @@ export const ENGLISH = {
   locale: "en-GB",
   title: "Solar eclipses at your place",
   lead:
-    "Pick an eclipse, pick a place, see what you will see. Everything is computed here, in your browser and without a " +
+    "Pick an eclipse, pick a place, see what you will see. Everything is computed here, in your browser and " +
+    "without a " +
     "network, by a library whose every answer is proved.",
   skip: "Skip to the sheet",
   languages: "Language",
@@ -55,21 +56,26 @@ export const ENGLISH = {
     document02: "document 02 (k 0.272274)",
     iau: "IAU (k 0.2725076, 0.272281)",
     radiiHint:
-      "k is the Moon's radius in the Earth's. Take the IAU's two, for outer and inner contacts, to compare with published times: " +
+      "k is the Moon's radius in the Earth's. Take the IAU's two, for outer and inner contacts, to compare with " +
+      "published times: " +
       "the eclipse then begins earlier and ends later, by 2.3 s in the median.",
     deltaT: "\u0394T, s",
     deltaTHint: (seconds, source) =>
-      `The catalogue has ${seconds} s, ${source}. A second more moves a contact by some 1.2 s in universal time (median; 7 s for 1 in 100).`,
+      `The catalogue has ${seconds} s, ${source}. A second more moves a contact by some 1.2 s in universal time ` +
+        "(median; 7 s for 1 in 100).",
     sources: { O: "observed", X: "extrapolated", F: "a forecast that may be off by seconds or more" },
     guard: "Guard, units of 6.4 cm",
     guardHint:
-      "How near to the shadow's edge nothing is said. From 32 (2 m) on, what the sheet says is proved of Bessel's formulas with nothing rounded.",
+      "How near to the shadow's edge nothing is said. From 32 (2 m) on, what the sheet says is proved of Bessel's " +
+        "formulas with nothing rounded.",
     reset: "As the catalogue has it",
   },
 
   map: {
     title: "Where it is seen",
-    label: "Map of the world, coloured by the largest magnitude seen with the Sun up. Arrow keys move the cross, plus and minus zoom, Enter takes the place.",
+    label:
+      "Map of the world, coloured by the largest magnitude seen with the Sun up. Arrow keys move the cross, plus " +
+      "and minus zoom, Enter takes the place.",
     hint: "Click to take a place; drag to move; the buttons, + and \u2212, or Ctrl and the wheel zoom.",
     closer: "Zoom in",
     farther: "Zoom out",
@@ -79,7 +85,8 @@ export const ENGLISH = {
     total: "total",
     legend: "Largest magnitude with the Sun up",
     working: "computing \u2026",
-    done: (cells, seconds, degrees) => `${cells} sheets in ${seconds} s; cells of ${degrees}\u00b0, finer along the path`,
+    done: (cells, seconds, degrees) =>
+      `${cells} sheets in ${seconds} s; cells of ${degrees}\u00b0, finer along the path`,
     cross: (latitude, longitude) => `Cross at ${latitude}, ${longitude}`,
     star: "There is no map of a star behind the Moon.",
   },
@@ -90,7 +97,8 @@ export const ENGLISH = {
     example: "Example",
     ownText: "own text",
     typed: "Request",
-    typedHint: "One name and value a line; # starts a comment. A text that names a radius is one of a star behind the Moon.",
+    typedHint:
+      "One name and value a line; # starts a comment. A text that names a radius is one of a star behind the Moon.",
     fields: {
       title: "Title of the sheet",
       instant: "Date and time of second 0",
@@ -143,21 +151,29 @@ export const ENGLISH = {
     northUp: "north",
     zenithUp: "zenith",
     picturesHint: (zenith) =>
-      `${zenith ? "Zenith up, as the eye sees it" : "North up, east to the left"}. The wedge shows where on the Sun's edge the Moon's touches it.` +
+      `${zenith ? "Zenith up, as the eye sees it" : "North up, east to the left"}. The wedge shows where on the ` +
+      "Sun's edge the Moon's touches it." +
       " A dark sky: the Sun is down.",
-    picturesHintStar: (zenith) => `${zenith ? "Zenith up" : "North up, east to the left"}; the Moon stands still and the star goes behind it.`,
+    picturesHintStar: (zenith) =>
+      `${zenith ? "Zenith up" : "North up, east to the left"}; the Moon stands still and the star goes behind it.`,
     morePictures: (count) => `and ${count} more`,
     curve: "Magnitude and covered share",
     legend: { magnitude: "magnitude", share: "covered share of the disc", night: "Sun down" },
     listing: "The sheet as listed",
     foot: (star, clock) =>
       [
-        clock ? "A contact lies between the two times given, which are rounded outward." : "A contact lies between the two seconds given.",
+        clock
+          ? "A contact lies between the two times given, which are rounded outward."
+          : "A contact lies between the two seconds given.",
         "True for these elements; limb, refraction and the elements' own errors are not in it.",
-        `Angles at a contact: of the point where the limbs touch, seen from the middle of ${star ? "the Moon" : "the Sun"}; from north through east, and from the zenith the same way.`,
+        "Angles at a contact: of the point where the limbs touch, seen from the middle of " +
+          `${star ? "the Moon" : "the Sun"}; from north through east, and from the zenith the same way.`,
         ...(star ? [] : ["Axis closest: the shadow's axis is nearest, within some 16 s of the greatest magnitude."]),
-        "Altitude of the centre without refraction; down below \u22120.8\u00b0. Circular limbs. Latitude is geodetic on Krasovsky's spheroid.",
-        ...(clock ? ["UT is universal time by the Earth's rotation, UTC what a GPS clock shows, ET ephemeris time."] : []),
+        "Altitude of the centre without refraction; down below \u22120.8\u00b0. Circular limbs. Latitude is " +
+          "geodetic on Krasovsky's spheroid.",
+        ...(
+          clock ? ["UT is universal time by the Earth's rotation, UTC what a GPS clock shows, ET ephemeris time."] : []
+        ),
       ].join(" "),
   },
 
@@ -166,7 +182,8 @@ export const ENGLISH = {
     none: "No eclipse here: the Moon's shadow passes by.",
     down: "Nothing is seen here: the Sun is below the horizon during the whole eclipse.",
     partial: (percent, time) => `Partial eclipse: at most ${percent} of the Sun's diameter is covered${time}.`,
-    partialAtHorizon: (percent, time) => `Partial eclipse: ${percent} of the Sun's diameter is covered when the Sun ${time}.`,
+    partialAtHorizon: (percent, time) =>
+      `Partial eclipse: ${percent} of the Sun's diameter is covered when the Sun ${time}.`,
     total: (duration, time) => `Total eclipse: totality${duration}${time}.`,
     annular: (duration, time) => `Annular eclipse: the ring${duration}${time}.`,
     lasts: (duration) => ` lasts ${duration}`,
@@ -184,8 +201,12 @@ export const ENGLISH = {
     presumed: (day) => `UTC is presumed: leap seconds are known up to ${day} only.`,
     noUtc: "There is no UTC before 1972: local time goes by universal time.",
     extrapolated: "\u0394T of this date is extrapolated, not observed: times may be off a little.",
-    forecast: "\u0394T of this date is a forecast: times may be off by seconds, by the end of the century by tens of seconds.",
-    guard: "With a guard below 32 the sheet is right by the rules of document 01; it is not proved of Bessel's formulas with nothing rounded.",
+    forecast:
+      "\u0394T of this date is a forecast: times may be off by seconds, by the end of the century by tens of " +
+      "seconds.",
+    guard:
+      "With a guard below 32 the sheet is right by the rules of document 01; it is not proved of Bessel's formulas " +
+      "with nothing rounded.",
     noContact: "In this window the shadow's edge does not pass the station: there is no contact.",
   },
   durations: {
@@ -230,13 +251,19 @@ export const ENGLISH = {
   // what a row says: [title, what it means or ""]
   row(entry, { star, total, share, unsure, head }) {
     const kind = total ? "Totality" : "Annularity";
-    const shadow = { penumbra: "the penumbra's edge", central: "the central shadow's edge", star: "the Moon's edge" }[entry.phase];
+    const shadow = {
+      penumbra: "the penumbra's edge",
+      central: "the central shadow's edge",
+      star: "the Moon's edge",
+    }[entry.phase];
     const long = unsure ? unsure[1] - unsure[0] + 1 : 0;
     const tooNear = `For ${long} s ${shadow} is too near to say on which side the station is`;
     const noClaim = "No contact is claimed, though there may be some.";
     const unsureWords = unsure ? `${long} s between them are within the guard of the edge, and not sure.` : "";
     const contact = (words) => (unsureWords ? `${words}. ${unsureWords}` : words);
-    const percent = (millionths, decimals) => (Math.floor(millionths / 10 ** (4 - decimals)) / 10 ** decimals).toFixed(decimals);
+    const percent = (millionths, decimals) => (
+      Math.floor(millionths / 10 ** (4 - decimals)) / 10 ** decimals
+    ).toFixed(decimals);
     switch (entry.name) {
       case "closest":
         // the second of least distance in the fundamental plane; the greatest magnitude may come some seconds from it
@@ -249,8 +276,12 @@ export const ENGLISH = {
       case "rises":
       case "sets":
         return [
-          star ? (entry.name === "rises" ? "Star rises" : "Star sets") : entry.name === "rises" ? "Sun rises" : "Sun sets",
-          star ? "" : `magnitude ${(entry.magnitude / 1e6).toFixed(3)}, ${percent(entry.share, 0)} % of the disc covered`,
+          star ? (
+            entry.name === "rises" ? "Star rises" : "Star sets"
+          ) : entry.name === "rises" ? "Sun rises" : "Sun sets",
+          star
+            ? ""
+            : `magnitude ${(entry.magnitude / 1e6).toFixed(3)}, ${percent(entry.share, 0)} % of the disc covered`,
         ];
       case "enter":
         if (entry.phase === "star") return ["Star vanishes", unsureWords];
@@ -274,12 +305,20 @@ export const ENGLISH = {
   graph: {
     label: "Magnitude and covered share of the Sun over time. Arrow keys move the cursor.",
     unsure: "unsure: within the guard of a shadow's edge",
-    reading: (time, magnitude, share, altitude) => `${time} \u00b7 magnitude ${magnitude} \u00b7 ${share} % covered \u00b7 Sun ${altitude}\u00b0`,
+    reading: (time, magnitude, share, altitude) =>
+      `${time} \u00b7 magnitude ${magnitude} \u00b7 ${share} % covered \u00b7 Sun ${altitude}\u00b0`,
   },
 
   here: {
     title: (place) => `All eclipses at ${place}, 1900 to 2100`,
-    columns: { date: "Date", kind: "Seen here", magnitude: "Magnitude", time: "Local time", altitude: "Sun", world: "In the world" },
+    columns: {
+      date: "Date",
+      kind: "Seen here",
+      magnitude: "Magnitude",
+      time: "Local time",
+      altitude: "Sun",
+      world: "In the world",
+    },
     kinds: { partial: "partial", annular: "annular", total: "total", down: "Sun down" },
     all: "all that are seen",
     coming: "coming",
@@ -320,7 +359,8 @@ export const ENGLISH = {
   // refusals of a request; each field is [name, its range in words]
   refusal({ number, place }, ranges) {
     const told = ` (refusal ${number}, place ${place})`;
-    if (number === 1 && place === 0) return `The window must have \u221210800 \u2264 first \u2264 last \u2264 10800${told}.`;
+    if (number === 1 && place === 0)
+      return `The window must have \u221210800 \u2264 first \u2264 last \u2264 10800${told}.`;
     if (ranges.length === 0) return `The library refuses this request${told}.`;
     const [[name, low, high]] = ranges;
     return `${starting(named(name))} is outside its range, ${low} to ${high}${told}.`;

@@ -91,7 +91,8 @@ export function typedValue(text, name) {
   return line === undefined ? "" : saidIn(line).slice(name.length).trim();
 }
 
-// The text with another value after a name: in its line, comment and all, or in a new last line; without the line where it is "".
+// The text with another value after a name: in its line, comment and all, or in a new last line; without the line where
+// it is "".
 export function withValue(text, name, value) {
   const lines = text.split("\n");
   const at = lineNaming(text, name) - 1;

@@ -1,5 +1,5 @@
-// Where an eclipse goes, for the list of eclipses: countries of the cities that see the most of it, in the order of time.
-// Each city has a sheet of the library.
+// Where an eclipse goes, for the list of eclipses: countries of the cities that see the most of it, in the order of
+// time. Each city has a sheet of the library.
 import { elementsOf, requestBytes } from "./making.mjs";
 import { seenOf } from "./seen.mjs";
 import { TEXTS, countryName } from "./texts.mjs";
@@ -17,7 +17,9 @@ function bestCities(library, eclipse, cities, radii) {
   for (const city of cities) {
     const bytes = requestBytes(elements, city, eclipse.deltaT, GUARD_OF_LISTS);
     const view = seenOf(library, bytes, library.read(library.sheet(bytes)), CITY_CLOSE);
-    if (view && !view.down) seen.push({ country: city.country, magnitude: Math.min(view.magnitude, 1_000_000), second: view.second });
+    if (view && !view.down) seen.push(
+      { country: city.country, magnitude: Math.min(view.magnitude, 1_000_000), second: view.second },
+    );
   }
   const top = Math.max(0, ...seen.map(({ magnitude }) => magnitude));
   const best = seen.filter(({ magnitude }) => magnitude > 0 && magnitude >= top - LESS);

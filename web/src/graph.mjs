@@ -7,7 +7,8 @@ const HEIGHT = 230;
 export const MARGINS = { left: 40, right: 10, top: 20, bottom: 36 };
 const STEPS = [1, 5, 10, 30, 60, 120, 300, 600, 900, 1800, 3600];
 
-// Ticks of the time axis: a second and what is written below it. Whole minutes of the day where a clock is known, else seconds.
+// Ticks of the time axis: a second and what is written below it. Whole minutes of the day where a clock is known, else
+// seconds.
 function ticks(clocks, [first, last], most) {
   const scale = clocks?.names[0];
   const start = clocks ? clocks.at(scale, 100 * first) / 1000 : first; // seconds by the clock
@@ -65,7 +66,11 @@ export function graph(sheet, clocks, width) {
   const tall = { y: MARGINS.top, height: bottom - MARGINS.top };
 
   const dark = nights(curve).map(([from, to]) =>
-    svg("rect", { class: "night-band", x: rounded(x(from)), width: rounded(Math.max(1, x(to) - x(from))), ...tall }, svg("title", {}, TEXTS.sheet.legend.night)),
+    svg(
+      "rect",
+      { class: "night-band", x: rounded(x(from)), width: rounded(Math.max(1, x(to) - x(from))), ...tall },
+      svg("title", {}, TEXTS.sheet.legend.night),
+    ),
   );
   const grid = [0, 0.25, 0.5, 0.75, 1].flatMap((level) => [
     svg("line", { class: "grid", x1: MARGINS.left, x2: right, y1: y(level * 1e6), y2: y(level * 1e6) }),
@@ -73,7 +78,11 @@ export function graph(sheet, clocks, width) {
   ]);
   const along = ticks(clocks, [first, last], width < 480 ? 5 : 9).flatMap(([second, words]) => [
     svg("line", { class: "axis", x1: rounded(x(second)), x2: rounded(x(second)), y1: bottom, y2: bottom + 4 }),
-    svg("text", { class: "tick", x: rounded(Math.min(x(second), width - 16)), y: bottom + 17, "text-anchor": "middle" }, words),
+    svg(
+      "text",
+      { class: "tick", x: rounded(Math.min(x(second), width - 16)), y: bottom + 17, "text-anchor": "middle" },
+      words,
+    ),
   ]);
   const shown = rows.filter(({ second }) => first <= second && second <= last);
   const spells = shown

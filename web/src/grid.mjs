@@ -1,7 +1,7 @@
-// The cells of a map: for each the largest magnitude that is seen from its middle with the Sun up, by a sheet of the library.
-// A view is made from coarse to fine. A finer cell is computed where the coarser one around it, or a neighbour of that, sees
-// something of the eclipse; elsewhere it is left empty, for what is seen reaches over many cells. Where the middle of a cell is
-// near the central path the cell is divided further, so that a narrow path is not missed.
+// The cells of a map: for each the largest magnitude that is seen from its middle with the Sun up, by a sheet of the
+// library. A view is made from coarse to fine. A finer cell is computed where the coarser one around it, or a neighbour
+// of that, sees something of the eclipse; elsewhere it is left empty, for what is seen reaches over many cells. Where
+// the middle of a cell is near the central path the cell is divided further, so that a narrow path is not missed.
 import { movedTo } from "./making.mjs";
 import { seenOf } from "./seen.mjs";
 
@@ -9,7 +9,7 @@ export const KINDS = ["none", "partial", "annular", "total"];
 const COARSER = [4, 2, 1]; // times the size of a cell of the view
 const FINER = [1 / 2, 1 / 4]; // of a cell near the central path
 const SLOPE = 36_000; // millionths of magnitude that may be lost within a degree of arc
-const DOWN = -460; // tenths of a degree: the Sun then stays down for three hours, in which the Earth turns by 45 degrees
+const DOWN = -460; // tenths of a degree: the Sun stays down for three hours, in which the Earth turns by 45 degrees
 const CELL_CLOSE = 16; // seconds that a cell's sunrise or sunset may be off
 
 // Largest magnitude in millionths and kind (a place of KINDS) at a point, in degrees.

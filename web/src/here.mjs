@@ -1,4 +1,5 @@
-// Every eclipse of the catalogue at the chosen place: kind seen, largest magnitude with the Sun up, when, and the Sun's altitude then.
+// Every eclipse of the catalogue at the chosen place: kind seen, largest magnitude with the Sun up, when, and the Sun's
+// altitude then.
 import { html } from "./svg.mjs";
 import { TEXTS, dateWords } from "./texts.mjs";
 import { requestAt } from "./making.mjs";
@@ -20,7 +21,17 @@ export function lineOf(library, eclipse, at, place, options, zone, leapSeconds) 
   const [time] = nearestTime(clocks, clock, seen.second, 0);
   const day = new Date(clocks.at(clock, 100 * seen.second)).toISOString().slice(0, 10);
   const { kind, magnitude, altitude, down } = { kind: "down", ...seen };
-  return { at, eclipse, day, time, kind, magnitude, altitude, world: eclipse.kind, atHorizon: !down && !seen.atClosest };
+  return {
+    at,
+    eclipse,
+    day,
+    time,
+    kind,
+    magnitude,
+    altitude,
+    world: eclipse.kind,
+    atHorizon: !down && !seen.atClosest,
+  };
 }
 
 const compared = {
@@ -44,14 +55,31 @@ export function makeHere(library, eclipses, { open, today }) {
   const heads = COLUMNS.map((name) => {
     const button = html("button", { type: "button", id: `here-${name}` }, said.columns[name]);
     button.addEventListener("click", () => {
-      sorted = { by: name, turn: sorted.by === name ? -sorted.turn : ["magnitude", "kind", "altitude"].includes(name) ? -1 : 1 };
+      sorted = {
+        by: name,
+        turn: sorted.by === name ? -sorted.turn : ["magnitude", "kind", "altitude"].includes(name) ? -1 : 1,
+      };
       show();
     });
     return html("th", { scope: "col", class: name }, button);
   });
-  const table = html("table", { class: "here-table", "aria-labelledby": "here-title" }, html("thead", {}, html("tr", {}, ...heads)), body);
-  const scroll = html("div", { class: "scroll", tabindex: "0", role: "region", "aria-labelledby": "here-title" }, table);
-  const bar = html("div", { class: "bar" }, title, html("label", { class: "row" }, html("span", {}, said.show), filter));
+  const table = html(
+    "table",
+    { class: "here-table", "aria-labelledby": "here-title" },
+    html("thead", {}, html("tr", {}, ...heads)),
+    body,
+  );
+  const scroll = html(
+    "div",
+    { class: "scroll", tabindex: "0", role: "region", "aria-labelledby": "here-title" },
+    table,
+  );
+  const bar = html(
+    "div",
+    { class: "bar" },
+    title,
+    html("label", { class: "row" }, html("span", {}, said.show), filter),
+  );
   const element = html("div", { class: "here" }, bar, html("p", { class: "hint" }, said.caption), scroll, status);
   let lines = [];
   let run = 0;
@@ -75,7 +103,11 @@ export function makeHere(library, eclipses, { open, today }) {
       cell("kind", html("span", { class: `chip ${kind}` }, said.kinds[kind])),
       cell("magnitude", (line.magnitude / 1e6).toFixed(3)),
       cell("time", html("span", { class: "time" }, line.time)),
-      cell("altitude", `${degreesText(line.altitude)}\u00b0`, ...(line.atHorizon ? [html("small", {}, ` ${said.atHorizon}`)] : [])),
+      cell(
+        "altitude",
+        `${degreesText(line.altitude)}\u00b0`,
+        ...(line.atHorizon ? [html("small", {}, ` ${said.atHorizon}`)] : []),
+      ),
       cell("world", TEXTS.kinds[line.world]),
     );
     row.addEventListener("click", () => open(line.at));
@@ -88,7 +120,10 @@ export function makeHere(library, eclipses, { open, today }) {
       else heads[k].removeAttribute("aria-sort");
     });
     body.replaceChildren(...kept.map(rowOf));
-    if (element.dataset.state === "done") status.textContent = said.count(kept.length, (element.dataset.took / 1000).toFixed(2));
+    if (element.dataset.state === "done") status.textContent = said.count(
+      kept.length,
+      (element.dataset.took / 1000).toFixed(2),
+    );
   }
   filter.addEventListener("change", show);
 

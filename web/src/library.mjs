@@ -1,5 +1,5 @@
-// The proved library, compiled to WebAssembly. Each call lends memory behind the library's own, as include/ukhtvaresh.h says.
-// Pointers are numbers, lengths and 64-bit values BigInt.
+// The proved library, compiled to WebAssembly. Each call lends memory behind the library's own, as include/ukhtvaresh.h
+// says. Pointers are numbers, lengths and 64-bit values BigInt.
 
 export class Refused extends Error {
   constructor(number, place) {

@@ -1,11 +1,11 @@
-// From an eclipse of the catalogue, a place and the options to a request: its bytes, and the text that a person would type.
-// The library makes the elements; here numbers are only put in their order.
+// From an eclipse of the catalogue, a place and the options to a request: its bytes, and the text that a person would
+// type. The library makes the elements; here numbers are only put in their order.
 import { REFERENCE_HOURS, instantOf, tablesAround } from "./catalogue.mjs";
 import { fieldTables } from "./fields.mjs";
 import { instantText } from "./clock.mjs";
 
-// The Sun's radius, the Moon's for the penumbra and for the central cone, in 10^-8 of the Earth's: document 02's, and the IAU's
-// as docs/ALMANAC.md has them.
+// The Sun's radius, the Moon's for the penumbra and for the central cone, in 10^-8 of the Earth's: document 02's, and
+// the IAU's as docs/ALMANAC.md has them.
 export const RADII = {
   document02: [10_904_847_000, 27_227_400, 27_227_400],
   iau: [10_904_847_028, 27_250_760, 27_228_100],

@@ -1,4 +1,5 @@
-// What a map looks like: cells, coasts, the place and the cross, in a view { west, north, scale } with so many pixels a degree.
+// What a map looks like: cells, coasts, the place and the cross, in a view { west, north, scale } with so many pixels a
+// degree.
 
 const BANDS = 10; // colours of partial magnitudes, a tenth each
 
@@ -7,7 +8,16 @@ export function mapColours(canvas) {
   const style = getComputedStyle(canvas);
   const of = (name) => style.getPropertyValue(`--map-${name}`).trim();
   const bands = Array.from({ length: BANDS }, (_, k) => of(k));
-  return { sea: of("sea"), coast: of("coast"), halo: of("halo"), grid: of("grid"), place: of("place"), annular: of("annular"), total: of("total"), bands };
+  return {
+    sea: of("sea"),
+    coast: of("coast"),
+    halo: of("halo"),
+    grid: of("grid"),
+    place: of("place"),
+    annular: of("annular"),
+    total: of("total"),
+    bands,
+  };
 }
 
 const colourOf = ({ magnitude, kind }, colours) => {

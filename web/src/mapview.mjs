@@ -1,4 +1,5 @@
-// The map of the page: it computes cells in slices of time, and lets one zoom, move and take a place by pointer or keyboard.
+// The map of the page: it computes cells in slices of time, and lets one zoom, move and take a place by pointer or
+// keyboard.
 import { html } from "./svg.mjs";
 import { TEXTS } from "./texts.mjs";
 import { cellsOf } from "./grid.mjs";
@@ -22,10 +23,17 @@ const within = (low, number, high) => Math.max(low, Math.min(high, number));
 export function makeMap(library, outline, { pick, words }) {
   const { map } = TEXTS;
   const cells = html("canvas", { class: "cells", "aria-hidden": "true" });
-  const over = html("canvas", { class: "over", id: "map", tabindex: "0", role: "application", "aria-label": map.label });
+  const over = html(
+    "canvas",
+    { class: "over", id: "map", tabindex: "0", role: "application", "aria-label": map.label },
+  );
   const said = html("output", { class: "hint", id: "map-said" });
   const button = (id, sign, label) => html("button", { type: "button", id, "aria-label": label, title: label }, sign);
-  const [closer, farther, whole] = [button("map-closer", "+", map.closer), button("map-farther", "\u2212", map.farther), button("map-whole", "\u2922", map.whole)];
+  const [closer, farther, whole] = [
+    button("map-closer", "+", map.closer),
+    button("map-farther", "\u2212", map.farther),
+    button("map-whole", "\u2922", map.whole),
+  ];
   const frame = html("div", { class: "frame" }, cells, over, html("div", { class: "zoom" }, closer, farther, whole));
   const element = html("div", { class: "map" }, frame, said);
 
@@ -130,7 +138,10 @@ export function makeMap(library, outline, { pick, words }) {
     const box = over.getBoundingClientRect();
     const { west, north, scale } = shownView();
     const pixels = over.width / box.width / scale;
-    return [within(-90, north - (clientY - box.top) * pixels, 90), within(-180, west + (clientX - box.left) * pixels, 180)];
+    return [
+      within(-90, north - (clientY - box.top) * pixels, 90),
+      within(-180, west + (clientX - box.left) * pixels, 180),
+    ];
   }
   // Zooms so that a point stays where it is.
   function zoomAt(times, latitude, longitude) {
@@ -143,7 +154,9 @@ export function makeMap(library, outline, { pick, words }) {
     drawAll();
     later();
   }
-  const middle = () => (cross ? [cross.latitude, cross.longitude] : place ? [place.latitude, place.longitude] : [view.y, view.x]);
+  const middle = () => (
+    cross ? [cross.latitude, cross.longitude] : place ? [place.latitude, place.longitude] : [view.y, view.x]
+  );
 
   // pointer: one drags or picks, two zoom
   const held = new Map();

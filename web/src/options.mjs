@@ -15,9 +15,19 @@ function unitsIn(words, decimals, [low, high]) {
 // `change(options)` takes what has changed; `eclipse()` is the one that is chosen, or null.
 export function makeOptions({ chosen, change, eclipse }) {
   const said = TEXTS.options;
-  const radii = html("select", { id: "radii" }, ...Object.keys(RADII).map((name) => html("option", { value: name }, said[name])));
-  const deltaT = html("input", { id: "delta-t", inputmode: "decimal", autocomplete: "off", "aria-describedby": "delta-t-hint" });
-  const guard = html("input", { id: "guard", inputmode: "numeric", autocomplete: "off", "aria-describedby": "guard-hint" });
+  const radii = html(
+    "select",
+    { id: "radii" },
+    ...Object.keys(RADII).map((name) => html("option", { value: name }, said[name])),
+  );
+  const deltaT = html(
+    "input",
+    { id: "delta-t", inputmode: "decimal", autocomplete: "off", "aria-describedby": "delta-t-hint" },
+  );
+  const guard = html(
+    "input",
+    { id: "guard", inputmode: "numeric", autocomplete: "off", "aria-describedby": "guard-hint" },
+  );
   const hint = html("p", { class: "hint", id: "delta-t-hint" });
   const reset = html("button", { type: "button", class: "plain", id: "delta-t-reset" }, said.reset);
   radii.addEventListener("change", () => change({ radii: radii.value }));

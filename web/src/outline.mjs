@@ -4,7 +4,9 @@ export function readOutline(text) {
   return lines.map((line) => {
     const steps = line.split(" ").map(Number);
     const points = [];
-    for (let k = 0, x = 0, y = 0; k < steps.length; k += 2) points.push([(x += steps[k]) / 10, (y += steps[k + 1]) / 10]);
+    for (let k = 0, x = 0, y = 0; k < steps.length; k += 2) points.push(
+      [(x += steps[k]) / 10, (y += steps[k + 1]) / 10],
+    );
     return points;
   });
 }

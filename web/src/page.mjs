@@ -10,7 +10,7 @@ import { clocksOf, readLeapSeconds, taiLessUtc } from "./scales.mjs";
 import { elementsOf, movedTo, requestAt, requestText, typedDecimal, widened } from "./making.mjs";
 import { answerTo } from "./answer.mjs";
 import { addressOf, askedBy } from "./address.mjs";
-import { decimal, titleIn } from "./fields.mjs";
+import { decimal, titleIn, typedValue } from "./fields.mjs";
 import { deviceButton, eclipsePicker, placeFields, placePicker, placeWords } from "./choosing.mjs";
 import { makeOptions } from "./options.mjs";
 import { makeMap } from "./mapview.mjs";
@@ -28,13 +28,21 @@ const bytesOf = (base64) => Uint8Array.from(atob(base64), (letter) => letter.cha
 const browserZone = () => Intl.DateTimeFormat().resolvedOptions().timeZone || "UTC";
 const degrees = (units) => units / 1e6;
 
+// TAI - UTC as a text has it in a line of its own, or null.
+function taiIn(text) {
+  const words = typedValue(text, "tai-utc");
+  return /^\d+$/.test(words) ? { seconds: Number(words), presumed: false } : null;
+}
+
 // Texts into the elements that name them.
 function fillTexts() {
   document.title = TEXTS.title;
   document.documentElement.lang = language();
   const said = (path) => path.split(".").reduce((texts, name) => texts[name], TEXTS);
   for (const element of document.querySelectorAll("[data-text]")) element.textContent = said(element.dataset.text);
-  $("language").replaceChildren(...Object.entries(LANGUAGES).map(([code, { language: name }]) => html("option", { value: code }, name)));
+  $("language").replaceChildren(
+    ...Object.entries(LANGUAGES).map(([code, { language: name }]) => html("option", { value: code }, name)),
+  );
   $("language").value = language();
 }
 
@@ -47,7 +55,13 @@ function start(library, request) {
   const city = ofBrowser ?? cities.find(({ name }) => name === "London");
   const home = { ...city, name: cityName(city) };
   // eclipse null: the text is one's own, or an example's
-  const state = { eclipse: null, place: home, options: { radii: "document02", deltaT: null, guard: 32 }, example: "", text: "" };
+  const state = {
+    eclipse: null,
+    place: home,
+    options: { radii: "document02", deltaT: null, guard: 32 },
+    example: "",
+    text: "",
+  };
   const looks = { scales: new Set(["local", "UTC"]), zenithUp: false };
   let shown = { sheet: null, clocks: null, lines: [], names: [] };
   let made = null; // the request of the catalogue's eclipse
@@ -64,7 +78,11 @@ function start(library, request) {
   function pickPlace(place) {
     state.place = place;
     if (!state.eclipse) {
-      const values = { latitude: typedDecimal(place.latitude, 6), longitude: typedDecimal(place.longitude, 6), height: String(place.height) };
+      const values = {
+        latitude: typedDecimal(place.latitude, 6),
+        longitude: typedDecimal(place.longitude, 6),
+        height: String(place.height),
+      };
       state.text = Object.entries(values).reduce((text, [name, value]) => withField(text, name, value), state.text);
       state.example = "";
     }
@@ -86,7 +104,11 @@ function start(library, request) {
   const eclipseField = eclipsePicker(eclipses, today, { pick: pickEclipse, chosen: chosenEclipse, goes });
   const placeField = placePicker(cities, { pick: pickPlace, chosen: chosenPlace });
   const zones = [...new Set(cities.map((city) => city.zone))].sort();
-  const fields = placeFields(zones, browserZone(), { chosen: chosenPlace, change: (part) => pickPlace({ ...state.place, ...part }) });
+  const fields = placeFields(
+    zones,
+    browserZone(),
+    { chosen: chosenPlace, change: (part) => pickPlace({ ...state.place, ...part }) },
+  );
   const deviceSaid = html("p", { class: "hint", role: "status", id: "device-said" });
   const device = deviceButton({ pick: pickPlace, said: (words) => (deviceSaid.textContent = words) });
   const changeOptions = (part) => {
@@ -96,11 +118,16 @@ function start(library, request) {
   const options = makeOptions({ chosen: () => state.options, change: changeOptions, eclipse: chosenEclipse });
   const map = makeMap(library, readOutline(OUTLINE), {
     pick: pointAt,
-    words: (latitude, longitude) => placeWords({ latitude: Math.round(latitude * 1e6), longitude: Math.round(longitude * 1e6) }),
+    words: (latitude, longitude) => placeWords(
+      { latitude: Math.round(latitude * 1e6), longitude: Math.round(longitude * 1e6) },
+    ),
   });
   const here = makeHere(library, eclipses, { open: openFromList, today });
   const taking = makeTaking({ now });
-  const typed = makeTyped(EXAMPLES, { changed: (text) => later(text), chosen: (name) => ownText(EXAMPLES[name], name) });
+  const typed = makeTyped(
+    EXAMPLES,
+    { changed: (text) => later(text), chosen: (name) => ownText(EXAMPLES[name], name) },
+  );
   $("choose").append(eclipseField.element, placeField.element, device, deviceSaid, fields.element, options.element);
   $("map-place").append(map.element);
   $("map-legend").append(...mapLegend());
@@ -125,9 +152,10 @@ function start(library, request) {
     const { eclipse, place, options: chosen } = state;
     made = requestAt(library, eclipse, place, chosen);
     const utc = taiLessUtc(leapSeconds, eclipse.date);
+    const known = utc && `TAI - UTC is ${utc.seconds} s${utc.presumed ? ", presumed" : ""}`;
     const remarks = [
       `eclipse of ${eclipse.date} by the catalogue of 1900 to 2100, elements by ephemeris time, radii ${chosen.radii}`,
-      ...(utc ? [`UTC is ET less ${(32.184 + utc.seconds).toFixed(3)} s (TAI - UTC is ${utc.seconds} s${utc.presumed ? ", presumed" : ""})`] : []),
+      ...(utc ? [`UTC is ET less ${(32.184 + utc.seconds).toFixed(3)} s (${known})`] : []),
     ];
     const title = TEXTS.sheetTitle(dateWords(eclipse.date), place.name);
     state.text = requestText(title, remarks, made, place, { ...chosen, deltaT: chosen.deltaT ?? eclipse.deltaT });
@@ -139,7 +167,12 @@ function start(library, request) {
     go.addEventListener("click", () => typed.select(line));
     if (line) $("own-details").open = true;
     $("sheet").replaceChildren(
-      html("div", { class: "refusal", role: "alert" }, html("h2", {}, TEXTS.refused), html("p", {}, ...(line ? [go, ": "] : []), words)),
+      html(
+        "div",
+        { class: "refusal", role: "alert" },
+        html("h2", {}, TEXTS.refused),
+        html("p", {}, ...(line ? [go, ": "] : []), words),
+      ),
     );
   }
 
@@ -174,7 +207,8 @@ function start(library, request) {
     if (focus) $(focus)?.focus();
   }
 
-  // The place of a text, so that map and list follow it: by the name and zone of a city that is there, else by its coordinates.
+  // The place of a text, so that map and list follow it: by the name and zone of a city that is there, else by its
+  // coordinates.
   function followText({ numbers }) {
     const { latitude, longitude, height } = numbers;
     const same = state.place.latitude === latitude && state.place.longitude === longitude;
@@ -188,8 +222,9 @@ function start(library, request) {
     const { sheet } = shown;
     const star = sheet?.numbers.star;
     $("map-none").hidden = !star;
-    const bytes = state.eclipse ? movedTo(mapBytes(), 0, 0, 0) : sheet && !star ? movedTo(widened(sheet.bytes), 0, 0, 0) : null;
-    map.show(bytes, { latitude: degrees(state.place.latitude), longitude: degrees(state.place.longitude) });
+    const bytes = state.eclipse ? mapBytes() : sheet && !star ? widened(sheet.bytes) : null;
+    const { latitude, longitude } = state.place;
+    map.show(bytes && movedTo(bytes, 0, 0, 0), { latitude: degrees(latitude), longitude: degrees(longitude) });
     here.mark(state.eclipse?.date ?? null);
     const key = JSON.stringify([state.place, state.options.radii, state.options.guard]);
     if (key === listed) return;
@@ -216,11 +251,13 @@ function start(library, request) {
       refuse(there ? fault.line : 0, TEXTS.fault(fault));
     } else if (refusal) {
       Object.assign(shown, { lines: refusal.lines, names: refusal.fields.map(([name]) => name) });
-      const ranges = refusal.fields.map(([name, decimals, , low, high]) => [name, decimal(low, decimals), decimal(high, decimals)]);
+      const ranges = refusal.fields.map(
+        ([name, decimals, , low, high]) => [name, decimal(low, decimals), decimal(high, decimals)],
+      );
       refuse(refusal.lines[0] ?? 0, TEXTS.refusal(refusal, ranges));
     } else {
       if (!state.eclipse) followText(sheet);
-      shown.clocks = clocksOf(sheet.instant, sheet.numbers["delta t"], zone(), leapSeconds);
+      shown.clocks = clocksOf(sheet.instant, sheet.numbers["delta t"], zone(), leapSeconds, taiIn(state.text));
       draw();
     }
     document.title = sheet ? titleIn(state.text) || TEXTS.title : TEXTS.title;

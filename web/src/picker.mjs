@@ -1,9 +1,10 @@
-// A field with a list below it, after the pattern of a combobox: type to narrow the list, arrow keys and Enter or a click to pick.
+// A field with a list below it, after the pattern of a combobox: type to narrow the list, arrow keys and Enter or a
+// click to pick.
 import { html } from "./svg.mjs";
 import { TEXTS } from "./texts.mjs";
 
-// `options(typed)` gives [{ key, content: elements, heading? }], `pick(option)` takes one. `shown()` is what the field has while
-// nobody types in it. `visible(element, option)` is called for an option when it comes into view.
+// `options(typed)` gives [{ key, content: elements, heading? }], `pick(option)` takes one. `shown()` is what the field
+// has while nobody types in it. `visible(element, option)` is called for an option when it comes into view.
 export function makePicker({ id, label, hint, options, pick, shown, visible }) {
   const input = html("input", {
     id,
@@ -18,7 +19,13 @@ export function makePicker({ id, label, hint, options, pick, shown, visible }) {
   });
   const list = html("ul", { id: `${id}-list`, role: "listbox", hidden: "", "aria-label": label });
   const help = html("p", { class: "hint", id: `${id}-hint` }, hint);
-  const element = html("div", { class: "picker" }, html("label", { for: id }, label), html("div", { class: "over" }, input, list), help);
+  const element = html(
+    "div",
+    { class: "picker" },
+    html("label", { for: id }, label),
+    html("div", { class: "over" }, input, list),
+    help,
+  );
   let now = []; // the options that are shown
   let at = -1; // the one that Enter picks
   let typed = false;
@@ -47,7 +54,11 @@ export function makePicker({ id, label, hint, options, pick, shown, visible }) {
     now = options(typed ? input.value : "");
     watch?.disconnect();
     const items = now.flatMap((option, k) => {
-      const item = html("li", { id: `${id}-${k}`, role: "option", "data-at": k, "aria-selected": "false" }, ...option.content);
+      const item = html(
+        "li",
+        { id: `${id}-${k}`, role: "option", "data-at": k, "aria-selected": "false" },
+        ...option.content,
+      );
       return option.heading ? [html("li", { class: "heading", role: "presentation" }, option.heading), item] : [item];
     });
     if (items.length === 0) items.push(html("li", { class: "heading", role: "presentation" }, TEXTS.choose.nothing));

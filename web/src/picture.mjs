@@ -1,11 +1,12 @@
-// The Sun and the Moon, or the Moon and a star, as on the sky: north up and east to the left, or turned so that the zenith is up.
+// The Sun and the Moon, or the Moon and a star, as on the sky: north up and east to the left, or turned so that the
+// zenith is up.
 //
-// The fundamental plane is at right angles to the line from the Moon's centre to the Sun's, x to the east and y to the north; the
-// station is at (xi, eta) in it, the line at (x, y). Seen from the station the Moon's centre lies u = x - xi to the east and
-// v = y - eta to the north of the Sun's, in the scale in which L1, where the limbs touch from outside, is the sum of the two radii
-// and L2 the Sun's less the Moon's. So the Sun's radius is (L1 + L2)/2, the Moon's (L1 - L2)/2, and the direction on the sheet, that of
-// (u, v) from north through east, is where the Moon's centre is from the Sun's. East is to the left, so x of the drawing is -u; a
-// drawing's y goes down, so it is -v.
+// The fundamental plane is at right angles to the line from the Moon's centre to the Sun's, x to the east and y to the
+// north; the station is at (xi, eta) in it, the line at (x, y). Seen from the station the Moon's centre lies u = x - xi
+// to the east and v = y - eta to the north of the Sun's, in the scale in which L1, where the limbs touch from outside,
+// is the sum of the two radii and L2 the Sun's less the Moon's. So the Sun's radius is (L1 + L2)/2, the Moon's (L1 -
+// L2)/2, and the direction on the sheet, that of (u, v) from north through east, is where the Moon's centre is from the
+// Sun's. East is to the left, so x of the drawing is -u; a drawing's y goes down, so it is -v.
 import { svg, rounded } from "./svg.mjs";
 import { TEXTS } from "./texts.mjs";
 import { UP } from "./seen.mjs";
@@ -22,8 +23,8 @@ function turned(east, north, up) {
   return [east * cosine - north * sine, east * sine + north * cosine];
 }
 
-// The point of the Sun's limb where the Moon's touches it, as a direction from the Sun's centre: towards the Moon's centre, and away from
-// it where the Moon hides the whole Sun.
+// The point of the Sun's limb where the Moon's touches it, as a direction from the Sun's centre: towards the Moon's
+// centre, and away from it where the Moon hides the whole Sun.
 function touchingPoint(u, v, total, phase) {
   const distance = Math.hypot(u, v) || 1;
   const side = phase === "central" && total ? -1 : 1;
@@ -37,7 +38,11 @@ const isCovered = ({ u, v, sun, moon }) => Math.hypot(u, v) <= moon - sun;
 function compass(up, isTurned) {
   const { north, east } = TEXTS.picture;
   const letter = (words, [a, b]) =>
-    svg("text", { class: "compass", x: rounded(CENTRE - a * 88), y: rounded(CENTRE - b * 86 + 6), "text-anchor": "middle" }, words);
+    svg(
+      "text",
+      { class: "compass", x: rounded(CENTRE - a * 88), y: rounded(CENTRE - b * 86 + 6), "text-anchor": "middle" },
+      words,
+    );
   const rim = [letter(north, turned(0, 1, up)), letter(east, turned(1, 0, up))];
   return isTurned ? [...rim, svg("path", { class: "zenith", d: `M${CENTRE} 4 l6 11 h-12 z` })] : rim;
 }
@@ -48,7 +53,10 @@ const disc = (name, x, y, r) => svg("circle", { class: name, cx: rounded(x), cy:
 function wedge([east, north], inside) {
   const [tip, end] = inside ? [SUN - 1, SUN - 17] : [SUN + 4, SUN + 22];
   const at = (r, side) => `${rounded(CENTRE - east * r + north * side)},${rounded(CENTRE - north * r - east * side)}`;
-  return svg("polygon", { class: inside ? "pointer inside" : "pointer", points: [at(tip, 0), at(end, 5), at(end, -5)].join(" ") });
+  return svg(
+    "polygon",
+    { class: inside ? "pointer inside" : "pointer", points: [at(tip, 0), at(end, 5), at(end, -5)].join(" ") },
+  );
 }
 
 function sunAndMoon(place, entry, up) {
@@ -57,7 +65,12 @@ function sunAndMoon(place, entry, up) {
   const [u, v] = turned(place.u, place.v, up);
   const contact = entry.name === "enter" || entry.name === "leave";
   return [
-    ...(isCovered(place) ? [disc("corona outer", CENTRE, CENTRE, SUN * 1.75), disc("corona", CENTRE, CENTRE, SUN * 1.35)] : []),
+    ...(
+      isCovered(place) ? [
+        disc("corona outer", CENTRE, CENTRE, SUN * 1.75),
+        disc("corona", CENTRE, CENTRE, SUN * 1.35),
+      ] : []
+    ),
     disc("sun", CENTRE, CENTRE, SUN),
     disc("moon", CENTRE - u * scale, CENTRE - v * scale, moon * scale),
     disc("limb", CENTRE, CENTRE, SUN),

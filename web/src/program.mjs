@@ -1,5 +1,5 @@
-// The proved program `request`, compiled to WebAssembly: a typed text in, the bytes of a request or a line of its fault out.
-// Every call is a run of the program from its start.
+// The proved program `request`, compiled to WebAssembly: a typed text in, the bytes of a request or a line of its fault
+// out. Every call is a run of the program from its start.
 export async function loadRequest(wasm) {
   const module = await WebAssembly.compile(wasm);
   return function run(input) {

@@ -39,10 +39,18 @@ export function verdictOf(sheet, clocks) {
   if (!seen) return said.none;
   if (seen.down) return said.down;
   const percent = `${(Math.floor(seen.magnitude / 1000) / 10).toFixed(1)} %`;
-  const time = clocks ? said.at(nearestTime(clocks, clocks.names[0], seen.second, 0)[0], `${degreesText(seen.altitude)}\u00b0`) : "";
+  const time = clocks ? said.at(
+    nearestTime(clocks, clocks.names[0], seen.second, 0)[0],
+    `${degreesText(seen.altitude)}\u00b0`,
+  ) : "";
   if (seen.kind === "partial") {
-    const rising = sheet.rows.find(({ second, entry }) => (entry.name === "rises" || entry.name === "sets") && Math.abs(second - seen.second) <= 1);
-    return rising && !seen.atClosest ? said.partialAtHorizon(percent, said[rising.entry.name]) : said.partial(percent, time);
+    const rising = sheet.rows.find(
+      ({ second, entry }) => (entry.name === "rises" || entry.name === "sets") && Math.abs(second - seen.second) <= 1,
+    );
+    return rising && !seen.atClosest ? said.partialAtHorizon(
+      percent,
+      said[rising.entry.name],
+    ) : said.partial(percent, time);
   }
   const [duration] = sheet.durations.central;
   return said[seen.kind](duration ? said.lasts(briefly(duration)) : "", time);
@@ -71,7 +79,9 @@ export function notesOf(sheet, clocks, { source, expires }) {
 export function durationsIn(sheet) {
   const said = TEXTS.durations;
   return Object.entries(sheet.durations).flatMap(([phase, spells]) => {
-    const kind = phase === "central" ? (sheet.rows.some(({ place, entry }) => entry.phase === "central" && place.total) ? "total" : "annular") : phase;
+    const kind = phase === "central" ? (
+      sheet.rows.some(({ place, entry }) => entry.phase === "central" && place.total) ? "total" : "annular"
+    ) : phase;
     return spells.map((spell) => [said[kind], longWords(spell)]);
   });
 }

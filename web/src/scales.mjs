@@ -1,5 +1,5 @@
-// Seconds of a sheet as times of day: local time, UTC, UT and ET, as docs/CLOCK.md has them. Everything is counted in whole
-// thousandths of a second from 0h of the instant's day.
+// Seconds of a sheet as times of day: local time, UTC, UT and ET, as docs/CLOCK.md has them. Everything is counted in
+// whole thousandths of a second from 0h of the instant's day.
 
 const TT_LESS_TAI = 32_184; // thousandths
 const SECOND = 1_000;
@@ -25,9 +25,20 @@ export function taiLessUtc({ steps, expires }, day) {
 // How far a zone is ahead of UTC at a moment, in thousandths; null where the browser does not know the zone.
 export function zoneOffset(zone, milliseconds) {
   try {
-    const words = { timeZone: zone, hourCycle: "h23", year: "numeric", month: "numeric", day: "numeric", hour: "numeric", minute: "numeric", second: "numeric" };
+    const words = {
+      timeZone: zone,
+      hourCycle: "h23",
+      year: "numeric",
+      month: "numeric",
+      day: "numeric",
+      hour: "numeric",
+      minute: "numeric",
+      second: "numeric",
+    };
     const parts = new Intl.DateTimeFormat("en-US", words).formatToParts(milliseconds);
-    const { year, month, day, hour, minute, second } = Object.fromEntries(parts.map(({ type, value }) => [type, Number(value)]));
+    const { year, month, day, hour, minute, second } = Object.fromEntries(
+      parts.map(({ type, value }) => [type, Number(value)]),
+    );
     const whole = Math.floor(milliseconds / SECOND) * SECOND;
     return Date.UTC(year, month - 1, day, hour, minute, second) - whole;
   } catch {
@@ -35,14 +46,14 @@ export function zoneOffset(zone, milliseconds) {
   }
 }
 
-// The clocks of a sheet: { names, at(name, hundredths): thousandths since 1970 by that clock, zone, offset, utc }. `hundredths`
-// count from the reference instant. A clock that is not known is not among the names.
-export function clocksOf(instant, deltaT, zone, leapSeconds) {
+// The clocks of a sheet: { names, at(name, hundredths): thousandths since 1970 by that clock, zone, offset, utc }.
+// `hundredths` count from the reference instant. A clock that is not known is not among the names.
+export function clocksOf(instant, deltaT, zone, leapSeconds, typed = null) {
   if (!instant) return null;
   const own = startOf(instant) + 10 * instant.hundredths;
   const ahead = { [instant.scale]: 0 }; // of the instant's own scale
   if (deltaT !== 0) ahead[instant.scale === "ET" ? "UT" : "ET"] = (instant.scale === "ET" ? -10 : 10) * deltaT;
-  const utc = ahead.ET === undefined ? null : taiLessUtc(leapSeconds, dayText(own));
+  const utc = ahead.ET === undefined ? null : (typed ?? taiLessUtc(leapSeconds, dayText(own)));
   if (utc) ahead.UTC = ahead.ET - TT_LESS_TAI - SECOND * utc.seconds;
   const civil = utc ? "UTC" : ahead.UT === undefined ? null : "UT";
   const offset = civil === null ? null : zoneOffset(zone, own + ahead[civil]);

@@ -1,7 +1,7 @@
 // What of an eclipse is seen from a place: the library's sheet, and its altitude at some seconds of it.
 
-// Tenths of a degree from which on the Sun counts as up: the usual altitude of sunrise and sunset, for refraction of 34' and a
-// semidiameter of 16', rounded as the library rounds.
+// Tenths of a degree from which on the Sun counts as up: the usual altitude of sunrise and sunset, for refraction of
+// 34' and a semidiameter of 16', rounded as the library rounds.
 export const UP = -8;
 const LOOKS = 4; // seconds on either side of the closest at which the altitude is looked at
 
@@ -16,7 +16,8 @@ export function spellOf(entries, phase) {
   return [first.name === "leave" ? start : (first.to ?? first.from), last.name === "enter" ? end : last.from];
 }
 
-// The second nearest to `down`, at which the Sun is down, towards `end` at which it is up, or null; by halving, to `close` seconds.
+// The second nearest to `down`, at which the Sun is down, towards `end` at which it is up, or null; by halving, to
+// `close` seconds.
 function nearestUp(isUp, down, end, close) {
   for (let k = 1; k <= LOOKS; k++) {
     let up = Math.round(down + ((end - down) * k) / LOOKS);
@@ -32,8 +33,9 @@ function nearestUp(isUp, down, end, close) {
   return null;
 }
 
-// The largest magnitude with the Sun up, its second and altitude, and the kind of eclipse then: partial, annular or total.
-// null where no eclipse is there; { down: true } with the altitude at the closest second where the Sun is down throughout.
+// The largest magnitude with the Sun up, its second and altitude, and the kind of eclipse then: partial, annular or
+// total. null where no eclipse is there; { down: true } with the altitude at the closest second where the Sun is down
+// throughout.
 export function seenOf(library, bytes, entries, close = 1) {
   const closest = entries.find((entry) => entry.name === "closest");
   if (closest.magnitude === 0) return null;
@@ -53,7 +55,12 @@ export function seenOf(library, bytes, entries, close = 1) {
     .filter((second) => second !== null)
     .map((second) => library.second(bytes, second))
     .sort((a, b) => b.magnitude - a.magnitude)[0];
-  if (!found || found.magnitude === 0) return { down: true, second: closest.second, magnitude: closest.magnitude, altitude: atClosest };
+  if (!found || found.magnitude === 0) return {
+    down: true,
+    second: closest.second,
+    magnitude: closest.magnitude,
+    altitude: atClosest,
+  };
   const kind = found.central !== "inside" ? "partial" : found.l2 < 0 ? "total" : "annular";
   const { second, magnitude } = found;
   return { kind, second, magnitude, altitude: altitude(second), spell, atClosest: false };

@@ -28,7 +28,11 @@ function factsOf(sheet, { radii }) {
     instant ? said.instant(instantText(instant)) : said.noInstant,
     said.window(decimal(head.first, 0), decimal(head.last, 0)),
   ];
-  return html("p", { class: "facts" }, ...facts.flatMap((fact, k) => [k > 0 ? " \u00b7 " : "", html("span", {}, fact)]));
+  return html(
+    "p",
+    { class: "facts" },
+    ...facts.flatMap((fact, k) => [k > 0 ? " \u00b7 " : "", html("span", {}, fact)]),
+  );
 }
 
 const dateIn = (milliseconds) => {
@@ -38,7 +42,8 @@ const dateIn = (milliseconds) => {
 
 const ahead = (offset) => {
   const minutes = Math.round(Math.abs(offset) / 60_000);
-  return `${offset < 0 ? "\u2212" : "+"}${Math.floor(minutes / 60)}${minutes % 60 ? `:${String(minutes % 60).padStart(2, "0")}` : ""}`;
+  const rest = minutes % 60 ? `:${String(minutes % 60).padStart(2, "0")}` : "";
+  return `${offset < 0 ? "\u2212" : "+"}${Math.floor(minutes / 60)}${rest}`;
 };
 
 function headOf(sheet, text, shown) {
@@ -59,7 +64,10 @@ function headOf(sheet, text, shown) {
 // Boxes for the clocks that are wanted.
 function scaleBoxes({ known, scales, wantScale }) {
   const box = (name) => {
-    const input = html("input", { type: "checkbox", id: `scale-${name}`, ...(scales.includes(name) ? { checked: "" } : {}) });
+    const input = html(
+      "input",
+      { type: "checkbox", id: `scale-${name}`, ...(scales.includes(name) ? { checked: "" } : {}) },
+    );
     input.addEventListener("change", () => wantScale(name, input.checked));
     return html("label", { class: "box" }, input, ` ${TEXTS.scaleNames[name]}`);
   };
@@ -74,7 +82,13 @@ function contactsOf(sheet, shown) {
     html("div", { class: "bar" }, html("h3", {}, TEXTS.sheet.rows), ...(shown.clocks ? [scaleBoxes(shown)] : [])),
     contactsTable(sheet, shown.clocks, shown.scales),
     ...(long.length > 0
-      ? [html("dl", { class: "durations" }, ...long.map(([what, words]) => html("div", {}, html("dt", {}, what), html("dd", { class: "time" }, words))))]
+      ? [
+        html(
+          "dl",
+          { class: "durations" },
+          ...long.map(([what, words]) => html("div", {}, html("dt", {}, what), html("dd", { class: "time" }, words))),
+        ),
+      ]
       : []),
   );
 }
@@ -102,11 +116,25 @@ function picturesOf(sheet, { clocks, zenithUp, turnPictures }) {
   const more = sheet.rows.length - PICTURES;
   if (more > 0) notes.push(said.morePictures(more));
   const choice = (value, words) => {
-    const input = html("input", { type: "radio", name: "up", id: value ? "up-zenith" : "up-north", ...(value === zenithUp ? { checked: "" } : {}) });
+    const input = html(
+      "input",
+      {
+        type: "radio",
+        name: "up",
+        id: value ? "up-zenith" : "up-north",
+        ...(value === zenithUp ? { checked: "" } : {}),
+      },
+    );
     input.addEventListener("change", () => turnPictures(value));
     return html("label", { class: "box" }, input, ` ${words}`);
   };
-  const choices = html("fieldset", { class: "boxes" }, html("legend", {}, said.up), choice(false, said.northUp), choice(true, said.zenithUp));
+  const choices = html(
+    "fieldset",
+    { class: "boxes" },
+    html("legend", {}, said.up),
+    choice(false, said.northUp),
+    choice(true, said.zenithUp),
+  );
   return html(
     "section",
     {},
@@ -131,7 +159,8 @@ function curveOf(sheet, { clocks }, width) {
   );
 }
 
-// Shows a sheet in a place of the page. `shown`: clocks, scales and known ones, zenithUp, radii, source, expires, and what to call.
+// Shows a sheet in a place of the page. `shown`: clocks, scales and known ones, zenithUp, radii, source, expires, and
+// what to call.
 export function showSheet(place, sheet, text, shown, width) {
   const { instant, numbers, listing, entries } = sheet;
   const words = instant ? listingWithTimes(listing, entries, instant, numbers["delta t"]) : listing;

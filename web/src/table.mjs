@@ -65,9 +65,15 @@ function secondsCell({ entry }) {
 export function contactsTable(sheet, clocks, scales) {
   const { columns } = TEXTS;
   const { star } = sheet.numbers;
-  const days = Object.fromEntries(scales.filter((name) => name !== "seconds").map((name) => [name, dayOf(sheet, clocks, name)]));
+  const days = Object.fromEntries(
+    scales.filter((name) => name !== "seconds").map((name) => [name, dayOf(sheet, clocks, name)]),
+  );
   const names = ["number", "what", ...scales, star ? "star" : "sun", "point"];
-  const cell = (name, ...children) => html("td", { role: "cell", class: name, "data-label": columns[name] }, ...children);
+  const cell = (name, ...children) => html(
+    "td",
+    { role: "cell", class: name, "data-label": columns[name] },
+    ...children,
+  );
   const rowOf = (row) => {
     const [title, meaning] = wordsOf(row, sheet);
     return html(
@@ -75,7 +81,11 @@ export function contactsTable(sheet, clocks, scales) {
       { role: "row", class: isDown(row) ? `${row.entry.name} down` : row.entry.name },
       cell("number", String(row.number)),
       cell("what", html("strong", {}, title), ...(meaning ? [html("small", {}, meaning)] : [])),
-      ...scales.map((name) => (name === "seconds" ? cell(name, ...secondsCell(row)) : cell(name, ...timesOf(row, clocks, name, days[name])))),
+      ...scales.map(
+        (name) => (
+          name === "seconds" ? cell(name, ...secondsCell(row)) : cell(name, ...timesOf(row, clocks, name, days[name]))
+        ),
+      ),
       cell(star ? "star" : "sun", ...sunCell(row)),
       cell("point", ...pointCell(row)),
     );
@@ -83,5 +93,10 @@ export function contactsTable(sheet, clocks, scales) {
   // the roles stay where a narrow window lays the table out in blocks
   const labels = names.map((name) => html("th", { role: "columnheader", scope: "col", class: name }, columns[name]));
   const head = html("thead", { role: "rowgroup" }, html("tr", { role: "row" }, ...labels));
-  return html("table", { role: "table", class: "contacts" }, head, html("tbody", { role: "rowgroup" }, ...sheet.rows.map(rowOf)));
+  return html(
+    "table",
+    { role: "table", class: "contacts" },
+    head,
+    html("tbody", { role: "rowgroup" }, ...sheet.rows.map(rowOf)),
+  );
 }

@@ -40,7 +40,9 @@ export function contactsCsv(sheet, clocks) {
   const rest = ["altitude", "azimuth", "point_from_north", "point_from_zenith", "moon_from_north", "magnitude"];
   const rows = sheet.rows.map((row) => {
     const { entry, bracket, horizon } = row;
-    const times = scales.flatMap((scale) => [dateAt(clocks, scale, bracket.between[0]), ...between(clocks, scale, bracket.between, 0).slice(0, 2)]);
+    const times = scales.flatMap(
+      (scale) => [dateAt(clocks, scale, bracket.between[0]), ...between(clocks, scale, bracket.between, 0).slice(0, 2)],
+    );
     const angles = entry.direction === undefined ? null : contactAngles(row);
     const seconds = [entry.second ?? entry.from, entry.second ?? entry.to];
     const magnitude = entry.magnitude === undefined ? "" : (entry.magnitude / 1e6).toFixed(6);
@@ -54,11 +56,19 @@ export function contactsCsv(sheet, clocks) {
 export function curveCsv(sheet, clocks, step) {
   const [first, last] = [sheet.curve[0].second, sheet.curve.at(-1).second];
   const scales = clocks?.names ?? [];
-  const head = ["second", ...scales.flatMap((scale) => [`date_${scale.toLowerCase()}`, `time_${scale.toLowerCase()}`]), "magnitude", "share", "altitude"];
+  const head = [
+    "second",
+    ...scales.flatMap((scale) => [`date_${scale.toLowerCase()}`, `time_${scale.toLowerCase()}`]),
+    "magnitude",
+    "share",
+    "altitude",
+  ];
   const rows = [];
   for (let second = Math.ceil(first / step) * step; second <= last; second += step) {
     const { magnitude, share, altitude } = sheet.sky.reading(second);
-    const times = scales.flatMap((scale) => [dateAt(clocks, scale, 100 * second + 50), nearestTime(clocks, scale, second, 0)[0]]);
+    const times = scales.flatMap(
+      (scale) => [dateAt(clocks, scale, 100 * second + 50), nearestTime(clocks, scale, second, 0)[0]],
+    );
     rows.push([second, ...times, (magnitude / 1e6).toFixed(6), (share / 1e6).toFixed(6), tenths(altitude)]);
   }
   return lines([head, ...rows]);

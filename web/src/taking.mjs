@@ -5,13 +5,19 @@ import { titleIn } from "./fields.mjs";
 import { calendarFile, contactsCsv, copied, curveCsv, saveFile } from "./take.mjs";
 
 // A name for files: letters and digits of the title.
-const fileName = (title, end) => `${title.replace(/[^\p{L}\p{N}]+/gu, "-").replace(/^-|-$/g, "").toLowerCase() || "sheet"}${end}`;
+const plainTitle = (title) => title.replace(/[^\p{L}\p{N}]+/gu, "-").replace(/^-|-$/g, "").toLowerCase();
+const fileName = (title, end) => (plainTitle(title) || "sheet") + end;
 
 // `now()` is { sheet, text, clocks, address } of what is shown.
 export function makeTaking({ now }) {
   const said = TEXTS.take;
   const status = html("p", { class: "hint", id: "said", role: "status" });
-  const step = html("select", { id: "curve-step", "aria-label": said.curve }, html("option", { value: "60" }, said.minutes), html("option", { value: "1" }, said.seconds));
+  const step = html(
+    "select",
+    { id: "curve-step", "aria-label": said.curve },
+    html("option", { value: "60" }, said.minutes),
+    html("option", { value: "1" }, said.seconds),
+  );
   const saying = (name) => (status.textContent = said.saved(name));
   const save = (end, made, type) => () => {
     const { sheet, clocks, text } = now();
@@ -27,7 +33,11 @@ export function makeTaking({ now }) {
     },
     contacts: save("-contacts.csv", contactsCsv, "text/csv"),
     curve: save("-curve.csv", (sheet, clocks) => curveCsv(sheet, clocks, Number(step.value)), "text/csv"),
-    calendar: save(".ics", (sheet, clocks, text, title) => calendarFile(sheet, clocks, title, Date.now()), "text/calendar"),
+    calendar: save(
+      ".ics",
+      (sheet, clocks, text, title) => calendarFile(sheet, clocks, title, Date.now()),
+      "text/calendar",
+    ),
     text: save(".txt", (sheet, clocks, text) => text, "text/plain"),
     bytes: save("-request.bin", (sheet) => sheet.bytes, "application/octet-stream"),
     sheetBytes: save("-sheet.bin", (sheet) => sheet.stored, "application/octet-stream"),
@@ -42,7 +52,19 @@ export function makeTaking({ now }) {
   const curve = html("span", { class: "joined" }, buttons.curve, step);
   const { print: onPaper, link, contacts, calendar, text, bytes, sheetBytes } = buttons;
   return {
-    element: html("div", { class: "taking", role: "group", "aria-label": said.more }, onPaper, link, calendar, contacts, curve, text, bytes, sheetBytes, status),
+    element: html(
+      "div",
+      { class: "taking", role: "group", "aria-label": said.more },
+      onPaper,
+      link,
+      calendar,
+      contacts,
+      curve,
+      text,
+      bytes,
+      sheetBytes,
+      status,
+    ),
     show() {
       const { sheet, clocks } = now();
       for (const [name, button] of Object.entries(buttons)) button.disabled = !sheet && name !== "link";

@@ -6,20 +6,37 @@ import { titleIn, typedValue, withTitle, withValue } from "./fields.mjs";
 const FIELDS = ["title", "instant", "latitude", "longitude", "height", "delta t", "station"];
 
 // The text with another value of a field.
-export const withField = (text, name, value) => (name === "title" ? withTitle(text, value) : withValue(text, name, value));
+export const withField = (text, name, value) => (
+  name === "title" ? withTitle(text, value) : withValue(text, name, value)
+);
 export const isField = (name) => FIELDS.includes(name);
 
 // `changed(text)` is called when someone edits, `chosen(name)` when an example is picked.
 export function makeTyped(examples, { changed, chosen }) {
   const said = TEXTS.own;
-  const text = html("textarea", { id: "text", rows: 24, spellcheck: "false", autocomplete: "off", autocapitalize: "off", wrap: "off", "aria-labelledby": "typed-label", "aria-describedby": "typed-hint" });
+  const text = html(
+    "textarea",
+    {
+      id: "text",
+      rows: 24,
+      spellcheck: "false",
+      autocomplete: "off",
+      autocapitalize: "off",
+      wrap: "off",
+      "aria-labelledby": "typed-label",
+      "aria-describedby": "typed-hint",
+    },
+  );
   const marks = html("div", { id: "marks", "aria-hidden": "true" });
   const options = Object.entries(examples).map(([name, each]) => html("option", { value: name }, titleIn(each)));
   const example = html("select", { id: "example" }, html("option", { value: "" }, said.ownText), ...options);
   const inputs = Object.fromEntries(
     FIELDS.map((name) => {
       const wide = name === "title" || name === "instant";
-      const input = html("input", { id: `place-${name}`, autocomplete: "off", spellcheck: "false", ...(wide ? {} : { inputmode: "decimal" }) });
+      const input = html(
+        "input",
+        { id: `place-${name}`, autocomplete: "off", spellcheck: "false", ...(wide ? {} : { inputmode: "decimal" }) },
+      );
       if (name === "instant") input.placeholder = said.instantHint;
       input.addEventListener("input", () => {
         text.value = withField(text.value, name, input.value.trim());
@@ -30,12 +47,22 @@ export function makeTyped(examples, { changed, chosen }) {
     }),
   );
   const labels = FIELDS.map((name) =>
-    html("label", { class: name === "title" || name === "instant" ? "wide" : "" }, html("span", {}, said.fields[name]), inputs[name]),
+    html(
+      "label",
+      { class: name === "title" || name === "instant" ? "wide" : "" },
+      html("span", {}, said.fields[name]),
+      inputs[name],
+    ),
   );
   const element = html(
     "div",
     { class: "own" },
-    html("div", {}, html("label", { class: "row" }, html("span", {}, said.example), example), html("div", { class: "fields" }, ...labels)),
+    html(
+      "div",
+      {},
+      html("label", { class: "row" }, html("span", {}, said.example), example),
+      html("div", { class: "fields" }, ...labels),
+    ),
     html(
       "div",
       {},
@@ -69,7 +96,8 @@ export function makeTyped(examples, { changed, chosen }) {
     if (!line || text === document.activeElement) return;
     const height = parseFloat(getComputedStyle(text).lineHeight);
     const at = (line - 1) * height;
-    if (at < text.scrollTop || at > text.scrollTop + text.clientHeight - 2 * height) text.scrollTop = at - text.clientHeight / 2;
+    const isSeen = text.scrollTop <= at && at <= text.scrollTop + text.clientHeight - 2 * height;
+    if (!isSeen) text.scrollTop = at - text.clientHeight / 2;
   }
 
   text.addEventListener("input", () => {
@@ -90,7 +118,8 @@ export function makeTyped(examples, { changed, chosen }) {
       }
       example.value = name;
       for (const field of FIELDS)
-        if (inputs[field] !== document.activeElement) inputs[field].value = field === "title" ? titleIn(value) : typedValue(value, field);
+        if (inputs[field] !== document.activeElement)
+          inputs[field].value = field === "title" ? titleIn(value) : typedValue(value, field);
       wrong = { lines, names };
       reveal(lines[0]);
       mark();

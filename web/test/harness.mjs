@@ -1,4 +1,5 @@
-// A page in a real browser, and what its checks need. PAGE=FILE in the environment opens another file than `web/build` makes.
+// A page in a real browser, and what its checks need. PAGE=FILE in the environment opens another file than `web/build`
+// makes.
 import { mkdirSync, readFileSync, writeFileSync } from "node:fs";
 import { dirname, join } from "node:path";
 import { fileURLToPath, pathToFileURL } from "node:url";
@@ -24,14 +25,24 @@ export const count = () => done;
 export const keep = async (name, whole = true) => writeFileSync(join(folder, `${name}.png`), await page.picture(whole));
 export const keepPaper = async (name) => writeFileSync(join(folder, `${name}.pdf`), await page.paper());
 export const text = (selector) => page.run(`document.querySelector(${JSON.stringify(selector)})?.innerText ?? null`);
-export const texts = (selector) => page.run(`[...document.querySelectorAll(${JSON.stringify(selector)})].map((each) => each.innerText)`);
+export const texts = (selector) => page.run(
+  `[...document.querySelectorAll(${JSON.stringify(selector)})].map((each) => each.innerText)`,
+);
 export const value = (id) => page.run(`document.getElementById(${JSON.stringify(id)}).value`);
 export const click = (id) => page.run(`document.getElementById(${JSON.stringify(id)}).click()`);
 export const example = (name) => page.open(`${url}#example=${name}`);
-export const set = (name, to) =>
-  page.run(`(() => { const field = document.getElementById(${JSON.stringify(name)}); field.value = ${JSON.stringify(to)};
-    document.body.dataset.state = "waiting"; field.dispatchEvent(new Event("input")); })()`);
-export const settled = () => page.until(`document.body.dataset.state === "sheet" || document.body.dataset.state === "refused"`);
+// Puts a value into a field and says so to the page, which makes its sheet anew a little later.
+export const enter = (id, to, event = "input") =>
+  page.run(`(() => { const field = document.getElementById(${JSON.stringify(id)});
+    field.value = ${JSON.stringify(to)};
+    field.dispatchEvent(new Event("${event}")); })()`);
+export const set = async (id, to) => {
+  await page.run(`document.body.dataset.state = "waiting"`);
+  await enter(id, to);
+};
+export const settled = () => page.until(
+  `document.body.dataset.state === "sheet" || document.body.dataset.state === "refused"`,
+);
 export const overflow = () => page.run("document.documentElement.scrollWidth - document.documentElement.clientWidth");
 export const onePage = async () => /\/Count 1\b/.test((await page.paper()).toString("latin1"));
 export const sizeOfFile = () => readFileSync(file).length;

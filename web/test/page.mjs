@@ -1,4 +1,5 @@
-// The page in a real browser, opened from the disk: node web/test/page.mjs [FOLDER FOR PICTURES]      after `web/build`; needs chromium
+// The page in a real browser, opened from the disk: node web/test/page.mjs [FOLDER FOR PICTURES]      after
+// `web/build`; needs chromium
 import assert from "node:assert/strict";
 import { check, count, page } from "./harness.mjs";
 

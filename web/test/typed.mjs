@@ -2,7 +2,21 @@
 import assert from "node:assert/strict";
 import { readFileSync } from "node:fs";
 import { join } from "node:path";
-import { check, example, keep, onePage, overflow, page, set, settled, text, texts, top, url, value } from "./harness.mjs";
+import {
+  check, enter,
+  example,
+  keep,
+  onePage,
+  overflow,
+  page,
+  set,
+  settled,
+  text,
+  texts,
+  top,
+  url,
+  value,
+} from "./harness.mjs";
 
 // The listing in the page without what clock times add to it.
 const plain = (listing) =>
@@ -14,7 +28,9 @@ const plain = (listing) =>
 const instants = readFileSync(join(top, "examples/instants.txt"), "utf8").split("\n");
 const names = instants.filter((line) => line && !line.startsWith("#")).map((line) => line.split(" ")[0]);
 const scale = (name, on) =>
-  page.run(`(() => { const box = document.getElementById("scale-${name}"); if (box.checked !== ${on}) box.click(); })()`);
+  page.run(
+    `(() => { const box = document.getElementById("scale-${name}"); if (box.checked !== ${on}) box.click(); })()`,
+  );
 
 for (const name of names) {
   await check(`${name}: the listing, a row for each entry, a picture, one sheet of paper`, async () => {
@@ -22,7 +38,9 @@ for (const name of names) {
     await page.run(`document.querySelector("#sheet details").open = true`);
     const wanted = readFileSync(join(top, `examples/${name}.listing`), "utf8");
     assert.equal(plain(await text("#sheet pre")).trimEnd(), wanted.trimEnd());
-    const rows = await page.run(`[...document.querySelectorAll(".contacts tbody tr")].filter((row) => !row.matches(".rises, .sets")).length`);
+    const rows = await page.run(
+      `[...document.querySelectorAll(".contacts tbody tr")].filter((row) => !row.matches(".rises, .sets")).length`,
+    );
     assert.equal(rows, wanted.trimEnd().split("\n").length - 1);
     assert.ok((await texts("#sheet figure")).length >= 2);
     assert.ok(await onePage());
@@ -35,7 +53,13 @@ await check("Hopkinsville's contacts in UT to hundredths, and the Moon where the
   await scale("UT", true);
   const shown = (await texts("td.UT")).map((cell) => cell.trim());
   // the two times of the listing between which each lies
-  const listed = [["16:56:31.2", "16:56:32.2"], ["18:24:41.2", "18:24:42.2"], null, ["18:27:21.2", "18:27:22.2"], ["19:51:42.2", "19:51:43.2"]];
+  const listed = [
+    ["16:56:31.2", "16:56:32.2"],
+    ["18:24:41.2", "18:24:42.2"],
+    null,
+    ["18:27:21.2", "18:27:22.2"],
+    ["19:51:42.2", "19:51:43.2"],
+  ];
   assert.equal(shown.length, listed.length);
   assert.equal(shown[2], "18:26:01");
   shown.forEach((cell, k) => {
@@ -43,9 +67,12 @@ await check("Hopkinsville's contacts in UT to hundredths, and the Moon where the
     const [, minutes, from, to] = /^(\d\d:\d\d):(\d\d\.\d\d)–(\d\d\.\d\d)$/.exec(cell);
     assert.ok(listed[k][0] <= `${minutes}:${from}` && from < to && `${minutes}:${to}` <= `${listed[k][1]}0`, cell);
   });
-  const moons = await page.run(`[...document.querySelectorAll(".pictures svg")].map((each) => { const moon = each.querySelector(".moon");
+  const moons = await page.run(`[...document.querySelectorAll(".pictures .moon")].map((moon) => {
     return [Number(moon.getAttribute("cx")) - 100, Number(moon.getAttribute("cy")) - 100]; })`);
-  assert.ok(moons[0][0] > 60 && moons.at(-1)[0] < -60, "the Moon comes from the west, on the right, and leaves to the east");
+  assert.ok(
+    moons[0][0] > 60 && moons.at(-1)[0] < -60,
+    "the Moon comes from the west, on the right, and leaves to the east",
+  );
   // first and last contact: the point of contact is where the Moon's centre is, from north (up) through east (left)
   const points = (await texts("td.point")).map((words) => parseFloat(words));
   for (const k of [0, 4]) {
@@ -63,7 +90,9 @@ await check("Hopkinsville's contacts in UT to hundredths, and the Moon where the
 
 await check("zenith up turns the pictures by the library's angle", async () => {
   await example("hopkinsville2017");
-  const moon = () => page.run(`(() => { const moon = document.querySelector(".pictures .moon"); return ["cx", "cy"].map((name) => Number(moon.getAttribute(name)) - 100); })()`);
+  const moon = () => page.run(
+    `["cx", "cy"].map((name) => Number(document.querySelector(".pictures .moon").getAttribute(name)) - 100)`,
+  );
   await page.run(`document.getElementById("up-zenith").click()`);
   const [x, y] = await moon();
   const turned = ((Math.atan2(-x, -y) * 180) / Math.PI + 360) % 360;
@@ -75,7 +104,10 @@ await check("zenith up turns the pictures by the library's angle", async () => {
 
 await check("a link brings the same text back", async () => {
   await example("hopkinsville2017");
-  await set("place-title", "Camp A: the north field, which has a title so long that it must wrap on every screen that there is, and has colons: two");
+  await set(
+    "place-title",
+    "Camp A: the north field, which has a title so long that it must wrap on every screen that there is: two",
+  );
   await settled();
   const before = await value("text");
   await page.open(await page.run("location.href"));
@@ -94,14 +126,19 @@ await check("an address with a place of one's own", async () => {
 
 await check("an example is chosen by hand", async () => {
   await example("hopkinsville2017");
-  await page.run(`(() => { const list = document.getElementById("example"); list.value = "moscow1954"; list.dispatchEvent(new Event("change")); })()`);
+  await enter("example", "moscow1954", "change");
   assert.match(await text("#sheet h2"), /Moscow/);
   assert.match(await page.run("location.hash"), /moscow1954/);
 });
 
 // what is typed in place of a line, what is said, which line is marked (or none), which field
 const FAULTS = [
-  ["latitude 95", /latitude is outside its range, −90\.000000 to 90\.000000 \(refusal 3, place 1\)/, "latitude", "latitude"],
+  [
+    "latitude 95",
+    /latitude is outside its range, −90\.000000 to 90\.000000 \(refusal 3, place 1\)/,
+    "latitude",
+    "latitude",
+  ],
   ["longitude 180.000001", /longitude is outside its range/, "longitude", "longitude"],
   ["x1 1.5", /X1 is outside its range, −1\.00000000 to 1\.00000000 \(refusal 2, place 1\)/, "x1", null],
   ["guard 15", /guard is outside its range, 16 to 1000 \(refusal 1, place 1\)/, "guard", null],
@@ -125,13 +162,17 @@ for (const [typed, said, marked, field] of FAULTS) {
     await set("text", lines.join("\n"));
     await settled();
     assert.match(await text(".refusal"), said);
-    const bands = await page.run(`(() => { const text = document.getElementById("text"), top = (each) => each.getBoundingClientRect().top;
+    const bands = await page.run(`(() => { const text = document.getElementById("text");
+      const top = (each) => each.getBoundingClientRect().top;
       return [...document.querySelectorAll(".band")].map((band) => top(band) - top(text) + text.scrollTop); })()`);
     const height = await page.run(`parseFloat(getComputedStyle(document.getElementById("text")).lineHeight)`);
     const all = lines.join("\n").split("\n");
     const rows = bands.map((top) => Math.floor(top / height));
     assert.ok(rows.some((row) => all[row]?.startsWith(marked)), `${rows} ${rows.map((row) => all[row])}`);
-    if (field) assert.equal(await page.run(`document.getElementById("place-${field}").getAttribute("aria-invalid")`), "true");
+    if (field) assert.equal(
+      await page.run(`document.getElementById("place-${field}").getAttribute("aria-invalid")`),
+      "true",
+    );
   });
 }
 await keep("refused");
@@ -154,7 +195,8 @@ await check("an annular eclipse: a ring at its greatest", async () => {
   const rows = await texts("td.what strong");
   const [begins, ends] = ["Partial eclipse begins", "Partial eclipse ends"];
   assert.deepEqual(rows, [begins, "Annularity begins", "Axis closest", "Annularity ends", ends]);
-  const [sun, moon] = await page.run(`["sun", "moon"].map((name) => { const disc = document.querySelectorAll(".pictures svg")[2].querySelector("." + name);
+  const [sun, moon] = await page.run(`["sun", "moon"].map((name) => {
+    const disc = document.querySelectorAll(".pictures svg")[2].querySelector("." + name);
     return ["cx", "cy", "r"].map((key) => Number(disc.getAttribute(key))); })`);
   assert.ok(Math.hypot(sun[0] - moon[0], sun[1] - moon[1]) + moon[2] < sun[2], "the Moon lies wholly in the Sun");
 });

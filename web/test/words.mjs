@@ -1,4 +1,5 @@
-// Checks without a browser: coordinates as people paste them, clocks, both languages complete.      node web/test/words.mjs
+// Checks without a browser: coordinates as people paste them, clocks, both languages complete.      node
+// web/test/words.mjs
 import assert from "node:assert/strict";
 import { readFileSync } from "node:fs";
 import { dirname, join } from "node:path";
@@ -39,8 +40,24 @@ const PAIRS = [
   ["12,5 7,5", [12_500_000, 7_500_000]],
   ["-33.87 151.21", [-33_870_000, 151_210_000]],
 ];
-for (const [typed, [latitude, longitude]] of PAIRS) assert.deepEqual(coordinatesIn(typed), { latitude, longitude }, typed);
-for (const typed of ["", "Dallas", "32", "91, 0", "0, 181", "32°61'N 5°E", "N 32 S 5", "E 5 W 6", "1, 2, 3", "-32 N 5 E", "1.5° 30' N 2 E"])
+for (const [typed, [latitude, longitude]] of PAIRS) assert.deepEqual(
+  coordinatesIn(typed),
+  { latitude, longitude },
+  typed,
+);
+for (const typed of [
+  "",
+  "Dallas",
+  "32",
+  "91, 0",
+  "0, 181",
+  "32°61'N 5°E",
+  "N 32 S 5",
+  "E 5 W 6",
+  "1, 2, 3",
+  "-32 N 5 E",
+  "1.5° 30' N 2 E",
+])
   assert.equal(coordinatesIn(typed), null, typed);
 
 // ---- languages: the same names, of the same kind
@@ -68,13 +85,19 @@ assert.deepEqual(found, ["A Coruña"]);
 // ---- catalogue: the same numbers as almanac/catalogue/reader.py has for the eclipse of 28 May 1900
 const eclipses = readCatalogue(read("almanac/catalogue/eclipses.txt"));
 assert.equal(eclipses.length, 454);
-assert.deepEqual([eclipses[0].date, eclipses[0].kind, eclipses[0].deltaT, eclipses[0].source], ["1900-05-28", "T", -151, "O"]);
+assert.deepEqual(
+  [eclipses[0].date, eclipses[0].kind, eclipses[0].deltaT, eclipses[0].source],
+  ["1900-05-28", "T", -151, "O"],
+);
 const { rows, sidereal } = tablesAround(eclipses[0], -1);
 assert.equal(rows.length, 42);
 assert.deepEqual(rows.slice(0, 6), [942478609737, 2001053635197, 868064964184, 2520235176, 4839889689, 2165267411]);
 assert.equal(sidereal[1], 65_570_773);
 assert.ok(tablesAround(eclipses.at(-1), 1).sidereal.every((angle) => angle >= 0 && angle < 360_000_000));
-assert.deepEqual(instantOf(eclipses.find(({ date }) => date === "2012-05-20"), 0), { year: 2012, month: 5, day: 21, hundredths: 0, scale: "ET" });
+assert.deepEqual(
+  instantOf(eclipses.find(({ date }) => date === "2012-05-20"), 0),
+  { year: 2012, month: 5, day: 21, hundredths: 0, scale: "ET" },
+);
 
 // ---- clocks
 const leapSeconds = readLeapSeconds(read("almanac/leap_seconds.txt"));
