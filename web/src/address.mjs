@@ -1,10 +1,11 @@
 // The address of what is shown, behind the # of the page's own: an eclipse of the catalogue at a place, an example, or
 // a text.
-import { RADII, typedDecimal } from "./making.mjs";
+import { GUARD, RADII, typedDecimal } from "./making.mjs";
+import { rangeOf } from "./fields.mjs";
 import { coordinatesIn } from "./coordinates.mjs";
 
 const DATE = /^\d{4}-\d\d-\d\d$/;
-const whole = (words, low, high) => {
+const whole = (words, [low, high]) => {
   const number = Number(words);
   return words !== null && words !== "" && Number.isInteger(number) && low <= number && number <= high ? number : null;
 };
@@ -20,7 +21,7 @@ export function addressOf({ eclipse, place, options, example, text }, language) 
     if (place.zone) asked.set("zone", place.zone);
     if (options.radii !== "document02") asked.set("radii", options.radii);
     if (options.deltaT !== null) asked.set("deltat", typedDecimal(options.deltaT, 2));
-    if (options.guard !== 32) asked.set("guard", options.guard);
+    if (options.guard !== GUARD) asked.set("guard", options.guard);
   } else if (example) asked.set("example", example);
   else asked.set("text", text);
   if (language !== "en") asked.set("lang", language);
@@ -40,14 +41,11 @@ export function askedBy(hash) {
   if (DATE.test(asked.get("eclipse") ?? "")) made.eclipse = asked.get("eclipse");
   const at = coordinatesIn(asked.get("at") ?? "");
   if (at) {
-    const height = whole(asked.get("height"), -500, 9000) ?? 0;
+    const height = whole(asked.get("height"), rangeOf("height")) ?? 0;
     made.place = { ...at, height, name: asked.get("name") || "", zone: asked.get("zone") };
   }
-  const deltaT = asked.has("deltat") ? whole(
-    String(Math.round(Number(asked.get("deltat")) * 100)),
-    -10_000,
-    20_000,
-  ) : null;
+  const seconds = asked.has("deltat") ? String(Math.round(Number(asked.get("deltat")) * 100)) : null;
+  const deltaT = whole(seconds, rangeOf("delta t"));
   const radii = Object.hasOwn(RADII, asked.get("radii") ?? "") ? asked.get("radii") : "document02";
-  return { ...made, options: { radii, deltaT, guard: whole(asked.get("guard"), 16, 1000) ?? 32 } };
+  return { ...made, options: { radii, deltaT, guard: whole(asked.get("guard"), rangeOf("guard")) ?? GUARD } };
 }

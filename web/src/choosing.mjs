@@ -4,7 +4,7 @@ import { TEXTS, cityName, countryName, dateWords } from "./texts.mjs";
 import { makePicker } from "./picker.mjs";
 import { matching, plainName } from "./cities.mjs";
 import { coordinatesIn } from "./coordinates.mjs";
-import { decimal } from "./fields.mjs";
+import { decimal, rangeOf } from "./fields.mjs";
 import { nextAfter } from "./catalogue.mjs";
 
 export const placeWords = ({ latitude, longitude }) => [
@@ -92,7 +92,8 @@ export function deviceButton({ pick, said }) {
     navigator.geolocation.getCurrentPosition(
       ({ coords }) => {
         said("");
-        const height = Math.max(-500, Math.min(9000, Math.round(coords.altitude ?? 0)));
+        const [low, high] = rangeOf("height");
+        const height = Math.max(low, Math.min(high, Math.round(coords.altitude ?? 0)));
         const [latitude, longitude] = [coords.latitude, coords.longitude].map((degrees) => Math.round(degrees * 1e6));
         pick({ latitude, longitude, height, name: TEXTS.choose.deviceName, zone: null });
       },
@@ -115,7 +116,8 @@ export function placeFields(zones, own, { chosen, change }) {
   );
   height.addEventListener("input", () => {
     const metres = Number(height.value.replace(/[\u2212\u2013]/g, "-").trim());
-    const good = height.value.trim() !== "" && Number.isInteger(metres) && metres >= -500 && metres <= 9000;
+    const [low, high] = rangeOf("height");
+    const good = height.value.trim() !== "" && Number.isInteger(metres) && low <= metres && metres <= high;
     height.toggleAttribute("aria-invalid", !good);
     if (good) change({ height: metres });
   });

@@ -46,6 +46,12 @@ export const STAR_KIND = 5;
 // The records of a request, each a list of [name, decimals, bytes, least, greatest].
 export const fieldTables = (star) => [star ? [...STAR, RADIUS] : ECLIPSE, STATION, WINDOW];
 
+// The ends of the range of a number of the station or the window, in units.
+export function rangeOf(name) {
+  const [, , , low, high] = [...STATION, ...WINDOW].find(([each]) => each === name);
+  return [low, high];
+}
+
 // Units as a decimal number, for reading.
 export function decimal(units, decimals) {
   const digits = String(Math.abs(units)).padStart(decimals + 1, "0");

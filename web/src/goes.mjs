@@ -1,10 +1,9 @@
 // Where an eclipse goes, for the list of eclipses: countries of the cities that see the most of it, in the order of
 // time. Each city has a sheet of the library.
-import { elementsOf, requestBytes } from "./making.mjs";
+import { GUARD, elementsOf, requestBytes } from "./making.mjs";
 import { seenOf } from "./seen.mjs";
 import { TEXTS, countryName } from "./texts.mjs";
 
-const GUARD_OF_LISTS = 32;
 const CITY_CLOSE = 60; // seconds that a sunrise may be off
 const LESS = 40_000; // millionths that a city may see less than the best one
 const FAR = 800_000; // magnitude below which the best city is far from the path
@@ -15,7 +14,7 @@ function bestCities(library, eclipse, cities, radii) {
   const { elements } = elementsOf(library, eclipse, 0, radii);
   const seen = [];
   for (const city of cities) {
-    const bytes = requestBytes(elements, city, eclipse.deltaT, GUARD_OF_LISTS);
+    const bytes = requestBytes(elements, city, eclipse.deltaT, GUARD);
     const view = seenOf(library, bytes, library.read(library.sheet(bytes)), CITY_CLOSE);
     if (view && !view.down) seen.push(
       { country: city.country, magnitude: Math.min(view.magnitude, 1_000_000), second: view.second },

@@ -12,5 +12,6 @@ export function mapLegend() {
     html("span", { class: "spot", style: `background: var(--map-${name})` }),
     map[name],
   );
-  return [html("span", { class: "scale" }, `${map.legend}: 0`, bands, "1"), spot("annular"), spot("total")];
+  const scale = html("span", { class: "scale" }, "0", bands, "1");
+  return [html("span", {}, map.legend), scale, spot("annular"), spot("total")];
 }

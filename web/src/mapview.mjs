@@ -34,8 +34,8 @@ export function makeMap(library, outline, { pick, words }) {
     button("map-farther", "\u2212", map.farther),
     button("map-whole", "\u2922", map.whole),
   ];
-  const frame = html("div", { class: "frame" }, cells, over, html("div", { class: "zoom" }, closer, farther, whole));
-  const element = html("div", { class: "map" }, frame, said);
+  const frame = html("div", { class: "frame" }, cells, over);
+  const element = html("div", { class: "map" }, frame, html("div", { class: "zoom" }, closer, farther, whole), said);
 
   let view = { x: 0, y: 0, zoom: 1 }; // the middle in degrees
   let bytes = null;

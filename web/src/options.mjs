@@ -2,7 +2,7 @@
 import { html } from "./svg.mjs";
 import { TEXTS } from "./texts.mjs";
 import { RADII } from "./making.mjs";
-import { decimal } from "./fields.mjs";
+import { decimal, rangeOf } from "./fields.mjs";
 
 // A decimal number with at most so many decimals within a range, in units; null for anything else.
 function unitsIn(words, decimals, [low, high]) {
@@ -37,8 +37,8 @@ export function makeOptions({ chosen, change, eclipse }) {
       input.toggleAttribute("aria-invalid", units === null);
       if (units !== null) change({ [name]: units });
     });
-  typed(deltaT, 2, [-10_000, 20_000], "deltaT");
-  typed(guard, 0, [16, 1_000], "guard");
+  typed(deltaT, 2, rangeOf("delta t"), "deltaT");
+  typed(guard, 0, rangeOf("guard"), "guard");
   reset.addEventListener("click", () => change({ deltaT: null }));
   const label = (words, input) => html("label", {}, html("span", {}, words), input);
   const set = html(

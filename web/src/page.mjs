@@ -7,7 +7,7 @@ import { readCatalogue, nextAfter } from "./catalogue.mjs";
 import { cityNear, readCities } from "./cities.mjs";
 import { readOutline } from "./outline.mjs";
 import { clocksOf, readLeapSeconds, taiLessUtc } from "./scales.mjs";
-import { elementsOf, movedTo, requestAt, requestText, typedDecimal, widened } from "./making.mjs";
+import { GUARD, elementsOf, movedTo, requestAt, requestText, typedDecimal, widened } from "./making.mjs";
 import { answerTo } from "./answer.mjs";
 import { addressOf, askedBy } from "./address.mjs";
 import { decimal, titleIn, typedValue } from "./fields.mjs";
@@ -58,7 +58,7 @@ function start(library, request) {
   const state = {
     eclipse: null,
     place: home,
-    options: { radii: "document02", deltaT: null, guard: 32 },
+    options: { radii: "document02", deltaT: null, guard: GUARD },
     example: "",
     text: "",
   };

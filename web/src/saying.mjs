@@ -3,8 +3,7 @@ import { TEXTS } from "./texts.mjs";
 import { degreesText } from "./angles.mjs";
 import { durationParts, nearestTime } from "./scales.mjs";
 import { isDown } from "./table.mjs";
-
-const FINE_GUARD = 32;
+import { GUARD } from "./making.mjs";
 
 // The hours and minutes of a duration, with a blank behind them, or "".
 const wholes = ({ hours, minutes }) => {
@@ -69,7 +68,7 @@ export function notesOf(sheet, clocks, { source, expires }) {
     [clocks && !clocks.utc && clocks.civil === "UT" && sheet.instant.year < 1972, said.noUtc],
     [source === "X", said.extrapolated],
     [source === "F", said.forecast],
-    [sheet.numbers.guard < FINE_GUARD, said.guard],
+    [sheet.numbers.guard < GUARD, said.guard],
   ]
     .filter(([holds]) => holds)
     .map(([, words]) => words);

@@ -4,6 +4,8 @@ import { TEXTS } from "./texts.mjs";
 import { titleIn } from "./fields.mjs";
 import { calendarFile, contactsCsv, copied, curveCsv, saveFile } from "./take.mjs";
 
+const NARROW = "(max-width: 44rem)"; // where the buttons are folded at first
+
 // A name for files: letters and digits of the title.
 const plainTitle = (title) => title.replace(/[^\p{L}\p{N}]+/gu, "-").replace(/^-|-$/g, "").toLowerCase();
 const fileName = (title, end) => (plainTitle(title) || "sheet") + end;
@@ -51,20 +53,10 @@ export function makeTaking({ now }) {
   );
   const curve = html("span", { class: "joined" }, buttons.curve, step);
   const { print: onPaper, link, contacts, calendar, text, bytes, sheetBytes } = buttons;
+  const all = [onPaper, link, calendar, contacts, curve, text, bytes, sheetBytes];
+  const folded = matchMedia(NARROW).matches ? {} : { open: "" };
   return {
-    element: html(
-      "div",
-      { class: "taking", role: "group", "aria-label": said.more },
-      onPaper,
-      link,
-      calendar,
-      contacts,
-      curve,
-      text,
-      bytes,
-      sheetBytes,
-      status,
-    ),
+    element: html("details", { class: "taking", ...folded }, html("summary", {}, said.more), html("div", {}, ...all), status),
     show() {
       const { sheet, clocks } = now();
       for (const [name, button] of Object.entries(buttons)) button.disabled = !sheet && name !== "link";

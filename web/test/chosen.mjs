@@ -314,7 +314,7 @@ await check("the keyboard path: from the top to the sheet, each field with a nam
     "map-whole",
   ];
   assert.deepEqual(order.slice(0, wanted.length), wanted);
-  assert.deepEqual(order.slice(12, 15), ["take-print", "take-link", "take-calendar"]);
+  assert.deepEqual(order.slice(12, 16), ["SUMMARY", "take-print", "take-link", "take-calendar"]);
   const { nodes } = await page.send("Accessibility.getFullAXTree");
   const roles = ["button", "textbox", "combobox", "checkbox", "radio", "slider", "application", "listbox", "link"];
   const nameless = nodes.filter(({ ignored, role, name }) => !ignored && roles.includes(role?.value) && !name?.value);
