@@ -325,7 +325,7 @@ export const ENGLISH = {
     central: "total and annular",
     everything: "also those with the Sun down",
     show: "Show",
-    count: (count, seconds) => `${count} shown; 454 eclipses computed in ${seconds} s. Pick one to open its sheet.`,
+    count: (count, all, seconds) => `${count} shown; ${all} eclipses computed in ${seconds} s. Pick one to open its sheet.`,
     working: "computing \u2026",
     open: (date) => `Open the sheet of ${date}`,
     atHorizon: "at sunrise or sunset",

@@ -120,10 +120,8 @@ export function makeHere(library, eclipses, { open, today }) {
       else heads[k].removeAttribute("aria-sort");
     });
     body.replaceChildren(...kept.map(rowOf));
-    if (element.dataset.state === "done") status.textContent = said.count(
-      kept.length,
-      (element.dataset.took / 1000).toFixed(2),
-    );
+    if (element.dataset.state !== "done") return;
+    status.textContent = said.count(kept.length, eclipses.length, (element.dataset.took / 1000).toFixed(2));
   }
   filter.addEventListener("change", show);
 

@@ -77,6 +77,12 @@ export function requestAt(library, eclipse, place, { radii, guard, deltaT }) {
   return { hour, bytes, entries, instant: instantOf(eclipse, hour), ...elementsOf(library, eclipse, hour, radii) };
 }
 
+// The request of an eclipse by its own hour, at no place yet: what a map is made from.
+export function mapRequest(library, eclipse, { radii, guard, deltaT }) {
+  const nowhere = { latitude: 0, longitude: 0, height: 0 };
+  return requestBytes(elementsOf(library, eclipse, 0, radii).elements, nowhere, deltaT ?? eclipse.deltaT, guard);
+}
+
 // A whole number of units as it is typed: with its decimals, without zeros at the end.
 export function typedDecimal(units, decimals) {
   const digits = String(Math.abs(units)).padStart(decimals + 1, "0");

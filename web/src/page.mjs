@@ -6,11 +6,13 @@ import { loadRequest } from "./program.mjs";
 import { readCatalogue, nextAfter } from "./catalogue.mjs";
 import { cityNear, readCities } from "./cities.mjs";
 import { readOutline } from "./outline.mjs";
-import { clocksOf, readLeapSeconds, taiLessUtc } from "./scales.mjs";
-import { GUARD, elementsOf, movedTo, requestAt, requestText, typedDecimal, widened } from "./making.mjs";
+import { clocksOf, readLeapSeconds } from "./scales.mjs";
+import { GUARD, mapRequest, movedTo, typedDecimal, widened } from "./making.mjs";
+import { composedText } from "./composing.mjs";
+import { refusalIn } from "./refusing.mjs";
 import { answerTo } from "./answer.mjs";
 import { addressOf, askedBy } from "./address.mjs";
-import { decimal, titleIn, typedValue } from "./fields.mjs";
+import { titleIn, typedValue } from "./fields.mjs";
 import { deviceButton, eclipsePicker, placeFields, placePicker, placeWords } from "./choosing.mjs";
 import { makeOptions } from "./options.mjs";
 import { makeMap } from "./mapview.mjs";
@@ -64,7 +66,6 @@ function start(library, request) {
   };
   const looks = { scales: new Set(["local", "UTC"]), zenithUp: false };
   let shown = { sheet: null, clocks: null, lines: [], names: [] };
-  let made = null; // the request of the catalogue's eclipse
 
   const zone = () => state.place.zone ?? browserZone();
   const now = () => ({ ...shown, text: state.text, address: addressOf(state, language()) });
@@ -147,21 +148,6 @@ function start(library, request) {
     waiting = setTimeout(update, 120);
   }
 
-  // The text of the chosen eclipse at the chosen place.
-  function makeText() {
-    const { eclipse, place, options: chosen } = state;
-    made = requestAt(library, eclipse, place, chosen);
-    const utc = taiLessUtc(leapSeconds, eclipse.date);
-    const known = utc && `TAI - UTC is ${utc.seconds} s${utc.presumed ? ", presumed" : ""}`;
-    const remarks = [
-      `eclipse of ${eclipse.date} by the catalogue of 1900 to 2100, elements by ephemeris time, radii ${chosen.radii}`,
-      ...(utc ? [`UTC is ET less ${(32.184 + utc.seconds).toFixed(3)} s (${known})`] : []),
-    ];
-    const title = TEXTS.sheetTitle(dateWords(eclipse.date), place.name);
-    state.text = requestText(title, remarks, made, place, { ...chosen, deltaT: chosen.deltaT ?? eclipse.deltaT });
-    state.example = "";
-  }
-
   function refuse(line, words) {
     const go = html("button", { type: "button", class: "goto" }, TEXTS.atLine(line));
     go.addEventListener("click", () => typed.select(line));
@@ -222,39 +208,26 @@ function start(library, request) {
     const { sheet } = shown;
     const star = sheet?.numbers.star;
     $("map-none").hidden = !star;
-    const bytes = state.eclipse ? mapBytes() : sheet && !star ? widened(sheet.bytes) : null;
+    const own = sheet && !star ? movedTo(widened(sheet.bytes), 0, 0, 0) : null;
+    const bytes = state.eclipse ? mapRequest(library, state.eclipse, state.options) : own;
     const { latitude, longitude } = state.place;
-    map.show(bytes && movedTo(bytes, 0, 0, 0), { latitude: degrees(latitude), longitude: degrees(longitude) });
+    map.show(bytes, { latitude: degrees(latitude), longitude: degrees(longitude) });
     here.mark(state.eclipse?.date ?? null);
     const key = JSON.stringify([state.place, state.options.radii, state.options.guard]);
     if (key === listed) return;
     listed = key;
     here.compute(state.place, state.options, zone(), leapSeconds, state.place.name);
   }
-  // The eclipse by its own hour, wherever the place is.
-  function mapBytes() {
-    const { elements } = elementsOf(library, state.eclipse, 0, state.options.radii);
-    const view = new DataView(made.bytes.slice().buffer);
-    elements.forEach((number, k) => view.setInt32(1 + 4 * k, number));
-    return new Uint8Array(view.buffer);
-  }
-
   function update() {
     clearTimeout(waiting);
-    if (state.eclipse) makeText();
-    const { sheet, fault, refusal } = answerTo(library, request, state.text);
+    if (state.eclipse) Object.assign(state, { text: composedText(library, state, leapSeconds), example: "" });
+    const answer = answerTo(library, request, state.text);
+    const { sheet } = answer;
     shown = { sheet: sheet ?? null, clocks: null, lines: [], names: [] };
-    if (fault) {
-      // a missing name has the line after the last, where there is nothing to mark
-      const there = fault.line > 0 && fault.line <= state.text.split("\n").length && fault.wrong !== "is missing";
-      Object.assign(shown, { lines: there ? [fault.line] : [], names: [fault.name] });
-      refuse(there ? fault.line : 0, TEXTS.fault(fault));
-    } else if (refusal) {
-      Object.assign(shown, { lines: refusal.lines, names: refusal.fields.map(([name]) => name) });
-      const ranges = refusal.fields.map(
-        ([name, decimals, , low, high]) => [name, decimal(low, decimals), decimal(high, decimals)],
-      );
-      refuse(refusal.lines[0] ?? 0, TEXTS.refusal(refusal, ranges));
+    if (!sheet) {
+      const { line, words, lines, names } = refusalIn(answer, state.text);
+      Object.assign(shown, { lines, names });
+      refuse(line, words);
     } else {
       if (!state.eclipse) followText(sheet);
       shown.clocks = clocksOf(sheet.instant, sheet.numbers["delta t"], zone(), leapSeconds, taiIn(state.text));

@@ -313,7 +313,7 @@ export const RUSSIAN_TEXTS = {
     central: "полные и кольцеобразные",
     everything: "и те, когда Солнце под горизонтом",
     show: "Показать",
-    count: (count, seconds) => `Показано: ${count}; 454 затмения вычислены за ${seconds} с. Щелчок открывает лист.`,
+    count: (count, all, seconds) => `Показано: ${count}; затмений вычислено: ${all} за ${seconds} с. Щелчок открывает лист.`,
     working: "вычисляется \u2026",
     open: (date) => `Открыть лист: ${date}`,
     atHorizon: "на восходе или закате",
