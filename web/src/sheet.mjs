@@ -93,10 +93,11 @@ function contactsOf(sheet, shown) {
   );
 }
 
-// The time under a picture: of the second that is drawn.
+// The time under a picture: that of its row, to the second; the picture is drawn at a whole second next to it.
 function captionOf(row, clocks) {
   if (!clocks) return `${decimal(row.second, 0)} s`;
-  return nearestTime(clocks, clocks.names[0], row.second, 0)[0];
+  const [from, to] = row.bracket.between;
+  return nearestTime(clocks, clocks.names[0], (from + to) / 200, 0)[0];
 }
 
 function picturesOf(sheet, { clocks, zenithUp, turnPictures }) {

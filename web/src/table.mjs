@@ -30,7 +30,9 @@ export function timesOf(row, clocks, name, day) {
     return [html("span", { class: "time" }, time), ...mark(days)];
   }
   const [earlier, later, days] = between(clocks, name, row.bracket.between, day);
-  return [html("span", { class: "time" }, `${earlier}\u2013${shortened(earlier, later)}`), ...mark(days)];
+  // a line may break behind the dash where a column is narrow
+  const pair = html("span", { class: "time pair" }, `${earlier}\u2013`, html("wbr"), shortened(earlier, later));
+  return [pair, ...mark(days)];
 }
 
 function sunCell(row) {
