@@ -10,6 +10,8 @@ const COARSER = [4, 2, 1]; // times the size of a cell of the view
 const FINER = [1 / 2, 1 / 4]; // of a cell near the central path
 const SLOPE = 36_000; // millionths of magnitude that may be lost within a degree of arc
 const DOWN = -460; // tenths of a degree: the Sun stays down for three hours, in which the Earth turns by 45 degrees
+const FEW = 60; // cells of a small eclipse, around which finer ones are computed three cells far
+const FEW_REACH = 3;
 const CELL_CLOSE = 16; // seconds that a cell's sunrise or sunset may be off
 
 // Largest magnitude in millionths and kind (a place of KINDS) at a point, in degrees.
@@ -54,12 +56,18 @@ export function* cellsOf(library, bytes, bounds, size) {
         yield cell;
       }
     }
+    const count = some.reduce((sum, each) => sum + each, 0);
+    const reach = count < FEW ? FEW_REACH : 1;
+    const isSome = (row) => some.subarray(row * columns, (row + 1) * columns).includes(1);
+    const polar = whole ? [0, rows - 1].filter(isSome) : [];
     const around = (column, row) => {
-      for (let r = Math.max(0, row - 1); r <= Math.min(rows - 1, row + 1); r++)
-        for (let k = -1; k <= 1; k++) {
+      for (let r = Math.max(0, row - reach); r <= Math.min(rows - 1, row + reach); r++) {
+        if (polar.includes(r)) return true; // at a pole all meridians are neighbours
+        for (let k = -reach; k <= reach; k++) {
           const at = whole ? (column + k + columns) % columns : column + k;
           if (at >= 0 && at < columns && some[r * columns + at]) return true;
         }
+      }
       return false;
     };
     coarse = { around };
