@@ -25,9 +25,12 @@ function cellAt(library, bytes, latitude, longitude, isCoarse) {
 
 // Whether a cell may have in it what its middle has not: as much as `top`, its magnitude and a slope away.
 const isNear = ({ magnitude, south, size }, top) => {
-  const half = Math.hypot(size / 2, (size / 2) * Math.cos(((south + size / 2) * Math.PI) / 180));
+  const half = Math.hypot(size / 2, (size / 2) * Math.cos(radians(south + size / 2)));
   return magnitude > top - SLOPE * half;
 };
+
+// Of a latitude within 89 degrees, as there the meridians are near enough.
+const radians = (latitude) => (Math.max(-89, Math.min(89, latitude)) * Math.PI) / 180;
 
 const across = (longitude) => ((((longitude + 180) % 360) + 360) % 360) - 180;
 
@@ -56,14 +59,11 @@ export function* cellsOf(library, bytes, bounds, size) {
         yield cell;
       }
     }
-    const count = some.reduce((sum, each) => sum + each, 0);
-    const reach = count < FEW ? FEW_REACH : 1;
-    const isSome = (row) => some.subarray(row * columns, (row + 1) * columns).includes(1);
-    const polar = whole ? [0, rows - 1].filter(isSome) : [];
+    const reach = some.reduce((sum, each) => sum + each, 0) < FEW ? FEW_REACH : 1;
     const around = (column, row) => {
       for (let r = Math.max(0, row - reach); r <= Math.min(rows - 1, row + reach); r++) {
-        if (polar.includes(r)) return true; // at a pole all meridians are neighbours
-        for (let k = -reach; k <= reach; k++) {
+        const wide = Math.min(columns >> 1, Math.ceil(reach / Math.cos(radians(south + (r + 0.5) * side))));
+        for (let k = -wide; k <= wide; k++) {
           const at = whole ? (column + k + columns) % columns : column + k;
           if (at >= 0 && at < columns && some[r * columns + at]) return true;
         }
