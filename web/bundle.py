@@ -1,8 +1,9 @@
-"""Puts the page together as one file: python3 web/bundle.py FOLDER, which has ukhtvaresh.wasm and request.wasm (`web/build` runs it).
+"""Puts the page together as one file: python3 web/bundle.py FOLDER (`web/build` runs it).
 
-A browser gives a page from a file no origin: it refuses to import modules or to fetch a library beside it. So the modules of web/src become
-one classic script, in the order of their imports, without the words `import` and `export`, in a function of its own; style, examples and the
-library, in base64, stand in the page too. Names at the top of the modules must differ from each other, which is checked.
+FOLDER has ukhtvaresh.wasm and request.wasm. A browser gives a page from a file no origin: it refuses to import modules
+or to fetch a library beside it. So the modules of web/src become one classic script, in the order of their imports,
+without the words `import` and `export`, in a function of its own. Style, examples, data and the library, in base64, are
+in the page too. Names at the top of the modules must differ from each other, which is checked.
 """
 
 import base64
@@ -13,7 +14,16 @@ from pathlib import Path
 
 WEB = Path(__file__).resolve().parent
 SOURCE = WEB / "src"
-EXAMPLES = WEB.parent / "examples"
+TOP = WEB.parent
+EXAMPLES = TOP / "examples"
+DATA = {
+    "CATALOGUE": TOP / "almanac/catalogue/eclipses.txt",
+    "LEAP_SECONDS": TOP / "almanac/leap_seconds.txt",
+    "CITIES": WEB / "data/cities.txt",
+    "MORE_CITIES": WEB / "data/more_cities.txt",
+    "OUTLINE": WEB / "data/outline.txt",
+}
+LIMIT = 900_000  # bytes of the page
 IMPORT = re.compile(r'^import \{[^}]*\} from "\./([a-z]+)\.mjs";\n', re.MULTILINE)
 NAME = re.compile(r"^(?:export )?(?:async )?(?:function|const|let|class) (\w+)", re.MULTILINE)
 
@@ -36,15 +46,26 @@ def with_instant(text, instant):
     return f"{opening}{blank}# the date and time of second 0\ninstant {instant}\n\n{rest}"
 
 
+def titled(text):
+    """A typed request whose first comment is its title alone: what the comment has before a colon."""
+    title = re.match(r"#+[ \t]*([^:\n]*):", text)
+    return f"# {title.group(1).strip()}\n{text}" if title else text
+
+
+def data(path):
+    """The lines of a data file that are no remarks."""
+    return "".join(line + "\n" for line in path.read_text("utf-8").splitlines() if line and not line.startswith("#"))
+
+
 def examples():
     """Names and texts, those of examples/ with their instants and those of web/examples."""
     made = {}
     for line in (EXAMPLES / "instants.txt").read_text().splitlines():
         if line and not line.startswith("#"):
             name, instant = line.split(" ", 1)
-            made[name] = with_instant((EXAMPLES / f"{name}.txt").read_text(), instant)
+            made[name] = titled(with_instant((EXAMPLES / f"{name}.txt").read_text(), instant))
     for path in sorted((WEB / "examples").glob("*.txt")):
-        made[path.stem] = path.read_text()
+        made[path.stem] = titled(path.read_text())
     return made
 
 
@@ -56,7 +77,7 @@ def main():
     twice = {name for name in names if names.count(name) > 1}
     if twice:
         sys.exit(f"names in more than one module: {', '.join(sorted(twice))}")
-    made = {"EXAMPLES": examples()}
+    made = {"EXAMPLES": examples(), **{name: data(path) for name, path in DATA.items()}}
     for name in ("ukhtvaresh", "request"):
         wasm = (folder / f"{name}.wasm").read_bytes()
         made["LIBRARY" if name == "ukhtvaresh" else "REQUEST"] = base64.b64encode(wasm).decode()
@@ -71,7 +92,10 @@ def main():
     page = page.replace("<!-- script -->", f"<script>\n{script}</script>")
     out = folder / "ukhtvaresh.html"
     out.write_text(page)
-    print(f"{out}: {len(page.encode()):,} bytes")
+    size = len(page.encode())
+    print(f"{out}: {size:,} bytes")
+    if size > LIMIT:
+        sys.exit(f"the page has more than {LIMIT:,} bytes")
 
 
 if __name__ == "__main__":

@@ -46,6 +46,12 @@ export const STAR_KIND = 5;
 // The records of a request, each a list of [name, decimals, bytes, least, greatest].
 export const fieldTables = (star) => [star ? [...STAR, RADIUS] : ECLIPSE, STATION, WINDOW];
 
+// The ends of the range of a number of the station or the window, in units.
+export function rangeOf(name) {
+  const [, , , low, high] = [...STATION, ...WINDOW].find(([each]) => each === name);
+  return [low, high];
+}
+
 // Units as a decimal number, for reading.
 export function decimal(units, decimals) {
   const digits = String(Math.abs(units)).padStart(decimals + 1, "0");
@@ -91,7 +97,8 @@ export function typedValue(text, name) {
   return line === undefined ? "" : saidIn(line).slice(name.length).trim();
 }
 
-// The text with another value after a name: in its line, comment and all, or in a new last line; without the line where it is "".
+// The text with another value after a name: in its line, comment and all, or in a new last line; without the line where
+// it is "".
 export function withValue(text, name, value) {
   const lines = text.split("\n");
   const at = lineNaming(text, name) - 1;
@@ -105,9 +112,9 @@ export function withValue(text, name, value) {
   return lines.join("\n");
 }
 
-const COMMENT = /^[ \t]*#+[ \t]*([^:\r]*)/;
+const COMMENT = /^[ \t]*#+[ \t]*([^\r]*)/;
 
-// The title of a text, its first comment up to a colon; "" where it has none.
+// The title of a text, its first comment; "" where it has none.
 export function titleIn(text) {
   const comment = text.split("\n").find((line) => COMMENT.test(line));
   return comment === undefined ? "" : COMMENT.exec(comment)[1].trim();
@@ -118,6 +125,6 @@ export function withTitle(text, title) {
   const lines = text.split("\n");
   const at = lines.findIndex((line) => COMMENT.test(line));
   if (at < 0) return `# ${title}\n${text}`;
-  lines[at] = lines[at].replace(COMMENT, `# ${title.replaceAll(":", "")}`);
+  lines[at] = `# ${title}`;
   return lines.join("\n");
 }

@@ -1,5 +1,5 @@
-// The proved library, compiled to WebAssembly. Each call lends memory behind the library's own, as include/ukhtvaresh.h says.
-// Pointers are numbers, lengths and 64-bit values BigInt.
+// The proved library, compiled to WebAssembly. Each call lends memory behind the library's own, as include/ukhtvaresh.h
+// says. Pointers are numbers, lengths and 64-bit values BigInt.
 
 export class Refused extends Error {
   constructor(number, place) {
@@ -15,6 +15,9 @@ const ENTRIES = Math.ceil(SHEET / 5); // no record but the end has fewer bytes
 const TEXT = 6 * SHEET;
 const STORED = 10_800; // a second is stored plus this
 const NO_DIRECTION = 65_535;
+const TABLES = [42, 7, 3]; // numbers of rows, sidereal angles and radii
+const ELEMENTS = 22;
+const MISFITS = 6;
 
 const STATES = ["outside", "inside", "unsure"];
 const PHASES = { 0x10: "penumbra", 0x20: "central", 0x40: "star" };
@@ -46,6 +49,9 @@ export async function loadLibrary(wasm) {
   const sines = room(4 * SINES);
   const value = room(8);
   const shadow = room(8 * 8);
+  const tables = TABLES.map((count) => room(8 * count));
+  const elements = room(8 * ELEMENTS);
+  const misfits = room(8 * MISFITS);
   const sheet = room(SHEET);
   const entries = room(20 * ENTRIES);
   const text = room(TEXT);
@@ -68,11 +74,28 @@ export async function loadLibrary(wasm) {
     return taken(sheet, call(name, request, BigInt(bytes.length), sines, BigInt(SINES), sheet, BigInt(SHEET)));
   }
 
+  const direction = (tenths) => (tenths === NO_DIRECTION ? null : tenths);
+  const numbersIn = (at, count) => Array.from(new BigInt64Array(memory.buffer, at, count), Number);
+
   // The numbers of a second, so many of them.
   function numbersAt(name, bytes, second, count) {
     put(request, bytes);
     call(name, request, BigInt(bytes.length), BigInt(second), sines, BigInt(SINES), shadow, BigInt(count));
-    return Array.from(new BigInt64Array(memory.buffer, shadow, count), Number);
+    return numbersIn(shadow, count);
+  }
+
+  // Where the Sun or the star is at a second: tenths of a degree, null for none.
+  function horizonBy(name, bytes, second) {
+    const [altitude, azimuth, zenith] = numbersAt(name, bytes, second, 3);
+    return { altitude, azimuth: direction(azimuth), zenith: direction(zenith) };
+  }
+
+  // The two hundredths of a second, from the reference instant, between which a contact truly lies.
+  function contactBy(name, bytes, phase, from, to) {
+    put(request, bytes);
+    const words = [BigInt(bytes.length), BigInt(phase), BigInt(from), BigInt(to), sines, BigInt(SINES)];
+    call(name, request, ...words, shadow, 2n);
+    return numbersIn(shadow, 2);
   }
 
   return {
@@ -90,6 +113,22 @@ export async function loadLibrary(wasm) {
     starSecond(bytes, second) {
       const [u, v, radius, state, direction] = numbersAt("star_second", bytes, second, 5);
       return { second, u, v, radius, state: STATES[state], direction };
+    },
+
+    horizon: (bytes, second) => horizonBy("horizon", bytes, second),
+    starHorizon: (bytes, second) => horizonBy("star_horizon", bytes, second),
+    contact: (bytes, phase, from, to) => contactBy("contact", bytes, phase === "central" ? 1 : 0, from, to),
+    starContact: (bytes, from, to) => contactBy("star_contact", bytes, 0, from, to),
+
+    // The 22 elements of seven rows, and the largest misfit of x, y, d, l1, l2, mu at the seven hours.
+    elements(rows, sidereal, radii, tolerance) {
+      [rows, sidereal, radii].forEach((numbers, k) =>
+        new BigInt64Array(memory.buffer, tables[k], TABLES[k]).set(numbers.map(BigInt)),
+      );
+      const given = TABLES.flatMap((count, k) => [tables[k], BigInt(count)]);
+      const made = [elements, BigInt(ELEMENTS), misfits, BigInt(MISFITS)];
+      call("elements", ...given, BigInt(tolerance), sines, BigInt(SINES), ...made);
+      return { elements: numbersIn(elements, ELEMENTS), misfits: numbersIn(misfits, MISFITS) };
     },
 
     // The covered share at a second, in millionths.
@@ -110,33 +149,5 @@ export async function loadLibrary(wasm) {
       put(sheet, bytes);
       return new TextDecoder().decode(taken(text, call("listing", sheet, BigInt(bytes.length), text, BigInt(TEXT))));
     },
-  };
-}
-
-// The proved program `request`, compiled to WebAssembly: a typed text in, the bytes of a request or a line of its fault out.
-// Every call is a run of the program from its start.
-export async function loadRequest(wasm) {
-  const module = await WebAssembly.compile(wasm);
-  return function run(input) {
-    let at = 0;
-    const written = { 1: [], 2: [] };
-    let memory;
-    const env = {
-      read(_descriptor, pointer, length) {
-        const part = input.subarray(at, at + Number(length));
-        new Uint8Array(memory.buffer, pointer, part.length).set(part);
-        at += part.length;
-        return BigInt(part.length);
-      },
-      write(descriptor, pointer, length) {
-        for (const byte of new Uint8Array(memory.buffer, pointer, Number(length))) written[descriptor].push(byte);
-        return length;
-      },
-    };
-    const instance = new WebAssembly.Instance(module, { env });
-    memory = instance.exports.memory;
-    instance.exports.main();
-    const errorBytes = Uint8Array.from(written[2]);
-    return { output: Uint8Array.from(written[1]), errorBytes, error: new TextDecoder().decode(errorBytes) };
   };
 }

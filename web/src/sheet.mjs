@@ -1,134 +1,183 @@
-// The sheet as it is shown and printed: head, rows, pictures, curve, listing.
+// The sheet as it is shown and printed: head, table, durations, pictures, curve, listing.
 import { TEXTS } from "./texts.mjs";
 import { html } from "./svg.mjs";
 import { decimal, titleIn } from "./fields.mjs";
-import { dateOf, instantText, listingWithTimes, nearest } from "./clock.mjs";
+import { instantText, listingWithTimes } from "./clock.mjs";
+import { nearestTime } from "./scales.mjs";
 import { picture } from "./picture.mjs";
 import { graph } from "./graph.mjs";
+import { withCursor } from "./cursor.mjs";
+import { contactsTable, dayOf, wordsOf } from "./table.mjs";
+import { durationsIn, notesOf, verdictOf } from "./saying.mjs";
 
 const PICTURES = 8; // at most
 const METRES = 6_378_245 / 1e8; // of a unit, on the spheroid of document 01
 
-function headOf(sheet, text) {
+function factsOf(sheet, { radii }) {
   const { head, numbers, instant } = sheet;
   const said = TEXTS.sheet;
   const { latitude, longitude } = numbers;
   const facts = [
-    said.station(head.station),
     said.latitude(decimal(Math.abs(latitude), 6), latitude < 0),
     said.longitude(decimal(Math.abs(longitude), 6), longitude < 0),
     said.height(decimal(numbers.height, 0)),
     said.deltaT(decimal(numbers["delta t"], 2)),
+    ...(radii ? [said.radii[radii]] : []),
     said.guard(head.guard, (head.guard * METRES).toFixed(1)),
+    said.station(head.station),
+    instant ? said.instant(instantText(instant)) : said.noInstant,
     said.window(decimal(head.first, 0), decimal(head.last, 0)),
   ];
   return html(
-    "header",
-    {},
-    html("h2", {}, titleIn(text) || said.untitled(head.station)),
-    html("p", { class: "facts" }, ...facts.flatMap((fact, k) => [k > 0 ? " \u00b7 " : "", html("span", {}, fact)])),
-    html("p", { class: "facts" }, instant ? html("span", {}, said.instant(instantText(instant))) : html("span", {}, said.noInstant)),
+    "p",
+    { class: "facts" },
+    ...facts.flatMap((fact, k) => [k > 0 ? " \u00b7 " : "", html("span", {}, fact)]),
   );
 }
 
-const wordsOf = (row, sheet) =>
-  TEXTS.row(row.entry, {
-    star: sheet.numbers.star,
-    total: row.place?.total,
-    share: sheet.share,
-    unsure: row.unsure,
-    head: sheet.head,
-  });
+const dateIn = (milliseconds) => {
+  const words = { weekday: "long", day: "numeric", month: "long", year: "numeric", timeZone: "UTC" };
+  return new Intl.DateTimeFormat(TEXTS.locale, words).format(milliseconds);
+};
 
-// One time, or two with the word between them.
-function timesIn(given) {
-  const [earlier, later] = [given].flat();
-  if (later === undefined) return [html("span", { class: "time" }, earlier)];
-  return [html("span", { class: "time" }, earlier), " ", html("span", { class: "to" }, TEXTS.to), " ", html("span", { class: "time" }, later)];
+const ahead = (offset) => {
+  const minutes = Math.round(Math.abs(offset) / 60_000);
+  const rest = minutes % 60 ? `:${String(minutes % 60).padStart(2, "0")}` : "";
+  return `${offset < 0 ? "\u2212" : "+"}${Math.floor(minutes / 60)}${rest}`;
+};
+
+function headOf(sheet, text, shown) {
+  const { clocks } = shown;
+  const day = clocks ? dateIn(dayOf(sheet, clocks, clocks.names[0])) : "";
+  const zone = clocks?.names[0] === "local" ? ` \u00b7 ${TEXTS.zone(clocks.zone, ahead(clocks.offset))}` : "";
+  const isDown = sheet.seen?.down || (sheet.spell === null && !sheet.numbers.star);
+  return html(
+    "header",
+    {},
+    html("h2", { id: "sheet-title" }, titleIn(text) || TEXTS.sheet.untitled(sheet.head.station)),
+    html("p", { class: isDown ? "verdict none" : "verdict" }, verdictOf(sheet, clocks)),
+    ...(day ? [html("p", { class: "date" }, day + zone)] : []),
+    ...notesOf(sheet, clocks, shown).map((note) => html("p", { class: "note" }, note)),
+  );
 }
 
-function tableOf(sheet) {
-  const { columns } = TEXTS;
-  const scales = Object.keys(sheet.rows[0]?.clock ?? {}).reverse(); // universal time first
-  const names = ["number", "what", ...scales, "seconds", "direction"];
-  const cell = (name, ...children) => html("td", { class: name, "data-label": columns[name] }, ...children);
-  const row = (row) => {
-    const { entry } = row;
-    const [title, meaning] = wordsOf(row, sheet);
-    const seconds = entry.name === "closest" ? decimal(entry.second, 0) : [decimal(entry.from, 0), decimal(entry.to, 0)];
-    return html(
-      "tr",
-      { class: entry.name },
-      cell("number", String(row.number)),
-      cell("what", html("strong", {}, title), ...(meaning ? [html("small", {}, meaning)] : [])),
-      ...scales.map((scale) => cell(scale, ...timesIn(row.clock[scale]))),
-      cell("seconds", ...timesIn(seconds)),
-      cell("direction", entry.direction === undefined ? "" : TEXTS.degrees(entry.direction)),
+// Boxes for the clocks that are wanted.
+function scaleBoxes({ known, scales, wantScale }) {
+  const box = (name) => {
+    const input = html(
+      "input",
+      { type: "checkbox", id: `scale-${name}`, ...(scales.includes(name) ? { checked: "" } : {}) },
     );
+    input.addEventListener("change", () => wantScale(name, input.checked));
+    return html("label", { class: "box" }, input, ` ${TEXTS.scaleNames[name]}`);
   };
-  const labels = names.map((name) => html("th", { scope: "col", class: name }, columns[name]));
-  return html("table", {}, html("thead", {}, html("tr", {}, ...labels)), html("tbody", {}, ...sheet.rows.map(row)));
+  return html("fieldset", { class: "boxes" }, html("legend", {}, TEXTS.sheet.scales), ...known.map(box));
 }
 
-// The time under a picture: of the second that is drawn.
-function captionOf(row, { instant, numbers }) {
-  if (!instant) return `${decimal(row.second, 0)} s`;
-  const known = nearest(instant, numbers["delta t"], row.second);
-  return known.UT ?? known.ET;
-}
-
-function picturesOf(sheet) {
-  const said = TEXTS.sheet;
-  const figures = sheet.rows.slice(0, PICTURES).map((row) => {
-    const [title] = wordsOf(row, sheet);
-    const time = captionOf(row, sheet);
-    return html(
-      "figure",
-      {},
-      picture(row, sheet.numbers.star, TEXTS.picture.label(title, time)),
-      html("figcaption", {}, html("b", {}, String(row.number)), ` ${title}`, html("span", { class: "time" }, time)),
-    );
-  });
-  const notes = [sheet.numbers.star ? said.picturesHintStar : said.picturesHint];
-  const more = sheet.rows.length - PICTURES;
-  if (more > 0) notes.push(said.morePictures(more));
+function contactsOf(sheet, shown) {
+  const long = durationsIn(sheet);
   return html(
     "section",
     {},
-    html("h3", {}, said.pictures),
+    html("div", { class: "bar" }, html("h3", {}, TEXTS.sheet.rows), ...(shown.clocks ? [scaleBoxes(shown)] : [])),
+    contactsTable(sheet, shown.clocks, shown.scales),
+    ...(long.length > 0
+      ? [
+        html(
+          "dl",
+          { class: "durations" },
+          ...long.map(([what, words]) => html("div", {}, html("dt", {}, what), html("dd", { class: "time" }, words))),
+        ),
+      ]
+      : []),
+  );
+}
+
+// The time under a picture: that of its row, to the second; the picture is drawn at a whole second next to it.
+function captionOf(row, clocks) {
+  if (!clocks) return `${decimal(row.second, 0)} s`;
+  const [from, to] = row.bracket.between;
+  return nearestTime(clocks, clocks.names[0], (from + to) / 200, 0)[0];
+}
+
+function picturesOf(sheet, { clocks, zenithUp, turnPictures }) {
+  const said = TEXTS.sheet;
+  const { star } = sheet.numbers;
+  const figures = sheet.rows.slice(0, PICTURES).map((row) => {
+    const [title] = wordsOf(row, sheet);
+    const time = captionOf(row, clocks);
+    return html(
+      "figure",
+      {},
+      picture(row, star, TEXTS.picture.label(title, time), zenithUp),
+      html("figcaption", {}, html("b", {}, String(row.number)), ` ${title}`, html("span", { class: "time" }, time)),
+    );
+  });
+  const notes = [star ? said.picturesHintStar(zenithUp) : said.picturesHint(zenithUp)];
+  const more = sheet.rows.length - PICTURES;
+  if (more > 0) notes.push(said.morePictures(more));
+  const choice = (value, words) => {
+    const input = html(
+      "input",
+      {
+        type: "radio",
+        name: "up",
+        id: value ? "up-zenith" : "up-north",
+        ...(value === zenithUp ? { checked: "" } : {}),
+      },
+    );
+    input.addEventListener("change", () => turnPictures(value));
+    return html("label", { class: "box" }, input, ` ${words}`);
+  };
+  const choices = html(
+    "fieldset",
+    { class: "boxes" },
+    html("legend", {}, said.up),
+    choice(false, said.northUp),
+    choice(true, said.zenithUp),
+  );
+  return html(
+    "section",
+    {},
+    html("div", { class: "bar" }, html("h3", {}, said.pictures), choices),
     html("div", { class: "pictures" }, ...figures),
     html("p", { class: "hint" }, notes.join(" ")),
   );
 }
 
-function curveOf(sheet, width) {
+function curveOf(sheet, { clocks }, width) {
   const { curve, legend } = TEXTS.sheet;
   const key = (name) => html("span", { class: `key ${name}` }, legend[name]);
-  return html("section", {}, html("h3", {}, curve, " ", html("span", { class: "legend" }, key("magnitude"), key("share"))), graph(sheet, width));
+  const made = graph(sheet, clocks, width);
+  const said = withCursor(made, sheet, clocks, width);
+  const keys = ["magnitude", "share", ...(sheet.curve.some(({ altitude }) => altitude < -8) ? ["night"] : [])];
+  return html(
+    "section",
+    {},
+    html("div", { class: "bar" }, html("h3", {}, curve), html("span", { class: "legend" }, ...keys.map(key))),
+    said,
+    made.drawing,
+  );
 }
 
-export function showSheet(room, sheet, text, width) {
+// Shows a sheet in a place of the page. `shown`: clocks, scales and known ones, zenithUp, radii, source, expires, and
+// what to call.
+export function showSheet(place, sheet, text, shown, width) {
   const { instant, numbers, listing, entries } = sheet;
   const words = instant ? listingWithTimes(listing, entries, instant, numbers["delta t"]) : listing;
-  const open = room.querySelector("details")?.open ?? false;
-  const contacts = sheet.rows.length > 1;
-  const style = getComputedStyle(room);
-  const inner = room.clientWidth - parseFloat(style.paddingLeft) - parseFloat(style.paddingRight);
-  room.replaceChildren(
+  const open = place.querySelector("details")?.open ?? false;
+  const style = getComputedStyle(place);
+  const inner = place.clientWidth - parseFloat(style.paddingLeft) - parseFloat(style.paddingRight);
+  const wide = width ?? Math.max(300, Math.min(1080, inner));
+  place.replaceChildren(
     html(
       "article",
-      { class: "contact-sheet" },
-      headOf(sheet, text),
-      html(
-        "section",
-        {},
-        html("h3", {}, TEXTS.sheet.rows, ...(instant ? [html("span", { class: "date" }, dateOf(instant))] : [])),
-        ...(contacts ? [] : [html("p", { class: "hint" }, TEXTS.sheet.none)]),
-        tableOf(sheet),
-      ),
-      picturesOf(sheet),
-      ...(sheet.curve ? [curveOf(sheet, width ?? Math.max(300, Math.min(760, inner)))] : []),
-      html("footer", {}, html("p", {}, TEXTS.sheet.foot(numbers.star, Boolean(instant)))),
+      { class: "contact-sheet", "aria-labelledby": "sheet-title" },
+      headOf(sheet, text, shown),
+      contactsOf(sheet, shown),
+      picturesOf(sheet, shown),
+      ...(sheet.curve ? [curveOf(sheet, shown, wide)] : []),
+      html("footer", {}, factsOf(sheet, shown), html("p", {}, TEXTS.sheet.foot(numbers.star, Boolean(instant)))),
       html("details", open ? { open: "" } : {}, html("summary", {}, TEXTS.sheet.listing), html("pre", {}, words)),
     ),
   );

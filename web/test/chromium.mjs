@@ -6,7 +6,14 @@ import { join } from "node:path";
 
 export async function chromium() {
   const profile = mkdtempSync(join(tmpdir(), "page-"));
-  const words = ["--headless=new", "--no-sandbox", "--disable-gpu", "--hide-scrollbars", "--remote-debugging-pipe", `--user-data-dir=${profile}`];
+  const words = [
+    "--headless=new",
+    "--no-sandbox",
+    "--disable-gpu",
+    "--hide-scrollbars",
+    "--remote-debugging-pipe",
+    `--user-data-dir=${profile}`,
+  ];
   const browser = spawn(process.env.CHROMIUM ?? "chromium", [...words, "about:blank"], {
     stdio: ["ignore", "ignore", "ignore", "pipe", "pipe"],
   });
@@ -40,14 +47,22 @@ export async function chromium() {
   await send("Runtime.enable");
   await send("Log.enable");
   await send("Network.enable");
+  await send("Performance.enable", { timeDomain: "threadTicks" });
 
   const page = {
     send,
     // what the page threw or logged as an error, and what it asked the network for
-    faults: () => heard.filter((m) => m.method === "Runtime.exceptionThrown" || (m.method === "Log.entryAdded" && m.params.entry.level === "error")),
+    faults: () => heard.filter(
+      (m) => m.method === "Runtime.exceptionThrown" || (
+        m.method === "Log.entryAdded" && m.params.entry.level === "error"
+      ),
+    ),
     asked: () => heard.filter((m) => m.method === "Network.requestWillBeSent").map((m) => m.params.request.url),
     async run(expression) {
-      const { result, exceptionDetails } = await send("Runtime.evaluate", { expression, awaitPromise: true, returnByValue: true });
+      const { result, exceptionDetails } = await send(
+        "Runtime.evaluate",
+        { expression, awaitPromise: true, returnByValue: true },
+      );
       if (exceptionDetails) throw new Error(exceptionDetails.exception?.description ?? exceptionDetails.text);
       return result.value;
     },
@@ -77,9 +92,17 @@ export async function chromium() {
       return Buffer.from(data, "base64");
     },
     async key(key, code = key, keyCode = 0) {
-      for (const type of ["keyDown", "keyUp"]) await send("Input.dispatchKeyEvent", { type, key, code, windowsVirtualKeyCode: keyCode });
+      for (const type of ["keyDown", "keyUp"]) await send(
+        "Input.dispatchKeyEvent",
+        { type, key, code, windowsVirtualKeyCode: keyCode },
+      );
     },
     type: (text) => send("Input.insertText", { text }),
+    // milliseconds of processor time that the page's own thread has spent
+    async spent() {
+      const { metrics } = await send("Performance.getMetrics");
+      return 1000 * metrics.find(({ name }) => name === "TaskDuration").value;
+    },
     close() {
       browser.kill();
       browser.on("exit", () => rmSync(profile, { recursive: true, force: true, maxRetries: 5 }));

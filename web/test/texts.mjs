@@ -3,7 +3,7 @@
 import { readFileSync, writeSync } from "node:fs";
 import { dirname, join } from "node:path";
 import { fileURLToPath } from "node:url";
-import { loadRequest } from "../src/library.mjs";
+import { loadRequest } from "../src/program.mjs";
 
 const folder = join(dirname(fileURLToPath(import.meta.url)), "../../target/web");
 const run = await loadRequest(readFileSync(join(folder, "request.wasm")));
