@@ -92,7 +92,7 @@ export function typedDecimal(units, decimals) {
 }
 
 // The typed text of a request. `remarks` are lines of comment below the title.
-export function requestText(title, remarks, request, place, { guard, deltaT }) {
+export function requestText(title, remarks, request, place, { guard, deltaT, taiLessUtc }) {
   const [elements, station, window] = fieldTables(false);
   const line = (numbers) => ([name, decimals], k) => `${name} ${typedDecimal(numbers[k], decimals)}`;
   const fits = FITS.map((name, k) => `${name} ${request.misfits[k]}`).join(", ");
@@ -103,6 +103,7 @@ export function requestText(title, remarks, request, place, { guard, deltaT }) {
     `# fits within so many units of the hourly values: ${fits}`,
     "",
     `instant ${instantText(request.instant)}`,
+    ...(taiLessUtc ? [`tai-utc ${taiLessUtc}`] : []),
     "",
     ...elements.map(line(request.elements)),
     "",

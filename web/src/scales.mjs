@@ -53,7 +53,10 @@ export function clocksOf(instant, deltaT, zone, leapSeconds, typed = null) {
   const own = startOf(instant) + 10 * instant.hundredths;
   const ahead = { [instant.scale]: 0 }; // of the instant's own scale
   if (deltaT !== 0) ahead[instant.scale === "ET" ? "UT" : "ET"] = (instant.scale === "ET" ? -10 : 10) * deltaT;
-  const utc = ahead.ET === undefined ? null : (typed ?? taiLessUtc(leapSeconds, dayText(own)));
+  const listed = taiLessUtc(leapSeconds, dayText(own));
+  // a typed number that is the list's past its end is as presumed as the list's
+  const given = typed && { seconds: typed.seconds, presumed: Boolean(listed?.presumed && listed.seconds === typed.seconds) };
+  const utc = ahead.ET === undefined ? null : (given ?? listed);
   if (utc) ahead.UTC = ahead.ET - TT_LESS_TAI - SECOND * utc.seconds;
   const civil = utc ? "UTC" : ahead.UT === undefined ? null : "UT";
   const offset = civil === null ? null : zoneOffset(zone, own + ahead[civil]);
