@@ -1,10 +1,9 @@
 -- The 22 elements from seven hourly rows of Sun and Moon, the radii of both, and the sidereal time at Greenwich at these
 -- hours. The rule is ours (docs/ELEMENTS.md). Definitions only.
-use lib.IntN.{ℤ, pos, negsuc, natAbs, _+ℤ_, _-ℤ_, _*ℤ_}
+use lib.IntN.{ℤ, pos, negsuc, _+ℤ_, _-ℤ_, _*ℤ_}
 use Rattle.sine.specs.Sine.{reduced}
 use Rattle.besselian_rows.specs.declared.besselian.Row.{Row}
 use Rattle.besselian_rows.specs.declared.besselian.Radii.{Radii}
-use Rattle.besselian_rows.specs.declared.besselian.Besselian.{Besselian}
 use Rattle.besselian_rows.specs.Rounded as row
 use Rattle.elements.specs.declared.Quadratic.{Quadratic}
 use Rattle.elements.specs.declared.Elements.{Elements}

@@ -2,4 +2,5 @@
 pub mod FromTables
 pub mod Answers
 pub mod Numbers
+pub mod Conditions
 pub mod laws

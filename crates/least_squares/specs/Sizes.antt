@@ -4,7 +4,7 @@
 --   quadratic-sizes   of values of at most m the quadratic has coefficients of at most 5m, m and m
 use Prim.Native.Nat.{ℕ, _+_, _*_, _≤_}
 use native.Mathlib.Omega.{arith}
-use lib.IntN.{ℤ, pos, natAbs, _+ℤ_, _-ℤ_, _*ℤ_}
+use lib.IntN.{pos, natAbs, _+ℤ_, _-ℤ_, _*ℤ_}
 use lib.Signed.{leZ-yes}
 use Rattle.rounding.specs.laws.Order.{natAbs-sum, natAbs-minus, natAbs-product}
 use Rattle.rounding.specs.Near.{near}

@@ -5,15 +5,15 @@
 --   arc-rises        a larger sine has a larger angle
 --   arcsine-above, arcsine-below, arcsine-size, arcsine-opposite   by the sign; at most 45 degrees; of -s it is the opposite
 --   arcsine-within   the sine of the angle is within 2 units of s
-use mathlib.Core.Path.{_≡_, refl, sym, ap, _∙_}
-use mathlib.Core.Bool.{Bool, true, false, cond}
+use mathlib.Core.Path.{_≡_, sym, ap, _∙_}
+use mathlib.Core.Bool.{true}
 use mathlib.Core.List.{[], _∷_}
 use mathlib.Core.Logic.{⊎-elim}
 use Prim.Native.Nat.{ℕ, zero, suc, _+_, _≤_, _<_}
 use native.Mathlib.Omega.{arith}
 use native.Mathlib.Nat.{eq-or-lt-of-le, lt-of-not-le}
 use lib.IntN.{ℤ, pos, negsuc, negℤ, natAbs, _+ℤ_, _-ℤ_, negℤ-negℤ}
-use lib.Signed.{_≤ℤ_, _<ℤ_, ltZ, leZ}
+use lib.Signed.{_≤ℤ_, _<ℤ_}
 use Rattle.rounding.specs.Parts.{sum, opposite}
 use Rattle.rounding.specs.laws.Order.{zs, leZ-true, leZ-false, natAbs-by, natAbs-opposite, both-ways}
 use Rattle.rounding.specs.laws.Tests.{yes-≤, no-≤, yes-<, no-<}
@@ -23,8 +23,8 @@ use Rattle.sine.specs.laws.FirstQuadrantLaws.{first-zero}
 use Rattle.sine.specs.Sine.{sine}
 use Rattle.sine.specs.laws.SineLaws.{sine-first}
 use Rattle.sine.specs.laws.OppositeLaws.{sine-opposite}
-use Rattle.angles.specs.Search.{Largest, largest}
-use Rattle.angles.specs.laws.SearchLaws.{largest-is, largest-unique, largest-le}
+use Rattle.angles.specs.Search.{Largest}
+use Rattle.angles.specs.laws.SearchLaws.{largest-is, largest-unique}
 use Rattle.angles.specs.Angles.{reaches, arc, arcsine}
 use Rattle.angles.specs.laws.Rising.{sine-rises, sine-step, sine-of-45}
 

@@ -2,14 +2,13 @@
 --   acute-flat, acute-steep   by the lesser of cosine and sine; acute-le: at most 90 degrees
 --   argument-first .. argument-fourth   the four quadrants, by the signs of x and y
 --   argument-below            less than 360 degrees
-use mathlib.Core.Path.{_≡_, refl, sym, ap, _∙_}
+use mathlib.Core.Path.{_≡_}
 use mathlib.Core.Bool.{Bool, true, false, cond}
 use mathlib.Core.Logic.{⊎-elim}
 use Prim.Native.Nat.{ℕ, _+_, _-_, _%_, _≤_, _<_}
 use native.Mathlib.Omega.{arith}
-use borrow.Author.Tests.{leb-true, leb-false, le-leb, lt-leb}
-use lib.Dec.{leb}
-use lib.IntN.{ℤ, pos, negℤ, natAbs}
+use borrow.Author.Tests.{le-leb, lt-leb}
+use lib.IntN.{ℤ, pos, natAbs}
 use lib.Signed.{_≤ℤ_, _<ℤ_, ltZ}
 use Rattle.rounding.specs.laws.Tests.{yes-<, no-<}
 use Rattle.sine.specs.laws.SineLaws.{either}

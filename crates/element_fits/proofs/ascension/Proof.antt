@@ -1,9 +1,9 @@
 -- `element_fits::ascension` meets its contract: the angle of the axis' direction on the equator. Assumes nothing.
-use mathlib.Core.Path.{_≡_, ap, ap₂, _∙_}
-use Prim.Native.Nat.{ℕ, _≤_}
+use mathlib.Core.Path.{ap, ap₂, _∙_}
+use Prim.Native.Nat.{_≤_}
 use native.Mathlib.Omega.{arith}
 use borrow.Author.Needs.{needs}
-use lib.IntN.{ℤ, pos, natAbs}
+use lib.IntN.{pos, natAbs}
 use Rattle.rounding.specs.laws.Code.{count-is}
 use Rattle.besselian_rows.specs.laws.Sizes as row
 use Rattle.besselian_rows.specs.laws.ReadLaws.{back, back-size}

@@ -1,5 +1,5 @@
 -- `element_fits::columns_of` meets its contract: each value at the seven hours.
-use mathlib.Core.Path.{_≡_, sym, ap₂, subst, _∙_}
+use mathlib.Core.Path.{sym, ap₂, subst, _∙_}
 use borrow.Author.Needs.{needs}
 use lib.IntN.{ℤ}
 use Rattle.rounding.specs.laws.Code.{read-back, read-size}
@@ -35,5 +35,5 @@ returns c =
 pub columns-of-spec : {M : Type 1} → statement M
 columns-of-spec =
     tie.close
-    (tie.spec (λ c κs. search needs) (λ c κs. search needs) (λ c κs. search needs) (λ c κs. search needs) (λ c κs. search needs)
-    (λ c κs. search needs) hour-angles-requires returns)
+    (tie.spec (λ c κs. search needs) (λ c κs. search needs) (λ c κs. search needs) (λ c κs. search needs)
+    (λ c κs. search needs) (λ c κs. search needs) hour-angles-requires returns)

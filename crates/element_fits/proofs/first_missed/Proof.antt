@@ -1,5 +1,5 @@
 -- `element_fits::first_missed` meets its contract: six fits, one after another.
-use mathlib.Core.Path.{_≡_, ap, _∙_}
+use mathlib.Core.Path.{ap, _∙_}
 use lib.Dec.{lit≤}
 use Rattle.rounding.specs.declared.Limits.{Limits}
 use Rattle.least_squares.specs.LeastSquares.{cubic, quadratic}
@@ -27,6 +27,7 @@ returns c =
 pub first-missed-spec : {M : Type 1} → statement M
 first-missed-spec =
     tie.close
-    (tie.spec (λ c κs. (c .pre .x, lit≤ tt)) (λ c κs. (c .before .pre .y, lit≤ tt)) (λ c κs. (c .before .before .pre .d, lit≤ tt))
-    (λ c κs. (c .before .before .before .pre .l1, lit≤ tt)) (λ c κs. (c .before .before .before .before .pre .l2, lit≤ tt))
+    (tie.spec (λ c κs. (c .pre .x, lit≤ tt)) (λ c κs. (c .before .pre .y, lit≤ tt))
+    (λ c κs. (c .before .before .pre .d, lit≤ tt)) (λ c κs. (c .before .before .before .pre .l1, lit≤ tt))
+    (λ c κs. (c .before .before .before .before .pre .l2, lit≤ tt))
     (λ c κs. (wider (c .before .before .before .before .before .pre .mu) (lit≤ tt), lit≤ tt)) returns)

@@ -1,5 +1,5 @@
 -- `element_fits::fits_of` meets its contract: the fits, judged.
-use mathlib.Core.Path.{_≡_, sym, ap, subst, _∙_}
+use mathlib.Core.Path.{sym, ap, subst, _∙_}
 use borrow.Author.Needs.{needs}
 use Rattle.element_fits.specs.declared.Fitting.{Fitting}
 use Rattle.element_fits.specs.Answers.{judged}

@@ -1,7 +1,6 @@
 -- `element_fits::fitted` meets its contract: the polynomial of each column.
-use mathlib.Core.Path.{_≡_, sym, ap₂, subst, _∙_}
+use mathlib.Core.Path.{sym, ap₂, subst, _∙_}
 use lib.Dec.{lit≤}
-use lib.IntN.{ℤ}
 use Rattle.rounding.specs.laws.Code.{read-back, read-size}
 use Rattle.elements.specs.Sizes.{QuadraticSizes}
 use Rattle.least_squares.specs.Sizes.{wider, quadratic-sizes}
@@ -41,6 +40,7 @@ returns c =
 pub fitted-spec : {M : Type 1} → statement M
 fitted-spec =
     tie.close
-    (tie.spec (λ c κs. c .pre .0 .x) (λ c κs. c .before .pre .0 .y) (λ c κs. c .before .before .pre .0 .d) (λ c κs. c .before .before .before .pre .0 .l1)
-    (λ c κs. c .before .before .before .before .pre .0 .l2) (λ c κs. wider (c .before .before .before .before .before .pre .0 .mu) (lit≤ tt))
-    hour-angle-requires returns)
+    (tie.spec (λ c κs. c .pre .0 .x) (λ c κs. c .before .pre .0 .y) (λ c κs. c .before .before .pre .0 .d)
+    (λ c κs. c .before .before .before .pre .0 .l1) (λ c κs. c .before .before .before .before .pre .0 .l2)
+    (λ c κs. wider (c .before .before .before .before .before .pre .0 .mu) (lit≤ tt)) hour-angle-requires
+    returns)

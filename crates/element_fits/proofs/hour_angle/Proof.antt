@@ -1,10 +1,10 @@
 -- `element_fits::hour_angle` meets its contract: the sums fit, and the first is reduced. Assumes nothing.
-use mathlib.Core.Path.{_≡_, ap, _∙_}
+use mathlib.Core.Path.{ap, _∙_}
 use mathlib.Core.List.{[], _∷_}
-use Prim.Native.Nat.{ℕ, _≤_}
+use Prim.Native.Nat.{_≤_}
 use native.Mathlib.Omega.{arith}
 use borrow.Author.Needs.{needs}
-use lib.IntN.{ℤ, pos, natAbs}
+use lib.IntN.{pos}
 use Rattle.rounding.specs.laws.Code.{Code, arg, lit, add, Within, whole, ends, _▹_, fits, runs, within, count-is, read-back}
 use Rattle.sine.specs.Sine.{reduced}
 use Rattle.element_fits.specs.FromTables.{hourAngle}

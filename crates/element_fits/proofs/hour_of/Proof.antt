@@ -1,6 +1,5 @@
 -- `element_fits::hour_of` meets its contract. Assumes nothing.
-use mathlib.Core.Path.{_≡_, ap, _∙_}
-use borrow.Author.Needs.{needs}
+use mathlib.Core.Path.{ap, _∙_}
 use Rattle.besselian_rows.specs.declared.besselian.Besselian.{Besselian}
 use Rattle.besselian_rows.specs.Rounded.{elementsOf}
 use Rattle.besselian_rows.specs.laws.AcceptedLaws.{accepted-is}

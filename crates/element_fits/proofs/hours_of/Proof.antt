@@ -19,8 +19,7 @@ returns c =
 pub hours-of-spec : {M : Type 1} → statement M
 hours-of-spec =
     tie.close
-    (tie.spec
-    (λ c κs. let s = c .before in (s .pre .0, s .pre .1 .r0, s .pre .2))
+    (tie.spec (λ c κs. let s = c .before in (s .pre .0, s .pre .1 .r0, s .pre .2))
     (λ c κs. let s = c .before .before in (s .pre .0, s .pre .1 .r1, s .pre .2))
     (λ c κs. let s = c .before .before .before in (s .pre .0, s .pre .1 .r2, s .pre .2))
     (λ c κs. let s = c .before .before .before .before in (s .pre .0, s .pre .1 .r3, s .pre .2))

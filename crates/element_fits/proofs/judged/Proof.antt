@@ -37,5 +37,6 @@ returns-3 c =
 pub judged-spec : {M : Type 1} → statement M
 judged-spec =
     tie.close
-    (tie.spec (λ c κs. search needs) (λ c. search needs) returns (λ c. search needs) (λ c κs. start c .pre) (λ c. search needs)
-    returns-2 (λ c. search needs) (λ c κs. start (c .before .before .before) .pre) returns-3)
+    (tie.spec (λ c κs. search needs) (λ c. search needs) returns (λ c. search needs) (λ c κs. start c .pre)
+    (λ c. search needs) returns-2 (λ c. search needs) (λ c κs. start (c .before .before .before) .pre)
+    returns-3)

@@ -1,6 +1,5 @@
 -- `element_fits::larger` meets its contract, by its cases.
 use mathlib.Core.Path.{_≡_}
-use mathlib.Core.Bool.{true, false}
 use Prim.Native.Nat.{ℕ, _≤_, _<_}
 use native.Mathlib.Omega.{arith}
 use borrow.Author.Tests.{le-leb, lt-leb}

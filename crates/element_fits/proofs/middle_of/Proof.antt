@@ -1,5 +1,5 @@
 -- `element_fits::middle_of` meets its contract: the middle row's turn.
-use mathlib.Core.Path.{_≡_, ap₂, _∙_}
+use mathlib.Core.Path.{ap₂, _∙_}
 use lib.Dec.{lit≤}
 use lib.IntN.{ℤ, pos}
 use Rattle.rounding.specs.laws.Code.{read-back, read-size}

@@ -1,9 +1,8 @@
 -- `element_fits::misfit` meets its contract: seven distances, and the larger of each with those before.
-use mathlib.Core.Path.{_≡_, ap, ap₂, _∙_}
-use Prim.Native.Nat.{ℕ}
+use mathlib.Core.Path.{ap, ap₂, _∙_}
 use borrow.Author.Needs.{needs}
 use lib.Dec.{lit≤}
-use lib.IntN.{ℤ, pos, negsuc}
+use lib.IntN.{pos, negsuc}
 use Rattle.rounding.specs.laws.Code.{read-back, read-size}
 use Rattle.element_fits.specs.Answers.{off, larger, misfit}
 use Rattle.element_fits.proofs.misfit.Statement.{statement}
@@ -51,10 +50,6 @@ returns c =
 pub misfit-spec : {M : Type 1} → statement M
 misfit-spec =
     tie.close
-    (tie.spec off-requires off-requires-2 (λ c κs. search needs)
-    off-requires-3 (λ c κs. search needs)
-    off-requires-4 (λ c κs. search needs)
-    off-requires-5 (λ c κs. search needs)
-    off-requires-6 (λ c κs. search needs)
-    off-requires-7 (λ c κs. search needs)
-    returns)
+    (tie.spec off-requires off-requires-2 (λ c κs. search needs) off-requires-3 (λ c κs. search needs)
+    off-requires-4 (λ c κs. search needs) off-requires-5 (λ c κs. search needs) off-requires-6
+    (λ c κs. search needs) off-requires-7 (λ c κs. search needs) returns)

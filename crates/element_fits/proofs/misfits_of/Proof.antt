@@ -27,5 +27,6 @@ returns c =
 pub misfits-of-spec : {M : Type 1} → statement M
 misfits-of-spec =
     tie.close
-    (tie.spec (λ c κs. c .pre .x) (λ c κs. c .before .pre .y) (λ c κs. c .before .before .pre .d) (λ c κs. c .before .before .before .pre .l1)
-    (λ c κs. c .before .before .before .before .pre .l2) (λ c κs. wider (c .before .before .before .before .before .pre .mu) (lit≤ tt)) returns)
+    (tie.spec (λ c κs. c .pre .x) (λ c κs. c .before .pre .y) (λ c κs. c .before .before .pre .d)
+    (λ c κs. c .before .before .before .pre .l1) (λ c κs. c .before .before .before .before .pre .l2)
+    (λ c κs. wider (c .before .before .before .before .before .pre .mu) (lit≤ tt)) returns)

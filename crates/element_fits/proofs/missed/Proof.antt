@@ -1,5 +1,5 @@
 -- `element_fits::missed` meets its contract: seven tests, one after another.
-use mathlib.Core.Path.{_≡_, ap, ap₂, _∙_}
+use mathlib.Core.Path.{ap, ap₂, _∙_}
 use mathlib.Core.Bool.{Bool}
 use native.Mathlib.Omega.{arith}
 use borrow.Author.Needs.{needs}
@@ -56,12 +56,16 @@ returns c =
 pub missed-spec : {M : Type 1} → statement M
 missed-spec =
     tie.close
-    (tie.spec
-    close-requires (λ c κs. search needs)
-    close-requires-2 (λ c. record { fits = omega (arith, c .before .before .before .before .before .pre .2) }) (λ c κs. search needs)
-    close-requires-3 (λ c. record { fits = omega (arith, c .before .before .before .before .before .before .before .before .pre .2) }) (λ c κs. search needs)
-    close-requires-4 (λ c. record { fits = omega (arith, c .before .before .before .before .before .before .before .before .before .before .before .pre .2) }) (λ c κs. search needs)
-    close-requires-5 (λ c. record { fits = omega (arith, c .before .before .before .before .before .before .before .before .before .before .before .before .before .before .pre .2) }) (λ c κs. search needs)
-    close-requires-6 (λ c. record { fits = omega (arith, c .before .before .before .before .before .before .before .before .before .before .before .before .before .before .before .before .before .pre .2) }) (λ c κs. search needs)
-    close-requires-7 (λ c. record { fits = omega (arith, c .before .before .before .before .before .before .before .before .before .before .before .before .before .before .before .before .before .before .before .before .pre .2) }) (λ c κs. search needs)
-    returns)
+    (tie.spec close-requires (λ c κs. search needs) close-requires-2
+    (λ c. record { fits = omega (arith, c .before .before .before .before .before .pre .2) })
+    (λ c κs. search needs) close-requires-3
+    (λ c. record { fits = omega (arith, c .before .before .before .before .before .before .before .before .pre .2) })
+    (λ c κs. search needs) close-requires-4
+    (λ c. record { fits = omega (arith, c .before .before .before .before .before .before .before .before .before .before .before .pre .2) })
+    (λ c κs. search needs) close-requires-5
+    (λ c. record { fits = omega (arith, c .before .before .before .before .before .before .before .before .before .before .before .before .before .before .pre .2) })
+    (λ c κs. search needs) close-requires-6
+    (λ c. record { fits = omega (arith, c .before .before .before .before .before .before .before .before .before .before .before .before .before .before .before .before .before .pre .2) })
+    (λ c κs. search needs) close-requires-7
+    (λ c. record { fits = omega (arith, c .before .before .before .before .before .before .before .before .before .before .before .before .before .before .before .before .before .before .before .before .pre .2) })
+    (λ c κs. search needs) returns)

@@ -1,13 +1,12 @@
 -- `element_fits::off` meets its contract: the value of the cubic less v fits, and so does its size.
 use mathlib.Core.Path.{_≡_, ap, _∙_}
 use mathlib.Core.List.{List, [], _∷_}
-use Prim.Native.Nat.{ℕ, _≤_}
 use native.Mathlib.Omega.{arith}
 use lib.IntN.{ℤ, pos, natAbs}
 use mir.Syntax.{w64}
 use mir.Val.{toZ, ofZ}
 use Rattle.rounding.specs.laws.Order.{zs}
-use Rattle.rounding.specs.laws.Code.{Slot, Code, arg, add, sub, mul, run, value, Within, whole, ends, _▹_, fits, runs, within, cast-unsigned, read-result, sized}
+use Rattle.rounding.specs.laws.Code.{Slot, Code, arg, add, sub, mul, value, Within, whole, ends, _▹_, fits, runs, within, cast-unsigned, read-result, sized}
 use Rattle.element_fits.specs.Answers.{off}
 use Rattle.element_fits.proofs.off.Statement.{statement}
 use Rattle.element_fits.proofs.off.Tie as tie

@@ -1,5 +1,5 @@
 -- `element_fits::quadratic_misfit` meets its contract: the fit, and how far it is off.
-use mathlib.Core.Path.{_≡_, sym, ap, subst, _∙_}
+use mathlib.Core.Path.{sym, ap, subst, _∙_}
 use native.Mathlib.Omega.{arith}
 use borrow.Author.Needs.{needs}
 use lib.IntN.{pos}

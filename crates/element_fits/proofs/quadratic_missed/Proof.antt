@@ -1,5 +1,5 @@
 -- `element_fits::quadratic_missed` meets its contract: the fit, as a cubic, and the test.
-use mathlib.Core.Path.{_≡_, sym, ap, subst, _∙_}
+use mathlib.Core.Path.{sym, ap, subst, _∙_}
 use borrow.Author.Needs.{needs}
 use Rattle.elements.specs.declared.Cubic.{Cubic}
 use Rattle.least_squares.specs.Sizes.{CoefficientSizes}

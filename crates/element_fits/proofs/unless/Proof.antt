@@ -1,5 +1,5 @@
 -- `element_fits::unless` meets its contract, by its cases. Assumes nothing.
-use mathlib.Core.Path.{_≡_, sym, ap, ap₂}
+use mathlib.Core.Path.{sym, ap, ap₂}
 use mathlib.Core.Bool.{Bool}
 use borrow.Author.Needs.{needs}
 use Rattle.rounding.specs.declared.Limits.{Limits}

@@ -1,6 +1,5 @@
 -- Laws of the parts: their sizes.
-use mathlib.Core.Path.{_≡_}
-use Prim.Native.Nat.{ℕ, _≤_}
+use Prim.Native.Nat.{_≤_}
 use native.Mathlib.Omega.{arith}
 use lib.IntN.{ℤ, pos, negℤ, natAbs, _-ℤ_, _+ℤ_}
 use Rattle.rounding.specs.Parts.{sum, opposite}
@@ -13,7 +12,6 @@ use Rattle.besselian_rows.specs.Exact.{S1, S2, RadiiInRange}
 use Rattle.besselian_rows.specs.Rounded.{millions, cos-a, sin-a, slope, foot, elementsOf}
 use Rattle.besselian_rows.specs.laws.AcceptedLaws.{Accepted, accepted-is}
 use Rattle.besselian_rows.specs.laws.Sizes as row
-use Rattle.angles.specs.Angles.{argument}
 use Rattle.angles.specs.laws.ArcsineLaws.{arcsine-size}
 use Rattle.angles.specs.laws.ArgumentLaws.{argument-below}
 use Rattle.least_squares.specs.declared.Hourly.{Hourly}

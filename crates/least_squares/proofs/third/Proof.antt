@@ -1,8 +1,8 @@
 -- `least_squares::third` meets its contract: differences of seven values fit. Assumes nothing.
 use mathlib.Core.Path.{ap}
 use native.Mathlib.Omega.{arith}
-use lib.IntN.{pos, natAbs}
-use Rattle.rounding.specs.laws.Code.{Code, arg, lit, add, sub, mul, fits, runs, sized}
+use lib.IntN.{natAbs}
+use Rattle.rounding.specs.laws.Code.{Code, arg, sub, fits, runs, sized}
 use Rattle.least_squares.specs.LeastSquares.{third}
 use Rattle.least_squares.proofs.Bounds.{bounds}
 use Rattle.least_squares.proofs.third.Statement.{statement}

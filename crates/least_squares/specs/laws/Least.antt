@@ -2,10 +2,10 @@
 --   least-cubic      k² Σ (252 v - e)² ≤ 252² Σ (k v - q)²
 --   least-quadratic  k² Σ (84 v - e)² ≤ 84² Σ (k v - q)²
 -- since the difference is Σ (k e - 252 q)².
-use mathlib.Core.List.{List, [], _∷_}
+use mathlib.Core.List.{[], _∷_}
 use lib.IntN.{ℤ, pos, negsuc, _*ℤ_}
 use lib.Signed.{_≤ℤ_}
-use Rattle.rounding.specs.laws.Ring.{Expr, var, con, num, _⊕_, _⊖_, _⊗_, ring}
+use Rattle.rounding.specs.laws.Ring.{Expr, var, con, num, _⊕_, _⊖_, _⊗_}
 use Rattle.rounding.specs.laws.Cert.{Nonneg, sq, _⊞_, certify}
 use Rattle.elements.specs.declared.Cubic.{Cubic}
 use Rattle.elements.specs.declared.Quadratic.{Quadratic}

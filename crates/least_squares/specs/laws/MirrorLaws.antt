@@ -1,15 +1,13 @@
 -- Two mirrors.
 --   cubic-opposite, quadratic-opposite   values with the other sign give coefficients with the other sign
 --   cubic-reversed, quadratic-reversed   values in the opposite order of time change the sign of c1 and c3 alone
-use mathlib.Core.Path.{_≡_, refl, sym, ap, ap₂, _∙_}
+use mathlib.Core.Path.{_≡_}
 use mathlib.Core.List.{[], _∷_}
-use lib.IntN.{ℤ, pos, negℤ, _+ℤ_, _-ℤ_, _*ℤ_}
+use lib.IntN.{ℤ, pos, negℤ, _-ℤ_, _*ℤ_}
 use lib.Signed.{leZ-yes}
-use Rattle.rounding.specs.laws.Ring.{Expr, var, num, _⊕_, _⊖_, _⊗_, opp, ring, v0, v1, v2, v3, v4, v5, v6}
+use Rattle.rounding.specs.laws.Ring.{num, _⊕_, _⊖_, _⊗_, opp, ring, v0, v1, v2, v3, v4, v5, v6}
 use Rattle.rounding.specs.Near.{near}
 use Rattle.rounding.specs.laws.NearLaws.{near-opposite}
-use Rattle.elements.specs.declared.Cubic.{Cubic}
-use Rattle.elements.specs.declared.Quadratic.{Quadratic}
 use Rattle.least_squares.specs.declared.Hourly.{Hourly}
 use Rattle.least_squares.specs.LeastSquares.{sum, first, second, third, cubic, quadratic}
 

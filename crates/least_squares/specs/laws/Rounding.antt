@@ -16,7 +16,6 @@ use Rattle.rounding.specs.laws.Ring.{Expr, var, con, num, _⊕_, _⊖_, _⊗_, 
 use Rattle.rounding.specs.Near.{near}
 use Rattle.rounding.specs.laws.NearLaws.{near-error}
 use Rattle.elements.specs.declared.Cubic.{Cubic}
-use Rattle.elements.specs.declared.Quadratic.{Quadratic}
 use Rattle.least_squares.specs.declared.Hourly.{Hourly}
 use Rattle.least_squares.specs.LeastSquares.{sum, first, second, third, cubic, quadratic}
 use Rattle.least_squares.specs.Exact.{cubicAtHour, quadraticAtHour, exactCubic, exactQuadratic}

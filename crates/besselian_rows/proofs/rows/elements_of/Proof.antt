@@ -4,7 +4,6 @@ use mathlib.Core.Path.{_≡_, sym, ap, ap₂, subst, _∙_}
 use Prim.Native.Nat.{ℕ}
 use native.Mathlib.Omega.{arith}
 use mathlib.Core.List.{[], _∷_}
-use borrow.Author.Needs.{needs}
 use lib.IntN.{ℤ, _+ℤ_, _-ℤ_}
 use Rattle.rounding.specs.laws.Code.{arg, add, sub, Within, whole, ends, _▹_, fits, runs}
 use Rattle.besselian_rows.specs.declared.besselian.Row.{Row}
@@ -115,7 +114,10 @@ returns c =
 pub elements-of-spec : {M : Type 1} → statement M
 elements-of-spec =
     tie.close
-    (tie.spec (λ c. record { fits = omega (arith, c .before .pre .1 .sun-high, c .before .pre .1 .penumbra-high) }) (λ c. omega (arith, c .before .before .pre .1 .sun-low, c .before .before .pre .1 .central-high))
-    (λ c κs. omega (arith, c .before .before .pre .1 .sun-high, c .before .before .pre .1 .penumbra-high)) (λ c κs. omega (arith, c .before .before .before .pre .1 .sun-high)) (λ c κs. accepts (start c))
-    (λ c κs. (accepts (start (c .before)), c .find-axis .ensures)) find-plane-requires find-cone-requires find-cone-requires-2
-    add-t14 sub-t15 returns)
+    (tie.spec
+    (λ c. record { fits = omega (arith, c .before .pre .1 .sun-high, c .before .pre .1 .penumbra-high) })
+    (λ c. omega (arith, c .before .before .pre .1 .sun-low, c .before .before .pre .1 .central-high))
+    (λ c κs. omega (arith, c .before .before .pre .1 .sun-high, c .before .before .pre .1 .penumbra-high))
+    (λ c κs. omega (arith, c .before .before .before .pre .1 .sun-high)) (λ c κs. accepts (start c))
+    (λ c κs. (accepts (start (c .before)), c .find-axis .ensures)) find-plane-requires find-cone-requires
+    find-cone-requires-2 add-t14 sub-t15 returns)

@@ -121,4 +121,5 @@ pub find-cone-spec : {M : Type 1} → statement M
 find-cone-spec =
     tie.close
     (tie.spec sub-root (λ c κs. search needs) (λ c. search needs) near-unsigned-requires cast-tangent
-    (λ c. fits (bounds c) ZT tt) near-requires (λ c. record { fits = omega (arith, foot-room c) }) near-unsigned-requires-2 cast-foot returns)
+    (λ c. fits (bounds c) ZT tt) near-requires (λ c. record { fits = omega (arith, foot-room c) })
+    near-unsigned-requires-2 cast-foot returns)

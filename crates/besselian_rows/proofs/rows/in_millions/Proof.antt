@@ -37,8 +37,7 @@ module _ (S : ℕ) (h : S ≤ 10957300000) where
 pub in-millions-spec : {M : Type 1} → statement M
 in-millions-spec =
     tie.close
-    (tie.spec
-    (λ c. record { fits = omega (arith, whole-small (c .args .radii) (c .pre)) })
+    (tie.spec (λ c. record { fits = omega (arith, whole-small (c .args .radii) (c .pre)) })
     (λ c. record { fits = omega (arith, cross-small (c .args .radii) (c .pre)) })
     (λ c. record { fits = omega (arith, rest-small (c .args .radii) (c .pre)) })
     (λ c. record { fits = omega (arith, whole-small (c .args .radii) (c .pre)) })

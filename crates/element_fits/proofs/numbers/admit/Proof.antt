@@ -1,6 +1,5 @@
 -- `element_fits::numbers::admit` meets its contract: a refusal of the numbers leaves the room, and then the room answers.
 use mathlib.Core.Path.{_≡_, sym, ap, _∙_}
-use lib.IntN.{ℤ}
 use mir.Syntax.{w64}
 use mir.ValLaws.{toZ-ofZ}
 use borrow.Author.Needs.{needs}

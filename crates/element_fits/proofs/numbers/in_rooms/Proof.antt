@@ -1,5 +1,5 @@
 -- `element_fits::numbers::in_rooms` meets its contract, case by case.
-use mathlib.Core.Path.{sym, ap, _∙_}
+use mathlib.Core.Path.{sym}
 use borrow.Author.Needs.{needs}
 use Rattle.element_fits.specs.laws.NumbersLaws.{rooms-first, rooms-second, rooms-whole}
 use Rattle.element_fits.proofs.numbers.in_rooms.Statement.{statement}

@@ -1,9 +1,8 @@
 -- `element_fits::numbers::radii_at` meets its contract: three sizes.
-use mathlib.Core.Path.{_≡_, ap, _∙_}
-use Prim.Native.Nat.{ℕ, _≤_}
-use native.Mathlib.Omega.{arith}
+use mathlib.Core.Path.{ap, _∙_}
+use Prim.Native.Nat.{_≤_}
 use borrow.Author.Needs.{needs}
-use lib.IntN.{ℤ, natAbs}
+use lib.IntN.{natAbs}
 use Rattle.rounding.specs.laws.Code.{read-back, read-size}
 use Rattle.besselian_rows.specs.Tables.{number}
 use Rattle.element_fits.specs.Numbers.{radiiOf}
@@ -40,4 +39,5 @@ radii-at-spec =
     (tie.spec (λ c. search needs) (λ c. search needs) (λ c. search needs)
     (λ c κs. let s = c .before .before .before in read-size (number (s .args .radii .now) 0) 9223372036854775807 (sun s) tt)
     (λ c κs. let s = c .before .before .before .before in read-size (number (s .args .radii .now) 1) 9223372036854775807 (penumbra s) tt)
-    (λ c κs. let s = c .before .before .before .before .before in read-size (number (s .args .radii .now) 2) 9223372036854775807 (central s) tt) returns)
+    (λ c κs. let s = c .before .before .before .before .before in read-size (number (s .args .radii .now) 2) 9223372036854775807 (central s) tt)
+    returns)

@@ -44,4 +44,5 @@ returns c =
 pub ukhtvaresh-elements-spec : {M : Type 1} → statement M
 ukhtvaresh-elements-spec =
     tie.close
-    (tie.spec (λ c κs. search needs) (λ c κs. search needs) (λ c. search needs) (λ c. search needs) (λ c. search needs) returns)
+    (tie.spec (λ c κs. search needs) (λ c κs. search needs) (λ c. search needs) (λ c. search needs)
+    (λ c. search needs) returns)
