@@ -10,3 +10,6 @@ pub mod Sizes
 pub mod Laws
 pub mod AnswersLaws
 pub mod NumbersLaws
+-- the theorems
+pub mod Meaning
+pub mod Conditions

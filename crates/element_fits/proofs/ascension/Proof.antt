@@ -1,4 +1,4 @@
--- `element_fits::ascension` meets its contract: the angle of the axis' direction on the equator. Assumes nothing.
+-- `element_fits::ascension` meets its contract: the angle of the axis' direction on the equator.
 use mathlib.Core.Path.{ap, ap₂, _∙_}
 use Prim.Native.Nat.{_≤_}
 use native.Mathlib.Omega.{arith}

@@ -1,4 +1,4 @@
--- `element_fits::each_d` meets its contract: each number is read back from its bits. Assumes nothing.
+-- `element_fits::each_d` meets its contract: each number is read back from its bits.
 use Rattle.rounding.specs.laws.Code.{read-result}
 use Rattle.element_fits.proofs.each_d.Statement.{statement}
 use Rattle.element_fits.proofs.each_d.Tie as tie

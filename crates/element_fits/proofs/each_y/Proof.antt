@@ -1,4 +1,4 @@
--- `element_fits::each_y` meets its contract: each number is read back from its bits. Assumes nothing.
+-- `element_fits::each_y` meets its contract: each number is read back from its bits.
 use Rattle.rounding.specs.laws.Code.{read-result}
 use Rattle.element_fits.proofs.each_y.Statement.{statement}
 use Rattle.element_fits.proofs.each_y.Tie as tie

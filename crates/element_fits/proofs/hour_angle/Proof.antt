@@ -1,4 +1,4 @@
--- `element_fits::hour_angle` meets its contract: the sums fit, and the first is reduced. Assumes nothing.
+-- `element_fits::hour_angle` meets its contract: the sums fit, and the first is reduced.
 use mathlib.Core.Path.{ap, _∙_}
 use mathlib.Core.List.{[], _∷_}
 use Prim.Native.Nat.{_≤_}

@@ -1,4 +1,4 @@
--- `element_fits::hour_angles` meets its contract: seven calls. Assumes nothing.
+-- `element_fits::hour_angles` meets its contract: seven calls.
 use mathlib.Core.Path.{_≡_, _∙_}
 use Prim.Native.Nat.{ℕ, _≤_}
 use lib.Dec.{lit≤}

@@ -1,4 +1,4 @@
--- `element_fits::hour_of` meets its contract. Assumes nothing.
+-- `element_fits::hour_of` meets its contract.
 use mathlib.Core.Path.{ap, _∙_}
 use Rattle.besselian_rows.specs.declared.besselian.Besselian.{Besselian}
 use Rattle.besselian_rows.specs.Rounded.{elementsOf}

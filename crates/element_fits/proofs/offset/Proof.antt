@@ -1,4 +1,4 @@
--- `element_fits::offset` meets its contract: the difference and half a turn, reduced, less half a turn. Assumes nothing.
+-- `element_fits::offset` meets its contract: the difference and half a turn, reduced, less half a turn.
 use mathlib.Core.Path.{ap, _∙_}
 use mathlib.Core.List.{[], _∷_}
 use Prim.Native.Nat.{_≤_}

@@ -1,4 +1,4 @@
--- `element_fits::relative` meets its contract: it is two calls. Assumes nothing.
+-- `element_fits::relative` meets its contract: it is two calls.
 use mathlib.Core.Path.{ap, ap₂, _∙_}
 use native.Mathlib.Omega.{arith}
 use borrow.Author.Needs.{needs}

@@ -1,4 +1,4 @@
--- `element_fits::turn` meets its contract: the differences fit. Assumes nothing.
+-- `element_fits::turn` meets its contract: the differences fit.
 use mathlib.Core.Path.{ap}
 use mathlib.Core.List.{[], _∷_}
 use native.Mathlib.Omega.{arith}

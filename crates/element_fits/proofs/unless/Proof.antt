@@ -1,4 +1,4 @@
--- `element_fits::unless` meets its contract, by its cases. Assumes nothing.
+-- `element_fits::unless` meets its contract, by its cases.
 use mathlib.Core.Path.{sym, ap, ap₂}
 use mathlib.Core.Bool.{Bool}
 use borrow.Author.Needs.{needs}

@@ -81,7 +81,7 @@ angles-ranged g k e =
       v6 = angle (number g 6) (f .1 .1 .1 .1 .1 .1 .0);
     }
 
-rows-within : (v : Verdict) → ofRows v ≡ C.Within → v ≡ T.Whole
+pub rows-within : (v : Verdict) → ofRows v ≡ C.Within → v ≡ T.Whole
 rows-within T.Whole e = refl
 rows-within (T.Refused i) e = absurd (not-within e)
 
@@ -100,7 +100,7 @@ rows-accepted n e =
 
 module _ (n g k : List ℤ) (tolerance : ℤ) where
   -- what is checked where the lengths are right
-  abbrev checks : Checked
+  abbrev pub checks : Checked
   checks =
       andThen (ofLimits 18 (firstOutOfRange 0 (toleranceRanges tolerance)))
       (andThen (ofLimits 21 (firstOutOfRange 0 (givenRanges g k))) (ofRows (firstRefused n 0 7)))
@@ -142,6 +142,10 @@ module _ (n g k : List ℤ) (tolerance : ℤ) where
             angles = angles-ranged g k r;
             accepted = rows-accepted n (rows-within (firstRefused n 0 7) (t .1));
           }
+
+  -- and the other way
+  pub given-checks : givenChecked n g k tolerance ≡ C.Within → checks ≡ C.Within
+  given-checks e = let t = given-within e in sym (given-lengths (t .rows) (t .sidereal) (t .radii)) ∙ e
 
   module _ (sines : List ℕ) where
     pub admitted-refused : (r : Refusal) → givenChecked n g k tolerance ≡ C.Refused r

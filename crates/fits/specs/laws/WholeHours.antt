@@ -11,7 +11,8 @@ use Rattle.rounding.specs.Near.{near}
 use Rattle.rounding.specs.laws.NearLaws.{near-error}
 use Rattle.rounding.specs.Units.{hour}
 use Rattle.elements.specs.declared.Cubic.{Cubic}
-use Rattle.elements.specs.Polynomial.{step, cubicAt}
+use Rattle.elements.specs.declared.Quadratic.{Quadratic}
+use Rattle.elements.specs.Polynomial.{step, quadraticAt, cubicAt}
 use Rattle.fits.specs.Fits.{second}
 
 -- c0 + c1 h + c2 h² + c3 h³
@@ -41,3 +42,11 @@ step-whole p lower h = ap (λ (z : ℤ). z +ℤ lower) (near-whole p h)
 pub whole-hours : (c : Cubic) (i : ℕ) → cubicAt c (second i) ≡ atHour c (pos i -ℤ pos 3)
 unfolding cubicAt
 whole-hours c i = rw (step-whole, step-whole, step-whole)
+
+-- and of a quadratic: c0 + c1 h + c2 h²
+abbrev pub quadraticAtHour : Quadratic → ℤ → ℤ
+quadraticAtHour q h = (q .c2 *ℤ h +ℤ q .c1) *ℤ h +ℤ q .c0
+
+pub quadratic-hours : (q : Quadratic) (i : ℕ) → quadraticAt q (second i) ≡ quadraticAtHour q (pos i -ℤ pos 3)
+unfolding quadraticAt
+quadratic-hours q i = rw (step-whole, step-whole)

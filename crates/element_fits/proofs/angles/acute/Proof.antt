@@ -1,4 +1,4 @@
--- `element_fits::angles::acute` meets its contract: the test finds the lesser of the two. Assumes nothing.
+-- `element_fits::angles::acute` meets its contract: the test finds the lesser of the two.
 use mathlib.Core.Path.{sym, ap, _∙_}
 use Prim.Native.Nat.{ℕ, _-_}
 use native.Mathlib.Omega.{arith}

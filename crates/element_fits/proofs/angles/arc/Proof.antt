@@ -1,5 +1,5 @@
 -- `element_fits::angles::arc` meets its contract: the sine of low is at most s, and that of each angle from high to 45 degrees is more. The measure is the
--- distance between the two. Assumes nothing.
+-- distance between the two.
 use mathlib.Core.Path.{_≡_, subst}
 use Prim.Native.Nat.{ℕ, _+_, _-_, _/_, _≤_, _<_}
 use native.Mathlib.Omega.{arith}

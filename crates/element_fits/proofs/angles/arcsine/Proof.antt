@@ -1,4 +1,4 @@
--- `element_fits::angles::arcsine` meets its contract: the angle of the size of s, with the sign of s. Assumes nothing.
+-- `element_fits::angles::arcsine` meets its contract: the angle of the size of s, with the sign of s.
 use mathlib.Core.Path.{_≡_, sym, ap, _∙_}
 use mathlib.Core.List.{[], _∷_}
 use native.Mathlib.Omega.{arith}

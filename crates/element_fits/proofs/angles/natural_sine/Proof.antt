@@ -1,4 +1,4 @@
--- `element_fits::angles::natural_sine` meets its contract: up to 90 degrees the sine is a natural number. Assumes nothing.
+-- `element_fits::angles::natural_sine` meets its contract: up to 90 degrees the sine is a natural number.
 use mathlib.Core.Path.{_≡_, sym, ap, _∙_}
 use native.Mathlib.Omega.{arith}
 use lib.IntN.{ℤ, pos, natAbs}

@@ -1,4 +1,4 @@
--- `element_fits::least_squares::first` meets its contract: sums and multiples of seven values fit. Assumes nothing.
+-- `element_fits::least_squares::first` meets its contract: sums and multiples of seven values fit.
 use mathlib.Core.Path.{ap}
 use native.Mathlib.Omega.{arith}
 use lib.IntN.{pos, natAbs}

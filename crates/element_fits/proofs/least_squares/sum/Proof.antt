@@ -1,4 +1,4 @@
--- `element_fits::least_squares::sum` meets its contract: the sum of seven values fits. Assumes nothing.
+-- `element_fits::least_squares::sum` meets its contract: the sum of seven values fits.
 use mathlib.Core.Path.{ap}
 use native.Mathlib.Omega.{arith}
 use lib.IntN.{natAbs}
