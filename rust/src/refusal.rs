@@ -4,7 +4,7 @@ use std::fmt;
 /// Why a request, a sheet, a list of entries, a fit or a network is refused.
 ///
 /// [`number`](Refusal::number) and [`place`](Refusal::place) are those of document 01's table of refusals; 11 to 19
-/// are document 02's.
+/// are document 02's, 20 and 23 the library's own.
 #[derive(Clone, Copy, Debug, PartialEq, Eq, Hash)]
 pub enum Refusal {
     /// 1: the window, or the second asked for, is outside its range (place 0).
@@ -94,10 +94,20 @@ pub enum Refusal {
     },
     /// 19: a network's list is empty or has more than 64 stations (place 0; document 02).
     List,
+    /// 20: a line of a typed text is invalid.
+    Line {
+        /// The first such line, counted from 1; 0 where the text is too long.
+        line: u64,
+    },
+    /// 23: a number of an instant is outside its range.
+    Instant {
+        /// The first such number: 0 scale, 1 date, 4 hundredths of a second, 5 TAI less UTC.
+        field: u64,
+    },
 }
 
 impl Refusal {
-    /// The refusal's number, 1 to 19.
+    /// The refusal's number, 1 to 20 or 23.
     pub fn number(self) -> u64 {
         match self {
             Refusal::Window | Refusal::Guard => 1,
@@ -119,6 +129,8 @@ impl Refusal {
             Refusal::Hour { .. } => 17,
             Refusal::Given { .. } => 18,
             Refusal::List => 19,
+            Refusal::Line { .. } => 20,
+            Refusal::Instant { .. } => 23,
         }
     }
 
@@ -128,7 +140,11 @@ impl Refusal {
         match self {
             Refusal::Window | Refusal::Shape | Refusal::Radius | Refusal::List => 0,
             Refusal::Guard => 1,
-            Refusal::Element { field } | Refusal::Station { field } | Refusal::NotFinite { field } => field,
+            Refusal::Element { field }
+            | Refusal::Station { field }
+            | Refusal::NotFinite { field }
+            | Refusal::Instant { field } => field,
+            Refusal::Line { line } => line,
             Refusal::Room { needed } => needed,
             Refusal::Row { row } => row,
             Refusal::Hour { hour } => hour,
@@ -167,6 +183,8 @@ impl Refusal {
             17 => Refusal::Hour { hour: place },
             18 => Refusal::Given { place },
             19 => Refusal::List,
+            20 => Refusal::Line { line: place },
+            23 => Refusal::Instant { field: place },
             _ => unreachable!("the library gives only numbers of the table"),
         }
     }
@@ -195,6 +213,8 @@ impl fmt::Display for Refusal {
             Refusal::Hour { .. } => "a fit further from a tabulated value than the tolerance",
             Refusal::Given { .. } => "a tolerance or a tabulated value outside its range",
             Refusal::List => "a list of no station or of more than 64",
+            Refusal::Line { .. } => "an invalid line of a typed text",
+            Refusal::Instant { .. } => "a number of an instant outside its range",
         };
         write!(f, "refused {} {}: {words}", self.number(), self.place())
     }
