@@ -1,6 +1,6 @@
 #!/usr/bin/env python3
-"""Typed texts, valid and damaged, through the exports `typed` and `times`: byte for byte what the programs `request` and
-`times` write, and for `typed` what the reading of tests/request.py gives, which shares no code with the library.
+"""Typed texts, valid and damaged, through the exports `typed` and `times`: byte for byte what the programs `request`
+and `times` write, and for `typed` what the reading of tests/request.py gives, which shares no code with the library.
 
     rt check request times && rt staticlib ukhtvaresh && python/build && python3 tests/texts.py [TEXTS] [SEED]
 """
@@ -69,7 +69,8 @@ def examples(draw, count):
         if draw.random() < 0.8:
             year, scale = draw.choice([1583, 1954, 1972, 2017, 9999]), draw.choice(["ET", "UT"])
             date = f"{year}-{draw.randint(1, 12):02}-{draw.randint(1, 28):02}"
-            time = f"{draw.randint(0, 23):02}:{draw.randint(0, 59):02}:{draw.randint(0, 59):02}.{draw.randint(0, 99):02}"
+            hour, minute, second, part = (draw.randint(0, most) for most in (23, 59, 59, 99))
+            time = f"{hour:02}:{minute:02}:{second:02}.{part:02}"
             text += f"instant {date} {time} {scale}\n".encode()
             if year >= 1972 and draw.random() < 0.5:
                 text += f"tai-utc {draw.randint(10, 99)}\n".encode()
@@ -116,7 +117,8 @@ def buffers_afterwards():
     text = ukhtvaresh.times(request, ukhtvaresh.Instant(*instant)).encode()
     n, k, old = len(sheet), len(text), [170] * 902
     # a request that is refused as 10, for each row whose instant is refused before it
-    rows = [(10, 0, b"", instant[:5]), (10, 0, b"", instant + [0]), (10, 0, b"", []), (23, 4, b"", [*instant[:4], 8_640_000, 0])]
+    rows = [(10, 0, b"", instant[:5]), (10, 0, b"", instant + [0]), (10, 0, b"", [])]
+    rows += [(23, 4, b"", [*instant[:4], 8_640_000, 0])]
     rows += [(10, 0, b"", instant), (10, 0, request[:78], instant), (10, 0, request + b" ", [0] * 6)]
     for number, place, given, numbers in rows:
         wanted = (number, place, b"\xaa" * (n + 1), b"\xaa" * (k + 1), old)
@@ -124,11 +126,13 @@ def buffers_afterwards():
     untouched = (b"\xaa" * (n + 1), b"\xaa" * (k + 1), [170] * 901)
     check(raw(request, instant, n, k, 900) == (4, 901, *untouched), "sines")
     number, value, left, written, table = raw(request, instant, n - 1, k)
-    check((number, value, left, written) == (4, n, b"\xaa" * n, b"\xaa" * (k + 1)) and table[900] == 10**8, "sheet", value)
+    wanted = (4, n, b"\xaa" * n, b"\xaa" * (k + 1))
+    check((number, value, left, written) == wanted and table[900] == 10**8, "sheet", value)
     number, value, left, written, table = raw(request, instant, n, k - 1)
     check((number, value, left, written) == (4, k, sheet + b"\xaa", b"\xaa" * k) and table[900] == 10**8, "text", value)
     number, value, left, written, table = raw(request, instant, n, k)
-    check((number, value, left, written) == (0, k, sheet + b"\xaa", text + b"\xaa") and table[901] == 170, "whole", value)
+    wanted = (0, k, sheet + b"\xaa", text + b"\xaa")
+    check((number, value, left, written) == wanted and table[901] == 170, "whole", value)
     return len(rows) + 4
 
 
