@@ -3,7 +3,7 @@
 From the elements of an eclipse, a station, a window of seconds and a guard, `sheet` makes the station's contact
 sheet, `sheet_and_share` the same with the covered share of the Sun's disc; `star` makes that of a star from its
 elements and the Moon's radius; `read` takes a sheet apart, `write` puts entries together as one, `listing` gives a
-sheet as text, `second` the shadow at one second, `star_second` that of a star, and `share` the share at a second.
+sheet as text, `typed` reads a typed request, `times` lists its sheet with clock times, `second` gives the shadow at one second, `star_second` that of a star, and `share` the share at a second.
 `mirror` gives the request beyond the equator, `fit` judges coefficients that a spreadsheet made of seven hourly
 values, `from_tables` makes elements from tables of Sun and Moon, `root` gives a square root with its rounds, `mend`
 takes the damaged parts out of a file of sheets, `sheet_of_doubles` makes the sheet of positions that come as doubles,
@@ -70,7 +70,9 @@ _WORDS = {
     17: "a fit further from a tabulated value than the tolerance",
     18: "a tolerance or a tabulated value outside its range",
     19: "a list of no station or of more than 64",
+    20: "an invalid line of a typed text",
     22: "no such phase",
+    23: "a number of an instant outside its range",
 }
 _GUARD_WORDS = "guard outside its range"  # of 1 with place 1
 _NO_CONTACT_WORDS = "two seconds that are not one surely outside and one surely inside"  # of 22 with place 1
@@ -83,8 +85,9 @@ class Refused(Exception):
     place: 1 is 0 for the window, 1 for the guard; 2, 3 the first such field, 3 of a network ten times the list place
         plus that; 4 the length needed; 5 to 9 the record's first byte; 11 the row; 12 the first such field, 22 for
         the longitude; 14 to 16 the first such list place, counted from 0; 17 the first such hour, 0 to 6; 18 is 0 for
-        the tolerance, 1 to 7 for the first such tabulated value; 22, the library's own, is 0 for the phase, 1 for the
-        two seconds; else 0.
+        the tolerance, 1 to 7 for the first such tabulated value; 20 the line, counted from 1; 22 is 0 for the phase,
+        1 for the two seconds; 23 the first such number, 0 scale, 1 date, 4 hundredths of a second, 5 TAI less UTC;
+        else 0.
     """
 
     def __init__(self, number: int, place: int):
@@ -95,6 +98,15 @@ class Refused(Exception):
 
     def __str__(self) -> str:
         return f"refused {self.number} {self.place}: {self.words}"
+
+
+class Fault(Refused):
+    """The first invalid line of a typed text, refusal 20. `message` has the bytes that program `request` writes of it."""
+
+    def __init__(self, line: int, message: bytes):
+        super().__init__(20, line)
+        self.message = message
+        self.words = message.decode("utf-8", "replace").rstrip("\n")
 
 
 # ---- numbers and bytes that a caller gives
@@ -618,6 +630,8 @@ def _load() -> ctypes.CDLL:
     library.ukhtvaresh_extent.argtypes = [data, length, value]
     library.ukhtvaresh_write.argtypes = [room, length, room, length, value]
     library.ukhtvaresh_listing.argtypes = [data, length, room, length, value]
+    library.ukhtvaresh_typed.argtypes = [data, length, room, length, room, length, room, length, value]
+    library.ukhtvaresh_times.argtypes = [data, length, room, length, room, length, room, length, room, length, value]
     library.ukhtvaresh_fit.argtypes = [room, length, room, length, ctypes.c_int64, value]
     library.ukhtvaresh_from_tables.argtypes = [room, length, room, length, value]
     library.ukhtvaresh_root.argtypes = [ctypes.c_uint64, value]
@@ -627,7 +641,7 @@ def _load() -> ctypes.CDLL:
     library.ukhtvaresh_doubles.argtypes = [room, length, room, length, value]
     library.ukhtvaresh_network.argtypes = [room, length, room, length, room, length, room, length, value]
     names = "sheet sheet_and_share star second star_second share horizon star_horizon contact star_contact mirror read"
-    names += " extent write listing fit from_tables root mend sheet_of_doubles doubles network"
+    names += " extent write listing fit typed times from_tables root mend sheet_of_doubles doubles network"
     for name in names.split():
         getattr(library, "ukhtvaresh_" + name).restype = ctypes.c_uint64
     return library
@@ -929,6 +943,63 @@ def listing(sheet: bytes) -> str:
     """The listing of a sheet, as program `listing` prints it: a line for each entry but the end. Refusals as read."""
     sheet = _bytes(sheet, "sheet")
     return _whole(lambda buffer: _call("listing", sheet, len(sheet), *_lent(buffer, "text"))).decode("ascii")
+
+
+# ---- typed texts and clock times
+
+
+@dataclass(frozen=True)
+class Instant:
+    """The date and time of second 0, in the Gregorian calendar, 1583 to 9999."""
+
+    scale: int  # 1 ephemeris time, 2 universal time
+    year: int
+    month: int
+    day: int
+    hundredths: int  # of a second from 0h, 0 to 8,639,999
+    tai_utc: int = 0  # TAI less UTC in seconds, 10 to 99 and only from 1972 on; 0 where it is not given
+
+
+def typed(text: Union[str, bytes]) -> Tuple[bytes, Optional[Instant]]:
+    """The bytes of the request that a typed text is, of an eclipse or of a star, and its instant, if it has one.
+
+    A text that program `request` refuses raises Fault with its first invalid line.
+    """
+    given = text.encode() if isinstance(text, str) else _bytes(text, "text")
+    # A message has at most 87 bytes beside the text's own.
+    request, numbers, message = bytearray(REQUEST_LENGTH), (ctypes.c_uint64 * 6)(), bytearray(len(given) + 128)
+    into = (*_lent(request, "request"), *_lent(numbers, "instant", _UNSIGNED), *_lent(message, "message"))
+    try:
+        length = _call("typed", given, len(given), *into)
+    except Refused as refused:
+        if refused.number != 20:
+            raise
+        raise Fault(refused.place, bytes(message[: message.index(b"\n") + 1])) from None
+    return bytes(request[:length]), Instant(*numbers) if numbers[0] else None
+
+
+def times(request: bytes, instant: Optional[Instant] = None) -> str:
+    """What program `times` prints of a request, a star's if it has 79 bytes: the listing of its sheet with clock times
+    by the instant, altitudes and notes.
+
+    Refusals, the first of them: 23 for the instant; then those of sheet, or of star.
+    """
+    request = _bytes(request, "request")
+    given = [_index(getattr(instant, field.name), field.name) for field in fields(Instant)] if instant else [0] * 6
+    # A number that 64 bits cannot have is outside its range too: the largest one stands for it.
+    numbers = (ctypes.c_uint64 * 6)(*(n if 0 <= n < 2**64 else 2**64 - 1 for n in given))
+    length = 1024
+    while True:
+        sheet, text = bytearray(length), bytearray(length)
+        into = (*_sines(), *_lent(sheet, "sheet"), *_lent(text, "text"))
+        try:
+            written = _call("times", request, len(request), numbers, 6, *into)
+        except Refused as refused:
+            if refused.number != 4:
+                raise
+            length = refused.place
+        else:
+            return bytes(text[:written]).decode("ascii")
 
 
 # ---- fits

@@ -135,6 +135,30 @@ extern "C" {
         text_len: usize,
         value: *mut u64,
     ) -> u64;
+    fn ukhtvaresh_typed(
+        text: *const u8,
+        text_len: usize,
+        request: *mut u8,
+        request_len: usize,
+        instant: *mut u64,
+        instant_len: usize,
+        message: *mut u8,
+        message_len: usize,
+        value: *mut u64,
+    ) -> u64;
+    fn ukhtvaresh_times(
+        request: *const u8,
+        request_len: usize,
+        instant: *const u64,
+        instant_len: usize,
+        sines: *mut u32,
+        sines_len: usize,
+        sheet: *mut u8,
+        sheet_len: usize,
+        text: *mut u8,
+        text_len: usize,
+        value: *mut u64,
+    ) -> u64;
     fn ukhtvaresh_fit(
         coefficients: *const i64,
         coefficients_len: usize,
@@ -366,6 +390,51 @@ pub fn listing(sheet: &[u8], text: &mut [u8]) -> Result<usize, Refusal> {
     // SAFETY: as in `made`.
     let number =
         unsafe { ukhtvaresh_listing(sheet.as_ptr(), sheet.len(), text.as_mut_ptr(), text.len(), &mut value) };
+    answer(number, value)
+}
+
+pub fn typed(
+    text: &[u8],
+    request: &mut [u8],
+    instant: &mut [u64],
+    message: &mut [u8],
+) -> Result<usize, Refusal> {
+    let mut value = 0;
+    // SAFETY: as in `made`; the length of `instant` counts its numbers, as the library does.
+    let number = unsafe {
+        ukhtvaresh_typed(
+            text.as_ptr(),
+            text.len(),
+            request.as_mut_ptr(),
+            request.len(),
+            instant.as_mut_ptr(),
+            instant.len(),
+            message.as_mut_ptr(),
+            message.len(),
+            &mut value,
+        )
+    };
+    answer(number, value)
+}
+
+pub fn times(request: &[u8], instant: &[u64], sheet: &mut [u8], text: &mut [u8]) -> Result<usize, Refusal> {
+    let mut value = 0;
+    // SAFETY: as in `made`; the lengths of `instant` and `sines` count numbers, as the library does.
+    let number = SINES.with_borrow_mut(|sines| unsafe {
+        ukhtvaresh_times(
+            request.as_ptr(),
+            request.len(),
+            instant.as_ptr(),
+            instant.len(),
+            sines.as_mut_ptr(),
+            sines.len(),
+            sheet.as_mut_ptr(),
+            sheet.len(),
+            text.as_mut_ptr(),
+            text.len(),
+            &mut value,
+        )
+    });
     answer(number, value)
 }
 

@@ -2,7 +2,8 @@
 //!
 //! From the elements of an eclipse, a station, a window of seconds and a guard, [`sheet`] makes the station's contact sheet,
 //! [`sheet_and_share`] the same with the covered share of the Sun's disc; [`star()`] makes that of a star from its elements and the
-//! Moon's radius; [`read`] takes a sheet apart, [`write()`] puts entries together as one, [`listing`] gives a sheet as text, [`second`]
+//! Moon's radius; [`read`] takes a sheet apart, [`write()`] puts entries together as one, [`listing`] gives a sheet as text,
+//! [`typed`] reads a typed request, [`times`] lists its sheet with clock times, [`second`]
 //! the shadow at one second, [`star_second`] that of a star, [`share`] the share at a second, [`horizon()`] and
 //! [`star_horizon`] the altitude and azimuth of the Sun and of a star at a second, [`contact()`] and [`star_contact`] the
 //! two hundredths of a second between which a contact lies, [`mirror`] the request beyond the equator; [`fit`] judges coefficients that a spreadsheet made, [`from_tables`] makes elements from tables of Sun and
@@ -65,6 +66,7 @@ mod refusal;
 mod request;
 mod star;
 mod tables;
+mod texts;
 
 pub use contact::{contact, star_contact, Bracket};
 pub use doubles::{doubles, doubles_into, sheet_of_doubles, sheet_of_doubles_vec, Longitude, Survey};
@@ -76,6 +78,7 @@ pub use refusal::Refusal;
 pub use request::{Elements, Request, Station, Window, LEAST_GUARD, REQUEST_LENGTH};
 pub use star::{star, star_second, star_vec, StarElements, StarRequest, StarSecond, STAR_REQUEST_LENGTH};
 pub use tables::{from_tables, from_tables_into, Besselian, Position, Row, ROWS};
+pub use texts::{times, typed, Fault, Instant, Scale, Typed};
 
 /// The state of a station in a shadow at a second. Sure and unsure are document 01's words.
 #[derive(Clone, Copy, Debug, PartialEq, Eq, Hash)]

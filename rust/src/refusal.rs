@@ -4,7 +4,7 @@ use std::fmt;
 /// Why a request, a sheet, a list of entries, a fit or a network is refused.
 ///
 /// [`number`](Refusal::number) and [`place`](Refusal::place) are those of document 01's table of refusals; 11 to 19
-/// are document 02's, 22 is the library's own.
+/// are document 02's, 20, 22 and 23 the library's own.
 #[derive(Clone, Copy, Debug, PartialEq, Eq, Hash)]
 pub enum Refusal {
     /// 1: the window, or the second asked for, is outside its range (place 0).
@@ -98,10 +98,20 @@ pub enum Refusal {
     Phase,
     /// 22: two seconds are not one surely outside and one surely inside (place 1; of no document).
     NoContact,
+    /// 20: a line of a typed text is invalid.
+    Line {
+        /// The first such line, counted from 1; 0 where the text is too long.
+        line: u64,
+    },
+    /// 23: a number of an instant is outside its range.
+    Instant {
+        /// The first such number: 0 scale, 1 date, 4 hundredths of a second, 5 TAI less UTC.
+        field: u64,
+    },
 }
 
 impl Refusal {
-    /// The refusal's number, 1 to 22.
+    /// The refusal's number, 1 to 23.
     pub fn number(self) -> u64 {
         match self {
             Refusal::Window | Refusal::Guard => 1,
@@ -124,6 +134,8 @@ impl Refusal {
             Refusal::Given { .. } => 18,
             Refusal::List => 19,
             Refusal::Phase | Refusal::NoContact => 22,
+            Refusal::Line { .. } => 20,
+            Refusal::Instant { .. } => 23,
         }
     }
 
@@ -133,7 +145,11 @@ impl Refusal {
         match self {
             Refusal::Window | Refusal::Shape | Refusal::Radius | Refusal::List | Refusal::Phase => 0,
             Refusal::Guard | Refusal::NoContact => 1,
-            Refusal::Element { field } | Refusal::Station { field } | Refusal::NotFinite { field } => field,
+            Refusal::Element { field }
+            | Refusal::Station { field }
+            | Refusal::NotFinite { field }
+            | Refusal::Instant { field } => field,
+            Refusal::Line { line } => line,
             Refusal::Room { needed } => needed,
             Refusal::Row { row } => row,
             Refusal::Hour { hour } => hour,
@@ -174,6 +190,8 @@ impl Refusal {
             19 => Refusal::List,
             22 if place == 0 => Refusal::Phase,
             22 => Refusal::NoContact,
+            20 => Refusal::Line { line: place },
+            23 => Refusal::Instant { field: place },
             _ => unreachable!("the library gives only numbers of the table"),
         }
     }
@@ -204,6 +222,8 @@ impl fmt::Display for Refusal {
             Refusal::List => "a list of no station or of more than 64",
             Refusal::Phase => "no such phase",
             Refusal::NoContact => "two seconds that are not one surely outside and one surely inside",
+            Refusal::Line { .. } => "an invalid line of a typed text",
+            Refusal::Instant { .. } => "a number of an instant outside its range",
         };
         write!(f, "refused {} {}: {words}", self.number(), self.place())
     }
