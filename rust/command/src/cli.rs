@@ -83,12 +83,16 @@ fn place() -> Vec<Arg> {
             .allow_negative_numbers(true)
             .help("Degrees, east positive, -180 to 180"),
         number("height", "M", "Height in metres, -500 to 9000 [default: 0]"),
-        number("delta-t", "S", "Ephemeris less universal time in seconds, -100 to 200 [default: the catalogue's]"),
+        number(
+            "delta-t",
+            "S",
+            "Ephemeris less universal time in seconds, -100 to 200 [default: the catalogue's]",
+        ),
         Arg::new("radii")
             .long("radii")
             .value_name("RADII")
             .value_parser(PossibleValuesParser::new(RADII.map(|(name, _)| name)))
-            .help("Radii of Sun and Moon: those of the firm's rules, or the IAU's as in published times [default: document02]"),
+            .help("Radii of Sun and Moon: the rules' own, or the IAU's [default: document02]"),
         round(),
     ]
 }

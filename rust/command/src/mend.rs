@@ -126,9 +126,12 @@ fn length(number: u64) -> usize {
 
 // The first dropped byte at which a sheet may begin that goes on past these bytes.
 fn first_cut(bytes: &[u8], stretches: &[Stretch]) -> Option<usize> {
+    let cut = |rest: &[u8]| matches!(library::extent(rest), Err(Refused { number: ENDS, .. }));
+    // The library says of each byte alone whether more bytes could make it a record; of others none can.
+    let begins: [bool; 256] = std::array::from_fn(|byte| cut(&[byte as u8]));
     let dropped = stretches.iter().flat_map(|stretch| {
         let start = length(stretch.start);
         start..start + length(stretch.length)
     });
-    dropped.into_iter().find(|&at| matches!(library::extent(&bytes[at..]), Err(Refused { number: ENDS, .. })))
+    dropped.into_iter().find(|&at| begins[usize::from(bytes[at])] && cut(&bytes[at..]))
 }
