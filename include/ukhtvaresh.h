@@ -56,6 +56,13 @@
 #include <stddef.h>
 #include <stdint.h>
 
+/* The version of this header and of the library that it belongs to. The first number is that of the shared library's
+ * soname: it changes when a program would have to be built again. */
+#define UKHTVARESH_VERSION_MAJOR 0
+#define UKHTVARESH_VERSION_MINOR 1
+#define UKHTVARESH_VERSION_PATCH 0
+#define UKHTVARESH_VERSION "0.1.0"
+
 #ifdef __cplusplus
 extern "C" {
 #endif
