@@ -26,7 +26,10 @@ GLIBC = (2, 17)
 def project() -> Dict[str, str]:
     """What pyproject.toml says, as far as a wheel needs it. Python 3.8 to 3.10 have no reader of such files."""
     text = (HERE / "pyproject.toml").read_text("utf-8")
-    found = {name: re.search(rf'^{name} = "(.*)"$', text, re.M) for name in ("name", "version", "description", "requires-python")}
+    found = {
+        name: re.search(rf'^{name} = "(.*)"$', text, re.M)
+        for name in ("name", "version", "description", "requires-python")
+    }
     made = {name: match[1] for name, match in found.items() if match}
     made["license"] = re.search(r'^license = \{ text = "(.*)" \}$', text, re.M)[1]
     made["classifiers"] = "\n".join(re.findall(r'^    "(.* :: .*)",$', text, re.M))

@@ -104,16 +104,16 @@ _GUARD_WORDS = "guard outside its range"  # of 1 with place 1
 
 
 class Refused(Exception):
-    """Why a request, a sheet, a list of entries, a fit or a network is refused: number and place of document 01's table, and words.
+    """Why a request, a sheet, entries, a fit or a network is refused: number and place of document 01's table, and words.
 
-    place: 1 is 0 for the window, 1 for the guard; 2, 3 the first such field, 3 of a network ten times the list place plus that; 4 the
-    length needed; 5 to 9 the record's first byte; 11 the row; 12 the first such field, 22 for the longitude; 14 to 16 the first such list
-    place, counted from 0; 17 the first such hour, 0 to 6; 18 is 0 for the tolerance, 1 to 7 for the first such tabulated value; 20 the
-    line of a typed text; else 0.
+    place: 1 is 0 for the window, 1 for the guard; 2, 3 the first such field, 3 of a network ten times the list place plus
+    that; 4 the length needed; 5 to 9 the record's first byte; 11 the row; 12 the first such field, 22 for the longitude;
+    14 to 16 the first such list place, counted from 0; 17 the first such hour, 0 to 6; 18 is 0 for the tolerance, 1 to 7
+    for the first such tabulated value; 20 the line of a typed text; else 0.
 
-    field, value, range: of a request's number outside its range the field's name, the number and its least and greatest value, in
-    units; of a typed text that is refused the field's name and its value as it was typed; else None. line: the line of a typed
-    text, counted from 1, or None.
+    field, value, range: of a request's number outside its range the field's name, the number and its least and greatest
+    value, in units; of a typed text that is refused the field's name and its value as it was typed; else None.
+    line: the line of a typed text, counted from 1, or None.
 
     >>> from dataclasses import replace
     >>> try:
@@ -128,7 +128,8 @@ class Refused(Exception):
     def __init__(self, number: int, place: int, words: Optional[str] = None):
         self.number = number
         self.place = place
-        self.words = words or (_GUARD_WORDS if (number, place) == (1, 1) else _WORDS.get(number, "refused by the library"))
+        known = _GUARD_WORDS if (number, place) == (1, 1) else _WORDS.get(number, "refused by the library")
+        self.words = words or known
         self.field: Optional[str] = None
         self.value: Union[int, str, None] = None
         self.range: Optional[Tuple[int, int]] = None

@@ -15,8 +15,8 @@ def _plain(value: Any) -> Any:
 def rows(items: Iterable[Any]) -> List[Dict[str, Any]]:
     """A dictionary for each entry of a sheet, or for each row of a table such as those of `second` and `from_tables`.
 
-    All rows have the same keys: `kind`, the class in lower case, and every field of any of the items; a field that an item
-    does not have is None. Whole numbers stay ints.
+    All rows have the same keys: `kind`, the class in lower case, and every field of any of the items; a field that an
+    item does not have is None. Whole numbers stay ints.
 
     >>> from ukhtvaresh import HAND_WORKED, read, rows, sheet
     >>> table = rows(read(sheet(HAND_WORKED)))
@@ -53,7 +53,7 @@ def dataframe(items: Iterable[Any]) -> Any:
 
 
 def array(items: Iterable[Any]) -> Any:
-    """The rows as a masked structured array of numpy: whole numbers as int64, masked where an item does not have them."""
+    """The rows as a masked structured array of numpy: whole numbers as int64, masked where an item has none."""
     import numpy
 
     table = rows(items)

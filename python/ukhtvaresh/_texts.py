@@ -25,7 +25,8 @@ def _export(name: str):
 class Typed:
     """What a typed text says: the bytes of its request, and the instant of second 0.
 
-    instant: scale (0 none, 1 ET, 2 UT), year, month, day, hundredths of a second from 0h, TAI - UTC in seconds (0 none).
+    instant: scale (0 none, 1 ET, 2 UT), year, month, day, hundredths of a second from 0h, TAI - UTC in seconds (0
+    none).
     """
 
     request: bytes
@@ -108,8 +109,8 @@ def extent(data: bytes) -> int:
 def sheets(file: Union[str, "os.PathLike[str]", bytes, BinaryIO]) -> Iterator[bytes]:
     """The sheets of a year file one after the other: of a path, of a file that is open for bytes, or of bytes.
 
-    The file may have any size: some of it is in memory at a time. Where the bytes are no sheet, Refused has the number of
-    `read`, and as its place the byte of the file.
+    The file may have any size: some of it is in memory at a time. Where the bytes are no sheet, Refused has the number
+    of `read`, and as its place the byte of the file.
 
     >>> from ukhtvaresh import HAND_WORKED, sheet, sheets
     >>> year = sheet(HAND_WORKED) * 3

@@ -16,8 +16,30 @@ decides what a sheet says; this command reads, writes and words.
 A request is text, `name value` on a line, or its 115 bytes (79 for a star). Input is a FILE or standard input, output
 is standard output or --out FILE. A value is taken exactly or refused with its field, range and line; --round rounds
 numbers with too many decimals. `ukhtvaresh SUBCOMMAND --help` has examples.";
+const COLUMNS: usize = 100;
 pub const EXIT: &str = "\
 Exit status: 0 done; 1 refused (a request, a sheet or a value); 2 usage, or a file that cannot be read or written.";
+
+/// What follows the options: words, in lines that fit a terminal, and examples.
+fn with_examples(words: &str, examples: &[&str]) -> String {
+    let (mut text, mut column) = (String::new(), 0);
+    for word in words.split_whitespace() {
+        let length = word.chars().count();
+        if column + 1 + length > COLUMNS {
+            text.push('\n');
+            column = 0;
+        } else if column > 0 {
+            text.push(' ');
+            column += 1;
+        }
+        text.push_str(word);
+        column += length;
+    }
+    if !text.is_empty() {
+        text.push_str("\n\n");
+    }
+    format!("{text}Examples:\n  {}", examples.join("\n  "))
+}
 
 fn file(what: &'static str) -> Arg {
     Arg::new("file").value_name("FILE").help(what)
@@ -136,15 +158,16 @@ fn sheet() -> Command {
         .args(stored())
         .args(reading())
         .arg(out())
-        .after_help(
-            "A line has an entry, its two seconds, the direction in tenths of a degree, times of day in ET, UT and UTC\n\
-             where the request has an instant, and the altitude of the Sun or the star. With several FILEs a refused one\n\
-             is reported, and the others are shown.\n\n\
-             Examples:\n  \
-             ukhtvaresh sheet examples/hopkinsville2017.txt --instant \"2017-08-21 18:00:00 ET\"\n  \
-             ukhtvaresh sheet --json < examples/potsdam1956.bin\n  \
-             ukhtvaresh sheet --stored --out moscow.sheet examples/moscow1954.txt",
-        )
+        .after_help(with_examples(
+            "A line has an entry, its two seconds, the direction in tenths of a degree, times of day in ET, UT and \
+             UTC where the request has an instant, and the altitude of the Sun or the star. With several FILEs a \
+             refused one is reported, and the others are shown.",
+            &[
+                "ukhtvaresh sheet examples/hopkinsville2017.txt --instant \"2017-08-21 18:00:00 ET\"",
+                "ukhtvaresh sheet --json < examples/potsdam1956.bin",
+                "ukhtvaresh sheet --stored --out moscow.sheet examples/moscow1954.txt",
+            ],
+        ))
 }
 
 fn list() -> Command {
@@ -152,19 +175,20 @@ fn list() -> Command {
         .about("The listing of a stored sheet, or of every sheet of a year file of any size")
         .arg(file("Stored sheets, one after the other; standard input where it is left out or -"))
         .args([json(), csv(), out()])
-        .after_help(
-            "An empty line separates sheets. Where the bytes are no sheet, the listing stops there, the message has the\n\
-             byte, and the status is 1; ukhtvaresh mend takes damaged parts out.\n\n\
-             Examples:\n  \
-             ukhtvaresh list year.bin | less\n  \
-             ukhtvaresh list --csv year.bin --out year.csv",
-        )
+        .after_help(with_examples(
+            "An empty line separates sheets. Where the bytes are no sheet, the listing stops there, the message has \
+             the byte, and the status is 1; ukhtvaresh mend takes damaged parts out.",
+            &[
+                "ukhtvaresh list year.bin | less",
+                "ukhtvaresh list --csv year.bin --out year.csv",
+            ],
+        ))
 }
 
 fn stream() -> Command {
     Command::new("stream")
         .about("From many requests in bytes to a year file")
-        .arg(file("Requests of 115 or 79 bytes, one after the other; standard input where it is left out or -").num_args(0..))
+        .arg(file("Requests in bytes, one after the other; standard input where it is left out or -").num_args(0..))
         .arg(
             Arg::new("jobs")
                 .long("jobs")
@@ -174,14 +198,15 @@ fn stream() -> Command {
                 .help("How many threads compute, 1 to 1024; the order stays [default: as many as there are cores]"),
         )
         .args([out(), quiet()])
-        .after_help(
-            "A refused request has no sheet: its index, counted from 1, its byte and the reason go to standard error, and\n\
-             the status is 1 at the end. Where the bytes are no request, the command stops there, since nothing says\n\
-             where the next one begins. A summary ends standard error.\n\n\
-             Examples:\n  \
-             cat examples/*.bin | ukhtvaresh stream --out year.bin\n  \
-             ukhtvaresh stream --jobs 8 requests.bin > year.bin",
-        )
+        .after_help(with_examples(
+            "A refused request has no sheet: its index, counted from 1, its byte and the reason go to standard error, \
+             and the status is 1 at the end. Where the bytes are no request, the command stops there, since nothing \
+             says where the next one begins. A summary ends standard error.",
+            &[
+                "cat examples/*.bin | ukhtvaresh stream --out year.bin",
+                "ukhtvaresh stream --jobs 8 requests.bin > year.bin",
+            ],
+        ))
 }
 
 fn mend() -> Command {
@@ -199,13 +224,14 @@ fn mend() -> Command {
                 .requires("notes"),
         )
         .args([out(), quiet()])
-        .after_help(
-            "Where a whole well-formed sheet begins, it is kept; otherwise one byte is dropped. The status is 0 also where\n\
-             bytes were dropped.\n\n\
-             Examples:\n  \
-             ukhtvaresh mend year.bin --out mended.bin\n  \
-             ukhtvaresh mend year.bin --notes dropped.bin --notes-bytes > mended.bin",
-        )
+        .after_help(with_examples(
+            "Where a whole well-formed sheet begins, it is kept; otherwise one byte is dropped. The status is 0 also \
+             where bytes were dropped.",
+            &[
+                "ukhtvaresh mend year.bin --out mended.bin",
+                "ukhtvaresh mend year.bin --notes dropped.bin --notes-bytes > mended.bin",
+            ],
+        ))
 }
 
 fn contacts() -> Command {
@@ -215,16 +241,18 @@ fn contacts() -> Command {
         .args([json(), csv()])
         .args(reading())
         .arg(out())
-        .after_help(
-            "The true contact, for the elements and the station as they are given, lies between the two times of its\n\
-             bracket. `direction` is that of the Moon's centre from the Sun's, or from the star; `point` that of the point\n\
-             of contact on the limb, from north through east; `zenith` the same point from the zenith. At second and third\n\
-             contact of a total eclipse the point lies opposite to the direction; of a star it is on the Moon's limb.\n\
-             An entry without a bracket has - there: seconds that are not surely outside and inside with a guard of 32.\n\n\
-             Examples:\n  \
-             ukhtvaresh contacts examples/hopkinsville2017.txt --instant \"2017-08-21 18:00:00 ET\"\n  \
-             ukhtvaresh eclipse 2024-04-08 32.7767 -96.7970 --request | ukhtvaresh contacts --csv",
-        )
+        .after_help(with_examples(
+            "The true contact, for the elements and the station as they are given, lies between the two times of its \
+             bracket. `direction` is that of the Moon's centre from the Sun's, or from the star; `point` that of the \
+             point of contact on the limb, from north through east; `zenith` the same point from the zenith. At \
+             second and third contact of a total eclipse the point lies opposite to the direction; of a star it is on \
+             the Moon's limb. An entry without a bracket has - there: seconds that are not surely outside and inside \
+             with a guard of 32.",
+            &[
+                "ukhtvaresh contacts examples/hopkinsville2017.txt --instant \"2017-08-21 18:00:00 ET\"",
+                "ukhtvaresh eclipse 2024-04-08 32.7767 -96.7970 --request | ukhtvaresh contacts --csv",
+            ],
+        ))
 }
 
 fn network() -> Command {
@@ -232,15 +260,16 @@ fn network() -> Command {
         .about("From a typed list of stations to their clocks' steps from the antenna and the first in the penumbra")
         .arg(file("A typed list; standard input where it is left out or -"))
         .args([json(), round().help("Round numbers of up to 14 decimals to those that are taken, and say so"), out()])
-        .after_help(
-            "The list has the elements and the window as in a typed request, and for each station a line\n\
-             `station NUMBER LATITUDE LONGITUDE HEIGHT DELTA-T CLOCK`, CLOCK being the number of the station whose clock it\n\
-             follows, 0 for the antenna. The station that the penumbra reaches first is named whether or not the Sun is up\n\
-             there; a note has the Sun's altitude.\n\n\
-             Examples:\n  \
-             ukhtvaresh network examples/eleven1954.network.txt\n  \
-             ukhtvaresh network --json examples/eleven1954.network.txt",
-        )
+        .after_help(with_examples(
+            "The list has the elements and the window as in a typed request, and for each station a line `station \
+             NUMBER LATITUDE LONGITUDE HEIGHT DELTA-T CLOCK`, CLOCK being the number of the station whose clock it \
+             follows, 0 for the antenna. The station that the penumbra reaches first is named whether or not the Sun \
+             is up there; a note has the Sun's altitude.",
+            &[
+                "ukhtvaresh network examples/eleven1954.network.txt",
+                "ukhtvaresh network --json examples/eleven1954.network.txt",
+            ],
+        ))
 }
 
 fn seconds() -> Command {
@@ -267,13 +296,15 @@ fn seconds() -> Command {
         .arg(json().help("Write JSON, one object on a line, in place of CSV"))
         .args(reading())
         .arg(out())
-        .after_help(
-            "Magnitude and share (the covered part of the Sun's disc) are 0 to 1; altitude and azimuth are in degrees, of\n\
-             the Sun's centre or the star, without refraction. Times are dates and times of day, where there is an instant.\n\n\
-             Examples:\n  \
-             ukhtvaresh eclipse 2024-04-08 32.7767 -96.7970 --request | ukhtvaresh seconds --every 60 > day.csv\n  \
-             ukhtvaresh seconds --every 1 --from 1500 --to 1800 examples/hopkinsville2017.txt",
-        )
+        .after_help(with_examples(
+            "Magnitude and share (the covered part of the Sun's disc) are 0 to 1; altitude and azimuth are in \
+             degrees, of the Sun's centre or the star, without refraction. Times are dates and times of day, where \
+             there is an instant.",
+            &[
+                "ukhtvaresh eclipse 2024-04-08 32.7767 -96.7970 --request | ukhtvaresh seconds --every 60 > day.csv",
+                "ukhtvaresh seconds --every 1 --from 1500 --to 1800 examples/hopkinsville2017.txt",
+            ],
+        ))
 }
 
 fn eclipses() -> Command {
@@ -286,16 +317,17 @@ fn eclipses() -> Command {
         .arg(flag("visible", "Leave out those during which the Sun is down"))
         .arg(flag("all", "Have also those that do not reach the place").conflicts_with("visible"))
         .args([json(), csv(), out()])
-        .after_help(
-            "A line has the date by universal time, the eclipse's kind anywhere and at the place, where the Sun is (up,\n\
-             down, rises, sets, or partly up), first contact, greatest eclipse and last contact in universal time with the\n\
-             Sun's altitude, the magnitude, and how long the central phase lasts. Where the Sun is down at greatest\n\
-             eclipse, time and magnitude are those of the greatest part with the Sun up. The Sun counts as up from an\n\
-             altitude of -0.8 on. `+1d` marks the day after the date.\n\n\
-             Examples:\n  \
-             ukhtvaresh eclipses 43.37 -8.40 --from 2026 --to 2030\n  \
-             ukhtvaresh eclipses 55.755 37.57 --visible --csv --out moscow.csv",
-        )
+        .after_help(with_examples(
+            "A line has the date by universal time, the eclipse's kind anywhere and at the place, where the Sun is \
+             (up, down, rises, sets, or partly up), first contact, greatest eclipse and last contact in universal \
+             time with the Sun's altitude, the magnitude, and how long the central phase lasts. Where the Sun is down \
+             at greatest eclipse, time and magnitude are those of the greatest part with the Sun up. The Sun counts \
+             as up from an altitude of -0.8 on. `+1d` marks the day after the date.",
+            &[
+                "ukhtvaresh eclipses 43.37 -8.40 --from 2026 --to 2030",
+                "ukhtvaresh eclipses 55.755 37.57 --visible --csv --out moscow.csv",
+            ],
+        ))
 }
 
 fn eclipse() -> Command {
@@ -308,7 +340,7 @@ fn eclipse() -> Command {
         .about("From the catalogue to the sheet of a place")
         .args(args)
         .arg(Arg::new("guard").long("guard").value_name("N").help(
-            "Half-width of the undecided band around a cone's edge, 16 to 1000 units [default: the fits' misfit, 16 at least]",
+            "Half-width of the undecided band at a cone's edge, 16 to 1000 [default: the fits' misfit, 16 at least]",
         ))
         .arg(Arg::new("station").long("station").value_name("N").help("The station's number, 1 to 999 [default: 1]"))
         .arg(Arg::new("title").long("title").value_name("WORDS").help("Words for the first line of the request"))
@@ -321,15 +353,16 @@ fn eclipse() -> Command {
         .args([json(), csv()])
         .args(stored())
         .arg(out())
-        .after_help(
-            "The reference instant is the whole hour nearest to the place's greatest eclipse, and the window is the widest.\n\
-             Notes on standard error say where the eclipse is on another day than the one asked for, where it is not\n\
-             visible, and where delta t is a forecast.\n\n\
-             Examples:\n  \
-             ukhtvaresh eclipse 2024-04-08 32.7767 -96.7970 --height 131\n  \
-             ukhtvaresh eclipse 2026-08-12 43.37 -8.40 --request > coruna.txt\n  \
-             ukhtvaresh eclipse 2017-08-21 44.9429 -123.0351 --json | jq .entries",
-        )
+        .after_help(with_examples(
+            "The reference instant is the whole hour nearest to the place's greatest eclipse, and the window is the \
+             widest. Notes on standard error say where the eclipse is on another day than the one asked for, where it \
+             is not visible, and where delta t is a forecast.",
+            &[
+                "ukhtvaresh eclipse 2024-04-08 32.7767 -96.7970 --height 131",
+                "ukhtvaresh eclipse 2026-08-12 43.37 -8.40 --request > coruna.txt",
+                "ukhtvaresh eclipse 2017-08-21 44.9429 -123.0351 --json | jq .entries",
+            ],
+        ))
 }
 
 fn completions() -> Command {
@@ -342,11 +375,13 @@ fn completions() -> Command {
                 .value_parser(PossibleValuesParser::new(["bash", "zsh"]))
                 .help("bash or zsh"),
         )
-        .after_help(
-            "Examples:\n  \
-             ukhtvaresh completions bash > ~/.local/share/bash-completion/completions/ukhtvaresh\n  \
-             ukhtvaresh completions zsh > ~/.zfunc/_ukhtvaresh",
-        )
+        .after_help(with_examples(
+            "",
+            &[
+                "ukhtvaresh completions bash > ~/.local/share/bash-completion/completions/ukhtvaresh",
+                "ukhtvaresh completions zsh > ~/.zfunc/_ukhtvaresh",
+            ],
+        ))
 }
 
 fn manual() -> Command {
@@ -357,5 +392,8 @@ fn manual() -> Command {
                 .value_name("SUBCOMMAND")
                 .help("A subcommand; the command where it is left out"),
         )
-        .after_help("Examples:\n  ukhtvaresh manual > ukhtvaresh.1\n  ukhtvaresh manual sheet | man -l -")
+        .after_help(with_examples(
+            "",
+            &["ukhtvaresh manual > ukhtvaresh.1", "ukhtvaresh manual sheet | man -l -"],
+        ))
 }

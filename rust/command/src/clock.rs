@@ -60,7 +60,7 @@ impl Clock {
         Clock { instant, delta_t }
     }
 
-    /// The scales that are known: none without an instant, and with a ΔT of 0 the instant's own and what follows of it.
+    /// The scales that are known: none without an instant; with a ΔT of 0 the instant's own and what follows of it.
     pub fn scales(&self) -> Vec<Scale> {
         Scale::ALL.into_iter().filter(|scale| self.thousandths(*scale, 0).is_some()).collect()
     }

@@ -4,7 +4,7 @@
 
 use crate::library::Refused;
 
-/// A number of a request: its typed name, the decimals of its unit, its range in units, and a value that would be taken.
+/// A number of a request: its typed name, the decimals of its unit, its range in units, and a good value.
 pub struct Field {
     pub name: &'static str,
     pub decimals: usize,

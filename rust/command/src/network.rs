@@ -4,7 +4,6 @@
 //! reader of typed requests as the lines `station`, `latitude` and so on, beside the eclipse's own lines: every number
 //! is read by proved code.
 
-use crate::asked::Reading;
 use crate::entries::tenths;
 use crate::failure::{Failure, Outcome};
 use crate::fields::{general, with_number, STATION};
@@ -152,12 +151,12 @@ pub fn run(given: &ArgMatches) -> Outcome<()> {
 }
 
 fn made(given: &ArgMatches, text: &[u8]) -> Outcome<()> {
-    let reading = Reading::of(given);
+    let rounding = given.get_flag("round");
     let (eclipse, lines) = divided(&prepared(text)?);
     if lines.is_empty() {
         // What is wrong with the eclipse's lines comes first.
         let alone = Line { at: 0, values: STATION.iter().map(|field| field.example.to_owned()).collect() };
-        request(&eclipse, &alone, reading.round)?;
+        request(&eclipse, &alone, rounding)?;
         return Err(Failure::Refused(words(Refusal::List.into(), &lines, &eclipse)));
     }
     let mut nodes = Vec::new();
@@ -168,7 +167,7 @@ fn made(given: &ArgMatches, text: &[u8]) -> Outcome<()> {
             let words = format!("{needs}, and {} are typed (line {})", line.values.len(), line.at);
             return Err(Failure::Refused(with_number(&words, Refused { number: 20, place: line.at as u64 })));
         }
-        let request = request(&eclipse, line, reading.round)?;
+        let request = request(&eclipse, line, rounding)?;
         nodes.push(Node::new(request.station, clock(line)?));
         common.get_or_insert_with(|| Eclipse::of(&request));
     }
@@ -190,7 +189,8 @@ fn made(given: &ArgMatches, text: &[u8]) -> Outcome<()> {
             .map(|(node, steps)| json!({"station": node.number, "steps": steps, "clock": node.clock}))
             .collect();
         let first = first.map(|seen| {
-            json!({"station": seen.station, "to": seen.to, "altitude": tenths(seen.altitude), "sun up": seen.altitude >= 0})
+            let up = seen.altitude >= 0;
+            json!({"station": seen.station, "to": seen.to, "altitude": tenths(seen.altitude), "sun up": up})
         });
         output.line(&json!({"stations": stations, "first": first}).to_string())?;
     } else {
