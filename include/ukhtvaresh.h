@@ -65,6 +65,13 @@
 extern "C" {
 #endif
 
+/* The version of this header and of the library that it belongs to. The first number is that of the shared library's
+ * soname: it changes when a program would have to be built again. */
+#define UKHTVARESH_VERSION_MAJOR 0
+#define UKHTVARESH_VERSION_MINOR 1
+#define UKHTVARESH_VERSION_PATCH 0
+#define UKHTVARESH_VERSION "0.1.0"
+
 /* The length of a request in bytes. Numbers are big-endian:
  *   kind 02, then 22 signed 4-byte elements: x0 x1 x2 x3, y0 y1 y2 y3, d0 d1 d2, l1 (constant, first, second),
  *     l2 (the same), mu0 mu1 mu2, tan f1, tan f2; coefficients per hour; ranges
@@ -124,14 +131,22 @@ typedef struct ukhtvaresh_entry {
  * the sine of each tenth of a degree from 0 to 90. */
 #define UKHTVARESH_SINES_LENGTH 901
 
+/* ---- Sheets of requests: sheet, sheet_and_share, star ---- */
+
 /* The contact sheet of a request, at the start of `sheet`. *value: its length in bytes. sines_len counts numbers.
- * Refusals, the first of them: 10, 1, 2, 3, 4 with place 901 where sines_len is below that, 4. */
+ * Refusals, the first of them: 10, 1, 2, 3, 4 with place 901 where sines_len is below that, 4.
+ * Example:
+ *   if (ukhtvaresh_sheet(request, 115, sines, 901, sheet, sizeof sheet, &length) == 0)
+ *       fwrite(sheet, 1, length, stdout); */
 uint64_t ukhtvaresh_sheet(const uint8_t *request, size_t request_len, uint32_t *sines, size_t sines_len, uint8_t *sheet,
                           size_t sheet_len, uint64_t *value);
 
 /* The same sheet with one entry more, the share at its closest second, between closest and end: 5 bytes longer.
  * Nothing in the request's bytes asks for it, so ukhtvaresh_sheet never writes it. Parameters, *value and refusals as
- * above. */
+ * above.
+ * Example:
+ *   if (ukhtvaresh_sheet_and_share(request, 115, sines, 901, sheet, sizeof sheet, &length) == 0)
+ *       fwrite(sheet, 1, length, stdout); */
 uint64_t ukhtvaresh_sheet_and_share(const uint8_t *request, size_t request_len, uint32_t *sines, size_t sines_len,
                                     uint8_t *sheet, size_t sheet_len, uint64_t *value);
 
@@ -147,14 +162,22 @@ uint64_t ukhtvaresh_sheet_and_share(const uint8_t *request, size_t request_len, 
  * end. The shadow is a cylinder of the Moon's radius: one phase and no cone, and the guard as for an eclipse. Enter
  * is where the star vanishes, leave where it appears again; the direction is that of the Moon's centre from the star,
  * so on the Moon's edge the star is at the opposite one. Parameters and *value as of ukhtvaresh_sheet. Refusals, the
- * first of them: 10; 1; 2 with place 0 to 11; 13; 3; 4 with place 901 where sines_len is below that; 4. */
+ * first of them: 10; 1; 2 with place 0 to 11; 13; 3; 4 with place 901 where sines_len is below that; 4.
+ * Example:
+ *   if (ukhtvaresh_star(star, 79, sines, 901, sheet, sizeof sheet, &length) == 0)
+ *       fwrite(sheet, 1, length, stdout); */
 uint64_t ukhtvaresh_star(const uint8_t *request, size_t request_len, uint32_t *sines, size_t sines_len, uint8_t *sheet,
                          size_t sheet_len, uint64_t *value);
+
+/* ---- One second: share, second, star_second, horizon, star_horizon ---- */
 
 /* How much of the Sun's disc the Moon covers at a second of a request, -10,800 to 10,800, also outside its window.
  * *value: the share itself, millionths rounded down, 0 to 1,000,000: 1,000,000 wherever the total phase is sure, 0
  * where the penumbra is surely left. Refusals: 10; 1 for the window or the second, then for the guard; 2; 3; 4 with
- * place 901 where sines_len is below that. */
+ * place 901 where sines_len is below that.
+ * Example:
+ *   if (ukhtvaresh_share(request, 115, 4115, sines, 901, &value) == 0)
+ *       printf("%.4f %% is covered\n", value / 1e4); */
 uint64_t ukhtvaresh_share(const uint8_t *request, size_t request_len, int64_t second, uint32_t *sines, size_t sines_len,
                           uint64_t *value);
 
@@ -173,7 +196,10 @@ enum {
 
 /* The shadow at a second of a request, -10,800 to 10,800, also outside its window. *value: 8. Refusals: 10; 1 for the
  * window or the second, then for the guard; 2; 3; 4 with place 901 where sines_len is below that; 4 with place 8
- * where shadow_len is below 8. The lengths count numbers. */
+ * where shadow_len is below 8. The lengths count numbers.
+ * Example:
+ *   if (ukhtvaresh_second(request, 115, 4115, sines, 901, shadow, UKHTVARESH_NUMBERS, &value) == 0)
+ *       printf("magnitude %.6f\n", shadow[UKHTVARESH_MAGNITUDE] / 1e6); */
 uint64_t ukhtvaresh_second(const uint8_t *request, size_t request_len, int64_t second, uint32_t *sines,
                            size_t sines_len,
                            int64_t *shadow, size_t shadow_len, uint64_t *value);
@@ -190,7 +216,10 @@ enum {
 
 /* The shadow at a second of a star request, -10,800 to 10,800, also outside its window. *value: 5. Refusals: 10; 1
  * for the window or the second, then for the guard; 2 with place 0 to 11; 13; 3; 4 with place 901 where sines_len is
- * below that; 4 with place 5 where shadow_len is below 5. The lengths count numbers. */
+ * below that; 4 with place 5 where shadow_len is below 5. The lengths count numbers.
+ * Example:
+ *   if (ukhtvaresh_star_second(star, 79, 20, sines, 901, shadow, UKHTVARESH_STAR_NUMBERS, &value) == 0)
+ *       puts(shadow[UKHTVARESH_STAR_STATE] == 1 ? "hidden" : "not surely hidden"); */
 uint64_t ukhtvaresh_star_second(const uint8_t *request, size_t request_len, int64_t second, uint32_t *sines,
                                 size_t sines_len, int64_t *shadow, size_t shadow_len, uint64_t *value);
 
@@ -210,16 +239,24 @@ enum {
  * The mirror of a request has the same altitude at every second. *value: 3.
  * Refusals, the first of them, as of ukhtvaresh_second: 10; 1 for the window or the second, then for the guard; 2; 3;
  * 4 with place 901 where sines_len is below that; 4 with place 3 where horizon_len is below 3. The lengths count
- * numbers. */
+ * numbers.
+ * Example:
+ *   if (ukhtvaresh_horizon(request, 115, 4115, sines, 901, horizon, UKHTVARESH_HORIZON_NUMBERS, &value) == 0)
+ *       puts(horizon[UKHTVARESH_ALTITUDE] < 0 ? "the Sun is down" : "the Sun is up"); */
 uint64_t ukhtvaresh_horizon(const uint8_t *request, size_t request_len, int64_t second, uint32_t *sines,
                             size_t sines_len, int64_t *horizon, size_t horizon_len, uint64_t *value);
 
 /* The same of the star of a star request. No refraction and no dip. *value: 3.
  * Refusals, the first of them, as of ukhtvaresh_star_second: 10; 1 for the window or the second, then for the guard;
  * 2 with place 0 to 11; 13; 3; 4 with place 901 where sines_len is below that; 4 with place 3 where horizon_len is
- * below 3. The lengths count numbers. */
+ * below 3. The lengths count numbers.
+ * Example:
+ *   if (ukhtvaresh_star_horizon(star, 79, 20, sines, 901, horizon, UKHTVARESH_HORIZON_NUMBERS, &value) == 0)
+ *       printf("altitude %.1f\n", horizon[UKHTVARESH_ALTITUDE] / 10.0); */
 uint64_t ukhtvaresh_star_horizon(const uint8_t *request, size_t request_len, int64_t second, uint32_t *sines,
                                  size_t sines_len, int64_t *horizon, size_t horizon_len, uint64_t *value);
+
+/* ---- Contacts to the hundredth of a second: contact, star_contact ---- */
 
 /* Hundredths of a second between which a contact lies, in `bracket`: see ukhtvaresh_contact. */
 enum {
@@ -237,47 +274,74 @@ enum {
  * are not in it. *value: 2.
  * Refusals, the first of them: 10; 1 with place 0 for the window or for from and to, then with place 1 for the guard; 2;
  * 3; 22 with place 0 for a phase that is neither 0 nor 1; 4 with place 901 where sines_len is below that; 22 with place 1
- * where the two seconds are not as said; 4 with place 2 where bracket_len is below 2. The lengths count numbers. */
+ * where the two seconds are not as said; 4 with place 2 where bracket_len is below 2. The lengths count numbers.
+ * Example:
+ *   if (ukhtvaresh_contact(request, 115, 0, from, to, sines, 901, bracket, 2, &value) == 0)
+ *       printf("between %.2f and %.2f s\n", bracket[0] / 100.0, bracket[1] / 100.0); */
 uint64_t ukhtvaresh_contact(const uint8_t *request, size_t request_len, int64_t phase, int64_t from, int64_t to,
                             uint32_t *sines, size_t sines_len, int64_t *bracket, size_t bracket_len, uint64_t *value);
 
 /* The same of the star of a star request, whose one phase is 0. *value: 2.
  * Refusals, the first of them: 10; 1 as above; 2 with place 0 to 11; 13; 3; 22 with place 0 for a phase that is not 0;
- * then as above. */
+ * then as above.
+ * Example:
+ *   if (ukhtvaresh_star_contact(star, 79, 0, from, to, sines, 901, bracket, 2, &value) == 0)
+ *       printf("between %.2f and %.2f s\n", bracket[0] / 100.0, bracket[1] / 100.0); */
 uint64_t ukhtvaresh_star_contact(const uint8_t *request, size_t request_len, int64_t phase, int64_t from, int64_t to,
                                  uint32_t *sines, size_t sines_len, int64_t *bracket, size_t bracket_len,
                                  uint64_t *value);
+
+/* ---- Another request from one: mirror ---- */
 
 /* The mirror of a request, at the start of `mirrored`: all y and d coefficients and the latitude with the other sign,
  * nothing else changed. *value: 115. Any numbers: -2^31, which has no opposite in its bytes, stays as it is. The
  * sheet of the mirror of a request within the limits has the same entries, of the same seconds, magnitude, share and
  * length; their directions differ. A request that is refused 1, 2 or 3 and its mirror are refused alike. Refusals:
- * 10; 4 with the length. */
+ * 10; 4 with the length.
+ * Example:
+ *   if (ukhtvaresh_mirror(request, 115, mirrored, sizeof mirrored, &length) == 0)
+ *       fwrite(mirrored, 1, length, stdout); */
 uint64_t ukhtvaresh_mirror(const uint8_t *request, size_t request_len, uint8_t *mirrored, size_t mirrored_len,
                            uint64_t *value);
+
+/* ---- Stored sheets: read, extent, write, listing ---- */
 
 /* The entries of a sheet, head and end among them, at the start of `entries`. *value: how many entries. Refusals: the
  * first faulty record's, in it 5, 6, 8, 7; 9; then 4 with the number of entries. In a sheet with a star's entry an
  * eclipse's entry or a share breaks order, 8, and a magnitude above 0 breaks a rule, 7.
- * entries_len counts numbers, five an entry. A sheet from before heads had a guard gives 7 with place 0. */
+ * entries_len counts numbers, five an entry. A sheet from before heads had a guard gives 7 with place 0.
+ * Example:
+ *   if (ukhtvaresh_read(sheet, length, entries, sizeof entries / sizeof *entries, &value) == 0)
+ *       printf("%d entries\n", (int)value); */
 uint64_t ukhtvaresh_read(const uint8_t *sheet, size_t sheet_len, uint32_t *entries, size_t entries_len,
                          uint64_t *value);
 
 /* How long the well-formed sheet is that the bytes begin with, whatever follows it. *value: its length in bytes. Sheets
  * of a year file follow each other: the next one begins where this one ends.
- * Refusals: the first faulty record's, in it 5, 6, 8, 7, with the places of ukhtvaresh_read; never 9, nor 4. */
+ * Refusals: the first faulty record's, in it 5, 6, 8, 7, with the places of ukhtvaresh_read; never 9, nor 4.
+ * Example:
+ *   if (ukhtvaresh_extent(file, length, &value) == 0)
+ *       fwrite(file, 1, value, stdout); */
 uint64_t ukhtvaresh_extent(const uint8_t *bytes, size_t bytes_len, uint64_t *value);
 
 /* The sheet of entries, at the start of `sheet`. *value: its length in bytes.
  * Refusals: the first faulty entry's, in it 5, 8, 7; 6 where the list stops before its end entry or inside an entry;
- * 9; then 4. Places are those that the records have or would have in the sheet. entries_len counts numbers. */
+ * 9; then 4. Places are those that the records have or would have in the sheet. entries_len counts numbers.
+ * Example:
+ *   if (ukhtvaresh_write(entries, 5 * value, sheet, sizeof sheet, &length) == 0)
+ *       fwrite(sheet, 1, length, stdout); */
 uint64_t ukhtvaresh_write(const uint32_t *entries, size_t entries_len, uint8_t *sheet, size_t sheet_len,
                           uint64_t *value);
 
 /* The listing of a sheet, at the start of `text`: a line for each entry but the end, each with its end of line, no
  * null byte after the last. *value: its length in bytes.
- * Refusals: those of ukhtvaresh_read, but for 4 the length that the text needs. */
+ * Refusals: those of ukhtvaresh_read, but for 4 the length that the text needs.
+ * Example:
+ *   if (ukhtvaresh_listing(sheet, length, text, sizeof text, &value) == 0)
+ *       fwrite(text, 1, value, stdout); */
 uint64_t ukhtvaresh_listing(const uint8_t *sheet, size_t sheet_len, uint8_t *text, size_t text_len, uint64_t *value);
+
+/* ---- Texts: typed, times ---- */
 
 /* The numbers of an instant, the date and time of tau = 0: see ukhtvaresh_typed and ukhtvaresh_times. */
 enum {
@@ -294,7 +358,10 @@ enum {
  * its instant at the start of `instant`. *value: how many bytes.
  * Refusals: 20 with the first invalid line; its message, which ends with a line feed, is then at the start of `message` and has
  * no null byte; 4 with the length that is needed, of `request` before `instant`, or of `message`. Only 20 writes into `message`.
- * instant_len counts numbers. */
+ * instant_len counts numbers.
+ * Example:
+ *   if (ukhtvaresh_typed(typed, length, request, 115, instant, 6, message, sizeof message, &value) == 20)
+ *       fprintf(stderr, "line %d is invalid\n", (int)value); */
 uint64_t ukhtvaresh_typed(const uint8_t *text, size_t text_len, uint8_t *request, size_t request_len, uint64_t *instant,
                           size_t instant_len, uint8_t *message, size_t message_len, uint64_t *value);
 
@@ -303,17 +370,25 @@ uint64_t ukhtvaresh_typed(const uint8_t *text, size_t text_len, uint8_t *request
  * bytes. The sheet itself is then in `sheet`. With scale 0 there are no clock times, and the other five numbers are not read.
  * Refusals, the first of them: 10 for another instant_len than 6; 23; those of ukhtvaresh_sheet, or of ukhtvaresh_star, in their
  * order; 4 with the length that the text needs. `sheet` and `sines` are left as those functions leave them, so on this last 4
- * both are filled. On a 10 for the instant and on 23 they are untouched. instant_len and sines_len count numbers. */
+ * both are filled. On a 10 for the instant and on 23 they are untouched. instant_len and sines_len count numbers.
+ * Example:
+ *   if (ukhtvaresh_times(request, 115, instant, 6, sines, 901, sheet, sizeof sheet, text, sizeof text, &value) == 0)
+ *       fwrite(text, 1, value, stdout); */
 uint64_t ukhtvaresh_times(const uint8_t *request, size_t request_len, const uint64_t *instant, size_t instant_len,
                           uint32_t *sines, size_t sines_len, uint8_t *sheet, size_t sheet_len, uint8_t *text,
                           size_t text_len, uint64_t *value);
+
+/* ---- Elements from tables: fit, from_tables, elements ---- */
 
 /* Whether four coefficients, from a spreadsheet, may stand for seven tabulated hourly values, hours -3 to 3, in units:
  * accepted exactly if the tolerance is 0 to 1,000, the tabulated values are +-1,000,000,000, the coefficients in the
  * ranges of x, and at each hour the value by the rule (x at that second) differs from the tabulated one by at most the
  * tolerance. *value: 0.
  * Refusals, the first of them: 10 unless coefficients_len is 4 and tabulated_len 7; 18; 2; 17. The lengths count
- * numbers. */
+ * numbers.
+ * Example:
+ *   if (ukhtvaresh_fit(coefficients, 4, tabulated, 7, 100, &value) == 17)
+ *       printf("hour %d misses\n", (int)value - 3); */
 uint64_t ukhtvaresh_fit(const int64_t *coefficients, size_t coefficients_len, const int64_t *tabulated,
                         size_t tabulated_len, int64_t tolerance, uint64_t *value);
 
@@ -346,17 +421,27 @@ enum {
  * The Moon's distance is the true one over the equatorial radius; her radius is 0.272274. Refusals: 10 for another
  * length than 42; 11 with the first row in which the Moon is not 55 to 65 radii off, the Sun not 23,000 to 24,000, or
  * the size of the sine of the axis' declination above 0.43 (ends are accepted); 4 with place 56 where values_len is
- * below 56. Any numbers may be given. Lengths count numbers. */
+ * below 56. Any numbers may be given. Lengths count numbers.
+ * Example:
+ *   if (ukhtvaresh_from_tables(rows, UKHTVARESH_ROWS_LENGTH, values, UKHTVARESH_VALUES_LENGTH, &value) == 0)
+ *       printf("x of the middle row: %.8f\n", values[3 * UKHTVARESH_ROW_VALUES + UKHTVARESH_ROW_X] / 1e8); */
 uint64_t ukhtvaresh_from_tables(const int64_t *rows, size_t rows_len, int64_t *values, size_t values_len,
                                 uint64_t *value);
+
+/* ---- Arithmetic: root ---- */
 
 /* The root of n: the largest whole number whose square is at most n, for any n. It takes two bits of n a round, from
  * the top. *rounds: how many rounds that are, one for each two bits up to the highest one set, a single bit at the
  * top counting as two; 0 for n = 0, at most 30 for n below 2^60, 32 at most. The answer is the root and not the
  * number of a refusal: there is none.
  * The number is that of document 02's definition, and of the one loop that the function runs. It counts rounds and not
- * time: no contract here speaks of time. */
+ * time: no contract here speaks of time.
+ * Example:
+ *   value = ukhtvaresh_root(10, &rounds);
+ *   printf("%d in %d rounds\n", (int)value, (int)rounds); */
 uint64_t ukhtvaresh_root(uint64_t n, uint64_t *rounds);
+
+/* ---- Year files: mend ---- */
 
 /* A stretch of dropped bytes in ukhtvaresh_mend's notes: its start and its length, 8 bytes each, big-endian. */
 #define UKHTVARESH_STRETCH_LENGTH 16
@@ -369,9 +454,14 @@ uint64_t ukhtvaresh_root(uint64_t n, uint64_t *rounds);
  * Kept bytes and the lengths of the stretches add up to file_len. As many bytes as the file has are enough for
  * `sheets`, and 16 more for `dropped`. Its time went by the file's length on every file that was tried, hostile ones
  * too: measured, not proved. Refusal: 4, where a buffer is short, the buffer of `sheets` first; *kept is the length
- * needed, and *noted is 0. */
+ * needed, and *noted is 0.
+ * Example:
+ *   if (ukhtvaresh_mend(file, length, sheets, sizeof sheets, dropped, sizeof dropped, &kept, &noted) == 0)
+ *       printf("%d bytes kept, %d stretches dropped\n", (int)kept, (int)noted / UKHTVARESH_STRETCH_LENGTH); */
 uint64_t ukhtvaresh_mend(const uint8_t *file, size_t file_len, uint8_t *sheets, size_t sheets_len, uint8_t *dropped,
                          size_t dropped_len, uint64_t *kept, uint64_t *noted);
+
+/* ---- Positions as doubles: sheet_of_doubles, doubles ---- */
 
 /* How many doubles the elements are, how many with the longitude, and how many whole numbers the rest of a survey is.
  * */
@@ -386,7 +476,10 @@ uint64_t ukhtvaresh_mend(const uint8_t *file, size_t file_len, uint8_t *sheets, 
  * the binary fraction that it exactly is, to the nearest whole unit, halves away from zero; then the sheet is that of
  * the request in whole units. *value: its length in bytes. Lengths count numbers. Refusals, the first of them: 10 for
  * other lengths, or another `hours` than 0 and 1; 1; 12; 2; 3 (a unit too large for 64 bits is outside its range); 4
- * with place 901 where sines_len is below that; 4. */
+ * with place 901 where sines_len is below that; 4.
+ * Example:
+ *   if (ukhtvaresh_sheet_of_doubles(elements, 22, 37.57, 0, rest, 7, sines, 901, sheet, sizeof sheet, &length) == 0)
+ *       fwrite(sheet, 1, length, stdout); */
 uint64_t ukhtvaresh_sheet_of_doubles(const double *elements, size_t elements_len, double longitude, uint64_t hours,
                                      const int64_t *rest, size_t rest_len, uint32_t *sines, size_t sines_len,
                                      uint8_t *sheet, size_t sheet_len, uint64_t *value);
@@ -397,9 +490,14 @@ uint64_t ukhtvaresh_sheet_of_doubles(const double *elements, size_t elements_len
  * division obeys fesetround: under FE_UPWARD 7 to 10 of the 23 doubles were one ulp larger for the requests of
  * examples/. Read again these too gave their units.
  * Refusals: 10 for another length than 23; 2 with the first element outside its range; 3 with place 2 for the
- * longitude; 4 with place 23 where doubles_len is below that. Lengths count numbers. */
+ * longitude; 4 with place 23 where doubles_len is below that. Lengths count numbers.
+ * Example:
+ *   if (ukhtvaresh_doubles(units, UKHTVARESH_DOUBLES_LENGTH, doubles, UKHTVARESH_DOUBLES_LENGTH, &value) == 0)
+ *       printf("x0 is %.8f\n", doubles[0]); */
 uint64_t ukhtvaresh_doubles(const int64_t *units, size_t units_len, double *doubles, size_t doubles_len,
                             uint64_t *value);
+
+/* ---- Networks: network ---- */
 
 /* A station of a network's list: what a request has of it, and the number of the station whose clock it follows, 0
  * being the antenna. An array of these is the memory that ukhtvaresh_network takes. */
@@ -425,7 +523,10 @@ typedef struct ukhtvaresh_node {
  * the smallest "to"; the first in the list among equals, 0 if none enters. The Sun may be below the horizon there. No
  * sheet is written. stations_len counts stations, the other lengths numbers.
  * Refusals, the first of them: 10 unless eclipse_len is 25 and steps_len 64; 19; 1; 2; 3; 14; 15; 16; 4 with place
- * 901 where sines_len is below that. `sines` is filled on success only. */
+ * 901 where sines_len is below that. `sines` is filled on success only.
+ * Example:
+ *   if (ukhtvaresh_network(eclipse, 25, stations, 2, sines, 901, steps, UKHTVARESH_STATIONS, &value) == 0)
+ *       printf("station %d is first\n", (int)value); */
 uint64_t ukhtvaresh_network(const int64_t *eclipse, size_t eclipse_len, const ukhtvaresh_node *stations,
                             size_t stations_len,
                             uint32_t *sines, size_t sines_len, uint64_t *steps, size_t steps_len, uint64_t *value);

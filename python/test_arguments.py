@@ -416,7 +416,6 @@ class OtherTypes(unittest.TestCase):
         takers = [
             ("request", Request.from_bytes),
             ("request", StarRequest.from_bytes),
-            ("request", ukhtvaresh.sheet),
             ("request", ukhtvaresh.sheet_and_share),
             ("request", ukhtvaresh.star),
             ("request", lambda request: ukhtvaresh.sheet_into(request, bytearray(100))),
@@ -439,7 +438,11 @@ class OtherTypes(unittest.TestCase):
         for name, call in takers:
             for wrong in (115, 0, True, "text", None, 1.5, REQUEST, [2] * 115, *others):
                 self.refused_as(f"{name} must be bytes", call, wrong)
-        self.refused_as("(Request): call its to_bytes()", ukhtvaresh.sheet, REQUEST)
+        self.refused_as("(Request): call its to_bytes()", ukhtvaresh.star, REQUEST)
+        # `sheet` takes a request and a typed text as well
+        for wrong in (115, 0, True, None, 1.5, [2] * 115, *others):
+            self.refused_as("request must be bytes", ukhtvaresh.sheet, wrong)
+        self.assertEqual(ukhtvaresh.sheet(Request.from_bytes(MOSCOW)), SHEET)
         forms = [bytearray(MOSCOW), memoryview(MOSCOW), array.array("B", MOSCOW)]
         for form in (*forms, ctypes.create_string_buffer(MOSCOW, 115)):
             self.assertEqual(ukhtvaresh.sheet(form), SHEET)

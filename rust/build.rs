@@ -1,5 +1,5 @@
-// Links libukhtvaresh.a from ../target/staticlib, or from the folder that UKHTVARESH_LIB names, absolute or relative to
-// this one.
+// Links libukhtvaresh.a from the folder that UKHTVARESH_LIB names, absolute or relative to this one; where it names none,
+// from ../target/staticlib, as in the repository, or from ../lib, as in the release archive.
 use std::env;
 use std::path::{Path, PathBuf};
 use std::process::exit;
@@ -9,7 +9,14 @@ fn main() {
     let folder = match env::var_os("UKHTVARESH_LIB") {
         Some(folder) => PathBuf::from(folder),
         None => {
-            Path::new(&env::var_os("CARGO_MANIFEST_DIR").expect("set by cargo")).join("../target/staticlib")
+            let here = PathBuf::from(env::var_os("CARGO_MANIFEST_DIR").expect("set by cargo"));
+            let folders = ["../target/staticlib", "../lib"].map(|folder| here.join(folder));
+            let [built, released] = &folders;
+            if released.join("libukhtvaresh.a").is_file() && !built.join("libukhtvaresh.a").is_file() {
+                released.clone()
+            } else {
+                built.clone()
+            }
         }
     };
     let archive = folder.join("libukhtvaresh.a");

@@ -155,6 +155,15 @@ pub fn share(request: &[u8], second: i64) -> Result<u32, Refusal> {
 /// The shadow at a second of a request, -10,800 to 10,800, also outside its window.
 ///
 /// Refusals, the first of them: 10, 1 (for the window or the second, then for the guard), 2, 3.
+///
+/// ```
+/// use ukhtvaresh::{second, Refusal, State};
+///
+/// let moscow = include_bytes!("../../examples/moscow1954.bin");
+/// let closest = second(moscow, 4_115)?;
+/// assert_eq!((closest.magnitude, closest.penumbra), (870_151, State::Inside));
+/// # Ok::<(), Refusal>(())
+/// ```
 pub fn second(request: &[u8], second: i64) -> Result<Second, Refusal> {
     let mut shadow = [0; 8];
     ffi::second(request, second, &mut shadow)?;
@@ -194,6 +203,22 @@ pub fn mirror(request: &[u8]) -> Result<[u8; REQUEST_LENGTH], Refusal> {
 /// The entries of a sheet, head and end among them.
 ///
 /// Refusals: the first faulty record's, in it 5, 6, 8, 7; then 9.
+///
+/// ```
+/// use ukhtvaresh::{read, sheet_vec, write_vec, Entry, Refusal};
+///
+/// let sheet = sheet_vec(include_bytes!("../../examples/moscow1954.bin"))?;
+/// let entries = read(&sheet)?;
+/// assert_eq!(entries[0], Entry::Head { station: 101, first: -3_600, last: 10_800, guard: 16 });
+/// assert_eq!(write_vec(&entries)?, sheet);
+///
+/// // A refusal is an error with a number and a place.
+/// let cut = read(&sheet[..20]).unwrap_err();
+/// assert_eq!((cut.number(), cut.place()), (6, 16));
+/// let error: Box<dyn std::error::Error> = Box::new(cut);
+/// assert_eq!(error.to_string(), "refused 6 16: input ends inside a record or before the end record");
+/// # Ok::<(), Refusal>(())
+/// ```
 pub fn read(sheet: &[u8]) -> Result<Vec<Entry>, Refusal> {
     // An entry is five numbers. Its record has five bytes or more, save the end's one, and the head's nine make up for
     // that: as many numbers as the sheet has bytes are always enough.
@@ -266,6 +291,14 @@ pub fn listing(sheet: &[u8]) -> Result<String, Refusal> {
 /// Accepted exactly if the tolerance is 0 to 1,000 units, the tabulated values are within ±10^9, the coefficients in the
 /// ranges of x, and at each hour the value of document 01's rule differs from the tabulated one by at most the
 /// tolerance. Refusals, the first of them: 18, 2, 17.
+///
+/// ```
+/// use ukhtvaresh::{fit, Refusal};
+///
+/// let tabulated = [-108, -72, -36, 0, 36, 72, 108].map(|million| 1_000_000 * million);
+/// assert_eq!(fit(&[0, 36_000_000, 0, 0], &tabulated, 0), Ok(()));
+/// assert_eq!(fit(&[1, 36_000_000, 0, 0], &tabulated, 0), Err(Refusal::Hour { hour: 0 }));
+/// ```
 pub fn fit(coefficients: &[i64; 4], tabulated: &[i64; 7], tolerance: i64) -> Result<(), Refusal> {
     ffi::fit(coefficients, tabulated, tolerance).map(|_| ())
 }

@@ -1,22 +1,34 @@
 """Local circumstances of a solar eclipse, and of a star behind the Moon, in whole numbers, from a proved library.
 
-From the elements of an eclipse, a station, a window of seconds and a guard, `sheet` makes the station's contact
-sheet, `sheet_and_share` the same with the covered share of the Sun's disc; `star` makes that of a star from its
-elements and the Moon's radius; `read` takes a sheet apart, `write` puts entries together as one, `listing` gives a
-sheet as text, `typed` reads a typed request, `times` lists its sheet with clock times, `second` gives the shadow at one second, `star_second` that of a star, and `share` the share at a second.
-`mirror` gives the request beyond the equator, `fit` judges coefficients that a spreadsheet made of seven hourly
-values, `from_tables` makes elements from tables of Sun and Moon, `root` gives a square root with its rounds, `mend`
-takes the damaged parts out of a file of sheets, `sheet_of_doubles` makes the sheet of positions that come as doubles,
-`doubles` makes doubles of whole units; `network` says of a list of stations how far each clock is from the antenna
-and which one the penumbra reaches first. Each is a thin call of the proved function of the same name in
-libukhtvaresh.so, which the script `build` makes.
+From the elements of an eclipse, a station, a window of seconds and a guard, `sheet` makes the station's contact sheet,
+`sheet_and_share` the same with the covered share of the Sun's disc; `star` makes that of a star from its elements and the Moon's
+radius; `read` takes a sheet apart, `write` puts entries together as one, `listing` gives a sheet as text, `second` the shadow at one
+second, `star_second` that of a star, and `share` the share at a second. `mirror` gives the request beyond the equator, `fit` judges coefficients that a spreadsheet made
+of seven hourly values, `from_tables` makes elements from tables of Sun and Moon, `root` gives a square root with its rounds, `mend`
+takes the damaged parts out of a file of sheets, `sheet_of_doubles` makes the sheet of positions that come as doubles, `doubles` makes
+doubles of whole units; `network` says of a list of stations how far each clock is from the antenna and which one the
+penumbra reaches first. Each is a thin call of the proved function of the same name in libukhtvaresh.so. The wheel has
+that file in it; in the repository the script `python/build` makes it.
 
 `horizon` and `star_horizon` give the altitude and azimuth of the Sun and of a star at a second, and the direction of
 the zenith from it, without refraction and dip. `contact` and `star_contact` give the two hundredths of a second between
 which a contact lies.
 
-Lengths are in 10^-8 of the Earth's equatorial radius, angles in 10^-6 degree, times in whole seconds of ephemeris
-time from the reference instant. East longitude is positive. "Document 01" is the paper whose rules the library keeps.
+`sheet` takes a `Request`, a `StarRequest`, a typed text or bytes; `sheets` goes through a year file of any size; `rows`
+turns entries and tables into rows for pandas and numpy.
+
+>>> import ukhtvaresh
+>>> sheet = ukhtvaresh.sheet(ukhtvaresh.HAND_WORKED)
+>>> print(ukhtvaresh.listing(sheet), end="")
+station 7 from -6000 to 6000
+enter penumbra -5401 -5399 2700
+leave penumbra 5399 5401 900
+enter central -101 -99 2700
+leave central 99 101 900
+closest 0 1037735
+
+Lengths are in 10^-8 of the Earth's equatorial radius, angles in 10^-6 degree, times in whole seconds of
+ephemeris time from the reference instant. East longitude is positive. "Document 01" is the paper whose rules the library keeps.
 
 A number is taken exactly or not at all. Whole numbers are ints, or other types with `__index__` such as numpy's
 integers; a float, a Decimal, a bool, a string or None raises NotWhole with the field's name. The library itself refuses
@@ -42,7 +54,24 @@ from decimal import Decimal
 from enum import Enum
 from numbers import Number, Real
 from pathlib import Path
-from typing import Callable, Iterable, Iterator, List, Optional, Sequence, Tuple, Union
+from typing import Any, Callable, Dict, Iterable, Iterator, List, Optional, Sequence, Tuple, Union
+
+__version__ = "0.1.0"
+
+# What a user of the module needs; names that begin with _ are the module's own.
+__all__ = [
+    *("REQUEST_LENGTH", "STAR_REQUEST_LENGTH", "LEAST_GUARD", "ROWS", "STATIONS", "HAND_WORKED"),
+    *("Refused", "NotWhole"),
+    *("Elements", "Station", "Window", "Request", "StarElements", "StarRequest"),
+    *("Phase", "Head", "Enter", "Leave", "Graze", "Open", "Closest", "Share", "End", "Entry"),
+    *("State", "Second", "StarSecond", "Horizon", "Root", "Row", "Besselian", "Stretch", "Mended"),
+    *("Degrees", "Hours", "Longitude", "Survey", "Node", "Network"),
+    *("sheet", "sheet_into", "sheet_and_share", "sheet_and_share_into", "star", "star_into", "sheets"),
+    *("share", "second", "star_second", "horizon", "star_horizon", "contact", "star_contact", "mirror"),
+    *("read", "extent", "write", "write_into", "listing", "typed", "times", "Fault", "rows", "dataframe", "array"),
+    *("fit", "root", "from_tables", "from_tables_into", "mend", "mend_into"),
+    *("sheet_of_doubles", "sheet_of_doubles_into", "doubles", "doubles_into", "network", "network_into"),
+]
 
 REQUEST_LENGTH = 115  # bytes
 STAR_REQUEST_LENGTH = 79
@@ -79,25 +108,96 @@ _NO_CONTACT_WORDS = "two seconds that are not one surely outside and one surely 
 
 
 class Refused(Exception):
-    """Why a request, a sheet, a list of entries, a fit or a network is refused: number and place of document 01's
-    table, and words.
+    """Why a request, a sheet, entries, a fit or a network is refused: number and place of document 01's table, and words.
 
-    place: 1 is 0 for the window, 1 for the guard; 2, 3 the first such field, 3 of a network ten times the list place
-        plus that; 4 the length needed; 5 to 9 the record's first byte; 11 the row; 12 the first such field, 22 for
-        the longitude; 14 to 16 the first such list place, counted from 0; 17 the first such hour, 0 to 6; 18 is 0 for
-        the tolerance, 1 to 7 for the first such tabulated value; 20 the line, counted from 1; 22 is 0 for the phase,
-        1 for the two seconds; 23 the first such number, 0 scale, 1 date, 4 hundredths of a second, 5 TAI less UTC;
-        else 0.
+    place: 1 is 0 for the window, 1 for the guard; 2, 3 the first such field, 3 of a network ten times the list place plus
+    that; 4 the length needed; 5 to 9 the record's first byte; 11 the row; 12 the first such field, 22 for the longitude;
+    14 to 16 the first such list place, counted from 0; 17 the first such hour, 0 to 6; 18 is 0 for the tolerance, 1 to 7
+    for the first such tabulated value; 20 the line of a typed text; 22 is 0 for the phase, 1 for the two seconds; 23 the
+    first such number of an instant, 0 scale, 1 date, 4 hundredths of a second, 5 TAI less UTC; else 0.
+
+    field, value, range: of a request's number outside its range the field's name, the number and its least and greatest
+    value, in units; of a typed text that is refused the field's name and its value as it was typed; else None.
+    line: the line of a typed text, counted from 1, or None.
+
+    >>> from dataclasses import replace
+    >>> try:
+    ...     sheet(replace(HAND_WORKED, station=Station(7, 95_750_000, 0, 0, 0)))
+    ... except Refused as refused:
+    ...     print(refused.field, refused.value, refused.range)
+    ...     print(refused)
+    latitude 95750000 (-90000000, 90000000)
+    refused 3 1: a station value outside its range: latitude 95750000 is not within -90000000 to 90000000
     """
 
-    def __init__(self, number: int, place: int):
+    def __init__(self, number: int, place: int, words: Optional[str] = None):
         self.number = number
         self.place = place
-        self.words = {(1, 1): _GUARD_WORDS, (22, 1): _NO_CONTACT_WORDS}.get((number, place)) or _WORDS[number]
+        known = {(1, 1): _GUARD_WORDS, (22, 1): _NO_CONTACT_WORDS}.get((number, place))
+        known = known or _WORDS.get(number, "refused by the library")
+        self.words = words or known
+        self.field: Optional[str] = None
+        self.value: Union[int, str, None] = None
+        self.range: Optional[Tuple[int, int]] = None
+        self.line: Optional[int] = place if number == _TYPED else None
         super().__init__(number, place)
 
     def __str__(self) -> str:
-        return f"refused {self.number} {self.place}: {self.words}"
+        said = f"refused {self.number} {self.place}: {self.words}"
+        if self.range is not None:
+            said += f": {self.field} {self.value} is not within {self.range[0]} to {self.range[1]}"
+        return said
+
+
+_TYPED = 20  # the refusal of a typed text
+
+# The ranges of a request's numbers, in units. The library alone judges; these put its refusals into words.
+_LENGTH_RANGES = [200_000_000, 100_000_000, 100_000, 10_000]
+_MU_RANGES = [(0, 359_999_999), (14_900_000, 15_100_000), (-100, 100)]
+_ELEMENT_RANGES = [
+    *[(-most, most) for most in _LENGTH_RANGES * 2],
+    *[(-25_000_000, 25_000_000), (-20_000, 20_000), (-100, 100)],
+    *[(50_000_000, 60_000_000), (-100_000, 100_000), (-10_000, 10_000)],
+    *[(-5_000_000, 5_000_000), (-100_000, 100_000), (-10_000, 10_000)],
+    *_MU_RANGES,
+    *[(400_000, 500_000)] * 2,
+]
+_STAR_RANGES = [*[(-most, most) for most in _LENGTH_RANGES * 2], (-30_000_000, 30_000_000), *_MU_RANGES]
+_RADIUS_RANGE = (27_200_000, 27_300_000)
+_STATION_RANGES = [(1, 999), (-90_000_000, 90_000_000), (-180_000_000, 180_000_000), (-500, 9_000), (-10_000, 20_000)]
+_SECOND_RANGE = (-10_800, 10_800)
+_GUARD_RANGE = (16, 1_000)
+
+
+def _with_field(refused: Refused, request: bytes) -> Refused:
+    """The refusal of a request's bytes with the field, its value and its range, where it is about one."""
+    try:
+        asked: Any = (StarRequest if request[:1] == b"\x05" else Request).from_bytes(request)
+    except Refused:
+        return refused
+    number, place, star = refused.number, refused.place, isinstance(asked, StarRequest)
+    ranges = _STAR_RANGES if star else _ELEMENT_RANGES
+    if number == 1 and place == 1:
+        found = ("guard", asked.guard, _GUARD_RANGE)
+    elif number == 1:
+        ends = {"first": asked.window.first, "last": asked.window.last}
+        outside = [name for name, end in ends.items() if not _SECOND_RANGE[0] <= end <= _SECOND_RANGE[1]]
+        if not outside and asked.window.first <= asked.window.last:
+            return refused  # the second that was asked for
+        name = (outside or ["first"])[0]
+        found = (name, ends[name], _SECOND_RANGE if outside else (_SECOND_RANGE[0], asked.window.last))
+    elif number == 2 and place < len(ranges):
+        name = fields(asked.elements)[place].name
+        found = (name, getattr(asked.elements, name), ranges[place])
+    elif number == 3 and place < len(_STATION_RANGES):
+        name = fields(asked.station)[place].name
+        found = (name, getattr(asked.station, name), _STATION_RANGES[place])
+    elif number == 13 and star:
+        found = ("radius", asked.radius, _RADIUS_RANGE)
+    else:
+        return refused
+    refused.field, refused.value, refused.range = found
+    return refused
 
 
 class Fault(Refused):
@@ -381,6 +481,15 @@ class StarRequest:
         return StarRequest(elements, radius, Station(*numbers[15:20]), Window(*numbers[21:23]), numbers[23])
 
 
+HAND_WORKED = Request(
+    Elements(
+        x1=36_000_000, y0=99_664_768, l1_0=54_000_000, l2_0=-1_000_000, mu1=15_000_000, tan_f1=460_000, tan_f2=458_000
+    ),
+    Station(number=7, latitude=90_000_000, longitude=0, height=0, delta_t=0),
+    Window(-6000, 6000),
+)  # document 01's hand-worked case: an axis that crosses the north pole at the reference instant
+
+
 # ---- entries of a sheet
 
 
@@ -605,11 +714,15 @@ class Bracket:
 
 
 def _load() -> ctypes.CDLL:
-    default = Path(__file__).resolve().parent.parent / "target" / "staticlib"
-    shared = Path(os.environ.get("UKHTVARESH_LIB") or default).resolve() / "libukhtvaresh.so"
-    if not shared.is_file():
+    here = Path(__file__).resolve().parent
+    named = os.environ.get("UKHTVARESH_LIB")
+    # Of a wheel the library is in the package; in the repository python/build makes it.
+    folders = [Path(named).resolve()] if named else [here, here.parent.parent / "target" / "staticlib"]
+    shared = next((path for path in (folder / "libukhtvaresh.so" for folder in folders) if path.is_file()), None)
+    if shared is None:
         raise ImportError(
-            f"There is no {shared}. Run `rt staticlib ukhtvaresh` and then `python/build` at the repository's top."
+            f"There is no {folders[-1] / 'libukhtvaresh.so'}. "
+            "Run `rt staticlib ukhtvaresh` and then `python/build` at the repository's top."
         )
     library = ctypes.CDLL(str(shared))
     data, length, room = ctypes.c_char_p, ctypes.c_size_t, ctypes.c_void_p
@@ -655,8 +768,13 @@ def _call(name: str, *arguments) -> int:
     value = ctypes.c_uint64()
     number = getattr(_library, "ukhtvaresh_" + name)(*arguments, ctypes.byref(value))
     if number:
-        raise Refused(number, value.value)
+        refused = Refused(number, value.value)
+        raise _with_field(refused, arguments[0]) if name in _OF_REQUESTS else refused
     return value.value
+
+
+# The functions whose first argument is a request's bytes.
+_OF_REQUESTS = frozenset("sheet sheet_and_share star share second star_second horizon star_horizon".split())
 
 
 # What the elements of a buffer may be: their size in bytes, the letters of their format as in module struct, and words.
@@ -741,9 +859,39 @@ def sheet_into(request: bytes, buffer) -> int:
     return _call("sheet", request, len(request), *_sines(), *lent)
 
 
-def sheet(request: bytes) -> bytes:
-    """The contact sheet of a request. Refusals, the first of them: 10, 1, 2, 3."""
+def sheet(request: Union[Request, StarRequest, str, bytes]) -> bytes:
+    """The contact sheet of a Request or a StarRequest, of a typed text (str), or of the 115 bytes of a request.
+
+    A typed text may be a star's. Refusals, the first of them: 20 with the line of a typed text; 10, 1, 2, 13, 3.
+
+    >>> len(sheet(HAND_WORKED)), sheet(HAND_WORKED) == sheet(HAND_WORKED.to_bytes())
+    (45, True)
+    """
+    if isinstance(request, str):
+        from ._texts import typed
+
+        text, request = request, typed(request).request
+        try:
+            return _sheet_of(request)
+        except Refused as refused:
+            raise _with_line(refused, text) from None
+    if isinstance(request, (Request, StarRequest)):
+        return _sheet_of(request.to_bytes())
     return _whole(lambda buffer: sheet_into(request, buffer))
+
+
+def _sheet_of(request: bytes) -> bytes:
+    """The sheet of an eclipse's or a star's bytes."""
+    fill = star_into if request[:1] == b"\x05" else sheet_into
+    return _whole(lambda buffer: fill(request, buffer))
+
+
+def _with_line(refused: Refused, text: str) -> Refused:
+    """The refusal with the line of a text that has its field."""
+    from ._texts import line_of
+
+    refused.line = line_of(text, refused.field)
+    return refused
 
 
 def sheet_and_share_into(request: bytes, buffer) -> int:
@@ -754,7 +902,11 @@ def sheet_and_share_into(request: bytes, buffer) -> int:
 
 
 def sheet_and_share(request: bytes) -> bytes:
-    """The same sheet. Refusals, the first of them: 10, 1, 2, 3."""
+    """The same sheet. Refusals, the first of them: 10, 1, 2, 3.
+
+    >>> read(sheet_and_share(HAND_WORKED.to_bytes()))[-2]
+    Share(share=1000000)
+    """
     return _whole(lambda buffer: sheet_and_share_into(request, buffer))
 
 
@@ -777,8 +929,11 @@ def star(request: bytes) -> bytes:
 def share(request: bytes, second: int) -> int:
     """How much of the Sun's disc the Moon covers at a second of a request, -10,800 to 10,800, also outside its window.
 
-    Millionths, rounded down, 0 to 1,000,000: 1,000,000 wherever the total phase is sure, 0 where the penumbra is
-    surely left. Refusals, the first of them: 10, 1 (for the window or the second, then for the guard), 2, 3.
+    Millionths, rounded down, 0 to 1,000,000: 1,000,000 wherever the total phase is sure, 0 where the penumbra is surely left.
+    Refusals, the first of them: 10, 1 (for the window or the second, then for the guard), 2, 3.
+
+    >>> share(HAND_WORKED.to_bytes(), 0)  # total
+    1000000
     """
     request, second = _bytes(request, "request"), _signed(second, "second")
     return _call("share", request, len(request), second, *_sines())
@@ -788,6 +943,9 @@ def second(request: bytes, second: int) -> Second:
     """The shadow at a second of a request, -10,800 to 10,800, also outside its window.
 
     Refusals, the first of them: 10, 1 (for the window or the second, then for the guard), 2, 3.
+
+    >>> second(HAND_WORKED.to_bytes(), 0).magnitude
+    1037735
     """
     request, second = _bytes(request, "request"), _signed(second, "second")
     shadow = (ctypes.c_int64 * 8)()
@@ -822,6 +980,9 @@ def horizon(request: bytes, second: int) -> Horizon:
 
     No refraction and no dip. The mirror of a request has the same altitude at every second.
     Refusals, the first of them: 10, 1 (for the window or the second, then for the guard), 2, 3.
+
+    >>> horizon(HAND_WORKED.to_bytes(), 0)
+    Horizon(altitude=0, azimuth=1800, zenith=0)
     """
     return _horizon("horizon", request, second)
 
@@ -871,10 +1032,12 @@ def star_contact(request: bytes, from_: int, to: int) -> Bracket:
 def mirror(request: bytes) -> bytes:
     """The mirror of a request: all y and d coefficients and the latitude with the other sign, nothing else changed.
 
-    Any numbers: -2^31, which has no opposite in its bytes, stays as it is. The sheet of the mirror of a request
-    within the limits has the same entries, of the same seconds, magnitude, share and length; their directions differ.
-    A request that is refused 1, 2 or 3 and its mirror are refused alike. Taken twice the mirror is the first request.
-    Refusal: 10.
+    Any numbers: -2^31, which has no opposite in its bytes, stays as it is. The sheet of the mirror of a request within
+    the limits has the same entries, of the same seconds, magnitude, share and length; their directions differ. A request that
+    is refused 1, 2 or 3 and its mirror are refused alike. Taken twice the mirror is the first request. Refusal: 10.
+
+    >>> Request.from_bytes(mirror(HAND_WORKED.to_bytes())).station.latitude
+    -90000000
     """
     request = _bytes(request, "request")
     mirrored = bytearray(REQUEST_LENGTH)
@@ -886,6 +1049,9 @@ def read(sheet: bytes) -> List[Entry]:
     """The entries of a sheet, head and end among them.
 
     Refusals: the first faulty record's, in it 5, 6, 8, 7; then 9.
+
+    >>> read(sheet(HAND_WORKED))[1]
+    Enter(phase=<Phase.PENUMBRA: 'penumbra'>, from_=-5401, to=-5399, direction=2700)
     """
     sheet = _bytes(sheet, "sheet")
     # An entry is five numbers. Its record has five bytes or more, save the end's one, and the head's nine make up for
@@ -904,22 +1070,6 @@ def extent(data: bytes) -> int:
     return _call("extent", data, len(data))
 
 
-def sheets(file: bytes) -> Iterator[bytes]:
-    """The sheets of a year file, one after the other.
-
-    Bytes that are no sheet raise Refused, with the place in the whole file.
-    """
-    file = _bytes(file, "file")
-    at = 0
-    while at < len(file):
-        try:
-            length = extent(file[at:])
-        except Refused as refusal:
-            raise Refused(refusal.number, at + refusal.place) from None
-        yield file[at : at + length]
-        at += length
-
-
 def write_into(entries: Iterable[Entry], buffer) -> int:
     """Puts the sheet of entries at the start of a writable buffer; gives its length in bytes.
 
@@ -934,13 +1084,21 @@ def write_into(entries: Iterable[Entry], buffer) -> int:
 
 
 def write(entries: Iterable[Entry]) -> bytes:
-    """The sheet of entries. Refusals as write_into, but 4."""
+    """The sheet of entries. Refusals as write_into, but 4.
+
+    >>> write(read(sheet(HAND_WORKED))) == sheet(HAND_WORKED)
+    True
+    """
     entries = _items(entries, "entries")
     return _whole(lambda buffer: write_into(entries, buffer))
 
 
 def listing(sheet: bytes) -> str:
-    """The listing of a sheet, as program `listing` prints it: a line for each entry but the end. Refusals as read."""
+    """The listing of a sheet, as program `listing` prints it: a line for each entry but the end. Refusals as read.
+
+    >>> listing(sheet(HAND_WORKED)).splitlines()[-1]
+    'closest 0 1037735'
+    """
     sheet = _bytes(sheet, "sheet")
     return _whole(lambda buffer: _call("listing", sheet, len(sheet), *_lent(buffer, "text"))).decode("ascii")
 
@@ -1008,9 +1166,11 @@ def times(request: bytes, instant: Optional[Instant] = None) -> str:
 def fit(coefficients: Sequence[int], tabulated: Sequence[int], tolerance: int) -> None:
     """Accepts a cubic's four coefficients for seven tabulated hourly values, -3 to 3, or raises Refused.
 
-    Accepted exactly if the tolerance is 0 to 1,000 units, the tabulated values are within ±10^9, the coefficients in
-    the ranges of x, and at each hour the value of document 01's rule differs from the tabulated one by at most the
-    tolerance. Refusals, the first of them: 10 (not four and seven), 18, 2, 17.
+    Accepted exactly if the tolerance is 0 to 1,000 units, the tabulated values are within ±10^9, the coefficients in the
+    ranges of x, and at each hour the value of document 01's rule differs from the tabulated one by at most the tolerance.
+    Refusals, the first of them: 10 (not four and seven), 18, 2, 17.
+
+    >>> fit([0, 36_000_000, 0, 0], [36_000_000 * hour for hour in range(-3, 4)], 0)
     """
     lists = [
         *_listed(coefficients, "coefficients", lambda value, at: _signed(value, f"coefficient {at}")),
@@ -1034,7 +1194,11 @@ class Root:
 
 
 def root(n: int) -> Root:
-    """The root of n with its rounds: none for 0, at most 30 for n below 2^60. ValueError unless n is 0 to 2^64 - 1."""
+    """The root of n with its rounds: none for 0, at most 30 for n below 2^60. ValueError unless n is 0 to 2^64 - 1.
+
+    >>> root(10)
+    Root(root=3, rounds=2)
+    """
     n = _index(n, "n")
     if not 0 <= n < 2**64:
         raise ValueError(f"n must be 0 to 2^64 - 1, not {_shown(n)}")
@@ -1156,10 +1320,13 @@ def mend_into(file: bytes, sheets, dropped) -> Tuple[int, int]:
 def mend(file: bytes) -> Mended:
     """Mends a file of sheets appended to one another, of any size.
 
-    From the start: where a whole well-formed sheet begins, it is kept, and the walk goes on behind it; otherwise one
-    byte is dropped. A file of nothing but well-formed sheets comes out unchanged with no stretch. Kept bytes and the
-    lengths of the stretches add up to the file's length. Its time went by that length on every file that was tried:
-    measured, not proved.
+    From the start: where a whole well-formed sheet begins, it is kept, and the walk goes on behind it; otherwise one byte is
+    dropped. A file of nothing but well-formed sheets comes out unchanged with no stretch. Kept bytes and the lengths of the
+    stretches add up to the file's length. Its time went by that length on every file that
+    was tried: measured, not proved.
+
+    >>> mend(sheet(HAND_WORKED) + b"damage").stretches
+    [Stretch(start=45, length=6)]
     """
     file = _bytes(file, "file")
     # a stretch and the sheet behind it have 18 bytes at least, and behind the last there may be none
@@ -1254,8 +1421,11 @@ def doubles_into(units: Iterable[int], room) -> int:
 
 
 def doubles(elements: Union[Elements, Iterable[int]], longitude: int) -> Tuple[List[float], Degrees]:
-    """Elements and a longitude in whole units as floats. Refusals: 10 for another count than 22; 2; 3 with 2 for the
-    longitude."""
+    """Elements and a longitude in whole units as floats. Refusals: 10 for another count than 22; 2; 3 with 2 for the longitude.
+
+    >>> doubles(HAND_WORKED.elements, 37_570_000)[1]
+    Degrees(value=37.57)
+    """
     room = (ctypes.c_double * 23)()
     units = _fields(elements, Elements, "elements") if isinstance(elements, Elements) else _items(elements, "elements")
     doubles_into([*units, _index(longitude, "longitude")], room)
@@ -1327,11 +1497,20 @@ def network_into(eclipse: Sequence[int], stations: Sequence[Node], steps) -> Opt
 def network(elements: Elements, window: Window, stations: Sequence[Node], guard: int = LEAST_GUARD) -> Network:
     """How far the clocks of a list are from the antenna, and which station the penumbra reaches first.
 
-    The first is the station whose first Enter of the penumbra, in the sheet that it gets alone, has the smallest
-    `to`, the first in the list among equals. Refusals, the first of them: 19, 1, 2, 3, 14, 15, 16.
+    The first is the station whose first Enter of the penumbra, in the sheet that it gets alone, has the smallest `to`, the first in the
+    list among equals. Refusals, the first of them: 19, 1, 2, 3, 14, 15, 16.
+
+    >>> network(HAND_WORKED.elements, HAND_WORKED.window, [Node(HAND_WORKED.station, clock=0)])
+    Network(steps=[1], first=7)
     """
     stations = _items(stations, "stations")
     steps = (ctypes.c_uint64 * STATIONS)()
     eclipse = [*_fields(elements, Elements, "elements"), *_fields(window, Window, "window"), _index(guard, "guard")]
     first = network_into(eclipse, stations, steps)
     return Network(list(steps[: len(stations)]), first)
+
+
+# ---- rows for pandas and numpy, and year files
+
+from ._tables import array, dataframe, rows  # noqa: E402
+from ._texts import sheets  # noqa: E402
