@@ -54,19 +54,19 @@ fn each_second(
     crate::partial::keep(o.guard, runs, t, 1, j, b)
 }
 
-// How many seconds between the shadows a and b are computed one by one: sixteen and fewer. Where both are as close as
-// some second is, within the guard, none between could be skipped, and a hundred and twenty-eight are.
+// How many seconds between the shadows a and b are computed one by one: four and fewer. Where both are as close as some
+// second is, within the guard, none between could be skipped, and a hundred and twenty-eight are.
 fn leaf(guard: i64, near: u64, a: Sample, b: Sample) -> usize
     requires { ⌜ (natAbs guard ≤ 1000) × (near ≤ 1000000001) ⌝ }
-    ensures { λ r. ⌜ 16 ≤ r ⌝ }
+    ensures { λ r. ⌜ 4 ≤ r ⌝ }
 {
     let w = near as i64 + guard;
     let limit = w * w;
     if limit < a.m {
-        return 16;
+        return 4;
     }
     if limit < b.m {
-        return 16;
+        return 4;
     }
     128
 }
