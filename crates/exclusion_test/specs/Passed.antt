@@ -74,10 +74,5 @@ pub record PassedFrom (guard : ℤ) (near h : ℕ) (c o : Sample) : Type 0 where
   pub phase : (f : ℕ) → f < 2 → Shows k l (radiusIn c f) (c .m) (radiusIn o f) (o .m) (guard +ℤ pos slack) q
 
 -- from either of them
-abbrev pub PassedEither : (guard : ℤ) (near h : ℕ) (a b : Sample) → Type 0
-PassedEither guard near h a b = PassedFrom guard near h a b ⊎ PassedFrom guard near h b a
-
-pub record Passed (guard : ℤ) (near h : ℕ) (a b : Sample) : Type 0 where
-  pub from : PassedEither guard near h a b
-  -- as far as those who store the states go
-  pub short : h ≤ 2048
+abbrev pub Passed : (guard : ℤ) (near h : ℕ) (a b : Sample) → Type 0
+Passed guard near h a b = PassedFrom guard near h a b ⊎ PassedFrom guard near h b a

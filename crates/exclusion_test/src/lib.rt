@@ -173,12 +173,9 @@ fn passes(guard: i64, near: u64, c: Sample, o: Sample, h: usize) -> bool
 // After `false` `adaptive_sampling::bisection::fill` computes seconds between the two, and promises by an equation the
 // same states and the same closest second. So a needless `false` costs time and changes no byte.
 pub fn clear(guard: i64, near: u64, a: Sample, b: Sample, h: usize) -> bool
-    requires { ⌜ (natAbs guard ≤ 1000) × (near ≤ 1000000001) × (SampleSizes a) × (SampleSizes b) ⌝ }
+    requires { ⌜ (natAbs guard ≤ 1000) × (near ≤ 1000000001) × (SampleSizes a) × (SampleSizes b) × (h ≤ 21600) ⌝ }
     ensures { λ r. ⌜ (r ≡ true → Passed guard near h a b) ⌝ }
 {
-    if 2048 < h {
-        return false;
-    }
     let m = a.m;
     let n = b.m;
     if n < m {

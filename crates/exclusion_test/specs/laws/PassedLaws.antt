@@ -34,7 +34,7 @@ use Rattle.chord_bounds.specs.Margins.{slack, Spans, OneSign}
 use Rattle.chord_bounds.specs.laws.Skip as Skip
 use Rattle.chord_bounds.specs.laws.Skip.{Spanned, Outward, Inward, Out}
 use Rattle.exclusion_test.specs.Samples.{IsAt, byteAt, squareAt, size}
-use Rattle.exclusion_test.specs.Passed.{Bend, Part, Distance, Spanning, In, Shows, PassedFrom, PassedEither, Passed}
+use Rattle.exclusion_test.specs.Passed.{Bend, Part, Distance, Spanning, In, Shows, PassedFrom, Passed}
 
 -- ---- what the test shows, as the theorems ask for it
 
@@ -113,7 +113,7 @@ shown (inl x) = outside
 shown (inr x) = inside
 
 -- what a passed test shows of a phase
-abbrev shownBy : {guard : ℤ} {near h : ℕ} {a b : Sample} → PassedEither guard near h a b → (n : ℕ) → n < 2 → State
+abbrev shownBy : {guard : ℤ} {near h : ℕ} {a b : Sample} → Passed guard near h a b → (n : ℕ) → n < 2 → State
 shownBy (inl x) n few = shown (x .phase n few)
 shownBy (inr x) n few = shown (x .phase n few)
 
@@ -133,7 +133,7 @@ module _ (o : Occultation) (i : InLimits o) (σ : ℤ) (k j : ℕ) (some : 0 < k
     (near h : ℕ) (long : k + j ≡ h) (a b : Sample)
     (ia : IsSample (o .body) (placeOf (o .station)) (σ +ℤ pos 0) a)
     (ib : IsSample (o .body) (placeOf (o .station)) (σ +ℤ pos (k + j)) b)
-    (p : PassedEither (o .guard) near h a b) where
+    (p : Passed (o .guard) near h a b) where
   abbrev at : ℕ → Moment
   at n = momentOf (axisOf (o .body)) (placeOf (o .station)) (σ +ℤ pos n)
 
@@ -161,7 +161,7 @@ module _ (o : Occultation) (i : InLimits o) (σ : ℤ) (k j : ℕ) (some : 0 < k
   slack-is : pos slack ≡ pos 0 +ℤ pos slack
   slack-is = refl
 
-  out-late : PassedEither (o .guard) near h a b → Out (pos 0) (pos h) (pos near) (pos near) (a .u) (a .v) (b .u) (b .v)
+  out-late : Passed (o .guard) near h a b → Out (pos 0) (pos h) (pos near) (pos near) (a .u) (a .v) (b .u) (b .v)
   out-late =
       ⊎-elim (λ (x : PassedFrom (o .guard) near h a b). inl (outward (pos 0) a b (x .distance) (x .along) (x .bend) square-a (pos near) (pos near) (pos slack) slack-is (x .late)))
       (λ (x : PassedFrom (o .guard) near h b a). inr (outward (pos 0) b a (x .distance) (x .along) (x .bend) square-b (pos near) (pos near) (pos slack) slack-is (x .late)))
@@ -211,16 +211,13 @@ module _ (o : Occultation) (i : InLimits o) (σ : ℤ) (k j : ℕ) (some : 0 < k
     from-end x (inl y) = is-outside (inr (outward (o .guard) b a (x .distance) (x .along) (x .bend) square-b s r (o .guard +ℤ pos slack) refl y))
     from-end x (inr y) = is-inside (signs-back (radiusIn b n) (radiusIn a n) (y .0)) (inward-back (inward (o .guard) (x .bend) refl (y .1)))
 
-    state-is : (x : PassedEither (o .guard) near h a b) → state (o .guard) (size (L (at k) (cone (o .body) φ))) (M (at k)) ≡ shownBy x n few
+    state-is : (x : Passed (o .guard) near h a b) → state (o .guard) (size (L (at k) (cone (o .body) φ))) (M (at k)) ≡ shownBy x n few
     state-is (inl x) = from-start x (x .phase n few)
     state-is (inr x) = from-end x (x .phase n few)
 
 -- ---- in the window: the seconds from i to j
 module _ (o : Occultation) (lim : InLimits o) (near i j : ℕ) (rise : i < j) (end : j < secondCount (o .window))
-    (a b : Sample) (ia : IsAt o i a) (ib : IsAt o j b) (passed : Passed (o .guard) near (j - i) a b) where
-  abbrev p : PassedEither (o .guard) near (j - i) a b
-  p = passed .from
-
+    (a b : Sample) (ia : IsAt o i a) (ib : IsAt o j b) (p : Passed (o .guard) near (j - i) a b) where
   abbrev σ : ℤ
   σ = nthSecond (o .window) i
 
