@@ -98,6 +98,20 @@ pub fn push(runs: &mut [u8], f: Filled, pair: u8, n: usize) -> Filled
     }
 }
 
+// n seconds more, however many: as many runs as they need.
+pub fn push_many(runs: &mut [u8], f: Filled, pair: u8, n: usize) -> Filled
+    requires { ⌜ (pair < 16) × (1 ≤ n) × (f .count + f .seconds + n ≤ length (now runs)) × (Ends (now runs) f) ⌝ }
+    ensures { λ r. ⌜ Pushed (now (runs .entry)) f pair n (now (runs .exit)) r ⌝ }
+{
+    let mut r = f;
+    let mut left = n;
+    while 3839 < left {
+        r = push(runs, r, pair, 3839);
+        left -= 3839;
+    }
+    push(runs, r, pair, left)
+}
+
 // The run at place i, as the first phase (0) or the second sees it.
 pub fn run_at(runs: &[u8], i: usize, phase: usize) -> Run
     requires { ⌜ (i < length (now runs)) × Whole (drop i (now runs)) ⌝ }
