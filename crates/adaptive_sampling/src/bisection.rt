@@ -1,7 +1,7 @@
 // The states of a window's seconds, from the few that need computing: between two computed seconds the station's path
 // is so nearly straight that its chord shows the states of all between. Where it does not, a second between them is
-// computed, where the chord suggests a change (`crate::guesses`), and both parts are looked at. `fill` is an inner
-// function, for the crates above, and has a `requires`, as those that it calls have.
+// computed, where the chord suggests a change (`crate::guesses`), and both parts are looked at. `fill` is internal
+// and has a `requires`, as do the functions that it calls.
 use crate::partial::Tally;
 use requests::Occultation;
 use shadow::Sample;

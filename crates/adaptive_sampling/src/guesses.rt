@@ -1,6 +1,6 @@
-// Where a stretch between two computed seconds is cut. A guess: wherever it is cut, the same states and the same closest
-// second are found. The better the guess, the fewer seconds are computed. So each promise is only that the cut lies
-// within the stretch. All are inner functions, for the crates above, and have a `requires`.
+// Where a stretch between two computed seconds is cut. A guess: wherever it is cut, the same states and the same
+// closest second are found. The better the guess, the fewer seconds are computed. So each promise is only that the
+// cut lies within the stretch. All functions are internal and have a `requires`.
 use shadow::Sample;
 ghost use mathlib.Core.Path.{_≡_};
 ghost use Prim.Native.Nat.{_≤_, _<_};

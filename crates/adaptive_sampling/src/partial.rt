@@ -1,6 +1,6 @@
 // What is known of a window's seconds so far: their states as runs, the closest of them, and a distance that some
-// second reaches. One computed second, or several that it shows, come to it. These are inner functions, for the crates
-// above, and have a `requires`.
+// second reaches. One computed second, or several that it shows, come to it. These functions are internal and have a
+// `requires`.
 use requests::Occultation;
 use run_length::Filled;
 use shadow::Sample;

@@ -1,6 +1,6 @@
 // The seconds of a window that are computed first, and from them a second that is nearly the closest, by a guess: the
 // nearer it is to the least, the more seconds can be skipped. Only that it is a second of the window, with its M, is
-// promised. All are inner functions, for the crates above, and have a `requires`.
+// promised. All functions are internal and have a `requires`.
 use requests::Occultation;
 use shadow::Offset;
 use shadow::Sample;

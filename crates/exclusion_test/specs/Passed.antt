@@ -37,7 +37,8 @@ pub record Spanning (α β q : ℤ) : Type 0 where
   pub second : pos 1 ≤ℤ β
   pub spans : Spans α β q
 
--- both ends, of squares m and o, are inside their radii r and s: the margins without the guard and the slack, g together, are k and n
+-- both ends, of squares m and o, are inside their radii r and s: the margins without the guard and the slack, g
+-- together, are k and n
 pub record In (r m s o g q : ℤ) : Type 0 where
   pub first : pos 1 ≤ℤ r
   pub second : pos 1 ≤ℤ s
@@ -47,7 +48,8 @@ pub record In (r m s o g q : ℤ) : Type 0 where
   pub end : (n *ℤ (pos 2 *ℤ s)) ≤ℤ (s ² -ℤ o)
   pub spanning : Spanning (k -ℤ g) (n -ℤ g) q
 
--- the state of a phase is shown for all between: k and l are how far out the ends are, r and s their L, m and o their M, g the guard and the slack
+-- the state of a phase is shown for all between: k and l are how far out the ends are, r and s their L, m and o their
+-- M, g the guard and the slack
 abbrev pub Shows : (k l r m s o g q : ℤ) → Type 0
 Shows k l r m s o g q = Spanning (k -ℤ size r -ℤ g) (l -ℤ size s -ℤ g) q ⊎ (OneSign r s × In (size r) m (size s) o g q)
 
@@ -62,7 +64,8 @@ pub record ShowsSizes (k l r m s o g q : ℤ) : Type 0 where
   pub guard : natAbs g ≤ 1059
   pub bend : natAbs q ≤ 204120001
 
--- neither the closest second nor a change of state lies between c and o, of which c is the nearer: k is its distance, and l how far o is out in its direction
+-- neither the closest second nor a change of state lies between c and o, of which c is the nearer: k is its distance,
+-- and l how far o is out in its direction
 pub record PassedFrom (guard : ℤ) (near h : ℕ) (c o : Sample) : Type 0 where
   pub k : ℤ
   pub l : ℤ

@@ -1,7 +1,7 @@
 // The gap between two computed seconds: whether they show the states of all seconds between them, and that none of
 // those is the closest. A margin is how far an end is from a circle, less the guard and what roundings may do; the
-// margins at both ends must span what the path can bend between them. `clear` is an inner function, for the crates
-// above, and has a `requires`, as those that it calls have.
+// margins at both ends must span what the path can bend between them. `clear` is internal and has a `requires`, as do
+// the functions that it calls.
 use shadow::Sample;
 ghost use mathlib.Core.Path.{_≡_};
 ghost use mathlib.Core.Bool.{true};
@@ -167,11 +167,11 @@ fn passes(guard: i64, near: u64, c: Sample, o: Sample, h: usize) -> bool
     shows(k, l, c.second, m, o.second, o.m, g, q)
 }
 
-// Whether two computed seconds, h apart, show that neither the closest second nor a change of state lies between them.
-// The promise only limits the result: `true` is answered only where they show it, and `false` may be answered
-// anywhere. The rules leave this open. Document 01 says what a sheet holds, and not which seconds are computed for it.
-// After `false` `adaptive_sampling::bisection::fill` computes seconds between the two, and promises by an equation the
-// same states and the same closest second. So a needless `false` costs time and changes no byte.
+// Whether two computed seconds, h apart, show that neither the closest second nor a change of state lies between
+// them. The promise only limits the result: it is `true` only where they show it, and may be `false` anywhere. The
+// rules leave this open. Document 01 says what a sheet holds, and not which seconds are computed for it. After
+// `false` `adaptive_sampling::bisection::fill` computes seconds between the two, and promises by an equation the same
+// states and the same closest second. So a needless `false` costs time and changes no byte.
 pub fn clear(guard: i64, near: u64, a: Sample, b: Sample, h: usize) -> bool
     requires { ⌜ (natAbs guard ≤ 1000) × (near ≤ 1000000001) × (SampleSizes a) × (SampleSizes b) × (h ≤ 21600) ⌝ }
     ensures { λ r. ⌜ (r ≡ true → Passed guard near h a b) ⌝ }

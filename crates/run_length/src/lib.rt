@@ -1,5 +1,5 @@
-// The states of the seconds of a window, stored as runs: never more than one byte a second, for two phases.
-// All are inner functions, for the crates above.
+// The states of the seconds of a window, stored as runs: never more than one byte a second, for two phases. All
+// functions are internal.
 ghost use mathlib.Core.Path.{_≡_};
 ghost use Prim.Native.Nat.{_+_, _≤_, _<_};
 ghost use lib.ListN.{length, take, drop};

@@ -1,4 +1,5 @@
--- `exclusion_test::spans` meets its contract: r is at most twice its half s, so s² < a b is more than is asked. Assumes nothing.
+-- `exclusion_test::spans` meets its contract: r is at most twice its half s, so s² < a b is more than is asked.
+-- Assumes nothing.
 use mathlib.Core.List.{[], _∷_}
 use mathlib.Core.Bool.{false≢true}
 use mathlib.Core.Logic.{inl, inr}
