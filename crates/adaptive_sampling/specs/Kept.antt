@@ -10,10 +10,11 @@ use Rattle.shadow_geometry.specs.Shadow.{state}
 use Rattle.shadow.specs.declared.Sample.{Sample}
 use Rattle.shadow.specs.Second.{radiusIn}
 use Rattle.requests.specs.declared.Occultation.{Occultation}
-use Rattle.requests.specs.Windows.{listOf}
+use Rattle.requests.specs.Windows.{secondCount, listOf}
 use Rattle.run_length.specs.Runs.{stateIn, told, Ends, Pushed}
 use Rattle.adaptive_sampling.specs.declared.partial.Tally.{Tally}
 use Rattle.exclusion_test.specs.Samples.{byteAt, squareAt, size}
+use Rattle.adaptive_sampling.specs.Reach.{Reached}
 use Rattle.adaptive_sampling.specs.Nearest.{Nearest}
 
 -- the states of both phases, as they stand in a run
@@ -31,11 +32,20 @@ pub record Stored (guard : ℤ) (s : Sample) (h j : ℕ) (old : List ℕ) (t : T
   pub is : IsPair guard s pair
   pub pushed : Pushed old (t .filled) pair h new (r .filled)
   pub closer : Closer t j (s .m) r
+  pub near : r .near ≡ t .near
 
--- the seconds 0 to i
-pub record Kept (o : Occultation) (near i : ℕ) (runs : List ℕ) (t : Tally) : Type 0 where
+-- the same seconds, and perhaps a smaller distance, which a second whose M is m reaches
+pub record Approached (t : Tally) (m : ℤ) (r : Tally) : Type 0 where
+  pub filled : r .filled ≡ t .filled
+  pub best : r .best ≡ t .best
+  pub least : r .least ≡ t .least
+  pub which : (r .near ≡ t .near) ⊎ ((r .near ≤ t .near) × (m ≤ℤ (pos (r .near) *ℤ pos (r .near))))
+
+-- the seconds 0 to i: a second that is passed over has the states of a computed one and is not the closest
+pub record Kept (o : Occultation) (i : ℕ) (runs : List ℕ) (t : Tally) : Type 0 where
   pub ends : Ends runs (t .filled)
   pub few : t .filled .count + t .filled .seconds ≤ i + 1
   pub states : (k : ℕ) → k < 2 → told k runs (t .filled) ≡ listOf (byteAt o k) (i + 1)
-  pub nearest : Nearest (squareAt o) (pos near *ℤ pos near) i (t .best) (t .least)
+  pub nearest : Nearest (squareAt o) (pos (t .near) *ℤ pos (t .near)) i (t .best) (t .least)
   pub size : natAbs (t .least) ≤ 1000000000000000000
+  pub reached : Reached o (secondCount (o .window)) (t .near)

@@ -57,6 +57,15 @@ module _ (m : ℕ → ℤ) (limit : ℤ) where
           each = split (Each m limit best least) i j (g .each) (λ τ a b. inl (later τ a b)) (inr (l, λ z. absurd (omega (arith, g .small))));
         }
 
+  -- a lower limit
+  pub nearest-lower : (lower : ℤ) → lower ≤ℤ limit → {i best : ℕ} {least : ℤ} → Nearest m limit i best least → Nearest m lower i best least
+  nearest-lower lower h {i} {best} {least} g =
+      record {
+        is = g .is;
+        small = g .small;
+        each = λ τ p. ⊎-elim (λ (f : limit <ℤ m τ). inl (≤ℤ-<ℤ-trans h f)) (λ (f : (least ≤ℤ m τ) × (τ < best → least <ℤ m τ)). inr f) (g .each τ p);
+      }
+
   -- some second has at most `limit`
   pub nearest-closest : {n best : ℕ} {least : ℤ} → Nearest m limit n best least → (k : ℕ) → k ≤ n → m k ≤ℤ limit → best ≡ closestTo m n
   nearest-closest {n} {best} {least} g k h l = closest-one m n best (closestTo m n) here (closest-is m n)

@@ -1,8 +1,7 @@
 -- A distance that some second reaches. Definitions only.
 use mathlib.Core.Path.{_≡_}
-use mathlib.Core.Logic.{_⊎_}
 use Prim.Native.Nat.{ℕ, _≤_, _<_}
-use lib.IntN.{ℤ, pos, natAbs, _*ℤ_}
+use lib.IntN.{pos, natAbs, _*ℤ_}
 use lib.Signed.{_≤ℤ_}
 use Rattle.requests.specs.declared.Occultation.{Occultation}
 use Rattle.exclusion_test.specs.Samples.{squareAt}
@@ -13,10 +12,6 @@ pub record Seen (o : Occultation) (n : ℕ) (w : Low) : Type 0 where
   pub small : w .second < n
   pub is : w .m ≡ squareAt o (w .second)
   pub size : natAbs (w .m) ≤ 1000000000000000000
-
--- r is w, or second k with m
-pub record OneOf (w : Low) (k : ℕ) (m : ℤ) (r : Low) : Type 0 where
-  pub which : (r ≡ w) ⊎ ((r .second ≡ k) × (r .m ≡ m))
 
 -- some second of n has at most r²
 pub record Reached (o : Occultation) (n r : ℕ) : Type 0 where

@@ -1,13 +1,12 @@
-// The seconds of a window that are computed first, and from them a distance that some second reaches, by a guess: the
-// nearer it is to the least, the more seconds can be skipped. Only that it is reached is promised. All are inner
-// functions, for the crates above, and have a `requires`.
+// The seconds of a window that are computed first, and from them a second that is nearly the closest, by a guess: the
+// nearer it is to the least, the more seconds can be skipped. Only that it is a second of the window, with its M, is
+// promised. All functions are internal and have a `requires`.
 use requests::Occultation;
 use shadow::Offset;
 use shadow::Sample;
 use station::Place;
 ghost use mathlib.Core.Path.{_≡_};
 ghost use Prim.Native.Nat.{_+_, _≤_, _<_};
-ghost use lib.IntN.{natAbs};
 ghost use Rattle.rounding.specs.Value.{Value};
 ghost use Rattle.sine_table.specs.Table.{Sines};
 ghost use Rattle.elements.specs.Stars.{axisOf};
@@ -16,8 +15,8 @@ ghost use Rattle.shadow.specs.Shadow.{IsOffset};
 ghost use Rattle.requests.specs.Windows.{nthSecond, secondCount};
 ghost use Rattle.requests.specs.RequestLaws.{InLimits};
 ghost use Rattle.exclusion_test.specs.Samples.{IsAt, squareAt};
-ghost use Rattle.adaptive_sampling.specs.Spread.{stop, Spread, SquareSizes, OneStop};
-ghost use Rattle.adaptive_sampling.specs.Reach.{OneOf, Reached};
+ghost use Rattle.adaptive_sampling.specs.Spread.{stop, Spread, Sized};
+ghost use Rattle.adaptive_sampling.specs.Reach.{Seen};
 
 // A second of the window, counted from its first, and its M.
 pub struct Low {
@@ -57,34 +56,22 @@ fn square_of(table: &[u32], o: Occultation, place: Place, k: usize) -> i64
     s.m
 }
 
-// The closer of a second and second k, whose M is m.
-fn closer(w: Low, k: usize, m: i64) -> Low
-    requires { ⌜ (natAbs (w .m) ≤ 1000000000000000000) × (natAbs m ≤ 1000000000000000000) ⌝ }
-    ensures { λ r. ⌜ OneOf w k m r ⌝ }
-{
-    let before = w.m;
-    if m < before {
-        return Low { second: k, m };
-    }
-    w
-}
-
-// The k-th of the seconds that cut a window of n into sixteen stretches.
+// The k-th of the seconds that cut a window of n into four stretches.
 pub fn stop(n: usize, k: usize) -> usize
-    requires { ⌜ (1 ≤ n) × (n ≤ 21601) × (k ≤ 16) ⌝ }
+    requires { ⌜ (1 ≤ n) × (n ≤ 21601) × (k ≤ 4) ⌝ }
     ensures { λ r. ⌜ r ≡ stop n k ⌝ }
 {
-    k * (n - 1) / 16
+    k * (n - 1) / 4
 }
 
-// The shadows at those seventeen seconds; a is the first.
-pub fn spread(table: &[u32], o: Occultation, place: Place, n: usize, a: Sample) -> [Sample; 17]
+// The shadows at those five seconds; a is the first.
+pub fn spread(table: &[u32], o: Occultation, place: Place, n: usize, a: Sample) -> [Sample; 5]
     requires { ⌜ (Sines (now table)) × (InLimits o) × (place ≡ placeOf (o .station)) × (n ≡ secondCount (o .window)) × (IsAt o 0 a) ⌝ }
     ensures { λ r. ⌜ Spread o n r ⌝ }
 {
-    let mut shadows = [a; 17];
+    let mut shadows = [a; 5];
     let mut k: usize = 1;
-    while k < 17 {
+    while k < 5 {
         let i = stop(n, k);
         let s = sample_of(table, o, place, i);
         shadows[k] = s;
@@ -93,43 +80,71 @@ pub fn spread(table: &[u32], o: Occultation, place: Place, n: usize, a: Sample) 
     shadows
 }
 
-// The closest of them.
-fn closest(n: usize, shadows: [Sample; 17]) -> Low
-    requires { ⌜ (1 ≤ n) × (n ≤ 21601) × (SquareSizes shadows) ⌝ }
-    ensures { λ r. ⌜ OneStop n shadows r ⌝ }
+// Which of them is closest.
+fn closest(shadows: [Sample; 5]) -> usize
+    ensures { λ r. ⌜ r < 5 ⌝ }
 {
     let a = shadows[0];
-    let mut w = Low { second: 0, m: a.m };
+    let mut least = a.m;
+    let mut found: usize = 0;
     let mut k: usize = 1;
-    while k < 17 {
-        let i = stop(n, k);
+    while k < 5 {
         let s = shadows[k];
-        w = closer(w, i, s.m);
+        if s.m < least {
+            least = s.m;
+            found = k;
+        }
         k += 1;
     }
-    w
+    found
 }
 
-// The second where the straight line through seconds k and k + 32 is closest, within a window of n.
+// The second of a window of n where the chord to one of its neighbours is closest, from the k-th of them.
+fn start(n: usize, shadows: [Sample; 5], k: usize) -> usize
+    requires { ⌜ (11 < n) × (n ≤ 21601) × (k < 5) × (Sized shadows) ⌝ }
+    ensures { λ r. ⌜ r < n ⌝ }
+{
+    let i = stop(n, k);
+    let c = shadows[k];
+    if k < 4 {
+        let after = k + 1;
+        let j = stop(n, after);
+        let o = shadows[after];
+        let t = crate::guesses::foot(c, o, j - i);
+        if 0 < t {
+            return i + t;
+        }
+    }
+    if 0 < k {
+        let before = k - 1;
+        let j = stop(n, before);
+        let o = shadows[before];
+        let t = crate::guesses::foot(c, o, i - j);
+        return i - t;
+    }
+    i
+}
+
+// The second where the straight line through seconds k and k + 8 is closest, within a window of n.
 fn foot(table: &[u32], o: Occultation, place: Place, n: usize, k: usize) -> usize
-    requires { ⌜ (Sines (now table)) × (InLimits o) × (place ≡ placeOf (o .station)) × (n ≡ secondCount (o .window)) × (k + 32 < n) ⌝ }
-    ensures { λ r. ⌜ r + 32 < n ⌝ }
+    requires { ⌜ (Sines (now table)) × (InLimits o) × (place ≡ placeOf (o .station)) × (n ≡ secondCount (o .window)) × (k + 8 < n) ⌝ }
+    ensures { λ r. ⌜ r < n ⌝ }
 {
     let a = offset_of(table, o, place, k);
-    let b = offset_of(table, o, place, k + 32);
+    let b = offset_of(table, o, place, k + 8);
     let p = b.u - a.u;
     let q = b.v - a.v;
     let square = p * p + q * q;
-    let rate = square as u64 / 32 + 1;
+    let rate = square as u64 / 8 + 1;
     let along = a.u * p + a.v * q;
     if along < 0 {
         let before = -along;
         let ahead = before as u64 / rate;
-        let room = n - 33 - k;
+        let room = n - 1 - k;
         if ahead < room as u64 {
             return k + ahead as usize;
         }
-        return n - 33;
+        return n - 1;
     }
     let back = along as u64 / rate;
     if back < k as u64 {
@@ -138,25 +153,36 @@ fn foot(table: &[u32], o: Occultation, place: Place, n: usize, k: usize) -> usiz
     0
 }
 
-// A distance that some second of a window of n reaches: the least of seventeen seconds, and of the second to which two
-// steps along the path's tangent lead from the closest of them. The promise only limits the result: some second of the
-// window is at most this distance away (`Reached`), and a smaller distance may be reached too. The rules leave this
-// open. Document 01 says what a sheet holds, and not which seconds are computed for it. `crate::bisection::fill`
-// passes over seconds that are farther away than this distance, and promises the closest of all by an equation. So a
-// larger distance costs time and changes no byte.
-pub fn reach(table: &[u32], o: Occultation, place: Place, n: usize, shadows: [Sample; 17]) -> u64
-    requires { ⌜ (Sines (now table)) × (InLimits o) × (place ≡ placeOf (o .station)) × (n ≡ secondCount (o .window)) × (99 < n) × (Spread o n shadows) ⌝ }
-    ensures { λ r. ⌜ Reached o n r ⌝ }
+// A second of a window of n that is nearly the closest, with its M: the closest of five seconds and of the second to
+// which a step along a chord and one along the path's tangent lead from there. The promise only limits the result: it
+// is a second of the window (`Seen`). The rules leave this open. Document 01 says what a sheet holds, and not which
+// seconds are computed for it. `crate::bisection::fill` passes over seconds that are farther away than this one, and
+// promises the closest of all by an equation. So another second costs time and changes no byte.
+pub fn nearly_closest(
+    table: &[u32],
+    o: Occultation,
+    place: Place,
+    n: usize,
+    shadows: [Sample; 5],
+) -> Low
+    requires { ⌜ (Sines (now table)) × (InLimits o) × (place ≡ placeOf (o .station)) × (n ≡ secondCount (o .window)) × (11 < n) × (Spread o n shadows) ⌝ }
+    ensures { λ r. ⌜ Seen o n r ⌝ }
 {
-    let w = closest(n, shadows);
-    let mut start = w.second;
-    if n - 33 < start {
-        start = n - 33;
+    let k = closest(shadows);
+    let from = start(n, shadows, k);
+    let mut i = from;
+    if n - 9 < i {
+        i = n - 9;
     }
-    let first = foot(table, o, place, n, start);
-    let second = foot(table, o, place, n, first);
+    let second = foot(table, o, place, n, i);
     let m = square_of(table, o, place, second);
-    let x = closer(w, second, m);
-    let least = x.m;
-    rounding::root(least as u64) + 1
+    let c = shadows[k];
+    if c.m < m {
+        let best = stop(n, k);
+        return Low {
+            second: best,
+            m: c.m,
+        };
+    }
+    Low { second, m }
 }

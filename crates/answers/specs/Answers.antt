@@ -1,5 +1,5 @@
--- The answer to a request's bytes, given a room for table S and one for its sheet: as text, and as it is stored.
--- The answer, and what it leaves in the rooms: request_sheets, Sheet.
+-- The answer to a request's bytes, given a buffer for table S and one for its sheet: as text, and as it is stored.
+-- The answer, and what it leaves in the buffers: request_sheets, Sheet.
 use mathlib.Core.List.{List, []}
 use Prim.Native.Nat.{ℕ}
 use lib.IntN.{ℤ}
@@ -20,7 +20,7 @@ use Rattle.listing_lines.specs.Lines.{refusalLine}
 use Rattle.listings.specs.Listings.{told, timed, printed}
 use Rattle.program_io.specs.Inputs.{zeros}
 
--- the listing of the bytes that the sheet has in the room; or "A refusal prints `refused`, number, place."
+-- the listing of the bytes that the sheet has in the buffer; or "A refusal prints `refused`, number, place."
 abbrev pub textBy : Answer → List ℕ → List ℕ
 textBy (A.Written n) room = printed (told (take n room))
 textBy (A.Refused r) room = refusalLine (r .number) (r .place)

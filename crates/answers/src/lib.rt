@@ -24,8 +24,8 @@ fn sky_of(shape: Shape, request: &[u8]) -> Sky
     }
 }
 
-// The text of an answer whose sheet stands at the room's start, with times where the reference is an instant, and with
-// altitudes and notes where there is an occultation.
+// The text of an answer whose sheet stands at the buffer's start, with times where the reference is an instant, and
+// with altitudes and notes where there is an occultation.
 fn put_text(
     answer: Answer,
     room: &[u8],
@@ -50,8 +50,8 @@ fn put_text(
     }
 }
 
-// The sheet of a request of that shape in its room, with `sines` for table S, and the text of the answer from the start
-// of `out` on, as far as that goes; the place after it.
+// The sheet of a request of that shape in its buffer, with `sines` for table S, and the text of the answer from the
+// start of `out` on, as far as that goes; the place after it.
 pub fn put_answer(
     shape: Shape,
     request: &[u8],
@@ -91,7 +91,8 @@ pub fn put_printed(shape: Shape, request: &[u8], out: &mut [u8]) -> usize
     put_answer(shape, request, &mut sines, &mut room, out)
 }
 
-// The answer to an eclipse's bytes with times by the reference and the ΔT of the request's station, altitudes and notes.
+// The answer to an eclipse's bytes with times by the reference and the ΔT of the request's station, altitudes and
+// notes.
 pub fn put_timed_answer(
     request: &[u8],
     reference: Reference,

@@ -40,7 +40,7 @@ unfoldable pub firstRefused : List ℤ → ℕ → ℕ → Verdict
 firstRefused n i zero = Rows.Whole
 firstRefused n i (suc k) = cond (accepted (rowAt n i)) (firstRefused n (suc i) k) (Rows.Refused i)
 
--- 10 for another length than 42, then 11, then 4 with 56 where the room is short
+-- 10 for another length than 42, then 11, then 4 with 56 where the buffer is short
 abbrev inRoom : Verdict → ℕ → Answer
 inRoom (Rows.Refused i) room = Refused (refusal 11 i)
 inRoom Rows.Whole room = cond (leb 56 room) Made (Refused (refusal 4 56))
@@ -57,12 +57,12 @@ unfoldable pub valuesOf : List ℤ → ℕ → List ℤ
 valuesOf n zero = []
 valuesOf n (suc k) = valuesOf n k ++ eight (elementsOf document02 (rowAt n k))
 
--- after a refusal the room holds its old numbers, after success the numbers past the values do
+-- after a refusal the buffer holds its old numbers, after success the numbers past the values do
 abbrev pub valuesAfter : Answer → List ℤ → List ℤ → List ℤ
 valuesAfter Made n old = valuesOf n 7 ++ drop 56 old
 valuesAfter (Refused r) n old = old
 
--- the eight values of row i that stand in a room
+-- the eight values of row i that stand in a buffer
 unfoldable pub elementsAt : List ℤ → ℕ → Besselian
 elementsAt v i =
     record {
@@ -76,7 +76,7 @@ elementsAt v i =
       l2 = number v (8 * i + 7);
     }
 
--- "Against the exact value, .. within 4 units and .. within 1,000": said of the numbers in the caller's room
+-- "Against the exact value, .. within 4 units and .. within 1,000": said of the numbers in the caller's buffer
 abbrev pub Claimed : Answer → List ℤ → List ℤ → Type 0
 Claimed Made n after = (i : ℕ) → i < 7 → Faithful document02 (rowAt n i) (elementsAt after i)
 Claimed (Refused r) n after = Unit

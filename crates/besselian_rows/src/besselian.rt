@@ -12,7 +12,8 @@ pub struct Row {
     pub moonz: i64,
 }
 
-// The radii of Sun and Moon, 10^-8 of the Earth's equatorial radius. Document 02 has 10,904,847,000 and 27,227,400 twice.
+// The radii of Sun and Moon, 10^-8 of the Earth's equatorial radius. Document 02 has 10,904,847,000 and 27,227,400
+// twice.
 pub struct Radii {
     // the Sun's: 10,890,000,000 to 10,930,000,000
     pub sun: u64,

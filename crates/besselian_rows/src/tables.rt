@@ -11,7 +11,8 @@ ghost use Rattle.besselian_rows.specs.Tables.{rowAt, eight, firstRefused
 // Whether the values were made.
 pub enum Answer {
     Made,
-    // 10: not 42 numbers; 11: the first row, 0 to 6, that is not accepted; 4: less room than 56 numbers, place 56
+    // 10: not 42 numbers; 11: the first row, 0 to 6, that is not accepted; 4: a buffer shorter than 56 numbers, place
+    // 56
     Refused(Refusal),
 }
 
@@ -60,7 +61,7 @@ pub fn first_refused(rows: &[i64]) -> Verdict
     Verdict::Whole
 }
 
-// The answer to these rows where there is room for so many numbers.
+// The answer to these rows where the buffer holds so many numbers.
 fn judged(rows: &[i64], room: usize) -> Answer
     ensures { λ r. ⌜ r ≡ answerTo (now (rows .entry)) room ⌝ }
 {
@@ -130,7 +131,7 @@ fn fill(rows: &[i64], values: &mut [i64])
 
 // The elements of seven rows, each the Sun's x, y, z and the Moon's x, y, z, at the start of `values`, each row's x,
 // y, sin d, cos d, tan f1, tan f2, l1, l2. Refusals: 10 for another length than 42; 11 with the first row that is not
-// accepted; 4 with 56 where there is less room.
+// accepted; 4 with 56 where the buffer is shorter.
 pub fn elements(rows: &[i64], values: &mut [i64]) -> Answer
     ensures answer { λ r. ⌜ r ≡ answerTo (now (rows .entry)) (length (now (values .entry))) ⌝ }
     ensures values { λ r. ⌜ now (values .exit) ≡ valuesAfter (answerTo (now (rows .entry)) (length (now (values .entry)))) (now (rows .entry)) (now (values .entry)) ⌝ }

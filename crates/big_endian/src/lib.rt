@@ -1,5 +1,5 @@
-// Numbers of two, four and eight bytes, the highest first, as sheets, requests and notes have them. These are inner
-// functions, for the crates above, and have a `requires`.
+// Numbers of two, four and eight bytes, the highest first, as sheets, requests and notes have them. These functions
+// are internal and have a `requires`.
 ghost use mathlib.Core.Path.{_≡_};
 ghost use Prim.Native.Nat.{_+_, _≤_, _<_};
 ghost use lib.ListN.{length};

@@ -48,7 +48,7 @@ fitted z = cond (ltb (natAbs z) (2 ^ 63)) (Units z) TooLarge
 unfoldable pub readingOf : (scale : ℕ) → Float → Reading
 readingOf scale x = cond (finite x) (fitted (unitsOf scale x)) NotFinite
 
--- the number that the code goes on with: one too large "is outside its range", and so is what stands in for it
+-- the number that the code goes on with: one too large "is outside its range", and so is the number used in its place
 -- (HeldLaws)
 abbrev pub standIn : Reading → ℤ
 standIn (Units z) = z

@@ -40,7 +40,7 @@ const LEADING: u64 = 4_503_599_627_370_496;
 // The exponent field of an infinity or a NaN.
 const NOT_FINITE: u64 = 2047;
 
-// What a number of 53 digits is split by, 2^26: each part times a scale has room.
+// What a number of 53 digits is split by, 2^26: each part times a scale fits in 64 bits.
 const PART: u64 = 67_108_864;
 
 // Whether it is neither an infinity nor a NaN.

@@ -1,3 +1,3 @@
--- the seconds between two computed ones
-pub mod Skip
+-- the margins at two ends
+pub mod Margins
 pub mod laws

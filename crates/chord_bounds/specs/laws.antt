@@ -1,16 +1,18 @@
--- table S and the rule between two angles of a cell
-pub mod Table
-pub mod Rule
-pub mod Cell
-pub mod First
--- all cells of all turns
+-- a whole turn more, and the true sine: its first and second differences
 pub mod Turns
-pub mod Cells
-pub mod Sines
--- numbers whose second differences are small, and their chord
-pub mod Chord
-pub mod Clear
--- the values and the shadow at three seconds in a row
+pub mod SeriesBend
+pub mod TrueBend
+-- from second differences to a tangent
+pub mod Tangent
+pub mod SineSlope
+-- how far a value leaves a chord
+pub mod Deviation
+pub mod SineChord
 pub mod Values
+-- the shadow
 pub mod Shadows
 pub mod Path
+-- the margins at two ends, and the seconds between
+pub mod MarginLaws
+pub mod Clear
+pub mod Skip

@@ -17,12 +17,12 @@ use Rattle.circumstances.specs.declared.Answer.the-variants as A
 abbrev pub answerWithin : Occultation → List ℕ → Answer
 answerWithin o old = cond (leb (length (sheetBytes o)) (length old)) (A.Written (length (sheetBytes o))) (A.Refused (refusal 4 (length (sheetBytes o))))
 
--- after the refusals of its numbers and of its room for table S
+-- after the refusals of its numbers and of its buffer for table S
 abbrev pub answerBy : Checked → Occultation → List ℕ → Answer
 answerBy (C.Refused r) o old = A.Refused r
 answerBy C.Within o old = answerWithin o old
 
--- document 02, wish 8: the room's 4 is "just ahead of the sheet's 4"
+-- document 02, wish 8: the buffer's 4 is "just ahead of the sheet's 4"
 unfoldable pub sheetAnswer : Occultation → (sines old : List ℕ) → Answer
 sheetAnswer o sines old = answerBy (admitted o sines) o old
 
@@ -37,6 +37,6 @@ bufferBy C.Within o old = bufferWithin o old
 unfoldable pub sheetBuffer : Occultation → (sines old : List ℕ) → List ℕ
 sheetBuffer o sines old = bufferBy (admitted o sines) o old
 
--- the room for table S: the sheet's 4 "alone leaves this room filled"
+-- the buffer for table S: the sheet's 4 "alone leaves this room filled"
 unfoldable pub sheetSines : Occultation → List ℕ → List ℕ
 sheetSines o sines = sinesAfter (admitted o sines) sines

@@ -45,7 +45,7 @@ fn sheet_from(
     Answer::Written(length)
 }
 
-// The sheet within its limits, with the sine table lent.
+// The sheet of an occultation within its limits, from a filled sine table.
 fn sheet_within(table: &[u32], o: Occultation, buf: &mut [u8]) -> Answer
     requires { ⌜ (Sines (now table)) × (InLimits o) ⌝ }
     ensures { λ r. ⌜ r ≡ answerWithin o (now (buf .entry)) ⌝ }
@@ -60,7 +60,7 @@ fn sheet_within(table: &[u32], o: Occultation, buf: &mut [u8]) -> Answer
     sheet_from(table, o, place, closest, &runs[..count], buf)
 }
 
-// The contact sheet, in the caller's buffer; `sines` is room for table S.
+// The contact sheet, in the caller's buffer; `sines` is the buffer for table S.
 pub fn sheet(o: Occultation, sines: &mut [u32], buf: &mut [u8]) -> Answer
     ensures answer { λ r. ⌜ r ≡ sheetAnswer o (now (sines .entry)) (now (buf .entry)) ⌝ }
     ensures buffer { λ r. ⌜ now (buf .exit) ≡ sheetBuffer o (now (sines .entry)) (now (buf .entry)) ⌝ }

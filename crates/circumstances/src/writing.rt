@@ -1,5 +1,5 @@
-// The sheet of an occultation, written into a buffer that has room for it, from the states of its seconds. These are
-// inner functions, for the crates above, and have a `requires`.
+// The sheet of an occultation, written into a buffer that can hold it, from the states of its seconds. These
+// functions are internal and have a `requires`.
 pub mod lengths;
 
 use requests::Occultation;
@@ -142,7 +142,7 @@ fn write_closing(
     sheet_format::records::bytes::put(buf, after_closest, end)
 }
 
-// The whole sheet at the buffer's start, which has room for it; its length.
+// The whole sheet at the start of the buffer, which can hold it; its length.
 pub fn write_sheet(
     table: &[u32],
     o: Occultation,

@@ -1,5 +1,5 @@
--- What a network's list is refused for before the room for table S: document 02, wish 10. Definitions only. What its
--- clocks are: chains, Steps.
+-- What a network's list is refused for before the buffer for table S: document 02, wish 10. Definitions only. What
+-- its clocks are: chains, Steps.
 use mathlib.Core.Bool.{false, cond, _&&_}
 use mathlib.Core.List.{List, [], _∷_}
 use Prim.Native.Nat.{ℕ, suc, _+_, _*_}

@@ -26,7 +26,7 @@ pick false a b = b
 abbrev pub least64 : ℕ → ℕ
 least64 n = pick (ltb n 64) n 64
 
--- room for 64 nodes of a list of n
+-- space for 64 nodes of a list of n
 abbrev pub emptyOf : ℕ → Held
 emptyOf n = record { nodes = blankNodes; count = n }
 

@@ -20,7 +20,7 @@ numbersOf l = map numberOf l
 abbrev pub clocksOf : List Node → List ℤ
 clocksOf l = map clockOf l
 
--- the value holds the list, as far as there is room
+-- the value holds the list, as far as it fits
 pub record Holds (h : Held) (l : List Node) : Type 0 where
   pub room : length (h .nodes) ≡ 64
   pub count : h .count ≡ length l

@@ -1,4 +1,4 @@
-// What a network's list is refused for before the room for table S: 19, 1, 2, 3, 14, 15, 16. The list is taken as a
+// What a network's list is refused for before the buffer for table S: 19, 1, 2, 3, 14, 15, 16. The list is taken as a
 // value (crate `nodes`).
 use crate::stations::Held;
 use sheet_types::refusals::Checked;

@@ -1,5 +1,5 @@
 // The stations of a network in one list, each with the station whose clock it follows. `size`, `taken` and `gathered`
-// take the list lent, a slice of structs, and turn it into a value; all else is over that value.
+// take the borrowed list, a slice of structs, and turn it into a value; everything else works on that value.
 ghost use mathlib.Core.Path.{_≡_};
 ghost use Prim.Native.Nat.{_<_};
 ghost use lib.ListN.{length, getD};
@@ -30,7 +30,7 @@ fn blank() -> Node
     }
 }
 
-// A list's nodes, as many as there is room for, with the list's own length.
+// A list's nodes, as many as fit, with the list's own length.
 pub struct Held {
     pub nodes: [Node; 64],
     pub count: usize,
@@ -55,14 +55,14 @@ pub fn put(h: Held, i: usize, n: Node) -> Held
     g
 }
 
-// How many nodes of a list of n there is room for.
+// How many nodes of a list of n fit.
 fn least(n: usize) -> usize
     ensures { λ r. ⌜ r ≡ least64 n ⌝ }
 {
     if n < 64 { n } else { 64 }
 }
 
-// ---- the list as it is lent
+// ---- the borrowed list
 
 // Its length.
 fn size(l: &[Node]) -> usize
@@ -79,7 +79,7 @@ fn taken(l: &[Node], i: usize) -> Node
     l[i]
 }
 
-// Its nodes, as far as there is room: the one loop over a lent list.
+// Its nodes, as many as fit: the only loop over the borrowed list.
 pub fn gathered(l: &[Node]) -> Held
     ensures { λ r. ⌜ r ≡ heldOf (now (l .entry)) (least64 (length (now (l .entry)))) ⌝ }
 {

@@ -1,6 +1,6 @@
 // The clocks of a network over its list's numbers and clocks, as plain slices: refusals 14, 15 and 16, the steps from
-// the antenna, and the first of the smallest seconds. These are inner functions, for the crate above; they know no
-// station and no shadow.
+// the antenna, and the first of the smallest seconds. These functions are internal; they know no station and no
+// shadow.
 ghost use mathlib.Core.Path.{_≡_};
 ghost use Prim.Native.Nat.{_+_, _<_, _≤_};
 ghost use lib.ListN.{length};
@@ -58,7 +58,7 @@ pub fn first_stray(numbers: &[i64], clocks: &[i64]) -> usize
     i
 }
 
-// The steps of place i, from those of the places that are known so far, or 0 where they do not tell.
+// The steps of place i, from those of the places that are known so far, or 0 where those do not determine them.
 fn next_steps(numbers: &[i64], clocks: &[i64], steps: &[u8], i: usize) -> u8
     requires { ⌜ (length (now clocks) ≡ length (now numbers)) × (length (now numbers) ≤ length (now steps)) × (i < length (now numbers)) × Distinct (now numbers) × Small (now steps) ⌝ }
     ensures { λ r. ⌜ NextIs (now (numbers .entry)) (now (clocks .entry)) (now (steps .entry)) i r ⌝ }
@@ -80,11 +80,11 @@ fn next_steps(numbers: &[i64], clocks: &[i64], steps: &[u8], i: usize) -> u8
 pub enum Ready {
     // A place without steps, and what its steps are.
     Found(usize, u8),
-    // No place can be told.
+    // No place can be determined.
     Quiet,
 }
 
-// The first place whose steps are not known and can be told.
+// The first place whose steps are not known and can be determined.
 fn ready_place(numbers: &[i64], clocks: &[i64], steps: &[u8]) -> Ready
     requires { ⌜ (length (now clocks) ≡ length (now numbers)) × (length (now numbers) ≤ length (now steps)) × Distinct (now numbers) × Small (now steps) ⌝ }
     ensures { λ r. ⌜ ReadyIs (now (numbers .entry)) (now (clocks .entry)) (now (steps .entry)) r ⌝ }

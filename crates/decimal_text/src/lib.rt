@@ -1,7 +1,7 @@
-// Whole numbers in decimal, and lines of text with such numbers, as bytes in a room that is lent.
+// Whole numbers in decimal, and lines of text with such numbers, as bytes in a caller-provided buffer.
 //
-// A `put_` function stores a text at a place, as far as the room goes, and gives the place after it. So texts follow
-// each other, and a room of no bytes measures them.
+// A `put_` function stores a text at a place, as far as the buffer reaches, and gives the place after it. So texts
+// follow each other, and an empty buffer measures them.
 ghost use mathlib.Core.Path.{_≡_};
 ghost use mathlib.Core.List.{[], _∷_};
 ghost use Prim.Native.Nat.{_+_, _<_, min};
@@ -25,7 +25,7 @@ pub fn put_byte(out: &mut [u8], at: usize, x: u8) -> usize
     at
 }
 
-// The place `end`, or the end of the room where `end` lies past it. So `&out[..n]` is what was put.
+// The place `end`, or the end of the buffer where `end` lies past it. So `&out[..n]` is what was put.
 pub fn clipped(out: &[u8], end: usize) -> usize
     ensures { λ r. ⌜ r ≡ min end (length (now (out .entry))) ⌝ }
     ensures { λ r. ⌜ Counts r (now (out .entry)) ⌝ }

@@ -1,4 +1,5 @@
--- Angles, in units of 10^-6 degree, from sines and cosines, in units of 10^-8, by document 01's sine rule. These are definitions.
+-- Angles, in units of 10^-6 degree, from sines and cosines, in units of 10^-8, by document 01's sine rule. These are
+-- definitions.
 use mathlib.Core.Bool.{Bool, cond}
 use Prim.Native.Nat.{ℕ, _+_, _-_, _%_}
 use lib.Dec.{leb}
@@ -19,7 +20,8 @@ arc s = largest (reaches s) 45_000_000
 unfoldable pub arcsine : ℤ → ℤ
 arcsine s = cond (ltZ s (pos 0)) (negℤ (pos (arc (natAbs s)))) (pos (arc (natAbs s)))
 
--- the angle from 0 to 90 degrees whose cosine is p and whose sine is q: by the lesser of the two, which is the sine of at most 45 degrees
+-- the angle from 0 to 90 degrees whose cosine is p and whose sine is q: by the lesser of the two, which is the sine
+-- of at most 45 degrees
 unfoldable pub acute : (p q : ℕ) → ℕ
 acute p q = cond (leb q p) (arc q) (90_000_000 - arc p)
 

@@ -1,4 +1,5 @@
--- The answer to seven accepted rows: elements in their ranges with their misfits, or the first refusal. Definitions only.
+-- The answer to seven accepted rows: elements in their ranges with their misfits, or the first refusal. Definitions
+-- only.
 use mathlib.Core.Bool.{Bool, cond}
 use Prim.Native.Nat.{ℕ, _+_}
 use lib.Dec.{leb}

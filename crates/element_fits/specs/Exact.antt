@@ -1,4 +1,5 @@
--- The exact polynomial of least squares, its coefficients as whole numbers over 252 (a cubic) and over 84 (a quadratic), and values at an hour.
+-- The exact polynomial of least squares, its coefficients as whole numbers over 252 (a cubic) and over 84 (a
+-- quadratic), and values at an hour.
 use lib.IntN.{ℤ, pos, negsuc, _+ℤ_, _-ℤ_, _*ℤ_}
 use Rattle.elements.specs.declared.Cubic.{Cubic}
 use Rattle.elements.specs.declared.Quadratic.{Quadratic}

@@ -6,7 +6,8 @@ use Rattle.elements.specs.declared.Cubic.{Cubic}
 use Rattle.elements.specs.declared.Quadratic.{Quadratic}
 use Rattle.element_fits.specs.declared.least_squares.Hourly.{Hourly}
 
--- ---- sums of the values times 1, t, t² - 4 and (t³ - 7t)/6: at the seven hours each of these four is perpendicular to the others
+-- ---- sums of the values times 1, t, t² - 4 and (t³ - 7t)/6: at the seven hours each of these four is perpendicular
+-- to the others
 unfoldable pub sum : Hourly → ℤ
 sum v = v .v0 +ℤ v .v1 +ℤ v .v2 +ℤ v .v3 +ℤ v .v4 +ℤ v .v5 +ℤ v .v6
 

@@ -104,7 +104,7 @@ abbrev pub ofAdmitted : Checked → Answer → Answer
 ofAdmitted C.Within next = next
 ofAdmitted (C.Refused r) next = Refused r
 
--- room and second are the lengths of the buffers for the elements and for the misfits
+-- buffer and second are the lengths of the buffers for the elements and for the misfits
 unfoldable pub answerTo : (rows sidereal radii : List ℤ) (tolerance : ℤ) (sines : List ℕ) (room second : ℕ) → Answer
 answerTo n g k tolerance sines room second = ofAdmitted (admitted n g k tolerance sines) (inRooms room second (fitsAsked n g k tolerance))
 

@@ -47,7 +47,8 @@ pub fn arcsine(table: &[u32], s: i64) -> i64
     if s < 0 { -angle } else { angle }
 }
 
-// The angle from 0 to 90 degrees whose cosine is p and whose sine is q: by the lesser of the two, which is the sine of at most 45 degrees.
+// The angle from 0 to 90 degrees whose cosine is p and whose sine is q: by the lesser of the two, which is the sine
+// of at most 45 degrees.
 fn acute(table: &[u32], p: u64, q: u64) -> u64
     requires { ⌜ Sines (now table) ⌝ }
     ensures value { λ r. ⌜ r ≡ acute p q ⌝ }

@@ -37,7 +37,8 @@ pub struct Rows {
     pub r6: besselian_rows::besselian::Row,
 }
 
-// What one row gives to the fits: x, y, l1 and l2 in 10^-8 radius, the axis' declination and right ascension in 10^-6 degree.
+// What one row gives to the fits: x, y, l1 and l2 in 10^-8 radius, the axis' declination and right ascension in 10^-6
+// degree.
 pub struct Hour {
     pub x: i64,
     pub y: i64,
@@ -97,7 +98,8 @@ fn hour_of(
     }
 }
 
-// The hour angle at Greenwich of a row's axis, less 15 degrees for each hour: g is the sidereal time, a the right ascension.
+// The hour angle at Greenwich of a row's axis, less 15 degrees for each hour: g is the sidereal time, a the right
+// ascension.
 fn turn(g: i64, a: i64, hour: i64) -> i64
     requires { ⌜ (natAbs g ≤ 360_000_000) × (natAbs a ≤ 360_000_000) × (natAbs hour ≤ 3) ⌝ }
     ensures { λ r. ⌜ Value (turn g a hour) 765_000_000 r ⌝ }
@@ -314,7 +316,8 @@ fn hour_angle(q: Quadratic, middle: i64) -> Quadratic
     Quadratic { c0, c1, c2 }
 }
 
-// Six values at the seven hours, which are fitted. mu: the hour angle less 15 degrees an hour, from that of the middle row.
+// Six values at the seven hours, which are fitted. mu: the hour angle less 15 degrees an hour, from that of the
+// middle row.
 pub struct Columns {
     pub x: Hourly,
     pub y: Hourly,
@@ -588,13 +591,10 @@ pub struct Fits {
 // The elements, or why there are none.
 pub enum Answer {
     Made(Fits),
-    // 10: not 42, 7 and 3 numbers
-    // 18: the tolerance is not 0 to 1,000, place 0
-    // 21: a radius, 0 to 2, or a sidereal angle, 3 to 9, out of its range
-    // 11: the first row, 0 to 6, that is not accepted
-    // 4: less room than 901 numbers for table S, 22 for the elements, 6 for the misfits
-    // 2: the first element out of its range, 0 to 21
-    // 17: ten times the first fit, of x, y, d, l1, l2 and mu, 0 to 5, that misses one of its values by more than the
+    // 10: not 42, 7 and 3 numbers 18: the tolerance is not 0 to 1,000, place 0 21: a radius, 0 to 2, or a sidereal
+    // angle, 3 to 9, out of its range 11: the first row, 0 to 6, that is not accepted 4: a buffer shorter than 901
+    // numbers for table S, 22 for the elements, 6 for the misfits 2: the first element out of its range, 0 to 21 17:
+    // ten times the first fit, of x, y, d, l1, l2 and mu, 0 to 5, that misses one of its values by more than the
     // tolerance, and the first such hour, 0 to 6
     Refused(Refusal),
 }

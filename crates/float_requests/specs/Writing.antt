@@ -32,8 +32,8 @@ onlyLongitude u = record { number = pos 1; latitude = pos 0; longitude = u; heig
 abbrev pub longitudeChecked : ℤ → Checked
 longitudeChecked u = stationChecked (onlyLongitude u)
 
--- 22 elements and a longitude, "for every value in range": 10 for another length than 23, 2 and 3 out of range, 4 with
--- 23 where the room is short
+-- 22 elements and a longitude, "for every value in range": 10 for another length than 23, 2 and 3 out of range, 4
+-- with 23 where the buffer is short
 abbrev inRoom : Checked → ℕ → Answer
 inRoom (C.Refused r) room = A.Refused r
 inRoom C.Within room = cond (leb 23 room) A.Made (A.Refused (refusal 4 23))
@@ -42,12 +42,12 @@ unfoldable pub answerTo : List ℤ → ℕ → Answer
 answerTo us room =
     cond (eqb (length us) 23) (inRoom (andThen (elementsChecked (elementsOf us)) (longitudeChecked (getD us 22 (pos 0)))) room) (A.Refused (refusal 10 0))
 
--- after a refusal the room holds its old doubles, after success those past the 23 do
+-- after a refusal the buffer holds its old doubles, after success those past the 23 do
 abbrev pub roomAfter : Answer → List ℤ → List Float → List Float
 roomAfter A.Made us old = doublesIn scales us ++ drop 23 old
 roomAfter (A.Refused r) us old = old
 
--- "and reading it back gives the same unit": of the doubles in the caller's room
+-- "and reading it back gives the same unit": of the doubles in the caller's buffer
 pub record ReadBack (us : List ℤ) (room : List Float) : Type 0 where
   pub all-finite : finiteChecked (doublesOf room) (Degrees (double room 22)) ≡ C.Within
   pub elements : elementsIn (doublesOf room) ≡ elementsOf us

@@ -176,7 +176,7 @@ pub fn check_finite(d: ElementDoubles, longitude: Longitude) -> Checked
     Checked::Within
 }
 
-// Each of the 22 in whole units; what stands in for one too large is out of every range too.
+// Each of the 22 in whole units; the number used in place of one that is too large is out of every range too.
 fn units_in(xs: &[f64]) -> [i64; 22]
     requires { ⌜ length (now xs) ≡ 22 ⌝ }
     ensures { λ r. ⌜ r ≡ map held (unitsIn scales (now (xs .entry))) ⌝ }

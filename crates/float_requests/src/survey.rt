@@ -32,7 +32,7 @@ pub struct Survey {
     pub guard: i64,
 }
 
-// The survey in whole units; what stands in for a unit too large is out of every range too.
+// The survey in whole units; the number used in place of a unit that is too large is out of every range too.
 fn request_of(s: Survey) -> Request
     ensures { λ r. ⌜ r ≡ heldRequest (requestOf s) ⌝ }
 {
@@ -83,7 +83,7 @@ fn check(s: Survey, o: Occultation) -> Checked
     crate::instrument::check_finite(d, l)
 }
 
-// The contact sheet of a survey, in the caller's buffer; `sines` is room for table S.
+// The contact sheet of a survey, in the caller's buffer; `sines` is the buffer for table S.
 pub fn sheet(s: Survey, sines: &mut [u32], buf: &mut [u8]) -> circumstances::Answer
     ensures answer { λ r. ⌜ r ≡ surveyAnswer s (now (sines .entry)) (now (buf .entry)) ⌝ }
     ensures buffer { λ r. ⌜ now (buf .exit) ≡ surveyBuffer s (now (sines .entry)) (now (buf .entry)) ⌝ }

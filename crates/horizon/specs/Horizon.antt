@@ -66,7 +66,7 @@ orientationAt o τ = orientationOf (momentAt o τ)
 unfoldable pub horizonAt : Occultation → ℤ → Horizon
 horizonAt o τ = horizonOf (sine (o .station .latitude)) (cosine (o .station .latitude)) (orientationAt o τ)
 
--- ---- with the refusals, in their order, and the room for table S, of one second (seconds, OneSecond)
+-- ---- with the refusals, in their order, and the buffer for table S, of one second (seconds, OneSecond)
 abbrev pub horizonBy : Checked → Occultation → ℤ → OneHorizon
 horizonBy (C.Refused r) o τ = O.Refused r
 horizonBy C.Within o τ = O.Is (horizonAt o τ)
@@ -74,6 +74,6 @@ horizonBy C.Within o τ = O.Is (horizonAt o τ)
 unfoldable pub horizonAnswer : Occultation → ℤ → List ℕ → OneHorizon
 horizonAnswer o τ sines = horizonBy (secondChecked o τ sines) o τ
 
--- that room afterwards: as after one second
+-- that buffer afterwards: as after one second
 abbrev pub horizonSines : Occultation → ℤ → List ℕ → List ℕ
 horizonSines o τ sines = secondSines o τ sines

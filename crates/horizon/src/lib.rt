@@ -107,7 +107,7 @@ fn horizon_of(table: &[u32], sine: i64, cosine: i64, o: Orientation) -> Horizon
     }
 }
 
-// The horizon at a second of an occultation within its limits, with the sine table lent.
+// The horizon at a second of an occultation within its limits, from a filled sine table.
 pub fn horizon_within(table: &[u32], o: Occultation, t: i64) -> Horizon
     requires { ⌜ (Sines (now table)) × (InLimits o) × (natAbs t ≤ 10800) ⌝ }
     ensures { λ r. ⌜ r ≡ horizonAt o t ⌝ }
@@ -129,7 +129,7 @@ pub fn horizon_within(table: &[u32], o: Occultation, t: i64) -> Horizon
     horizon_of(table, sine, cosine, orientation)
 }
 
-// The horizon at second t of an occultation, which may lie outside its window; `sines` is room for table S.
+// The horizon at second t of an occultation, which may lie outside its window; `sines` is the buffer for table S.
 pub fn horizon_at(o: Occultation, t: i64, sines: &mut [u32]) -> OneHorizon
     ensures answer { λ r. ⌜ r ≡ horizonAnswer o t (now (sines .entry)) ⌝ }
     ensures sines { λ r. ⌜ now (sines .exit) ≡ horizonSines o t (now (sines .entry)) ⌝ }

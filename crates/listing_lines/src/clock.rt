@@ -1,6 +1,6 @@
 // Seconds of a sheet as times of day, in ephemeris time, universal time and UTC, and the line of an entry with them
-// (docs/CLOCK.md). A `put_` function stores a text at a place of a room, as far as the room goes, and gives the place
-// after it (`decimals`).
+// (docs/CLOCK.md). A `put_` function stores a text at a place of a buffer, as far as the buffer reaches, and gives
+// the place after it (`decimals`).
 mod scales;
 
 use calendar::Instant;

@@ -1,5 +1,5 @@
-// The line of an entry, and of a refusal. A `put_` function stores it at a place of a room, as far as the room goes,
-// and gives the place after it (`decimals`).
+// The line of an entry, and of a refusal. A `put_` function stores it at a place of a buffer, as far as the buffer
+// reaches, and gives the place after it (`decimals`).
 use sheet_format::kinds::Entry;
 use sheet_format::kinds::Kind;
 use sheet_types::phases::Phase;

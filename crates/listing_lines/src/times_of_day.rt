@@ -1,5 +1,5 @@
-// Times of day as text (docs/CLOCK.md, "The form"). A `put_` function stores a text at a place of a room, as far as
-// the room goes, and gives the place after it (`decimals`).
+// Times of day as text (docs/CLOCK.md, "The form"). A `put_` function stores a text at a place of a buffer, as far as
+// the buffer reaches, and gives the place after it (`decimals`).
 ghost use mathlib.Core.List.{[], _∷_, _++_};
 ghost use Prim.Native.Nat.{_+_, _%_, _≤_};
 ghost use lib.IntN.{pos, natAbs};

@@ -1,4 +1,4 @@
--- A text laid into a room that is lent: the answer, and the room afterwards.
+-- A text stored in a caller-provided buffer: the answer, and the buffer afterwards.
 use Prim.Native.Nat.{ℕ}
 use mathlib.Core.List.{List, _++_}
 use mathlib.Core.Bool.{cond}
@@ -15,8 +15,8 @@ pub data Told : Type 0 where
   text : List ℕ → Told
   withheld : Refusal → Told
 
--- the refusal; or "4 | sheet longer than the buffer | the length it needs", said of a text and its room of k bytes; or
--- the text's length
+-- the refusal; or "4 | sheet longer than the buffer | the length it needs", said of a text and its buffer of k bytes;
+-- or the text's length
 unfoldable pub answered : ℕ → Told → Text
 answered k (withheld r) = Refused r
 answered k (text t) = cond (leb (length t) k) (Written (length t)) (Refused (refusal 4 (capped (length t))))

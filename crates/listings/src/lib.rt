@@ -30,7 +30,7 @@ struct Lines {
 }
 
 // The lines of the sheet that `sheet` begins with, with times where the reference is an instant and altitudes where
-// there is an occultation, from `start` on, as far as the room goes.
+// there is an occultation, from `start` on, as far as the buffer reaches.
 fn put_lines(
     sheet: &[u8],
     out: &mut [u8],
@@ -60,7 +60,7 @@ fn put_lines(
     }
 }
 
-// The lines of the sheet that `sheet` begins with, where the room holds them.
+// The lines of the sheet that `sheet` begins with, where the buffer holds them.
 fn lay(sheet: &[u8], out: &mut [u8]) -> Text
     requires { ⌜ IsSheet (readSheet (now sheet)) ⌝ }
     ensures { λ r. ⌜ r ≡ answered (length (now (out .entry))) (listingOf (readSheet (now (sheet .entry)))) ⌝ }
@@ -79,8 +79,8 @@ fn lay(sheet: &[u8], out: &mut [u8]) -> Text
     Text::Written(need)
 }
 
-// The listing of the sheet that `sheet` is, at the room's start, and how long it is; or the refusal, and the room as
-// it was.
+// The listing of the sheet that `sheet` is, at the buffer's start, and how long it is; or the refusal, and the buffer
+// as it was.
 pub fn listing(sheet: &[u8], out: &mut [u8]) -> Text
     ensures { λ r. ⌜ r ≡ answered (length (now (out .entry))) (told (now (sheet .entry))) ⌝ }
     ensures { λ r. ⌜ now (out .exit) ≡ roomWith (told (now (sheet .entry))) (now (out .entry)) ⌝ }
@@ -95,9 +95,10 @@ pub fn listing(sheet: &[u8], out: &mut [u8]) -> Text
     }
 }
 
-// What is printed of some bytes: the listing of the sheet that they are, with times where the reference is an instant,
-// altitudes and notes where there is an occultation; or the line of their refusal. It stands at a place of the room, as
-// far as the room goes; and the place after it. `deltat` is the station's ΔT in hundredths of a second.
+// What is printed of some bytes: the listing of the sheet that they are, with times where the reference is an
+// instant, altitudes and notes where there is an occultation; or the line of their refusal. It stands at a place of
+// the buffer, as far as the buffer reaches; and the place after it. `deltat` is the station's ΔT in hundredths of a
+// second.
 pub fn put_timed_listing(
     out: &mut [u8],
     at: usize,

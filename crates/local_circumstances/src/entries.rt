@@ -1,5 +1,5 @@
-// Entries as they stand in a sheet, made from the seconds that they name. These are inner functions of the crate, and
-// have a `requires`.
+// Entries as they stand in a sheet, made from the seconds that they name. These functions are internal and have a
+// `requires`.
 use elements::Body;
 use requests::Occultation;
 use sheet_format::kinds::Entry;

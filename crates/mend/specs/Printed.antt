@@ -25,7 +25,7 @@ linesOf (t ∷ ts) = droppedLine (t .from) (t .long) ++ linesOf ts
 unfoldable pub noteLine : List ℕ → List ℕ
 noteLine s = droppedLine (eightAt s 0) (eightAt s 8)
 
--- a file that is not shorter than the sheets' room, of a bytes, is refused whole
+-- a file that is not shorter than the sheets' buffer, of a bytes, is refused whole
 unfoldable pub tooLong : ℕ → List ℕ
 tooLong a = letters "file of " ++ decimal a ++ letters " bytes or more\n"
 

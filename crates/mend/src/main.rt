@@ -1,5 +1,5 @@
 // Reads a file of sheets from standard input, shorter than 196,608 bytes, and writes it mended to standard output;
-// each dropped stretch is told on standard error. A longer file is refused whole: nothing is written, and standard
+// prints each dropped stretch to standard error. A longer file is refused whole: nothing is written, and standard
 // error says so.
 use libc::STDERR_FILENO;
 use libc::STDIN_FILENO;
@@ -13,11 +13,11 @@ ghost use Rattle.decimal_text.specs.Rows.{eachPart};
 ghost use Rattle.program_io.specs.Inputs.{Read};
 ghost use Rattle.mend.specs.Printed.{noteLine, tooLong, output, error};
 
-// How many bytes of each room go out.
+// How many bytes of each buffer go out.
 struct Streams {
-    // of the sheets' room, to standard output
+    // of the sheets' buffer, to standard output
     output: usize,
-    // of the text's room, to standard error; more than the room has where the room is shorter than the text
+    // of the text's buffer, to standard error; more than the buffer has where the buffer is shorter than the text
     error: usize,
 }
 
@@ -49,7 +49,7 @@ fn put_notes(out: &mut [u8], notes: &[u8]) -> usize
     at
 }
 
-// That a file is too long for a room.
+// That a file is too long for a buffer.
 fn put_too_long(out: &mut [u8], room: usize) -> usize
     ensures { λ r. ⌜ Put (now (out .entry)) 0 (tooLong room) (now (out .exit)) r ⌝ }
 {
@@ -59,8 +59,8 @@ fn put_too_long(out: &mut [u8], room: usize) -> usize
     decimal_text::put_text(out, number, b" bytes or more\n")
 }
 
-// The mended file at the start of the sheets' room, and what is told from the start of the text's on, as far as that
-// goes.
+// The mended file at the start of the sheets' buffer, and the report from the start of the text's buffer on, as far
+// as that reaches.
 fn mended(file: &[u8], sheets: &mut [u8], notes: &mut [u8], text: &mut [u8]) -> Streams
     ensures output { λ r. ⌜ take (r .output) (now (sheets .exit)) ≡ output (length (now (sheets .entry))) (length (now (notes .entry))) (now (file .entry)) ⌝ }
     ensures error { λ r. ⌜ Put (now (text .entry)) 0 (error (length (now (sheets .entry))) (length (now (notes .entry))) (now (file .entry))) (now (text .exit)) (r .error) ⌝ }

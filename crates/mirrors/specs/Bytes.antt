@@ -1,4 +1,4 @@
--- The mirror of a request's bytes: the answer, and what the room holds afterwards. Definitions only.
+-- The mirror of a request's bytes: the answer, and what the buffer holds afterwards. Definitions only.
 use mathlib.Core.Bool.{cond}
 use mathlib.Core.List.{List, [], _∷_, _++_}
 use Prim.Native.Nat.{ℕ}

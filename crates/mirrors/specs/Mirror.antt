@@ -31,7 +31,7 @@ pub record Mirrored (o : Occultation) : Type 0 where
   pub north : (τ : ℤ) → v (momentAt (mirrorFor o) τ) ≡ negℤ (v (momentAt o τ))
   -- .. so the same entries in the same places. Directions are left out, as they round down.
   pub entries : AlikeButDirections (sheetOf (courseOf (mirrorFor o))) (sheetOf (courseOf o))
-  -- the sheet is as long, so every room and buffer get the same answer
+  -- the sheet is as long, so buffers of every length get the same answer
   pub bytes : length (sheetBytes (mirrorFor o)) ≡ length (sheetBytes o)
   pub answer : (sines buffer : List ℕ) → sheetAnswer (mirrorFor o) sines buffer ≡ sheetAnswer o sines buffer
   -- Taking the mirror twice gives the first request back."

@@ -54,8 +54,8 @@ fn change(numbers: &mut [i64; COUNT])
     turn(numbers, 23);
 }
 
-// The mirror of a request's bytes, at the start of the room, and its length; or 10, or 4, and the room as it was. Any
-// bytes, any room.
+// The mirror of a request's bytes, at the start of the buffer, and its length; or 10, or 4, and the buffer as it was.
+// It takes any bytes and any buffer.
 pub fn mirror_bytes(request: &[u8], room: &mut [u8]) -> Answer
     ensures answer { λ r. ⌜ r ≡ mirrorAnswer (now (request .entry)) (now (room .entry)) ⌝ }
     ensures room { λ r. ⌜ now (room .exit) ≡ mirrorBuffer (now (request .entry)) (now (room .entry)) ⌝ }

@@ -70,7 +70,7 @@ abbrev pub answerBy : Answer → Eclipse → List ℕ → List Node → List ℕ
 answerBy (A.Named n) e tos l steps = namedText e n tos l steps
 answerBy (A.Refused r) e tos l steps = refusalLine (r .number) (r .place)
 
--- the rooms for table S and for the steps are lent
+-- the program provides the buffers for table S and for the steps
 unfoldable pub answerText : (sines steps : List ℕ) → List ℤ → List Node → List ℕ
 answerText sines steps ns l = answerBy (answerTo ns l sines steps) (eclipseOf ns) (tosOf (eclipseOf ns) l) l (stepsFor ns l sines steps)
 

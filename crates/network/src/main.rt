@@ -1,7 +1,7 @@
 // Reads a typed network from standard input: the elements and the window as in a typed request, and a line a station.
 // It prints each station with its steps and the station whose first enter comes first, with whether the Sun is above
-// its horizon then; or `refused`, number and place. A fault is told on standard error with its line, and nothing is
-// printed.
+// its horizon then; or `refused`, number and place. It reports the first invalid line on standard error and then
+// prints nothing.
 use clock_network::checks::Eclipse;
 use clock_network::stations::Held;
 use libc::STDIN_FILENO;

@@ -25,7 +25,7 @@ use Rattle.network_text.specs.declared.Told.the-variants as T
 abbrev pub fieldOf : ℕ → ℕ
 fieldOf k = cond (ltb k 5) (22 + k) 22
 
--- what is wrong with word k is told as of a typed request; of the clock, only that it is wrong
+-- an invalid word k is reported as in a typed request; for the clock, only that it is invalid
 abbrev pub faultOf : ℕ → R.Fault → Fault
 faultOf k f = cond (eqb k 5) F.Clock (F.Typed f)
 

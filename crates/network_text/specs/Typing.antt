@@ -81,7 +81,7 @@ answerOf (refused i f) = A.Refused i f
 abbrev pub held : List Node → Held
 held l = heldOf l (least64 (length l))
 
--- on a refusal there are no stations, and the numbers lent are as they were
+-- on a refusal there are no stations, and the caller's numbers are unchanged
 unfoldable pub heldFrom : Typing → Held
 heldFrom (given ns l) = held l
 heldFrom (refused i f) = held []

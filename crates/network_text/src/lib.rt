@@ -90,7 +90,7 @@ const ASKED: [u8; COUNT] = [
 
 // ---- lines
 
-// What a line says: its name tells which.
+// What a line says: its name decides which.
 fn tell(line: &[u8]) -> Told
     ensures { λ r. ⌜ r ≡ toldOf (now (line .entry)) ⌝ }
 {
@@ -109,7 +109,7 @@ fn tell(line: &[u8]) -> Told
 
 // ---- the text
 
-// A station more, stored where there is room.
+// One more station, stored where it fits.
 fn add(h: Held, n: Node) -> Held
     requires { ⌜ h .count < 18446744073709551615 ⌝ }
     ensures { λ r. ⌜ r ≡ addOf h n ⌝ }
@@ -218,7 +218,7 @@ fn eclipse_in(n: &[i64]) -> [i64; 25]
 }
 
 // The 25 numbers of the eclipse that a text gives, in whole units: the 22 elements, first, last and guard; and the
-// stations in list order; or its first fault, the numbers lent as they were, and no station.
+// stations in list order; or its first fault, the caller's numbers unchanged, and no station.
 pub fn network(text: &[u8], out: &mut [i64; 25]) -> Reading
     ensures { λ r. ⌜ (r .answer ≡ answerOf (typingOf (now (text .entry)))) × (r .held ≡ heldFrom (typingOf (now (text .entry)))) ⌝ }
     ensures { λ r. ⌜ now (out .exit) ≡ numbersFrom (typingOf (now (text .entry))) (now (out .entry)) ⌝ }

@@ -18,7 +18,7 @@ fn field_of(k: usize) -> usize
     if k < 5 { 22 + k } else { 22 }
 }
 
-// What is wrong with word k: of the clock it is not told what.
+// What is wrong with word k; for the clock the fault is not named.
 fn fault_of(k: usize, fault: request_text::Fault) -> Fault
     ensures { λ r. ⌜ r ≡ faultOf k fault ⌝ }
 {

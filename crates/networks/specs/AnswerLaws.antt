@@ -20,7 +20,7 @@ use Rattle.networks.specs.declared.Answer.the-variants as A
 use Rattle.clock_network.specs.Checks.{eclipseOf, checked}
 use Rattle.networks.specs.Network.{admitted, named, answerBy, answerTo, stepsAfter, stepsFor, sinesFor}
 
--- what a check gives: the answer, the room for table S, the steps
+-- what a check gives: the answer, the buffer for table S, the steps
 pub record By (c : Checked) (e : Eclipse) (l : List Node) (sines steps : List ℕ) (r : Answer) (sines′ steps′ : List ℕ) : Type 0 where
   pub answer : r ≡ answerBy c e l
   pub room : sines′ ≡ sinesAfter c sines
@@ -29,7 +29,7 @@ pub record By (c : Checked) (e : Eclipse) (l : List Node) (sines steps : List �
 pub by-refused : {c : Checked} {e : Eclipse} {l : List Node} {sines steps : List ℕ} (q : Refusal) → c ≡ C.Refused q → By c e l sines steps (A.Refused q) sines steps
 by-refused {e = e} {l = l} {sines = a} {steps = b} q h = subst (λ (c : Checked). By c e l a b (A.Refused q) a b) (sym h) (record { answer = refl; room = refl; told = refl })
 
--- a list that is not refused: the room decides
+-- a list that is not refused: the buffer decides
 module _ (e : Eclipse) (l : List Node) (sines steps : List ℕ) (ok : checked e l ≡ C.Within) where
   abbrev all : Checked
   all = andThen (checked e l) (roomChecked sines)
@@ -48,11 +48,11 @@ module _ (e : Eclipse) (l : List Node) (sines steps : List ℕ) (ok : checked e 
       subst (λ (c : Checked). By c e l sines steps (A.Named n) s t) (sym (is-room ∙ h))
       (record { answer = ap A.Named a; room = f ∙ ap (λ (c : Checked). sinesAfter c sines) h; told = g })
 
--- after 10, before the room
+-- after 10, before the buffer
 abbrev pub Answered : Eclipse → List Node → (sines steps : List ℕ) → Answer → (sines′ steps′ : List ℕ) → Type 0
 Answered e l sines steps r sines′ steps′ = By (andThen (checked e l) (roomChecked sines)) e l sines steps r sines′ steps′
 
--- what a list is answered, with 10
+-- the answer to a list, with 10
 pub record Answers (ns : List ℤ) (l : List Node) (sines steps : List ℕ) (r : Answer) (sines′ steps′ : List ℕ) : Type 0 where
   pub answer : r ≡ answerTo ns l sines steps
   pub room : sines′ ≡ sinesFor ns l sines steps

@@ -59,6 +59,6 @@ stepsAfter (C.Refused r) l steps = steps
 unfoldable pub stepsFor : List ℤ → List Node → (sines steps : List ℕ) → List ℕ
 stepsFor ns l sines steps = stepsAfter (admitted ns l sines steps) l steps
 
--- the room for table S: filled where nothing is refused
+-- the buffer for table S: filled where nothing is refused
 unfoldable pub sinesFor : List ℤ → List Node → (sines steps : List ℕ) → List ℕ
 sinesFor ns l sines steps = sinesAfter (admitted ns l sines steps) sines

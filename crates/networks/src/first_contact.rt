@@ -1,5 +1,5 @@
 // The first enter of the penumbra at one station: its entries are stepped through up to it, and no sheet is written.
-// These are inner functions, for the crate above, and have a `requires`.
+// These functions are internal and have a `requires`.
 ghost use mathlib.Core.Path.{_≡_};
 ghost use mathlib.Core.List.{map};
 ghost use lib.ListN.{length};

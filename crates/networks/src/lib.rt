@@ -67,7 +67,7 @@ fn name(eclipse: &[i64], h: Held, sines: &mut [u32], steps: &mut [u64]) -> Answe
     Answer::Named(station)
 }
 
-// The answer to a list that is held; `sines` is room for table S, and `steps` has 64 numbers.
+// The answer to a list that is held; `sines` is the buffer for table S, and `steps` has 64 numbers.
 pub fn network(eclipse: &[i64], h: Held, sines: &mut [u32], steps: &mut [u64]) -> Answer
     requires { ⌜ length (h .nodes) ≡ 64 ⌝ }
     ensures { λ r. ⌜ ((l : List Node) → Holds h l → Answers (now (eclipse .entry)) l (now (sines .entry)) (now (steps .entry)) r (now (sines .exit)) (now (steps .exit))) ⌝ }

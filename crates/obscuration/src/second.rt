@@ -27,7 +27,7 @@ fn share_of(s: shadow::Shadow) -> u32
     crate::area::share(s.l1, s.l2, s.m)
 }
 
-// The share at a second of an eclipse within its limits, sines and place lent.
+// The share at a second of an eclipse within its limits, from a filled sine table and the place.
 pub fn share_at(table: &[u32], e: elements::Elements, place: station::Place, t: i64) -> u32
     requires { ⌜ (Sines (now table)) × (ElementSizes e) × (PlaceSizes place) × (natAbs t ≤ 10800) ⌝ }
     ensures { λ r. ⌜ r ≡ shareAt e place t ⌝ }

@@ -1,6 +1,6 @@
 // Reads a typed request from standard input, one `name value` a line, and writes its bytes to standard output: 115 of
-// an eclipse, 79 of a star. Its instant, if it has one, is read too and is no part of them. A fault is told on
-// standard error with its line, and nothing is written.
+// an eclipse, 79 of a star. Its instant, if it has one, is read too and is no part of them. It reports the first
+// invalid line on standard error and then writes nothing.
 use libc::STDIN_FILENO;
 use program_io::ERROR;
 use program_io::OUTPUT;

@@ -1,5 +1,5 @@
--- One second of a request's bytes, an eclipse's or a star's: the second and its numbers in the room lent, or the
--- refusal.
+-- One second of a request's bytes, an eclipse's or a star's: the second and its numbers in the caller's buffer, or
+-- the refusal.
 use mathlib.Core.Bool.{cond}
 use mathlib.Core.List.{List, [], _∷_, _++_}
 use Prim.Native.Nat.{ℕ}
@@ -36,12 +36,12 @@ wished Eclipse request = ofEclipse (requestOf request)
 wished Star request = ofStar (starRequestOf request)
 
 -- "Requests: 10, 1, 2, 3": the shape comes first. Document 02, wish 7: of a star 13 "after 2"; wish 8: then the 4 of
--- the room for table S
+-- the buffer for table S
 abbrev pub secondAsked : Asked → ℤ → (sines : List ℕ) → OneSecond
 secondAsked (W.Is o) τ sines = secondAnswer o τ sines
 secondAsked (W.Refused r) τ sines = O.Refused r
 
--- that room afterwards
+-- that buffer afterwards
 abbrev pub sinesAsked : Asked → ℤ → (sines : List ℕ) → List ℕ
 sinesAsked (W.Is o) τ sines = secondSines o τ sines
 sinesAsked (W.Refused r) τ sines = sines

@@ -8,6 +8,6 @@ use Rattle.request_format.specs.declared.input.Input.{Input}
 use Rattle.request_format.specs.Input.{eclipseAsked}
 use Rattle.request_answers.specs.Second.{secondAsked}
 
--- refused as a second is: "Requests: 10, 1, 2, 3", the shape first, then the 4 of the room for table S
+-- refused as a second is: "Requests: 10, 1, 2, 3", the shape first, then the 4 of the buffer for table S
 abbrev pub shareAsked : Input → ℤ → (sines : List ℕ) → OneShare
 shareAsked i τ sines = shareBy (secondAsked (eclipseAsked i) τ sines)

@@ -1,4 +1,4 @@
--- The sheet of the program's input: the answer, and what the buffer and the room for table S hold afterwards.
+-- The sheet of the program's input: the answer, and what the sheet's buffer and the buffer for table S hold afterwards.
 use mathlib.Core.Path.{_≡_}
 use mathlib.Core.List.{List, []}
 use Prim.Native.Nat.{ℕ}
@@ -58,12 +58,12 @@ starSines input sines = sinesBy (starAsked input) sines
 
 -- ---- the sheet as it is stored
 
--- the first n bytes of a room are some text
+-- the first n bytes of a buffer are some text
 pub record Begins (n : ℕ) (room text : List ℕ) : Type 0 where
   pub count : n ≡ length text
   pub bytes : take n room ≡ text
 
--- to standard output: the bytes that the sheet has in the room, or nothing
+-- to standard output: the bytes that the sheet has in the buffer, or nothing
 abbrev pub storedBy : Answer → List ℕ → List ℕ
 storedBy (A.Written n) room = take n room
 storedBy (A.Refused r) room = []

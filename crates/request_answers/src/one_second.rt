@@ -22,7 +22,7 @@ pub fn wish(shape: Shape, request: &[u8]) -> Asked
     }
 }
 
-// The second of the bytes, or refusal 10, 1, 2, a star's 13, 3, or 4 for the room for table S.
+// The second of the bytes, or refusal 10, 1, 2, a star's 13, 3, or 4 for the buffer for table S.
 pub fn asked(shape: Shape, request: &[u8], second: i64, sines: &mut [u32]) -> OneSecond
     ensures { λ r. ⌜ r ≡ secondAsked (wish shape (now (request .entry))) second (now (sines .entry)) ⌝ }
     ensures { λ r. ⌜ now (sines .exit) ≡ sinesAsked (wish shape (now (request .entry))) second (now (sines .entry)) ⌝ }
@@ -44,7 +44,7 @@ fn number_count(shape: Shape) -> usize
     }
 }
 
-// The same second, or 4 where fewer numbers than that are lent.
+// The same second, or 4 where the buffer holds fewer numbers than that.
 fn in_room(count: usize, room: usize, second: OneSecond) -> OneSecond
     ensures { λ r. ⌜ r ≡ secondInto count room second ⌝ }
 {
@@ -60,7 +60,7 @@ fn in_room(count: usize, room: usize, second: OneSecond) -> OneSecond
     second
 }
 
-// The eight numbers of an eclipse's second at the start of the room.
+// The eight numbers of an eclipse's second at the start of the buffer.
 fn put_eclipse(room: &mut [i64], second: shadow::Second)
     requires { ⌜ 8 ≤ length (now room) ⌝ }
     ensures { λ r. ⌜ now (room .exit) ≡ numbersAfter Eclipse (Is second) (now (room .entry)) ⌝ }
@@ -102,7 +102,7 @@ fn put_star(room: &mut [i64], second: shadow::Second)
     room[4] = direction;
 }
 
-// The numbers of a second at the start of the room.
+// The numbers of a second at the start of the buffer.
 fn put_numbers(shape: Shape, room: &mut [i64], second: shadow::Second)
     requires { ⌜ numberCount shape ≤ length (now room) ⌝ }
     ensures { λ r. ⌜ now (room .exit) ≡ numbersAfter shape (Is second) (now (room .entry)) ⌝ }
@@ -113,8 +113,8 @@ fn put_numbers(shape: Shape, room: &mut [i64], second: shadow::Second)
     }
 }
 
-// One second of a request of that shape, which may lie outside its window, and its numbers at the start of the room;
-// or why not, and the room as it was. `sines` is room for table S.
+// One second of a request of that shape, which may lie outside its window, and its numbers at the start of the
+// buffer; or why not, and the buffer as it was. `sines` is the buffer for table S.
 pub fn second(
     shape: Shape,
     request: &[u8],

@@ -33,8 +33,8 @@ pub fn of_shape(shape: Shape, request: &[u8], sines: &mut [u32], buf: &mut [u8])
     sheet_for(asked, sines, buf)
 }
 
-// The contact sheet of the program's input, in the caller's buffer; `sines` is room for table S. Any bytes, any room,
-// any buffer.
+// The contact sheet of the program's input, in the caller's buffer; `sines` is the buffer for table S. It takes any
+// bytes and any buffers.
 pub fn sheet(request: &[u8], sines: &mut [u32], buf: &mut [u8]) -> Answer
     ensures answer { λ r. ⌜ r ≡ answerTo (now (request .entry)) (now (sines .entry)) (now (buf .entry)) ⌝ }
     ensures buffer { λ r. ⌜ now (buf .exit) ≡ bufferFor (now (request .entry)) (now (sines .entry)) (now (buf .entry)) ⌝ }
@@ -58,7 +58,8 @@ pub fn sheet_and_share(request: &[u8], sines: &mut [u32], buf: &mut [u8]) -> Ans
     sheet_for(asked, sines, buf)
 }
 
-// The contact sheet of a star, in the caller's buffer; `sines` is room for table S. Any bytes, any room, any buffer.
+// The contact sheet of a star, in the caller's buffer; `sines` is the buffer for table S. It takes any bytes and any
+// buffers.
 pub fn star_sheet(request: &[u8], sines: &mut [u32], buf: &mut [u8]) -> Answer
     ensures answer { λ r. ⌜ r ≡ starAnswer (now (request .entry)) (now (sines .entry)) (now (buf .entry)) ⌝ }
     ensures buffer { λ r. ⌜ now (buf .exit) ≡ starBuffer (now (request .entry)) (now (sines .entry)) (now (buf .entry)) ⌝ }

@@ -1,4 +1,4 @@
--- A request's numbers and its bytes, an eclipse's or a star's: each is had back from the other.
+-- A request's numbers and its bytes, an eclipse's or a star's: each is recovered from the other.
 use mathlib.Core.Path.{_≡_, refl, sym, _∙_}
 use mathlib.Core.List.{List, [], _∷_}
 use Prim.Native.Nat.{ℕ, zero, suc, _+_, _<_}

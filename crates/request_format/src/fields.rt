@@ -91,7 +91,7 @@ pub fn count_of(shape: Shape) -> usize
     }
 }
 
-// The table, to be lent to `field_from`: an array is made anew wherever it is named.
+// The table, which callers pass to `field_from`: an array constant is built again wherever it is named.
 fn table() -> [u8; 559]
     ensures { λ r. ⌜ fieldsIn 43 r ≡ tables ⌝ }
 {

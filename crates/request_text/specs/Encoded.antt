@@ -13,7 +13,7 @@ use Rattle.request_format.specs.Request.{sizeFor, bytesFor}
 use Rattle.request_text.specs.declared.Typed.{Typed}
 use Rattle.request_text.specs.Typing.{Typing, given, refused, typingOf, answerOf}
 
--- the room afterwards: first the bytes of the numbers typed; on a refusal, the old ones
+-- the buffer afterwards: first the bytes of the numbers typed; on a refusal, the old ones
 abbrev pub bytesFrom : Shape → Typing → List ℕ → List ℕ
 bytesFrom shape (given ns) old = bytesFor shape ns ++ drop (sizeFor shape) old
 bytesFrom shape (refused i f) old = old
@@ -24,7 +24,7 @@ ReadAs S.Eclipse (given ns) bytes = inputOf bytes ≡ I.Is (requestFrom ns)
 ReadAs S.Star (given ns) bytes = starAsked bytes ≡ A.Is (ofStar (starFrom ns))
 ReadAs shape (refused i f) bytes = Unit {0}
 
--- what is promised of an answer and the room
+-- what is promised of an answer and the buffer
 pub record Encoded (shape : Shape) (text old : List ℕ) (r : Typed) (new : List ℕ) : Type 0 where
   pub answer : r ≡ answerOf (typingOf shape text)
   pub bytes : new ≡ bytesFrom shape (typingOf shape text) old

@@ -1,4 +1,5 @@
--- The instant that is typed: the date and time of second 0, and TAI less UTC. The table of docs/CLOCK.md, "The instant as it is typed".
+-- The instant that is typed: the date and time of second 0, and TAI less UTC. The table of docs/CLOCK.md, "The
+-- instant as it is typed".
 use Prim.Native.Nat.{ℕ, _+_, _*_}
 use mathlib.Core.Bool.{Bool, cond, _&&_, _||_}
 use mathlib.Core.List.{List}

@@ -25,7 +25,7 @@ pub data Meaning : Type 0 where
   asked : Shape → List ℤ → Reference → Meaning
   refused : ℕ → List ℕ → Meaning
 
--- by what its lines say of the numbers and of the instant: "as everywhere, the first line that has a fault is told"
+-- by what its lines say of the numbers and of the instant: "The first invalid line is reported"
 abbrev pub meaningBy : Shape → List ℕ → Typing → Told → Meaning
 meaningBy shape text (given ns) (T.Is x) = asked shape ns x
 meaningBy shape text (given ns) (T.Refused j wrong) = refused j (instantMessage j wrong)
@@ -43,7 +43,7 @@ meaningOf text =
     cond (tooLong text) (refused 0 (letters "the text has more than 65,536 bytes\n"))
     (meaningBy (shapeOf text) text (typingOf (shapeOf text) text) (toldIn text))
 
--- ---- what is answered, and the two rooms afterwards: what was not asked for is as it was
+-- ---- what is answered, and the two buffers afterwards: what was not asked for is as it was
 
 abbrev pub answerOf : Meaning → Answer
 answerOf (asked shape ns x) = A.Request (sizeFor shape) x
@@ -57,7 +57,7 @@ abbrev pub messageAfter : Meaning → List ℕ → List ℕ
 messageAfter (asked shape ns x) old = old
 messageAfter (refused line message) old = message ++ drop (length message) old
 
--- ---- what a program tells of a text on standard error: nothing, or what is wrong with it
+-- ---- what a program prints about a text on standard error: nothing, or what is wrong with it
 
 abbrev pub errorBy : Meaning → List ℕ
 errorBy (asked shape ns x) = []

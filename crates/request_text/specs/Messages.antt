@@ -1,4 +1,4 @@
--- What is told of a typed request that is refused: its line, and what is wrong there.
+-- The message for a typed request that is refused: its line, and what is wrong there.
 use Prim.Native.Nat.{ℕ, _-_}
 use mathlib.Core.List.{List, [], _++_}
 use lib.ListN.{getD, take}

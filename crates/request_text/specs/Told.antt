@@ -36,7 +36,7 @@ taken i R.Malformed old = T.Refused i Wrong.Malformed
 taken i (R.Is x) Ref.Nothing = T.Is (Ref.At x)
 taken i (R.Is x) (Ref.At y) = T.Refused i Wrong.Twice
 
--- what is told after line i, by what was told before it: "the first line that has a fault is told"
+-- the parse result after line i, from the one before it: "The first invalid line is reported"
 abbrev pub toldAfter : ℕ → List ℕ → Told → Told
 toldAfter i l (T.Refused j wrong) = T.Refused j wrong
 toldAfter i l (T.Is old) = cond (namesInstant l) (taken i (instantOf (afterName l)) old) (T.Is old)
@@ -68,7 +68,7 @@ usedWith i n (Ref.At x) =
     cond (ltb (x .year) 1972) (T.Refused i Wrong.NeedsInstant)
     (T.Is (Ref.At (record { year = x .year; month = x .month; day = x .day; hundredths = x .hundredths; scale = x .scale; offset = n })))
 
--- "the first line that has a fault is told"
+-- "The first invalid line is reported"
 abbrev pub withOffset : Told → Offset → Told
 withOffset told O.None = told
 withOffset (T.Is x) (O.Is i n) = usedWith i n x

@@ -71,7 +71,7 @@ abbrev pub answerOf : Typing → Typed
 answerOf (given ns) = T.Numbers
 answerOf (refused i f) = T.Refused i f
 
--- on a refusal the numbers lent are as they were
+-- on a refusal the caller's numbers are unchanged
 abbrev pub numbersFrom : Typing → List ℤ → List ℤ
 numbersFrom (given ns) old = ns
 numbersFrom (refused i f) old = old

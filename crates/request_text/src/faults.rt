@@ -1,5 +1,5 @@
-// The message of a typed request that is refused: the line, and what is wrong with it. A `put_` function stores a text
-// at a place of a room, as far as the room goes, and gives the place after it (`decimals`).
+// The message of a typed request that is refused: the line, and what is wrong with it. A `put_` function stores a
+// text at a place of a buffer, as far as the buffer reaches, and gives the place after it (`decimals`).
 use crate::Fault;
 use request_format::fields::Shape;
 use tokens::Class;

@@ -266,7 +266,7 @@ fn read(shape: Shape, text: &[u8], marks: &mut [u8], found: &mut [i64]) -> Typed
 }
 
 // The numbers that a text gives of an eclipse, in whole units and in the order of the fields; or its first fault, and
-// the numbers lent as they were.
+// the caller's numbers unchanged.
 pub fn numbers(text: &[u8], out: &mut [i64; COUNT]) -> Typed
     ensures { λ r. ⌜ r ≡ answerOf (typingOf Eclipse (now (text .entry))) ⌝ }
     ensures { λ r. ⌜ now (out .exit) ≡ numbersFrom (typingOf Eclipse (now (text .entry))) (now (out .entry)) ⌝ }

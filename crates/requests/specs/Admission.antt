@@ -1,5 +1,5 @@
--- The room for table S: what a request is refused for before its sheet, and what the room holds afterwards. Document
--- 02, wish 8. Definitions only.
+-- The buffer for table S: what a request is refused for before its sheet, and what the buffer holds afterwards.
+-- Document 02, wish 8. Definitions only.
 use mathlib.Core.Bool.{cond}
 use mathlib.Core.List.{List}
 use Prim.Native.Nat.{ℕ}

@@ -1,5 +1,5 @@
-// A window of seconds: its range, and its seconds counted from 0. Some of these are inner functions, for the crates
-// above, and have a `requires`.
+// A window of seconds: its range, and its seconds counted from 0. Some of these functions are internal and have a
+// `requires`.
 ghost use mathlib.Core.Path.{_≡_};
 ghost use Prim.Native.Nat.{_<_};
 ghost use Rattle.requests.specs.Windows.{inSpan, windowHolds, secondCount, nthSecond};

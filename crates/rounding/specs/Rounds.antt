@@ -27,7 +27,7 @@ unfoldable pub held : ℕ → ℕ → ℕ
 held n zero = 0
 held n (suc k) = more (taken n (suc k)) (held n k)
 
--- what the loop has in hand with i rounds to come: the number held, and what the bits taken in are above its square
+-- the state of the loop with i rounds to come: the number held, and what the bits taken in are above its square
 pub record Holds (n i r rest : ℕ) : Type 0 where
   pub few : i ≤ roundsOf n
   pub number : r ≡ held n (roundsOf n - i)

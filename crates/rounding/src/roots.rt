@@ -2,7 +2,7 @@
 ghost use Prim.Native.Nat.{_+_};
 ghost use Rattle.rounding.specs.Rounds.{Holds, Reported};
 
-// What the loop has in hand.
+// The state of the loop.
 struct Held {
     // root of the bits taken in so far, below 2^32
     root: u64,

@@ -1,7 +1,7 @@
 // Prints test vectors of the rules, one rule at a time, for comparison with what independent code gives.
 //
-// Standard input holds records: a letter, the number of the bytes that follow in two bytes, and these bytes.
-// Numbers are big-endian, signed and of eight bytes. What is printed for a record goes by its letter:
+// Standard input holds records: a letter, the number of the bytes that follow in two bytes, and these bytes. Numbers
+// are big-endian, signed and of eight bytes. What is printed for a record depends on its letter:
 //
 //   #  text                  a heading: the text, as a line
 //   a  angle                 the angle, its sine and cosine by quadrants, and both by turns; 10^-6 degree, 10^-8

@@ -1,5 +1,5 @@
-// The states of the seconds of a window, stored as runs: never more than one byte a second, for two phases.
-// All are inner functions, for the crates above.
+// The states of the seconds of a window, stored as runs: never more than one byte a second, for two phases. All
+// functions are internal.
 ghost use mathlib.Core.Path.{_≡_};
 ghost use Prim.Native.Nat.{_+_, _≤_, _<_};
 ghost use lib.ListN.{length, take, drop};
@@ -96,6 +96,20 @@ pub fn push(runs: &mut [u8], f: Filled, pair: u8, n: usize) -> Filled
         pair,
         seconds: n,
     }
+}
+
+// n seconds more, however many: as many runs as they need.
+pub fn push_many(runs: &mut [u8], f: Filled, pair: u8, n: usize) -> Filled
+    requires { ⌜ (pair < 16) × (1 ≤ n) × (f .count + f .seconds + n ≤ length (now runs)) × (Ends (now runs) f) ⌝ }
+    ensures { λ r. ⌜ Pushed (now (runs .entry)) f pair n (now (runs .exit)) r ⌝ }
+{
+    let mut r = f;
+    let mut left = n;
+    while 3839 < left {
+        r = push(runs, r, pair, 3839);
+        left -= 3839;
+    }
+    push(runs, r, pair, left)
 }
 
 // The run at place i, as the first phase (0) or the second sees it.

@@ -53,15 +53,15 @@ abbrev pub secondBy : Checked → Occultation → ℤ → OneSecond
 secondBy (C.Refused r) o τ = O.Refused r
 secondBy C.Within o τ = O.Is (wholeSecond o τ)
 
--- "1 | window outside its range | 0" too for a second outside -10,800..10,800; then the refusals of the request and of
--- its room for table S
+-- "1 | window outside its range | 0" too for a second outside -10,800..10,800; then the refusals of the request and
+-- of its buffer for table S
 unfoldable pub secondChecked : Occultation → ℤ → List ℕ → Checked
 secondChecked o τ sines = cond (inSpan τ) (admitted o sines) (C.Refused (refusal 1 0))
 
 unfoldable pub secondAnswer : Occultation → ℤ → List ℕ → OneSecond
 secondAnswer o τ sines = secondBy (secondChecked o τ sines) o τ
 
--- that room afterwards
+-- that buffer afterwards
 unfoldable pub secondSines : Occultation → ℤ → List ℕ → List ℕ
 secondSines o τ sines = sinesAfter (secondChecked o τ sines) sines
 

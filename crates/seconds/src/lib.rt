@@ -76,7 +76,7 @@ fn star_second(
     }
 }
 
-// One second of an occultation within its limits, with the sine table lent.
+// One second of an occultation within its limits, from a filled sine table.
 fn second_within(table: &[u32], o: Occultation, t: i64) -> shadow::Second
     requires { ⌜ (Sines (now table)) × (InLimits o) × (natAbs t ≤ 10800) ⌝ }
     ensures { λ r. ⌜ r ≡ wholeSecond o t ⌝ }
@@ -92,7 +92,7 @@ fn second_within(table: &[u32], o: Occultation, t: i64) -> shadow::Second
 }
 
 // The shadow, the states, the magnitude and the direction at second t of an occultation, which may lie outside its
-// window; `sines` is room for table S.
+// window; `sines` is the buffer for table S.
 pub fn second(o: Occultation, t: i64, sines: &mut [u32]) -> OneSecond
     ensures answer { λ r. ⌜ r ≡ secondAnswer o t (now (sines .entry)) ⌝ }
     ensures sines { λ r. ⌜ now (sines .exit) ≡ secondSines o t (now (sines .entry)) ⌝ }

@@ -3,8 +3,8 @@
 --   read-then-written    a sheet that reads well is written back to the same bytes;
 --   accepted-is-written  the reader accepts exactly what the writer writes for some entries;
 --   read-back            the bytes of well-formed entries are read back, whatever stands after them;
---   through-buffer, through-room   the first two of the buffers and rooms that the functions leave.
--- The writer leaves `bytesOf es` at the buffer's start (`bufferAfterList`), the reader `numbersOf es` at the room's
+--   through-buffer, through-room   the first two, of the byte and number buffers that the functions leave.
+-- The writer leaves `bytesOf es` at the buffer's start (`bufferAfterList`), the reader `numbersOf es` at the buffer's
 -- (`roomAfter`).
 use Prim.Native.Nat.{ℕ, suc, _+_, _-_, _*_, _/_, _≤_}
 use mathlib.Core.Path.{_≡_, refl, sym, ap, _∙_}
@@ -121,10 +121,10 @@ accepted-is-written s b = (
   (λ w. let t = written-then-read (w .0) (w .1) (w .2) (w .3) in (w .1, w .2, ap readWhole (w .4) ∙ t .0)),
 )
 
--- ---- the same of the buffer and the room that the functions leave
+-- ---- the same of the two buffers that the functions leave
 
--- entries written into a buffer and read from it into a room: the room's first numbers are the entries handed over,
--- and the others are as they were
+-- entries written into a byte buffer and read from it into a number buffer: the first numbers are the entries handed
+-- over, and the others are as they were
 pub through-buffer : (l buf room : List ℕ) (es : List Entry) (n : ℕ) → listWhole l ≡ sheet es n → n ≤ length buf → length es ≤ length room / 5
     → roomAfter (readWhole (take n (bufferAfterList (listWhole l) buf))) room ≡ l ++ drop (length l) room
 through-buffer l buf room es n q h k =
@@ -137,8 +137,8 @@ through-buffer l buf room es n q h k =
     ∙ ap (λ b. cond b (numbersOf es ++ drop (length (numbersOf es)) room) room) (le-leb (length es) (length room / 5) k)
     ∙ ap (λ x. x ++ drop (length x) room) (t .1)
 
--- a sheet read into a room and written from it into a buffer: the buffer's first bytes are the sheet, and the others
--- are as they were
+-- a sheet read into a number buffer and written from it into a byte buffer: the first bytes are the sheet, and the
+-- others are as they were
 pub through-room : (s room buf : List ℕ) → Bytes s → (es : List Entry) (n : ℕ) → readWhole s ≡ sheet es n → length es ≤ length room / 5 → n ≤ length buf
     → bufferAfterList (listWhole (take (length es * 5) (roomAfter (readWhole s) room))) buf ≡ s ++ drop (length s) buf
 through-room s room buf b es n q k h =

@@ -68,8 +68,8 @@ abbrev pub extentOf : Sheet → Extent
 extentOf (sheet es n) = X.Sheet (length es) n
 extentOf (refused r) = X.Refused r
 
--- "Where a reader is lent room for entries and there are more, it gives 4 with their number, after all others".
--- A room of k numbers holds k / 5 entries.
+-- "Where a reader is lent room for entries and there are more, it gives 4 with their number, after all others". A
+-- buffer of k numbers holds k / 5 entries.
 abbrev pub holds : List Entry → ℕ → Bool
 holds es k = leb (length es) (k / 5)
 
@@ -77,8 +77,8 @@ abbrev pub readInto : ℕ → Sheet → Extent
 readInto k (refused r) = X.Refused r
 readInto k (sheet es n) = cond (holds es k) (X.Sheet (length es) n) (X.Refused (refusal 4 (length es)))
 
--- "After any refusal the buffer holds its old bytes; after success the bytes past the sheet do": so too a room and its
--- numbers
+-- "After any refusal the buffer holds its old bytes; after success the bytes past the sheet do": so too a buffer and
+-- its numbers
 abbrev pub roomAfter : Sheet → List ℕ → List ℕ
 roomAfter (refused r) room = room
 roomAfter (sheet es n) room = cond (holds es (length room)) (numbersOf es ++ drop (length (numbersOf es)) room) room

@@ -108,7 +108,7 @@ fn put_numbers(room: &mut [u32], at: usize, code: u32, entry: Entry)
     room[at + 4] = entry.d;
 }
 
-// The entries of the sheet that `s` begins with, into a room that holds them.
+// The entries of the sheet that `s` begins with, into a buffer that holds them.
 fn read_entries(s: &[u8], room: &mut [u32])
     requires { ⌜ RoomFor (readSheet (now s)) (length (now room)) ⌝ }
     ensures { λ r. ⌜ now (room .exit) ≡ filled (readSheet (now (s .entry))) (now (room .entry)) ⌝ }
@@ -135,8 +135,8 @@ fn read_entries(s: &[u8], room: &mut [u32])
     }
 }
 
-// Reads a sheet: its entries, five numbers each, into the room, and how many they are; or the refusal, and the room as
-// it was.
+// Reads a sheet: its entries, five numbers each, into the buffer, and how many they are; or the refusal, and the
+// buffer as it was.
 pub fn read(s: &[u8], room: &mut [u32]) -> Extent
     ensures { λ r. ⌜ r ≡ readInto (length (now (room .entry))) (readWhole (now (s .entry))) ⌝ }
     ensures { λ r. ⌜ now (room .exit) ≡ roomAfter (readWhole (now (s .entry))) (now (room .entry)) ⌝ }

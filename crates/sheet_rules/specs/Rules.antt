@@ -1,4 +1,4 @@
--- What the rules say of an entry, by what came before it. Reader and writer both go by these.
+-- What the rules say of an entry, by what came before it. Reader and writer both use these.
 use Prim.Native.Nat.{ℕ}
 use mathlib.Core.Bool.{Bool, cond, _&&_, _||_, not}
 use lib.Dec.{leb}

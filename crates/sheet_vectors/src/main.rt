@@ -1,13 +1,13 @@
 // Prints test vectors of whole sheets, for comparison with what independent code gives: of the sheet that a request
 // gets, of the reader, and of the writer.
 //
-// Standard input holds records: a letter, the number of the bytes that follow in two bytes, and these bytes.
-// Numbers are big-endian. What is printed for a record goes by its letter:
+// Standard input holds records: a letter, the number of the bytes that follow in two bytes, and these bytes. Numbers
+// are big-endian. What is printed for a record depends on its letter:
 //
 //   #  text                                a heading: the text, as a line
-//   q  a sheet's room, 2 bytes; a request  the listing of the request's sheet, or the refusal
+//   q  a buffer's size, 2 bytes; a request the listing of the request's sheet, or the refusal
 //   r  a stored sheet                      what the reader answers: the sheet that the bytes begin with, the sheet
-//                                          that they are, and the same with room for three entries; then the entries,
+//                                          that they are, and the same into three entries; then the entries,
 //                                          and whether they are written back to the same bytes
 //   w  entries, 4 bytes a number           what the writer answers with a buffer of 256 bytes and with one of 20, and
 //                                          both buffers afterwards; they hold 170 before
@@ -120,7 +120,7 @@ fn print_written(numbers: &[u32], sheet: &[u8]) {
     print_same(answer, &space, sheet);
 }
 
-// What the reader answers where there is room for three entries and most of a fourth.
+// What the reader answers with a buffer for three entries and most of a fourth.
 fn print_short(sheet: &[u8]) {
     let mut three = [0u32; 19];
     let answer = sheet_codec::decoder::read(sheet, &mut three);

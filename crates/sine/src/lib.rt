@@ -1,5 +1,5 @@
-// Sine and cosine, from a lent table S (`sine_table`). Angles are in units of 10^-6 degree, sines and cosines in units
-// of 10^-8.
+// Sine and cosine, from a filled table S (`sine_table`). Angles are in units of 10^-6 degree, sines and cosines in
+// units of 10^-8.
 pub mod turns;
 
 ghost use mathlib.Core.Path.{_≡_};

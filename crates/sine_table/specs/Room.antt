@@ -1,4 +1,4 @@
--- Table S in a room that a caller lends, and as it is stored. Document 02, wish 8, "A smaller sine table". Definitions
+-- Table S in a caller-provided buffer, and as it is stored. Document 02, wish 8, "A smaller sine table". Definitions
 -- only.
 use mathlib.Core.Path.{_≡_}
 use mathlib.Core.List.{List, [], _∷_, _++_, map}

@@ -1,5 +1,5 @@
 // Table S: the sines of each tenth of a degree from 0 to 90, in units of 10^-8, summed up from their second
-// differences in lent room.
+// differences in a caller-provided buffer.
 mod differences;
 
 ghost use Prim.Native.Nat.{_≤_, _<_};
@@ -9,7 +9,8 @@ ghost use lib.ListN.{length};
 ghost use Rattle.sine_table.specs.Table.{Entry, Sines};
 ghost use Rattle.sine_table.specs.Room.{filled, Gives};
 
-// The second differences of table S, to be lent to `sum_up`: an array is made anew wherever it is named.
+// The second differences of table S, which callers pass to `sum_up`: an array constant is built again wherever it is
+// named.
 fn second_differences() -> [i16; 899]
     ensures { λ r. ⌜ Gives 0 (pos 0) (pos 174_533) r ⌝ }
 {
@@ -40,7 +41,7 @@ fn sum_up(differences: &[i16], room: &mut [u32])
     room[900] = (entry + step) as u32;
 }
 
-// Table S in the first 901 numbers of the room lent; what lies past them stays.
+// Table S in the first 901 numbers of the caller's buffer; what lies past them stays.
 pub fn fill(room: &mut [u32])
     requires { ⌜ 901 ≤ length (now room) ⌝ }
     ensures room { λ r. ⌜ now (room .exit) ≡ filled (now (room .entry)) ⌝ }
@@ -50,7 +51,7 @@ pub fn fill(room: &mut [u32])
     sum_up(&differences, room);
 }
 
-// Entry k of a lent table.
+// Entry k of a filled table.
 pub fn entry(table: &[u32], k: usize) -> u32
     requires { ⌜ (Sines (now table)) × (k < 901) ⌝ }
     ensures { λ r. ⌜ Entry k r ⌝ }

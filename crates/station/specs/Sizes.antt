@@ -29,8 +29,8 @@ station-sizes s w =
       deltat = natAbs-le (s .deltat) (≤ℤ-trans (leZ-yes tt) (i .1 .1 .1 .1 .0 .0)) (i .1 .1 .1 .1 .0 .1);
     }
 
--- a place on the spheroid, at any height in range, with room; PlaceLaws, place-sizes: every station in its ranges has
--- such a one
+-- a place on the spheroid, at any height in range, with a margin; PlaceLaws, place-sizes: every station in its ranges
+-- has such a one
 pub record PlaceSizes (place : Place) : Type 0 where
   pub r : natAbs (place .r) ≤ 101000000
   pub p : natAbs (place .p) ≤ 101000000

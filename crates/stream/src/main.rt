@@ -33,7 +33,7 @@ struct Next {
     more: bool,
 }
 
-// The next request, at the start of its room; how many bytes it has, 0 at the input's end.
+// The next request, at the start of its buffer; how many bytes it has, 0 at the input's end.
 fn read_request(room: &mut [u8]) -> usize
     requires { ⌜ length (now room) ≡ 115 ⌝ }
     ensures { λ r. ⌜ Counts r (now (room .exit)) ⌝ }

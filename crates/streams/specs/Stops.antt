@@ -1,5 +1,5 @@
--- The stream stops exactly at bytes of wrong shape, whatever rooms are lent; so it goes on only behind a whole request.
--- No other refusal has the number 10: the limits raise 1, 2, 13 and 3, the rooms 4.
+-- The stream stops exactly at bytes of wrong shape, whatever the buffers are; so it goes on only behind a whole
+-- request. No other refusal has the number 10: the limits raise 1, 2, 13 and 3, the buffers 4.
 use mathlib.Core.Path.{_≡_, refl, sym, ap, _∙_}
 use mathlib.Core.Bool.{Bool, true, false, cond}
 use mathlib.Core.List.{List}

@@ -1,5 +1,5 @@
--- Requests that follow each other: where each ends, what it is answered, and what is told of it.
--- The answer to a request's bytes, and what it leaves in the rooms: request_sheets, Sheet.
+-- Requests that follow each other: where each ends, the answer to it, and the report on standard error. The answer to
+-- a request's bytes, and what it leaves in the buffers: request_sheets, Sheet.
 use mathlib.Core.Bool.{Bool, true, false, cond}
 use mathlib.Core.List.{List, [], _++_}
 use Prim.Native.Nat.{ℕ}
@@ -31,7 +31,7 @@ starKind = starElements .kind
 unfoldable pub sizeFrom : ℕ → ℕ
 sizeFrom first = cond (eqb first eclipseKind) (sizeFor S.Eclipse) (cond (eqb first starKind) (sizeFor S.Star) 1)
 
--- ---- what it is answered
+-- ---- the answer to it
 
 -- a star's request, by its first byte; any other is read as an eclipse's, and refused with 10 where it is none
 abbrev pub isStar : List ℕ → Bool
@@ -40,7 +40,7 @@ isStar s = eqb (getD s 0 0) starKind
 unfoldable pub answerFor : (request sines room : List ℕ) → Answer
 answerFor s sines room = cond (isStar s) (starAnswer s sines room) (answerTo s sines room)
 
--- the sheet's room and that for table S afterwards
+-- the sheet's buffer and that for table S afterwards
 unfoldable pub roomFor : (request sines room : List ℕ) → List ℕ
 roomFor s sines room = cond (isStar s) (starBuffer s sines room) (bufferFor s sines room)
 

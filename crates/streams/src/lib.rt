@@ -1,5 +1,5 @@
-// Requests that follow each other, eclipses' and stars': how many bytes the next one has, and what one of them is
-// answered.
+// Requests that follow each other, eclipses' and stars': how many bytes the next one has, and the answer to one of
+// them.
 use circumstances::Answer;
 use request_format::fields::LENGTH;
 use request_format::fields::STAR_LENGTH;
@@ -12,9 +12,9 @@ ghost use Rattle.streams.specs.Streams.{sizeFrom, isStar, answerFor, roo
 
 // What goes out for a request, and whether another may follow.
 pub struct Answered {
-    // bytes of the sheet's room, to standard output
+    // bytes of the sheet's buffer, to standard output
     pub output: usize,
-    // bytes of the line's room, to standard error; more than the room has where the room is shorter than the text
+    // bytes of the line's buffer, to standard error; more than the buffer has where the buffer is shorter than the text
     pub error: usize,
     // the bytes were no request's, so where the next one begins is not known
     pub stops: bool,
@@ -90,8 +90,9 @@ fn put_refusal(out: &mut [u8], count: u64, at: u64, refusal: Refusal) -> usize
     end
 }
 
-// Request `count` of a stream, which begins at byte `at`: its sheet at the start of the room, with `sines` for table
-// S; or what is told of its refusal from the start of `line` on, as far as that goes. Any bytes, any rooms.
+// Request `count` of a stream, which begins at byte `at`: its sheet at the start of the buffer, with `sines` for
+// table S; or the report of its refusal from the start of `line` on, as far as that reaches. It takes any bytes and
+// any buffers.
 pub fn step(
     request: &[u8],
     count: u64,

@@ -43,7 +43,7 @@ rowsAfter L.Row k = cond (eqb k 6) 0 (k + 1)
 rowsAfter L.Nothing k = k
 rowsAfter (L.Faulty f) k = k
 
--- how many bytes the tables of a text take, and what is told of its fault
+-- how many bytes the tables of a text take, and the report of its fault
 abbrev pub outputOf : Extent → ℕ
 outputOf (R.Whole o) = o
 outputOf (R.Faulty o k f) = o
@@ -90,7 +90,7 @@ lines-cons l ls k seen = refl
 abbrev pub whole : List ℕ → Streams
 whole text = readLines (linesOf text) 1 []
 
--- the lines before byte `from` are read and their parts put; the table's rows so far are at the start of the room
+-- the lines before byte `from` are read and their parts put; the table's rows so far are at the start of the buffer
 pub record Reading (text old out : List ℕ) (at : ℕ) (numbers : List ℤ) (k line from : ℕ) : Type 0 where
   pub ls : List (List ℕ)
   pub left : Left text from ls

@@ -1,4 +1,4 @@
--- Rows as they are typed: six whole numbers a line. Bytes go by their class (`words`); `#` starts a comment.
+-- Rows as they are typed: six whole numbers a line. Bytes are treated by their class (`words`); `#` starts a comment.
 use Prim.Native.Nat.{ℕ, zero, suc, _+_, _-_, _*_}
 use mathlib.Core.Bool.{Bool, cond, _&&_}
 use mathlib.Core.List.{List, [], _∷_, _++_}

@@ -1,7 +1,7 @@
-// Reads hourly rows of Sun and Moon from standard input, six whole numbers a line: the Sun's x, y, z and the Moon's x,
-// y, z in 10^-8 of the Earth's equatorial radius. `#` starts a comment. After each seven rows it prints their values,
-// a line a row: x, y, sin d, cos d, tan f1, tan f2, l1, l2; or `refused`, number and place. A fault is told on
-// standard error with its line, and ends the reading.
+// Reads hourly rows of Sun and Moon from standard input, six whole numbers a line: the Sun's x, y, z and the Moon's
+// x, y, z in 10^-8 of the Earth's equatorial radius. `#` starts a comment. After each seven rows it prints their
+// values, a line a row: x, y, sin d, cos d, tan f1, tan f2, l1, l2; or `refused`, number and place. It reports the
+// first invalid line on standard error and stops reading.
 mod text;
 pub mod typed_rows;
 

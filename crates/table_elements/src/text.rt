@@ -1,5 +1,5 @@
-// What is written of a table, and of a fault. A `put_` function stores it at a place of a room, as far as the room
-// goes, and gives the place after it (`decimals`).
+// What is written of a table, and of a fault. A `put_` function stores it at a place of a buffer, as far as the
+// buffer reaches, and gives the place after it (`decimals`).
 use crate::typed_rows::Fault;
 ghost use mathlib.Core.Path.{_≡_};
 ghost use lib.ListN.{length};

@@ -1,6 +1,6 @@
-// Reads a typed request from standard input, as `request` does, and prints the listing of its sheet with altitudes and
-// notes; where the text has an instant, with clock times (docs/CLOCK.md). A refusal is printed as `sheet` prints it; a fault of the text is
-// told on standard error with its line.
+// Reads a typed request from standard input, as `request` does, and prints the listing of its sheet with altitudes
+// and notes; where the text has an instant, with clock times (docs/CLOCK.md). A refusal is printed as `sheet` prints
+// it; the first invalid line is reported on standard error.
 use answers::put_timed_answer;
 use answers::put_timed_star_answer;
 use calendar::Reference;

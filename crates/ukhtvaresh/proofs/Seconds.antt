@@ -10,7 +10,7 @@ use Rattle.ukhtvaresh.specs.declared.replies.Reply.{Reply}
 use Rattle.ukhtvaresh.specs.Seconds.{secondReply}
 
 module _ (shape : Shape) (request sines : List ℕ) (old : List ℤ) where
-  -- what stands in the two rooms
+  -- what stands in the two buffers
   abbrev Rooms : ℤ → (new : List ℤ) (left : List ℕ) → Type 0
   Rooms τ new left =
       let given = secondGiven shape request τ sines old in

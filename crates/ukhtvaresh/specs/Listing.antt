@@ -9,7 +9,7 @@ use Rattle.listings.specs.Listings.{told}
 use Rattle.ukhtvaresh.specs.declared.replies.Reply.{Reply}
 use Rattle.ukhtvaresh.specs.Replies.{refusedReply}
 
--- what a sheet's bytes are answered in a room
+-- the answer to a sheet's bytes with a buffer
 abbrev pub listingGiven : List ℕ → List ℕ → Text
 listingGiven sheet room = answered (length room) (told sheet)
 

@@ -1,5 +1,5 @@
 -- What a caller from outside gets of a mended file: the number of the refusal, 0 for none; and beside it how many
--- bytes each room has, or the refusal's place and 0.
+-- bytes each buffer has, or the refusal's place and 0.
 use mathlib.Core.List.{List}
 use Prim.Native.Nat.{ℕ}
 use lib.ListN.{length}
@@ -9,7 +9,7 @@ use Rattle.year_file.specs.Walk.{kept, notes}
 use Rattle.year_file.specs.Mending.{answerTo, roomAfter}
 use Rattle.ukhtvaresh.specs.declared.replies.MendReply.{MendReply}
 
--- what a file is answered in two rooms, and the rooms afterwards
+-- the answer to a file with two buffers, and the buffers afterwards
 abbrev pub mendGiven : List ℕ → List ℕ → List ℕ → Answer
 mendGiven file sheets dropped = answerTo (length sheets) (length dropped) file
 

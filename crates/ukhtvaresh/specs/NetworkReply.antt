@@ -15,7 +15,7 @@ abbrev pub networkReply : Answer → Reply
 networkReply (A.Named n) = record { number = 0; value = n }
 networkReply (A.Refused r) = refusedReply r
 
--- what a list is told: number, value, room and steps afterwards
+-- the reply to a list: number, value, buffer and steps afterwards
 pub record Told (ns : List ℤ) (l : List Node) (sines steps : List ℕ) (number : ℕ) (sines′ steps′ : List ℕ) (value : ℕ) : Type 0 where
   pub is-number : number ≡ networkReply (answerTo ns l sines steps) .number
   pub is-value : value ≡ networkReply (answerTo ns l sines steps) .value

@@ -21,7 +21,7 @@ abbrev pub sheetReply : Answer → Reply
 sheetReply (A.Written n) = record { number = 0; value = n }
 sheetReply (A.Refused r) = refusedReply r
 
--- ---- a sheet read into a room: how many entries
+-- ---- a sheet read into a buffer: how many entries
 -- "Where a reader is lent room for entries and there are more, it gives 4 with their number"
 abbrev pub readGiven : List ℕ → List ℕ → Extent
 readGiven sheet room = readInto (length room) (readWhole sheet)

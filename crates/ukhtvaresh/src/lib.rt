@@ -18,7 +18,8 @@ ghost use Rattle.request_format.specs.Input.{requestOf};
 ghost use Rattle.request_answers.specs.Sheet.{answerTo, bufferFor, sinesFor};
 ghost use Rattle.ukhtvaresh.specs.Replies.{sheetReply, readGiven, readReply, writeGiven, writeReply};
 
-// The contact sheet of a request of 115 bytes, in the caller's buffer; value: its length. `sines` is room for table S.
+// The contact sheet of a request of 115 bytes, in the caller's buffer; value: its length. `sines` is the buffer for
+// table S.
 #[no_mangle]
 pub extern "C" fn ukhtvaresh_sheet(
     request: &[u8],
@@ -38,7 +39,7 @@ pub extern "C" fn ukhtvaresh_sheet(
     reply.number
 }
 
-// Reads a sheet: its entries, five numbers each, into the room lent; value: how many entries.
+// Reads a sheet: its entries, five numbers each, into the caller's buffer; value: how many entries.
 #[no_mangle]
 pub extern "C" fn ukhtvaresh_read(sheet: &[u8], entries: &mut [u32], value: &mut u64) -> u64
     ensures number { λ r. ⌜ r ≡ readReply (readGiven (now (sheet .entry)) (now (entries .entry))) .number ⌝ }

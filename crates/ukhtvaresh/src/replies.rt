@@ -29,9 +29,9 @@ pub struct Reply {
 pub struct MendReply {
     // number of the refusal, 4; 0 for none
     pub number: u64,
-    // bytes written into the sheets' room; or the refusal's place, the length needed
+    // bytes written into the sheets' buffer; or the refusal's place, the length needed
     pub kept: u64,
-    // bytes written into the other room; 0 on refusal
+    // bytes written into the other buffer; 0 on refusal
     pub noted: u64,
 }
 

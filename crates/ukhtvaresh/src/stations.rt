@@ -22,7 +22,7 @@ fn told(eclipse: &[i64], h: Held, sines: &mut [u32], steps: &mut [u64], value: &
 
 // The steps of each station's clock from the antenna, 64 numbers in list order, 0 past the list; value: the number of
 // the station whose first enter comes first, 0 for none. `eclipse` is the 22 elements, the window's first and last
-// second, and the guard; `sines` is room for table S.
+// second, and the guard; `sines` is the buffer for table S.
 #[no_mangle]
 pub extern "C" fn ukhtvaresh_network(
     eclipse: &[i64],

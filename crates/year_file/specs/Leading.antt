@@ -20,7 +20,7 @@ pub record NoneBefore (file : List ℕ) (at n : ℕ) : Type 0 where
   pub within : n ≤ at
   pub none : (i : ℕ) → i < at → at ≤ i + n → leading (readSheet (drop i file)) ≡ 0
 
--- ---- what the reader tells of the bytes from a place on
+-- ---- what the reader says about the bytes from a place on
 
 part-all : (file : List ℕ) (at : ℕ) → take (length file - at) (drop at file) ≡ drop at file
 part-all file at = take-all (length file - at) (drop at file) (omega (arith, length-drop at file))

@@ -1,5 +1,5 @@
--- Mending the year file (document 02, wish 11): the answer, and the rooms afterwards. The walk, what is kept and what
--- is noted: `kept_sheets`.
+-- Mending the year file (document 02, wish 11): the answer, and the buffers afterwards. The walk, what is kept and
+-- what is noted: `kept_sheets`.
 use Prim.Native.Nat.{ℕ}
 use mathlib.Core.List.{List, _++_}
 use mathlib.Core.Bool.{cond}
@@ -10,7 +10,7 @@ use Rattle.year_file.specs.Walk.{kept, notes}
 use Rattle.year_file.specs.declared.mending.Answer.{Answer}
 use Rattle.year_file.specs.declared.mending.Answer.the-variants.{Mended, Refused}
 
--- "4 with the length needed where a room is short, sheets' room first"; the rooms have a and b bytes
+-- "4 with the length needed where a room is short, sheets' room first"; the buffers have a and b bytes
 abbrev pub answerFor : ℕ → ℕ → List ℕ → List ℕ → Answer
 answerFor a b sheets dropped =
     cond (leb (length sheets) a)

@@ -4,13 +4,13 @@ mod notes;
 ghost use Rattle.decimal_text.specs.Texts.{Put};
 ghost use Rattle.year_file.specs.Walk.{kept, notes};
 
-// The places after what was put into each room.
+// The places after what was put into each buffer.
 pub struct Ends {
     pub kept: usize,
     pub noted: usize,
 }
 
-// The walk: what is kept into the one room, what is noted into the other, as far as each goes.
+// The walk: what is kept into the one buffer, what is noted into the other, as far as each reaches.
 pub fn walk(file: &[u8], sheets: &mut [u8], dropped: &mut [u8]) -> Ends
     ensures kept { λ r. ⌜ Put (now (sheets .entry)) 0 (kept (now (file .entry))) (now (sheets .exit)) (r .kept) ⌝ }
     ensures noted { λ r. ⌜ Put (now (dropped .entry)) 0 (notes (now (file .entry))) (now (dropped .exit)) (r .noted) ⌝ }

@@ -5,15 +5,15 @@ ghost use lib.ListN.{length};
 ghost use Rattle.year_file.specs.Walk.{kept, notes};
 ghost use Rattle.year_file.specs.Mending.{answerTo, roomAfter};
 
-// How many bytes were written into each room, or why none was.
+// How many bytes were written into each buffer, or why none was.
 pub enum Answer {
     Mended { kept: usize, noted: usize },
     Refused(Refusal),
 }
 
-// Mends a file: the sheets that were kept, in order, into the one room; into the other each unbroken stretch of
-// dropped bytes, 16 bytes each, its start and its length. How many bytes each room has of them; or the refusal, and
-// both rooms as they were.
+// Mends a file: the sheets that were kept, in order, into the one buffer; into the other each unbroken stretch of
+// dropped bytes, 16 bytes each, its start and its length. How many bytes each buffer has of them; or the refusal, and
+// both buffers as they were.
 pub fn mend(file: &[u8], sheets: &mut [u8], dropped: &mut [u8]) -> Answer
     ensures answer { λ r. ⌜ r ≡ answerTo (length (now (sheets .entry))) (length (now (dropped .entry))) (now (file .entry)) ⌝ }
     ensures sheets { λ r. ⌜ now (sheets .exit) ≡ roomAfter r (kept (now (file .entry))) (now (sheets .entry)) ⌝ }

@@ -21,7 +21,8 @@ use Rattle.exclusion_test.specs.Samples.{byteAt, squareAt}
 use Rattle.requests.specs.WindowLaws.{seconds-some}
 use Rattle.adaptive_sampling.specs.declared.partial.Tally.{Tally}
 use Rattle.adaptive_sampling.specs.Nearest.{nearest-closest}
-use Rattle.adaptive_sampling.specs.Found.{All, Found}
+use Rattle.adaptive_sampling.specs.Kept.{Kept}
+use Rattle.adaptive_sampling.specs.Found.{Found}
 
 -- the k-th phase, whatever stands for one that a shadow has not
 phase-same : (b : Body) (k : ℕ) → k < length (phasesOf b) → phaseIn b k ≡ getD (phasesOf b) k Penumbra
@@ -45,18 +46,17 @@ closest-of o n e =
     let z : n ≡ natAbs (o .window .last -ℤ o .window .first) = omega arith in
     ap (closestTo (λ k. M (momentAt o (nthSecond (o .window) k)))) z
 
-pub found-of : (o : Occultation) {runs : List ℕ} {t : Tally} → All o runs t → secondCount (o .window) ≤ length runs
+pub found-of : (o : Occultation) {runs : List ℕ} {t : Tally} → Kept o (secondCount (o .window) - 1) runs t → secondCount (o .window) ≤ length runs
     → {new : List ℕ} {r : ℕ} → Written runs (t .filled .count) (t .filled .pair) (t .filled .seconds) new r → Found o new (record { count = r; best = t .best })
-found-of o {runs} {t} all room {new} {r} w =
+found-of o {runs} {t} g room {new} {r} w =
     let n = secondCount (o .window) - 1 in
     let e : n + 1 ≡ secondCount (o .window) = omega (arith, seconds-some (o .window)) in
-    let g = all .kept in
-    let near = all .near in
+    let near = t .near in
     record {
       count = omega (arith, w .short, w .same, g .few);
       states = record {
         whole = w .whole;
         phase = λ k h. w .states k ∙ g .states k (phase-two (o .body) k h) ∙ ap (listOf (byteAt o k)) e ∙ all-of o k h;
       };
-      closest = nearest-closest (squareAt o) (pos near *ℤ pos near) (g .nearest) (all .reached .second) (omega (arith, all .reached .small)) (all .reached .reached) ∙ closest-of o n e;
+      closest = nearest-closest (squareAt o) (pos near *ℤ pos near) (g .nearest) (g .reached .second) (omega (arith, g .reached .small)) (g .reached .reached) ∙ closest-of o n e;
     }

@@ -1,41 +1,41 @@
--- The seventeen seconds lie in the window, one after the other; their shadows, one more at a time; the closest of them.
+-- The five seconds lie in the window, one after the other; their shadows, one more at a time.
 use Prim.Native.Nat.{ℕ, _+_, _-_, _*_, _/_, _≤_, _<_}
 use mathlib.Core.Path.{_≡_, sym, ap, subst, _∙_}
 use mathlib.Core.List.{List}
 use mathlib.Core.Logic.{⊎-elim}
 use native.Mathlib.Omega.{arith}
 use native.Mathlib.Nat.{add-mul, mul-le-mul-right, eq-or-lt-of-le}
-use lib.IntN.{natAbs}
+use lib.IntN.{ℤ, natAbs}
 use lib.ListN.{length, getD, set}
 use lib.Seq.{getD-set-same, getD-set-other}
 use Rattle.shadow.specs.declared.Sample.{Sample}
 use Rattle.requests.specs.declared.Occultation.{Occultation}
 use Rattle.exclusion_test.specs.Samples.{IsAt, squareAt}
-use Rattle.adaptive_sampling.specs.declared.seeds.Low.{Low}
-use Rattle.adaptive_sampling.specs.Reach.{Seen, OneOf}
-use Rattle.adaptive_sampling.specs.Spread.{stop, blank, SpreadTo, Spread, SquareSizes, OneStop}
+use Rattle.exclusion_test.specs.laws.Gaps.{sample-sizes}
+use Rattle.adaptive_sampling.specs.Reach.{Seen}
+use Rattle.adaptive_sampling.specs.Spread.{stop, blank, SpreadTo, Spread, Sized}
 
 -- ---- the first and the last second of the window, and those between
 pub stop-first : (n : ℕ) → stop n 0 ≡ 0
 stop-first n = none (n - 1)
   where
-    none : (m : ℕ) → 0 * m / 16 ≡ 0
+    none : (m : ℕ) → 0 * m / 4 ≡ 0
     none m = omega arith
 
-pub stop-last : (n : ℕ) → stop n 16 ≡ n - 1
+pub stop-last : (n : ℕ) → stop n 4 ≡ n - 1
 stop-last n = omega arith
 
-cut : (m k : ℕ) → k ≤ 16 → k * m / 16 ≤ m
+cut : (m k : ℕ) → k ≤ 4 → k * m / 4 ≤ m
 cut m k h = omega (arith, mul-le-mul-right m h)
 
-pub stop-in : (n k : ℕ) → 1 ≤ n → k ≤ 16 → stop n k < n
+pub stop-in : (n k : ℕ) → 1 ≤ n → k ≤ 4 → stop n k < n
 stop-in n k some h = omega (arith, cut (n - 1) k h)
 
 -- each is after the one before
-further : (m k : ℕ) → 16 ≤ m → k * m / 16 < (k + 1) * m / 16
+further : (m k : ℕ) → 4 ≤ m → k * m / 4 < (k + 1) * m / 4
 further m k h = omega (arith, add-mul k 1 m)
 
-pub stop-rises : (n k : ℕ) → 99 < n → stop n k < stop n (k + 1)
+pub stop-rises : (n k : ℕ) → 11 < n → stop n k < stop n (k + 1)
 stop-rises n k h = further (n - 1) k (omega arith)
 
 -- ---- the shadows
@@ -56,26 +56,13 @@ spread-more o n k l s h g is i b = ⊎-elim same other (eq-or-lt-of-le below)
     other f =
         subst (λ (x : Sample). IsAt o (stop n i) x) (sym (getD-set-other l k i s blank (λ (e : i ≡ k). omega arith))) (g i f)
 
-pub square-sizes : (o : Occultation) (n : ℕ) (l : List Sample) → Spread o n l → SquareSizes l
-square-sizes o n l g k h = g k h .m .size
+pub spread-sized : (o : Occultation) (n : ℕ) (l : List Sample) → Spread o n l → Sized l
+spread-sized o n l g k h = sample-sizes o (stop n k) (g k h)
 
--- ---- the closest
-module _ {n : ℕ} {l : List Sample} {w : Low} (g : OneStop n l w) where
-  pub stop-size : SquareSizes l → natAbs (w .m) ≤ 1000000000000000000
-  stop-size z = omega (arith, ap natAbs (g .is), z (g .place) (g .small))
-
-  -- the closer of two
-  pub one-stop : (k : ℕ) → k < 17 → {r : Low} → OneOf w (stop n k) (getD l k blank .m) r → OneStop n l r
-  one-stop k h {r} c =
-      ⊎-elim (λ (e : r ≡ w). subst (OneStop n l) (sym e) g)
-      (λ (e : (r .second ≡ stop n k) × (r .m ≡ getD l k blank .m)). record { place = k; small = h; second = e .0; is = e .1 }) (c .which)
-
-  pub stop-seen : (o : Occultation) → 1 ≤ n → Spread o n l → Seen o n w
-  unfolding squareAt
-  stop-seen o some s =
-      let i = s (g .place) (g .small) in
-      record {
-        small = omega (arith, g .second, stop-in n (g .place) some (omega (arith, g .small)));
-        is = g .is ∙ i .m .value ∙ ap (squareAt o) (sym (g .second));
-        size = omega (arith, ap natAbs (g .is), i .m .size);
-      }
+-- one of them was seen
+pub stop-seen : (o : Occultation) (n k : ℕ) (l : List Sample) → 1 ≤ n → Spread o n l → k < 5 → (m : ℤ) → m ≡ getD l k blank .m
+    → Seen o n (record { second = stop n k; m = m })
+unfolding squareAt
+stop-seen o n k l some s h m e =
+    let i = s k h in
+    record { small = stop-in n k some (omega arith); is = e ∙ i .m .value; size = omega (arith, ap natAbs e, i .m .size) }

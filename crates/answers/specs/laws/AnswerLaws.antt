@@ -49,7 +49,7 @@ pub printed-is : (shape : Shape) (request sines room : List ℕ) → Copies 0 90
 unfolding printedFor
 printed-is shape request sines room t b = rw (t .is, b .is)
 
--- ---- what a star request's bytes are answered
+-- ---- the answer to a star request's bytes
 
 module _ (request sines room : List ℕ) (a : Answer) (is : a ≡ starAnswer request sines room)
     (left : List ℕ) (by-rule : left ≡ starBuffer request sines room) where
@@ -57,7 +57,7 @@ module _ (request sines room : List ℕ) (a : Answer) (is : a ≡ starAnswer req
   unfolding starTimedText
   star-timed k d y e f = rw (is, by-rule, e, f)
 
--- ---- what an eclipse's bytes are answered
+-- ---- the answer to an eclipse's bytes
 
 module _ (request sines room : List ℕ) (a : Answer) (is : a ≡ answerTo request sines room)
     (left : List ℕ) (by-rule : left ≡ bufferFor request sines room) where

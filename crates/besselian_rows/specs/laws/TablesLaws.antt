@@ -1,5 +1,5 @@
 -- Laws of the rows: the search for the first refused one step by step, values stored row by row, and what stands in
--- the room at the end.
+-- the buffer at the end.
 use mathlib.Core.Path.{_≡_, refl, sym, ap, subst, _∙_}
 use mathlib.Core.Bool.{Bool, true, false}
 use mathlib.Core.List.{List, [], _∷_, _++_, append-assoc}
@@ -124,7 +124,7 @@ unfolding valuesOf
 all-stored n old h =
     sets-eq (valuesOf n 7) old 0 (omega (arith, length-values n 7)) ∙ ap (λ (k : ℕ). valuesOf n 7 ++ drop k old) (length-values n 7)
 
--- ---- what stands in the room
+-- ---- what stands in the buffer
 
 getD-skip : (xs ys : List ℤ) (m j : ℕ) → length xs ≡ m → number (xs ++ ys) (m + j) ≡ number ys j
 getD-skip [] ys m j e = ap (number ys) (omega arith)
@@ -193,7 +193,7 @@ module _ (n : List ℤ) (room : ℕ) where
     unfolding answerTo
     answer-made e h = rw (eq-eqb (length n) 42 c, e, le-leb 56 room h)
 
--- made: 42 numbers, none refused, room enough
+-- made: 42 numbers, none refused, and a buffer that is long enough
 pub record Good (n : List ℤ) (room : ℕ) : Type 0 where
   pub count : length n ≡ 42
   pub whole : firstRefused n 0 7 ≡ Rows.Whole

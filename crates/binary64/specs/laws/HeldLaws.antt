@@ -1,4 +1,4 @@
--- What stands in for a number too large for 64 bits does not matter to ranges that end within 10^9: both are out of
+-- The number used in place of one too large for 64 bits does not matter to ranges that end within 10^9: both are out of
 -- them.
 --   stand-in-reading     what the code goes on with is the double's units, or what stands in for them
 --   ranges-held          the search finds the same

@@ -1,6 +1,6 @@
--- `circumstances::sheet` meets its contract: a refusal of the request or of its room is passed on with the buffer as
--- it was; else `sheet_within` answers from the filled room. Demand 3 then follows from the answer and the buffer alone
--- (Claims).
+-- `circumstances::sheet` meets its contract: a refusal of the request or of its buffer for table S is passed on with
+-- the sheet's buffer unchanged; else `sheet_within` answers from the filled table. Demand 3 then follows from the
+-- answer and the buffer alone (Claims).
 use mathlib.Core.Path.{_≡_, refl, sym, ap, _∙_}
 use borrow.Author.Needs.{needs}
 use Rattle.sheet_types.specs.declared.refusals.Checked.the-variants as C

@@ -1,4 +1,4 @@
--- `circumstances::sheet_from` meets its contract: with room for it the whole sheet is written.
+-- `circumstances::sheet_from` meets its contract: where the buffer can hold it, the whole sheet is written.
 use native.Mathlib.Omega.{arith}
 use borrow.Author.Needs.{needs}
 use Rattle.circumstances.specs.laws.Claims.{room-short, room-enough}

@@ -14,7 +14,7 @@ use Rattle.circumstances.specs.laws.Claims.{buffer-length}
 use Rattle.circumstances.proofs.sheet_within.Statement.{statement}
 use Rattle.circumstances.proofs.sheet_within.Tie as tie
 
--- an array of 21,601 bytes has room for every window
+-- an array of 21,601 bytes can hold every window
 room : (o : Occultation) → InLimits o → secondCount (o .window) ≤ length (replicate {A = ℕ} 21601 0)
 room o i = omega (arith, seconds-few (o .window) (i .window), length-replicate {A = ℕ} 21601 0)
 

@@ -56,7 +56,7 @@ module _ (o : Occultation) (sines old : List ℕ) where
       by-room true i = demand3 o i (drop (length (sheetBytes o)) old)
       by-room false i = λ e. said o i
 
-  -- ---- the answer, the buffer and the room for table S are those that the check gives
+  -- ---- the answer, the sheet's buffer and the buffer for table S are those that the check gives
   answer-by : (c : Checked) → admitted o sines ≡ c → answerBy c o old ≡ sheetAnswer o sines old
   unfolding sheetAnswer
   answer-by c e = ap (λ (k : Checked). answerBy k o old) (sym e)

@@ -1,4 +1,4 @@
-// How many bytes the entries of a sheet take. These are inner functions of the crate, and have a `requires`.
+// How many bytes the entries of a sheet take. These functions are internal and have a `requires`.
 use requests::Occultation;
 use sheet_format::kinds::Kind;
 use sheet_types::phases::Phase;

@@ -1,5 +1,5 @@
--- Laws of the list's clocks: the steps are one number (`steps-one`), a search that is quiet has told every station
--- whose chain reaches the antenna (`quiet-lost`), and what one turn of the search keeps.
+-- Laws of the list's clocks: the steps are one number (`steps-one`), a search that finds nothing more has determined
+-- every station whose chain reaches the antenna (`quiet-lost`), and what one pass of the search preserves.
 use mathlib.Core.Path.{_≡_, refl, sym, ap, _∙_, subst}
 use Prim.Native.Nat.{ℕ, zero, suc, _+_, _<_, _≤_}
 use native.Mathlib.Numerals.{add-one}
@@ -39,7 +39,7 @@ steps-one d (follows l z lj ej s) (antenna l′ e′) = absurd (z e′)
 steps-one {ns} {cs} d (follows {j = j} l z lj ej s) (follows {j = k} {n = n} l′ z′ lk ek t) =
     ap suc (steps-one d s (subst (λ (p : ℕ). Steps ns cs p n) (distinct-one ns k j d lk lj (ek ∙ sym ej)) t))
 
--- ---- a search that has nothing more to tell
+-- ---- a search that determines nothing more
 module _ (ns cs : List ℤ) (st : List ℕ) (quiet : (i : ℕ) → i < length ns → getD st i 0 ≡ 0 → Untold ns cs st i) where
   told : {i n : ℕ} → Steps ns cs i n → getD st i 0 ≡ 0 → ⊥
   told {i} (antenna l e) h = quiet i l h .0 e
@@ -87,7 +87,7 @@ pub small-start : Small (replicate 64 0)
 unfolding zeros
 small-start k = rw (all-zero 64 k) (omega arith)
 
--- ---- what `place` tells, where x was read from a list: its bits are read back
+-- ---- what `place` says, where x was read from a list: its bits are read back
 pub placed : (l : List ℤ) (n r : ℕ) (x : ℤ) → SFits w64 x → First (At l (toZ w64 (ofZ w64 x))) n r → First (At l x) n r
 placed l n r x f p = subst (λ (z : ℤ). First (At l z) n r) (read-back f) p
 

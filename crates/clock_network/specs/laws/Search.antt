@@ -1,4 +1,4 @@
--- The search for the steps: what is known so far, and what one turn tells.
+-- The search for the steps: what is known so far, and what one pass determines.
 use mathlib.Core.Path.{_≡_}
 use Prim.Native.Nat.{ℕ, zero, suc, _+_, _<_, _≤_}
 use mathlib.Core.List.{List, [], _∷_}
@@ -22,7 +22,7 @@ zeros (suc n ∷ l) = zeros l
 abbrev pub Small : List ℕ → Type 0
 Small st = (k : ℕ) → getD st k 0 + zeros st ≤ 64
 
--- the known steps do not tell those of place i
+-- the known steps do not determine those of place i
 abbrev pub Untold : List ℤ → List ℤ → List ℕ → ℕ → Type 0
 Untold ns cs st i = (getD cs i (pos 0) ≡ pos 0 → ⊥) × ((j : ℕ) → j < length ns → getD ns j (pos 0) ≡ getD cs i (pos 0) → getD st j 0 ≡ 0)
 

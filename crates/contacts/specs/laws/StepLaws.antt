@@ -26,7 +26,7 @@ module _ (k : ℕ) (bytes : List ℕ) where
         start = λ e. refl;
       }
 
-  -- what a step tells that found an entry
+  -- what follows from a step that found an entry
   pub record Took (at : ℕ) (e : Entry) (c : Cursor) : Type 0 where
     pub rest : entriesFrom (decoded k bytes) at ≡ e ∷ entriesFrom (decoded k bytes) (c .at)
     pub further : at < c .at

@@ -1,5 +1,5 @@
 -- `decimal_text::size` meets its contract. Where x is negative, x + 1 is an i64 and so is its opposite, also where x
--- is the least i64 of all; that is one less than the size of x, and adding the one as a u64 has room.
+-- is the least i64 of all; that is one less than the size of x, and adding the one as a u64 does not overflow.
 use mathlib.Core.Path.{_≡_, ap, subst}
 use mathlib.Core.List.{[], _∷_}
 use Prim.Native.Nat.{_+_, _≤_}

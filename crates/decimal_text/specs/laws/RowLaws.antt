@@ -28,7 +28,7 @@ joined h p w = put-then _ _ _ _ _ _ _ _ h p w
 pub copies-length : {x n : ℕ} {l : List ℕ} → Copies x n l → length l ≡ n
 copies-length {x} {n} c = ap length (c .is) ∙ length-replicate n x
 
--- the same numbers, told one by one: `also e (also f refl)`
+-- the same numbers, one by one: `also e (also f refl)`
 pub also : {x v : ℤ} {xs vs : List ℤ} → x ≡ v → xs ≡ vs → x ∷ xs ≡ v ∷ vs
 also e f = rw (e, f)
 
@@ -70,7 +70,7 @@ module _ (text : ℕ → List ℕ) (n : ℕ) (old : List ℕ) (start : ℕ) wher
 -- ---- a text for each record of an input
 
 module _ (size : ℕ) (input : List ℕ) (k : ℕ) where
-  -- record k as a loop lends it
+  -- record k as a loop borrows it
   abbrev pub lent : List ℕ
   lent = take (k * size + size - k * size) (drop (k * size) input)
 

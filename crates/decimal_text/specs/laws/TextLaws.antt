@@ -84,7 +84,7 @@ put-then old mid new at r q x y h p w =
           ∙ ap (λ k. sets k (at + length x) y) (p .room) ∙ sym (sets-append x y old at);
     }
 
--- a byte at a place that the room has, and at one that it has not
+-- a byte at a place that the buffer has, and at one that it has not
 pub put-in : (old : List ℕ) (at x : ℕ) → at < length old → length old < 18446744073709551616 → Put old at (x ∷ []) (set old at x) (at + 1)
 put-in old at x h g = record { place = sym (capped-low (at + 1) (omega arith)); room = refl }
 
@@ -95,7 +95,7 @@ put-past old at x h g = record { place = sym (capped-low (at + 1) g); room = sym
 pub put-last : (old : List ℕ) (at x : ℕ) → length old ≤ at → at ≡ 18446744073709551615 → Put old at (x ∷ []) old at
 put-last old at x h e = record { place = e ∙ sym (capped-high (at + 1) (omega arith)); room = sym (set-out old at x h) }
 
--- ---- a text put at the start of what is left of a room
+-- ---- a text put at the start of what is left of a buffer
 
 sets-cons : (x : ℕ) (text l : List ℕ) (n : ℕ) → sets (x ∷ l) (suc n) text ≡ x ∷ sets l n text
 sets-cons x [] l n = refl
@@ -115,7 +115,7 @@ sets-clipped l text at = by (leb at (length l)) refl
         let h = leb-false at (length l) b in
         rw (min-eq-right (le-of-lt h)) (sets-past text l (length l) (omega arith) ∙ sym (sets-past text l at (omega arith)))
 
--- as a caller lends what is left, and gets it back
+-- as a caller borrows what is left, and gets it back
 pub put-left : (old : List ℕ) (at from : ℕ) (text new : List ℕ) (n r : ℕ) → from ≡ min at (length old)
     → Put (take (length old - from) (drop from old)) 0 text new n → r ≡ capped (at + n)
     → Put old at text (take from old ++ (new ++ drop (length old - from) (drop from old))) r

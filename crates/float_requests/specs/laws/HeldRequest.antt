@@ -56,7 +56,7 @@ module _ (q : Request) where
       let sizes = station-sizes (q .station) (of-limits-within 3 (S.rangeOf (q .station)) (both .1)) in
       rw (same-held (q .elements) (of-limits-within 2 (E.rangeOf (q .elements)) (both .0)), held-small (q .station .longitude) (omega (arith, sizes .longitude)))
 
--- ---- what is promised of a sheet: r is answered, these bytes and this room are left
+-- ---- what is promised of a sheet: the answer is r, and these bytes and this buffer are left
 abbrev pub Promised : Occultation → (sines old : List ℕ) → Answer → (new room : List ℕ) → Type 0
 Promised o sines old r new room = (r ≡ sheetAnswer o sines old)
     × ((new ≡ sheetBuffer o sines old) × ((room ≡ sheetSines o sines) × Claimed o r new))

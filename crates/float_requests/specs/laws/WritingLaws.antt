@@ -79,7 +79,7 @@ module _ (us : List ℤ) (e : elementsChecked (elementsOf us) ≡ C.Within) (l :
           let same : 22 ≡ k = omega (arith, leb-false (suc k) 22 t) in
           subst (λ (j : ℕ). natAbs (getD us j (pos 0)) ≤ 1000000000) same longitude-size
 
--- ---- made: 23 units in their ranges, room enough
+-- ---- made: 23 units in their ranges, and a buffer that is long enough
 pub record Good (us : List ℤ) (room : ℕ) : Type 0 where
   pub in-ranges : InRanges us
   pub enough : 23 ≤ room

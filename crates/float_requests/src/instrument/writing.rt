@@ -12,8 +12,8 @@ ghost use Rattle.float_requests.specs.laws.ReadBackLaws.{InRanges};
 // Whether the doubles were made.
 pub enum Answer {
     Made,
-    // 10: not 23 units; 2: the first element out of its range, 0 to 21; 3: the longitude, place 2; 4: less room than
-    // 23 doubles, place 23
+    // 10: not 23 units; 2: the first element out of its range, 0 to 21; 3: the longitude, place 2; 4: a buffer
+    // shorter than 23 doubles, place 23
     Refused(Refusal),
 }
 
@@ -30,7 +30,7 @@ fn check_longitude(longitude: i64) -> Checked
     })
 }
 
-// The answer to these units where there is room for so many doubles.
+// The answer to these units where the buffer holds so many doubles.
 fn judged(units: &[i64], room: usize) -> Answer
     ensures { λ r. ⌜ r ≡ answerTo (now (units .entry)) room ⌝ }
 {

@@ -81,7 +81,7 @@ fn survey(elements: &[f64], longitude: f64, hours: u64, rest: &[i64]) -> Handed
     Handed::Is(s)
 }
 
-// The contact sheet of such a survey, in the caller's buffer; `sines` is room for table S.
+// The contact sheet of such a survey, in the caller's buffer; `sines` is the buffer for table S.
 pub fn sheet(
     elements: &[f64],
     longitude: f64,

@@ -1,5 +1,5 @@
--- `horizon::horizon_at` meets its contract: the second's own limits, then the request and its room, then the horizon
--- itself.
+-- `horizon::horizon_at` meets its contract: the second's own limits, then the request and its buffer, then the
+-- horizon itself.
 use mathlib.Core.Path.{_≡_, refl, sym, ap, _∙_}
 use mathlib.Core.Bool.{true}
 use mathlib.Core.List.{List}
@@ -25,7 +25,7 @@ use Rattle.horizon.specs.Horizon.{horizonAt, horizonBy, horizonAnswer, h
 use Rattle.horizon.proofs.horizon_at.Statement.{statement}
 use Rattle.horizon.proofs.horizon_at.Tie as tie
 
--- what a check gives: the answer and the room
+-- what a check gives: the answer and the buffer
 answered : (o : Occultation) (τ : ℤ) (sines : List ℕ) (c : Checked) → secondChecked o τ sines ≡ c → (r : OneHorizon) (new : List ℕ)
     → r ≡ horizonBy c o τ → new ≡ sinesAfter c sines → (r ≡ horizonAnswer o τ sines) × (new ≡ horizonSines o τ sines)
 unfolding horizonAnswer secondSines
@@ -39,7 +39,7 @@ t-is c = c .in-span .ensures ∙ ap inSpan (toZ-ofZ w64 (c .before .before .args
 spans : (c : tie.Else1) → inSpan (c .before .before .before .args .t) ≡ true
 spans c = sym (t-is (c .before)) ∙ not-false (c .before .in-span .result) (c .if1 .left)
 
--- ---- the request and its room
+-- ---- the request and its buffer
 abbrev begun : tie.After-admit → tie.Start
 begun c = c .before .before .before .before .before
 

@@ -1,5 +1,5 @@
--- A printed time, read back: its parts are those of a clock, and they and the day tell the tenth. Reading any time
--- that is printed gives the tenth it is of.
+-- A printed time, read back: its parts are those of a clock, and they and the day determine the tenth. Reading any
+-- time that is printed gives the tenth it is of.
 use Prim.Native.Nat.{ℕ, zero, suc, _+_, _-_, _*_, _/_, _%_, _<_}
 use mathlib.Core.Path.{_≡_, refl, sym, ap, ap₂, _∙_}
 use mathlib.Core.List.{[], _∷_, _++_}

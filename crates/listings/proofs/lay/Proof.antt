@@ -1,4 +1,4 @@
--- `listings::lay` meets its contract: the lines are measured in a room of no bytes, and put where the room holds them.
+-- `listings::lay` meets its contract: the lines are measured in an empty buffer, and put where the buffer holds them.
 use native.Mathlib.Omega.{arith}
 use Rattle.sheet_codec.specs.Sheets.{readSheet}
 use Rattle.listings.specs.laws.ListingLaws.{sheet-short, sheet-full}

@@ -1,4 +1,4 @@
--- A text that was measured in a room of no bytes, and then put where the room holds it.
+-- A text that was measured in an empty buffer, and then put where the buffer holds it.
 use Prim.Native.Nat.{ℕ, _≤_, _<_}
 use mathlib.Core.Path.{_≡_, refl, sym, ap, _∙_}
 use mathlib.Core.List.{List, _++_}
@@ -47,7 +47,7 @@ module _ (t none after old : List ℕ) (need : ℕ) (m : Put none 0 t after need
       let s : sets old 0 t ≡ t ++ drop (length t) old = sets-eq t old 0 (omega arith) ∙ rw zero-add in
       rw (le-leb (length t) (length old) (omega arith)) (ap T.Written l, p .room ∙ s)
 
--- what was written lies within the room of k bytes, also where its length is given as m
+-- what was written lies within the buffer of k bytes, also where its length is given as m
 pub written-within : (k m n : ℕ) (r : Text) (t : Told) → r ≡ answered k t → r ≡ T.Written n → m ≡ k → n ≤ m
 unfolding answered
 written-within k m n r (withheld x) a w l = let z : _≡_ {A = ℕ} 0 1 = cc in absurd (omega arith)

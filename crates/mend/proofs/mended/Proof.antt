@@ -1,4 +1,4 @@
--- `mend::mended` meets its contract: too long a file, a mended one, or one whose notes have no room.
+-- `mend::mended` meets its contract: too long a file, a mended one, or one whose notes do not fit.
 use Prim.Native.Nat.{_<_}
 use mathlib.Core.Path.{refl, sym, _∙_}
 use native.Mathlib.Omega.{arith}
@@ -15,7 +15,7 @@ returns c =
     let t = too-long (c .before .before .before .before .before .before .before .before .before .args .file .now) _ _ (c .before .before .before .before .if1 .taken) in
     (t .0, (put-as _ _ _ _ _ _ (t .1) (c .before .before .put-too-long .ensures), (omega arith, refl)))
 
--- the notes at their room's start
+-- the notes at their buffer's start
 noted : (c : tie.After-known-told) → let m = c .before .before .before .before .before .before .before .mend in
     Counts (c .before .answer .given .0 .1 .0) (m .last .1 .1 .0)
 noted c = let m = c .before .before .before .before .before .before .before .mend in

@@ -10,7 +10,7 @@ use borrow.Author.Needs.{needs}
 use Rattle.mend.proofs.put_note.Statement.{statement}
 use Rattle.mend.proofs.put_note.Tie as tie
 
--- a room's length is one of 64 bits
+-- a buffer's length is one of 64 bits
 fits : (c : tie.After-put-text) → length (c .before .before .before .before .before .before .before .args .out .now) < 18446744073709551616
 fits c = omega arith
 

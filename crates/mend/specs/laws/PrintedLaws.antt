@@ -82,7 +82,7 @@ module _ (file : List ℕ) (a b : ℕ) where
     unfolding output error
     mended-out k n e = rw (lt-ltb (length file) a h, ← e) (refl, refl)
 
--- the first n bytes of a room that begins with a text of n bytes
+-- the first n bytes of a buffer that begins with a text of n bytes
 begins : (room text new : List ℕ) (n : ℕ) → n ≡ length text → length text ≤ length room → new ≡ text ++ drop (length text) room
     → (take n new ≡ text) × Counts n new
 begins room text new n e h q =
@@ -91,7 +91,7 @@ begins room text new n e h q =
     let t : take n new ≡ text = ap (take n) q ∙ take-at text (drop (length text) room) n (sym e) in
     (t, (omega arith, e ∙ ap length (sym t)))
 
--- a file that was mended: what its rooms begin with
+-- a file that was mended: what its buffers begin with
 module _ (file sheets room sheets' room' : List ℕ) (r : Answer) (q : r ≡ answerTo (length sheets) (length room) file) (k n : ℕ) (m : r ≡ Mended k n)
     (x : sheets' ≡ roomAfter r (kept file) sheets) (y : room' ≡ roomAfter r (notes file) room) where
   facts : (k ≡ length (kept file)) × (n ≡ length (notes file)) × (length (kept file) ≤ length sheets) × (length (notes file) ≤ length room)

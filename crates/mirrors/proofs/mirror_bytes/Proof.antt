@@ -1,4 +1,4 @@
--- `mirrors::mirror_bytes` meets its contract: the shape, then the room, then the mirror's bytes, which always fit.
+-- `mirrors::mirror_bytes` meets its contract: the shape, then the buffer, then the mirror's bytes, which always fit.
 use mathlib.Core.Path.{_≡_, sym, ap, _∙_}
 use native.Mathlib.Omega.{arith}
 use lib.ListN.{length}

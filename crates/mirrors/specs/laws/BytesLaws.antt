@@ -51,7 +51,7 @@ module _ (s : List ℕ) (b : Bytes s) (ns : List ℤ) (e : readingOf s ≡ numbe
   back : (length ns ≡ count) × (putOf ns ≡ Done) × (bytesOf ns ≡ s)
   back = write-back S.Eclipse s ns b e
 
-  -- what is put in the room
+  -- what is put in the buffer
   pub mirror-put : (ms : List ℤ) (old made : List ℕ) → ms ≡ changed ns → made ≡ bytesAfter ms old → made ≡ mirrorBytes q
   unfolding afterFor mirrorBytes
   mirror-put ms old made m p = p ∙ rw (m, changed-fit ns (back .1), changed-is ns (back .0))

@@ -15,7 +15,7 @@ found c = c .before .before .before
 abbrev word : tie.After-put-number → tie.After-put-text
 word n = n .before .before .before .before
 
--- a room's length is one of 64 bits
+-- a buffer's length is one of 64 bits
 fits : (c : tie.After-put-text) → length (found c .before .before .before .args .out .now) < 18446744073709551616
 fits c = omega arith
 

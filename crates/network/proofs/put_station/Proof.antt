@@ -15,7 +15,7 @@ use Rattle.network.proofs.put_station.Tie as tie
 abbrev start : tie.After-put-filled → tie.Start
 start f = f .before .before .before .before .before
 
--- a room's length is one of 64 bits
+-- a buffer's length is one of 64 bits
 fits : (f : tie.After-put-filled) → length (start f .args .out .now) < 18446744073709551616
 fits f = omega arith
 

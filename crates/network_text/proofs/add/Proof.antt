@@ -1,4 +1,4 @@
--- `network_text::add` meets its contract: the station is stored where there is room, and counted.
+-- `network_text::add` meets its contract: the station is stored where it fits, and counted.
 use borrow.Author.Needs.{needs}
 use borrow.Author.Tests.{lt-ltb, le-ltb}
 use Rattle.network_text.proofs.add.Statement.{statement}

@@ -42,7 +42,7 @@ use Rattle.network_text.specs.Typing.{Listed, taken, faulty, listedBy, n
 
 -- ---- the list
 
--- a station more, stored where there is room
+-- one more station, stored where it fits
 abbrev pub addOf : Held → Node → Held
 addOf h n = record { nodes = cond (ltb (h .count) 64) (set (h .nodes) (h .count) n) (h .nodes); count = h .count + 1 }
 
@@ -213,7 +213,7 @@ walked-start text marks ns h m n e =
       fields = length-set ns 29 (pos 16) ∙ ap length n;
     }
 
--- there is room to count one more
+-- one more can be counted
 pub walked-count : (text marks : List ℕ) (ns : List ℤ) (h : Held) (at i : ℕ) → Walked text marks ns h at i → h .count < i
 walked-count text marks ns h at i w = omega (arith, w .few, ap (λ (g : Held). g .count) (w .holding), held-holds (w .nodes) .count)
 

@@ -61,7 +61,7 @@ module _ (t : tie.After-enum-told) where
   own : take (held .count) (held .nodes) ≡ list
   own = listed held list holds few
 
--- ---- the room is filled
+-- ---- the buffer is filled
 abbrev told : tie.After-enum-told2 → tie.After-enum-told
 told w = w .before .before .before .before .before .before
 

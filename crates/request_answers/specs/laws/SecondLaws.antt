@@ -1,4 +1,4 @@
--- Laws of a second and the room for its numbers.
+-- Laws of a second and the buffer for its numbers.
 use mathlib.Core.Path.{_≡_, refl, subst}
 use mathlib.Core.List.{List}
 use mathlib.Core.Bool.{Bool, true, false, cond}
@@ -32,7 +32,7 @@ module _ (n k : ℕ) (x : Second) where
   pub second-whole : n ≤ k → secondInto n k (O.Is x) ≡ O.Is x
   second-whole h = rw (le-leb n k h)
 
-  -- a second that was given fits its room
+  -- a second that was given fits its buffer
   pub second-fits : (o : OneSecond) → secondInto n k o ≡ O.Is x → n ≤ k
   second-fits (O.Refused r) e = let z : _≡_ {A = ℕ} 0 1 = cc in absurd (omega arith)
   second-fits (O.Is y) e = by (leb n k) refl e
@@ -41,7 +41,7 @@ module _ (n k : ℕ) (x : Second) where
       by true h e = leb-true n k h
       by false h e = let z : _≡_ {A = ℕ} 0 1 = cc in absurd (omega arith)
 
--- ---- what stands in the room means what the second that was given means
+-- ---- what stands in the buffer means what the second that was given means
 
 pub wish-is : (shape : Shape) (request : List ℕ) (o : Occultation) → wish shape request ≡ W.Is o → o ≡ wished shape request
 wish-is Eclipse request o e = asked-is (inputOf request) (requestOf request) (request-is request) o e
@@ -57,7 +57,7 @@ numbers-mean : (shape : Shape) (request : List ℕ) (τ : ℤ) (x : Second) (old
 numbers-mean Eclipse request τ x old m = record { penumbra = m .penumbra; central = m .central }
 numbers-mean Star request τ x old m = record { state = m .penumbra }
 
--- a second in the room of that shape's numbers
+-- a second in the buffer of that shape's numbers
 abbrev into : Shape → (old : List ℤ) → OneSecond → OneSecond
 into shape old s = secondInto (numberCount shape) (length old) s
 

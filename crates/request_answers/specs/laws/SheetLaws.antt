@@ -33,7 +33,7 @@ abbrev pub ClaimedBy : Asked → Answer → List ℕ → Type 0
 ClaimedBy (W.Is o) r new = Claimed o r new
 ClaimedBy (W.Refused x) r new = Unit {0}
 
--- what is promised of an answer r, the bytes that are left, and the room for table S
+-- what is promised of an answer r, the bytes that are left, and the buffer for table S
 abbrev pub Made : (asked : Asked) (sines old : List ℕ) → Answer → (new room : List ℕ) → Type 0
 Made i sines old r new room = (r ≡ answerBy i sines old) × ((new ≡ bufferBy i sines old) × ((room ≡ sinesBy i sines) × ClaimedBy i r new))
 
@@ -97,7 +97,7 @@ module _ (s sines old : List ℕ) where
 
 -- ---- what was written fits
 
--- the room
+-- the buffer
 abbrev pub Fits : Answer → List ℕ → Type 0
 Fits (A.Written n) room = n ≤ length room
 Fits (A.Refused r) room = Unit {0}

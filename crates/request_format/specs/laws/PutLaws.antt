@@ -78,7 +78,7 @@ module _ (s : Shape) (ns : List ℤ) (made : List ℕ) (at k : ℕ) (e : length 
     next : left s ns k ≡ field ++ left s ns (k + 1)
     next = bytes-next s ns k h (omega arith)
 
-    -- there is room for the field
+    -- the field fits
     pub putting-room : at + length field ≤ length made
     putting-room = omega (arith, p .place, p .room, ap (λ (l : List ℕ). length l) next, length-append field (left s ns (k + 1)))
 

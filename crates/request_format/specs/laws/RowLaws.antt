@@ -54,7 +54,7 @@ unfolding rows
 names-are S.Eclipse = refl
 names-are S.Star = refl
 
--- no name is longer than its room
+-- no name is longer than its field
 allRoom : List Field → Bool
 allRoom [] = true
 allRoom (f ∷ fs) = leb (f .1) (length (f .0)) && allRoom fs

@@ -22,7 +22,7 @@ use Rattle.request_text.specs.laws.FitLaws.{Fit, numbers-fit}
 use Rattle.decimal_text.specs.Texts.{Put}
 use Rattle.request_text.specs.Encoded.{ReadAs, Encoded}
 
--- a text at the start of a room that holds it
+-- a text at the start of a buffer that holds it
 pub put-start : (x old new : List ℕ) (r : ℕ) → length x ≤ length old → Put old 0 x new r → new ≡ x ++ drop (length x) old
 put-start x old new r h p =
     let z : 0 + length x ≡ length x = omega arith in p .room ∙ sets-eq x old 0 (omega arith) ∙ ap (λ (k : ℕ). x ++ drop k old) z
@@ -74,7 +74,7 @@ module _ (shape : Shape) (text : List ℕ) (r : Typed) (e : r ≡ answerOf (typi
       by (refused j g) t a b = let z : _≡_ {A = ℕ} 0 1 = cc in absurd (omega arith)
 
   module _ (old : List ℕ) where
-    -- they stand at the start of the room
+    -- they stand at the start of the buffer
     pub numbers-put : (made new : List ℕ) (end : ℕ) → Made shape text made → sizeFor shape ≤ length old → Put old 0 made new end
         → Encoded shape text old r new
     numbers-put made new end m room p =
@@ -86,7 +86,7 @@ module _ (shape : Shape) (text : List ℕ) (r : Typed) (e : r ≡ answerOf (typi
           read-as = rw (m .is, first, m .bytes) (fit-read shape (m .typed) (m .fits));
         }
 
-    -- a refused text leaves the room
+    -- a refused text leaves the buffer
     pub refused-kept : (i : ℕ) (f : Fault) → r ≡ T.Refused i f → Encoded shape text old r old
     refused-kept i f q = by (typingOf shape text) refl (sym e ∙ q)
       where

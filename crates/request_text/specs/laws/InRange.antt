@@ -98,7 +98,7 @@ date-range w time scale d t =
 
 -- ---- the words, and a text
 
--- what is read, is told
+-- what is read is reported
 abbrev ReadInRange : Reading → Type 0
 ReadInRange R.Malformed = Unit {0}
 ReadInRange (R.Is x) = InRange x

@@ -30,7 +30,7 @@ pub name-is : (shape : Shape) (k : ℕ) (f : Field) → f ≡ rowAt shape k → 
 unfolding nameAt
 name-is shape k f e = ap nameOf e
 
--- the same text in the same room
+-- the same text in the same buffer
 pub put-as : (room old : List ℕ) (at : ℕ) (x y new : List ℕ) (r : ℕ) → room ≡ old → x ≡ y → Put room at x new r → Put old at y new r
 put-as room old at x y new r q e p = rw (← q, ← e) p
 

@@ -1,4 +1,5 @@
--- The two rooms afterwards: at the start of the one the bytes of the request, or at the start of the other the message.
+-- The two buffers afterwards: at the start of the one the bytes of the request, or at the start of the other the
+-- message.
 use mathlib.Core.Path.{_≡_, refl, sym, ap, _∙_}
 use mathlib.Core.List.{List, _++_}
 use Prim.Native.Nat.{ℕ}
@@ -14,13 +15,13 @@ use Rattle.request_text.specs.declared.typed_requests.Answer.the-variant
 use Rattle.request_text.specs.Meaning.{Meaning, asked, refused, meaningOf, answerOf, bytesAfter, messageAfter}
 use Rattle.request_text.specs.laws.Asked.{asked-size}
 
--- a text at the start of a room
+-- a text at the start of a buffer
 first : (x rest room : List ℕ) (n : ℕ) → length x ≡ n → room ≡ x ++ rest → (take n room ≡ x) × Counts n room
 first x rest room n h e =
     let t : take n room ≡ x = ap (take n) e ∙ take-at x rest n h in
     (t, (omega (arith, ap length e, length-append x rest), sym (ap length t ∙ h)))
 
--- the text is a request of n bytes, which are the first of the room
+-- the text is a request of n bytes, which are the first of the buffer
 pub record Bytes (text : List ℕ) (n : ℕ) (x : Reference) (room : List ℕ) : Type 0 where
   pub shape : Shape
   pub numbers : List ℤ
@@ -29,7 +30,7 @@ pub record Bytes (text : List ℕ) (n : ℕ) (x : Reference) (room : List ℕ) :
   pub bytes : take n room ≡ bytesFor shape numbers
   pub counts : Counts n room
 
--- the text is refused with a message of n bytes, which are the first of the room
+-- the text is refused with a message of n bytes, which are the first of the buffer
 pub record Message (text : List ℕ) (n : ℕ) (room : List ℕ) : Type 0 where
   pub line : ℕ
   pub message : List ℕ

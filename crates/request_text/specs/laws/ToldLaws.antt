@@ -61,7 +61,7 @@ module _ (A : Type 0) (step : ℕ → List ℕ → A → A) where
   unfolding overLines
   over-next l ls i told = refl
 
--- of the lines before byte `at` this is told; the next is line i
+-- this is the parse result of the lines before byte `at`; the next is line i
 pub record Walked (A : Type 0) (step : ℕ → List ℕ → A → A) (first : A) (text : List ℕ) (told : A) (at i : ℕ) : Type 0 where
   pub rest : overLines A step (linesOf text) 1 first ≡ overLines A step (linesOf (drop at text)) i told
   pub lines : i ≤ at + 1

@@ -8,7 +8,7 @@ use request_format::fields::Shape;
 ghost use Rattle.request_format.specs.declared.fields.Shape.the-variants.{Eclipse, Star};
 ghost use Rattle.request_text.specs.Encoded.{Encoded};
 
-// The bytes of a typed eclipse at the start of the room; or its fault, and the room as it was.
+// The bytes of a typed eclipse at the start of the buffer; or its fault, and the buffer as it was.
 fn encode_eclipse(text: &[u8], out: &mut [u8; LENGTH]) -> Typed
     ensures { λ r. ⌜ Encoded Eclipse (now (text .entry)) (now (out .entry)) r (now (out .exit)) ⌝ }
 {

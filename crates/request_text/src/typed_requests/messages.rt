@@ -1,4 +1,5 @@
-// The message of a line that names the instant or TAI-UTC and is refused, put as far as the room goes (`decimals`).
+// The message of a line that names the instant or TAI-UTC and is refused, put as far as the buffer reaches
+// (`decimals`).
 use crate::instants::Wrong;
 ghost use Rattle.decimal_text.specs.Texts.{Put};
 ghost use Rattle.request_text.specs.TypedMessages.{wrongText, instantMessage};

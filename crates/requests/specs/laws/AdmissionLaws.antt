@@ -1,8 +1,8 @@
 -- What callers use of a request that is admitted.
---   room-short, room-long             the ways of a room: what is answered, and what it holds
+--   room-short, room-long             the ways of a buffer: what is answered, and what it holds
 --   admitted-refused, admitted-room   the ways of a request
---   admitted-within                   it is within its limits, and the room holds table S
---   admitted-four                     a 4 is the room's, of a request within its limits
+--   admitted-within                   it is within its limits, and the buffer holds table S
+--   admitted-four                     a 4 is the buffer's, of a request within its limits
 use mathlib.Core.Path.{_≡_, refl, sym, subst, _∙_}
 use mathlib.Core.List.{List}
 use Prim.Native.Nat.{ℕ, _≤_, _<_}

@@ -133,7 +133,7 @@ abbrev pub none : (n : ℕ) → Poly n → Bool
 none zero c = is0 c
 none (suc n) p = all (none n) p
 
--- ---- what a polynomial is worth
+-- ---- the value of a polynomial
 abbrev horner : {A : Type 0} → ℤ → (A → ℤ) → List A → ℤ
 horner x f [] = pos 0
 horner x f (p ∷ ps) = f p +ℤ x *ℤ horner x f ps

@@ -150,7 +150,7 @@ square-small {r} h = omega (arith, lt-of-not-le big)
     big : 4294967296 ≤ r → ⊥
     big g = omega (arith, mul-le-mul g g)
 
--- what is in hand is small enough for the machine
+-- the state is small enough for the machine
 pub record Small (i r rest : ℕ) : Type 0 where
   pub to-come : i ≤ 32
   pub number : r < 4294967296

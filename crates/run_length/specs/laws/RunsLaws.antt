@@ -7,7 +7,7 @@ use native.Mathlib.Numerals.{add-one, unary-clauses}
 use lib.ListN.{length, getD, take, drop, set, replicate, length-set, length-drop, replicate-append-replicate}
 use lib.Seq.{drop-cons, append-snoc, take-suc-set}
 use Rattle.run_length.specs.declared.Filled.{Filled}
-use Rattle.run_length.specs.Runs.{stateIn, high, secondsOf, following, decoded, Whole, none, one, more, RunAt, Ends, Written, Pushed}
+use Rattle.run_length.specs.Runs.{stateIn, high, secondsOf, following, decoded, Whole, none, one, more, RunAt, told, Ends, Written, Pushed}
 
 -- the definitions, case by case
 pub first-state : (k b : ℕ) → k ≡ 0 → b % 4 ≡ stateIn k b
@@ -185,3 +185,22 @@ module _ (old : List ℕ) (f : Filled) (e : Ends old f) (pair n : ℕ) (small : 
         states = λ k. ap (λ (u : List ℕ). u ++ replicate n (stateIn k pair)) (w .states k);
         short = omega (arith, w .short);
       }
+
+-- no seconds more, and more after more
+pub pushed-none : (old : List ℕ) (f : Filled) (pair : ℕ) → Ends old f → Pushed old f pair 0 old f
+pushed-none old f pair e = record { same = refl; ends = e; states = λ k. sym (append-nil (told k old f)); short = omega arith }
+
+pub pushed-again : {old mid new : List ℕ} {f g r : Filled} {pair : ℕ} (m n : ℕ) → Pushed old f pair m mid g → Pushed mid g pair n new r
+    → Pushed old f pair (m + n) new r
+pushed-again {old} {mid} {new} {f} {g} {r} {pair} m n p q =
+    record {
+      same = q .same ∙ p .same;
+      ends = q .ends;
+      states = λ k.
+          let x = stateIn k pair in
+          q .states k
+          ∙ ap (λ (u : List ℕ). u ++ replicate n x) (p .states k)
+          ∙ append-assoc (told k old f) (replicate m x) (replicate n x)
+          ∙ ap (λ (u : List ℕ). told k old f ++ u) (replicate-append-replicate m n x);
+      short = omega (arith, p .short, q .short);
+    }

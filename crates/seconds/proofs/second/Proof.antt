@@ -1,4 +1,4 @@
--- `seconds::second` meets its contract: the second's own limits, then the request and its room, then the second
+-- `seconds::second` meets its contract: the second's own limits, then the request and its buffer, then the second
 -- itself; what its states mean follows from the answer alone.
 use mathlib.Core.Path.{_≡_, refl, sym, ap, _∙_}
 use mathlib.Core.Bool.{true}
@@ -25,7 +25,7 @@ t-is c = c .in-span .ensures ∙ ap inSpan (toZ-ofZ w64 (c .before .before .args
 spans : (c : tie.Else1) → inSpan (c .before .before .before .args .t) ≡ true
 spans c = sym (t-is (c .before)) ∙ not-false (c .before .in-span .result) (c .if1 .left)
 
--- ---- the request and its room
+-- ---- the request and its buffer
 abbrev begun : tie.After-admit → tie.Start
 begun c = c .before .before .before .before .before
 

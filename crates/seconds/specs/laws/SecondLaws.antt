@@ -127,7 +127,7 @@ module _ (o : Occultation) (τ : ℤ) (sines : List ℕ) where
       by-span true e = by-check (admitted o sines) refl (in-span τ e)
       by-span false e = tt
 
-  -- what a check gives: the answer, the room, and what the answer means
+  -- what a check gives: the answer, the buffer, and what the answer means
   pub second-is : (c : Checked) → secondChecked o τ sines ≡ c → (r : OneSecond) (new : List ℕ) → r ≡ secondBy c o τ → new ≡ sinesAfter c sines
       → (r ≡ secondAnswer o τ sines) × ((new ≡ secondSines o τ sines) × AnswerMeans o τ r)
   unfolding secondAnswer secondSines

@@ -38,7 +38,7 @@ pub line-whole : (x y : ℕ) (old new : List ℕ) (r : ℕ) → x < 184467440737
     → Put old 0 (refusalLine x y) new r → (take r new ≡ refusalLine x y) × Counts r new
 line-whole x y old new r h g l p = put-whole (refusalLine x y) old new r p (omega (arith, refusal-length x y h g)) (omega arith)
 
--- ---- the answer to what was read, and the room that it left
+-- ---- the answer to what was read, and the buffer that it left
 
 module _ (array sines room left : List ℕ) (n : ℕ) (a : Answer) (t : Copies 0 901 sines) (b : Copies 0 65536 room) (c : n ≤ length array)
     (l : length array ≡ 116) (is : a ≡ answerTo (take n array) sines room) (by-rule : left ≡ bufferFor (take n array) sines room) where

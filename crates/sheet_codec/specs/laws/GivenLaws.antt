@@ -52,7 +52,7 @@ module _ (given : ℕ → ℕ → Record) (fuel : ℕ) (p : Progress) (i at : �
             → sheetFrom given (suc fuel) p i at ≡ more e (sheetFrom given fuel (afterOf p e) (i + 1) n)
         from-more b = by-judged (Is e n) (asked O.Kept F.Kept t u) ∙ rw b
 
--- ---- what the first record tells of a sheet
+-- ---- what the first record says about a sheet
 
 pub record Went (given : ℕ → ℕ → Record) (fuel : ℕ) (p : Progress) (i at : ℕ) (es : List Entry) (len : ℕ) : Type 0 where
   pub e : Entry

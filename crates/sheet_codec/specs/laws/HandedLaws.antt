@@ -36,7 +36,7 @@ module _ (l : List ℕ) (i at : ℕ) where
   unfolding handedAt
   handed-named n h q = rw (le-leb (i * 5 + 5) (length l) h, q)
 
-  -- what an entry of the list tells of its numbers
+  -- what an entry of the list says about its numbers
   pub record HandedThere (e : Entry) (n : ℕ) : Type 0 where
     pub within : i * 5 + 5 ≤ length l
     pub named : kindFor (getD l (i * 5) 0) ≡ Named.Is (e .kind)

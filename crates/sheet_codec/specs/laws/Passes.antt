@@ -1,4 +1,4 @@
--- What the parts of a reader, and of a writer, answer each other. Callers go by `extentOf`, `roomAfter` and
+-- What the parts of a reader, and of a writer, answer each other. Callers use `extentOf`, `roomAfter` and
 -- `bufferAfterList`.
 use Prim.Native.Nat.{ℕ, _+_, _*_, _≤_}
 use mathlib.Core.List.{List}

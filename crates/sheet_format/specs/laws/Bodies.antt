@@ -1,5 +1,5 @@
 -- The fields of a kind from the four numbers of two bytes that follow its byte, x, y, z and w, `early` being x and y
--- as one and `wide` y and z; and that they are the entry's. Callers go by `bodyAt`.
+-- as one and `wide` y and z; and that they are the entry's. Callers use `bodyAt`.
 use Prim.Native.Nat.{ℕ, _+_, _*_, _≤_}
 use mathlib.Core.Path.{_≡_, refl}
 use mathlib.Core.List.{List}

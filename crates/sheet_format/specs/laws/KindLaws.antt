@@ -93,7 +93,7 @@ size-nine K.Share = omega arith
 size-nine K.End = omega arith
 
 -- the bytes of a record by its kind's byte: a graze's and an open's have the bit of two and two bytes less; the end
--- has less still, the head more, and the share's does not tell
+-- has less still, the head more, and the share's does not decide
 abbrev pub shortened : ℕ → ℕ
 shortened code = 7 - code % 4 / 2 * 2
 

@@ -66,7 +66,7 @@ module _ (s : List ℕ) (at : ℕ) where
   pub by-body : (x : ℕ) (k : Kind) (b : Body) → byteAt s at ≡ Byte.Is x → kindFor x ≡ Named.Is k → bodyAt k s at ≡ b → ofBody k at b ≡ recordAt s at
   by-body x k b e f g = ap (ofBody k at) (sym g) ∙ by-kind x (Named.Is k) e f
 
-  -- what a record that was read tells of the bytes
+  -- what a record that was read says about the bytes
   pub record RecordThere (e : Entry) (n : ℕ) : Type 0 where
     pub named : kindFor (getD s at 0) ≡ Named.Is (e .kind)
     pub is : e ≡ entryAt (e .kind) s (at + 1)

@@ -113,8 +113,8 @@ fn is_cut(left: usize, kind: Kind) -> bool
     left < crate::kinds::size_of(kind)
 }
 
-// The entry of that kind whose record is at `at`, if the input does not end inside it. What is read goes by how much
-// is left, and only what is made of it by the kind: so kinds in no pattern cost no branch. It is for crates that go
+// The entry of that kind whose record is at `at`, if the input does not end inside it. What is read depends on how
+// much is left, and only its meaning on the kind: so kinds in no pattern cost no branch. It is for crates that go
 // along a sheet, and has a `requires`, so it is none of the public promises.
 pub fn body_at(s: &[u8], at: usize, kind: Kind) -> Body
     requires { ⌜ at < length (now s) ⌝ }
@@ -185,8 +185,8 @@ fn put_number(buf: &mut [u8], at: usize, width: Width, v: u32) -> usize
     }
 }
 
-// An entry's record at `at`, where there is room for it; the place after it.
-// It is for crates that write a sheet of their own, and has a `requires`, so it is none of the public promises.
+// An entry's record at `at`, where it fits; the place after it. It is for crates that write a sheet of their own, and
+// has a `requires`, so it is none of the public promises.
 pub fn put(buf: &mut [u8], at: usize, entry: Entry) -> usize
     requires { ⌜ at + sizeOf (entry .kind) ≤ length (now buf) ⌝ }
     ensures { λ r. ⌜ (r ≡ at + sizeOf (entry .kind)) × (now (buf .exit) ≡ sets (now (buf .entry)) at (bytes entry)) ⌝ }

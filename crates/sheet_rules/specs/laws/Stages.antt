@@ -1,5 +1,5 @@
 -- The rules as the code asks them: an entry by the stage of its kind, so that the four kinds of a phase go one way;
--- and that these are the rules. Callers go by `Rules`. Those of the fields: field_rules, Fields.
+-- and that these are the rules. Callers use `Rules`. Those of the fields: field_rules, Fields.
 use mathlib.Core.Path.{_≡_, refl, ap, _∙_}
 use mathlib.Core.Bool.{Bool, true, false}
 use Rattle.sheet_types.specs.declared.phases.Phase.{Phase}

@@ -1,4 +1,4 @@
--- `sine_table::fill` meets its contract: the sums fill the room, and a filled room holds table S.
+-- `sine_table::fill` meets its contract: the sums fill the buffer, and a filled buffer holds table S.
 use borrow.Author.Needs.{needs}
 use Rattle.sine_table.specs.laws.RoomLaws.{filled-sines}
 use Rattle.sine_table.proofs.fill.Statement.{statement}

@@ -1,4 +1,4 @@
--- `sine_table::sum_up` meets its contract: with k entries in the room, `entry` is entry k, and with `step` and the
+-- `sine_table::sum_up` meets its contract: with k entries in the buffer, `entry` is entry k, and with `step` and the
 -- differences from the k-th on it gives the rest of the table.
 use mathlib.Core.Path.{_≡_, ap, subst, _∙_}
 use mathlib.Core.List.{List}

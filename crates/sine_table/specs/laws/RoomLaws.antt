@@ -1,6 +1,6 @@
--- What callers use of a filled room, and what filling it goes by.
+-- What callers use of a filled buffer, and the laws by which it is filled.
 --   filled-sines, filled-length             it holds table S, and is as long as it was
---   Begun, begun-..                         a room with the first k entries in it, up to all of them
+--   Begun, begun-..                         a buffer with the first k entries in it, up to all of them
 --   gives-entry, gives-second, gives-next   of second differences that give the table from entry k on: that entry, the one after it, and
 --                                           that the rest of them give the table from there on
 use mathlib.Core.Path.{_≡_, refl, sym, ap, subst, _∙_}
@@ -34,7 +34,7 @@ pub table-at : (k : ℕ) → k < 901 → getD table k 0 ≡ S k
 unfolding table
 table-at k h = entries-at 0 901 k h ∙ ap S (zero-add k)
 
--- ---- a filled room
+-- ---- a filled buffer
 
 module _ (room : List ℕ) where
   pub filled-length : 901 ≤ length room → length (filled room) ≡ length room
@@ -52,7 +52,7 @@ module _ (room : List ℕ) where
       is-entry : (k : ℕ) → k < 901 → Entry k (S k)
       is-entry k h = record { rule = entry-rule k h; value = refl; small = entry-small k h }
 
--- ---- a room with the first k entries in it, and from there on as it was
+-- ---- a buffer with the first k entries in it, and from there on as it was
 pub record Begun (k : ℕ) (old room : List ℕ) : Type 0 where
   pub is : room ≡ take k table ++ drop k old
 

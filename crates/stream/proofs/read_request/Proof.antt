@@ -1,4 +1,4 @@
--- `stream::read_request` meets its contract: the first byte and what was read behind it stand in the room.
+-- `stream::read_request` meets its contract: the first byte and what was read behind it stand in the buffer.
 use Prim.Native.Nat.{ℕ, _≤_}
 use mathlib.Core.Path.{sym}
 use mathlib.Core.List.{List}

@@ -39,7 +39,7 @@ none-is-star (x ∷ s) h = absurd (omega arith)
 -- ---- the answer by the first byte
 
 module _ (s sines room : List ℕ) where
-  -- what an answer, the sheet's room and that for table S are
+  -- what an answer, the sheet's buffer and that for table S are
   abbrev pub AnswerIs : Answer → List ℕ → List ℕ → Type 0
   AnswerIs a left table = (a ≡ answerFor s sines room) × ((left ≡ roomFor s sines room) × (table ≡ tableFor s sines))
 
@@ -60,7 +60,7 @@ module _ (s sines room : List ℕ) where
         by true e = star-fits s sines room a (rw e at (m .0)) left l
         by false e = fits s sines room a (rw e at (m .0)) left l
 
-    -- ---- what `step` promises of request `count` at byte `at`: n bytes of the sheet's room, r of the line's, and
+    -- ---- what `step` promises of request `count` at byte `at`: n bytes of the sheet's buffer, r of the line's, and
     -- whether the stream stops
     module _ (count at : ℕ) where
       abbrev Promised : ℕ → List ℕ → List ℕ → ℕ → Bool → Type 0
@@ -99,7 +99,7 @@ module _ (s sines room : List ℕ) where
             let v : isShape x ≡ stopsFor s sines room = ap stopsBy (sym e) ∙ stops-is in
             (record { count = ap length t; bytes = t }, (rw (← u) p, (f ∙ v, (m .1 .0, (m .1 .1, (omega arith, refl))))))
 
--- ---- what is told of a refusal
+-- ---- the report of a refusal
 
 module _ (count at : ℕ) (x : Refusal) (old mid : List ℕ) (q : ℕ) (p : Put old 0 (toldLine count x) mid q) where
   pub told-shape : isShape x ≡ true → length old < 18446744073709551616 → (new : List ℕ) (r : ℕ) → Put mid q (stopLine at) new r

@@ -51,7 +51,7 @@ pub record Left (text : List ℕ) (from : ℕ) (ls : List (List ℕ)) : Type 0 w
   pub none : length text < from → ls ≡ []
   pub some : from ≤ length text → ls ≡ linesOf (drop from text)
 
--- the line there, as a loop lends it, and the lines after it
+-- the line there, as a loop borrows it, and the lines after it
 module _ (text : List ℕ) (from n : ℕ) (ls : List (List ℕ)) (f : Left text from ls) (h : from ≤ length text) (e : n ≡ runOf C.Line (drop from text)) where
   pub line-within : from + n ≤ length text
   line-within = omega (arith, e, run-le C.Line (drop from text), length-drop from text)

@@ -9,7 +9,7 @@ use borrow.Author.Needs.{needs}
 use Rattle.times.proofs.respond.Statement.{statement}
 use Rattle.times.proofs.respond.Tie as tie
 
--- the rooms, before the text is read
+-- the buffers, before the text is read
 abbrev rooms : tie.After-read → tie.After-sheet-room
 rooms read = read .before .before .before .before .before
 

@@ -3,8 +3,8 @@ ghost use mathlib.Core.Path.{_≡_};
 ghost use Rattle.mirrors.specs.Bytes.{mirrorAnswer, mirrorBuffer};
 ghost use Rattle.ukhtvaresh.specs.Replies.{sheetReply};
 
-// The mirror of a request of 115 bytes, in the caller's room: the y and d coefficients and the latitude with the other
-// sign; value: 115.
+// The mirror of a request of 115 bytes, in the caller's buffer: the y and d coefficients and the latitude with the
+// other sign; value: 115.
 #[no_mangle]
 pub extern "C" fn ukhtvaresh_mirror(request: &[u8], mirrored: &mut [u8], value: &mut u64) -> u64
     ensures number { λ r. ⌜ r ≡ sheetReply (mirrorAnswer (now (request .entry)) (now (mirrored .entry))) .number ⌝ }

@@ -11,7 +11,7 @@ ghost use Rattle.ukhtvaresh.specs.Positions.{doublesReply};
 
 // The contact sheet of elements and a longitude in doubles, in the caller's buffer; value: its length. `hours` is 0
 // for a longitude in degrees, 1 for one in hours of time; `rest` is number, latitude, height, ΔT, first, last, guard
-// in whole numbers; `sines` is room for table S.
+// in whole numbers; `sines` is the buffer for table S.
 #[no_mangle]
 pub extern "C" fn ukhtvaresh_sheet_of_doubles(
     elements: &[f64],

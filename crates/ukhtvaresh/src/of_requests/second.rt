@@ -6,8 +6,8 @@ ghost use Rattle.request_answers.specs.Second.{wish, sinesAsked, secondGiven, n
 ghost use Rattle.ukhtvaresh.specs.Seconds.{secondReply};
 
 // The shadow at one second of a request of 115 bytes, which may lie outside its window: u, v, L1, L2, the states of
-// penumbra and central cone (0 outside, 1 inside, 2 unsure), magnitude, direction; value: 8. `sines` is room for table
-// S.
+// penumbra and central cone (0 outside, 1 inside, 2 unsure), magnitude, direction; value: 8. `sines` is the buffer
+// for table S.
 #[no_mangle]
 pub extern "C" fn ukhtvaresh_second(
     request: &[u8],
@@ -30,7 +30,7 @@ pub extern "C" fn ukhtvaresh_second(
 }
 
 // The shadow at one second of a star request of 79 bytes, which may lie outside its window: u, v, L, the state (0
-// outside, 1 inside, 2 unsure), direction; value: 5. `sines` is room for table S.
+// outside, 1 inside, 2 unsure), direction; value: 5. `sines` is the buffer for table S.
 #[no_mangle]
 pub extern "C" fn ukhtvaresh_star_second(
     request: &[u8],

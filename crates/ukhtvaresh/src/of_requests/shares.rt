@@ -14,7 +14,7 @@ ghost use Rattle.ukhtvaresh.specs.Shares.{shareReply};
 ghost use Rattle.request_answers.specs.Shares.{shareAsked};
 
 // The contact sheet of a request of 115 bytes with the covered share after the closest second; value: its length.
-// `sines` is room for table S.
+// `sines` is the buffer for table S.
 #[no_mangle]
 pub extern "C" fn ukhtvaresh_sheet_and_share(
     request: &[u8],
@@ -35,7 +35,7 @@ pub extern "C" fn ukhtvaresh_sheet_and_share(
 }
 
 // The covered share of the Sun's disc at one second of a request of 115 bytes, which may lie outside its window;
-// value: the share in millionths. `sines` is room for table S.
+// value: the share in millionths. `sines` is the buffer for table S.
 #[no_mangle]
 pub extern "C" fn ukhtvaresh_share(
     request: &[u8],

@@ -6,8 +6,8 @@ ghost use Rattle.request_format.specs.Input.{starRequestOf};
 ghost use Rattle.request_answers.specs.Sheet.{starAnswer, starBuffer, starSines};
 ghost use Rattle.ukhtvaresh.specs.Replies.{sheetReply};
 
-// The contact sheet of a star request of 79 bytes, in the caller's buffer; value: its length. `sines` is room for
-// table S.
+// The contact sheet of a star request of 79 bytes, in the caller's buffer; value: its length. `sines` is the buffer
+// for table S.
 #[no_mangle]
 pub extern "C" fn ukhtvaresh_star(
     request: &[u8],

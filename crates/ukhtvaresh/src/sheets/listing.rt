@@ -4,7 +4,7 @@ ghost use Rattle.listings.specs.Answers.{roomWith};
 ghost use Rattle.listings.specs.Listings.{told};
 ghost use Rattle.ukhtvaresh.specs.Listing.{listingGiven, listingReply};
 
-// The listing of a sheet, as text in the caller's room; value: its length.
+// The listing of a sheet, as text in the caller's buffer; value: its length.
 #[no_mangle]
 pub extern "C" fn ukhtvaresh_listing(sheet: &[u8], text: &mut [u8], value: &mut u64) -> u64
     ensures number { λ r. ⌜ r ≡ listingReply (listingGiven (now (sheet .entry)) (now (text .entry))) .number ⌝ }

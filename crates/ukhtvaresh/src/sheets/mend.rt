@@ -2,8 +2,8 @@
 ghost use mathlib.Core.Path.{_≡_};
 ghost use Rattle.ukhtvaresh.specs.MendReply.{mendGiven, mendReply, sheetsAfter, droppedAfter};
 
-// Mends a file of sheets: those kept in the one room, each unbroken stretch of dropped bytes, 16 bytes each, in the
-// other; kept, noted: how many bytes each room has of them.
+// Mends a file of sheets: those kept in the one buffer, each unbroken stretch of dropped bytes, 16 bytes each, in the
+// other; kept, noted: how many bytes each buffer has of them.
 #[no_mangle]
 pub extern "C" fn ukhtvaresh_mend(
     file: &[u8],

@@ -1,4 +1,4 @@
--- What is kept and noted was measured in rooms of no bytes, and then put where both rooms hold it.
+-- What is kept and noted was measured in empty buffers, and then put where both buffers hold it.
 use Prim.Native.Nat.{ℕ, _≤_, _<_}
 use mathlib.Core.Path.{_≡_, refl, ap, _∙_}
 use mathlib.Core.List.{List, _++_}
@@ -49,7 +49,7 @@ module _ (file : List ℕ) (h : length file < 18446744073709551616) (none after 
         rw (le-leb (length (kept file)) a (omega (arith, kept-long)), le-leb (length (notes file)) b (omega (arith, notes-long)))
         (ap (λ n. Mended n m) kept-long ∙ ap (Mended (length (kept file))) notes-long)
 
--- what an answer tells of the rooms
+-- what an answer says about the buffers
 pub mended-inv : (a b : ℕ) (file : List ℕ) (k m : ℕ) → Mended k m ≡ answerTo a b file
     → (k ≡ length (kept file)) × (m ≡ length (notes file)) × (length (kept file) ≤ a) × (length (notes file) ≤ b)
 unfolding answerTo

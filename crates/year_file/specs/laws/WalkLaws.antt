@@ -1,5 +1,5 @@
 -- The walk as the code goes along it: what is still to be kept and noted, once put, gives what is to be left in each
--- room.
+-- buffer.
 use Prim.Native.Nat.{ℕ, _+_, _≤_, _<_}
 use mathlib.Core.Path.{_≡_, refl, sym, ap, _∙_}
 use mathlib.Core.List.{List, [], _∷_, _++_, append-assoc}

@@ -1,13 +1,15 @@
--- `adaptive_sampling::bisection::all_seconds` meets its contract: second 0 is kept, then all to the last; some second
--- reaches the distance that is used.
+-- `adaptive_sampling::bisection::all_seconds` meets its contract: second 0 is kept, then all to the last; a second that
+-- is nearly the closest gives the distance that is used.
 use Prim.Native.Nat.{ℕ, _-_}
 use mathlib.Core.Path.{subst}
+use mathlib.Core.List.{[]}
 use native.Mathlib.Omega.{arith}
 use borrow.Author.Needs.{needs}
-use Rattle.adaptive_sampling.specs.Kept.{Kept}
-use Rattle.adaptive_sampling.specs.Reach.{Reached}
+use Rattle.rounding.specs.laws.Code.{read-back, read-size}
 use Rattle.requests.specs.WindowLaws.{seconds-some}
-use Rattle.adaptive_sampling.specs.laws.ReachLaws.{reached-far}
+use Rattle.adaptive_sampling.specs.Kept.{Kept}
+use Rattle.adaptive_sampling.specs.laws.ReachLaws.{seen-nonneg}
+use Rattle.adaptive_sampling.specs.laws.KeptLaws.{kept-nearer}
 use Rattle.adaptive_sampling.proofs.bisection.all_seconds.Statement.{statement}
 use Rattle.adaptive_sampling.proofs.bisection.all_seconds.Tie as tie
 
@@ -25,47 +27,53 @@ few-seconds-requires : tie.Need-few-seconds-requires
 few-seconds-requires c κs =
     let x = c .before .before in
     let a = start (counted x) in
-    ((a .pre .0, a .pre .1, a .pre .2, counted x .second-count .ensures), (a .pre .3, x .first .ensures 1000000000 _))
+    ((a .pre .0, a .pre .1, a .pre .2, counted x .second-count .ensures), (a .pre .3, x .first .ensures _))
 
 returns : tie.Need-returns
 returns c =
     let x = c .before .before .before .before .before in
     let o = start (counted x) .args .o in
-    let r = c .before .before .few-seconds in (
-      record {
-        near = 1000000000;
-        kept = subst (λ (n : ℕ). Kept o 1000000000 (n - 1) (r .last .1 .1 .1 .0) (r .result)) (counted x .second-count .ensures) (r .ensures .0);
-        reached = reached-far o _ (seconds-some (o .window)) (x .before .sample-of .result) (x .before .sample-of .ensures);
-      },
-      r .ensures .1,
+    let r = c .before .before .few-seconds in
+    (subst (λ (n : ℕ). Kept o (n - 1) (r .last .1 .1 .1 .0) (r .result)) (counted x .second-count .ensures) (r .ensures .0), r .ensures .1)
+
+nearly-closest-requires : tie.Need-nearly-closest-requires
+nearly-closest-requires c κs =
+    let x = c .before .before in
+    let a = start (counted x) in
+    (a .pre .0, a .pre .1, a .pre .2, counted x .second-count .ensures, omega (arith, c .before .if1 .left), c .spread .ensures)
+
+nearer-requires : tie.Need-nearer-requires
+nearer-requires c κs =
+    let w = c .before .nearly-closest in
+    let k = c .before .before .before .before .first .ensures [] in (
+      k .reached .few,
+      read-size (w .result .m) 1000000000000000000 (w .ensures .size) tt,
+      rw (read-back (w .result .m) (w .ensures .size) tt) (seen-nonneg (w .ensures)),
+      k .size,
     )
 
 stretches-requires : tie.Need-stretches-requires
 stretches-requires c κs =
-    let y = c .before .before in
-    let x = y .before .before in
+    let x = c .before .before .before .before .before .before in
     let a = start (counted x) in
-    let d = c .before .reach in
-    ((a .pre .0, a .pre .1, a .pre .2, d .ensures .few, counted x .second-count .ensures, omega (arith, y .before .if1 .left), y .spread .ensures), (a .pre .3, x .first .ensures (d .result) _))
+    let o = a .args .o in
+    let w = c .before .before .before .nearly-closest in
+    let e = counted x .second-count .ensures in
+    let r = rw (read-back (w .result .m) (w .ensures .size) tt) at (c .before .nearer .ensures) in (
+      (a .pre .0, a .pre .1, a .pre .2, e, omega (arith, c .before .before .before .before .before .if1 .left), c .before .before .before .before .spread .ensures),
+      (a .pre .3, kept-nearer o (a .pre .1) (x .first .ensures _) (w .result .second) (omega (arith, w .ensures .small, e)) (w .result .m) (w .ensures .is) _ r),
+    )
 
 returns-2 : tie.Need-returns-2
 returns-2 c =
-    let d = c .before .before .before .before in
-    let x = d .before .before .before in
+    let x = c .before .before .before .before .before .before .before .before .before in
     let o = start (counted x) .args .o in
     let r = c .before .before .stretches in
-    let e = counted x .second-count .ensures in (
-      record {
-        near = d .reach .result;
-        kept = subst (λ (n : ℕ). Kept o (d .reach .result) (n - 1) (r .last .1 .1 .1 .1 .0) (r .result)) e (r .ensures .0);
-        reached = subst (λ (n : ℕ). Reached o n (d .reach .result)) e (d .reach .ensures);
-      },
-      r .ensures .1,
-    )
+    (subst (λ (n : ℕ). Kept o (n - 1) (r .last .1 .1 .1 .1 .0) (r .result)) (counted x .second-count .ensures) (r .ensures .0), r .ensures .1)
 
 pub all-seconds-spec : {M : Type 1} → statement M
 all-seconds-spec =
     tie.close
     (tie.spec (λ c κs. search needs) sample-of-requires (λ c κs. search needs) few-seconds-requires
-    (λ c. search needs) returns (λ c κs. search needs) (λ c κs. search needs) stretches-requires
-    (λ c. search needs) returns-2)
+    (λ c. search needs) returns (λ c κs. search needs) nearly-closest-requires nearer-requires
+    stretches-requires (λ c. search needs) returns-2)

@@ -20,17 +20,17 @@ use Rattle.adaptive_sampling.proofs.bisection.each_second.Statement.{st
 use Rattle.adaptive_sampling.proofs.bisection.each_second.Tie as tie
 
 abbrev Inv-loop : tie.InvT-loop
-Inv-loop table o place near runs₀ i j b t₀ k₀ runs t k =
-    (i < k) × (k ≤ j) × (length runs ≡ length runs₀) × Kept o near (k - 1) runs t
+Inv-loop table o place runs₀ i j b t₀ k₀ runs t k =
+    (i < k) × (k ≤ j) × (length runs ≡ length runs₀) × Kept o (k - 1) runs t
 
 abbrev μ-loop : tie.MeasureT-loop
-μ-loop table o place near runs₀ i j b t₀ k₀ runs t k = j - k
+μ-loop table o place runs₀ i j b t₀ k₀ runs t k = j - k
 
 -- one second more
-next : (o : Occultation) → InLimits o → (near k : ℕ) (old : List ℕ) (t : Tally) → 0 < k → k < secondCount (o .window) → Kept o near (k - 1) old t
-    → (s : Sample) → IsAt o k s → (new : List ℕ) (r : Tally) → Stored (o .guard) s 1 k old t new r → Kept o near k new r
-next o lim near k old t some h g s is new r st =
-    kept-more o lim near g k (omega arith) h (gap-none o near (k - 1) k (omega arith)) s is (omega arith) st
+next : (o : Occultation) → InLimits o → (k : ℕ) (old : List ℕ) (t : Tally) → 0 < k → k < secondCount (o .window) → Kept o (k - 1) old t
+    → (s : Sample) → IsAt o k s → (new : List ℕ) (r : Tally) → Stored (o .guard) s 1 k old t new r → Kept o k new r
+next o lim k old t some h g s is new r st =
+    kept-more o lim g k (omega arith) h (gap-none o (t .near) (k - 1) k (omega arith)) s is (omega arith) st
 
 -- the places before
 abbrev start : tie.At-loop Inv-loop μ-loop → tie.Start Inv-loop μ-loop
@@ -61,7 +61,7 @@ keep-requires c κs =
     let o = a .args .o in
     let v = l .loop .inv in (
       (guard-read o (a .pre .0 .1) .1, sample-sizes o (l .loop .k) (x .sample-of .ensures), v .3 .size),
-      (omega arith, omega arith, omega (arith, v .3 .few, v .2, a .pre .1 .0, x .before .loop-test .taken, a .pre .0 .4, v .0), v .3 .ends),
+      (omega arith, omega (arith, v .3 .few, v .2, a .pre .1 .0, x .before .loop-test .taken, a .pre .0 .4, v .0), v .3 .ends),
     )
 
 -- a second in the loop, after it was kept
@@ -94,7 +94,7 @@ loop-again c =
       omega (arith, l .inv .0),
       omega (arith, x),
       st .pushed .same ∙ l .inv .2,
-      rw e (next o (a .pre .0 .1) (a .args .near) (l .k) _ _ (omega (arith, l .inv .0)) (omega (arith, x, a .pre .0 .4)) (l .inv .3) _ (seen c .sample-of .ensures) _ _ st),
+      rw e (next o (a .pre .0 .1) (l .k) _ _ (omega (arith, l .inv .0)) (omega (arith, x, a .pre .0 .4)) (l .inv .3) _ (seen c .sample-of .ensures) _ _ st),
     )
 
 keep-requires-2 : tie.Need-keep-requires-2 Inv-loop μ-loop
@@ -104,7 +104,7 @@ keep-requires-2 c κs =
     let o = a .args .o in
     let v = l .loop .inv in (
       (guard-read o (a .pre .0 .1) .1, sample-sizes o (a .args .j) (a .pre .0 .5), v .3 .size),
-      (omega arith, omega arith, omega (arith, v .3 .few, v .2, a .pre .1 .0, v .1, a .pre .0 .4, v .0), v .3 .ends),
+      (omega arith, omega (arith, v .3 .few, v .2, a .pre .1 .0, v .1, a .pre .0 .4, v .0), v .3 .ends),
     )
 
 -- the last of them
@@ -126,7 +126,7 @@ returns c =
     let v = l .loop .inv in
     let e : l .loop .k ≡ a .args .j = omega (arith, past c .loop-test .left, v .1) in
     let st = rw (guard-read o (a .pre .0 .1) .0) at (last c .keep2 .ensures) in (
-      next o (a .pre .0 .1) (a .args .near) (a .args .j) _ _ (omega (arith, a .pre .0 .3)) (a .pre .0 .4) (subst (λ (k : ℕ). Kept o (a .args .near) (k - 1) (l .loop .runs) (l .loop .t)) e (v .3)) (a .args .b) (a .pre .0 .5) _ _ st,
+      next o (a .pre .0 .1) (a .args .j) _ _ (omega (arith, a .pre .0 .3)) (a .pre .0 .4) (subst (λ (k : ℕ). Kept o (k - 1) (l .loop .runs) (l .loop .t)) e (v .3)) (a .args .b) (a .pre .0 .5) _ _ st,
       st .pushed .same ∙ v .2,
     )
 

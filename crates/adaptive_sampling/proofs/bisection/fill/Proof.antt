@@ -13,7 +13,7 @@ write-requires c κs =
     let x = c .before .before .before .before in
     let a = x .before .before .before .before in
     let r = x .all-seconds .ensures in
-    (omega (arith, r .0 .kept .few, seconds-some (a .args .o .window), r .1, a .pre .3), r .0 .kept .ends)
+    (omega (arith, r .0 .few, seconds-some (a .args .o .window), r .1, a .pre .3), r .0 .ends)
 
 returns : tie.Need-returns
 returns c =

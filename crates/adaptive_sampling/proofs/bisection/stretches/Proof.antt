@@ -14,10 +14,10 @@ use Rattle.adaptive_sampling.proofs.bisection.stretches.Statement.{stat
 use Rattle.adaptive_sampling.proofs.bisection.stretches.Tie as tie
 
 abbrev Inv-loop : tie.InvT-loop
-Inv-loop table o place near runs₀ n shadows t₀ k₀ runs t k = (k ≤ 16) × (length runs ≡ length runs₀) × Kept o near (stop n k) runs t
+Inv-loop table o place low runs₀ n shadows t₀ k₀ runs t k = (k ≤ 4) × (length runs ≡ length runs₀) × Kept o (stop n k) runs t
 
 abbrev μ-loop : tie.MeasureT-loop
-μ-loop table o place near runs₀ n shadows t₀ k₀ runs t k = 16 - k
+μ-loop table o place low runs₀ n shadows t₀ k₀ runs t k = 4 - k
 
 -- the places before
 abbrev start : tie.At-loop Inv-loop μ-loop → tie.Start Inv-loop μ-loop
@@ -25,7 +25,7 @@ start c = c .before .before .before
 
 -- a window has at most 21,601 seconds
 some : (a : tie.Start Inv-loop μ-loop) → (1 ≤ a .args .n) × (a .args .n ≤ 21601)
-some a = (omega (arith, a .pre .0 .5), omega (arith, a .pre .0 .4, seconds-few (a .args .o .window) (a .pre .0 .1 .window)))
+some a = (omega (arith, a .pre .0 .4), omega (arith, a .pre .0 .3, seconds-few (a .args .o .window) (a .pre .0 .1 .window)))
 
 loop-holds : tie.Need-loop-holds Inv-loop μ-loop
 loop-holds c = let a = c .before .before in (omega arith, refl, rw (stop-first (a .args .n)) (a .pre .1 .1))
@@ -48,18 +48,17 @@ between-requires c κs =
     let few = here .before .loop-test .taken in
     let e = here .stop .ensures in
     let f = c .before .before .before .stop2 .ensures in
-    let next : k + 1 < 17 = omega (arith, few) in (
+    let next : k + 1 < 5 = omega (arith, few) in (
       (
         p .0,
         p .1,
         p .2,
-        p .3,
-        omega (arith, e, f, stop-rises n k (p .5)),
-        omega (arith, f, p .4, stop-in n (k + 1) (some a .0) (omega (arith, few))),
-        subst (λ (i : ℕ). IsAt o i (getD (a .args .t7) k blank)) (sym e) (p .6 k (omega (arith, few))),
-        subst (λ (i : ℕ). IsAt o i (getD (a .args .t7) (k + 1) blank)) (sym f) (p .6 (k + 1) next),
+        omega (arith, e, f, stop-rises n k (p .4)),
+        omega (arith, f, p .3, stop-in n (k + 1) (some a .0) (omega (arith, few))),
+        subst (λ (i : ℕ). IsAt o i (getD (a .args .t7) k blank)) (sym e) (p .5 k (omega (arith, few))),
+        subst (λ (i : ℕ). IsAt o i (getD (a .args .t7) (k + 1) blank)) (sym f) (p .5 (k + 1) next),
       ),
-      (omega (arith, l .loop .inv .1, a .pre .1 .0), subst (λ (i : ℕ). Kept o (a .args .near) i (l .loop .runs) (l .loop .t)) (sym e) (l .loop .inv .2)),
+      (omega (arith, l .loop .inv .1, a .pre .1 .0), subst (λ (i : ℕ). Kept o i (l .loop .runs) (l .loop .t)) (sym e) (l .loop .inv .2)),
     )
 
 abbrev turn : tie.After-slice-known2 Inv-loop μ-loop → tie.After-between-arg Inv-loop μ-loop
@@ -77,15 +76,15 @@ loop-again c =
     let f = turn c .before .before .before .stop2 .ensures in (
       omega (arith, here .before .loop-test .taken),
       r .1 ∙ l .loop .inv .1,
-      subst (λ (i : ℕ). Kept (a .args .o) (a .args .near) i (c .before .before .between .last .1 .1 .1 .1 .0) (c .before .before .between .result)) f (r .0),
+      subst (λ (i : ℕ). Kept (a .args .o) i (c .before .before .between .last .1 .1 .1 .1 .1 .0) (c .before .before .between .result)) f (r .0),
     )
 
 returns : tie.Need-returns Inv-loop μ-loop
 returns c =
     let l = c .before in
     let a = start l in
-    let e : l .loop .k ≡ 16 = omega (arith, c .loop-test .left, l .loop .inv .0) in
-    (subst (λ (i : ℕ). Kept (a .args .o) (a .args .near) i (l .loop .runs) (l .loop .t)) (ap (stop (a .args .n)) e ∙ stop-last (a .args .n)) (l .loop .inv .2), l .loop .inv .1)
+    let e : l .loop .k ≡ 4 = omega (arith, c .loop-test .left, l .loop .inv .0) in
+    (subst (λ (i : ℕ). Kept (a .args .o) i (l .loop .runs) (l .loop .t)) (ap (stop (a .args .n)) e ∙ stop-last (a .args .n)) (l .loop .inv .2), l .loop .inv .1)
 
 pub stretches-spec : {M : Type 1} → statement M
 stretches-spec =

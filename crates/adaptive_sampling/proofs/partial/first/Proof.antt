@@ -12,12 +12,12 @@ pair-of-requires : tie.Need-pair-of-requires
 pair-of-requires c κs = let a = c .before in (guard-read (a .args .o) (a .pre .0) .1, sample-sizes (a .args .o) 0 (a .pre .1))
 
 returns : tie.Need-returns
-returns c = λ near runs.
+returns c = λ runs.
     let x = c .before in
     let a = x .before .before in
     let o = a .args .o in
-    kept-start o (a .pre .0) near (a .args .a) (a .pre .1) (seconds-some (o .window)) runs (x .pair-of .result)
-    (rw (guard-read o (a .pre .0) .0) at (x .pair-of .ensures)) _ refl refl (read-back (a .args .a .m) (sample-sizes o 0 (a .pre .1) .m) tt)
+    kept-start o (a .pre .0) (a .args .a) (a .pre .1) (seconds-some (o .window)) runs (x .pair-of .result)
+    (rw (guard-read o (a .pre .0) .0) at (x .pair-of .ensures)) _ refl refl (read-back (a .args .a .m) (sample-sizes o 0 (a .pre .1) .m) tt) refl
 
 pub first-spec : {M : Type 1} → statement M
 first-spec = tie.close (tie.spec pair-of-requires returns)

@@ -12,10 +12,10 @@ use Rattle.adaptive_sampling.proofs.seeds.spread.Statement.{statement}
 use Rattle.adaptive_sampling.proofs.seeds.spread.Tie as tie
 
 abbrev Inv-loop : tie.InvT-loop
-Inv-loop table o place n shadows₀ k₀ shadows k = (k ≤ 17) × (length shadows ≡ 17) × SpreadTo o n k shadows
+Inv-loop table o place n shadows₀ k₀ shadows k = (k ≤ 5) × (length shadows ≡ 5) × SpreadTo o n k shadows
 
 abbrev μ-loop : tie.MeasureT-loop
-μ-loop table o place n shadows₀ k₀ shadows k = 17 - k
+μ-loop table o place n shadows₀ k₀ shadows k = 5 - k
 
 abbrev start : tie.At-loop Inv-loop μ-loop → tie.Start Inv-loop μ-loop
 start c = c .before .before
@@ -50,7 +50,7 @@ loop-again c =
     )
 
 returns : tie.Need-returns Inv-loop μ-loop
-returns c = let e : c .before .loop .k ≡ 17 = omega (arith, c .loop-test .left, c .before .loop .inv .0) in rw e at (c .before .loop .inv .2)
+returns c = let e : c .before .loop .k ≡ 5 = omega (arith, c .loop-test .left, c .before .loop .inv .0) in rw e at (c .before .loop .inv .2)
 
 pub spread-spec : {M : Type 1} → statement M
 spread-spec =

@@ -1,4 +1,4 @@
--- `besselian_rows::tables::fill` meets its contract: with i rows stored, the room holds their values before its old
+-- `besselian_rows::tables::fill` meets its contract: with i rows stored, the buffer holds their values before its old
 -- numbers. The measure is how many rows are left.
 use mathlib.Core.Path.{_≡_, refl, ap, _∙_}
 use mathlib.Core.List.{List}

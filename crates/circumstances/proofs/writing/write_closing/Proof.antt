@@ -41,7 +41,7 @@ after-closest c = omega (arith, c .put .ensures .0, closest-is (c .before .befor
 kept : (c : tie.After-put) → length (c .put .last .0) ≡ length (c .before .before .before .before .before .args .buf .now)
 kept c = ap length (c .put .ensures .1) ∙ length-sets (c .before .before .before .before .before .args .buf .now) _ (bytes (c .before .before .closest-for .result))
 
--- there is room for closest and end at least
+-- closest and end fit at least
 least : (b : tie.Start) → b .args .start + sizeOf K.Closest + sizeOf K.End ≤ length (b .args .buf .now)
 least b =
     (elim (sharing (b .args .o)) as (λ s. sharing (b .args .o) ≡ s → b .args .start + sizeOf K.Closest + sizeOf K.End ≤ length (b .args .buf .now)) [

@@ -8,7 +8,7 @@ use Rattle.clock_network.specs.declared.stations.Held.{Held}
 use Rattle.clock_network.proofs.stations.empty.Statement.{statement}
 use Rattle.clock_network.proofs.stations.empty.Tie as tie
 
--- room for 64 nodes, each of them b, of a list of n
+-- space for 64 nodes, each of them b, of a list of n
 abbrev filled : ℕ → Node → Held
 filled n b = record { nodes = replicate 64 b; count = n }
 

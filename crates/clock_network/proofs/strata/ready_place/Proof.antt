@@ -1,4 +1,4 @@
--- `clock_network::strata::ready_place` meets its contract: no place before i without steps can be told.
+-- `clock_network::strata::ready_place` meets its contract: the steps of no place before i can be determined yet.
 use Prim.Native.Nat.{ℕ, _≤_, _<_, _-_}
 use native.Mathlib.Omega.{arith}
 use borrow.Author.Needs.{needs}

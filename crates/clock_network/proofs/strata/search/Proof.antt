@@ -1,5 +1,5 @@
--- `clock_network::strata::search` meets its contract: what is known stays right and small, each turn tells one place
--- more, and where no place can be told the rest is lost.
+-- `clock_network::strata::search` meets its contract: what is known stays right and small, each pass determines one
+-- more place, and where none can be determined the rest has no steps.
 use mathlib.Core.Path.{_≡_, refl, _∙_, subst}
 use Prim.Native.Nat.{_+_, _<_, _≤_}
 use Rattle.clock_network.specs.declared.strata.Ready.the-variants.{Found}

@@ -1,4 +1,5 @@
--- `element_fits::angles::argument` meets its contract: the tests find the signs of x and y, and each quadrant is the acute angle of their sizes, turned.
+-- `element_fits::angles::argument` meets its contract: the tests find the signs of x and y, and each quadrant is the
+-- acute angle of their sizes, turned.
 use mathlib.Core.Path.{_≡_, sym, ap, ap₂, _∙_}
 use mathlib.Core.List.{[], _∷_}
 use Prim.Native.Nat.{ℕ, _+_, _-_, _%_, _<_}

@@ -1,4 +1,5 @@
--- `element_fits::least_squares::cubic` meets its contract: four sums, each divided to the nearest, the lower two less what the higher ones take.
+-- `element_fits::least_squares::cubic` meets its contract: four sums, each divided to the nearest, the lower two less
+-- what the higher ones take.
 use mathlib.Core.Path.{_≡_, ap, ap₂, _∙_}
 use mathlib.Core.List.{[], _∷_}
 use Prim.Native.Nat.{_≤_}

@@ -1,4 +1,5 @@
--- `element_fits::least_squares::quadratic` meets its contract: three sums, each divided to the nearest, the lowest less what c2 takes.
+-- `element_fits::least_squares::quadratic` meets its contract: three sums, each divided to the nearest, the lowest
+-- less what c2 takes.
 use mathlib.Core.Path.{_≡_, ap, ap₂, _∙_}
 use mathlib.Core.List.{[], _∷_}
 use Prim.Native.Nat.{_≤_}

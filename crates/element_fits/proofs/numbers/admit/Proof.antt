@@ -1,4 +1,5 @@
--- `element_fits::numbers::admit` meets its contract: a refusal of the numbers leaves the room, and then the room answers.
+-- `element_fits::numbers::admit` meets its contract: a refusal of the numbers leaves the buffer, and then the buffer
+-- answers.
 use mathlib.Core.Path.{_≡_, sym, ap, _∙_}
 use mir.Syntax.{w64}
 use mir.ValLaws.{toZ-ofZ}

@@ -1,4 +1,4 @@
--- `element_fits::numbers::answered` meets its contract: what is admitted is asked for and judged by its rooms.
+-- `element_fits::numbers::answered` meets its contract: what is admitted is asked for and judged by its buffers.
 use mathlib.Core.Path.{_≡_, sym, ap, subst, _∙_}
 use lib.IntN.{ℤ}
 use mir.Syntax.{w64}

@@ -23,7 +23,7 @@ use Rattle.networks.specs.laws.EnterLaws.{first-to-is}
 use Rattle.networks.proofs.first_contact.first_to.Statement.{statement}
 use Rattle.networks.proofs.first_contact.first_to.Tie as tie
 
--- an array of 21,601 bytes has room for every window
+-- an array of 21,601 bytes can hold every window
 room : (q : Request) → InLimits (ofEclipse q) → secondCount (q .window) ≤ length (replicate {A = ℕ} 21601 0)
 room q i = omega (arith, seconds-few (q .window) (i .window), length-replicate {A = ℕ} 21601 0)
 

@@ -1,5 +1,5 @@
 -- `request_answers::one_second::asked` meets its contract: bytes of the shape are what they ask for, any other are
--- refused before the room is touched.
+-- refused before the buffer is touched.
 use mathlib.Core.Path.{sym, ap, ap₂, _∙_}
 use mir.Syntax.{w64}
 use mir.ValLaws.{toZ-ofZ}

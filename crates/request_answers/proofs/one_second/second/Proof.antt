@@ -1,4 +1,4 @@
--- `request_answers::one_second::second` meets its contract: the second as it is asked for, judged by its room, and
+-- `request_answers::one_second::second` meets its contract: the second as it is asked for, judged by its buffer, and
 -- stored where it is given.
 use mathlib.Core.Path.{_≡_, sym, ap, ap₂, _∙_}
 use borrow.Author.Needs.{needs}
@@ -12,7 +12,7 @@ use Rattle.request_answers.specs.laws.SecondLaws.{second-fits, given-mea
 use Rattle.request_answers.proofs.one_second.second.Statement.{statement}
 use Rattle.request_answers.proofs.one_second.second.Tie as tie
 
--- ---- where the room was judged
+-- ---- where the buffer was judged
 module _ (c : tie.After-in-room) where
   abbrev asked : tie.After-asked
   asked = c .before .before .before .before
@@ -35,7 +35,7 @@ module _ (c : tie.After-in-room) where
   unfolding secondGiven
   given-is = c .in-room .ensures ∙ ap₂ (λ n s. secondInto n (length (start .args .shadow .now)) s) (c .before .number-count .ensures) found-is
 
-  -- the room for table S
+  -- the buffer for table S
   sines-is : asked .asked .last .1 .1 .1 .0 ≡ sinesAsked (wish (start .args .shape) (start .args .request .now)) (start .args .second) (start .args .sines .now)
   sines-is = asked .asked .ensures .1 ∙ ap (λ τ. sinesAsked (wish (start .args .shape) (start .args .request .now)) τ (start .args .sines .now)) second-is
 

@@ -1,5 +1,5 @@
 -- `request_answers::sheets::sheet_for` meets its contract: the sheet of what is asked for; a shape that is refused
--- leaves room and buffer alone.
+-- leaves both buffers alone.
 use borrow.Author.Needs.{needs}
 use Rattle.request_answers.specs.laws.SheetLaws.{of-occultation, of-refusal}
 use Rattle.request_answers.proofs.sheets.sheet_for.Statement.{statement}

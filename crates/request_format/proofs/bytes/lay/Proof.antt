@@ -60,7 +60,7 @@ module _ (c : tie.After-n Inv-loop μ-loop) where
   bytes : fieldBytes (c .before .field-at .result) (toZ w64 (ofZ w64 n)) ≡ fieldBytes (rowAt shape (loop .loop .k)) n
   bytes = ap (fieldBytes (c .before .field-at .result)) same ∙ ap (λ (f : Field). fieldBytes f n) field
 
-  -- there is room for them
+  -- they fit
   room : loop .loop .at + length (fieldBytes (c .before .field-at .result) (toZ w64 (ofZ w64 n))) ≤ length (loop .loop .out)
   room =
       omega

@@ -1,4 +1,4 @@
--- `request_format::bytes::put` meets its contract: what was laid is handed over where every number fits; else nothing
+-- `request_format::bytes::put` meets its contract: the encoded bytes are copied where every number fits; else nothing
 -- is touched.
 use borrow.Author.Needs.{needs}
 use Rattle.request_format.specs.laws.PutLaws.{put-done, put-unfit}

@@ -12,7 +12,7 @@ use Rattle.request_format.specs.laws.PutLaws.{field-length, field-put}
 use Rattle.request_format.proofs.bytes.put_field.Statement.{statement}
 use Rattle.request_format.proofs.bytes.put_field.Tie as tie
 
--- room for the kind, and for the number after it
+-- the kind fits, and so does the number after it
 room : (c : tie.Start) → c .args .at + length (kindBytes (c .args .field .4)) + bytesIn (c .args .field .3) ≤ length (c .args .out .now)
 room c = omega (arith, c .pre .0, field-length (c .args .field) (c .args .n))
 

@@ -7,7 +7,7 @@ use borrow.Author.Needs.{needs}
 use Rattle.request_text.proofs.faults.put_message.Statement.{statement}
 use Rattle.request_text.proofs.faults.put_message.Tie as tie
 
--- the room's length is a number of the machine
+-- the buffer's length is a number of the machine
 short : (c : tie.After-put-text) → length (c .before .before .before .before .before .args .out .now) < 18446744073709551616
 short c = omega arith
 

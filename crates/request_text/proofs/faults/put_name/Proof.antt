@@ -1,4 +1,4 @@
--- `request_text::faults::put_name` meets its contract: no name is longer than its room.
+-- `request_text::faults::put_name` meets its contract: no name is longer than its field.
 use mathlib.Core.Path.{refl, sym, subst}
 use Prim.Native.Nat.{_≤_}
 use native.Mathlib.Omega.{arith}

@@ -1,4 +1,5 @@
--- `requests::admission::admit` meets its contract: a refusal of the numbers leaves the room, and then the room answers.
+-- `requests::admission::admit` meets its contract: a refusal of the numbers leaves the buffer, and then the buffer
+-- answers.
 use mathlib.Core.Path.{sym, _∙_}
 use borrow.Author.Needs.{needs}
 use Rattle.requests.specs.laws.AdmissionLaws.{admitted-refused, admitted-room}

@@ -1,4 +1,4 @@
--- `requests::admission::fill_sines` meets its contract: a room that is shorter is left, a longer one filled.
+-- `requests::admission::fill_sines` meets its contract: a buffer that is shorter is left, a longer one filled.
 use mathlib.Core.Path.{_∙_}
 use borrow.Author.Needs.{needs}
 use Rattle.requests.specs.laws.AdmissionLaws.{room-short, room-long}

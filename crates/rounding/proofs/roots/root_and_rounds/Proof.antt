@@ -1,5 +1,5 @@
--- `rounding::roots::root_and_rounds` meets its contract: with i rounds to come the loop has in hand what the
--- definition holds then.
+-- `rounding::roots::root_and_rounds` meets its contract: with i rounds to come the state of the loop is what the
+-- definition says.
 use mathlib.Core.Path.{_≡_, sym, subst}
 use Prim.Native.Nat.{ℕ, _+_, _-_}
 use native.Mathlib.Omega.{arith}

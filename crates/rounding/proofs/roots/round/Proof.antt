@@ -1,5 +1,5 @@
 -- `rounding::roots::round` meets its contract: the square of one more is within the bits taken in if what these are
--- above the square of the root has room for it.
+-- above the square of the root fits.
 use Prim.Native.Nat.{_+_}
 use native.Mathlib.Omega.{arith}
 use Rattle.rounding.specs.laws.RoundsLaws.{Small, small, one-more, no-more}

@@ -1,5 +1,5 @@
--- `sheet_codec::decoder::read` meets its contract. Three ways out: refused, too little room, and filled; each is
--- `readInto` and `roomAfter` at what was found.
+-- `sheet_codec::decoder::read` meets its contract. Three ways out: refused, a buffer that is too short, and filled;
+-- each is `readInto` and `roomAfter` at what was found.
 use Rattle.sheet_codec.proofs.decoder.Answers.{room-for, read-refused, read-short, read-full}
 use Rattle.sheet_codec.specs.laws.SheetLaws.{whole-same}
 use Rattle.sheet_codec.specs.Sheets.{extentOf, readWhole}

@@ -108,7 +108,7 @@ bounds c =
 code-is : (c : tie.After-known-told3 Inv-loop μ-loop) → byted (named c) .before .code .given .0 .0 ≡ codeOf (entry c .kind)
 code-is c = kind-inv _ _ (is-kind (named c)) ∙ ap codeOf (sym (same-kind c))
 
--- the room with the entry's numbers, as they were put
+-- the buffer with the entry's numbers, as they were put
 abbrev put-room : (c : tie.After-known-told3 Inv-loop μ-loop) → ℕ → List ℕ
 put-room c x = sets (from c .loop .room) (from c .loop .n * 5) (x ∷ entry c .a ∷ entry c .b ∷ entry c .c ∷ entry c .d ∷ [])
 

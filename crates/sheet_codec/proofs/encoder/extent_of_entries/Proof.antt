@@ -1,5 +1,5 @@
--- `sheet_codec::encoder::extent_of_entries` meets its contract. What follows the end entry is refused as `alone` does;
--- the list's length over four, rounded up, tells it.
+-- `sheet_codec::encoder::extent_of_entries` meets its contract. What follows the end entry is refused as `alone`
+-- does; the list's length over four, rounded up, decides it.
 use Rattle.sheet_codec.specs.laws.SheetLaws.{list-by}
 use Rattle.sheet_codec.specs.laws.SheetLaws.{aloneX}
 use Rattle.sheet_codec.specs.Handed.{listWhole}

@@ -1,5 +1,5 @@
--- `sheet_format::kinds::size_for` meets its contract. The byte of every kind but the end, the head and the share tells
--- the size (`size-byte`).
+-- `sheet_format::kinds::size_for` meets its contract. The byte of every kind but the end, the head and the share
+-- decides the size (`size-byte`).
 use Rattle.sheet_format.specs.laws.KindLaws.{shortened, size-end, size-head, size-share, size-byte, size-small}
 use mathlib.Core.Path.{sym, ap, _∙_}
 use native.Mathlib.Omega.{arith}

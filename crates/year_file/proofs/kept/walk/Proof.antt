@@ -1,5 +1,5 @@
 -- `year_file::kept::walk` meets its contract: what is left of the file, kept and noted, gives what is to be left in
--- the rooms (`Walking`).
+-- the buffers (`Walking`).
 use Prim.Native.Nat.{_+_, _-_, _≤_, _<_}
 use mathlib.Core.Path.{_≡_, sym, _∙_}
 use native.Mathlib.Omega.{arith}

@@ -1,4 +1,4 @@
--- `year_file::lengths::sheet_at` meets its contract: what was read already begins no sheet; else the reader tells.
+-- `year_file::lengths::sheet_at` meets its contract: what was read already begins no sheet; else the reader decides.
 use mathlib.Core.Path.{sym, _∙_}
 use Rattle.year_file.specs.Leading.{found-one, found-none}
 use borrow.Author.Needs.{needs}

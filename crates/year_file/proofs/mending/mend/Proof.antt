@@ -1,4 +1,4 @@
--- `year_file::mending::mend` meets its contract: measured in rooms of no bytes, and put where both rooms hold it.
+-- `year_file::mending::mend` meets its contract: measured in empty buffers, and put where both buffers hold it.
 use Prim.Native.Nat.{_<_}
 use mathlib.Core.Path.{refl}
 use native.Mathlib.Omega.{arith}

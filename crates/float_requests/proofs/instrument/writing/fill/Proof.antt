@@ -1,4 +1,4 @@
--- `float_requests::instrument::writing::fill` meets its contract: with i units written, the room begins with their
+-- `float_requests::instrument::writing::fill` meets its contract: with i units written, the buffer begins with their
 -- doubles. The measure is how many are left.
 use mathlib.Core.Path.{_≡_, refl, sym, ap, subst, _∙_}
 use mathlib.Core.List.{List, [], _++_, append-nil}

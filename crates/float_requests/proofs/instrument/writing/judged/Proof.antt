@@ -1,5 +1,5 @@
--- `float_requests::instrument::writing::judged` meets its contract: the count, the elements, the longitude, the room;
--- the first that is refused answers.
+-- `float_requests::instrument::writing::judged` meets its contract: the count, the elements, the longitude, the
+-- buffer; the first that is refused answers.
 use mathlib.Core.Path.{_≡_, sym, ap, _∙_}
 use borrow.Author.Needs.{needs}
 use lib.IntN.{pos}

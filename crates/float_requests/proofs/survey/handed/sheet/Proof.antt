@@ -1,5 +1,5 @@
 -- `float_requests::survey::handed::sheet` meets its contract: the survey's own sheet; a shape that is refused leaves
--- room and buffer alone.
+-- both buffers alone.
 use mathlib.Core.Path.{sym, _∙_}
 use borrow.Author.Needs.{needs}
 use Rattle.float_requests.specs.laws.HandedLaws.{of-survey, of-refusal}

@@ -1,4 +1,4 @@
--- `request_text::instants::texts::offset_in` meets its contract: of the lines passed it is known what is told
+-- `request_text::instants::texts::offset_in` meets its contract: for the lines passed the parse result is known
 -- (`Walked`). The measure is how many bytes are left. Assumes nothing.
 use mathlib.Core.Path.{_≡_, ap, _∙_}
 use Prim.Native.Nat.{_+_, _-_, _≤_}

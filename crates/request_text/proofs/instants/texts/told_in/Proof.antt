@@ -1,4 +1,5 @@
--- `request_text::instants::texts::told_in` meets its contract: what is told of the instant and of TAI-UTC, put together.
+-- `request_text::instants::texts::told_in` meets its contract: what is told of the instant and of TAI-UTC, put
+-- together.
 use mathlib.Core.Path.{ap₂, _∙_}
 use Rattle.request_text.specs.Told.{withOffset, toldIn}
 use borrow.Author.Needs.{needs}

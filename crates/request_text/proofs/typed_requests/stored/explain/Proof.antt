@@ -1,4 +1,5 @@
--- `request_text::typed_requests::stored::explain` meets its contract: the message is measured in a buffer of no bytes, and put where the buffer holds it.
+-- `request_text::typed_requests::stored::explain` meets its contract: the message is measured in a buffer of no
+-- bytes, and put where the buffer holds it.
 use mathlib.Core.Path.{ap, _∙_}
 use Rattle.request_text.specs.declared.typed_requests.stored.Stored.the-variants.{Fault}
 use Rattle.request_text.specs.laws.StoredLaws.{message-short, message-kept}

@@ -1,4 +1,5 @@
--- `request_text::typed_requests::stored::put_numbers` meets its contract: six stores are the six numbers before the rest.
+-- `request_text::typed_requests::stored::put_numbers` meets its contract: six stores are the six numbers before the
+-- rest.
 use native.Mathlib.Omega.{arith}
 use lib.ListN.{length-set}
 use lib.Seq.{length-sets}

@@ -1,4 +1,5 @@
--- `request_text::typed_requests::stored::store` meets its contract: the request in its buffers, or the message in its own.
+-- `request_text::typed_requests::stored::store` meets its contract: the request in its buffers, or the message in its
+-- own.
 use mathlib.Core.Path.{sym, _∙_}
 use mathlib.Core.List.{[]}
 use Rattle.request_text.specs.laws.MeaningLaws.{request-answer}

@@ -10,7 +10,7 @@ use borrow.Author.Needs.{needs}
 use Rattle.sheet_format.proofs.records.bytes.put.Statement.{statement}
 use Rattle.sheet_format.proofs.records.bytes.put.Tie as tie
 
--- there is room for the four fields
+-- the four fields fit
 room : (c : tie.After-widths-of) → let w = c .widths-of .result in let a = c .before .before .args in
     a .at + (1 + (bytesIn (w .a) + (bytesIn (w .b) + (bytesIn (w .c) + bytesIn (w .d))))) ≤ length (a .buf .now)
 room c = rw (c .widths-of .ensures) (c .before .before .pre)

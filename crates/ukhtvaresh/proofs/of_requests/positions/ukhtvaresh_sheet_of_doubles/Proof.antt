@@ -1,4 +1,5 @@
--- `ukhtvaresh::of_requests::positions::ukhtvaresh_sheet_of_doubles` meets its contract: the answer of `survey`, as numbers.
+-- `ukhtvaresh::of_requests::positions::ukhtvaresh_sheet_of_doubles` meets its contract: the answer of `survey`, as
+-- numbers.
 use borrow.Author.Needs.{needs}
 use Rattle.requests.specs.Requests.{ofEclipse}
 use Rattle.float_requests.specs.Survey.{requestOf}

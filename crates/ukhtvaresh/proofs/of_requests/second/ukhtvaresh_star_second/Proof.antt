@@ -1,4 +1,5 @@
--- `ukhtvaresh::of_requests::second::ukhtvaresh_star_second` meets its contract: the answer of the crate below, as numbers.
+-- `ukhtvaresh::of_requests::second::ukhtvaresh_star_second` meets its contract: the answer of the crate below, as
+-- numbers.
 use borrow.Author.Needs.{needs}
 use mir.Syntax.{w64}
 use mir.ValLaws.{toZ-ofZ}

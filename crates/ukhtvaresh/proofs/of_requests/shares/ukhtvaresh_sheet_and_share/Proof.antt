@@ -1,4 +1,5 @@
--- `ukhtvaresh::of_requests::shares::ukhtvaresh_sheet_and_share` meets its contract: the answer of the crate below, as numbers.
+-- `ukhtvaresh::of_requests::shares::ukhtvaresh_sheet_and_share` meets its contract: the answer of the crate below, as
+-- numbers.
 use borrow.Author.Needs.{needs}
 use Rattle.requests.specs.Requests.{ofEclipse}
 use Rattle.requests.specs.Shares.{withShare}
