@@ -51,6 +51,8 @@
  *   19  the list of a network is empty or has more   0
  *       than 64 stations
  *   20  an invalid line of a typed text              the line, from 1; 0 where the text is too long
+ *   21  a radius or a sidereal angle of elements     0 to 2 the radius, 3 to 9 the angle
+ *       from rows outside its range
  *   22  no such phase, or no contact                 0 phase, 1 the two seconds are not one surely outside and one
  *                                                    surely inside
  *   23  a number of an instant outside its range     first: 0 scale, 1 date, 4 hundredths of a second, 5 TAI less UTC
@@ -265,18 +267,19 @@ enum {
     UKHTVARESH_BRACKET_NUMBERS /* how many: 2 */
 };
 
-/* Where the contact of a phase (0 penumbra, 1 central) between two seconds of a request lies, such as those of an enter
- * or a leave: -10,800 <= from <= to <= 10,800, also outside its window. One of the two seconds must be surely outside and
- * the other surely inside, under the larger of the request's guard and 32: of a sheet with a guard of 32 or more every
- * enter and leave is so. At the earlier of the two hundredths the station is truly on the side of `from` and at the later
- * truly on that of `to`: by Bessel's formulas with nothing rounded, for circular limbs, the elements as given and the
- * station on Krasovsky's spheroid. So the true contact lies between them. Limb, refraction and the elements' own errors
- * are not in it. *value: 2.
- * Refusals, the first of them: 10; 1 with place 0 for the window or for from and to, then with place 1 for the guard; 2;
- * 3; 22 with place 0 for a phase that is neither 0 nor 1; 4 with place 901 where sines_len is below that; 22 with place 1
- * where the two seconds are not as said; 4 with place 2 where bracket_len is below 2. The lengths count numbers.
+/* Where the contact of a phase (0 penumbra, 1 central) between two seconds of a request lies, such as those of an
+ * enter or a leave: -10,800 <= from <= to <= 10,800, also outside its window. One of the two seconds must be surely
+ * outside and the other surely inside, under the larger of the request's guard and 32: of a sheet with a guard of 32
+ * or more every enter and leave is so. At the earlier of the two hundredths the station is truly on the side of
+ * `from` and at the later truly on that of `to`: by Bessel's formulas with nothing rounded, for circular limbs, the
+ * elements as given and the station on Krasovsky's spheroid. So the true contact lies between them. Limb, refraction
+ * and the elements' own errors are not in it. *value: 2.
+ * Refusals, the first of them: 10; 1 with place 0 for the window or for from and to, then with place 1 for the guard;
+ * 2; 3; 22 with place 0 for a phase that is neither 0 nor 1; 4 with place 901 where sines_len is below that; 22 with
+ * place 1 where the two seconds are not as said; 4 with place 2 where bracket_len is below 2. The lengths count
+ * numbers.
  * Example:
- *   if (ukhtvaresh_contact(request, 115, 0, from, to, sines, 901, bracket, 2, &value) == 0)
+ *   if (ukhtvaresh_contact(request, 115, 0, 35, 36, sines, 901, bracket, 2, &value) == 0)
  *       printf("between %.2f and %.2f s\n", bracket[0] / 100.0, bracket[1] / 100.0); */
 uint64_t ukhtvaresh_contact(const uint8_t *request, size_t request_len, int64_t phase, int64_t from, int64_t to,
                             uint32_t *sines, size_t sines_len, int64_t *bracket, size_t bracket_len, uint64_t *value);
@@ -285,7 +288,7 @@ uint64_t ukhtvaresh_contact(const uint8_t *request, size_t request_len, int64_t 
  * Refusals, the first of them: 10; 1 as above; 2 with place 0 to 11; 13; 3; 22 with place 0 for a phase that is not 0;
  * then as above.
  * Example:
- *   if (ukhtvaresh_star_contact(star, 79, 0, from, to, sines, 901, bracket, 2, &value) == 0)
+ *   if (ukhtvaresh_star_contact(star, 79, 0, 35, 36, sines, 901, bracket, 2, &value) == 0)
  *       printf("between %.2f and %.2f s\n", bracket[0] / 100.0, bracket[1] / 100.0); */
 uint64_t ukhtvaresh_star_contact(const uint8_t *request, size_t request_len, int64_t phase, int64_t from, int64_t to,
                                  uint32_t *sines, size_t sines_len, int64_t *bracket, size_t bracket_len,
@@ -354,23 +357,25 @@ enum {
     UKHTVARESH_INSTANT_LENGTH /* how many: 6 */
 };
 
-/* A typed text (docs/PROGRAMS.md) as a request: its bytes at the start of `request`, 115 or a star's 79, and the six numbers of
- * its instant at the start of `instant`. *value: how many bytes.
- * Refusals: 20 with the first invalid line; its message, which ends with a line feed, is then at the start of `message` and has
- * no null byte; 4 with the length that is needed, of `request` before `instant`, or of `message`. Only 20 writes into `message`.
- * instant_len counts numbers.
+/* A typed text (docs/PROGRAMS.md) as a request: its bytes at the start of `request`, 115 or a star's 79, and the six
+ * numbers of its instant at the start of `instant`. *value: how many bytes.
+ * Refusals: 20 with the first invalid line; its message, which ends with a line feed, is then at the start of
+ * `message` and has no null byte; 4 with the length that is needed, of `request` before `instant`, or of `message`.
+ * Only 20 writes into `message`. instant_len counts numbers.
  * Example:
- *   if (ukhtvaresh_typed(typed, length, request, 115, instant, 6, message, sizeof message, &value) == 20)
+ *   if (ukhtvaresh_typed(text, length, request, 115, instant, 6, message, sizeof message, &value) == 20)
  *       fprintf(stderr, "line %d is invalid\n", (int)value); */
 uint64_t ukhtvaresh_typed(const uint8_t *text, size_t text_len, uint8_t *request, size_t request_len, uint64_t *instant,
                           size_t instant_len, uint8_t *message, size_t message_len, uint64_t *value);
 
-/* What the program `times` prints of a request, a star's if it has 79 bytes: the listing of its sheet with clock times
- * by the instant, altitudes and notes (docs/CLOCK.md), at the start of `text`, with no null byte after it. *value: its length in
- * bytes. The sheet itself is then in `sheet`. With scale 0 there are no clock times, and the other five numbers are not read.
- * Refusals, the first of them: 10 for another instant_len than 6; 23; those of ukhtvaresh_sheet, or of ukhtvaresh_star, in their
- * order; 4 with the length that the text needs. `sheet` and `sines` are left as those functions leave them, so on this last 4
- * both are filled. On a 10 for the instant and on 23 they are untouched. instant_len and sines_len count numbers.
+/* What the program `times` prints of a request, a star's if it has 79 bytes: the listing of its sheet with clock
+ * times by the instant, altitudes and notes (docs/CLOCK.md), at the start of `text`, with no null byte after it.
+ * *value: its length in bytes. The sheet itself is then in `sheet`. With scale 0 there are no clock times, and the
+ * other five numbers are not read.
+ * Refusals, the first of them: 10 for another instant_len than 6; 23; those of ukhtvaresh_sheet, or of
+ * ukhtvaresh_star, in their order; 4 with the length that the text needs. `sheet` and `sines` are left as those
+ * functions leave them, so on this last 4 both are filled. On a 10 for the instant and on 23 they are untouched.
+ * instant_len and sines_len count numbers.
  * Example:
  *   if (ukhtvaresh_times(request, 115, instant, 6, sines, 901, sheet, sizeof sheet, text, sizeof text, &value) == 0)
  *       fwrite(text, 1, value, stdout); */
@@ -427,6 +432,29 @@ enum {
  *       printf("x of the middle row: %.8f\n", values[3 * UKHTVARESH_ROW_VALUES + UKHTVARESH_ROW_X] / 1e8); */
 uint64_t ukhtvaresh_from_tables(const int64_t *rows, size_t rows_len, int64_t *values, size_t values_len,
                                 uint64_t *value);
+
+/* How many sidereal angles, radii and misfits ukhtvaresh_elements takes and gives. */
+#define UKHTVARESH_SIDEREAL_LENGTH 7
+#define UKHTVARESH_RADII_LENGTH 3
+#define UKHTVARESH_MISFITS_LENGTH 6
+
+/* The 22 elements of an eclipse, in the order of a request, from seven hourly rows (as above, hours -3 to 3 from the
+ * reference instant), the Greenwich apparent sidereal time at these hours in 10^-6 degree (0 to 359,999,999), and three
+ * radii in units: the Sun's (10,890,000,000 to 10,930,000,000) and the Moon's for the penumbra and for the central cone
+ * (27,200,000 to 27,300,000 each; document 02's are 10,904,847,000 and 27,227,400 twice). x and y are cubics of least
+ * squares, l1, l2, d and mu quadratics, tan f is the middle row's (docs/ELEMENTS.md). In `misfits` the largest
+ * difference at any of the seven hours between an element's value and its row's, of x, y, d, l1, l2, mu. *value: 22.
+ * Refusals, the first of them: 10 for other lengths than 42, 7, 3; 18 with place 0 for a tolerance outside 0 to 1,000;
+ * 21 with place 0 to 2 for a radius, 3 to 9 for a sidereal angle; 11 with the row; 4 with place 901 where sines_len is
+ * below that; 2 with the element; 17 with ten times the fit (0 to 5, as the misfits) plus the first hour (0 to 6) that
+ * misses by more than the tolerance; 4 with place 22, then with place 6. Lengths count numbers.
+ * Example:
+ *   if (ukhtvaresh_elements(rows, 42, sidereal, 7, radii, 3, 100, sines, 901, units, 22, misfits, 6, &value) == 0)
+ *       printf("x0 is %.8f\n", units[0] / 1e8); */
+uint64_t ukhtvaresh_elements(const int64_t *rows, size_t rows_len, const int64_t *sidereal, size_t sidereal_len,
+                             const int64_t *radii, size_t radii_len, int64_t tolerance, uint32_t *sines,
+                             size_t sines_len, int64_t *elements, size_t elements_len, int64_t *misfits,
+                             size_t misfits_len, uint64_t *value);
 
 /* ---- Arithmetic: root ---- */
 

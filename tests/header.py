@@ -18,9 +18,9 @@ static uint8_t request[115], star[79], sheet[65536], mirrored[115], file[1000], 
 static uint8_t text[400000], message[1000], bytes[1000];
 static uint32_t sines[901], entries[1000];
 static int64_t shadow[8], horizon[3], rows[42], values[56], coefficients[4], tabulated[7], eclipse[25], rest[7];
-static int64_t units[23], instant[6], sidereal[7], radii[3], made[22], misfits[6], bracket[2];
+static int64_t units[23], sidereal[7], radii[3], made[22], misfits[6], bracket[2];
 static double elements[22], doubles[23];
-static uint64_t steps[64], length, value, kept, noted, rounds;
+static uint64_t steps[64], instant[6], length, value, kept, noted, rounds;
 static ukhtvaresh_node stations[2];
 """
 
