@@ -4,7 +4,7 @@ use crate::asked::{Asked, Reading};
 use crate::clock::{instant_text, Clock, Scale};
 use crate::entries::{contact, hundredths, kind_name, millionths, phase_name, tenths};
 use crate::failure::Outcome;
-use crate::library;
+use crate::library::{self, Refused};
 use crate::output::Output;
 use crate::sheet::Form;
 use clap::ArgMatches;
@@ -12,6 +12,8 @@ use serde_json::{json, Map, Value};
 use ukhtvaresh::{Entry, Phase};
 
 const TURN: u16 = 3_600;
+/// The refusal of two seconds between which no bracket can be given.
+const NOT_SURE: u64 = 22;
 const WORDS: &str =
     "the bracket is true for these elements; limb, refraction and the elements' own errors are not in it";
 
@@ -60,8 +62,13 @@ fn row(asked: &Asked, entry: &Entry) -> Outcome<Option<Row>> {
     let horizon = asked.horizon(second)?;
     let bracket = match entry {
         Entry::Enter { .. } | Entry::Leave { .. } => {
-            library::contact(&asked.request, asked.is_star(), i64::from(phase == Phase::Central), from, to)
-                .ok()
+            let central = i64::from(phase == Phase::Central);
+            match library::contact(&asked.request, asked.is_star(), central, from, to) {
+                Ok(bracket) => Some(bracket),
+                // The seconds are not one surely outside and one surely inside under the larger guard.
+                Err(Refused { number: NOT_SURE, place: 1 }) => None,
+                Err(refused) => return Err(asked.refused(refused)),
+            }
         }
         _ => None,
     };
