@@ -21,6 +21,7 @@ from ukhtvaresh import (
     Request,
     Station,
     Window,
+    horizon,
     network,
     network_into,
     read,
@@ -110,7 +111,10 @@ class Lists(unittest.TestCase):
         answer = said(nodes, request)
         lines = [f"station {node.station.number} steps {steps}" for node, steps in zip(nodes, answer.steps)]
         enters = {node.station.number: enter_alone(node, request) for node in nodes}
-        lines.append(f"first {answer.first} to {min(enters.values())}")
+        to = min(enters.values())
+        named = next(node.station for node in nodes if node.station.number == answer.first)
+        sun = "up" if horizon(replace(request, station=named).to_bytes(), to).altitude >= 0 else "down"
+        lines.append(f"first {answer.first} to {to} sun {sun}")
         self.assertEqual(lines, (EXAMPLES / "eleven1954.network.listing").read_text().splitlines())
 
     def test_refusals_in_their_order(self):

@@ -1,6 +1,6 @@
 """The package: its examples, typed texts, year files, rows, refusals with their fields. python3 python/test_package.py
 
-What needs exports that the library may not have yet, numpy or pandas, is skipped where that is missing.
+What needs numpy or pandas is skipped where that is missing.
 """
 
 import doctest
@@ -168,20 +168,5 @@ class Rows(unittest.TestCase):
         self.assertEqual(table["magnitude"].compressed().tolist(), [870_151])
 
 
-def missing():
-    """Whether the library is one without the exports that typed texts and year files need."""
-    return [name for name in ("typed", "times", "extent") if not hasattr(ukhtvaresh._library, "ukhtvaresh_" + name)]
-
-
 if __name__ == "__main__":
-    if missing():
-        print(f"the library has no {', '.join(missing())}: what needs them is left out")
-        for case, name in [
-            (Package, "test_doctests"),
-            (Sheets, "test_request_text_and_bytes"),
-            (Sheets, "test_year_files"),
-            (Sheets, "test_a_sheet_longer_than_a_piece"),
-            (Refusals, "test_typed_texts"),
-        ]:
-            delattr(case, name)
     unittest.main()

@@ -67,8 +67,8 @@ __all__ = [
     *("State", "Second", "StarSecond", "Horizon", "Root", "Row", "Besselian", "Stretch", "Mended"),
     *("Degrees", "Hours", "Longitude", "Survey", "Node", "Network"),
     *("sheet", "sheet_into", "sheet_and_share", "sheet_and_share_into", "star", "star_into", "sheets"),
-    *("share", "second", "star_second", "horizon", "star_horizon", "contact", "star_contact", "mirror"),
-    *("read", "extent", "write", "write_into", "listing", "typed", "times", "Fault", "rows", "dataframe", "array"),
+    *("share", "second", "star_second", "horizon", "star_horizon", "contact", "star_contact", "Bracket", "mirror"),
+    *("read", "extent", "write", "write_into", "listing", "typed", "times", "Instant", "Fault", "rows", "dataframe", "array"),
     *("fit", "root", "from_tables", "from_tables_into", "elements", "Fitted", "RADII", "mend", "mend_into"),
     *("sheet_of_doubles", "sheet_of_doubles_into", "doubles", "doubles_into", "network", "network_into"),
 ]

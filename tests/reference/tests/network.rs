@@ -135,7 +135,7 @@ fn the_first_station() {
     // at one place all enter at the same second, so the first in the list it is
     let asked = at_pole(&[(9, 0), (3, 9), (5, 9)]);
     assert_eq!(asked.first(), Some(First { number: 9, to: -5399 }));
-    let answered = "station 9 steps 1\nstation 3 steps 2\nstation 5 steps 2\nfirst 9 to -5399\n";
+    let answered = "station 9 steps 1\nstation 3 steps 2\nstation 5 steps 2\nfirst 9 to -5399 sun up\n";
     assert_eq!(program(&asked.eclipse(), &asked.nodes), answered);
     // the axis comes from the west, on the side of 90 degrees east at second 0
     let mut asked = at_pole(&[(9, 0), (3, 9), (5, 9)]);
