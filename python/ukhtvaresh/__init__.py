@@ -69,7 +69,7 @@ __all__ = [
     *("sheet", "sheet_into", "sheet_and_share", "sheet_and_share_into", "star", "star_into", "sheets"),
     *("share", "second", "star_second", "horizon", "star_horizon", "contact", "star_contact", "Bracket", "mirror"),
     *("read", "extent", "write", "write_into", "listing", "typed", "times", "Instant", "Fault", "rows", "dataframe", "array"),
-    *("fit", "root", "from_tables", "from_tables_into", "elements", "Fitted", "RADII", "mend", "mend_into"),
+    *("fit", "root", "from_tables", "from_tables_into", "mend", "mend_into"),
     *("sheet_of_doubles", "sheet_of_doubles_into", "doubles", "doubles_into", "network", "network_into"),
 ]
 
@@ -100,7 +100,6 @@ _WORDS = {
     18: "a tolerance or a tabulated value outside its range",
     19: "a list of no station or of more than 64",
     20: "an invalid line of a typed text",
-    21: "a radius or a sidereal angle outside its range",
     22: "no such phase",
     23: "a number of an instant outside its range",
 }
@@ -748,8 +747,6 @@ def _load() -> ctypes.CDLL:
     library.ukhtvaresh_times.argtypes = [data, length, room, length, room, length, room, length, room, length, value]
     library.ukhtvaresh_fit.argtypes = [room, length, room, length, ctypes.c_int64, value]
     library.ukhtvaresh_from_tables.argtypes = [room, length, room, length, value]
-    lists = [room, length, room, length, room, length, ctypes.c_int64]
-    library.ukhtvaresh_elements.argtypes = lists + [room, length, room, length, room, length, value]
     library.ukhtvaresh_root.argtypes = [ctypes.c_uint64, value]
     library.ukhtvaresh_mend.argtypes = [data, length, room, length, room, length, value, value]
     survey = [room, length, ctypes.c_double, ctypes.c_uint64, room, length]
@@ -757,7 +754,7 @@ def _load() -> ctypes.CDLL:
     library.ukhtvaresh_doubles.argtypes = [room, length, room, length, value]
     library.ukhtvaresh_network.argtypes = [room, length, room, length, room, length, room, length, value]
     names = "sheet sheet_and_share star second star_second share horizon star_horizon contact star_contact mirror read"
-    names += " extent write listing fit elements typed times from_tables root mend sheet_of_doubles doubles network"
+    names += " extent write listing fit typed times from_tables root mend sheet_of_doubles doubles network"
     for name in names.split():
         getattr(library, "ukhtvaresh_" + name).restype = ctypes.c_uint64
     return library
@@ -1278,41 +1275,6 @@ def from_tables(rows: Iterable[Row]) -> List[Besselian]:
         listed += [_coordinate(getattr(row, field.name), field.name, f" of row {at}") for field in fields(Row)]
     from_tables_into(listed, values)
     return [Besselian(*values[8 * k : 8 * k + 8]) for k in range(ROWS)]
-
-
-# Document 02's radii, in units: the Sun's, the Moon's for the penumbra and for the central cone.
-RADII = (10_904_847_000, 27_227_400, 27_227_400)
-
-
-@dataclass(frozen=True)
-class Fitted:
-    """Elements from rows, and the largest difference at any hour of x, y, d, l1, l2 and mu from the rows' own values."""
-
-    elements: Elements
-    misfits: Tuple[int, ...]
-
-
-def elements(
-    rows: Iterable[Row], sidereal: Sequence[int], radii: Sequence[int] = RADII, tolerance: int = 1_000
-) -> Fitted:
-    """The 22 elements of seven hourly rows and of the Greenwich apparent sidereal time at these hours.
-
-    sidereal: seven angles in 10^-6 degree; radii: the Sun's, the Moon's for the penumbra and for the central cone, in
-    units; tolerance: how far a fit may miss a row's value. docs/ELEMENTS.md has the rule.
-    Refusals, the first of them: 10, 18, 21 (a radius, then an angle), 11, 2, 17 (ten times the fit plus the hour).
-    """
-    listed = []
-    for at, row in enumerate(_items(rows, "rows")):
-        _instance(row, Row, f"row {at}")
-        listed += [_coordinate(getattr(row, field.name), field.name, f" of row {at}") for field in fields(Row)]
-    numbers = [
-        *_listed(listed, "rows", lambda value, at: value),
-        *_listed(sidereal, "sidereal", lambda value, at: _signed(value, f"sidereal angle {at}")),
-        *_listed(radii, "radii", lambda value, at: _signed(value, f"radius {at}")),
-    ]
-    made, misfits = (ctypes.c_int64 * 22)(), (ctypes.c_int64 * 6)()
-    _call("elements", *numbers, _signed(tolerance, "tolerance"), *_sines(), made, 22, misfits, 6)
-    return Fitted(Elements(*made), tuple(misfits))
 
 
 # ---- a file of sheets mended

@@ -167,22 +167,6 @@ extern "C" {
         tolerance: i64,
         value: *mut u64,
     ) -> u64;
-    fn ukhtvaresh_elements(
-        rows: *const i64,
-        rows_len: usize,
-        sidereal: *const i64,
-        sidereal_len: usize,
-        radii: *const i64,
-        radii_len: usize,
-        tolerance: i64,
-        sines: *mut u32,
-        sines_len: usize,
-        elements: *mut i64,
-        elements_len: usize,
-        misfits: *mut i64,
-        misfits_len: usize,
-        value: *mut u64,
-    ) -> u64;
     fn ukhtvaresh_from_tables(
         rows: *const i64,
         rows_len: usize,
@@ -464,36 +448,6 @@ pub fn fit(coefficients: &[i64], tabulated: &[i64], tolerance: i64) -> Result<us
             tabulated.as_ptr(),
             tabulated.len(),
             tolerance,
-            &mut value,
-        )
-    };
-    answer(number, value)
-}
-
-pub fn elements(
-    [rows, sidereal, radii]: [&[i64]; 3],
-    tolerance: i64,
-    sines: &mut [u32],
-    elements: &mut [i64],
-    misfits: &mut [i64],
-) -> Result<usize, Refusal> {
-    let mut value = 0;
-    // SAFETY: as in `made`; all lengths count numbers, as the library does.
-    let number = unsafe {
-        ukhtvaresh_elements(
-            rows.as_ptr(),
-            rows.len(),
-            sidereal.as_ptr(),
-            sidereal.len(),
-            radii.as_ptr(),
-            radii.len(),
-            tolerance,
-            sines.as_mut_ptr(),
-            sines.len(),
-            elements.as_mut_ptr(),
-            elements.len(),
-            misfits.as_mut_ptr(),
-            misfits.len(),
             &mut value,
         )
     };

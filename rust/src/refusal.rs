@@ -4,7 +4,7 @@ use std::fmt;
 /// Why a request, a sheet, a list of entries, a fit or a network is refused.
 ///
 /// [`number`](Refusal::number) and [`place`](Refusal::place) are those of document 01's table of refusals; 11 to 19
-/// are document 02's, 20 to 23 the library's own.
+/// are document 02's, 20, 22 and 23 the library's own.
 #[derive(Clone, Copy, Debug, PartialEq, Eq, Hash)]
 pub enum Refusal {
     /// 1: the window, or the second asked for, is outside its range (place 0).
@@ -94,11 +94,6 @@ pub enum Refusal {
     },
     /// 19: a network's list is empty or has more than 64 stations (place 0; document 02).
     List,
-    /// 21: a radius or a sidereal angle of elements from rows is outside its range (of no document).
-    Sidereal {
-        /// 0 to 2 the radius, 3 to 9 the angle.
-        place: u64,
-    },
     /// 22: the shadow has no phase of that number (place 0; of no document).
     Phase,
     /// 22: two seconds are not one surely outside and one surely inside (place 1; of no document).
@@ -138,7 +133,6 @@ impl Refusal {
             Refusal::Hour { .. } => 17,
             Refusal::Given { .. } => 18,
             Refusal::List => 19,
-            Refusal::Sidereal { .. } => 21,
             Refusal::Phase | Refusal::NoContact => 22,
             Refusal::Line { .. } => 20,
             Refusal::Instant { .. } => 23,
@@ -159,8 +153,7 @@ impl Refusal {
             Refusal::Room { needed } => needed,
             Refusal::Row { row } => row,
             Refusal::Hour { hour } => hour,
-            Refusal::Sidereal { place }
-            | Refusal::Given { place }
+            Refusal::Given { place }
             | Refusal::Repeated { place }
             | Refusal::Clock { place }
             | Refusal::Chain { place } => place,
@@ -195,7 +188,6 @@ impl Refusal {
             17 => Refusal::Hour { hour: place },
             18 => Refusal::Given { place },
             19 => Refusal::List,
-            21 => Refusal::Sidereal { place },
             22 if place == 0 => Refusal::Phase,
             22 => Refusal::NoContact,
             20 => Refusal::Line { line: place },
@@ -228,7 +220,6 @@ impl fmt::Display for Refusal {
             Refusal::Hour { .. } => "a fit further from a tabulated value than the tolerance",
             Refusal::Given { .. } => "a tolerance or a tabulated value outside its range",
             Refusal::List => "a list of no station or of more than 64",
-            Refusal::Sidereal { .. } => "a radius or a sidereal angle outside its range",
             Refusal::Phase => "no such phase",
             Refusal::NoContact => "two seconds that are not one surely outside and one surely inside",
             Refusal::Line { .. } => "an invalid line of a typed text",

@@ -74,37 +74,6 @@ pub fn from_tables(rows: &[Row; ROWS]) -> Result<[Besselian; ROWS], Refusal> {
     Ok(elements)
 }
 
-/// Document 02's radii in units: the Sun's, the Moon's for the penumbra and for the central cone.
-pub const RADII: [i64; 3] = [10_904_847_000, 27_227_400, 27_227_400];
-
-/// Elements from rows, and how far each fit is from its rows' values.
-#[derive(Clone, Copy, Debug, PartialEq, Eq)]
-pub struct Fitted {
-    /// The 22 elements in units, in the order of a request.
-    pub elements: [i64; 22],
-    /// The largest difference at any of the seven hours, of x, y, d, l1, l2 and mu.
-    pub misfits: [i64; 6],
-}
-
-/// The 22 elements of seven hourly rows and of the Greenwich apparent sidereal time at these hours, in 10^-6 degree.
-///
-/// `radii` are the Sun's and the Moon's for the penumbra and for the central cone, [`RADII`] in document 02; `tolerance`
-/// is how far a fit may miss a row's value. docs/ELEMENTS.md has the rule.
-///
-/// Refusals, the first of them: 18, 21 (a radius, then an angle), 11, 2, 17 (ten times the fit plus the hour).
-pub fn elements(
-    rows: &[Row; ROWS],
-    sidereal: &[i64; ROWS],
-    radii: &[i64; 3],
-    tolerance: i64,
-) -> Result<Fitted, Refusal> {
-    let numbers: Vec<i64> =
-        rows.iter().flat_map(|Row { sun, moon }| [sun.x, sun.y, sun.z, moon.x, moon.y, moon.z]).collect();
-    let (mut sines, mut elements, mut misfits) = ([0; 901], [0; 22], [0; 6]);
-    ffi::elements([&numbers, sidereal, radii], tolerance, &mut sines, &mut elements, &mut misfits)?;
-    Ok(Fitted { elements, misfits })
-}
-
 /// The same from 42 numbers to the start of `values`, 56 of them; gives 56.
 ///
 /// What lies past the values, and on refusal all of `values`, keeps what it held. Refusals: 10 for another count than 42, 11, then 4
