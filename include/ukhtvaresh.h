@@ -43,12 +43,14 @@
  *   15  a clock neither 0 nor in the list            first such list place
  *   16  a station whose chain of clocks never        first such list place
  *       reaches 0
- *   17  a fit differs from the tabulated value by    first such hour, 0 to 6 for -3 to 3
- *       more than the tolerance
+ *   17  a fit differs from the tabulated value by    first such hour, 0 to 6 for -3 to 3;
+ *       more than the tolerance                      of elements from rows ten times the fit, 0 to 5, plus that
  *   18  the tolerance or a tabulated value of a      0 for the tolerance, 1 to 7 for the first such tabulated value
  *       fit outside its range
  *   19  the list of a network is empty or has more   0
  *       than 64 stations
+ *   21  of elements from rows, a radius or a         first such: 0 to 2 a radius, 3 to 9 a sidereal angle
+ *       sidereal angle outside its range
  */
 #ifndef UKHTVARESH_H
 #define UKHTVARESH_H
@@ -278,6 +280,33 @@ enum {
  * below 56. Any numbers may be given. Lengths count numbers. */
 uint64_t ukhtvaresh_from_tables(const int64_t *rows, size_t rows_len, int64_t *values, size_t values_len,
                                 uint64_t *value);
+
+/* How many sidereal angles and radii come in, and how many elements and misfits go out. */
+#define UKHTVARESH_SIDEREAL_LENGTH 7
+#define UKHTVARESH_RADII_LENGTH 3
+#define UKHTVARESH_ELEMENTS_LENGTH 22
+#define UKHTVARESH_MISFITS_LENGTH 6
+
+/* The 22 elements of an eclipse, in the order and the units of a request, at the start of `elements`, from
+ *   rows       as for ukhtvaresh_from_tables
+ *   sidereal   Greenwich apparent sidereal time at the hours of the rows, 10^-6 degree, 0 to 359,999,999
+ *   radii      in 10^-8 of the Earth's equatorial radius: the Sun's, 10,890,000,000 to 10,930,000,000; the Moon's for
+ *              the penumbra and for the central cone, 27,200,000 to 27,300,000 each. Document 02's are 10,904,847,000
+ *              and 27,227,400 twice: with these the values of each row are those of ukhtvaresh_from_tables
+ *   tolerance  0 to 1,000 units
+ * x and y are cubics, d, l1, l2 and mu quadratics of least squares over the hours -3 to 3; tan f1 and tan f2 are the
+ * middle row's. `misfits` gets six numbers: the largest difference at any of the seven hours of x, y, d, l1, l2, mu
+ * from the row's own value, in this order. *value: 22. docs/ELEMENTS.md has the rule.
+ *   const int64_t radii[3] = {10904847000, 27227400, 27227400};
+ *   if (ukhtvaresh_elements(rows, 42, sidereal, 7, radii, 3, 100, sines, 901, elements, 22, misfits, 6, &value) == 0) ..
+ * Refusals, the first of them: 10 for other lengths than 42, 7, 3; 18 with place 0 for the tolerance; 21 with place 0 to
+ * 2 for a radius, 3 to 9 for a sidereal angle; 11 with the row; 4 with place 901; 2 with the element; 17 with ten times
+ * the fit, 0 to 5 in the order of the misfits, plus the first hour, 0 to 6, that misses by more than the tolerance; 4
+ * with place 22, then 4 with place 6. `sines` is filled from the check of 2 on. Lengths count numbers. */
+uint64_t ukhtvaresh_elements(const int64_t *rows, size_t rows_len, const int64_t *sidereal, size_t sidereal_len,
+                             const int64_t *radii, size_t radii_len, int64_t tolerance, uint32_t *sines,
+                             size_t sines_len, int64_t *elements, size_t elements_len, int64_t *misfits,
+                             size_t misfits_len, uint64_t *value);
 
 /* The root of n: the largest whole number whose square is at most n, for any n. It takes two bits of n a round, from the top.
  * *rounds: how many rounds that are, one for each two bits up to the highest one set, a single bit at the top counting as two;

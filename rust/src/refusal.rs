@@ -84,7 +84,7 @@ pub enum Refusal {
     },
     /// 17: a fit's value differs from the tabulated one by more than the tolerance.
     Hour {
-        /// The first such hour, 0 to 6 for -3 to 3.
+        /// The first such hour, 0 to 6 for -3 to 3; of [`elements`](crate::elements) ten times the fit, 0 to 5, plus that.
         hour: u64,
     },
     /// 18: the tolerance of a fit, or a tabulated value, is outside its range.
@@ -94,10 +94,15 @@ pub enum Refusal {
     },
     /// 19: a network's list is empty or has more than 64 stations (place 0; document 02).
     List,
+    /// 21: a radius or a sidereal angle is outside its range (ours).
+    Places {
+        /// The first such: 0 to 2 for a radius, 3 to 9 for a sidereal angle.
+        place: u64,
+    },
 }
 
 impl Refusal {
-    /// The refusal's number, 1 to 19.
+    /// The refusal's number, 1 to 19 or 21.
     pub fn number(self) -> u64 {
         match self {
             Refusal::Window | Refusal::Guard => 1,
@@ -119,6 +124,7 @@ impl Refusal {
             Refusal::Hour { .. } => 17,
             Refusal::Given { .. } => 18,
             Refusal::List => 19,
+            Refusal::Places { .. } => 21,
         }
     }
 
@@ -135,7 +141,8 @@ impl Refusal {
             Refusal::Given { place }
             | Refusal::Repeated { place }
             | Refusal::Clock { place }
-            | Refusal::Chain { place } => place,
+            | Refusal::Chain { place }
+            | Refusal::Places { place } => place,
             Refusal::Kind { at }
             | Refusal::Ends { at }
             | Refusal::Field { at }
@@ -167,6 +174,7 @@ impl Refusal {
             17 => Refusal::Hour { hour: place },
             18 => Refusal::Given { place },
             19 => Refusal::List,
+            21 => Refusal::Places { place },
             _ => unreachable!("the library gives only numbers of the table"),
         }
     }
@@ -195,6 +203,7 @@ impl fmt::Display for Refusal {
             Refusal::Hour { .. } => "a fit further from a tabulated value than the tolerance",
             Refusal::Given { .. } => "a tolerance or a tabulated value outside its range",
             Refusal::List => "a list of no station or of more than 64",
+            Refusal::Places { .. } => "a radius or a sidereal angle outside its range",
         };
         write!(f, "refused {} {}: {words}", self.number(), self.place())
     }
