@@ -1,24 +1,23 @@
 """From seven hourly rows of Sun and Moon to the elements of a request.
 
-The proved library makes the values of each row (document 02, wish 2) and judges each fit (wish 14). The steps
-between them are least squares in exact fractions and, for d and mu, arc tangents in floating point: they are in
-`elements_of_rows` alone. x and y have four coefficients, d, l1, l2 and mu three.
+The proved library makes the elements and reports how far each fit is off: `ukhtvaresh_elements`, docs/ELEMENTS.md. Here
+are only the radii, and the rows that are given to it.
 """
 
 import sys
 from dataclasses import dataclass, replace
 from fractions import Fraction
-from math import atan2, degrees, radians, sin, sqrt
+from math import radians, sin
 from pathlib import Path
-from typing import Dict, List, Sequence
+from typing import Dict, List, Sequence, Tuple
 
 sys.path.append(str(Path(__file__).resolve().parent.parent / "python"))
 import ukhtvaresh  # noqa: E402
-from example_tables import farthest, fitted  # noqa: E402
+from ukhtvaresh import DOCUMENT_02, Radii  # noqa: E402
 
-from places import AU, EARTH, HOURS, SUN_UNIT, UNIT, Place, rows, sidereal_angles  # noqa: E402
+from places import AU, EARTH, SUN_UNIT, TURN, UNIT, Place, rows, sidereal_angles  # noqa: E402
 
-TOLERANCE = 1000  # units, the most that a fit may be accepted with
+TOLERANCE = 1000  # units, the most that a fit may be off
 
 
 @dataclass(frozen=True)
@@ -31,81 +30,23 @@ class Made:
 
 # ---- radii
 
-
-@dataclass(frozen=True)
-class Radii:
-    """Radii of Sun and Moon in units, 10^-8 of the Earth's equatorial radius."""
-
-    sun: int
-    penumbra: int  # the Moon's for the penumbra: first and last contact
-    central: int  # the Moon's for the central cone: second and third contact
-
-
-DOCUMENT_02 = Radii(10_904_847_000, 27_227_400, 27_227_400)
 # The Moon's mean radius, and the smaller one that reaches the floors of the valleys on its limb. The Sun's radius is
 # 959.63" at one astronomical unit, at the distance that the Sun is set at here.
 IAU = Radii(round(SUN_UNIT * sin(radians(959.63 / 3600)) * UNIT), 27_250_760, 27_228_100)
 RADII = {"document02": DOCUMENT_02, "iau": IAU}
 
 
-def with_cones(row: Sequence[int], values: ukhtvaresh.Besselian, radii: Radii) -> ukhtvaresh.Besselian:
-    """The values of a row with l and tan f of both cones for other radii, in floating point."""
-    sun, moon = row[:3], row[3:]
-    apart = [s - m for s, m in zip(sun, moon)]
-    g = sqrt(sum(c * c for c in apart))
-    z = sum(a * m for a, m in zip(apart, moon)) / g
-    sine_1, sine_2 = (radii.sun + radii.penumbra) / g, (radii.sun - radii.central) / g
-    cosine_1, cosine_2 = (sqrt(1 - sine * sine) for sine in (sine_1, sine_2))
-    return replace(
-        values,
-        tan_f1=round(sine_1 / cosine_1 * 10**8),
-        tan_f2=round(sine_2 / cosine_2 * 10**8),
-        l1=round((z * sine_1 + radii.penumbra) / cosine_1),
-        l2=round((z * sine_2 - radii.central) / cosine_2),
-    )
-
-
 # ---- elements
 
 
-def accepted(name: str, values: Sequence[int], degree: int, off: Dict[str, int]) -> List[int]:
-    """The polynomial of least squares, if the library accepts it within its own largest misfit; else Refused."""
-    fit = fitted(values, degree)
-    off[name] = int(farthest(fit, values))
-    ukhtvaresh.fit(fit + [0] * (4 - len(fit)), values, min(off[name], TOLERANCE))
-    return fit
-
-
-def turning(angles: Sequence[float], off: Dict[str, int]) -> List[int]:
-    """The quadratic of mu for seven hourly angles in degrees, which may pass 360."""
-    near = [angles[0] + 15 * (hour - HOURS[0]) for hour in HOURS]
-    carried = [start + ((angle - start + 180) % 360 - 180) for start, angle in zip(near, angles)]
-    values = [round(angle * 10**6) for angle in carried]
-    mu = fitted(values, 2)
-    off["mu"] = int(farthest(mu, values))
-    return [mu[0] % 360_000_000, *mu[1:]]
-
-
 def elements_of_rows(table: Sequence[Sequence[int]], sidereal: Sequence[int], radii: Radii = DOCUMENT_02) -> Made:
-    """The 22 elements of seven hourly rows and sidereal angles; Refused where the library refuses rows or a fit.
+    """The 22 elements of seven hourly rows and sidereal angles; Refused where the library refuses them.
 
     table: Sun x, y, z, Moon x, y, z of each hour in units. sidereal: Greenwich apparent sidereal time, 10^-6 degree.
     All ways from places to elements go through this function.
     """
-    hourly = ukhtvaresh.from_tables([ukhtvaresh.Row(*row) for row in table])
-    if radii != DOCUMENT_02:
-        hourly = [with_cones(row, values, radii) for row, values in zip(table, hourly)]
-    off: Dict[str, int] = {}
-    x = accepted("x", [e.x for e in hourly], 3, off)
-    y = accepted("y", [e.y for e in hourly], 3, off)
-    d = accepted("d", [round(degrees(atan2(e.sin_d, e.cos_d)) * 10**6) for e in hourly], 2, off)
-    l1 = accepted("l1", [e.l1 for e in hourly], 2, off)
-    l2 = accepted("l2", [e.l2 for e in hourly], 2, off)
-    # mu is sidereal time less the right ascension of the axis
-    ascensions = [degrees(atan2(row[1] - row[4], row[0] - row[3])) for row in table]
-    mu = turning([angle / 10**6 - a for angle, a in zip(sidereal, ascensions)], off)
-    middle = hourly[3]
-    return Made(ukhtvaresh.Elements(*x, *y, *d, *l1, *l2, *mu, middle.tan_f1, middle.tan_f2), off)
+    made, misfits = ukhtvaresh.elements([ukhtvaresh.Row(*row) for row in table], sidereal, radii, TOLERANCE)
+    return Made(made, dict(vars(misfits)))
 
 
 def elements(places: Sequence[Place], radii: Radii = DOCUMENT_02) -> Made:
@@ -113,25 +54,34 @@ def elements(places: Sequence[Place], radii: Radii = DOCUMENT_02) -> Made:
     return elements_of_rows(rows(places), sidereal_angles(places), radii)
 
 
+FAR = 23_400 * UNIT  # a direction is given as a body so far off the Moon, within the distances that rows may have
+
+
+def cubics_and_turn(
+    across: Sequence[Tuple[int, int, int]], sidereal: Sequence[int]
+) -> Tuple[List[int], List[int], List[int], Dict[str, int]]:
+    """Cubics of x and y, the quadratic of mu and the misfits, by the same function, of a direction that is known.
+
+    across: the Moon to the east, to the north and along the direction at each hour, in units. The rows have that
+    direction for their first axis, so the library takes x and y as they are. sidereal: sidereal time less the right
+    ascension of the direction, 10^-6 degree.
+    """
+    table = [(along + FAR, x, y, along, x, y) for x, y, along in across]
+    made = elements_of_rows(table, [angle % TURN for angle in sidereal])
+    e, off = made.elements, {name: made.off[name] for name in ("x", "y", "mu")}
+    return [e.x0, e.x1, e.x2, e.x3], [e.y0, e.y1, e.y2, e.y3], [e.mu0, e.mu1, e.mu2], off
+
+
 def with_radii(
     made: ukhtvaresh.Elements, places: Sequence[Place], sun_km: float, moon_km: float
 ) -> ukhtvaresh.Elements:
-    """The same elements for other radii of Sun and Moon in kilometres, in floating point: for comparisons."""
-    sun, moon = sun_km / EARTH, moon_km / EARTH
-    first, second, tangents = [], [], []
-    for place in places:
-        s, m = ([c * AU / EARTH for c in vector] for vector in (place.sun, place.moon))
-        g = sqrt(sum((a - b) ** 2 for a, b in zip(s, m)))
-        z = sum((a - b) * b for a, b in zip(s, m)) / g
-        sines = [(sun + moon) / g, (sun - moon) / g]
-        cosines = [sqrt(1 - sine * sine) for sine in sines]
-        tangents.append([sine / cosine for sine, cosine in zip(sines, cosines)])
-        first.append(round((z * tangents[-1][0] + moon / cosines[0]) * 10**8))
-        second.append(round((z * tangents[-1][1] - moon / cosines[1]) * 10**8))
-    l1, l2 = fitted(first, 2), fitted(second, 2)
-    tan_f1, tan_f2 = (round(t * 10**8) for t in tangents[3])
-    cones = dict(l1_0=l1[0], l1_1=l1[1], l1_2=l1[2], l2_0=l2[0], l2_1=l2[1], l2_2=l2[2])
-    return replace(made, **cones, tan_f1=tan_f1, tan_f2=tan_f2)
+    """The same elements with the cones of other radii in kilometres and of the Sun at its distance today."""
+    scale = AU / EARTH * UNIT
+    table = [[round(c * scale) for vector in (place.sun, place.moon) for c in vector] for place in places]
+    sun, moon = (round(km / EARTH * UNIT) for km in (sun_km, moon_km))
+    other = elements_of_rows(table, sidereal_angles(places), Radii(sun, moon, moon)).elements
+    names = ("l1_0", "l1_1", "l1_2", "l2_0", "l2_1", "l2_2", "tan_f1", "tan_f2")
+    return replace(made, **{name: getattr(other, name) for name in names})
 
 
 def decimal(units: int, places: int) -> str:

@@ -28,7 +28,7 @@ from arguments import Refusal, note
 from places import HOURS, MOON_UNIT, UNIT, Instant, Place, later, swetest, swiss_delta_t, swiss_hours
 
 try:
-    from besselian import accepted, decimal, turning, ukhtvaresh
+    from besselian import cubics_and_turn, decimal, ukhtvaresh
 except ImportError as wrong:
     print(f"star: the library for Python is missing. {wrong}", file=sys.stderr)
     sys.exit(1)
@@ -114,16 +114,16 @@ def star_elements(seven: List[Hour]) -> Tuple[ukhtvaresh.StarElements, Dict[str,
 
     x is the Moon's centre to the east and y to the north in the plane at right angles to the star's direction.
     """
-    east, north = [], []
+    across = []
     for hour in seven:
         a, d = radians(hour.ascension), radians(hour.declination)
         x, y, z = (c * MOON_UNIT * UNIT for c in hour.place.moon)
-        east.append(round(y * cos(a) - x * sin(a)))
-        north.append(round(z * cos(d) - (x * cos(a) + y * sin(a)) * sin(d)))
-    off: Dict[str, int] = {}
-    fits = accepted("x", east, 3, off) + accepted("y", north, 3, off)
-    mu = turning([hour.place.sidereal - hour.ascension for hour in seven], off)
-    return ukhtvaresh.StarElements(*fits, round(seven[3].declination * 10**6), *mu), off
+        outward = x * cos(a) + y * sin(a)
+        east, north, along = y * cos(a) - x * sin(a), z * cos(d) - outward * sin(d), z * sin(d) + outward * cos(d)
+        across.append((round(east), round(north), round(along)))
+    turned = [round((hour.place.sidereal - hour.ascension) * 10**6) for hour in seven]
+    x, y, mu, off = cubics_and_turn(across, turned)
+    return ukhtvaresh.StarElements(*x, *y, round(seven[3].declination * 10**6), *mu), off
 
 
 class Local(NamedTuple):

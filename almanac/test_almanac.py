@@ -9,13 +9,13 @@ import random
 import sys
 import unittest
 from datetime import date
-from math import degrees, radians
+from math import asin, degrees, radians
 from pathlib import Path
 from unittest import mock
 
 import almanac
 import leap_seconds
-from besselian import DOCUMENT_02, RADII, decimal, elements, elements_of_rows, ukhtvaresh, with_cones, with_radii
+from besselian import RADII, decimal, elements, elements_of_rows, ukhtvaresh, with_radii
 from catalogue.reader import eclipses
 from circumstances import Tables, altitude, at_station
 from places import AU, EARTH, SOURCES, SUN_UNIT, UNIT, Missing, calendar, julian_day, later, swetest, swiss_delta_t
@@ -137,17 +137,24 @@ class Typed(unittest.TestCase):
 
 
 class Radii(unittest.TestCase):
-    def test_document_02_is_the_library(self):
-        """The cones in floating point beside the library's, for document 02's radii.
-
-        The library has tan f to 10^-8, which 60 radii to the Moon turn into 30 units of l.
-        """
+    def test_fits_are_accepted(self):
+        """Each fit of x, y, d, l1, l2 is accepted by document 02's rule for fits, wish 14, within its own misfit."""
         for eclipse in eclipses()[::50]:
-            table, _ = eclipse.seven(0)
-            for row, values in zip(table, ukhtvaresh.from_tables([ukhtvaresh.Row(*row) for row in table])):
-                other = with_cones(row, values, DOCUMENT_02)
-                for name, most in (("l1", 40), ("l2", 40), ("tan_f1", 1), ("tan_f2", 1)):
-                    self.assertLessEqual(abs(getattr(other, name) - getattr(values, name)), most, (eclipse.date, name))
+            table, sidereal = eclipse.seven(0)
+            made = elements_of_rows(table, sidereal)
+            e = made.elements
+            rows = ukhtvaresh.from_tables([ukhtvaresh.Row(*row) for row in table])
+            degree = [degrees(asin(row.sin_d / 10**8)) * 10**6 for row in rows]
+            fits = {
+                "x": ([e.x0, e.x1, e.x2, e.x3], [row.x for row in rows], 0),
+                "y": ([e.y0, e.y1, e.y2, e.y3], [row.y for row in rows], 0),
+                "l1": ([e.l1_0, e.l1_1, e.l1_2, 0], [row.l1 for row in rows], 0),
+                "l2": ([e.l2_0, e.l2_1, e.l2_2, 0], [row.l2 for row in rows], 0),
+                # the library's angles lie within a few millionths of these
+                "d": ([e.d0, e.d1, e.d2, 0], [round(angle) for angle in degree], 5),
+            }
+            for name, (coefficients, values, more) in fits.items():
+                ukhtvaresh.fit(coefficients, values, made.off[name] + more)
 
     def test_iau_beside_kilometres(self):
         """The same cones from the Sun at today's distance, with a radius that looks as large.

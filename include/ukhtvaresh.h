@@ -44,8 +44,8 @@
  *   15  a clock neither 0 nor in the list            first such list place
  *   16  a station whose chain of clocks never        first such list place
  *       reaches 0
- *   17  a fit differs from the tabulated value by    first such hour, 0 to 6 for -3 to 3
- *       more than the tolerance
+ *   17  a fit differs from the tabulated value by    first such hour, 0 to 6 for -3 to 3;
+ *       more than the tolerance                      of elements from rows ten times the fit, 0 to 5, plus that
  *   18  the tolerance or a tabulated value of a      0 for the tolerance, 1 to 7 for the first such tabulated value
  *       fit outside its range
  *   19  the list of a network is empty or has more   0

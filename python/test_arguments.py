@@ -15,7 +15,6 @@ from fractions import Fraction
 from pathlib import Path
 
 import clock
-import least_squares
 import ukhtvaresh
 from ukhtvaresh import (
     Closest,
@@ -338,14 +337,6 @@ class OtherModules(unittest.TestCase):
                 with self.assertRaises(TypeError) as caught:
                     call()
                 self.assertTrue(str(caught.exception).startswith(f"{name} must be a whole number"), caught.exception)
-
-    def test_least_squares(self):
-        table = [0] * 7
-        self.assertEqual(least_squares.cubic(with_item(table, 3, Index(0)), 0), [0] * 4)
-        for wrong in (0.5, 0.0, True, "0", None):
-            with self.assertRaises(NotWhole) as caught:
-                least_squares.cubic(with_item(table, 3, wrong), 1)
-            self.assertTrue(str(caught.exception).startswith("tabulated value 3 must be"), caught.exception)
 
 
 class OtherTypes(unittest.TestCase):

@@ -3,10 +3,8 @@
 python3 python/test_fits.py
 """
 
-import random
 import unittest
 
-from least_squares import cubic
 from ukhtvaresh import Refused, fit
 
 # x of 30 June 1954, and the hourly values 9h to 15h of source document 001 that it was fitted to, in units.
@@ -69,44 +67,6 @@ class Fits(unittest.TestCase):
         with self.assertRaises(Refused) as caught:
             fit(X, HOURLY, 0)
         self.assertEqual(str(caught.exception), "refused 17 0: a fit further from a tabulated value than the tolerance")
-
-
-class Cubics(unittest.TestCase):
-    def test_x_of_1954(self):
-        self.assertEqual(cubic(HOURLY, 500), X)
-        with self.assertRaises(Refused) as caught:
-            cubic(HOURLY, 458)
-        self.assertEqual((caught.exception.number, caught.exception.place), (17, 5))
-
-    def test_a_cubic_is_found_again(self):
-        draw = random.Random(14)
-        for _ in range(1_000):
-            coefficients = [draw.randint(-most, most) for most in RANGES]
-            self.assertEqual(cubic([value(coefficients, hour) for hour in HOURS], 0), coefficients)
-
-    def test_the_squares_are_least(self):
-        draw = random.Random(1954)
-
-        def squares(coefficients, tabulated):
-            return sum((value(coefficients, hour) - number) ** 2 for hour, number in zip(HOURS, tabulated))
-
-        for _ in range(100):
-            tabulated = [value(X, hour) + draw.randint(-300, 300) for hour in HOURS]
-            best = cubic(tabulated, 1_000)
-            # rounding to units costs little, a step of some units away more
-            for place in range(4):
-                for step in (-100, 100):
-                    other = changed(best, place, best[place] + step)
-                    self.assertLess(squares(best, tabulated), squares(other, tabulated))
-
-    def test_out_of_range(self):
-        for tabulated in ([], [0] * 6, [0] * 8):
-            with self.assertRaises(Refused) as caught:
-                cubic(tabulated, 0)
-            self.assertEqual((caught.exception.number, caught.exception.place), (10, 0))
-        with self.assertRaises(Refused) as caught:
-            cubic([0, 0, 0, 0, 0, 0, 10**9], 1_000)
-        self.assertEqual(caught.exception.number, 2)
 
 
 if __name__ == "__main__":

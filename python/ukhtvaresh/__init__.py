@@ -4,7 +4,7 @@ From the elements of an eclipse, a station, a window of seconds and a guard, `sh
 `sheet_and_share` the same with the covered share of the Sun's disc; `star` makes that of a star from its elements and the Moon's
 radius; `read` takes a sheet apart, `write` puts entries together as one, `listing` gives a sheet as text, `second` the shadow at one
 second, `star_second` that of a star, and `share` the share at a second. `mirror` gives the request beyond the equator, `fit` judges coefficients that a spreadsheet made
-of seven hourly values, `from_tables` makes elements from tables of Sun and Moon, `root` gives a square root with its rounds, `mend`
+of seven hourly values, `from_tables` makes the values of rows of Sun and Moon, `elements` the 22 elements of them, `root` gives a square root with its rounds, `mend`
 takes the damaged parts out of a file of sheets, `sheet_of_doubles` makes the sheet of positions that come as doubles, `doubles` makes
 doubles of whole units; `network` says of a list of stations how far each clock is from the antenna and which one the
 penumbra reaches first. Each is a thin call of the proved function of the same name in libukhtvaresh.so. The wheel has
@@ -69,7 +69,7 @@ __all__ = [
     *("sheet", "sheet_into", "sheet_and_share", "sheet_and_share_into", "star", "star_into", "sheets"),
     *("share", "second", "star_second", "horizon", "star_horizon", "contact", "star_contact", "Bracket", "mirror"),
     *("read", "extent", "write", "write_into", "listing", "typed", "times", "Instant", "Fault", "rows", "dataframe", "array"),
-    *("fit", "root", "from_tables", "from_tables_into", "mend", "mend_into"),
+    *("fit", "root", "from_tables", "from_tables_into", "elements", "elements_into", "Radii", "Misfits", "DOCUMENT_02", "mend", "mend_into"),
     *("sheet_of_doubles", "sheet_of_doubles_into", "doubles", "doubles_into", "network", "network_into"),
 ]
 
@@ -100,6 +100,7 @@ _WORDS = {
     18: "a tolerance or a tabulated value outside its range",
     19: "a list of no station or of more than 64",
     20: "an invalid line of a typed text",
+    21: "a radius or a sidereal angle outside its range",
     22: "no such phase",
     23: "a number of an instant outside its range",
 }
@@ -112,8 +113,10 @@ class Refused(Exception):
 
     place: 1 is 0 for the window, 1 for the guard; 2, 3 the first such field, 3 of a network ten times the list place plus
     that; 4 the length needed; 5 to 9 the record's first byte; 11 the row; 12 the first such field, 22 for the longitude;
-    14 to 16 the first such list place, counted from 0; 17 the first such hour, 0 to 6; 18 is 0 for the tolerance, 1 to 7
-    for the first such tabulated value; 20 the line of a typed text; 22 is 0 for the phase, 1 for the two seconds; 23 the
+    14 to 16 the first such list place, counted from 0; 17 the first such hour, 0 to 6, of elements ten times the
+    fit plus that; 18 is 0 for the tolerance, 1 to 7
+    for the first such tabulated value; 20 the line of a typed text; 21 is 0 to 2 for a radius, 3
+    to 9 for a sidereal angle; 22 is 0 for the phase, 1 for the two seconds; 23 the
     first such number of an instant, 0 scale, 1 date, 4 hundredths of a second, 5 TAI less UTC; else 0.
 
     field, value, range: of a request's number outside its range the field's name, the number and its least and greatest
@@ -747,6 +750,8 @@ def _load() -> ctypes.CDLL:
     library.ukhtvaresh_times.argtypes = [data, length, room, length, room, length, room, length, room, length, value]
     library.ukhtvaresh_fit.argtypes = [room, length, room, length, ctypes.c_int64, value]
     library.ukhtvaresh_from_tables.argtypes = [room, length, room, length, value]
+    tables = [room, length, room, length, room, length, ctypes.c_int64]
+    library.ukhtvaresh_elements.argtypes = tables + [room, length, room, length, room, length, value]
     library.ukhtvaresh_root.argtypes = [ctypes.c_uint64, value]
     library.ukhtvaresh_mend.argtypes = [data, length, room, length, room, length, value, value]
     survey = [room, length, ctypes.c_double, ctypes.c_uint64, room, length]
@@ -754,7 +759,7 @@ def _load() -> ctypes.CDLL:
     library.ukhtvaresh_doubles.argtypes = [room, length, room, length, value]
     library.ukhtvaresh_network.argtypes = [room, length, room, length, room, length, room, length, value]
     names = "sheet sheet_and_share star second star_second share horizon star_horizon contact star_contact mirror read"
-    names += " extent write listing fit typed times from_tables root mend sheet_of_doubles doubles network"
+    names += " extent write listing fit elements typed times from_tables root mend sheet_of_doubles doubles network"
     for name in names.split():
         getattr(library, "ukhtvaresh_" + name).restype = ctypes.c_uint64
     return library
@@ -1275,6 +1280,69 @@ def from_tables(rows: Iterable[Row]) -> List[Besselian]:
         listed += [_coordinate(getattr(row, field.name), field.name, f" of row {at}") for field in fields(Row)]
     from_tables_into(listed, values)
     return [Besselian(*values[8 * k : 8 * k + 8]) for k in range(ROWS)]
+
+
+@dataclass(frozen=True)
+class Radii:
+    """Radii of Sun and Moon, 10^-8 of the Earth's equatorial radius."""
+
+    sun: int  # 10,890,000,000 to 10,930,000,000
+    penumbra: int  # the Moon's for the penumbra, 27,200,000 to 27,300,000
+    central: int  # the Moon's for the central cone, 27,200,000 to 27,300,000
+
+
+# With document 02's radii the values of each row are those of from_tables.
+DOCUMENT_02 = Radii(10_904_847_000, 27_227_400, 27_227_400)
+
+
+@dataclass(frozen=True)
+class Misfits:
+    """How far each fit is from its seven values at most: lengths in 10^-8 radius, d and mu in 10^-6 degree."""
+
+    x: int
+    y: int
+    d: int
+    l1: int
+    l2: int
+    mu: int
+
+
+def elements_into(
+    rows: Iterable[int], sidereal: Iterable[int], radii: Iterable[int], tolerance: int, elements, misfits
+) -> int:
+    """Puts the elements of 42, seven and three numbers at the start of `elements`, and the misfits of `misfits`; gives 22.
+
+    Both are writable buffers of 64-bit signed numbers. What lies past the 22 and the six, and on refusal all of it,
+    keeps what it held. A number beyond 64 bits is ValueError.
+    Refusals, the first of them: 10 for other counts; 18; 21; 11; 2; 17; 4 with 22; 4 with 6.
+    """
+    first, second = _lent(elements, "elements", _SIGNED), _lent(misfits, "misfits", _SIGNED)
+    lists = [
+        *_listed(rows, "rows", lambda value, at: _coordinate(value, f"number {at} of rows")),
+        *_listed(sidereal, "sidereal", lambda value, at: _coordinate(value, f"sidereal angle {at}")),
+        *_listed(radii, "radii", lambda value, at: _coordinate(value, f"radius {at}")),
+    ]
+    return _call("elements", *lists, _signed(tolerance, "tolerance"), *_sines(), *first, *second)
+
+
+def elements(
+    rows: Iterable[Row], sidereal: Iterable[int], radii: Radii = DOCUMENT_02, tolerance: int = 1000
+) -> Tuple[Elements, Misfits]:
+    """The 22 elements of seven hourly rows and of Greenwich's apparent sidereal time at these hours, and the misfits.
+
+    sidereal: 10^-6 degree, 0 to 359,999,999. x and y are cubics, d, l1, l2 and mu quadratics of least squares over the
+    hours -3 to 3, tan f the middle row's. tolerance: 0 to 1,000 units. docs/ELEMENTS.md has the rule.
+    Refusals, the first of them: 10 unless they are seven and seven; 18 with place 0 for the tolerance; 21 with place 0 to
+    2 for a radius, 3 to 9 for a sidereal angle; 11 with the row; 2 with the element out of its range; 17 with ten times
+    the fit, 0 to 5 in the order of the misfits, plus the first hour, 0 to 6, that misses by more than the tolerance.
+    """
+    made, off, listed = (ctypes.c_int64 * 22)(), (ctypes.c_int64 * 6)(), []
+    for at, row in enumerate(_items(rows, "rows")):
+        _instance(row, Row, f"row {at}")
+        listed += [_coordinate(getattr(row, field.name), field.name, f" of row {at}") for field in fields(Row)]
+    _instance(radii, Radii, "radii")
+    elements_into(listed, sidereal, [radii.sun, radii.penumbra, radii.central], tolerance, made, off)
+    return Elements(*made), Misfits(*off)
 
 
 # ---- a file of sheets mended

@@ -77,7 +77,9 @@ pub use network::{network, network_into, Eclipse, Network, Node, ECLIPSE_LENGTH,
 pub use refusal::Refusal;
 pub use request::{Elements, Request, Station, Window, LEAST_GUARD, REQUEST_LENGTH};
 pub use star::{star, star_second, star_vec, StarElements, StarRequest, StarSecond, STAR_REQUEST_LENGTH};
-pub use tables::{from_tables, from_tables_into, Besselian, Position, Row, ROWS};
+pub use tables::{
+    elements, elements_into, from_tables, from_tables_into, Besselian, Misfits, Position, Radii, Row, DOCUMENT_02, ROWS,
+};
 pub use texts::{times, typed, Fault, Instant, Scale, Typed};
 
 /// The state of a station in a shadow at a second. Sure and unsure are document 01's words.

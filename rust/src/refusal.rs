@@ -84,7 +84,7 @@ pub enum Refusal {
     },
     /// 17: a fit's value differs from the tabulated one by more than the tolerance.
     Hour {
-        /// The first such hour, 0 to 6 for -3 to 3.
+        /// The first such hour, 0 to 6 for -3 to 3; of [`elements`](crate::elements) ten times the fit, 0 to 5, plus that.
         hour: u64,
     },
     /// 18: the tolerance of a fit, or a tabulated value, is outside its range.
@@ -94,6 +94,11 @@ pub enum Refusal {
     },
     /// 19: a network's list is empty or has more than 64 stations (place 0; document 02).
     List,
+    /// 21: a radius or a sidereal angle is outside its range (ours).
+    Places {
+        /// The first such: 0 to 2 for a radius, 3 to 9 for a sidereal angle.
+        place: u64,
+    },
     /// 22: the shadow has no phase of that number (place 0; of no document).
     Phase,
     /// 22: two seconds are not one surely outside and one surely inside (place 1; of no document).
@@ -136,6 +141,7 @@ impl Refusal {
             Refusal::Phase | Refusal::NoContact => 22,
             Refusal::Line { .. } => 20,
             Refusal::Instant { .. } => 23,
+            Refusal::Places { .. } => 21,
         }
     }
 
@@ -156,7 +162,8 @@ impl Refusal {
             Refusal::Given { place }
             | Refusal::Repeated { place }
             | Refusal::Clock { place }
-            | Refusal::Chain { place } => place,
+            | Refusal::Chain { place }
+            | Refusal::Places { place } => place,
             Refusal::Kind { at }
             | Refusal::Ends { at }
             | Refusal::Field { at }
@@ -192,6 +199,7 @@ impl Refusal {
             22 => Refusal::NoContact,
             20 => Refusal::Line { line: place },
             23 => Refusal::Instant { field: place },
+            21 => Refusal::Places { place },
             _ => unreachable!("the library gives only numbers of the table"),
         }
     }
@@ -224,6 +232,7 @@ impl fmt::Display for Refusal {
             Refusal::NoContact => "two seconds that are not one surely outside and one surely inside",
             Refusal::Line { .. } => "an invalid line of a typed text",
             Refusal::Instant { .. } => "a number of an instant outside its range",
+            Refusal::Places { .. } => "a radius or a sidereal angle outside its range",
         };
         write!(f, "refused {} {}: {words}", self.number(), self.place())
     }

@@ -1,6 +1,8 @@
 //! Elements from tables of Sun and Moon through the crate: the books' rows, distances at their limits, every refusal.
 
-use ukhtvaresh::{from_tables, from_tables_into, Besselian, Position, Refusal, Row, ROWS};
+use ukhtvaresh::{
+    elements, elements_into, from_tables, from_tables_into, Besselian, Position, Radii, Refusal, Row, DOCUMENT_02, ROWS,
+};
 
 // 30 June 1954, 9h to 15h Universal Time, from the places that the handbook prints: examples/rows1954.txt.
 const ROWS_1954: &str = include_str!("../../examples/rows1954.txt");
@@ -124,4 +126,47 @@ fn lengths_and_rooms() {
     assert_eq!(from_tables_into(&numbers, &mut values), Ok(56));
     assert_eq!(values[56..], [7; 4]);
     assert_eq!(values[24], from_tables(&books()).expect("accepted")[3].x);
+}
+
+// 30 June 1954, 12h Universal Time.
+const SIDEREAL: [i64; 7] =
+    [52_896_802, 67_937_871, 82_978_940, 98_020_009, 113_061_078, 128_102_147, 143_143_216];
+
+#[test]
+fn elements_of_the_books_rows() {
+    let (made, off) = elements(&books(), &SIDEREAL, DOCUMENT_02, 200).expect("made");
+    let rows = from_tables(&books()).expect("accepted");
+    assert_eq!((made.tan_f1, made.tan_f2), (rows[3].tan_f1, rows[3].tan_f2));
+    let x = [made.x0, made.x1, made.x2, made.x3];
+    let apart = (-3i64..=3).zip(&rows).map(|(h, row)| (((x[3] * h + x[2]) * h + x[1]) * h + x[0] - row.x).abs());
+    assert_eq!(apart.max(), Some(off.x));
+    assert!(off.x <= 200 && made.l2_0 < 0);
+}
+
+#[test]
+fn elements_refused() {
+    let mut far = books();
+    far[4].moon.x *= 2;
+    let radii = Radii { central: 27_300_001, ..DOCUMENT_02 };
+    assert_eq!(elements(&far, &[-1; 7], radii, 1_001), Err(Refusal::Given { place: 0 }));
+    assert_eq!(elements(&far, &[-1; 7], radii, 0), Err(Refusal::Places { place: 2 }));
+    assert_eq!(elements(&far, &[-1; 7], DOCUMENT_02, 0), Err(Refusal::Places { place: 3 }));
+    assert_eq!(elements(&far, &SIDEREAL, DOCUMENT_02, 0), Err(Refusal::Row { row: 4 }));
+    assert_eq!(elements(&books(), &[0; 7], DOCUMENT_02, 0), Err(Refusal::Element { field: 18 }));
+    assert_eq!(elements(&books(), &SIDEREAL, DOCUMENT_02, 0), Err(Refusal::Hour { hour: 0 }));
+}
+
+#[test]
+fn elements_leave_the_rest() {
+    let radii = [10_904_847_000, 27_227_400, 27_227_400];
+    let numbers = books_numbers();
+    let (mut made, mut off) = ([7; 23], [7; 7]);
+    for (first, second, needed) in [(21, 6, 22), (22, 5, 6), (0, 0, 22)] {
+        let answer = elements_into(&numbers, &SIDEREAL, &radii, 200, &mut made[..first], &mut off[..second]);
+        assert_eq!(answer, Err(Refusal::Room { needed }));
+    }
+    assert_eq!(elements_into(&numbers[1..], &SIDEREAL, &radii, 200, &mut made, &mut off), Err(Refusal::Shape));
+    assert_eq!((made, off), ([7; 23], [7; 7]));
+    assert_eq!(elements_into(&numbers, &SIDEREAL, &radii, 200, &mut made, &mut off), Ok(22));
+    assert_eq!((made[22], off[6]), (7, 7));
 }

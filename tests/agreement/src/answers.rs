@@ -2,6 +2,7 @@
 
 use reference::contact::Crossing;
 use reference::elements::FARTHEST;
+use reference::fitted;
 use reference::horizon::Horizon;
 use reference::listing;
 use reference::refusal::Refusal;
@@ -116,4 +117,30 @@ pub fn star_contact(
 /// The listing of a sheet as bytes of text.
 pub fn listing(sheet: &[u8], text: &mut [u8]) -> Result<usize, Refusal> {
     copy_into(listing::listing(&records_of(sheet)?).as_bytes(), text)
+}
+
+/// Elements from rows: 10, 18, 21, 11, 4 for the room for table S, which is then filled, 2, 17, 4 for the elements' room
+/// and for the misfits'.
+pub fn elements(
+    given: &crate::rows::Given,
+    sines: &mut [u32],
+    elements: &mut [i64],
+    misfits: &mut [i64],
+) -> Result<usize, Refusal> {
+    let (rows, sidereal, radii, tolerance) = given;
+    let rooms = [sines.len(), elements.len(), misfits.len()];
+    match fitted::elements(rows, sidereal, radii, *tolerance, rooms) {
+        Ok((made, off)) => {
+            room::fill(sines)?;
+            elements[..made.len()].copy_from_slice(&made);
+            misfits[..off.len()].copy_from_slice(&off);
+            Ok(made.len())
+        }
+        Err((refusal, filled)) => {
+            if filled {
+                room::fill(sines)?;
+            }
+            Err(refusal)
+        }
+    }
 }

@@ -214,3 +214,35 @@ pub fn mirror_both(random: &mut Random, request: &[u8], room: usize) -> Left<u8>
     must_agree("ukhtvaresh_mirror", &(request, room), &ours, &theirs);
     ours
 }
+
+/// Elements from rows, with rooms of these lengths for table S, the elements and the misfits.
+pub fn elements_both(random: &mut Random, given: &crate::rows::Given, rooms: [usize; 3]) -> Reply {
+    let name = "ukhtvaresh_elements";
+    let old_sines = buffer(random, rooms[0], |bits| bits as u32);
+    let old = buffer(random, rooms[1], |bits| bits as i64);
+    let old_misfits = buffer(random, rooms[2], |bits| bits as i64);
+    let (mut our_sines, mut ours, mut our_misfits) = (old_sines.clone(), old.clone(), old_misfits.clone());
+    let (rows, sidereal, radii, tolerance) = given;
+    let our_reply = library::elements(
+        rows,
+        sidereal,
+        radii,
+        *tolerance,
+        &mut our_sines[..rooms[0]],
+        &mut ours[..rooms[1]],
+        &mut our_misfits[..rooms[2]],
+    );
+    let (mut their_sines, mut theirs, mut their_misfits) = (old_sines, old, old_misfits);
+    let made = answers::elements(
+        given,
+        &mut their_sines[..rooms[0]],
+        &mut theirs[..rooms[1]],
+        &mut their_misfits[..rooms[2]],
+    );
+    let their_reply = reply(made, |length| length as u64);
+    let asked = (given, rooms);
+    must_agree(name, &asked, &(our_reply, ours), &(their_reply, theirs));
+    must_agree(&format!("the misfits of {name}"), &asked, &(our_reply, our_misfits), &(their_reply, their_misfits));
+    must_agree(&format!("the sines of {name}"), &asked, &(our_reply, our_sines), &(their_reply, their_sines));
+    our_reply
+}

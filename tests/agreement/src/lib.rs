@@ -8,5 +8,6 @@ pub mod fits;
 pub mod horizons;
 pub mod library;
 pub mod networks;
+pub mod rows;
 pub mod sheets;
 pub mod stars;

@@ -144,6 +144,22 @@ extern "C" {
         values_len: usize,
         value: *mut u64,
     ) -> u64;
+    fn ukhtvaresh_elements(
+        rows: *const i64,
+        rows_len: usize,
+        sidereal: *const i64,
+        sidereal_len: usize,
+        radii: *const i64,
+        radii_len: usize,
+        tolerance: i64,
+        sines: *mut u32,
+        sines_len: usize,
+        elements: *mut i64,
+        elements_len: usize,
+        misfits: *mut i64,
+        misfits_len: usize,
+        value: *mut u64,
+    ) -> u64;
     fn ukhtvaresh_root(n: u64, rounds: *mut u64) -> u64;
     fn ukhtvaresh_mend(
         file: *const u8,
@@ -378,6 +394,37 @@ pub fn from_tables(rows: &[i64], values: &mut [i64]) -> Reply {
     let mut value = UNSET;
     let number = unsafe {
         ukhtvaresh_from_tables(rows.as_ptr(), rows.len(), values.as_mut_ptr(), values.len(), &mut value)
+    };
+    (number, value)
+}
+
+pub fn elements(
+    rows: &[i64],
+    sidereal: &[i64],
+    radii: &[i64],
+    tolerance: i64,
+    sines: &mut [u32],
+    elements: &mut [i64],
+    misfits: &mut [i64],
+) -> Reply {
+    let mut value = UNSET;
+    let number = unsafe {
+        ukhtvaresh_elements(
+            rows.as_ptr(),
+            rows.len(),
+            sidereal.as_ptr(),
+            sidereal.len(),
+            radii.as_ptr(),
+            radii.len(),
+            tolerance,
+            sines.as_mut_ptr(),
+            sines.len(),
+            elements.as_mut_ptr(),
+            elements.len(),
+            misfits.as_mut_ptr(),
+            misfits.len(),
+            &mut value,
+        )
     };
     (number, value)
 }

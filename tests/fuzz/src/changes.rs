@@ -43,6 +43,7 @@ pub unsafe fn mutate(
 
 pub use crate::networks::change as change_network;
 pub use crate::stars::change as change_star;
+pub use crate::tables::change as change_tables;
 pub use files::change as change_file;
 pub use sheets::damage as change_sheet;
 

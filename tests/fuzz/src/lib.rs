@@ -8,6 +8,7 @@ pub mod changes;
 pub mod networks;
 pub mod requests;
 pub mod stars;
+pub mod tables;
 
 use agreement::answers;
 use agreement::library::{self, MendReply, Reply};

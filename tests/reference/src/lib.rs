@@ -12,6 +12,7 @@ pub mod elements;
 pub mod entries;
 pub mod exact;
 pub mod fit;
+pub mod fitted;
 pub mod horizon;
 pub mod listing;
 pub mod mend;

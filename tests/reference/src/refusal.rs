@@ -40,12 +40,15 @@ pub enum Refusal {
     Clock(usize),
     /// 16: a station of a network whose chain never reaches 0; the first such list place.
     Chain(usize),
-    /// 17: a fit differs from the tabulated value by more than the tolerance; the first such hour, 0..6.
+    /// 17: a fit differs from the tabulated value by more than the tolerance; the first such hour, 0..6. Of elements from
+    /// rows ten times the fit, 0..5, plus that.
     Hour(usize),
     /// 18: the tolerance of a fit (0), or a tabulated value (the first such, 1..7), is outside its range.
     Given(usize),
     /// 19: the list of a network is empty or has more than 64 stations (0).
     List,
+    /// 21: of elements from rows, a radius (0..2) or a sidereal angle (3..9) is outside its range.
+    Places(usize),
     /// 22: the number of a phase that the shadow does not have (0). Ours, of no document.
     NoPhase,
     /// 22: two seconds that are not one surely outside and one surely inside (1). Ours, of no document.
@@ -74,6 +77,7 @@ impl Refusal {
             Refusal::Hour(_) => 17,
             Refusal::Given(_) => 18,
             Refusal::List => 19,
+            Refusal::Places(_) => 21,
             Refusal::NoPhase | Refusal::NoContact => 22,
         }
     }
@@ -96,7 +100,8 @@ impl Refusal {
             | Refusal::Clock(place)
             | Refusal::Chain(place)
             | Refusal::Hour(place)
-            | Refusal::Given(place) => place,
+            | Refusal::Given(place)
+            | Refusal::Places(place) => place,
         }
     }
 }

@@ -1,9 +1,9 @@
 //! `seeds FOLDER`: what the fuzzer starts from, in FOLDER/read, listing, sheet, star, second, share, horizon,
-//! star_horizon, contact, star_contact, network, write and mend: the requests and sheets that the repository holds, and some drawn as
+//! star_horizon, contact, star_contact, network, elements, write and mend: the requests and sheets that the repository holds, and some drawn as
 //! tests/agreement draws them.
 
-use agreement::{draws, files, horizons, sheets, stars};
-use fuzz::networks;
+use agreement::{draws, files, horizons, rows, sheets, stars};
+use fuzz::{networks, tables};
 use fuzz::requests::{LEAVE_NUMBERS, LEAVE_SECOND, LEAVE_SHAPE, OTHER_SINES, WITH_SHARE};
 use reference::random::Random;
 use reference::sample_network;
@@ -106,6 +106,8 @@ fn main() {
         (0..DRAWN).filter_map(|_| networks::packed(&sample_network::draw(&mut random))),
         "drawn",
     );
+    let of_rows = folder.join("elements");
+    put(&of_rows, &head, (0..DRAWN).map(|_| tables::packed(&rows::given(&mut random))), "drawn");
     let shared = [head[0], head[1], head[2] | WITH_SHARE];
     put(&sheet, &shared, stored_requests(), "shared");
     put(&sheet, &shared, (0..DRAWN).map(|_| draws::request(&mut random)), "shared_drawn");
