@@ -70,6 +70,9 @@ ECLIPSE = [*dataclasses.astuple(REQUEST.elements), *dataclasses.astuple(REQUEST.
 NODES = [Node(REQUEST.station, 0), Node(replace(REQUEST.station, number=7), REQUEST.station.number)]
 UNITS = [*dataclasses.astuple(REQUEST.elements), REQUEST.station.longitude]
 NUMBERS = [number for row in ROWS for number in dataclasses.astuple(row)]
+SIDEREAL = [98_020_009 + 15_041_069 * hour for hour in range(-3, 4)]  # 30 June 1954, 12h universal time
+RADII = dataclasses.astuple(ukhtvaresh.DOCUMENT_02)
+SIX = (ctypes.c_int64 * 6)()
 SHEET = ukhtvaresh.sheet(MOSCOW)
 ENTRIES = [
     Head(7, -6000, 6000, 16),
@@ -452,6 +455,11 @@ INTO = [
     ("mend_into", lambda room: ukhtvaresh.mend_into(SHEET, room, bytearray(99)), "sheets", *BYTES),
     ("mend_into", lambda room: ukhtvaresh.mend_into(SHEET[1:], bytearray(99), room), "dropped", *BYTES),
     ("from_tables_into", lambda room: ukhtvaresh.from_tables_into(NUMBERS, room), "values", ctypes.c_int64, "q", 56),
+    (
+        "elements_into",
+        lambda room: ukhtvaresh.elements_into(NUMBERS, SIDEREAL, RADII, 1000, room, SIX),
+        *("elements", ctypes.c_int64, "q", 22),
+    ),
     ("doubles_into", lambda room: ukhtvaresh.doubles_into(UNITS, room), "room", ctypes.c_double, "d", 23),
     ("network_into", lambda room: ukhtvaresh.network_into(ECLIPSE, NODES, room), "steps", ctypes.c_uint64, "Q", 64),
 ]

@@ -252,13 +252,14 @@ def test_typed(folder):
         status = 0 if words is None else 1
         error = b"" if words is None else re.escape(words).replace(r"\{\}", str(line))
         answers(f"{field} {value}", run("sheet", data=made), status, None if words is None else b"", error)
-    made, line = changed("moscow1954", "last", "-3601")
+    made, line = changed("moscow1954", "first", "10800")
+    made = made.replace(b"last 10800", b"last 10799")
     answers(
         "first after last",
         run("sheet", data=made),
         1,
         b"",
-        r"first -3600 is after last -3601 \(line \d+\) \[refusal 1 0\]",
+        r"first 10800 is after last 10799 \(line \d+\) \[refusal 1 0\]",
     )
     made, line = (
         changed("moscow1954", "guard", "15") if b"\nguard" in text else (text + b"guard 15\n", text.count(b"\n") + 1)
