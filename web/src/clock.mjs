@@ -41,16 +41,16 @@ export const saidIn = (line) => line.split("#")[0].replace(/^[ \t\r]+|[ \t\r]+$/
 export const isNamed = (said, name) => said.startsWith(name) && /^([ \t\r]|$)/.test(said.slice(name.length));
 
 // What the line of that name in a typed text says behind the name, or undefined.
-function wordsOf(text, name) {
+function wordsAfter(text, name) {
   const said = text.split("\n").map(saidIn).find((line) => isNamed(line, name));
   return said?.slice(name.length).replace(/^[ \t\r]+/, "");
 }
 
 // The instant of a typed text that `request` takes, with TAI less UTC, or null: what the lines of these names say.
 export function instantIn(text) {
-  const words = wordsOf(text, "instant");
+  const words = wordsAfter(text, "instant");
   const instant = words === undefined ? null : readInstant(words);
-  return instant && { ...instant, offset: Number(wordsOf(text, "tai-utc") ?? 0) };
+  return instant && { ...instant, offset: Number(wordsAfter(text, "tai-utc") ?? 0) };
 }
 
 // Ephemeris and universal time of a second, where they are known.

@@ -142,7 +142,7 @@ const FAULTS = [
   ["longitude 180.000001", /longitude is outside its range/, "longitude", "longitude"],
   ["x1 1.5", /X1 is outside its range, −1\.00000000 to 1\.00000000 \(refusal 2, place 1\)/, "x1", null],
   ["guard 15", /guard is outside its range, 16 to 1000 \(refusal 1, place 1\)/, "guard", null],
-  ["first 9500", /window must have/, "first", null],
+  ["first 10801", /window must have/, "first", null],
   ["height 1e3", /height is not a number/, "height", "height"],
   ["height 165.5", /height has more decimals/, "height", "height"],
   ["height 99999999999", /height is far too large/, "height", "height"],
@@ -211,8 +211,11 @@ await check("an open end of the window is told as one", async () => {
   await settled();
   assert.match(await text("tr.open"), /Open\s+For 3 s/);
 });
-await check("the window of Hopkinsville at Salem: the eclipse was under way when it began", async () => {
+await check("Hopkinsville's example at Salem: the first contact; under way where the window begins later", async () => {
   await page.open(`${url}#example=hopkinsville2017&latitude=44.9429&longitude=-123.0351`);
+  assert.ok((await text(".contacts")).includes("Partial eclipse begins"));
+  await set("text", (await value("text")).replace(/^first .*/m, "first -5400"));
+  await settled();
   assert.match(await text("#sheet header"), /under way when the window began/);
   assert.ok(!(await text(".contacts")).includes("Partial eclipse begins"));
 });
