@@ -1,5 +1,8 @@
-//! `bench ROUNDS`: the compiled library and document 01 in plain Rust, timed in turns in one process; the best of all
-//! rounds of each.
+//! `bench ROUNDS`: the compiled library and document 01 in plain Rust, timed in turns in one process; the best of all rounds of each.
+//! `bench goals ROUNDS STREAM`: the table of goals alone, with the double-precision solver as the yardstick; STREAM is the program.
+
+mod goals;
+mod solver;
 
 use agreement::draws;
 use agreement::library;
@@ -74,8 +77,7 @@ fn sheets(rounds: usize) {
     }
 }
 
-/// Requests of a kind over ±10,800 s: the least, the median, nine of ten and the largest of the ratios of times, each
-/// pair timed in turns.
+/// Requests of a kind over ±10,800 s: the least, the median, nine of ten and the largest of the ratios of times, each pair timed in turns.
 fn drawn(rounds: usize, name: &str, count: usize, mut draw: impl FnMut(&mut Random) -> Request) {
     let mut random = Random::new(7);
     let mut ratios: Vec<(f64, f64)> = (0..count)
@@ -95,8 +97,7 @@ fn drawn(rounds: usize, name: &str, count: usize, mut draw: impl FnMut(&mut Rand
     ratios.sort_by(|a, b| a.0.total_cmp(&b.0));
     let at = |place: usize| ratios[place.min(count - 1)];
     println!(
-        "sheets, {name:22} {count} of 21601 s: ratios {:.4} least, {:.4} median, {:.4} of nine in ten, \
-         {:.4} largest; median {:.1} us",
+        "sheets, {name:22} {count} of 21601 s: ratios {:.4} least, {:.4} median, {:.4} of nine in ten, {:.4} largest; median {:.1} us",
         at(0).0,
         at(count / 2).0,
         at(count * 9 / 10).0,
@@ -158,8 +159,8 @@ fn stars(rounds: usize) {
     }
 }
 
-/// A list of eleven stations, one degree of latitude apart, each on the clock of the one before: the library, the
-/// reference, and the library's eleven sheets.
+/// A list of eleven stations, one degree of latitude apart, each on the clock of the one before: the library, the reference, and the
+/// library's eleven sheets.
 fn networks(rounds: usize) {
     let kiev = sample::kiev_1954();
     let node = |place: i64| {
@@ -195,8 +196,7 @@ fn networks(rounds: usize) {
             },
         );
         println!(
-            "network of eleven {seconds:6} s: library {:8.1} us, reference {:8.1} us, ratio {:.4}; \
-             eleven sheets {:8.1} us, ratio {:.2}",
+            "network of eleven {seconds:6} s: library {:8.1} us, reference {:8.1} us, ratio {:.4}; eleven sheets {:8.1} us, ratio {:.2}",
             ours * 1e6,
             theirs * 1e6,
             ours / theirs,
@@ -206,8 +206,8 @@ fn networks(rounds: usize) {
     }
 }
 
-/// What the share adds to the library's sheet, and what a share alone takes, with the filling of table S that each
-/// call begins with: the second's numbers beside it begin so too.
+/// What the share adds to the library's sheet, and what a share alone takes, with the filling of table S that each call begins with: the
+/// second's numbers beside it begin so too.
 fn shares(rounds: usize) {
     let moscow = sample::moscow_1954();
     for (name, request, closest) in [
@@ -226,8 +226,7 @@ fn shares(rounds: usize) {
             );
             assert!(a != b && sines == others);
             println!(
-                "sheet, {name:11} {seconds:6} s: with share {:8.1} us, without {:8.1} us, ratio {:.3}, \
-                 the share {:.1} us",
+                "sheet, {name:11} {seconds:6} s: with share {:8.1} us, without {:8.1} us, ratio {:.3}, the share {:.1} us",
                 with * 1e6,
                 without * 1e6,
                 with / without,
@@ -271,7 +270,7 @@ fn long_list(of_each: u32) -> Vec<u32> {
     entries
 }
 
-/// The same with kinds in no pattern: a graze, or the next of enter and leave, at random.
+/// The same with kinds in no pattern: a graze, or the next of enter and leave, by lot.
 fn drawn_list(of_each: u32) -> Vec<u32> {
     let mut random = Random::new(7);
     let mut entries = vec![0x01, 999, 0, 21_600, 16];
@@ -379,8 +378,7 @@ fn files(rounds: usize, sheet: &[u8]) {
     }
 }
 
-/// Positions as doubles: 23 doubles that no sheet follows, since a station value is out of its range; and 23 units as
-/// doubles.
+/// Positions as doubles: 23 doubles that no sheet follows, since a station value is out of its range; and 23 units as doubles.
 fn positions(rounds: usize) {
     let request = sample::kiev_1954();
     let mut units = request.elements.fields().to_vec();
@@ -420,7 +418,11 @@ fn positions(rounds: usize) {
 }
 
 fn main() {
-    let rounds = std::env::args().nth(1).map_or(100, |n| n.parse().expect("a number of rounds"));
+    let words: Vec<String> = std::env::args().skip(1).collect();
+    if words.first().is_some_and(|word| word == "goals") {
+        return goals::print(words[1].parse().expect("a number of rounds"), &words[2]);
+    }
+    let rounds = words.first().map_or(100, |n| n.parse().expect("a number of rounds"));
     sheets(rounds);
     kinds(rounds);
     stars(rounds);
