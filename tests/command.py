@@ -571,7 +571,7 @@ def test_network(folder):
         b"",
         r"there are 65 stations, and a network has 64 at most \[refusal 19 0\]",
     )
-    far = re.sub(rb"first -3600", b"first 10000", text)
+    far = re.sub(rb"first -10800", b"first 10000", text)
     status, output, error = run("network", data=far)
     check("a network that nothing reaches", "" if output.startswith(program("network", far)[0]) else output)
     element = re.sub(rb"x0 \S+", b"x0 3", text)

@@ -211,7 +211,7 @@ pub fn mirror(request: &[u8]) -> Result<[u8; REQUEST_LENGTH], Refusal> {
 ///
 /// let sheet = sheet_vec(include_bytes!("../../examples/moscow1954.bin"))?;
 /// let entries = read(&sheet)?;
-/// assert_eq!(entries[0], Entry::Head { station: 101, first: -3_600, last: 10_800, guard: 16 });
+/// assert_eq!(entries[0], Entry::Head { station: 101, first: -10_800, last: 10_800, guard: 16 });
 /// assert_eq!(write_vec(&entries)?, sheet);
 ///
 /// // A refusal is an error with a number and a place.

@@ -146,7 +146,7 @@ fn elements_of_the_books_rows() {
 #[test]
 fn elements_refused() {
     let mut far = books();
-    far[4].moon.x *= 2;
+    far[4].moon.y *= 2;
     let radii = Radii { central: 27_300_001, ..DOCUMENT_02 };
     assert_eq!(elements(&far, &[-1; 7], radii, 1_001), Err(Refusal::Given { place: 0 }));
     assert_eq!(elements(&far, &[-1; 7], radii, 0), Err(Refusal::Places { place: 2 }));
