@@ -544,7 +544,7 @@ def test_network(folder):
     steps = "".join(f"station {s['station']} steps {s['steps']}\n" for s in made["stations"])
     check(
         "network --json",
-        not output.decode().startswith(steps + f"first {made['first']['station']} to {made['first']['to']}\n"),
+        not output.decode().startswith(steps + f"first {made['first']['station']} to {made['first']['to']} sun "),
     )
     line = next(k for k, each in enumerate(text.split(b"\n"), 1) if each.startswith(b"station 103"))
     for new, error in [

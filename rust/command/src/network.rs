@@ -203,7 +203,8 @@ fn made(given: &ArgMatches, text: &[u8]) -> Outcome<()> {
                 output.line("note no station enters the penumbra in the window")?;
             }
             Some(seen) => {
-                output.line(&format!("first {} to {}", seen.station, seen.to))?;
+                let sun = if seen.altitude < 0 { "down" } else { "up" };
+                output.line(&format!("first {} to {} sun {sun}", seen.station, seen.to))?;
                 let size = seen.altitude.unsigned_abs();
                 let sign = if seen.altitude < 0 { "-" } else { "" };
                 let below = if seen.altitude < 0 { ", below the horizon" } else { "" };
