@@ -1,4 +1,6 @@
 // The answer to a request's bytes as text: the listing of its sheet, or the line of its refusal.
+#![tactic(auto)]
+
 pub mod timed;
 
 ghost use Rattle.std.specs.Prelude.{◌≡◌};

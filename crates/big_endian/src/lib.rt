@@ -1,5 +1,7 @@
 // Numbers of two, four and eight bytes, the highest first, as sheets, requests and notes have them. These functions
 // are internal and have a `requires`.
+#![tactic(auto)]
+
 ghost use Rattle.std.specs.Prelude.{◌≡◌, ◌+◌, ◌≤◌, ◌<◌, length};
 ghost use Rattle.std.proofs.lemmas.List.Edits.{sets};
 ghost use Rattle.big_endian.specs.Numbers.{two, four, two_at, four_at, eight_at};

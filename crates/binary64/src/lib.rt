@@ -1,4 +1,6 @@
 // Positions as doubles: a double read in whole units, exactly, and a whole unit as a double.
+#![tactic(auto)]
+
 ghost use Rattle.std.specs.Prelude.{◌≡◌, ◌*◌, ◌^◌, ◌≤◌, ◌<◌, min, nat_abs};
 ghost use Rattle.std.specs.Float.Ieee.Scale.{finite};
 ghost use Rattle.rounding.specs.Near.{half_up};

@@ -1,5 +1,7 @@
 // The reference instant of a request: the date and time of τ = 0. How one is typed is `instant_text`, how seconds are
 // printed by it `clock`; as six numbers it is in `numbers`.
+#![tactic(auto)]
+
 pub mod numbers;
 
 ghost use Rattle.std.specs.Prelude.{◌≡◌};

@@ -1,4 +1,6 @@
 // From an occultation, of the Sun or of a star, to its contact sheet.
+#![tactic(auto)]
+
 pub mod writing;
 
 ghost use Rattle.std.specs.Prelude.{◌≡◌};

@@ -1,4 +1,6 @@
 // The contacts of an occultation to the hundredth of a second: two hundredths between which the true contact lies.
+#![tactic(auto)]
+
 pub mod hundredths;
 pub mod search;
 

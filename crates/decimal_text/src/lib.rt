@@ -2,6 +2,8 @@
 //
 // A `put_` function stores a text at a place, as far as the buffer reaches, and gives the place after it. So texts
 // follow each other, and an empty buffer measures them.
+#![tactic(auto)]
+
 ghost use Rattle.std.specs.Prelude.{◌≡◌, [], ◌∷◌, ◌+◌, ◌<◌, min, pos, nat_abs, length, get_or};
 ghost use Rattle.decimal_text.specs.Decimals.{decimal, signed};
 ghost use Rattle.decimal_text.specs.Texts.{capped, Put, Counts};

@@ -1,5 +1,7 @@
 // The 22 elements of an eclipse from seven hourly rows of Sun and Moon and the sidereal time at Greenwich at these hours,
 // all in whole numbers. In module `numbers` from and to the caller's numbers.
+#![tactic(auto)]
+
 pub mod angles;
 pub mod least_squares;
 pub mod numbers;

@@ -1,5 +1,7 @@
 // The Besselian elements of an eclipse: 22 whole numbers as an axis and two cones, their ranges, and a value at a
 // second. In module `stars` those of a star's occultation.
+#![tactic(auto)]
+
 pub mod stars;
 
 ghost use Rattle.std.specs.Prelude.{◌≡◌, ◌+◌, ◌*◌, ◌≤◌, nat_abs, length};

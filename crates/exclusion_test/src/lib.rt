@@ -2,6 +2,8 @@
 // those is the closest. A margin is how far an end is from a circle, less the guard and what roundings may do; the
 // margins at both ends must span what the path can bend between them. `clear` is internal and has a `requires`, as do
 // the functions that it calls.
+#![tactic(auto)]
+
 ghost use Rattle.std.specs.Prelude.{◌≡◌, true, ◌≤◌, pos, nat_abs, ◌≤ℤ◌};
 ghost use Rattle.chord_bounds.specs.Margins.{slack, OneSign};
 ghost use Rattle.exclusion_test.specs.Samples.{SampleSizes};

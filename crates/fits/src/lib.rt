@@ -1,4 +1,6 @@
 // Fits from the spreadsheet: whether a cubic's four coefficients may stand for seven tabulated hourly values.
+#![tactic(auto)]
+
 ghost use Rattle.std.specs.Prelude.{◌≡◌, ◌≤◌, ◌<◌, nat_abs, ◌-ℤ◌, length};
 ghost use Rattle.rounding.specs.Limits.{first_out_of_range};
 ghost use Rattle.elements.specs.Polynomial.{cubic_at};

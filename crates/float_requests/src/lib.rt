@@ -1,3 +1,5 @@
 // Requests whose elements and longitude come as doubles.
+#![tactic(auto)]
+
 pub mod instrument;
 pub mod survey;

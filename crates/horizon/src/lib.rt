@@ -1,5 +1,7 @@
 // The horizon at a second of an occultation: altitude and azimuth of the Sun or the star, and the direction of the
 // zenith from it. No refraction, no dip.
+#![tactic(auto)]
+
 pub mod altitudes;
 
 ghost use Rattle.std.specs.Prelude.{◌≡◌, ◌≤◌, nat_abs, ◌-ℤ◌, ◌*ℤ◌};

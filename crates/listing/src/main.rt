@@ -1,5 +1,7 @@
 // Reads a stored sheet from standard input, shorter than 327,680 bytes, and prints its listing; or its refusal. Of a
 // longer input nothing is printed, and standard error says so.
+#![tactic(auto)]
+
 ghost use Rattle.std.specs.Prelude.{List, ℕ, take};
 ghost use Rattle.decimal_text.specs.Texts.{Counts};
 ghost use Rattle.program_io.specs.Inputs.{Read};

@@ -1,5 +1,7 @@
 // The listing of a sheet as text, as document 01 has it: a line an entry; and with clock times, altitudes and notes
 // (`sky`). What a reader answers, as text, is in `extents`.
+#![tactic(auto)]
+
 pub mod extents;
 pub mod sky;
 

@@ -1,6 +1,8 @@
 // Reads a file of sheets from standard input, shorter than 196,608 bytes, and writes it mended to standard output;
 // prints each dropped stretch to standard error. A longer file is refused whole: nothing is written, and standard
 // error says so.
+#![tactic(auto)]
+
 ghost use Rattle.std.specs.Prelude.{◌≡◌, List, ℕ, ◌+◌, ◌≤◌, length, take};
 ghost use Rattle.decimal_text.specs.Texts.{Put, Counts};
 ghost use Rattle.decimal_text.specs.Rows.{each_part};

@@ -1,4 +1,6 @@
 // The mirror of a request: all y and d coefficients and the latitude with the other sign.
+#![tactic(auto)]
+
 ghost use Rattle.std.specs.Prelude.{◌≡◌, ◌<◌, pos, nat_abs, ◌≤ℤ◌};
 ghost use Rattle.requests.specs.Mirror.{opposite};
 ghost use Rattle.request_format.specs.Fields.{count};

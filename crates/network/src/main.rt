@@ -2,6 +2,8 @@
 // It prints each station with its steps and the station whose first enter comes first, with whether the Sun is above
 // its horizon then; or `refused`, number and place. It reports the first invalid line on standard error and then
 // prints nothing.
+#![tactic(auto)]
+
 ghost use Rattle.std.specs.Prelude.{◌≡◌, List, ◌++◌, ℕ, ◌≤◌, length, take};
 ghost use Rattle.sine_table.specs.Table.{Sines};
 ghost use Rattle.clock_network.specs.declared.stations.Node.{Node};

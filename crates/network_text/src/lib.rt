@@ -1,5 +1,7 @@
 // A network that a person types: the elements and the window as in a typed request (`request_text`), and a line a
 // station, `station NUMBER LATITUDE LONGITUDE HEIGHT DELTA_T CLOCK`.
+#![tactic(auto)]
+
 pub mod stations;
 
 ghost use Rattle.std.specs.Prelude.{◌≡◌, ◌<◌, pos, length, replicate};

@@ -1,5 +1,7 @@
 // The whole network in one list: the steps of each station's clock from the antenna, and the station whose first enter
 // comes first; this says nothing of the horizon. The list is taken as a value (crate `nodes`).
+#![tactic(auto)]
+
 pub mod first_contact;
 pub mod sight;
 

@@ -1,5 +1,6 @@
 // What a program read, and what it writes: bytes at the start of an array, for one of its two outputs. What holds of
 // both is in `specs/`.
+#![tactic(auto)]
 
 // The descriptors of standard output and of standard error.
 pub const OUTPUT: i32 = 1;

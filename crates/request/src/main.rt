@@ -1,6 +1,8 @@
 // Reads a typed request from standard input, one `name value` a line, and writes its bytes to standard output: 115 of
 // an eclipse, 79 of a star. Its instant, if it has one, is read too and is no part of them. It reports the first
 // invalid line on standard error and then writes nothing.
+#![tactic(auto)]
+
 ghost use Rattle.std.specs.Prelude.{List, ℕ, take};
 ghost use Rattle.decimal_text.specs.Texts.{Counts};
 ghost use Rattle.program_io.specs.Inputs.{Read};

@@ -1,5 +1,7 @@
 // A request that a person types: text with one `name value` a line, to the numbers of the request in whole units. What
 // it asks about is in `shapes`, what a line gives a request in `beside`.
+#![tactic(auto)]
+
 pub mod beside;
 pub mod faults;
 pub mod instants;

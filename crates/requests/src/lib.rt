@@ -1,5 +1,7 @@
 // A request: the elements of an eclipse, a station, a window of seconds, a guard, and whether a share is asked for; or
 // a star's. Both ask for an occultation. Its limits, and the refusals 1, 2, 13 and 3.
+#![tactic(auto)]
+
 pub mod admission;
 pub mod windows;
 

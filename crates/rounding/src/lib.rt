@@ -1,5 +1,7 @@
 // Rounding to the nearest, square roots and sizes, over 64-bit whole numbers; in a module of its own the rounds of the
 // root.
+#![tactic(auto)]
+
 pub mod roots;
 
 ghost use Rattle.std.specs.Prelude.{◌≡◌, ◌≤◌, ◌<◌, pos, nat_abs, ◌≤ℤ◌, length};

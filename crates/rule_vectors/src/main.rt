@@ -13,6 +13,8 @@
 //   d  the bits of a double  its units as degrees, as hours and as a length; `large`, or `none` if not finite
 //
 // Any other record is `malformed`. States are 0 outside, 1 inside, 2 unsure.
+#![tactic(auto)]
+
 ghost use Rattle.std.specs.Prelude.{◌≡◌, true, ◌+◌, ◌*◌, ◌≤◌, ◌≤ℤ◌, length};
 ghost use Rattle.run_length.specs.Runs.{decoded, Whole};
 ghost use Rattle.station.specs.Sizes.{StationSizes};

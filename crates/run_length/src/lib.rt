@@ -1,5 +1,7 @@
 // The states of the seconds of a window, stored as runs: never more than one byte a second, for two phases. All
 // functions are internal.
+#![tactic(auto)]
+
 ghost use Rattle.std.specs.Prelude.{◌≡◌, ◌+◌, ◌≤◌, ◌<◌, length, take, drop};
 ghost use Rattle.run_length.specs.Runs.{state_in, seconds_of, Whole, RunAt, Ends, Written, Pushed};
 

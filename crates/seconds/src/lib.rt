@@ -1,4 +1,6 @@
 // The seconds of an occultation: direction and magnitude at one of them; and all of one second.
+#![tactic(auto)]
+
 ghost use Rattle.std.specs.Prelude.{◌≡◌, ◌≤◌, nat_abs};
 ghost use Rattle.sine_table.specs.Table.{Sines};
 ghost use Rattle.elements.specs.StarLaws.{StarSizes};

@@ -1,4 +1,6 @@
 // The shadow at one second: where the station is in it, and what is seen there.
+#![tactic(auto)]
+
 pub mod bodies;
 pub mod directions;
 

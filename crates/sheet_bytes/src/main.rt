@@ -1,5 +1,7 @@
 // Reads a request, 115 bytes, from standard input, and writes its contact sheet as it is stored to standard output.
 // A refusal goes to standard error, and nothing goes to standard output.
+#![tactic(auto)]
+
 ghost use Rattle.std.specs.Prelude.{◌≡◌, List, ℕ, take};
 ghost use Rattle.decimal_text.specs.Texts.{Counts};
 ghost use Rattle.listing_lines.specs.Lines.{refusal_line};

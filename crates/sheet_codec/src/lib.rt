@@ -1,3 +1,5 @@
 // A sheet's bytes read and written.
+#![tactic(auto)]
+
 pub mod decoder;
 pub mod encoder;

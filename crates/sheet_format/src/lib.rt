@@ -1,3 +1,5 @@
 // The kinds of entries, and an entry's record in bytes.
+#![tactic(auto)]
+
 pub mod kinds;
 pub mod records;

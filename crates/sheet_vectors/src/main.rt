@@ -13,6 +13,8 @@
 //                                          both buffers afterwards; they hold 170 before
 //
 // Any other record is `malformed`.
+#![tactic(auto)]
+
 ghost use Rattle.std.specs.Prelude.{◌≡◌, ◌+◌, ◌*◌, ◌/◌, ◌≤◌, length};
 ghost use Rattle.decimal_text.specs.Texts.{Counts};
 

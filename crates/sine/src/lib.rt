@@ -1,5 +1,7 @@
 // Sine and cosine, from a filled table S (`sine_table`). Angles are in units of 10^-6 degree, sines and cosines in
 // units of 10^-8.
+#![tactic(auto)]
+
 pub mod turns;
 
 ghost use Rattle.std.specs.Prelude.{◌≡◌, ◌≤◌, pos, nat_abs};

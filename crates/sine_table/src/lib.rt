@@ -1,5 +1,7 @@
 // Table S: the sines of each tenth of a degree from 0 to 90, in units of 10^-8, summed up from their second
 // differences in a caller-provided buffer.
+#![tactic(auto)]
+
 mod differences;
 
 ghost use Rattle.std.specs.Prelude.{◌≤◌, ◌<◌, ◌≡◌, pos, length};

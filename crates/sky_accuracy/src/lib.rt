@@ -1,1 +1,2 @@
 // How far the rule is from the sky. Nothing here runs.
+#![tactic(auto)]

@@ -1,4 +1,6 @@
 // Reads a star request, 79 bytes, from standard input, and prints the listing of its contact sheet; or its refusal.
+#![tactic(auto)]
+
 ghost use Rattle.std.specs.Prelude.{◌≡◌, List, ℕ, take};
 ghost use Rattle.decimal_text.specs.Texts.{Counts};
 ghost use Rattle.program_io.specs.Inputs.{Read};

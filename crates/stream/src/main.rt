@@ -3,6 +3,8 @@
 // reported on standard error, and the stream goes on; after one of wrong shape, or one that the input's end cuts
 // short, it stops. Where standard output cannot be written, it stops too, and standard error says at which request. It
 // reads no byte past the request that it answers.
+#![tactic(auto)]
+
 ghost use Rattle.std.specs.Prelude.{◌≡◌, not, ◌+◌, length, take};
 ghost use Rattle.decimal_text.specs.Texts.{capped, Put, Counts};
 ghost use Rattle.request_answers.specs.Sheet.{Begins};

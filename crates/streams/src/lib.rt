@@ -1,5 +1,7 @@
 // Requests that follow each other, eclipses' and stars': how many bytes the next one has, and the answer to one of
 // them.
+#![tactic(auto)]
+
 ghost use Rattle.std.specs.Prelude.{◌≡◌, ◌≤◌};
 ghost use Rattle.decimal_text.specs.Texts.{Put, Counts};
 ghost use Rattle.request_answers.specs.Sheet.{Begins};

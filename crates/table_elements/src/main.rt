@@ -2,6 +2,8 @@
 // x, y, z in 10^-8 of the Earth's equatorial radius. `#` starts a comment. After each seven rows it prints their
 // values, a line a row: x, y, sin d, cos d, tan f1, tan f2, l1, l2; or `refused`, number and place. It reports the
 // first invalid line on standard error and stops reading.
+#![tactic(auto)]
+
 mod text;
 pub mod typed_rows;
 

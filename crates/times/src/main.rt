@@ -1,6 +1,8 @@
 // Reads a typed request from standard input, as `request` does, and prints the listing of its sheet with altitudes
 // and notes; where the text has an instant, with clock times (docs/CLOCK.md). A refusal is printed as `sheet` prints
 // it; the first invalid line is reported on standard error.
+#![tactic(auto)]
+
 ghost use Rattle.std.specs.Prelude.{List, ℕ, take};
 ghost use Rattle.decimal_text.specs.Texts.{Put, Counts, Copies};
 ghost use Rattle.program_io.specs.Inputs.{Read};

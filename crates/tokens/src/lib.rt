@@ -1,4 +1,6 @@
 // Words of a typed text: its bytes by their class, and decimal numbers exact in whole units.
+#![tactic(auto)]
+
 ghost use Rattle.std.specs.Prelude.{◌≡◌, ◌-◌, ◌≤◌, length, get_or, drop};
 ghost use Rattle.tokens.specs.declared.Class.TheVariants.{Zero};
 ghost use Rattle.tokens.specs.Text.{is_in, run_of, all_of, start_of};

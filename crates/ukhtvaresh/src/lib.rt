@@ -1,6 +1,8 @@
 // The library for C, Rust and Python: the sheet of a request, a sheet read and written, and the root with its rounds; in
 // modules of their own the other functions. Each function but `ukhtvaresh_root` returns the number of the refusal, 0 for
 // none, and puts the length, the count or the refusal's place into `value`.
+#![tactic(auto)]
+
 mod of_requests;
 pub mod replies;
 mod sheets;

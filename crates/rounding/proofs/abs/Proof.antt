@@ -16,17 +16,17 @@ below : (x : ℤ) → x <ℤ pos 0 → pos 0 -ℤ x ≡ pos (nat_abs x)
 below (pos n) h = absurd (omega (arith, <-parts h))
 below (negsuc n) h = ap pos (omega arith)
 
-sub-result : tie.Need-overflow-sub-result
+sub-result : tie.Need-overflow_sub-result
 sub-result c = fits (bounds c.before) (sub (lit (pos 0)) (arg 0)) tt
 
-returns : tie.Need-returns
+returns : tie.Need-returns-then-x-lt0
 returns c =
     runs (bounds c.before) (sub (lit (pos 0)) (arg 0)) tt
-    ∙ below c.before.args.x (taken-< (bounds c.before) (arg 0) (lit (pos 0)) tt c.if1.true)
+    ∙ below c.before.args.x (taken-< (bounds c.before) (arg 0) (lit (pos 0)) tt c.if-x-lt0.true)
 
-returns-2 : tie.Need-returns-2
+returns-2 : tie.Need-returns-else-x-lt0
 returns-2 c =
-    runs (bounds c.before) (arg 0) tt ∙ nonneg_nat_abs c.before.args.x (left-< (bounds c.before) (arg 0) (lit (pos 0)) tt c.if1.false)
+    runs (bounds c.before) (arg 0) tt ∙ nonneg_nat_abs c.before.args.x (left-< (bounds c.before) (arg 0) (lit (pos 0)) tt c.if-x-lt0.false)
 
-pub abs-spec : {M : Type 1} → statement M
-abs-spec = tie.close (tie.spec sub-result returns returns-2)
+pub abs_spec : {M : Type 1} → statement M
+abs_spec = tie.close (tie.spec sub-result returns returns-2)

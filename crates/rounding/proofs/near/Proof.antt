@@ -27,21 +27,21 @@ bounds c = c.requires.0 ▹ c.requires.1 ▹ ends
 above_zero : {k : ℤ} → pos 1 ≤ℤ k → pos 0 <ℤ k
 above_zero h = omega (arith, zs)
 
-div-result : tie.Need-nonzero-div-result
+div-result : tie.Need-nonzero_div-result
 div-result c = (above (bounds c.before) (arg 1) tt (above_zero c.before.requires.2), fits (bounds c.before) (quo Less (arg 1)) tt)
 
-div-result-2 : tie.Need-nonzero-div-result-2
+div-result-2 : tie.Need-nonzero_div-result-else-n-lt0
 div-result-2 c = (above (bounds c.before) (arg 1) tt (above_zero c.before.requires.2), fits (bounds c.before) (quo More (arg 1)) tt)
 
-returns : tie.Need-returns
+returns : tie.Need-returns-then-n-lt0
 returns c =
     runs (bounds c.before) (quo Less (arg 1)) tt
-    ∙ near_below c.before.args.n c.before.args.k c.before.requires.2 (taken-< (bounds c.before) (arg 0) (lit (pos 0)) tt c.if1.true)
+    ∙ near_below c.before.args.n c.before.args.k c.before.requires.2 (taken-< (bounds c.before) (arg 0) (lit (pos 0)) tt c.if-n-lt0.true)
 
-returns-2 : tie.Need-returns-2
+returns-2 : tie.Need-returns-else-n-lt0
 returns-2 c =
     runs (bounds c.before) (quo More (arg 1)) tt
-    ∙ near_above c.before.args.n c.before.args.k c.before.requires.2 (left-< (bounds c.before) (arg 0) (lit (pos 0)) tt c.if1.false)
+    ∙ near_above c.before.args.n c.before.args.k c.before.requires.2 (left-< (bounds c.before) (arg 0) (lit (pos 0)) tt c.if-n-lt0.false)
 
-pub near-spec : {M : Type 1} → statement M
-near-spec = tie.close (tie.spec (λ c. (omega arith, fits (bounds c) Half tt)) (λ c. fits (bounds c.before) Less tt) div-result (λ c. fits (bounds c.before) More tt) div-result-2 returns returns-2)
+pub near_spec : {M : Type 1} → statement M
+near_spec = tie.close (tie.spec (λ c. (omega arith, fits (bounds c) Half tt)) (λ c. fits (bounds c.before) Less tt) div-result (λ c. fits (bounds c.before) More tt) div-result-2 returns returns-2)

@@ -13,9 +13,9 @@ near-requires c κs = (read-size c.args.n 4000000000000000000 c.requires tt, lit
 
 returns : tie.Need-returns
 returns c =
-    read_result c.near.result c.near.type-inv
+    read_result c.near.result c.near.type_inv
     ∙ c.near.ensures
     ∙ ap (λ (z : ℤ). near z (pos 100000000)) (read_back c.before.args.n c.before.requires tt)
 
-pub near-unit-spec : {M : Type 1} → statement M
-near-unit-spec = tie.close (tie.spec near-requires returns)
+pub near_unit_spec : {M : Type 1} → statement M
+near_unit_spec = tie.close (tie.spec near-requires returns)

@@ -8,5 +8,5 @@ use Rattle.rounding.proofs.near_unsigned.Tie as tie
 returns : tie.Need-returns
 returns c = sym (near-pos c.args.n c.args.k)
 
-pub near-unsigned-spec : {M : Type 1} → statement M
-near-unsigned-spec = tie.close (tie.spec (λ c. search rules) (λ c. search rules) (λ c. search rules) (λ c. search rules) returns)
+pub near_unsigned_spec : {M : Type 1} → statement M
+near_unsigned_spec = tie.close (tie.spec (λ c. search rules) (λ c. search rules) (λ c. search rules) (λ c. search rules) returns)

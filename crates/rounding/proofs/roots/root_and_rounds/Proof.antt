@@ -9,25 +9,25 @@ use Rattle.rounding.specs.laws.RoundsLaws.{rounds_leading, rounds_few, start, fi
 use Rattle.rounding.proofs.roots.root_and_rounds.Statement.{statement}
 use Rattle.rounding.proofs.roots.root_and_rounds.Tie as tie
 
-abbrev invariant-loop : tie.invariant-loop
+abbrev invariant-loop : tie.invariant-loop-i
 invariant-loop n rounds i₀ held₀ i held = Holds n i held.root held.rest
 
-abbrev decreases-loop : tie.decreases-loop
+abbrev decreases-loop : tie.decreases-loop-i
 decreases-loop n rounds i₀ held₀ i held = i
 
-loop-holds : tie.Need-loop-init invariant-loop decreases-loop
+loop-holds : tie.Need-loop-i-init invariant-loop decreases-loop
 loop-holds c = subst (λ (i : ℕ). Holds c.args.n i 0 0) (sym (rounds_leading c.args.n)) (start c.args.n (omega arith))
 
-round-requires : tie.Need-round-requires invariant-loop decreases-loop
+round-requires : tie.Need-round-held-requires invariant-loop decreases-loop
 round-requires c κs =
-    let l = c.before.loop in
+    let l = c.before.loop-i in
     let e : l.i ≡ l.i - 1 + 1 = omega arith in
     subst (λ (i : ℕ). Holds c.before.before.args.n i l.held.root l.held.rest) e l.invariant
 
 returns : tie.Need-returns invariant-loop decreases-loop
 returns c =
     let n = c.before.before.args.n in
-    let l = c.before.loop in
+    let l = c.before.loop-i in
     let none : l.i ≡ 0 = omega arith in
     record {
       stays =
@@ -37,5 +37,5 @@ returns c =
       few = λ h. omega (arith, rounds_leading n, rounds_few n h);
     }
 
-pub root-and-rounds-spec : {M : Type 1} → statement M
-root-and-rounds-spec = tie.close (tie.spec invariant-loop decreases-loop (λ c. omega (arith, leading_le 64 c.args.n)) loop-holds (λ c. omega arith) round-requires (λ c. omega arith) (λ c. c.round.ensures) returns)
+pub root_and_rounds_spec : {M : Type 1} → statement M
+root_and_rounds_spec = tie.close (tie.spec invariant-loop decreases-loop (λ c. omega (arith, leading_le 64 c.args.n)) loop-holds (λ c. omega arith) round-requires (λ c. omega arith) (λ c. c.round-held.ensures) returns)
