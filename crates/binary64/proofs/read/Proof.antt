@@ -6,7 +6,7 @@ use mathlib.Core.List.{[], ◌∷◌}
 use Prim.Native.Nat.{ℕ, ◌%◌, ◌/◌, ◌^◌, ◌≤◌, ◌<◌, min}
 use native.Mathlib.Omega.{arith}
 use borrow.Author.Rules.{rules}
-use borrow.Author.Tests.{le-leb, lt-leb, not_true, not_false}
+use borrow.Author.Tests.{le-leb, lt-leb, not-true, not-false}
 use lib.Dec.{T, leb}
 use lib.IntN.{ℤ, pos, neg_ℤ, ◌-ℤ◌, +ℤ_idl}
 use lib.Ieee.{binary64, fits, to_bits}
@@ -42,7 +42,7 @@ module _ (n : ℕ) (h : n < 2 ^ 63) where
 
 -- ---- at the places of the code
 known : (c : tie.Else1) → finite c.before.before.args.x ≡ true
-known c = sym c.before.is_finite.ensures ∙ not_false c.before.is_finite.result c.if1.false
+known c = sym c.before.is_finite.ensures ∙ not-false c.before.is_finite.result c.if1.false
 
 abbrev pattern : tie.After-size → ℕ
 pattern c = to_bits binary64 c.before.before.before.args.x
@@ -70,7 +70,7 @@ read_small c s h e =
 returns : tie.Need-returns
 returns c =
     let t = c.before.before in
-    sym (reading_none t.args.scale t.args.x (sym c.before.is_finite.ensures ∙ not_true c.before.is_finite.result c.if1.true))
+    sym (reading_none t.args.scale t.args.x (sym c.before.is_finite.ensures ∙ not-true c.before.is_finite.result c.if1.true))
 
 float-to-bits-bits : tie.Need-float-to-bits-bits
 float-to-bits-bits c = finite_no_nan c.before.before.args.x (known c)

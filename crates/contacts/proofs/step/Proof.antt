@@ -7,7 +7,7 @@ use mathlib.Core.List.{List}
 use mathlib.Core.Logic.{⊎_elim}
 use native.Mathlib.Omega.{arith}
 use borrow.Author.Rules.{rules}
-use borrow.Author.Tests.{not_true, not_false, eqb-true, eqb-false}
+use borrow.Author.Tests.{not-true, not-false, eqb-true, eqb-false}
 use lib.ListN.{length, get_or}
 use Rattle.run_length.specs.Runs.{decoded}
 use Rattle.contacts.specs.Entries.{side}
@@ -108,7 +108,7 @@ exited c =
       is-sure = omega (arith, f, w.0.left);
       walked = as-walk _ _;
       first = λ z. absurd (omega (arith, z, w.1.taken));
-      same = λ q. absurd (eqb-false _ _ (not_true _ w.3.taken) (sym (q ∙ f)));
+      same = λ q. absurd (eqb-false _ _ (not-true _ w.3.taken) (sym (q ∙ f)));
     })
     c.if2.branch
 
@@ -199,7 +199,7 @@ seconds-again c =
     let u = c.before.before.if2.false in
     let was = (turn o).seconds.was in
     let same : 0 < (turn o).seconds.second → o.run_at.result.state ≡ was =
-    λ p. ⊎_elim (λ w. eqb-true _ _ (not_false _ w.2.left)) (λ w. absurd (omega arith)) c.before.if4.branch in (
+    λ p. ⊎_elim (λ w. eqb-true _ _ (not-false _ w.2.left)) (λ w. absurd (omega arith)) c.before.if4.branch in (
       u,
       omega (arith, i.1),
       at_after _ _ _ _ i.2.stands _ h,

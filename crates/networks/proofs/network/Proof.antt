@@ -2,7 +2,7 @@
 use mathlib.Core.Path.{◌≡◌, refl}
 use mathlib.Core.Bool.{true, ◌&&◌}
 use borrow.Author.Rules.{rules}
-use borrow.Author.Tests.{not_true, not_false, eqb-true}
+use borrow.Author.Tests.{not-true, not-false, eqb-true}
 use lib.Dec.{eqb}
 use lib.ListN.{length}
 use Rattle.rounding.specs.laws.Tests.{both}
@@ -14,12 +14,12 @@ abbrev start : tie.Else1 → tie.Start
 start b = b.before.before.before
 
 right : (b : tie.Else1) → let a = (start b).args in (eqb (length a.eclipse.now) 25 && eqb (length a.steps.now) 64) ≡ true
-right b = not_false _ b.if1.false
+right b = not-false _ b.if1.false
 
 returns : tie.Need-returns
 returns c =
     let a = c.before.before.before.args in
-    λ l k. by-admitted a.eclipse.now l a.sines.now a.steps.now _ (other-shape _ l _ _ (not_true _ c.if1.true)) (by_refused _ refl)
+    λ l k. by-admitted a.eclipse.now l a.sines.now a.steps.now _ (other-shape _ l _ _ (not-true _ c.if1.true)) (by_refused _ refl)
 
 name-requires : tie.Need-name-requires
 name-requires c κs =

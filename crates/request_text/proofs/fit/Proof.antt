@@ -2,7 +2,7 @@
 use mathlib.Core.Path.{◌≡◌, sym, ap, ◌∙◌}
 use mathlib.Core.Bool.{Bool}
 use borrow.Author.Rules.{rules}
-use borrow.Author.Tests.{not_true, not_false}
+use borrow.Author.Tests.{not-true, not-false}
 use mir.Syntax.{w64}
 use mir.Val.{to_z, of_z}
 use Rattle.rounding.specs.laws.Code.{read_result}
@@ -22,11 +22,11 @@ tested : (c : tie.After-holds) (b : Bool) → c.holds.result ≡ b
 tested c b e = ap (holds c.before.before.args.width) (sym (same c.before)) ∙ sym c.holds.ensures ∙ e
 
 returns : tie.Need-returns
-returns c = fitted-out _ _ _ _ (tested c.before _ (not_true _ c.if1.true))
+returns c = fitted-out _ _ _ _ (tested c.before _ (not-true _ c.if1.true))
 
 returns-2 : tie.Need-returns-2
 returns-2 c =
-    ap (L.Given c.before.before.before.args.field) (same c.before.before) ∙ fitted-in _ _ _ _ (tested c.before _ (not_false _ c.if1.false))
+    ap (L.Given c.before.before.before.args.field) (same c.before.before) ∙ fitted-in _ _ _ _ (tested c.before _ (not-false _ c.if1.false))
 
 pub fit_spec : {M : Type 1} → statement M
 fit_spec = tie.close (tie.spec (λ c κs. search rules) (λ c κs. search rules) returns returns-2)

@@ -3,7 +3,7 @@
 use mathlib.Core.Path.{sym, ◌∙◌}
 use Prim.Native.Nat.{◌-◌}
 use borrow.Author.Rules.{rules}
-use borrow.Author.Tests.{not_true, not_false}
+use borrow.Author.Tests.{not-true, not-false}
 use lib.ListN.{length}
 use Rattle.tokens.specs.laws.TextLaws.{Ran, ran-none, ran-more, ran_out, ran-all}
 use Rattle.tokens.proofs.run.Statement.{statement}
@@ -18,12 +18,12 @@ decreases-loop s class n₀ n = length s - n
 returns : tie.Need-returns invariant-loop decreases-loop
 returns c =
     let inside = c.before.before.before in
-    ran_out _ _ _ inside.before.loop.invariant inside.loop-test.true (sym c.before.is-in.ensures ∙ not_true _ c.if1.true)
+    ran_out _ _ _ inside.before.loop.invariant inside.loop-test.true (sym c.before.is-in.ensures ∙ not-true _ c.if1.true)
 
 loop-again : tie.Need-loop-preserved invariant-loop decreases-loop
 loop-again c =
     let inside = c.before.before.before in
-    ran-more _ _ _ inside.before.loop.invariant inside.loop-test.true (sym c.before.is-in.ensures ∙ not_false _ c.if1.false)
+    ran-more _ _ _ inside.before.loop.invariant inside.loop-test.true (sym c.before.is-in.ensures ∙ not-false _ c.if1.false)
 
 returns-2 : tie.Need-returns-2 invariant-loop decreases-loop
 returns-2 c = ran-all _ _ _ c.before.loop.invariant c.loop-test.false

@@ -4,7 +4,7 @@ use mathlib.Core.Path.{◌≡◌, sym, ap, ap₂, ◌∙◌}
 use mathlib.Core.Bool.{Bool, true, ◌&&◌}
 use mathlib.Core.List.{[], ◌∷◌}
 use borrow.Author.Rules.{rules}
-use borrow.Author.Tests.{not_true, not_false}
+use borrow.Author.Tests.{not-true, not-false}
 use Rattle.rounding.specs.laws.Code.{Code, arg, sub, Within, whole, ends, ◌▹◌, fits, runs, within, read_result}
 use Rattle.besselian_rows.specs.declared.besselian.Row.{Row}
 use Rattle.besselian_rows.specs.Exact.{Gx, Gy, Gz, level, moon_distance, sun_distance, accepted}
@@ -34,13 +34,13 @@ sun-is c =
 
 -- after the first test, and after the second
 moon-held : (c : tie.Else1) → moon_distance (row c.before) ≡ true
-moon-held c = sym (moon-is c.before) ∙ not_false c.before.at-distance.result c.if1.false
+moon-held c = sym (moon-is c.before) ∙ not-false c.before.at-distance.result c.if1.false
 
 moon-holds : (c : tie.After-at-distance2) → moon_distance (row2 c) ≡ true
 moon-holds c = moon-held c.before.before.before.before
 
 sun-holds : (c : tie.Else2) → sun_distance (row2 c.before) ≡ true
-sun-holds c = sym (sun-is c.before) ∙ not_false c.before.at-distance2.result c.if2.false
+sun-holds c = sym (sun-is c.before) ∙ not-false c.before.at-distance2.result c.if2.false
 
 -- the axis: the Sun's coordinates less the Moon's
 module _ (c : tie.Else2) where
@@ -63,14 +63,14 @@ returns : tie.Need-returns
 unfolding accepted
 returns c =
     let p = row c.before in
-    let e = sym (moon-is c.before) ∙ not_true c.before.at-distance.result c.if1.true in
+    let e = sym (moon-is c.before) ∙ not-true c.before.at-distance.result c.if1.true in
     sym (ap (λ (s : Bool). s && (sun_distance p && level (Gx p) (Gy p) (Gz p))) e)
 
 returns-2 : tie.Need-returns-2
 unfolding accepted
 returns-2 c =
     let p = row2 c.before in
-    let e = sym (sun-is c.before) ∙ not_true c.before.at-distance2.result c.if2.true in
+    let e = sym (sun-is c.before) ∙ not-true c.before.at-distance2.result c.if2.true in
     sym (ap₂ (λ (s t : Bool). s && (t && level (Gx p) (Gy p) (Gz p))) (moon-holds c.before) e)
 
 sub-is-level-2 : tie.Need-overflow-sub-is-level-2

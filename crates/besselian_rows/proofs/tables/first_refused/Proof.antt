@@ -5,7 +5,7 @@ use Prim.Native.Nat.{ℕ, suc, ◌+◌, ◌-◌, ◌≤◌}
 use native.Mathlib.Omega.{arith}
 use native.Mathlib.Numerals.{add-one}
 use borrow.Author.Rules.{rules}
-use borrow.Author.Tests.{not_true, not_false}
+use borrow.Author.Tests.{not-true, not-false}
 use lib.IntN.{ℤ}
 use mathlib.Core.List.{List}
 use Rattle.besselian_rows.specs.Exact.{accepted}
@@ -30,7 +30,7 @@ returns c =
     let n = at.before.args.rows.now in
     let i = at.loop.i in
     let test = c.before.accepted in
-    let e = ap accepted (sym c.before.before.row_at.ensures) ∙ sym test.ensures ∙ not_true test.result c.if1.true in
+    let e = ap accepted (sym c.before.before.row_at.ensures) ∙ sym test.ensures ∙ not-true test.result c.if1.true in
     sym (at.loop.invariant.1 ∙ left n i (omega arith) ∙ refused-here n i (7 - (i + 1)) e)
 
 loop-again : tie.Need-loop-preserved invariant-loop decreases-loop
@@ -39,7 +39,7 @@ loop-again c =
     let n = at.before.args.rows.now in
     let i = at.loop.i in
     let test = c.before.accepted in
-    let e = ap accepted (sym c.before.before.row_at.ensures) ∙ sym test.ensures ∙ not_false test.result c.if1.false in (
+    let e = ap accepted (sym c.before.before.row_at.ensures) ∙ sym test.ensures ∙ not-false test.result c.if1.false in (
       omega arith,
       at.loop.invariant.1 ∙ left n i (omega arith) ∙ passed_here n i (7 - (i + 1)) e
           ∙ ap (λ (j : ℕ). first_refused n j (7 - (i + 1))) (sym (add-one i)),

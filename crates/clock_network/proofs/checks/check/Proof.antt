@@ -5,7 +5,7 @@ use mathlib.Core.List.{List}
 use Prim.Native.Nat.{◌≤◌, ◌<◌}
 use native.Mathlib.Omega.{arith}
 use borrow.Author.Rules.{rules}
-use borrow.Author.Tests.{not_true, not_false}
+use borrow.Author.Tests.{not-true, not-false}
 use lib.Dec.{leb}
 use lib.ListN.{length, get_or, take}
 use Rattle.requests.specs.Requests as Requests
@@ -37,7 +37,7 @@ module _ (c : tie.After-check-first) where
   eclipse = start.args.e
 
   sized : (1 ≤ held.count) × (held.count ≤ 64)
-  sized = size_in held.count (rw (not_false (leb 1 held.count && leb held.count 64) some.if1.left))
+  sized = size_in held.count (rw (not-false (leb 1 held.count && leb held.count 64) some.if1.left))
 
   module _ (l : List Node) (k : Holds held l) where
     low : 0 < length l
@@ -73,7 +73,7 @@ clocks-counted m =
     prefix-length clock_of (held a).nodes m.clocks.result (held a).count m.clocks.ensures (start a).pre (sized a).1
 
 returns : tie.Need-returns
-returns c = λ l k. sym (checked-size c.before.args.e l (rw (sym k.count) (not_true _ c.if1.true)))
+returns c = λ l k. sym (checked-size c.before.args.e l (rw (sym k.count) (not-true _ c.if1.true)))
 
 returns-2 : tie.Need-returns-2
 returns-2 c = λ l k.

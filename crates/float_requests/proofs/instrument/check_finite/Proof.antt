@@ -2,7 +2,7 @@
 use mathlib.Core.Path.{◌≡◌, sym, ap, ◌∙◌}
 use mathlib.Core.List.{List}
 use borrow.Author.Rules.{rules}
-use borrow.Author.Tests.{not_true, not_false}
+use borrow.Author.Tests.{not-true, not-false}
 use lib.Ieee.{Float}
 use lib.Ieee.Scale.{finite}
 use Rattle.sheet_types.specs.declared.refusals.Checked.TheVariants as C
@@ -33,13 +33,13 @@ returns-2 : tie.Need-returns-2
 returns-2 c =
     let w = c.before.before.before in
     let t = w.before.before.before.before.before in
-    sym (finite-longitude t.args.d t.args.longitude (none w) (sym (known c.before) ∙ not_true c.before.is_finite.result c.if1.true))
+    sym (finite-longitude t.args.d t.args.longitude (none w) (sym (known c.before) ∙ not-true c.before.is_finite.result c.if1.true))
 
 returns-3 : tie.Need-returns-3
 returns-3 c =
     let w = c.before.before.before in
     let t = w.before.before.before.before.before in
-    sym (finite-all t.args.d t.args.longitude (none w) (sym (known c.before) ∙ not_false c.before.is_finite.result c.if1.false))
+    sym (finite-all t.args.d t.args.longitude (none w) (sym (known c.before) ∙ not-false c.before.is_finite.result c.if1.false))
 
 pub check-finite-spec : {M : Type 1} → statement M
 check-finite-spec =

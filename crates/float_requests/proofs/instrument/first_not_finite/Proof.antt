@@ -4,7 +4,7 @@ use mathlib.Core.Path.{◌≡◌, refl, sym, ◌∙◌}
 use Prim.Native.Nat.{◌-◌, ◌≤◌}
 use native.Mathlib.Omega.{arith}
 use borrow.Author.Rules.{rules}
-use borrow.Author.Tests.{not_true, not_false}
+use borrow.Author.Tests.{not-true, not-false}
 use lib.ListN.{length, drop}
 use Rattle.float_requests.specs.Instrument.{first_not_finite}
 use Rattle.float_requests.specs.laws.SearchLaws.{search-found, search-on, search-end}
@@ -22,14 +22,14 @@ returns c =
     let found = c.before.is_finite in
     let at = c.before.before.before.before in
     let xs = at.before.before.args.xs.now in
-    sym (at.loop.invariant.1 ∙ search-found xs at.loop.i (omega arith) (sym found.ensures ∙ not_true found.result c.if1.true))
+    sym (at.loop.invariant.1 ∙ search-found xs at.loop.i (omega arith) (sym found.ensures ∙ not-true found.result c.if1.true))
 
 loop-again : tie.Need-loop-preserved invariant-loop decreases-loop
 loop-again c =
     let found = c.before.is_finite in
     let at = c.before.before.before.before in
     let xs = at.before.before.args.xs.now in
-    (omega arith, at.loop.invariant.1 ∙ search-on xs at.loop.i (omega arith) (sym found.ensures ∙ not_false found.result c.if1.false))
+    (omega arith, at.loop.invariant.1 ∙ search-on xs at.loop.i (omega arith) (sym found.ensures ∙ not-false found.result c.if1.false))
 
 returns-2 : tie.Need-returns-2 invariant-loop decreases-loop
 returns-2 c =

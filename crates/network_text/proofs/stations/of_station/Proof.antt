@@ -3,7 +3,7 @@
 use mathlib.Core.Path.{refl, sym, ap, ◌∙◌}
 use Prim.Native.Nat.{◌+◌, ◌-◌, ◌≤◌}
 use borrow.Author.Rules.{rules}
-use borrow.Author.Tests.{not_true, not_false}
+use borrow.Author.Tests.{not-true, not-false}
 use native.Mathlib.Omega.{arith}
 use lib.ListN.{length}
 use Rattle.rounding.specs.laws.Code.{read_back}
@@ -51,13 +51,13 @@ returns-2 : tie.Need-returns-2 invariant-loop decreases-loop
 returns-2 c =
     let a = c.before in
     let l = a.before.before in
-    rowed-more _ _ _ _ l.before.loop.invariant l.loop-test.false (sym a.all.ensures ∙ not_true _ c.if1.true)
+    rowed-more _ _ _ _ l.before.loop.invariant l.loop-test.false (sym a.all.ensures ∙ not-true _ c.if1.true)
 
 returns-3 : tie.Need-returns-3 invariant-loop decreases-loop
 returns-3 c =
     let a = c.before.before in
     let l = a.before.before in
-    ap T.Station c.node_of.ensures ∙ rowed-all _ _ _ _ l.before.loop.invariant l.loop-test.false (sym a.all.ensures ∙ not_false _ c.before.if1.false)
+    ap T.Station c.node_of.ensures ∙ rowed-all _ _ _ _ l.before.loop.invariant l.loop-test.false (sym a.all.ensures ∙ not-false _ c.before.if1.false)
 
 pub of-station-spec : {M : Type 1} → statement M
 of-station-spec =

@@ -6,7 +6,7 @@ use mathlib.Core.List.{List}
 use Prim.Native.Nat.{ℕ, ◌+◌, ◌-◌, ◌≤◌, ◌<◌}
 use native.Mathlib.Omega.{arith}
 use borrow.Author.Rules.{rules}
-use borrow.Author.Tests.{not_true, not_false}
+use borrow.Author.Tests.{not-true, not-false}
 use lib.IntN.{ℤ, pos}
 use lib.ListN.{length, get_or}
 use lib.Seq.{sets}
@@ -83,12 +83,12 @@ returns c =
     let h = c.before in
     let l = loop h.before in
     putting-unfit _ _ _ _ _ (start h.before).pre.0 l.loop.inv (short h.before.before.before)
-    (tested h.before _ (sym h.holds.ensures ∙ not_true _ c.if1.true))
+    (tested h.before _ (sym h.holds.ensures ∙ not-true _ c.if1.true))
 
 put-field-requires : tie.Need-put-field-requires invariant-loop decreases-loop
 put-field-requires c κs =
     let h = c.before.before in
-    (room h.before, sym h.holds.ensures ∙ not_false _ c.before.if1.false)
+    (room h.before, sym h.holds.ensures ∙ not-false _ c.before.if1.false)
 
 add-k : tie.Need-overflow-add-k invariant-loop decreases-loop
 add-k c = record { fits = omega (arith, c.before.before.before.before.before.before.before.before.loop-test.true) }
@@ -102,7 +102,7 @@ loop-again c =
     let h = p.before.before.before in
     let l = loop h.before in
     putting-more _ _ _ _ _ (start h.before).pre.0 l.loop.inv (short h.before.before.before) _ _
-    (tested h.before _ (sym h.holds.ensures ∙ not_false _ p.before.before.if1.false))
+    (tested h.before _ (sym h.holds.ensures ∙ not-false _ p.before.before.if1.false))
     (p.put-field.ensures.0 ∙ ap (λ (b : List ℕ). l.loop.at + length b) (bytes h.before))
     (p.put-field.ensures.1 ∙ ap (sets l.loop.out l.loop.at) (bytes h.before))
 

@@ -4,7 +4,7 @@ use mathlib.Core.Bool.{true}
 use Prim.Native.Nat.{ℕ, ◌+◌}
 use native.Mathlib.Omega.{arith}
 use borrow.Author.Rules.{rules}
-use borrow.Author.Tests.{not_true, not_false}
+use borrow.Author.Tests.{not-true, not-false}
 use Rattle.rounding.specs.laws.Code.{read_result}
 use Rattle.request_format.specs.Fields.{bytes_in}
 use Rattle.request_format.specs.laws.RowBytes.{kind_stands}
@@ -15,14 +15,14 @@ use Rattle.request_format.proofs.bytes.part_at.Tie as tie
 
 stands : (c : tie.Else1) → kind_stands c.before.before.before.args.field.4 c.before.before.before.args.s.now
     c.before.before.before.args.at ≡ true
-stands c = sym c.before.kind-stands.ensures ∙ not_false _ c.if1.false
+stands c = sym c.before.kind-stands.ensures ∙ not-false _ c.if1.false
 
 sum_is : (c : tie.After-bytes-in) → c.before.after-kind.result + c.bytes-in.result
     ≡ c.before.after-kind.result + bytes_in c.before.before.before.before.before.args.field.3
 sum_is c = ap (λ (n : ℕ). c.before.after-kind.result + n) c.bytes-in.ensures
 
 returns : tie.Need-returns
-returns c = part-other _ _ _ (sym c.before.kind-stands.ensures ∙ not_true _ c.if1.true)
+returns c = part-other _ _ _ (sym c.before.kind-stands.ensures ∙ not-true _ c.if1.true)
 
 add-next : tie.Need-overflow-add-next
 add-next c =

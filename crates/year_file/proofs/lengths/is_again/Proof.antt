@@ -2,7 +2,7 @@
 use Prim.Native.Nat.{◌-◌}
 use mathlib.Core.Path.{sym}
 use native.Mathlib.Omega.{arith}
-use borrow.Author.Tests.{not_false}
+use borrow.Author.Tests.{not-false}
 use Rattle.rounding.specs.laws.Tests.{distinct}
 use Rattle.year_file.specs.laws.Repeats.{Again, again_none}
 use borrow.Author.Rules.{rules}
@@ -33,7 +33,7 @@ returns-5 c =
       long = omega arith;
       same = c.same-before.ensures e;
       head = opens.before.if3.false;
-      opens = opens.opens-once.ensures (not_false _ c.before.if4.false);
+      opens = opens.opens-once.ensures (not-false _ c.before.if4.false);
     } in
     again_none file at (λ i. omega (arith, opens.before.before.shared-slice-known2.given i)) again (before.none (at - 5) (omega arith) (omega arith))
 

@@ -4,7 +4,7 @@ use Prim.Native.Nat.{◌-◌}
 use mathlib.Core.Path.{sym, ◌∙◌}
 use native.Mathlib.Omega.{arith}
 use borrow.Author.Rules.{rules}
-use borrow.Author.Tests.{not_true, not_false}
+use borrow.Author.Tests.{not-true, not-false}
 use lib.ListN.{length}
 use Rattle.request_text.specs.laws.FormLaws.{Fitting, form-short, fitting-start, fitting-not, fitting-more, fitting-all}
 use Rattle.request_text.proofs.instants.forms.has_form.Statement.{statement}
@@ -25,12 +25,12 @@ shared-slice-read-x c = omega (arith, c.before.before.before.loop.invariant.same
 returns-2 : tie.Need-returns-2 invariant-loop decreases-loop
 returns-2 c =
     let turn = c.before.before.before.before in
-    fitting-not _ _ _ turn.before.loop.invariant turn.loop-test.true (sym c.before.fits2.ensures ∙ not_true _ c.if2.true)
+    fitting-not _ _ _ turn.before.loop.invariant turn.loop-test.true (sym c.before.fits2.ensures ∙ not-true _ c.if2.true)
 
 loop-again : tie.Need-loop-preserved invariant-loop decreases-loop
 loop-again c =
     let turn = c.before.before.before.before in
-    fitting-more _ _ _ turn.before.loop.invariant turn.loop-test.true (sym c.before.fits2.ensures ∙ not_false _ c.if2.false)
+    fitting-more _ _ _ turn.before.loop.invariant turn.loop-test.true (sym c.before.fits2.ensures ∙ not-false _ c.if2.false)
 
 returns-3 : tie.Need-returns-3 invariant-loop decreases-loop
 returns-3 c = fitting-all _ _ _ c.before.loop.invariant c.loop-test.false
