@@ -7,7 +7,7 @@ ghost use Rattle.tokens.specs.Text.{is_in, run_of, all_of, start_of};
 ghost use Rattle.tokens.specs.Numbers.{capped, digit_after, appended, units_of};
 
 // What the bytes of a text are sorted by.
-#[derive(Drop)]
+#[derive(Clone, Copy)]
 pub enum Class {
     // all but the end of a line
     Line,

@@ -29,9 +29,11 @@ same-is Star Star e = refl
 pub once_in_eclipse : (φ : Phase) → Listed φ eclipse → times φ eclipse ≡ 1
 once_in_eclipse φ (inl e) = rw e
 once_in_eclipse φ (inr (inl e)) = rw e
+once_in_eclipse φ (inr (inr x)) = elim x [ ]
 
 pub once_in_star : (φ : Phase) → Listed φ star → times φ star ≡ 1
 once_in_star φ (inl e) = rw e
+once_in_star φ (inr x) = elim x [ ]
 
 pub state_of_code : (w : State) → state_of (code w) ≡ w
 state_of_code outside = refl
