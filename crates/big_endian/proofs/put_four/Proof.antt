@@ -6,8 +6,8 @@ use Rattle.big_endian.proofs.put_four.Statement.{statement}
 use Rattle.big_endian.proofs.put_four.Tie as tie
 
 returns : tie.Need-returns
-returns c = c.before.before.put-two2.ensures ∙ rw c.before.before.before.before.before.before.put_two.ensures (simp add-two)
+returns c = c.put_two-2.ensures ∙ rw c.put_two.ensures (simp add-two)
 
-pub put-four-spec : {M : Type 1} → statement M
-put-four-spec =
+pub put_four_spec : {M : Type 1} → statement M
+put_four_spec =
     tie.close (tie.spec (λ c κs. search rules) (λ c. search rules) (λ c κs. search rules) (λ c. search rules) returns)

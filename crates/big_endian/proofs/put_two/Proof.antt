@@ -9,8 +9,8 @@ use Rattle.big_endian.proofs.put_two.Tie as tie
 returns : tie.Need-returns
 returns c = rw add-one
 
-pub put-two-spec : {M : Type 1} → statement M
-put-two-spec =
+pub put_two_spec : {M : Type 1} → statement M
+put_two_spec =
     tie.close
     (tie.spec (λ c. search rules) (λ c. search rules) (λ c. search rules) (λ c. search rules)
     (λ c. simp length-set (omega arith)) (λ c. search rules) returns)

@@ -6,7 +6,7 @@ use Rattle.calendar.proofs.is_day.Tie as tie
 
 returns : tie.Need-returns
 unfolding is_day
-returns c = rw c.days-in.ensures
+returns c = rw c.days_in-last.ensures
 
-pub is-day-spec : {M : Type 1} → statement M
-is-day-spec = tie.close (tie.spec (λ c κs. search rules) returns)
+pub is_day_spec : {M : Type 1} → statement M
+is_day_spec = tie.close (tie.spec (λ c κs. search rules) returns)

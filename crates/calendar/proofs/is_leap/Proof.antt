@@ -8,5 +8,5 @@ returns : tie.Need-returns
 unfolding is_leap
 returns c = refl
 
-pub is-leap-spec : {M : Type 1} → statement M
-is-leap-spec = tie.close (tie.spec returns)
+pub is_leap_spec : {M : Type 1} → statement M
+is_leap_spec = tie.close (tie.spec returns)

@@ -4,15 +4,15 @@ use Rattle.run_length.specs.laws.RunsLaws.{pushed-longer, pushed-after}
 use Rattle.run_length.proofs.push.Statement.{statement}
 use Rattle.run_length.proofs.push.Tie as tie
 
-returns : tie.Need-returns
+returns : tie.Need-returns-then-seconds-le3839
 returns c =
-    let p = c.before.before.before.before.before.requires in
-    pushed-longer _ _ p.4 _ _ p.0 p.1 p.2 c.before.before.if1.true c.if2.true
+    let p = c.requires in
+    pushed-longer _ _ p.4 _ _ p.0 p.1 p.2 c.if-f-pair.true c.if-seconds-le3839.true
 
-returns-2 : tie.Need-returns-2
+returns-2 : tie.Need-returns
 returns-2 c =
-    let p = c.before.before.before.before.before.before.before.requires in
-    pushed-after _ _ p.4 _ _ p.0 p.1 p.2 c.before.before.write.ensures
+    let p = c.requires in
+    pushed-after _ _ p.4 _ _ p.0 p.1 p.2 c.write-next.ensures
 
 pub push_spec : {M : Type 1} → statement M
 push_spec = tie.close (tie.spec (λ c. search rules) returns (λ c κs. search rules) (λ c. search rules) returns-2)

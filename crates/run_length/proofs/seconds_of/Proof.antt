@@ -6,8 +6,8 @@ use Rattle.run_length.proofs.seconds_of.Statement.{statement}
 use Rattle.run_length.proofs.seconds_of.Tie as tie
 
 returns : tie.Need-returns
-returns c = let a = c.before.before.args in omega (arith, seconds-more a.high a.low c.before.before.requires)
+returns c = let a = c.args in omega (arith, seconds-more a.high a.low c.requires)
 
-pub seconds-of-spec : {M : Type 1} → statement M
-seconds-of-spec =
+pub seconds_of_spec : {M : Type 1} → statement M
+seconds_of_spec =
     tie.close (tie.spec (λ c κs. search rules) (λ c. search rules) (λ c. search rules) (λ c κs. search rules) (λ c. search rules) returns)

@@ -8,7 +8,7 @@ use Rattle.tokens.proofs.all.Statement.{statement}
 use Rattle.tokens.proofs.all.Tie as tie
 
 returns : tie.Need-returns
-returns c = ap (λ (k : ℕ). eqb k (length c.before.before.args.s.now)) c.run.ensures.0
+returns c = ap (λ (k : ℕ). eqb k (length c.args.s.now)) c.run.ensures.0
 
-pub all-spec : {M : Type 1} → statement M
-all-spec = tie.close (tie.spec (λ c κs. search rules) returns)
+pub all_spec : {M : Type 1} → statement M
+all_spec = tie.close (tie.spec (λ c κs. search rules) returns)

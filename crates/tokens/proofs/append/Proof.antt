@@ -6,22 +6,22 @@ use Rattle.tokens.specs.laws.NumberLaws.{Appended, append-start, append-more, ap
 use Rattle.tokens.proofs.append.Statement.{statement}
 use Rattle.tokens.proofs.append.Tie as tie
 
-abbrev invariant-loop : tie.invariant-loop
+abbrev invariant-loop : tie.invariant-loop-k
 invariant-loop n s digits total₀ k₀ total k = Appended n s digits total k
 
-abbrev decreases-loop : tie.decreases-loop
+abbrev decreases-loop : tie.decreases-loop-k
 decreases-loop n s digits total₀ k₀ total k = digits - k
 
-loop-again : tie.Need-loop-preserved invariant-loop decreases-loop
+loop-again : tie.Need-loop-k-preserved invariant-loop decreases-loop
 loop-again c =
     let inside = c.before.before in
-    append-more _ _ _ _ _ _ _ inside.before.loop.invariant inside.loop-test.true c.before.byte-or-zero.ensures c.with-digit.ensures
+    append-more _ _ _ _ _ _ _ inside.loop-k.invariant inside.loop-k-test.true c.byte_or_zero-x.ensures c.with_digit-total.ensures
 
 returns : tie.Need-returns invariant-loop decreases-loop
-returns c = append-all _ _ _ _ _ c.before.loop.invariant c.loop-test.false
+returns c = append-all _ _ _ _ _ c.loop-k.invariant c.loop-k-test.false
 
-pub append-spec : {M : Type 1} → statement M
-append-spec =
+pub append_spec : {M : Type 1} → statement M
+append_spec =
     tie.close
-    (tie.spec invariant-loop decreases-loop (λ c. append-start _ _ _ c.before.requires) (λ c κs. search rules)
-    (λ c κs. c.before.before.loop.invariant.2) (λ c. search rules) (λ c. search rules) loop-again returns)
+    (tie.spec invariant-loop decreases-loop (λ c. append-start _ _ _ c.requires) (λ c κs. search rules)
+    (λ c κs. c.before.before.loop-k.invariant.2) (λ c. search rules) (λ c. search rules) loop-again returns)

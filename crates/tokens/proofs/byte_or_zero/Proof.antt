@@ -6,11 +6,11 @@ use Rattle.tokens.specs.laws.TextLaws.{any_default}
 use Rattle.tokens.proofs.byte_or_zero.Statement.{statement}
 use Rattle.tokens.proofs.byte_or_zero.Tie as tie
 
-returns : tie.Need-returns
-returns c = any_default c.before.before.args.s.now _ 0 48 c.before.if1.true
+returns : tie.Need-returns-then-at-s
+returns c = any_default c.args.s.now _ 0 48 c.if-at-s.true
 
-returns-2 : tie.Need-returns-2
-returns-2 c = sym (get_or-eq_default c.before.args.s.now 48 c.if1.false)
+returns-2 : tie.Need-returns-else-at-s
+returns-2 c = sym (get_or-eq_default c.args.s.now 48 c.if-at-s.false)
 
-pub byte-or-zero-spec : {M : Type 1} → statement M
-byte-or-zero-spec = tie.close (tie.spec (λ c. search rules) returns returns-2)
+pub byte_or_zero_spec : {M : Type 1} → statement M
+byte_or_zero_spec = tie.close (tie.spec (λ c. search rules) returns returns-2)

@@ -8,13 +8,13 @@ use borrow.Author.Rules.{rules}
 use Rattle.tokens.proofs.is_whole.Statement.{statement}
 use Rattle.tokens.proofs.is_whole.Tie as tie
 
-returns : tie.Need-returns
-returns c = whole_short _ _ c.if1.true
+returns : tie.Need-returns-then-decimals-places
+returns c = whole_short _ _ c.if-decimals-places.true
 
-returns-2 : tie.Need-returns-2
+returns-2 : tie.Need-returns
 returns-2 c = c.all.ensures ∙ ap (all_of C.Zero)
-    (rest-is c.before.before.before.before.args.decimals.now c.before.before.before.before.args.places)
+    (rest-is c.args.decimals.now c.args.places)
 
-pub is-whole-spec : {M : Type 1} → statement M
-is-whole-spec =
+pub is_whole_spec : {M : Type 1} → statement M
+is_whole_spec =
     tie.close (tie.spec returns (λ c. search rules) (λ c. search rules) (λ c. search rules) (λ c κs. search rules) returns-2)

@@ -9,24 +9,24 @@ use Rattle.tokens.specs.laws.TextLaws.{Ran, ran-none, ran-more, ran_out, ran-all
 use Rattle.tokens.proofs.run.Statement.{statement}
 use Rattle.tokens.proofs.run.Tie as tie
 
-abbrev invariant-loop : tie.invariant-loop
+abbrev invariant-loop : tie.invariant-loop-n
 invariant-loop s class n₀ n = Ran class s n
 
-abbrev decreases-loop : tie.decreases-loop
+abbrev decreases-loop : tie.decreases-loop-n
 decreases-loop s class n₀ n = length s - n
 
-returns : tie.Need-returns invariant-loop decreases-loop
+returns : tie.Need-returns-then-not-is_in invariant-loop decreases-loop
 returns c =
     let inside = c.before.before.before in
-    ran_out _ _ _ inside.before.loop.invariant inside.loop-test.true (sym c.before.is-in.ensures ∙ not-true _ c.if1.true)
+    ran_out _ _ _ inside.loop-n.invariant inside.loop-n-test.true (sym c.is_in.ensures ∙ c.if-not-is_in.true)
 
-loop-again : tie.Need-loop-preserved invariant-loop decreases-loop
+loop-again : tie.Need-loop-n-preserved invariant-loop decreases-loop
 loop-again c =
     let inside = c.before.before.before in
-    ran-more _ _ _ inside.before.loop.invariant inside.loop-test.true (sym c.before.is-in.ensures ∙ not-false _ c.if1.false)
+    ran-more _ _ _ inside.loop-n.invariant inside.loop-n-test.true (sym c.is_in.ensures ∙ c.if-not-is_in.false)
 
-returns-2 : tie.Need-returns-2 invariant-loop decreases-loop
-returns-2 c = ran-all _ _ _ c.before.loop.invariant c.loop-test.false
+returns-2 : tie.Need-returns invariant-loop decreases-loop
+returns-2 c = ran-all _ _ _ c.loop-n.invariant c.loop-n-test.false
 
 pub run_spec : {M : Type 1} → statement M
 run_spec =

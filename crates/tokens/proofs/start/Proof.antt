@@ -6,18 +6,18 @@ use borrow.Author.Rules.{rules}
 use Rattle.tokens.proofs.start.Statement.{statement}
 use Rattle.tokens.proofs.start.Tie as tie
 
-returns : tie.Need-returns
-returns c = start-nil c.before.before.args.class c.before.before.args.s.now c.if1.true
+returns : tie.Need-returns-then-s-eq0
+returns c = start-nil c.args.class c.args.s.now c.if-s-eq0.true
 
-returns-2 : tie.Need-returns-2
+returns-2 : tie.Need-returns-then-is_in
 returns-2 c =
-    let args = c.before.before.before.before.before.args in
-    start-in args.class args.s.now (omega (arith, c.before.before.before.if1.false)) (sym c.before.is-in.ensures ∙ c.if2.true)
+    let args = c.args in
+    start-in args.class args.s.now (omega (arith, c.if-s-eq0.false)) (sym c.is_in.ensures ∙ c.if-is_in.true)
 
-returns-3 : tie.Need-returns-3
+returns-3 : tie.Need-returns-else-is_in
 returns-3 c =
-    let args = c.before.before.before.before.before.args in
-    start-out args.class args.s.now (omega (arith, c.before.before.before.if1.false)) (sym c.before.is-in.ensures ∙ c.if2.false)
+    let args = c.args in
+    start-out args.class args.s.now (omega (arith, c.if-s-eq0.false)) (sym c.is_in.ensures ∙ c.if-is_in.false)
 
 pub start_spec : {M : Type 1} → statement M
 start_spec = tie.close (tie.spec returns (λ c. search rules) (λ c κs. search rules) returns-2 returns-3)

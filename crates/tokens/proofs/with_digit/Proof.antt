@@ -7,12 +7,12 @@ use Rattle.tokens.specs.laws.NumberLaws.{capped_below, capped_above}
 use Rattle.tokens.proofs.with_digit.Statement.{statement}
 use Rattle.tokens.proofs.with_digit.Tie as tie
 
-returns : tie.Need-returns
-returns c = let d = c.before.digit-of.ensures in let t = c.if1.true in
-    (ap (λ (k : ℕ). 10 * c.before.before.args.n + k) d ∙ sym (capped_below _ (omega arith)), omega arith)
+returns : tie.Need-returns-then-longer-lt4294967296
+returns c = let d = c.digit_of.ensures in let t = c.if-longer-lt4294967296.true in
+    (ap (λ (k : ℕ). 10 * c.args.n + k) d ∙ sym (capped_below _ (omega arith)), omega arith)
 
-returns-2 : tie.Need-returns-2
-returns-2 c = let d = c.before.digit-of.ensures in let t = c.if1.false in (sym (capped_above _ (omega arith)), omega arith)
+returns-2 : tie.Need-returns-else-longer-lt4294967296
+returns-2 c = let d = c.digit_of.ensures in let t = c.if-longer-lt4294967296.false in (sym (capped_above _ (omega arith)), omega arith)
 
-pub with-digit-spec : {M : Type 1} → statement M
-with-digit-spec = tie.close (tie.spec (λ c. search rules) (λ c κs. search rules) (λ c. search rules) returns returns-2)
+pub with_digit_spec : {M : Type 1} → statement M
+with_digit_spec = tie.close (tie.spec (λ c. search rules) (λ c κs. search rules) (λ c. search rules) returns returns-2)

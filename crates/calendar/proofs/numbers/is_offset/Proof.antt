@@ -8,5 +8,5 @@ returns : tie.Need-returns
 unfolding is_offset
 returns c = refl
 
-pub is-offset-spec : {M : Type 1} → statement M
-is-offset-spec = tie.close (tie.spec returns)
+pub is_offset_spec : {M : Type 1} → statement M
+is_offset_spec = tie.close (tie.spec returns)

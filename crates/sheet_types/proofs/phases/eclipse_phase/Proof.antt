@@ -9,14 +9,14 @@ use Rattle.sheet_types.specs.Phases.{eclipse}
 use Rattle.sheet_types.proofs.phases.eclipse_phase.Statement.{statement}
 use Rattle.sheet_types.proofs.phases.eclipse_phase.Tie as tie
 
-one : (c : tie.Else1) → 1 ≡ c.before.args.k
-one c = omega (arith, c.before.requires, c.if1.false)
+one : (c : tie.Else-k-eq0) → 1 ≡ c.args.k
+one c = omega (arith, c.requires, c.if-k-eq0.false)
 
-returns : tie.Need-returns
+returns : tie.Need-returns-then-k-eq0
 returns c = search rules
 
-returns-2 : tie.Need-returns-2
+returns-2 : tie.Need-returns-else-k-eq0
 returns-2 c = ap (λ (k : ℕ). get_or eclipse k Penumbra) (one c)
 
-pub eclipse-phase-spec : {M : Type 1} → statement M
-eclipse-phase-spec = tie.close (tie.spec returns returns-2)
+pub eclipse_phase_spec : {M : Type 1} → statement M
+eclipse_phase_spec = tie.close (tie.spec returns returns-2)

@@ -6,7 +6,7 @@ use Rattle.sheet_types.proofs.refusals.of_ranges.Statement.{statement}
 use Rattle.sheet_types.proofs.refusals.of_ranges.Tie as tie
 
 returns : tie.Need-returns
-returns c = c.of-limits.ensures ∙ ap (of_limits _) c.before.first-out-of-range.ensures
+returns c = c.of_limits.ensures ∙ ap (of_limits _) c.first_out_of_range-limits.ensures
 
-pub of-ranges-spec : {M : Type 1} → statement M
-of-ranges-spec = tie.close (tie.spec (λ c κs. search rules) (λ c κs. search rules) returns)
+pub of_ranges_spec : {M : Type 1} → statement M
+of_ranges_spec = tie.close (tie.spec (λ c κs. search rules) (λ c κs. search rules) returns)
