@@ -18,7 +18,7 @@ use shadow::Sample;
 use station::Place;
 
 // What is known of all seconds.
-#[derive(Drop)]
+#[derive(Clone, Copy)]
 pub struct Known {
     // how many bytes their runs take
     pub count: usize,

@@ -25,7 +25,7 @@ fn size(x: i64) -> u64
 }
 
 // The chord from one shadow to another.
-#[derive(Drop)]
+#[derive(Clone, Copy)]
 pub struct Chord {
     // the square of its length
     pub square: u64,

@@ -12,7 +12,7 @@ use run_length::Filled;
 use shadow::Sample;
 
 // What is known of the seconds so far.
-#[derive(Drop)]
+#[derive(Clone, Copy)]
 pub struct Tally {
     // their states, as runs
     pub filled: Filled,

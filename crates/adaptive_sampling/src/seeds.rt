@@ -18,7 +18,7 @@ use shadow::{Offset, Sample};
 use station::Place;
 
 // A second of the window, counted from its first, and its M.
-#[derive(Drop)]
+#[derive(Clone, Copy)]
 pub struct Low {
     pub second: usize,
     pub m: i64,

@@ -3,7 +3,7 @@
 
 // A row of the tables: apparent places of the Sun and the Moon from the Earth's centre, 10^-8 of its equatorial radius,
 // right-handed, the third to the north pole. Any numbers; accepted is what document 02 says.
-#[derive(Drop)]
+#[derive(Clone, Copy)]
 pub struct Row {
     pub sunx: i64,
     pub suny: i64,
@@ -15,7 +15,7 @@ pub struct Row {
 
 // The radii of Sun and Moon, 10^-8 of the Earth's equatorial radius. Document 02 has 10,904,847,000 and 27,227,400
 // twice.
-#[derive(Drop)]
+#[derive(Clone, Copy)]
 pub struct Radii {
     // the Sun's: 10,890,000,000 to 10,930,000,000
     pub sun: u64,
@@ -26,7 +26,7 @@ pub struct Radii {
 }
 
 // The elements of one row.
-#[derive(Drop)]
+#[derive(Clone, Copy)]
 pub struct Besselian {
     // the Moon from the Earth's centre, across the axis: to the east and to the north, 10^-8 radius
     pub x: i64,

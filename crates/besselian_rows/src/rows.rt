@@ -81,7 +81,7 @@ pub fn accepted(p: crate::besselian::Row) -> bool
 // ---- the axis
 
 // The axis in thousands of units, and the squares of its lengths on the equator and whole.
-#[derive(Drop)]
+#[derive(Clone, Copy)]
 pub struct Axis {
     pub gx: i64,
     pub gy: i64,
@@ -126,7 +126,7 @@ pub fn find_axis(p: crate::besselian::Row) -> Axis
 }
 
 // The axis' lengths on the equator and whole, in thousands; cosine and sine of a, sine and cosine of d.
-#[derive(Drop)]
+#[derive(Clone, Copy)]
 pub struct Directions {
     pub r: u64,
     pub n: u64,
@@ -166,7 +166,7 @@ pub fn find_directions(p: crate::besselian::Row, a: Axis) -> Directions
 
 // ---- the Moon across and along the axis
 
-#[derive(Drop)]
+#[derive(Clone, Copy)]
 struct Plane {
     x: i64,
     y: i64,
@@ -197,7 +197,7 @@ fn find_plane(p: crate::besselian::Row, d: Directions) -> Plane
 // ---- the cones
 
 // A cone's tangent, and the two terms of l: z tan f and k/cos f.
-#[derive(Drop)]
+#[derive(Clone, Copy)]
 struct Cone {
     tangent: i64,
     slope: i64,

@@ -5,7 +5,7 @@ ghost use Rattle.rounding.specs.Value.{Value};
 ghost use Rattle.besselian_rows.specs.Wide.{number, not_negative, IsFloor, IsSquare, IsSum, Small};
 
 // high·10^12 + mid·10^6 + low, each part of either sign.
-#[derive(Drop)]
+#[derive(Clone, Copy)]
 pub struct Wide {
     pub high: i64,
     pub mid: i64,

@@ -7,7 +7,7 @@ ghost use Rattle.besselian_rows.specs.Tables.{rowAt, eight, first_refused, value
 use sheet_types::refusals::Refusal;
 
 // Whether the values were made.
-#[derive(Drop)]
+#[derive(Clone, Copy)]
 pub enum Answer {
     Made,
     // 10: not 42 numbers; 11: the first row, 0 to 6, that is not accepted; 4: a buffer shorter than 56 numbers, place
@@ -16,7 +16,7 @@ pub enum Answer {
 }
 
 // Whether each row is accepted, or the first that is not.
-#[derive(Drop)]
+#[derive(Clone, Copy)]
 pub enum Verdict {
     Whole,
     Refused(usize),

@@ -14,7 +14,7 @@ pub const DEGREE: u64 = 1_000_000;
 pub const RADIUS: u64 = 100_000_000;
 
 // What a double is in whole units.
-#[derive(Drop)]
+#[derive(Clone, Copy)]
 pub enum Reading {
     Units(i64),
     // 2^63 units or more, either way
@@ -24,7 +24,7 @@ pub enum Reading {
 }
 
 // A longitude as the instrument gives it, EAST positive.
-#[derive(Drop)]
+#[derive(Clone, Copy)]
 pub enum Longitude {
     Degrees(f64),
     // hours of time, each 15 degrees

@@ -8,14 +8,14 @@ ghost use Rattle.std.specs.Prelude.{◌≡◌};
 ghost use Rattle.calendar.specs.Calendar.{is_leap, days_in, is_day};
 
 // Ephemeris or universal time.
-#[derive(Drop)]
+#[derive(Clone, Copy)]
 pub enum Scale {
     Ephemeris,
     Universal,
 }
 
 // The date and time of τ = 0 in a scale, and what UTC needs beside them.
-#[derive(Drop)]
+#[derive(Clone, Copy)]
 pub struct Instant {
     pub year: u64, // 1583 to 9999, of the Gregorian calendar
     pub month: u64, // 1 to 12
@@ -26,7 +26,7 @@ pub struct Instant {
 }
 
 // The instant of a text or for a listing, if there is one.
-#[derive(Drop)]
+#[derive(Clone, Copy)]
 pub enum Reference {
     Nothing,
     At(Instant),

@@ -5,7 +5,7 @@ ghost use Rattle.calendar.specs.Numbers.{is_offset, scale_of, reference_of};
 use crate::{Instant, Reference, Scale};
 
 // The reference that six numbers are, or the place of the first wrong one.
-#[derive(Drop)]
+#[derive(Clone, Copy)]
 pub enum Numbered {
     Is(Reference),
     Wrong(usize),

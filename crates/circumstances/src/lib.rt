@@ -17,7 +17,7 @@ use sheet_types::refusals::{Checked, Refusal};
 use station::Place;
 
 // A sheet of that many bytes was written, or why there is none: 1, 2, 13, 3 or 4.
-#[derive(Drop)]
+#[derive(Clone, Copy)]
 pub enum Answer {
     Written(usize),
     Refused(Refusal),

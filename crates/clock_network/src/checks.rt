@@ -13,7 +13,7 @@ use sheet_types::refusals::{Checked, Refusal};
 use station::Station;
 
 // What all stations of the list look at.
-#[derive(Drop)]
+#[derive(Clone, Copy)]
 pub struct Eclipse {
     pub elements: elements::Elements,
     pub window: requests::windows::Window,

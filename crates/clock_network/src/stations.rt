@@ -7,7 +7,7 @@ ghost use Rattle.clock_network.specs.Nodes.{numbers_of, clocks_of};
 use station::Station;
 
 #[repr(C)]
-#[derive(Drop)]
+#[derive(Clone, Copy)]
 pub struct Node {
     pub station: Station,
     // Number of the station whose clock it follows; 0 is the antenna.
@@ -31,7 +31,7 @@ fn blank() -> Node
 }
 
 // A list's nodes, as many as fit, with the list's own length.
-#[derive(Drop)]
+#[derive(Clone, Copy)]
 pub struct Held {
     pub nodes: [Node; 64],
     pub count: usize,

@@ -75,7 +75,7 @@ fn next_steps(numbers: &[i64], clocks: &[i64], steps: &[u8], i: usize) -> u8
     steps[j] + 1
 }
 
-#[derive(Drop)]
+#[derive(Clone, Copy)]
 pub enum Ready {
     // A place without steps, and what its steps are.
     Found(usize, u8),

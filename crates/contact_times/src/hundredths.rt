@@ -14,7 +14,7 @@ ghost use Rattle.contact_times.specs.Sizes.{CrossingSizes};
 use sheet_types::phases::Phase;
 
 // One phase of a shadow at a station, under a guard.
-#[derive(Drop)]
+#[derive(Clone, Copy)]
 pub struct Crossing {
     pub axis: elements::Axis,
     // of the phase

@@ -20,7 +20,7 @@ use sheet_types::phases::Phase;
 use sheet_types::refusals::{Checked, Refusal};
 
 // The contact between two seconds of an occultation, or the refusal.
-#[derive(Drop)]
+#[derive(Clone, Copy)]
 pub enum OneContact {
     // hundredths of a second from the reference instant, the earlier first, -1,080,000 to 1,080,000
     Is(i64, i64),

@@ -7,7 +7,7 @@ ghost use Rattle.contact_times.specs.Sizes.{CrossingSizes};
 use crate::hundredths::Crossing;
 
 // Where a contact lies.
-#[derive(Drop)]
+#[derive(Clone, Copy)]
 pub enum Bracket {
     // between these two hundredths of a second from the reference instant, one outside and one inside
     Between(i64, i64),

@@ -3,7 +3,7 @@
 
 // Enter, leave, graze and open are the paper's words. An enter and a leave are contacts; a graze and an open claim
 // none. from, to: seconds of the window, 0 to its length less 1.
-#[derive(Drop)]
+#[derive(Clone, Copy)]
 pub enum Entry {
     // two sure seconds, from < to
     Enter { from: usize, to: usize },

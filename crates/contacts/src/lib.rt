@@ -12,14 +12,14 @@ ghost use Rattle.contacts.specs.Step.{At, Stepped};
 
 use crate::entries::Entry;
 
-#[derive(Drop)]
+#[derive(Clone, Copy)]
 pub struct Cursor {
     pub at: usize, // the second to look at next, 0 (at the start) to the window's length
     pub run: usize, // the place of its run in the bytes
     pub was: u8, // the state of the second before it; at the start, any
 }
 
-#[derive(Drop)]
+#[derive(Clone, Copy)]
 pub enum Next {
     // an entry, and the cursor after it
     Found(Entry, Cursor),

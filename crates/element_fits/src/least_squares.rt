@@ -6,7 +6,7 @@ ghost use Rattle.element_fits.specs.LeastSquares.{sum, first, second, third, cub
 ghost use Rattle.element_fits.specs.Sizes.{HourlySizes};
 
 // Values at the hours -3, -2, -1, 0, 1, 2, 3, in any unit: ±100,000,000,000.
-#[derive(Drop)]
+#[derive(Clone, Copy)]
 pub struct Hourly {
     pub v0: i64,
     pub v1: i64,

@@ -24,7 +24,7 @@ use rounding::Limits;
 use sheet_types::refusals::{Checked, Refusal};
 
 // The rows of the tables, at the hours -3 to 3.
-#[derive(Drop)]
+#[derive(Clone, Copy)]
 pub struct Rows {
     pub r0: besselian_rows::besselian::Row,
     pub r1: besselian_rows::besselian::Row,
@@ -37,7 +37,7 @@ pub struct Rows {
 
 // What one row gives to the fits: x, y, l1 and l2 in 10^-8 radius, the axis' declination and right ascension in 10^-6
 // degree.
-#[derive(Drop)]
+#[derive(Clone, Copy)]
 pub struct Hour {
     pub x: i64,
     pub y: i64,
@@ -48,7 +48,7 @@ pub struct Hour {
 }
 
 // The same of all rows, at the hours -3 to 3.
-#[derive(Drop)]
+#[derive(Clone, Copy)]
 pub struct Hours {
     pub h0: Hour,
     pub h1: Hour,
@@ -318,7 +318,7 @@ fn hour_angle(q: Quadratic, middle: i64) -> Quadratic
 
 // Six values at the seven hours, which are fitted. mu: the hour angle less 15 degrees an hour, from that of the
 // middle row.
-#[derive(Drop)]
+#[derive(Clone, Copy)]
 pub struct Columns {
     pub x: Hourly,
     pub y: Hourly,
@@ -382,7 +382,7 @@ fn fitted(c: Columns, middle: i64, tanf1: i64, tanf2: i64) -> Elements
 }
 
 // The columns of some rows, and the elements that are fitted to them.
-#[derive(Drop)]
+#[derive(Clone, Copy)]
 pub struct Fitting {
     pub columns: Columns,
     pub elements: Elements,
@@ -553,7 +553,7 @@ fn first_missed(c: Columns, tolerance: u64) -> Limits
 }
 
 // How far each fit is from its values at most, at any of the seven hours.
-#[derive(Drop)]
+#[derive(Clone, Copy)]
 pub struct Misfits {
     pub x: i64,
     pub y: i64,
@@ -586,14 +586,14 @@ fn misfits_of(c: Columns) -> Misfits
 // ---- the answer
 
 // Elements with their misfits.
-#[derive(Drop)]
+#[derive(Clone, Copy)]
 pub struct Fits {
     pub elements: Elements,
     pub misfits: Misfits,
 }
 
 // The elements, or why there are none.
-#[derive(Drop)]
+#[derive(Clone, Copy)]
 pub enum Answer {
     Made(Fits),
     // 10: not 42, 7 and 3 numbers 18: the tolerance is not 0 to 1,000, place 0 21: a radius, 0 to 2, or a sidereal

@@ -12,7 +12,7 @@ ghost use Rattle.elements.specs.Sizes.{CubicSizes, QuadraticSizes};
 
 // c0 + c1 t + c2 t^2 + c3 t^3 with t in hours: a length, 10^-8 of the Earth's equatorial radius.
 #[repr(C)]
-#[derive(Drop)]
+#[derive(Clone, Copy)]
 pub struct Cubic {
     // ±200,000,000
     pub c0: i64,
@@ -26,7 +26,7 @@ pub struct Cubic {
 
 // c0 + c1 t + c2 t^2 with t in hours: a length, or an angle in 10^-6 degree. Whose it is says the ranges.
 #[repr(C)]
-#[derive(Drop)]
+#[derive(Clone, Copy)]
 pub struct Quadratic {
     pub c0: i64,
     pub c1: i64,
@@ -35,7 +35,7 @@ pub struct Quadratic {
 
 // The axis of a shadow.
 #[repr(C)]
-#[derive(Drop)]
+#[derive(Clone, Copy)]
 pub struct Axis {
     // Where it meets the fundamental plane, to the east.
     pub x: Cubic,
@@ -49,7 +49,7 @@ pub struct Axis {
 
 // A cone about the axis.
 #[repr(C)]
-#[derive(Drop)]
+#[derive(Clone, Copy)]
 pub struct Cone {
     // Its radius in the fundamental plane. Penumbra: 50,000,000 to 60,000,000; ±100,000; ±10,000.
     // Central: ±5,000,000; ±100,000; ±10,000; below zero where the eclipse is total.
@@ -59,7 +59,7 @@ pub struct Cone {
 }
 
 #[repr(C)]
-#[derive(Drop)]
+#[derive(Clone, Copy)]
 pub struct Elements {
     pub axis: Axis,
     // l1 and tan f1
@@ -70,7 +70,7 @@ pub struct Elements {
 
 // The elements of a star's occultation: the shadow is a cylinder, and the star does not move.
 #[repr(C)]
-#[derive(Drop)]
+#[derive(Clone, Copy)]
 pub struct Star {
     // Where the axis meets the fundamental plane, to the east.
     pub x: Cubic,
@@ -85,7 +85,7 @@ pub struct Star {
 }
 
 // What the Moon hides.
-#[derive(Drop)]
+#[derive(Clone, Copy)]
 pub enum Body {
     Sun(Elements),
     Star(Star),

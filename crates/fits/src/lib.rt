@@ -12,7 +12,7 @@ ghost use Rattle.fits.specs.Conditions.{InRanges};
 use sheet_types::refusals::Refusal;
 
 // What is said of a proposed fit.
-#[derive(Drop)]
+#[derive(Clone, Copy)]
 pub enum Answer {
     Accepted,
     // 10: not four coefficients and seven tabulated values 18: the tolerance is not 0 to 1,000 units, place 0; the

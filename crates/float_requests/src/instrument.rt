@@ -12,7 +12,7 @@ use sheet_types::refusals::{Checked, Refusal};
 
 // The elements of an eclipse as doubles, in document 01's order, coefficients per hour. Their ranges are those of
 // their whole units.
-#[derive(Drop)]
+#[derive(Clone, Copy)]
 pub struct ElementDoubles {
     // x, Earth radii: ±2; ±1; ±0.001; ±0.0001
     pub x0: f64,

@@ -15,7 +15,7 @@ use requests::{Occultation, Request};
 use sheet_types::refusals::Checked;
 
 // What a sheet is asked for, as it was surveyed.
-#[derive(Drop)]
+#[derive(Clone, Copy)]
 pub struct Survey {
     pub elements: ElementDoubles,
     pub longitude: Longitude,

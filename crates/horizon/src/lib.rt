@@ -19,7 +19,7 @@ use shadow::Orientation;
 use sheet_types::refusals::{Checked, Refusal};
 
 // Where the Sun or the star stands.
-#[derive(Drop)]
+#[derive(Clone, Copy)]
 pub struct Horizon {
     // tenths of a degree, rounded down, -900 to 900
     pub altitude: i64,
@@ -30,7 +30,7 @@ pub struct Horizon {
 }
 
 // The horizon at one second, or why there is none.
-#[derive(Drop)]
+#[derive(Clone, Copy)]
 pub enum OneHorizon {
     Is(Horizon),
     Refused(Refusal),

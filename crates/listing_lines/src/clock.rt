@@ -15,7 +15,7 @@ use calendar::{Instant, Reference, Scale};
 use sheet_format::kinds::{Entry, Kind};
 
 // The scales in which times are printed.
-#[derive(Drop)]
+#[derive(Clone, Copy)]
 pub enum TimeScale {
     ET,
     UT,
@@ -23,7 +23,7 @@ pub enum TimeScale {
 }
 
 // Stored seconds that are shown as times.
-#[derive(Drop)]
+#[derive(Clone, Copy)]
 pub enum Seconds {
     // to the nearest tenth
     Moment(u32),
@@ -32,7 +32,7 @@ pub enum Seconds {
 }
 
 // What is printed of an altitude: nothing; or tenths of a degree above or below the horizon.
-#[derive(Drop)]
+#[derive(Clone, Copy)]
 pub enum Altitude {
     Nothing,
     Above(u64),
@@ -40,7 +40,7 @@ pub enum Altitude {
 }
 
 // What follows an entry's text: the line of the instant, or times.
-#[derive(Drop)]
+#[derive(Clone, Copy)]
 pub enum Shown {
     Nothing,
     InstantLine,

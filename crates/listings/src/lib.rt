@@ -19,14 +19,14 @@ use sheet_format::records::Record;
 use sheet_types::refusals::Refusal;
 
 // How many bytes a text has that was written, or why none was.
-#[derive(Drop)]
+#[derive(Clone, Copy)]
 pub enum Text {
     Written(usize),
     Refused(Refusal),
 }
 
 // The place after the lines of a sheet, and whether the body is below the horizon at every contact.
-#[derive(Drop)]
+#[derive(Clone, Copy)]
 struct Lines {
     end: usize,
     view: View,

@@ -12,14 +12,14 @@ use seconds::OneSecond;
 use sheet_format::kinds::Entry;
 
 // What an observer is told of: nothing, or an occultation.
-#[derive(Drop)]
+#[derive(Clone, Copy)]
 pub enum Sky {
     Nothing,
     Over(Occultation),
 }
 
 // Whether it is below the horizon at every contact so far: there was none; it was at all; it was not at one.
-#[derive(Drop)]
+#[derive(Clone, Copy)]
 pub enum View {
     Nothing,
     Below,

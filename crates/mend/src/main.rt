@@ -12,7 +12,7 @@ ghost use Rattle.mend.specs.Printed.{note_line, tooLong, output, error};
 use libc::{STDERR_FILENO, STDIN_FILENO, STDOUT_FILENO};
 
 // How many bytes of each buffer go out.
-#[derive(Drop)]
+#[derive(Clone, Copy)]
 struct Streams {
     // of the sheets' buffer, to standard output
     output: usize,

@@ -16,7 +16,7 @@ use request_text::{Found, Line, Noted};
 use tokens::Class;
 
 // Why a text is refused.
-#[derive(Drop)]
+#[derive(Clone, Copy)]
 pub enum Fault {
     // as a typed request is
     Typed(request_text::Fault),
@@ -25,14 +25,14 @@ pub enum Fault {
 }
 
 // What a word of a station's line is.
-#[derive(Drop)]
+#[derive(Clone, Copy)]
 pub enum Word {
     Is(i64),
     Faulty(Fault),
 }
 
 // What a line says.
-#[derive(Drop)]
+#[derive(Clone, Copy)]
 pub enum Told {
     // what it says in a typed request, of the elements and the window
     Request(Line),
@@ -42,14 +42,14 @@ pub enum Told {
 }
 
 // All numbers and stations; or the line, counted from 1, and its fault. A missing name has the line after the last.
-#[derive(Drop)]
+#[derive(Clone, Copy)]
 pub enum Typed {
     Network,
     Refused(usize, Fault),
 }
 
 // What a text gives, and its stations: the first 64, and how many there are.
-#[derive(Drop)]
+#[derive(Clone, Copy)]
 pub struct Reading {
     pub answer: Typed,
     pub held: Held,

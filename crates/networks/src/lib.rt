@@ -16,7 +16,7 @@ use clock_network::stations::Held;
 use sheet_types::refusals::{Checked, Refusal};
 
 // The number of the station whose first enter comes first, 0 for none, or why the list has no answer.
-#[derive(Drop)]
+#[derive(Clone, Copy)]
 pub enum Answer {
     Named(u64),
     Refused(Refusal),

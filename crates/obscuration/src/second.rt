@@ -12,7 +12,7 @@ use seconds::OneSecond;
 use sheet_types::refusals::Refusal;
 
 // The covered share of the Sun's disc at one second, or why there is none.
-#[derive(Drop)]
+#[derive(Clone, Copy)]
 pub enum OneShare {
     // millionths, 0 to 1,000,000
     Is(u32),

@@ -8,7 +8,7 @@ pub const OUTPUT: i32 = 1;
 pub const ERROR: i32 = 2;
 
 // The text of a program that writes to one of its outputs.
-#[derive(Drop)]
+#[derive(Clone, Copy)]
 pub struct Text {
     // which output it goes to
     pub descriptor: i32,

@@ -22,21 +22,21 @@ pub fn length_of(shape: Shape) -> usize
 }
 
 // Whether the numbers were put; or the first that its bytes do not hold, counted from 0.
-#[derive(Drop)]
+#[derive(Clone, Copy)]
 pub enum Answer {
     Done,
     Unfit(usize),
 }
 
 // Whether the bytes have the shape of a request's.
-#[derive(Drop)]
+#[derive(Clone, Copy)]
 pub enum Got {
     Numbers,
     Misshaped,
 }
 
 // The number of a field, and the place after it.
-#[derive(Drop)]
+#[derive(Clone, Copy)]
 enum Part {
     Is(i64, usize),
     Misshaped,

@@ -6,7 +6,7 @@ ghost use Rattle.request_format.specs.Rows.{row_in, rowAt};
 ghost use Rattle.request_format.specs.laws.Table.{tables, width_from, name_from, field_from, fields_in};
 
 // What a request asks about: an eclipse, or a star behind the Moon.
-#[derive(Drop)]
+#[derive(Clone, Copy)]
 pub enum Shape {
     Eclipse,
     Star,
@@ -22,7 +22,7 @@ pub const STAR_COUNT: usize = 21;
 pub const STAR_LENGTH: usize = 79;
 
 // The bytes of a number.
-#[derive(Drop)]
+#[derive(Clone, Copy)]
 pub enum Width {
     Unsigned2,
     Signed2,

@@ -10,14 +10,14 @@ use requests::{Occultation, Request};
 use sheet_types::refusals::Refusal;
 
 // What the bytes of an eclipse hold, or the refusal of their shape.
-#[derive(Drop)]
+#[derive(Clone, Copy)]
 pub enum Input {
     Is(Request),
     Refused(Refusal),
 }
 
 // What a sheet is asked for, or the refusal of the bytes' shape.
-#[derive(Drop)]
+#[derive(Clone, Copy)]
 pub enum Asked {
     Is(Occultation),
     Refused(Refusal),

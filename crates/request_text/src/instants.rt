@@ -11,7 +11,7 @@ use calendar::{Instant, Reference, Scale};
 use tokens::Class;
 
 // What words are read as.
-#[derive(Drop)]
+#[derive(Clone, Copy)]
 pub enum Reading {
     Is(Instant),
     // no date and time
@@ -19,7 +19,7 @@ pub enum Reading {
 }
 
 // Why a line that names the instant or TAI-UTC is refused.
-#[derive(Drop)]
+#[derive(Clone, Copy)]
 pub enum Wrong {
     // the instant is no date and time
     Malformed,
@@ -34,7 +34,7 @@ pub enum Wrong {
 }
 
 // What a text says of TAI-UTC: nothing; the line, counted from 1, and the seconds; or the first line at fault.
-#[derive(Drop)]
+#[derive(Clone, Copy)]
 pub enum Offset {
     None,
     Is(usize, u64),
@@ -42,7 +42,7 @@ pub enum Offset {
 }
 
 // What a text says of the instant: one or none; or the first line at fault, counted from 1, and the fault.
-#[derive(Drop)]
+#[derive(Clone, Copy)]
 pub enum Told {
     Is(Reference),
     Refused(usize, Wrong),

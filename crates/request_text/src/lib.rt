@@ -20,7 +20,7 @@ use request_format::fields::{COUNT, STAR_COUNT, Shape, Width};
 use tokens::{Class, Units};
 
 // Why a text is refused. A field is counted from 0, in the order of the request's numbers (`request_fields`).
-#[derive(Drop)]
+#[derive(Clone, Copy)]
 pub enum Fault {
     // a name that no field has
     Unknown,
@@ -37,7 +37,7 @@ pub enum Fault {
 }
 
 // What a line says.
-#[derive(Drop)]
+#[derive(Clone, Copy)]
 pub enum Line {
     // nothing, or a comment alone
     Nothing,
@@ -47,21 +47,21 @@ pub enum Line {
 }
 
 // The field that a line names, and how long the name is.
-#[derive(Drop)]
+#[derive(Clone, Copy)]
 pub enum Found {
     At(usize, usize),
     Nowhere,
 }
 
 // Whether a line was taken.
-#[derive(Drop)]
+#[derive(Clone, Copy)]
 pub enum Noted {
     Taken,
     Refused(Fault),
 }
 
 // All numbers; or the line, counted from 1, and its fault. A missing name has the line after the last.
-#[derive(Drop)]
+#[derive(Clone, Copy)]
 pub enum Typed {
     Numbers,
     Refused(usize, Fault),

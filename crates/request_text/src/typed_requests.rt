@@ -18,7 +18,7 @@ use request_format::fields::LENGTH;
 pub const MESSAGE: usize = 65_623;
 
 // What a text is.
-#[derive(Drop)]
+#[derive(Clone, Copy)]
 pub enum Answer {
     // a request of so many bytes, and its instant, if it has one
     Request(usize, Reference),
@@ -27,7 +27,7 @@ pub enum Answer {
 }
 
 // Why a text is no request.
-#[derive(Drop)]
+#[derive(Clone, Copy)]
 pub enum Reason {
     // it has more than 65,536 bytes
     TooLong,
@@ -38,7 +38,7 @@ pub enum Reason {
 }
 
 // What a text is: a request of so many bytes and its instant, if it has one; or the first reason why it is none.
-#[derive(Drop)]
+#[derive(Clone, Copy)]
 pub enum Outcome {
     Request(usize, Reference),
     Refused(Reason),

@@ -14,7 +14,7 @@ use elements::Body;
 use sheet_types::refusals::{Checked, Refusal};
 
 // What the sheet of an eclipse is asked for: any numbers.
-#[derive(Drop)]
+#[derive(Clone, Copy)]
 pub struct Request {
     pub elements: elements::Elements,
     pub station: station::Station,
@@ -26,7 +26,7 @@ pub struct Request {
 }
 
 // What the sheet of a star is asked for: any numbers. It has no share.
-#[derive(Drop)]
+#[derive(Clone, Copy)]
 pub struct StarRequest {
     pub star: elements::Star,
     pub station: station::Station,
@@ -36,7 +36,7 @@ pub struct StarRequest {
 }
 
 // What the Moon hides, where and when: of an eclipse or of a star.
-#[derive(Drop)]
+#[derive(Clone, Copy)]
 pub struct Occultation {
     pub body: Body,
     pub station: station::Station,

@@ -5,7 +5,7 @@ ghost use Rattle.requests.specs.Windows.{in_span, window_holds, second_count, nt
 ghost use Rattle.requests.specs.WindowLaws.{WindowHolds};
 
 // First and last second of the window, from the reference instant: -10,800 ≤ first ≤ last ≤ 10,800.
-#[derive(Drop)]
+#[derive(Clone, Copy)]
 pub struct Window {
     pub first: i64,
     pub last: i64,

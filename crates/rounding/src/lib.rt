@@ -68,7 +68,7 @@ pub fn abs(x: i64) -> i64
 }
 
 // Whether each of several numbers is in its range, or the place of the first that is not, counted from 0.
-#[derive(Drop)]
+#[derive(Clone, Copy)]
 pub enum Limits {
     InRange,
     OutOfRange(usize),

@@ -3,7 +3,7 @@ ghost use Rattle.std.specs.Prelude.{◌+◌};
 ghost use Rattle.rounding.specs.Rounds.{Holds, Reported};
 
 // The state of the loop.
-#[derive(Drop)]
+#[derive(Clone, Copy)]
 struct Held {
     // root of the bits taken in so far, below 2^32
     root: u64,
@@ -11,7 +11,7 @@ struct Held {
     rest: u64,
 }
 
-#[derive(Drop)]
+#[derive(Clone, Copy)]
 pub struct Root {
     pub root: u64,
     // 0 to 32

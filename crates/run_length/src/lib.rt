@@ -6,7 +6,7 @@ ghost use Rattle.std.specs.Prelude.{◌≡◌, ◌+◌, ◌≤◌, ◌<◌, leng
 ghost use Rattle.run_length.specs.Runs.{state_in, seconds_of, Whole, RunAt, Ends, Written, Pushed};
 
 // A run as one phase sees it.
-#[derive(Drop)]
+#[derive(Clone, Copy)]
 pub struct Run {
     pub state: u8, // 0 outside, 1 inside, any other unsure
     pub seconds: usize, // at least 1
@@ -14,7 +14,7 @@ pub struct Run {
 }
 
 // The runs so far: those that are stored, and the last, which is not stored yet since it may get longer.
-#[derive(Drop)]
+#[derive(Clone, Copy)]
 pub struct Filled {
     pub count: usize, // how many bytes the stored ones take
     pub pair: u8, // the states of the last

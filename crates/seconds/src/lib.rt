@@ -16,7 +16,7 @@ use requests::Occultation;
 use sheet_types::refusals::{Checked, Refusal};
 
 // All of one second, or why there is none.
-#[derive(Drop)]
+#[derive(Clone, Copy)]
 pub enum OneSecond {
     Is(shadow::Second),
     Refused(Refusal),

@@ -16,7 +16,7 @@ ghost use Rattle.shadow.specs.Shadow.{IsOrientation, OrientationSizes, AreCoordi
 ghost use Rattle.shadow.specs.Second.{ShadowSizes, StatesOf, IsSecond, magnitude_at};
 
 // How the shadow's axis stands to the station's meridian: sines and cosines of H and d, 10^-8, each ±100,000,000.
-#[derive(Drop)]
+#[derive(Clone, Copy)]
 pub struct Orientation {
     // sin H
     pub hsine: i64,
@@ -29,7 +29,7 @@ pub struct Orientation {
 }
 
 // The station's coordinates in the fundamental system, 10^-8 of the Earth's equatorial radius.
-#[derive(Drop)]
+#[derive(Clone, Copy)]
 pub struct Coordinates {
     // ξ, to the east, ±101,000,000
     pub xi: i64,
@@ -40,7 +40,7 @@ pub struct Coordinates {
 }
 
 // The shadow's axis from the station, the same unit.
-#[derive(Drop)]
+#[derive(Clone, Copy)]
 pub struct Offset {
     // u, to the east, ±602,170,000
     pub u: i64,
@@ -53,7 +53,7 @@ pub struct Offset {
 }
 
 // The shadow at the station, the same unit.
-#[derive(Drop)]
+#[derive(Clone, Copy)]
 pub struct Shadow {
     // u, the axis from the station, to the east, ±602,170,000
     pub u: i64,
@@ -68,7 +68,7 @@ pub struct Shadow {
 }
 
 // The states of a second of an eclipse.
-#[derive(Drop)]
+#[derive(Clone, Copy)]
 pub struct States {
     // of the penumbra: 0 outside, 1 inside, 2 unsure
     pub penumbra: u8,
@@ -79,7 +79,7 @@ pub struct States {
 }
 
 // The shadow at a second in its phases, of an eclipse or of a star, the same unit.
-#[derive(Drop)]
+#[derive(Clone, Copy)]
 pub struct Sample {
     // u, the axis from the station, to the east, ±602,170,000
     pub u: i64,
@@ -94,7 +94,7 @@ pub struct Sample {
 }
 
 // All that is said of a second of an eclipse; of a star's too, whose one phase stands for both.
-#[derive(Drop)]
+#[derive(Clone, Copy)]
 pub struct Second {
     // a star's: v ±703,170,000, L1 and L2 both the Moon's radius, 27,200,000 to 27,300,000
     pub shadow: Shadow,

@@ -12,7 +12,7 @@ use sheet_rules::rules::{FieldRule, OrderRule};
 use sheet_types::refusals::Refusal;
 
 // How many entries a sheet has, head and end among them, and how many bytes.
-#[derive(Drop)]
+#[derive(Clone, Copy)]
 pub enum Extent {
     Sheet { entries: usize, length: usize },
     Refused(Refusal),

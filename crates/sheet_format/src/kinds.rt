@@ -10,7 +10,7 @@ use sheet_types::phases::Phase;
 // The kinds of the table. Enter, leave, graze, open and closest are document 01's words. A new kind is a case here and
 // a row of `table` and `kinds`, and in the code an arm of `kind_for`, `code_of`, `widths_of`, `size_of`, `stage_of`,
 // `is_end`, of the fields in `records` and of the crate `rules`.
-#[derive(Drop)]
+#[derive(Clone, Copy)]
 pub enum Kind {
     Head,
     Enter(Phase),
@@ -32,7 +32,7 @@ pub enum Kind {
 //   end           none
 // The kind stands between the first two numbers, so that no two of them are loaded as one right after they were stored
 // apart.
-#[derive(Drop)]
+#[derive(Clone, Copy)]
 pub struct Entry {
     pub a: u32,
     pub kind: Kind,
@@ -42,7 +42,7 @@ pub struct Entry {
 }
 
 // How many bytes a field has.
-#[derive(Drop)]
+#[derive(Clone, Copy)]
 pub enum Width {
     Absent,
     Two,
@@ -50,7 +50,7 @@ pub enum Width {
 }
 
 // The widths of an entry's four fields.
-#[derive(Drop)]
+#[derive(Clone, Copy)]
 pub struct Widths {
     pub a: Width,
     pub b: Width,
@@ -59,7 +59,7 @@ pub struct Widths {
 }
 
 // What a kind's number names.
-#[derive(Drop)]
+#[derive(Clone, Copy)]
 pub enum Named {
     Is(Kind),
     Unknown,
@@ -67,7 +67,7 @@ pub enum Named {
 
 // The stages of a sheet in their order: nothing yet, then head, the phases by time, closest, the share if there is
 // one, end. `StarClosest` is closest after an entry of a star, where no share may come.
-#[derive(Drop)]
+#[derive(Clone, Copy)]
 pub enum Stage {
     Start,
     Head,
@@ -79,7 +79,7 @@ pub enum Stage {
 }
 
 // What an entry says of the shadow's edge: an enter and a leave cross it.
-#[derive(Drop)]
+#[derive(Clone, Copy)]
 pub enum Crossing {
     Neither,
     Enter,
@@ -87,7 +87,7 @@ pub enum Crossing {
 }
 
 // How far a sheet has come, as far as its rules ask. The order of the fields is for speed, as an entry's.
-#[derive(Drop)]
+#[derive(Clone, Copy)]
 pub struct Progress {
     // the window, stored seconds: the first; the last entry's stage; the last
     pub first: u32,

@@ -7,21 +7,21 @@ use crate::kinds::Entry;
 use sheet_types::refusals::Refusal;
 
 // The byte at a place.
-#[derive(Drop)]
+#[derive(Clone, Copy)]
 pub enum Byte {
     Is(u32),
     Past,
 }
 
 // The entry of a body, if the input does not end inside it.
-#[derive(Drop)]
+#[derive(Clone, Copy)]
 pub enum Body {
     Is(Entry),
     Cut,
 }
 
 // What one record gives: its entry and the place after it.
-#[derive(Drop)]
+#[derive(Clone, Copy)]
 pub enum Record {
     Is(Entry, usize),
     Refused(Refusal),

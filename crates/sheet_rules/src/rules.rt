@@ -10,14 +10,14 @@ use sheet_format::kinds::{Crossing, Entry, Kind, Progress, Stage};
 use sheet_types::phases::Phase;
 
 // Whether an entry keeps the order of a sheet: refusal 8 where it does not.
-#[derive(Drop)]
+#[derive(Clone, Copy)]
 pub enum OrderRule {
     Kept,
     Broken,
 }
 
 // Whether an entry's fields keep their rules: refusal 7 where they do not.
-#[derive(Drop)]
+#[derive(Clone, Copy)]
 pub enum FieldRule {
     Kept,
     Broken,

@@ -4,7 +4,7 @@ ghost use Rattle.rounding.specs.Limits.{first_out_of_range, rows};
 ghost use Rattle.sheet_types.specs.Refusals.{of_limits};
 
 // A row of document 01's table of refusals, or one that document 02 adds.
-#[derive(Drop)]
+#[derive(Clone, Copy)]
 pub struct Refusal {
     // its number there
     pub number: u32,
@@ -13,7 +13,7 @@ pub struct Refusal {
 }
 
 // Whether some numbers are within their limits.
-#[derive(Drop)]
+#[derive(Clone, Copy)]
 pub enum Checked {
     Within,
     Refused(Refusal),

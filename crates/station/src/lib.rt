@@ -9,7 +9,7 @@ ghost use Rattle.station.specs.Sizes.{StationSizes};
 ghost use Rattle.station.specs.Place.{C, ephemeris_longitude, place_of};
 
 #[repr(C)]
-#[derive(Drop)]
+#[derive(Clone, Copy)]
 pub struct Station {
     // Number, 1 to 999.
     pub number: i64,
@@ -24,7 +24,7 @@ pub struct Station {
 }
 
 // Where the station stands in the Earth, and the constant part of its hour angle.
-#[derive(Drop)]
+#[derive(Clone, Copy)]
 pub struct Place {
     // R: distance from the Earth's axis, 10^-8 of the equatorial radius, ρ cos φ', ±101,000,000.
     pub r: i64,

@@ -14,7 +14,7 @@ ghost use Rattle.stream.specs.Unwritten.{unwritten_line};
 use libc::{STDERR_FILENO, STDIN_FILENO, STDOUT_FILENO};
 
 // How many requests were answered, in how many bytes; whether to go on.
-#[derive(Drop)]
+#[derive(Clone, Copy)]
 struct Place {
     count: usize,
     bytes: usize,
@@ -22,7 +22,7 @@ struct Place {
 }
 
 // What goes out for a request, and the place after it.
-#[derive(Drop)]
+#[derive(Clone, Copy)]
 struct Next {
     // bytes of the sheet's buffer, to standard output
     output: usize,

@@ -12,7 +12,7 @@ use request_format::fields::{LENGTH, STAR_LENGTH};
 use sheet_types::refusals::Refusal;
 
 // What goes out for a request, and whether another may follow.
-#[derive(Drop)]
+#[derive(Clone, Copy)]
 pub struct Answered {
     // bytes of the sheet's buffer, to standard output
     pub output: usize,

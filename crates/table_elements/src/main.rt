@@ -18,7 +18,7 @@ use libc::{STDERR_FILENO, STDIN_FILENO, STDOUT_FILENO};
 use tokens::Class;
 
 // How far a text was read, and how many bytes its tables take.
-#[derive(Drop)]
+#[derive(Clone, Copy)]
 pub enum Extent {
     Whole {
         output: usize,
@@ -32,7 +32,7 @@ pub enum Extent {
 }
 
 // How many bytes go to standard output, and to standard error.
-#[derive(Drop)]
+#[derive(Clone, Copy)]
 struct Streams {
     output: usize,
     error: usize,

@@ -8,7 +8,7 @@ ghost use Rattle.table_elements.specs.ReadingLaws.{answer_of, line_with, fault_o
 use tokens::Class;
 
 // Why a text is refused.
-#[derive(Drop)]
+#[derive(Clone, Copy)]
 pub enum Fault {
     // of a word
     NotWhole,
@@ -20,14 +20,14 @@ pub enum Fault {
     Unfinished,
 }
 
-#[derive(Drop)]
+#[derive(Clone, Copy)]
 pub enum Number {
     Is(i64),
     Faulty(Fault),
 }
 
 // What a line says.
-#[derive(Drop)]
+#[derive(Clone, Copy)]
 pub enum Line {
     Nothing,
     // six numbers
@@ -36,7 +36,7 @@ pub enum Line {
 }
 
 // Where a word begins and ends; the same place where there is none.
-#[derive(Drop)]
+#[derive(Clone, Copy)]
 struct Word {
     from: usize,
     end: usize,

@@ -25,7 +25,7 @@ pub enum Class {
 }
 
 // A number of units without its sign, at most 4,294,967,296, which stands for all above; or why it is none.
-#[derive(Drop)]
+#[derive(Clone, Copy)]
 pub enum Units {
     Is(usize),
     NotNumber,

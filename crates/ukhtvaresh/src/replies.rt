@@ -16,7 +16,7 @@ ghost use Rattle.ukhtvaresh.specs.NetworkReply.{network_reply};
 ghost use Rattle.ukhtvaresh.specs.Typed.{typed_reply};
 
 // What a caller gets.
-#[derive(Drop)]
+#[derive(Clone, Copy)]
 pub struct Reply {
     // number of the refusal, 1 to 10, of tables 11 too, of doubles 12, of a star 13, of a network 14, 15, 16, 19, of a
     // fit 17, 18, of elements from rows 21 too, of a contact 22; 0 for none
@@ -27,7 +27,7 @@ pub struct Reply {
 }
 
 // What a caller gets whose file is mended.
-#[derive(Drop)]
+#[derive(Clone, Copy)]
 pub struct MendReply {
     // number of the refusal, 4; 0 for none
     pub number: u64,

@@ -5,7 +5,7 @@ ghost use Rattle.decimal_text.specs.Texts.{Put};
 ghost use Rattle.year_file.specs.Walk.{kept, notes};
 
 // The places after what was put into each buffer.
-#[derive(Drop)]
+#[derive(Clone, Copy)]
 pub struct Ends {
     pub kept: usize,
     pub noted: usize,

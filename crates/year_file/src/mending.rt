@@ -6,7 +6,7 @@ ghost use Rattle.year_file.specs.Mending.{answer_to, room_after};
 use sheet_types::refusals::Refusal;
 
 // How many bytes were written into each buffer, or why none was.
-#[derive(Drop)]
+#[derive(Clone, Copy)]
 pub enum Answer {
     Mended { kept: usize, noted: usize },
     Refused(Refusal),

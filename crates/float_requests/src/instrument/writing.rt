@@ -7,7 +7,7 @@ ghost use Rattle.float_requests.specs.laws.ReadBackLaws.{InRanges};
 use sheet_types::refusals::{Checked, Refusal};
 
 // Whether the doubles were made.
-#[derive(Drop)]
+#[derive(Clone, Copy)]
 pub enum Answer {
     Made,
     // 10: not 23 units; 2: the first element out of its range, 0 to 21; 3: the longitude, place 2; 4: a buffer

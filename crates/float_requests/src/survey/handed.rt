@@ -11,7 +11,7 @@ use requests::windows::Window;
 use sheet_types::refusals::Refusal;
 
 // A survey, or refusal 10.
-#[derive(Drop)]
+#[derive(Clone, Copy)]
 pub enum Handed {
     Is(Survey),
     Refused(Refusal),

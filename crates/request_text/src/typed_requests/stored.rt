@@ -11,7 +11,7 @@ use calendar::{Reference, Scale};
 use request_format::fields::LENGTH;
 
 // What was stored of a text.
-#[derive(Drop)]
+#[derive(Clone, Copy)]
 pub enum Stored {
     // a request of so many bytes, and its instant
     Request(usize),
