@@ -16,12 +16,12 @@ use Rattle.binary64.proofs.double_of.Tie as tie
 unit-is : (c : tie.Start) → to_z w64 (of_z w64 c.args.unit) ≡ c.args.unit
 unit-is c = to_z-of_z w64 c.args.unit c.ranges.unit
 
-int-to-float-result : tie.Need-int-to-float-result
+int-to-float-result : tie.Need-int_to_float-result
 int-to-float-result c =
-    subst (λ (z : ℤ). T (in_float binary64 z)) (sym (unit-is c.before)) (in-float c.before.args.unit (omega arith))
+    subst (λ (z : ℤ). T (in_float binary64 z)) (sym (unit-is c.before)) (in-float c.args.unit (omega arith))
 
-int-to-float-result-2 : tie.Need-int-to-float-result-2
-int-to-float-result-2 c = in-float (pos c.before.before.args.scale) (omega arith)
+int-to-float-result-2 : tie.Need-int_to_float-result-2
+int-to-float-result-2 c = in-float (pos c.args.scale) (omega arith)
 
 returns : tie.Need-returns
 returns c =
@@ -30,5 +30,5 @@ returns c =
     let back = reads_back t.args.scale t.args.unit t.requires.1 (omega arith) t.requires.0 in
     (made, subst (λ (x : Float). ReadsBack t.args.scale t.args.unit x) (sym made) back)
 
-pub double-of-spec : {M : Type 1} → statement M
-double-of-spec = tie.close (tie.spec int-to-float-result int-to-float-result-2 returns)
+pub double_of_spec : {M : Type 1} → statement M
+double_of_spec = tie.close (tie.spec int-to-float-result int-to-float-result-2 returns)

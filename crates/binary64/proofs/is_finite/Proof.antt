@@ -10,13 +10,13 @@ use Rattle.binary64.proofs.is_finite.Tie as tie
 held : (c : tie.Start) → T (fits binary64 c.args.x)
 held c = subst T (sym c.well_formed.0.1) tt
 
-returns : tie.Need-returns
-returns c = sym (ap finite (is-nan c.before.args.x c.if1.true))
+returns : tie.Need-returns-then-x
+returns c = sym (ap finite (is-nan c.args.x c.if-x.true))
 
-returns-2 : tie.Need-returns-2
+returns-2 : tie.Need-returns
 returns-2 c =
     let t = c.before in
     sym (finite-fields t.args.x (held t))
 
-pub is-finite-spec : {M : Type 1} → statement M
-is-finite-spec = tie.close (tie.spec returns (λ c. no_nan c.before.args.x c.if1.false) returns-2)
+pub is_finite_spec : {M : Type 1} → statement M
+is_finite_spec = tie.close (tie.spec returns (λ c. no_nan c.args.x c.if-x.false) returns-2)

@@ -41,60 +41,60 @@ module _ (n : ℕ) (h : n < 2 ^ 63) where
   opposite-is = runs slots Opposite tt ∙ ap (λ (z : ℤ). pos 0 -ℤ z) (count-is n bound tt) ∙ +ℤ_idl (neg_ℤ (pos n))
 
 -- ---- at the places of the code
-known : (c : tie.Else1) → finite c.before.before.args.x ≡ true
-known c = sym c.before.is_finite.ensures ∙ not-false c.before.is_finite.result c.if1.false
+known : (c : tie.Else-not-known) → finite c.args.x ≡ true
+known c = sym c.is_finite-known.ensures ∙ c.if-not-known.false
 
-abbrev pattern : tie.After-size → ℕ
-pattern c = to_bits binary64 c.before.before.before.args.x
+abbrev pattern : tie.After-size-n → ℕ
+pattern c = to_bits binary64 c.args.x
 
-abbrev whole : tie.After-size → ℕ
-whole c = size_of c.before.before.before.args.scale (pattern c % 2 ^ 63 / 2 ^ 52) (pattern c % 2 ^ 52)
+abbrev whole : tie.After-size-n → ℕ
+whole c = size_of c.args.scale (pattern c % 2 ^ 63 / 2 ^ 52) (pattern c % 2 ^ 52)
 
 -- what the double is read as, by its sign and size
-read : (c : tie.After-size)
-    → reading_of c.before.before.before.args.scale c.before.before.before.args.x ≡ fitted (signed (leb (2 ^ 63) (pattern c)) (whole c))
+read : (c : tie.After-size-n)
+    → reading_of c.args.scale c.args.x ≡ fitted (signed (leb (2 ^ 63) (pattern c)) (whole c))
 read c =
     let t = c.before.before.before in
     reading-fits t.args.scale t.args.x (known c.before)
     ∙ ap fitted (units-fields t.args.x (subst T (sym t.well_formed.0.1) tt) t.args.scale (known c.before))
 
 -- where the size fits, it is what the call gave
-read_small : (c : tie.After-size) (s : Bool) → c.size.result < 2 ^ 63 → leb (2 ^ 63) (pattern c) ≡ s
-    → reading_of c.before.before.before.args.scale c.before.before.before.args.x ≡ Units (signed s c.size.result)
+read_small : (c : tie.After-size-n) (s : Bool) → c.size-n.result < 2 ^ 63 → leb (2 ^ 63) (pattern c) ≡ s
+    → reading_of c.args.scale c.args.x ≡ Units (signed s c.size-n.result)
 read_small c s h e =
     read c
     ∙ ap (λ (b : Bool). fitted (signed b (whole c))) e
-    ∙ ap (λ (n : ℕ). fitted (signed s n)) (all_of c.size.result (whole c) c.size.ensures h)
-    ∙ fitted_small s c.size.result h
+    ∙ ap (λ (n : ℕ). fitted (signed s n)) (all_of c.size-n.result (whole c) c.size-n.ensures h)
+    ∙ fitted_small s c.size-n.result h
 
-returns : tie.Need-returns
+returns : tie.Need-returns-then-not-known
 returns c =
     let t = c.before.before in
-    sym (reading_none t.args.scale t.args.x (sym c.before.is_finite.ensures ∙ not-true c.before.is_finite.result c.if1.true))
+    sym (reading_none t.args.scale t.args.x (sym c.is_finite-known.ensures ∙ c.if-not-known.true))
 
-float-to-bits-bits : tie.Need-float-to-bits-bits
-float-to-bits-bits c = finite_no_nan c.before.before.args.x (known c)
+float-to-bits-bits : tie.Need-float_to_bits-bits
+float-to-bits-bits c = finite_no_nan c.args.x (known c)
 
-returns-2 : tie.Need-returns-2
+returns-2 : tie.Need-returns-then-n-ge-SIGN
 returns-2 c =
     let t = c.before in
-    sym (read t ∙ fitted_large (leb (2 ^ 63) (pattern t)) (whole t) (over t.size.result (whole t) t.size.ensures c.if2.true))
+    sym (read t ∙ fitted_large (leb (2 ^ 63) (pattern t)) (whole t) (over t.size-n.result (whole t) t.size-n.ensures c.if-n-ge-SIGN.true))
 
-sub-t12 : tie.Need-overflow-sub-t12
-sub-t12 c = code.fits (slots c.before.before.size.result c.before.if2.false) Opposite tt
+sub-t12 : tie.Need-overflow_sub-result
+sub-t12 c = code.fits (slots c.size-n.result c.if-n-ge-SIGN.false) Opposite tt
 
-returns-3 : tie.Need-returns-3
+returns-3 : tie.Need-returns-then-bits-ge-SIGN
 returns-3 c =
     let t = c.before.before in
-    let h = c.before.if2.false in
-    ap Units (opposite-is t.size.result h) ∙ sym (read_small t true h (le-leb (2 ^ 63) (pattern t) c.if3.true))
+    let h = c.if-n-ge-SIGN.false in
+    ap Units (opposite-is t.size-n.result h) ∙ sym (read_small t true h (le-leb (2 ^ 63) (pattern t) c.if-bits-ge-SIGN.true))
 
-returns-4 : tie.Need-returns-4
+returns-4 : tie.Need-returns-else-bits-ge-SIGN
 returns-4 c =
     let t = c.before.before in
-    let h = c.before.if2.false in
-    ap Units (count-is t.size.result (bound t.size.result h) tt)
-    ∙ sym (read_small t false h (lt-leb (2 ^ 63) (pattern t) c.if3.false))
+    let h = c.if-n-ge-SIGN.false in
+    ap Units (count-is t.size-n.result (bound t.size-n.result h) tt)
+    ∙ sym (read_small t false h (lt-leb (2 ^ 63) (pattern t) c.if-bits-ge-SIGN.false))
 
 pub read_spec : {M : Type 1} → statement M
 read_spec =

@@ -6,58 +6,58 @@ use Rattle.binary64.proofs.Words.{low_small, top_small, high_small, large, half-
 use Rattle.binary64.proofs.scaled.Statement.{statement}
 use Rattle.binary64.proofs.scaled.Tie as tie
 
-mul-below : tie.Need-overflow-mul-below
+mul-below : tie.Need-overflow_mul-below
 mul-below c =
     let t = c in
     omega (arith, low_small t.args.q t.args.scale t.args.k t.requires.0 t.requires.1)
 
-mul-high : tie.Need-overflow-mul-high
+mul-high : tie.Need-overflow_mul-high
 mul-high c =
     let t = c in
     omega (arith, top_small t.args.q t.args.scale t.args.k t.requires.0 t.requires.1)
 
-add-high : tie.Need-overflow-add-high
+add-high : tie.Need-overflow_add-high
 add-high c =
     let t = c in
     omega (arith, high_small t.args.q t.args.scale t.args.k t.requires.0 t.requires.1)
 
-returns : tie.Need-returns
+returns : tie.Need-returns-then-high-k
 returns c =
     let t = c.before.before in
-    large t.args.q t.args.scale t.args.k t.requires.0 t.requires.1 c.before.if1.true c.if2.true
+    large t.args.q t.args.scale t.args.k t.requires.0 t.requires.1 c.if-k-le26.true c.if-high-k.true
 
-add-result : tie.Need-overflow-add-result
+add-result : tie.Need-overflow_add-result
 add-result c =
     let t = c.before.before in
-    record { fits = half-small t.args.q t.args.scale t.args.k t.requires.0 t.requires.1 c.before.if1.true }
+    record { fits = half-small t.args.q t.args.scale t.args.k t.requires.0 t.requires.1 c.if-k-le26.true }
 
-add-result-3 : tie.Need-overflow-add-result-3
+add-result-3 : tie.Need-overflow_add-result-then-k-le26-2
 add-result-3 c =
     let t = c.before.before in
-    record { fits = low_fits t.args.q t.args.scale t.args.k t.requires.0 t.requires.1 c.before.if1.true c.if2.false }
+    record { fits = low_fits t.args.q t.args.scale t.args.k t.requires.0 t.requires.1 c.if-k-le26.true c.if-high-k.false }
 
-add-result-4 : tie.Need-overflow-add-result-4
+add-result-4 : tie.Need-overflow_add-result-then-k-le82
 add-result-4 c =
     let t = c.before.before in
-    record { fits = mid-fits t.args.q t.args.scale t.args.k t.requires.0 t.requires.1 c.before.if1.false c.if3.true }
+    record { fits = mid-fits t.args.q t.args.scale t.args.k t.requires.0 t.requires.1 c.if-k-le26.false c.if-k-le82.true }
 
-returns-2 : tie.Need-returns-2
+returns-2 : tie.Need-returns-else-high-k
 returns-2 c =
     let t = c.before.before in
-    low-is t.args.q t.args.scale t.args.k t.requires.0 t.requires.1 c.before.if1.true c.if2.false
+    low-is t.args.q t.args.scale t.args.k t.requires.0 t.requires.1 c.if-k-le26.true c.if-high-k.false
 
-returns-3 : tie.Need-returns-3
+returns-3 : tie.Need-returns-then-k-le82
 returns-3 c =
     let t = c.before.before in
-    mid-is t.args.q t.args.scale t.args.k t.requires.0 t.requires.1 c.before.if1.false c.if3.true
+    mid-is t.args.q t.args.scale t.args.k t.requires.0 t.requires.1 c.if-k-le26.false c.if-k-le82.true
 
-returns-4 : tie.Need-returns-4
+returns-4 : tie.Need-returns-else-k-le82
 returns-4 c =
     let t = c.before.before in
-    high_is t.args.q t.args.scale t.args.k t.requires.0 t.requires.1 c.if3.false
+    high_is t.args.q t.args.scale t.args.k t.requires.0 t.requires.1 c.if-k-le82.false
 
-pub scaled-spec : {M : Type 1} → statement M
-scaled-spec =
+pub scaled_spec : {M : Type 1} → statement M
+scaled_spec =
     tie.close
     (tie.spec mul-below mul-high add-high (λ c. search rules) (λ c. search rules) returns (λ c. search rules)
     (λ c. search rules) (λ c. search rules) add-result (λ c. search rules) (λ c. search rules) add-result-3

@@ -6,14 +6,14 @@ use Rattle.binary64.specs.Doubles.{stand_in}
 use Rattle.binary64.proofs.unit_of.Statement.{statement}
 use Rattle.binary64.proofs.unit_of.Tie as tie
 
-returns : tie.Need-returns
-returns c = read_result c.before.reading.given.0.0 c.known-told.given.0.1 ∙ sym (ap stand_in c.before.reading.given.1)
+returns : tie.Need-returns-in-Units
+returns c = read_result c.in-Units.unit c.in-Units.known_told-1-own.given.0.1 ∙ sym (ap stand_in c.in-Units.is)
 
-returns-2 : tie.Need-returns-2
-returns-2 c = sym (ap stand_in c.enum_told.given.1)
+returns-2 : tie.Need-returns-in-TooLarge
+returns-2 c = sym (ap stand_in c.in-TooLarge.is)
 
-returns-3 : tie.Need-returns-3
-returns-3 c = sym (ap stand_in c.enum-told2.given.1)
+returns-3 : tie.Need-returns-in-NotFinite
+returns-3 c = sym (ap stand_in c.in-NotFinite.is)
 
-pub unit-of-spec : {M : Type 1} → statement M
-unit-of-spec = tie.close (tie.spec (λ c. search rules) (λ c. search rules) (λ c. search rules) returns returns-2 returns-3)
+pub unit_of_spec : {M : Type 1} → statement M
+unit_of_spec = tie.close (tie.spec (λ c. search rules) (λ c. search rules) (λ c. search rules) returns returns-2 returns-3)

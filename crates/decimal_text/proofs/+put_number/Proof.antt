@@ -24,37 +24,37 @@ abbrev put-number-below : ℕ → In 1 put-number-kinds.ps
 put-number-below t =
     and 1 put-number-kinds.ps (falls 1 put-number-kinds.ps ◌<◌ μ-put-number t) put-number.Pre
 
-put-number-cast-digit : (t : ℕ) → put-number-lts.Need-overflow-cast-digit (put-byte-reads.Asked, put-byte-reads.Learnt, put-number-below t, put-number.Post) (put-number-at t) put-number.Post
+put-number-cast-digit : (t : ℕ) → put-number-lts.Need-overflow_cast-digit (put-byte-reads.Asked, put-byte-reads.Learnt, put-number-below t, put-number.Post) (put-number-at t) put-number.Post
 put-number-cast-digit t c = search rules
 
-put-number-add-digit : (t : ℕ) → put-number-lts.Need-overflow-add-digit (put-byte-reads.Asked, put-byte-reads.Learnt, put-number-below t, put-number.Post) (put-number-at t) put-number.Post
+put-number-add-digit : (t : ℕ) → put-number-lts.Need-overflow_add-digit (put-byte-reads.Asked, put-byte-reads.Learnt, put-number-below t, put-number.Post) (put-number-at t) put-number.Post
 put-number-add-digit t c = search rules
 
-put-number-put-byte-requires : (t : ℕ) → put-number-lts.Need-put-byte-requires (put-byte-reads.Asked, put-byte-reads.Learnt, put-number-below t, put-number.Post) (put-number-at t) put-number.Post
+put-number-put-byte-requires : (t : ℕ) → put-number-lts.Need-put_byte-requires (put-byte-reads.Asked, put-byte-reads.Learnt, put-number-below t, put-number.Post) (put-number-at t) put-number.Post
 put-number-put-byte-requires t c κs = tt
 
-put-number-same-length : (t : ℕ) → put-number-lts.Need-same-length (put-byte-reads.Asked, put-byte-reads.Learnt, put-number-below t, put-number.Post) (put-number-at t) put-number.Post
+put-number-same-length : (t : ℕ) → put-number-lts.Need-shape_of-out-then-n-lt10 (put-byte-reads.Asked, put-byte-reads.Learnt, put-number-below t, put-number.Post) (put-number-at t) put-number.Post
 put-number-same-length t c = search rules
 
-put-number-returns : (t : ℕ) → put-number-lts.Need-returns (put-byte-reads.Asked, put-byte-reads.Learnt, put-number-below t, put-number.Post) (put-number-at t) put-number.Post
-put-number-returns t c = number_small _ c.before.before.before.before.if1.true _ _ _ _ c.before.before.put_byte.ensures
+put-number-returns : (t : ℕ) → put-number-lts.Need-returns-then-n-lt10 (put-byte-reads.Asked, put-byte-reads.Learnt, put-number-below t, put-number.Post) (put-number-at t) put-number.Post
+put-number-returns t c = number_small _ c.if-n-lt10.true _ _ _ _ c.put_byte.ensures
 
-put-number-put-number-requires : (t : ℕ) → put-number-lts.Need-put-number-requires (put-byte-reads.Asked, put-byte-reads.Learnt, put-number-below t, put-number.Post) (put-number-at t) put-number.Post
-put-number-put-number-requires t c κs = (omega (arith, c.before.before.before.requires.0), tt)
+put-number-put-number-requires : (t : ℕ) → put-number-lts.Need-put_number-next-requires (put-byte-reads.Asked, put-byte-reads.Learnt, put-number-below t, put-number.Post) (put-number-at t) put-number.Post
+put-number-put-number-requires t c κs = (omega (arith, c.requires.0), tt)
 
-put-number-put-number-requires-2 : (t : ℕ) → put-number-lts.Need-put-number-requires-2 (put-byte-reads.Asked, put-byte-reads.Learnt, put-number-below t, put-number.Post) (put-number-at t) put-number.Post
-put-number-put-number-requires-2 t c κs = (omega (arith, c.before.before.before.before.before.before.before.requires.0), tt)
+put-number-put-number-requires-2 : (t : ℕ) → put-number-lts.Need-put_number-requires (put-byte-reads.Asked, put-byte-reads.Learnt, put-number-below t, put-number.Post) (put-number-at t) put-number.Post
+put-number-put-number-requires-2 t c κs = (omega (arith, c.requires.0), tt)
 
-put-number-same-length-2 : (t : ℕ) → put-number-lts.Need-same-length-2 (put-byte-reads.Asked, put-byte-reads.Learnt, put-number-below t, put-number.Post) (put-number-at t) put-number.Post
+put-number-same-length-2 : (t : ℕ) → put-number-lts.Need-shape_of-out (put-byte-reads.Asked, put-byte-reads.Learnt, put-number-below t, put-number.Post) (put-number-at t) put-number.Post
 put-number-same-length-2 t c = search rules
 
-put-number-returns-2 : (t : ℕ) → put-number-lts.Need-returns-2 (put-byte-reads.Asked, put-byte-reads.Learnt, put-number-below t, put-number.Post) (put-number-at t) put-number.Post
+put-number-returns-2 : (t : ℕ) → put-number-lts.Need-returns (put-byte-reads.Asked, put-byte-reads.Learnt, put-number-below t, put-number.Post) (put-number-at t) put-number.Post
 put-number-returns-2 t c =
-    number_more _ c.before.before.before.before.before.before.before.before.if1.false _ _ _ _ _ _ (omega arith)
-    c.before.before.before.before.before.before.put-number.ensures c.before.before.put-number2.ensures
+    number_more _ c.if-n-lt10.false _ _ _ _ _ _ (omega arith)
+    c.put_number-next.ensures c.put_number.ensures
 
-pub +put-number-spec : {M : Type 1} → statement M
-+put-number-spec = close μ-put-number λ t. put-number-lts.spec (put-byte-reads.Asked, put-byte-reads.Learnt, put-number-below t, put-number.Post)
+pub +put_number_spec : {M : Type 1} → statement M
++put_number_spec = close μ-put-number λ t. put-number-lts.spec (put-byte-reads.Asked, put-byte-reads.Learnt, put-number-below t, put-number.Post)
     (put-number-at t)
     put-number.Post
     (put-number-cast-digit t)

@@ -6,11 +6,11 @@ use lib.Seq.{length-take-le}
 use Rattle.decimal_text.proofs.clipped.Statement.{statement}
 use Rattle.decimal_text.proofs.clipped.Tie as tie
 
-returns : tie.Need-returns
+returns : tie.Need-returns-then-end-out
 returns c = (sym (min-eq_left (omega arith)), (omega arith, sym (length-take-le _ _ (omega arith))))
 
-returns-2 : tie.Need-returns-2
+returns-2 : tie.Need-returns
 returns-2 c = (sym (min-eq_right (omega arith)), (omega arith, sym (length-take-le _ _ (omega arith))))
 
-pub clipped-spec : {M : Type 1} → statement M
-clipped-spec = tie.close (tie.spec returns returns-2)
+pub clipped_spec : {M : Type 1} → statement M
+clipped_spec = tie.close (tie.spec returns returns-2)

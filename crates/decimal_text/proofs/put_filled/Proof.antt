@@ -10,28 +10,28 @@ use borrow.Author.Rules.{rules}
 use Rattle.decimal_text.proofs.put_filled.Statement.{statement}
 use Rattle.decimal_text.proofs.put_filled.Tie as tie
 
-abbrev invariant-loop : tie.invariant-loop
+abbrev invariant-loop : tie.invariant-loop-i
 invariant-loop out₀ start pattern numbers at₀ k₀ i₀ out at k i = Filling out₀ start pattern numbers out at k i
 
-abbrev decreases-loop : tie.decreases-loop
+abbrev decreases-loop : tie.decreases-loop-i
 decreases-loop out₀ start pattern numbers at₀ k₀ i₀ out at k i = length pattern - i
 
-loop-holds : tie.Need-loop-init invariant-loop decreases-loop
+loop-holds : tie.Need-loop-i-init invariant-loop decreases-loop
 loop-holds c = filling_start _ _ _ _ (omega arith) (omega arith)
 
-loop-again : tie.Need-loop-preserved invariant-loop decreases-loop
+loop-again : tie.Need-loop-i-preserved invariant-loop decreases-loop
 loop-again c =
     let t = c.before.before.before.before.before in
-    filling-turn _ _ _ _ _ _ _ _ t.before.before.before.loop.invariant t.before.before.loop-test.true _
-    (read_result t.number_at.result t.number_at.type-inv ∙ t.number_at.ensures) _ _ _
-    c.before.before.before.put-piece.ensures c.number-after.ensures
+    filling-turn _ _ _ _ _ _ _ _ t.loop-i.invariant t.loop-i-test.true _
+    (read_result t.number_at-v.result t.number_at-v.type_inv ∙ t.number_at-v.ensures) _ _ _
+    c.put_piece-at.ensures c.number_after-k.ensures
 
 returns : tie.Need-returns invariant-loop decreases-loop
-returns c = filling-end _ _ _ _ _ _ _ _ c.before.loop.invariant c.loop-test.false
+returns c = filling-end _ _ _ _ _ _ _ _ c.loop-i.invariant c.loop-i-test.false
 
-pub put-filled-spec : {M : Type 1} → statement M
-put-filled-spec =
+pub put_filled_spec : {M : Type 1} → statement M
+put_filled_spec =
     tie.close
     (tie.spec invariant-loop decreases-loop loop-holds (λ c. omega arith) (λ c κs. search rules) (λ c κs. search rules)
     (λ c κs. omega arith) (λ c. omega arith) (λ c. omega arith) loop-again
-    (λ c. c.before.loop.invariant.putting.same) returns)
+    (λ c. c.loop-i.invariant.putting.same) returns)

@@ -6,18 +6,18 @@ use Rattle.decimal_text.specs.laws.PatternLaws.{piece-number, piece-self}
 use Rattle.decimal_text.proofs.put_piece.Statement.{statement}
 use Rattle.decimal_text.proofs.put_piece.Tie as tie
 
-returns : tie.Need-returns
+returns : tie.Need-returns-then-x-eq35
 returns c =
     let t = c.before.before.before.before in
-    piece-number _ _ _ _ _ _ t.if1.true _ (to_z-of_z w64 _ t.before.before.ranges.v) c.before.before.put-signed.ensures
+    piece-number _ _ _ _ _ _ t.if-x-eq35.true _ (to_z-of_z w64 _ t.ranges.v) c.put_signed.ensures
 
-returns-2 : tie.Need-returns-2
+returns-2 : tie.Need-returns
 returns-2 c =
     let t = c.before.before.before.before in
-    piece-self _ _ _ _ _ _ t.if1.false c.before.before.put_byte.ensures
+    piece-self _ _ _ _ _ _ t.if-x-eq35.false c.put_byte.ensures
 
-pub put-piece-spec : {M : Type 1} → statement M
-put-piece-spec =
+pub put_piece_spec : {M : Type 1} → statement M
+put_piece_spec =
     tie.close
     (tie.spec (λ c κs. search rules) (λ c. search rules) returns (λ c κs. search rules) (λ c. search rules)
     returns-2)

@@ -15,28 +15,28 @@ use Rattle.decimal_text.proofs.put_signed.Tie as tie
 read : (c : tie.Start) → to_z w64 (of_z w64 c.args.x) ≡ c.args.x
 read c = to_z-of_z w64 c.args.x c.ranges.x
 
-below : (c : tie.Then1) → c.before.before.before.args.x <ℤ pos 0
-below c = subst (λ (z : ℤ). z <ℤ pos 0) (read c.before.before.before) (lt_z_true _ _ c.if1.true)
+below : (c : tie.Then-x-lt0) → c.args.x <ℤ pos 0
+below c = subst (λ (z : ℤ). z <ℤ pos 0) (read c.before.before.before) (lt_z_true _ _ c.if-x-lt0.true)
 
-not_below : (c : tie.Else1) → pos 0 ≤ℤ c.before.before.before.args.x
-not_below c = subst (λ (z : ℤ). pos 0 ≤ℤ z) (read c.before.before.before) (lt_z_false _ _ c.if1.false)
+not_below : (c : tie.Else-x-lt0) → pos 0 ≤ℤ c.args.x
+not_below c = subst (λ (z : ℤ). pos 0 ≤ℤ z) (read c.before.before.before) (lt_z_false _ _ c.if-x-lt0.false)
 
-size-of : (c : tie.After-size) → c.size.result ≡ nat_abs c.before.before.args.x
-size-of c = c.size.ensures ∙ ap nat_abs (read c.before.before)
+size-of : (c : tie.After-size-digits) → c.size-digits.result ≡ nat_abs c.args.x
+size-of c = c.size-digits.ensures ∙ ap nat_abs (read c.before.before)
 
-returns : tie.Need-returns
+returns : tie.Need-returns-then-x-lt0
 returns c =
     let t = c.before.before.before.before.before.before.before.before in
-    minus-then _ _ (size-of t.before) (below t) _ _ _ _ _ _ (omega arith) c.before.before.before.before.before.before.put_byte.ensures
-    c.before.before.put-number.ensures
+    minus-then _ _ (size-of t.before) (below t) _ _ _ _ _ _ (omega arith) c.put_byte-next.ensures
+    c.put_number.ensures
 
-returns-2 : tie.Need-returns-2
+returns-2 : tie.Need-returns
 returns-2 c =
     let t = c.before.before.before.before in
-    no_minus _ _ (size-of t.before) (not_below t) _ _ _ _ c.before.before.put-number2.ensures
+    no_minus _ _ (size-of t.before) (not_below t) _ _ _ _ c.put_number-2.ensures
 
-pub put-signed-spec : {M : Type 1} → statement M
-put-signed-spec =
+pub put_signed_spec : {M : Type 1} → statement M
+put_signed_spec =
     tie.close
     (tie.spec (λ c κs. search rules) (λ c κs. search rules) (λ c κs. search rules) (λ c. search rules) returns
     (λ c κs. search rules) (λ c. search rules) returns-2)

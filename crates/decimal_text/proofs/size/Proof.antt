@@ -19,50 +19,50 @@ read : (c : tie.Start) → to_z w64 (of_z w64 c.args.x) ≡ c.args.x
 read c = to_z-of_z w64 c.args.x c.ranges.x
 
 -- ---- x is negative
-abbrev next : tie.Then1 → ℤ
-next c = to_z w64 (of_z w64 c.before.args.x) +ℤ pos 1
+abbrev next : tie.Then-x-lt0 → ℤ
+next c = to_z w64 (of_z w64 c.args.x) +ℤ pos 1
 
-negative : (c : tie.Then1) → to_z w64 (of_z w64 c.before.args.x) <ℤ pos 0
-negative c = lt_z_true _ _ c.if1.true
+negative : (c : tie.Then-x-lt0) → to_z w64 (of_z w64 c.args.x) <ℤ pos 0
+negative c = lt_z_true _ _ c.if-x-lt0.true
 
 below : (z : ℤ) → z <ℤ pos 0 → pos_p z ≡ 0
 below (pos n) l = absurd (omega (arith, <-parts l))
 below (negsuc n) l = omega arith
 
-next_small : (c : tie.Then1) → nat_abs (next c) ≤ 9223372036854775807
+next_small : (c : tie.Then-x-lt0) → nat_abs (next c) ≤ 9223372036854775807
 next_small c =
-    let z = to_z w64 (of_z w64 c.before.args.x) in
+    let z = to_z w64 (of_z w64 c.args.x) in
     let n = below z (negative c) in
     let m = (sum z (pos 1)).is in
-    nat_abs_by (next c) (omega arith) (omega (arith, <-parts (negative c), nat_abs_parts z, ap nat_abs (read c.before), fits64_nat_abs c.before.ranges.x))
+    nat_abs_by (next c) (omega arith) (omega (arith, <-parts (negative c), nat_abs_parts z, ap nat_abs (read c.before), fits64_nat_abs c.ranges.x))
 
-bounds : (c : tie.Then1) → Within (whole (next c) ∷ []) (9223372036854775807 ∷ [])
+bounds : (c : tie.Then-x-lt0) → Within (whole (next c) ∷ []) (9223372036854775807 ∷ [])
 bounds c = next_small c ▹ ends
 
 abbrev short : Code
 short = sub (lit (pos 0)) (arg 0)
 
-not_below : (c : tie.Then1) → pos 0 ≤ℤ (pos 0 -ℤ next c)
-not_below c = minus_nonneg {a = next c} {b = pos 0} (parts-≤ (omega (arith, <-parts (negative c), (sum (to_z w64 (of_z w64 c.before.args.x)) (pos 1)).is)))
+not_below : (c : tie.Then-x-lt0) → pos 0 ≤ℤ (pos 0 -ℤ next c)
+not_below c = minus_nonneg {a = next c} {b = pos 0} (parts-≤ (omega (arith, <-parts (negative c), (sum (to_z w64 (of_z w64 c.args.x)) (pos 1)).is)))
 
-size_is : (c : tie.Then1) → nat_abs (pos 0 -ℤ next c) + 1 ≡ nat_abs c.before.args.x
+size_is : (c : tie.Then-x-lt0) → nat_abs (pos 0 -ℤ next c) + 1 ≡ nat_abs c.args.x
 size_is c =
-    let z = to_z w64 (of_z w64 c.before.args.x) in
+    let z = to_z w64 (of_z w64 c.args.x) in
     let d = pos 0 -ℤ next c in
     omega (arith, nonneg (not_below c), nat_abs_parts d, (is_minus (is_self (pos 0)) (sum z (pos 1))).is, below z (negative c), nat_abs_parts z, ap nat_abs (read c.before))
 
-add-result : tie.Need-overflow-add-result
-add-result c = record { fits = omega (arith, ap nat_abs (runs (bounds c) short tt), size_is c, fits64_nat_abs c.before.ranges.x) }
+add-result : tie.Need-overflow_add-result
+add-result c = record { fits = omega (arith, ap nat_abs (runs (bounds c) short tt), size_is c, fits64_nat_abs c.ranges.x) }
 
-returns : tie.Need-returns
+returns : tie.Need-returns-then-x-lt0
 returns c = omega (arith, ap nat_abs (runs (bounds c) short tt), size_is c)
 
 -- ---- x is not
-cast-result-2 : tie.Need-overflow-cast-result-2
-cast-result-2 c = cast_unsigned c.before.args.x c.before.ranges.x (subst (λ (z : ℤ). pos 0 ≤ℤ z) (read c.before) (lt_z_false _ _ c.if1.false))
+cast-result-2 : tie.Need-overflow_cast-result-else-x-lt0
+cast-result-2 c = cast_unsigned c.args.x c.ranges.x (subst (λ (z : ℤ). pos 0 ≤ℤ z) (read c.before) (lt_z_false _ _ c.if-x-lt0.false))
 
-returns-2 : tie.Need-returns-2
+returns-2 : tie.Need-returns-else-x-lt0
 returns-2 c = ap nat_abs (read c.before)
 
-pub size-spec : {M : Type 1} → statement M
-size-spec = tie.close (tie.spec (λ c. fits64 (next c) (next_small c)) (λ c. fits (bounds c) short tt) (λ c. unsigned (bounds c) short tt (not_below c)) add-result cast-result-2 returns returns-2)
+pub size_spec : {M : Type 1} → statement M
+size_spec = tie.close (tie.spec (λ c. fits64 (next c) (next_small c)) (λ c. fits (bounds c) short tt) (λ c. unsigned (bounds c) short tt (not_below c)) add-result cast-result-2 returns returns-2)
