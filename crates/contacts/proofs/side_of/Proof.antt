@@ -5,11 +5,11 @@ use Rattle.contacts.proofs.Seconds.{side-one}
 use Rattle.contacts.proofs.side_of.Statement.{statement}
 use Rattle.contacts.proofs.side_of.Tie as tie
 
-returns : tie.Need-returns
+returns : tie.Need-returns-then-state-eq0
 returns c = search rules
 
-returns-2 : tie.Need-returns-2
-returns-2 c = (omega arith, side-one _ c.if1.false)
+returns-2 : tie.Need-returns-else-state-eq0
+returns-2 c = (omega arith, side-one _ c.if-state-eq0.false)
 
-pub side-of-spec : {M : Type 1} → statement M
-side-of-spec = tie.close (tie.spec returns returns-2)
+pub side_of_spec : {M : Type 1} → statement M
+side_of_spec = tie.close (tie.spec returns returns-2)

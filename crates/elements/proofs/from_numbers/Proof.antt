@@ -12,20 +12,20 @@ unfolding elements_of
 returns c =
     let m = c.before.before in
     let y = m.before.before.before.before in
-    let n = y.before.before.args.n.now in
+    let n = y.args.n.now in
     rw (
-      y.before.cubic-from.ensures,
-      y.cubic-from2.ensures,
-      m.before.before.before.quadratic-from.ensures,
-      m.before.before.quadratic-from2.ensures,
-      m.before.quadratic-from3.ensures,
-      m.quadratic-from4.ensures,
-      read_result (get_or n 20 (pos 0)) c.before.tanf1.given,
-      read_result (get_or n 21 (pos 0)) c.tanf2.given,
+      y.cubic_from-x.ensures,
+      y.cubic_from-y.ensures,
+      m.quadratic_from-d.ensures,
+      m.quadratic_from-l1.ensures,
+      m.quadratic_from-l2.ensures,
+      m.quadratic_from-mu.ensures,
+      read_result (get_or n 20 (pos 0)) c.tanf1-1.given,
+      read_result (get_or n 21 (pos 0)) c.tanf2-1.given,
     )
 
-pub from-numbers-spec : {M : Type 1} → statement M
-from-numbers-spec =
+pub from_numbers_spec : {M : Type 1} → statement M
+from_numbers_spec =
     tie.close
     (tie.spec (λ c κs. search rules) (λ c κs. search rules) (λ c κs. search rules) (λ c κs. search rules)
     (λ c κs. search rules) (λ c κs. search rules) (λ c. search rules) (λ c. search rules) returns)

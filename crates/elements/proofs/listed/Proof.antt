@@ -6,14 +6,14 @@ use Rattle.elements.proofs.listed.Tie as tie
 
 returns : tie.Need-returns
 returns c =
-    let x = c.before.before.before.before.before.before.before.struct_told.given in
-    let y = c.before.before.before.before.before.before.struct-told2.given in
-    let d = c.before.before.before.before.before.struct-told3.given in
-    let l1 = c.before.before.before.before.struct-told4.given in
-    let l2 = c.before.before.before.struct-told5.given in
-    let mu = c.before.before.struct-told6.given in
-    let f1 = c.before.struct-told7.given in
-    let f2 = c.struct-told8.given in
+    let x = c.struct_told-1.given in
+    let y = c.struct_told-2-1.given in
+    let d = c.struct_told-3-1.given in
+    let l1 = c.struct_told-4-1.given in
+    let l2 = c.struct_told-5-1.given in
+    let mu = c.struct_told-6-1.given in
+    let f1 = c.struct_told-7-1.given in
+    let f2 = c.struct_told-8-1.given in
     cons_back _ x.0.1 (cons_back _ x.1.0.1 (cons_back _ x.1.1.0.1 (cons_back _ x.1.1.1.0.1
     (cons_back _ y.0.1 (cons_back _ y.1.0.1 (cons_back _ y.1.1.0.1 (cons_back _ y.1.1.1.0.1
     (cons_back _ d.0.1 (cons_back _ d.1.0.1 (cons_back _ d.1.1.0.1
@@ -22,5 +22,5 @@ returns c =
     (cons_back _ mu.0.1 (cons_back _ mu.1.0.1 (cons_back _ mu.1.1.0.1
     (cons_back _ f1.1.0.1 (cons_back _ f2.1.0.1 refl)))))))))))))))))))))
 
-pub listed-spec : {M : Type 1} → statement M
-listed-spec = tie.close (tie.spec returns)
+pub listed_spec : {M : Type 1} → statement M
+listed_spec = tie.close (tie.spec returns)

@@ -20,30 +20,30 @@ abbrev product : Code
 product = mul (arg 0) (arg 1)
 
 -- what `near_hour` gave
-given : (c : tie.After-near-hour) → c.near-hour.result ≡ near (c.before.args.p *ℤ c.before.args.t) hour
-given c = c.near-hour.ensures ∙ ap (λ (z : ℤ). near z hour) (runs (bounds c.before) product tt)
+given : (c : tie.After-near_hour) → c.near_hour.result ≡ near (c.args.p *ℤ c.args.t) hour
+given c = c.near_hour.ensures ∙ ap (λ (z : ℤ). near z hour) (runs (bounds c.before) product tt)
 
-after : (c : tie.After-near-hour) → Within (whole c.near-hour.result ∷ whole c.before.args.a ∷ []) (600000000 ∷ 400000000 ∷ [])
+after : (c : tie.After-near_hour) → Within (whole c.near_hour.result ∷ whole c.args.a ∷ []) (600000000 ∷ 400000000 ∷ [])
 after c =
-    let a = c.before.args in
-    let h : nat_abs c.near-hour.result ≤ 600000000 = omega
-    (arith, ap nat_abs (given c), part-size a.t a.p 200000000 c.before.requires.2 c.before.requires.0) in
-    h ▹ c.before.requires.1 ▹ ends
+    let a = c.args in
+    let h : nat_abs c.near_hour.result ≤ 600000000 = omega
+    (arith, ap nat_abs (given c), part-size a.t a.p 200000000 c.requires.2 c.requires.0) in
+    h ▹ c.requires.1 ▹ ends
 
-near-hour-requires : tie.Need-near-hour-requires
+near-hour-requires : tie.Need-near_hour-requires
 near-hour-requires c κs = within (bounds c) product 36000000000000000 tt
 
 returns : tie.Need-returns
 unfolding step
 returns c =
-    let a = c.before.args in
+    let a = c.args in
     let e = runs (after c) (add (arg 0) (arg 1)) tt ∙ ap (λ (z : ℤ). z +ℤ a.a) (given c) in
     record {
       value = e;
       size = omega (
         arith,
         ap nat_abs e,
-        step-size a.t a.p a.a (nat_abs a.p) (nat_abs a.a) c.before.requires.2 (le_refl (nat_abs a.p))
+        step-size a.t a.p a.a (nat_abs a.p) (nat_abs a.a) c.requires.2 (le_refl (nat_abs a.p))
             (le_refl (nat_abs a.a)),
       );
     }

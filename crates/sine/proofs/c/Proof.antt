@@ -9,8 +9,8 @@ use Rattle.sine.proofs.c.Tie as tie
 returns : tie.Need-returns
 returns c =
     let b = c.before.before in
-    let q = c.first-quadrant in
-    is-cosine (kept q.type-inv q.ensures ∙ sym (cosine-first b.args.a b.requires.1))
+    let q = c.first_quadrant in
+    is-cosine (kept q.type_inv q.ensures ∙ sym (cosine-first b.args.a b.requires.1))
 
-pub c-spec : {M : Type 1} → statement M
-c-spec = tie.close (tie.spec (λ c. search rules) (λ c κs. search rules) returns)
+pub c_spec : {M : Type 1} → statement M
+c_spec = tie.close (tie.spec (λ c. search rules) (λ c κs. search rules) returns)

@@ -13,69 +13,69 @@ use Rattle.sine.proofs.first_quadrant.Statement.{statement}
 use Rattle.sine.proofs.first_quadrant.Tie as tie
 
 -- r, where it has just been found
-square_small : (c : tie.After-near-unsigned) → c.near-unsigned.result * c.near-unsigned.result ≤ 174_533 * 174_533
+square_small : (c : tie.After-near_unsigned-r) → c.near_unsigned-r.result * c.near_unsigned-r.result ≤ 174_533 * 174_533
 unfolding arc
-square_small c = arc-square {b = c.before.before.args.a % 100_000} (omega arith) c.near-unsigned.ensures
+square_small c = arc-square {b = c.args.a % 100_000} (omega arith) c.near_unsigned-r.ensures
 
 -- where all four numbers have been found
-abbrev start : tie.After-wide2 → tie.Start
+abbrev start : tie.After-wide-c → tie.Start
 start c = c.before.before.before.before.before.before.before
 
-within : (c : tie.After-wide2) → (start c).args.a ≤ 90_000_000
+within : (c : tie.After-wide-c) → (start c).args.a ≤ 90_000_000
 within c = (start c).requires.1
 
-abbrev r : tie.After-wide2 → ℕ
-r c = c.before.before.before.before.before.near-unsigned.result
+abbrev r : tie.After-wide-c → ℕ
+r c = c.near_unsigned-r.result
 
-abbrev w : tie.After-wide2 → ℕ
-w c = c.before.before.before.before.near-unsigned2.result
+abbrev w : tie.After-wide-c → ℕ
+w c = c.near_unsigned-w.result
 
-parts : (c : tie.After-wide2) → Parts (start c).args.a (r c) (w c) c.before.before.wide.result c.wide2.result
+parts : (c : tie.After-wide-c) → Parts (start c).args.a (r c) (w c) c.wide-s.result c.wide-c.result
 unfolding arc sag
 parts c =
     record {
-      r-is = c.before.before.before.before.before.near-unsigned.ensures;
-      w-is = c.before.before.before.before.near-unsigned2.ensures;
-      s-is = c.before.before.wide.ensures ∙ c.before.before.before.entry.ensures.value;
-      c-is = c.wide2.ensures ∙ c.before.entry2.ensures.value;
+      r-is = c.near_unsigned-r.ensures;
+      w-is = c.near_unsigned-w.ensures;
+      s-is = c.wide-s.ensures ∙ c.entry.ensures.value;
+      c-is = c.wide-c.ensures ∙ c.entry-2.ensures.value;
     }
 
 -- where the step has been found
-step_fits : (c : tie.After-near-unsigned3) → c.before.before.before.wide.result + c.near-unsigned3.result ≤ 100_174_533
+step_fits : (c : tie.After-near_unsigned-step) → c.wide-s.result + c.near_unsigned-step.result ≤ 100_174_533
 step_fits c =
     let p = parts c.before in
-    omega (arith, s-small (within c.before) p, step_small (within c.before) p c.near-unsigned3.ensures)
+    omega (arith, s-small (within c.before) p, step_small (within c.before) p c.near_unsigned-step.ensures)
 
-sum_is : (c : tie.After-near-unsigned3) → first_quadrant (start c.before).args.a ≡ pos
-    (min (c.before.before.before.wide.result + c.near-unsigned3.result) 100_000_000)
-sum_is c = first-is (within c.before) (parts c.before) c.near-unsigned3.ensures
+sum_is : (c : tie.After-near_unsigned-step) → first_quadrant (start c.before).args.a ≡ pos
+    (min (c.wide-s.result + c.near_unsigned-step.result) 100_000_000)
+sum_is c = first-is (within c.before) (parts c.before) c.near_unsigned-step.ensures
 
-mul-square : tie.Need-overflow-mul-square
+mul-square : tie.Need-overflow_mul-square
 mul-square c = record { fits = omega (arith, square_small c) }
 
-near-unsigned-requires-2 : tie.Need-near-unsigned-requires-2
+near-unsigned-requires-2 : tie.Need-near_unsigned-w-requires
 near-unsigned-requires-2 c κs = (omega (arith, square_small c), omega arith, omega arith)
 
-mul-gain : tie.Need-overflow-mul-gain
+mul-gain : tie.Need-overflow_mul-gain
 mul-gain c = record { fits = omega (arith, cr-small (within c) (parts c)) }
 
-mul-loss : tie.Need-overflow-mul-loss
+mul-loss : tie.Need-overflow_mul-loss
 mul-loss c = record { fits = omega (arith, sw-small (within c) (parts c)) }
 
-near-unsigned-requires-3 : tie.Need-near-unsigned-requires-3
+near-unsigned-requires-3 : tie.Need-near_unsigned-step-requires
 near-unsigned-requires-3 c κs = (omega (arith, cr-small (within c) (parts c)), omega arith, omega arith)
 
-returns : tie.Need-returns
+returns : tie.Need-returns-then-sum-le100000000
 returns c =
     let q = c.before in
-    let l = c.if1.true in
-    to_z_pos w64 (q.before.before.before.wide.result + q.near-unsigned3.result) (omega arith) ∙ ap pos (omega arith) ∙ sym (sum_is q)
+    let l = c.if-sum-le100000000.true in
+    to_z_pos w64 (q.wide-s.result + q.near_unsigned-step.result) (omega arith) ∙ ap pos (omega arith) ∙ sym (sum_is q)
 
-returns-2 : tie.Need-returns-2
-returns-2 c = let l = c.if1.false in ap pos (omega arith) ∙ sym (sum_is c.before)
+returns-2 : tie.Need-returns-else-sum-le100000000
+returns-2 c = let l = c.if-sum-le100000000.false in ap pos (omega arith) ∙ sym (sum_is c.before)
 
-pub first-quadrant-spec : {M : Type 1} → statement M
-first-quadrant-spec =
+pub first_quadrant_spec : {M : Type 1} → statement M
+first_quadrant_spec =
     tie.close
     (tie.spec (λ c. search rules) (λ c κs. search rules) mul-square near-unsigned-requires-2
     (λ c κs. search rules) (λ c κs. search rules) (λ c. search rules) (λ c κs. search rules)

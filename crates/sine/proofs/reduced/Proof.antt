@@ -52,20 +52,20 @@ module _ (c : tie.Start) where
   not_below : lt_z (run (whole c.args.a ∷ []) rest) (pos 0) ≡ false → rem_z c.args.a (pos 360_000_000) ≡ pos (reduced c.args.a)
   not_below t = rest-above c.args.a (left-< (bounds c) rest (lit (pos 0)) tt t)
 
-rem-r : tie.Need-nonzero-rem-r
+rem-r : tie.Need-nonzero_rem-r
 rem-r c = (above (bounds c) turn tt (lt_z_yes tt), fits (bounds c) (quo (arg 0) turn) tt)
 
-cast-result : tie.Need-overflow-cast-result
-cast-result c = unsigned (bounds c.before) (add rest turn) tt (not_negative (below c.before c.if1.true))
+cast-result : tie.Need-overflow_cast-result
+cast-result c = unsigned (bounds c.before) (add rest turn) tt (not_negative (below c.before c.if-r-lt0.true))
 
-cast-result-2 : tie.Need-overflow-cast-result-2
-cast-result-2 c = unsigned (bounds c.before) rest tt (not_negative (not_below c.before c.if1.false))
+cast-result-2 : tie.Need-overflow_cast-result-else-r-lt0
+cast-result-2 c = unsigned (bounds c.before) rest tt (not_negative (not_below c.before c.if-r-lt0.false))
 
-returns : tie.Need-returns
-returns c = is-reduced (ap nat_abs (runs (bounds c.before) (add rest turn) tt ∙ below c.before c.if1.true))
+returns : tie.Need-returns-then-r-lt0
+returns c = is-reduced (ap nat_abs (runs (bounds c.before) (add rest turn) tt ∙ below c.before c.if-r-lt0.true))
 
-returns-2 : tie.Need-returns-2
-returns-2 c = is-reduced (ap nat_abs (runs (bounds c.before) rest tt ∙ not_below c.before c.if1.false))
+returns-2 : tie.Need-returns-else-r-lt0
+returns-2 c = is-reduced (ap nat_abs (runs (bounds c.before) rest tt ∙ not_below c.before c.if-r-lt0.false))
 
-pub reduced-spec : {M : Type 1} → statement M
-reduced-spec = tie.close (tie.spec rem-r (λ c. fits (bounds c.before) (add rest turn) tt) cast-result cast-result-2 returns returns-2)
+pub reduced_spec : {M : Type 1} → statement M
+reduced_spec = tie.close (tie.spec rem-r (λ c. fits (bounds c.before) (add rest turn) tt) cast-result cast-result-2 returns returns-2)

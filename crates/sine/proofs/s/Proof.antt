@@ -9,8 +9,8 @@ use Rattle.sine.proofs.s.Tie as tie
 returns : tie.Need-returns
 returns c =
     let b = c.before.before in
-    let q = c.first-quadrant in
-    is-sine (kept q.type-inv q.ensures ∙ sym (sine-first b.args.a b.requires.1))
+    let q = c.first_quadrant in
+    is-sine (kept q.type_inv q.ensures ∙ sym (sine-first b.args.a b.requires.1))
 
-pub s-spec : {M : Type 1} → statement M
-s-spec = tie.close (tie.spec (λ c κs. search rules) returns)
+pub s_spec : {M : Type 1} → statement M
+s_spec = tie.close (tie.spec (λ c κs. search rules) returns)

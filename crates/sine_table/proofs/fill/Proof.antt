@@ -5,7 +5,7 @@ use Rattle.sine_table.proofs.fill.Statement.{statement}
 use Rattle.sine_table.proofs.fill.Tie as tie
 
 returns : tie.Need-returns
-returns c = let e = c.before.before.sum-up.ensures in (e, rw e (filled-sines _))
+returns c = let e = c.sum_up.ensures in (e, rw e (filled-sines _))
 
 pub fill_spec : {M : Type 1} → statement M
 fill_spec =

@@ -9,5 +9,5 @@ returns : tie.Need-returns
 unfolding right
 returns c = search (gives_of, rules)
 
-pub second-differences-spec : {M : Type 1} → statement M
-second-differences-spec = tie.close (tie.spec returns)
+pub second_differences_spec : {M : Type 1} → statement M
+second_differences_spec = tie.close (tie.spec returns)

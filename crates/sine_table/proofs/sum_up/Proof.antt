@@ -24,11 +24,11 @@ use Rattle.sine_table.specs.laws.RoomLaws.{gives-entry, gives_second, gives-next
 use Rattle.sine_table.proofs.sum_up.Statement.{statement}
 use Rattle.sine_table.proofs.sum_up.Tie as tie
 
-abbrev invariant-loop : tie.invariant-loop
+abbrev invariant-loop : tie.invariant-loop-k
 invariant-loop differences room₀ entry₀ step₀ k₀ room entry step k =
     (k ≤ 899) × Begun k room₀ room × Gives k (to_z w64 entry) (to_z w64 step) (drop k differences)
 
-abbrev decreases-loop : tie.decreases-loop
+abbrev decreases-loop : tie.decreases-loop-k
 decreases-loop differences room₀ entry₀ step₀ k₀ room entry step k = 899 - k
 
 -- ---- entries and steps fit
@@ -51,84 +51,84 @@ gives_as : (k : ℕ) (e f s t : ℤ) (ds : List ℤ) → e ≡ f → s ≡ t →
 gives_as k e f s t ds p q g = rw (p, q) g
 
 -- ---- where the loop's test is reached
-long : (c : tie.At-loop invariant-loop decreases-loop) → 901 ≤ length c.before.before.args.room.now
-long c = c.before.before.requires.1
+long : (c : tie.At-loop-k invariant-loop decreases-loop) → 901 ≤ length c.args.room.now
+long c = c.requires.1
 
-same : (c : tie.At-loop invariant-loop decreases-loop) → length c.loop.room ≡ length c.before.before.args.room.now
-same c = begun-length _ c.loop.k _ (omega (arith, c.loop.invariant.0)) (long c) c.loop.invariant.1
+same : (c : tie.At-loop-k invariant-loop decreases-loop) → length c.loop-k.room ≡ length c.args.room.now
+same c = begun-length _ c.loop-k.k _ (omega (arith, c.loop-k.invariant.0)) (long c) c.loop-k.invariant.1
 
 -- ---- a turn
-module _ (c : tie.After-wide-signed invariant-loop decreases-loop) where
+module _ (c : tie.After-wide_signed-step invariant-loop decreases-loop) where
   abbrev k : ℕ
-  k = c.before.before.before.loop.k
+  k = c.loop-k.k
 
   abbrev entry : ℤ
-  entry = to_z w64 c.before.before.before.loop.entry
+  entry = to_z w64 c.loop-k.entry-bits
 
   abbrev step : ℤ
-  step = to_z w64 c.before.before.before.loop.step
+  step = to_z w64 c.loop-k.step-bits
 
   abbrev differences : List ℤ
-  differences = c.before.before.before.before.before.args.differences.now
+  differences = c.args.differences.now
 
   -- the k-th difference, read from its bits
-  d-is : to_z w64 (of_z w64 c.wide_signed.result) ≡ get_or differences k (pos 0)
+  d-is : to_z w64 (of_z w64 c.wide_signed-step.result) ≡ get_or differences k (pos 0)
   d-is =
-      read_result c.wide_signed.result c.wide_signed.type-inv ∙ c.wide_signed.ensures
-      ∙ to_z-of_z w16 _ (record { sfits = c.before.wide-signed-arg.given })
+      read_result c.wide_signed-step.result c.wide_signed-step.type_inv ∙ c.wide_signed-step.ensures
+      ∙ to_z-of_z w16 _ (record { sfits = c.wide_signed-arg-1.given })
 
   within : k < length differences
-  within = omega (arith, c.before.before.before.before.before.requires.0.size, c.before.before.loop-test.true)
+  within = omega (arith, c.requires.0.size, c.loop-k-test.true)
 
   next : Gives (suc k) (entry +ℤ step) (step +ℤ get_or differences k (pos 0)) (drop (suc k) differences)
   next =
       gives-next k entry step _ _
-      (subst (Gives k entry step) (drop-cons differences k (pos 0) within) c.before.before.before.loop.invariant.2)
+      (subst (Gives k entry step) (drop-cons differences k (pos 0) within) c.loop-k.invariant.2)
 
 -- ---- after the loop
-module _ (c : tie.After-loop invariant-loop decreases-loop) where
+module _ (c : tie.After-loop-k invariant-loop decreases-loop) where
   abbrev last : ℤ
-  last = to_z w64 c.before.loop.entry +ℤ to_z w64 c.before.loop.step
+  last = to_z w64 c.loop-k.entry-bits +ℤ to_z w64 c.loop-k.step-bits
 
-  k-is : c.before.loop.k ≡ 899
-  k-is = omega (arith, c.before.loop.invariant.0, c.loop-test.false)
+  k-is : c.loop-k.k ≡ 899
+  k-is = omega (arith, c.loop-k.invariant.0, c.loop-k-test.false)
 
-  entry-is : to_z w64 c.before.loop.entry ≡ pos (S 899)
-  entry-is = gives-entry _ _ _ _ c.before.loop.invariant.2 ∙ ap (λ n. pos (S n)) k-is
+  entry-is : to_z w64 c.loop-k.entry-bits ≡ pos (S 899)
+  entry-is = gives-entry _ _ _ _ c.loop-k.invariant.2 ∙ ap (λ n. pos (S n)) k-is
 
   last-is : last ≡ pos (S 900)
-  last-is = gives_second _ _ _ _ c.before.loop.invariant.2 ∙ ap (λ n. pos (S (suc n))) k-is
+  last-is = gives_second _ _ _ _ c.loop-k.invariant.2 ∙ ap (λ n. pos (S (suc n))) k-is
 
   last-read : to_z w64 (of_z w64 last) ≡ pos (S 900)
   last-read = to_z-of_z w64 _ (entry-fits 900 _ (omega arith) last-is) ∙ last-is
 
-  all-stored : Begun 901 c.before.before.before.args.room.now
-      (set (set c.before.loop.room 899 (nat_abs (to_z w64 c.before.loop.entry))) 900 (nat_abs (to_z w64 (of_z w64 last))))
+  all-stored : Begun 901 c.args.room.now
+      (set (set c.loop-k.room 899 (nat_abs (to_z w64 c.loop-k.entry-bits))) 900 (nat_abs (to_z w64 (of_z w64 last))))
   all-stored =
-      let old = c.before.before.before.args.room.now in
+      let old = c.args.room.now in
       let h = long c.before in
-      let start = subst (λ n. Begun n old c.before.loop.room) k-is c.before.loop.invariant.1 in
+      let start = subst (λ n. Begun n old c.loop-k.room) k-is c.loop-k.invariant.1 in
       begun_more old 900 _ _ (omega arith) h (ap nat_abs last-read) (begun_more old 899 _ _ (omega arith) h (ap nat_abs entry-is) start)
 
-loop-holds : tie.Need-loop-init invariant-loop decreases-loop
-loop-holds c = (omega arith, begun-none _, c.before.requires.0)
+loop-holds : tie.Need-loop-k-init invariant-loop decreases-loop
+loop-holds c = (omega arith, begun-none _, c.requires.0)
 
-cast-room : tie.Need-overflow-cast-room invariant-loop decreases-loop
-cast-room c = let l = c.before.loop in stored l.k _ (omega (arith, l.invariant.0)) (gives-entry _ _ _ _ l.invariant.2)
+cast-room : tie.Need-overflow_cast-room invariant-loop decreases-loop
+cast-room c = let l = c.loop-k in stored l.k _ (omega (arith, l.invariant.0)) (gives-entry _ _ _ _ l.invariant.2)
 
-slice-write-room : tie.Need-slice-write-room invariant-loop decreases-loop
+slice-write-room : tie.Need-bounds-room-k invariant-loop decreases-loop
 slice-write-room c = omega (arith, same c.before, long c.before)
 
-add-entry : tie.Need-overflow-add-entry invariant-loop decreases-loop
-add-entry c = let l = c.before.loop in entry-fits (suc l.k) _ (omega arith) (gives_second _ _ _ _ l.invariant.2)
+add-entry : tie.Need-overflow_add-entry invariant-loop decreases-loop
+add-entry c = let l = c.loop-k in entry-fits (suc l.k) _ (omega arith) (gives_second _ _ _ _ l.invariant.2)
 
-shared-slice-copy-out-wide-signed : tie.Need-shared-slice-copy-out-wide-signed invariant-loop decreases-loop
-shared-slice-copy-out-wide-signed c = omega (arith, c.before.before.before.requires.0.size)
+shared-slice-copy-out-wide-signed : tie.Need-bounds-differences-k invariant-loop decreases-loop
+shared-slice-copy-out-wide-signed c = omega (arith, c.requires.0.size)
 
-loop-again : tie.Need-loop-preserved invariant-loop decreases-loop
+loop-again : tie.Need-loop-k-preserved invariant-loop decreases-loop
 loop-again c =
     let a = c.before.before.before in
-    let l = a.loop in
+    let l = a.loop-k in
     let g = next c in
     rw add-one (
       omega arith,
@@ -137,20 +137,20 @@ loop-again c =
           (ap (λ z. to_z w64 (of_z w64 (step c +ℤ z))) (d-is c) ∙ to_z-of_z w64 _ (step_fits _ _ _ _ g)) g,
     )
 
-slice-write-room-2 : tie.Need-slice-write-room-2 invariant-loop decreases-loop
+slice-write-room-2 : tie.Need-bounds-room-899 invariant-loop decreases-loop
 slice-write-room-2 c = omega (arith, same c.before, long c.before)
 
-slice-write-room-3 : tie.Need-slice-write-room-3 invariant-loop decreases-loop
+slice-write-room-3 : tie.Need-bounds-room-900 invariant-loop decreases-loop
 slice-write-room-3 c = simp length-set (omega (arith, same c.before, long c.before))
 
-same_length : tie.Need-same-length invariant-loop decreases-loop
+same_length : tie.Need-shape_of-room invariant-loop decreases-loop
 same_length c = begun-length _ 901 _ (omega arith) (long c.before) (all-stored c)
 
 returns : tie.Need-returns invariant-loop decreases-loop
 returns c = begun_all _ _ (all-stored c)
 
-pub sum-up-spec : {M : Type 1} → statement M
-sum-up-spec =
+pub sum_up_spec : {M : Type 1} → statement M
+sum_up_spec =
     tie.close
     (tie.spec invariant-loop decreases-loop (λ c. search rules) loop-holds cast-room (λ c. search rules) slice-write-room
     add-entry (λ c. search rules) shared-slice-copy-out-wide-signed (λ c κs. search rules)

@@ -17,5 +17,5 @@ wider f = record { sfits = omega (arith, f.sfits) }
 returns : tie.Need-returns
 returns c = rw (read c) (to_z-of_z w64 c.args.x (wider c.ranges.x))
 
-pub wide-signed-spec : {M : Type 1} → statement M
-wide-signed-spec = tie.close (tie.spec (λ c. rw (read c) (wider c.ranges.x)) returns)
+pub wide_signed_spec : {M : Type 1} → statement M
+wide_signed_spec = tie.close (tie.spec (λ c. rw (read c) (wider c.ranges.x)) returns)

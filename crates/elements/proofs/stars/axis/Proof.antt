@@ -6,8 +6,8 @@ use Rattle.elements.proofs.stars.axis.Tie as tie
 
 returns : tie.Need-returns
 returns c =
-    let s = c.before.before.before.before.before.args.s in
-    rw (c.constant.ensures, read_result s.d c.before.struct_told.given.1.1.0.1)
+    let s = c.args.s in
+    rw (c.constant-d.ensures, read_result s.d c.struct_told-1.given.1.1.0.1)
 
-pub axis-spec : {M : Type 1} → statement M
-axis-spec = tie.close (tie.spec (λ c κs. search rules) returns)
+pub axis_spec : {M : Type 1} → statement M
+axis_spec = tie.close (tie.spec (λ c κs. search rules) returns)

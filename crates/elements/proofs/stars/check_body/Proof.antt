@@ -5,14 +5,14 @@ use Rattle.elements.specs.Stars.{body_checked}
 use Rattle.elements.proofs.stars.check_body.Statement.{statement}
 use Rattle.elements.proofs.stars.check_body.Tie as tie
 
-returns : tie.Need-returns
-returns c = c.check.ensures ∙ sym (ap body_checked c.before.before.body.given.1)
+returns : tie.Need-returns-in-Sun
+returns c = c.check.ensures ∙ sym (ap body_checked c.in-Sun.is)
 
-returns-2 : tie.Need-returns-2
-returns-2 c = c.check2.ensures ∙ sym (ap body_checked c.before.before.body2.given.1)
+returns-2 : tie.Need-returns-in-Star
+returns-2 c = c.check-in-Star.ensures ∙ sym (ap body_checked c.in-Star.is)
 
-pub check-body-spec : {M : Type 1} → statement M
-check-body-spec =
+pub check_body_spec : {M : Type 1} → statement M
+check_body_spec =
     tie.close
     (tie.spec (λ c. search rules) (λ c κs. search rules) (λ c. search rules) (λ c κs. search rules) returns
     returns-2)

@@ -7,10 +7,10 @@ use Rattle.elements.proofs.stars.check_elements.Tie as tie
 
 returns : tie.Need-returns
 unfolding star_range_of star_ranges
-returns c = ranges_listed 2 _ _ c.of-ranges.ensures c.before.before.before.before.listed.ensures
+returns c = ranges_listed 2 _ _ c.of_ranges.ensures c.listed-values.ensures
 
-pub check-elements-spec : {M : Type 1} → statement M
-check-elements-spec =
+pub check_elements_spec : {M : Type 1} → statement M
+check_elements_spec =
     tie.close
     (tie.spec (λ c κs. search rules) (λ c. search rules) (λ c. search rules) (λ c. search rules)
     (λ c κs. search rules) returns)

@@ -14,9 +14,9 @@ returns : tie.Need-returns
 unfolding radius_range_of
 returns c =
     let b = c.before.before.before.before in
-    ranges_listed 13 (pos 27200000 ∷ []) (pos 27300000 ∷ []) c.of-ranges.ensures
+    ranges_listed 13 (pos 27200000 ∷ []) (pos 27300000 ∷ []) c.of_ranges.ensures
     (ap (λ (z : ℤ). z ∷ []) (to_z-of_z w64 b.args.radius b.ranges.radius))
 
-pub check-radius-spec : {M : Type 1} → statement M
-check-radius-spec =
+pub check_radius_spec : {M : Type 1} → statement M
+check_radius_spec =
     tie.close (tie.spec (λ c. search rules) (λ c. search rules) (λ c. search rules) (λ c κs. search rules) returns)

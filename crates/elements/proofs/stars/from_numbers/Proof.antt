@@ -12,17 +12,17 @@ unfolding star_of
 returns c =
     let d = c.before.before in
     let y = d.before in
-    let n = y.before.before.args.n.now in
+    let n = y.args.n.now in
     rw (
-      y.before.cubic-from.ensures,
-      y.cubic-from2.ensures,
-      read_result (get_or n 8 (pos 0)) d.d.given,
-      c.before.quadratic-from.ensures,
-      read_result (get_or n 12 (pos 0)) c.radius.given,
+      y.cubic_from-x.ensures,
+      y.cubic_from-y.ensures,
+      read_result (get_or n 8 (pos 0)) d.d-1.given,
+      c.quadratic_from-mu.ensures,
+      read_result (get_or n 12 (pos 0)) c.radius-1.given,
     )
 
-pub from-numbers-spec : {M : Type 1} → statement M
-from-numbers-spec =
+pub from_numbers_spec : {M : Type 1} → statement M
+from_numbers_spec =
     tie.close
     (tie.spec (λ c κs. search rules) (λ c κs. search rules) (λ c. search rules) (λ c κs. search rules)
     (λ c. search rules) returns)

@@ -6,14 +6,14 @@ use Rattle.elements.proofs.stars.listed.Tie as tie
 
 returns : tie.Need-returns
 returns c =
-    let x = c.before.before.before.struct_told.given in
-    let y = c.before.before.struct-told2.given in
-    let d = c.before.struct-told3.given in
-    let mu = c.struct-told4.given in
+    let x = c.struct_told-1.given in
+    let y = c.struct_told-2-1.given in
+    let d = c.struct_told-3-1.given in
+    let mu = c.struct_told-4-1.given in
     cons_back _ x.0.1 (cons_back _ x.1.0.1 (cons_back _ x.1.1.0.1 (cons_back _ x.1.1.1.0.1
     (cons_back _ y.0.1 (cons_back _ y.1.0.1 (cons_back _ y.1.1.0.1 (cons_back _ y.1.1.1.0.1
     (cons_back _ d.1.1.0.1
     (cons_back _ mu.0.1 (cons_back _ mu.1.0.1 (cons_back _ mu.1.1.0.1 refl)))))))))))
 
-pub listed-spec : {M : Type 1} → statement M
-listed-spec = tie.close (tie.spec returns)
+pub listed_spec : {M : Type 1} → statement M
+listed_spec = tie.close (tie.spec returns)

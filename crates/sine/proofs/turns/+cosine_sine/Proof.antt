@@ -43,7 +43,7 @@ cosine-c-requires : (t : ℕ) → cosine-lts.Need-c-requires (
   sine-below t,
   sine.Post,
 ) (cosine-at t) cosine.Post
-cosine-c-requires t c κs = (c.before.before.requires.1.0, omega arith)
+cosine-c-requires t c κs = (c.requires.1.0, omega arith)
 
 cosine-sub-sine : (t : ℕ) → cosine-lts.Need-overflow-sub-sine (
   c-reads.Asked,
@@ -59,7 +59,7 @@ cosine-sine-requires : (t : ℕ) → cosine-lts.Need-sine-requires (
   sine-below t,
   sine.Post,
 ) (cosine-at t) cosine.Post
-cosine-sine-requires t c κs = (omega arith, (c.before.before.requires.1.0, omega arith))
+cosine-sine-requires t c κs = (omega arith, (c.requires.1.0, omega arith))
 
 cosine-sub-result : (t : ℕ) → cosine-lts.Need-overflow-sub-result (
   c-reads.Asked,
@@ -87,7 +87,7 @@ cosine-returns-2 t c =
     let s = c.before.before.before in
     let q = c.sine in
     is-cosine (minus q.result q.ensures.small q.ensures.value
-    ∙ sym (cosine-above s.args.a c.before.if1.false s.requires.1.1))
+    ∙ sym (cosine-above s.args.a c.if-a-le90000000.false s.requires.1.1))
 
 sine-s-requires : (t : ℕ) → sine-lts.Need-s-requires (
   s_reads.Asked,
@@ -95,7 +95,7 @@ sine-s-requires : (t : ℕ) → sine-lts.Need-s-requires (
   cosine_below t,
   cosine.Post,
 ) (sine-at t) sine.Post
-sine-s-requires t c κs = (c.before.before.requires.1.0, omega arith)
+sine-s-requires t c κs = (c.requires.1.0, omega arith)
 
 sine-sub-cosine : (t : ℕ) → sine-lts.Need-overflow-sub-cosine (
   s_reads.Asked,
@@ -111,7 +111,7 @@ sine-cosine-requires : (t : ℕ) → sine-lts.Need-cosine-requires (
   cosine_below t,
   cosine.Post,
 ) (sine-at t) sine.Post
-sine-cosine-requires t c κs = (omega arith, (c.before.before.requires.1.0, omega arith))
+sine-cosine-requires t c κs = (omega arith, (c.requires.1.0, omega arith))
 
 sine-returns : (t : ℕ) → sine-lts.Need-returns (
   s_reads.Asked,
@@ -130,8 +130,8 @@ sine-returns-2 : (t : ℕ) → sine-lts.Need-returns-2 (
 sine-returns-2 t c =
     let s = c.before.before.before in
     let q = c.cosine in
-    is-sine (kept q.type-inv q.ensures.value
-    ∙ sym (sine-above s.args.a c.before.if1.false s.requires.1.1))
+    is-sine (kept q.type_inv q.ensures.value
+    ∙ sym (sine-above s.args.a c.if-a-le90000000.false s.requires.1.1))
 
 pub +cosine-sine-spec : {M : Type 1} → statement M
 +cosine-sine-spec = close μ-cosine μ-sine (λ t. cosine-lts.spec (
