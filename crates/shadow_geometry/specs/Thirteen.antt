@@ -3,17 +3,17 @@
 -- hold strictly, which the states at a guard of 13 need (States).
 use Rattle.std.specs.Prelude.{◌≡◌, [], ◌∷◌, ℕ, ◌+◌, ◌*◌, ◌≤◌, ℤ, pos, neg_ℤ, nat_abs, ◌+ℤ◌, ◌-ℤ◌, ◌*ℤ◌, ◌≤ℤ◌, ◌<ℤ◌}
 use Rattle.std.proofs.Common.{◌∙◌, ap, arith, lit≤}
-use Rattle.std.proofs.Math.IntN.{-ℤ-+ℤ_cancel}
+use Rattle.std.proofs.Math.IntN.{ -ℤ-+ℤ_cancel}
 use Rattle.std.specs.Int.Signed.{clash_ℤ}
 use Rattle.rounding.specs.Parts.{sum, opposite}
 use Rattle.rounding.specs.laws.Order.{zs, <ℤ-≤, le_nat_abs, neg_nat_abs, nat_abs_by}
 use Rattle.rounding.specs.laws.Order.{nat_abs_sum, nat_abs_product, nat_abs_opposite, by_contra-<}
-use Rattle.rounding.specs.laws.Ring.{num, _⊕_, _⊖_, _⊗_, opp, ring, v0, v1, v2, v3, v4, v5}
-use Rattle.rounding.specs.laws.Cert.{leq, less, lit, sq, _⊞_, _⊠_, certify, certify-<}
+use Rattle.rounding.specs.laws.Ring.{num, ◌⊕◌, ◌⊖◌, ◌⊗◌, opp, ring, v0, v1, v2, v3, v4, v5}
+use Rattle.rounding.specs.laws.Cert.{leq, less, lit, sq, ◌⊞◌, ◌⊠◌, certify, certify-<}
 use Rattle.sheet_types.specs.declared.phases.Phase.{Phase}
 use Rattle.sheet_types.specs.declared.phases.Phase.TheVariants.{Penumbra, Central, Star}
 use Rattle.elements.specs.declared.Cone.{Cone}
-use Rattle.shadow_geometry.specs.Shadow.{Moment, _², u, v, L, M, edge}
+use Rattle.shadow_geometry.specs.Shadow.{Moment, ◌², u, v, L, M, edge}
 use Rattle.shadow_geometry.specs.Exact.{D, exact_u, exact_v, exact_L, exact_M, exact_edge, AtMost, Less, AtLeast}
 use Rattle.shadow_geometry.specs.laws.Errors.{u_error, v_error, L-inner}
 use Rattle.shadow_geometry.specs.laws.Triangle.{le_of_squares, squares_of_size, triangle}

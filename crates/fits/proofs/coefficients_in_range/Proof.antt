@@ -7,9 +7,9 @@ use lib.IntN.{ℤ, pos, neg_ℤ}
 use lib.ListN.{length}
 use Rattle.rounding.specs.Limits.{first_out_of_range, rows}
 use Rattle.elements.specs.Elements.{cubic_from}
-use Rattle.fits.specs.Fits.{coefficient_ranges}
-use Rattle.fits.proofs.coefficients_in_range.Statement.{statement}
-use Rattle.fits.proofs.coefficients_in_range.Tie as tie
+use Rattle.ranges.specs.Fits.{coefficient_ranges}
+use Rattle.ranges.proofs.coefficients_in_range.Statement.{statement}
+use Rattle.ranges.proofs.coefficients_in_range.Tie as tie
 
 abbrev lows : List ℤ
 lows = neg_ℤ (pos 200000000) ∷ neg_ℤ (pos 100000000) ∷ neg_ℤ (pos 100000) ∷ neg_ℤ (pos 10000) ∷ []
@@ -30,9 +30,9 @@ four-rows (a ∷ b ∷ c ∷ d ∷ x ∷ xs) e = absurd (omega arith)
 returns : tie.Need-returns
 returns c =
     let start = c.before.before.before in
-    c.first-out-of-range.ensures ∙ ap (first_out_of_range 0) (four-rows start.args.coefficients.now start.requires)
+    c.first_out_of_range.ensures ∙ ap (first_out_of_range 0) (four-rows start.args.coefficients.now start.requires)
 
-pub coefficients-in-range-spec : {M : Type 1} → statement M
-coefficients-in-range-spec =
+pub coefficients_in_range_spec : {M : Type 1} → statement M
+coefficients_in_range_spec =
     tie.close
     (tie.spec (λ c. search rules) (λ c. search rules) (λ c κs. search rules) returns)

@@ -8,10 +8,10 @@ use lib.IntN.{ℤ, pos, ◌-ℤ◌, ◌*ℤ◌}
 use Rattle.rounding.specs.laws.Code.{Code, arg, lit, sub, mul, run, Within, whole, raw, ends, ◌▹◌, fits, runs, count-is, count-size}
 use Rattle.rounding.specs.Units.{hour}
 use Rattle.elements.specs.Polynomial.{cubic_at}
-use Rattle.fits.specs.Fits.{second}
-use Rattle.fits.specs.laws.FitLaws.{second-size}
-use Rattle.fits.proofs.difference.Statement.{statement}
-use Rattle.fits.proofs.difference.Tie as tie
+use Rattle.ranges.specs.Fits.{second}
+use Rattle.ranges.specs.laws.FitLaws.{second-size}
+use Rattle.ranges.proofs.difference.Statement.{statement}
+use Rattle.ranges.proofs.difference.Tie as tie
 
 bounds : (c : tie.Start) → Within (raw c.args.i ∷ []) (7 ∷ [])
 bounds c = let h : c.args.i ≤ 7 = omega (arith, c.requires.2) in count-size c.args.i h tt ▹ ends
@@ -26,19 +26,19 @@ seconds-are : (c : tie.Start) → run (raw c.args.i ∷ []) seconds ≡ second c
 seconds-are c =
     runs (bounds c) seconds tt ∙ ap (λ (z : ℤ). hour *ℤ (z -ℤ pos 3)) (count-is c.args.i {m = 7} (omega (arith, c.requires.2)) tt)
 
-cubic-at-requires : tie.Need-cubic-at-requires
+cubic-at-requires : tie.Need-cubic_at-value-requires
 cubic-at-requires c κs = (c.requires.0, rw (seconds-are c) (second-size c.args.i c.requires.2))
 
 -- what `cubic_at` gave
-given : (c : tie.After-cubic-at) → c.cubic-at.result ≡ cubic_at c.before.args.c (second c.before.args.i)
-given c = rw (seconds-are c.before) at c.cubic-at.ensures.value
+given : (c : tie.After-cubic_at-value) → c.cubic_at-value.result ≡ cubic_at c.args.c (second c.args.i)
+given c = rw (seconds-are c.before) at c.cubic_at-value.ensures.value
 
-after : (c : tie.After-cubic-at) → Within (whole c.cubic-at.result ∷ whole c.before.args.tabulated ∷ []) (501170000 ∷ 1000000000 ∷ [])
-after c = c.cubic-at.ensures.size ▹ c.before.requires.1 ▹ ends
+after : (c : tie.After-cubic_at-value) → Within (whole c.cubic_at-value.result ∷ whole c.args.tabulated ∷ []) (501170000 ∷ 1000000000 ∷ [])
+after c = c.cubic_at-value.ensures.size ▹ c.requires.1 ▹ ends
 
 returns : tie.Need-returns
-returns c = runs (after c) (sub (arg 0) (arg 1)) tt ∙ ap (λ (z : ℤ). z -ℤ c.before.args.tabulated) (given c)
+returns c = runs (after c) (sub (arg 0) (arg 1)) tt ∙ ap (λ (z : ℤ). z -ℤ c.args.tabulated) (given c)
 
-pub difference-spec : {M : Type 1} → statement M
-difference-spec =
+pub difference_spec : {M : Type 1} → statement M
+difference_spec =
     tie.close (tie.spec (λ c. search rules) (λ c. fits (bounds c) hours tt) (λ c. fits (bounds c) seconds tt) cubic-at-requires (λ c. fits (after c) (sub (arg 0) (arg 1)) tt) returns)

@@ -16,19 +16,19 @@ use Rattle.elements.specs.declared.Cubic.{Cubic}
 use Rattle.elements.specs.Elements.{cubic_from}
 use Rattle.elements.specs.Polynomial.{cubic_at}
 use Rattle.elements.specs.Sizes.{CubicSizes}
-use Rattle.fits.specs.Fits.{second, difference}
-use Rattle.fits.specs.laws.RangeLaws.{seven_by}
-use Rattle.fits.proofs.differences.Statement.{statement}
-use Rattle.fits.proofs.differences.Tie as tie
+use Rattle.ranges.specs.Fits.{second, difference}
+use Rattle.ranges.specs.laws.RangeLaws.{seven_by}
+use Rattle.ranges.proofs.differences.Statement.{statement}
+use Rattle.ranges.proofs.differences.Tie as tie
 
-abbrev invariant-loop : tie.invariant-loop
+abbrev invariant-loop : tie.invariant-loop-i
 invariant-loop coefficients tabulated c0 c1 c2 c3 c all₀ i₀ all i =
     (i ≤ 7) × (length all ≡ 7) × ((j : ℕ) → j < i → get_or all j (pos 0) ≡ difference (cubic_from coefficients 0) tabulated j)
 
-abbrev decreases-loop : tie.decreases-loop
+abbrev decreases-loop : tie.decreases-loop-i
 decreases-loop coefficients tabulated c0 c1 c2 c3 c all₀ i₀ all i = 7 - i
 
-loop-holds : tie.Need-loop-init invariant-loop decreases-loop
+loop-holds : tie.Need-loop-i-init invariant-loop decreases-loop
 loop-holds c = (omega arith, refl, λ j l. absurd (omega arith))
 
 -- the coefficients as they are read from their bits
@@ -44,7 +44,7 @@ difference-requires c κs =
     let start = c.before.before.before.before.before.before.before in
     let r = start.requires in
     let x = cubic_from start.args.coefficients.now 0 in
-    let i = c.before.before.loop.i in
+    let i = c.loop-i.i in
     let h : i < 7 = omega arith in
     (subst CubicSizes (sym (read-cubic x r.of_x)) r.of_x, read-size (get_or start.args.tabulated.now i (pos 0)) 1000000000 (r.tabulated i h) tt, h)
 
@@ -54,15 +54,15 @@ at start = difference (cubic_from start.args.coefficients.now 0) start.args.tabu
 
 -- what `difference` gave
 given : (c : tie.After-difference invariant-loop decreases-loop)
-    → to_z w64 (of_z w64 c.difference.result) ≡ at c.before.before.before.before.before.before.before.before c.before.before.before.loop.i
+    → to_z w64 (of_z w64 c.difference.result) ≡ at c.before.before.before.before.before.before.before.before c.loop-i.i
 unfolding difference
 given c =
     let start = c.before.before.before.before.before.before.before.before in
     let r = start.requires in
     let cubic = read-cubic (cubic_from start.args.coefficients.now 0) r.of_x in
-    let i = c.before.before.before.loop.i in
+    let i = c.loop-i.i in
     let h : i < 7 = omega arith in
-    read_result c.difference.result c.difference.type-inv
+    read_result c.difference.result c.difference.type_inv
     ∙ c.difference.ensures
     ∙ ap₂ (λ (x : Cubic) (z : ℤ). cubic_at x (second i) -ℤ z) cubic (read_back (get_or start.args.tabulated.now i (pos 0)) (r.tabulated i h) tt)
 
@@ -74,10 +74,10 @@ more f all i z l this before =
     (λ j h. rw (get_or-set_other all i j z (pos 0) (λ e. omega arith)) (before j h))
     (rw (get_or-set_same all i z (pos 0) l) this)
 
-loop-again : tie.Need-loop-preserved invariant-loop decreases-loop
+loop-again : tie.Need-loop-i-preserved invariant-loop decreases-loop
 loop-again c =
     let start = c.before.before.before.before.before.before.before.before in
-    let l = c.before.before.before.loop in
+    let l = c.loop-i in
     let z = to_z w64 (of_z w64 c.difference.result) in (
       omega arith,
       length-set l.all l.i z ∙ l.invariant.1,
@@ -87,11 +87,11 @@ loop-again c =
 returns : tie.Need-returns invariant-loop decreases-loop
 returns c =
     let start = c.before.before.before.before.before.before in
-    let l = c.before.loop in
+    let l = c.loop-i in
     seven_by (at start) l.all l.invariant.1 (λ j h. l.invariant.2 j (omega arith))
 
-pub differences-spec : {M : Type 1} → statement M
-differences-spec =
+pub differences_spec : {M : Type 1} → statement M
+differences_spec =
     tie.close
     (tie.spec invariant-loop decreases-loop (λ c. search rules) (λ c. search rules) (λ c. search rules) (λ c. search rules)
     loop-holds (λ c. search rules) (λ c. search rules) difference-requires (λ c. search rules)

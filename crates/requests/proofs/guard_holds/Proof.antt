@@ -9,5 +9,5 @@ returns : tie.Need-returns
 unfolding guard_holds
 returns c = rw (to_z-of_z w64 c.args.g c.ranges.g)
 
-pub guard-holds-spec : {M : Type 1} → statement M
-guard-holds-spec = tie.close (tie.spec returns)
+pub guard_holds_spec : {M : Type 1} → statement M
+guard_holds_spec = tie.close (tie.spec returns)

@@ -6,13 +6,13 @@ use Rattle.requests.specs.Shares.{sharing_of, sharing}
 use Rattle.requests.proofs.shares.Statement.{statement}
 use Rattle.requests.proofs.shares.Tie as tie
 
-returns : tie.Need-returns
+returns : tie.Need-returns-in-Sun
 unfolding sharing
-returns c = sym (ap (λ (b : Body). sharing_of b c.before.before.args.o.share) c.enum_told.given.1)
+returns c = sym (ap (λ (b : Body). sharing_of b c.args.o.share) c.in-Sun.is)
 
-returns-2 : tie.Need-returns-2
+returns-2 : tie.Need-returns-in-Star
 unfolding sharing
-returns-2 c = sym (ap (λ (b : Body). sharing_of b c.before.before.args.o.share) c.enum-told2.given.1)
+returns-2 c = sym (ap (λ (b : Body). sharing_of b c.args.o.share) c.in-Star.is)
 
-pub shares-spec : {M : Type 1} → statement M
-shares-spec = tie.close (tie.spec (λ c. search rules) (λ c. search rules) returns returns-2)
+pub shares_spec : {M : Type 1} → statement M
+shares_spec = tie.close (tie.spec (λ c. search rules) (λ c. search rules) returns returns-2)

@@ -16,11 +16,11 @@ use Rattle.rounding.specs.Value.{Value}
 use Rattle.shadow.proofs.coordinates_of.Statement.{statement}
 use Rattle.shadow.proofs.coordinates_of.Tie as tie
 
-abbrev start : tie.After-struct-told6 → tie.Start
+abbrev start : tie.After-struct_told-6-1 → tie.Start
 start c = c.before.before.before.before.before.before
 
 -- what is handed over: r, p, then sin H, cos H, sin d, cos d
-bounds : (c : tie.After-struct-told6)
+bounds : (c : tie.After-struct_told-6-1)
     → Within
     (whole (start c).args.place.r
     ∷ whole (start c).args.place.p
@@ -41,17 +41,17 @@ unit e f = e ∙ ap (λ (z : ℤ). near z one) f
 unit_size : {r : ℤ} (n : ℤ) (m : ℕ) → r ≡ near n one → nat_abs n ≤ m * 100000000 → nat_abs r ≤ m
 unit_size n m e h = omega (arith, ap nat_abs e, near-size n one m (le_z_yes tt) h)
 
-q-is : (c : tie.After-near-unit) → c.near-unit.result ≡ near ((start c.before).args.place.r *ℤ (start c.before).args.o.hcosine) one
-q-is c = unit c.near-unit.ensures (runs (bounds c.before) (mul (arg 0) (arg 3)) tt)
+q-is : (c : tie.After-near_unit-q) → c.near_unit-q.result ≡ near ((start c.before).args.place.r *ℤ (start c.before).args.o.hcosine) one
+q-is c = unit c.near_unit-q.ensures (runs (bounds c.before) (mul (arg 0) (arg 3)) tt)
 
-q-size : (c : tie.After-near-unit) → nat_abs c.near-unit.result ≤ 101000000
+q-size : (c : tie.After-near_unit-q) → nat_abs c.near_unit-q.result ≤ 101000000
 q-size c =
     unit_size ((start c.before).args.place.r *ℤ (start c.before).args.o.hcosine) 101000000 (q-is c) (sized (bounds c.before) (mul (arg 0) (arg 3)))
 
 -- with q in front: q is 0, r 1, p 2, sin H 3, cos H 4, sin d 5, cos d 6
-after : (c : tie.After-near-unit)
+after : (c : tie.After-near_unit-q)
     → Within
-    (whole c.near-unit.result
+    (whole c.near_unit-q.result
     ∷ whole (start c.before).args.place.r
     ∷ whole (start c.before).args.place.p
     ∷ whole (start c.before).args.o.hsine
@@ -71,25 +71,25 @@ eta = sub (mul (arg 2) (arg 6)) (mul (arg 0) (arg 5))
 abbrev zeta : Code
 zeta = add (mul (arg 2) (arg 5)) (mul (arg 0) (arg 6))
 
-near-unit-requires : tie.Need-near-unit-requires
+near-unit-requires : tie.Need-near_unit-q-requires
 near-unit-requires c κs = within (bounds c) (mul (arg 0) (arg 3)) 1000000000000000000 tt
 
-mul-near-unit-3 : tie.Need-overflow-mul-near-unit-3
+mul-near-unit-3 : tie.Need-overflow_mul-p
 mul-near-unit-3 c = fits (after c.before) (mul (arg 2) (arg 6)) tt
 
-mul-near-unit-4 : tie.Need-overflow-mul-near-unit-4
+mul-near-unit-4 : tie.Need-overflow_mul-q
 mul-near-unit-4 c = fits (after c.before) (mul (arg 0) (arg 5)) tt
 
-near-unit-requires-3 : tie.Need-near-unit-requires-3
+near-unit-requires-3 : tie.Need-near_unit-eta-requires
 near-unit-requires-3 c κs = within (after c.before) eta 1000000000000000000 tt
 
-mul-near-unit-5 : tie.Need-overflow-mul-near-unit-5
+mul-near-unit-5 : tie.Need-overflow_mul-p-2
 mul-near-unit-5 c = fits (after c.before.before) (mul (arg 2) (arg 5)) tt
 
-mul-near-unit-6 : tie.Need-overflow-mul-near-unit-6
+mul-near-unit-6 : tie.Need-overflow_mul-q-2
 mul-near-unit-6 c = fits (after c.before.before) (mul (arg 0) (arg 6)) tt
 
-near-unit-requires-4 : tie.Need-near-unit-requires-4
+near-unit-requires-4 : tie.Need-near_unit-zeta-requires
 near-unit-requires-4 c κs = within (after c.before.before) zeta 1000000000000000000 tt
 
 -- a result that is near of z, read back
@@ -103,21 +103,21 @@ returns c =
     let p = a.place.p in
     let o = a.o in
     let w = after c.before.before.before in
-    let q = c.before.before.before.near-unit.result in
+    let q = c.near_unit-q.result in
     let e = q-is c.before.before.before in
-    let x = unit c.before.before.near-unit2.ensures (runs w xi tt) in
-    let y = unit c.before.near-unit3.ensures (runs w eta tt) in
-    let z = unit c.near-unit4.ensures (runs w zeta tt) in
+    let x = unit c.near_unit-xi.ensures (runs w xi tt) in
+    let y = unit c.near_unit-eta.ensures (runs w eta tt) in
+    let z = unit c.near_unit-zeta.ensures (runs w zeta tt) in
     record {
       xi = given (r *ℤ o.hsine) 101000000 x (unit_size (r *ℤ o.hsine) 101000000 x (sized w xi)) tt;
-      eta = subst (λ (k : ℤ). Value (near (p *ℤ o.dcosine -ℤ k *ℤ o.dsine) one) 202000000 (to_z w64 (of_z w64 c.before.near-unit3.result))) e
+      eta = subst (λ (k : ℤ). Value (near (p *ℤ o.dcosine -ℤ k *ℤ o.dsine) one) 202000000 (to_z w64 (of_z w64 c.near_unit-eta.result))) e
           (given (p *ℤ o.dcosine -ℤ q *ℤ o.dsine) 202000000 y (unit_size (p *ℤ o.dcosine -ℤ q *ℤ o.dsine) 202000000 y (sized w eta)) tt);
-      zeta = subst (λ (k : ℤ). Value (near (p *ℤ o.dsine +ℤ k *ℤ o.dcosine) one) 202000000 (to_z w64 (of_z w64 c.near-unit4.result))) e
+      zeta = subst (λ (k : ℤ). Value (near (p *ℤ o.dsine +ℤ k *ℤ o.dcosine) one) 202000000 (to_z w64 (of_z w64 c.near_unit-zeta.result))) e
           (given (p *ℤ o.dsine +ℤ q *ℤ o.dcosine) 202000000 z (unit_size (p *ℤ o.dsine +ℤ q *ℤ o.dcosine) 202000000 z (sized w zeta)) tt);
     }
 
-pub coordinates-of-spec : {M : Type 1} → statement M
-coordinates-of-spec =
+pub coordinates_of_spec : {M : Type 1} → statement M
+coordinates_of_spec =
     tie.close
     (tie.spec (λ c. fits (bounds c) (mul (arg 0) (arg 3)) tt) near-unit-requires (λ c. fits (after c) xi tt)
     (λ c κs. within (after c) xi 1000000000000000000 tt) mul-near-unit-3 mul-near-unit-4

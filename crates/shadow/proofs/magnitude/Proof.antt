@@ -57,15 +57,15 @@ module _ (c : tie.Start) where
   limit-else = subst (λ (k : ℕ). k ≤ 1300000) (magnitude_else outside l1 l2 m (not-inside 0 (λ h. omega arith))) (limit outside)
 
 -- root(M), and L1 less it
-distance : (c : tie.After-root) → c.root.result ≡ root (nat_abs c.before.before.args.m)
-distance c = c.root.ensures ∙ ap (λ (z : ℤ). root (nat_abs z)) (read_back c.before.before.args.m c.before.before.requires.0.2 tt)
+distance : (c : tie.After-root-distance) → c.root-distance.result ≡ root (nat_abs c.args.m)
+distance c = c.root-distance.ensures ∙ ap (λ (z : ℤ). root (nat_abs z)) (read_back c.args.m c.requires.0.2 tt)
 
-after : (c : tie.After-root)
-    → Within (whole (pos c.root.result) ∷ whole c.before.before.args.l1 ∷ whole c.before.before.args.l2 ∷ [])
+after : (c : tie.After-root-distance)
+    → Within (whole (pos c.root-distance.result) ∷ whole c.args.l1 ∷ whole c.args.l2 ∷ [])
     (1000000000 ∷ 600000000 ∷ 600000000 ∷ [])
 after c =
-    let p = c.before.before.requires.0 in
-    let h : c.root.result ≤ 1000000000 = omega (arith, distance c, root-small (nat_abs c.before.before.args.m) p.2) in
+    let p = c.requires.0 in
+    let h : c.root-distance.result ≤ 1000000000 = omega (arith, distance c, root-small (nat_abs c.args.m) p.2) in
     h ▹ p.0 ▹ p.1 ▹ ends
 
 abbrev short : Code
@@ -84,17 +84,17 @@ share-requires c κs =
           (limit-inside c.before),
     )
 
-returns : tie.Need-returns
+returns : tie.Need-returns-then-central-eq1
 returns c =
-    let a = c.before.before.args in
+    let a = c.args in
     let w = bounds c.before.before in
     let e : c.share.result ≡ magnitude (state_of a.central) a.l1 a.l2 a.m =
     c.share.ensures ∙ ap₂ millionths (runs w less tt) (runs w both tt) ∙ sym (magnitude_inside a.l1 a.l2 a.m)
-    ∙ ap (λ (n : ℕ). magnitude (state_of n) a.l1 a.l2 a.m) (sym c.before.if1.true) in
+    ∙ ap (λ (n : ℕ). magnitude (state_of n) a.l1 a.l2 a.m) (sym c.if-central-eq1.true) in
     (e, omega (arith, e, limit c.before.before (state_of a.central)))
 
-cast-root : tie.Need-overflow-cast-root
-cast-root c = unsigned (bounds c.before) (arg 2) tt c.before.requires.0.3
+cast-root : tie.Need-overflow_cast-m
+cast-root c = unsigned (bounds c.before) (arg 2) tt c.requires.0.3
 
 share-requires-2 : tie.Need-share-requires-2
 share-requires-2 c κs =
@@ -102,18 +102,18 @@ share-requires-2 c κs =
     let s = c.before.before in
     (within w short 2000000000 tt, within w sum 2000000000 tt, rw (runs w sum tt) (sum-above s), rw (runs w short tt, runs w sum tt, distance c) (limit-else s))
 
-returns-2 : tie.Need-returns-2
+returns-2 : tie.Need-returns
 returns-2 c =
-    let a = c.before.before.before.args in
+    let a = c.args in
     let w = after c.before in
-    let e : c.share2.result ≡ magnitude (state_of a.central) a.l1 a.l2 a.m =
-    c.share2.ensures ∙ ap₂ millionths (runs w short tt) (runs w sum tt)
+    let e : c.share-2.result ≡ magnitude (state_of a.central) a.l1 a.l2 a.m =
+    c.share-2.ensures ∙ ap₂ millionths (runs w short tt) (runs w sum tt)
     ∙ ap (λ (n : ℕ). millionths (a.l1 -ℤ pos n) (a.l1 +ℤ a.l2)) (distance c.before)
-    ∙ sym (magnitude_else (state_of a.central) a.l1 a.l2 a.m (not-inside a.central c.before.before.if1.false)) in
+    ∙ sym (magnitude_else (state_of a.central) a.l1 a.l2 a.m (not-inside a.central c.if-central-eq1.false)) in
     (e, omega (arith, e, limit c.before.before.before (state_of a.central)))
 
-pub magnitude-spec : {M : Type 1} → statement M
-magnitude-spec =
+pub magnitude_spec : {M : Type 1} → statement M
+magnitude_spec =
     tie.close
     (tie.spec (λ c. fits (bounds c) both tt) (λ c. fits (bounds c.before) less tt) share-requires returns
     cast-root (λ c κs. tt) (λ c. fits (after c) (arg 0) tt) (λ c. fits (after c) short tt) share-requires-2

@@ -25,27 +25,27 @@ floor-is (pos n) (pos d) h k = refl
 floor-is (pos n) (negsuc d) h k = absurd (omega (arith, zs))
 floor-is (negsuc n) d h k = absurd (omega (arith, zs))
 
-quotient_is : (c : tie.Else1) → quot_z (pos 1000000 *ℤ c.before.args.n) c.before.args.d ≡ pos (millionths c.before.args.n c.before.args.d)
-quotient_is c = floor-is c.before.args.n c.before.args.d (left-< (bounds c.before) (arg 0) (lit (pos 0)) tt c.if1.false) c.before.requires.2
+quotient_is : (c : tie.Else-n-lt0) → quot_z (pos 1000000 *ℤ c.args.n) c.args.d ≡ pos (millionths c.args.n c.args.d)
+quotient_is c = floor-is c.args.n c.args.d (left-< (bounds c.before) (arg 0) (lit (pos 0)) tt c.if-n-lt0.false) c.requires.2
 
-returns : tie.Need-returns
-returns c = sym (millionths-neg c.before.args.n c.before.args.d (taken-< (bounds c.before) (arg 0) (lit (pos 0)) tt c.if1.true))
+returns : tie.Need-returns-then-n-lt0
+returns c = sym (millionths-neg c.args.n c.args.d (taken-< (bounds c.before) (arg 0) (lit (pos 0)) tt c.if-n-lt0.true))
 
-div-q : tie.Need-nonzero-div-q
-div-q c = (above (bounds c.before) (arg 1) tt c.before.requires.2, fits (bounds c.before) quotient tt)
+div-q : tie.Need-nonzero_div-q
+div-q c = (above (bounds c.before) (arg 1) tt c.requires.2, fits (bounds c.before) quotient tt)
 
-cast-result : tie.Need-overflow-cast-result
+cast-result : tie.Need-overflow_cast-result
 cast-result c =
     let w = bounds c.before in (
       (unsigned w quotient tt (rw (quotient_is c) (omega (arith, zs)))).0,
       record {
         fits = omega
-            (arith, ap nat_abs (runs w quotient tt ∙ quotient_is c), c.before.requires.3);
+            (arith, ap nat_abs (runs w quotient tt ∙ quotient_is c), c.requires.3);
       },
     )
 
-returns-2 : tie.Need-returns-2
+returns-2 : tie.Need-returns
 returns-2 c = ap nat_abs (runs (bounds c.before) quotient tt ∙ quotient_is c)
 
-pub share-spec : {M : Type 1} → statement M
-share-spec = tie.close (tie.spec returns (λ c. fits (bounds c.before) product tt) div-q cast-result returns-2)
+pub share_spec : {M : Type 1} → statement M
+share_spec = tie.close (tie.spec returns (λ c. fits (bounds c.before) product tt) div-q cast-result returns-2)

@@ -23,35 +23,35 @@ abbrev outer : Code
 outer = add (arg 1) (arg 0)
 
 -- what is not inside: where l is above the guard, m is at least the inner square
-not-inside : (c : tie.Joined1) → c.before.args.guard <ℤ c.before.args.l → ((c.before.args.l -ℤ c.before.args.guard) ²) ≤ℤ c.before.args.m
+not-inside : (c : tie.Joined-guard-l) → c.args.guard <ℤ c.args.l → ((c.args.l -ℤ c.args.guard) ²) ≤ℤ c.args.m
 not-inside c h =
     let w = bounds c.before in
-    ⊎_elim (λ p. left-< w (arg 2) (mul inner inner) tt p.1.left) (λ e. clash_ℤ h (left-< w (arg 0) (arg 1) tt e.left)) c.if1.branch
+    ⊎_elim (λ p. left-< w (arg 2) (mul inner inner) tt p.1.left) (λ e. clash_ℤ h (left-< w (arg 0) (arg 1) tt e.left)) c.if-guard-l.branch
 
-mul-if2 : tie.Need-overflow-mul-if2
+mul-if2 : tie.Need-overflow_mul-inner
 mul-if2 c = fits (bounds c.before) (mul inner inner) tt
 
-returns : tie.Need-returns
+returns : tie.Need-returns-then-m-inner
 returns c =
-    let a = c.before.before.args in
+    let a = c.args in
     let w = bounds c.before.before in
     sym (ap code (state-edge a.guard a.l a.m inside
-    (taken-< w (arg 0) (arg 1) tt c.before.if1.true, taken-< w (arg 2) (mul inner inner) tt c.if2.true)))
+    (taken-< w (arg 0) (arg 1) tt c.if-guard-l.true, taken-< w (arg 2) (mul inner inner) tt c.if-m-inner.true)))
 
-mul-if3 : tie.Need-overflow-mul-if3
+mul-if3 : tie.Need-overflow_mul-outer
 mul-if3 c = fits (bounds c.before) (mul outer outer) tt
 
-returns-2 : tie.Need-returns-2
+returns-2 : tie.Need-returns-then-outer-m
 returns-2 c =
-    let a = c.before.before.args in
+    let a = c.args in
     let w = bounds c.before.before in
-    sym (ap code (state-edge a.guard a.l a.m outside (not-inside c.before, taken-< w (mul outer outer) (arg 2) tt c.if3.true)))
+    sym (ap code (state-edge a.guard a.l a.m outside (not-inside c.before, taken-< w (mul outer outer) (arg 2) tt c.if-outer-m.true)))
 
-returns-3 : tie.Need-returns-3
+returns-3 : tie.Need-returns-else-outer-m
 returns-3 c =
-    let a = c.before.before.args in
+    let a = c.args in
     let w = bounds c.before.before in
-    sym (ap code (state-edge a.guard a.l a.m unsure (not-inside c.before, left-< w (mul outer outer) (arg 2) tt c.if3.false)))
+    sym (ap code (state-edge a.guard a.l a.m unsure (not-inside c.before, left-< w (mul outer outer) (arg 2) tt c.if-outer-m.false)))
 
-pub state-spec : {M : Type 1} → statement M
-state-spec = tie.close (tie.spec (λ c. fits (bounds c) inner tt) (λ c. fits (bounds c) outer tt) mul-if2 returns mul-if3 returns-2 returns-3)
+pub state_spec : {M : Type 1} → statement M
+state_spec = tie.close (tie.spec (λ c. fits (bounds c) inner tt) (λ c. fits (bounds c) outer tt) mul-if2 returns mul-if3 returns-2 returns-3)

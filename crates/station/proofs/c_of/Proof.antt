@@ -27,14 +27,14 @@ abbrev sE : Code
 sE = mul (arg 0) (lit (pos 99330658))
 
 -- what `near_unit` gave
-e-is : (c : tie.After-near-unit) → c.near-unit.result ≡ near (c.before.args.sine *ℤ E) one
-e-is c = c.near-unit.ensures ∙ ap (λ (z : ℤ). near z one) (runs (bounds c.before) sE tt)
+e-is : (c : tie.After-near_unit-e) → c.near_unit-e.result ≡ near (c.args.sine *ℤ E) one
+e-is c = c.near_unit-e.ensures ∙ ap (λ (z : ℤ). near z one) (runs (bounds c.before) sE tt)
 
-after : (c : tie.After-near-unit) → Within (whole c.before.args.cosine ∷ whole c.near-unit.result ∷ whole c.before.args.sine ∷ [])
+after : (c : tie.After-near_unit-e) → Within (whole c.args.cosine ∷ whole c.near_unit-e.result ∷ whole c.args.sine ∷ [])
     (100000000 ∷ 100000000 ∷ 100000000 ∷ [])
 after c =
     let b = c.before in
-    let h : nat_abs c.near-unit.result ≤ 100000000 = omega
+    let h : nat_abs c.near_unit-e.result ≤ 100000000 = omega
     (arith, ap nat_abs (e-is c), n-size b.args.sine b.args.cosine b.requires.0 b.requires.1 b.requires.2) in
     b.requires.1 ▹ h ▹ b.requires.0 ▹ ends
 
@@ -42,36 +42,36 @@ abbrev U : Code
 U = add (mul (arg 0) (arg 0)) (mul (arg 1) (arg 2))
 
 -- what is under the root
-under-is : (c : tie.After-near-unit) → c.before.args.cosine *ℤ c.before.args.cosine +ℤ c.near-unit.result *ℤ c.before.args.sine ≡ under
-    c.before.args.sine c.before.args.cosine
+under-is : (c : tie.After-near_unit-e) → c.args.cosine *ℤ c.args.cosine +ℤ c.near_unit-e.result *ℤ c.args.sine ≡ under
+    c.args.sine c.args.cosine
 unfolding under
-under-is c = ap (λ (z : ℤ). c.before.args.cosine *ℤ c.before.args.cosine +ℤ z *ℤ c.before.args.sine) (e-is c)
+under-is c = ap (λ (z : ℤ). c.args.cosine *ℤ c.args.cosine +ℤ z *ℤ c.args.sine) (e-is c)
 
 -- what `root` gave
-w-is : (c : tie.After-root) → c.root.result ≡ root (nat_abs (under c.before.before.args.sine c.before.before.args.cosine))
-w-is c = c.root.ensures ∙ ap (λ (z : ℤ). root (nat_abs z)) (runs (after c.before) U tt ∙ under-is c.before)
+w-is : (c : tie.After-root-w) → c.root-w.result ≡ root (nat_abs (under c.args.sine c.args.cosine))
+w-is c = c.root-w.ensures ∙ ap (λ (z : ℤ). root (nat_abs z)) (runs (after c.before) U tt ∙ under-is c.before)
 
-w-low : (c : tie.After-root) → 99463000 ≤ c.root.result
+w-low : (c : tie.After-root-w) → 99463000 ≤ c.root-w.result
 w-low c = let b = c.before.before in rw (w-is c) (root-low b.args.sine b.args.cosine b.requires.0 b.requires.1 b.requires.2)
 
-w-high : (c : tie.After-root) → c.root.result ≤ 141421357
+w-high : (c : tie.After-root-w) → c.root-w.result ≤ 141421357
 w-high c = let b = c.before.before in rw (w-is c) (root-high b.args.sine b.args.cosine b.requires.0 b.requires.1 b.requires.2)
 
-w-back : (c : tie.After-root) → to_z w64 (of_z w64 (pos c.root.result)) ≡ pos c.root.result
-w-back c = read_back (pos c.root.result) {m = 141421357} (w-high c) tt
+w-back : (c : tie.After-root-w) → to_z w64 (of_z w64 (pos c.root-w.result)) ≡ pos c.root-w.result
+w-back c = read_back (pos c.root-w.result) {m = 141421357} (w-high c) tt
 
-cast-root : tie.Need-overflow-cast-root
+cast-root : tie.Need-overflow_cast-under
 cast-root c =
     let b = c.before in
     unsigned (after c) U tt (subst (λ (z : ℤ). pos 0 ≤ℤ z) (sym (under-is c))
     (under-nonneg b.args.sine b.args.cosine b.requires.0 b.requires.1 b.requires.2))
 
-cast-near : tie.Need-overflow-cast-near
-cast-near c = fits64 (pos c.root.result) (omega (arith, w-high c))
+cast-near : tie.Need-overflow_cast-w
+cast-near c = fits64 (pos c.root-w.result) (omega (arith, w-high c))
 
 near-requires : tie.Need-near-requires
 near-requires c κs =
-    (lit≤ tt, read-size (pos c.root.result) 10000000000000000 (w-high c) tt, subst (λ (z : ℤ). pos 1 ≤ℤ z) (sym (w-back c)) (omega (arith, zs, w-low c)))
+    (lit≤ tt, read-size (pos c.root-w.result) 10000000000000000 (w-high c) tt, subst (λ (z : ℤ). pos 1 ≤ℤ z) (sym (w-back c)) (omega (arith, zs, w-low c)))
 
 returns : tie.Need-returns
 unfolding C W
@@ -81,8 +81,8 @@ returns c =
     let h : nat_abs c.near.result ≤ 100600000 = omega (arith, ap nat_abs e, C-size b.args.sine b.args.cosine b.requires.0 b.requires.1 b.requires.2) in
     record { value = read_back c.near.result h tt ∙ e; size = read-size c.near.result 100600000 h tt }
 
-pub c-of-spec : {M : Type 1} → statement M
-c-of-spec =
+pub c_of_spec : {M : Type 1} → statement M
+c_of_spec =
     tie.close
     (tie.spec (λ c. fits (bounds c) sE tt) (λ c κs. within (bounds c) sE 1000000000000000000 tt)
     (λ c. fits (after c) (mul (arg 0) (arg 0)) tt) (λ c. fits (after c) (mul (arg 1) (arg 2)) tt)

@@ -7,10 +7,10 @@ use Rattle.station.proofs.check.Tie as tie
 
 returns : tie.Need-returns
 unfolding range_of ranges
-returns c = ranges_listed 3 _ _ c.of-ranges.ensures c.before.before.before.before.listed.ensures
+returns c = ranges_listed 3 _ _ c.of_ranges.ensures c.listed-values.ensures
 
-pub check-spec : {M : Type 1} → statement M
-check-spec =
+pub check_spec : {M : Type 1} → statement M
+check_spec =
     tie.close
     (tie.spec (λ c κs. search rules) (λ c. search rules) (λ c. search rules) (λ c. search rules)
     (λ c κs. search rules) returns)

@@ -18,21 +18,21 @@ bounds c = c.requires.1 ▹ ends
 abbrev product : Code
 product = mul (arg 0) (lit (pos 417807))
 
-turn_is : (c : tie.After-near) → c.near.result ≡ turn_in c.before.args.deltat
+turn_is : (c : tie.After-near) → c.near.result ≡ turn_in c.args.deltat
 unfolding turn_in
 turn_is c = c.near.ensures ∙ ap (λ (z : ℤ). near z (pos 10000)) (runs (bounds c.before) product tt)
 
-turned : (c : tie.After-near) → Within (whole c.before.args.longitude ∷ whole c.near.result ∷ []) (180000000 ∷ 835614 ∷ [])
+turned : (c : tie.After-near) → Within (whole c.args.longitude ∷ whole c.near.result ∷ []) (180000000 ∷ 835614 ∷ [])
 turned c =
-    let t : nat_abs c.near.result ≤ 835614 = rw (turn_is c) (turn-size c.before.args.deltat c.before.requires.1) in
-    c.before.requires.0 ▹ t ▹ ends
+    let t : nat_abs c.near.result ≤ 835614 = rw (turn_is c) (turn-size c.args.deltat c.requires.1) in
+    c.requires.0 ▹ t ▹ ends
 
 near-requires : tie.Need-near-requires
 near-requires c κs = (within (bounds c) product 4000000000000000000 tt, lit≤ tt, le_z_yes tt)
 
-value : (c : tie.After-near) → c.before.args.longitude -ℤ c.near.result ≡ ephemeris_longitude c.before.args.longitude c.before.args.deltat
+value : (c : tie.After-near) → c.args.longitude -ℤ c.near.result ≡ ephemeris_longitude c.args.longitude c.args.deltat
 unfolding ephemeris_longitude
-value c = ap (λ (z : ℤ). c.before.args.longitude -ℤ z) (turn_is c)
+value c = ap (λ (z : ℤ). c.args.longitude -ℤ z) (turn_is c)
 
 returns : tie.Need-returns
 returns c =
@@ -40,5 +40,5 @@ returns c =
     let e = runs (turned c) (sub (arg 0) (arg 1)) tt ∙ value c in
     record { value = e; size = rw e (longitude_size s.args.longitude s.args.deltat s.requires.0 s.requires.1) }
 
-pub ephemeris-longitude-spec : {M : Type 1} → statement M
-ephemeris-longitude-spec = tie.close (tie.spec (λ c. fits (bounds c) product tt) near-requires (λ c. fits (turned c) (sub (arg 0) (arg 1)) tt) returns)
+pub ephemeris_longitude_spec : {M : Type 1} → statement M
+ephemeris_longitude_spec = tie.close (tie.spec (λ c. fits (bounds c) product tt) near-requires (λ c. fits (turned c) (sub (arg 0) (arg 1)) tt) returns)

@@ -23,5 +23,5 @@ returns : tie.Need-returns
 unfolding beyond
 returns c = rw (runs (bounds c) Minus tt ∙ minus_is c.args.m, read_back c.args.m c.requires tt, to_z-of_z w64 c.args.x c.ranges.x)
 
-pub beyond-spec : {M : Type 1} → statement M
-beyond-spec = tie.close (tie.spec (λ c. fits (bounds c) Minus tt) returns)
+pub beyond_spec : {M : Type 1} → statement M
+beyond_spec = tie.close (tie.spec (λ c. fits (bounds c) Minus tt) returns)

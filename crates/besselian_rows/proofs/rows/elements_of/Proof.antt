@@ -23,59 +23,59 @@ accepts : (c : tie.Start) → Accepted c.args.p
 accepts c = accepted-is c.args.p c.requires.0
 
 -- the squares of the sum and of the difference in millions
-module _ (c : tie.After-in-millions2) where
+module _ (c : tie.After-in_millions-square2) where
   abbrev start : tie.Start
   start = c.before.before.before.before
 
   abbrev k : Radii
   k = start.args.k
 
-  penumbra-is : IsRadii (S1 k) c.before.in-millions.result k.penumbra
-  penumbra-is = subst (λ (n : ℕ). IsRadii (S1 k) n k.penumbra) (sym c.before.in-millions.ensures) (penumbra k start.pre.1)
+  penumbra-is : IsRadii (S1 k) c.in_millions-square1.result k.penumbra
+  penumbra-is = subst (λ (n : ℕ). IsRadii (S1 k) n k.penumbra) (sym c.in_millions-square1.ensures) (penumbra k start.requires.1)
 
-  central-is : IsRadii (S2 k) c.in-millions2.result k.central
-  central-is = subst (λ (n : ℕ). IsRadii (S2 k) n k.central) (sym c.in-millions2.ensures) (central k start.pre.1)
+  central-is : IsRadii (S2 k) c.in_millions-square2.result k.central
+  central-is = subst (λ (n : ℕ). IsRadii (S2 k) n k.central) (sym c.in_millions-square2.ensures) (central k start.requires.1)
 
-find-plane-requires : tie.Need-find-plane-requires
-find-plane-requires c κs = (accepts (start c.before.before), c.find-directions.ensures)
+find-plane-requires : tie.Need-find_plane-f-requires
+find-plane-requires c κs = (accepts (start c.before.before), c.find_directions-d.ensures)
 
-find-cone-requires : tie.Need-find-cone-requires
+find-cone-requires : tie.Need-find_cone-penumbra-requires
 find-cone-requires c κs =
     let squares = c.before.before.before.before in
     let s = start squares in (
       accepts s,
       record {
-        whole = c.before.before.before.find-axis.ensures.whole;
-        length = c.before.before.find-directions.ensures.n;
-        z = back c.before.find-plane.ensures.z (Sizes.z-size s.args.p (accepts s)) tt;
+        whole = c.find_axis-a.ensures.whole;
+        length = c.find_directions-d.ensures.n;
+        z = back c.find_plane-f.ensures.z (Sizes.z-size s.args.p (accepts s)) tt;
       },
       penumbra-is squares,
     )
 
-find-cone-requires-2 : tie.Need-find-cone-requires-2
+find-cone-requires-2 : tie.Need-find_cone-central-requires
 find-cone-requires-2 c κs =
     let squares = c.before.before.before.before.before.before in
     let s = start squares in (
       accepts s,
       record {
-        whole = c.before.before.before.before.before.find-axis.ensures.whole;
-        length = c.before.before.before.before.find-directions.ensures.n;
-        z = back c.before.before.before.find-plane.ensures.z (Sizes.z-size s.args.p (accepts s)) tt;
+        whole = c.find_axis-a.ensures.whole;
+        length = c.find_directions-d.ensures.n;
+        z = back c.find_plane-f.ensures.z (Sizes.z-size s.args.p (accepts s)) tt;
       },
       central-is squares,
     )
 
 -- the two terms of l
-first : (c : tie.After-find-cone) → Within (whole c.find-cone.result.slope ∷ whole c.find-cone.result.foot ∷ []) (117000000 ∷ 54600000 ∷ [])
-first c = c.find-cone.ensures.slope_size ▹ c.find-cone.ensures.foot_size ▹ ends
+first : (c : tie.After-find_cone-penumbra) → Within (whole c.find_cone-penumbra.result.slope ∷ whole c.find_cone-penumbra.result.foot ∷ []) (117000000 ∷ 54600000 ∷ [])
+first c = c.find_cone-penumbra.ensures.slope_size ▹ c.find_cone-penumbra.ensures.foot_size ▹ ends
 
-second : (c : tie.After-find-cone2) → Within (whole c.find-cone2.result.slope ∷ whole c.find-cone2.result.foot ∷ []) (117000000 ∷ 54600000 ∷ [])
-second c = c.find-cone2.ensures.slope_size ▹ c.find-cone2.ensures.foot_size ▹ ends
+second : (c : tie.After-find_cone-central) → Within (whole c.find_cone-central.result.slope ∷ whole c.find_cone-central.result.foot ∷ []) (117000000 ∷ 54600000 ∷ [])
+second c = c.find_cone-central.ensures.slope_size ▹ c.find_cone-central.ensures.foot_size ▹ ends
 
-add-t14 : tie.Need-overflow-add-t14
+add-t14 : tie.Need-overflow_add-result
 add-t14 c = fits (first c.before.before.before.before) (add (arg 0) (arg 1)) tt
 
-sub-t15 : tie.Need-overflow-sub-t15
+sub-t15 : tie.Need-overflow_sub-result
 sub-t15 c = fits (second c.before.before.before.before) (sub (arg 0) (arg 1)) tt
 
 both : (k : Radii) (p : Row) (e : Besselian) → RadiiInRange k → Accepted p → e ≡ elements_of k p → (e ≡ elements_of k p) × Faithful k p e
@@ -91,13 +91,13 @@ returns c =
     let p = s.args.p in
     let m = s.args.k in
     let h = accepts s in
-    let d = first-cone.before.before.before.find-directions.ensures in
-    let f = first-cone.before.before.find-plane.ensures in
-    let one = first-cone.find-cone.ensures in
-    let two = second-cone.find-cone2.ensures in
-    let s1 = squares.before.in-millions.ensures in
-    let s2 = squares.in-millions2.ensures in
-    both m p _ s.pre.1 h
+    let d = first-cone.find_directions-d.ensures in
+    let f = first-cone.find_plane-f.ensures in
+    let one = first-cone.find_cone-penumbra.ensures in
+    let two = second-cone.find_cone-central.ensures in
+    let s1 = squares.in_millions-square1.ensures in
+    let s2 = squares.in_millions-square2.ensures in
+    both m p _ s.requires.1 h
     (rw (
       back f.x (Sizes.x-size p h) tt,
       back f.y (Sizes.y-size p h) tt,
@@ -111,13 +111,13 @@ returns c =
           ∙ ap (λ (n : ℕ). l2 p (S2 m) n m.central) s2,
     ))
 
-pub elements-of-spec : {M : Type 1} → statement M
-elements-of-spec =
+pub elements_of_spec : {M : Type 1} → statement M
+elements_of_spec =
     tie.close
     (tie.spec
-    (λ c. record { fits = omega (arith, c.before.requires.1.sun_high, c.before.requires.1.penumbra_high) })
-    (λ c. omega (arith, c.before.before.requires.1.sun_low, c.before.before.requires.1.central_high))
-    (λ c κs. omega (arith, c.before.before.requires.1.sun_high, c.before.before.requires.1.penumbra_high))
-    (λ c κs. omega (arith, c.before.before.before.requires.1.sun_high)) (λ c κs. accepts (start c))
-    (λ c κs. (accepts (start c.before), c.find-axis.ensures)) find-plane-requires find-cone-requires
+    (λ c. record { fits = omega (arith, c.requires.1.sun_high, c.requires.1.penumbra_high) })
+    (λ c. omega (arith, c.requires.1.sun_low, c.requires.1.central_high))
+    (λ c κs. omega (arith, c.requires.1.sun_high, c.requires.1.penumbra_high))
+    (λ c κs. omega (arith, c.requires.1.sun_high)) (λ c κs. accepts (start c))
+    (λ c κs. (accepts (start c.before), c.find_axis-a.ensures)) find-plane-requires find-cone-requires
     find-cone-requires-2 add-t14 sub-t15 returns)

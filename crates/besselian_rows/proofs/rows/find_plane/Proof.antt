@@ -27,70 +27,70 @@ west : (s : tie.Start) → Within (whole s.args.p.moonx ∷ []) (6500000000 ∷ 
 west s = (moon-sizes s.args.p s.requires.0.moon).0 ▹ ends
 
 -- where a turn is made
-abbrev start : tie.After-turned → tie.Start
+abbrev start : tie.After-turned-x → tie.Start
 start c = c.before.before.before.before.before.before
 
-abbrev start2 : tie.After-turned2 → tie.Start
+abbrev start2 : tie.After-turned-q → tie.Start
 start2 c = c.before.before.before.before.before.before.before.before.before.before.before
 
-abbrev start3 : tie.After-turned3 → tie.Start
+abbrev start3 : tie.After-turned-y → tie.Start
 start3 c = c.before.before.before.before.before.before.before.before.before.before.before.before.before.before.before
 
-abbrev start4 : tie.After-turned4 → tie.Start
+abbrev start4 : tie.After-turned-z → tie.Start
 start4 c =
     c.before.before.before.before.before.before.before.before.before.before.before.before.before.before.before.before.before.before.before
 
-x-is : (c : tie.After-turned) → c.turned.result ≡ x (start c).args.p
+x-is : (c : tie.After-turned-x) → c.turned-x.result ≡ x (start c).args.p
 unfolding x
 x-is c =
     let s = start c in
     let p = s.args.p in
-    let h = s.pre.0 in
-    let d = s.pre.1 in
-    c.turned.ensures
+    let h = s.requires.0 in
+    let d = s.requires.1 in
+    c.turned-x.ensures
     ∙ turn-same (read_back p.moony (moon-sizes p h.moon).1 tt) (back d.cosa (Sizes.cos-a-size p h) tt) (runs (west s) Opposite tt)
     (back d.sina (Sizes.sin-a-size p h) tt)
     ∙ turn-back p.moony _ p.moonx _
 
-q-is : (c : tie.After-turned2) → c.turned2.result ≡ q (start2 c).args.p
+q-is : (c : tie.After-turned-q) → c.turned-q.result ≡ q (start2 c).args.p
 unfolding q
 q-is c =
     let s = start2 c in
     let p = s.args.p in
-    let h = s.pre.0 in
-    let d = s.pre.1 in
-    c.turned2.ensures
+    let h = s.requires.0 in
+    let d = s.requires.1 in
+    c.turned-q.ensures
     ∙ turn-same (read_back p.moonx (moon-sizes p h.moon).0 tt) (back d.cosa (Sizes.cos-a-size p h) tt)
     (read_back p.moony (moon-sizes p h.moon).1 tt) (back d.sina (Sizes.sin-a-size p h) tt)
 
-inward : (c : tie.After-turned2) → Within (whole c.turned2.result ∷ []) (13000000000 ∷ [])
-inward c = let s = start2 c in same_size (q-is c) (Sizes.q-size s.args.p s.pre.0) ▹ ends
+inward : (c : tie.After-turned-q) → Within (whole c.turned-q.result ∷ []) (13000000000 ∷ [])
+inward c = let s = start2 c in same_size (q-is c) (Sizes.q-size s.args.p s.requires.0) ▹ ends
 
-y-is : (c : tie.After-turned3) → c.turned3.result ≡ y (start3 c).args.p
+y-is : (c : tie.After-turned-y) → c.turned-y.result ≡ y (start3 c).args.p
 unfolding y
 y-is c =
     let s = start3 c in
     let p = s.args.p in
-    let h = s.pre.0 in
-    let d = s.pre.1 in
+    let h = s.requires.0 in
+    let d = s.requires.1 in
     let k = c.before.before.before.before in
-    c.turned3.ensures
+    c.turned-y.ensures
     ∙ turn-same (read_back p.moonz (moon-sizes p h.moon).2 tt) (back d.cosd (Sizes.cos-d-size p h) tt)
     (runs (inward k) Opposite tt ∙ ap (λ (n : ℤ). pos 0 -ℤ n) (q-is k)) (back d.sind (Sizes.sin-d-size p h) tt)
     ∙ turn-back p.moonz _ (q p) _
 
-z-is : (c : tie.After-turned4) → c.turned4.result ≡ z (start4 c).args.p
+z-is : (c : tie.After-turned-z) → c.turned-z.result ≡ z (start4 c).args.p
 unfolding z
 z-is c =
     let s = start4 c in
     let p = s.args.p in
-    let h = s.pre.0 in
-    let d = s.pre.1 in
-    c.turned4.ensures
+    let h = s.requires.0 in
+    let d = s.requires.1 in
+    c.turned-z.ensures
     ∙ turn-same (read_back p.moonz (moon-sizes p h.moon).2 tt) (back d.sind (Sizes.sin-d-size p h) tt)
     (back (q-is c.before.before.before.before.before.before.before.before) (Sizes.q-size p h) tt) (back d.cosd (Sizes.cos-d-size p h) tt)
 
-turned-requires : tie.Need-turned-requires
+turned-requires : tie.Need-turned-x-requires
 turned-requires c κs =
     let s = c.before.before.before.before.before in
     let p = s.args.p in
@@ -102,7 +102,7 @@ turned-requires c κs =
       back_size 100000000 d.sina (Sizes.sin-a-size p h) tt,
     )
 
-turned-requires-2 : tie.Need-turned-requires-2
+turned-requires-2 : tie.Need-turned-q-requires
 turned-requires-2 c κs =
     let s = c.before.before.before.before.before.before.before.before.before.before in
     let p = s.args.p in
@@ -114,26 +114,26 @@ turned-requires-2 c κs =
       back_size 100000000 d.sina (Sizes.sin-a-size p h) tt,
     )
 
-turned-requires-3 : tie.Need-turned-requires-3
+turned-requires-3 : tie.Need-turned-y-requires
 turned-requires-3 c κs =
     let k = c.before.before.before in
     let s = start2 k in
     let p = s.args.p in
-    let h = s.pre.0 in
-    let d = s.pre.1 in (
+    let h = s.requires.0 in
+    let d = s.requires.1 in (
       read-size p.moonz 6500000000 (moon-sizes p h.moon).2 tt,
       back_size 100000000 d.cosd (Sizes.cos-d-size p h) tt,
       within (inward k) Opposite 13000000000 tt,
       back_size 100000000 d.sind (Sizes.sin-d-size p h) tt,
     )
 
-turned-requires-4 : tie.Need-turned-requires-4
+turned-requires-4 : tie.Need-turned-z-requires
 turned-requires-4 c κs =
     let k = c.before.before.before.before.before.before.before in
     let s = start2 k in
     let p = s.args.p in
-    let h = s.pre.0 in
-    let d = s.pre.1 in (
+    let h = s.requires.0 in
+    let d = s.requires.1 in (
       read-size p.moonz 6500000000 (moon-sizes p h.moon).2 tt,
       back_size 100000000 d.sind (Sizes.sin-d-size p h) tt,
       back_size 13000000000 (q-is k) (Sizes.q-size p h) tt,
@@ -144,12 +144,12 @@ returns : tie.Need-returns
 returns c =
     let s = start4 c in
     let p = s.args.p in
-    let h = s.pre.0 in
+    let h = s.requires.0 in
     record {
       x = back (x-is c.before.before.before.before.before.before.before.before.before.before.before.before.before) (Sizes.x-size p h) tt;
       y = back (y-is c.before.before.before.before) (Sizes.y-size p h) tt;
       z = back (z-is c) (Sizes.z-size p h) tt;
     }
 
-pub find-plane-spec : {M : Type 1} → statement M
-find-plane-spec = tie.close (tie.spec (λ c. fits (west c.before.before) Opposite tt) turned-requires turned-requires-2 (λ c. fits (inward c) Opposite tt) turned-requires-3 turned-requires-4 returns)
+pub find_plane_spec : {M : Type 1} → statement M
+find_plane_spec = tie.close (tie.spec (λ c. fits (west c.before.before) Opposite tt) turned-requires turned-requires-2 (λ c. fits (inward c) Opposite tt) turned-requires-3 turned-requires-4 returns)

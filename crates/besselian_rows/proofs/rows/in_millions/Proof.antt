@@ -34,8 +34,8 @@ module _ (S : ℕ) (h : S ≤ 10957300000) where
   unfolding millions
   is-millions = omega (arith, square)
 
-pub in-millions-spec : {M : Type 1} → statement M
-in-millions-spec =
+pub in_millions_spec : {M : Type 1} → statement M
+in_millions_spec =
     tie.close
     (tie.spec (λ c. record { fits = omega (arith, whole_small c.args.radii c.requires) })
     (λ c. record { fits = omega (arith, cross-small c.args.radii c.requires) })

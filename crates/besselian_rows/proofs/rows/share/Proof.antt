@@ -46,5 +46,5 @@ returns c =
     ) in
     record { value = read_back c.near.result h tt ∙ e; size = read-size c.near.result 100000000 h tt }
 
-pub share-spec : {M : Type 1} → statement M
-share-spec = tie.close (tie.spec (λ c. fits (bounds c) G tt) (λ c. search rules) near-requires returns)
+pub share_spec : {M : Type 1} → statement M
+share_spec = tie.close (tie.spec (λ c. fits (bounds c) G tt) (λ c. search rules) near-requires returns)

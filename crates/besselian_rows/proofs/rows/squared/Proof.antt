@@ -13,11 +13,11 @@ bounds c = c.requires ▹ ends
 abbrev GG : Code
 GG = mul (arg 0) (arg 0)
 
-cast-result : tie.Need-overflow-cast-result
+cast-result : tie.Need-overflow_cast-result
 cast-result c = unsigned (bounds c) GG tt (square_nonneg c.args.g)
 
 returns : tie.Need-returns
 returns c = ap nat_abs (runs (bounds c) GG tt) ∙ nat_abs_product c.args.g c.args.g
 
-pub squared-spec : {M : Type 1} → statement M
-squared-spec = tie.close (tie.spec (λ c. fits (bounds c) GG tt) cast-result returns)
+pub squared_spec : {M : Type 1} → statement M
+squared_spec = tie.close (tie.spec (λ c. fits (bounds c) GG tt) cast-result returns)

@@ -30,5 +30,5 @@ returns c =
     let h : nat_abs c.near.result ≤ 2406500000 = omega (arith, ap nat_abs e, near-size (b.args.a -ℤ b.args.b) (pos 1000) 2406500000 (le_z_yes tt) l) in
     record { value = read_back c.near.result h tt ∙ e; size = read-size c.near.result 2406500000 h tt }
 
-pub thousands-spec : {M : Type 1} → statement M
-thousands-spec = tie.close (tie.spec (λ c. fits (bounds c) D tt) near-requires returns)
+pub thousands_spec : {M : Type 1} → statement M
+thousands_spec = tie.close (tie.spec (λ c. fits (bounds c) D tt) near-requires returns)

@@ -20,7 +20,7 @@ near-requires : tie.Need-near-requires
 near-requires c κs = (within (bounds c) W 4000000000000000000 tt, lit≤ tt, le_z_yes tt)
 
 returns : tie.Need-returns
-returns c = read_result c.near.result c.near.type-inv ∙ c.near.ensures ∙ ap (λ (z : ℤ). near z (pos 100000000)) (runs (bounds c.before) W tt)
+returns c = read_result c.near.result c.near.type_inv ∙ c.near.ensures ∙ ap (λ (z : ℤ). near z (pos 100000000)) (runs (bounds c.before) W tt)
 
-pub turned-spec : {M : Type 1} → statement M
-turned-spec = tie.close (tie.spec (λ c. fits (bounds c) (mul (arg 0) (arg 1)) tt) (λ c. fits (bounds c) (mul (arg 2) (arg 3)) tt) (λ c. fits (bounds c) W tt) near-requires returns)
+pub turned_spec : {M : Type 1} → statement M
+turned_spec = tie.close (tie.spec (λ c. fits (bounds c) (mul (arg 0) (arg 1)) tt) (λ c. fits (bounds c) (mul (arg 2) (arg 3)) tt) (λ c. fits (bounds c) W tt) near-requires returns)

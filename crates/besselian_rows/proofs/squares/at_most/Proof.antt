@@ -18,16 +18,16 @@ lows c = c.requires.1.low ▹ c.requires.0.low ▹ ends
 abbrev D : Code
 D = sub (arg 0) (arg 1)
 
-sub-not-negative : tie.Need-overflow-sub-not-negative
+sub-not-negative : tie.Need-overflow_sub-b
 sub-not-negative c = fits (highs c.before.before.before.before) D tt
 
-sub-not-negative-2 : tie.Need-overflow-sub-not-negative-2
+sub-not-negative-2 : tie.Need-overflow_sub-b-2
 sub-not-negative-2 c = fits (mids c.before.before.before.before.before.before.before.before) D tt
 
-sub-not-negative-3 : tie.Need-overflow-sub-not-negative-3
+sub-not-negative-3 : tie.Need-overflow_sub-b-3
 sub-not-negative-3 c = fits (lows c.before.before.before.before.before.before.before.before.before.before.before.before) D tt
 
-not-negative-requires : tie.Need-not-negative-requires
+not-negative-requires : tie.Need-not_negative-requires
 not-negative-requires c κs =
     let s = c.before.before.before.before.before.before.before.before.before.before.before.before in
     (within (highs s) D 200000000000000000 tt, within (mids s) D 200000000000000000 tt, within (lows s) D 200000000000000000 tt)
@@ -37,5 +37,5 @@ returns c =
     let s = c.before.before.before.before.before.before.before.before.before.before.before.before.before in
     c.not_negative.ensures ∙ not_negative-same (runs (highs s) D tt) (runs (mids s) D tt) (runs (lows s) D tt) ∙ difference s.args.a s.args.b
 
-pub at-most-spec : {M : Type 1} → statement M
-at-most-spec = tie.close (tie.spec sub-not-negative sub-not-negative-2 sub-not-negative-3 not-negative-requires returns)
+pub at_most_spec : {M : Type 1} → statement M
+at_most_spec = tie.close (tie.spec sub-not-negative sub-not-negative-2 sub-not-negative-3 not-negative-requires returns)

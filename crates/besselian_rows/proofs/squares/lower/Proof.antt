@@ -12,7 +12,7 @@ use Rattle.besselian_rows.proofs.squares.lower.Tie as tie
 bounds : (c : tie.Start) → Within (whole c.args.n ∷ []) (2406500000000 ∷ [])
 bounds c = c.requires ▹ ends
 
-rem-result : tie.Need-nonzero-rem-result
+rem-result : tie.Need-nonzero_rem-result
 rem-result c = (above (bounds c) (lit (pos 1000000)) tt (lt_z_yes tt), fits (bounds c) (quo (arg 0) (lit (pos 1000000))) tt)
 
 returns : tie.Need-returns

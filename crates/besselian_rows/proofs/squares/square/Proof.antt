@@ -9,8 +9,8 @@ use Rattle.besselian_rows.specs.laws.WideLaws.{square-is, value_same}
 use Rattle.besselian_rows.proofs.squares.square.Statement.{statement}
 use Rattle.besselian_rows.proofs.squares.square.Tie as tie
 
-bounds : (c : tie.After-lower) → Within (whole c.before.upper.result ∷ whole c.lower.result ∷ []) (2406500 ∷ 999999 ∷ [])
-bounds c = c.before.upper.ensures.size ▹ c.lower.ensures.size ▹ ends
+bounds : (c : tie.After-lower-l) → Within (whole c.upper-h.result ∷ whole c.lower-l.result ∷ []) (2406500 ∷ 999999 ∷ [])
+bounds c = c.upper-h.ensures.size ▹ c.lower-l.ensures.size ▹ ends
 
 abbrev HH : Code
 HH = mul (arg 0) (arg 0)
@@ -21,15 +21,15 @@ HL = mul (mul (lit (pos 2)) (arg 0)) (arg 1)
 abbrev LL : Code
 LL = mul (arg 1) (arg 1)
 
-mul-t5 : tie.Need-overflow-mul-t5
+mul-t5 : tie.Need-overflow_mul-result-2
 mul-t5 c = fits (bounds c) (mul (lit (pos 2)) (arg 0)) tt
 
 returns : tie.Need-returns
 returns c =
-    let n = c.before.before.args.n in
-    let m = read_back n c.before.before.requires tt in
-    let h : c.before.upper.result ≡ quot_z n (pos 1000000) = c.before.upper.ensures.value ∙ ap (λ (z : ℤ). quot_z z (pos 1000000)) m in
-    let l : c.lower.result ≡ rem_z n (pos 1000000) = c.lower.ensures.value ∙ ap (λ (z : ℤ). rem_z z (pos 1000000)) m in
+    let n = c.args.n in
+    let m = read_back n c.requires tt in
+    let h : c.upper-h.result ≡ quot_z n (pos 1000000) = c.upper-h.ensures.value ∙ ap (λ (z : ℤ). quot_z z (pos 1000000)) m in
+    let l : c.lower-l.result ≡ rem_z n (pos 1000000) = c.lower-l.ensures.value ∙ ap (λ (z : ℤ). rem_z z (pos 1000000)) m in
     record {
       value = value_same (runs (bounds c) HH tt ∙ ap (λ (z : ℤ). z *ℤ z) h)
           (runs (bounds c) HL tt ∙ ap₂ (λ (y z : ℤ). pos 2 *ℤ y *ℤ z) h l)
@@ -40,5 +40,5 @@ returns c =
       low = within (bounds c) LL 999998000001 tt;
     }
 
-pub square-spec : {M : Type 1} → statement M
-square-spec = tie.close (tie.spec (λ c κs. search rules) (λ c κs. search rules) (λ c. fits (bounds c) HH tt) mul-t5 (λ c. fits (bounds c) HL tt) (λ c. fits (bounds c) LL tt) returns)
+pub square_spec : {M : Type 1} → statement M
+square_spec = tie.close (tie.spec (λ c κs. search rules) (λ c κs. search rules) (λ c. fits (bounds c) HH tt) mul-t5 (λ c. fits (bounds c) HL tt) (λ c. fits (bounds c) LL tt) returns)

@@ -15,7 +15,7 @@ bounds c = c.requires ▹ ends
 abbrev Up : Code
 Up = quo (arg 0) (lit (pos 1000000))
 
-div-result : tie.Need-nonzero-div-result
+div-result : tie.Need-nonzero_div-result
 div-result c = (above (bounds c) (lit (pos 1000000)) tt (lt_z_yes tt), fits (bounds c) Up tt)
 
 returns : tie.Need-returns
@@ -23,5 +23,5 @@ returns c =
     let e = runs (bounds c) Up tt in
     record { value = e; size = omega (arith, ap nat_abs e, nat_abs_quot c.args.n (pos 1000000), c.requires) }
 
-pub upper-spec : {M : Type 1} → statement M
-upper-spec = tie.close (tie.spec div-result returns)
+pub upper_spec : {M : Type 1} → statement M
+upper_spec = tie.close (tie.spec div-result returns)

@@ -16,13 +16,13 @@ use Rattle.besselian_rows.specs.laws.TablesLaws.{accepted-at, one_more}
 use Rattle.besselian_rows.proofs.tables.fill.Statement.{statement}
 use Rattle.besselian_rows.proofs.tables.fill.Tie as tie
 
-abbrev invariant-loop : tie.invariant-loop
+abbrev invariant-loop : tie.invariant-loop-i
 invariant-loop n values₀ i₀ values i = (i ≤ 7) × (length values ≡ length values₀) × (values ≡ sets values₀ 0 (values_of n i))
 
-abbrev decreases-loop : tie.decreases-loop
+abbrev decreases-loop : tie.decreases-loop-i
 decreases-loop n values₀ i₀ values i = 7 - i
 
-loop-holds : tie.Need-loop-init invariant-loop decreases-loop
+loop-holds : tie.Need-loop-i-init invariant-loop decreases-loop
 unfolding values_of
 loop-holds c = (omega arith, refl, refl)
 
@@ -31,36 +31,36 @@ one-stored : (start before after n : List ℤ) (i : ℕ) (b : Besselian) → b �
     → after ≡ sets before (8 * i) (eight b) → after ≡ sets start 0 (values_of n (i + 1))
 one-stored start before after n i b e f a = a ∙ rw (e, f) (one_more start n i)
 
-elements-of-requires : tie.Need-elements-of-requires invariant-loop decreases-loop
+elements-of-requires : tie.Need-elements_of-b-requires invariant-loop decreases-loop
 elements-of-requires c κs =
     let s = c.before.before.before in
-    (ap accepted c.row_at.ensures ∙ accepted-at s.args.rows.now c.before.before.loop.i s.requires.1 (omega arith), ranged)
+    (ap accepted c.row_at-p.ensures ∙ accepted-at s.args.rows.now c.loop-i.i s.requires.1 (omega arith), ranged)
 
 store-requires : tie.Need-store-requires invariant-loop decreases-loop
 store-requires c κs =
-    let l = c.before.before.before.before.loop in
+    let l = c.loop-i in
     let s = c.before.before.before.before.before in
     omega (arith, l.invariant.1, s.requires.2)
 
-loop-again : tie.Need-loop-preserved invariant-loop decreases-loop
+loop-again : tie.Need-loop-i-preserved invariant-loop decreases-loop
 loop-again c =
-    let stored = c.before.store in
+    let stored = c.store in
     let made = c.before.before.before in
-    let l = made.before.before.before.loop in
+    let l = made.loop-i in
     let s = made.before.before.before.before in (
       omega arith,
-      stored.auto.0 ∙ l.invariant.1,
-      one-stored s.args.values.now l.values _ s.args.rows.now l.i made.elements-of.result
-          (made.elements-of.ensures.0 ∙ ap (elements_of document02) made.before.row_at.ensures) l.invariant.2 stored.ensures,
+      stored.auto.values ∙ l.invariant.1,
+      one-stored s.args.values.now l.values _ s.args.rows.now l.i made.elements_of-b.result
+          (made.elements_of-b.ensures.0 ∙ ap (elements_of document02) made.row_at-p.ensures) l.invariant.2 stored.ensures,
     )
 
 returns : tie.Need-returns invariant-loop decreases-loop
 returns c =
-    let l = c.before.loop in
+    let l = c.loop-i in
     let s = c.before.before in
     let e : l.i ≡ 7 = omega arith in
     l.invariant.2 ∙ ap (λ (k : ℕ). sets s.args.values.now 0 (values_of s.args.rows.now k)) e
 
 pub fill_spec : {M : Type 1} → statement M
 fill_spec =
-    tie.close (tie.spec invariant-loop decreases-loop loop-holds (λ c κs. (c.before.before.requires.0, omega arith)) elements-of-requires (λ c. record { fits = omega arith }) store-requires (λ c. record { fits = omega arith }) (λ c. omega arith) loop-again (λ c. c.before.loop.invariant.1) returns)
+    tie.close (tie.spec invariant-loop decreases-loop loop-holds (λ c κs. (c.requires.0, omega arith)) elements-of-requires (λ c. record { fits = omega arith }) store-requires (λ c. record { fits = omega arith }) (λ c. omega arith) loop-again (λ c. c.loop-i.invariant.1) returns)

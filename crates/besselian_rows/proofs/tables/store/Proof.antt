@@ -28,14 +28,14 @@ returns c =
     let l = s.args.values.now in
     let at = s.args.at in
     let b = s.args.b in
-    let four = first.store-four.new.0 in
-    let all = c.before.store-four2.new.0 in
-    let told = c.before.before.struct-told8.given in
+    let four = first.store_four.new.values in
+    let all = c.store_four-2.new.values in
+    let told = c.struct_told-8-1.given in
     eight-stored l four all at b
     (stored l four at b.x b.y b.sind b.cosd told.0.1 told.1.0.1 told.1.1.0.1 told.1.1.1.0.1
-    first.store-four.ensures)
+    first.store_four.ensures)
     (stored four all (at + 4) b.tanf1 b.tanf2 b.l1 b.l2 told.1.1.1.1.0.1 told.1.1.1.1.1.0.1
-    told.1.1.1.1.1.1.0.1 told.1.1.1.1.1.1.1.0.1 c.before.store-four2.ensures)
+    told.1.1.1.1.1.1.0.1 told.1.1.1.1.1.1.1.0.1 c.store_four-2.ensures)
 
 pub store_spec : {M : Type 1} → statement M
 store_spec =

@@ -13,8 +13,8 @@ returns c =
     rw (to_z-of_z w64 _ c.ranges.a, to_z-of_z w64 _ c.ranges.b, to_z-of_z w64 _ c.ranges.c, to_z-of_z w64 _ c.ranges.d)
     (four_stores c.args.values.now c.args.at c.args.a c.args.b c.args.c c.args.d)
 
-pub store-four-spec : {M : Type 1} → statement M
-store-four-spec =
+pub store_four_spec : {M : Type 1} → statement M
+store_four_spec =
     tie.close
     (tie.spec (λ c. search rules) (λ c. search rules) (λ c. search rules) (λ c. search rules)
     (λ c. simp length-set (omega arith)) (λ c. search rules) (λ c. search rules)

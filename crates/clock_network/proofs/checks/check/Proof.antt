@@ -23,8 +23,8 @@ use Rattle.clock_network.proofs.checks.check.Statement.{statement}
 use Rattle.clock_network.proofs.checks.check.Tie as tie
 
 -- ---- the first station's request
-module _ (c : tie.After-check-first) where
-  abbrev some : tie.Else1
+module _ (c : tie.After-check_first-c) where
+  abbrev some : tie.Else-not-sized
   some = c.before
 
   abbrev start : tie.Start
@@ -37,7 +37,7 @@ module _ (c : tie.After-check-first) where
   eclipse = start.args.e
 
   sized : (1 ≤ held.count) × (held.count ≤ 64)
-  sized = size_in held.count (rw (not-false (leb 1 held.count && leb held.count 64) some.if1.left))
+  sized = size_in held.count (rw (not-false (leb 1 held.count && leb held.count 64) some.if-not-sized.false))
 
   module _ (l : List Node) (k : Holds held l) where
     low : 0 < length l
@@ -46,75 +46,75 @@ module _ (c : tie.After-check-first) where
     high : length l ≤ 64
     high = omega (arith, k.count, sized.1)
 
-    answered : Requests.checked (of_eclipse (request_of eclipse (get_or l 0 blank_node).station)) ≡ c.check-first.result
+    answered : Requests.checked (of_eclipse (request_of eclipse (get_or l 0 blank_node).station)) ≡ c.check_first-c.result
     answered =
         ap (λ (n : Node). Requests.checked (of_eclipse (request_of eclipse n.station))) (first-node held l k sized.1 sized.0)
-        ∙ sym c.check-first.ensures
+        ∙ sym c.check_first-c.ensures
 
 -- ---- all stations
-abbrev alone : tie.After-check-stations → tie.After-check-first
-alone s = s.before.before.before
+abbrev alone : tie.After-check_stations-d → tie.After-check_first-c
+alone s = s.before.before
 
-stations : (s : tie.After-check-stations) (l : List Node) → Holds (held (alone s)) l → stations_checked 0 l ≡ s.check-stations.result
-stations s l k = ap (stations_checked 0) (sym (listed (held (alone s)) l k (sized (alone s)).1)) ∙ sym s.check-stations.ensures
+stations : (s : tie.After-check_stations-d) (l : List Node) → Holds (held (alone s)) l → stations_checked 0 l ≡ s.check_stations-d.result
+stations s l k = ap (stations_checked 0) (sym (listed (held (alone s)) l k (sized (alone s)).1)) ∙ sym s.check_stations-d.ensures
 
 -- ---- numbers and clocks
-abbrev asked : tie.After-numbers → tie.After-check-first
-asked n = alone n.before.before.before
+abbrev asked : tie.After-numbers-numbers → tie.After-check_first-c
+asked n = alone n.before.before
 
-numbers-counted : (n : tie.After-numbers) → length (take (held (asked n)).count n.numbers.result) ≡ (held (asked n)).count
+numbers-counted : (n : tie.After-numbers-numbers) → length (take (held (asked n)).count n.numbers-numbers.result) ≡ (held (asked n)).count
 numbers-counted n =
     let a = asked n in
-    prefix-length number_of (held a).nodes n.numbers.result (held a).count n.numbers.ensures (start a).pre (sized a).1
+    prefix-length number_of (held a).nodes n.numbers-numbers.result (held a).count n.numbers-numbers.ensures (start a).requires (sized a).1
 
-clocks-counted : (m : tie.After-clocks) → let h = held (asked m.before) in length (take h.count m.clocks.result) ≡ h.count
+clocks-counted : (m : tie.After-clocks-clocks) → let h = held (asked m.before) in length (take h.count m.clocks-clocks.result) ≡ h.count
 clocks-counted m =
     let a = asked m.before in
-    prefix-length clock_of (held a).nodes m.clocks.result (held a).count m.clocks.ensures (start a).pre (sized a).1
+    prefix-length clock_of (held a).nodes m.clocks-clocks.result (held a).count m.clocks-clocks.ensures (start a).requires (sized a).1
 
-returns : tie.Need-returns
-returns c = λ l k. sym (checked-size c.before.args.e l (rw (sym k.count) (not-true _ c.if1.true)))
+returns : tie.Need-returns-then-not-sized
+returns c = λ l k. sym (checked-size c.args.e l (rw (sym k.count) c.if-not-sized.true))
 
-returns-2 : tie.Need-returns-2
+returns-2 : tie.Need-returns-in-Refused
 returns-2 c = λ l k.
-    let a = c.before.before in
-    c.enum_told.given.1 ∙ sym (checked-alone (eclipse a) l (low a l k) (high a l k) _ (answered a l k ∙ c.enum_told.given.1))
+    let a = c.before in
+    c.in-Refused.is ∙ sym (checked-alone (eclipse a) l (low a l k) (high a l k) _ (answered a l k ∙ c.in-Refused.is))
 
-check-stations-requires : tie.Need-check-stations-requires
-check-stations-requires c κs = let a = c.before.before in ((sized a).1, (start a).requires)
+check-stations-requires : tie.Need-check_stations-d-requires
+check-stations-requires c κs = let a = c.before in ((sized a).1, (start a).requires)
 
-returns-3 : tie.Need-returns-3
+returns-3 : tie.Need-returns-in-Refused-d
 returns-3 c = λ l k.
-    let s = c.before.before in
+    let s = c.before in
     let a = alone s in
-    c.enum-told3.given.1
-    ∙ sym (checked-stations (eclipse a) l (low a l k) (high a l k) (answered a l k ∙ s.before.enum-told2.given.1) _ (stations s l k ∙ c.enum-told3.given.1))
+    c.in-Refused-d.is
+    ∙ sym (checked-stations (eclipse a) l (low a l k) (high a l k) (answered a l k ∙ s.in_default.is) _ (stations s l k ∙ c.in-Refused-d.is))
 
-array-share-prefix-numbers : tie.Need-array-share-prefix-numbers
+array-share-prefix-numbers : tie.Need-slice_bounds-numbers-end
 array-share-prefix-numbers c = let few = (sized (asked c.before)).1 in search rules
 
-array-share-prefix-clocks : tie.Need-array-share-prefix-clocks
+array-share-prefix-clocks : tie.Need-slice_bounds-clocks-end
 array-share-prefix-clocks c = let few = (sized (asked c.before.before)).1 in search rules
 
-check-clocks-requires : tie.Need-check-clocks-requires
+check-clocks-requires : tie.Need-check_clocks-requires
 check-clocks-requires c κs =
     let k = c.before.before in
     let a = numbers-counted k.before in
     (clocks-counted k ∙ sym a, omega (arith, a, (sized (asked k.before)).1))
 
-returns-4 : tie.Need-returns-4
+returns-4 : tie.Need-returns
 returns-4 c = λ l k.
     let m = c.before.before.before in
     let n = m.before in
-    let s = n.before.before.before in
+    let s = n.before.before in
     let a = alone s in
     let few = (sized a).1 in
-    c.check-clocks.ensures
-    ∙ rw (part (held a) l k few number_of n.numbers.result n.numbers.ensures, part (held a) l k few clock_of m.clocks.result m.clocks.ensures)
-    (sym (checked-clocks (eclipse a) l (low a l k) (high a l k) (answered a l k ∙ s.before.enum-told2.given.1) (stations s l k ∙ n.before.enum-told4.given.1)))
+    c.check_clocks.ensures
+    ∙ rw (part (held a) l k few number_of n.numbers-numbers.result n.numbers-numbers.ensures, part (held a) l k few clock_of m.clocks-clocks.result m.clocks-clocks.ensures)
+    (sym (checked-clocks (eclipse a) l (low a l k) (high a l k) (answered a l k ∙ s.in_default.is) (stations s l k ∙ n.in_default-d.is)))
 
-pub check-spec : {M : Type 1} → statement M
-check-spec =
+pub check_spec : {M : Type 1} → statement M
+check_spec =
     tie.close
     (tie.spec returns (λ c κs. search rules) (λ c. search rules) returns-2 (λ c. search rules)
     check-stations-requires (λ c. search rules) returns-3 (λ c. search rules) (λ c κs. search rules)

@@ -16,48 +16,48 @@ use Rattle.clock_network.proofs.checks.check_clocks.Tie as tie
 abbrev at : ℕ → ℕ → Checked
 at number place = C.Refused (refusal number place)
 
-none-repeats : (c : tie.Else1) → let ns = c.before.before.args.numbers.now in length ns ≤ firstRepeat ns
-none-repeats c = omega (arith, c.before.first-repeat.ensures, c.if1.false)
+none-repeats : (c : tie.Else-repeat-n) → let ns = c.args.numbers.now in length ns ≤ firstRepeat ns
+none-repeats c = omega (arith, c.first_repeat-repeat.ensures, c.if-repeat-n.false)
 
-none-strays : (c : tie.Else2) → let a = c.before.before.before.before.args in length a.numbers.now ≤ firstStray a.numbers.now a.clocks.now
-none-strays c = omega (arith, c.before.first-stray.ensures, c.if2.false)
+none-strays : (c : tie.Else-stray-n) → let a = c.args in length a.numbers.now ≤ firstStray a.numbers.now a.clocks.now
+none-strays c = omega (arith, c.first_stray-stray.ensures, c.if-stray-n.false)
 
-returns : tie.Need-returns
+returns : tie.Need-returns-then-repeat-n
 returns c =
-    let a = c.before.before.args in
-    let e = c.before.first-repeat.ensures in
-    ap (at 14) e ∙ sym (clocks-14 a.numbers.now a.clocks.now (omega (arith, e, c.if1.true)))
+    let a = c.args in
+    let e = c.first_repeat-repeat.ensures in
+    ap (at 14) e ∙ sym (clocks-14 a.numbers.now a.clocks.now (omega (arith, e, c.if-repeat-n.true)))
 
-returns-2 : tie.Need-returns-2
+returns-2 : tie.Need-returns-then-stray-n
 returns-2 c =
     let b = c.before.before in
-    let a = b.before.before.args in
-    let e = c.before.first-stray.ensures in
-    ap (at 15) e ∙ sym (clocks-15 a.numbers.now a.clocks.now (none-repeats b) (omega (arith, e, c.if2.true)))
+    let a = b.args in
+    let e = c.first_stray-stray.ensures in
+    ap (at 15) e ∙ sym (clocks-15 a.numbers.now a.clocks.now (none-repeats b) (omega (arith, e, c.if-stray-n.true)))
 
-first-lost-requires : tie.Need-first-lost-requires
+first-lost-requires : tie.Need-first_lost-lost-requires
 first-lost-requires c κs =
     let b = c.before.before in
     let s = b.before.before in
     (s.requires.0, s.requires.1, once s.args.numbers.now s.args.clocks.now (none-repeats b))
 
-returns-3 : tie.Need-returns-3
+returns-3 : tie.Need-returns-then-lost-n
 returns-3 c =
     let d = c.before.before in
     let b = d.before.before in
-    let a = b.before.before.args in
-    let e = c.before.first-lost.ensures in
-    ap (at 16) e ∙ sym (clocks-16 a.numbers.now a.clocks.now (none-repeats b) (none-strays d) (omega (arith, e, c.if3.true)))
+    let a = b.args in
+    let e = c.first_lost-lost.ensures in
+    ap (at 16) e ∙ sym (clocks-16 a.numbers.now a.clocks.now (none-repeats b) (none-strays d) (omega (arith, e, c.if-lost-n.true)))
 
-returns-4 : tie.Need-returns-4
+returns-4 : tie.Need-returns
 returns-4 c =
     let d = c.before.before in
     let b = d.before.before in
-    let a = b.before.before.args in
-    sym (clocks-within a.numbers.now a.clocks.now (none-repeats b) (none-strays d) (omega (arith, c.before.first-lost.ensures, c.if3.false)))
+    let a = b.args in
+    sym (clocks-within a.numbers.now a.clocks.now (none-repeats b) (none-strays d) (omega (arith, c.first_lost-lost.ensures, c.if-lost-n.false)))
 
-pub check-clocks-spec : {M : Type 1} → statement M
-check-clocks-spec =
+pub check_clocks_spec : {M : Type 1} → statement M
+check_clocks_spec =
     tie.close
     (tie.spec (λ c κs. search rules) returns (λ c κs. search rules) returns-2 first-lost-requires returns-3
     returns-4)

@@ -6,7 +6,7 @@ use Rattle.clock_network.proofs.checks.check_first.Statement.{statement}
 use Rattle.clock_network.proofs.checks.check_first.Tie as tie
 
 returns : tie.Need-returns
-returns c = c.check.ensures ∙ ap checked (c.before.of-eclipse.ensures ∙ ap of_eclipse c.before.before.request.ensures)
+returns c = c.check.ensures ∙ ap checked (c.of_eclipse-o.ensures ∙ ap of_eclipse c.request-q.ensures)
 
-pub check-first-spec : {M : Type 1} → statement M
-check-first-spec = tie.close (tie.spec (λ c. search rules) (λ c κs. search rules) (λ c κs. search rules) (λ c κs. search rules) returns)
+pub check_first_spec : {M : Type 1} → statement M
+check_first_spec = tie.close (tie.spec (λ c. search rules) (λ c κs. search rules) (λ c κs. search rules) (λ c κs. search rules) returns)

@@ -17,22 +17,22 @@ use Rattle.clock_network.specs.CheckLaws.{stations-refused, stations-more, stati
 use Rattle.clock_network.proofs.checks.check_stations.Statement.{statement}
 use Rattle.clock_network.proofs.checks.check_stations.Tie as tie
 
-abbrev invariant-loop : tie.invariant-loop
+abbrev invariant-loop : tie.invariant-loop-i
 invariant-loop h n i₀ i = (i ≤ h.count) × (stations_checked i (drop i (take h.count h.nodes)) ≡ stations_checked 0 (take h.count h.nodes))
 
-abbrev decreases-loop : tie.decreases-loop
+abbrev decreases-loop : tie.decreases-loop-i
 decreases-loop h n i₀ i = h.count - i
 
 -- ---- a station
-module _ (c : tie.After-check invariant-loop decreases-loop) where
-  abbrev inside : tie.In-loop invariant-loop decreases-loop
+module _ (c : tie.After-check-c invariant-loop decreases-loop) where
+  abbrev inside : tie.In-loop-i invariant-loop decreases-loop
   inside = c.before.before.before
 
   abbrev start : tie.Start invariant-loop decreases-loop
   start = inside.before.before
 
   abbrev i : ℕ
-  i = inside.before.loop.i
+  i = inside.loop-i.i
 
   abbrev held : Held
   held = start.args.t1
@@ -41,42 +41,42 @@ module _ (c : tie.After-check invariant-loop decreases-loop) where
   list = take held.count held.nodes
 
   within : i < length list
-  within = omega (arith, inside.loop-test.taken, length-take-le held.count held.nodes (omega (arith, start.pre.0, start.pre.1)))
+  within = omega (arith, inside.loop-i-test.true, length-take-le held.count held.nodes (omega (arith, start.requires.0, start.requires.1)))
 
-  answered : station_checked (get_or list i blank_node).station ≡ c.check.result
+  answered : station_checked (get_or list i blank_node).station ≡ c.check-c.result
   answered =
-      ap (λ (n : Node). station_checked n.station) (get_or-take held.count held.nodes i blank_node inside.loop-test.taken)
-      ∙ sym c.check.ensures
+      ap (λ (n : Node). station_checked n.station) (get_or-take held.count held.nodes i blank_node inside.loop-i-test.true)
+      ∙ sym c.check-c.ensures
 
-add-place : tie.Need-overflow-add-place invariant-loop decreases-loop
+add-place : tie.Need-overflow_add-place invariant-loop decreases-loop
 add-place c =
-    let k = c.before.before.before.before in
-    let f = field_small _ _ (answered k ∙ c.before.before.c.given.1) in
+    let k = c.before.before in
+    let f = field_small _ _ (answered k ∙ c.in-Refused.is) in
     record { fits = omega (arith, f, (inside k).loop-test.true, (start k).requires.0) }
 
-returns : tie.Need-returns invariant-loop decreases-loop
+returns : tie.Need-returns-in-Refused invariant-loop decreases-loop
 returns c =
-    let k = c.before.before.before.before in
-    sym (stations-refused (list k) (i k) (within k) _ (answered k ∙ c.before.before.c.given.1)) ∙ (inside k).before.loop.invariant.1
+    let k = c.before.before in
+    sym (stations-refused (list k) (i k) (within k) _ (answered k ∙ c.in-Refused.is)) ∙ (inside k).before.loop.invariant.1
 
-loop-again : tie.Need-loop-preserved invariant-loop decreases-loop
+loop-again : tie.Need-loop-i-preserved invariant-loop decreases-loop
 loop-again c =
-    let k = c.before.before in (
+    let k = c.before in (
       omega (arith, (inside k).loop-test.true),
-      sym (stations-more (list k) (i k) (within k) (answered k ∙ c.enum_told.given.1)) ∙ (inside k).before.loop.invariant.1,
+      sym (stations-more (list k) (i k) (within k) (answered k ∙ c.in_default.is)) ∙ (inside k).before.loop.invariant.1,
     )
 
-returns-2 : tie.Need-returns-2 invariant-loop decreases-loop
+returns-2 : tie.Need-returns invariant-loop decreases-loop
 returns-2 c =
-    let l = c.before.loop in
+    let l = c.loop-i in
     let a = c.before.before in
     let h = a.args.t1 in
     sym (stations-end (take h.count h.nodes) l.i
-    (omega (arith, c.loop-test.false, length-take-le h.count h.nodes (omega (arith, a.requires.0, a.requires.1)))))
+    (omega (arith, c.loop-i-test.false, length-take-le h.count h.nodes (omega (arith, a.requires.0, a.requires.1)))))
     ∙ l.invariant.1
 
-pub check-stations-spec : {M : Type 1} → statement M
-check-stations-spec =
+pub check_stations_spec : {M : Type 1} → statement M
+check_stations_spec =
     tie.close
     (tie.spec invariant-loop decreases-loop (λ c. (omega arith, refl)) (λ c. search rules) (λ c. search rules)
     (λ c κs. search rules) (λ c. search rules) (λ c. search rules) add-place returns (λ c. search rules)

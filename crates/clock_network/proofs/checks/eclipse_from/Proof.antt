@@ -13,15 +13,15 @@ returns c =
     let l = c.before in
     let f = l.before in
     let e = f.before in
-    let n = e.before.args.n.now in
+    let n = e.args.n.now in
     rw (
-      e.from-numbers.ensures,
-      read_result (get_or n 22 (pos 0)) f.first.given,
-      read_result (get_or n 23 (pos 0)) l.last.given,
-      read_result (get_or n 24 (pos 0)) c.guard.given,
+      e.from_numbers-elements.ensures,
+      read_result (get_or n 22 (pos 0)) f.first-1.given,
+      read_result (get_or n 23 (pos 0)) l.last-1.given,
+      read_result (get_or n 24 (pos 0)) c.guard-1.given,
     )
 
-pub eclipse-from-spec : {M : Type 1} → statement M
-eclipse-from-spec =
+pub eclipse_from_spec : {M : Type 1} → statement M
+eclipse_from_spec =
     tie.close
     (tie.spec (λ c κs. search rules) (λ c. search rules) (λ c. search rules) (λ c. search rules) returns)

@@ -13,7 +13,7 @@ abbrev filled : ℕ → Node → Held
 filled n b = record { nodes = replicate 64 b; count = n }
 
 returns : tie.Need-returns
-returns c = ap (filled c.before.args.n) c.blank.ensures
+returns c = ap (filled c.args.n) c.blank-b.ensures
 
-pub empty-spec : {M : Type 1} → statement M
-empty-spec = tie.close (tie.spec (λ c κs. search rules) returns)
+pub empty_spec : {M : Type 1} → statement M
+empty_spec = tie.close (tie.spec (λ c κs. search rules) returns)

@@ -12,25 +12,25 @@ use Rattle.clock_network.specs.Nodes.{numbers_of}
 use Rattle.clock_network.proofs.stations.numbers.Statement.{statement}
 use Rattle.clock_network.proofs.stations.numbers.Tie as tie
 
-abbrev invariant-loop : tie.invariant-loop
+abbrev invariant-loop : tie.invariant-loop-i
 invariant-loop h a₀ i₀ a i = (i ≤ 64) × ((length a ≡ 64) × (take i a ≡ take i (numbers_of h.nodes)))
 
-abbrev decreases-loop : tie.decreases-loop
+abbrev decreases-loop : tie.decreases-loop-i
 decreases-loop h a₀ i₀ a i = 64 - i
 
-loop-again : tie.Need-loop-preserved invariant-loop decreases-loop
+loop-again : tie.Need-loop-i-preserved invariant-loop decreases-loop
 loop-again c =
-    let l = c.before.before.before.before.before.args.t1.nodes in let i = c.before.before.before.before.loop.i in let a = c.before.before.before.before.loop.a in
-    let b : length a ≡ 64 = c.before.before.before.before.loop.invariant.1.0 in let n : length l ≡ 64 = c.before.before.before.before.before.requires in
-    (search rules, (length-set a i _ ∙ b, copy_step number_of l a i _ (omega arith) (omega arith) (to_z-of_z w64 _ (record { sfits = c.struct_told.given.0.1 })) c.before.before.before.before.loop.invariant.1.1))
+    let l = c.args.t1.nodes in let i = c.loop-i.i in let a = c.loop-i.a in
+    let b : length a ≡ 64 = c.loop-i.invariant.1.0 in let n : length l ≡ 64 = c.requires in
+    (search rules, (length-set a i _ ∙ b, copy_step number_of l a i _ (omega arith) (omega arith) (to_z-of_z w64 _ (record { sfits = c.struct_told-1.given.0.1 })) c.loop-i.invariant.1.1))
 
 returns : tie.Need-returns invariant-loop decreases-loop
 returns c =
-    let l = c.before.loop in let e : l.i ≡ 64 = omega arith in
-    copy_done number_of c.before.before.args.t1.nodes l.a l.invariant.1.0 c.before.before.requires (subst (λ (k : ℕ). take k l.a ≡ take k (numbers_of c.before.before.args.t1.nodes)) e l.invariant.1.1)
+    let l = c.loop-i in let e : l.i ≡ 64 = omega arith in
+    copy_done number_of c.args.t1.nodes l.a l.invariant.1.0 c.requires (subst (λ (k : ℕ). take k l.a ≡ take k (numbers_of c.args.t1.nodes)) e l.invariant.1.1)
 
-pub numbers-spec : {M : Type 1} → statement M
-numbers-spec =
+pub numbers_spec : {M : Type 1} → statement M
+numbers_spec =
     tie.close
     (tie.spec invariant-loop decreases-loop (λ c. (search rules, (refl, refl))) (λ c. search rules) (λ c. search rules)
     (λ c. search rules) (λ c. search rules) (λ c. search rules) (λ c. search rules) loop-again returns)

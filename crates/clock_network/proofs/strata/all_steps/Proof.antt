@@ -12,5 +12,5 @@ returns c =
     let b = c.before in
     steps-is b.args.numbers.now b.args.clocks.now b.requires.2 _ b.requires.1 c.search.ensures
 
-pub all-steps-spec : {M : Type 1} → statement M
-all-steps-spec = tie.close (tie.spec search-requires returns)
+pub all_steps_spec : {M : Type 1} → statement M
+all_steps_spec = tie.close (tie.spec search-requires returns)

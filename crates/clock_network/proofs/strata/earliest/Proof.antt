@@ -11,31 +11,31 @@ use Rattle.clock_network.specs.laws.DefinedLaws.{earliest-is}
 use Rattle.clock_network.proofs.strata.earliest.Statement.{statement}
 use Rattle.clock_network.proofs.strata.earliest.Tie as tie
 
-abbrev invariant-loop : tie.invariant-loop
+abbrev invariant-loop : tie.invariant-loop-i
 invariant-loop tos never low₀ best₀ i₀ low best i = SoFar tos never i low best
 
-abbrev decreases-loop : tie.decreases-loop
+abbrev decreases-loop : tie.decreases-loop-i
 decreases-loop tos never low₀ best₀ i₀ low best i = length tos - i
 
 moved : (ts : List ℕ) (never i a b a' b' : ℕ) → a' ≡ a → b' ≡ b → SoFar ts never i a b → SoFar ts never i a' b'
 moved ts never i a b a' b' e d f = subst (λ (x : ℕ). SoFar ts never i x b') (sym e) (subst (λ (x : ℕ). SoFar ts never i a x) (sym d) f)
 
-loop-holds : tie.Need-loop-init invariant-loop decreases-loop
+loop-holds : tie.Need-loop-i-init invariant-loop decreases-loop
 loop-holds c = far_start c.args.tos.now c.args.never
 
-loop-again : tie.Need-loop-preserved invariant-loop decreases-loop
+loop-again : tie.Need-loop-i-preserved invariant-loop decreases-loop
 loop-again c =
-    let l = c.before.before.before.loop in let ts = c.before.before.before.before.args.tos.now in let never = c.before.before.before.before.args.never in
+    let l = c.loop-i in let ts = c.args.tos.now in let never = c.args.never in
     ⊎_elim
-    (λ w. moved ts never (l.i + 1) _ _ _ _ w.2 w.3 (far-smaller ts never l.i l.low l.best l.invariant c.before.before.loop-test.true w.0.taken))
-    (λ w. moved ts never (l.i + 1) _ _ _ _ w.1 w.2 (far-other ts never l.i l.low l.best l.invariant c.before.before.loop-test.true w.0.left))
-    c.if1.branch
+    (λ w. moved ts never (l.i + 1) _ _ _ _ w.2 w.3 (far-smaller ts never l.i l.low l.best l.invariant c.loop-i-test.true w.0.taken))
+    (λ w. moved ts never (l.i + 1) _ _ _ _ w.1 w.2 (far-other ts never l.i l.low l.best l.invariant c.loop-i-test.true w.0.left))
+    c.if-tos-i.branch
 
 returns : tie.Need-returns invariant-loop decreases-loop
-returns c = let l = c.before.loop in let a = c.before.before.args in earliest-is a.tos.now a.never _ (far-end a.tos.now a.never l.i l.low l.best l.invariant c.loop-test.false)
+returns c = let l = c.loop-i in let a = c.args in earliest-is a.tos.now a.never _ (far-end a.tos.now a.never l.i l.low l.best l.invariant c.loop-i-test.false)
 
-pub earliest-spec : {M : Type 1} → statement M
-earliest-spec =
+pub earliest_spec : {M : Type 1} → statement M
+earliest_spec =
     tie.close
     (tie.spec invariant-loop decreases-loop loop-holds (λ c. search rules) (λ c. search rules) (λ c. search rules)
     (λ c. search rules) (λ c. search rules) (λ c. search rules) loop-again returns)

@@ -8,23 +8,23 @@ use Rattle.clock_network.specs.Steps.{Zero}
 use Rattle.clock_network.proofs.strata.first_zero.Statement.{statement}
 use Rattle.clock_network.proofs.strata.first_zero.Tie as tie
 
-abbrev invariant-loop : tie.invariant-loop
+abbrev invariant-loop : tie.invariant-loop-i
 invariant-loop steps n i₀ i = Searched (Zero steps) n i
 
-abbrev decreases-loop : tie.decreases-loop
+abbrev decreases-loop : tie.decreases-loop-i
 decreases-loop steps n i₀ i = n - i
 
-returns : tie.Need-returns invariant-loop decreases-loop
-returns c = first_found c.before.before.before.loop.invariant c.if1.true
+returns : tie.Need-returns-then-steps-i-eq0 invariant-loop decreases-loop
+returns c = first_found c.loop-i.invariant c.if-steps-i-eq0.true
 
-loop-again : tie.Need-loop-preserved invariant-loop decreases-loop
-loop-again c = (search rules, below_more _ _ c.before.before.before.loop.invariant.1 c.if1.false)
+loop-again : tie.Need-loop-i-preserved invariant-loop decreases-loop
+loop-again c = (search rules, below_more _ _ c.loop-i.invariant.1 c.if-steps-i-eq0.false)
 
-returns-2 : tie.Need-returns-2 invariant-loop decreases-loop
-returns-2 c = first-none c.before.loop.invariant (omega arith)
+returns-2 : tie.Need-returns invariant-loop decreases-loop
+returns-2 c = first-none c.loop-i.invariant (omega arith)
 
-pub first-zero-spec : {M : Type 1} → statement M
-first-zero-spec =
+pub first_zero_spec : {M : Type 1} → statement M
+first_zero_spec =
     tie.close
     (tie.spec invariant-loop decreases-loop (λ c. search rules) (λ c. search rules) returns (λ c. search rules)
     (λ c. search rules) loop-again returns-2)

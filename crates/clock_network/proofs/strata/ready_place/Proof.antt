@@ -10,23 +10,23 @@ use Rattle.clock_network.specs.laws.Search.{Untold}
 use Rattle.clock_network.proofs.strata.ready_place.Statement.{statement}
 use Rattle.clock_network.proofs.strata.ready_place.Tie as tie
 
-abbrev invariant-loop : tie.invariant-loop
+abbrev invariant-loop : tie.invariant-loop-i
 invariant-loop numbers clocks steps i₀ i = (i ≤ length numbers) × ((k : ℕ) → k < i → get_or steps k 0 ≡ 0 → Untold numbers clocks steps k)
 
-abbrev decreases-loop : tie.decreases-loop
+abbrev decreases-loop : tie.decreases-loop-i
 decreases-loop numbers clocks steps i₀ i = length numbers - i
 
-returns : tie.Need-returns invariant-loop decreases-loop
-returns c = (search rules, (c.before.before.if1.true, (c.if2.true, (c.before.next-steps.ensures.told c.if2.true, c.before.next-steps.ensures.small))))
+returns : tie.Need-returns-then-s-ne0 invariant-loop decreases-loop
+returns c = (search rules, (c.if-steps-i-eq0.true, (c.if-s-ne0.true, (c.next_steps-s.ensures.told c.if-s-ne0.true, c.next_steps-s.ensures.small))))
 
-loop-again : tie.Need-loop-preserved invariant-loop decreases-loop
-loop-again c = (search rules, below_more _ _ c.before.before.before.loop.invariant.1 (⊎_elim (λ w z. w.1.ensures.untold w.2.left) (λ w z. absurd (w.left z)) c.if1.branch))
+loop-again : tie.Need-loop-i-preserved invariant-loop decreases-loop
+loop-again c = (search rules, below_more _ _ c.loop-i.invariant.1 (⊎_elim (λ w z. w.1.ensures.untold w.2.left) (λ w z. absurd (w.left z)) c.if-steps-i-eq0.branch))
 
-returns-2 : tie.Need-returns-2 invariant-loop decreases-loop
-returns-2 c = λ i l. c.before.loop.invariant.1 i (omega arith)
+returns-2 : tie.Need-returns invariant-loop decreases-loop
+returns-2 c = λ i l. c.loop-i.invariant.1 i (omega arith)
 
-pub ready-place-spec : {M : Type 1} → statement M
-ready-place-spec =
+pub ready_place_spec : {M : Type 1} → statement M
+ready_place_spec =
     tie.close
     (tie.spec invariant-loop decreases-loop (λ c. (search rules, λ k l. absurd (omega arith))) (λ c. search rules)
     (λ c κs. search rules) returns (λ c. search rules) (λ c. search rules) loop-again returns-2)

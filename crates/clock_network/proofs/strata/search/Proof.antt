@@ -14,54 +14,54 @@ use Rattle.clock_network.proofs.strata.search.Reads as reads
 use Rattle.clock_network.proofs.strata.search.Lts as lts
 use Rattle.clock_network.proofs.strata.ready_place.Reads as ready-place-reads
 
-abbrev invariant-loop : tie.invariant-loop
+abbrev invariant-loop : tie.invariant-loop-i
 invariant-loop numbers clocks steps₀ steps = (length steps ≡ 64) × (Sound numbers clocks steps × Small steps)
 
-abbrev decreases-loop : tie.decreases-loop
+abbrev decreases-loop : tie.decreases-loop-i
 decreases-loop numbers clocks steps₀ steps = zeros steps
 
 -- what a turn found
 took : (c : lts.After-known-told (ready-place-reads.Asked, ready-place-reads.Learnt) reads.Pre reads.Post invariant-loop decreases-loop)
     → let b = c.before.before.before.before.before.before in
-    ReadyIs b.args.numbers.now b.args.clocks.now c.before.before.before.before.before.loop.steps (Found c.before.i.given.0.0 c.before.i.given.0.1.0)
+    ReadyIs b.args.numbers.now b.args.clocks.now c.loop-i.steps (Found c.in-Found.i c.in-Found.s)
 took c = let b = c.before.before.before.before.before.before in
-    subst (ReadyIs b.args.numbers.now b.args.clocks.now c.before.before.before.before.before.loop.steps) c.before.i.given.1 c.before.before.before.ready-place.ensures
+    subst (ReadyIs b.args.numbers.now b.args.clocks.now c.loop-i.steps) c.in-Found.is c.ready_place.ensures
 
 -- the place found is one of the array's
-within : (c : lts.After-known-told (ready-place-reads.Asked, ready-place-reads.Learnt) reads.Pre reads.Post invariant-loop decreases-loop) → c.before.i.given.0.0 < length c.before.before.before.before.before.loop.steps
+within : (c : lts.After-known-told (ready-place-reads.Asked, ready-place-reads.Learnt) reads.Pre reads.Post invariant-loop decreases-loop) → c.in-Found.i < length c.loop-i.steps
 within c = let b = c.before.before.before.before.before.before in
-    let h : c.before.i.given.0.0 < length b.args.numbers.now = (took c).0 in
+    let h : c.in-Found.i < length b.args.numbers.now = (took c).0 in
     let g : length b.args.numbers.now ≤ 64 = b.requires.1 in
-    let e : length c.before.before.before.before.before.loop.steps ≡ 64 = c.before.before.before.before.before.loop.invariant.0 in omega arith
+    let e : length c.loop-i.steps ≡ 64 = c.loop-i.invariant.0 in omega arith
 
-returns : tie.Need-returns invariant-loop decreases-loop
+returns : tie.Need-returns-in_default invariant-loop decreases-loop
 returns c =
-    let b = c.before.before.before.before.before in let st = c.before.before.before.before.loop.steps in record {
-      size = c.before.before.before.before.loop.invariant.0;
-      sound = c.before.before.before.before.loop.invariant.1.0;
-      lost = quiet-lost b.args.numbers.now b.args.clocks.now st (subst (ReadyIs b.args.numbers.now b.args.clocks.now st) c.enum_told.given.1 c.before.before.ready-place.ensures);
+    let b = c.before.before.before.before in let st = c.loop-i.steps in record {
+      size = c.loop-i.invariant.0;
+      sound = c.loop-i.invariant.1.0;
+      lost = quiet-lost b.args.numbers.now b.args.clocks.now st (subst (ReadyIs b.args.numbers.now b.args.clocks.now st) c.in_default.is c.ready_place.ensures);
     }
 
-array-write-steps : tie.Need-array-write-steps invariant-loop decreases-loop
-array-write-steps c = let h : c.before.i.given.0.0 < length c.before.before.before.before.before.loop.steps = within c in
-    let e : length c.before.before.before.before.before.loop.steps ≡ 64 = c.before.before.before.before.before.loop.invariant.0 in omega arith
+array-write-steps : tie.Need-bounds-steps-i invariant-loop decreases-loop
+array-write-steps c = let h : c.in-Found.i < length c.loop-i.steps = within c in
+    let e : length c.loop-i.steps ≡ 64 = c.loop-i.invariant.0 in omega arith
 
-loop-less : tie.Need-loop-smaller invariant-loop decreases-loop
-loop-less c = let st = c.before.before.before.before.before.loop.steps in
-    let e : zeros (set st c.before.i.given.0.0 c.before.i.given.0.1.0) + 1 ≡ zeros st = zeros-set st c.before.i.given.0.0 c.before.i.given.0.1.0 (within c) (took c).1.0 (took c).1.1.0 in omega arith
+loop-less : tie.Need-loop-i-smaller invariant-loop decreases-loop
+loop-less c = let st = c.loop-i.steps in
+    let e : zeros (set st c.in-Found.i c.in-Found.s) + 1 ≡ zeros st = zeros-set st c.in-Found.i c.in-Found.s (within c) (took c).1.0 (took c).1.1.0 in omega arith
 
-loop-again : tie.Need-loop-preserved invariant-loop decreases-loop
+loop-again : tie.Need-loop-i-preserved invariant-loop decreases-loop
 loop-again c =
-    let b = c.before.before.before.before.before.before in let l = c.before.before.before.before.before.loop in let i = c.before.i.given.0.0 in let n = c.before.i.given.0.1.0 in (
-      length-set l.steps i n ∙ l.invariant.0,
+    let b = c.before.before.before.before in let l = c.loop-i in (
+      length-set l.steps c.in-Found.i c.in-Found.s ∙ l.invariant.0,
       (
-        sound_set b.args.numbers.now b.args.clocks.now l.steps i n (within c) ((took c).1.1.1.0 l.invariant.1.0) l.invariant.1.0,
-        small_set l.steps i n (within c) (took c).1.0 (took c).1.1.0 (took c).1.1.1.1 l.invariant.1.1,
+        sound_set b.args.numbers.now b.args.clocks.now l.steps c.in-Found.i c.in-Found.s (within c) ((took c).1.1.1.0 l.invariant.1.0) l.invariant.1.0,
+        small_set l.steps c.in-Found.i c.in-Found.s (within c) (took c).1.0 (took c).1.1.0 (took c).1.1.1.1 l.invariant.1.1,
       ),
     )
 
-pub search-spec : {M : Type 1} → statement M
-search-spec =
+pub search_spec : {M : Type 1} → statement M
+search_spec =
     tie.close
     (tie.spec invariant-loop decreases-loop (λ c. (refl, (sound_start _ _, small_start))) (λ c. search rules)
     (λ c κs. search rules) (λ c. search rules) (λ c. search rules) returns array-write-steps loop-less

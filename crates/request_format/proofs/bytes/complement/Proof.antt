@@ -28,25 +28,25 @@ cast c z e =
     subst (λ (y : ℤ). T (non_neg y) × Fits w32 (nat_abs y)) (sym e)
     (tt, record { fits = omega (arith, complement_small c.args.n c.args.whole c.requires.0) })
 
-shifted-is : (c : tie.Then1) → run (whole c.before.args.n ∷ raw c.before.args.whole ∷ []) shifted
-    ≡ pos (complement c.before.args.whole c.before.args.n)
+shifted-is : (c : tie.Then-n-lt0) → run (whole c.args.n ∷ raw c.args.whole ∷ []) shifted
+    ≡ pos (complement c.args.whole c.args.n)
 shifted-is c =
     let s = c.before in
     runs (bounds s) shifted tt
     ∙ ap (λ (y : ℤ). s.args.n +ℤ y) (count-is s.args.whole s.requires.1 tt)
-    ∙ complement_below s.args.n s.args.whole (taken-< (bounds s) (arg 0) (lit (pos 0)) tt c.if1.true) s.requires.0
+    ∙ complement_below s.args.n s.args.whole (taken-< (bounds s) (arg 0) (lit (pos 0)) tt c.if-n-lt0.true) s.requires.0
 
-itself : (c : tie.Else1) → to_z w64 (of_z w64 c.before.args.n) ≡ pos (complement c.before.args.whole c.before.args.n)
+itself : (c : tie.Else-n-lt0) → to_z w64 (of_z w64 c.args.n) ≡ pos (complement c.args.whole c.args.n)
 itself c =
     let s = c.before in
-    runs (bounds s) (arg 0) tt ∙ complement_above s.args.n s.args.whole (left-< (bounds s) (arg 0) (lit (pos 0)) tt c.if1.false)
+    runs (bounds s) (arg 0) tt ∙ complement_above s.args.n s.args.whole (left-< (bounds s) (arg 0) (lit (pos 0)) tt c.if-n-lt0.false)
 
-returns : tie.Need-returns
+returns : tie.Need-returns-then-n-lt0
 returns c = ap nat_abs (shifted-is c)
 
-returns-2 : tie.Need-returns-2
+returns-2 : tie.Need-returns
 returns-2 c = ap nat_abs (itself c)
 
-pub complement-spec : {M : Type 1} → statement M
-complement-spec =
+pub complement_spec : {M : Type 1} → statement M
+complement_spec =
     tie.close (tie.spec (λ c. search rules) (λ c. fits (bounds c.before) shifted tt) (λ c. cast c.before _ (shifted-is c)) returns (λ c. cast c.before _ (itself c)) returns-2)

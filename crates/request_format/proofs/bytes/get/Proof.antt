@@ -5,11 +5,11 @@ use Rattle.request_format.specs.laws.GetLaws.{get-numbers, get-misshaped}
 use Rattle.request_format.proofs.bytes.get.Statement.{statement}
 use Rattle.request_format.proofs.bytes.get.Tie as tie
 
-returns : tie.Need-returns
-returns c = get-numbers _ _ _ _ _ c.before.before.before.read.ensures c.enum_told.given.1
+returns : tie.Need-returns-in-Numbers
+returns c = get-numbers _ _ _ _ _ c.read-got.ensures c.in-Numbers.is
 
-returns-2 : tie.Need-returns-2
-returns-2 c = get-misshaped _ _ _ _ _ c.before.before.before.read.ensures c.enum-told2.given.1
+returns-2 : tie.Need-returns-in_default
+returns-2 c = get-misshaped _ _ _ _ _ c.read-got.ensures c.in_default.is
 
 pub get_spec : {M : Type 1} → statement M
 get_spec =

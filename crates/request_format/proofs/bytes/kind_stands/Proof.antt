@@ -5,14 +5,14 @@ use Rattle.request_format.specs.laws.RowByteLaws.{stands-none, stands-past, stan
 use Rattle.request_format.proofs.bytes.kind_stands.Statement.{statement}
 use Rattle.request_format.proofs.bytes.kind_stands.Tie as tie
 
-returns : tie.Need-returns
-returns c = stands-none _ _ _ c.if1.true
+returns : tie.Need-returns-then-kind-eq0
+returns c = stands-none _ _ _ c.if-kind-eq0.true
 
-returns-2 : tie.Need-returns-2
-returns-2 c = stands-past _ _ _ c.before.if1.false c.if2.true
+returns-2 : tie.Need-returns-then-s-at
+returns-2 c = stands-past _ _ _ c.if-kind-eq0.false c.if-s-at.true
 
-returns-3 : tie.Need-returns-3
-returns-3 c = stands_here _ _ _ c.before.before.if1.false (omega (arith, c.before.if2.false))
+returns-3 : tie.Need-returns
+returns-3 c = stands_here _ _ _ c.if-kind-eq0.false (omega (arith, c.if-s-at.false))
 
-pub kind-stands-spec : {M : Type 1} → statement M
-kind-stands-spec = tie.close (tie.spec returns returns-2 (λ c. search rules) returns-3)
+pub kind_stands_spec : {M : Type 1} → statement M
+kind_stands_spec = tie.close (tie.spec returns returns-2 (λ c. search rules) returns-3)

@@ -22,19 +22,19 @@ use Rattle.request_format.specs.laws.PutLaws.{Putting, putting_start, putting-ro
 use Rattle.request_format.proofs.bytes.lay.Statement.{statement}
 use Rattle.request_format.proofs.bytes.lay.Tie as tie
 
-abbrev invariant-loop : tie.invariant-loop
+abbrev invariant-loop : tie.invariant-loop-k
 invariant-loop shape numbers out₀ count at₀ k₀ out at k = Putting shape numbers out at k
 
-abbrev decreases-loop : tie.decreases-loop
+abbrev decreases-loop : tie.decreases-loop-k
 decreases-loop shape numbers out₀ count at₀ k₀ out at k = count - k
 
 -- number k is one of the request's
-short : (c : tie.In-loop invariant-loop decreases-loop) → c.before.loop.k < countOf c.before.before.before.before.args.shape
-short c = omega (arith, c.loop-test.true, c.before.before.count_of.ensures)
+short : (c : tie.In-loop-k invariant-loop decreases-loop) → c.loop-k.k < countOf c.args.shape
+short c = omega (arith, c.loop-k-test.true, c.count_of-count.ensures)
 
 -- number k, as it is handed over, and its field
-module _ (c : tie.After-n invariant-loop decreases-loop) where
-  abbrev loop : tie.At-loop invariant-loop decreases-loop
+module _ (c : tie.After-n-1 invariant-loop decreases-loop) where
+  abbrev loop : tie.At-loop-k invariant-loop decreases-loop
   loop = c.before.before.before
 
   abbrev start : tie.Start invariant-loop decreases-loop
@@ -44,76 +44,76 @@ module _ (c : tie.After-n invariant-loop decreases-loop) where
   shape = start.args.shape
 
   abbrev n : ℤ
-  n = get_or start.args.numbers.now loop.loop.k (pos 0)
+  n = get_or start.args.numbers.now loop.loop-k.k (pos 0)
 
   same : to_z w64 (of_z w64 n) ≡ n
-  same = read_result n c.n.given
+  same = read_result n c.n-1.given
 
-  field : c.before.field_at.result ≡ rowAt shape loop.loop.k
-  field = c.before.field_at.ensures
+  field : c.field_at-field.result ≡ rowAt shape loop.loop-k.k
+  field = c.field_at-field.ensures
 
   -- what was tested
-  tested : (b : Bool) → holds c.before.field_at.result.3 (to_z w64 (of_z w64 n)) ≡ b → holds (rowAt shape loop.loop.k).3 n ≡ b
+  tested : (b : Bool) → holds c.field_at-field.result.3 (to_z w64 (of_z w64 n)) ≡ b → holds (rowAt shape loop.loop-k.k).3 n ≡ b
   tested b e = rw (← field, ← same) e
 
   -- its bytes
-  bytes : field_bytes c.before.field_at.result (to_z w64 (of_z w64 n)) ≡ field_bytes (rowAt shape loop.loop.k) n
-  bytes = ap (field_bytes c.before.field_at.result) same ∙ ap (λ (f : Field). field_bytes f n) field
+  bytes : field_bytes c.field_at-field.result (to_z w64 (of_z w64 n)) ≡ field_bytes (rowAt shape loop.loop-k.k) n
+  bytes = ap (field_bytes c.field_at-field.result) same ∙ ap (λ (f : Field). field_bytes f n) field
 
   -- they fit
-  room : loop.loop.at + length (field_bytes c.before.field_at.result (to_z w64 (of_z w64 n))) ≤ length loop.loop.out
+  room : loop.loop-k.at + length (field_bytes c.field_at-field.result (to_z w64 (of_z w64 n))) ≤ length loop.loop-k.out
   room =
       omega
-      (arith, ap (λ (l : List ℕ). length l) bytes, putting-room _ _ _ _ _ start.pre.0 loop.loop.inv (short c.before.before))
+      (arith, ap (λ (l : List ℕ). length l) bytes, putting-room _ _ _ _ _ start.requires.0 loop.loop-k.invariant (short c.before.before))
 
-loop-holds : tie.Need-loop-init invariant-loop decreases-loop
-loop-holds c = putting_start _ _ _ c.before.before.requires.0 c.before.before.requires.1
+loop-holds : tie.Need-loop-k-init invariant-loop decreases-loop
+loop-holds c = putting_start _ _ _ c.requires.0 c.requires.1
 
-mul-n : tie.Need-overflow-mul-n invariant-loop decreases-loop
-mul-n c = record { fits = omega (arith, short c.before, c.before.before.before.before.before.requires.0) }
+mul-n : tie.Need-offset_bounds-numbers-k invariant-loop decreases-loop
+mul-n c = record { fits = omega (arith, short c.before, c.requires.0) }
 
-shared-slice-copy-out-n : tie.Need-shared-slice-copy-out-n invariant-loop decreases-loop
-shared-slice-copy-out-n c = omega (arith, short c.before, c.before.before.before.before.before.requires.0)
+shared-slice-copy-out-n : tie.Need-bounds-numbers-k invariant-loop decreases-loop
+shared-slice-copy-out-n c = omega (arith, short c.before, c.requires.0)
 
-same_length : tie.Need-same-length invariant-loop decreases-loop
-same_length c = let l = c.before.before.before.before.before in l.loop.invariant.room ∙ sym l.before.before.before.requires.1
+same_length : tie.Need-shape_of-out-then-not-fits invariant-loop decreases-loop
+same_length c = let l = c.before.before.before.before.before in l.loop-k.invariant.room ∙ sym l.requires.1
 
-returns : tie.Need-returns invariant-loop decreases-loop
+returns : tie.Need-returns-then-not-fits invariant-loop decreases-loop
 returns c =
     let h = c.before in
     let l = loop h.before in
-    putting-unfit _ _ _ _ _ (start h.before).pre.0 l.loop.inv (short h.before.before.before)
-    (tested h.before _ (sym h.holds.ensures ∙ not-true _ c.if1.true))
+    putting-unfit _ _ _ _ _ (start h.before).requires.0 l.loop-k.invariant (short h.before.before.before)
+    (tested h.before _ (sym h.holds-fits.ensures ∙ c.if-not-fits.true))
 
-put-field-requires : tie.Need-put-field-requires invariant-loop decreases-loop
+put-field-requires : tie.Need-put_field-at-requires invariant-loop decreases-loop
 put-field-requires c κs =
     let h = c.before.before in
-    (room h.before, sym h.holds.ensures ∙ not-false _ c.before.if1.false)
+    (room h.before, sym h.holds-fits.ensures ∙ c.if-not-fits.false)
 
-add-k : tie.Need-overflow-add-k invariant-loop decreases-loop
-add-k c = record { fits = omega (arith, c.before.before.before.before.before.before.before.before.loop-test.true) }
+add-k : tie.Need-overflow_add-k invariant-loop decreases-loop
+add-k c = record { fits = omega (arith, c.loop-k-test.true) }
 
-loop-less : tie.Need-loop-smaller invariant-loop decreases-loop
-loop-less c = omega (arith, c.before.before.before.before.before.before.before.before.loop-test.true)
+loop-less : tie.Need-loop-k-smaller invariant-loop decreases-loop
+loop-less c = omega (arith, c.loop-k-test.true)
 
-loop-again : tie.Need-loop-preserved invariant-loop decreases-loop
+loop-again : tie.Need-loop-k-preserved invariant-loop decreases-loop
 loop-again c =
     let p = c.before.before in
     let h = p.before.before.before in
     let l = loop h.before in
-    putting-more _ _ _ _ _ (start h.before).pre.0 l.loop.inv (short h.before.before.before) _ _
-    (tested h.before _ (sym h.holds.ensures ∙ not-false _ p.before.before.if1.false))
-    (p.put-field.ensures.0 ∙ ap (λ (b : List ℕ). l.loop.at + length b) (bytes h.before))
-    (p.put-field.ensures.1 ∙ ap (sets l.loop.out l.loop.at) (bytes h.before))
+    putting-more _ _ _ _ _ (start h.before).requires.0 l.loop-k.invariant (short h.before.before.before) _ _
+    (tested h.before _ (sym h.holds-fits.ensures ∙ p.if-not-fits.false))
+    (p.put_field-at.ensures.0 ∙ ap (λ (b : List ℕ). l.loop-k.at + length b) (bytes h.before))
+    (p.put_field-at.ensures.1 ∙ ap (sets l.loop-k.out l.loop-k.at) (bytes h.before))
 
-same-length-2 : tie.Need-same-length-2 invariant-loop decreases-loop
-same-length-2 c = c.before.loop.invariant.room ∙ sym c.before.before.before.before.requires.1
+same-length-2 : tie.Need-shape_of-out invariant-loop decreases-loop
+same-length-2 c = c.loop-k.invariant.room ∙ sym c.requires.1
 
-returns-2 : tie.Need-returns-2 invariant-loop decreases-loop
-returns-2 c = putting-end _ _ _ _ _ c.before.before.before.before.requires.0 c.before.loop.invariant (omega (arith, c.loop-test.false, c.before.before.count_of.ensures))
+returns-2 : tie.Need-returns invariant-loop decreases-loop
+returns-2 c = putting-end _ _ _ _ _ c.requires.0 c.loop-k.invariant (omega (arith, c.loop-k-test.false, c.count_of-count.ensures))
 
-pub lay-spec : {M : Type 1} → statement M
-lay-spec =
+pub lay_spec : {M : Type 1} → statement M
+lay_spec =
     tie.close
     (tie.spec invariant-loop decreases-loop (λ c κs. search rules) loop-holds (λ c κs. short c) mul-n
     shared-slice-copy-out-n (λ c κs. search rules) same_length returns put-field-requires add-k loop-less

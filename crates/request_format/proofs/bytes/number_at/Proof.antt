@@ -16,36 +16,36 @@ use Rattle.request_format.proofs.bytes.number_at.Tie as tie
 room : (c : tie.Start) (w : Width) → c.args.width ≡ w → c.args.at + bytes_in w ≤ length c.args.s.now
 room c w e = subst (λ (v : Width). c.args.at + bytes_in v ≤ length c.args.s.now) e c.requires
 
-two-at-requires : tie.Need-two-at-requires
-two-at-requires c κs = room c.before.before.before _ c.enum_told.given.1
+two-at-requires : tie.Need-two_at-requires
+two-at-requires c κs = room c.before.before _ c.in-Unsigned2.is
 
-two-at-requires-2 : tie.Need-two-at-requires-2
-two-at-requires-2 c κs = room c.before.before.before _ c.enum-told2.given.1
+two-at-requires-2 : tie.Need-two_at-requires-in-Signed2
+two-at-requires-2 c κs = room c.before.before _ c.in-Signed2.is
 
-four-at-requires : tie.Need-four-at-requires
-four-at-requires c κs = room c.before.before.before _ c.enum-told3.given.1
+four-at-requires : tie.Need-four_at-requires
+four-at-requires c κs = room c.before.before _ c.in-Signed4.is
 
-returns : tie.Need-returns
+returns : tie.Need-returns-in-Unsigned2
 unfolding number_at
 returns c =
     let n = c.two_at in
     let small : n.result ≤ 65535 = omega (arith, n.ensures.1) in
-    count-is n.result small tt ∙ rw c.before.enum_told.given.1 (ap pos n.ensures.0)
+    count-is n.result small tt ∙ rw c.in-Unsigned2.is (ap pos n.ensures.0)
 
-returns-2 : tie.Need-returns-2
+returns-2 : tie.Need-returns-in-Signed2
 unfolding number_at
 returns-2 c =
     let z = c.signed in
-    read_result z.result z.type-inv ∙ z.ensures ∙ rw c.before.before.enum-told2.given.1 (ap (signed 32768) c.before.two-at2.ensures.0)
+    read_result z.result z.type_inv ∙ z.ensures ∙ rw c.in-Signed2.is (ap (signed 32768) c.two_at-in-Signed2.ensures.0)
 
-returns-3 : tie.Need-returns-3
+returns-3 : tie.Need-returns-in-Signed4
 unfolding number_at
 returns-3 c =
-    let z = c.signed2 in
-    read_result z.result z.type-inv ∙ z.ensures ∙ rw c.before.before.enum-told3.given.1 (ap (signed 2147483648) c.before.four-at.ensures)
+    let z = c.signed-in-Signed4 in
+    read_result z.result z.type_inv ∙ z.ensures ∙ rw c.in-Signed4.is (ap (signed 2147483648) c.four_at.ensures)
 
-pub number-at-spec : {M : Type 1} → statement M
-number-at-spec =
+pub number_at_spec : {M : Type 1} → statement M
+number_at_spec =
     tie.close
     (tie.spec (λ c. search rules) two-at-requires (λ c. search rules) (λ c. search rules) two-at-requires-2
     (λ c κs. search rules) (λ c. search rules) four-at-requires (λ c κs. search rules) returns returns-2

@@ -5,11 +5,11 @@ use Rattle.request_format.specs.laws.PutLaws.{put-done, put-unfit}
 use Rattle.request_format.proofs.bytes.put.Statement.{statement}
 use Rattle.request_format.proofs.bytes.put.Tie as tie
 
-returns : tie.Need-returns
-returns c = put-done _ _ _ _ _ c.before.before.before.lay.ensures c.enum_told.given.1
+returns : tie.Need-returns-in-Done
+returns c = put-done _ _ _ _ _ c.lay-answer.ensures c.in-Done.is
 
-returns-2 : tie.Need-returns-2
-returns-2 c = put-unfit _ _ _ _ _ c.before.before.before.lay.ensures _ c.enum-told2.given.1
+returns-2 : tie.Need-returns-in_default
+returns-2 c = put-unfit _ _ _ _ _ c.lay-answer.ensures _ c.in_default.is
 
 pub put_spec : {M : Type 1} → statement M
 put_spec =

@@ -20,31 +20,31 @@ kind-room : (c : tie.Start) → c.args.at + length (kind_bytes c.args.field.4) �
 kind-room c = omega (arith, room c)
 
 -- the place after the kind
-start-room : (c : tie.After-put-kind)
-    → c.put_kind.result + bytes_in c.before.before.before.args.field.3 ≤ length c.before.before.before.args.out.now
-start-room c = omega (arith, room c.before.before.before, c.put_kind.ensures.0)
+start-room : (c : tie.After-put_kind-start)
+    → c.put_kind-start.result + bytes_in c.args.field.3 ≤ length c.args.out.now
+start-room c = omega (arith, room c.before.before.before, c.put_kind-start.ensures.0)
 
-put-number-requires : tie.Need-put-number-requires
+put-number-requires : tie.Need-put_number-requires
 put-number-requires c κs =
     let s = c.before.before.before.before.before.before in
     let k = c.before.before.before in
-    (omega (arith, start-room k, k.put_kind.auto.0), rw (to_z-of_z w64 s.args.n s.ranges.n) s.requires.1)
+    (omega (arith, start-room k, k.put_kind-start.auto.out), rw (to_z-of_z w64 s.args.n s.ranges.n) s.requires.1)
 
-add-result : tie.Need-overflow-add-result
-add-result c = record { fits = omega (arith, start-room c.before.before.before.before.before.before.before, c.bytes-in.ensures) }
+add-result : tie.Need-overflow_add-result
+add-result c = record { fits = omega (arith, start-room c.before.before.before.before.before.before.before, c.bytes_in.ensures) }
 
 returns : tie.Need-returns
 returns c =
     let k = c.before.before.before.before.before.before.before in
     let s = k.before.before.before in
-    let n = c.before.before.before.put-number in (
-      omega (arith, k.put_kind.ensures.0, c.bytes-in.ensures, field_length s.args.field s.args.n),
-      field_put s.args.field s.args.n _ _ _ _ _ k.put_kind.ensures.0 k.put_kind.ensures.1
+    let n = c.put_number in (
+      omega (arith, k.put_kind-start.ensures.0, c.bytes_in.ensures, field_length s.args.field s.args.n),
+      field_put s.args.field s.args.n _ _ _ _ _ k.put_kind-start.ensures.0 k.put_kind-start.ensures.1
           (n.ensures ∙ rw (to_z-of_z w64 s.args.n s.ranges.n)),
     )
 
-pub put-field-spec : {M : Type 1} → statement M
-put-field-spec =
+pub put_field_spec : {M : Type 1} → statement M
+put_field_spec =
     tie.close
     (tie.spec (λ c κs. kind-room c.before.before) put-number-requires (λ c κs. search rules) add-result
     (λ c. search rules) returns)

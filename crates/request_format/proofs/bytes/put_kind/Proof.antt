@@ -9,14 +9,14 @@ use Rattle.request_format.specs.laws.RowByteLaws.{kind_none, kind_some}
 use Rattle.request_format.proofs.bytes.put_kind.Statement.{statement}
 use Rattle.request_format.proofs.bytes.put_kind.Tie as tie
 
-returns : tie.Need-returns
-returns c = rw (kind_none _ c.if1.true) (omega arith, refl)
+returns : tie.Need-returns-then-kind-eq0
+returns c = rw (kind_none _ c.if-kind-eq0.true) (omega arith, refl)
 
-slice-write-out : tie.Need-slice-write-out
-slice-write-out c = let k = ap (λ (l : List ℕ). length l) (kind_some c.before.args.kind c.if1.false) in omega (arith, c.before.requires)
+slice-write-out : tie.Need-bounds-out-at
+slice-write-out c = let k = ap (λ (l : List ℕ). length l) (kind_some c.args.kind c.if-kind-eq0.false) in omega (arith, c.requires)
 
-returns-2 : tie.Need-returns-2
-returns-2 c = rw (kind_some _ c.if1.false) (refl, refl)
+returns-2 : tie.Need-returns
+returns-2 c = rw (kind_some _ c.if-kind-eq0.false) (refl, refl)
 
-pub put-kind-spec : {M : Type 1} → statement M
-put-kind-spec = tie.close (tie.spec returns slice-write-out (λ c. search rules) (λ c. search rules) returns-2)
+pub put_kind_spec : {M : Type 1} → statement M
+put_kind_spec = tie.close (tie.spec returns slice-write-out (λ c. search rules) (λ c. search rules) returns-2)

@@ -40,43 +40,43 @@ module _ (c : tie.Start) (w : Width) (e : c.args.width ≡ w) where
   done v new p q = q ∙ rw (p, same, e)
 
 complement-requires : tie.Need-complement-requires
-complement-requires c κs = (small c.before.before.before.before _ c.before.enum_told.given.1, omega arith)
+complement-requires c κs = (small c.before.before.before _ c.in-Unsigned2.is, omega arith)
 
-put-two-requires : tie.Need-put-two-requires
-put-two-requires c κs = room c.before.before.before.before.before _ c.before.before.enum_told.given.1
+put-two-requires : tie.Need-put_two-requires
+put-two-requires c κs = room c.before.before.before.before _ c.in-Unsigned2.is
 
-complement-requires-2 : tie.Need-complement-requires-2
-complement-requires-2 c κs = (small c.before.before.before.before _ c.before.enum-told2.given.1, omega arith)
+complement-requires-2 : tie.Need-complement-requires-in-Signed2
+complement-requires-2 c κs = (small c.before.before.before _ c.in-Signed2.is, omega arith)
 
-put-two-requires-2 : tie.Need-put-two-requires-2
-put-two-requires-2 c κs = room c.before.before.before.before.before _ c.before.before.enum-told2.given.1
+put-two-requires-2 : tie.Need-put_two-requires-in-Signed2
+put-two-requires-2 c κs = room c.before.before.before.before _ c.in-Signed2.is
 
-complement-requires-3 : tie.Need-complement-requires-3
-complement-requires-3 c κs = (small c.before.before.before.before _ c.before.enum-told3.given.1, omega arith)
+complement-requires-3 : tie.Need-complement-requires-in-Signed4
+complement-requires-3 c κs = (small c.before.before.before _ c.in-Signed4.is, omega arith)
 
-put-four-requires : tie.Need-put-four-requires
-put-four-requires c κs = room c.before.before.before.before.before _ c.before.before.enum-told3.given.1
+put-four-requires : tie.Need-put_four-requires
+put-four-requires c κs = room c.before.before.before.before _ c.in-Signed4.is
 
-returns : tie.Need-returns
+returns : tie.Need-returns-in-Unsigned2
 returns c =
     let called = c.before.before.before in
-    done called.before.before.before.before.before _ called.before.before.enum_told.given.1 _ _ called.complement.ensures
-    c.before.before.put_two.ensures
+    done called.before.before.before.before _ called.in-Unsigned2.is _ _ called.complement.ensures
+    c.put_two.ensures
 
-returns-2 : tie.Need-returns-2
+returns-2 : tie.Need-returns-in-Signed2
 returns-2 c =
     let called = c.before.before.before in
-    done called.before.before.before.before.before _ called.before.before.enum-told2.given.1 _ _ called.complement2.ensures
-    c.before.before.put-two2.ensures
+    done called.before.before.before.before _ called.in-Signed2.is _ _ called.complement-in-Signed2.ensures
+    c.put_two-in-Signed2.ensures
 
-returns-3 : tie.Need-returns-3
+returns-3 : tie.Need-returns-in-Signed4
 returns-3 c =
     let called = c.before.before.before in
-    done called.before.before.before.before.before _ called.before.before.enum-told3.given.1 _ _ called.complement3.ensures
-    c.before.before.put_four.ensures
+    done called.before.before.before.before _ called.in-Signed4.is _ _ called.complement-in-Signed4.ensures
+    c.put_four.ensures
 
-pub put-number-spec : {M : Type 1} → statement M
-put-number-spec =
+pub put_number_spec : {M : Type 1} → statement M
+put_number_spec =
     tie.close
     (tie.spec (λ c. search rules) complement-requires put-two-requires (λ c. search rules)
     complement-requires-2 put-two-requires-2 (λ c. search rules) complement-requires-3 put-four-requires

@@ -14,68 +14,67 @@ use Rattle.request_format.specs.laws.GetLaws.{Getting, getting_start, getting-ot
 use Rattle.request_format.proofs.bytes.read.Statement.{statement}
 use Rattle.request_format.proofs.bytes.read.Tie as tie
 
-abbrev invariant-loop : tie.invariant-loop
+abbrev invariant-loop : tie.invariant-loop-k
 invariant-loop shape bytes found₀ count at₀ k₀ found at k = Getting shape bytes found at k
 
-abbrev decreases-loop : tie.decreases-loop
+abbrev decreases-loop : tie.decreases-loop-k
 decreases-loop shape bytes found₀ count at₀ k₀ found at k = count - k
 
 -- number k is one of the request's
-short : (c : tie.In-loop invariant-loop decreases-loop) → c.before.loop.k < countOf c.before.before.before.before.args.shape
-short c = omega (arith, c.loop-test.true, c.before.before.count_of.ensures)
+short : (c : tie.In-loop-k invariant-loop decreases-loop) → c.loop-k.k < countOf c.args.shape
+short c = omega (arith, c.loop-k-test.true, c.count_of-count.ensures)
 
-ended : (c : tie.After-loop invariant-loop decreases-loop) → countOf c.before.before.before.before.args.shape ≤ c.before.loop.k
-ended c = omega (arith, c.loop-test.false, c.before.before.count_of.ensures)
+ended : (c : tie.After-loop-k invariant-loop decreases-loop) → countOf c.args.shape ≤ c.loop-k.k
+ended c = omega (arith, c.loop-k-test.false, c.count_of-count.ensures)
 
 -- what stands at the field's place
-module _ (c : tie.After-part-at invariant-loop decreases-loop) where
-  abbrev loop : tie.At-loop invariant-loop decreases-loop
+module _ (c : tie.After-part_at-part invariant-loop decreases-loop) where
+  abbrev loop : tie.At-loop-k invariant-loop decreases-loop
   loop = c.before.before.before
 
   abbrev start : tie.Start invariant-loop decreases-loop
   start = loop.before.before.before
 
-  found : (p : Part) → c.part_at.result ≡ p → part_of (rowAt start.args.shape loop.loop.k) start.args.bytes.now loop.loop.at ≡ p
+  found : (p : Part) → c.part_at-part.result ≡ p → part_of (rowAt start.args.shape loop.loop-k.k) start.args.bytes.now loop.loop-k.at ≡ p
   found p e =
-      ap (λ (f : Field). part_of f start.args.bytes.now loop.loop.at) (sym c.before.field_at.ensures) ∙ sym c.part_at.ensures ∙ e
+      ap (λ (f : Field). part_of f start.args.bytes.now loop.loop-k.at) (sym c.field_at-field.ensures) ∙ sym c.part_at-part.ensures ∙ e
 
-same_length : tie.Need-same-length invariant-loop decreases-loop
-same_length c = let p = c.before.before in (loop p).loop.invariant.room ∙ sym (start p).requires
+same_length : tie.Need-shape_of-found-in_default invariant-loop decreases-loop
+same_length c = let p = c.before in (loop p).loop.invariant.room ∙ sym (start p).requires
 
-returns : tie.Need-returns invariant-loop decreases-loop
+returns : tie.Need-returns-in_default invariant-loop decreases-loop
 returns c =
-    let p = c.before.before in
-    getting-other _ _ _ _ _ (loop p).loop.invariant (short p.before.before) (found p _ c.enum_told.given.1)
+    let p = c.before in
+    getting-other _ _ _ _ _ (loop p).loop.invariant (short p.before.before) (found p _ c.in_default.is)
 
-mul-n : tie.Need-overflow-mul-n invariant-loop decreases-loop
-mul-n c = let s = short c.before.before.before.before.before in search rules
+mul-n : tie.Need-offset_bounds-found-k invariant-loop decreases-loop
+mul-n c = let s = short c.before.before.before in search rules
 
-slice-set-from-n : tie.Need-slice-set-from-n invariant-loop decreases-loop
-slice-set-from-n c = omega (arith, short c.before.before.before.before.before, (loop c.before.before.before).loop.inv.room)
+slice-set-from-n : tie.Need-bounds-found-k invariant-loop decreases-loop
+slice-set-from-n c = omega (arith, short c.before.before.before, (loop c.before).loop.invariant.room)
 
-loop-again : tie.Need-loop-preserved invariant-loop decreases-loop
+loop-again : tie.Need-loop-k-preserved invariant-loop decreases-loop
 loop-again c =
-    let p = c.before.before.before in
-    let g = c.before.part.given in
-    rw (read_result g.0.0 c.known-told.given.0.1)
-    (getting-more _ _ _ _ _ (loop p).loop.invariant (short p.before.before) g.0.0 g.0.1.0 (found p _ g.1))
+    let p = c.before in
+    rw (read_result c.in-Is.n c.in-Is.known_told-1-own.given.0.1)
+    (getting-more _ _ _ _ _ (loop p).loop.invariant (short p.before.before) c.in-Is.n c.in-Is.next (found p _ c.in-Is.is))
 
-same-length-2 : tie.Need-same-length-2 invariant-loop decreases-loop
-same-length-2 c = c.before.before.loop.invariant.room ∙ sym c.before.before.before.before.before.requires
+same-length-2 : tie.Need-shape_of-found-then-at-bytes invariant-loop decreases-loop
+same-length-2 c = c.loop-k.invariant.room ∙ sym c.requires
 
-returns-2 : tie.Need-returns-2 invariant-loop decreases-loop
-returns-2 c = getting-longer _ _ _ _ _ c.before.before.loop.invariant (ended c.before) c.if1.true
+returns-2 : tie.Need-returns-then-at-bytes invariant-loop decreases-loop
+returns-2 c = getting-longer _ _ _ _ _ c.loop-k.invariant (ended c.before) c.if-at-bytes.true
 
-same-length-3 : tie.Need-same-length-3 invariant-loop decreases-loop
-same-length-3 c = c.before.before.loop.invariant.room ∙ sym c.before.before.before.before.before.requires
+same-length-3 : tie.Need-shape_of-found invariant-loop decreases-loop
+same-length-3 c = c.loop-k.invariant.room ∙ sym c.requires
 
-returns-3 : tie.Need-returns-3 invariant-loop decreases-loop
-returns-3 c = getting-end _ _ _ _ _ c.before.before.loop.invariant (ended c.before) c.if1.false
+returns-3 : tie.Need-returns invariant-loop decreases-loop
+returns-3 c = getting-end _ _ _ _ _ c.loop-k.invariant (ended c.before) c.if-at-bytes.false
 
 pub read_spec : {M : Type 1} → statement M
 read_spec =
     tie.close
-    (tie.spec invariant-loop decreases-loop (λ c κs. search rules) (λ c. getting_start _ _ _ c.before.before.requires)
-    (λ c κs. short c) (λ c κs. c.before.before.loop.invariant.place) (λ c. search rules) (λ c. search rules)
+    (tie.spec invariant-loop decreases-loop (λ c κs. search rules) (λ c. getting_start _ _ _ c.requires)
+    (λ c κs. short c) (λ c κs. c.loop-k.invariant.place) (λ c. search rules) (λ c. search rules)
     same_length returns mul-n slice-set-from-n (λ c. search rules) (λ c. search rules) loop-again
     same-length-2 returns-2 same-length-3 returns-3)

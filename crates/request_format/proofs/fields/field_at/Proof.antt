@@ -14,15 +14,15 @@ use Rattle.request_format.proofs.fields.field_at.Tie as tie
 
 returns : tie.Need-returns
 returns c =
-    let row = c.before.before.before.before.row_of in
-    let table = c.before.before.before.table in
+    let row = c.row_of-at in
+    let table = c.table-table in
     let thirteen : 13 * row.result + 13 - 13 * row.result ≡ 13 = omega arith in
-    c.field-from.ensures ∙ ap (λ (n : ℕ). field_from (take n (drop (13 * row.result) table.result))) thirteen
+    c.field_from.ensures ∙ ap (λ (n : ℕ). field_from (take n (drop (13 * row.result) table.result))) thirteen
     ∙ field_in 43 table.result row.result row.ensures.0
     ∙ ap (λ (l : List Field). row_in l row.result) table.ensures ∙ row.ensures.1
 
-pub field-at-spec : {M : Type 1} → statement M
-field-at-spec =
+pub field_at_spec : {M : Type 1} → statement M
+field_at_spec =
     tie.close
     (tie.spec (λ c κs. search rules) (λ c. search rules) (λ c κs. search rules) (λ c. search rules)
     (λ c. search rules) (λ c. search rules) (λ c. search rules) (λ c κs. search rules) returns)

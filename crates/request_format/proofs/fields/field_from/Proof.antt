@@ -6,10 +6,10 @@ use Rattle.request_format.proofs.fields.field_from.Tie as tie
 
 returns : tie.Need-returns
 unfolding field_from
-returns c = rw (c.before.before.before.before.before.name-from.ensures, c.before.width-from.ensures)
+returns c = rw (c.name_from-name.ensures, c.width_from-width.ensures)
 
-pub field-from-spec : {M : Type 1} → statement M
-field-from-spec =
+pub field_from_spec : {M : Type 1} → statement M
+field_from_spec =
     tie.close
     (tie.spec (λ c κs. search rules) (λ c. search rules) (λ c. search rules) (λ c. search rules)
     (λ c. search rules) (λ c. search rules) (λ c κs. search rules) (λ c. search rules) returns)

@@ -7,17 +7,17 @@ use Rattle.request_format.specs.Fields.{holds}
 use Rattle.request_format.proofs.fields.holds.Statement.{statement}
 use Rattle.request_format.proofs.fields.holds.Tie as tie
 
-returns : tie.Need-returns
+returns : tie.Need-returns-in-Unsigned2
 unfolding holds
-returns c = rw (c.enum_told.given.1, to_z-of_z w64 c.before.before.args.n c.before.before.ranges.n)
+returns c = rw (c.in-Unsigned2.is, to_z-of_z w64 c.args.n c.ranges.n)
 
-returns-2 : tie.Need-returns-2
+returns-2 : tie.Need-returns-in-Signed2
 unfolding holds
-returns-2 c = rw (c.enum-told2.given.1, to_z-of_z w64 c.before.before.args.n c.before.before.ranges.n)
+returns-2 c = rw (c.in-Signed2.is, to_z-of_z w64 c.args.n c.ranges.n)
 
-returns-3 : tie.Need-returns-3
+returns-3 : tie.Need-returns-in-Signed4
 unfolding holds
-returns-3 c = rw (c.enum-told3.given.1, to_z-of_z w64 c.before.before.args.n c.before.before.ranges.n)
+returns-3 c = rw (c.in-Signed4.is, to_z-of_z w64 c.args.n c.ranges.n)
 
-pub holds-spec : {M : Type 1} → statement M
-holds-spec = tie.close (tie.spec (λ c. search rules) (λ c. search rules) (λ c. search rules) returns returns-2 returns-3)
+pub holds_spec : {M : Type 1} → statement M
+holds_spec = tie.close (tie.spec (λ c. search rules) (λ c. search rules) (λ c. search rules) returns returns-2 returns-3)

@@ -19,24 +19,24 @@ module _ (c : tie.Start) (s : Shape) (e : c.args.shape ≡ s) where
   is : (i : ℕ) → i < 43 → row_in tables i ≡ rowAt s c.args.k → (i < 43) × (row_in tables i ≡ rowAt c.args.shape c.args.k)
   is i h q = (h, q ∙ rw e)
 
-returns : tie.Need-returns
-returns c = is c.before.before.before _ c.before.enum_told.given.1 _ (omega arith) (eclipse-first _ c.if1.true)
+returns : tie.Need-returns-then-k-lt22
+returns c = is c.before.before _ c.in-Eclipse.is _ (omega arith) (eclipse-first _ c.if-k-lt22.true)
 
-add-result : tie.Need-overflow-add-result
-add-result c = omega (arith, short c.before.before.before _ c.before.enum_told.given.1)
+add-result : tie.Need-overflow_add-result
+add-result c = omega (arith, short c.before.before _ c.in-Eclipse.is)
 
-add-result-2 : tie.Need-overflow-add-result-2
-add-result-2 c = omega (arith, short c.before.before _ c.enum-told2.given.1)
+add-result-2 : tie.Need-overflow_add-result-in-Star
+add-result-2 c = omega (arith, short c.before _ c.in-Star.is)
 
-returns-2 : tie.Need-returns-2
+returns-2 : tie.Need-returns-else-k-lt22
 returns-2 c =
-    is c.before.before.before _ c.before.enum_told.given.1 _
-    (omega (arith, short c.before.before.before _ c.before.enum_told.given.1)) (eclipse-after _ c.if1.false)
+    is c.before.before _ c.in-Eclipse.is _
+    (omega (arith, short c.before.before _ c.in-Eclipse.is)) (eclipse-after _ c.if-k-lt22.false)
 
-returns-3 : tie.Need-returns-3
+returns-3 : tie.Need-returns-in-Star
 returns-3 c =
-    is c.before.before _ c.enum-told2.given.1 _ (omega (arith, short c.before.before _ c.enum-told2.given.1))
+    is c.before _ c.in-Star.is _ (omega (arith, short c.before _ c.in-Star.is))
     (star-here _)
 
-pub row-of-spec : {M : Type 1} → statement M
-row-of-spec = tie.close (tie.spec (λ c. search rules) returns add-result (λ c. search rules) add-result-2 returns-2 returns-3)
+pub row_of_spec : {M : Type 1} → statement M
+row_of_spec = tie.close (tie.spec (λ c. search rules) returns add-result (λ c. search rules) add-result-2 returns-2 returns-3)

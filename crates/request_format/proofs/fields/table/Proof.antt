@@ -9,5 +9,5 @@ returns : tie.Need-returns
 unfolding fields_in tables field_from width_from element_rows alike_rows
 returns c = search rules
 
-pub table-spec : {M : Type 1} → statement M
-table-spec = tie.close (tie.spec returns)
+pub table_spec : {M : Type 1} → statement M
+table_spec = tie.close (tie.spec returns)

@@ -4,17 +4,17 @@ use Rattle.request_format.specs.laws.Table.{width_from}
 use Rattle.request_format.proofs.fields.width_from.Statement.{statement}
 use Rattle.request_format.proofs.fields.width_from.Tie as tie
 
-returns : tie.Need-returns
+returns : tie.Need-returns-then-letter-eq117
 unfolding width_from
-returns c = rw c.if1.true
+returns c = rw c.if-letter-eq117.true
 
-returns-2 : tie.Need-returns-2
+returns-2 : tie.Need-returns-then-letter-eq50
 unfolding width_from
-returns-2 c = rw c.if2.true
+returns-2 c = rw c.if-letter-eq50.true
 
-returns-3 : tie.Need-returns-3
+returns-3 : tie.Need-returns
 unfolding width_from
-returns-3 c = rw (ne_eqb _ _ c.before.if1.false, ne_eqb _ _ c.if2.false)
+returns-3 c = rw (ne_eqb _ _ c.if-letter-eq117.false, ne_eqb _ _ c.if-letter-eq50.false)
 
-pub width-from-spec : {M : Type 1} → statement M
-width-from-spec = tie.close (tie.spec returns returns-2 returns-3)
+pub width_from_spec : {M : Type 1} → statement M
+width_from_spec = tie.close (tie.spec returns returns-2 returns-3)

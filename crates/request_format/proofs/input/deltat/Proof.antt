@@ -6,16 +6,16 @@ use borrow.Author.Rules.{rules}
 use Rattle.request_format.proofs.input.deltat.Statement.{statement}
 use Rattle.request_format.proofs.input.deltat.Tie as tie
 
-returns : tie.Need-returns
+returns : tie.Need-returns-in-Is
 unfolding delta_of
 returns c =
-    let known = c.before.before.before in
-    read_result _ c.struct_told.given.1.1.1.1.0.1
-    ∙ ap (λ i. delta_for (eclipse_asked i)) (sym known.asked.given.1 ∙ known.before.before.request.ensures)
+    let known = c.before.before in
+    read_result _ c.struct_told-1.given.1.1.1.1.0.1
+    ∙ ap (λ i. delta_for (eclipse_asked i)) (sym known.in-Is.is ∙ known.request-asked.ensures)
 
-returns-2 : tie.Need-returns-2
+returns-2 : tie.Need-returns-in-Refused
 unfolding delta_of
-returns-2 c = ap (λ i. delta_for (eclipse_asked i)) (sym c.enum_told.given.1 ∙ c.before.before.request.ensures)
+returns-2 c = ap (λ i. delta_for (eclipse_asked i)) (sym c.in-Refused.is ∙ c.request-asked.ensures)
 
-pub deltat-spec : {M : Type 1} → statement M
-deltat-spec = tie.close (tie.spec (λ c κs. search rules) (λ c. search rules) (λ c. search rules) returns returns-2)
+pub deltat_spec : {M : Type 1} → statement M
+deltat_spec = tie.close (tie.spec (λ c κs. search rules) (λ c. search rules) (λ c. search rules) returns returns-2)

@@ -6,12 +6,12 @@ use Rattle.request_format.specs.Input.{eclipse_asked}
 use Rattle.request_format.proofs.input.of_eclipse.Statement.{statement}
 use Rattle.request_format.proofs.input.of_eclipse.Tie as tie
 
-returns : tie.Need-returns
-returns c = ap A.Is c.of-eclipse.ensures ∙ sym (ap eclipse_asked c.before.before.input.given.1)
+returns : tie.Need-returns-in-Is
+returns c = ap A.Is c.of_eclipse.ensures ∙ sym (ap eclipse_asked c.in-Is.is)
 
-returns-2 : tie.Need-returns-2
-returns-2 c = sym (ap eclipse_asked c.before.input2.given.1)
+returns-2 : tie.Need-returns-in-Refused
+returns-2 c = sym (ap eclipse_asked c.in-Refused.is)
 
-pub of-eclipse-spec : {M : Type 1} → statement M
-of-eclipse-spec =
+pub of_eclipse_spec : {M : Type 1} → statement M
+of_eclipse_spec =
     tie.close (tie.spec (λ c. search rules) (λ c κs. search rules) (λ c. search rules) returns returns-2)

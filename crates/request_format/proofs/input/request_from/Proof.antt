@@ -13,11 +13,11 @@ returns c =
     let w = c.before in
     let s = w.before in
     let e = s.before in
-    let n = e.before.args.n.now in
-    rw (e.from-numbers.ensures, s.station-from.ensures, w.window-from.ensures, read_result (get_or n 29 (pos 0)) c.guard.given)
+    let n = e.args.n.now in
+    rw (e.from_numbers-elements.ensures, s.station_from-station.ensures, w.window_from-window.ensures, read_result (get_or n 29 (pos 0)) c.guard-1.given)
 
-pub request-from-spec : {M : Type 1} → statement M
-request-from-spec =
+pub request_from_spec : {M : Type 1} → statement M
+request_from_spec =
     tie.close
     (tie.spec (λ c κs. search rules) (λ c κs. search rules) (λ c κs. search rules) (λ c. search rules)
     returns)

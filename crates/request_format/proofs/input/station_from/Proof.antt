@@ -15,18 +15,18 @@ returns c =
     let o = h.before in
     let a = o.before in
     let u = a.before in
-    let n = u.before.args.n.now in
-    let k = u.before.args.at in
+    let n = u.args.n.now in
+    let k = u.args.at in
     rw (
-      read_result (get_or n k (pos 0)) u.number.given,
-      read_result (get_or n (k + 1) (pos 0)) a.latitude.given,
-      read_result (get_or n (k + 2) (pos 0)) o.longitude.given,
-      read_result (get_or n (k + 3) (pos 0)) h.height.given,
-      read_result (get_or n (k + 4) (pos 0)) c.deltat.given,
+      read_result (get_or n k (pos 0)) u.number-1.given,
+      read_result (get_or n (k + 1) (pos 0)) a.latitude-1.given,
+      read_result (get_or n (k + 2) (pos 0)) o.longitude-1.given,
+      read_result (get_or n (k + 3) (pos 0)) h.height-1.given,
+      read_result (get_or n (k + 4) (pos 0)) c.deltat-1.given,
     )
 
-pub station-from-spec : {M : Type 1} → statement M
-station-from-spec =
+pub station_from_spec : {M : Type 1} → statement M
+station_from_spec =
     tie.close
     (tie.spec (λ c. search rules) (λ c. search rules) (λ c. search rules) (λ c. search rules)
     (λ c. search rules) (λ c. search rules) (λ c. search rules) (λ c. search rules) (λ c. search rules)

@@ -12,12 +12,12 @@ returns : tie.Need-returns
 unfolding window_from
 returns c =
     let f = c.before in
-    let n = f.before.args.n.now in
-    let k = f.before.args.at in
-    rw (read_result (get_or n k (pos 0)) f.first.given, read_result (get_or n (k + 1) (pos 0)) c.last.given)
+    let n = f.args.n.now in
+    let k = f.args.at in
+    rw (read_result (get_or n k (pos 0)) f.first-1.given, read_result (get_or n (k + 1) (pos 0)) c.last-1.given)
 
-pub window-from-spec : {M : Type 1} → statement M
-window-from-spec =
+pub window_from_spec : {M : Type 1} → statement M
+window_from_spec =
     tie.close
     (tie.spec (λ c. search rules) (λ c. search rules) (λ c. search rules) (λ c. search rules)
     (λ c. search rules) returns)

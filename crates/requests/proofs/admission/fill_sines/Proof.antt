@@ -5,11 +5,11 @@ use Rattle.requests.specs.laws.AdmissionLaws.{room-short, room-long}
 use Rattle.requests.proofs.admission.fill_sines.Statement.{statement}
 use Rattle.requests.proofs.admission.fill_sines.Tie as tie
 
-returns : tie.Need-returns
-returns c = room-short _ c.if1.true
+returns : tie.Need-returns-then-sines-lt901
+returns c = room-short _ c.if-sines-lt901.true
 
-returns-2 : tie.Need-returns-2
-returns-2 c = let l = room-long _ c.before.before.before.before.if1.false in (l.0, c.before.before.fill.ensures.0 ∙ l.1)
+returns-2 : tie.Need-returns
+returns-2 c = let l = room-long _ c.if-sines-lt901.false in (l.0, c.fill.ensures.0 ∙ l.1)
 
-pub fill-sines-spec : {M : Type 1} → statement M
-fill-sines-spec = tie.close (tie.spec returns (λ c κs. search rules) (λ c. search rules) returns-2)
+pub fill_sines_spec : {M : Type 1} → statement M
+fill_sines_spec = tie.close (tie.spec returns (λ c κs. search rules) (λ c. search rules) returns-2)

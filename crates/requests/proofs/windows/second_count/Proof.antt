@@ -13,25 +13,25 @@ use Rattle.requests.specs.WindowLaws.{window-sizes}
 use Rattle.requests.proofs.windows.second_count.Statement.{statement}
 use Rattle.requests.proofs.windows.second_count.Tie as tie
 
-bounds : (c : tie.After-struct-told) → Within (whole c.before.before.args.w.last ∷ whole c.before.before.args.w.first ∷ []) (10800 ∷ 10800 ∷ [])
+bounds : (c : tie.After-struct_told-1) → Within (whole c.args.w.last ∷ whole c.args.w.first ∷ []) (10800 ∷ 10800 ∷ [])
 bounds c =
-    let s = window-sizes c.before.before.args.w c.before.before.requires in
+    let s = window-sizes c.args.w c.requires in
     s.1 ▹ s.0 ▹ ends
 
 abbrev difference : Code
 difference = sub (arg 0) (arg 1)
 
-cast-result : tie.Need-overflow-cast-result
-cast-result c = unsigned (bounds c) difference tt (minus_nonneg c.before.before.requires.ordered)
+cast-result : tie.Need-overflow_cast-result
+cast-result c = unsigned (bounds c) difference tt (minus_nonneg c.requires.ordered)
 
-add-result : tie.Need-overflow-add-result
+add-result : tie.Need-overflow_add-result
 add-result c = record { fits = omega (arith, within (bounds c) difference 21600 tt) }
 
 returns : tie.Need-returns
 unfolding second_count
 returns c =
-    let w = c.before.before.args.w in
+    let w = c.args.w in
     add-one (nat_abs (run (whole w.last ∷ whole w.first ∷ []) difference)) ∙ ap (λ (z : ℤ). suc (nat_abs z)) (runs (bounds c) difference tt)
 
-pub second-count-spec : {M : Type 1} → statement M
-second-count-spec = tie.close (tie.spec (λ c. fits (bounds c) difference tt) cast-result add-result returns)
+pub second_count_spec : {M : Type 1} → statement M
+second_count_spec = tie.close (tie.spec (λ c. fits (bounds c) difference tt) cast-result add-result returns)

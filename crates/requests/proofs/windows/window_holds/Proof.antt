@@ -7,9 +7,9 @@ use Rattle.requests.proofs.windows.window_holds.Tie as tie
 returns : tie.Need-returns
 unfolding window_holds
 returns c =
-    let w = c.before.before.before.before.before.before.args.w in
-    let g = c.struct-told3.given in
+    let w = c.args.w in
+    let g = c.struct_told-3-1.given in
     rw (read_result w.first g.0.1, read_result w.last g.1.0.1)
 
-pub window-holds-spec : {M : Type 1} → statement M
-window-holds-spec = tie.close (tie.spec returns)
+pub window_holds_spec : {M : Type 1} → statement M
+window_holds_spec = tie.close (tie.spec returns)

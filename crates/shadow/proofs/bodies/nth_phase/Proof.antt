@@ -11,21 +11,20 @@ use Rattle.shadow_geometry.specs.Shadow.{phases_of}
 use Rattle.shadow.proofs.bodies.nth_phase.Statement.{statement}
 use Rattle.shadow.proofs.bodies.nth_phase.Tie as tie
 
-eclipse-phase-requires : tie.Need-eclipse-phase-requires
+eclipse-phase-requires : tie.Need-eclipse_phase-requires
 eclipse-phase-requires c κs =
-    let a = c.before.before in
-    rw c.enum_told.given.1 at a.requires
+    let a = c.before in
+    rw c.in-Sun.is at a.requires
 
-returns : tie.Need-returns
+returns : tie.Need-returns-in-Sun
 returns c = search rules
 
-returns-2 : tie.Need-returns-2
+returns-2 : tie.Need-returns-in-Star
 returns-2 c =
-    let a = c.before.before in
-    let told = c.enum-told2.given.1 in
+    let a = c.before in
     let first : a.args.k ≡ 0 = omega (arith, ap (λ (b : Body). length (phases_of b)) told, a.requires) in
-    sym (ap (λ (b : Body). get_or (phases_of b) a.args.k Penumbra) told ∙ ap (λ (k : ℕ). get_or star k Penumbra) first)
+    sym (ap (λ (b : Body). get_or (phases_of b) a.args.k Penumbra) c.in-Star.is ∙ ap (λ (k : ℕ). get_or star k Penumbra) first)
 
-pub nth-phase-spec : {M : Type 1} → statement M
-nth-phase-spec =
+pub nth_phase_spec : {M : Type 1} → statement M
+nth_phase_spec =
     tie.close (tie.spec (λ c. search rules) eclipse-phase-requires (λ c. search rules) returns returns-2)

@@ -15,16 +15,16 @@ use Rattle.shadow.specs.laws.SecondLaws.{star_sample}
 use Rattle.shadow.proofs.bodies.star_sample.Statement.{statement}
 use Rattle.shadow.proofs.bodies.star_sample.Tie as tie
 
-abbrev start : tie.After-offset-at → tie.Start
+abbrev start : tie.After-offset_at-o → tie.Start
 start o = o.before.before.before
 
-seen : (o : tie.After-offset-at) → let a = (start o).args in IsOffset (star_axis a.s) a.place a.t o.offset_at.result
-seen o = rw (o.before.axis.ensures, read_back (start o).args.t (start o).requires.3 tt) at o.offset_at.ensures
+seen : (o : tie.After-offset_at-o) → let a = (start o).args in IsOffset (star_axis a.s) a.place a.t o.offset_at-o.result
+seen o = rw (o.axis-axis.ensures, read_back (start o).args.t (start o).requires.3 tt) at o.offset_at-o.ensures
 
-offset-at-requires : tie.Need-offset-at-requires
+offset-at-requires : tie.Need-offset_at-o-requires
 offset-at-requires c κs =
     let a = c.before.before in
-    (a.requires.0, rw c.axis.ensures (wider_axis a.requires.1.axis (lit≤ tt)), a.requires.2, read-size a.args.t 10800 a.requires.3 tt)
+    (a.requires.0, rw c.axis-axis.ensures (wider_axis a.requires.1.axis (lit≤ tt)), a.requires.2, read-size a.args.t 10800 a.requires.3 tt)
 
 -- as it is read back from a struct
 kept-u : (z r : ℤ) → Value z 602170000 r → Value z 602170000 (to_z w64 (of_z w64 r))
@@ -41,9 +41,9 @@ returns c =
     let o = c.before.before in
     let a = start o in
     let x = seen o in
-    let r = nat_abs_between a.args.s.radius 27200000 a.pre.1.low a.pre.1.high in
+    let r = nat_abs_between a.args.s.radius 27200000 a.requires.1.low a.requires.1.high in
     let e = read_back a.args.s.radius r tt in
-    star_sample a.args.s a.pre.1 a.args.place a.args.t _ (kept-u _ _ x.u) (kept-v _ _ x.v) (kept-m _ _ x.m) e e
+    star_sample a.args.s a.requires.1 a.args.place a.args.t _ (kept-u _ _ x.u) (kept-v _ _ x.v) (kept-m _ _ x.m) e e
 
-pub star-sample-spec : {M : Type 1} → statement M
-star-sample-spec = tie.close (tie.spec (λ c κs. search rules) offset-at-requires returns)
+pub star_sample_spec : {M : Type 1} → statement M
+star_sample_spec = tie.close (tie.spec (λ c κs. search rules) offset-at-requires returns)

@@ -58,115 +58,115 @@ none : (u v : ℤ) → u ≡ pos 0 → v ≡ pos 0 → 65535 ≡ direction S u v
 none u v e f = sym (ap₂ (direction S) e f ∙ direction-none S)
 
 -- ---- the places
-bounds : (c : tie.After-abs2) → Within (whole c.before.before.before.args.u ∷ whole c.before.before.before.args.v ∷ [])
+bounds : (c : tie.After-abs-b) → Within (whole c.args.u ∷ whole c.args.v ∷ [])
     (1000000000 ∷ 1000000000 ∷ [])
-bounds c = c.before.before.before.requires.1 ▹ c.before.before.before.requires.2 ▹ ends
+bounds c = c.requires.1 ▹ c.requires.2 ▹ ends
 
-a-is : (c : tie.After-abs2) → nat_abs (to_z w64 (of_z w64 c.before.abs.result)) ≡ nat_abs c.before.before.before.args.u
-a-is c = cast_is c.before.before.before.args.u c.before.abs.result c.before.before.before.requires.1 c.before.abs.ensures
+a-is : (c : tie.After-abs-b) → nat_abs (to_z w64 (of_z w64 c.abs-a.result)) ≡ nat_abs c.args.u
+a-is c = cast_is c.args.u c.abs-a.result c.requires.1 c.abs-a.ensures
 
-b-is : (c : tie.After-abs2) → nat_abs (to_z w64 (of_z w64 c.abs2.result)) ≡ nat_abs c.before.before.before.args.v
-b-is c = cast_is c.before.before.before.args.v c.abs2.result c.before.before.before.requires.2 c.abs2.ensures
+b-is : (c : tie.After-abs-b) → nat_abs (to_z w64 (of_z w64 c.abs-b.result)) ≡ nat_abs c.args.v
+b-is c = cast_is c.args.v c.abs-b.result c.requires.2 c.abs-b.ensures
 
-a-le : (c : tie.After-abs2) → nat_abs (to_z w64 (of_z w64 c.before.abs.result)) ≤ 1000000000
-a-le c = omega (arith, a-is c, c.before.before.before.requires.1)
+a-le : (c : tie.After-abs-b) → nat_abs (to_z w64 (of_z w64 c.abs-a.result)) ≤ 1000000000
+a-le c = omega (arith, a-is c, c.requires.1)
 
-b-le : (c : tie.After-abs2) → nat_abs (to_z w64 (of_z w64 c.abs2.result)) ≤ 1000000000
-b-le c = omega (arith, b-is c, c.before.before.before.requires.2)
+b-le : (c : tie.After-abs-b) → nat_abs (to_z w64 (of_z w64 c.abs-b.result)) ≤ 1000000000
+b-le c = omega (arith, b-is c, c.requires.2)
 
 abbrev none_of : Code
 none_of = lit (pos 0)
 
-abs-requires : tie.Need-abs-requires
-abs-requires c κs = read-size c.before.args.u 9223372036854775807 c.before.requires.1 tt
+abs-requires : tie.Need-abs-a-requires
+abs-requires c κs = read-size c.args.u 9223372036854775807 c.requires.1 tt
 
-cast-a : tie.Need-overflow-cast-a
-cast-a c = size-cast c.before.before.args.u c.abs.result c.before.before.requires.1 c.abs.ensures
+cast-a : tie.Need-overflow_cast-a
+cast-a c = size-cast c.args.u c.abs-a.result c.requires.1 c.abs-a.ensures
 
-abs-requires-2 : tie.Need-abs-requires-2
-abs-requires-2 c κs = read-size c.before.before.args.v 9223372036854775807 c.before.before.requires.2 tt
+abs-requires-2 : tie.Need-abs-b-requires
+abs-requires-2 c κs = read-size c.args.v 9223372036854775807 c.requires.2 tt
 
-cast-b : tie.Need-overflow-cast-b
-cast-b c = size-cast c.before.before.before.args.v c.abs2.result c.before.before.before.requires.2 c.abs2.ensures
+cast-b : tie.Need-overflow_cast-b
+cast-b c = size-cast c.args.v c.abs-b.result c.requires.2 c.abs-b.ensures
 
 -- u below 0, v below 0
 quarter-requires : tie.Need-quarter-requires
-quarter-requires c κs = let s = c.before.before in (s.before.before.before.requires.0, a-le s, b-le s)
+quarter-requires c κs = let s = c.before.before in (s.requires.0, a-le s, b-le s)
 
-add-result : tie.Need-overflow-add-result
+add-result : tie.Need-overflow_add-result
 add-result c = few 1800 _ _ (omega arith) c.quarter.ensures
 
-returns : tie.Need-returns
+returns : tie.Need-returns-then-v-lt0
 returns c =
     let s = c.before.before.before in
-    let a = s.before.before.before.args in
-    third a.u a.v (a-is s) (b-is s) (<ℤ-≤ (taken-< (bounds s) (arg 0) none_of tt c.before.before.if1.true))
-    (taken-< (bounds s) (arg 1) none_of tt c.before.if2.true) c.quarter.ensures
+    let a = s.args in
+    third a.u a.v (a-is s) (b-is s) (<ℤ-≤ (taken-< (bounds s) (arg 0) none_of tt c.if-u-lt0.true))
+    (taken-< (bounds s) (arg 1) none_of tt c.if-v-lt0.true) c.quarter.ensures
 
 -- u below 0, v not
-quarter-requires-2 : tie.Need-quarter-requires-2
-quarter-requires-2 c κs = let s = c.before.before in (s.before.before.before.requires.0, b-le s, a-le s)
+quarter-requires-2 : tie.Need-quarter-requires-then-u-lt0
+quarter-requires-2 c κs = let s = c.before.before in (s.requires.0, b-le s, a-le s)
 
-add-result-2 : tie.Need-overflow-add-result-2
-add-result-2 c = few 2700 _ _ (omega arith) c.quarter2.ensures
+add-result-2 : tie.Need-overflow_add-result-then-u-lt0
+add-result-2 c = few 2700 _ _ (omega arith) c.quarter-then-u-lt0.ensures
 
-returns-2 : tie.Need-returns-2
+returns-2 : tie.Need-returns-then-u-lt0
 returns-2 c =
     let s = c.before.before.before in
-    let a = s.before.before.before.args in
-    fourth a.u a.v (a-is s) (b-is s) (taken-< (bounds s) (arg 0) none_of tt c.before.before.if1.true)
-    (left-< (bounds s) (arg 1) none_of tt c.before.if2.false) c.quarter2.ensures
+    let a = s.args in
+    fourth a.u a.v (a-is s) (b-is s) (taken-< (bounds s) (arg 0) none_of tt c.if-u-lt0.true)
+    (left-< (bounds s) (arg 1) none_of tt c.if-v-lt0.false) c.quarter-then-u-lt0.ensures
 
 -- u not below 0, v above 0
-quarter-requires-3 : tie.Need-quarter-requires-3
-quarter-requires-3 c κs = let s = c.before.before in (s.before.before.before.requires.0, a-le s, b-le s)
+quarter-requires-3 : tie.Need-quarter-requires-then-v-gt0
+quarter-requires-3 c κs = let s = c.before.before in (s.requires.0, a-le s, b-le s)
 
-returns-3 : tie.Need-returns-3
+returns-3 : tie.Need-returns-then-v-gt0
 returns-3 c =
     let s = c.before.before.before in
-    let a = s.before.before.before.args in
-    first a.u a.v (a-is s) (b-is s) (left-< (bounds s) (arg 0) none_of tt c.before.before.if1.false)
-    (taken-< (bounds s) none_of (arg 1) tt c.before.if3.true) c.quarter3.ensures
+    let a = s.args in
+    first a.u a.v (a-is s) (b-is s) (left-< (bounds s) (arg 0) none_of tt c.if-u-lt0.false)
+    (taken-< (bounds s) none_of (arg 1) tt c.if-v-gt0.true) c.quarter-then-v-gt0.ensures
 
 -- u above 0, v not
-quarter-requires-4 : tie.Need-quarter-requires-4
-quarter-requires-4 c κs = let s = c.before.before.before in (s.before.before.before.requires.0, b-le s, a-le s)
+quarter-requires-4 : tie.Need-quarter-requires-then-u-gt0
+quarter-requires-4 c κs = let s = c.before.before.before in (s.requires.0, b-le s, a-le s)
 
-add-result-3 : tie.Need-overflow-add-result-3
-add-result-3 c = few 900 _ _ (omega arith) c.quarter4.ensures
+add-result-3 : tie.Need-overflow_add-result-then-u-gt0
+add-result-3 c = few 900 _ _ (omega arith) c.quarter-then-u-gt0.ensures
 
-returns-4 : tie.Need-returns-4
+returns-4 : tie.Need-returns-then-u-gt0
 returns-4 c =
     let s = c.before.before.before.before in
-    let a = s.before.before.before.args in
-    second a.u a.v (a-is s) (b-is s) (taken-< (bounds s) none_of (arg 0) tt c.before.if4.true)
-    (left-< (bounds s) none_of (arg 1) tt c.before.before.if3.false) c.quarter4.ensures
+    let a = s.args in
+    second a.u a.v (a-is s) (b-is s) (taken-< (bounds s) none_of (arg 0) tt c.if-u-gt0.true)
+    (left-< (bounds s) none_of (arg 1) tt c.if-v-gt0.false) c.quarter-then-u-gt0.ensures
 
 -- u is 0, v below 0
-quarter-requires-5 : tie.Need-quarter-requires-5
-quarter-requires-5 c κs = let s = c.before.before.before.before in (s.before.before.before.requires.0, a-le s, b-le s)
+quarter-requires-5 : tie.Need-quarter-requires-then-v-lt0-2
+quarter-requires-5 c κs = let s = c.before.before.before.before in (s.requires.0, a-le s, b-le s)
 
-add-result-4 : tie.Need-overflow-add-result-4
-add-result-4 c = few 1800 _ _ (omega arith) c.quarter5.ensures
+add-result-4 : tie.Need-overflow_add-result-then-v-lt0-2
+add-result-4 c = few 1800 _ _ (omega arith) c.quarter-then-v-lt0-2.ensures
 
-returns-5 : tie.Need-returns-5
+returns-5 : tie.Need-returns-then-v-lt0-2
 returns-5 c =
     let s = c.before.before.before.before.before in
-    let a = s.before.before.before.args in
-    third a.u a.v (a-is s) (b-is s) (left-< (bounds s) none_of (arg 0) tt c.before.before.if4.false)
-    (taken-< (bounds s) (arg 1) none_of tt c.before.if5.true) c.quarter5.ensures
+    let a = s.args in
+    third a.u a.v (a-is s) (b-is s) (left-< (bounds s) none_of (arg 0) tt c.if-u-gt0.false)
+    (taken-< (bounds s) (arg 1) none_of tt c.if-v-lt0-2.true) c.quarter-then-v-lt0-2.ensures
 
 -- both are 0
-returns-6 : tie.Need-returns-6
+returns-6 : tie.Need-returns
 returns-6 c =
     let s = c.before.before.before.before in
-    let a = s.before.before.before.args in
+    let a = s.args in
     let w = bounds s in
-    none a.u a.v (≤ℤ_antisym (left-< w none_of (arg 0) tt c.before.if4.false) (left-< w (arg 0) none_of tt c.before.before.before.if1.false))
-    (≤ℤ_antisym (left-< w none_of (arg 1) tt c.before.before.if3.false) (left-< w (arg 1) none_of tt c.if5.false))
+    none a.u a.v (≤ℤ_antisym (left-< w none_of (arg 0) tt c.if-u-gt0.false) (left-< w (arg 0) none_of tt c.if-u-lt0.false))
+    (≤ℤ_antisym (left-< w none_of (arg 1) tt c.if-v-gt0.false) (left-< w (arg 1) none_of tt c.if-v-lt0-2.false))
 
-pub direction-spec : {M : Type 1} → statement M
-direction-spec =
+pub direction_spec : {M : Type 1} → statement M
+direction_spec =
     tie.close
     (tie.spec abs-requires cast-a abs-requires-2 cast-b quarter-requires add-result returns quarter-requires-2
     add-result-2 returns-2 quarter-requires-3 returns-3 quarter-requires-4 add-result-3 returns-4

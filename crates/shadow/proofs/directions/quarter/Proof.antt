@@ -50,88 +50,88 @@ found u v low high b h =
     } in
     sym (largest-unique S (pos u) (pos v) (quarter-is S (pos u) (pos v) entry_0 (omega (arith, zs))) largest)
 
-abbrev invariant-loop : tie.invariant-loop
+abbrev invariant-loop : tie.invariant-loop-low
 invariant-loop table u v low₀ high₀ low high = Between u v low high
 
-abbrev decreases-loop : tie.decreases-loop
+abbrev decreases-loop : tie.decreases-loop-low
 decreases-loop table u v low₀ high₀ low high = high - low
 
-loop-holds : tie.Need-loop-init invariant-loop decreases-loop
-loop-holds c = start c.before.args.u c.before.args.v
+loop-holds : tie.Need-loop-low-init invariant-loop decreases-loop
+loop-holds c = start c.args.u c.args.v
 
-add-loop : tie.Need-overflow-add-loop invariant-loop decreases-loop
-add-loop c = omega (arith, c.loop.invariant.apart, c.loop.invariant.high_le)
+add-loop : tie.Need-overflow_add-low invariant-loop decreases-loop
+add-loop c = omega (arith, c.loop-low.invariant.apart, c.loop-low.invariant.high_le)
 
-add-k : tie.Need-overflow-add-k invariant-loop decreases-loop
-add-k c = omega (arith, c.before.loop.invariant.apart, c.before.loop.invariant.high_le)
+add-k : tie.Need-overflow_add-k invariant-loop decreases-loop
+add-k c = omega (arith, c.loop-low.invariant.apart, c.loop-low.invariant.high_le)
 
 entry-requires : tie.Need-entry-requires invariant-loop decreases-loop
-entry-requires c κs = (c.before.before.before.requires.0, omega (arith, c.before.loop.invariant.apart, c.before.loop.invariant.high_le))
+entry-requires c κs = (c.requires.0, omega (arith, c.loop-low.invariant.apart, c.loop-low.invariant.high_le))
 
 -- the entries of a round: at k, and at 900 - k
-module _ (c : tie.After-wide2 invariant-loop decreases-loop) where
+module _ (c : tie.After-wide-falling invariant-loop decreases-loop) where
   abbrev at : ℕ
-  at = (c.before.before.before.before.before.loop.low + c.before.before.before.before.before.loop.high) / 2
+  at = (c.loop-low.low + c.loop-low.high) / 2
 
-  rising : c.before.before.wide.result ≡ S at
-  rising = c.before.before.wide.ensures ∙ c.before.before.before.entry.ensures.value
+  rising : c.wide-rising.result ≡ S at
+  rising = c.wide-rising.ensures ∙ c.entry.ensures.value
 
-  falling : c.wide2.result ≡ S (900 - at)
-  falling = c.wide2.ensures ∙ c.before.entry2.ensures.value
+  falling : c.wide-falling.result ≡ S (900 - at)
+  falling = c.wide-falling.ensures ∙ c.entry-in-loop-low.ensures.value
 
-sub-entry : tie.Need-overflow-sub-entry invariant-loop decreases-loop
-sub-entry c = let b = c.before.before.before.loop.invariant in omega (arith, b.apart, b.high_le)
+sub-entry : tie.Need-overflow_sub-k invariant-loop decreases-loop
+sub-entry c = let b = c.loop-low.invariant in omega (arith, b.apart, b.high_le)
 
-entry-requires-2 : tie.Need-entry-requires-2 invariant-loop decreases-loop
-entry-requires-2 c κs = (c.before.before.before.before.before.requires.0, omega arith)
+entry-requires-2 : tie.Need-entry-requires-in-loop-low invariant-loop decreases-loop
+entry-requires-2 c κs = (c.requires.0, omega arith)
 
-mul-if1 : tie.Need-overflow-mul-if1 invariant-loop decreases-loop
+mul-if1 : tie.Need-overflow_mul-v invariant-loop decreases-loop
 mul-if1 c =
-    product-fits c.before.before.before.before.before.before.before.requires.2
-    (omega (arith, c.before.before.wide.ensures, c.before.before.before.entry.ensures.small))
+    product-fits c.requires.2
+    (omega (arith, c.wide-rising.ensures, c.entry.ensures.small))
 
-mul-if1-2 : tie.Need-overflow-mul-if1-2 invariant-loop decreases-loop
+mul-if1-2 : tie.Need-overflow_mul-u invariant-loop decreases-loop
 mul-if1-2 c =
-    product-fits c.before.before.before.before.before.before.before.requires.1 (omega (arith, c.wide2.ensures, c.before.entry2.ensures.small))
+    product-fits c.requires.1 (omega (arith, c.wide-falling.ensures, c.entry-in-loop-low.ensures.small))
 
-loop-less : tie.Need-loop-smaller invariant-loop decreases-loop
-loop-less c = let b = c.before.before.before.before.before.before.loop.invariant in omega (arith, b.apart)
+loop-less : tie.Need-loop-low-smaller-then-v-rising invariant-loop decreases-loop
+loop-less c = let b = c.loop-low.invariant in omega (arith, b.apart)
 
-loop-again : tie.Need-loop-preserved invariant-loop decreases-loop
+loop-again : tie.Need-loop-low-preserved-then-v-rising invariant-loop decreases-loop
 loop-again c =
-    let b = c.before.before.before.before.before.before.loop.invariant in
-    let a = c.before.before.before.before.before.before.before.before.args in
+    let b = c.loop-low.invariant in
+    let a = c.args in
     record {
       apart = omega (arith, b.apart);
       high_le = b.high_le;
-      holds = subst₂ (λ (x y : ℕ). a.v * x ≤ a.u * y) (rising c.before) (falling c.before) c.if1.true;
+      holds = subst₂ (λ (x y : ℕ). a.v * x ≤ a.u * y) (rising c.before) (falling c.before) c.if-v-rising.true;
       above = b.above;
     }
 
-loop-less-2 : tie.Need-loop-smaller-2 invariant-loop decreases-loop
-loop-less-2 c = let b = c.before.before.before.before.before.before.loop.invariant in omega (arith, b.apart)
+loop-less-2 : tie.Need-loop-low-smaller invariant-loop decreases-loop
+loop-less-2 c = let b = c.loop-low.invariant in omega (arith, b.apart)
 
-loop-again-2 : tie.Need-loop-preserved-2 invariant-loop decreases-loop
+loop-again-2 : tie.Need-loop-low-preserved invariant-loop decreases-loop
 loop-again-2 c =
-    let b = c.before.before.before.before.before.before.loop.invariant in
-    let a = c.before.before.before.before.before.before.before.before.args in
+    let b = c.loop-low.invariant in
+    let a = c.args in
     record {
       apart = omega (arith, b.apart);
       high_le = omega (arith, b.apart, b.high_le);
       holds = b.holds;
-      above = beyond a.u a.v (at c.before) (subst₂ (λ (x y : ℕ). a.u * y < a.v * x) (rising c.before) (falling c.before) c.if1.false);
+      above = beyond a.u a.v (at c.before) (subst₂ (λ (x y : ℕ). a.u * y < a.v * x) (rising c.before) (falling c.before) c.if-v-rising.false);
     }
 
-cast-result : tie.Need-overflow-cast-result invariant-loop decreases-loop
-cast-result c = let b = c.before.loop.invariant in omega (arith, b.apart, b.high_le)
+cast-result : tie.Need-overflow_cast-result invariant-loop decreases-loop
+cast-result c = let b = c.loop-low.invariant in omega (arith, b.apart, b.high_le)
 
 returns : tie.Need-returns invariant-loop decreases-loop
 returns c =
-    let a = c.before.before.before.args in
-    found a.u a.v c.before.loop.low c.before.loop.high c.before.loop.invariant (omega arith)
+    let a = c.args in
+    found a.u a.v c.loop-low.low c.loop-low.high c.loop-low.invariant (omega arith)
 
-pub quarter-spec : {M : Type 1} → statement M
-quarter-spec =
+pub quarter_spec : {M : Type 1} → statement M
+quarter_spec =
     tie.close
     (tie.spec invariant-loop decreases-loop loop-holds add-loop add-k entry-requires (λ c κs. tt) sub-entry entry-requires-2
     (λ c κs. tt) mul-if1 mul-if1-2 loop-less loop-again loop-less-2 loop-again-2 cast-result returns)

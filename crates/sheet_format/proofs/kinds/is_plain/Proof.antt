@@ -7,12 +7,12 @@ use Rattle.sheet_format.proofs.kinds.is_plain.Tie as tie
 returns : tie.Need-returns
 unfolding plain
 returns c = rw (
-  c.before.before.before.is-unused.ensures,
-  c.before.before.is-unused2.ensures,
-  c.before.is-unused3.ensures,
-  c.is-unused4.ensures,
-  c.before.before.before.before.widths-of.ensures,
+  c.is_unused.ensures,
+  c.is_unused-2.ensures,
+  c.is_unused-3.ensures,
+  c.is_unused-4.ensures,
+  c.widths_of-w.ensures,
 )
 
-pub is-plain-spec : {M : Type 1} → statement M
-is-plain-spec = tie.close (tie.spec (λ c κs. search rules) (λ c κs. search rules) (λ c κs. search rules) (λ c κs. search rules) (λ c κs. search rules) returns)
+pub is_plain_spec : {M : Type 1} → statement M
+is_plain_spec = tie.close (tie.spec (λ c κs. search rules) (λ c κs. search rules) (λ c κs. search rules) (λ c κs. search rules) (λ c κs. search rules) returns)

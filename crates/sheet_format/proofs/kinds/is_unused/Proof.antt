@@ -3,14 +3,14 @@ use borrow.Author.Rules.{rules}
 use Rattle.sheet_format.proofs.kinds.is_unused.Statement.{statement}
 use Rattle.sheet_format.proofs.kinds.is_unused.Tie as tie
 
-returns : tie.Need-returns
-returns c = rw c.enum_told.given.1
+returns : tie.Need-returns-in-Absent
+returns c = rw c.in-Absent.is
 
-returns-2 : tie.Need-returns-2
+returns-2 : tie.Need-returns-in-Two
 returns-2 c = search rules
 
-returns-3 : tie.Need-returns-3
+returns-3 : tie.Need-returns-in-Four
 returns-3 c = search rules
 
-pub is-unused-spec : {M : Type 1} → statement M
-is-unused-spec = tie.close (tie.spec (λ c. search rules) (λ c. search rules) (λ c. search rules) returns returns-2 returns-3)
+pub is_unused_spec : {M : Type 1} → statement M
+is_unused_spec = tie.close (tie.spec (λ c. search rules) (λ c. search rules) (λ c. search rules) returns returns-2 returns-3)

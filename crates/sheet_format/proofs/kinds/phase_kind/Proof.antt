@@ -15,17 +15,17 @@ use Rattle.sheet_format.proofs.kinds.phase_kind.Tie as tie
 named : (k : Kind) (b x y : ℕ) → code_of k ≡ b + y → x ≡ y → Is k ≡ kind_for (b + x)
 named k b x y q e = sym (kind_code k) ∙ ap kind_for (q ∙ ap (λ z. b + z) (sym e))
 
-returns : tie.Need-returns
-returns c = let a = c.before.args in named (K.Enter a.phase) (base a.phase) a.behind 0 (omega arith) c.match.keys1
+returns : tie.Need-returns-in-0
+returns c = let a = c.args in named (K.Enter a.phase) (base a.phase) a.behind 0 (omega arith) c.in-0.is
 
-returns-2 : tie.Need-returns-2
-returns-2 c = let a = c.before.args in named (K.Leave a.phase) (base a.phase) a.behind 1 refl c.match.keys2
+returns-2 : tie.Need-returns-in-1
+returns-2 c = let a = c.args in named (K.Leave a.phase) (base a.phase) a.behind 1 refl c.in-1.is
 
-returns-3 : tie.Need-returns-3
-returns-3 c = let a = c.before.args in named (K.Graze a.phase) (base a.phase) a.behind 2 refl c.match.keys3
+returns-3 : tie.Need-returns-in-2
+returns-3 c = let a = c.args in named (K.Graze a.phase) (base a.phase) a.behind 2 refl c.in-2.is
 
-returns-4 : tie.Need-returns-4
-returns-4 c = let r = c.match.rest in let a = c.before.args in named (K.Open a.phase) (base a.phase) a.behind 3 refl (omega (arith, r.0.0.1, r.0.1, r.1, c.before.requires))
+returns-4 : tie.Need-returns-in_default
+returns-4 c = let r = c.in_default.in_default-own.rest in let a = c.args in named (K.Open a.phase) (base a.phase) a.behind 3 refl (omega (arith, r.0.0.1, r.0.1, r.1, c.requires))
 
-pub phase-kind-spec : {M : Type 1} → statement M
-phase-kind-spec = tie.close (tie.spec returns returns-2 returns-3 returns-4)
+pub phase_kind_spec : {M : Type 1} → statement M
+phase_kind_spec = tie.close (tie.spec returns returns-2 returns-3 returns-4)

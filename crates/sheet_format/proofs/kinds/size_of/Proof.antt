@@ -5,32 +5,32 @@ use borrow.Author.Rules.{rules}
 use Rattle.sheet_format.proofs.kinds.size_of.Statement.{statement}
 use Rattle.sheet_format.proofs.kinds.size_of.Tie as tie
 
-returns : tie.Need-returns
-returns c = rw c.enum_told.given.1 (refl, omega arith)
+returns : tie.Need-returns-in-Head
+returns c = rw c.in-Head.is (refl, omega arith)
 
-returns-2 : tie.Need-returns-2
-returns-2 c = rw c.enum-told2.given.1 (refl, omega arith)
+returns-2 : tie.Need-returns-in-Enter
+returns-2 c = rw c.in-Enter.is (refl, omega arith)
 
-returns-3 : tie.Need-returns-3
-returns-3 c = rw c.enum-told3.given.1 (refl, omega arith)
+returns-3 : tie.Need-returns-in-Leave
+returns-3 c = rw c.in-Leave.is (refl, omega arith)
 
-returns-4 : tie.Need-returns-4
-returns-4 c = rw c.enum-told4.given.1 (refl, omega arith)
+returns-4 : tie.Need-returns-in-Graze
+returns-4 c = rw c.in-Graze.is (refl, omega arith)
 
-returns-5 : tie.Need-returns-5
-returns-5 c = rw c.enum-told5.given.1 (refl, omega arith)
+returns-5 : tie.Need-returns-in-Open
+returns-5 c = rw c.in-Open.is (refl, omega arith)
 
-returns-6 : tie.Need-returns-6
-returns-6 c = rw c.enum-told6.given.1 (refl, omega arith)
+returns-6 : tie.Need-returns-in-Closest
+returns-6 c = rw c.in-Closest.is (refl, omega arith)
 
-returns-7 : tie.Need-returns-7
-returns-7 c = rw c.enum-told7.given.1 (refl, omega arith)
+returns-7 : tie.Need-returns-in-Share
+returns-7 c = rw c.in-Share.is (refl, omega arith)
 
-returns-8 : tie.Need-returns-8
-returns-8 c = rw c.enum-told8.given.1 (refl, omega arith)
+returns-8 : tie.Need-returns-in-End
+returns-8 c = rw c.in-End.is (refl, omega arith)
 
-pub size-of-spec : {M : Type 1} → statement M
-size-of-spec =
+pub size_of_spec : {M : Type 1} → statement M
+size_of_spec =
     tie.close
     (tie.spec (λ c. search rules) (λ c. search rules) (λ c. search rules) (λ c. search rules)
     (λ c. search rules) (λ c. search rules) (λ c. search rules) (λ c. search rules) returns returns-2

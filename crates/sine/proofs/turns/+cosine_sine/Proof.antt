@@ -45,7 +45,7 @@ cosine-c-requires : (t : ℕ) → cosine-lts.Need-c-requires (
 ) (cosine-at t) cosine.Post
 cosine-c-requires t c κs = (c.requires.1.0, omega arith)
 
-cosine-sub-sine : (t : ℕ) → cosine-lts.Need-overflow-sub-sine (
+cosine-sub-sine : (t : ℕ) → cosine-lts.Need-overflow_sub-a (
   c-reads.Asked,
   c-reads.Learnt,
   sine-below t,
@@ -61,7 +61,7 @@ cosine-sine-requires : (t : ℕ) → cosine-lts.Need-sine-requires (
 ) (cosine-at t) cosine.Post
 cosine-sine-requires t c κs = (omega arith, (c.requires.1.0, omega arith))
 
-cosine-sub-result : (t : ℕ) → cosine-lts.Need-overflow-sub-result (
+cosine-sub-result : (t : ℕ) → cosine-lts.Need-overflow_sub-result (
   c-reads.Asked,
   c-reads.Learnt,
   sine-below t,
@@ -69,7 +69,7 @@ cosine-sub-result : (t : ℕ) → cosine-lts.Need-overflow-sub-result (
 ) (cosine-at t) cosine.Post
 cosine-sub-result t c = minus-fits c.sine.result c.sine.ensures.small
 
-cosine-returns : (t : ℕ) → cosine-lts.Need-returns (
+cosine-returns : (t : ℕ) → cosine-lts.Need-returns-then-a-le90000000 (
   c-reads.Asked,
   c-reads.Learnt,
   sine-below t,
@@ -77,7 +77,7 @@ cosine-returns : (t : ℕ) → cosine-lts.Need-returns (
 ) (cosine-at t) cosine.Post
 cosine-returns t c = search rules
 
-cosine-returns-2 : (t : ℕ) → cosine-lts.Need-returns-2 (
+cosine-returns-2 : (t : ℕ) → cosine-lts.Need-returns-else-a-le90000000 (
   c-reads.Asked,
   c-reads.Learnt,
   sine-below t,
@@ -97,7 +97,7 @@ sine-s-requires : (t : ℕ) → sine-lts.Need-s-requires (
 ) (sine-at t) sine.Post
 sine-s-requires t c κs = (c.requires.1.0, omega arith)
 
-sine-sub-cosine : (t : ℕ) → sine-lts.Need-overflow-sub-cosine (
+sine-sub-cosine : (t : ℕ) → sine-lts.Need-overflow_sub-a (
   s_reads.Asked,
   s_reads.Learnt,
   cosine_below t,
@@ -113,7 +113,7 @@ sine-cosine-requires : (t : ℕ) → sine-lts.Need-cosine-requires (
 ) (sine-at t) sine.Post
 sine-cosine-requires t c κs = (omega arith, (c.requires.1.0, omega arith))
 
-sine-returns : (t : ℕ) → sine-lts.Need-returns (
+sine-returns : (t : ℕ) → sine-lts.Need-returns-then-a-le90000000 (
   s_reads.Asked,
   s_reads.Learnt,
   cosine_below t,
@@ -121,7 +121,7 @@ sine-returns : (t : ℕ) → sine-lts.Need-returns (
 ) (sine-at t) sine.Post
 sine-returns t c = search rules
 
-sine-returns-2 : (t : ℕ) → sine-lts.Need-returns-2 (
+sine-returns-2 : (t : ℕ) → sine-lts.Need-returns-else-a-le90000000 (
   s_reads.Asked,
   s_reads.Learnt,
   cosine_below t,
@@ -133,8 +133,8 @@ sine-returns-2 t c =
     is-sine (kept q.type_inv q.ensures.value
     ∙ sym (sine-above s.args.a c.if-a-le90000000.false s.requires.1.1))
 
-pub +cosine-sine-spec : {M : Type 1} → statement M
-+cosine-sine-spec = close μ-cosine μ-sine (λ t. cosine-lts.spec (
+pub +cosine_sine_spec : {M : Type 1} → statement M
++cosine_sine_spec = close μ-cosine μ-sine (λ t. cosine-lts.spec (
   c-reads.Asked,
   c-reads.Learnt,
   sine-below t,

@@ -11,22 +11,22 @@ use Rattle.request_format.proofs.input.stars.asked.Statement.{statement}
 use Rattle.request_format.proofs.input.stars.asked.Tie as tie
 
 -- the numbers that the bytes have
-holds : (c : tie.After-enum-told) → Held Star c.before.before.before.before.before.args.input.now c.before.before.get-star.new.1.0
+holds : (c : tie.In-Numbers) → Held Star c.args.input.now c.get_star-got.new.1.0
 holds c =
-    let g = c.before.before in
-    held Star g.before.before.before.args.input.now _ _ (λ i. let b = g.before.before.shared-slice-known.given i in omega arith)
-    (sym g.get-star.ensures.0 ∙ c.enum_told.given.1) g.get-star.ensures.1
+    let g = c.before in
+    held Star g.args.input.now _ _ (λ i. let b = g.shared_slice_known-1.given i in omega arith)
+    (sym g.get_star-got.ensures.0 ∙ c.in-Numbers.is) g.get_star-got.ensures.1
 
-returns : tie.Need-returns
+returns : tie.Need-returns-in-Numbers
 returns c =
     let told = c.before.before.before in
-    ap A.Is (c.of-star.ensures ∙ ap of_star c.before.request-from.ensures) ∙ sym (star-held _ _ (holds told))
+    ap A.Is (c.of_star.ensures ∙ ap of_star c.request_from-q.ensures) ∙ sym (star-held _ _ (holds told))
 
-returns-2 : tie.Need-returns-2
-returns-2 c = star_refused _ (sym c.before.before.get-star.ensures.0 ∙ c.enum-told2.given.1)
+returns-2 : tie.Need-returns-in-Misshaped
+returns-2 c = star_refused _ (sym c.get_star-got.ensures.0 ∙ c.in-Misshaped.is)
 
-pub asked-spec : {M : Type 1} → statement M
-asked-spec =
+pub asked_spec : {M : Type 1} → statement M
+asked_spec =
     tie.close
     (tie.spec (λ c κs. search rules) (λ c. search rules) (λ c. sym (holds c.before).small.all)
     (λ c κs. (holds c.before).small) (λ c κs. search rules) (λ c. search rules) returns returns-2)

@@ -22,5 +22,5 @@ less = sub (arg 0) (lit (pos 10800))
 returns : tie.Need-returns
 returns c = runs (bounds c) less tt ∙ ap (λ (z : ℤ). z -ℤ pos 10800) (count-is c.args.stored (small c) tt)
 
-pub second-of-spec : {M : Type 1} → statement M
-second-of-spec = tie.close (tie.spec (λ c. search rules) (λ c. fits (bounds c) less tt) returns)
+pub second_of_spec : {M : Type 1} → statement M
+second_of_spec = tie.close (tie.spec (λ c. search rules) (λ c. fits (bounds c) less tt) returns)

@@ -22,7 +22,7 @@ shifted = add (arg 0) (lit (pos 10800))
 low : (c : tie.Start) → neg_ℤ (pos 10800) ≤ℤ c.args.second
 low c = neg_nat_abs c.args.second c.requires
 
-cast-result : tie.Need-overflow-cast-result
+cast-result : tie.Need-overflow_cast-result
 cast-result c =
     let h : pos 0 ≤ℤ (c.args.second +ℤ pos 10800) = omega (arith, zs, low c, (sum c.args.second (pos 10800)).is, (opposite (pos 10800)).is) in
     ((unsigned (bounds c) shifted tt h).0, record { fits = omega (arith, within (bounds c) shifted 21600 tt) })
@@ -33,5 +33,5 @@ returns c =
     ap nat_abs (runs (bounds c) shifted tt) ∙ sym (ap nat_abs (stored_is c.args.second (low c))) in
     (z, omega (arith, within (bounds c) shifted 21600 tt))
 
-pub store-second-spec : {M : Type 1} → statement M
-store-second-spec = tie.close (tie.spec (λ c. fits (bounds c) shifted tt) cast-result returns)
+pub store_second_spec : {M : Type 1} → statement M
+store_second_spec = tie.close (tie.spec (λ c. fits (bounds c) shifted tt) cast-result returns)

@@ -20,47 +20,47 @@ use Rattle.sheet_format.proofs.records.bytes.body_at.Tie as tie
 abbrev left : List ℕ → ℕ → ℕ
 left s at = length s - at
 
-returns : tie.Need-returns
+returns : tie.Need-returns-then-is_cut
 returns c =
-    let a = c.before.before.before.args in
-    let h = ltb-true (left a.s.now a.at) (size_of a.kind) (sym c.before.is_cut.ensures ∙ c.if1.true) in
+    let a = c.args in
+    let h = ltb-true (left a.s.now a.at) (size_of a.kind) (sym c.is_cut.ensures ∙ c.if-is_cut.true) in
     sym (body-cut a.s.now a.at a.kind (omega arith))
 
-two-if-requires : tie.Need-two-if-requires
-two-if-requires c κs = λ e. let a = c.before.before.before.args in let h = leb-true 5 (left a.s.now a.at) e in omega arith
+two-if-requires : tie.Need-two_if-x-requires
+two-if-requires c κs = λ e. let a = c.args in let h = leb-true 5 (left a.s.now a.at) e in omega arith
 
-two-if-requires-2 : tie.Need-two-if-requires-2
-two-if-requires-2 c κs = λ e. let a = c.before.before.before.before.args in let h = leb-true 5 (left a.s.now a.at) e in omega arith
+two-if-requires-2 : tie.Need-two_if-y-requires
+two-if-requires-2 c κs = λ e. let a = c.args in let h = leb-true 5 (left a.s.now a.at) e in omega arith
 
-two-if-requires-3 : tie.Need-two-if-requires-3
-two-if-requires-3 c κs = λ e. let a = c.before.before.before.before.before.args in let h = leb-true 7 (left a.s.now a.at) e in omega arith
+two-if-requires-3 : tie.Need-two_if-z-requires
+two-if-requires-3 c κs = λ e. let a = c.args in let h = leb-true 7 (left a.s.now a.at) e in omega arith
 
-two-if-requires-4 : tie.Need-two-if-requires-4
-two-if-requires-4 c κs = λ e. let a = c.before.before.before.before.before.before.args in let h = leb-true 9 (left a.s.now a.at) e in omega arith
+two-if-requires-4 : tie.Need-two_if-w-requires
+two-if-requires-4 c κs = λ e. let a = c.args in let h = leb-true 9 (left a.s.now a.at) e in omega arith
 
 -- a number that is there
 there : (m n r v : ℕ) → r ≡ cond (leb m n) v 0 → m ≤ n → r ≡ v
 there m n r v e h = e ∙ ap (λ b. cond b v 0) (le-leb m n h)
 
-returns-2 : tie.Need-returns-2
+returns-2 : tie.Need-returns
 returns-2 c =
     let w = c.before.before.before.before in
     let z = w.before in
     let y = z.before in
     let x = y.before in
-    let a = x.before.before.before.before.args in
+    let a = x.args in
     let l = left a.s.now a.at in
-    let h = ltb-false l (size_of a.kind) (sym x.before.before.is_cut.ensures ∙ x.before.if1.false) in
-    rw (c.before.before.before.field-a.ensures, c.before.before.field-b.ensures, c.before.field-c.ensures, c.field-d.ensures)
-    (ap Body.Is (entry_made a.kind a.s.now (a.at + 1) x.two-if.result y.two-if2.result z.two-if3.result w.two-if4.result
-    (λ k. there 5 l x.two-if.result _ x.two-if.ensures.0 (omega arith))
-    (λ k. there 5 l y.two-if2.result _ y.two-if2.ensures.0 (omega arith))
-    (λ k. there 7 l z.two-if3.result _ z.two-if3.ensures.0 (omega arith))
-    (λ k. there 9 l w.two-if4.result _ w.two-if4.ensures.0 (omega arith)))
+    let h = ltb-false l (size_of a.kind) (sym x.is_cut.ensures ∙ x.if-is_cut.false) in
+    rw (c.field_a-a.ensures, c.field_b-b.ensures, c.field_c-c.ensures, c.field_d-d.ensures)
+    (ap Body.Is (entry_made a.kind a.s.now (a.at + 1) x.two_if-x.result y.two_if-y.result z.two_if-z.result w.two_if-w.result
+    (λ k. there 5 l x.two_if-x.result _ x.two_if-x.ensures.0 (omega arith))
+    (λ k. there 5 l y.two_if-y.result _ y.two_if-y.ensures.0 (omega arith))
+    (λ k. there 7 l z.two_if-z.result _ z.two_if-z.ensures.0 (omega arith))
+    (λ k. there 9 l w.two_if-w.result _ w.two_if-w.ensures.0 (omega arith)))
     ∙ sym (body-whole a.s.now a.at a.kind (omega arith)))
 
-pub body-at-spec : {M : Type 1} → statement M
-body-at-spec =
+pub body_at_spec : {M : Type 1} → statement M
+body_at_spec =
     tie.close
     (tie.spec (λ c. search rules) (λ c κs. search rules) returns (λ c. search rules) (λ c. search rules)
     (λ c. search rules) (λ c. search rules) two-if-requires two-if-requires-2 two-if-requires-3

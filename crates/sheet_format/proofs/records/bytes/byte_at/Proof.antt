@@ -7,11 +7,11 @@ use borrow.Author.Rules.{rules}
 use Rattle.sheet_format.proofs.records.bytes.byte_at.Statement.{statement}
 use Rattle.sheet_format.proofs.records.bytes.byte_at.Tie as tie
 
-returns : tie.Need-returns
-returns c = ap Byte.Is c.wide.ensures.0 ∙ sym (byte-there _ _ c.before.before.if1.true)
+returns : tie.Need-returns-then-at-s
+returns c = ap Byte.Is c.wide-byte.ensures.0 ∙ sym (byte-there _ _ c.if-at-s.true)
 
-returns-2 : tie.Need-returns-2
-returns-2 c = sym (byte_past _ _ c.if1.false)
+returns-2 : tie.Need-returns
+returns-2 c = sym (byte_past _ _ c.if-at-s.false)
 
-pub byte-at-spec : {M : Type 1} → statement M
-byte-at-spec = tie.close (tie.spec (λ c. search rules) (λ c κs. search rules) returns returns-2)
+pub byte_at_spec : {M : Type 1} → statement M
+byte_at_spec = tie.close (tie.spec (λ c. search rules) (λ c κs. search rules) returns returns-2)

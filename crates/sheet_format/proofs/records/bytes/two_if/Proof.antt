@@ -3,11 +3,11 @@ use borrow.Author.Rules.{rules}
 use Rattle.sheet_format.proofs.records.bytes.two_if.Statement.{statement}
 use Rattle.sheet_format.proofs.records.bytes.two_if.Tie as tie
 
-returns : tie.Need-returns
-returns c = rw c.before.if1.true c.two_at.ensures
+returns : tie.Need-returns-then-there
+returns c = rw c.if-there.true c.two_at.ensures
 
-returns-2 : tie.Need-returns-2
+returns-2 : tie.Need-returns-else-there
 returns-2 c = search rules
 
-pub two-if-spec : {M : Type 1} → statement M
-two-if-spec = tie.close (tie.spec (λ c κs. c.before.before.requires c.if1.true) returns returns-2)
+pub two_if_spec : {M : Type 1} → statement M
+two_if_spec = tie.close (tie.spec (λ c κs. c.requires c.if-there.true) returns returns-2)
