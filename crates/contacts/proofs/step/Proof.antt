@@ -7,7 +7,6 @@ use mathlib.Core.List.{List}
 use mathlib.Core.Logic.{⊎_elim}
 use native.Mathlib.Omega.{arith}
 use borrow.Author.Rules.{rules}
-use borrow.Author.Tests.{not-true, not-false, eqb-true, eqb-false}
 use lib.ListN.{length, get_or}
 use Rattle.run_length.specs.Runs.{decoded}
 use Rattle.contacts.specs.Entries.{side}
@@ -16,6 +15,7 @@ use Rattle.contacts.proofs.Seconds.{walk_from, as-walk, run-there, stands_after,
 use Rattle.contacts.proofs.Seconds.{at_after, past-spell, past-quiet, done, between-found, open-start, open-end}
 use Rattle.contacts.proofs.step.Statement.{statement}
 use Rattle.contacts.proofs.step.Tie as tie
+use Rattle.contacts.proofs.step.Lts.{then-stride-gt1+then-loop-ahead-test+then-next-le1, else-stride-gt1+then-second-gt0+then-stride-was}
 
 abbrev invariant-seconds : tie.invariant-seconds
 invariant-seconds runs phase seconds second₀ run₀ was₀ second run was =
@@ -84,33 +84,34 @@ exited c =
     let i = (left c).seconds in
     let h = c.run_at-stride in
     let n = (start (left c)).requires.0 in
-    ⊎_elim
-    (λ w.
-    let l = w.2.invariant in
-    let f = first-state _ _ _ _ l.1 _ w.4.ensures in
-    rw (w.7, w.8)
-    record {
-      stands = l.1;
-      within = omega (arith, w.3.taken, n);
-      reached = omega (arith, l.0);
-      is-sure = omega (arith, f, w.6.taken);
-      walked = l.3;
-      first = λ _. omega (arith, l.0);
-      same = λ _. l.0;
-    })
-    (λ w.
-    let f = first-state _ _ _ _ i.invariant.2.stands _ h.ensures in
-    rw (w.4, w.5)
-    record {
-      stands = i.invariant.2.stands;
-      within = omega (arith, i.invariant.2.stands.second, c.if-second-seconds.false, n);
-      reached = omega arith;
-      is-sure = omega (arith, f, w.0.left);
-      walked = as-walk _ _;
-      first = λ z. absurd (omega (arith, z, w.1.taken));
-      same = λ q. absurd (eqb-false _ _ w.3.taken (sym (q ∙ f)));
-    })
-    c.if-stride-gt1.branch
+    elim c.if-stride-gt1.branch as (λ _.
+    Left (start (left c)).args.phase (start (left c)).args.runs.now i.second i.was c.if-stride-gt1.to c.if-stride-gt1.run) [
+      | then-stride-gt1+then-loop-ahead-test+then-next-le1 w ↦
+          let l = w.loop-ahead.invariant in
+          let f = first-state _ _ _ _ l.1 _ w.run_at-next.ensures in
+          rw (w.run-is, w.to-is)
+          record {
+            stands = l.1;
+            within = omega (arith, w.loop-ahead-test.true, n);
+            reached = omega (arith, l.0);
+            is-sure = omega (arith, f, w.if-next-le1.true);
+            walked = l.3;
+            first = λ _. omega (arith, l.0);
+            same = λ _. l.0;
+          }
+      | else-stride-gt1+then-second-gt0+then-stride-was w ↦
+          let f = first-state _ _ _ _ i.invariant.2.stands _ h.ensures in
+          rw (w.run-is, w.to-is)
+          record {
+            stands = i.invariant.2.stands;
+            within = omega (arith, i.invariant.2.stands.second, c.if-second-seconds.false, n);
+            reached = omega arith;
+            is-sure = omega (arith, f, w.if-stride-gt1.false);
+            walked = as-walk _ _;
+            first = λ z. absurd (omega (arith, z, w.if-second-gt0.true));
+            same = λ q. absurd (w.if-stride-was.true (sym (q ∙ f)));
+          }
+    ]
 
 seconds-holds : tie.Need-seconds-init invariant-loop decreases-loop invariant-seconds decreases-seconds
 seconds-holds c =
@@ -149,7 +150,7 @@ add-ahead-2 : tie.Need-overflow_add-ahead-in-loop-ahead invariant-loop decreases
 add-ahead-2 c =
     let o = c.before.before.before in
     let a = start (turn (spell o.before.before)) in
-    omega (arith, (further o).second, a.requires.0, a.fits.seconds)
+    omega (arith, (further o).second, a.requires.0, a.ranges.seconds)
 
 loop-less : tie.Need-loop-ahead-smaller invariant-loop decreases-loop invariant-seconds decreases-seconds
 loop-less c =
@@ -199,7 +200,7 @@ seconds-again c =
     let u = c.if-stride-gt1.false in
     let was = (turn o).seconds.was in
     let same : 0 < (turn o).seconds.second → o.run_at-stride.result.state ≡ was =
-    λ p. ⊎_elim (λ w. eqb-true _ _ w.2.left) (λ w. absurd (omega arith)) c.else-second-gt0.branch in (
+    λ p. ⊎_elim (λ w. w.1) (λ w. absurd (omega arith)) c.else-second-gt0.either in (
       u,
       omega (arith, i.1),
       at_after _ _ _ _ i.2.stands _ h,

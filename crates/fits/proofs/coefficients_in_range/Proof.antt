@@ -7,9 +7,9 @@ use lib.IntN.{ℤ, pos, neg_ℤ}
 use lib.ListN.{length}
 use Rattle.rounding.specs.Limits.{first_out_of_range, rows}
 use Rattle.elements.specs.Elements.{cubic_from}
-use Rattle.ranges.specs.Fits.{coefficient_ranges}
-use Rattle.ranges.proofs.coefficients_in_range.Statement.{statement}
-use Rattle.ranges.proofs.coefficients_in_range.Tie as tie
+use Rattle.fits.specs.Fits.{coefficient_ranges}
+use Rattle.fits.proofs.coefficients_in_range.Statement.{statement}
+use Rattle.fits.proofs.coefficients_in_range.Tie as tie
 
 abbrev lows : List ℤ
 lows = neg_ℤ (pos 200000000) ∷ neg_ℤ (pos 100000000) ∷ neg_ℤ (pos 100000) ∷ neg_ℤ (pos 10000) ∷ []

@@ -8,10 +8,10 @@ use lib.IntN.{ℤ, pos, ◌-ℤ◌, ◌*ℤ◌}
 use Rattle.rounding.specs.laws.Code.{Code, arg, lit, sub, mul, run, Within, whole, raw, ends, ◌▹◌, fits, runs, count-is, count-size}
 use Rattle.rounding.specs.Units.{hour}
 use Rattle.elements.specs.Polynomial.{cubic_at}
-use Rattle.ranges.specs.Fits.{second}
-use Rattle.ranges.specs.laws.FitLaws.{second-size}
-use Rattle.ranges.proofs.difference.Statement.{statement}
-use Rattle.ranges.proofs.difference.Tie as tie
+use Rattle.fits.specs.Fits.{second}
+use Rattle.fits.specs.laws.FitLaws.{second-size}
+use Rattle.fits.proofs.difference.Statement.{statement}
+use Rattle.fits.proofs.difference.Tie as tie
 
 bounds : (c : tie.Start) → Within (raw c.args.i ∷ []) (7 ∷ [])
 bounds c = let h : c.args.i ≤ 7 = omega (arith, c.requires.2) in count-size c.args.i h tt ▹ ends

@@ -16,10 +16,10 @@ use Rattle.elements.specs.declared.Cubic.{Cubic}
 use Rattle.elements.specs.Elements.{cubic_from}
 use Rattle.elements.specs.Polynomial.{cubic_at}
 use Rattle.elements.specs.Sizes.{CubicSizes}
-use Rattle.ranges.specs.Fits.{second, difference}
-use Rattle.ranges.specs.laws.RangeLaws.{seven_by}
-use Rattle.ranges.proofs.differences.Statement.{statement}
-use Rattle.ranges.proofs.differences.Tie as tie
+use Rattle.fits.specs.Fits.{second, difference}
+use Rattle.fits.specs.laws.RangeLaws.{seven_by}
+use Rattle.fits.proofs.differences.Statement.{statement}
+use Rattle.fits.proofs.differences.Tie as tie
 
 abbrev invariant-loop : tie.invariant-loop-i
 invariant-loop coefficients tabulated c0 c1 c2 c3 c all₀ i₀ all i =

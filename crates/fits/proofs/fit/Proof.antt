@@ -9,10 +9,10 @@ use Rattle.rounding.specs.declared.Limits.TheVariants.{InRange}
 use Rattle.rounding.specs.Limits.{first_out_of_range}
 use Rattle.rounding.specs.laws.Code.{read-size}
 use Rattle.elements.specs.Elements.{cubic_from}
-use Rattle.ranges.specs.Fits.{given_ranges, coefficient_ranges, hour_ranges}
-use Rattle.ranges.specs.laws.FitLaws.{fit-not-four, fit-not-seven, fit-given, fit-coefficient, fit-hour, fit-accepted, in-ranges, tolerance-size}
-use Rattle.ranges.proofs.fit.Statement.{statement}
-use Rattle.ranges.proofs.fit.Tie as tie
+use Rattle.fits.specs.Fits.{given_ranges, coefficient_ranges, hour_ranges}
+use Rattle.fits.specs.laws.FitLaws.{fit-not-four, fit-not-seven, fit-given, fit-coefficient, fit-hour, fit-accepted, in-ranges, tolerance-size}
+use Rattle.fits.proofs.fit.Statement.{statement}
+use Rattle.fits.proofs.fit.Tie as tie
 
 -- the numbers, where there are four and seven
 abbrev cs : tie.Else-tabulated-ne7 → List ℤ

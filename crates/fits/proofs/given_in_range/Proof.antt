@@ -6,10 +6,10 @@ use mir.Syntax.{w64}
 use mir.Val.{to_z, of_z}
 use mir.ValLaws.{to_z-of_z}
 use native.Mathlib.Omega.{arith}
-use Rattle.ranges.specs.laws.RangeLaws.{further, place_within, given-low, given-high, given-after}
+use Rattle.fits.specs.laws.RangeLaws.{further, place_within, given-low, given-high, given-after}
 use borrow.Author.Rules.{rules}
-use Rattle.ranges.proofs.given_in_range.Statement.{statement}
-use Rattle.ranges.proofs.given_in_range.Tie as tie
+use Rattle.fits.proofs.given_in_range.Statement.{statement}
+use Rattle.fits.proofs.given_in_range.Tie as tie
 
 -- the tests are on numbers as they are read from their bits
 not_negative : (c : tie.Start) → lt_z c.args.tolerance (pos 0) ≡ lt_z (to_z w64 (of_z w64 c.args.tolerance)) (pos 0)

@@ -5,9 +5,9 @@ use mathlib.Core.List.{[], ◌∷◌}
 use borrow.Author.Rules.{rules}
 use lib.IntN.{pos, neg_ℤ, +ℤ_idl}
 use Rattle.rounding.specs.laws.Code.{Code, arg, lit, sub, Within, whole, ends, ◌▹◌, fits, runs, read_back}
-use Rattle.ranges.specs.Fits.{hour_ranges}
-use Rattle.ranges.proofs.hours_in_range.Statement.{statement}
-use Rattle.ranges.proofs.hours_in_range.Tie as tie
+use Rattle.fits.specs.Fits.{hour_ranges}
+use Rattle.fits.proofs.hours_in_range.Statement.{statement}
+use Rattle.fits.proofs.hours_in_range.Tie as tie
 
 bounds : (c : tie.Start) → Within (whole c.args.tolerance ∷ []) (1000 ∷ [])
 bounds c = c.requires.1 ▹ ends

@@ -151,7 +151,7 @@ unfolding u v
 returns c =
     let s = seen c.before in
     let w = sides c in
-    let k = s.coordinates-of in
+    let k = s.coordinates_of-c in
     let eastward = ap₂ ◌-ℤ◌ (x-is c.before).value (xi-is s) in
     let northward = ap₂ ◌-ℤ◌ (y-is c).value (eta-is s) in
     record {

@@ -10,6 +10,7 @@ use Rattle.rounding.specs.laws.Code.{Code, arg, add, sub, mul, Within, whole, en
 use Rattle.shadow_geometry.specs.Shadow.{◌²}
 use Rattle.shadow_geometry.specs.laws.StateLaws.{state-edge}
 use Rattle.shadow.proofs.state.Statement.{statement}
+use Rattle.shadow.proofs.state.Lts.{then-guard-l+else-m-inner, else-guard-l}
 use Rattle.shadow.proofs.state.Tie as tie
 
 -- guard, l, m
@@ -26,7 +27,10 @@ outer = add (arg 1) (arg 0)
 not-inside : (c : tie.Joined-guard-l) → c.args.guard <ℤ c.args.l → ((c.args.l -ℤ c.args.guard) ²) ≤ℤ c.args.m
 not-inside c h =
     let w = bounds c.before in
-    ⊎_elim (λ p. left-< w (arg 2) (mul inner inner) tt p.1.left) (λ e. clash_ℤ h (left-< w (arg 0) (arg 1) tt e.left)) c.if-guard-l.branch
+    elim c.if-guard-l.branch [
+      | then-guard-l+else-m-inner e ↦ left-< w (arg 2) (mul inner inner) tt e.if-m-inner.false
+      | else-guard-l e ↦ clash_ℤ h (left-< w (arg 0) (arg 1) tt e.if-guard-l.false)
+    ]
 
 mul-if2 : tie.Need-overflow_mul-inner
 mul-if2 c = fits (bounds c.before) (mul inner inner) tt

@@ -35,7 +35,7 @@ module _ (c : tie.After-check-c invariant-loop decreases-loop) where
   i = inside.loop-i.i
 
   abbrev held : Held
-  held = start.args.t1
+  held = start.args.h
 
   abbrev list : List Node
   list = take held.count held.nodes
@@ -52,25 +52,25 @@ add-place : tie.Need-overflow_add-place invariant-loop decreases-loop
 add-place c =
     let k = c.before.before in
     let f = field_small _ _ (answered k ∙ c.in-Refused.is) in
-    record { fits = omega (arith, f, (inside k).loop-test.true, (start k).requires.0) }
+    record { fits = omega (arith, f, (inside k).loop-i-test.true, (start k).requires.0) }
 
 returns : tie.Need-returns-in-Refused invariant-loop decreases-loop
 returns c =
     let k = c.before.before in
-    sym (stations-refused (list k) (i k) (within k) _ (answered k ∙ c.in-Refused.is)) ∙ (inside k).before.loop.invariant.1
+    sym (stations-refused (list k) (i k) (within k) _ (answered k ∙ c.in-Refused.is)) ∙ (inside k).before.loop-i.invariant.1
 
 loop-again : tie.Need-loop-i-preserved invariant-loop decreases-loop
 loop-again c =
     let k = c.before in (
-      omega (arith, (inside k).loop-test.true),
-      sym (stations-more (list k) (i k) (within k) (answered k ∙ c.in_default.is)) ∙ (inside k).before.loop.invariant.1,
+      omega (arith, (inside k).loop-i-test.true),
+      sym (stations-more (list k) (i k) (within k) (answered k ∙ c.in_default.is)) ∙ (inside k).before.loop-i.invariant.1,
     )
 
 returns-2 : tie.Need-returns invariant-loop decreases-loop
 returns-2 c =
     let l = c.loop-i in
     let a = c.before.before in
-    let h = a.args.t1 in
+    let h = a.args.h in
     sym (stations-end (take h.count h.nodes) l.i
     (omega (arith, c.loop-i-test.false, length-take-le h.count h.nodes (omega (arith, a.requires.0, a.requires.1)))))
     ∙ l.invariant.1

@@ -170,10 +170,10 @@ module _ {M : Type 1} {𝓤 : Ura M} (𝓛 : Logic 𝓤) (mem : Memory → SProp
   abbrev to-size : (Size 𝓛 mem run).Ghost
   to-size = (((κ, tt), (q, tt), tt, (x, tt), (v ∷ [], tt)), tt)
 
-  goes-size : ent 𝓤 (⋆ 𝓛 (Tok ∷ ‵ Own ∷ [])) (sep 𝓤 ((Size 𝓛 mem run).requires to-size) (sem 𝓛 Own))
+  goes-size : ent 𝓤 (⋆ 𝓛 (Tok ∷ ‵ Own ∷ [])) (sep 𝓤 ((Size 𝓛 mem run).pre to-size) (sem 𝓛 Own))
   goes-size =
       qed 𝓛 (Tok ∷ ‵ Own ∷ []) ∵ move ! (1 ∷ []) $ use1 𝓛 (‵ Own ⊛ ‵ Own) ((shr_slice_copy 𝓛 (named 0) κ R).twice x (v ∷ [])) $ split ! $ move ! (2 ∷ 0 ∷ []) $
-      use2 𝓛 (raw ((Size 𝓛 mem run).requires to-size)) (qed 𝓛 (Tok ∷ ‵ Own ∷ []) ∵ nothing ! $ move ! (2 ∷ 0 ∷ []) $ fjoin ! $ move ! (1 ∷ 0 ∷ []) $ join ! $ frame ! $ done !) $ frame ! $ done !
+      use2 𝓛 (raw ((Size 𝓛 mem run).pre to-size)) (qed 𝓛 (Tok ∷ ‵ Own ∷ []) ∵ nothing ! $ move ! (2 ∷ 0 ∷ []) $ fjoin ! $ move ! (1 ∷ 0 ∷ []) $ join ! $ frame ! $ done !) $ frame ! $ done !
 
   size-said : (r : ℕ) → ent 𝓤 (ensured 𝓛 size.ended (size.clauses 𝓛 mem run) (κ, tt) (x, tt) tt r) (fact 𝓤 (r ≡ length ys))
   size-said r = ex_e 𝓤 _ (λ ws. snd∗ 𝓤 (sem 𝓛 (lasts size.ended (κ, tt) (x, tt) ws)) (fact 𝓤 (r ≡ length ys)))
@@ -181,7 +181,7 @@ module _ {M : Type 1} {𝓤 : Ura M} (𝓛 : Logic 𝓤) (mem : Memory → SProp
   abbrev to-least : ℕ → Val → (Least 𝓛 mem run).Ghost
   to-least n u = ((tt, tt, tt, (n, tt), (u ∷ [], tt)), tt)
 
-  goes-least : (n : ℕ) (u : Val) → Is usize n (u ∷ []) → ent 𝓤 (emp 𝓤) ((Least 𝓛 mem run).requires (to-least n u))
+  goes-least : (n : ℕ) (u : Val) → Is usize n (u ∷ []) → ent 𝓤 (emp 𝓤) ((Least 𝓛 mem run).pre (to-least n u))
   goes-least n u is = qed 𝓛 [] ∵ nothing ! $ owned ! usize (Is usize) (uint_Makes 𝓛 w64) n (u ∷ []) is $ join ! $ nothing ! $ join ! $ frame ! $ done !
 
   least-said : (n r : ℕ) → ent 𝓤 (ensured 𝓛 least.ended (least.clauses 𝓛 mem run) tt (n, tt) tt r) (fact 𝓤 (r ≡ least64 n))
@@ -190,7 +190,7 @@ module _ {M : Type 1} {𝓤 : Ura M} (𝓛 : Logic 𝓤) (mem : Memory → SProp
   abbrev to-empty : ℕ → Val → (Empty 𝓛 mem run).Ghost
   to-empty n u = ((tt, tt, tt, (n, tt), (u ∷ [], tt)), tt)
 
-  goes-empty : (n : ℕ) (u : Val) → Is usize n (u ∷ []) → ent 𝓤 (emp 𝓤) ((Empty 𝓛 mem run).requires (to-empty n u))
+  goes-empty : (n : ℕ) (u : Val) → Is usize n (u ∷ []) → ent 𝓤 (emp 𝓤) ((Empty 𝓛 mem run).pre (to-empty n u))
   goes-empty n u is = qed 𝓛 [] ∵ nothing ! $ owned ! usize (Is usize) (uint_Makes 𝓛 w64) n (u ∷ []) is $ join ! $ nothing ! $ join ! $ frame ! $ done !
 
   empty-said : (n : ℕ) (r : Held) → ent 𝓤 (ensured 𝓛 empty.ended (empty.clauses 𝓛 mem run) tt (n, tt) tt r) (fact 𝓤 (r ≡ empty_of n))
@@ -199,10 +199,10 @@ module _ {M : Type 1} {𝓤 : Ura M} (𝓛 : Logic 𝓤) (mem : Memory → SProp
   abbrev to-taken : ℕ → (Taken 𝓛 mem run).Ghost
   to-taken i = (((κ, tt), (q, tt), tt, (x, (i, tt)), (v ∷ [], (vint w64 i ∷ [], tt))), tt)
 
-  goes-taken : (i : ℕ) → i < 2 ^ 64 → i < length ys → ent 𝓤 (⋆ 𝓛 (Tok ∷ ‵ Own ∷ [])) (sep 𝓤 ((Taken 𝓛 mem run).requires (to-taken i)) (sem 𝓛 Own))
+  goes-taken : (i : ℕ) → i < 2 ^ 64 → i < length ys → ent 𝓤 (⋆ 𝓛 (Tok ∷ ‵ Own ∷ [])) (sep 𝓤 ((Taken 𝓛 mem run).pre (to-taken i)) (sem 𝓛 Own))
   goes-taken i gi within =
       qed 𝓛 (Tok ∷ ‵ Own ∷ []) ∵ move ! (1 ∷ []) $ use1 𝓛 (‵ Own ⊛ ‵ Own) ((shr_slice_copy 𝓛 (named 0) κ R).twice x (v ∷ [])) $ split ! $ move ! (2 ∷ 0 ∷ []) $
-      use2 𝓛 (raw ((Taken 𝓛 mem run).requires (to-taken i))) (qed 𝓛 (Tok ∷ ‵ Own ∷ []) ∵ says ! within $ frame ! $ nothing ! $ owned ! usize (Is usize) (uint_Makes 𝓛 w64) i _ (refl, gi) $ fjoin ! $ move ! (1 ∷ 0 ∷ []) $ fjoin ! $ done !) $ frame ! $ done !
+      use2 𝓛 (raw ((Taken 𝓛 mem run).pre (to-taken i))) (qed 𝓛 (Tok ∷ ‵ Own ∷ []) ∵ says ! within $ frame ! $ nothing ! $ owned ! usize (Is usize) (uint_Makes 𝓛 w64) i _ (refl, gi) $ fjoin ! $ move ! (1 ∷ 0 ∷ []) $ fjoin ! $ done !) $ frame ! $ done !
 
   taken-said : (i : ℕ) (r : Node) → ent 𝓤 (ensured 𝓛 taken.ended (taken.clauses 𝓛 mem run) (κ, tt) (x, (i, tt)) tt r) (fact 𝓤 (r ≡ get_or ys i blank_node))
   taken-said i r = ex_e 𝓤 _ (λ ws. snd∗ 𝓤 (sem 𝓛 (lasts taken.ended (κ, tt) (x, (i, tt)) ws)) (fact 𝓤 (r ≡ get_or ys i blank_node)))
@@ -210,7 +210,7 @@ module _ {M : Type 1} {𝓤 : Ura M} (𝓛 : Logic 𝓤) (mem : Memory → SProp
   abbrev to-put : Held → ℕ → Node → Val → Val → (Put 𝓛 mem run).Ghost
   to-put h i r u w = ((tt, tt, tt, (h, (i, (r, tt))), (u ∷ [], (vint w64 i ∷ [], (w ∷ [], tt)))), tt)
 
-  goes-put : (h : Held) (i : ℕ) (r : Node) (u w : Val) → Is B h (u ∷ []) → i < 2 ^ 64 → Is R r (w ∷ []) → i < 64 → ent 𝓤 (emp 𝓤) ((Put 𝓛 mem run).requires (to-put h i r u w))
+  goes-put : (h : Held) (i : ℕ) (r : Node) (u w : Val) → Is B h (u ∷ []) → i < 2 ^ 64 → Is R r (w ∷ []) → i < 64 → ent 𝓤 (emp 𝓤) ((Put 𝓛 mem run).pre (to-put h i r u w))
   goes-put h i r u w is gi is' within =
       qed 𝓛 [] ∵ says ! within $ nothing ! $ frame ! $ nothing ! $ owned ! R (Is R) (LL.makes T.the_type T'.the_plain 𝓛) r _ is' $ fjoin ! $ owned ! usize (Is usize) (uint_Makes 𝓛 w64) i _ (refl, gi) $ fjoin ! $
       owned ! B (Is B) (LL.makes S.the_type S'.the_plain 𝓛) h _ is $ fjoin ! $ done !
@@ -290,13 +290,13 @@ module _ {M : Type 1} {𝓤 : Ura M} (𝓛 : Logic 𝓤) (mem : Memory → SProp
         first ! $ branches ! (load ! (from ! (stop !)) (look ! 2 refl))
         (λ less. skips ! $ exec ! C Λ En tail (any_q (Turned t)) $
         -- [the token; what l owns; _7; …; room for _6; …; _5; …; _4; …; _3; …; _2; …; _1; …; room for _0; …]
-        use2 𝓛 (raw ((Taken 𝓛 mem run).requires (to-taken t.i)) ⊛ ‵ Own) (goes-taken t.i (fits t.i t.le) (in_list t less)) $ split ! $
+        use2 𝓛 (raw ((Taken 𝓛 mem run).pre (to-taken t.i)) ⊛ ‵ Own) (goes-taken t.i (fits t.i t.le) (in_list t less)) $ split ! $
         calls_at ! (fm_of 𝓤 H 𝓛.laws 𝓣) (Taken 𝓛 mem run) known.k-taken (to-taken t.i) (and_then ! (load ! (from ! (stop !)) (look ! 14 refl)) (and_then ! (load ! (from ! (stop !)) (look ! 6 refl)) (no_more !))) (λ w.
         use1 𝓛 (later (some (λ (r : Node). (Tok ⊛ ‵ (R.own_val r (w ∷ []))) ⊛ raw (ensured 𝓛 taken.ended (taken.clauses 𝓛 mem run) (κ, tt) (x, (t.i, tt)) tt r)))) (id⊢ 𝓤 _) $ await ! tt $ pick ! (λ r.
         split ! $ move ! (1 ∷ []) $ use1 𝓛 (raw (fact 𝓤 (r ≡ get_or ys t.i blank_node))) (taken-said t.i r) $ heard ! (r ≡ get_or ys t.i blank_node) (λ e. split ! $ move ! (1 ∷ []) $
         facts ! R (Is R) (shows 𝓛 R) r (w ∷ []) (λ is'.
         land ! (from ! (stop !)) (init ! 4 refl ((LL.lawful T.the_type T'.the_laws 𝓛).typed r _ is').0) $
-        use0 𝓛 (raw ((Put 𝓛 mem run).requires (to-put (held_of ys t.i) t.i r t.u w))) (goes-put (held_of ys t.i) t.i r t.u w t.is (fits t.i t.le) is' (in-room t less)) $
+        use0 𝓛 (raw ((Put 𝓛 mem run).pre (to-put (held_of ys t.i) t.i r t.u w))) (goes-put (held_of ys t.i) t.i r t.u w t.is (fits t.i t.le) is' (in-room t less)) $
         -- [what put asks; the token; what l owns; _7; …]
         calls_at ! (fm_of 𝓤 H 𝓛.laws 𝓣) (Put 𝓛 mem run) known.k-put (to-put (held_of ys t.i) t.i r t.u w) (and_then ! (load ! (from ! (stop !)) (look ! 9 refl)) (and_then ! (load ! (from ! (stop !)) (look ! 7 refl)) (and_then ! (load ! (from ! (stop !)) (look ! 5 refl)) (no_more !)))) (λ u'.
         use1 𝓛 (later (some (λ (h : Held). (‵ ftrue ⊛ ‵ (B.own_val h (u' ∷ []))) ⊛ raw (ensured 𝓛 put.ended (put.clauses 𝓛 mem run) tt (held_of ys t.i, (t.i, (r, tt))) tt h)))) (id⊢ 𝓤 _) $ await ! tt $ pick ! (λ h.
@@ -330,7 +330,7 @@ module _ {M : Type 1} {𝓤 : Ura M} (𝓛 : Logic 𝓤) (mem : Memory → SProp
     emptied : (n m : ℕ) (w₂ : Val) → n ≡ length ys → m ≡ least64 n → Is usize n (w₂ ∷ [])
         → Sq 𝓛 (Ctx (fat full_share word l₃ 0 (vint w64 m)) (fat full_share word l₂ 0 w₂)) (runs 𝓣.C 𝓣.Λ E₀ mir'.t-3 (at_ret E₀ Post))
     emptied n m w₂ e₁ e₂ is₂ =
-        use0 𝓛 (raw ((Empty 𝓛 mem run).requires (to-empty n w₂))) (goes-empty n w₂ is₂) $
+        use0 𝓛 (raw ((Empty 𝓛 mem run).pre (to-empty n w₂))) (goes-empty n w₂ is₂) $
         calls_at ! (fm_of 𝓤 H 𝓛.laws 𝓣) (Empty 𝓛 mem run) known.k_empty (to-empty n w₂) (and_then ! (load ! (from ! (stop !)) (look ! 13 refl)) (no_more !)) (λ u.
         use1 𝓛 (later (some (λ (h : Held). (‵ ftrue ⊛ ‵ (B.own_val h (u ∷ []))) ⊛ raw (ensured 𝓛 empty.ended (empty.clauses 𝓛 mem run) tt (n, tt) tt h)))) (id⊢ 𝓤 _) $ await ! tt $ pick ! (λ h.
         split ! $ move ! (1 ∷ []) $ use1 𝓛 (raw (fact 𝓤 (h ≡ empty_of n))) (empty-said n h) $ heard ! (h ≡ empty_of n) (λ e₃. split ! $ drop ! $
@@ -341,7 +341,7 @@ module _ {M : Type 1} {𝓤 : Ura M} (𝓛 : Logic 𝓤) (mem : Memory → SProp
 
     bounded : (n : ℕ) (w₂ : Val) → n ≡ length ys → Is usize n (w₂ ∷ []) → Sq 𝓛 (Ctx (froom word l₃ 0) (fat full_share word l₂ 0 w₂)) (runs 𝓣.C 𝓣.Λ E₀ mir'.t-2 (at_ret E₀ Post))
     bounded n w₂ e₁ is₂ =
-        use0 𝓛 (raw ((Least 𝓛 mem run).requires (to-least n w₂))) (goes-least n w₂ is₂) $
+        use0 𝓛 (raw ((Least 𝓛 mem run).pre (to-least n w₂))) (goes-least n w₂ is₂) $
         calls_at ! (fm_of 𝓤 H 𝓛.laws 𝓣) (Least 𝓛 mem run) known.k-least (to-least n w₂) (and_then ! (load ! (from ! (stop !)) (look ! 13 refl)) (no_more !)) (λ w₃.
         use1 𝓛 (later (some (λ (m : ℕ). (‵ ftrue ⊛ ‵ (usize.own_val m (w₃ ∷ []))) ⊛ raw (ensured 𝓛 least.ended (least.clauses 𝓛 mem run) tt (n, tt) tt m)))) (id⊢ 𝓤 _) $ await ! tt $ pick ! (λ m.
         split ! $ move ! (1 ∷ []) $ use1 𝓛 (raw (fact 𝓤 (m ≡ least64 n))) (least-said n m) $ heard ! (m ≡ least64 n) (λ e₂. split ! $ drop ! $
@@ -352,7 +352,7 @@ module _ {M : Type 1} {𝓤 : Ura M} (𝓛 : Logic 𝓤) (mem : Memory → SProp
 
     counted : Sq 𝓛 (Ctx (froom word l₃ 0) (froom word l₂ 0)) (runs 𝓣.C 𝓣.Λ E₀ mir'.t-1 (at_ret E₀ Post))
     counted =
-        use2 𝓛 (raw ((Size 𝓛 mem run).requires to-size) ⊛ ‵ Own) goes-size $ split ! $
+        use2 𝓛 (raw ((Size 𝓛 mem run).pre to-size) ⊛ ‵ Own) goes-size $ split ! $
         calls_at ! (fm_of 𝓤 H 𝓛.laws 𝓣) (Size 𝓛 mem run) known.k-size to-size (and_then ! (load ! (from ! (stop !)) (look ! 14 refl)) (no_more !)) (λ w₂.
         use1 𝓛 (later (some (λ (n : ℕ). (Tok ⊛ ‵ (usize.own_val n (w₂ ∷ []))) ⊛ raw (ensured 𝓛 size.ended (size.clauses 𝓛 mem run) (κ, tt) (x, tt) tt n)))) (id⊢ 𝓤 _) $ await ! tt $ pick ! (λ n.
         split ! $ move ! (1 ∷ []) $ use1 𝓛 (raw (fact 𝓤 (n ≡ length ys))) (size-said n) $ heard ! (n ≡ length ys) (λ e₁. split ! $ move ! (1 ∷ []) $

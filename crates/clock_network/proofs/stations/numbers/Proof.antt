@@ -20,14 +20,14 @@ decreases-loop h a₀ i₀ a i = 64 - i
 
 loop-again : tie.Need-loop-i-preserved invariant-loop decreases-loop
 loop-again c =
-    let l = c.args.t1.nodes in let i = c.loop-i.i in let a = c.loop-i.a in
+    let l = c.args.h.nodes in let i = c.loop-i.i in let a = c.loop-i.a in
     let b : length a ≡ 64 = c.loop-i.invariant.1.0 in let n : length l ≡ 64 = c.requires in
     (search rules, (length-set a i _ ∙ b, copy_step number_of l a i _ (omega arith) (omega arith) (to_z-of_z w64 _ (record { sfits = c.struct_told-1.given.0.1 })) c.loop-i.invariant.1.1))
 
 returns : tie.Need-returns invariant-loop decreases-loop
 returns c =
     let l = c.loop-i in let e : l.i ≡ 64 = omega arith in
-    copy_done number_of c.args.t1.nodes l.a l.invariant.1.0 c.requires (subst (λ (k : ℕ). take k l.a ≡ take k (numbers_of c.args.t1.nodes)) e l.invariant.1.1)
+    copy_done number_of c.args.h.nodes l.a l.invariant.1.0 c.requires (subst (λ (k : ℕ). take k l.a ≡ take k (numbers_of c.args.h.nodes)) e l.invariant.1.1)
 
 pub numbers_spec : {M : Type 1} → statement M
 numbers_spec =

@@ -23,7 +23,7 @@ abbrev decreases-loop : tie.decreases-loop-i
 decreases-loop numbers i₀ i = length numbers - i
 
 -- where the number at place i stands first
-here : (c : lts.After-place (place-reads.Asked, place-reads.Learnt) reads.Pre reads.Post invariant-loop decreases-loop)
+here : (c : lts.After-place-j (place-reads.Asked, place-reads.Learnt) reads.Pre reads.Post invariant-loop decreases-loop)
     → let ns = c.args.numbers.now in First (At ns (get_or ns c.loop-i.i (pos 0))) (length ns) c.place-j.result
 here c = let ns = c.args.numbers.now in placed ns (length ns) c.place-j.result (get_or ns c.loop-i.i (pos 0)) (record { sfits = c.x-1.given }) c.place-j.ensures
 

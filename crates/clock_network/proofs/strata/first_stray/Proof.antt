@@ -28,14 +28,14 @@ abbrev decreases-loop : tie.decreases-loop-i
 decreases-loop numbers clocks i₀ i = length numbers - i
 
 -- where the clock's number stands first
-here : (c : lts.After-place (place-reads.Asked, place-reads.Learnt) reads.Pre reads.Post invariant-loop decreases-loop)
+here : (c : lts.After-place-j (place-reads.Asked, place-reads.Learnt) reads.Pre reads.Post invariant-loop decreases-loop)
     → let ns = c.args.numbers.now in let cs = c.args.clocks.now in
     First (At ns (get_or cs c.loop-i.i (pos 0))) (length ns) c.place-j.result
 here c =
     let ns = c.args.numbers.now in let cs = c.args.clocks.now in
     placed ns (length ns) c.place-j.result (get_or cs c.loop-i.i (pos 0)) (record { sfits = c.x-1.given }) c.place-j.ensures
 
-other : (c : lts.Then1 (place-reads.Asked, place-reads.Learnt) reads.Pre reads.Post invariant-loop decreases-loop) → get_or c.args.clocks.now c.loop-i.i (pos 0) ≡ pos 0 → ⊥
+other : (c : lts.Then-x-ne0 (place-reads.Asked, place-reads.Learnt) reads.Pre reads.Post invariant-loop decreases-loop) → get_or c.args.clocks.now c.loop-i.i (pos 0) ≡ pos 0 → ⊥
 other c e = c.if-x-ne0.true (ap (of_z w64) e)
 
 returns : tie.Need-returns-then-j-numbers invariant-loop decreases-loop

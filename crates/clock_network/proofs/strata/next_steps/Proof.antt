@@ -32,10 +32,10 @@ abbrev st : Start → List ℕ
 st c = c.args.steps.now
 
 -- where the clock's number stands first
-here : (c : lts.After-place (place-reads.Asked, place-reads.Learnt) reads.Pre reads.Post) → let b = c.before.before.before.before in First (At (ns b) (get_or (cs b) b.args.i (pos 0))) (length (ns b)) c.place-j.result
+here : (c : lts.After-place-j (place-reads.Asked, place-reads.Learnt) reads.Pre reads.Post) → let b = c.before.before.before.before in First (At (ns b) (get_or (cs b) b.args.i (pos 0))) (length (ns b)) c.place-j.result
 here c = let b = c.before.before.before.before in placed (ns b) (length (ns b)) c.place-j.result (get_or (cs b) b.args.i (pos 0)) (record { sfits = c.x-1.given }) c.place-j.ensures
 
-other : (c : lts.Else1 (place-reads.Asked, place-reads.Learnt) reads.Pre reads.Post) → let b = c.before.before.before in get_or (cs b) b.args.i (pos 0) ≡ pos 0 → ⊥
+other : (c : lts.Else-x-eq0 (place-reads.Asked, place-reads.Learnt) reads.Pre reads.Post) → let b = c.before.before.before in get_or (cs b) b.args.i (pos 0) ≡ pos 0 → ⊥
 other c e = c.if-x-eq0.false (ap (of_z w64) e)
 
 returns : tie.Need-returns-then-x-eq0

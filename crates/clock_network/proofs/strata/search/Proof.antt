@@ -21,15 +21,15 @@ abbrev decreases-loop : tie.decreases-loop-i
 decreases-loop numbers clocks steps₀ steps = zeros steps
 
 -- what a turn found
-took : (c : lts.After-known-told (ready-place-reads.Asked, ready-place-reads.Learnt) reads.Pre reads.Post invariant-loop decreases-loop)
-    → let b = c.before.before.before.before.before.before in
+took : (c : lts.In-Found (ready-place-reads.Asked, ready-place-reads.Learnt) reads.Pre reads.Post invariant-loop decreases-loop)
+    → let b = c.before.before.before.before in
     ReadyIs b.args.numbers.now b.args.clocks.now c.loop-i.steps (Found c.in-Found.i c.in-Found.s)
-took c = let b = c.before.before.before.before.before.before in
+took c = let b = c.before.before.before.before in
     subst (ReadyIs b.args.numbers.now b.args.clocks.now c.loop-i.steps) c.in-Found.is c.ready_place.ensures
 
 -- the place found is one of the array's
-within : (c : lts.After-known-told (ready-place-reads.Asked, ready-place-reads.Learnt) reads.Pre reads.Post invariant-loop decreases-loop) → c.in-Found.i < length c.loop-i.steps
-within c = let b = c.before.before.before.before.before.before in
+within : (c : lts.In-Found (ready-place-reads.Asked, ready-place-reads.Learnt) reads.Pre reads.Post invariant-loop decreases-loop) → c.in-Found.i < length c.loop-i.steps
+within c = let b = c.before.before.before.before in
     let h : c.in-Found.i < length b.args.numbers.now = (took c).0 in
     let g : length b.args.numbers.now ≤ 64 = b.requires.1 in
     let e : length c.loop-i.steps ≡ 64 = c.loop-i.invariant.0 in omega arith

@@ -40,24 +40,24 @@ module _ (c : tie.After-part_at-part invariant-loop decreases-loop) where
       ap (λ (f : Field). part_of f start.args.bytes.now loop.loop-k.at) (sym c.field_at-field.ensures) ∙ sym c.part_at-part.ensures ∙ e
 
 same_length : tie.Need-shape_of-found-in_default invariant-loop decreases-loop
-same_length c = let p = c.before in (loop p).loop.invariant.room ∙ sym (start p).requires
+same_length c = let p = c.before in (loop p).loop-k.invariant.room ∙ sym (start p).requires
 
 returns : tie.Need-returns-in_default invariant-loop decreases-loop
 returns c =
     let p = c.before in
-    getting-other _ _ _ _ _ (loop p).loop.invariant (short p.before.before) (found p _ c.in_default.is)
+    getting-other _ _ _ _ _ (loop p).loop-k.invariant (short p.before.before) (found p _ c.in_default.is)
 
 mul-n : tie.Need-offset_bounds-found-k invariant-loop decreases-loop
 mul-n c = let s = short c.before.before.before in search rules
 
 slice-set-from-n : tie.Need-bounds-found-k invariant-loop decreases-loop
-slice-set-from-n c = omega (arith, short c.before.before.before, (loop c.before).loop.invariant.room)
+slice-set-from-n c = omega (arith, short c.before.before.before, (loop c.before).loop-k.invariant.room)
 
 loop-again : tie.Need-loop-k-preserved invariant-loop decreases-loop
 loop-again c =
     let p = c.before in
     rw (read_result c.in-Is.n c.in-Is.known_told-1-own.given.0.1)
-    (getting-more _ _ _ _ _ (loop p).loop.invariant (short p.before.before) c.in-Is.n c.in-Is.next (found p _ c.in-Is.is))
+    (getting-more _ _ _ _ _ (loop p).loop-k.invariant (short p.before.before) c.in-Is.n c.in-Is.next (found p _ c.in-Is.is))
 
 same-length-2 : tie.Need-shape_of-found-then-at-bytes invariant-loop decreases-loop
 same-length-2 c = c.loop-k.invariant.room ∙ sym c.requires

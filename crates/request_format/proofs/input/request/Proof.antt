@@ -10,7 +10,7 @@ use Rattle.request_format.proofs.input.request.Statement.{statement}
 use Rattle.request_format.proofs.input.request.Tie as tie
 
 -- the numbers that the bytes have
-holds : (c : tie.In-Numbers) → Held Eclipse c.args.input.now c.get-got.new.1.0
+holds : (c : tie.In-Numbers) → Held Eclipse c.args.input.now c.get-got.new.out
 holds c =
     let g = c.before in
     held Eclipse g.args.input.now _ _ (λ i. let b = g.shared_slice_known-1.given i in omega arith)

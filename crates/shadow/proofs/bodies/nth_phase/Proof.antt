@@ -22,7 +22,7 @@ returns c = search rules
 returns-2 : tie.Need-returns-in-Star
 returns-2 c =
     let a = c.before in
-    let first : a.args.k ≡ 0 = omega (arith, ap (λ (b : Body). length (phases_of b)) told, a.requires) in
+    let first : a.args.k ≡ 0 = omega (arith, ap (λ (b : Body). length (phases_of b)) c.in-Star.is, a.requires) in
     sym (ap (λ (b : Body). get_or (phases_of b) a.args.k Penumbra) c.in-Star.is ∙ ap (λ (k : ℕ). get_or star k Penumbra) first)
 
 pub nth_phase_spec : {M : Type 1} → statement M

@@ -16,11 +16,11 @@ again : (b x : ℕ) → b ≤ x → b + (x - b) ≡ x
 again b x h = omega arith
 
 -- a number of no literal arm, and of no phase's range, names none
-none : (c : tie.In_default-1) → let x = c.args.code in
-    ((y : ℕ) → y < 4 → x ≡ 0x10 + y → ⊥) → ((y : ℕ) → y < 4 → x ≡ 0x20 + y → ⊥) → ((y : ℕ) → y < 4 → x ≡ 0x40 + y → ⊥) → Unknown ≡ kind_for x
-none c p q r = let l = c.in_default-1.rest in sym (no_kind _ l.0.0.0.1 l.0.0.1 l.0.1 l.1 each)
+none : (x : ℕ) → (x ≡ 1 → ⊥) → (x ≡ 0x30 → ⊥) → (x ≡ 0x31 → ⊥) → (x ≡ 0x7f → ⊥)
+    → ((y : ℕ) → y < 4 → x ≡ 0x10 + y → ⊥) → ((y : ℕ) → y < 4 → x ≡ 0x20 + y → ⊥) → ((y : ℕ) → y < 4 → x ≡ 0x40 + y → ⊥) → Unknown ≡ kind_for x
+none x a b c d p q r = sym (no_kind x a b c d each)
   where
-    each : (φ : Phase) (y : ℕ) → y < 4 → c.args.code ≡ base φ + y → ⊥
+    each : (φ : Phase) (y : ℕ) → y < 4 → x ≡ base φ + y → ⊥
     each Penumbra = p
     each Central = q
     each Star = r
@@ -47,16 +47,16 @@ returns-7 : tie.Need-returns-in-64-to-67
 returns-7 c = c.phase_kind-in-64-to-67.ensures ∙ ap kind_for (again 0x40 c.args.code (omega arith))
 
 returns-8 : tie.Need-returns-in_default
-returns-8 c = none c.before.before (λ y h e. omega arith) (λ y h e. omega arith) (λ y h e. omega arith)
+returns-8 c = none c.args.code (λ e. omega arith) (λ e. omega arith) (λ e. omega arith) (λ e. omega arith) (λ y h e. omega arith) (λ y h e. omega arith) (λ y h e. omega arith)
 
 returns-9 : tie.Need-returns-in_default-2
-returns-9 c = none c.before.before (λ y h e. omega arith) (λ y h e. omega arith) (λ y h e. omega arith)
+returns-9 c = none c.args.code (λ e. omega arith) (λ e. omega arith) (λ e. omega arith) (λ e. omega arith) (λ y h e. omega arith) (λ y h e. omega arith) (λ y h e. omega arith)
 
 returns-10 : tie.Need-returns-in_default-3
-returns-10 c = none c.before.before (λ y h e. omega arith) (λ y h e. omega arith) (λ y h e. omega arith)
+returns-10 c = none c.args.code (λ e. omega arith) (λ e. omega arith) (λ e. omega arith) (λ e. omega arith) (λ y h e. omega arith) (λ y h e. omega arith) (λ y h e. omega arith)
 
 returns-11 : tie.Need-returns-in_default-4
-returns-11 c = none c.before.before (λ y h e. omega arith) (λ y h e. omega arith) (λ y h e. omega arith)
+returns-11 c = none c.args.code (λ e. omega arith) (λ e. omega arith) (λ e. omega arith) (λ e. omega arith) (λ y h e. omega arith) (λ y h e. omega arith) (λ y h e. omega arith)
 
 pub kind_for_spec : {M : Type 1} → statement M
 kind_for_spec =

@@ -11,7 +11,7 @@ use Rattle.request_format.proofs.input.stars.asked.Statement.{statement}
 use Rattle.request_format.proofs.input.stars.asked.Tie as tie
 
 -- the numbers that the bytes have
-holds : (c : tie.In-Numbers) → Held Star c.args.input.now c.get_star-got.new.1.0
+holds : (c : tie.In-Numbers) → Held Star c.args.input.now c.get_star-got.new.out
 holds c =
     let g = c.before in
     held Star g.args.input.now _ _ (λ i. let b = g.shared_slice_known-1.given i in omega arith)
