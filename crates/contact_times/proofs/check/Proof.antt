@@ -19,19 +19,19 @@ abbrev asked : tie.Start → Window
 asked s = record { first = s.args.from; last = s.args.to }
 
 -- the two seconds are read back from their bits
-window-is : (c : tie.After-window-holds) → c.window-holds.result ≡ window_holds (asked c.before.before)
+window-is : (c : tie.After-window_holds-holds) → c.window_holds-holds.result ≡ window_holds (asked c.before.before)
 window-is c =
     let s = c.before.before in
-    c.window-holds.ensures
+    c.window_holds-holds.ensures
     ∙ ap₂ (λ (f l : ℤ). window_holds (record { first = f; last = l })) (to_z-of_z w64 s.args.from s.ranges.from) (to_z-of_z w64 s.args.to s.ranges.to)
 
-holds : (c : tie.Else1) → window_holds (asked c.before.before.before) ≡ true
-holds c = sym (window-is c.before) ∙ not_false c.before.window-holds.result c.if1.false
+holds : (c : tie.Else-not-holds) → window_holds (asked c.before.before.before) ≡ true
+holds c = sym (window-is c.before) ∙ c.if-not-holds.false
 
 -- ---- a request within its limits, and its phase
-module _ (c : tie.After-check-phase) where
-  abbrev request : tie.After-check
-  request = c.before.before.before
+module _ (c : tie.After-check_phase-of_phase) where
+  abbrev request : tie.After-check-of_request
+  request = c.before.before
 
   abbrev start : tie.Start
   start = request.before.before.before.before
@@ -40,41 +40,39 @@ module _ (c : tie.After-check-phase) where
   window = holds request.before
 
   within : checked start.args.o ≡ C.Within
-  within = sym request.check.ensures ∙ c.before.enum_told.given.1
+  within = sym request.check-of_request.ensures ∙ c.in_default.is
 
-  phase-is : c.check-phase.result ≡ phase_checked start.args.o.body start.args.phase
-  phase-is = c.check-phase.ensures ∙ ap (phase_checked start.args.o.body) (to_z-of_z w64 start.args.phase start.fits.phase)
+  phase-is : c.check_phase-of_phase.result ≡ phase_checked start.args.o.body start.args.phase
+  phase-is = c.check_phase-of_phase.ensures ∙ ap (phase_checked start.args.o.body) (to_z-of_z w64 start.args.phase start.ranges.phase)
 
-returns : tie.Need-returns
+returns : tie.Need-returns-then-not-holds
 returns c =
-    let a = c.before.before.before.args in
-    contact-window a.o a.phase a.from a.to a.sines.now (sym (window-is c.before) ∙ not_true c.before.window-holds.result c.if1.true)
+    let a = c.args in
+    contact-window a.o a.phase a.from a.to a.sines.now (sym (window-is c.before) ∙ c.if-not-holds.true)
 
-returns-2 : tie.Need-returns-2
+returns-2 : tie.Need-returns-in-Refused
 returns-2 c =
-    let known = c.before.of-request.given in
-    let r = c.before.before.before in
-    let a = r.before.before.before.before.args in
-    contact-request a.o a.phase a.from a.to a.sines.now (holds r.before) known.0.0 (sym r.check.ensures ∙ known.1)
+    let r = c.before in
+    let a = r.args in
+    contact-request a.o a.phase a.from a.to a.sines.now (holds r.before) c.in-Refused.refusal (sym r.check-of_request.ensures ∙ c.in-Refused.is)
 
-returns-3 : tie.Need-returns-3
+returns-3 : tie.Need-returns-in-Refused-of_phase
 returns-3 c =
-    let known = c.before.of-phase.given in
-    let p = c.before.before.before in
+    let p = c.before in
     let a = (start p).args in
-    contact-phase a.o a.phase a.from a.to a.sines.now (window p) (within p) known.0.0 (sym (phase-is p) ∙ known.1)
+    contact-phase a.o a.phase a.from a.to a.sines.now (window p) (within p) c.in-Refused-of_phase.refusal (sym (phase-is p) ∙ c.in-Refused-of_phase.is)
 
-returns-4 : tie.Need-returns-4
+returns-4 : tie.Need-returns
 returns-4 c =
     let told = c.before.before.before.before in
-    let p = told.before.before in
+    let p = told.before in
     let a = (start p).args in
-    let f = c.before.before.fill-sines.ensures in
-    let r = contact-room a.o a.phase a.from a.to a.sines.now (window p) (within p) (sym (phase-is p) ∙ told.enum-told2.given.1) in
+    let f = c.fill_sines.ensures in
+    let r = contact-room a.o a.phase a.from a.to a.sines.now (window p) (within p) (sym (phase-is p) ∙ told.in_default-of_phase.is) in
     (f.0 ∙ r.0, f.1 ∙ r.1)
 
-pub check-spec : {M : Type 1} → statement M
-check-spec =
+pub check_spec : {M : Type 1} → statement M
+check_spec =
     tie.close
     (tie.spec (λ c κs. search rules) returns (λ c κs. search rules) (λ c. search rules) returns-2
     (λ c. search rules) (λ c κs. search rules) (λ c. search rules) returns-3 (λ c. search rules)

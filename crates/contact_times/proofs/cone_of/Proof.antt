@@ -6,15 +6,15 @@ use Rattle.shadow_geometry.specs.Shadow.{cone}
 use Rattle.contact_times.proofs.cone_of.Statement.{statement}
 use Rattle.contact_times.proofs.cone_of.Tie as tie
 
-returns : tie.Need-returns
+returns : tie.Need-returns-in-Sun
 returns c =
-    let a = c.before.before.before.before.args in
-    c.eclipse-cone.ensures ∙ ap (λ (b : Body). cone b a.phase) (sym c.before.before.body.given.1)
+    let a = c.args in
+    c.eclipse_cone.ensures ∙ ap (λ (b : Body). cone b a.phase) (sym c.in-Sun.is)
 
-returns-2 : tie.Need-returns-2
+returns-2 : tie.Need-returns-in-Star
 returns-2 c =
-    let a = c.before.before.before.before.args in
-    c.cylinder.ensures ∙ ap (λ (b : Body). cone b a.phase) (sym c.before.before.body2.given.1)
+    let a = c.args in
+    c.cylinder.ensures ∙ ap (λ (b : Body). cone b a.phase) (sym c.in-Star.is)
 
-pub cone-of-spec : {M : Type 1} → statement M
-cone-of-spec = tie.close (tie.spec (λ c. search rules) (λ c κs. search rules) (λ c. search rules) (λ c κs. search rules) returns returns-2)
+pub cone_of_spec : {M : Type 1} → statement M
+cone_of_spec = tie.close (tie.spec (λ c. search rules) (λ c κs. search rules) (λ c. search rules) (λ c κs. search rules) returns returns-2)

@@ -29,17 +29,17 @@ same : {c d : Crossing} {f g t u : ℤ} → c ≡ d → f ≡ g → t ≡ u → 
 same e f g = rw (e, f, g) refl
 
 -- what was put together
-put : (c : tie.After-used-guard)
-    → let a = c.before.before.before.before.before.before.before.args in InLimits a.o
-    → ◌≡◌ {A = Crossing} (record { axis = c.before.before.before.axis-of.result; cone = c.before.before.cone-of.result; place = c.before.before.before.before.geocentric.result; phase = a.phase; guard = to_z w64 (of_z w64 c.used-guard.result) }) (crossing a.o a.phase)
+put : (c : tie.After-used_guard-guard)
+    → let a = c.args in InLimits a.o
+    → ◌≡◌ {A = Crossing} (record { axis = c.axis_of-axis.result; cone = c.cone_of-cone.result; place = c.geocentric-place.result; phase = a.phase; guard = to_z w64 (of_z w64 c.used_guard-guard.result) }) (crossing a.o a.phase)
 put c i =
-    let a = c.before.before.before.before.before.before.before.args in
-    let e : c.used-guard.result ≡ used_guard a.o.guard =
-    c.used-guard.ensures ∙ ap used_guard (read_back a.o.guard (nat_abs_between a.o.guard 16 i.guard.low i.guard.high) tt) in
-    together a.phase c.before.before.before.axis-of.ensures c.before.before.cone-of.ensures c.before.before.before.before.geocentric.ensures
-    (read_back c.used-guard.result {m = 1000} (rw e (crossing_sizes a.o i a.phase).guard) tt ∙ e)
+    let a = c.args in
+    let e : c.used_guard-guard.result ≡ used_guard a.o.guard =
+    c.used_guard-guard.ensures ∙ ap used_guard (read_back a.o.guard (nat_abs_between a.o.guard 16 i.guard.low i.guard.high) tt) in
+    together a.phase c.axis_of-axis.ensures c.cone_of-cone.ensures c.geocentric-place.ensures
+    (read_back c.used_guard-guard.result {m = 1000} (rw e (crossing_sizes a.o i a.phase).guard) tt ∙ e)
 
-contact-bracket-requires : tie.Need-contact-bracket-requires
+contact-bracket-requires : tie.Need-contact_bracket-requires
 contact-bracket-requires c κs =
     let s = c.before.before.before.before.before.before.before in
     let a = s.args in
@@ -57,7 +57,7 @@ returns c =
     let b = c.before in
     let s = b.before.before.before.before.before.before.before in
     let a = s.args in
-    c.contact-bracket.ensures ∙ same (put b s.requires.1) (read_back a.from s.requires.2 tt) (read_back a.to s.requires.3 tt)
+    c.contact_bracket.ensures ∙ same (put b s.requires.1) (read_back a.from s.requires.2 tt) (read_back a.to s.requires.3 tt)
 
-pub contact-spec : {M : Type 1} → statement M
-contact-spec = tie.close (tie.spec (λ c κs. search rules) (λ c κs. search rules) (λ c κs. search rules) (λ c κs. search rules) contact-bracket-requires returns)
+pub contact_spec : {M : Type 1} → statement M
+contact_spec = tie.close (tie.spec (λ c κs. search rules) (λ c κs. search rules) (λ c κs. search rules) (λ c κs. search rules) contact-bracket-requires returns)

@@ -34,7 +34,7 @@ module _ (o : Occultation) {f g t u : ℤ} where
   bracket-same e h k = rw (e, h, k) refl
 
 -- ---- what was checked
-module _ (c : tie.After-check) where
+module _ (c : tie.After-check-c) where
   abbrev start : tie.Start
   start = c.before.before.before
 
@@ -42,44 +42,43 @@ module _ (c : tie.After-check) where
   o = start.args.o
 
   phase-is : to_z w64 (of_z w64 start.args.phase) ≡ start.args.phase
-  phase-is = to_z-of_z w64 start.args.phase start.fits.phase
+  phase-is = to_z-of_z w64 start.args.phase start.ranges.phase
 
   from_is : to_z w64 (of_z w64 start.args.from) ≡ start.args.from
-  from_is = to_z-of_z w64 start.args.from start.fits.from
+  from_is = to_z-of_z w64 start.args.from start.ranges.from
 
   to_is : to_z w64 (of_z w64 start.args.to) ≡ start.args.to
-  to_is = to_z-of_z w64 start.args.to start.fits.to
+  to_is = to_z-of_z w64 start.args.to start.ranges.to
 
-  is : c.check.result ≡ contact_checked o start.args.phase start.args.from start.args.to start.args.sines.now
-  is = c.check.ensures.0 ∙ checked-same o start.args.sines.now phase-is from_is to_is
+  is : c.check-c.result ≡ contact_checked o start.args.phase start.args.from start.args.to start.args.sines.now
+  is = c.check-c.ensures.0 ∙ checked-same o start.args.sines.now phase-is from_is to_is
 
-  left : c.check.new.1.1.1.1.0 ≡ contact_sines o start.args.phase start.args.from start.args.to start.args.sines.now
-  left = c.check.ensures.1 ∙ sines-same o start.args.sines.now phase-is from_is to_is
+  left : c.check-c.new.sines ≡ contact_sines o start.args.phase start.args.from start.args.to start.args.sines.now
+  left = c.check-c.ensures.1 ∙ sines-same o start.args.sines.now phase-is from_is to_is
 
 -- ---- where nothing was refused
-module _ (c : tie.After-enum-told) where
-  abbrev was : tie.After-check
-  was = c.before.before.before.before
+module _ (c : tie.In_default) where
+  abbrev was : tie.After-check-c
+  was = c.before.before.before
 
   within : C.Within ≡ contact_checked (o was) (start was).args.phase (start was).args.from (start was).args.to (start was).args.sines.now
-  within = sym c.enum_told.given.1 ∙ is was
+  within = sym c.in_default.is ∙ is was
 
   held : Held (o was) (start was).args.phase (start was).args.from (start was).args.to (start was).args.sines.now
   held = contact-within (o was) (start was).args.phase (start was).args.from (start was).args.to (start was).args.sines.now (sym within)
 
-returns : tie.Need-returns
+returns : tie.Need-returns-in-Refused
 returns c =
-    let w = c.before.before.before.before.before in
+    let w = c.before.before.before in
     let a = (start w).args in
-    let known = c.before.c.given in
-    (contact-is a.o a.phase a.from a.to a.sines.now (C.Refused known.0.0) (sym known.1 ∙ is w) _ refl, left w)
+    (contact-is a.o a.phase a.from a.to a.sines.now (C.Refused c.in-Refused.refusal) (sym c.in-Refused.is ∙ is w) _ refl, left w)
 
-cast-nth-phase : tie.Need-overflow-cast-nth-phase
-cast-nth-phase c = let s = start (was c) in as_natural s.args.phase s.fits.phase (held c).phase.0
+cast-nth-phase : tie.Need-overflow_cast-phase
+cast-nth-phase c = let s = start (was c) in as_natural s.args.phase s.ranges.phase (held c).phase.0
 
-contact-requires : tie.Need-contact-requires
+contact-requires : tie.Need-contact-b-requires
 contact-requires c κs =
-    let t = c.before.before in
+    let t = c.before in
     let a = (start (was t)).args in
     let h = held t in
     let z = window-sizes (record { first = a.from; last = a.to }) h.window in (
@@ -90,20 +89,20 @@ contact-requires c κs =
       rw (from_is (was t), to_is (was t)) h.window.ordered,
     )
 
-returns-2 : tie.Need-returns-2
+returns-2 : tie.Need-returns
 returns-2 c =
-    let t = c.before.before.before.before in
+    let t = c.before.before.before in
     let w = was t in
     let a = (start w).args in
-    let e : c.before.before.before.nth-phase.result ≡ phase_at a.o.body a.phase =
-    c.before.before.before.nth-phase.ensures ∙ ap (λ (z : ℤ). get_or (phases_of a.o.body) (nat_abs z) Penumbra) (phase-is w) in (
+    let e : c.nth_phase-kind.result ≡ phase_at a.o.body a.phase =
+    c.nth_phase-kind.ensures ∙ ap (λ (z : ℤ). get_or (phases_of a.o.body) (nat_abs z) Penumbra) (phase-is w) in (
       contact-is a.o a.phase a.from a.to a.sines.now C.Within (within t) _
-          (c.found.ensures ∙ ap found c.before.contact.ensures ∙ bracket-same a.o e (from_is w) (to_is w)),
+          (c.found.ensures ∙ ap found c.contact-b.ensures ∙ bracket-same a.o e (from_is w) (to_is w)),
       left w,
     )
 
-pub contact-at-spec : {M : Type 1} → statement M
-contact-at-spec =
+pub contact_at_spec : {M : Type 1} → statement M
+contact_at_spec =
     tie.close
     (tie.spec (λ c κs. search rules) (λ c. search rules) (λ c. search rules) returns (λ c. search rules)
     cast-nth-phase (λ c κs. rw (phase-is (was c)) (held c).phase.1) contact-requires (λ c κs. search rules)

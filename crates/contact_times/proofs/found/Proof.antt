@@ -6,14 +6,12 @@ use Rattle.contact_times.specs.Contacts.{found}
 use Rattle.contact_times.proofs.found.Statement.{statement}
 use Rattle.contact_times.proofs.found.Tie as tie
 
-returns : tie.Need-returns
+returns : tie.Need-returns-in-Between
 returns c =
-    let p = c.before.bracket.given in
-    let r = c.known-told.given in
-    rw (read_result p.0.0 r.0.1, read_result p.0.1.0 r.1.0.1) (ap found (sym p.1))
+    rw (read_result c.in-Between.a c.in-Between.known_told-1-own.given.0.1, read_result c.in-Between.b c.in-Between.known_told-1-own.given.1.0.1) (ap found (sym c.in-Between.is))
 
-returns-2 : tie.Need-returns-2
-returns-2 c = ap found (sym c.enum_told.given.1)
+returns-2 : tie.Need-returns-in-NoContact
+returns-2 c = ap found (sym c.in-NoContact.is)
 
-pub found-spec : {M : Type 1} → statement M
-found-spec = tie.close (tie.spec (λ c. search rules) (λ c. search rules) returns returns-2)
+pub found_spec : {M : Type 1} → statement M
+found_spec = tie.close (tie.spec (λ c. search rules) (λ c. search rules) returns returns-2)

@@ -19,11 +19,11 @@ not_below g e = rw e refl
 read : (s : tie.Start) → to_z w64 (of_z w64 s.args.guard) ≡ s.args.guard
 read s = to_z-of_z w64 s.args.guard s.ranges.guard
 
-returns : tie.Need-returns
-returns c = below c.before.args.guard (subst (λ (z : ℤ). lt_z z (pos 32) ≡ true) (read c.before) c.if1.true)
+returns : tie.Need-returns-then-guard-lt32
+returns c = below c.args.guard (subst (λ (z : ℤ). lt_z z (pos 32) ≡ true) (read c.before) c.if-guard-lt32.true)
 
-returns-2 : tie.Need-returns-2
-returns-2 c = read c.before ∙ not_below c.before.args.guard (subst (λ (z : ℤ). lt_z z (pos 32) ≡ false) (read c.before) c.if1.false)
+returns-2 : tie.Need-returns-else-guard-lt32
+returns-2 c = read c.before ∙ not_below c.args.guard (subst (λ (z : ℤ). lt_z z (pos 32) ≡ false) (read c.before) c.if-guard-lt32.false)
 
-pub used-guard-spec : {M : Type 1} → statement M
-used-guard-spec = tie.close (tie.spec returns returns-2)
+pub used_guard_spec : {M : Type 1} → statement M
+used_guard_spec = tie.close (tie.spec returns returns-2)

@@ -16,61 +16,61 @@ use Rattle.request_text.specs.laws.NameLaws.{Finding, finding-start, finding-non
 use Rattle.request_text.proofs.find.Statement.{statement}
 use Rattle.request_text.proofs.find.Tie as tie
 
-abbrev invariant-loop : tie.invariant-loop
+abbrev invariant-loop : tie.invariant-loop-k
 invariant-loop shape said count k₀ k = Finding shape said k
 
-abbrev decreases-loop : tie.decreases-loop
+abbrev decreases-loop : tie.decreases-loop-k
 decreases-loop shape said count k₀ k = count - k
 
 -- field k is one of the request's
-short : (c : tie.In-loop invariant-loop decreases-loop) → c.before.loop.k < countOf c.before.before.before.before.args.shape
-short c = omega (arith, c.loop-test.true, c.before.before.count_of.ensures)
+short : (c : tie.In-loop-k invariant-loop decreases-loop) → c.loop-k.k < countOf c.args.shape
+short c = omega (arith, c.loop-k-test.true, c.count_of-count.ensures)
 
 -- the field is field k
-module _ (c : tie.After-field-at invariant-loop decreases-loop) where
-  abbrev loop : tie.At-loop invariant-loop decreases-loop
+module _ (c : tie.After-field_at-field invariant-loop decreases-loop) where
+  abbrev loop : tie.At-loop-k invariant-loop decreases-loop
   loop = c.before.before
 
   abbrev start : tie.Start invariant-loop decreases-loop
   start = loop.before.before.before
 
   abbrev row : Field
-  row = rowAt start.args.shape loop.loop.k
+  row = rowAt start.args.shape loop.loop-k.k
 
   abbrev field : Field
-  field = c.field_at.result
+  field = c.field_at-field.result
 
   is : field ≡ row
-  is = c.field_at.ensures
+  is = c.field_at-field.ensures
 
   room : field.1 ≤ length field.0
-  room = subst (λ (f : Field). f.1 ≤ length f.0) (sym is) (name-room start.args.shape loop.loop.k)
+  room = subst (λ (f : Field). f.1 ≤ length f.0) (sym is) (name-room start.args.shape loop.loop-k.k)
 
   name-is : length (name_of row) ≡ field.1
-  name-is = name-length start.args.shape loop.loop.k ∙ ap (λ (f : Field). f.1) (sym is)
+  name-is = name-length start.args.shape loop.loop-k.k ∙ ap (λ (f : Field). f.1) (sym is)
 
 -- what was tested
-tested : (c : tie.After-is-named invariant-loop decreases-loop) (b : Bool) → c.is-named.result ≡ b
+tested : (c : tie.After-is_named invariant-loop decreases-loop) (b : Bool) → c.is_named.result ≡ b
     → named (name_of (row c.before.before.before)) (start c.before.before.before).args.said.now ≡ b
 tested c b e =
     let f = c.before.before.before in
-    ap (λ (r : Field). named (name_of r) (start f).args.said.now) (sym (is f)) ∙ sym c.is-named.ensures ∙ e
+    ap (λ (r : Field). named (name_of r) (start f).args.said.now) (sym (is f)) ∙ sym c.is_named.ensures ∙ e
 
-slice-aggregate-is-named : tie.Need-slice-aggregate-is-named invariant-loop decreases-loop
+slice-aggregate-is-named : tie.Need-slice_bounds-is_named-end invariant-loop decreases-loop
 slice-aggregate-is-named c = sym (length-take-le _ _ (room c.before.before))
 
-returns : tie.Need-returns invariant-loop decreases-loop
+returns : tie.Need-returns-then-is_named invariant-loop decreases-loop
 returns c =
     let f = c.before.before.before.before in
-    finding-hit _ _ _ (loop f).loop.invariant (short f.before) _ (name-is f) (tested c.before _ c.if1.true)
+    finding-hit _ _ _ (loop f).loop-k.invariant (short f.before) _ (name-is f) (tested c.before _ c.if-is_named.true)
 
-loop-again : tie.Need-loop-preserved invariant-loop decreases-loop
+loop-again : tie.Need-loop-k-preserved invariant-loop decreases-loop
 loop-again c =
     let f = c.before.before.before.before in
-    finding-more _ _ _ (loop f).loop.invariant (short f.before) (tested c.before _ c.if1.false)
+    finding-more _ _ _ (loop f).loop-k.invariant (short f.before) (tested c.before _ c.if-is_named.false)
 
-returns-2 : tie.Need-returns-2 invariant-loop decreases-loop
-returns-2 c = finding-none _ _ _ c.before.loop.invariant (omega (arith, c.loop-test.false, c.before.before.count_of.ensures))
+returns-2 : tie.Need-returns invariant-loop decreases-loop
+returns-2 c = finding-none _ _ _ c.loop-k.invariant (omega (arith, c.loop-k-test.false, c.count_of-count.ensures))
 
 pub find_spec : {M : Type 1} → statement M
 find_spec =

@@ -14,19 +14,19 @@ use Rattle.request_text.proofs.fit.Statement.{statement}
 use Rattle.request_text.proofs.fit.Tie as tie
 
 -- the number, as it is handed over
-same : (c : tie.After-with-sign) → to_z w64 (of_z w64 c.with-sign.result) ≡ with_sign c.before.args.minus c.before.args.n
-same c = read_result c.with-sign.result c.with-sign.type-inv ∙ c.with-sign.ensures
+same : (c : tie.After-with_sign-value) → to_z w64 (of_z w64 c.with_sign-value.result) ≡ with_sign c.args.minus c.args.n
+same c = read_result c.with_sign-value.result c.with_sign-value.type_inv ∙ c.with_sign-value.ensures
 
-tested : (c : tie.After-holds) (b : Bool) → c.holds.result ≡ b
-    → holds c.before.before.args.width (with_sign c.before.before.args.minus c.before.before.args.n) ≡ b
-tested c b e = ap (holds c.before.before.args.width) (sym (same c.before)) ∙ sym c.holds.ensures ∙ e
+tested : (c : tie.After-holds-holds) (b : Bool) → c.holds-holds.result ≡ b
+    → holds c.args.width (with_sign c.args.minus c.args.n) ≡ b
+tested c b e = ap (holds c.args.width) (sym (same c.before)) ∙ sym c.holds-holds.ensures ∙ e
 
-returns : tie.Need-returns
-returns c = fitted-out _ _ _ _ (tested c.before _ (not-true _ c.if1.true))
+returns : tie.Need-returns-then-not-holds
+returns c = fitted-out _ _ _ _ (tested c.before _ c.if-not-holds.true)
 
-returns-2 : tie.Need-returns-2
+returns-2 : tie.Need-returns
 returns-2 c =
-    ap (L.Given c.before.before.before.args.field) (same c.before.before) ∙ fitted-in _ _ _ _ (tested c.before _ (not-false _ c.if1.false))
+    ap (L.Given c.args.field) (same c.before.before) ∙ fitted-in _ _ _ _ (tested c.before _ c.if-not-holds.false)
 
 pub fit_spec : {M : Type 1} → statement M
 fit_spec = tie.close (tie.spec (λ c κs. search rules) (λ c κs. search rules) returns returns-2)

@@ -11,35 +11,34 @@ use Rattle.request_text.proofs.note.Statement.{statement}
 use Rattle.request_text.proofs.note.Tie as tie
 
 -- the field given is one of those marked
-field : (c : tie.After-known-told2) → InRoom (length c.before.before.before.args.marks.now) (L.Given c.before.line2.given.0.0 c.before.line2.given.0.1.0)
-field c = subst (InRoom (length c.before.before.before.args.marks.now)) c.before.line2.given.1 c.before.before.before.requires.1
+field : (c : tie.In-Given) → InRoom (length c.args.marks.now) (L.Given c.in-Given.field c.in-Given.value)
+field c = subst (InRoom (length c.args.marks.now)) c.in-Given.is c.requires.1
 
-returns : tie.Need-returns
-returns c = note-twice _ _ _ _ _ c.before.before.before.line2.given.1 c.if1.true
+returns : tie.Need-returns-then-marks-field-ne0
+returns c = note-twice _ _ _ _ _ c.in-Given.is c.if-marks-field-ne0.true
 
-slice-write-marks : tie.Need-slice-write-marks
+slice-write-marks : tie.Need-bounds-marks-field-in-Given
 slice-write-marks c = let f = field c.before.before in omega arith
 
-mul-value : tie.Need-overflow-mul-value
+mul-value : tie.Need-offset_bounds-numbers-field
 mul-value c = let f = field c.before.before in record { fits = omega arith }
 
-slice-set-from-value : tie.Need-slice-set-from-value
+slice-set-from-value : tie.Need-bounds-numbers-field
 slice-set-from-value c = let f = field c.before.before in omega arith
 
-returns-2 : tie.Need-returns-2
-returns-2 c = note-nothing _ _ _ c.enum_told.given.1
+returns-2 : tie.Need-returns-in-Nothing
+returns-2 c = note-nothing _ _ _ c.in-Nothing.is
 
-returns-3 : tie.Need-returns-3
-returns-3 c = note-faulty _ _ _ _ c.before.line.given.1
+returns-3 : tie.Need-returns-in-Faulty
+returns-3 c = note-faulty _ _ _ _ c.in-Faulty.is
 
-returns-4 : tie.Need-returns-4
+returns-4 : tie.Need-returns-else-marks-field-ne0
 returns-4 c =
     let told = c.before.before in
-    let z = told.before.line2.given.0.1.0 in
-    rw (read_back z (field told).1 tt) (note-given _ _ _ _ z told.before.line2.given.1 c.if1.false)
+    rw (read_back told.in-Given.value (field told).1 tt) (note-given _ _ _ _ told.in-Given.value told.in-Given.is c.if-marks-field-ne0.false)
 
-pub note-spec : {M : Type 1} → statement M
-note-spec =
+pub note_spec : {M : Type 1} → statement M
+note_spec =
     tie.close
     (tie.spec (λ c. search rules) (λ c. search rules) (λ c. search rules)
     (λ c. let f = field c.before in omega arith) returns slice-write-marks mul-value slice-set-from-value

@@ -6,14 +6,14 @@ use borrow.Author.Rules.{rules}
 use Rattle.request_text.proofs.said.Statement.{statement}
 use Rattle.request_text.proofs.said.Tie as tie
 
-slice-aggregate-content : tie.Need-slice-aggregate-content
-slice-aggregate-content c = sym (length-take-le _ _ c.before.run.ensures.1)
+slice-aggregate-content : tie.Need-slice_bounds-content-end
+slice-aggregate-content c = sym (length-take-le _ _ c.run-length.ensures.1)
 
 returns : tie.Need-returns
-returns c = said-is _ _ _ c.before.before.before.run.ensures.0 c.before.run2.ensures.0
+returns c = said-is _ _ _ c.run-length.ensures.0 c.run-gap.ensures.0
 
-pub said-spec : {M : Type 1} → statement M
-said-spec =
+pub said_spec : {M : Type 1} → statement M
+said_spec =
     tie.close
     (tie.spec (λ c κs. search rules) slice-aggregate-content (λ c κs. search rules) (λ c. search rules)
     (λ c. search rules) (λ c. search rules) returns)

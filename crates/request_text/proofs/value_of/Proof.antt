@@ -13,36 +13,36 @@ use Rattle.request_text.proofs.value_of.Statement.{statement}
 use Rattle.request_text.proofs.value_of.Tie as tie
 
 -- the units found decide
-told : (c : tie.After-units-in) (u : Units) → c.Units-in.result ≡ u
-    → of_units c.before.before.before.before.args.shape c.before.before.before.before.args.field c.before.start.result u
-    ≡ value_of c.before.before.before.before.args.shape c.before.before.before.before.args.field c.before.before.before.before.args.word.now
+told : (c : tie.After-units_in-found) (u : Units) → c.Units-in.result ≡ u
+    → of_units c.args.shape c.args.field c.start-minus.result u
+    ≡ value_of c.args.shape c.args.field c.args.word.now
 told c u e =
-    let a = c.before.before.before.before.args in
+    let a = c.args in
     let of = of_units a.shape a.field in
-    ap (of c.before.start.result) (sym e ∙ c.Units-in.ensures)
-    ∙ ap (λ (f : Field). of c.before.start.result (units_of f.2 a.word.now)) c.before.before.field_at.ensures
-    ∙ ap (λ (m : ℕ). of m (units_of (decimals_of a.shape a.field) a.word.now)) c.before.start.ensures.0
+    ap (of c.start-minus.result) (sym e ∙ c.Units-in.ensures)
+    ∙ ap (λ (f : Field). of c.start-minus.result (units_of f.2 a.word.now)) c.field_at-row.ensures
+    ∙ ap (λ (m : ℕ). of m (units_of (decimals_of a.shape a.field) a.word.now)) c.start-minus.ensures.0
     ∙ value_by _ _ _
 
 fit-requires : tie.Need-fit-requires
-fit-requires c κs = units_small _ _ _ (sym c.before.before.before.Units-in.ensures ∙ c.before.found.given.1)
+fit-requires c κs = units_small _ _ _ (sym c.Units-in.ensures ∙ c.in-Is.is)
 
-returns : tie.Need-returns
+returns : tie.Need-returns-in-Is
 returns c =
-    let u = c.before.before.before.before in
-    let a = u.before.before.before.before.args in
-    c.fit.ensures ∙ ap (λ (f : Field). fitted a.field f.3 u.before.start.result c.before.before.found.given.0.0)
-    u.before.before.field_at.ensures
-    ∙ told u _ c.before.before.found.given.1
+    let u = c.before.before in
+    let a = u.args in
+    c.fit.ensures ∙ ap (λ (f : Field). fitted a.field f.3 u.start-minus.result c.in-Is.n)
+    u.field_at-row.ensures
+    ∙ told u _ c.in-Is.is
 
-returns-2 : tie.Need-returns-2
-returns-2 c = told c.before.before _ c.enum_told.given.1
+returns-2 : tie.Need-returns-in-NotWhole
+returns-2 c = told c.before _ c.in-NotWhole.is
 
-returns-3 : tie.Need-returns-3
-returns-3 c = told c.before.before _ c.enum-told2.given.1
+returns-3 : tie.Need-returns-in-NotNumber
+returns-3 c = told c.before _ c.in-NotNumber.is
 
-pub value-of-spec : {M : Type 1} → statement M
-value-of-spec =
+pub value_of_spec : {M : Type 1} → statement M
+value_of_spec =
     tie.close
     (tie.spec (λ c κs. search rules) (λ c κs. search rules) (λ c κs. search rules) (λ c. search rules)
     fit-requires (λ c. search rules) (λ c. search rules) returns returns-2 returns-3)

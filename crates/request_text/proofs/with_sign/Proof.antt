@@ -22,13 +22,13 @@ minus_is (suc k) = rw (le-leb 1 (suc k) (omega arith)) (ap negsuc (omega arith))
 abbrev minus : Code
 minus = sub (lit (pos 0)) (arg 0)
 
-returns : tie.Need-returns
+returns : tie.Need-returns-then-minus-eq1
 returns c =
-    let n = c.before.args.n in
-    runs (bounds n c.before.requires) minus tt ∙ ap (λ (z : ℤ). pos 0 -ℤ z) (count-is n c.before.requires tt) ∙ minus_is n ∙ sym (sign_minus _ n c.if1.true)
+    let n = c.args.n in
+    runs (bounds n c.requires) minus tt ∙ ap (λ (z : ℤ). pos 0 -ℤ z) (count-is n c.requires tt) ∙ minus_is n ∙ sym (sign_minus _ n c.if-minus-eq1.true)
 
-returns-2 : tie.Need-returns-2
-returns-2 c = let n = c.before.args.n in count-is n c.before.requires tt ∙ sym (sign_none _ n c.if1.false)
+returns-2 : tie.Need-returns
+returns-2 c = let n = c.args.n in count-is n c.requires tt ∙ sym (sign_none _ n c.if-minus-eq1.false)
 
-pub with-sign-spec : {M : Type 1} → statement M
-with-sign-spec = tie.close (tie.spec (λ c. search rules) (λ c. fits (bounds _ c.before.requires) minus tt) returns returns-2)
+pub with_sign_spec : {M : Type 1} → statement M
+with_sign_spec = tie.close (tie.spec (λ c. search rules) (λ c. fits (bounds _ c.requires) minus tt) returns returns-2)

@@ -50,44 +50,44 @@ module _ (o : Occultation) (τ : ℤ) (x : Second) where
       by : spelled x ≡ whole_second (of o (B.Star s)) τ
       by = rw (i.u, i.v, i.l1, i.l2, i.m, i.penumbra, i.central, i.magnitude, i.direction)
 
-second-at-requires : tie.Need-second-at-requires
+second-at-requires : tie.Need-second_at-requires
 second-at-requires c κs =
-    let b = c.before.before.before.before.before.before.before in
+    let b = c.before.before.before.before.before in
     let o = b.args.o in (
       b.requires.0,
-      subst BodySizes c.before.body.given.1 b.requires.1.body,
-      subst PlaceSizes (sym c.before.before.before.before.geocentric.ensures) (placed o b.requires.1),
+      subst BodySizes c.in-Sun.is b.requires.1.body,
+      subst PlaceSizes (sym c.geocentric-place.ensures) (placed o b.requires.1),
       read-size b.args.t 10800 b.requires.2 tt,
       (guard-read o b.requires.1).1,
     )
 
-star-second-requires : tie.Need-star-second-requires
+star-second-requires : tie.Need-star_second-requires
 star-second-requires c κs =
-    let b = c.before.before.before.before.before.before.before in
+    let b = c.before.before.before.before.before in
     let o = b.args.o in (
       b.requires.0,
-      subst BodySizes c.before.body2.given.1 b.requires.1.body,
-      subst PlaceSizes (sym c.before.before.before.before.geocentric.ensures) (placed o b.requires.1),
+      subst BodySizes c.in-Star.is b.requires.1.body,
+      subst PlaceSizes (sym c.geocentric-place.ensures) (placed o b.requires.1),
       read-size b.args.t 10800 b.requires.2 tt,
       (guard-read o b.requires.1).1,
     )
 
-returns : tie.Need-returns
+returns : tie.Need-returns-in-Sun
 returns c =
-    let b = c.before.before.before.before.before.before.before.before in
+    let b = c.before.before.before.before.before.before in
     let o = b.args.o in
-    eclipse-whole o b.args.t c.second_at.result _ c.before.before.body.given.1
-    (rw ((guard-read o b.requires.1).0, read_back b.args.t b.requires.2 tt, c.before.before.before.before.before.geocentric.ensures) at c.second_at.ensures)
+    eclipse-whole o b.args.t c.second_at.result _ c.in-Sun.is
+    (rw ((guard-read o b.requires.1).0, read_back b.args.t b.requires.2 tt, c.geocentric-place.ensures) at c.second_at.ensures)
 
-returns-2 : tie.Need-returns-2
+returns-2 : tie.Need-returns-in-Star
 returns-2 c =
-    let b = c.before.before.before.before.before.before.before.before in
+    let b = c.before.before.before.before.before.before in
     let o = b.args.o in
-    star-whole o b.args.t c.star-second.result _ c.before.before.body2.given.1
-    (rw ((guard-read o b.requires.1).0, read_back b.args.t b.requires.2 tt, c.before.before.before.before.before.geocentric.ensures) at c.star-second.ensures)
+    star-whole o b.args.t c.star_second.result _ c.in-Star.is
+    (rw ((guard-read o b.requires.1).0, read_back b.args.t b.requires.2 tt, c.geocentric-place.ensures) at c.star_second.ensures)
 
-pub second-within-spec : {M : Type 1} → statement M
-second-within-spec =
+pub second_within_spec : {M : Type 1} → statement M
+second_within_spec =
     tie.close
     (tie.spec (λ c κs. search rules) (λ c. search rules) second-at-requires (λ c. search rules)
     star-second-requires returns returns-2)

@@ -22,13 +22,13 @@ use Rattle.contact_times.proofs.hundredths.offset_at.Statement.{statement}
 use Rattle.contact_times.proofs.hundredths.offset_at.Tie as tie
 
 -- ---- places: where it starts, where the coordinates are had, and where x and y are
-abbrev start : tie.After-quadratic-at → tie.Start
+abbrev start : tie.After-quadratic_at → tie.Start
 start c = c.before.before.before.before.before.before.before
 
-abbrev begun : tie.After-coordinates-of → tie.Start
+abbrev begun : tie.After-coordinates_of-c → tie.Start
 begun c = start c.before.before.before
 
-abbrev seen : tie.After-cubic-at → tie.After-coordinates-of
+abbrev seen : tie.After-cubic_at → tie.After-coordinates_of-c
 seen c = c.before.before.before.before
 
 -- the second, whatever asks for it
@@ -36,34 +36,34 @@ second : (a : tie.Start) → nat_abs a.args.t ≤ 1080000
 second a = a.requires.3
 
 -- ---- H and d
-μ-is : (c : tie.After-quadratic-at) → Value (quadratic_by hundredths (start c).args.axis.mu (start c).args.t) 500000000 c.quadratic-at.result
-μ-is c = rw (read_back (start c).args.t (second (start c)) tt) at c.quadratic-at.ensures
+μ-is : (c : tie.After-quadratic_at) → Value (quadratic_by hundredths (start c).args.axis.mu (start c).args.t) 500000000 c.quadratic_at.result
+μ-is c = rw (read_back (start c).args.t (second (start c)) tt) at c.quadratic_at.ensures
 
-hour-angle : (c : tie.After-quadratic-at) → Within (whole c.quadratic-at.result ∷ whole (start c).args.place.longitude ∷ []) (500000000 ∷ 200000000 ∷ [])
+hour-angle : (c : tie.After-quadratic_at) → Within (whole c.quadratic_at.result ∷ whole (start c).args.place.longitude ∷ []) (500000000 ∷ 200000000 ∷ [])
 hour-angle c = (μ-is c).size ▹ (start c).requires.2.longitude ▹ ends
 
 abbrev sum : Code
 sum = add (arg 0) (arg 1)
 
-d-is : (c : tie.After-quadratic-at2) → Value (quadratic_by hundredths (start c.before).args.axis.d (start c.before).args.t) 500000000 c.quadratic-at2.result
-d-is c = rw (read_back (start c.before).args.t (second (start c.before)) tt) at c.quadratic-at2.ensures
+d-is : (c : tie.After-quadratic_at-d) → Value (quadratic_by hundredths (start c.before).args.axis.d (start c.before).args.t) 500000000 c.quadratic_at-d.result
+d-is c = rw (read_back (start c.before).args.t (second (start c.before)) tt) at c.quadratic_at-d.ensures
 
-module _ (c : tie.After-orientation-of) where
+module _ (c : tie.After-orientation_of-o) where
   abbrev first : tie.Start
   first = start c.before.before
 
   abbrev m₀ : Moment
   m₀ = moment_by hundredths first.args.axis first.args.place first.args.t
 
-  orientation : IsOrientation (H m₀) (d m₀) c.orientation-of.result
+  orientation : IsOrientation (H m₀) (d m₀) c.orientation_of-o.result
   unfolding H
   orientation =
       let h = runs (hour-angle c.before.before) sum tt ∙ ap (λ (z : ℤ). z +ℤ first.args.place.longitude) ((μ-is c.before.before).value ∙ sym (still_quadratic (quadratic_by hundredths first.args.axis.mu first.args.t))) in
-      let e = read_back c.before.quadratic-at2.result (d-is c.before).size tt ∙ (d-is c.before).value ∙ sym (still_quadratic (quadratic_by hundredths first.args.axis.d first.args.t)) in
-      rw (h, e) at c.orientation-of.ensures
+      let e = read_back c.quadratic_at-d.result (d-is c.before).size tt ∙ (d-is c.before).value ∙ sym (still_quadratic (quadratic_by hundredths first.args.axis.d first.args.t)) in
+      rw (h, e) at c.orientation_of-o.ensures
 
   -- a sine or a cosine is at most 1
-  orientation-sizes : OrientationSizes c.orientation-of.result
+  orientation-sizes : OrientationSizes c.orientation_of-o.result
   orientation-sizes =
       let e = d m₀ in
       record {
@@ -88,36 +88,36 @@ module _ (a : Axis) (p : Place) (τ : ℤ) {o : Orientation} {x : Coordinates} (
   unfolding ζ q
   zeta-of = k.zeta.value ∙ rw (t.hcosine, t.dsine, t.dcosine)
 
-module _ (c : tie.After-coordinates-of) where
+module _ (c : tie.After-coordinates_of-c) where
   abbrev m : Moment
   m = moment_by hundredths (begun c).args.axis (begun c).args.place (begun c).args.t
 
-  xi-is : c.coordinates-of.result.xi ≡ ξ m
-  xi-is = let a = (begun c).args in xi-of a.axis a.place a.t (orientation c.before) c.coordinates-of.ensures
+  xi-is : c.coordinates_of-c.result.xi ≡ ξ m
+  xi-is = let a = (begun c).args in xi-of a.axis a.place a.t (orientation c.before) c.coordinates_of-c.ensures
 
-  eta-is : c.coordinates-of.result.eta ≡ η m
-  eta-is = let a = (begun c).args in eta-of a.axis a.place a.t (orientation c.before) c.coordinates-of.ensures
+  eta-is : c.coordinates_of-c.result.eta ≡ η m
+  eta-is = let a = (begun c).args in eta-of a.axis a.place a.t (orientation c.before) c.coordinates_of-c.ensures
 
-  zeta-is : c.coordinates-of.result.zeta ≡ ζ m
-  zeta-is = let a = (begun c).args in zeta-of a.axis a.place a.t (orientation c.before) c.coordinates-of.ensures
+  zeta-is : c.coordinates_of-c.result.zeta ≡ ζ m
+  zeta-is = let a = (begun c).args in zeta-of a.axis a.place a.t (orientation c.before) c.coordinates_of-c.ensures
 
 -- ---- u, v, M
-x-is : (c : tie.After-cubic-at) → let a = (begun (seen c)).args in Value (cubic_by hundredths a.axis.x a.t) 501170000 c.cubic-at.result
-x-is c = let s = begun (seen c) in rw (read_back s.args.t (second s) tt) at c.cubic-at.ensures
+x-is : (c : tie.After-cubic_at) → let a = (begun (seen c)).args in Value (cubic_by hundredths a.axis.x a.t) 501170000 c.cubic_at.result
+x-is c = let s = begun (seen c) in rw (read_back s.args.t (second s) tt) at c.cubic_at.ensures
 
-y-is : (c : tie.After-cubic-at2) → let a = (begun (seen c.before)).args in Value (cubic_by hundredths a.axis.y a.t) 501170000 c.cubic-at2.result
-y-is c = let s = begun (seen c.before) in rw (read_back s.args.t (second s) tt) at c.cubic-at2.ensures
+y-is : (c : tie.After-cubic_at-2) → let a = (begun (seen c.before)).args in Value (cubic_by hundredths a.axis.y a.t) 501170000 c.cubic_at-2.result
+y-is c = let s = begun (seen c.before) in rw (read_back s.args.t (second s) tt) at c.cubic_at-2.ensures
 
 -- x and ξ; then with y and η, as v and M use them
-east : (c : tie.After-cubic-at) → Within (whole c.cubic-at.result ∷ whole (seen c).coordinates-of.result.xi ∷ []) (501170000 ∷ 101000000 ∷ [])
-east c = (x-is c).size ▹ (seen c).coordinates-of.ensures.xi.size ▹ ends
+east : (c : tie.After-cubic_at) → Within (whole c.cubic_at.result ∷ whole (seen c).coordinates_of-c.result.xi ∷ []) (501170000 ∷ 101000000 ∷ [])
+east c = (x-is c).size ▹ (seen c).coordinates_of-c.ensures.xi.size ▹ ends
 
-sides : (c : tie.After-cubic-at2)
-    → let x = (seen c.before).coordinates-of.result in
-    Within (whole c.before.cubic-at.result ∷ whole x.xi ∷ whole c.cubic-at2.result ∷ whole x.eta ∷ [])
+sides : (c : tie.After-cubic_at-2)
+    → let x = (seen c.before).coordinates_of-c.result in
+    Within (whole c.cubic_at.result ∷ whole x.xi ∷ whole c.cubic_at-2.result ∷ whole x.eta ∷ [])
     (501170000 ∷ 101000000 ∷ 501170000 ∷ 202000000 ∷ [])
 sides c =
-    let s = (seen c.before).coordinates-of.ensures in
+    let s = (seen c.before).coordinates_of-c.ensures in
     (x-is c.before).size ▹ s.xi.size ▹ (y-is c).size ▹ s.eta.size ▹ ends
 
 abbrev U : Code
@@ -130,30 +130,30 @@ abbrev squares : Code
 squares = add (mul U U) (mul N N)
 
 -- ---- the needs
-quadratic-at-requires : tie.Need-quadratic-at-requires
+quadratic-at-requires : tie.Need-quadratic_at-requires
 quadratic-at-requires c κs =
     let s = c.before.before.before.before.before.before in
     (wider s.requires.1.mu (lit≤ tt) (lit≤ tt) (lit≤ tt), read-size s.args.t 1080000 (second s) tt)
 
-quadratic-at-requires-2 : tie.Need-quadratic-at-requires-2
-quadratic-at-requires-2 c κs = let s = start c in (wider s.pre.1.d (lit≤ tt) (lit≤ tt) (lit≤ tt), read-size s.args.t 1080000 (second s) tt)
+quadratic-at-requires-2 : tie.Need-quadratic_at-d-requires
+quadratic-at-requires-2 c κs = let s = start c in (wider s.requires.1.d (lit≤ tt) (lit≤ tt) (lit≤ tt), read-size s.args.t 1080000 (second s) tt)
 
-orientation-of-requires : tie.Need-orientation-of-requires
+orientation-of-requires : tie.Need-orientation_of-o-requires
 orientation-of-requires c κs =
-    ((start c.before).requires.0, within (hour-angle c.before) sum 10000000000 tt, read-size c.quadratic-at2.result 10000000000 (d-is c).size tt)
+    ((start c.before).requires.0, within (hour-angle c.before) sum 10000000000 tt, read-size c.quadratic_at-d.result 10000000000 (d-is c).size tt)
 
-cubic-at-requires : tie.Need-cubic-at-requires
-cubic-at-requires c κs = let s = begun c.before.before.before in (s.pre.1.x, read-size s.args.t 1080000 (second s) tt)
+cubic-at-requires : tie.Need-cubic_at-requires
+cubic-at-requires c κs = let s = begun c.before.before.before in (s.requires.1.x, read-size s.args.t 1080000 (second s) tt)
 
-cubic-at-requires-2 : tie.Need-cubic-at-requires-2
-cubic-at-requires-2 c κs = let s = begun (seen c) in (s.pre.1.y, read-size s.args.t 1080000 (second s) tt)
+cubic-at-requires-2 : tie.Need-cubic_at-requires-2
+cubic-at-requires-2 c κs = let s = begun (seen c) in (s.requires.1.y, read-size s.args.t 1080000 (second s) tt)
 
 returns : tie.Need-returns
 unfolding u v
 returns c =
     let s = seen c.before in
     let w = sides c in
-    let k = s.coordinates-of in
+    let k = s.coordinates_of-c in
     let eastward = ap₂ ◌-ℤ◌ ((x-is c.before).value ∙ sym (still_cubic (cubic_by hundredths (begun s).args.axis.x (begun s).args.t))) (xi-is s) in
     let northward = ap₂ ◌-ℤ◌ ((y-is c).value ∙ sym (still_cubic (cubic_by hundredths (begun s).args.axis.y (begun s).args.t))) (eta-is s) in
     record {
@@ -166,8 +166,8 @@ returns c =
       m = record { value = runs w squares tt ∙ ap₂ (λ (a b : ℤ). a *ℤ a +ℤ b *ℤ b) eastward northward; size = within w squares 1000000000000000000 tt };
     }
 
-pub offset-at-spec : {M : Type 1} → statement M
-offset-at-spec =
+pub offset_at_spec : {M : Type 1} → statement M
+offset_at_spec =
     tie.close
     (tie.spec quadratic-at-requires (λ c. fits (hour-angle c) sum tt) quadratic-at-requires-2
     orientation-of-requires (λ c κs. ((first c).requires.2, orientation-sizes c)) cubic-at-requires

@@ -21,15 +21,15 @@ abbrev product : Code
 product = mul (arg 0) (arg 1)
 
 -- what `near` gave
-given : (c : tie.After-near) → c.near.result ≡ near (c.before.args.p *ℤ c.before.args.t) (pos hundredths)
+given : (c : tie.After-near) → c.near.result ≡ near (c.args.p *ℤ c.args.t) (pos hundredths)
 given c = c.near.ensures ∙ ap (λ (z : ℤ). near z (pos hundredths)) (runs (bounds c.before) product tt)
 
-after : (c : tie.After-near) → Within (whole c.near.result ∷ whole c.before.args.a ∷ []) (600000000 ∷ 400000000 ∷ [])
+after : (c : tie.After-near) → Within (whole c.near.result ∷ whole c.args.a ∷ []) (600000000 ∷ 400000000 ∷ [])
 after c =
-    let a = c.before.args in
+    let a = c.args in
     let h : nat_abs c.near.result ≤ 600000000 = omega
-    (arith, ap nat_abs (given c), part-size hundredths (lit≤ tt) a.t a.p 200000000 c.before.requires.2 c.before.requires.0) in
-    h ▹ c.before.requires.1 ▹ ends
+    (arith, ap nat_abs (given c), part-size hundredths (lit≤ tt) a.t a.p 200000000 c.requires.2 c.requires.0) in
+    h ▹ c.requires.1 ▹ ends
 
 near-requires : tie.Need-near-requires
 near-requires c κs = (within (bounds c) product 4000000000000000000 tt, lit≤ tt, le_z_yes tt)
@@ -37,14 +37,14 @@ near-requires c κs = (within (bounds c) product 4000000000000000000 tt, lit≤ 
 returns : tie.Need-returns
 unfolding stepBy
 returns c =
-    let a = c.before.args in
+    let a = c.args in
     let e = runs (after c) (add (arg 0) (arg 1)) tt ∙ ap (λ (z : ℤ). z +ℤ a.a) (given c) in
     record {
       value = e;
       size = omega (
         arith,
         ap nat_abs e,
-        step-size hundredths (lit≤ tt) a.t a.p a.a (nat_abs a.p) (nat_abs a.a) c.before.requires.2 (le_refl (nat_abs a.p))
+        step-size hundredths (lit≤ tt) a.t a.p a.a (nat_abs a.p) (nat_abs a.a) c.requires.2 (le_refl (nat_abs a.p))
             (le_refl (nat_abs a.a)),
       );
     }

@@ -53,22 +53,22 @@ module _ (x y : ℤ) (h : x <ℤ y) where
 hundred-< : (x y : ℤ) → x <ℤ y → (x *ℤ pos 100) <ℤ (y *ℤ pos 100)
 hundred-< x y h = certify-< 0 (x ∷ y ∷ []) (v0 ⊗ num 100) (v1 ⊗ num 100) (litC 100 ⊠ less v0 v1 h ⊞ litC 99) tt
 
-state-at-requires : tie.Need-state-at-requires
+state-at-requires : tie.Need-state_at-start-requires
 state-at-requires c κs = let s = c.before in (s.requires.0, s.requires.1, within (bounds s) first 1080000 tt)
 
-state-at-requires-2 : tie.Need-state-at-requires-2
+state-at-requires-2 : tie.Need-state_at-end-requires
 state-at-requires-2 c κs = let s = c.before.before in (s.requires.0, s.requires.1, within (bounds s) last 1080000 tt)
 
 -- the two states
-start_is : (c : tie.After-state-at) → let a = c.before.before.args in c.state-at.result ≡ code (state_at a.c (a.from *ℤ pos 100))
-start_is c = let s = c.before.before in c.state-at.ensures ∙ ap (λ (z : ℤ). code (state_at s.args.c z)) (first-is s)
+start_is : (c : tie.After-state_at-start) → let a = c.args in c.state_at-start.result ≡ code (state_at a.c (a.from *ℤ pos 100))
+start_is c = let s = c.before.before in c.state_at-start.ensures ∙ ap (λ (z : ℤ). code (state_at s.args.c z)) (first-is s)
 
-end_is : (c : tie.After-state-at2) → let a = c.before.before.before.args in c.state-at2.result ≡ code (state_at a.c (a.to *ℤ pos 100))
-end_is c = let s = c.before.before.before in c.state-at2.ensures ∙ ap (λ (z : ℤ). code (state_at s.args.c z)) (last-is s)
+end_is : (c : tie.After-state_at-end) → let a = c.args in c.state_at-end.result ≡ code (state_at a.c (a.to *ℤ pos 100))
+end_is c = let s = c.before.before.before in c.state_at-end.ensures ∙ ap (λ (z : ℤ). code (state_at s.args.c z)) (last-is s)
 
-add-if1 : tie.Need-overflow-add-if1
+add-if1 : tie.Need-overflow_add-start
 add-if1 c =
-    let a = c.before.before.before.args in
+    let a = c.args in
     record {
       fits = omega (
         arith,
@@ -79,17 +79,17 @@ add-if1 c =
       );
     }
 
-sub-n : tie.Need-overflow-sub-n
+sub-n : tie.Need-overflow_sub-n
 sub-n c = fits (bounds c.before.before.before.before) difference tt
 
 -- in hundredths, where the test has passed
-later : (c : tie.Then1) → let a = c.before.before.before.before.args in (a.from *ℤ pos 100) <ℤ (a.to *ℤ pos 100)
+later : (c : tie.Then-start-end-eq1) → let a = c.args in (a.from *ℤ pos 100) <ℤ (a.to *ℤ pos 100)
 later c =
     let s = c.before.before.before.before in
     hundred-< s.args.from s.args.to
     (contact-order s.args.c s.args.from s.args.to (omega (arith, start_is c.before.before, end_is c.before)) s.requires.4)
 
-cast-n : tie.Need-overflow-cast-n
+cast-n : tie.Need-overflow_cast-n
 cast-n c =
     let s = c.before.before.before.before in
     unsigned (bounds s) difference tt (minus_nonneg (<ℤ-≤ (later c)))
@@ -122,7 +122,7 @@ module _ (c : Crossing) (from to : ℤ) where
 same : (c : Crossing) {x a : ℤ} {j k : ℕ} {y b : ℤ} → x ≡ a → j ≡ k → y ≡ b → narrowed c x j (nat_abs y) ≡ narrowed c a k (nat_abs b)
 same c e f g = rw (e, f, g) refl
 
-returns : tie.Need-returns
+returns : tie.Need-returns-then-start-end-eq1
 returns c =
     let s = c.before.before.before.before.before in
     let a = s.args in
@@ -131,12 +131,12 @@ returns c =
     ∙ same a.c (first-is s) (start_is e.before) (difference-is s)
     ∙ contact a.c a.from a.to (omega (arith, start_is e.before, end_is e))
 
-returns-2 : tie.Need-returns-2
+returns-2 : tie.Need-returns
 returns-2 c =
-    let a = c.before.before.before.before.args in
+    let a = c.args in
     let e = c.before in
     none a.c a.from a.to (λ w. absurd (omega (arith, start_is e.before, end_is e)))
 
-pub contact-bracket-spec : {M : Type 1} → statement M
-contact-bracket-spec =
+pub contact_bracket_spec : {M : Type 1} → statement M
+contact_bracket_spec =
     tie.close (tie.spec (λ c. fits (bounds c.before) first tt) (λ c. fits (bounds c.before) last tt) state-at-requires state-at-requires-2 add-if1 sub-n cast-n narrow-requires returns returns-2)

@@ -34,58 +34,58 @@ between first k to h a b =
 abbrev test : Crossing → (first : ℤ) (start bound : ℕ) → ℕ → Bool
 test c first start bound k = ltb (side_at c first start k) bound
 
-abbrev invariant-loop : tie.invariant-loop
+abbrev invariant-loop : tie.invariant-loop-low
 invariant-loop table c first start bound from to low₀ high₀ low high = Left (test c (to_z w64 first) start bound) from to low high
 
-abbrev decreases-loop : tie.decreases-loop
+abbrev decreases-loop : tie.decreases-loop-low
 decreases-loop table c first start bound from to low₀ high₀ low high = high - low
 
-loop-holds : tie.Need-loop-init invariant-loop decreases-loop
-loop-holds c = record { apart = c.before.requires.5; high_le = omega arith; same = refl }
+loop-holds : tie.Need-loop-low-init invariant-loop decreases-loop
+loop-holds c = record { apart = c.requires.5; high_le = omega arith; same = refl }
 
-add-loop : tie.Need-overflow-add-loop invariant-loop decreases-loop
-add-loop c = record { fits = omega (arith, c.loop.invariant.apart, c.loop.invariant.high_le, c.before.before.requires.3) }
+add-loop : tie.Need-overflow_add-low invariant-loop decreases-loop
+add-loop c = record { fits = omega (arith, c.loop-low.invariant.apart, c.loop-low.invariant.high_le, c.requires.3) }
 
-add-k : tie.Need-overflow-add-k invariant-loop decreases-loop
-add-k c = record { fits = omega (arith, c.before.loop.invariant.apart, c.before.loop.invariant.high_le, c.before.before.before.requires.3) }
+add-k : tie.Need-overflow_add-k invariant-loop decreases-loop
+add-k c = record { fits = omega (arith, c.loop-low.invariant.apart, c.loop-low.invariant.high_le, c.requires.3) }
 
-side-at-requires : tie.Need-side-at-requires invariant-loop decreases-loop
+side-at-requires : tie.Need-side_at-s-requires invariant-loop decreases-loop
 side-at-requires c κs =
     let s = c.before.before.before in
-    let b = c.before.loop.invariant in
-    let k = (c.before.loop.low + c.before.loop.high) / 2 in
+    let b = c.loop-low.invariant in
+    let k = (c.loop-low.low + c.loop-low.high) / 2 in
     let h : k ≤ s.args.to = omega (arith, b.apart, b.high_le) in
     let r = read_back s.args.first s.requires.2 tt in
     (s.requires.0, s.requires.1, rw r s.requires.2, omega (arith, h, s.requires.3), rw r (between s.args.first k s.args.to h s.requires.2 s.requires.4))
 
-loop-less : tie.Need-loop-smaller invariant-loop decreases-loop
-loop-less c = let b = c.before.before.before.loop.invariant in omega (arith, b.apart)
+loop-less : tie.Need-loop-low-smaller-then-s-bound invariant-loop decreases-loop
+loop-less c = let b = c.loop-low.invariant in omega (arith, b.apart)
 
-loop-again : tie.Need-loop-preserved invariant-loop decreases-loop
+loop-again : tie.Need-loop-low-preserved-then-s-bound invariant-loop decreases-loop
 loop-again c =
-    let l = c.before.before.before.loop in
+    let l = c.loop-low in
     let b = l.invariant in
-    let a = c.before.before.before.before.before.args in
+    let a = c.args in
     let f = test a.c (to_z w64 (of_z w64 a.first)) a.start a.bound in
     let k = (l.low + l.high) / 2 in
-    let e : f k ≡ true = lt-ltb (side_at a.c (to_z w64 (of_z w64 a.first)) a.start k) a.bound (omega (arith, c.before.side-at.ensures)) in
+    let e : f k ≡ true = lt-ltb (side_at a.c (to_z w64 (of_z w64 a.first)) a.start k) a.bound (omega (arith, c.side_at-s.ensures)) in
     record {
       apart = omega (arith, b.apart);
       high_le = b.high_le;
       same = sym (halved-up f l.low l.high (omega arith) e) ∙ b.same;
     }
 
-loop-less-2 : tie.Need-loop-smaller-2 invariant-loop decreases-loop
-loop-less-2 c = let b = c.before.before.before.loop.invariant in omega (arith, b.apart)
+loop-less-2 : tie.Need-loop-low-smaller invariant-loop decreases-loop
+loop-less-2 c = let b = c.loop-low.invariant in omega (arith, b.apart)
 
-loop-again-2 : tie.Need-loop-preserved-2 invariant-loop decreases-loop
+loop-again-2 : tie.Need-loop-low-preserved invariant-loop decreases-loop
 loop-again-2 c =
-    let l = c.before.before.before.loop in
+    let l = c.loop-low in
     let b = l.invariant in
-    let a = c.before.before.before.before.before.args in
+    let a = c.args in
     let f = test a.c (to_z w64 (of_z w64 a.first)) a.start a.bound in
     let k = (l.low + l.high) / 2 in
-    let e : f k ≡ false = le-ltb (side_at a.c (to_z w64 (of_z w64 a.first)) a.start k) a.bound (omega (arith, c.before.side-at.ensures)) in
+    let e : f k ≡ false = le-ltb (side_at a.c (to_z w64 (of_z w64 a.first)) a.start k) a.bound (omega (arith, c.side_at-s.ensures)) in
     record {
       apart = omega (arith, b.apart);
       high_le = omega (arith, b.apart, b.high_le);
@@ -95,7 +95,7 @@ loop-again-2 c =
 returns : tie.Need-returns invariant-loop decreases-loop
 unfolding last_below
 returns c =
-    let l = c.before.loop in
+    let l = c.loop-low in
     let b = l.invariant in
     let s = c.before.before.before in
     let a = s.args in
@@ -105,8 +105,8 @@ returns c =
       omega (arith, b.apart, b.high_le),
     )
 
-pub last-below-spec : {M : Type 1} → statement M
-last-below-spec =
+pub last_below_spec : {M : Type 1} → statement M
+last_below_spec =
     tie.close
     (tie.spec invariant-loop decreases-loop loop-holds add-loop add-k side-at-requires loop-less loop-again loop-less-2
     loop-again-2 returns)

@@ -21,14 +21,14 @@ t-is : (s : tie.Start)
     → run (whole s.args.first ∷ raw s.args.k ∷ []) sum ≡ s.args.first +ℤ pos s.args.k
 t-is s = runs (bounds s) sum tt ∙ ap (λ (z : ℤ). s.args.first +ℤ z) (count-is s.args.k {m = 2160000} s.requires.3 tt)
 
-state-at-requires : tie.Need-state-at-requires
+state-at-requires : tie.Need-state_at-s-requires
 state-at-requires c κs = let s = c.before in (s.requires.0, s.requires.1, rw (t-is s) s.requires.4)
 
 returns : tie.Need-returns
 unfolding side_at
 returns c =
     let s = c.before.before.before in
-    c.side-of.ensures ∙ ap (λ (k : ℕ). side_of s.args.start k) (c.before.state-at.ensures ∙ ap (λ (z : ℤ). code (state_at s.args.c z)) (t-is s))
+    c.side_of.ensures ∙ ap (λ (k : ℕ). side_of s.args.start k) (c.state_at-s.ensures ∙ ap (λ (z : ℤ). code (state_at s.args.c z)) (t-is s))
 
-pub side-at-spec : {M : Type 1} → statement M
-side-at-spec = tie.close (tie.spec (λ c. search rules) (λ c. fits (bounds c.before) sum tt) state-at-requires (λ c κs. search rules) returns)
+pub side_at_spec : {M : Type 1} → statement M
+side_at_spec = tie.close (tie.spec (λ c. search rules) (λ c. fits (bounds c.before) sum tt) state-at-requires (λ c κs. search rules) returns)

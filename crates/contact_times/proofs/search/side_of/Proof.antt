@@ -19,14 +19,14 @@ module _ (start s : ℕ) where
   unfolding side_of
   other n e = rw (ne_eqb s start n, ne_eqb s 2 e) refl
 
-returns : tie.Need-returns
-returns c = same c.before.args.start c.before.args.s c.if1.true
+returns : tie.Need-returns-then-s-start
+returns c = same c.args.start c.args.s c.if-s-start.true
 
-returns-2 : tie.Need-returns-2
-returns-2 c = let a = c.before.before.args in open-state a.start a.s c.before.if1.false c.if2.true
+returns-2 : tie.Need-returns-then-s-eq2
+returns-2 c = let a = c.args in open-state a.start a.s c.if-s-start.false c.if-s-eq2.true
 
-returns-3 : tie.Need-returns-3
-returns-3 c = let a = c.before.before.args in other a.start a.s c.before.if1.false c.if2.false
+returns-3 : tie.Need-returns-else-s-eq2
+returns-3 c = let a = c.args in other a.start a.s c.if-s-start.false c.if-s-eq2.false
 
-pub side-of-spec : {M : Type 1} → statement M
-side-of-spec = tie.close (tie.spec returns returns-2 returns-3)
+pub side_of_spec : {M : Type 1} → statement M
+side_of_spec = tie.close (tie.spec returns returns-2 returns-3)

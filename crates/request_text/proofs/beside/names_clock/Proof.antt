@@ -4,7 +4,7 @@ use Rattle.request_text.proofs.beside.names_clock.Statement.{statement}
 use Rattle.request_text.proofs.beside.names_clock.Tie as tie
 
 returns : tie.Need-returns
-returns c = rw (c.names-offset.ensures, c.before.names-instant.ensures)
+returns c = rw (c.names_offset.ensures, c.names_instant-instant.ensures)
 
-pub names-clock-spec : {M : Type 1} → statement M
-names-clock-spec = tie.close (tie.spec (λ c κs. search rules) (λ c κs. search rules) returns)
+pub names_clock_spec : {M : Type 1} → statement M
+names_clock_spec = tie.close (tie.spec (λ c κs. search rules) (λ c κs. search rules) returns)

@@ -7,8 +7,8 @@ use Rattle.request_text.proofs.beside.names_instant.Statement.{statement}
 use Rattle.request_text.proofs.beside.names_instant.Tie as tie
 
 returns : tie.Need-returns
-returns c = c.is-named.ensures ∙ ap (named (letters "instant")) c.before.before.said.ensures
+returns c = c.is_named.ensures ∙ ap (named (letters "instant")) c.said.ensures
 
-pub names-instant-spec : {M : Type 1} → statement M
-names-instant-spec =
+pub names_instant_spec : {M : Type 1} → statement M
+names_instant_spec =
     tie.close (tie.spec (λ c κs. search rules) (λ c. search rules) (λ c κs. search rules) returns)

@@ -7,8 +7,8 @@ use Rattle.request_text.proofs.beside.names_offset.Statement.{statement}
 use Rattle.request_text.proofs.beside.names_offset.Tie as tie
 
 returns : tie.Need-returns
-returns c = c.is-named.ensures ∙ ap (named (letters "tai-utc")) c.before.before.said.ensures
+returns c = c.is_named.ensures ∙ ap (named (letters "tai-utc")) c.said.ensures
 
-pub names-offset-spec : {M : Type 1} → statement M
-names-offset-spec =
+pub names_offset_spec : {M : Type 1} → statement M
+names_offset_spec =
     tie.close (tie.spec (λ c κs. search rules) (λ c. search rules) (λ c κs. search rules) returns)

@@ -6,11 +6,11 @@ use borrow.Author.Rules.{rules}
 use Rattle.request_text.proofs.beside.number_in.Statement.{statement}
 use Rattle.request_text.proofs.beside.number_in.Tie as tie
 
-returns : tie.Need-returns
-returns c = number-none _ _ (sym c.before.names-clock.ensures ∙ c.if1.true)
+returns : tie.Need-returns-then-names_clock
+returns c = number-none _ _ (sym c.names_clock.ensures ∙ c.if-names_clock.true)
 
-returns-2 : tie.Need-returns-2
-returns-2 c = c.meaning.ensures ∙ number-said _ _ (sym c.before.before.names-clock.ensures ∙ c.before.if1.false)
+returns-2 : tie.Need-returns
+returns-2 c = c.meaning.ensures ∙ number-said _ _ (sym c.names_clock.ensures ∙ c.if-names_clock.false)
 
-pub number-in-spec : {M : Type 1} → statement M
-number-in-spec = tie.close (tie.spec (λ c κs. search rules) returns (λ c κs. search rules) returns-2)
+pub number_in_spec : {M : Type 1} → statement M
+number_in_spec = tie.close (tie.spec (λ c κs. search rules) returns (λ c κs. search rules) returns-2)

@@ -4,36 +4,36 @@ use borrow.Author.Rules.{rules}
 use Rattle.request_text.proofs.faults.put_fault.Statement.{statement}
 use Rattle.request_text.proofs.faults.put_fault.Tie as tie
 
-returns : tie.Need-returns
-returns c = put-told _ _ _ _ _ _ _ _ c.before.before.before.before.enum_told.given.1 (put-unknown _ _ _ _ _ _ c.before.before.put-unknown.ensures)
+returns : tie.Need-returns-in-Unknown
+returns c = put-told _ _ _ _ _ _ _ _ c.in-Unknown.is (put-unknown _ _ _ _ _ _ c.put_unknown.ensures)
 
-returns-2 : tie.Need-returns-2
+returns-2 : tie.Need-returns-in-NotNumber
 returns-2 c =
-    put-told _ _ _ _ _ _ _ _ c.before.before.before.before.before.before.fault.given.1
-    (put-not-number _ _ _ _ _ _ _ c.before.before.Put-of.ensures)
+    put-told _ _ _ _ _ _ _ _ c.in-NotNumber.is
+    (put-not-number _ _ _ _ _ _ _ c.Put-of.ensures)
 
-returns-3 : tie.Need-returns-3
+returns-3 : tie.Need-returns-in-NotWhole
 returns-3 c =
-    put-told _ _ _ _ _ _ _ _ c.before.before.before.before.before.before.fault2.given.1
-    (put-not-whole _ _ _ _ _ _ _ c.before.before.put-of2.ensures)
+    put-told _ _ _ _ _ _ _ _ c.in-NotWhole.is
+    (put-not-whole _ _ _ _ _ _ _ c.put_of-in-NotWhole.ensures)
 
-returns-4 : tie.Need-returns-4
+returns-4 : tie.Need-returns-in-Unfit
 returns-4 c =
-    put-told _ _ _ _ _ _ _ _ c.before.before.before.before.before.before.fault3.given.1
-    (put-unfit _ _ _ _ _ _ _ c.before.before.put-of3.ensures)
+    put-told _ _ _ _ _ _ _ _ c.in-Unfit.is
+    (put-unfit _ _ _ _ _ _ _ c.put_of-in-Unfit.ensures)
 
-returns-5 : tie.Need-returns-5
+returns-5 : tie.Need-returns-in-Twice
 returns-5 c =
-    put-told _ _ _ _ _ _ _ _ c.before.before.before.before.before.before.fault4.given.1
-    (put-twice _ _ _ _ _ _ _ c.before.before.put-of4.ensures)
+    put-told _ _ _ _ _ _ _ _ c.in-Twice.is
+    (put-twice _ _ _ _ _ _ _ c.put_of-in-Twice.ensures)
 
-returns-6 : tie.Need-returns-6
+returns-6 : tie.Need-returns-in-Missing
 returns-6 c =
-    put-told _ _ _ _ _ _ _ _ c.before.before.before.before.before.before.fault5.given.1
-    (put-missing _ _ _ _ _ _ _ c.before.before.put-of5.ensures)
+    put-told _ _ _ _ _ _ _ _ c.in-Missing.is
+    (put-missing _ _ _ _ _ _ _ c.put_of-in-Missing.ensures)
 
-pub put-fault-spec : {M : Type 1} → statement M
-put-fault-spec =
+pub put_fault_spec : {M : Type 1} → statement M
+put_fault_spec =
     tie.close
     (tie.spec (λ c. search rules) (λ c κs. search rules) (λ c. search rules) (λ c. search rules)
     (λ c κs. search rules) (λ c. search rules) (λ c. search rules) (λ c κs. search rules) (λ c. search rules)

@@ -8,7 +8,7 @@ use Rattle.request_text.proofs.faults.put_message.Statement.{statement}
 use Rattle.request_text.proofs.faults.put_message.Tie as tie
 
 -- the buffer's length is a number of the machine
-short : (c : tie.After-put-text) → length c.before.before.before.before.before.args.out.now < 18446744073709551616
+short : (c : tie.After-put_text-number) → length c.args.out.now < 18446744073709551616
 short c = omega arith
 
 returns : tie.Need-returns
@@ -17,11 +17,11 @@ returns c =
     let colon = fault.before.before.before.before.before in
     let number = colon.before.before.before.before.before in
     let start = number.before.before.before.before in
-    put_parts _ _ _ _ _ _ _ _ _ _ _ _ _ _ _ _ _ (short start) fault.before.Line-of.ensures start.put-text.ensures number.put-number.ensures colon.put-text2.ensures
-    fault.put-fault.ensures c.before.before.put_byte.ensures
+    put_parts _ _ _ _ _ _ _ _ _ _ _ _ _ _ _ _ _ (short start.before) fault.Line-of.ensures start.put_text-number.ensures number.put_number-colon.ensures colon.put_text-wrong.ensures
+    fault.put_fault-end.ensures c.put_byte.ensures
 
-pub put-message-spec : {M : Type 1} → statement M
-put-message-spec =
+pub put_message_spec : {M : Type 1} → statement M
+put_message_spec =
     tie.close
     (tie.spec (λ c. search rules) (λ c κs. search rules) (λ c κs. search rules) (λ c. search rules)
     (λ c κs. search rules) (λ c κs. search rules) (λ c κs. search rules) (λ c κs. search rules)

@@ -12,22 +12,22 @@ use borrow.Author.Rules.{rules}
 use Rattle.request_text.proofs.faults.put_name.Statement.{statement}
 use Rattle.request_text.proofs.faults.put_name.Tie as tie
 
-room : (c : tie.After-field-at) → c.field_at.result.1 ≤ length c.field_at.result.0
-room c = subst (λ (f : Field). f.1 ≤ length f.0) (sym c.field_at.ensures) (name-room _ _)
+room : (c : tie.After-field_at-row) → c.field_at-row.result.1 ≤ length c.field_at-row.result.0
+room c = subst (λ (f : Field). f.1 ≤ length f.0) (sym c.field_at-row.ensures) (name-room _ _)
 
-returns : tie.Need-returns
-returns c = put_as _ _ _ _ _ _ _ refl (sym (name_none _ _ (omega (arith, c.if1.true, c.before.count_of.ensures)))) (put_nil _ _ (omega arith))
+returns : tie.Need-returns-then-count-field
+returns c = put_as _ _ _ _ _ _ _ refl (sym (name_none _ _ (omega (arith, c.if-count-field.true, c.count_of-count.ensures)))) (put_nil _ _ (omega arith))
 
-slice-aggregate-put-text : tie.Need-slice-aggregate-put-text
+slice-aggregate-put-text : tie.Need-slice_bounds-put_text-end
 slice-aggregate-put-text c = sym (length-take-le _ _ (room c.before.before.before))
 
-returns-2 : tie.Need-returns-2
+returns-2 : tie.Need-returns
 returns-2 c =
-    put_as _ _ _ _ _ _ _ refl (name-is _ _ _ c.before.before.before.before.before.before.field_at.ensures)
-    c.before.before.put-text.ensures
+    put_as _ _ _ _ _ _ _ refl (name-is _ _ _ c.field_at-row.ensures)
+    c.put_text.ensures
 
-pub put-name-spec : {M : Type 1} → statement M
-put-name-spec =
+pub put_name_spec : {M : Type 1} → statement M
+put_name_spec =
     tie.close
     (tie.spec (λ c κs. search rules) returns (λ c κs. search rules) (λ c. room c.before.before)
     slice-aggregate-put-text (λ c κs. search rules) (λ c. search rules) returns-2)

@@ -6,9 +6,9 @@ use Rattle.request_text.proofs.faults.put_of.Statement.{statement}
 use Rattle.request_text.proofs.faults.put_of.Tie as tie
 
 returns : tie.Need-returns
-returns c = put_then _ _ _ _ _ _ _ _ (omega arith) c.before.before.before.before.before.before.put-name.ensures c.before.before.put-text.ensures
+returns c = put_then _ _ _ _ _ _ _ _ (omega arith) c.put_name-next.ensures c.put_text.ensures
 
-pub put-of-spec : {M : Type 1} → statement M
-put-of-spec =
+pub put_of_spec : {M : Type 1} → statement M
+put_of_spec =
     tie.close
     (tie.spec (λ c κs. search rules) (λ c κs. search rules) (λ c. search rules) returns)

@@ -5,10 +5,10 @@ use Rattle.request_text.proofs.instants.after_word.Statement.{statement}
 use Rattle.request_text.proofs.instants.after_word.Tie as tie
 
 returns : tie.Need-returns
-returns c = after_is _ _ _ c.before.before.before.run.ensures.0 c.before.run2.ensures.0
+returns c = after_is _ _ _ c.run-gap.ensures.0 c.run-length.ensures.0
 
-pub after-word-spec : {M : Type 1} → statement M
-after-word-spec =
+pub after_word_spec : {M : Type 1} → statement M
+after_word_spec =
     tie.close
     (tie.spec (λ c κs. search rules) (λ c. search rules) (λ c. search rules) (λ c. search rules)
     (λ c κs. search rules) (λ c. search rules) (λ c. search rules) (λ c. search rules) returns)

@@ -9,8 +9,8 @@ returns : tie.Need-returns
 unfolding hundredths_of
 returns c = omega arith
 
-pub hundredths-of-spec : {M : Type 1} → statement M
-hundredths-of-spec =
+pub hundredths_of_spec : {M : Type 1} → statement M
+hundredths_of_spec =
     tie.close
     (tie.spec (λ c κs. search rules) (λ c κs. search rules) (λ c κs. search rules) (λ c κs. search rules)
     (λ c. search rules) (λ c. search rules) (λ c. search rules) (λ c. search rules) (λ c. search rules)

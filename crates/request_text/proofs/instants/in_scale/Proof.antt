@@ -6,22 +6,22 @@ use borrow.Author.Rules.{rules}
 use Rattle.request_text.proofs.instants.in_scale.Statement.{statement}
 use Rattle.request_text.proofs.instants.in_scale.Tie as tie
 
-returns : tie.Need-returns
-returns c = ap R.Is c.instant-at.ensures ∙ scale-et _ _ _ (sym c.before.before.has-form.ensures ∙ c.before.if1.true)
+returns : tie.Need-returns-then-has_form
+returns c = ap R.Is c.instant_at.ensures ∙ scale-et _ _ _ (sym c.has_form.ensures ∙ c.if-has_form.true)
 
-returns-2 : tie.Need-returns-2
+returns-2 : tie.Need-returns-then-has_form-2
 returns-2 c =
     let first = c.before.before.before.before in
-    ap R.Is c.instant-at2.ensures
-    ∙ scale-ut _ _ _ (sym first.before.has-form.ensures ∙ first.if1.false) (sym c.before.before.has-form2.ensures ∙ c.before.if2.true)
+    ap R.Is c.instant_at-then-has_form-2.ensures
+    ∙ scale-ut _ _ _ (sym first.has_form.ensures ∙ first.if-has_form.false) (sym c.has_form-2.ensures ∙ c.if-has_form-2.true)
 
-returns-3 : tie.Need-returns-3
+returns-3 : tie.Need-returns
 returns-3 c =
     let first = c.before.before.before in
-    scale-none _ _ _ (sym first.before.has-form.ensures ∙ first.if1.false) (sym c.before.has-form2.ensures ∙ c.if2.false)
+    scale-none _ _ _ (sym first.has_form.ensures ∙ first.if-has_form.false) (sym c.has_form-2.ensures ∙ c.if-has_form-2.false)
 
-pub in-scale-spec : {M : Type 1} → statement M
-in-scale-spec =
+pub in_scale_spec : {M : Type 1} → statement M
+in_scale_spec =
     tie.close
     (tie.spec (λ c. search rules) (λ c κs. search rules) (λ c κs. search rules) returns (λ c. search rules)
     (λ c κs. search rules) (λ c κs. search rules) returns-2 returns-3)

@@ -6,10 +6,10 @@ use Rattle.request_text.proofs.instants.instant_at.Tie as tie
 
 returns : tie.Need-returns
 unfolding instant_at
-returns c = rw (← c.hundredths-of.ensures, ← c.before.two-at2.ensures.0, ← c.before.before.two_at.ensures.0, ← c.before.before.before.year-of.ensures)
+returns c = rw (← c.hundredths_of-hundredths.ensures, ← c.two_at-day.ensures.0, ← c.two_at-month.ensures.0, ← c.year_of-year.ensures)
 
-pub instant-at-spec : {M : Type 1} → statement M
-instant-at-spec =
+pub instant_at_spec : {M : Type 1} → statement M
+instant_at_spec =
     tie.close
     (tie.spec (λ c κs. search rules) (λ c κs. search rules) (λ c κs. search rules) (λ c κs. search rules)
     returns)

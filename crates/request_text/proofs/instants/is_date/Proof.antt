@@ -8,10 +8,10 @@ returns : tie.Need-returns
 unfolding is_date
 returns c =
     let year = c.before.before.before in
-    rw (c.is-day.ensures, year.before.has-form.ensures, year.year-of.ensures, c.before.before.two_at.ensures.0, c.before.two-at2.ensures.0)
+    rw (c.is_day.ensures, year.has_form-form.ensures, year.year_of-year.ensures, c.two_at-month.ensures.0, c.two_at-day.ensures.0)
 
-pub is-date-spec : {M : Type 1} → statement M
-is-date-spec =
+pub is_date_spec : {M : Type 1} → statement M
+is_date_spec =
     tie.close
     (tie.spec (λ c. search rules) (λ c κs. search rules) (λ c κs. search rules) (λ c κs. search rules)
     (λ c κs. search rules) (λ c κs. search rules) returns)

@@ -8,10 +8,10 @@ returns : tie.Need-returns
 unfolding is_time
 returns c =
     let hours = c.before.before in
-    rw (hours.before.time-form.ensures, hours.two_at.ensures.0, c.before.two-at2.ensures.0, c.two-at3.ensures.0)
+    rw (hours.time_form-form.ensures, hours.two_at-hours.ensures.0, c.two_at-minutes.ensures.0, c.two_at-seconds.ensures.0)
 
-pub is-time-spec : {M : Type 1} → statement M
-is-time-spec =
+pub is_time_spec : {M : Type 1} → statement M
+is_time_spec =
     tie.close
     (tie.spec (λ c κs. search rules) (λ c κs. search rules) (λ c κs. search rules) (λ c κs. search rules)
     returns)

@@ -7,24 +7,24 @@ use Rattle.request_text.specs.laws.InstantLaws.{read-not, read_is}
 use Rattle.request_text.proofs.instants.read.Statement.{statement}
 use Rattle.request_text.proofs.instants.read.Tie as tie
 
-returns : tie.Need-returns
+returns : tie.Need-returns-then-not-right
 returns c =
     let t = c.before in
     let b = t.before.before in
     let w = b.before.before.before in
-    read-not _ _ _ _ _ _ _ _ _ w.before.before.word_in.ensures w.before.after-word.ensures w.word-in2.ensures
-    b.before.before.after-word2.ensures b.before.after-word3.ensures t.before.is-date.ensures t.is-time.ensures b.all.ensures
-    (not-true _ c.if1.true)
+    read-not _ _ _ _ _ _ _ _ _ w.word_in-date.ensures w.after_word-timed.ensures w.word_in-time.ensures
+    b.after_word-scaled.ensures b.after_word.ensures t.is_date.ensures t.is_time.ensures b.all-bare.ensures
+    c.if-not-right.true
 
-returns-2 : tie.Need-returns-2
+returns-2 : tie.Need-returns
 returns-2 c =
     let t = c.before.before.before in
     let b = t.before.before in
     let w = b.before.before.before in
-    c.in-scale.ensures ∙ ap (in_scale _ _) c.before.word-in3.ensures
-    ∙ read_is _ _ _ _ _ _ _ _ _ w.before.before.word_in.ensures w.before.after-word.ensures w.word-in2.ensures
-    b.before.before.after-word2.ensures b.before.after-word3.ensures t.before.is-date.ensures t.is-time.ensures b.all.ensures
-    (not-false _ c.before.before.if1.false)
+    c.in_scale.ensures ∙ ap (in_scale _ _) c.word_in.ensures
+    ∙ read_is _ _ _ _ _ _ _ _ _ w.word_in-date.ensures w.after_word-timed.ensures w.word_in-time.ensures
+    b.after_word-scaled.ensures b.after_word.ensures t.is_date.ensures t.is_time.ensures b.all-bare.ensures
+    c.if-not-right.false
 
 pub read_spec : {M : Type 1} → statement M
 read_spec =

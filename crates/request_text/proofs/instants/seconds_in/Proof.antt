@@ -5,26 +5,26 @@ use borrow.Author.Rules.{rules}
 use Rattle.request_text.proofs.instants.seconds_in.Statement.{statement}
 use Rattle.request_text.proofs.instants.seconds_in.Tie as tie
 
-returns : tie.Need-returns
+returns : tie.Need-returns-then-not-right
 returns c =
     let t = c.before in
     let f = t.before in
     let a = f.before.before in
     let w = a.before in
-    seconds-none _ _ _ _ _ _ w.before.word_in.ensures w.after-word.ensures a.all.ensures f.has-form.ensures t.two_at.ensures.0
-    (not-true _ c.if1.true)
+    seconds-none _ _ _ _ _ _ w.word_in-word.ensures w.after_word.ensures a.all-bare.ensures f.has_form-form.ensures t.two_at-seconds.ensures.0
+    c.if-not-right.true
 
-returns-2 : tie.Need-returns-2
+returns-2 : tie.Need-returns
 returns-2 c =
     let t = c.before in
     let f = t.before in
     let a = f.before.before in
     let w = a.before in
-    seconds_some _ _ _ _ _ _ w.before.word_in.ensures w.after-word.ensures a.all.ensures f.has-form.ensures t.two_at.ensures.0
-    (not-false _ c.if1.false)
+    seconds_some _ _ _ _ _ _ w.word_in-word.ensures w.after_word.ensures a.all-bare.ensures f.has_form-form.ensures t.two_at-seconds.ensures.0
+    c.if-not-right.false
 
-pub seconds-in-spec : {M : Type 1} → statement M
-seconds-in-spec =
+pub seconds_in_spec : {M : Type 1} → statement M
+seconds_in_spec =
     tie.close
     (tie.spec (λ c κs. search rules) (λ c κs. search rules) (λ c κs. search rules) (λ c. search rules)
     (λ c κs. search rules) (λ c κs. search rules) returns returns-2)

@@ -6,10 +6,10 @@ use Rattle.request_text.proofs.instants.time_form.Tie as tie
 
 returns : tie.Need-returns
 unfolding time_form
-returns c = rw (c.has-form3.ensures, c.before.before.has-form2.ensures, c.before.before.before.before.has-form.ensures)
+returns c = rw (c.has_form.ensures, c.has_form-tenths.ensures, c.has_form-plain.ensures)
 
-pub time-form-spec : {M : Type 1} → statement M
-time-form-spec =
+pub time_form_spec : {M : Type 1} → statement M
+time_form_spec =
     tie.close
     (tie.spec (λ c. search rules) (λ c κs. search rules) (λ c. search rules) (λ c κs. search rules)
     (λ c. search rules) (λ c κs. search rules) returns)

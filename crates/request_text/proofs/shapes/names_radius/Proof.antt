@@ -7,8 +7,8 @@ use Rattle.request_text.proofs.shapes.names_radius.Statement.{statement}
 use Rattle.request_text.proofs.shapes.names_radius.Tie as tie
 
 returns : tie.Need-returns
-returns c = c.is-named.ensures ∙ ap (named (letters "radius")) c.before.before.said.ensures
+returns c = c.is_named.ensures ∙ ap (named (letters "radius")) c.said.ensures
 
-pub names-radius-spec : {M : Type 1} → statement M
-names-radius-spec =
+pub names_radius_spec : {M : Type 1} → statement M
+names_radius_spec =
     tie.close (tie.spec (λ c κs. search rules) (λ c. search rules) (λ c κs. search rules) returns)

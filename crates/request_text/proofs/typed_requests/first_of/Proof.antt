@@ -4,23 +4,23 @@ use borrow.Author.Rules.{rules}
 use Rattle.request_text.proofs.typed_requests.first_of.Statement.{statement}
 use Rattle.request_text.proofs.typed_requests.first_of.Tie as tie
 
-returns : tie.Need-returns
-returns c = rw (c.before.before.before.before.before.type-inv.given.1, c.before.before.told3.given.1, lt-ltb _ _ c.if1.true)
+returns : tie.Need-returns-then-line-number
+returns c = rw (c.type_inv.given.1, c.in-Refused-told-2.is, lt-ltb _ _ c.if-line-number.true)
 
-returns-2 : tie.Need-returns-2
-returns-2 c = rw (c.before.before.before.enum_told.given.1, c.before.told.given.1)
+returns-2 : tie.Need-returns-in-Is
+returns-2 c = rw (c.in-Numbers.is, c.in-Is.is)
 
-returns-3 : tie.Need-returns-3
-returns-3 c = rw (c.before.before.before.enum_told.given.1, c.before.told2.given.1)
+returns-3 : tie.Need-returns-in-Refused-told
+returns-3 c = rw (c.in-Numbers.is, c.in-Refused-told.is)
 
-returns-4 : tie.Need-returns-4
-returns-4 c = rw (c.before.before.before.type-inv.given.1, c.enum-told2.given.1)
+returns-4 : tie.Need-returns-in-Is-told
+returns-4 c = rw (c.type_inv.given.1, c.in-Is-told.is)
 
-returns-5 : tie.Need-returns-5
-returns-5 c = rw (c.before.before.before.before.before.type-inv.given.1, c.before.before.told3.given.1, le-ltb _ _ c.if1.false)
+returns-5 : tie.Need-returns-else-line-number
+returns-5 c = rw (c.type_inv.given.1, c.in-Refused-told-2.is, le-ltb _ _ c.if-line-number.false)
 
-pub first-of-spec : {M : Type 1} → statement M
-first-of-spec =
+pub first_of_spec : {M : Type 1} → statement M
+first_of_spec =
     tie.close
     (tie.spec (λ c. search rules) (λ c. search rules) (λ c. search rules) (λ c. search rules)
     (λ c. search rules) (λ c. search rules) returns returns-2 returns-3 returns-4 returns-5)

@@ -8,8 +8,8 @@ use Rattle.sheet_rules.proofs.fields.open_holds.Tie as tie
 
 returns : tie.Need-returns
 returns c =
-    let a = c.before.before.before.before.args in
+    let a = c.args in
     rw (both-within a.p.first a.p.last a.from a.to (leb a.from a.to) (leb-true a.from a.to))
 
-pub open-holds-spec : {M : Type 1} → statement M
-open-holds-spec = tie.close (tie.spec returns)
+pub open_holds_spec : {M : Type 1} → statement M
+open_holds_spec = tie.close (tie.spec returns)

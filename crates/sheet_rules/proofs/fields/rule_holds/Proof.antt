@@ -6,33 +6,33 @@ use borrow.Author.Rules.{rules}
 use Rattle.sheet_rules.proofs.fields.rule_holds.Statement.{statement}
 use Rattle.sheet_rules.proofs.fields.rule_holds.Tie as tie
 
-returns : tie.Need-returns
-returns c = let a = c.before.before.before.args in rule-by a.p a.entry _ (sym c.enum_told.given.1 ∙ c.before.before.stage-of.ensures)
+returns : tie.Need-returns-in-Start
+returns c = let a = c.args in rule-by a.p a.entry _ (sym c.in-Start.is ∙ c.stage_of-stage.ensures)
 
-returns-2 : tie.Need-returns-2
-returns-2 c = let a = c.before.before.before.before.args in rw c.guard-holds.ensures (rule-by a.p a.entry _ (sym c.before.enum-told2.given.1 ∙ c.before.before.before.stage-of.ensures))
+returns-2 : tie.Need-returns-in-Head
+returns-2 c = let a = c.args in rw c.guard_holds.ensures (rule-by a.p a.entry _ (sym c.in-Head.is ∙ c.stage_of-stage.ensures))
 
-returns-3 : tie.Need-returns-3
-returns-3 c = let a = c.before.before.before.before.args in rw c.phase-holds.ensures (rule-by a.p a.entry _ (sym c.before.enum-told3.given.1 ∙ c.before.before.before.stage-of.ensures))
+returns-3 : tie.Need-returns-in-Phase
+returns-3 c = let a = c.args in rw c.phase_holds.ensures (rule-by a.p a.entry _ (sym c.in-Phase.is ∙ c.stage_of-stage.ensures))
 
-returns-4 : tie.Need-returns-4
+returns-4 : tie.Need-returns-in-Closest
 returns-4 c =
     let k = c.before.before in
-    let a = k.before.before.before.args in
-    rw (c.before.in_window.ensures, c.greatest-magnitude.ensures)
-    (rule-by a.p a.entry _ (sym k.enum-told4.given.1 ∙ k.before.before.stage-of.ensures))
+    let a = k.args in
+    rw (c.in_window.ensures, c.greatest_magnitude.ensures)
+    (rule-by a.p a.entry _ (sym k.in-Closest.is ∙ k.stage_of-stage.ensures))
 
-returns-5 : tie.Need-returns-5
-returns-5 c = let a = c.before.before.before.args in rule-by a.p a.entry _ (sym c.enum-told5.given.1 ∙ c.before.before.stage-of.ensures)
+returns-5 : tie.Need-returns-in-StarClosest
+returns-5 c = let a = c.args in rule-by a.p a.entry _ (sym c.in-StarClosest.is ∙ c.stage_of-stage.ensures)
 
-returns-6 : tie.Need-returns-6
-returns-6 c = let a = c.before.before.before.args in rule-by a.p a.entry _ (sym c.enum-told6.given.1 ∙ c.before.before.stage-of.ensures)
+returns-6 : tie.Need-returns-in-Share
+returns-6 c = let a = c.args in rule-by a.p a.entry _ (sym c.in-Share.is ∙ c.stage_of-stage.ensures)
 
-returns-7 : tie.Need-returns-7
-returns-7 c = let a = c.before.before.before.args in rule-by a.p a.entry _ (sym c.enum-told7.given.1 ∙ c.before.before.stage-of.ensures)
+returns-7 : tie.Need-returns-in-End
+returns-7 c = let a = c.args in rule-by a.p a.entry _ (sym c.in-End.is ∙ c.stage_of-stage.ensures)
 
-pub rule-holds-spec : {M : Type 1} → statement M
-rule-holds-spec =
+pub rule_holds_spec : {M : Type 1} → statement M
+rule_holds_spec =
     tie.close
     (tie.spec (λ c κs. search rules) (λ c. search rules) (λ c. search rules) (λ c κs. search rules)
     (λ c. search rules) (λ c κs. search rules) (λ c. search rules) (λ c κs. search rules)

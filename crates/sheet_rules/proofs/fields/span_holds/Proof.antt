@@ -9,8 +9,8 @@ use Rattle.sheet_rules.proofs.fields.span_holds.Tie as tie
 
 returns : tie.Need-returns
 returns c =
-    let a = c.before.before.args in
+    let a = c.args in
     both-within a.p.first a.p.last a.from a.to (ltb a.from a.to) (λ q. let h = ltb-true a.from a.to q in omega arith)
 
-pub span-holds-spec : {M : Type 1} → statement M
-span-holds-spec = tie.close (tie.spec returns)
+pub span_holds_spec : {M : Type 1} → statement M
+span_holds_spec = tie.close (tie.spec returns)

@@ -4,11 +4,11 @@ use borrow.Author.Rules.{rules}
 use Rattle.sheet_rules.proofs.order.greatest_magnitude.Statement.{statement}
 use Rattle.sheet_rules.proofs.order.greatest_magnitude.Tie as tie
 
-returns : tie.Need-returns
-returns c = rw (sym c.before.is_Within.ensures ∙ c.if1.true)
+returns : tie.Need-returns-then-is_within
+returns c = rw (sym c.is_within.ensures ∙ c.if-is_within.true)
 
-returns-2 : tie.Need-returns-2
-returns-2 c = rw (sym c.before.is_Within.ensures ∙ c.if1.false)
+returns-2 : tie.Need-returns-else-is_within
+returns-2 c = rw (sym c.is_within.ensures ∙ c.if-is_within.false)
 
-pub greatest-magnitude-spec : {M : Type 1} → statement M
-greatest-magnitude-spec = tie.close (tie.spec (λ c κs. search rules) returns returns-2)
+pub greatest_magnitude_spec : {M : Type 1} → statement M
+greatest_magnitude_spec = tie.close (tie.spec (λ c κs. search rules) returns returns-2)

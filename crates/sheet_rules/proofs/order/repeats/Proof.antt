@@ -5,7 +5,7 @@ use Rattle.sheet_rules.proofs.order.repeats.Statement.{statement}
 use Rattle.sheet_rules.proofs.order.repeats.Tie as tie
 
 returns : tie.Need-returns
-returns c = let a = c.before.before.args in rw (c.before.number_of_lem.ensures, c.number-of2.ensures) (repeats-number a.last a.crossing)
+returns c = let a = c.args in rw (c.number_of-n.ensures, c.number_of.ensures) (repeats-number a.last a.crossing)
 
-pub repeats-spec : {M : Type 1} → statement M
-repeats-spec = tie.close (tie.spec (λ c κs. search rules) (λ c κs. search rules) returns)
+pub repeats_spec : {M : Type 1} → statement M
+repeats_spec = tie.close (tie.spec (λ c κs. search rules) (λ c κs. search rules) returns)

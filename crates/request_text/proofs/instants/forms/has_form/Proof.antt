@@ -10,34 +10,34 @@ use Rattle.request_text.specs.laws.FormLaws.{Fitting, form-short, fitting-start,
 use Rattle.request_text.proofs.instants.forms.has_form.Statement.{statement}
 use Rattle.request_text.proofs.instants.forms.has_form.Tie as tie
 
-abbrev invariant-loop : tie.invariant-loop
+abbrev invariant-loop : tie.invariant-loop-i
 invariant-loop word form i₀ i = Fitting form word i
 
-abbrev decreases-loop : tie.decreases-loop
+abbrev decreases-loop : tie.decreases-loop-i
 decreases-loop word form i₀ i = length form - i
 
-returns : tie.Need-returns invariant-loop decreases-loop
-returns c = form-short _ _ c.if1.true
+returns : tie.Need-returns-then-word-form invariant-loop decreases-loop
+returns c = form-short _ _ c.if-word-form.true
 
-shared-slice-read-x : tie.Need-shared-slice-read-x invariant-loop decreases-loop
-shared-slice-read-x c = omega (arith, c.before.before.before.loop.invariant.same)
+shared-slice-read-x : tie.Need-bounds-word-i invariant-loop decreases-loop
+shared-slice-read-x c = omega (arith, c.loop-i.invariant.same)
 
-returns-2 : tie.Need-returns-2 invariant-loop decreases-loop
+returns-2 : tie.Need-returns-then-not-fits invariant-loop decreases-loop
 returns-2 c =
     let turn = c.before.before.before.before in
-    fitting-not _ _ _ turn.before.loop.invariant turn.loop-test.true (sym c.before.fits2.ensures ∙ not-true _ c.if2.true)
+    fitting-not _ _ _ turn.loop-i.invariant turn.loop-i-test.true (sym c.fits2.ensures ∙ c.if-not-fits.true)
 
-loop-again : tie.Need-loop-preserved invariant-loop decreases-loop
+loop-again : tie.Need-loop-i-preserved invariant-loop decreases-loop
 loop-again c =
     let turn = c.before.before.before.before in
-    fitting-more _ _ _ turn.before.loop.invariant turn.loop-test.true (sym c.before.fits2.ensures ∙ not-false _ c.if2.false)
+    fitting-more _ _ _ turn.loop-i.invariant turn.loop-i-test.true (sym c.fits2.ensures ∙ c.if-not-fits.false)
 
-returns-3 : tie.Need-returns-3 invariant-loop decreases-loop
-returns-3 c = fitting-all _ _ _ c.before.loop.invariant c.loop-test.false
+returns-3 : tie.Need-returns invariant-loop decreases-loop
+returns-3 c = fitting-all _ _ _ c.loop-i.invariant c.loop-i-test.false
 
-pub has-form-spec : {M : Type 1} → statement M
-has-form-spec =
+pub has_form_spec : {M : Type 1} → statement M
+has_form_spec =
     tie.close
-    (tie.spec invariant-loop decreases-loop returns (λ c. fitting-start _ _ c.if1.false) (λ c. search rules)
+    (tie.spec invariant-loop decreases-loop returns (λ c. fitting-start _ _ c.if-word-form.false) (λ c. search rules)
     shared-slice-read-x (λ c κs. search rules) returns-2 (λ c. search rules) (λ c. search rules) loop-again
     returns-3)

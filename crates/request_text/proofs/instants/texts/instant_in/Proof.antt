@@ -15,44 +15,44 @@ use Rattle.request_text.specs.laws.ToldLaws.{Walked, walked_none, walked_all, wa
 use Rattle.request_text.proofs.instants.texts.instant_in.Statement.{statement}
 use Rattle.request_text.proofs.instants.texts.instant_in.Tie as tie
 
-abbrev invariant-loop : tie.invariant-loop
+abbrev invariant-loop : tie.invariant-loop-at
 invariant-loop text told₀ at₀ line₀ told at line = Walked Told told_after (T.Is Ref.Nothing) text told at line
 
-abbrev decreases-loop : tie.decreases-loop
+abbrev decreases-loop : tie.decreases-loop-at
 decreases-loop text told₀ at₀ line₀ told at line = length text + 1 - at
 
 -- the line at the text's place
-module _ (c : tie.After-run invariant-loop decreases-loop) where
-  abbrev loop : tie.In-loop invariant-loop decreases-loop
+module _ (c : tie.After-run-length invariant-loop decreases-loop) where
+  abbrev loop : tie.In-loop-at invariant-loop decreases-loop
   loop = c.before.before
 
-  ran : c.run.result ≡ run_of C.Line (drop loop.before.loop.at loop.before.before.before.args.text.now)
-  ran = c.run.ensures.0 ∙ ap (run_of C.Line) (rest-is loop.before.before.before.args.text.now loop.before.loop.at)
+  ran : c.run-length.result ≡ run_of C.Line (drop loop.loop-at.at loop.args.text.now)
+  ran = c.run-length.ensures.0 ∙ ap (run_of C.Line) (rest-is loop.args.text.now loop.loop-at.at)
 
-  inside : loop.before.loop.at + c.run.result ≤ length loop.before.before.before.args.text.now
-  inside = line-within _ _ _ loop.loop-test.taken ran
+  inside : loop.loop-at.at + c.run-length.result ≤ length loop.args.text.now
+  inside = line-within _ _ _ loop.loop-at-test.true ran
 
-add_at : tie.Need-overflow-add-at invariant-loop decreases-loop
+add_at : tie.Need-overflow_add-at invariant-loop decreases-loop
 add_at c = let i = inside c.before.before in search rules
 
-add-line : tie.Need-overflow-add-line invariant-loop decreases-loop
+add-line : tie.Need-overflow_add-line invariant-loop decreases-loop
 add-line c =
     let i = inside c.before.before in
-    let w = (loop c.before.before).before.loop.inv.lines in search rules
+    let w = (loop c.before.before).before.loop-at.invariant.lines in search rules
 
-loop-less : tie.Need-loop-smaller invariant-loop decreases-loop
+loop-less : tie.Need-loop-at-smaller invariant-loop decreases-loop
 loop-less c = let i = inside c.before.before in search rules
 
-loop-again : tie.Need-loop-preserved invariant-loop decreases-loop
+loop-again : tie.Need-loop-at-preserved invariant-loop decreases-loop
 loop-again c =
     let r = c.before.before in
-    walked_more Told told_after (T.Is Ref.Nothing) _ _ _ _ (loop r).before.loop.invariant _ (loop r).loop-test.true (ran r) _ c.told-after.ensures
+    walked_more Told told_after (T.Is Ref.Nothing) _ _ _ _ (loop r).before.loop-at.invariant _ (loop r).loop-at-test.true (ran r) _ c.told_after-told.ensures
 
 returns : tie.Need-returns invariant-loop decreases-loop
-returns c = walked_all Told told_after (T.Is Ref.Nothing) _ _ _ _ c.before.loop.invariant c.loop-test.false
+returns c = walked_all Told told_after (T.Is Ref.Nothing) _ _ _ _ c.loop-at.invariant c.loop-at-test.false
 
-pub instant-in-spec : {M : Type 1} → statement M
-instant-in-spec =
+pub instant_in_spec : {M : Type 1} → statement M
+instant_in_spec =
     tie.close
     (tie.spec invariant-loop decreases-loop (λ c. walked_none Told told_after (T.Is Ref.Nothing) _) (λ c. search rules)
     (λ c. search rules) (λ c. search rules) (λ c κs. search rules) (λ c. let i = inside c in search rules)

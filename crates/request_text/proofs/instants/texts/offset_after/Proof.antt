@@ -5,17 +5,17 @@ use borrow.Author.Rules.{rules}
 use Rattle.request_text.proofs.instants.texts.offset_after.Statement.{statement}
 use Rattle.request_text.proofs.instants.texts.offset_after.Tie as tie
 
-seconds-after-requires : tie.Need-seconds-after-requires
-seconds-after-requires c κs = sym c.before.names-offset.ensures ∙ c.if1.true
+seconds-after-requires : tie.Need-seconds_after-seconds-requires
+seconds-after-requires c κs = sym c.names_offset.ensures ∙ c.if-names_offset.true
 
-returns : tie.Need-returns
+returns : tie.Need-returns-then-names_offset
 returns c =
-    let a = c.before.before.before.before.before.args in
-    c.offset-taken.ensures
-    ∙ offset-given a.i _ a.old _ (sym c.before.before.before.names-offset.ensures ∙ c.before.before.if1.true) c.before.seconds-after.ensures
+    let a = c.args in
+    c.offset_taken.ensures
+    ∙ offset-given a.i _ a.old _ (sym c.names_offset.ensures ∙ c.if-names_offset.true) c.seconds_after-seconds.ensures
 
-returns-2 : tie.Need-returns-2
-returns-2 c = offset-same c.before.before.before.args.i _ _ (sym c.before.names-offset.ensures ∙ c.if1.false)
+returns-2 : tie.Need-returns
+returns-2 c = offset-same c.args.i _ _ (sym c.names_offset.ensures ∙ c.if-names_offset.false)
 
-pub offset-after-spec : {M : Type 1} → statement M
-offset-after-spec = tie.close (tie.spec (λ c κs. search rules) seconds-after-requires (λ c κs. search rules) returns returns-2)
+pub offset_after_spec : {M : Type 1} → statement M
+offset_after_spec = tie.close (tie.spec (λ c κs. search rules) seconds-after-requires (λ c κs. search rules) returns returns-2)

@@ -9,12 +9,12 @@ use borrow.Author.Rules.{rules}
 use Rattle.request_text.proofs.instants.texts.seconds_after.Statement.{statement}
 use Rattle.request_text.proofs.instants.texts.seconds_after.Tie as tie
 
-within : (c : tie.After-said) → 7 ≤ length c.said.result.now
-within c = omega (arith, ap length c.said.ensures, offset-within _ c.before.before.requires)
+within : (c : tie.After-said-said) → 7 ≤ length c.said-said.result.now
+within c = omega (arith, ap length c.said-said.ensures, offset-within _ c.requires)
 
 returns : tie.Need-returns
-returns c = c.seconds-in.ensures ∙ ap seconds_in (after-name _ _ c.before.before.said.ensures)
+returns c = c.seconds_in.ensures ∙ ap seconds_in (after-name _ _ c.said-said.ensures)
 
-pub seconds-after-spec : {M : Type 1} → statement M
-seconds-after-spec =
+pub seconds_after_spec : {M : Type 1} → statement M
+seconds_after_spec =
     tie.close (tie.spec (λ c κs. search rules) (λ c. omega (arith, within c)) (λ c. omega (arith, within c)) (λ c. search rules) (λ c κs. search rules) returns)

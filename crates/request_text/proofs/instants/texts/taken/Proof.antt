@@ -3,17 +3,17 @@ use borrow.Author.Rules.{rules}
 use Rattle.request_text.proofs.instants.texts.taken.Statement.{statement}
 use Rattle.request_text.proofs.instants.texts.taken.Tie as tie
 
-returns : tie.Need-returns
-returns c = rw c.enum_told.given.1
+returns : tie.Need-returns-in-Malformed
+returns c = rw c.in-Malformed.is
 
-returns-2 : tie.Need-returns-2
-returns-2 c = rw (c.before.before.before.read.given.1, c.enum-told2.given.1)
+returns-2 : tie.Need-returns-in-Nothing
+returns-2 c = rw (c.in-Is.is, c.in-Nothing.is)
 
-returns-3 : tie.Need-returns-3
-returns-3 c = rw (c.before.before.before.read.given.1, c.enum-told3.given.1)
+returns-3 : tie.Need-returns-in-At
+returns-3 c = rw (c.in-Is.is, c.in-At.is)
 
-pub taken-spec : {M : Type 1} → statement M
-taken-spec =
+pub taken_spec : {M : Type 1} → statement M
+taken_spec =
     tie.close
     (tie.spec (λ c. search rules) (λ c. search rules) (λ c. search rules) (λ c. search rules) returns
     returns-2 returns-3)

@@ -8,7 +8,7 @@ use Rattle.request_text.proofs.instants.texts.told_in.Tie as tie
 
 returns : tie.Need-returns
 unfolding told_in
-returns c = c.with-offset.ensures ∙ ap₂ with_offset c.before.before.instant-in.ensures c.before.offset-in.ensures
+returns c = c.with_offset.ensures ∙ ap₂ with_offset c.instant_in-told.ensures c.offset_in-offset.ensures
 
-pub told-in-spec : {M : Type 1} → statement M
-told-in-spec = tie.close (tie.spec (λ c κs. search rules) (λ c κs. search rules) (λ c κs. search rules) returns)
+pub told_in_spec : {M : Type 1} → statement M
+told_in_spec = tie.close (tie.spec (λ c κs. search rules) (λ c κs. search rules) (λ c κs. search rules) returns)

@@ -8,21 +8,21 @@ use borrow.Author.Rules.{rules}
 use Rattle.request_text.proofs.typed_requests.encoding.encode_star.Statement.{statement}
 use Rattle.request_text.proofs.typed_requests.encoding.encode_star.Tie as tie
 
-made : (c : tie.After-put-star) → Made S.Star c.before.before.before.before.before.before.before.before.args.text.now c.put-star.new.1.0
+made : (c : tie.After-put_star) → Made S.Star c.args.text.now c.put_star.new.out
 made c =
-    let read = c.before.before.before.before.before.star-numbers in
-    made-is _ _ _ read.ensures.0 _ _ _ _ c.before.before.before.enum-told2.given.1 read.ensures.1 c.put-star.ensures.1
+    let read = c.star_numbers-answer in
+    made-is _ _ _ read.ensures.0 _ _ _ _ c.in_default.is read.ensures.1 c.put_star.ensures.1
 
-returns : tie.Need-returns
-returns c = refused-kept _ _ _ c.before.before.star-numbers.ensures.0 _ _ _ c.enum_told.given.1
+returns : tie.Need-returns-in-Refused
+returns c = refused-kept _ _ _ c.star_numbers-answer.ensures.0 _ _ _ c.in-Refused.is
 
-returns-2 : tie.Need-returns-2
+returns-2 : tie.Need-returns
 returns-2 c =
     let put = c.before.before.before in
-    numbers-put _ _ _ put.before.before.before.before.before.star-numbers.ensures.0 _ _ _ _ (made put) (omega arith) c.put-text.ensures
+    numbers-put _ _ _ put.star_numbers-answer.ensures.0 _ _ _ _ (made put) (omega arith) c.put_text.ensures
 
-pub encode-star-spec : {M : Type 1} → statement M
-encode-star-spec =
+pub encode_star_spec : {M : Type 1} → statement M
+encode_star_spec =
     tie.close
     (tie.spec (λ c κs. search rules) (λ c. search rules) returns (λ c. search rules) (λ c κs. search rules)
     (λ c. sym (made c.before.before).size) (λ c κs. search rules) returns-2)

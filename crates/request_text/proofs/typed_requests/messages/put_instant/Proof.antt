@@ -10,10 +10,10 @@ returns c =
     let wrong = c.before.before in
     let number = wrong.before.before.before.before in
     let line = number.before.before.before.before in
-    put_parts _ _ _ _ _ _ _ _ _ _ (omega arith) line.put-text.ensures number.put-number.ensures wrong.put_wrong.ensures
+    put_parts _ _ _ _ _ _ _ _ _ _ (omega arith) line.put_text-number.ensures number.put_number-colon.ensures wrong.put_wrong.ensures
 
-pub put-instant-spec : {M : Type 1} → statement M
-put-instant-spec =
+pub put_instant_spec : {M : Type 1} → statement M
+put_instant_spec =
     tie.close
     (tie.spec (λ c. search rules) (λ c κs. search rules) (λ c κs. search rules) (λ c κs. search rules)
     (λ c. search rules) returns)

@@ -4,23 +4,23 @@ use borrow.Author.Rules.{rules}
 use Rattle.request_text.proofs.typed_requests.stored.keep.Statement.{statement}
 use Rattle.request_text.proofs.typed_requests.stored.keep.Tie as tie
 
-returns : tie.Need-returns
+returns : tie.Need-returns-then-request-size
 returns c =
-    let a = c.before.before.before.before.args in
-    request-short a.bytes.now a.reference a.request.now a.instant.now c.if1.true
+    let a = c.args in
+    request-short a.bytes.now a.reference a.request.now a.instant.now c.if-request-size.true
 
-returns-2 : tie.Need-returns-2
+returns-2 : tie.Need-returns-then-instant-lt6
 returns-2 c =
-    let a = c.before.before.before.before.before.args in
-    instant-short a.bytes.now a.reference a.request.now a.instant.now c.before.if1.false c.if2.true
+    let a = c.args in
+    instant-short a.bytes.now a.reference a.request.now a.instant.now c.if-request-size.false c.if-instant-lt6.true
 
-returns-3 : tie.Need-returns-3
+returns-3 : tie.Need-returns
 returns-3 c =
     let numbers = c.before.before in
     let bytes = numbers.before.before.before.before in
     let tested = bytes.before.before in
-    let a = tested.before.before.before.before.before.args in
-    both-kept a.bytes.now a.reference a.request.now a.instant.now tested.before.if1.false tested.if2.false _ _ _ bytes.put-text.ensures numbers.put-numbers.ensures
+    let a = tested.args in
+    both-kept a.bytes.now a.reference a.request.now a.instant.now tested.if-request-size.false tested.if-instant-lt6.false _ _ _ bytes.put_text.ensures numbers.put_numbers.ensures
 
 pub keep_spec : {M : Type 1} → statement M
 keep_spec =

@@ -11,25 +11,25 @@ use borrow.Author.Rules.{rules}
 use Rattle.request_text.proofs.typed_requests.stored.put_numbers.Statement.{statement}
 use Rattle.request_text.proofs.typed_requests.stored.put_numbers.Tie as tie
 
-same_length : tie.Need-same-length
-same_length c = length-sets c.before.before.args.instant.now 0 (_ ∷ _ ∷ _ ∷ _ ∷ _ ∷ _ ∷ [])
+same_length : tie.Need-shape_of-instant
+same_length c = length-sets c.args.instant.now 0 (_ ∷ _ ∷ _ ∷ _ ∷ _ ∷ _ ∷ [])
 
 returns : tie.Need-returns
-returns c = rw c.Numbers-of.ensures (six_stored c.before.before.args.reference c.before.before.args.instant.now c.before.before.requires)
+returns c = rw c.Numbers-of.ensures (six_stored c.args.reference c.args.instant.now c.requires)
 
-pub put-numbers-spec : {M : Type 1} → statement M
-put-numbers-spec =
+pub put_numbers_spec : {M : Type 1} → statement M
+put_numbers_spec =
     tie.close
     (tie.spec (λ c κs. search rules)
-    (λ c. omega (arith, ap length c.Numbers-of.ensures, six_long c.before.before.args.reference))
+    (λ c. omega (arith, ap length c.Numbers-of.ensures, six_long c.args.reference))
     (λ c. search rules)
-    (λ c. omega (arith, ap length c.Numbers-of.ensures, six_long c.before.before.args.reference))
+    (λ c. omega (arith, ap length c.Numbers-of.ensures, six_long c.args.reference))
     (λ c. simp length-set (omega arith))
-    (λ c. omega (arith, ap length c.Numbers-of.ensures, six_long c.before.before.args.reference))
+    (λ c. omega (arith, ap length c.Numbers-of.ensures, six_long c.args.reference))
     (λ c. simp length-set (omega arith))
-    (λ c. omega (arith, ap length c.Numbers-of.ensures, six_long c.before.before.args.reference))
+    (λ c. omega (arith, ap length c.Numbers-of.ensures, six_long c.args.reference))
     (λ c. simp length-set (omega arith))
-    (λ c. omega (arith, ap length c.Numbers-of.ensures, six_long c.before.before.args.reference))
+    (λ c. omega (arith, ap length c.Numbers-of.ensures, six_long c.args.reference))
     (λ c. simp length-set (omega arith))
-    (λ c. omega (arith, ap length c.Numbers-of.ensures, six_long c.before.before.args.reference))
+    (λ c. omega (arith, ap length c.Numbers-of.ensures, six_long c.args.reference))
     (λ c. simp length-set (omega arith)) same_length returns)

@@ -9,38 +9,38 @@ use borrow.Author.Rules.{rules}
 use Rattle.request_text.proofs.typed_requests.stored.store.Statement.{statement}
 use Rattle.request_text.proofs.typed_requests.stored.store.Tie as tie
 
-array-share-prefix-bytes : tie.Need-array-share-prefix-bytes
+array-share-prefix-bytes : tie.Need-slice_bounds-bytes-end
 array-share-prefix-bytes c =
-    let found = c.before in
-    let asked = found.before.before.ask in
-    (bytes-first _ _ _ _ _ (request-answer _ _ _ (sym found.outcome.given.1 ∙ asked.ensures.0) []).0 asked.ensures.1).counts.0
+    let found = c in
+    let asked = found.ask-outcome in
+    (bytes-first _ _ _ _ _ (request-answer _ _ _ (sym found.in-Request.is ∙ asked.ensures.0) []).0 asked.ensures.1).counts.0
 
-slice-aggregate-keep : tie.Need-slice-aggregate-keep
+slice-aggregate-keep : tie.Need-slice_bounds-keep-end
 slice-aggregate-keep c =
-    let found = c.before.before in
-    let asked = found.before.before.ask in
-    (bytes-first _ _ _ _ _ (request-answer _ _ _ (sym found.outcome.given.1 ∙ asked.ensures.0) []).0 asked.ensures.1).counts.1
+    let found = c.before in
+    let asked = found.ask-outcome in
+    (bytes-first _ _ _ _ _ (request-answer _ _ _ (sym found.in-Request.is ∙ asked.ensures.0) []).0 asked.ensures.1).counts.1
 
 explain-requires : tie.Need-explain-requires
 explain-requires c κs =
-    let found = c.before.before in
-    sym found.outcome2.given.1 ∙ found.before.before.ask.ensures.0
+    let found = c.before in
+    sym found.in-Refused.is ∙ found.ask-outcome.ensures.0
 
-returns : tie.Need-returns
+returns : tie.Need-returns-in-Request
 returns c =
     let kept = c.before.before.before.before in
-    let found = kept.before.before.before.before.before in
-    let asked = found.before.before.ask in
-    let a = found.before.before.before.before.before.before.before.before.args in
-    request-stored _ _ _ (sym found.outcome.given.1 ∙ asked.ensures.0) _ _ a.request.now a.instant.now a.message.now asked.ensures.1 _ _ _ kept.keep.ensures
+    let found = kept.before.before.before.before in
+    let asked = found.ask-outcome in
+    let a = found.args in
+    request-stored _ _ _ (sym found.in-Request.is ∙ asked.ensures.0) _ _ a.request.now a.instant.now a.message.now asked.ensures.1 _ _ _ kept.keep.ensures
 
-returns-2 : tie.Need-returns-2
+returns-2 : tie.Need-returns-in-Refused
 returns-2 c =
     let said = c.before.before in
-    let found = said.before.before.before in
-    let a = found.before.before.before.before.before.before.before.before.args in
+    let found = said.before.before in
+    let a = found.args in
     let r =
-    refused_stored _ _ (sym found.outcome2.given.1 ∙ found.before.before.ask.ensures.0) a.request.now a.instant.now
+    refused_stored _ _ (sym found.in-Refused.is ∙ found.ask-outcome.ensures.0) a.request.now a.instant.now
     a.message.now _ said.explain.ensures.0 in
     (r.0, (r.1.0, (r.1.1, said.explain.ensures.1)))
 
