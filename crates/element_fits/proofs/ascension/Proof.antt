@@ -15,7 +15,7 @@ use Rattle.element_fits.proofs.ascension.Tie as tie
 
 argument-requires : tie.Need-argument-requires
 argument-requires c κs =
-    let d = c.before.before.find-directions.ensures in
+    let d = c.find_directions-directions.ensures in
     let s = c.before.before.before.before.before in
     let p = s.args.p in (
       s.requires.0,
@@ -26,7 +26,7 @@ argument-requires c κs =
 returns : tie.Need-returns
 unfolding ascension
 returns c =
-    let d = c.before.before.before.find-directions.ensures in
+    let d = c.find_directions-directions.ensures in
     let s = c.before.before.before.before.before.before in
     let p = s.args.p in
     let h : c.argument.result ≤ 360_000_000 = omega (arith, c.argument.ensures.1) in
@@ -35,5 +35,5 @@ returns c =
     let e = count-is c.argument.result {m = 360_000_000} h tt ∙ ap pos (c.argument.ensures.0 ∙ ap₂ argument x y) in
     record { value = e; size = omega (arith, ap nat_abs e, ascension-size p) }
 
-pub ascension-spec : {M : Type 1} → statement M
-ascension-spec = tie.close (tie.spec (λ c κs. search rules) (λ c κs. search rules) argument-requires (λ c. search rules) returns)
+pub ascension_spec : {M : Type 1} → statement M
+ascension_spec = tie.close (tie.spec (λ c κs. search rules) (λ c κs. search rules) argument-requires (λ c. search rules) returns)

@@ -13,7 +13,7 @@ unfolding close
 returns c =
     let s = c.before in
     let a = s.args in
-    ap (λ (n : ℕ). leb n a.tolerance) (c.off.ensures.0 ∙ ap₂ (off a.c) (read_back a.t s.requires.1 tt) (read_back a.v s.requires.2 tt))
+    ap (λ (n : ℕ). leb n a.tolerance) (c.off-size.ensures.0 ∙ ap₂ (off a.c) (read_back a.t s.requires.1 tt) (read_back a.v s.requires.2 tt))
 
 pub close_spec : {M : Type 1} → statement M
 close_spec = tie.close (tie.spec (λ c κs. search rules) returns)

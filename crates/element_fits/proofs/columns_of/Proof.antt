@@ -10,11 +10,11 @@ use Rattle.element_fits.specs.laws.Laws.{each-ascension_sizes}
 use Rattle.element_fits.proofs.columns_of.Statement.{statement}
 use Rattle.element_fits.proofs.columns_of.Tie as tie
 
-hour-angles-requires : tie.Need-hour-angles-requires
+hour-angles-requires : tie.Need-hour_angles-mu-requires
 hour-angles-requires c κs =
     let s = c.before.before.before.before.before.before in (
       s.requires.1,
-      subst (HourlySizes 360_000_000) (sym c.each-ascension.ensures) (each-ascension_sizes s.requires.0),
+      subst (HourlySizes 360_000_000) (sym c.each_ascension-ascensions.ensures) (each-ascension_sizes s.requires.0),
       read-size s.args.middle 765_000_000 s.requires.2 tt,
     )
 
@@ -28,12 +28,12 @@ returns c =
     let e2 = e3.before in
     let e1 = e2.before in
     let s = e1.before in
-    let mu = c.hour-angles.ensures
-    ∙ ap₂ (λ (a : Hourly) (m : ℤ). hour_angles s.args.g a m) e6.each-ascension.ensures (read_back s.args.middle s.requires.2 tt) in
-    rw (e1.each-x.ensures, e2.each-y.ensures, e3.each-d.ensures, e4.each-l1.ensures, e5.each-l2.ensures, mu)
+    let mu = c.hour_angles-mu.ensures
+    ∙ ap₂ (λ (a : Hourly) (m : ℤ). hour_angles s.args.g a m) e6.each_ascension-ascensions.ensures (read_back s.args.middle s.requires.2 tt) in
+    rw (e1.each_x-x.ensures, e2.each_y-y.ensures, e3.each_d-d.ensures, e4.each_l1-l1.ensures, e5.each_l2-l2.ensures, mu)
 
-pub columns-of-spec : {M : Type 1} → statement M
-columns-of-spec =
+pub columns_of_spec : {M : Type 1} → statement M
+columns_of_spec =
     tie.close
     (tie.spec (λ c κs. search rules) (λ c κs. search rules) (λ c κs. search rules) (λ c κs. search rules)
     (λ c κs. search rules) (λ c κs. search rules) hour-angles-requires returns)

@@ -14,16 +14,16 @@ use Rattle.element_fits.proofs.cubic_misfit.Tie as tie
 
 misfit-requires : tie.Need-misfit-requires
 misfit-requires c κs =
-    (subst (CoefficientSizes 1_000_000_000_000) (sym c.cubic.ensures) (cubic_coefficients c.before.args.v c.before.requires), c.before.requires)
+    (subst (CoefficientSizes 1_000_000_000_000) (sym c.cubic-c.ensures) (cubic_coefficients c.args.v c.requires), c.requires)
 
 returns : tie.Need-returns
 returns c =
-    let a = c.before.before.args in
+    let a = c.args in
     let l = c.misfit.ensures.1 in
     record {
-      value = count-is c.misfit.result l tt ∙ ap pos (c.misfit.ensures.0 ∙ ap (λ (q : Cubic). misfit q a.v) c.before.cubic.ensures);
+      value = count-is c.misfit.result l tt ∙ ap pos (c.misfit.ensures.0 ∙ ap (λ (q : Cubic). misfit q a.v) c.cubic-c.ensures);
       size = count-size c.misfit.result l tt;
     }
 
-pub cubic-misfit-spec : {M : Type 1} → statement M
-cubic-misfit-spec = tie.close (tie.spec (λ c κs. search rules) misfit-requires (λ c. fits64 (pos c.misfit.result) (omega (arith, c.misfit.ensures.1))) returns)
+pub cubic_misfit_spec : {M : Type 1} → statement M
+cubic_misfit_spec = tie.close (tie.spec (λ c κs. search rules) misfit-requires (λ c. fits64 (pos c.misfit.result) (omega (arith, c.misfit.ensures.1))) returns)

@@ -9,12 +9,12 @@ use Rattle.element_fits.proofs.cubic_missed.Tie as tie
 
 missed-requires : tie.Need-missed-requires
 missed-requires c κs =
-    (subst (CoefficientSizes 1_000_000_000_000) (sym c.cubic.ensures) (cubic_coefficients c.before.args.v c.before.requires.0), c.before.requires.0, c.before.requires.1)
+    (subst (CoefficientSizes 1_000_000_000_000) (sym c.cubic-c.ensures) (cubic_coefficients c.args.v c.requires.0), c.requires.0, c.requires.1)
 
 returns : tie.Need-returns
 returns c =
-    let a = c.before.before.args in
-    c.missed.ensures ∙ ap (λ (q : Cubic). missed a.found q a.v a.tolerance a.place) c.before.cubic.ensures
+    let a = c.args in
+    c.missed.ensures ∙ ap (λ (q : Cubic). missed a.found q a.v a.tolerance a.place) c.cubic-c.ensures
 
-pub cubic-missed-spec : {M : Type 1} → statement M
-cubic-missed-spec = tie.close (tie.spec (λ c κs. c.requires.0) missed-requires returns)
+pub cubic_missed_spec : {M : Type 1} → statement M
+cubic_missed_spec = tie.close (tie.spec (λ c κs. c.requires.0) missed-requires returns)

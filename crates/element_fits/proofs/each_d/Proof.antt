@@ -5,16 +5,16 @@ use Rattle.element_fits.proofs.each_d.Tie as tie
 
 returns : tie.Need-returns
 returns c =
-    let h = c.before.before.before.before.before.before.before.before.before.before.before.before.before.before.args.h in
+    let h = c.args.h in
     rw (
-      read_result h.h0.d c.before.before.before.before.before.before.struct_told.given.1.1.0.1,
-      read_result h.h1.d c.before.before.before.before.before.struct-told2.given.1.1.0.1,
-      read_result h.h2.d c.before.before.before.before.struct-told3.given.1.1.0.1,
-      read_result h.h3.d c.before.before.before.struct-told4.given.1.1.0.1,
-      read_result h.h4.d c.before.before.struct-told5.given.1.1.0.1,
-      read_result h.h5.d c.before.struct-told6.given.1.1.0.1,
-      read_result h.h6.d c.struct-told7.given.1.1.0.1,
+      read_result h.h0.d c.struct_told-1.given.1.1.0.1,
+      read_result h.h1.d c.struct_told-2-1.given.1.1.0.1,
+      read_result h.h2.d c.struct_told-3-1.given.1.1.0.1,
+      read_result h.h3.d c.struct_told-4-1.given.1.1.0.1,
+      read_result h.h4.d c.struct_told-5-1.given.1.1.0.1,
+      read_result h.h5.d c.struct_told-6-1.given.1.1.0.1,
+      read_result h.h6.d c.struct_told-7-1.given.1.1.0.1,
     )
 
-pub each-d-spec : {M : Type 1} → statement M
-each-d-spec = tie.close (tie.spec returns)
+pub each_d_spec : {M : Type 1} → statement M
+each_d_spec = tie.close (tie.spec returns)

@@ -5,16 +5,16 @@ use Rattle.element_fits.proofs.each_y.Tie as tie
 
 returns : tie.Need-returns
 returns c =
-    let h = c.before.before.before.before.before.before.before.before.before.before.before.before.before.before.args.h in
+    let h = c.args.h in
     rw (
-      read_result h.h0.y c.before.before.before.before.before.before.struct_told.given.1.0.1,
-      read_result h.h1.y c.before.before.before.before.before.struct-told2.given.1.0.1,
-      read_result h.h2.y c.before.before.before.before.struct-told3.given.1.0.1,
-      read_result h.h3.y c.before.before.before.struct-told4.given.1.0.1,
-      read_result h.h4.y c.before.before.struct-told5.given.1.0.1,
-      read_result h.h5.y c.before.struct-told6.given.1.0.1,
-      read_result h.h6.y c.struct-told7.given.1.0.1,
+      read_result h.h0.y c.struct_told-1.given.1.0.1,
+      read_result h.h1.y c.struct_told-2-1.given.1.0.1,
+      read_result h.h2.y c.struct_told-3-1.given.1.0.1,
+      read_result h.h3.y c.struct_told-4-1.given.1.0.1,
+      read_result h.h4.y c.struct_told-5-1.given.1.0.1,
+      read_result h.h5.y c.struct_told-6-1.given.1.0.1,
+      read_result h.h6.y c.struct_told-7-1.given.1.0.1,
     )
 
-pub each-y-spec : {M : Type 1} → statement M
-each-y-spec = tie.close (tie.spec returns)
+pub each_y_spec : {M : Type 1} → statement M
+each_y_spec = tie.close (tie.spec returns)

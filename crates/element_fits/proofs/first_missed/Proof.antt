@@ -16,18 +16,18 @@ returns c =
     let f3 = f4.before in
     let f2 = f3.before in
     let f1 = f2.before in
-    let a = f1.before.args in
-    let e1 = f1.cubic-missed.ensures in
-    let e2 = f2.cubic-missed2.ensures ∙ ap (λ (l : Limits). missed l (cubic a.c.y) a.c.y a.tolerance 10) e1 in
-    let e3 = f3.quadratic-missed.ensures ∙ ap (λ (l : Limits). missed l (raised (quadratic a.c.d)) a.c.d a.tolerance 20) e2 in
-    let e4 = f4.quadratic-missed2.ensures ∙ ap (λ (l : Limits). missed l (raised (quadratic a.c.l1)) a.c.l1 a.tolerance 30) e3 in
-    let e5 = f5.quadratic-missed3.ensures ∙ ap (λ (l : Limits). missed l (raised (quadratic a.c.l2)) a.c.l2 a.tolerance 40) e4 in
-    c.quadratic-missed4.ensures ∙ ap (λ (l : Limits). missed l (raised (quadratic a.c.mu)) a.c.mu a.tolerance 50) e5
+    let a = f1.args in
+    let e1 = f1.cubic_missed-f0.ensures in
+    let e2 = f2.cubic_missed-f1.ensures ∙ ap (λ (l : Limits). missed l (cubic a.c.y) a.c.y a.tolerance 10) e1 in
+    let e3 = f3.quadratic_missed-f2.ensures ∙ ap (λ (l : Limits). missed l (raised (quadratic a.c.d)) a.c.d a.tolerance 20) e2 in
+    let e4 = f4.quadratic_missed-f3.ensures ∙ ap (λ (l : Limits). missed l (raised (quadratic a.c.l1)) a.c.l1 a.tolerance 30) e3 in
+    let e5 = f5.quadratic_missed-f4.ensures ∙ ap (λ (l : Limits). missed l (raised (quadratic a.c.l2)) a.c.l2 a.tolerance 40) e4 in
+    c.quadratic_missed.ensures ∙ ap (λ (l : Limits). missed l (raised (quadratic a.c.mu)) a.c.mu a.tolerance 50) e5
 
-pub first-missed-spec : {M : Type 1} → statement M
-first-missed-spec =
+pub first_missed_spec : {M : Type 1} → statement M
+first_missed_spec =
     tie.close
-    (tie.spec (λ c κs. (c.requires.x, lit≤ tt)) (λ c κs. (c.before.requires.y, lit≤ tt))
-    (λ c κs. (c.before.before.requires.d, lit≤ tt)) (λ c κs. (c.before.before.before.requires.l1, lit≤ tt))
-    (λ c κs. (c.before.before.before.before.requires.l2, lit≤ tt))
-    (λ c κs. (wider c.before.before.before.before.before.requires.mu (lit≤ tt), lit≤ tt)) returns)
+    (tie.spec (λ c κs. (c.requires.x, lit≤ tt)) (λ c κs. (c.requires.y, lit≤ tt))
+    (λ c κs. (c.requires.d, lit≤ tt)) (λ c κs. (c.requires.l1, lit≤ tt))
+    (λ c κs. (c.requires.l2, lit≤ tt))
+    (λ c κs. (wider c.requires.mu (lit≤ tt), lit≤ tt)) returns)

@@ -23,50 +23,50 @@ use Rattle.element_fits.proofs.fitting_of.Statement.{statement}
 use Rattle.element_fits.proofs.fitting_of.Tie as tie
 
 -- ---- what the rows give
-module _ (c : tie.After-hours-of) where
+module _ (c : tie.After-hours_of-h) where
   abbrev start : tie.Start
   start = c.before.before
 
-  sizes : HoursSizes c.hours-of.result
-  sizes = subst HoursSizes (sym c.hours-of.ensures) (hours_sizes start.args.k start.pre.3 start.args.t start.pre.1)
+  sizes : HoursSizes c.hours_of-h.result
+  sizes = subst HoursSizes (sym c.hours_of-h.ensures) (hours_sizes start.args.k start.requires.3 start.args.t start.requires.1)
 
-columns-of-requires : tie.Need-columns-of-requires
+columns-of-requires : tie.Need-columns_of-columns-requires
 columns-of-requires c κs =
-    (sizes c.before, (start c.before).pre.2, read-size c.middle_of.result 765_000_000 c.middle_of.ensures.size tt)
+    (sizes c.before, (start c.before).requires.2, read-size c.middle_of-middle.result 765_000_000 c.middle_of-middle.ensures.size tt)
 
-elements-of-requires : tie.Need-elements-of-requires
-elements-of-requires c κs = let s = start c.before.before in (s.pre.1.r3, s.pre.3)
+elements-of-requires : tie.Need-elements_of-b-requires
+elements-of-requires c κs = let s = start c.before.before.before in (s.requires.1.r3, s.requires.3)
 
 -- ---- the columns, and the tangents of the middle row
-module _ (c : tie.After-columns-of) where
-  abbrev hours : tie.After-hours-of
+module _ (c : tie.After-columns_of-columns) where
+  abbrev hours : tie.After-hours_of-h
   hours = c.before.before
 
-  middle-is : to_z w64 (of_z w64 c.before.middle_of.result) ≡ middleOf c.before.before.hours-of.result (start hours).args.g
-  middle-is = read_back c.before.middle_of.result c.before.middle_of.ensures.size tt ∙ c.before.middle_of.ensures.value
+  middle-is : to_z w64 (of_z w64 c.middle_of-middle.result) ≡ middleOf c.hours_of-h.result (start hours).args.g
+  middle-is = read_back c.middle_of-middle.result c.middle_of-middle.ensures.size tt ∙ c.middle_of-middle.ensures.value
 
-  columns-are : c.columns_of.result ≡ columnsOf hours.hours-of.result (start hours).args.g (middleOf hours.hours-of.result (start hours).args.g)
-  columns-are = c.columns_of.ensures ∙ ap (columnsOf hours.hours-of.result (start hours).args.g) middle-is
+  columns-are : c.columns_of-columns.result ≡ columnsOf hours.hours_of-h.result (start hours).args.g (middleOf hours.hours_of-h.result (start hours).args.g)
+  columns-are = c.columns_of-columns.ensures ∙ ap (columnsOf hours.hours_of-h.result (start hours).args.g) middle-is
 
-module _ (c : tie.After-elements-of) where
+module _ (c : tie.After-elements_of-b) where
   abbrev begun : tie.Start
-  begun = start (hours c.before)
+  begun = start (hours c.before.before)
 
-  abbrev made : c.elements-of.result ≡ elements_of begun.args.k begun.args.t.r3
-  made = c.elements-of.ensures.0
+  abbrev made : c.elements_of-b.result ≡ elements_of begun.args.k begun.args.t.r3
+  made = c.elements_of-b.ensures.0
 
   row : Accepted begun.args.t.r3
-  row = accepted-is begun.args.t.r3 begun.pre.1.r3
+  row = accepted-is begun.args.t.r3 begun.requires.1.r3
 
-fitted-requires : tie.Need-fitted-requires
+fitted-requires : tie.Need-fitted-made-requires
 fitted-requires c κs =
     let m = c.before.before in
     let b = begun m in
-    let h = hours m.before in (
-      subst ColumnsSizes (sym (columns-are m.before)) (columns_sizes _ _ _ (sizes h)),
-      read-size m.before.before.middle_of.result 765_000_000 m.before.before.middle_of.ensures.size tt,
-      back_size 600_000 (ap (λ (b : Besselian). b.tanf1) (made m)) (tanf1_size b.args.k b.pre.3 b.args.t.r3 (row m)) tt,
-      back_size 600_000 (ap (λ (b : Besselian). b.tanf2) (made m)) (tanf2_size b.args.k b.pre.3 b.args.t.r3 (row m)) tt,
+    let h = hours m.before.before in (
+      subst ColumnsSizes (sym (columns-are m.before.before)) (columns_sizes _ _ _ (sizes h)),
+      read-size m.middle_of-middle.result 765_000_000 m.middle_of-middle.ensures.size tt,
+      back_size 600_000 (ap (λ (b : Besselian). b.tanf1) (made m)) (tanf1_size b.args.k b.requires.3 b.args.t.r3 (row m)) tt,
+      back_size 600_000 (ap (λ (b : Besselian). b.tanf2) (made m)) (tanf2_size b.args.k b.requires.3 b.args.t.r3 (row m)) tt,
     )
 
 -- put together, over variables
@@ -82,10 +82,10 @@ returns c =
     let s = begun m in
     let k = s.args.k in
     let t = s.args.t in
-    together k t s.args.g (hours m.before).hours-of.ensures (columns-are m.before) (middle-is m.before)
-    (back (ap (λ (b : Besselian). b.tanf1) (made m)) (tanf1_size k s.pre.3 t.r3 (row m)) tt)
-    (back (ap (λ (b : Besselian). b.tanf2) (made m)) (tanf2_size k s.pre.3 t.r3 (row m)) tt) c.fitted.ensures
+    together k t s.args.g (hours m.before.before).hours_of-h.ensures (columns-are m.before.before) (middle-is m.before.before)
+    (back (ap (λ (b : Besselian). b.tanf1) (made m)) (tanf1_size k s.requires.3 t.r3 (row m)) tt)
+    (back (ap (λ (b : Besselian). b.tanf2) (made m)) (tanf2_size k s.requires.3 t.r3 (row m)) tt) c.fitted-made.ensures
 
-pub fitting-of-spec : {M : Type 1} → statement M
-fitting-of-spec =
+pub fitting_of_spec : {M : Type 1} → statement M
+fitting_of_spec =
     tie.close (tie.spec (λ c κs. search rules) (λ c κs. (sizes c, (start c).requires.2)) columns-of-requires elements-of-requires fitted-requires returns)

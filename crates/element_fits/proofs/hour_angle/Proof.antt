@@ -20,27 +20,27 @@ constant = add (arg 0) (arg 1)
 abbrev hourly : Code
 hourly = add (arg 2) (lit (pos 15_000_000))
 
-add-reduced : tie.Need-overflow-add-reduced
+add-reduced : tie.Need-overflow_add-middle
 add-reduced c = fits (bounds c.before.before.before) constant tt
 
-reduced-requires : tie.Need-reduced-requires
+reduced-requires : tie.Need-reduced-c0-requires
 reduced-requires c κs = within (bounds c.before.before.before) constant 10_000_000_000 tt
 
-add-c1 : tie.Need-overflow-add-c1
+add-c1 : tie.Need-overflow_add-c1
 add-c1 c = fits (bounds c.before.before.before.before) hourly tt
 
 returns : tie.Need-returns
 unfolding hour_angle
 returns c =
     let s = c.before.before.before.before in
-    let h : c.reduced.result ≤ 360_000_000 = omega (arith, c.reduced.ensures.below) in
-    let n = c.reduced.ensures.value ∙ ap reduced (runs (bounds s) constant tt) in
+    let h : c.reduced-c0.result ≤ 360_000_000 = omega (arith, c.reduced-c0.ensures.below) in
+    let n = c.reduced-c0.ensures.value ∙ ap reduced (runs (bounds s) constant tt) in
     rw (
-      count-is c.reduced.result {m = 360_000_000} h tt,
+      count-is c.reduced-c0.result {m = 360_000_000} h tt,
       n,
       runs (bounds s) hourly tt,
       read_back s.args.q.c2 s.requires.0.c2 tt,
     )
 
-pub hour-angle-spec : {M : Type 1} → statement M
-hour-angle-spec = tie.close (tie.spec add-reduced reduced-requires (λ c. search rules) add-c1 returns)
+pub hour_angle_spec : {M : Type 1} → statement M
+hour_angle_spec = tie.close (tie.spec add-reduced reduced-requires (λ c. search rules) add-c1 returns)

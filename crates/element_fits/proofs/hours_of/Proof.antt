@@ -7,17 +7,17 @@ returns : tie.Need-returns
 unfolding hours_of
 returns c =
     rw (
-      c.before.before.before.before.before.before.hour-of.ensures,
-      c.before.before.before.before.before.hour-of2.ensures,
-      c.before.before.before.before.hour-of3.ensures,
-      c.before.before.before.hour-of4.ensures,
-      c.before.before.hour-of5.ensures,
-      c.before.hour-of6.ensures,
-      c.hour-of7.ensures,
+      c.hour_of-h0.ensures,
+      c.hour_of-h1.ensures,
+      c.hour_of-h2.ensures,
+      c.hour_of-h3.ensures,
+      c.hour_of-h4.ensures,
+      c.hour_of-h5.ensures,
+      c.hour_of-h6.ensures,
     )
 
-pub hours-of-spec : {M : Type 1} → statement M
-hours-of-spec =
+pub hours_of_spec : {M : Type 1} → statement M
+hours_of_spec =
     tie.close
     (tie.spec (λ c κs. let s = c.before in (s.requires.0, s.requires.1.r0, s.requires.2))
     (λ c κs. let s = c.before.before in (s.requires.0, s.requires.1.r1, s.requires.2))

@@ -15,11 +15,11 @@ first : (a b : ℕ) → b ≤ a → a ≡ larger a b
 unfolding larger
 first a b h = rw (le-leb b a h)
 
-returns : tie.Need-returns
+returns : tie.Need-returns-then-a-b
 returns c = let s = c.before in (second s.args.a s.args.b (omega arith), s.requires.1)
 
-returns-2 : tie.Need-returns-2
+returns-2 : tie.Need-returns-else-a-b
 returns-2 c = let s = c.before in (first s.args.a s.args.b (omega arith), s.requires.0)
 
-pub larger-spec : {M : Type 1} → statement M
-larger-spec = tie.close (tie.spec returns returns-2)
+pub larger_spec : {M : Type 1} → statement M
+larger_spec = tie.close (tie.spec returns returns-2)

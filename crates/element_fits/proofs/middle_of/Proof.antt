@@ -28,5 +28,5 @@ turn-requires c κs =
       lit≤ tt,
     )
 
-pub middle-of-spec : {M : Type 1} → statement M
-middle-of-spec = tie.close (tie.spec turn-requires returns)
+pub middle_of_spec : {M : Type 1} → statement M
+middle_of_spec = tie.close (tie.spec turn-requires returns)

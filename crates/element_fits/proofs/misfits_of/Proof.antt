@@ -16,17 +16,17 @@ returns c =
     let m2 = m3.before in
     let m1 = m2.before in
     rw (
-      read_back m1.cubic-misfit.result m1.cubic-misfit.ensures.size tt ∙ m1.cubic-misfit.ensures.value,
-      read_back m2.cubic-misfit2.result m2.cubic-misfit2.ensures.size tt ∙ m2.cubic-misfit2.ensures.value,
-      read_back m3.quadratic-misfit.result m3.quadratic-misfit.ensures.size tt ∙ m3.quadratic-misfit.ensures.value,
-      read_back m4.quadratic-misfit2.result m4.quadratic-misfit2.ensures.size tt ∙ m4.quadratic-misfit2.ensures.value,
-      read_back m5.quadratic-misfit3.result m5.quadratic-misfit3.ensures.size tt ∙ m5.quadratic-misfit3.ensures.value,
-      read_back c.quadratic-misfit4.result c.quadratic-misfit4.ensures.size tt ∙ c.quadratic-misfit4.ensures.value,
+      read_back m1.cubic_misfit-x.result m1.cubic_misfit-x.ensures.size tt ∙ m1.cubic_misfit-x.ensures.value,
+      read_back m2.cubic_misfit-y.result m2.cubic_misfit-y.ensures.size tt ∙ m2.cubic_misfit-y.ensures.value,
+      read_back m3.quadratic_misfit-d.result m3.quadratic_misfit-d.ensures.size tt ∙ m3.quadratic_misfit-d.ensures.value,
+      read_back m4.quadratic_misfit-l1.result m4.quadratic_misfit-l1.ensures.size tt ∙ m4.quadratic_misfit-l1.ensures.value,
+      read_back m5.quadratic_misfit-l2.result m5.quadratic_misfit-l2.ensures.size tt ∙ m5.quadratic_misfit-l2.ensures.value,
+      read_back c.quadratic_misfit-mu.result c.quadratic_misfit-mu.ensures.size tt ∙ c.quadratic_misfit-mu.ensures.value,
     )
 
-pub misfits-of-spec : {M : Type 1} → statement M
-misfits-of-spec =
+pub misfits_of_spec : {M : Type 1} → statement M
+misfits_of_spec =
     tie.close
-    (tie.spec (λ c κs. c.requires.x) (λ c κs. c.before.requires.y) (λ c κs. c.before.before.requires.d)
-    (λ c κs. c.before.before.before.requires.l1) (λ c κs. c.before.before.before.before.requires.l2)
-    (λ c κs. wider c.before.before.before.before.before.requires.mu (lit≤ tt)) returns)
+    (tie.spec (λ c κs. c.requires.x) (λ c κs. c.requires.y) (λ c κs. c.requires.d)
+    (λ c κs. c.requires.l1) (λ c κs. c.requires.l2)
+    (λ c κs. wider c.requires.mu (lit≤ tt)) returns)

@@ -22,25 +22,25 @@ module _ (c : tie.Start) where
 abbrev distance : Code
 distance = sub (add (mul (add (mul (add (mul (arg 3) (arg 4)) (arg 2)) (arg 4)) (arg 1)) (arg 4)) (arg 0)) (arg 5)
 
-mul-off : tie.Need-overflow-mul-off
+mul-off : tie.Need-overflow_mul-off
 mul-off c = fits (bounds c.before.before.before.before) (mul (arg 3) (arg 4)) tt
 
-add-off : tie.Need-overflow-add-off
+add-off : tie.Need-overflow_add-off
 add-off c = fits (bounds c.before.before.before.before) (add (mul (arg 3) (arg 4)) (arg 2)) tt
 
-mul-off-2 : tie.Need-overflow-mul-off-2
+mul-off-2 : tie.Need-overflow_mul-off-2
 mul-off-2 c = fits (bounds c.before.before.before.before) (mul (add (mul (arg 3) (arg 4)) (arg 2)) (arg 4)) tt
 
-add-off-2 : tie.Need-overflow-add-off-2
+add-off-2 : tie.Need-overflow_add-off-2
 add-off-2 c = fits (bounds c.before.before.before.before) (add (mul (add (mul (arg 3) (arg 4)) (arg 2)) (arg 4)) (arg 1)) tt
 
-mul-off-3 : tie.Need-overflow-mul-off-3
+mul-off-3 : tie.Need-overflow_mul-off-3
 mul-off-3 c = fits (bounds c.before.before.before.before) (mul (add (mul (add (mul (arg 3) (arg 4)) (arg 2)) (arg 4)) (arg 1)) (arg 4)) tt
 
-add-off-3 : tie.Need-overflow-add-off-3
+add-off-3 : tie.Need-overflow_add-off-3
 add-off-3 c = fits (bounds c.before.before.before.before) (add (mul (add (mul (add (mul (arg 3) (arg 4)) (arg 2)) (arg 4)) (arg 1)) (arg 4)) (arg 0)) tt
 
-sub-off : tie.Need-overflow-sub-off
+sub-off : tie.Need-overflow_sub-off
 sub-off c = fits (bounds c.before.before.before.before) distance tt
 
 abs-requires : tie.Need-abs-requires
@@ -50,16 +50,16 @@ abs-requires c κs = within (bounds c.before.before.before.before) distance 9223
 size_is : (c : tie.After-abs) → c.abs.result ≡ pos (nat_abs (value (slots c.before.before.before.before.before) distance))
 size_is c = c.abs.ensures ∙ ap (λ (z : ℤ). pos (nat_abs z)) (runs (bounds c.before.before.before.before.before) distance tt)
 
-cast-result : tie.Need-overflow-cast-result
-cast-result c = cast_unsigned c.abs.result (record { sfits = c.abs.type-inv }) (rw (size_is c) (omega (arith, zs)))
+cast-result : tie.Need-overflow_cast-result
+cast-result c = cast_unsigned c.abs.result (record { sfits = c.abs.type_inv }) (rw (size_is c) (omega (arith, zs)))
 
 returns : tie.Need-returns
 unfolding off
 returns c =
     let s = c.before.before.before.before.before in
     let e : nat_abs (to_z w64 (of_z w64 c.abs.result)) ≡ off s.args.c s.args.t s.args.v =
-    ap nat_abs (read_result c.abs.result c.abs.type-inv ∙ size_is c) in
+    ap nat_abs (read_result c.abs.result c.abs.type_inv ∙ size_is c) in
     (e, omega (arith, e, sized (bounds s) distance))
 
-pub off-spec : {M : Type 1} → statement M
-off-spec = tie.close (tie.spec mul-off add-off mul-off-2 add-off-2 mul-off-3 add-off-3 sub-off abs-requires cast-result returns)
+pub off_spec : {M : Type 1} → statement M
+off_spec = tie.close (tie.spec mul-off add-off mul-off-2 add-off-2 mul-off-3 add-off-3 sub-off abs-requires cast-result returns)

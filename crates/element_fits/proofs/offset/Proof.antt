@@ -22,8 +22,8 @@ abbrev shifted : Code
 shifted = add difference (lit (pos 180_000_000))
 
 -- what `reduced` gave
-after : (c : tie.After-reduced) → Within (raw c.reduced.result ∷ []) (360_000_000 ∷ [])
-after c = let h : c.reduced.result ≤ 360_000_000 = omega (arith, c.reduced.ensures.below) in count-size c.reduced.result h tt ▹ ends
+after : (c : tie.After-reduced-turned) → Within (raw c.reduced-turned.result ∷ []) (360_000_000 ∷ [])
+after c = let h : c.reduced-turned.result ≤ 360_000_000 = omega (arith, c.reduced-turned.ensures.below) in count-size c.reduced-turned.result h tt ▹ ends
 
 abbrev back : Code
 back = sub (arg 0) (lit (pos 180_000_000))
@@ -31,11 +31,11 @@ back = sub (arg 0) (lit (pos 180_000_000))
 returns : tie.Need-returns
 unfolding offset
 returns c =
-    let a = c.before.args in
-    let h : c.reduced.result ≤ 360_000_000 = omega (arith, c.reduced.ensures.below) in
-    let n = c.reduced.ensures.value ∙ ap reduced (runs (bounds c.before) shifted tt) in
-    let e = runs (after c) back tt ∙ ap (λ (z : ℤ). z -ℤ pos 180_000_000) (count-is c.reduced.result {m = 360_000_000} h tt ∙ ap pos n) in
+    let a = c.args in
+    let h : c.reduced-turned.result ≤ 360_000_000 = omega (arith, c.reduced-turned.ensures.below) in
+    let n = c.reduced-turned.ensures.value ∙ ap reduced (runs (bounds c.before) shifted tt) in
+    let e = runs (after c) back tt ∙ ap (λ (z : ℤ). z -ℤ pos 180_000_000) (count-is c.reduced-turned.result {m = 360_000_000} h tt ∙ ap pos n) in
     record { value = e; size = omega (arith, ap nat_abs e, offset-size a.t a.middle) }
 
-pub offset-spec : {M : Type 1} → statement M
-offset-spec = tie.close (tie.spec (λ c. fits (bounds c) difference tt) (λ c. fits (bounds c) shifted tt) (λ c κs. within (bounds c) shifted 10_000_000_000 tt) (λ c. search rules) (λ c. fits (after c) back tt) returns)
+pub offset_spec : {M : Type 1} → statement M
+offset_spec = tie.close (tie.spec (λ c. fits (bounds c) difference tt) (λ c. fits (bounds c) shifted tt) (λ c κs. within (bounds c) shifted 10_000_000_000 tt) (λ c. search rules) (λ c. fits (after c) back tt) returns)

@@ -14,19 +14,19 @@ use Rattle.element_fits.proofs.quadratic_misfit.Tie as tie
 
 misfit-requires : tie.Need-misfit-requires
 misfit-requires c κs =
-    let e = c.raised.ensures ∙ ap raised c.before.quadratic.ensures in
+    let e = c.raised-c.ensures ∙ ap raised c.quadratic-q.ensures in
     let s = c.before.before in
     (subst (CoefficientSizes 1_000_000_000_000) (sym e) (quadratic_coefficients s.args.v s.requires), s.requires)
 
 returns : tie.Need-returns
 returns c =
-    let a = c.before.before.before.args in
+    let a = c.args in
     let l = c.misfit.ensures.1 in
-    let e = c.before.raised.ensures ∙ ap raised c.before.before.quadratic.ensures in
+    let e = c.raised-c.ensures ∙ ap raised c.quadratic-q.ensures in
     record {
       value = count-is c.misfit.result l tt ∙ ap pos (c.misfit.ensures.0 ∙ ap (λ (q : Cubic). misfit q a.v) e);
       size = count-size c.misfit.result l tt;
     }
 
-pub quadratic-misfit-spec : {M : Type 1} → statement M
-quadratic-misfit-spec = tie.close (tie.spec (λ c κs. search rules) (λ c κs. search rules) misfit-requires (λ c. fits64 (pos c.misfit.result) (omega (arith, c.misfit.ensures.1))) returns)
+pub quadratic_misfit_spec : {M : Type 1} → statement M
+quadratic_misfit_spec = tie.close (tie.spec (λ c κs. search rules) (λ c κs. search rules) misfit-requires (λ c. fits64 (pos c.misfit.result) (omega (arith, c.misfit.ensures.1))) returns)

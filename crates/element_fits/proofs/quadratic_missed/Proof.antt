@@ -10,14 +10,14 @@ use Rattle.element_fits.proofs.quadratic_missed.Tie as tie
 
 missed-requires : tie.Need-missed-requires
 missed-requires c κs =
-    let e = c.raised.ensures ∙ ap raised c.before.quadratic.ensures in
-    (subst (CoefficientSizes 1_000_000_000_000) (sym e) (quadratic_coefficients c.before.before.args.v c.before.before.requires.0), c.before.before.requires.0, c.before.before.requires.1)
+    let e = c.raised-c.ensures ∙ ap raised c.quadratic-q.ensures in
+    (subst (CoefficientSizes 1_000_000_000_000) (sym e) (quadratic_coefficients c.args.v c.requires.0), c.requires.0, c.requires.1)
 
 returns : tie.Need-returns
 returns c =
-    let a = c.before.before.before.args in
+    let a = c.args in
     c.missed.ensures
-    ∙ ap (λ (q : Cubic). missed a.found q a.v a.tolerance a.place) (c.before.raised.ensures ∙ ap raised c.before.before.quadratic.ensures)
+    ∙ ap (λ (q : Cubic). missed a.found q a.v a.tolerance a.place) (c.raised-c.ensures ∙ ap raised c.quadratic-q.ensures)
 
-pub quadratic-missed-spec : {M : Type 1} → statement M
-quadratic-missed-spec = tie.close (tie.spec (λ c κs. c.requires.0) (λ c κs. search rules) missed-requires returns)
+pub quadratic_missed_spec : {M : Type 1} → statement M
+quadratic_missed_spec = tie.close (tie.spec (λ c κs. c.requires.0) (λ c κs. search rules) missed-requires returns)

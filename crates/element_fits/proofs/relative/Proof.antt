@@ -14,7 +14,7 @@ returns c =
     let s = c.before.before in
     let a = s.args in
     let p = s.requires in
-    let t = c.before.turn in
+    let t = c.turn-t in
     let turned = rw (read_back a.g p.0 tt, read_back a.a p.1 tt, read_back a.hour p.2 tt) at t.ensures.value in
     let e =
     read_back c.offset.result c.offset.ensures.size tt
@@ -23,5 +23,5 @@ returns c =
     in
     record { value = e; size = omega (arith, ap nat_abs e, offset-size (turn a.g a.a a.hour) a.middle) }
 
-pub relative-spec : {M : Type 1} → statement M
-relative-spec = tie.close (tie.spec (λ c κs. search rules) (λ c κs. search rules) returns)
+pub relative_spec : {M : Type 1} → statement M
+relative_spec = tie.close (tie.spec (λ c κs. search rules) (λ c κs. search rules) returns)

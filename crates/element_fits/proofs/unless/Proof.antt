@@ -7,23 +7,23 @@ use Rattle.element_fits.specs.Answers.{unless}
 use Rattle.element_fits.proofs.unless.Statement.{statement}
 use Rattle.element_fits.proofs.unless.Tie as tie
 
-returns : tie.Need-returns
+returns : tie.Need-returns-in-OutOfRange
 unfolding unless
 returns c =
-    let a = c.before.before.before.args in
-    sym (ap (λ (l : Limits). unless l a.good a.place) c.before.found.given.1)
+    let a = c.args in
+    sym (ap (λ (l : Limits). unless l a.good a.place) c.in-OutOfRange.is)
 
-returns-2 : tie.Need-returns-2
+returns-2 : tie.Need-returns-then-good
 unfolding unless
 returns-2 c =
-    let a = c.before.before.before.args in
-    sym (ap₂ (λ (l : Limits) (t : Bool). unless l t a.place) c.before.enum_told.given.1 c.if1.true)
+    let a = c.args in
+    sym (ap₂ (λ (l : Limits) (t : Bool). unless l t a.place) c.in_default.is c.if-good.true)
 
-returns-3 : tie.Need-returns-3
+returns-3 : tie.Need-returns
 unfolding unless
 returns-3 c =
-    let a = c.before.before.before.args in
-    sym (ap₂ (λ (l : Limits) (t : Bool). unless l t a.place) c.before.enum_told.given.1 c.if1.false)
+    let a = c.args in
+    sym (ap₂ (λ (l : Limits) (t : Bool). unless l t a.place) c.in_default.is c.if-good.false)
 
-pub unless-spec : {M : Type 1} → statement M
-unless-spec = tie.close (tie.spec (λ c. search rules) returns (λ c. search rules) returns-2 returns-3)
+pub unless_spec : {M : Type 1} → statement M
+unless_spec = tie.close (tie.spec (λ c. search rules) returns (λ c. search rules) returns-2 returns-3)

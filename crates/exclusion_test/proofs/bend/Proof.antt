@@ -36,7 +36,7 @@ bend-of h l r e =
       size = omega (arith, mul-le-mul l l);
     })
 
-div-result : tie.Need-nonzero-div-result
+div-result : tie.Need-nonzero_div-result
 div-result c = (above (bounds c) (K.lit (pos 16)) tt (omega (arith, zs)), fits (bounds c) sixteenth tt)
 
 returns : tie.Need-returns
@@ -45,5 +45,5 @@ returns c =
     bend-of c.args.h c.requires _
     (runs (bounds c) whole tt ∙ ap₂ (λ (x y : ℤ). quot_z (pos 7 *ℤ (x *ℤ y)) (pos 16) +ℤ pos 1) h h)
 
-pub bend-spec : {M : Type 1} → statement M
-bend-spec = tie.close (tie.spec (λ c. search rules) (λ c. fits (bounds c) square tt) (λ c. fits (bounds c) seven tt) div-result (λ c. fits (bounds c) whole tt) returns)
+pub bend_spec : {M : Type 1} → statement M
+bend_spec = tie.close (tie.spec (λ c. search rules) (λ c. fits (bounds c) square tt) (λ c. fits (bounds c) seven tt) div-result (λ c. fits (bounds c) whole tt) returns)

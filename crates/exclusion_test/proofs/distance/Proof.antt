@@ -25,20 +25,20 @@ distance-of (pos n) h l r e =
     rw e (record { nonneg = parts-≤ (omega arith); low = parts-≤ (omega (arith, i.low)); high = parts-≤ (omega (arith, i.high)); size = root-small n h })
 distance-of (negsuc n) h l r e = absurd l.le
 
-found : (c : tie.After-root) → c.root.result ≡ root (nat_abs c.before.args.m)
-found c = c.root.ensures ∙ ap (λ (z : ℤ). root (nat_abs z)) (read_back c.before.args.m c.before.requires.0 tt)
+found : (c : tie.After-root) → c.root.result ≡ root (nat_abs c.args.m)
+found c = c.root.ensures ∙ ap (λ (z : ℤ). root (nat_abs z)) (read_back c.args.m c.requires.0 tt)
 
 found_small : (c : tie.After-root) → c.root.result ≤ 1000000000
-found_small c = omega (arith, found c, root-small (nat_abs c.before.args.m) c.before.requires.0)
+found_small c = omega (arith, found c, root-small (nat_abs c.args.m) c.requires.0)
 
-cast-result : tie.Need-overflow-cast-result
+cast-result : tie.Need-overflow_cast-result
 cast-result c = fits (after c) (arg 0) tt
   where
     after : (c : tie.After-root) → Within (whole (pos c.root.result) ∷ []) (1000000000 ∷ [])
     after c = found_small c ▹ ends
 
 returns : tie.Need-returns
-returns c = distance-of c.before.args.m c.before.requires.0 c.before.requires.1 _ (read_back (pos c.root.result) (found_small c) tt ∙ ap pos (found c))
+returns c = distance-of c.args.m c.requires.0 c.requires.1 _ (read_back (pos c.root.result) (found_small c) tt ∙ ap pos (found c))
 
-pub distance-spec : {M : Type 1} → statement M
-distance-spec = tie.close (tie.spec (λ c. unsigned (bounds c) (arg 0) tt c.requires.1) (λ c κs. tt) cast-result returns)
+pub distance_spec : {M : Type 1} → statement M
+distance_spec = tie.close (tie.spec (λ c. unsigned (bounds c) (arg 0) tt c.requires.1) (λ c κs. tt) cast-result returns)

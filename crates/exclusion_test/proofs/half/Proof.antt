@@ -25,7 +25,7 @@ half_of : (r : ℤ) → nat_abs r ≤ 4500000000 → pos 1 ≤ℤ r → (s : ℤ
 half_of (pos n) h l s e = rw e (record { up = parts-≤ (omega arith); size = omega arith })
 half_of (negsuc n) h l s e = absurd l.le
 
-div-result : tie.Need-nonzero-div-result
+div-result : tie.Need-nonzero_div-result
 div-result c = (above (bounds c) (K.lit (pos 2)) tt (omega (arith, zs)), fits (bounds c) halved tt)
 
 returns : tie.Need-returns

@@ -16,21 +16,21 @@ bounds c = c.requires.0 ▹ c.requires.1 ▹ ends
 under : (x y : ℤ) → x <ℤ y → x ≤ℤ y
 under x y h = omega (arith, zs)
 
-returns : tie.Need-returns
+returns : tie.Need-returns-then-n-gt0
 returns c = λ t. absurd (false≢true t)
 
-returns-2 : tie.Need-returns-2
+returns-2 : tie.Need-returns-then-k-lt0
 returns-2 c = λ t.
     let w = bounds c.before.before in
-    inr (under c.before.before.args.k (pos 0) (taken-< w (arg 0) (lit (pos 0)) tt c.before.if1.true), left-< w (lit (pos 0)) (arg 1) tt c.if2.false)
+    inr (under c.args.k (pos 0) (taken-< w (arg 0) (lit (pos 0)) tt c.if-k-lt0.true), left-< w (lit (pos 0)) (arg 1) tt c.if-n-gt0.false)
 
-returns-3 : tie.Need-returns-3
+returns-3 : tie.Need-returns-then-n-lt0
 returns-3 c = λ t. absurd (false≢true t)
 
-returns-4 : tie.Need-returns-4
+returns-4 : tie.Need-returns
 returns-4 c = λ t.
     let w = bounds c.before.before in
-    inl (left-< w (arg 0) (lit (pos 0)) tt c.before.if1.false, left-< w (arg 1) (lit (pos 0)) tt c.if3.false)
+    inl (left-< w (arg 0) (lit (pos 0)) tt c.if-k-lt0.false, left-< w (arg 1) (lit (pos 0)) tt c.if-n-lt0.false)
 
-pub one-sign-spec : {M : Type 1} → statement M
-one-sign-spec = tie.close (tie.spec returns returns-2 returns-3 returns-4)
+pub one_sign_spec : {M : Type 1} → statement M
+one_sign_spec = tie.close (tie.spec returns returns-2 returns-3 returns-4)

@@ -37,25 +37,25 @@ at_most : (p n q : ℤ) → pos 1 ≤ℤ n → (q *ℤ n) ≤ℤ p → pos 10000
 at_most p n q h l g =
     ≤ℤ_trans (certify 0 (q ∷ n ∷ []) (num 1000000000 ⊗ v1) (v0 ⊗ v1) ((less (num 1000000000) v0 g ⊞ lit 1) ⊠ (leq (num 1) v1 h ⊞ lit 1)) tt) l
 
-div-q : tie.Need-nonzero-div-q
+div-q : tie.Need-nonzero_div-q
 div-q c = (above (bounds c) (arg 1) tt (positive c.args.n c.requires.3), fits (bounds c) Q tt)
 
-returns : tie.Need-returns
+returns : tie.Need-returns-then-q-gt1000000000
 returns c =
     let s = c.before in
     let d = down s.args.p s.args.n s.requires.2 s.requires.3 in
     record {
-      low = at_most s.args.p s.args.n (quot_z s.args.p s.args.n) s.requires.3 d.1 (taken-< (bounds s) (K.lit (pos 1000000000)) Q tt c.if1.true);
+      low = at_most s.args.p s.args.n (quot_z s.args.p s.args.n) s.requires.3 d.1 (taken-< (bounds s) (K.lit (pos 1000000000)) Q tt c.if-q-gt1000000000.true);
       size = omega arith;
     }
 
 part_of : (p n q : ℤ) → q ≡ quot_z p n → pos 0 ≤ℤ p → pos 1 ≤ℤ n → quot_z p n ≤ℤ pos 1000000000 → Part p n q
 part_of p n q e hp hn l = rw e (record { low = (down p n hp hn).1; size = small (quot_z p n) (down p n hp hn).0 l })
 
-returns-2 : tie.Need-returns-2
+returns-2 : tie.Need-returns
 returns-2 c =
     let s = c.before in
-    part_of s.args.p s.args.n _ (runs (bounds s) Q tt) s.requires.2 s.requires.3 (left-< (bounds s) (K.lit (pos 1000000000)) Q tt c.if1.false)
+    part_of s.args.p s.args.n _ (runs (bounds s) Q tt) s.requires.2 s.requires.3 (left-< (bounds s) (K.lit (pos 1000000000)) Q tt c.if-q-gt1000000000.false)
 
-pub part-spec : {M : Type 1} → statement M
-part-spec = tie.close (tie.spec div-q returns returns-2)
+pub part_spec : {M : Type 1} → statement M
+part_spec = tie.close (tie.spec div-q returns returns-2)

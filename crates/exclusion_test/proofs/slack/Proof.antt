@@ -6,5 +6,5 @@ use Rattle.exclusion_test.proofs.slack.Tie as tie
 returns : tie.Need-returns
 returns c = refl
 
-pub slack-spec : {M : Type 1} → statement M
-slack-spec = tie.close (tie.spec returns)
+pub slack_spec : {M : Type 1} → statement M
+slack_spec = tie.close (tie.spec returns)

@@ -29,44 +29,44 @@ narrow a b q s h l g =
     let d = leq r (num 2 ⊗ v3) l in
     certify-< 0 e (r ⊗ r) (num 4 ⊗ (v0 ⊗ v1)) (lit 4 ⊠ less (v3 ⊗ v3) (v0 ⊗ v1) g ⊞ lit 3 ⊞ d ⊠ (d ⊞ lit 2 ⊠ (leq (num 1) r h ⊞ lit 1))) tt
 
-returns : tie.Need-returns
+returns : tie.Need-returns-then-a-lt1
 returns c = λ t. absurd (false≢true t)
 
-returns-2 : tie.Need-returns-2
+returns-2 : tie.Need-returns-then-b-lt1
 returns-2 c = λ t. absurd (false≢true t)
 
-sub-r : tie.Need-overflow-sub-r
+sub-r : tie.Need-overflow_sub-r
 sub-r c = fits (bounds c.before.before) (sub (arg 2) (arg 0)) tt
 
-returns-3 : tie.Need-returns-3
+returns-3 : tie.Need-returns-then-r-lt1
 returns-3 c = λ t.
     let s = c.before.before.before in
     let w = bounds s in
     record {
-      first = left-< w (arg 0) (K.lit (pos 1)) tt c.before.before.if1.false;
-      second = left-< w (arg 1) (K.lit (pos 1)) tt c.before.if2.false;
-      spans = inl (wide s.args.a s.args.b s.args.q (taken-< w R (K.lit (pos 1)) tt c.if3.true));
+      first = left-< w (arg 0) (K.lit (pos 1)) tt c.if-a-lt1.false;
+      second = left-< w (arg 1) (K.lit (pos 1)) tt c.if-b-lt1.false;
+      spans = inl (wide s.args.a s.args.b s.args.q (taken-< w R (K.lit (pos 1)) tt c.if-r-lt1.true));
     }
 
-half-requires : tie.Need-half-requires
+half-requires : tie.Need-half-s-requires
 half-requires c κs =
     let w = bounds c.before.before.before in
-    (within w R 4500000000 tt, rw (runs w R tt) (left-< w R (K.lit (pos 1)) tt c.if3.false))
+    (within w R 4500000000 tt, rw (runs w R tt) (left-< w R (K.lit (pos 1)) tt c.if-r-lt1.false))
 
 -- a, b and the half
-after : (c : tie.After-half) → Within (whole c.before.before.before.before.args.a ∷ whole c.before.before.before.before.args.b ∷ whole c.half.result ∷ []) (2100000000 ∷ 2100000000 ∷ 2300000000 ∷ [])
-after c = let s = c.before.before.before.before in s.requires.0 ▹ s.requires.1 ▹ c.half.ensures.size ▹ ends
+after : (c : tie.After-half-s) → Within (whole c.args.a ∷ whole c.args.b ∷ whole c.half-s.result ∷ []) (2100000000 ∷ 2100000000 ∷ 2300000000 ∷ [])
+after c = let s = c.before.before.before.before in s.requires.0 ▹ s.requires.1 ▹ c.half-s.ensures.size ▹ ends
 
-returns-4 : tie.Need-returns-4
+returns-4 : tie.Need-returns
 returns-4 c = λ t.
     let s = c.before.before.before.before in
     let w = bounds s in
     record {
-      first = left-< w (arg 0) (K.lit (pos 1)) tt c.before.before.before.if1.false;
-      second = left-< w (arg 1) (K.lit (pos 1)) tt c.before.before.if2.false;
-      spans = inr (narrow s.args.a s.args.b s.args.q c.half.result (left-< w R (K.lit (pos 1)) tt c.before.if3.false)
-          (rw (runs w R tt) at c.half.ensures.up) (taken-< (after c) (mul (arg 2) (arg 2)) (mul (arg 0) (arg 1)) tt t));
+      first = left-< w (arg 0) (K.lit (pos 1)) tt c.if-a-lt1.false;
+      second = left-< w (arg 1) (K.lit (pos 1)) tt c.if-b-lt1.false;
+      spans = inr (narrow s.args.a s.args.b s.args.q c.half-s.result (left-< w R (K.lit (pos 1)) tt c.if-r-lt1.false)
+          (rw (runs w R tt) at c.half-s.ensures.up) (taken-< (after c) (mul (arg 2) (arg 2)) (mul (arg 0) (arg 1)) tt t));
     }
 
-pub spans-spec : {M : Type 1} → statement M
-spans-spec = tie.close (tie.spec returns returns-2 sub-r (λ c. fits (bounds c.before.before) R tt) returns-3 half-requires (λ c. fits (after c) (mul (arg 2) (arg 2)) tt) (λ c. fits (after c) (mul (arg 0) (arg 1)) tt) returns-4)
+pub spans_spec : {M : Type 1} → statement M
+spans_spec = tie.close (tie.spec returns returns-2 sub-r (λ c. fits (bounds c.before.before) R tt) returns-3 half-requires (λ c. fits (after c) (mul (arg 2) (arg 2)) tt) (λ c. fits (after c) (mul (arg 0) (arg 1)) tt) returns-4)

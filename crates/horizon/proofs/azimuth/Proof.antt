@@ -13,11 +13,11 @@ use Rattle.horizon.proofs.Nears.{bearing-is}
 use Rattle.horizon.proofs.azimuth.Statement.{statement}
 use Rattle.horizon.proofs.azimuth.Tie as tie
 
-abbrev start : tie.After-struct-told4 → tie.Start
+abbrev start : tie.After-struct_told-4-1 → tie.Start
 start c = c.before.before.before.before.before
 
 -- the opposite of cos d
-bounds : (c : tie.After-struct-told4) → Within (whole (start c).args.o.dcosine ∷ []) (100000000 ∷ [])
+bounds : (c : tie.After-struct_told-4-1) → Within (whole (start c).args.o.dcosine ∷ []) (100000000 ∷ [])
 bounds c = (start c).requires.3.dcosine ▹ ends
 
 abbrev opposite : Code
@@ -42,7 +42,7 @@ unfolding east north
 returns c =
     let s = start c.before in
     let a = s.args in
-    let p = s.pre in
+    let p = s.requires in
     c.bearing.ensures
     ∙ bearing-is (runs (bounds c.before) opposite tt) (read_back a.o.hsine p.3.hsine tt) (read_back a.cosine p.2 tt)
     (read_back a.o.dsine p.3.dsine tt) (read_back a.sine p.1 tt) (read_back a.o.hcosine p.3.hcosine tt)
@@ -50,5 +50,5 @@ returns c =
     ∙ ap (λ (z : ℤ). direction S (near z one) (near (a.cosine *ℤ a.o.dsine -ℤ near (a.sine *ℤ a.o.hcosine) one *ℤ a.o.dcosine) one))
     (ring (a.o.dcosine ∷ a.o.hsine ∷ []) ((num 0 ⊖ v0) ⊗ v1) (opp (v0 ⊗ v1)) tt)
 
-pub azimuth-spec : {M : Type 1} → statement M
-azimuth-spec = tie.close (tie.spec (λ c. fits (bounds c) opposite tt) bearing-requires returns)
+pub azimuth_spec : {M : Type 1} → statement M
+azimuth_spec = tie.close (tie.spec (λ c. fits (bounds c) opposite tt) bearing-requires returns)

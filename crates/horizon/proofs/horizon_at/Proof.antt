@@ -33,59 +33,58 @@ answered o τ sines c e r new er en =
     (er ∙ ap (λ (k : Checked). horizon_by k o τ) (sym e), en ∙ ap (λ (k : Checked). sines_after k sines) (sym e))
 
 -- t is read back from its bits
-t-is : (c : tie.After-in-span) → c.in-span.result ≡ in_span c.before.before.args.t
-t-is c = c.in-span.ensures ∙ ap in_span (to_z-of_z w64 c.before.before.args.t c.before.before.ranges.t)
+t-is : (c : tie.After-in_span-inside) → c.in_span-inside.result ≡ in_span c.args.t
+t-is c = c.in_span-inside.ensures ∙ ap in_span (to_z-of_z w64 c.args.t c.ranges.t)
 
-spans : (c : tie.Else1) → in_span c.before.before.before.args.t ≡ true
-spans c = sym (t-is c.before) ∙ not_false c.before.in-span.result c.if1.false
+spans : (c : tie.Else-not-inside) → in_span c.args.t ≡ true
+spans c = sym (t-is c.before) ∙ c.if-not-inside.false
 
 -- ---- the request and its buffer
-abbrev begun : tie.After-admit → tie.Start
+abbrev begun : tie.After-admit-c → tie.Start
 begun c = c.before.before.before.before.before
 
 -- ---- where the request was admitted
-module _ (c : tie.After-enum-told) where
+module _ (c : tie.In_default) where
   abbrev start : tie.Start
-  start = begun c.before.before.before.before
+  start = begun c.before.before.before
 
   within : admitted start.args.o start.args.sines.now ≡ C.Within
-  within = sym c.before.before.before.before.admit.ensures.0 ∙ c.enum_told.given.1
+  within = sym c.admit-c.ensures.0 ∙ c.in_default.is
 
-  filled : c.before.before.before.before.admit.new.1.0 ≡ sines_after C.Within start.args.sines.now
-  filled = c.before.before.before.before.admit.ensures.1 ∙ ap (λ k. sines_after k start.args.sines.now) within
+  filled : c.admit-c.new.sines ≡ sines_after C.Within start.args.sines.now
+  filled = c.admit-c.ensures.1 ∙ ap (λ k. sines_after k start.args.sines.now) within
 
-returns : tie.Need-returns
+returns : tie.Need-returns-then-not-inside
 returns c =
     let b = c.before.before.before in
-    let out = sym (t-is c.before) ∙ not_true c.before.in-span.result c.if1.true in
+    let out = sym (t-is c.before) ∙ c.if-not-inside.true in
     answered b.args.o b.args.t _ _ (second-outside _ _ _ out) _ _ refl refl
 
-returns-2 : tie.Need-returns-2
+returns-2 : tie.Need-returns-in-Refused
 returns-2 c =
-    let a = c.before.before.before.before.before in
+    let a = c.before.before.before in
     let b = begun a in
-    let known = c.before.c.given in
-    let e = sym a.admit.ensures.0 ∙ known.1 in
+    let e = sym a.admit-c.ensures.0 ∙ c.in-Refused.is in
     answered b.args.o b.args.t _ _ (second-inside _ _ _ (spans a.before.before) ∙ e) _ _ refl
-    (a.admit.ensures.1 ∙ ap (λ k. sines_after k b.args.sines.now) e)
+    (a.admit-c.ensures.1 ∙ ap (λ k. sines_after k b.args.sines.now) e)
 
-horizon-within-requires : tie.Need-horizon-within-requires
+horizon-within-requires : tie.Need-horizon_within-x-requires
 horizon-within-requires c κs =
-    let a = start c.before in
-    let w = admitted-within a.args.o a.args.sines.now (within c.before) in
-    let h = spans c.before.before.before.before.before.before.before in
-    (rw c.before.before.before.before.before.admit.ensures.1 w.1, w.0, read-size a.args.t 10800 (in-span a.args.t h) tt)
+    let a = start c in
+    let w = admitted-within a.args.o a.args.sines.now (within c) in
+    let h = spans c.before.before.before.before.before in
+    (rw c.admit-c.ensures.1 w.1, w.0, read-size a.args.t 10800 (in-span a.args.t h) tt)
 
-returns-3 : tie.Need-returns-3
+returns-3 : tie.Need-returns
 returns-3 c =
-    let told = c.before.before in
+    let told = c.before in
     let a = start told in
-    let h = spans told.before.before.before.before.before.before in
+    let h = spans told.before.before.before.before.before in
     answered a.args.o a.args.t _ _ (second-inside _ _ _ h ∙ within told) _ _
-    (ap O.Is (c.horizon-within.ensures ∙ ap (horizon_at a.args.o) (read_back a.args.t (in-span a.args.t h) tt))) (filled told)
+    (ap O.Is (c.horizon_within-x.ensures ∙ ap (horizon_at a.args.o) (read_back a.args.t (in-span a.args.t h) tt))) (filled told)
 
-pub horizon-at-spec : {M : Type 1} → statement M
-horizon-at-spec =
+pub horizon_at_spec : {M : Type 1} → statement M
+horizon_at_spec =
     tie.close
     (tie.spec (λ c κs. search rules) returns (λ c κs. search rules) (λ c. search rules) (λ c. search rules)
     returns-2 (λ c. search rules) horizon-within-requires (λ c. search rules) returns-3)

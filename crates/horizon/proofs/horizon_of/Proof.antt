@@ -17,18 +17,18 @@ use Rattle.horizon.proofs.horizon_of.Statement.{statement}
 use Rattle.horizon.proofs.horizon_of.Tie as tie
 
 -- the sine, kept
-sine-size : (c : tie.After-kept) → nat_abs c.kept.result ≤ 100000000
-sine-size c = omega (arith, ap nat_abs c.kept.ensures, kept-size (to_z w64 (of_z w64 c.before.altitude-sine.result)))
+sine-size : (c : tie.After-kept-a) → nat_abs c.kept-a.result ≤ 100000000
+sine-size c = omega (arith, ap nat_abs c.kept-a.ensures, kept-size (to_z w64 (of_z w64 c.altitude_sine.result)))
 
 three : {a b : ℤ} {x y z w : ℕ} → a ≡ b → x ≡ y → z ≡ w
     → ◌≡◌ {A = Horizon} (record { altitude = a; azimuth = x; zenith = z }) (record { altitude = b; azimuth = y; zenith = w })
 three e f g = rw (e, f, g)
 
-kept-requires : tie.Need-kept-requires
-kept-requires c κs = read-size c.altitude-sine.result 1000000000 c.altitude-sine.ensures.size tt
+kept-requires : tie.Need-kept-a-requires
+kept-requires c κs = read-size c.altitude_sine.result 1000000000 c.altitude_sine.ensures.size tt
 
-altitude-requires : tie.Need-altitude-requires
-altitude-requires c κs = (c.before.before.before.requires.0, read-size c.kept.result 100000000 (sine-size c) tt)
+altitude-requires : tie.Need-altitude-altitude-requires
+altitude-requires c κs = (c.requires.0, read-size c.kept-a.result 100000000 (sine-size c) tt)
 
 returns : tie.Need-returns
 returns c =
@@ -36,18 +36,18 @@ returns c =
     let rs = read_back s.args.sine s.requires.1 tt in
     let rc = read_back s.args.cosine s.requires.2 tt in
     let k = c.before.before.before in
-    let a = c.before.before.altitude in
+    let a = c.altitude-altitude in
     let e : a.result ≡ altitude S (kept (altitude_sine s.args.sine s.args.cosine s.args.o)) =
-    a.ensures ∙ ap (altitude S) (read_back k.kept.result (sine-size k) tt ∙ k.kept.ensures
-    ∙ ap kept (read_back k.before.altitude-sine.result k.before.altitude-sine.ensures.size tt ∙ k.before.altitude-sine.ensures.value
+    a.ensures ∙ ap (altitude S) (read_back k.kept-a.result (sine-size k) tt ∙ k.kept-a.ensures
+    ∙ ap kept (read_back k.altitude_sine.result k.altitude_sine.ensures.size tt ∙ k.altitude_sine.ensures.value
     ∙ ap₂ (λ (x y : ℤ). altitude_sine x y s.args.o) rs rc)) in
-    let size : nat_abs a.result ≤ 900 = omega (arith, ap nat_abs a.ensures, altitude-size (to_z w64 (of_z w64 k.kept.result))) in
+    let size : nat_abs a.result ≤ 900 = omega (arith, ap nat_abs a.ensures, altitude-size (to_z w64 (of_z w64 k.kept-a.result))) in
     three (read_back a.result size tt ∙ e)
-    (c.before.azimuth.ensures ∙ ap₂ (λ (x y : ℤ). direction S (east s.args.o) (north x y s.args.o)) rs rc)
-    (c.zenith.ensures ∙ ap₂ (λ (x y : ℤ). direction S (zenith_east y s.args.o) (zenith_north x y s.args.o)) rs rc)
+    (c.azimuth-azimuth.ensures ∙ ap₂ (λ (x y : ℤ). direction S (east s.args.o) (north x y s.args.o)) rs rc)
+    (c.zenith-zenith.ensures ∙ ap₂ (λ (x y : ℤ). direction S (zenith_east y s.args.o) (zenith_north x y s.args.o)) rs rc)
 
-pub horizon-of-spec : {M : Type 1} → statement M
-horizon-of-spec =
+pub horizon_of_spec : {M : Type 1} → statement M
+horizon_of_spec =
     tie.close
     (tie.spec (λ c κs. search rules) kept-requires altitude-requires (λ c κs. search rules)
     (λ c κs. search rules) returns)

@@ -27,54 +27,54 @@ use Rattle.horizon.proofs.horizon_within.Statement.{statement}
 use Rattle.horizon.proofs.horizon_within.Tie as tie
 
 -- ---- the axis and the place
-axis-sized : (c : tie.After-axis-of) → AxisSizes 90000000 c.axis-of.result
+axis-sized : (c : tie.After-axis_of-axis) → AxisSizes 90000000 c.axis_of-axis.result
 axis-sized c =
     let b = c.before.before.before in
-    subst (AxisSizes 90000000) (sym c.axis-of.ensures) (wider_axis (axis_sizes b.args.o.body b.requires.1.body) (lit≤ tt))
+    subst (AxisSizes 90000000) (sym c.axis_of-axis.ensures) (wider_axis (axis_sizes b.args.o.body b.requires.1.body) (lit≤ tt))
 
-place-sized : (c : tie.After-geocentric) → PlaceSizes c.geocentric.result
+place-sized : (c : tie.After-geocentric-place) → PlaceSizes c.geocentric-place.result
 place-sized c =
     let b = c.before.before.before.before in
-    subst PlaceSizes (sym c.geocentric.ensures) (placed b.args.o b.requires.1)
+    subst PlaceSizes (sym c.geocentric-place.ensures) (placed b.args.o b.requires.1)
 
 -- ---- H and d
-abbrev place : tie.After-quadratic-at → tie.After-geocentric
+abbrev place : tie.After-quadratic_at → tie.After-geocentric-place
 place c = c.before.before.before.before.before
 
-abbrev start : tie.After-quadratic-at → tie.Start
+abbrev start : tie.After-quadratic_at → tie.Start
 start c = (place c).before.before.before.before
 
-abbrev axis : tie.After-quadratic-at → Axis
-axis c = (place c).before.axis-of.result
+abbrev axis : tie.After-quadratic_at → Axis
+axis c = (place c).axis_of-axis.result
 
-μ-is : (c : tie.After-quadratic-at) → Value (μ_at (axis c) (start c).args.t) 500000000 c.quadratic-at.result
-μ-is c = rw (read_back (start c).args.t (start c).requires.2 tt) at c.quadratic-at.ensures
+μ-is : (c : tie.After-quadratic_at) → Value (μ_at (axis c) (start c).args.t) 500000000 c.quadratic_at.result
+μ-is c = rw (read_back (start c).args.t (start c).requires.2 tt) at c.quadratic_at.ensures
 
-hour-angle : (c : tie.After-quadratic-at)
-    → Within (whole c.quadratic-at.result ∷ whole (place c).geocentric.result.longitude ∷ []) (500000000 ∷ 200000000 ∷ [])
+hour-angle : (c : tie.After-quadratic_at)
+    → Within (whole c.quadratic_at.result ∷ whole (place c).geocentric-place.result.longitude ∷ []) (500000000 ∷ 200000000 ∷ [])
 hour-angle c = (μ-is c).size ▹ (place-sized (place c)).longitude ▹ ends
 
 abbrev sum : Code
 sum = add (arg 0) (arg 1)
 
-d-is : (c : tie.After-quadratic-at2) → Value (d_at (axis c.before) (start c.before).args.t) 500000000 c.quadratic-at2.result
-d-is c = rw (read_back (start c.before).args.t (start c.before).requires.2 tt) at c.quadratic-at2.ensures
+d-is : (c : tie.After-quadratic_at-d) → Value (d_at (axis c.before) (start c.before).args.t) 500000000 c.quadratic_at-d.result
+d-is c = rw (read_back (start c.before).args.t (start c.before).requires.2 tt) at c.quadratic_at-d.ensures
 
-module _ (c : tie.After-orientation-of) where
+module _ (c : tie.After-orientation_of-orientation) where
   abbrev first : tie.Start
   first = start c.before.before
 
   abbrev seen : Moment
-  seen = moment_of (axis c.before.before) (place c.before.before).geocentric.result first.args.t
+  seen = moment_of (axis c.before.before) (place c.before.before).geocentric-place.result first.args.t
 
-  turned : IsOrientation (H seen) (d seen) c.orientation-of.result
+  turned : IsOrientation (H seen) (d seen) c.orientation_of-orientation.result
   unfolding H
   turned =
-      let h = runs (hour-angle c.before.before) sum tt ∙ ap (λ (z : ℤ). z +ℤ (place c.before.before).geocentric.result.longitude) (μ-is c.before.before).value in
-      let e = read_back c.before.quadratic-at2.result (d-is c.before).size tt ∙ (d-is c.before).value in
-      rw (h, e) at c.orientation-of.ensures
+      let h = runs (hour-angle c.before.before) sum tt ∙ ap (λ (z : ℤ). z +ℤ (place c.before.before).geocentric-place.result.longitude) (μ-is c.before.before).value in
+      let e = read_back c.quadratic_at-d.result (d-is c.before).size tt ∙ (d-is c.before).value in
+      rw (h, e) at c.orientation_of-orientation.ensures
 
-  orientation-sizes : OrientationSizes c.orientation-of.result
+  orientation-sizes : OrientationSizes c.orientation_of-orientation.result
   orientation-sizes =
       record {
         hsine = omega (arith, ap nat_abs turned.hsine, sine-size (H seen));
@@ -90,47 +90,47 @@ oriented m o i = by
     by = rw (i.hsine, i.hcosine, i.dsine, i.dcosine)
 
 -- the axis is the body's, the place the station's
-orientation-is : (c : tie.After-orientation-of) → c.orientation-of.result ≡ orientation_of (moment_at (first c).args.o (first c).args.t)
+orientation-is : (c : tie.After-orientation_of-orientation) → c.orientation_of-orientation.result ≡ orientation_of (moment_at (first c).args.o (first c).args.t)
 orientation-is c =
     let p = place c.before.before in
-    subst₂ (λ (a : Axis) (q : Place). c.orientation-of.result ≡ orientation_of (moment_of a q (first c).args.t)) p.before.axis-of.ensures p.geocentric.ensures
-    (oriented (seen c) c.orientation-of.result (turned c))
+    subst₂ (λ (a : Axis) (q : Place). c.orientation_of-orientation.result ≡ orientation_of (moment_of a q (first c).args.t)) p.axis_of-axis.ensures p.geocentric-place.ensures
+    (oriented (seen c) c.orientation_of-orientation.result (turned c))
 
 -- ---- the latitude
-angle-is : (c : tie.After-reduced) → IsReduced (first c.before).args.o.station.latitude c.reduced.result
-angle-is c = let b = first c.before in rw (read_back b.args.o.station.latitude b.pre.1.station.latitude tt) at c.reduced.ensures
+angle-is : (c : tie.After-reduced-angle) → IsReduced (first c.before).args.o.station.latitude c.reduced-angle.result
+angle-is c = let b = first c.before in rw (read_back b.args.o.station.latitude b.requires.1.station.latitude tt) at c.reduced-angle.ensures
 
-angle-small : (c : tie.After-reduced) → c.reduced.result ≤ 360000000
+angle-small : (c : tie.After-reduced-angle) → c.reduced-angle.result ≤ 360000000
 angle-small c = omega (arith, (angle-is c).below)
 
 -- ---- the needs
-axis-of-requires : tie.Need-axis-of-requires
+axis-of-requires : tie.Need-axis_of-axis-requires
 axis-of-requires c κs = search rules
 
-quadratic-at-requires : tie.Need-quadratic-at-requires
+quadratic-at-requires : tie.Need-quadratic_at-requires
 quadratic-at-requires c κs =
     let g = c.before.before.before.before in
     let s = g.before.before.before.before in
     (wider (axis-sized g.before).mu (lit≤ tt) (lit≤ tt) (lit≤ tt), read-size s.args.t 10800 s.requires.2 tt)
 
-quadratic-at-requires-2 : tie.Need-quadratic-at-requires-2
+quadratic-at-requires-2 : tie.Need-quadratic_at-d-requires
 quadratic-at-requires-2 c κs =
     (wider (axis-sized (place c).before).d (lit≤ tt) (lit≤ tt) (lit≤ tt), read-size (start c).args.t 10800 (start c).requires.2 tt)
 
-orientation-of-requires : tie.Need-orientation-of-requires
+orientation-of-requires : tie.Need-orientation_of-orientation-requires
 orientation-of-requires c κs =
-    ((start c.before).requires.0, within (hour-angle c.before) sum 10000000000 tt, read-size c.quadratic-at2.result 10000000000 (d-is c).size tt)
+    ((start c.before).requires.0, within (hour-angle c.before) sum 10000000000 tt, read-size c.quadratic_at-d.result 10000000000 (d-is c).size tt)
 
-reduced-requires : tie.Need-reduced-requires
-reduced-requires c κs = let s = first c in read-size s.args.o.station.latitude 10000000000 s.pre.1.station.latitude tt
+reduced-requires : tie.Need-reduced-angle-requires
+reduced-requires c κs = let s = first c in read-size s.args.o.station.latitude 10000000000 s.requires.1.station.latitude tt
 
-cosine-requires : tie.Need-cosine-requires
-cosine-requires c κs = ((first c.before.before).pre.0, angle-small c.before)
+cosine-requires : tie.Need-cosine-cosine-requires
+cosine-requires c κs = ((first c.before.before).requires.0, angle-small c.before)
 
-horizon-of-requires : tie.Need-horizon-of-requires
+horizon-of-requires : tie.Need-horizon_of-requires
 horizon-of-requires c κs =
-    let k = c.cosine in
-    let n = c.before.sine in
+    let k = c.cosine-cosine in
+    let n = c.sine-sine in
     let o = c.before.before.before in
     ((first o).requires.0, read-size n.result 100000000 n.ensures.small tt, read-size k.result 100000000 k.ensures.small tt, orientation-sizes o)
 
@@ -140,16 +140,16 @@ same e f g = rw (e, f, g)
 returns : tie.Need-returns
 unfolding horizon_at
 returns c =
-    let k = c.before.cosine in
-    let n = c.before.before.sine in
+    let k = c.cosine-cosine in
+    let n = c.sine-sine in
     let a = c.before.before.before in
-    c.horizon-of.ensures
+    c.horizon_of.ensures
     ∙ same (read_back n.result n.ensures.small tt ∙ sine_of (angle-is a) n.ensures)
     (read_back k.result k.ensures.small tt ∙ cosine_of (angle-is a) k.ensures) (orientation-is a.before)
 
-pub horizon-within-spec : {M : Type 1} → statement M
-horizon-within-spec =
+pub horizon_within_spec : {M : Type 1} → statement M
+horizon_within_spec =
     tie.close
     (tie.spec axis-of-requires (λ c κs. search rules) quadratic-at-requires (λ c. fits (hour-angle c) sum tt)
     quadratic-at-requires-2 orientation-of-requires reduced-requires
-    (λ c κs. ((first c.before).pre.0, angle-small c)) cosine-requires horizon-of-requires returns)
+    (λ c κs. ((first c.before).requires.0, angle-small c)) cosine-requires horizon-of-requires returns)

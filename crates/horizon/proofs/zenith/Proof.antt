@@ -6,7 +6,7 @@ use Rattle.horizon.proofs.Nears.{bearing-is}
 use Rattle.horizon.proofs.zenith.Statement.{statement}
 use Rattle.horizon.proofs.zenith.Tie as tie
 
-abbrev start : tie.After-struct-told4 → tie.Start
+abbrev start : tie.After-struct_told-4-1 → tie.Start
 start c = c.before.before.before.before.before
 
 bearing-requires : tie.Need-bearing-requires
@@ -28,11 +28,11 @@ unfolding zenith_east zenith_north
 returns c =
     let s = start c.before in
     let a = s.args in
-    let p = s.pre in
+    let p = s.requires in
     let cosine = read_back a.cosine p.2 tt in
     c.bearing.ensures
     ∙ bearing-is cosine (read_back a.o.hsine p.3.hsine tt) (read_back a.sine p.1 tt) (read_back a.o.dcosine p.3.dcosine tt)
     cosine (read_back a.o.hcosine p.3.hcosine tt) (read_back a.o.dsine p.3.dsine tt)
 
-pub zenith-spec : {M : Type 1} → statement M
-zenith-spec = tie.close (tie.spec bearing-requires returns)
+pub zenith_spec : {M : Type 1} → statement M
+zenith_spec = tie.close (tie.spec bearing-requires returns)

@@ -67,8 +67,7 @@ module _ (c : tie.After-note-noted invariant-loop decreases-loop) where
 completed : (c : tie.After-complete-all invariant-loop decreases-loop)
     → missing 0 (take (required (start c.before.before).args.shape) c.loop-at.marks) ≡ c.complete-all.result
 completed c =
-    let l = c.before.before.before in
-    ap (λ (n : ℕ). missing 0 (take (n - 1) l.loop-at.marks)) (sym l.count_of-required.ensures) ∙ sym c.complete-all.ensures
+    ap (λ (n : ℕ). missing 0 (take (n - 1) c.loop-at.marks)) (sym c.count_of-required.ensures) ∙ sym c.complete-all.ensures
 
 sub-required : tie.Need-overflow_sub-required invariant-loop decreases-loop
 sub-required c = omega (arith, c.count_of-required.ensures, count_small c.args.shape)
@@ -132,8 +131,7 @@ slice-reshare-prefix-complete c = omega (arith, c.count_of-required.ensures, (wa
 
 slice-aggregate-complete : tie.Need-slice_bounds-complete-end-2 invariant-loop decreases-loop
 slice-aggregate-complete c =
-    let l = c.before.before in
-    sym (length-take-le (l.count_of-required.result - 1) l.loop-at.marks (omega (arith, l.count_of-required.ensures, (walked l).marked)))
+    sym (length-take-le (c.count_of-required.result - 1) c.loop-at.marks (omega (arith, c.count_of-required.ensures, (walked c.before).marked)))
 
 same-length-3 : tie.Need-shape_of-marks-in-Refused-all invariant-loop decreases-loop
 same-length-3 c = same-marks c.before.before.before

@@ -13,19 +13,19 @@ use Rattle.request_text.proofs.value_of.Statement.{statement}
 use Rattle.request_text.proofs.value_of.Tie as tie
 
 -- the units found decide
-told : (c : tie.After-units_in-found) (u : Units) → c.Units-in.result ≡ u
+told : (c : tie.After-units_in-found) (u : Units) → c.units_in-found.result ≡ u
     → of_units c.args.shape c.args.field c.start-minus.result u
     ≡ value_of c.args.shape c.args.field c.args.word.now
 told c u e =
     let a = c.args in
     let of = of_units a.shape a.field in
-    ap (of c.start-minus.result) (sym e ∙ c.Units-in.ensures)
+    ap (of c.start-minus.result) (sym e ∙ c.units_in-found.ensures)
     ∙ ap (λ (f : Field). of c.start-minus.result (units_of f.2 a.word.now)) c.field_at-row.ensures
     ∙ ap (λ (m : ℕ). of m (units_of (decimals_of a.shape a.field) a.word.now)) c.start-minus.ensures.0
     ∙ value_by _ _ _
 
 fit-requires : tie.Need-fit-requires
-fit-requires c κs = units_small _ _ _ (sym c.Units-in.ensures ∙ c.in-Is.is)
+fit-requires c κs = units_small _ _ _ (sym c.units_in-found.ensures ∙ c.in-Is.is)
 
 returns : tie.Need-returns-in-Is
 returns c =

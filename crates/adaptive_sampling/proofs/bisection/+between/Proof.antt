@@ -72,22 +72,22 @@ lower : (o : Occultation) (lim : InLimits o) {i : ℕ} {runs : List ℕ} {t : Ta
     → IsAt o k x → (r : Tally) → Approached t x.m r → Kept o i runs r
 lower o lim g k h x is r a = kept-nearer o lim g k h x.m (square-is o lim k h x is) r a
 
-between-sub-h : (t : ℕ) → between-lts.Need-overflow-sub-h (claims t) (between-at t) between.Post
-between-sub-h t c = omega (arith, c.before.before.requires.1.0.3)
+between-sub-h : (t : ℕ) → between-lts.Need-overflow_sub-h (claims t) (between-at t) between.Post
+between-sub-h t c = omega (arith, c.requires.1.0.3)
 
-between-each-second-requires : (t : ℕ) → between-lts.Need-each-second-requires (claims t) (between-at t) between.Post
+between-each-second-requires : (t : ℕ) → between-lts.Need-each_second-requires (claims t) (between-at t) between.Post
 between-each-second-requires t c κs =
     let s = c.before.before.before.before in
     let p = s.requires.1.0 in
     ((p.0, p.1, p.2, p.3, p.4, p.6), s.requires.1.1)
 
-between-same-length : (t : ℕ) → between-lts.Need-same-length (claims t) (between-at t) between.Post
-between-same-length t c = c.before.before.each-second.ensures.1
+between-same-length : (t : ℕ) → between-lts.Need-shape_of-runs-then-h-eq1 (claims t) (between-at t) between.Post
+between-same-length t c = c.each-second.ensures.1
 
-between-returns : (t : ℕ) → between-lts.Need-returns (claims t) (between-at t) between.Post
-between-returns t c = c.before.before.each-second.ensures
+between-returns : (t : ℕ) → between-lts.Need-returns-then-h-eq1 (claims t) (between-at t) between.Post
+between-returns t c = c.each-second.ensures
 
-between-clear-requires : (t : ℕ) → between-lts.Need-clear-requires (claims t) (between-at t) between.Post
+between-clear-requires : (t : ℕ) → between-lts.Need-clear-shown-requires (claims t) (between-at t) between.Post
 between-clear-requires t c κs =
     let s = c.before.before.before.before in
     let o = s.args.o in
@@ -109,48 +109,48 @@ between-keep-requires t c κs =
       (omega (arith, p.3), omega (arith, p.3, p.4, g.few, s.requires.1.1.0), g.ends),
     )
 
-between-same-length-2 : (t : ℕ) → between-lts.Need-same-length-2 (claims t) (between-at t) between.Post
-between-same-length-2 t c = c.before.before.keep.ensures.pushed.same
+between-same-length-2 : (t : ℕ) → between-lts.Need-shape_of-runs-then-shown (claims t) (between-at t) between.Post
+between-same-length-2 t c = c.keep.ensures.pushed.same
 
-between-returns-2 : (t : ℕ) → between-lts.Need-returns-2 (claims t) (between-at t) between.Post
+between-returns-2 : (t : ℕ) → between-lts.Need-returns-then-shown (claims t) (between-at t) between.Post
 between-returns-2 t c =
     let s = c.before.before.before.before.before.before.before.before.before.before.before in
     let a = s.args in
     let p = s.requires.1.0 in
     let e = (guard-read a.o p.1).0 in
-    let passed = rw e at c.before.before.before.before.before.before.clear.ensures in
-    let st = rw e at c.before.before.keep.ensures in
-    let gap = gap-passed a.o p.1 a.t.near a.i a.j p.3 p.4 a.a a.b p.5 p.6 (passed c.before.before.before.before.before.if2.true) in
+    let passed = rw e at c.clear-shown.ensures in
+    let st = rw e at c.keep.ensures in
+    let gap = gap-passed a.o p.1 a.t.near a.i a.j p.3 p.4 a.a a.b p.5 p.6 (passed c.if-shown.true) in
     (kept_more a.o p.1 s.requires.1.1.1 a.j p.3 p.4 gap a.b p.6 refl st, st.pushed.same)
 
-between-pair-of-requires : (t : ℕ) → between-lts.Need-pair-of-requires (claims t) (between-at t) between.Post
+between-pair-of-requires : (t : ℕ) → between-lts.Need-pair_of-p-requires (claims t) (between-at t) between.Post
 between-pair-of-requires t c κs =
     let s = c.before.before.before.before.before.before.before in
     let p = s.requires.1.0 in
     ((guard-read s.args.o p.1).1, sample_sizes s.args.o s.args.i p.5)
 
-between-pair-of-requires-2 : (t : ℕ) → between-lts.Need-pair-of-requires-2 (claims t) (between-at t) between.Post
+between-pair-of-requires-2 : (t : ℕ) → between-lts.Need-pair_of-q-requires (claims t) (between-at t) between.Post
 between-pair-of-requires-2 t c κs =
     let s = c.before.before.before.before.before.before.before.before.before in
     let p = s.requires.1.0 in
     ((guard-read s.args.o p.1).1, sample_sizes s.args.o s.args.j p.6)
 
-between-leaf-requires : (t : ℕ) → between-lts.Need-leaf-requires (claims t) (between-at t) between.Post
-between-leaf-requires t c κs = c.before.before.before.before.before.before.before.before.before.before.requires.1.1.1.reached.few
+between-leaf-requires : (t : ℕ) → between-lts.Need-leaf-few-requires (claims t) (between-at t) between.Post
+between-leaf-requires t c κs = c.requires.1.1.1.reached.few
 
-between-each-second-requires-2 : (t : ℕ) → between-lts.Need-each-second-requires-2 (claims t) (between-at t) between.Post
+between-each-second-requires-2 : (t : ℕ) → between-lts.Need-each_second-requires-then-h-few (claims t) (between-at t) between.Post
 between-each-second-requires-2 t c κs =
     let s = c.before.before.before.before.before.before.before.before.before.before.before.before.before in
     let p = s.requires.1.0 in
     ((p.0, p.1, p.2, p.3, p.4, p.6), s.requires.1.1)
 
-between-same-length-3 : (t : ℕ) → between-lts.Need-same-length-3 (claims t) (between-at t) between.Post
-between-same-length-3 t c = c.before.before.each-second2.ensures.1
+between-same-length-3 : (t : ℕ) → between-lts.Need-shape_of-runs-then-h-few (claims t) (between-at t) between.Post
+between-same-length-3 t c = c.each-second2.ensures.1
 
-between-returns-3 : (t : ℕ) → between-lts.Need-returns-3 (claims t) (between-at t) between.Post
-between-returns-3 t c = c.before.before.each-second2.ensures
+between-returns-3 : (t : ℕ) → between-lts.Need-returns-then-h-few (claims t) (between-at t) between.Post
+between-returns-3 t c = c.each-second2.ensures
 
-between-cut-at-requires : (t : ℕ) → between-lts.Need-cut-at-requires (claims t) (between-at t) between.Post
+between-cut-at-requires : (t : ℕ) → between-lts.Need-cut_at-m-requires (claims t) (between-at t) between.Post
 between-cut-at-requires t c κs =
     let s = c.before.before.before.before.before.before.before.before.before.before.before.before in
     let o = s.args.o in
@@ -158,38 +158,38 @@ between-cut-at-requires t c κs =
       s.requires.1.1.1.reached.few,
       sample_sizes o s.args.i p.5,
       sample_sizes o s.args.j p.6,
-      omega (arith, c.if3.false, c.before.leaf.ensures),
+      omega (arith, c.if-h-few.false, c.leaf-few.ensures),
       omega (arith, p.4, seconds-few o.window p.1.window),
     )
 
-between-sample-of-requires : (t : ℕ) → between-lts.Need-sample-of-requires (claims t) (between-at t) between.Post
+between-sample-of-requires : (t : ℕ) → between-lts.Need-sample_of-s-requires (claims t) (between-at t) between.Post
 between-sample-of-requires t c κs =
     let s = c.before.before.before.before.before.before.before.before.before.before.before.before.before in
     let p = s.requires.1.0 in
-    (p.0, p.1, p.2, omega (arith, c.cut_at.ensures.1, p.4))
+    (p.0, p.1, p.2, omega (arith, c.cut_at-m.ensures.1, p.4))
 
-between-nearer-requires : (t : ℕ) → between-lts.Need-nearer-requires (claims t) (between-at t) between.Post
+between-nearer-requires : (t : ℕ) → between-lts.Need-nearer-lower-requires (claims t) (between-at t) between.Post
 between-nearer-requires t c κs =
     let s = c.before.before.before.before.before.before.before.before.before.before.before.before.before.before.before in
     let o = s.args.o in
     let p = s.requires.1.0 in
-    let k = c.before.before.cut_at.result in
-    let x = c.before.sample-of in
+    let k = c.cut_at-m.result in
+    let x = c.sample-of in
     let z = x.ensures.m.size in (
       s.requires.1.1.1.reached.few,
       read-size x.result.m 1000000000000000000 z tt,
-      rw (read_back x.result.m z tt ∙ square-is o p.1 k (omega (arith, c.before.before.cut_at.ensures.1, p.4)) x.result x.ensures) (square_nonneg o k),
+      rw (read_back x.result.m z tt ∙ square-is o p.1 k (omega (arith, c.cut_at-m.ensures.1, p.4)) x.result x.ensures) (square_nonneg o k),
       s.requires.1.1.1.size,
     )
 
-between-between-requires : (t : ℕ) → between-lts.Need-between-requires (claims t) (between-at t) between.Post
+between-between-requires : (t : ℕ) → between-lts.Need-between-half-requires (claims t) (between-at t) between.Post
 between-between-requires t c κs =
     let s = c.before.before.before.before.before.before.before.before.before.before.before.before.before.before.before.before.before in
     let o = s.args.o in
     let p = s.requires.1.0 in
-    let cut = c.before.before.before.before.cut_at in
-    let x = c.before.before.before.sample-of in
-    let a = rw (read_back x.result.m x.ensures.m.size tt) at c.before.nearer.ensures in (
+    let cut = c.cut_at in
+    let x = c.sample-of in
+    let a = rw (read_back x.result.m x.ensures.m.size tt) at c.nearer-lower.ensures in (
       omega (arith, s.requires.0, cut.ensures.0, cut.ensures.1),
       (
         (p.0, p.1, p.2, cut.ensures.0, omega (arith, cut.ensures.1, p.4), p.5, x.ensures),
@@ -197,26 +197,26 @@ between-between-requires t c κs =
       ),
     )
 
-between-between-requires-2 : (t : ℕ) → between-lts.Need-between-requires-2 (claims t) (between-at t) between.Post
+between-between-requires-2 : (t : ℕ) → between-lts.Need-between-requires (claims t) (between-at t) between.Post
 between-between-requires-2 t c κs =
     let s = c.before.before.before.before.before.before.before.before.before.before.before.before.before.before.before.before.before.before.before.before.before in
     let p = s.requires.1.0 in
-    let cut = c.before.before.before.before.before.before.before.before.cut_at in
-    let e = c.before.before.before.between.ensures in (
+    let cut = c.cut_at in
+    let e = c.between-half.ensures in (
       omega (arith, s.requires.0, cut.ensures.0, cut.ensures.1),
-      ((p.0, p.1, p.2, cut.ensures.1, p.4, c.before.before.before.before.before.before.before.sample-of.ensures, p.6), (omega (arith, e.1, s.requires.1.1.0), e.0)),
+      ((p.0, p.1, p.2, cut.ensures.1, p.4, c.sample-of.ensures, p.6), (omega (arith, e.1, s.requires.1.1.0), e.0)),
     )
 
-between-same-length-4 : (t : ℕ) → between-lts.Need-same-length-4 (claims t) (between-at t) between.Post
-between-same-length-4 t c = c.before.before.between2.ensures.1 ∙ c.before.before.before.before.before.before.between.ensures.1
+between-same-length-4 : (t : ℕ) → between-lts.Need-shape_of-runs (claims t) (between-at t) between.Post
+between-same-length-4 t c = c.between.ensures.1 ∙ c.between-half.ensures.1
 
-between-returns-4 : (t : ℕ) → between-lts.Need-returns-4 (claims t) (between-at t) between.Post
+between-returns-4 : (t : ℕ) → between-lts.Need-returns (claims t) (between-at t) between.Post
 between-returns-4 t c =
-    let e = c.before.before.between2.ensures in
-    (e.0, e.1 ∙ c.before.before.before.before.before.before.between.ensures.1)
+    let e = c.between.ensures in
+    (e.0, e.1 ∙ c.between-half.ensures.1)
 
-pub +between-spec : {M : Type 1} → statement M
-+between-spec = close μ-between λ t. between-lts.spec (claims t)
+pub +between_spec : {M : Type 1} → statement M
++between_spec = close μ-between λ t. between-lts.spec (claims t)
     (between-at t)
     between.Post
     (between-sub-h t)

@@ -8,19 +8,19 @@ use Rattle.adaptive_sampling.specs.laws.FoundLaws.{found_of}
 use Rattle.adaptive_sampling.proofs.bisection.fill.Statement.{statement}
 use Rattle.adaptive_sampling.proofs.bisection.fill.Tie as tie
 
-write-requires : tie.Need-write-requires
+write-requires : tie.Need-write-count-requires
 write-requires c κs =
     let x = c.before.before.before.before in
     let a = x.before.before.before.before in
-    let r = x.all-seconds.ensures in
+    let r = x.all_seconds-t.ensures in
     (omega (arith, r.0.few, seconds_some a.args.o.window, r.1, a.requires.3), r.0.ends)
 
 returns : tie.Need-returns
 returns c =
-    let w = c.before.before.write.ensures in
+    let w = c.write-count.ensures in
     let x = c.before.before.before.before.before.before.before in
     let a = x.before.before.before.before in
-    let r = x.all-seconds.ensures in
+    let r = x.all_seconds-t.ensures in
     (found_of a.args.o r.0 (omega (arith, r.1, a.requires.3)) w, w.same ∙ r.1)
 
 pub fill_spec : {M : Type 1} → statement M

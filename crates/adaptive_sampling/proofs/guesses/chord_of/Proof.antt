@@ -22,26 +22,26 @@ square = add (mul P P) (mul Q Q)
 abbrev along : Code
 along = add (mul (arg 0) P) (mul (arg 1) Q)
 
-sub-p : tie.Need-overflow-sub-p
+sub-p : tie.Need-overflow_sub-p
 sub-p c = fits (bounds c.before.before.before.before) P tt
 
-sub-q : tie.Need-overflow-sub-q
+sub-q : tie.Need-overflow_sub-q
 sub-q c = fits (bounds c.before.before.before.before.before.before.before.before) Q tt
 
-abbrev start : tie.After-struct-told6 → tie.Start
+abbrev start : tie.After-struct_told-6-1 → tie.Start
 start c = c.before.before.before.before.before.before.before.before.before.before.before.before
 
-mul-along : tie.Need-overflow-mul-along
+mul-along : tie.Need-overflow_mul-along
 mul-along c = fits (bounds c.before.before.before.before.before.before.before.before.before.before) (mul (arg 0) P) tt
 
-size-requires : tie.Need-size-requires
+size-requires : tie.Need-size-square-requires
 size-requires c κs = within (bounds (start c)) square 9223372036854775807 tt
 
 returns : tie.Need-returns
-returns c = (omega (arith, c.size.ensures, within (bounds (start c.before)) square 8000000000000000000 tt), within (bounds (start c.before)) along 4000000000000000000 tt)
+returns c = (omega (arith, c.size-square.ensures, within (bounds (start c.before)) square 8000000000000000000 tt), within (bounds (start c.before)) along 4000000000000000000 tt)
 
-pub chord-of-spec : {M : Type 1} → statement M
-chord-of-spec =
+pub chord_of_spec : {M : Type 1} → statement M
+chord_of_spec =
     tie.close
     (tie.spec sub-p sub-q mul-along (λ c. fits (bounds (start c)) (mul (arg 1) Q) tt)
     (λ c. fits (bounds (start c)) along tt) (λ c. fits (bounds (start c)) (mul P P) tt)

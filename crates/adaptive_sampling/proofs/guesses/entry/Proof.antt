@@ -5,8 +5,8 @@ use borrow.Author.Rules.{rules}
 use Rattle.adaptive_sampling.proofs.guesses.entry.Statement.{statement}
 use Rattle.adaptive_sampling.proofs.guesses.entry.Tie as tie
 
-mul-inner : tie.Need-overflow-mul-inner
-mul-inner c = record { fits = omega (arith, mul-le-mul c.at-most5.ensures c.before.before.before.before.before.before.before.requires.4) }
+mul-inner : tie.Need-overflow_mul-t
+mul-inner c = record { fits = omega (arith, mul-le-mul c.at_most-t.ensures c.requires.4) }
 
 returns : tie.Need-returns
 returns c = search rules

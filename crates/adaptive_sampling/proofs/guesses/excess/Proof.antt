@@ -13,5 +13,5 @@ E = sub (arg 0) (mul (arg 1) (arg 1))
 returns : tie.Need-returns
 returns c = within (bounds c) E 1360000000000000000 tt
 
-pub excess-spec : {M : Type 1} → statement M
-excess-spec = tie.close (tie.spec (λ c. fits (bounds c) (mul (arg 1) (arg 1)) tt) (λ c. fits (bounds c) E tt) returns)
+pub excess_spec : {M : Type 1} → statement M
+excess_spec = tie.close (tie.spec (λ c. fits (bounds c) (mul (arg 1) (arg 1)) tt) (λ c. fits (bounds c) E tt) returns)

@@ -6,17 +6,17 @@ use borrow.Author.Rules.{rules}
 use Rattle.adaptive_sampling.proofs.guesses.foot_of.Statement.{statement}
 use Rattle.adaptive_sampling.proofs.guesses.foot_of.Tie as tie
 
-size-requires : tie.Need-size-requires
+size-requires : tie.Need-size-before-requires
 size-requires c κs = let s = c.before.before.before.before in read-size s.args.d.along 9223372036854775807 s.requires.1 tt
 
-add-rate : tie.Need-overflow-add-rate
+add-rate : tie.Need-overflow_add-rate
 add-rate c = let s = c.before.before.before.before.before.before in record { fits = omega (arith, div-le_self s.args.d.square s.args.h, s.requires.0) }
 
-returns : tie.Need-returns
+returns : tie.Need-returns-then-d-lt0
 returns c = search rules
 
-returns-2 : tie.Need-returns-2
+returns-2 : tie.Need-returns
 returns-2 c = search rules
 
-pub foot-of-spec : {M : Type 1} → statement M
-foot-of-spec = tie.close (tie.spec size-requires (λ c. search rules) add-rate (λ c. search rules) (λ c κs. search rules) returns returns-2)
+pub foot_of_spec : {M : Type 1} → statement M
+foot_of_spec = tie.close (tie.spec size-requires (λ c. search rules) add-rate (λ c. search rules) (λ c κs. search rules) returns returns-2)

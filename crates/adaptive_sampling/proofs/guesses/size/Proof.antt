@@ -10,20 +10,20 @@ use Rattle.rounding.specs.laws.Code.{arg, Within, whole, ends, ◌▹◌, unsign
 use Rattle.adaptive_sampling.proofs.guesses.size.Statement.{statement}
 use Rattle.adaptive_sampling.proofs.guesses.size.Tie as tie
 
-is : (c : tie.After-abs) → c.abs.result ≡ pos (nat_abs c.before.args.x)
-is c = c.abs.ensures ∙ ap (λ (z : ℤ). pos (nat_abs z)) (read_back c.before.args.x c.before.requires tt)
+is : (c : tie.After-abs) → c.abs.result ≡ pos (nat_abs c.args.x)
+is c = c.abs.ensures ∙ ap (λ (z : ℤ). pos (nat_abs z)) (read_back c.args.x c.requires tt)
 
 found : (c : tie.After-abs) → nat_abs c.abs.result ≤ 9223372036854775807
-found c = omega (arith, ap nat_abs (is c), c.before.requires)
+found c = omega (arith, ap nat_abs (is c), c.requires)
 
 bounds : (c : tie.After-abs) → Within (whole c.abs.result ∷ []) (9223372036854775807 ∷ [])
 bounds c = found c ▹ ends
 
-cast-result : tie.Need-overflow-cast-result
+cast-result : tie.Need-overflow_cast-result
 cast-result c = unsigned (bounds c) (arg 0) tt (rw (is c) (parts-≤ (omega arith)))
 
 returns : tie.Need-returns
 returns c = ap nat_abs (runs (bounds c) (arg 0) tt) ∙ ap nat_abs (is c)
 
-pub size-spec : {M : Type 1} → statement M
-size-spec = tie.close (tie.spec (λ c κs. search rules) cast-result returns)
+pub size_spec : {M : Type 1} → statement M
+size_spec = tie.close (tie.spec (λ c κs. search rules) cast-result returns)

@@ -16,16 +16,16 @@ last c =
     let s : c.args.b + 2 * (c.args.a + c.args.c) ≤ 5000000000 = omega (arith, c.requires.0, c.requires.1, c.requires.2) in
     omega (arith, mul-le-mul c.requires.1 s)
 
-mul-at-most : tie.Need-overflow-mul-at-most
+mul-at-most : tie.Need-overflow_mul-a
 mul-at-most c = record { fits = omega (arith, mul-le-mul c.requires.0 c.requires.2) }
 
-mul-at-most-2 : tie.Need-overflow-mul-at-most-2
+mul-at-most-2 : tie.Need-overflow_mul-a-2
 mul-at-most-2 c = record { fits = omega (arith, mul-le-mul c.requires.0 c.requires.2) }
 
-mul-result-2 : tie.Need-overflow-mul-result-2
+mul-result-2 : tie.Need-overflow_mul-result-2
 mul-result-2 c = record { fits = omega (arith, last c.before) }
 
-add-result-2 : tie.Need-overflow-add-result-2
+add-result-2 : tie.Need-overflow_add-result-2
 add-result-2 c = record { fits = omega (arith, whole c.before, last c.before) }
 
 returns : tie.Need-returns

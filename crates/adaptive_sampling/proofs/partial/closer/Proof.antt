@@ -9,15 +9,15 @@ use Rattle.adaptive_sampling.proofs.partial.closer.Tie as tie
 bounds : (c : tie.Start) → Within (whole c.args.t.least ∷ whole c.args.m ∷ []) (1000000000000000000 ∷ 1000000000000000000 ∷ [])
 bounds c = c.requires.0 ▹ c.requires.1 ▹ ends
 
-returns : tie.Need-returns
+returns : tie.Need-returns-then-m-least
 returns c =
     let a = c.before.before in
-    (refl, record { which = inl (taken-< (bounds a) (arg 1) (arg 0) tt c.if1.true, refl, read_back a.args.m a.requires.1 tt) }, refl)
+    (refl, record { which = inl (taken-< (bounds a) (arg 1) (arg 0) tt c.if-m-least.true, refl, read_back a.args.m a.requires.1 tt) }, refl)
 
-returns-2 : tie.Need-returns-2
+returns-2 : tie.Need-returns
 returns-2 c =
     let a = c.before.before in
-    (refl, record { which = inr (left-< (bounds a) (arg 1) (arg 0) tt c.if1.false, refl, read_back a.args.t.least a.requires.0 tt) }, refl)
+    (refl, record { which = inr (left-< (bounds a) (arg 1) (arg 0) tt c.if-m-least.false, refl, read_back a.args.t.least a.requires.0 tt) }, refl)
 
-pub closer-spec : {M : Type 1} → statement M
-closer-spec = tie.close (tie.spec returns returns-2)
+pub closer_spec : {M : Type 1} → statement M
+closer_spec = tie.close (tie.spec returns returns-2)

@@ -8,7 +8,7 @@ use Rattle.adaptive_sampling.specs.laws.KeptLaws.{kept-start}
 use Rattle.adaptive_sampling.proofs.partial.first.Statement.{statement}
 use Rattle.adaptive_sampling.proofs.partial.first.Tie as tie
 
-pair-of-requires : tie.Need-pair-of-requires
+pair-of-requires : tie.Need-pair_of-pair-requires
 pair-of-requires c κs = let a = c.before in ((guard-read a.args.o a.requires.0).1, sample_sizes a.args.o 0 a.requires.1)
 
 returns : tie.Need-returns
@@ -16,8 +16,8 @@ returns c = λ runs.
     let x = c.before in
     let a = x.before.before in
     let o = a.args.o in
-    kept-start o a.requires.0 a.args.a a.requires.1 (seconds_some o.window) runs x.pair_of.result
-    (rw (guard-read o a.requires.0).0 at x.pair_of.ensures) _ refl refl (read_back a.args.a.m (sample_sizes o 0 a.requires.1).m tt) refl
+    kept-start o a.requires.0 a.args.a a.requires.1 (seconds_some o.window) runs x.pair_of-pair.result
+    (rw (guard-read o a.requires.0).0 at x.pair_of-pair.ensures) _ refl refl (read_back a.args.a.m (sample_sizes o 0 a.requires.1).m tt) refl
 
 pub first_spec : {M : Type 1} → statement M
 first_spec = tie.close (tie.spec pair-of-requires returns)

@@ -15,63 +15,63 @@ use Rattle.adaptive_sampling.proofs.partial.pair_of.Statement.{statement}
 use Rattle.adaptive_sampling.proofs.partial.pair_of.Tie as tie
 
 -- the places before
-abbrev start : tie.After-abs → tie.Start
+abbrev start : tie.After-abs-k → tie.Start
 start c = c.before.before.before
 
-abbrev start2 : tie.After-abs2 → tie.Start
+abbrev start2 : tie.After-abs-n → tie.Start
 start2 c = start c.before.before
 
 -- the sizes of L
-k-is : (c : tie.After-abs) → c.abs.result ≡ size (start c).args.s.first
-k-is c = c.abs.ensures ∙ ap size (read_back (start c).args.s.first (start c).requires.1.first tt)
+k-is : (c : tie.After-abs-k) → c.abs-k.result ≡ size (start c).args.s.first
+k-is c = c.abs-k.ensures ∙ ap size (read_back (start c).args.s.first (start c).requires.1.first tt)
 
-k-size : (c : tie.After-abs) → nat_abs c.abs.result ≤ 600000000
+k-size : (c : tie.After-abs-k) → nat_abs c.abs-k.result ≤ 600000000
 k-size c = omega (arith, ap nat_abs (k-is c), (start c).requires.1.first)
 
-n-is : (c : tie.After-abs2) → c.abs2.result ≡ size (start2 c).args.s.second
-n-is c = c.abs2.ensures ∙ ap size (read_back (start2 c).args.s.second (start2 c).requires.1.second tt)
+n-is : (c : tie.After-abs-n) → c.abs-n.result ≡ size (start2 c).args.s.second
+n-is c = c.abs-n.ensures ∙ ap size (read_back (start2 c).args.s.second (start2 c).requires.1.second tt)
 
-n-size : (c : tie.After-abs2) → nat_abs c.abs2.result ≤ 600000000
+n-size : (c : tie.After-abs-n) → nat_abs c.abs-n.result ≤ 600000000
 n-size c = omega (arith, ap nat_abs (n-is c), (start2 c).requires.1.second)
 
 -- the states
-first-is : (c : tie.After-state) → let a = (start2 c.before).args in c.state.result ≡ code (state a.guard (size a.s.first) a.s.m)
+first-is : (c : tie.After-state-first) → let a = (start2 c.before).args in c.state-first.result ≡ code (state a.guard (size a.s.first) a.s.m)
 first-is c =
     let x = c.before in
     let a = start2 x in
     rw (
-      read_back a.args.guard a.pre.0 tt,
-      read_back x.before.before.abs.result (k-size x.before.before) tt ∙ k-is x.before.before,
-      read_back a.args.s.m a.pre.1.m tt,
-    ) at c.state.ensures
+      read_back a.args.guard a.requires.0 tt,
+      read_back x.abs-k.result (k-size x.before.before) tt ∙ k-is x.before.before,
+      read_back a.args.s.m a.requires.1.m tt,
+    ) at c.state-first.ensures
 
-second_is : (c : tie.After-state2) → let a = (start2 c.before.before).args in c.state2.result ≡ code (state a.guard (size a.s.second) a.s.m)
+second_is : (c : tie.After-state-second) → let a = (start2 c.before.before).args in c.state-second.result ≡ code (state a.guard (size a.s.second) a.s.m)
 second_is c =
     let x = c.before.before in
     let a = start2 x in
     rw (
-      read_back a.args.guard a.pre.0 tt,
-      read_back x.abs2.result (n-size x) tt ∙ n-is x,
-      read_back a.args.s.m a.pre.1.m tt,
-    ) at c.state2.ensures
+      read_back a.args.guard a.requires.0 tt,
+      read_back x.abs-n.result (n-size x) tt ∙ n-is x,
+      read_back a.args.s.m a.requires.1.m tt,
+    ) at c.state-second.ensures
 
-abs-requires : tie.Need-abs-requires
+abs-requires : tie.Need-abs-k-requires
 abs-requires c κs = let a = c.before.before in read-size a.args.s.first 9223372036854775807 a.requires.1.first tt
 
-abs-requires-2 : tie.Need-abs-requires-2
-abs-requires-2 c κs = let a = start c.before in read-size a.args.s.second 9223372036854775807 a.pre.1.second tt
+abs-requires-2 : tie.Need-abs-n-requires
+abs-requires-2 c κs = let a = start c.before in read-size a.args.s.second 9223372036854775807 a.requires.1.second tt
 
-state-requires : tie.Need-state-requires
+state-requires : tie.Need-state-first-requires
 state-requires c κs =
     let a = start2 c in
     let x = c.before.before in
-    (read-size a.args.guard 1000 a.pre.0 tt, read-size x.abs.result 600000000 (k-size x) tt, read-size a.args.s.m 1000000000000000000 a.pre.1.m tt)
+    (read-size a.args.guard 1000 a.requires.0 tt, read-size x.abs-k.result 600000000 (k-size x) tt, read-size a.args.s.m 1000000000000000000 a.requires.1.m tt)
 
-state-requires-2 : tie.Need-state-requires-2
+state-requires-2 : tie.Need-state-second-requires
 state-requires-2 c κs =
     let x = c.before in
     let a = start2 x in
-    (read-size a.args.guard 1000 a.pre.0 tt, read-size x.abs2.result 600000000 (n-size x) tt, read-size a.args.s.m 1000000000000000000 a.pre.1.m tt)
+    (read-size a.args.guard 1000 a.requires.0 tt, read-size x.abs-n.result 600000000 (n-size x) tt, read-size a.args.s.m 1000000000000000000 a.requires.1.m tt)
 
 pair-requires : tie.Need-pair-requires
 pair-requires c κs =
@@ -98,5 +98,5 @@ returns c =
       states = both a.args.guard a.args.s _ _ _ e.0 e.1 (first-is x.before) (second_is x);
     }
 
-pub pair-of-spec : {M : Type 1} → statement M
-pair-of-spec = tie.close (tie.spec abs-requires abs-requires-2 state-requires state-requires-2 pair-requires returns)
+pub pair_of_spec : {M : Type 1} → statement M
+pair_of_spec = tie.close (tie.spec abs-requires abs-requires-2 state-requires state-requires-2 pair-requires returns)

@@ -6,20 +6,20 @@ use borrow.Author.Rules.{rules}
 use Rattle.adaptive_sampling.proofs.seeds.closest.Statement.{statement}
 use Rattle.adaptive_sampling.proofs.seeds.closest.Tie as tie
 
-abbrev invariant-loop : tie.invariant-loop
+abbrev invariant-loop : tie.invariant-loop-k
 invariant-loop shadows least₀ found₀ k₀ least found k = (k ≤ 5) × (found < 5)
 
-abbrev decreases-loop : tie.decreases-loop
+abbrev decreases-loop : tie.decreases-loop-k
 decreases-loop shadows least₀ found₀ k₀ least found k = 5 - k
 
-loop-again : tie.Need-loop-preserved invariant-loop decreases-loop
+loop-again : tie.Need-loop-k-preserved invariant-loop decreases-loop
 loop-again c =
     let l = c.before.before.before.before.before in
-    let few = c.before.before.before.before.loop-test.true in
-    (omega (arith, few), ⊎_elim (λ w. omega (arith, few, l.loop.invariant.1)) (λ w. omega (arith, few, l.loop.invariant.1)) c.if1.branch)
+    let few = c.loop-k-test.true in
+    (omega (arith, few), ⊎_elim (λ w. omega (arith, few, l.loop-k.invariant.1)) (λ w. omega (arith, few, l.loop-k.invariant.1)) c.if-s-least.branch)
 
 returns : tie.Need-returns invariant-loop decreases-loop
-returns c = c.before.loop.invariant.1
+returns c = c.loop-k.invariant.1
 
-pub closest-spec : {M : Type 1} → statement M
-closest-spec = tie.close (tie.spec invariant-loop decreases-loop (λ c. search rules) (λ c. (omega arith, omega arith)) (λ c. search rules) (λ c. search rules) (λ c. search rules) (λ c. search rules) loop-again returns)
+pub closest_spec : {M : Type 1} → statement M
+closest_spec = tie.close (tie.spec invariant-loop decreases-loop (λ c. search rules) (λ c. (omega arith, omega arith)) (λ c. search rules) (λ c. search rules) (λ c. search rules) (λ c. search rules) loop-again returns)

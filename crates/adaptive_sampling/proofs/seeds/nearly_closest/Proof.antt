@@ -26,39 +26,39 @@ one : (o : Occultation) (n k i : ℕ) (l : List Sample) → 1 ≤ n → Spread o
     → Seen o n (record { second = i; m = m })
 one o n k i l some s h e m f = subst (λ (j : ℕ). Seen o n (record { second = j; m = m })) (sym e) (stop_seen o n k l some s h m f)
 
-start-requires : tie.Need-start-requires
+start-requires : tie.Need-start-from-requires
 start-requires c κs =
     let a = c.before.before in
-    (a.requires.4, few a, c.closest.ensures, spread_sized a.args.o a.args.n a.args.t5 a.requires.5)
+    (a.requires.4, few a, c.closest-k.ensures, spread_sized a.args.o a.args.n a.args.shadows a.requires.5)
 
-foot-requires : tie.Need-foot-requires
+foot-requires : tie.Need-foot-second-requires
 foot-requires c κs =
     let a = c.before.before.before.before in
-    let s = c.before.start.ensures in
+    let s = c.start-from.ensures in
     let p = a.requires.4 in
-    (a.requires.0, a.requires.1, a.requires.2, a.requires.3, ⊎_elim (λ w. omega arith) (λ w. omega arith) c.if1.branch)
+    (a.requires.0, a.requires.1, a.requires.2, a.requires.3, ⊎_elim (λ w. omega arith) (λ w. omega arith) c.if-n-i.branch)
 
-stop-requires : tie.Need-stop-requires
-stop-requires c κs = let a = c.before.before.before.before.before.before.before.before.before.before in (omega (arith, a.requires.4), few a, omega (arith, c.before.before.before.before.before.before.before.before.closest.ensures))
+stop-requires : tie.Need-stop-best-requires
+stop-requires c κs = let a = c.before.before.before.before.before.before.before.before.before.before in (omega (arith, a.requires.4), few a, omega (arith, c.closest-k.ensures))
 
-returns : tie.Need-returns
+returns : tie.Need-returns-then-c-m
 returns c =
     let a = c.before.before.before.before.before.before.before.before.before.before.before.before in
-    let k = c.before.before.before.before.before.before.before.before.before.before.closest in
-    one a.args.o a.args.n k.result c.before.stop.result a.args.t5 (omega (arith, a.requires.4)) a.requires.5 k.ensures c.before.stop.ensures _
-    (read_back (get_or a.args.t5 k.result blank).m (a.requires.5 k.result k.ensures).m.size tt)
+    let k = c.closest-k in
+    one a.args.o a.args.n k.result c.stop-best.result a.args.shadows (omega (arith, a.requires.4)) a.requires.5 k.ensures c.stop-best.ensures _
+    (read_back (get_or a.args.shadows k.result blank).m (a.requires.5 k.result k.ensures).m.size tt)
 
-returns-2 : tie.Need-returns-2
+returns-2 : tie.Need-returns
 returns-2 c =
-    let m = c.before.before.before.before.square-of in
+    let m = c.square_of-m in
     record {
-      small = c.before.before.before.before.before.foot.ensures;
+      small = c.foot-second.ensures;
       is = read_back m.result m.ensures.size tt ∙ m.ensures.value;
       size = read-size m.result 1000000000000000000 m.ensures.size tt;
     }
 
-pub nearly-closest-spec : {M : Type 1} → statement M
-nearly-closest-spec =
+pub nearly_closest_spec : {M : Type 1} → statement M
+nearly_closest_spec =
     tie.close
     (tie.spec (λ c κs. search rules) start-requires (λ c. search rules) (λ c. search rules) foot-requires
     (λ c κs. search rules) (λ c. search rules) (λ c. search rules) stop-requires returns returns-2)

@@ -14,32 +14,32 @@ use Rattle.seconds.specs.laws.SecondLaws.{placed}
 use Rattle.adaptive_sampling.proofs.seeds.offset_of.Statement.{statement}
 use Rattle.adaptive_sampling.proofs.seeds.offset_of.Tie as tie
 
-abbrev start : tie.After-nth-second → tie.Start
+abbrev start : tie.After-nth_second-t → tie.Start
 start c = c.before.before.before.before
 
-result-small : (c : tie.After-nth-second) → nat_abs c.nth-second.result ≤ 10800
+result-small : (c : tie.After-nth_second-t) → nat_abs c.nth_second-t.result ≤ 10800
 result-small c =
     let a = start c in
-    omega (arith, ap nat_abs c.nth-second.ensures, second-size a.args.o.window a.pre.1.window a.args.k a.pre.3)
+    omega (arith, ap nat_abs c.nth_second-t.ensures, second-size a.args.o.window a.requires.1.window a.args.k a.requires.3)
 
-nth-second-requires : tie.Need-nth-second-requires
+nth-second-requires : tie.Need-nth_second-t-requires
 nth-second-requires c κs = let a = c.before.before.before in (a.requires.1.window, a.requires.3)
 
-offset-at-requires : tie.Need-offset-at-requires
+offset-at-requires : tie.Need-offset_at-requires
 offset-at-requires c κs =
     let a = start c in
     let o = a.args.o in (
-      a.pre.0,
-      rw c.before.axis-of.ensures (wider_axis (axis_sizes o.body a.pre.1.body) (lit≤ tt)),
-      subst PlaceSizes (sym a.pre.2) (placed o a.pre.1),
-      read-size c.nth-second.result 10800 (result-small c) tt,
+      a.requires.0,
+      rw c.axis_of-axis.ensures (wider_axis (axis_sizes o.body a.requires.1.body) (lit≤ tt)),
+      subst PlaceSizes (sym a.requires.2) (placed o a.requires.1),
+      read-size c.nth_second-t.result 10800 (result-small c) tt,
     )
 
 returns : tie.Need-returns
 returns c =
     let n = c.before in
     let a = start n in
-    rw (n.before.axis-of.ensures, a.pre.2, read_back n.nth-second.result (result-small n) tt ∙ n.nth-second.ensures) at c.offset_at.ensures
+    rw (n.axis_of-axis.ensures, a.requires.2, read_back n.nth_second-t.result (result-small n) tt ∙ n.nth_second-t.ensures) at c.offset_at.ensures
 
-pub offset-of-spec : {M : Type 1} → statement M
-offset-of-spec = tie.close (tie.spec (λ c κs. search rules) nth-second-requires offset-at-requires returns)
+pub offset_of_spec : {M : Type 1} → statement M
+offset_of_spec = tie.close (tie.spec (λ c κs. search rules) nth-second-requires offset-at-requires returns)

@@ -10,27 +10,27 @@ use Rattle.seconds.specs.laws.SecondLaws.{placed}
 use Rattle.adaptive_sampling.proofs.seeds.sample_of.Statement.{statement}
 use Rattle.adaptive_sampling.proofs.seeds.sample_of.Tie as tie
 
-abbrev start : tie.After-nth-second → tie.Start
+abbrev start : tie.After-nth_second-t → tie.Start
 start c = c.before.before.before
 
-result-small : (c : tie.After-nth-second) → nat_abs c.nth-second.result ≤ 10800
+result-small : (c : tie.After-nth_second-t) → nat_abs c.nth_second-t.result ≤ 10800
 result-small c =
     let a = start c in
-    omega (arith, ap nat_abs c.nth-second.ensures, second-size a.args.o.window a.pre.1.window a.args.k a.pre.3)
+    omega (arith, ap nat_abs c.nth_second-t.ensures, second-size a.args.o.window a.requires.1.window a.args.k a.requires.3)
 
-nth-second-requires : tie.Need-nth-second-requires
+nth-second-requires : tie.Need-nth_second-t-requires
 nth-second-requires c κs = let a = c.before.before in (a.requires.1.window, a.requires.3)
 
-sample-at-requires : tie.Need-sample-at-requires
+sample-at-requires : tie.Need-sample_at-requires
 sample-at-requires c κs =
     let a = start c in
-    (a.pre.0, a.pre.1.body, subst PlaceSizes (sym a.pre.2) (placed a.args.o a.pre.1), read-size c.nth-second.result 10800 (result-small c) tt)
+    (a.requires.0, a.requires.1.body, subst PlaceSizes (sym a.requires.2) (placed a.args.o a.requires.1), read-size c.nth_second-t.result 10800 (result-small c) tt)
 
 returns : tie.Need-returns
 returns c =
     let n = c.before in
     let a = start n in
-    rw (a.pre.2, read_back n.nth-second.result (result-small n) tt ∙ n.nth-second.ensures) at c.sample-at.ensures
+    rw (a.requires.2, read_back n.nth_second-t.result (result-small n) tt ∙ n.nth_second-t.ensures) at c.sample_at.ensures
 
-pub sample-of-spec : {M : Type 1} → statement M
-sample-of-spec = tie.close (tie.spec nth-second-requires sample-at-requires returns)
+pub sample_of_spec : {M : Type 1} → statement M
+sample_of_spec = tie.close (tie.spec nth-second-requires sample-at-requires returns)

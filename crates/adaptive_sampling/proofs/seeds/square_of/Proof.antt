@@ -10,9 +10,9 @@ returns : tie.Need-returns
 unfolding square_at
 returns c =
     let x = c.before in
-    let e = x.offset-of.ensures in
-    let m = x.offset-of.result.m in
+    let e = x.offset_of-s.ensures in
+    let m = x.offset_of-s.result.m in
     record { value = read_back m e.m.size tt ∙ e.m.value; size = read-size m 1000000000000000000 e.m.size tt }
 
-pub square-of-spec : {M : Type 1} → statement M
-square-of-spec = tie.close (tie.spec (λ c κs. search rules) returns)
+pub square_of_spec : {M : Type 1} → statement M
+square_of_spec = tie.close (tie.spec (λ c κs. search rules) returns)

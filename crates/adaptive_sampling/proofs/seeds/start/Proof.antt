@@ -15,43 +15,43 @@ earlier n k h some {i} {j} e f =
     let r : stop n (k - 1) < stop n k = subst (λ (m : ℕ). stop n (k - 1) < stop n m) z (stop_rises n (k - 1) h) in
     (omega (arith, r), omega (arith, r))
 
-foot-requires : tie.Need-foot-requires
+foot-requires : tie.Need-foot-t-requires
 foot-requires c κs =
     let s = c.before.before.before.before.before in
     let n = s.args.n in
     let k = s.args.k in
-    let few = c.before.before.if1.true in
-    (s.requires.3 k s.requires.2, s.requires.3 (k + 1) (omega (arith, few)), omega (arith, c.before.stop2.ensures, c.before.before.before.before.stop.ensures, stop_rises n k s.requires.0), omega (arith, c.before.stop2.ensures, s.requires.1, stop_in n (k + 1) (omega (arith, s.requires.0)) (omega (arith, few))))
+    let few = c.if-k-lt4.true in
+    (s.requires.3 k s.requires.2, s.requires.3 (k + 1) (omega (arith, few)), omega (arith, c.stop-j.ensures, c.stop-i.ensures, stop_rises n k s.requires.0), omega (arith, c.stop-j.ensures, s.requires.1, stop_in n (k + 1) (omega (arith, s.requires.0)) (omega (arith, few))))
 
-returns : tie.Need-returns
+returns : tie.Need-returns-then-t-gt0
 returns c =
     let s = c.before.before.before.before.before.before.before in
     let n = s.args.n in
     let k = s.args.k in
-    let few = c.before.before.before.before.if1.true in
-    omega (arith, c.before.foot.ensures, c.before.before.before.stop2.ensures, c.before.before.before.before.before.before.stop.ensures, stop_rises n k s.requires.0, stop_in n (k + 1) (omega (arith, s.requires.0)) (omega (arith, few)))
+    let few = c.if-k-lt4.true in
+    omega (arith, c.foot-t.ensures, c.stop-j.ensures, c.stop-i.ensures, stop_rises n k s.requires.0, stop_in n (k + 1) (omega (arith, s.requires.0)) (omega (arith, few)))
 
-sub-foot-2 : tie.Need-overflow-sub-foot-2
+sub-foot-2 : tie.Need-overflow_sub-i
 sub-foot-2 c =
     let s = c.before.before.before.before.before.before in
-    (earlier s.args.n s.args.k s.requires.0 c.before.before.if3.true c.before.before.before.before.before.stop.ensures c.before.stop3.ensures).0
+    (earlier s.args.n s.args.k s.requires.0 c.if-k-gt0.true c.stop-i.ensures c.stop-j-then-k-gt0.ensures).0
 
-foot-requires-2 : tie.Need-foot-requires-2
+foot-requires-2 : tie.Need-foot-t-requires-then-k-gt0
 foot-requires-2 c κs =
     let s = c.before.before.before.before.before.before in
     let k = s.args.k in
-    let e = earlier s.args.n k s.requires.0 c.before.before.if3.true c.before.before.before.before.before.stop.ensures c.before.stop3.ensures in
-    (s.requires.3 k s.requires.2, s.requires.3 (k - 1) (omega (arith, s.requires.2)), e.1, omega (arith, c.before.before.before.before.before.stop.ensures, s.requires.1, stop_in s.args.n k (omega (arith, s.requires.0)) (omega (arith, s.requires.2))))
+    let e = earlier s.args.n k s.requires.0 c.if-k-gt0.true c.stop-i.ensures c.stop-j-then-k-gt0.ensures in
+    (s.requires.3 k s.requires.2, s.requires.3 (k - 1) (omega (arith, s.requires.2)), e.1, omega (arith, c.stop-i.ensures, s.requires.1, stop_in s.args.n k (omega (arith, s.requires.0)) (omega (arith, s.requires.2))))
 
-returns-2 : tie.Need-returns-2
+returns-2 : tie.Need-returns-then-k-gt0
 returns-2 c =
     let s = c.before.before.before.before.before.before.before in
-    omega (arith, c.before.before.before.before.before.before.stop.ensures, stop_in s.args.n s.args.k (omega (arith, s.requires.0)) (omega (arith, s.requires.2)))
+    omega (arith, c.stop-i.ensures, stop_in s.args.n s.args.k (omega (arith, s.requires.0)) (omega (arith, s.requires.2)))
 
-returns-3 : tie.Need-returns-3
+returns-3 : tie.Need-returns
 returns-3 c =
     let s = c.before.before.before.before in
-    omega (arith, c.before.before.before.stop.ensures, stop_in s.args.n s.args.k (omega (arith, s.requires.0)) (omega (arith, s.requires.2)))
+    omega (arith, c.stop-i.ensures, stop_in s.args.n s.args.k (omega (arith, s.requires.0)) (omega (arith, s.requires.2)))
 
 pub start_spec : {M : Type 1} → statement M
 start_spec = tie.close (tie.spec (λ c κs. search rules) (λ c. search rules) (λ c. search rules) (λ c. search rules) (λ c κs. search rules) (λ c. search rules) (λ c. search rules) (λ c. search rules) foot-requires (λ c. search rules) returns (λ c. search rules) (λ c κs. search rules) (λ c. search rules) (λ c. search rules) sub-foot-2 foot-requires-2 (λ c. search rules) returns-2 returns-3)

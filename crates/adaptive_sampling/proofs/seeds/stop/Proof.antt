@@ -6,11 +6,11 @@ use native.Mathlib.Nat.{mul-le-mul_right}
 use Rattle.adaptive_sampling.proofs.seeds.stop.Statement.{statement}
 use Rattle.adaptive_sampling.proofs.seeds.stop.Tie as tie
 
-mul-result : tie.Need-overflow-mul-result
+mul-result : tie.Need-overflow_mul-result
 mul-result c = omega (arith, mul-le-mul_right (c.args.n - 1) c.requires.2, c.requires.1)
 
 returns : tie.Need-returns
 returns c = search rules
 
-pub stop-spec : {M : Type 1} → statement M
-stop-spec = tie.close (tie.spec (λ c. search rules) mul-result returns)
+pub stop_spec : {M : Type 1} → statement M
+stop_spec = tie.close (tie.spec (λ c. search rules) mul-result returns)

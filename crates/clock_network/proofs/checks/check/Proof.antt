@@ -1,12 +1,9 @@
 -- `clock_network::checks::check` meets its contract: 1 and 2 are the first station's, and what is held is the list.
 use mathlib.Core.Path.{◌≡◌, sym, ap, ◌∙◌}
-use mathlib.Core.Bool.{◌&&◌}
 use mathlib.Core.List.{List}
 use Prim.Native.Nat.{◌≤◌, ◌<◌}
 use native.Mathlib.Omega.{arith}
 use borrow.Author.Rules.{rules}
-use borrow.Author.Tests.{not-true, not-false}
-use lib.Dec.{leb}
 use lib.ListN.{length, get_or, take}
 use Rattle.requests.specs.Requests as Requests
 use Rattle.requests.specs.Requests.{of_eclipse}
@@ -37,7 +34,7 @@ module _ (c : tie.After-check_first-c) where
   eclipse = start.args.e
 
   sized : (1 ≤ held.count) × (held.count ≤ 64)
-  sized = size_in held.count (rw (not-false (leb 1 held.count && leb held.count 64) some.if-not-sized.false))
+  sized = size_in held.count (rw some.if-not-sized.false)
 
   module _ (l : List Node) (k : Holds held l) where
     low : 0 < length l

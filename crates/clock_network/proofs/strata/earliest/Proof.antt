@@ -2,7 +2,6 @@
 -- number.
 use Prim.Native.Nat.{ℕ, ◌+◌, ◌-◌}
 use mathlib.Core.Path.{◌≡◌, sym, subst}
-use mathlib.Core.Logic.{⊎_elim}
 use borrow.Author.Rules.{rules}
 use mathlib.Core.List.{List}
 use lib.ListN.{length}
@@ -10,6 +9,7 @@ use Rattle.clock_network.specs.laws.Earliest.{SoFar, far_start, far-smaller, far
 use Rattle.clock_network.specs.laws.DefinedLaws.{earliest-is}
 use Rattle.clock_network.proofs.strata.earliest.Statement.{statement}
 use Rattle.clock_network.proofs.strata.earliest.Tie as tie
+use Rattle.clock_network.proofs.strata.earliest.Lts.{then-tos-i, else-tos-i}
 
 abbrev invariant-loop : tie.invariant-loop-i
 invariant-loop tos never low₀ best₀ i₀ low best i = SoFar tos never i low best
@@ -26,10 +26,10 @@ loop-holds c = far_start c.args.tos.now c.args.never
 loop-again : tie.Need-loop-i-preserved invariant-loop decreases-loop
 loop-again c =
     let l = c.loop-i in let ts = c.args.tos.now in let never = c.args.never in
-    ⊎_elim
-    (λ w. moved ts never (l.i + 1) _ _ _ _ w.2 w.3 (far-smaller ts never l.i l.low l.best l.invariant c.loop-i-test.true w.0.taken))
-    (λ w. moved ts never (l.i + 1) _ _ _ _ w.1 w.2 (far-other ts never l.i l.low l.best l.invariant c.loop-i-test.true w.0.left))
-    c.if-tos-i.branch
+    elim c.if-tos-i.branch [
+      | then-tos-i w ↦ moved ts never (l.i + 1) _ _ _ _ w.low-is w.best-is (far-smaller ts never l.i l.low l.best l.invariant c.loop-i-test.true w.if-tos-i.true)
+      | else-tos-i w ↦ moved ts never (l.i + 1) _ _ _ _ w.low-is w.best-is (far-other ts never l.i l.low l.best l.invariant c.loop-i-test.true w.if-tos-i.false)
+    ]
 
 returns : tie.Need-returns invariant-loop decreases-loop
 returns c = let l = c.loop-i in let a = c.args in earliest-is a.tos.now a.never _ (far-end a.tos.now a.never l.i l.low l.best l.invariant c.loop-i-test.false)

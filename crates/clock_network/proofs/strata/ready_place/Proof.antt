@@ -5,10 +5,10 @@ use borrow.Author.Rules.{rules}
 use borrow.Author.Count.{below_more}
 use lib.ListN.{length, get_or}
 use mathlib.Core.Path.{◌≡◌}
-use mathlib.Core.Logic.{⊎_elim}
 use Rattle.clock_network.specs.laws.Search.{Untold}
 use Rattle.clock_network.proofs.strata.ready_place.Statement.{statement}
 use Rattle.clock_network.proofs.strata.ready_place.Tie as tie
+use Rattle.clock_network.proofs.strata.ready_place.Lts.{then-steps-i-eq0+else-s-ne0, else-steps-i-eq0}
 
 abbrev invariant-loop : tie.invariant-loop-i
 invariant-loop numbers clocks steps i₀ i = (i ≤ length numbers) × ((k : ℕ) → k < i → get_or steps k 0 ≡ 0 → Untold numbers clocks steps k)
@@ -20,7 +20,13 @@ returns : tie.Need-returns-then-s-ne0 invariant-loop decreases-loop
 returns c = (search rules, (c.if-steps-i-eq0.true, (c.if-s-ne0.true, (c.next_steps-s.ensures.told c.if-s-ne0.true, c.next_steps-s.ensures.small))))
 
 loop-again : tie.Need-loop-i-preserved invariant-loop decreases-loop
-loop-again c = (search rules, below_more _ _ c.loop-i.invariant.1 (⊎_elim (λ w z. w.1.ensures.untold w.2.left) (λ w z. absurd (w.left z)) c.if-steps-i-eq0.branch))
+loop-again c = (
+  search rules,
+  below_more _ _ c.loop-i.invariant.1 (elim c.if-steps-i-eq0.branch [
+    | then-steps-i-eq0+else-s-ne0 w ↦ λ z. w.next_steps-s.ensures.untold w.if-s-ne0.false
+    | else-steps-i-eq0 w ↦ λ z. absurd (w.if-steps-i-eq0.false z)
+  ]),
+)
 
 returns-2 : tie.Need-returns invariant-loop decreases-loop
 returns-2 c = λ i l. c.loop-i.invariant.1 i (omega arith)

@@ -19,13 +19,13 @@ pub record Between (s low high : ℕ) : Type 0 where
   pub holds : sine (pos low) ≤ℤ pos s
   pub above : (j : ℕ) → high ≤ j → j ≤ 45_000_000 → pos s <ℤ sine (pos j)
 
-abbrev invariant-loop : tie.invariant-loop
+abbrev invariant-loop : tie.invariant-loop-low
 invariant-loop table s low₀ high₀ low high = Between s low high
 
-abbrev decreases-loop : tie.decreases-loop
+abbrev decreases-loop : tie.decreases-loop-low
 decreases-loop table s low₀ high₀ low high = high - low
 
-loop-holds : tie.Need-loop-init invariant-loop decreases-loop
+loop-holds : tie.Need-loop-low-init invariant-loop decreases-loop
 loop-holds c =
     record {
       apart = omega arith;
@@ -34,32 +34,32 @@ loop-holds c =
       above = λ j h k. absurd (omega arith);
     }
 
-add-loop : tie.Need-overflow-add-loop invariant-loop decreases-loop
-add-loop c = omega (arith, c.loop.invariant.apart, c.loop.invariant.high_le)
+add-loop : tie.Need-overflow_add-low invariant-loop decreases-loop
+add-loop c = omega (arith, c.loop-low.invariant.apart, c.loop-low.invariant.high_le)
 
-add_a : tie.Need-overflow-add-a invariant-loop decreases-loop
-add_a c = omega (arith, c.before.loop.invariant.apart, c.before.loop.invariant.high_le)
+add_a : tie.Need-overflow_add-a invariant-loop decreases-loop
+add_a c = omega (arith, c.loop-low.invariant.apart, c.loop-low.invariant.high_le)
 
-natural-sine-requires : tie.Need-natural-sine-requires invariant-loop decreases-loop
+natural-sine-requires : tie.Need-natural_sine-found-requires invariant-loop decreases-loop
 natural-sine-requires c κs =
-    (c.before.before.before.requires, omega (arith, c.before.loop.invariant.apart, c.before.loop.invariant.high_le))
+    (c.requires, omega (arith, c.loop-low.invariant.apart, c.loop-low.invariant.high_le))
 
 -- the angle of a round, and its sine
-module _ (c : tie.After-natural-sine invariant-loop decreases-loop) where
+module _ (c : tie.After-natural_sine-found invariant-loop decreases-loop) where
   abbrev at : ℕ
-  at = (c.before.before.loop.low + c.before.before.loop.high) / 2
+  at = (c.loop-low.low + c.loop-low.high) / 2
 
-  found-is : pos c.natural-sine.result ≡ sine (pos at)
-  found-is = c.natural-sine.ensures
+  found-is : pos c.natural_sine-found.result ≡ sine (pos at)
+  found-is = c.natural_sine-found.ensures
 
-loop-less : tie.Need-loop-smaller invariant-loop decreases-loop
-loop-less c = let b = c.before.before.before.loop.invariant in omega (arith, b.apart)
+loop-less : tie.Need-loop-low-smaller-then-s-found invariant-loop decreases-loop
+loop-less c = let b = c.loop-low.invariant in omega (arith, b.apart)
 
-loop-again : tie.Need-loop-preserved invariant-loop decreases-loop
+loop-again : tie.Need-loop-low-preserved-then-s-found invariant-loop decreases-loop
 loop-again c =
-    let b = c.before.before.before.loop.invariant in
-    let s = c.before.before.before.before.before.args.s in
-    let more : pos s <ℤ sine (pos (at c.before)) = subst (λ (z : ℤ). pos s <ℤ z) (found-is c.before) (omega (arith, zs, c.if1.true)) in
+    let b = c.loop-low.invariant in
+    let s = c.args.s in
+    let more : pos s <ℤ sine (pos (at c.before)) = subst (λ (z : ℤ). pos s <ℤ z) (found-is c.before) (omega (arith, zs, c.if-s-found.true)) in
     record {
       apart = omega (arith, b.apart);
       high_le = omega (arith, b.apart, b.high_le);
@@ -67,27 +67,27 @@ loop-again c =
       above = beyond s (at c.before) more;
     }
 
-loop-less-2 : tie.Need-loop-smaller-2 invariant-loop decreases-loop
-loop-less-2 c = let b = c.before.before.before.loop.invariant in omega (arith, b.apart)
+loop-less-2 : tie.Need-loop-low-smaller invariant-loop decreases-loop
+loop-less-2 c = let b = c.loop-low.invariant in omega (arith, b.apart)
 
-loop-again-2 : tie.Need-loop-preserved-2 invariant-loop decreases-loop
+loop-again-2 : tie.Need-loop-low-preserved invariant-loop decreases-loop
 loop-again-2 c =
-    let b = c.before.before.before.loop.invariant in
-    let s = c.before.before.before.before.before.args.s in
+    let b = c.loop-low.invariant in
+    let s = c.args.s in
     record {
       apart = omega (arith, b.apart);
       high_le = b.high_le;
-      holds = subst (λ (z : ℤ). z ≤ℤ pos s) (found-is c.before) (omega (arith, zs, c.if1.false));
+      holds = subst (λ (z : ℤ). z ≤ℤ pos s) (found-is c.before) (omega (arith, zs, c.if-s-found.false));
       above = b.above;
     }
 
 returns : tie.Need-returns invariant-loop decreases-loop
 returns c =
-    let b = c.before.loop.invariant in
-    let low = c.before.loop.low in (
-      arc-found c.before.before.before.args.s low (omega (arith, b.apart, b.high_le)) b.holds (λ j h l. b.above j (omega (arith, b.apart)) l),
+    let b = c.loop-low.invariant in
+    let low = c.loop-low.low in (
+      arc-found c.args.s low (omega (arith, b.apart, b.high_le)) b.holds (λ j h l. b.above j (omega (arith, b.apart)) l),
       omega (arith, b.apart, b.high_le),
     )
 
-pub arc-spec : {M : Type 1} → statement M
-arc-spec = tie.close (tie.spec invariant-loop decreases-loop loop-holds add-loop add_a natural-sine-requires loop-less loop-again loop-less-2 loop-again-2 returns)
+pub arc_spec : {M : Type 1} → statement M
+arc_spec = tie.close (tie.spec invariant-loop decreases-loop loop-holds add-loop add_a natural-sine-requires loop-less loop-again loop-less-2 loop-again-2 returns)

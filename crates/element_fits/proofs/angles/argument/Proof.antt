@@ -13,34 +13,34 @@ use Rattle.element_fits.proofs.angles.Sizes.{size-cast, cast_is}
 use Rattle.element_fits.proofs.angles.argument.Statement.{statement}
 use Rattle.element_fits.proofs.angles.argument.Tie as tie
 
-abs-requires : tie.Need-abs-requires
-abs-requires c κs = read-size c.before.args.x 9223372036854775807 c.before.requires.1 tt
+abs-requires : tie.Need-abs-p-requires
+abs-requires c κs = read-size c.args.x 9223372036854775807 c.requires.1 tt
 
-cast-p : tie.Need-overflow-cast-p
-cast-p c = size-cast c.before.before.args.x c.abs.result c.before.before.requires.1 c.abs.ensures
+cast-p : tie.Need-overflow_cast-p
+cast-p c = size-cast c.args.x c.abs-p.result c.requires.1 c.abs-p.ensures
 
-abs-requires-2 : tie.Need-abs-requires-2
-abs-requires-2 c κs = read-size c.before.before.args.y 9223372036854775807 c.before.before.requires.2 tt
+abs-requires-2 : tie.Need-abs-q-requires
+abs-requires-2 c κs = read-size c.args.y 9223372036854775807 c.requires.2 tt
 
-cast-q : tie.Need-overflow-cast-q
-cast-q c = size-cast c.before.before.before.args.y c.abs2.result c.before.before.before.requires.2 c.abs2.ensures
+cast-q : tie.Need-overflow_cast-q
+cast-q c = size-cast c.args.y c.abs-q.result c.requires.2 c.abs-q.ensures
 
 -- what `acute` gave
-module _ (c : tie.After-acute) where
+module _ (c : tie.After-acute-a) where
   abbrev x : ℤ
-  x = c.before.before.before.before.args.x
+  x = c.args.x
 
   abbrev y : ℤ
-  y = c.before.before.before.before.args.y
+  y = c.args.y
 
   bounds : Within (whole x ∷ whole y ∷ []) (100_000_000 ∷ 100_000_000 ∷ [])
-  bounds = c.before.before.before.before.requires.1 ▹ c.before.before.before.before.requires.2 ▹ ends
+  bounds = c.requires.1 ▹ c.requires.2 ▹ ends
 
-  angle-is : c.acute.result ≡ acute (nat_abs x) (nat_abs y)
+  angle-is : c.acute-a.result ≡ acute (nat_abs x) (nat_abs y)
   angle-is =
-      let p = c.before.before.before.before.requires in
-      c.acute.ensures.0
-      ∙ ap₂ acute (cast_is x c.before.before.abs.result p.1 c.before.before.abs.ensures) (cast_is y c.before.abs2.result p.2 c.before.abs2.ensures)
+      let p = c.requires in
+      c.acute-a.ensures.0
+      ∙ ap₂ acute (cast_is x c.abs-p.result p.1 c.abs-p.ensures) (cast_is y c.abs-q.result p.2 c.abs-q.ensures)
 
 abbrev none : Code
 none = lit (pos 0)
@@ -48,39 +48,39 @@ none = lit (pos 0)
 is : (x y : ℤ) {r : ℕ} → r ≡ argument x y → (r ≡ argument x y) × (r < 360_000_000)
 is x y e = (e, omega (arith, argument-below x y))
 
-returns : tie.Need-returns
+returns : tie.Need-returns-then-x-lt0
 returns c =
     let a = c.before.before in
     let w = bounds a in
     is (x a) (y a)
     (ap (λ (n : ℕ). 180_000_000 + n) (angle-is a)
-    ∙ sym (argument-third (x a) (y a) (taken-< w (arg 0) none tt c.if2.true) (taken-< w (arg 1) none tt c.before.if1.true)))
+    ∙ sym (argument-third (x a) (y a) (taken-< w (arg 0) none tt c.if-x-lt0.true) (taken-< w (arg 1) none tt c.if-y-lt0.true)))
 
-returns-2 : tie.Need-returns-2
+returns-2 : tie.Need-returns-else-x-lt0
 returns-2 c =
     let a = c.before.before in
     let w = bounds a in
     is (x a) (y a)
     (ap (λ (n : ℕ). (360_000_000 - n) % 360_000_000) (angle-is a)
-    ∙ sym (argument-fourth (x a) (y a) (left-< w (arg 0) none tt c.if2.false) (taken-< w (arg 1) none tt c.before.if1.true)))
+    ∙ sym (argument-fourth (x a) (y a) (left-< w (arg 0) none tt c.if-x-lt0.false) (taken-< w (arg 1) none tt c.if-y-lt0.true)))
 
-returns-3 : tie.Need-returns-3
+returns-3 : tie.Need-returns-then-x-lt0-2
 returns-3 c =
     let a = c.before.before in
     let w = bounds a in
     is (x a) (y a)
     (ap (λ (n : ℕ). 180_000_000 - n) (angle-is a)
-    ∙ sym (argument-second (x a) (y a) (taken-< w (arg 0) none tt c.if3.true) (left-< w (arg 1) none tt c.before.if1.false)))
+    ∙ sym (argument-second (x a) (y a) (taken-< w (arg 0) none tt c.if-x-lt0-2.true) (left-< w (arg 1) none tt c.if-y-lt0.false)))
 
-returns-4 : tie.Need-returns-4
+returns-4 : tie.Need-returns-else-x-lt0-2
 returns-4 c =
     let a = c.before.before in
     let w = bounds a in
     is (x a) (y a)
-    (angle-is a ∙ sym (argument-first (x a) (y a) (left-< w (arg 0) none tt c.if3.false) (left-< w (arg 1) none tt c.before.if1.false)))
+    (angle-is a ∙ sym (argument-first (x a) (y a) (left-< w (arg 0) none tt c.if-x-lt0-2.false) (left-< w (arg 1) none tt c.if-y-lt0.false)))
 
-pub argument-spec : {M : Type 1} → statement M
-argument-spec =
+pub argument_spec : {M : Type 1} → statement M
+argument_spec =
     tie.close
     (tie.spec abs-requires cast-p abs-requires-2 cast-q (λ c κs. search rules) (λ c. search rules)
     (λ c. search rules) (λ c. search rules) returns returns-2 returns-3 returns-4)

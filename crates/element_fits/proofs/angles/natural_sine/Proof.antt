@@ -17,18 +17,18 @@ natural a h =
     e ∙ first-natural a (omega arith) ∙ ap (λ (z : ℤ). pos (nat_abs z)) (sym e)
 
 sine-requires : tie.Need-sine-requires
-sine-requires c κs = (c.before.requires.0, omega (arith, c.before.requires.1))
+sine-requires c κs = (c.requires.0, omega (arith, c.requires.1))
 
 -- what `sine` gave
-is : (c : tie.After-sine) → c.sine.result ≡ pos (nat_abs (sine (pos c.before.before.args.a)))
-is c = c.sine.ensures.value ∙ natural c.before.before.args.a c.before.before.requires.1
+is : (c : tie.After-sine) → c.sine.result ≡ pos (nat_abs (sine (pos c.args.a)))
+is c = c.sine.ensures.value ∙ natural c.args.a c.requires.1
 
-cast-result : tie.Need-overflow-cast-result
-cast-result c = cast_unsigned c.sine.result (record { sfits = c.sine.type-inv }) (rw (is c) (omega (arith, zs)))
+cast-result : tie.Need-overflow_cast-result
+cast-result c = cast_unsigned c.sine.result (record { sfits = c.sine.type_inv }) (rw (is c) (omega (arith, zs)))
 
 returns : tie.Need-returns
 returns c =
-    ap (λ (z : ℤ). pos (nat_abs z)) (read_result c.sine.result c.sine.type-inv ∙ is c) ∙ sym (natural c.before.before.args.a c.before.before.requires.1)
+    ap (λ (z : ℤ). pos (nat_abs z)) (read_result c.sine.result c.sine.type_inv ∙ is c) ∙ sym (natural c.args.a c.requires.1)
 
-pub natural-sine-spec : {M : Type 1} → statement M
-natural-sine-spec = tie.close (tie.spec sine-requires cast-result returns)
+pub natural_sine_spec : {M : Type 1} → statement M
+natural_sine_spec = tie.close (tie.spec sine-requires cast-result returns)

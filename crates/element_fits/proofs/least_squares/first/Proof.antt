@@ -11,31 +11,31 @@ use Rattle.element_fits.proofs.least_squares.first.Tie as tie
 abbrev all : Code
 all = add (add (mul (lit (pos 3)) (sub (arg 6) (arg 0))) (mul (lit (pos 2)) (sub (arg 5) (arg 1)))) (sub (arg 4) (arg 2))
 
-sub-result : tie.Need-overflow-sub-result
-sub-result c = fits (bounds c.before.before.before.before.before.before.requires) (sub (arg 6) (arg 0)) tt
+sub-result : tie.Need-overflow_sub-result
+sub-result c = fits (bounds c.requires) (sub (arg 6) (arg 0)) tt
 
-mul-result : tie.Need-overflow-mul-result
-mul-result c = fits (bounds c.before.before.before.before.before.before.requires) (mul (lit (pos 3)) (sub (arg 6) (arg 0))) tt
+mul-result : tie.Need-overflow_mul-result
+mul-result c = fits (bounds c.requires) (mul (lit (pos 3)) (sub (arg 6) (arg 0))) tt
 
-sub-result-2 : tie.Need-overflow-sub-result-2
-sub-result-2 c = fits (bounds c.before.before.before.before.before.before.requires) (sub (arg 5) (arg 1)) tt
+sub-result-2 : tie.Need-overflow_sub-result-2
+sub-result-2 c = fits (bounds c.requires) (sub (arg 5) (arg 1)) tt
 
-mul-result-2 : tie.Need-overflow-mul-result-2
-mul-result-2 c = fits (bounds c.before.before.before.before.before.before.requires) (mul (lit (pos 2)) (sub (arg 5) (arg 1))) tt
+mul-result-2 : tie.Need-overflow_mul-result-2
+mul-result-2 c = fits (bounds c.requires) (mul (lit (pos 2)) (sub (arg 5) (arg 1))) tt
 
-add-result : tie.Need-overflow-add-result
-add-result c = fits (bounds c.before.before.before.before.before.before.requires) (add (mul (lit (pos 3)) (sub (arg 6) (arg 0))) (mul (lit (pos 2)) (sub (arg 5) (arg 1)))) tt
+add-result : tie.Need-overflow_add-result
+add-result c = fits (bounds c.requires) (add (mul (lit (pos 3)) (sub (arg 6) (arg 0))) (mul (lit (pos 2)) (sub (arg 5) (arg 1)))) tt
 
-sub-result-3 : tie.Need-overflow-sub-result-3
-sub-result-3 c = fits (bounds c.before.before.before.before.before.before.requires) (sub (arg 4) (arg 2)) tt
+sub-result-3 : tie.Need-overflow_sub-result-3
+sub-result-3 c = fits (bounds c.requires) (sub (arg 4) (arg 2)) tt
 
-add-result-2 : tie.Need-overflow-add-result-2
-add-result-2 c = fits (bounds c.before.before.before.before.before.before.requires) (add (add (mul (lit (pos 3)) (sub (arg 6) (arg 0))) (mul (lit (pos 2)) (sub (arg 5) (arg 1)))) (sub (arg 4) (arg 2))) tt
+add-result-2 : tie.Need-overflow_add-result-2
+add-result-2 c = fits (bounds c.requires) (add (add (mul (lit (pos 3)) (sub (arg 6) (arg 0))) (mul (lit (pos 2)) (sub (arg 5) (arg 1)))) (sub (arg 4) (arg 2))) tt
 
 returns : tie.Need-returns
 unfolding first
 returns c =
-    let w = bounds c.before.before.before.before.before.before.requires in
+    let w = bounds c.requires in
     let e = runs w all tt in
     record { value = e; size = omega (arith, ap nat_abs e, sized w all) }
 

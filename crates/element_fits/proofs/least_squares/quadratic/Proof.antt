@@ -17,31 +17,31 @@ use Rattle.element_fits.proofs.least_squares.quadratic.Statement.{statement}
 use Rattle.element_fits.proofs.least_squares.quadratic.Tie as tie
 
 -- the values
-abbrev given : tie.After-second → Hourly
-given c = c.before.before.before.args.v
+abbrev given : tie.After-second-a2 → Hourly
+given c = c.args.v
 
-near-requires : tie.Need-near-requires
-near-requires c κs = (read-size c.second.result 4000000000000000000 c.second.ensures.size tt, lit≤ tt, le_z_yes tt)
+near-requires : tie.Need-near-c2-requires
+near-requires c κs = (read-size c.second-a2.result 4000000000000000000 c.second-a2.ensures.size tt, lit≤ tt, le_z_yes tt)
 
 -- what the calls of `near` gave
-squared : (c : tie.After-near) → Value (near (second (given c.before)) (pos 84)) 23809523810 c.near.result
+squared : (c : tie.After-near-c2) → Value (near (second (given c.before)) (pos 84)) 23809523810 c.near-c2.result
 squared c =
-    let s = c.before.second in
-    divided (pos 84) 2000000000000 23809523810 (le_z_yes tt) c.near.ensures (read_back s.result s.ensures.size tt ∙ s.ensures.value)
+    let s = c.second-a2 in
+    divided (pos 84) 2000000000000 23809523810 (le_z_yes tt) c.near-c2.ensures (read_back s.result s.ensures.size tt ∙ s.ensures.value)
     (omega (arith, s.ensures.size, ap nat_abs s.ensures.value)) (omega arith)
 
-near-requires-2 : tie.Need-near-requires-2
-near-requires-2 c κs = let f = c.before.before.first in (read-size f.result 4000000000000000000 f.ensures.size tt, lit≤ tt, le_z_yes tt)
+near-requires-2 : tie.Need-near-c1-requires
+near-requires-2 c κs = let f = c.first-a1 in (read-size f.result 4000000000000000000 f.ensures.size tt, lit≤ tt, le_z_yes tt)
 
-once : (c : tie.After-near2) → c.near2.result ≡ near (first (given c.before.before)) (pos 28)
+once : (c : tie.After-near-c1) → c.near-c1.result ≡ near (first (given c.before.before)) (pos 28)
 once c =
-    let f = c.before.before.before.first in
-    c.near2.ensures ∙ ap (λ (z : ℤ). near z (pos 28)) (read_back f.result f.ensures.size tt ∙ f.ensures.value)
+    let f = c.first-a1 in
+    c.near-c1.ensures ∙ ap (λ (z : ℤ). near z (pos 28)) (read_back f.result f.ensures.size tt ∙ f.ensures.value)
 
 -- the sum, less what c2 takes
-bounds : (c : tie.After-near2)
-    → Within (whole c.before.before.before.before.sum.result ∷ whole c.before.near.result ∷ []) (700000000000 ∷ 23809523810 ∷ [])
-bounds c = c.before.before.before.before.sum.ensures.size ▹ (squared c.before).size ▹ ends
+bounds : (c : tie.After-near-c1)
+    → Within (whole c.sum-a0.result ∷ whole c.near-c2.result ∷ []) (700000000000 ∷ 23809523810 ∷ [])
+bounds c = c.sum-a0.ensures.size ▹ (squared c.before).size ▹ ends
 
 abbrev product : Code
 product = mul (lit (pos 28)) (arg 1)
@@ -49,27 +49,27 @@ product = mul (lit (pos 28)) (arg 1)
 abbrev less : Code
 less = sub (arg 0) product
 
-near-requires-3 : tie.Need-near-requires-3
+near-requires-3 : tie.Need-near-c0-requires
 near-requires-3 c κs = (within (bounds c) less 4000000000000000000 tt, lit≤ tt, le_z_yes tt)
 
-constant : (c : tie.After-near3)
-    → let v = given c.before.before.before in c.near3.result ≡ near (sum v -ℤ pos 28 *ℤ near (second v) (pos 84)) (pos 7)
+constant : (c : tie.After-near-c0)
+    → let v = given c.before.before.before in c.near-c0.result ≡ near (sum v -ℤ pos 28 *ℤ near (second v) (pos 84)) (pos 7)
 constant c =
-    let f = c.before.before.before.before.before.sum.ensures.value in
+    let f = c.sum-a0.ensures.value in
     let e = ap₂ (λ (x y : ℤ). x -ℤ pos 28 *ℤ y) f (squared c.before.before).value in
-    c.near3.ensures ∙ ap (λ (z : ℤ). near z (pos 7)) (runs (bounds c.before) less tt ∙ e)
+    c.near-c0.ensures ∙ ap (λ (z : ℤ). near z (pos 7)) (runs (bounds c.before) less tt ∙ e)
 
 returns : tie.Need-returns
 unfolding quadratic
 returns c =
     rw (
-      read_result c.near3.result c.near3.type-inv,
-      read_result c.before.near2.result c.before.near2.type-inv,
-      read_result c.before.before.near.result c.before.before.near.type-inv,
+      read_result c.near-c0.result c.near-c0.type_inv,
+      read_result c.near-c1.result c.near-c1.type_inv,
+      read_result c.near-c2.result c.near-c2.type_inv,
       constant c,
       once c.before,
       (squared c.before.before).value,
     )
 
-pub quadratic-spec : {M : Type 1} → statement M
-quadratic-spec = tie.close (tie.spec (λ c κs. c.requires) (λ c κs. c.before.requires) (λ c κs. c.before.before.requires) near-requires near-requires-2 (λ c. fits (bounds c) product tt) (λ c. fits (bounds c) less tt) near-requires-3 returns)
+pub quadratic_spec : {M : Type 1} → statement M
+quadratic_spec = tie.close (tie.spec (λ c κs. c.requires) (λ c κs. c.requires) (λ c κs. c.requires) near-requires near-requires-2 (λ c. fits (bounds c) product tt) (λ c. fits (bounds c) less tt) near-requires-3 returns)

@@ -15,55 +15,54 @@ use Rattle.element_fits.proofs.numbers.answered.Statement.{statement}
 use Rattle.element_fits.proofs.numbers.answered.Tie as tie
 
 -- ---- what was admitted, with the tolerance read back from its bits
-module _ (c : tie.After-admit) where
+module _ (c : tie.After-admit-c) where
   abbrev start : tie.Start
   start = c.before.before.before
 
   tolerance-is : to_z w64 (of_z w64 start.args.tolerance) ≡ start.args.tolerance
-  tolerance-is = to_z-of_z w64 start.args.tolerance start.fits.tolerance
+  tolerance-is = to_z-of_z w64 start.args.tolerance start.ranges.tolerance
 
   abbrev by : ℤ → Checked
   by t = let a = start.args in admitted a.rows.now a.sidereal.now a.radii.now t a.sines.now
 
-  admit-is : c.admit.result ≡ by start.args.tolerance
-  admit-is = c.admit.ensures.0 ∙ ap by tolerance-is
+  admit-is : c.admit-c.result ≡ by start.args.tolerance
+  admit-is = c.admit-c.ensures.0 ∙ ap by tolerance-is
 
-  sines-are : c.admit.new.1.1.1.1.0 ≡ sines_after (by start.args.tolerance) start.args.sines.now
-  sines-are = c.admit.ensures.1 ∙ ap (λ (t : ℤ). sines_after (by t) start.args.sines.now) tolerance-is
+  sines-are : c.admit-c.new.sines ≡ sines_after (by start.args.tolerance) start.args.sines.now
+  sines-are = c.admit-c.ensures.1 ∙ ap (λ (t : ℤ). sines_after (by t) start.args.sines.now) tolerance-is
 
-returns : tie.Need-returns
+returns : tie.Need-returns-in-Refused
 returns c =
-    let m = c.before.before.before.before.before in
+    let m = c.before.before.before in
     let a = (start m).args in
-    let known = c.before.c.given in
-    (sym (answer-refused a.rows.now a.sidereal.now a.radii.now a.tolerance a.sines.now a.room a.second known.0.0 (sym (admit-is m) ∙ known.1)), sines-are m)
+    (sym (answer-refused a.rows.now a.sidereal.now a.radii.now a.tolerance a.sines.now a.room a.second c.in-Refused.refusal (sym (admit-is m) ∙ c.in-Refused.is)), sines-are m)
 
 -- ---- where nothing was refused
-module _ (c : tie.After-enum-told) where
-  abbrev met : tie.After-admit
-  met = c.before.before.before.before
+module _ (c : tie.In_default) where
+  abbrev met : tie.After-admit-c
+  met = c.before.before.before
 
   within : by met (start met).args.tolerance ≡ C.Within
-  within = sym (admit-is met) ∙ c.enum_told.given.1
+  within = sym (admit-is met) ∙ c.in_default.is
 
-asked-requires : tie.Need-asked-requires
+asked-requires : tie.Need-asked-found-requires
 asked-requires c κs =
-    let told = c.before in
+    let told = c in
     let m = met told in
     let a = (start m).args in
     let w = admitted-within a.rows.now a.sidereal.now a.radii.now a.tolerance a.sines.now (within told) in
     (subst Sines (sym (sines-are m)) w.1, subst (Taken a.rows.now a.sidereal.now a.radii.now) (sym (tolerance-is m)) w.0)
 
-returns-2 : tie.Need-returns-2
+returns-2 : tie.Need-returns
 returns-2 c =
-    let told = c.before.before.before in
+    let told = c.before.before in
     let m = met told in
     let a = (start m).args in
-    let f = c.before.asked.ensures ∙ ap (fits_asked a.rows.now a.sidereal.now a.radii.now) (tolerance-is m) in (
-      c.in-rooms.ensures ∙ ap (in_rooms a.room a.second) f
+    let f = c.asked-found.ensures ∙ ap (fits_asked a.rows.now a.sidereal.now a.radii.now) (tolerance-is m) in (
+      c.in_rooms.ensures ∙ ap (in_rooms a.room a.second) f
           ∙ sym (answer-asked a.rows.now a.sidereal.now a.radii.now a.tolerance a.sines.now a.room a.second (within told)),
       sines-are m,
     )
 
-pub answered-spec : {M : Type 1} → statement M
-answered-spec = tie.close (tie.spec (λ c κs. search rules) (λ c. search rules) (λ c. search rules) returns (λ c. search rules) asked-requires (λ c κs. search rules) (λ c. search rules) returns-2)
+pub answered_spec : {M : Type 1} → statement M
+answered_spec = tie.close (tie.spec (λ c κs. search rules) (λ c. search rules) (λ c. search rules) returns (λ c. search rules) asked-requires (λ c κs. search rules) (λ c. search rules) returns-2)

@@ -11,20 +11,20 @@ use Rattle.element_fits.specs.laws.NumbersLaws.{given-lengths, given-rows, given
 use Rattle.element_fits.proofs.numbers.given.Statement.{statement}
 use Rattle.element_fits.proofs.numbers.given.Tie as tie
 
-returns : tie.Need-returns
-returns c = let a = c.before.args in sym (given-rows a.rows.now a.sidereal.now a.radii.now a.tolerance c.if1.true)
+returns : tie.Need-returns-then-rows-ne42
+returns c = let a = c.args in sym (given-rows a.rows.now a.sidereal.now a.radii.now a.tolerance c.if-rows-ne42.true)
 
-returns-2 : tie.Need-returns-2
+returns-2 : tie.Need-returns-then-sidereal-ne7
 returns-2 c =
-    let a = c.before.before.args in
-    sym (given-sidereal a.rows.now a.sidereal.now a.radii.now a.tolerance c.before.if1.false c.if2.true)
+    let a = c.args in
+    sym (given-sidereal a.rows.now a.sidereal.now a.radii.now a.tolerance c.if-rows-ne42.false c.if-sidereal-ne7.true)
 
-returns-3 : tie.Need-returns-3
+returns-3 : tie.Need-returns-then-radii-ne3
 returns-3 c =
-    let a = c.before.before.before.args in
-    sym (given-radii a.rows.now a.sidereal.now a.radii.now a.tolerance c.before.before.if1.false c.before.if2.false c.if3.true)
+    let a = c.args in
+    sym (given-radii a.rows.now a.sidereal.now a.radii.now a.tolerance c.if-rows-ne42.false c.if-sidereal-ne7.false c.if-radii-ne3.true)
 
-returns-4 : tie.Need-returns-4
+returns-4 : tie.Need-returns
 returns-4 c =
     let accepted = c.before.before in
     let ranged = accepted.before in
@@ -32,11 +32,11 @@ returns-4 c =
     let lengths = stated.before in
     let s = lengths.before.before.before in
     let a = s.args in
-    let e = stated.tolerance-checked.ensures
+    let e = stated.tolerance_checked-stated.ensures
     ∙ ap (λ (z : ℤ). of_limits 18 (first_out_of_range 0 (tolerance_ranges z))) (to_z-of_z w64 a.tolerance s.ranges.tolerance) in
-    c.and-then2.ensures
-    ∙ ap₂ andThen e (c.before.and_then.ensures ∙ ap₂ andThen ranged.ranges-checked.ensures accepted.rows-checked.ensures)
-    ∙ sym (given-lengths a.rows.now a.sidereal.now a.radii.now a.tolerance lengths.before.before.if1.false lengths.before.if2.false lengths.if3.false)
+    c.and_then.ensures
+    ∙ ap₂ andThen e (c.and_then-next.ensures ∙ ap₂ andThen ranged.ranges_checked-ranged.ensures accepted.rows_checked-accepted.ensures)
+    ∙ sym (given-lengths a.rows.now a.sidereal.now a.radii.now a.tolerance lengths.if-rows-ne42.false lengths.if-sidereal-ne7.false lengths.if-radii-ne3.false)
 
-pub given-spec : {M : Type 1} → statement M
-given-spec = tie.close (tie.spec returns returns-2 returns-3 (λ c κs. search rules) (λ c κs. search rules) (λ c κs. search rules) (λ c κs. search rules) (λ c κs. search rules) returns-4)
+pub given_spec : {M : Type 1} → statement M
+given_spec = tie.close (tie.spec returns returns-2 returns-3 (λ c κs. search rules) (λ c κs. search rules) (λ c κs. search rules) (λ c κs. search rules) (λ c κs. search rules) returns-4)

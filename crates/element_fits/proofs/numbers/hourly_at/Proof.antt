@@ -8,5 +8,5 @@ returns : tie.Need-returns
 unfolding hourly_of
 returns c = search rules
 
-pub hourly-at-spec : {M : Type 1} → statement M
-hourly-at-spec = tie.close (tie.spec (λ c. search rules) (λ c. search rules) (λ c. search rules) (λ c. search rules) (λ c. search rules) (λ c. search rules) (λ c. search rules) returns)
+pub hourly_at_spec : {M : Type 1} → statement M
+hourly_at_spec = tie.close (tie.spec (λ c. search rules) (λ c. search rules) (λ c. search rules) (λ c. search rules) (λ c. search rules) (λ c. search rules) (λ c. search rules) returns)

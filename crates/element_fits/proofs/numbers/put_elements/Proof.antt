@@ -28,10 +28,10 @@ returns c =
     let x = y.before.before.before in
     let s = x.before.before.before.before.before in
     let z = s.args.e in
-    elements-stored s.args.room.now z s.requires x.put-cubic.ensures y.put-cubic2.ensures d.put-quadratic.ensures
-    l1.put-quadratic2.ensures l2.put-quadratic3.ensures mu.put-quadratic4.ensures
-    (read-tangents mu.put-quadratic4.new.0 tangents.put-tangents.new.0 z.penumbra.tanf z.central.tanf tangents.before.before.struct_told.given.1.0.1
-    tangents.before.struct-told2.given.1.0.1 tangents.put-tangents.ensures)
+    elements-stored s.args.room.now z s.requires x.put_cubic.ensures y.put_cubic-2.ensures d.put_quadratic.ensures
+    l1.put_quadratic-2.ensures l2.put_quadratic-3.ensures mu.put_quadratic-4.ensures
+    (read-tangents mu.put_quadratic-4.new.room tangents.put_tangents.new.room z.penumbra.tanf z.central.tanf tangents.struct_told-1.given.1.0.1
+    tangents.struct_told-2-1.given.1.0.1 tangents.put_tangents.ensures)
 
-pub put-elements-spec : {M : Type 1} → statement M
-put-elements-spec = tie.close (tie.spec (λ c κs. search rules) (λ c κs. search rules) (λ c κs. search rules) (λ c κs. search rules) (λ c κs. search rules) (λ c κs. search rules) (λ c κs. search rules) (λ c. search rules) returns)
+pub put_elements_spec : {M : Type 1} → statement M
+put_elements_spec = tie.close (tie.spec (λ c κs. search rules) (λ c κs. search rules) (λ c κs. search rules) (λ c κs. search rules) (λ c κs. search rules) (λ c κs. search rules) (λ c κs. search rules) (λ c. search rules) returns)

@@ -11,12 +11,12 @@ returns : tie.Need-returns
 returns c =
     let s = c.before.before.before in
     let x = s.args.q in
-    let told = c.struct-told3.given in
+    let told = c.struct_told-3-1.given in
     rw (read_result x.c0 told.0.1, read_result x.c1 told.1.0.1, read_result x.c2 told.1.1.0.1)
     (three_stores s.args.room.now s.args.at x.c0 x.c1 x.c2)
 
-pub put-quadratic-spec : {M : Type 1} → statement M
-put-quadratic-spec =
+pub put_quadratic_spec : {M : Type 1} → statement M
+put_quadratic_spec =
     tie.close
     (tie.spec (λ c. search rules) (λ c. search rules) (λ c. search rules) (λ c. search rules)
     (λ c. simp length-set (omega arith)) (λ c. search rules) (λ c. search rules)

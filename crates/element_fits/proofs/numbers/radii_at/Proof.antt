@@ -28,13 +28,13 @@ returns c =
     let s = c.before.before.before.before.before.before in
     let k = s.args.radii.now in
     rw (
-      c.before.before.natural.ensures ∙ ap nat_abs (read_back (number k 0) (sun s) tt),
-      c.before.natural2.ensures ∙ ap nat_abs (read_back (number k 1) (penumbra s) tt),
-      c.natural3.ensures ∙ ap nat_abs (read_back (number k 2) (central s) tt),
+      c.natural-sun.ensures ∙ ap nat_abs (read_back (number k 0) (sun s) tt),
+      c.natural-penumbra.ensures ∙ ap nat_abs (read_back (number k 1) (penumbra s) tt),
+      c.natural-central.ensures ∙ ap nat_abs (read_back (number k 2) (central s) tt),
     )
 
-pub radii-at-spec : {M : Type 1} → statement M
-radii-at-spec =
+pub radii_at_spec : {M : Type 1} → statement M
+radii_at_spec =
     tie.close
     (tie.spec (λ c. search rules) (λ c. search rules) (λ c. search rules)
     (λ c κs. let s = c.before.before.before in read-size (number s.args.radii.now 0) 9223372036854775807 (sun s) tt)

@@ -7,7 +7,7 @@ use Rattle.element_fits.proofs.numbers.ranges_checked.Tie as tie
 
 returns : tie.Need-returns
 unfolding given_ranges
-returns c = ranges_listed 21 _ _ c.of-ranges.ensures c.before.before.before.before.listed.ensures
+returns c = ranges_listed 21 _ _ c.of_ranges.ensures c.listed-values.ensures
 
-pub ranges-checked-spec : {M : Type 1} → statement M
-ranges-checked-spec = tie.close (tie.spec (λ c κs. search rules) (λ c. search rules) (λ c. search rules) (λ c. search rules) (λ c κs. search rules) returns)
+pub ranges_checked_spec : {M : Type 1} → statement M
+ranges_checked_spec = tie.close (tie.spec (λ c κs. search rules) (λ c. search rules) (λ c. search rules) (λ c. search rules) (λ c κs. search rules) returns)

@@ -8,14 +8,14 @@ returns : tie.Need-returns
 unfolding rows_of
 returns c =
     rw (
-      c.before.before.before.before.before.before.row_at.ensures,
-      c.before.before.before.before.before.row-at2.ensures,
-      c.before.before.before.before.row-at3.ensures,
-      c.before.before.before.row-at4.ensures,
-      c.before.before.row-at5.ensures,
-      c.before.row-at6.ensures,
-      c.row-at7.ensures,
+      c.row_at-r0.ensures,
+      c.row_at-r1.ensures,
+      c.row_at-r2.ensures,
+      c.row_at-r3.ensures,
+      c.row_at-r4.ensures,
+      c.row_at-r5.ensures,
+      c.row_at-r6.ensures,
     )
 
-pub rows-at-spec : {M : Type 1} → statement M
-rows-at-spec = tie.close (tie.spec (λ c κs. search rules) (λ c κs. search rules) (λ c κs. search rules) (λ c κs. search rules) (λ c κs. search rules) (λ c κs. search rules) (λ c κs. search rules) returns)
+pub rows_at_spec : {M : Type 1} → statement M
+rows_at_spec = tie.close (tie.spec (λ c κs. search rules) (λ c κs. search rules) (λ c κs. search rules) (λ c κs. search rules) (λ c κs. search rules) (λ c κs. search rules) (λ c κs. search rules) returns)

@@ -14,8 +14,8 @@ returns : tie.Need-returns
 unfolding tolerance_ranges
 returns c =
     let b = c.before.before.before.before in
-    ranges_listed 18 (pos 0 ∷ []) (pos 1000 ∷ []) c.of-ranges.ensures
+    ranges_listed 18 (pos 0 ∷ []) (pos 1000 ∷ []) c.of_ranges.ensures
     (ap (λ (z : ℤ). z ∷ []) (to_z-of_z w64 b.args.tolerance b.ranges.tolerance))
 
-pub tolerance-checked-spec : {M : Type 1} → statement M
-tolerance-checked-spec = tie.close (tie.spec (λ c. search rules) (λ c. search rules) (λ c. search rules) (λ c κs. search rules) returns)
+pub tolerance_checked_spec : {M : Type 1} → statement M
+tolerance_checked_spec = tie.close (tie.spec (λ c. search rules) (λ c. search rules) (λ c. search rules) (λ c κs. search rules) returns)

@@ -25,11 +25,11 @@ mirrored = sub (lit (negsuc 0)) (arg 0)
 mirrored-above : (a : ℤ) → a <ℤ pos 0 → pos 0 ≤ℤ (negsuc 0 -ℤ a)
 mirrored-above a h = omega (arith, zs, (sum (negsuc 0) (neg_ℤ a)).is, (opposite a).is)
 
-under-zero : (c : tie.Then1) → c.before.before.args.a <ℤ pos 0
-under-zero c = taken-< (bounds c.before.before) (arg 0) (lit (pos 0)) tt c.if1.true
+under-zero : (c : tie.Then-a-lt0) → c.args.a <ℤ pos 0
+under-zero c = taken-< (bounds c.before.before) (arg 0) (lit (pos 0)) tt c.if-a-lt0.true
 
-over_zero : (c : tie.Else1) → pos 0 ≤ℤ c.before.before.args.a
-over_zero c = left-< (bounds c.before.before) (arg 0) (lit (pos 0)) tt c.if1.false
+over_zero : (c : tie.Else-a-lt0) → pos 0 ≤ℤ c.args.a
+over_zero c = left-< (bounds c.before.before) (arg 0) (lit (pos 0)) tt c.if-a-lt0.false
 
 -- ---- the two cases of the rule
 next : (k : ℕ) → negsuc 0 -ℤ pos k ≡ neg_ℤ (pos (suc k))
@@ -59,46 +59,46 @@ few : (n : ℕ) {k : ℕ} → k ≡ largest_under S n 900 → k ≤ 900
 few n e = omega (arith, e, largest-le S n 900)
 
 -- ---- below 0
-sub-largest-under : tie.Need-overflow-sub-largest-under
+sub-largest-under : tie.Need-overflow_sub-a
 sub-largest-under c = fits (bounds c.before.before) mirrored tt
 
-cast-largest-under : tie.Need-overflow-cast-largest-under
-cast-largest-under c = unsigned (bounds c.before.before) mirrored tt (mirrored-above c.before.before.args.a (under-zero c))
+cast-largest-under : tie.Need-overflow_cast-a
+cast-largest-under c = unsigned (bounds c.before.before) mirrored tt (mirrored-above c.args.a (under-zero c))
 
-cast-result : tie.Need-overflow-cast-result
-cast-result c = fits64 (pos c.largest-under.result) (omega (arith, few _ c.largest-under.ensures))
+cast-result : tie.Need-overflow_cast-result
+cast-result c = fits64 (pos c.largest_under-under.result) (omega (arith, few _ c.largest_under-under.ensures))
 
-found : (c : tie.After-largest-under) → Within (raw c.largest-under.result ∷ []) (900 ∷ [])
-found c = count-size c.largest-under.result (few _ c.largest-under.ensures) tt ▹ ends
+found : (c : tie.After-largest_under-under) → Within (raw c.largest_under-under.result ∷ []) (900 ∷ [])
+found c = count-size c.largest_under-under.result (few _ c.largest_under-under.ensures) tt ▹ ends
 
-sub-result : tie.Need-overflow-sub-result
+sub-result : tie.Need-overflow_sub-result
 sub-result c = fits (found c) (sub (lit (negsuc 0)) (arg 0)) tt
 
-returns : tie.Need-returns
+returns : tie.Need-returns-then-a-lt0
 returns c =
-    let k = c.largest-under.result in
+    let k = c.largest_under-under.result in
     let b = c.before.before.before in
     runs (found c) (sub (lit (negsuc 0)) (arg 0)) tt
-    ∙ ap (λ (z : ℤ). negsuc 0 -ℤ z) (count-is k {m = 900} (few _ c.largest-under.ensures) tt)
-    ∙ below b.args.a _ k (under-zero c.before) b.requires.1 (ap nat_abs (runs (bounds b) mirrored tt)) c.largest-under.ensures
+    ∙ ap (λ (z : ℤ). negsuc 0 -ℤ z) (count-is k {m = 900} (few _ c.largest_under-under.ensures) tt)
+    ∙ below b.args.a _ k (under-zero c.before) b.requires.1 (ap nat_abs (runs (bounds b) mirrored tt)) c.largest_under-under.ensures
 
 -- ---- not below 0
-cast-largest-under-2 : tie.Need-overflow-cast-largest-under-2
+cast-largest-under-2 : tie.Need-overflow_cast-a-2
 cast-largest-under-2 c = unsigned (bounds c.before.before) (arg 0) tt (over_zero c)
 
-cast-result-2 : tie.Need-overflow-cast-result-2
-cast-result-2 c = fits64 (pos c.largest-under2.result) (omega (arith, few _ c.largest-under2.ensures))
+cast-result-2 : tie.Need-overflow_cast-result-2
+cast-result-2 c = fits64 (pos c.largest_under-under-2.result) (omega (arith, few _ c.largest_under-under-2.ensures))
 
-returns-2 : tie.Need-returns-2
+returns-2 : tie.Need-returns
 returns-2 c =
-    let k = c.largest-under2.result in
+    let k = c.largest_under-under-2.result in
     let b = c.before.before.before in
-    count-is k {m = 900} (few _ c.largest-under2.ensures) tt
+    count-is k {m = 900} (few _ c.largest_under-under-2.ensures) tt
     ∙ above b.args.a k (over_zero c.before)
-    (c.largest-under2.ensures ∙ ap (λ (z : ℤ). largest_under S (nat_abs z) 900) (read_back b.args.a b.requires.1 tt))
+    (c.largest_under-under-2.ensures ∙ ap (λ (z : ℤ). largest_under S (nat_abs z) 900) (read_back b.args.a b.requires.1 tt))
 
-pub altitude-spec : {M : Type 1} → statement M
-altitude-spec =
+pub altitude_spec : {M : Type 1} → statement M
+altitude_spec =
     tie.close
-    (tie.spec sub-largest-under cast-largest-under (λ c κs. c.before.before.requires.0) cast-result sub-result
-    returns cast-largest-under-2 (λ c κs. c.before.before.requires.0) cast-result-2 returns-2)
+    (tie.spec sub-largest-under cast-largest-under (λ c κs. c.requires.0) cast-result sub-result
+    returns cast-largest-under-2 (λ c κs. c.requires.0) cast-result-2 returns-2)

@@ -30,64 +30,64 @@ found a low high b h =
     record { small = omega (arith, b.apart, b.high_le); holds = b.holds; above = λ j i k. b.above j (omega (arith, b.apart)) k } in
     largest-unique S largest (under-is a)
 
-abbrev invariant-loop : tie.invariant-loop
+abbrev invariant-loop : tie.invariant-loop-low
 invariant-loop table a low₀ high₀ low high = Between a low high
 
-abbrev decreases-loop : tie.decreases-loop
+abbrev decreases-loop : tie.decreases-loop-low
 decreases-loop table a low₀ high₀ low high = high - low
 
-add-loop : tie.Need-overflow-add-loop invariant-loop decreases-loop
-add-loop c = omega (arith, c.loop.invariant.apart, c.loop.invariant.high_le)
+add-loop : tie.Need-overflow_add-low invariant-loop decreases-loop
+add-loop c = omega (arith, c.loop-low.invariant.apart, c.loop-low.invariant.high_le)
 
-add-k : tie.Need-overflow-add-k invariant-loop decreases-loop
-add-k c = omega (arith, c.before.loop.invariant.apart, c.before.loop.invariant.high_le)
+add-k : tie.Need-overflow_add-k invariant-loop decreases-loop
+add-k c = omega (arith, c.loop-low.invariant.apart, c.loop-low.invariant.high_le)
 
 entry-requires : tie.Need-entry-requires invariant-loop decreases-loop
-entry-requires c κs = (c.before.before.before.requires, omega (arith, c.before.loop.invariant.apart, c.before.loop.invariant.high_le))
+entry-requires c κs = (c.requires, omega (arith, c.loop-low.invariant.apart, c.loop-low.invariant.high_le))
 
 -- the sine of a round
-module _ (c : tie.After-wide invariant-loop decreases-loop) where
+module _ (c : tie.After-wide-sine invariant-loop decreases-loop) where
   abbrev at : ℕ
-  at = (c.before.before.before.loop.low + c.before.before.before.loop.high) / 2
+  at = (c.loop-low.low + c.loop-low.high) / 2
 
-  sine-is : c.wide.result ≡ S at
-  sine-is = c.wide.ensures ∙ c.before.entry.ensures.value
+  sine-is : c.wide-sine.result ≡ S at
+  sine-is = c.wide-sine.ensures ∙ c.entry.ensures.value
 
-loop-less : tie.Need-loop-smaller invariant-loop decreases-loop
-loop-less c = let b = c.before.before.before.before.loop.invariant in omega (arith, b.apart)
+loop-less : tie.Need-loop-low-smaller-then-sine-a invariant-loop decreases-loop
+loop-less c = let b = c.loop-low.invariant in omega (arith, b.apart)
 
-loop-again : tie.Need-loop-preserved invariant-loop decreases-loop
+loop-again : tie.Need-loop-low-preserved-then-sine-a invariant-loop decreases-loop
 loop-again c =
-    let b = c.before.before.before.before.loop.invariant in
-    let a = c.before.before.before.before.before.before.args.a in
+    let b = c.loop-low.invariant in
+    let a = c.args.a in
     record {
       apart = omega (arith, b.apart);
       high_le = b.high_le;
-      holds = subst (λ (x : ℕ). x ≤ a) (sine-is c.before) c.if1.true;
+      holds = subst (λ (x : ℕ). x ≤ a) (sine-is c.before) c.if-sine-a.true;
       above = b.above;
     }
 
-loop-less-2 : tie.Need-loop-smaller-2 invariant-loop decreases-loop
-loop-less-2 c = let b = c.before.before.before.before.loop.invariant in omega (arith, b.apart)
+loop-less-2 : tie.Need-loop-low-smaller invariant-loop decreases-loop
+loop-less-2 c = let b = c.loop-low.invariant in omega (arith, b.apart)
 
-loop-again-2 : tie.Need-loop-preserved-2 invariant-loop decreases-loop
+loop-again-2 : tie.Need-loop-low-preserved invariant-loop decreases-loop
 loop-again-2 c =
-    let b = c.before.before.before.before.loop.invariant in
-    let a = c.before.before.before.before.before.before.args.a in
+    let b = c.loop-low.invariant in
+    let a = c.args.a in
     record {
       apart = omega (arith, b.apart);
       high_le = omega (arith, b.apart, b.high_le);
       holds = b.holds;
-      above = beyond a (at c.before) (subst (λ (x : ℕ). a < x) (sine-is c.before) c.if1.false);
+      above = beyond a (at c.before) (subst (λ (x : ℕ). a < x) (sine-is c.before) c.if-sine-a.false);
     }
 
 returns : tie.Need-returns invariant-loop decreases-loop
 returns c =
-    let a = c.before.before.before.args in
-    found a.a c.before.loop.low c.before.loop.high c.before.loop.invariant (omega arith)
+    let a = c.args in
+    found a.a c.loop-low.low c.loop-low.high c.loop-low.invariant (omega arith)
 
-pub largest-under-spec : {M : Type 1} → statement M
-largest-under-spec =
+pub largest_under_spec : {M : Type 1} → statement M
+largest_under_spec =
     tie.close
-    (tie.spec invariant-loop decreases-loop (λ c. start c.before.args.a) add-loop add-k entry-requires (λ c κs. tt)
+    (tie.spec invariant-loop decreases-loop (λ c. start c.args.a) add-loop add-k entry-requires (λ c κs. tt)
     loop-less loop-again loop-less-2 loop-again-2 returns)

@@ -15,23 +15,23 @@ use Rattle.listing_lines.proofs.clock.put_behind.Tie as tie
 read : (c : tie.Start) → to_z w64 (of_z w64 c.args.deltat) ≡ c.args.deltat
 read c = to_z-of_z w64 c.args.deltat c.ranges.deltat
 
-returns : tie.Need-returns
-returns c = behind-shown _ _ _ _ c.before.before.shown-for.ensures _ c.enum_told.given.1 _ _ _ _ (put_nil _ _ (omega arith))
+returns : tie.Need-returns-in-Nothing
+returns c = behind-shown _ _ _ _ c.shown_for-shown.ensures _ c.in-Nothing.is _ _ _ _ (put_nil _ _ (omega arith))
 
-returns-2 : tie.Need-returns-2
+returns-2 : tie.Need-returns-in-InstantLine
 returns-2 c =
     let t = c.before.before.before.before in
-    behind-shown _ _ _ _ t.before.before.shown-for.ensures _ t.enum-told2.given.1 _ _ _ _ c.before.before.put-instant-line.ensures
+    behind-shown _ _ _ _ t.shown_for-shown.ensures _ t.in-InstantLine.is _ _ _ _ c.put_instant_line.ensures
 
-returns-3 : tie.Need-returns-3
+returns-3 : tie.Need-returns-in-Times
 returns-3 c =
-    let t = c.before.before.before.before.before in
-    let a = t.before.before.before.before.args in
-    put_as _ _ _ _ _ _ (ap (λ d. behind a.i d a.entry) (read t.before.before.before.before))
-    (behind-shown _ _ _ _ t.before.before.shown-for.ensures _ t.shown.given.1 _ _ _ _ c.before.before.put-scales.ensures)
+    let t = c.before.before.before.before in
+    let a = t.args in
+    put_as _ _ _ _ _ _ (ap (λ d. behind a.i d a.entry) (read t.before.before.before))
+    (behind-shown _ _ _ _ t.shown_for-shown.ensures _ t.in-Times.is _ _ _ _ c.put_scales.ensures)
 
-pub put-behind-spec : {M : Type 1} → statement M
-put-behind-spec =
+pub put_behind_spec : {M : Type 1} → statement M
+put_behind_spec =
     tie.close
     (tie.spec (λ c κs. search rules) (λ c. search rules) (λ c. search rules) (λ c κs. search rules)
     (λ c. search rules) (λ c κs. search rules) returns (λ c. search rules) returns-2 (λ c. search rules)

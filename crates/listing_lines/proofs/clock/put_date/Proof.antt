@@ -6,10 +6,10 @@ use Rattle.listing_lines.proofs.clock.put_date.Statement.{statement}
 use Rattle.listing_lines.proofs.clock.put_date.Tie as tie
 
 returns : tie.Need-returns
-returns c = joined (omega arith) (joined (omega arith) (joined (omega arith) (joined (omega arith) (joined (omega arith) c.before.before.before.before.before.before.before.before.before.before.before.before.before.before.before.before.before.before.before.before.before.before.put_two.ensures c.before.before.before.before.before.before.before.before.before.before.before.before.before.before.before.before.before.before.put-two2.ensures) c.before.before.before.before.before.before.before.before.before.before.before.before.before.before.put_byte.ensures) c.before.before.before.before.before.before.before.before.before.before.put-two3.ensures) c.before.before.before.before.before.before.put-byte2.ensures) c.before.before.put-two4.ensures
+returns c = joined (omega arith) (joined (omega arith) (joined (omega arith) (joined (omega arith) (joined (omega arith) c.put_two-century.ensures c.put_two-years.ensures) c.put_byte-dash.ensures) c.put_two-months.ensures) c.put_byte-second.ensures) c.put_two.ensures
 
-pub put-date-spec : {M : Type 1} → statement M
-put-date-spec =
+pub put_date_spec : {M : Type 1} → statement M
+put_date_spec =
     tie.close
     (tie.spec (λ c κs. search rules) (λ c κs. search rules) (λ c κs. search rules) (λ c κs. search rules)
     (λ c κs. search rules) (λ c κs. search rules) (λ c. search rules) returns)

@@ -20,8 +20,8 @@ returns c =
     let times = seen.before.before.before.before in
     let s = times.before.before.before in
     put_as _ _ _ _ _ _ (ap (λ d. timed_line s.args.reference d s.args.altitude s.args.entry) (read s))
-    (joined (omega arith) (joined (omega arith) times.put-times-of.ensures seen.put-altitude.ensures) c.before.before.put-end.ensures)
+    (joined (omega arith) (joined (omega arith) times.put_times_of-times.ensures seen.put_altitude-seen.ensures) c.put_end.ensures)
 
-pub put-entry-spec : {M : Type 1} → statement M
-put-entry-spec =
+pub put_entry_spec : {M : Type 1} → statement M
+put_entry_spec =
     tie.close (tie.spec (λ c κs. search rules) (λ c κs. search rules) (λ c κs. search rules) (λ c. search rules) returns)

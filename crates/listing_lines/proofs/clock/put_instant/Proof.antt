@@ -8,10 +8,10 @@ use Rattle.listing_lines.proofs.clock.put_instant.Tie as tie
 
 returns : tie.Need-returns
 unfolding instant_text
-returns c = joined (omega arith) (joined (omega arith) (joined (omega arith) (joined (omega arith) (joined (omega arith) (joined (omega arith) c.before.before.before.before.before.before.before.before.before.before.before.before.before.before.before.before.before.before.before.before.before.before.before.before.before.before.put-date.ensures c.before.before.before.before.before.before.before.before.before.before.before.before.before.before.before.before.before.before.before.before.before.before.put_byte.ensures) c.before.before.before.before.before.before.before.before.before.before.before.before.before.before.before.before.before.before.put-seconds.ensures) c.before.before.before.before.before.before.before.before.before.before.before.before.before.before.put-byte2.ensures) c.before.before.before.before.before.before.before.before.before.before.put_two.ensures) c.before.before.before.before.before.before.put-byte3.ensures) c.before.before.put-typed-name.ensures
+returns c = joined (omega arith) (joined (omega arith) (joined (omega arith) (joined (omega arith) (joined (omega arith) (joined (omega arith) c.put_date-date.ensures c.put_byte-blank.ensures) c.put_seconds-seconds.ensures) c.put_byte-point.ensures) c.put_two-decimals.ensures) c.put_byte-last.ensures) c.put_typed_name.ensures
 
-pub put-instant-spec : {M : Type 1} → statement M
-put-instant-spec =
+pub put_instant_spec : {M : Type 1} → statement M
+put_instant_spec =
     tie.close
     (tie.spec (λ c κs. search rules) (λ c κs. search rules) (λ c κs. search rules) (λ c κs. search rules)
     (λ c κs. search rules) (λ c κs. search rules) (λ c κs. search rules) (λ c. search rules) returns)

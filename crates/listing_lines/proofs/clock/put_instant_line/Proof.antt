@@ -6,9 +6,9 @@ use Rattle.listing_lines.proofs.clock.put_instant_line.Statement.{statement}
 use Rattle.listing_lines.proofs.clock.put_instant_line.Tie as tie
 
 returns : tie.Need-returns
-returns c = joined (omega arith) c.before.before.before.before.before.before.put-text.ensures c.before.before.put-instant.ensures
+returns c = joined (omega arith) c.put_text-next.ensures c.put_instant.ensures
 
-pub put-instant-line-spec : {M : Type 1} → statement M
-put-instant-line-spec =
+pub put_instant_line_spec : {M : Type 1} → statement M
+put_instant_line_spec =
     tie.close
-    (tie.spec (λ c. search rules) (λ c κs. search rules) (λ c κs. search rules) (λ c. search rules) returns)
+    (tie.spec (λ c κs. search rules) (λ c κs. search rules) (λ c. search rules) returns)

@@ -14,22 +14,22 @@ use Rattle.listing_lines.proofs.clock.put_scale.Tie as tie
 read : (c : tie.Start) → to_z w64 (of_z w64 c.args.deltat) ≡ c.args.deltat
 read c = to_z-of_z w64 c.args.deltat c.ranges.deltat
 
-returns : tie.Need-returns
+returns : tie.Need-returns-then-shows
 returns c =
     let t = c.before.before.before.before.before.before.before.before.before.before.before.before in
-    let a = t.before.before.before.args in
+    let a = t.args in
     put_as _ _ _ _ _ _ (ap (λ d. scale_text a.shown a.i d a.seconds) (read t.before.before.before))
-    (scale-shown _ _ _ _ _ _ (sym t.before.shows.ensures ∙ t.if1.true) _ _
-    (joined (omega arith) (joined (omega arith) c.before.before.before.before.before.before.before.before.before.before.put_byte.ensures c.before.before.before.before.before.before.put-name.ensures) c.before.before.put-times.ensures))
+    (scale-shown _ _ _ _ _ _ (sym t.shows.ensures ∙ t.if-shows.true) _ _
+    (joined (omega arith) (joined (omega arith) c.put_byte-blank.ensures c.put_name-name.ensures) c.put_times.ensures))
 
-returns-2 : tie.Need-returns-2
+returns-2 : tie.Need-returns
 returns-2 c =
-    let a = c.before.before.before.args in
+    let a = c.args in
     put_as _ _ _ _ _ _ (ap (λ d. scale_text a.shown a.i d a.seconds) (read c.before.before.before))
-    (scale-hidden _ _ _ _ _ _ (sym c.before.shows.ensures ∙ c.if1.false) (omega arith))
+    (scale-hidden _ _ _ _ _ _ (sym c.shows.ensures ∙ c.if-shows.false) (omega arith))
 
-pub put-scale-spec : {M : Type 1} → statement M
-put-scale-spec =
+pub put_scale_spec : {M : Type 1} → statement M
+put_scale_spec =
     tie.close
     (tie.spec (λ c κs. search rules) (λ c κs. search rules) (λ c κs. search rules) (λ c κs. search rules)
     (λ c. search rules) returns returns-2)

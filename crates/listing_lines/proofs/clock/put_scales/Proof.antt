@@ -17,10 +17,10 @@ returns : tie.Need-returns
 unfolding scales_text
 returns c =
     let first = c.before.before.before.before.before.before.before.before.before.before in
-    let a = first.before.before.before.args in
+    let a = first.args in
     put_as _ _ _ _ _ _ (ap (λ d. scales_text a.i d a.seconds) (read first.before.before.before))
-    (joined (omega arith) (joined (omega arith) first.put-scale.ensures c.before.before.before.before.before.before.put-scale2.ensures)
-    c.before.before.put-scale3.ensures)
+    (joined (omega arith) (joined (omega arith) first.put_scale-universal.ensures c.put_scale-coordinated.ensures)
+    c.put_scale.ensures)
 
-pub put-scales-spec : {M : Type 1} → statement M
-put-scales-spec = tie.close (tie.spec (λ c κs. search rules) (λ c κs. search rules) (λ c κs. search rules) (λ c. search rules) returns)
+pub put_scales_spec : {M : Type 1} → statement M
+put_scales_spec = tie.close (tie.spec (λ c κs. search rules) (λ c κs. search rules) (λ c κs. search rules) (λ c. search rules) returns)

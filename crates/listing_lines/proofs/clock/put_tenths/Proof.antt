@@ -11,8 +11,8 @@ unfolding tenths_text
 returns c =
     let point = c.before.before.before.before in
     joined (omega arith)
-    (joined (omega arith) point.before.before.before.before.before.before.put-number.ensures point.before.before.put_byte.ensures)
-    c.before.before.put-digit.ensures
+    (joined (omega arith) point.put_number-point.ensures point.put_byte-tenth.ensures)
+    c.put_digit.ensures
 
-pub put-tenths-spec : {M : Type 1} → statement M
-put-tenths-spec = tie.close (tie.spec (λ c κs. search rules) (λ c κs. search rules) (λ c κs. search rules) (λ c. search rules) returns)
+pub put_tenths_spec : {M : Type 1} → statement M
+put_tenths_spec = tie.close (tie.spec (λ c κs. search rules) (λ c κs. search rules) (λ c κs. search rules) (λ c. search rules) returns)

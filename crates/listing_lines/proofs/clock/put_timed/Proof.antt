@@ -19,12 +19,12 @@ read c = to_z-of_z w64 c.args.deltat c.ranges.deltat
 returns : tie.Need-returns
 returns c =
     let k = c.before.before.before.before.before.before.before.before in
-    let a = k.before.before.args in
+    let a = k.args in
     put_as _ _ _ _ _ _
     (ap (λ d. text_of a.entry ++ behind a.i d a.entry)
-    (read_result k.known.result k.known.type-inv ∙ k.known.ensures.value ∙ ap known (read k.before.before)))
-    (joined (omega arith) c.before.before.before.before.before.before.put-entry-text.ensures c.before.before.put-behind.ensures)
+    (read_result k.known-d.result k.known-d.type_inv ∙ k.known-d.ensures.value ∙ ap known (read k.before.before)))
+    (joined (omega arith) c.put_entry_text-text.ensures c.put_behind.ensures)
 
-pub put-timed-spec : {M : Type 1} → statement M
-put-timed-spec =
+pub put_timed_spec : {M : Type 1} → statement M
+put_timed_spec =
     tie.close (tie.spec (λ c κs. search rules) (λ c κs. search rules) (λ c κs. search rules) (λ c. search rules) returns)

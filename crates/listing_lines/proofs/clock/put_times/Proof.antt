@@ -14,20 +14,20 @@ use Rattle.listing_lines.proofs.clock.put_times.Tie as tie
 read : (c : tie.Start) → to_z w64 (of_z w64 c.args.deltat) ≡ c.args.deltat
 read c = to_z-of_z w64 c.args.deltat c.ranges.deltat
 
-returns : tie.Need-returns
+returns : tie.Need-returns-in-Moment
 returns c =
-    let a = c.before.before.before.before.before.before.before.before.args in
-    put_as _ _ _ _ _ _ (ap (λ d. times_in a.shown a.i d a.seconds) (read c.before.before.before.before.before.before.before.before))
-    (times-of-moment _ _ _ _ _ _ c.before.before.before.before.before.seconds.given.1 _ _ c.before.before.put_second.ensures)
+    let a = c.args in
+    put_as _ _ _ _ _ _ (ap (λ d. times_in a.shown a.i d a.seconds) (read c.before.before.before.before.before.before))
+    (times-of-moment _ _ _ _ _ _ c.in-Moment.is _ _ c.put_second.ensures)
 
-returns-2 : tie.Need-returns-2
+returns-2 : tie.Need-returns-in-Contact
 returns-2 c =
-    let a = c.before.before.before.before.before.before.before.before.before.before.before.before.args in
-    put_as _ _ _ _ _ _ (ap (λ d. times_in a.shown a.i d a.seconds) (read c.before.before.before.before.before.before.before.before.before.before.before.before))
-    (times-of-contact _ _ _ _ _ _ _ c.before.before.before.before.before.before.before.before.before.seconds2.given.1 _ _ _ _ (omega arith) c.before.before.before.before.before.before.put-second2.ensures c.before.before.put-second3.ensures)
+    let a = c.args in
+    put_as _ _ _ _ _ _ (ap (λ d. times_in a.shown a.i d a.seconds) (read c.before.before.before.before.before.before.before.before.before.before))
+    (times-of-contact _ _ _ _ _ _ _ c.in-Contact.is _ _ _ _ (omega arith) c.put_second-next.ensures c.put_second-in-Contact.ensures)
 
-pub put-times-spec : {M : Type 1} → statement M
-put-times-spec =
+pub put_times_spec : {M : Type 1} → statement M
+put_times_spec =
     tie.close
     (tie.spec (λ c. search rules) (λ c κs. search rules) (λ c. search rules) (λ c κs. search rules)
     (λ c κs. search rules) (λ c. search rules) returns (λ c. search rules) returns-2)

@@ -13,17 +13,17 @@ use Rattle.listing_lines.proofs.clock.put_times_of.Tie as tie
 read : (c : tie.Start) → to_z w64 (of_z w64 c.args.deltat) ≡ c.args.deltat
 read c = to_z-of_z w64 c.args.deltat c.ranges.deltat
 
-returns : tie.Need-returns
-returns c = text-off _ _ _ _ _ _ _ c.before.before.before.before.enum_told.given.1 c.before.before.put-entry-text.ensures
+returns : tie.Need-returns-in-Nothing
+returns c = text-off _ _ _ _ _ _ _ c.in-Nothing.is c.put_entry_text.ensures
 
-returns-2 : tie.Need-returns-2
+returns-2 : tie.Need-returns-in-At
 returns-2 c =
-    let a = c.before.before.before.before.before.before.before.before.args in
-    put_as _ _ _ _ _ _ (ap (λ d. timed_text a.reference d a.entry) (read c.before.before.before.before.before.before.before.before))
-    (text_at _ _ _ _ _ _ _ _ c.before.before.before.before.before.reference.given.1 c.before.before.put-timed.ensures)
+    let a = c.args in
+    put_as _ _ _ _ _ _ (ap (λ d. timed_text a.reference d a.entry) (read c.before.before.before.before.before.before))
+    (text_at _ _ _ _ _ _ _ _ c.in-At.is c.put_timed.ensures)
 
-pub put-times-of-spec : {M : Type 1} → statement M
-put-times-of-spec =
+pub put_times_of_spec : {M : Type 1} → statement M
+put_times_of_spec =
     tie.close
     (tie.spec (λ c. search rules) (λ c κs. search rules) (λ c. search rules) (λ c κs. search rules)
     (λ c. search rules) returns (λ c. search rules) returns-2)

@@ -3,14 +3,13 @@ use borrow.Author.Rules.{rules}
 use Rattle.listing_lines.proofs.clock.put_typed_name.Statement.{statement}
 use Rattle.listing_lines.proofs.clock.put_typed_name.Tie as tie
 
-returns : tie.Need-returns
-returns c = rw c.before.before.before.before.before.enum_told.given.1 c.before.before.put-text.ensures
+returns : tie.Need-returns-in-Ephemeris
+returns c = rw c.in-Ephemeris.is c.put_text.ensures
 
-returns-2 : tie.Need-returns-2
-returns-2 c = rw c.before.before.before.before.before.enum-told2.given.1 c.before.before.put-text2.ensures
+returns-2 : tie.Need-returns-in-Universal
+returns-2 c = rw c.in-Universal.is c.put_text-in-Universal.ensures
 
-pub put-typed-name-spec : {M : Type 1} → statement M
-put-typed-name-spec =
+pub put_typed_name_spec : {M : Type 1} → statement M
+put_typed_name_spec =
     tie.close
-    (tie.spec (λ c. search rules) (λ c. search rules) (λ c κs. search rules) (λ c. search rules)
-    (λ c. search rules) (λ c κs. search rules) (λ c. search rules) returns (λ c. search rules) returns-2)
+    (tie.spec (λ c. search rules) (λ c κs. search rules) (λ c. search rules) (λ c κs. search rules) (λ c. search rules) returns (λ c. search rules) returns-2)

@@ -10,11 +10,10 @@ use Rattle.listing_lines.proofs.lines.put_closest.Tie as tie
 returns : tie.Need-returns
 returns c =
     let s = c.before.before.before.before.before.before in
-    filled-two _ _ _ _ _ _ _ _ _ (read_result s.second-of.result s.second-of.type-inv ∙ s.second-of.ensures) (count-is _ {m = 4294967295} (omega arith) tt)
-    c.before.before.put-filled.ensures
+    filled-two _ _ _ _ _ _ _ _ _ (read_result s.second_of-when.result s.second_of-when.type_inv ∙ s.second_of-when.ensures) (count-is _ {m = 4294967295} (omega arith) tt)
+    c.put_filled.ensures
 
-pub put-closest-spec : {M : Type 1} → statement M
-put-closest-spec =
+pub put_closest_spec : {M : Type 1} → statement M
+put_closest_spec =
     tie.close
-    (tie.spec (λ c κs. search rules) (λ c. search rules) (λ c. search rules) (λ c. search rules)
-    (λ c κs. search rules) (λ c. search rules) returns)
+    (tie.spec (λ c κs. search rules) (λ c. search rules) (λ c. search rules) (λ c κs. search rules) (λ c. search rules) returns)

@@ -11,13 +11,11 @@ returns : tie.Need-returns
 returns c =
     let s = c.before.before.before.before.before.before in
     let phase = s.before.before.before.before in
-    put_three _ _ _ _ _ _ _ _ _ _ _ (omega arith) phase.before.before.before.before.put-text.ensures phase.put-phase.ensures
-    (filled-three _ _ _ _ _ _ _ _ _ _ _ (read_result s.before.second-of.result s.before.second-of.type-inv ∙ s.before.second-of.ensures) (read_result s.second-of2.result s.second-of2.type-inv ∙ s.second-of2.ensures) (count-is _ {m = 4294967295} (omega arith) tt)
-    c.before.before.put-filled.ensures)
+    put_three _ _ _ _ _ _ _ _ _ _ _ (omega arith) phase.put_text-name.ensures phase.put_phase-next.ensures
+    (filled-three _ _ _ _ _ _ _ _ _ _ _ (read_result s.second_of-start.result s.second_of-start.type_inv ∙ s.second_of-start.ensures) (read_result s.second_of-end.result s.second_of-end.type_inv ∙ s.second_of-end.ensures) (count-is _ {m = 4294967295} (omega arith) tt)
+    c.put_filled.ensures)
 
-pub put-contact-spec : {M : Type 1} → statement M
-put-contact-spec =
+pub put_contact_spec : {M : Type 1} → statement M
+put_contact_spec =
     tie.close
-    (tie.spec (λ c κs. search rules) (λ c κs. search rules) (λ c κs. search rules) (λ c κs. search rules)
-    (λ c. search rules) (λ c. search rules) (λ c. search rules) (λ c κs. search rules) (λ c. search rules)
-    returns)
+    (tie.spec (λ c κs. search rules) (λ c κs. search rules) (λ c κs. search rules) (λ c κs. search rules) (λ c. search rules) (λ c. search rules) (λ c κs. search rules) (λ c. search rules) returns)

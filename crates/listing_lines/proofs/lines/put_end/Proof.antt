@@ -6,13 +6,13 @@ use borrow.Author.Rules.{rules}
 use Rattle.listing_lines.proofs.lines.put_end.Statement.{statement}
 use Rattle.listing_lines.proofs.lines.put_end.Tie as tie
 
-returns : tie.Need-returns
-returns c = put-no-end _ _ _ (sym c.before.is-end.ensures ∙ c.if1.true) (omega arith)
+returns : tie.Need-returns-then-is_end
+returns c = put-no-end _ _ _ (sym c.is_end.ensures ∙ c.if-is_end.true) (omega arith)
 
-returns-2 : tie.Need-returns-2
+returns-2 : tie.Need-returns
 returns-2 c =
     let t = c.before.before.before.before in
-    put-line-end _ _ _ (sym t.before.is-end.ensures ∙ t.if1.false) _ _ c.before.before.put_byte.ensures
+    put-line-end _ _ _ (sym t.is_end.ensures ∙ t.if-is_end.false) _ _ c.put_byte.ensures
 
-pub put-end-spec : {M : Type 1} → statement M
-put-end-spec = tie.close (tie.spec (λ c κs. search rules) returns (λ c κs. search rules) (λ c. search rules) returns-2)
+pub put_end_spec : {M : Type 1} → statement M
+put_end_spec = tie.close (tie.spec (λ c κs. search rules) returns (λ c κs. search rules) (λ c. search rules) returns-2)

@@ -6,7 +6,7 @@ use Rattle.listing_lines.proofs.lines.put_entry.Statement.{statement}
 use Rattle.listing_lines.proofs.lines.put_entry.Tie as tie
 
 returns : tie.Need-returns
-returns c = put_line _ _ _ _ _ _ _ (omega arith) c.before.before.before.before.before.before.put-entry-text.ensures c.before.before.put-end.ensures
+returns c = put_line _ _ _ _ _ _ _ (omega arith) c.put_entry_text-end.ensures c.put_end.ensures
 
-pub put-entry-spec : {M : Type 1} → statement M
-put-entry-spec = tie.close (tie.spec (λ c κs. search rules) (λ c κs. search rules) (λ c. search rules) returns)
+pub put_entry_spec : {M : Type 1} → statement M
+put_entry_spec = tie.close (tie.spec (λ c κs. search rules) (λ c κs. search rules) (λ c. search rules) returns)

@@ -10,11 +10,10 @@ use Rattle.listing_lines.proofs.lines.put_head.Tie as tie
 returns : tie.Need-returns
 returns c =
     let s = c.before.before.before.before.before.before in
-    filled-three _ _ _ _ _ _ _ _ _ _ _ (count-is _ {m = 4294967295} (omega arith) tt) (read_result s.before.second-of.result s.before.second-of.type-inv ∙ s.before.second-of.ensures)
-    (read_result s.second-of2.result s.second-of2.type-inv ∙ s.second-of2.ensures) c.before.before.put-filled.ensures
+    filled-three _ _ _ _ _ _ _ _ _ _ _ (count-is _ {m = 4294967295} (omega arith) tt) (read_result s.second_of-from.result s.second_of-from.type_inv ∙ s.second_of-from.ensures)
+    (read_result s.second_of-to.result s.second_of-to.type_inv ∙ s.second_of-to.ensures) c.put_filled.ensures
 
-pub put-head-spec : {M : Type 1} → statement M
-put-head-spec =
+pub put_head_spec : {M : Type 1} → statement M
+put_head_spec =
     tie.close
-    (tie.spec (λ c. search rules) (λ c κs. search rules) (λ c κs. search rules) (λ c. search rules)
-    (λ c. search rules) (λ c κs. search rules) (λ c. search rules) returns)
+    (tie.spec (λ c. search rules) (λ c κs. search rules) (λ c κs. search rules) (λ c. search rules) (λ c κs. search rules) (λ c. search rules) returns)

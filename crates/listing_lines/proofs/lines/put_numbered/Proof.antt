@@ -8,11 +8,11 @@ use Rattle.listing_lines.proofs.lines.put_numbered.Tie as tie
 returns : tie.Need-returns
 returns c =
     let middle = c.before.before.before.before.before.before in
-    put_four _ _ _ _ _ _ _ _ _ _ _ _ _ _ (omega arith) middle.before.before.before.before.before.before.before.before.put-text.ensures
-    middle.before.before.before.before.put-number.ensures middle.put_byte.ensures c.before.before.put-number2.ensures
+    put_four _ _ _ _ _ _ _ _ _ _ _ _ _ _ (omega arith) middle.put_text-first.ensures
+    middle.put_number-middle.ensures middle.put_byte-second.ensures c.put_number.ensures
 
-pub put-numbered-spec : {M : Type 1} → statement M
-put-numbered-spec =
+pub put_numbered_spec : {M : Type 1} → statement M
+put_numbered_spec =
     tie.close
     (tie.spec (λ c κs. search rules) (λ c κs. search rules) (λ c κs. search rules) (λ c κs. search rules)
     (λ c. search rules) returns)

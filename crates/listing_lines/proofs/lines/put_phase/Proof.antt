@@ -3,18 +3,16 @@ use borrow.Author.Rules.{rules}
 use Rattle.listing_lines.proofs.lines.put_phase.Statement.{statement}
 use Rattle.listing_lines.proofs.lines.put_phase.Tie as tie
 
-returns : tie.Need-returns
-returns c = rw c.before.before.before.before.before.enum_told.given.1 c.before.before.put-text.ensures
+returns : tie.Need-returns-in-Penumbra
+returns c = rw c.in-Penumbra.is c.put_text.ensures
 
-returns-2 : tie.Need-returns-2
-returns-2 c = rw c.before.before.before.before.before.enum-told2.given.1 c.before.before.put-text2.ensures
+returns-2 : tie.Need-returns-in-Central
+returns-2 c = rw c.in-Central.is c.put_text-in-Central.ensures
 
-returns-3 : tie.Need-returns-3
-returns-3 c = rw c.before.before.before.before.before.enum-told3.given.1 c.before.before.put-text3.ensures
+returns-3 : tie.Need-returns-in-Star
+returns-3 c = rw c.in-Star.is c.put_text-in-Star.ensures
 
-pub put-phase-spec : {M : Type 1} → statement M
-put-phase-spec =
+pub put_phase_spec : {M : Type 1} → statement M
+put_phase_spec =
     tie.close
-    (tie.spec (λ c. search rules) (λ c. search rules) (λ c κs. search rules) (λ c. search rules)
-    (λ c. search rules) (λ c κs. search rules) (λ c. search rules) (λ c. search rules) (λ c κs. search rules)
-    (λ c. search rules) returns (λ c. search rules) returns-2 (λ c. search rules) returns-3)
+    (tie.spec (λ c. search rules) (λ c κs. search rules) (λ c. search rules) (λ c κs. search rules) (λ c. search rules) (λ c κs. search rules) (λ c. search rules) returns (λ c. search rules) returns-2 (λ c. search rules) returns-3)

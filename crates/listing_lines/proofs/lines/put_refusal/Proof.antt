@@ -5,8 +5,8 @@ use Rattle.listing_lines.proofs.lines.put_refusal.Statement.{statement}
 use Rattle.listing_lines.proofs.lines.put_refusal.Tie as tie
 
 returns : tie.Need-returns
-returns c = put_refused _ _ _ _ _ _ c.before.before.put-numbered.ensures
+returns c = put_refused _ _ _ _ _ _ c.put_numbered.ensures
 
-pub put-refusal-spec : {M : Type 1} → statement M
-put-refusal-spec =
-    tie.close (tie.spec (λ c. search rules) (λ c κs. search rules) (λ c. search rules) returns)
+pub put_refusal_spec : {M : Type 1} → statement M
+put_refusal_spec =
+    tie.close (tie.spec (λ c κs. search rules) (λ c. search rules) returns)

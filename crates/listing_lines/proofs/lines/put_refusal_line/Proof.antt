@@ -6,8 +6,8 @@ use Rattle.listing_lines.proofs.lines.put_refusal_line.Statement.{statement}
 use Rattle.listing_lines.proofs.lines.put_refusal_line.Tie as tie
 
 returns : tie.Need-returns
-returns c = put-refusal-end _ _ _ _ _ _ _ _ (omega arith) c.before.before.before.before.before.before.put-refusal.ensures c.before.before.put_byte.ensures
+returns c = put-refusal-end _ _ _ _ _ _ _ _ (omega arith) c.put_refusal-end.ensures c.put_byte.ensures
 
-pub put-refusal-line-spec : {M : Type 1} → statement M
-put-refusal-line-spec =
+pub put_refusal_line_spec : {M : Type 1} → statement M
+put_refusal_line_spec =
     tie.close (tie.spec (λ c κs. search rules) (λ c κs. search rules) (λ c. search rules) returns)

@@ -7,8 +7,8 @@ use Rattle.listing_lines.proofs.lines.put_share.Statement.{statement}
 use Rattle.listing_lines.proofs.lines.put_share.Tie as tie
 
 returns : tie.Need-returns
-returns c = filled-one _ _ _ _ _ _ _ (count-is _ {m = 4294967295} (omega arith) tt) c.before.before.put-filled.ensures
+returns c = filled-one _ _ _ _ _ _ _ (count-is _ {m = 4294967295} (omega arith) tt) c.put_filled.ensures
 
-pub put-share-spec : {M : Type 1} → statement M
-put-share-spec =
-    tie.close (tie.spec (λ c. search rules) (λ c. search rules) (λ c. search rules) (λ c κs. search rules) (λ c. search rules) returns)
+pub put_share_spec : {M : Type 1} → statement M
+put_share_spec =
+    tie.close (tie.spec (λ c. search rules) (λ c. search rules) (λ c κs. search rules) (λ c. search rules) returns)

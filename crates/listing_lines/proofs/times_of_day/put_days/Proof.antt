@@ -18,7 +18,7 @@ read c = to_z-of_z w64 c.args.day c.ranges.day
 returns : tie.Need-returns
 returns c =
     put_as _ _ _ _ _ _ (ap (λ z. signed z ++ letters "d") (read c.before.before.before.before.before.before.before.before.before))
-    (joined (omega arith) c.before.before.before.before.before.before.put-signed.ensures c.before.before.put_byte.ensures)
+    (joined (omega arith) c.put_signed-end.ensures c.put_byte.ensures)
 
-pub put-days-spec : {M : Type 1} → statement M
-put-days-spec = tie.close (tie.spec (λ c κs. search rules) (λ c κs. search rules) (λ c. search rules) returns)
+pub put_days_spec : {M : Type 1} → statement M
+put_days_spec = tie.close (tie.spec (λ c κs. search rules) (λ c κs. search rules) (λ c. search rules) returns)

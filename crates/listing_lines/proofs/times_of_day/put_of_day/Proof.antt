@@ -8,10 +8,10 @@ use Rattle.listing_lines.proofs.times_of_day.put_of_day.Tie as tie
 
 returns : tie.Need-returns
 unfolding of_day_text
-returns c = joined (omega arith) (joined (omega arith) c.before.before.before.before.before.before.before.before.before.before.put-seconds.ensures c.before.before.before.before.before.before.put_byte.ensures) c.before.before.put-digit.ensures
+returns c = joined (omega arith) (joined (omega arith) c.put_seconds-seconds.ensures c.put_byte-point.ensures) c.put_digit.ensures
 
-pub put-of-day-spec : {M : Type 1} → statement M
-put-of-day-spec =
+pub put_of_day_spec : {M : Type 1} → statement M
+put_of_day_spec =
     tie.close
     (tie.spec (λ c κs. search rules) (λ c κs. search rules) (λ c κs. search rules) (λ c. search rules)
     returns)

@@ -8,10 +8,10 @@ use Rattle.listing_lines.proofs.times_of_day.put_seconds.Tie as tie
 
 returns : tie.Need-returns
 unfolding seconds_text
-returns c = joined (omega arith) (joined (omega arith) (joined (omega arith) (joined (omega arith) c.before.before.before.before.before.before.before.before.before.before.before.before.before.before.before.before.before.before.put_two.ensures c.before.before.before.before.before.before.before.before.before.before.before.before.before.before.put_byte.ensures) c.before.before.before.before.before.before.before.before.before.before.put-two2.ensures) c.before.before.before.before.before.before.put-byte2.ensures) c.before.before.put-two3.ensures
+returns c = joined (omega arith) (joined (omega arith) (joined (omega arith) (joined (omega arith) c.put_two-hours.ensures c.put_byte-colon.ensures) c.put_two-minutes.ensures) c.put_byte-second.ensures) c.put_two.ensures
 
-pub put-seconds-spec : {M : Type 1} → statement M
-put-seconds-spec =
+pub put_seconds_spec : {M : Type 1} → statement M
+put_seconds_spec =
     tie.close
     (tie.spec (λ c κs. search rules) (λ c κs. search rules) (λ c κs. search rules) (λ c κs. search rules)
     (λ c κs. search rules) (λ c. search rules) returns)

@@ -28,7 +28,7 @@ module _ (s : tie.Start) where
   bounds = s.requires ▹ ends
 
   not_below : pos 0 ≤ℤ (s.args.n +ℤ pos 8640000000000)
-  not_below = omega (arith, zs, neg_nat_abs s.args.n s.pre, (sum s.args.n (pos 8640000000000)).is, (opposite (pos 8600000000000)).is)
+  not_below = omega (arith, zs, neg_nat_abs s.args.n s.requires, (sum s.args.n (pos 8640000000000)).is, (opposite (pos 8600000000000)).is)
 
   -- what is divided
   abbrev divided : ℕ
@@ -50,14 +50,14 @@ module _ (s : tie.Start) where
       (runs day-bounds down tt ∙ ap (λ z. z -ℤ pos 100000) (count-is (divided / 100 / 864000) days tt))
       ∙ sym (time_up s.args.n divided shifted)
 
-cast-tenths : tie.Need-overflow-cast-tenths
+cast-tenths : tie.Need-overflow_cast-tenths
 cast-tenths c = unsigned (bounds c.before) up tt (not_below c.before)
 
 returns : tie.Need-returns
-returns c = put_as _ _ _ _ _ _ (text c.before.before.before.before.before.before.before.before.before) (joined (omega arith) c.before.before.before.before.before.before.put-of-day.ensures c.before.before.put-day.ensures)
+returns c = put_as _ _ _ _ _ _ (text c.before.before.before.before.before.before.before.before.before) (joined (omega arith) c.put_of_day-next.ensures c.put_day.ensures)
 
-pub put-time-spec : {M : Type 1} → statement M
-put-time-spec =
+pub put_time_spec : {M : Type 1} → statement M
+put_time_spec =
     tie.close
     (tie.spec (λ c. fits (bounds c.before) up tt) cast-tenths
     (λ c. fits64 _ (omega (arith, days c.before))) (λ c. fits (day-bounds c.before) down tt)

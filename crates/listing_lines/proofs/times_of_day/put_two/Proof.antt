@@ -6,7 +6,7 @@ use Rattle.listing_lines.proofs.times_of_day.put_two.Statement.{statement}
 use Rattle.listing_lines.proofs.times_of_day.put_two.Tie as tie
 
 returns : tie.Need-returns
-returns c = joined (omega arith) c.before.before.before.before.before.before.put-digit.ensures c.before.before.put-digit2.ensures
+returns c = joined (omega arith) c.put_digit-next.ensures c.put_digit.ensures
 
-pub put-two-spec : {M : Type 1} → statement M
-put-two-spec = tie.close (tie.spec (λ c κs. search rules) (λ c κs. search rules) (λ c. search rules) returns)
+pub put_two_spec : {M : Type 1} → statement M
+put_two_spec = tie.close (tie.spec (λ c κs. search rules) (λ c κs. search rules) (λ c. search rules) returns)

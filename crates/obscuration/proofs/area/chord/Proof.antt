@@ -21,48 +21,48 @@ bounds c = c.requires.0 ▹ c.requires.1 ▹ ends
 abbrev square : Code
 square = sub (mul (arg 0) (arg 0)) (mul (arg 1) (arg 1))
 
-returns : tie.Need-returns
+returns : tie.Need-returns-then-square-lt0
 returns c =
-    let a = c.before.args in
+    let a = c.args in
     let w = bounds c.before in
-    (sym (chord-none a.radius a.x (<ℤ-≤ (taken-< w square (lit (pos 0)) tt c.if1.true))), omega arith)
+    (sym (chord-none a.radius a.x (<ℤ-≤ (taken-< w square (lit (pos 0)) tt c.if-square-lt0.true))), omega arith)
 
 -- on the disc
-module _ (c : tie.Else1) where
+module _ (c : tie.Else-square-lt0) where
   abbrev r : ℤ
-  r = c.before.args.radius
+  r = c.args.radius
 
   abbrev x : ℤ
-  x = c.before.args.x
+  x = c.args.x
 
   abbrev n : ℕ
   n = nat_abs (run (whole r ∷ whole x ∷ []) square)
 
   on : pos 0 ≤ℤ (r *ℤ r -ℤ x *ℤ x)
-  on = left-< (bounds c.before) square (lit (pos 0)) tt c.if1.false
+  on = left-< (bounds c.before) square (lit (pos 0)) tt c.if-square-lt0.false
 
   small : n ≤ 1600000000000000
-  small = omega (arith, ap nat_abs (runs (bounds c.before) square tt), gap_small r x c.before.requires.0 on)
+  small = omega (arith, ap nat_abs (runs (bounds c.before) square tt), gap_small r x c.requires.0 on)
 
   found : {h : ℕ} → h ≡ root n → (h ≡ chord r x) × (h ≤ 40000000)
   found f =
       let e = f ∙ ap (λ (z : ℤ). root (nat_abs z)) (runs (bounds c.before) square tt) ∙ chord_on r x on in
-      (e, omega (arith, e, chord-size r x c.before.requires.0, c.before.requires.0))
+      (e, omega (arith, e, chord-size r x c.requires.0, c.requires.0))
 
-cast-n : tie.Need-overflow-cast-n
+cast-n : tie.Need-overflow_cast-n
 cast-n c = unsigned (bounds c.before) square tt (on c)
 
-returns-2 : tie.Need-returns-2
-returns-2 c = found c.before.before c.root-from.ensures
+returns-2 : tie.Need-returns-then-beside-lt1000000
+returns-2 c = found c.before.before c.root_from.ensures
 
-root-from-requires-2 : tie.Need-root-from-requires-2
-root-from-requires-2 c κs = (c.if2.false, c.before.before.requires.2, small c.before)
+root-from-requires-2 : tie.Need-root_from-requires-2
+root-from-requires-2 c κs = (c.if-beside-lt1000000.false, c.requires.2, small c.before)
 
-returns-3 : tie.Need-returns-3
-returns-3 c = found c.before.before c.root-from2.ensures
+returns-3 : tie.Need-returns
+returns-3 c = found c.before.before c.root_from-2.ensures
 
-pub chord-spec : {M : Type 1} → statement M
-chord-spec =
+pub chord_spec : {M : Type 1} → statement M
+chord_spec =
     tie.close
     (tie.spec (λ c. fits (bounds c) (mul (arg 0) (arg 0)) tt) (λ c. fits (bounds c) (mul (arg 1) (arg 1)) tt)
     (λ c. fits (bounds c) square tt) returns cast-n (λ c κs. (lit≤ tt, lit≤ tt, small c.before)) returns-2

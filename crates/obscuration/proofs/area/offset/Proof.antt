@@ -27,7 +27,7 @@ along = mul (arg 1) (arg 0)
 abbrev result : Code
 result = add opposite (quo along (lit (pos 1000)))
 
-div-result : tie.Need-nonzero-div-result
+div-result : tie.Need-nonzero_div-result
 div-result c = (lit< tt, fits (bounds c) (quo along (lit (pos 1000))) tt)
 
 returns : tie.Need-returns
@@ -37,8 +37,8 @@ returns c =
     let e : run (whole r ∷ whole (pos (2 * i + 1)) ∷ []) result ≡ offset r i = runs (bounds c) result tt ∙ offset-by r i c.requires.1 in
     record { value = e; size = omega (arith, ap nat_abs e, offset-size r i c.requires.1 c.requires.2, c.requires.0) }
 
-pub offset-spec : {M : Type 1} → statement M
-offset-spec =
+pub offset_spec : {M : Type 1} → statement M
+offset_spec =
     tie.close
     (tie.spec (λ c. search rules) (λ c. search rules) (λ c. fits (bounds c) opposite tt) (λ c. search rules)
     (λ c. fits (bounds c) along tt) div-result (λ c. fits (bounds c) result tt) returns)

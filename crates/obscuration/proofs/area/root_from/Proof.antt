@@ -50,47 +50,47 @@ above : (n y : ℕ) → n < y * y → 1 ≤ y
 above n zero h = absurd (omega arith)
 above n (suc y) h = omega arith
 
-abbrev invariant-loop : tie.invariant-loop
+abbrev invariant-loop : tie.invariant-loop-y
 invariant-loop start n y₀ y = (root n ≤ y) × (y ≤ 820000000)
 
-abbrev decreases-loop : tie.decreases-loop
+abbrev decreases-loop : tie.decreases-loop-y
 decreases-loop start n y₀ y = y
 
-add-y : tie.Need-overflow-add-y invariant-loop decreases-loop
+add-y : tie.Need-overflow_add-y invariant-loop decreases-loop
 add-y c = omega (arith, quotient-small c.args.n c.args.start c.requires.0 c.requires.2)
 
-loop-holds : tie.Need-loop-init invariant-loop decreases-loop
+loop-holds : tie.Need-loop-y-init invariant-loop decreases-loop
 loop-holds c =
     let a = c.args in
     let p = c.requires in
     (step a.n a.start (omega arith) (omega arith), omega (arith, quotient-small a.n a.start p.0 p.2))
 
-mul-loop : tie.Need-overflow-mul-loop invariant-loop decreases-loop
-mul-loop c = let h = c.loop.invariant.1 in omega (arith, mul-le-mul h h)
+mul-loop : tie.Need-overflow_mul-y invariant-loop decreases-loop
+mul-loop c = let h = c.loop-y.invariant.1 in omega (arith, mul-le-mul h h)
 
-falls : (c : tie.In-loop invariant-loop decreases-loop) → c.before.before.args.n / c.before.loop.y < c.before.loop.y
-falls c = quotient-below c.before.before.args.n c.before.loop.y c.loop-test.true
+falls : (c : tie.In-loop-y invariant-loop decreases-loop) → c.args.n / c.loop-y.y < c.loop-y.y
+falls c = quotient-below c.args.n c.loop-y.y c.loop-y-test.true
 
-div-y-2 : tie.Need-nonzero-div-y-2 invariant-loop decreases-loop
-div-y-2 c = above c.before.before.args.n c.before.loop.y c.loop-test.true
+div-y-2 : tie.Need-nonzero_div-y-in-loop-y invariant-loop decreases-loop
+div-y-2 c = above c.args.n c.loop-y.y c.loop-y-test.true
 
-add-y-2 : tie.Need-overflow-add-y-2 invariant-loop decreases-loop
-add-y-2 c = omega (arith, falls c, c.before.loop.invariant.1)
+add-y-2 : tie.Need-overflow_add-y-in-loop-y invariant-loop decreases-loop
+add-y-2 c = omega (arith, falls c, c.loop-y.invariant.1)
 
-loop-again : tie.Need-loop-preserved invariant-loop decreases-loop
+loop-again : tie.Need-loop-y-preserved invariant-loop decreases-loop
 loop-again c =
-    let n = c.before.before.args.n in
-    let y = c.before.loop.y in
-    (step n y (above n y c.loop-test.true) (omega (arith, c.before.before.requires.2)), omega (arith, falls c, c.before.loop.invariant.1))
+    let n = c.args.n in
+    let y = c.loop-y.y in
+    (step n y (above n y c.loop-y-test.true) (omega (arith, c.requires.2)), omega (arith, falls c, c.loop-y.invariant.1))
 
 returns : tie.Need-returns invariant-loop decreases-loop
 returns c =
-    let n = c.before.before.args.n in
-    let small : n < 18446744073709551616 = omega (arith, c.before.before.requires.2) in
-    omega (arith, c.before.loop.invariant.0, root-least n c.before.loop.y small c.loop-test.false)
+    let n = c.args.n in
+    let small : n < 18446744073709551616 = omega (arith, c.requires.2) in
+    omega (arith, c.loop-y.invariant.0, root-least n c.loop-y.y small c.loop-y-test.false)
 
-pub root-from-spec : {M : Type 1} → statement M
-root-from-spec =
+pub root_from_spec : {M : Type 1} → statement M
+root_from_spec =
     tie.close
     (tie.spec invariant-loop decreases-loop (λ c. search rules) add-y loop-holds mul-loop div-y-2 add-y-2
     (λ c. omega (arith, falls c)) loop-again returns)

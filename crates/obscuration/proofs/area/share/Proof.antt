@@ -47,29 +47,29 @@ module _ (c : tie.Start) where
       runs bounds (quo less two) tt
       ∙ half_pos (l1 -ℤ l2) (omega (arith, zs, c.requires.low, c.requires.central, nat_abs_parts l2, (sum l1 (neg_ℤ l2)).is, (opposite l2).is))
 
-cast-root : tie.Need-overflow-cast-root
+cast-root : tie.Need-overflow_cast-m
 cast-root c = unsigned (bounds c) (arg 2) tt c.requires.square
 
-module _ (c : tie.After-root) where
+module _ (c : tie.After-root-distance) where
   abbrev s : tie.Start
   s = c.before
 
-  distance : c.root.result ≡ root (nat_abs (m s))
-  distance = c.root.ensures ∙ ap (λ (z : ℤ). root (nat_abs z)) (read_back (m s) s.pre.far tt)
+  distance : c.root-distance.result ≡ root (nat_abs (m s))
+  distance = c.root-distance.ensures ∙ ap (λ (z : ℤ). root (nat_abs z)) (read_back (m s) s.requires.far tt)
 
-  small : nat_abs (pos c.root.result) ≤ 1000000000
-  small = omega (arith, distance, m-size (l1 s) (l2 s) (m s) s.pre)
+  small : nat_abs (pos c.root-distance.result) ≤ 1000000000
+  small = omega (arith, distance, m-size (l1 s) (l2 s) (m s) s.requires)
 
-cast-share-of : tie.Need-overflow-cast-share-of
-cast-share-of c = fits {env = whole (pos c.root.result) ∷ []} {bs = 1000000000 ∷ []} (small c ▹ ends) (arg 0) tt
+cast-share-of : tie.Need-overflow_cast-distance
+cast-share-of c = fits {env = whole (pos c.root-distance.result) ∷ []} {bs = 1000000000 ∷ []} (small c ▹ ends) (arg 0) tt
 
-share-of-requires : tie.Need-share-of-requires
+share-of-requires : tie.Need-share_of-requires
 share-of-requires c κs =
     let b = c.before in
     let p = b.requires in (
       rw (r-is b) (r-size (l1 b) (l2 b) (m b) p),
       rw (n-is b) (n-size (l1 b) (l2 b) (m b) p),
-      read-size (pos c.root.result) 1000000000 (small c) tt,
+      read-size (pos c.root-distance.result) 1000000000 (small c) tt,
       rw (r-is b) (r-low (l1 b) (l2 b) (m b) p),
     )
 
@@ -78,10 +78,10 @@ unfolding share
 returns c =
     let d = c.before in
     let b = d.before in
-    rw (r-is b, n-is b, read_back (pos d.root.result) (small d) tt, distance d) at c.share-of.ensures
+    rw (r-is b, n-is b, read_back (pos d.root-distance.result) (small d) tt, distance d) at c.share_of.ensures
 
-pub share-spec : {M : Type 1} → statement M
-share-spec =
+pub share_spec : {M : Type 1} → statement M
+share_spec =
     tie.close
     (tie.spec (λ c. fits (bounds c) both tt) (λ c. (lit< tt, fits (bounds c) (quo both two) tt))
     (λ c. fits (bounds c) less tt) (λ c. (lit< tt, fits (bounds c) (quo less two) tt)) cast-root (λ c κs. tt)

@@ -27,17 +27,17 @@ pub record Summed (r n m : ℤ) (part all beside over i : ℕ) : Type 0 where
   pub sun-small : beside ≤ 40000000
   pub moon-small : over ≤ 40000000
 
-abbrev invariant-loop : tie.invariant-loop
+abbrev invariant-loop : tie.invariant-loop-i
 invariant-loop r n m covered₀ whole₀ sun₀ moon₀ i₀ part all beside over i = Summed (to_z w64 r) (to_z w64 n) (to_z w64 m) part all beside over i
 
-abbrev decreases-loop : tie.decreases-loop
+abbrev decreases-loop : tie.decreases-loop-i
 decreases-loop r n m covered₀ whole₀ sun₀ moon₀ i₀ part all beside over i = 1000 - i
 
 -- a number as the loop has it
 abbrev read : ℤ → ℤ
 read z = to_z w64 (of_z w64 z)
 
-loop-holds : tie.Need-loop-init invariant-loop decreases-loop
+loop-holds : tie.Need-loop-i-init invariant-loop decreases-loop
 loop-holds c =
     let a = c.args in
     record {
@@ -53,13 +53,13 @@ loop-holds c =
 not_below : {r : ℤ} → pos 1000 ≤ℤ r → pos 0 ≤ℤ r
 not_below h = omega (arith, zs)
 
-offset-requires : tie.Need-offset-requires invariant-loop decreases-loop
+offset-requires : tie.Need-offset-o-requires invariant-loop decreases-loop
 offset-requires c κs =
     let s = c.before.before in
     (read-size s.args.r 40000000 s.requires.0 tt, rw (read_back s.args.r s.requires.0 tt) (not_below s.requires.3), omega arith)
 
 -- a round
-module _ (c : tie.After-offset invariant-loop decreases-loop) where
+module _ (c : tie.After-offset-o invariant-loop decreases-loop) where
   abbrev start : tie.Start invariant-loop decreases-loop
   start = c.before.before.before
 
@@ -73,123 +73,123 @@ module _ (c : tie.After-offset invariant-loop decreases-loop) where
   m = read start.args.m
 
   abbrev i : ℕ
-  i = c.before.before.loop.i
+  i = c.loop-i.i
 
-  bounds : Within (whole c.offset.result ∷ whole start.args.m ∷ []) (40000000 ∷ 1000000000 ∷ [])
-  bounds = c.offset.ensures.size ▹ start.pre.2 ▹ ends
+  bounds : Within (whole c.offset-o.result ∷ whole start.args.m ∷ []) (40000000 ∷ 1000000000 ∷ [])
+  bounds = c.offset-o.ensures.size ▹ start.requires.2 ▹ ends
 
 abbrev aside : Code
 aside = sub (arg 0) (arg 1)
 
-chord-requires : tie.Need-chord-requires invariant-loop decreases-loop
+chord-requires : tie.Need-chord-sun-requires invariant-loop decreases-loop
 chord-requires c κs =
     let s = start c in (
-      read-size s.args.r 40000000 s.pre.0 tt,
-      read-size c.offset.result 1100000000 c.offset.ensures.size tt,
-      c.before.before.loop.invariant.sun-small,
+      read-size s.args.r 40000000 s.requires.0 tt,
+      read-size c.offset-o.result 1100000000 c.offset-o.ensures.size tt,
+      c.loop-i.invariant.sun-small,
     )
 
-chord-requires-2 : tie.Need-chord-requires-2 invariant-loop decreases-loop
+chord-requires-2 : tie.Need-chord-moon-requires invariant-loop decreases-loop
 chord-requires-2 c κs =
     let s = start c.before in (
-      read-size s.args.n 40000000 s.pre.1 tt,
+      read-size s.args.n 40000000 s.requires.1 tt,
       within (bounds c.before) aside 1100000000 tt,
-      c.before.before.before.loop.invariant.moon-small,
+      c.loop-i.invariant.moon-small,
     )
 
-module _ (c : tie.After-lesser-of invariant-loop decreases-loop) where
-  abbrev o : tie.After-offset invariant-loop decreases-loop
+module _ (c : tie.After-lesser_of-covered invariant-loop decreases-loop) where
+  abbrev o : tie.After-offset-o invariant-loop decreases-loop
   o = c.before.before.before
 
-  sun-is : c.before.before.chord.result ≡ sun (r o) (i o)
+  sun-is : c.chord-sun.result ≡ sun (r o) (i o)
   unfolding sun
   sun-is =
-      c.before.before.chord.ensures.0
-      ∙ ap (λ (z : ℤ). chord (r o) z) (read_back o.offset.result o.offset.ensures.size tt ∙ o.offset.ensures.value)
+      c.chord-sun.ensures.0
+      ∙ ap (λ (z : ℤ). chord (r o) z) (read_back o.offset-o.result o.offset-o.ensures.size tt ∙ o.offset-o.ensures.value)
 
-  moon-is : c.before.chord2.result ≡ moon (r o) (n o) (m o) (i o)
+  moon-is : c.chord-moon.result ≡ moon (r o) (n o) (m o) (i o)
   unfolding moon
   moon-is =
-      c.before.chord2.ensures.0
+      c.chord-moon.ensures.0
       ∙ ap (λ (z : ℤ). chord (n o) z)
       (runs (bounds o) aside tt
-      ∙ ap₂ (λ (y z : ℤ). y -ℤ z) o.offset.ensures.value (sym (read_back (start o).args.m (start o).pre.2 tt)))
+      ∙ ap₂ (λ (y z : ℤ). y -ℤ z) o.offset-o.ensures.value (sym (read_back (start o).args.m (start o).requires.2 tt)))
 
-  lesser-is : c.lesser-of.result ≡ lesser (r o) (n o) (m o) (i o)
+  lesser-is : c.lesser_of-covered.result ≡ lesser (r o) (n o) (m o) (i o)
   unfolding lesser
-  lesser-is = c.lesser-of.ensures ∙ ap₂ lesser_of sun-is moon-is
+  lesser-is = c.lesser_of-covered.ensures ∙ ap₂ lesser_of sun-is moon-is
 
-  sun-small : c.before.before.chord.result ≤ 40000000
-  sun-small = c.before.before.chord.ensures.1
+  sun-small : c.chord-sun.result ≤ 40000000
+  sun-small = c.chord-sun.ensures.1
 
-  lesser-small : c.lesser-of.result ≤ c.before.before.chord.result
+  lesser-small : c.lesser_of-covered.result ≤ c.chord-sun.result
   lesser-small = omega (arith, lesser-is, sun-is, lesser-sun (r o) (n o) (m o) (i o))
 
-  inv : let l = o.before.before.loop in Summed (r o) (n o) (m o) l.covered l.whole l.sun l.moon (i o)
-  inv = o.before.before.loop.inv
+  inv : let l = o.loop-i in Summed (r o) (n o) (m o) l.covered l.whole l.sun l.moon (i o)
+  inv = o.loop-i.invariant
 
-add-covered : tie.Need-overflow-add-covered invariant-loop decreases-loop
+add-covered : tie.Need-overflow_add-covered invariant-loop decreases-loop
 add-covered c = omega (arith, sun-small c, lesser-small c, (inv c).few, (inv c).less, (inv c).small)
 
-add-whole : tie.Need-overflow-add-whole invariant-loop decreases-loop
+add-whole : tie.Need-overflow_add-whole invariant-loop decreases-loop
 add-whole c = omega (arith, sun-small c, (inv c).few, (inv c).small)
 
-loop-again : tie.Need-loop-preserved invariant-loop decreases-loop
+loop-again : tie.Need-loop-i-preserved invariant-loop decreases-loop
 loop-again c =
     let p = o c in
     record {
-      few = omega (arith, p.before.loop-test.taken);
+      few = omega (arith, p.loop-i-test.true);
       part-is = omega (arith, sum_next (lesser (r p) (n p) (m p)) (i p), (inv c).part-is, lesser-is c);
       all-is = omega (arith, sum_next (sun (r p)) (i p), (inv c).all-is, sun-is c);
       less = omega (arith, (inv c).less, lesser-small c);
       small = omega (arith, (inv c).small, sun-small c);
       sun-small = sun-small c;
-      moon-small = c.before.chord2.ensures.1;
+      moon-small = c.chord-moon.ensures.1;
     }
 
 -- after the last: i is 1000
-module _ (c : tie.After-loop invariant-loop decreases-loop) where
+module _ (c : tie.After-loop-i invariant-loop decreases-loop) where
   abbrev entry : tie.Start invariant-loop decreases-loop
   entry = c.before.before
 
-  last : c.before.loop.i ≡ 1000
-  last = omega (arith, c.before.loop.invariant.few, c.loop-test.false)
+  last : c.loop-i.i ≡ 1000
+  last = omega (arith, c.loop-i.invariant.few, c.loop-i-test.false)
 
   r_back : read entry.args.r ≡ entry.args.r
-  r_back = read_back entry.args.r entry.pre.0 tt
+  r_back = read_back entry.args.r entry.requires.0 tt
 
   n-back : read entry.args.n ≡ entry.args.n
-  n-back = read_back entry.args.n entry.pre.1 tt
+  n-back = read_back entry.args.n entry.requires.1 tt
 
   m-back : read entry.args.m ≡ entry.args.m
-  m-back = read_back entry.args.m entry.pre.2 tt
+  m-back = read_back entry.args.m entry.requires.2 tt
 
-  part-last : c.before.loop.covered ≡ sum_of (lesser entry.args.r entry.args.n entry.args.m) 1000
-  part-last = cc (r_back, n-back, m-back, last, c.before.loop.invariant.part-is)
+  part-last : c.loop-i.covered ≡ sum_of (lesser entry.args.r entry.args.n entry.args.m) 1000
+  part-last = cc (r_back, n-back, m-back, last, c.loop-i.invariant.part-is)
 
-  all-last : c.before.loop.whole ≡ sum_of (sun entry.args.r) 1000
-  all-last = cc (r_back, last, c.before.loop.invariant.all-is)
+  all-last : c.loop-i.whole ≡ sum_of (sun entry.args.r) 1000
+  all-last = cc (r_back, last, c.loop-i.invariant.all-is)
 
-  answer : 1000000 * c.before.loop.covered / c.before.loop.whole ≡ share_of entry.args.r entry.args.n entry.args.m
+  answer : 1000000 * c.loop-i.covered / c.loop-i.whole ≡ share_of entry.args.r entry.args.n entry.args.m
   unfolding share_of
   answer = ap₂ (λ (a b : ℕ). 1000000 * a / b) part-last all-last
 
-mul-result : tie.Need-overflow-mul-result invariant-loop decreases-loop
-mul-result c = let v = c.before.loop.invariant in omega (arith, v.few, v.less, v.small)
+mul-result : tie.Need-overflow_mul-result invariant-loop decreases-loop
+mul-result c = let v = c.loop-i.invariant in omega (arith, v.few, v.less, v.small)
 
-div-result : tie.Need-nonzero-div-result invariant-loop decreases-loop
+div-result : tie.Need-nonzero_div-result invariant-loop decreases-loop
 div-result c = let s = c.before.before in omega (arith, all-last c, sun_above s.args.r s.requires.0 s.requires.3)
 
-cast-result : tie.Need-overflow-cast-result invariant-loop decreases-loop
+cast-result : tie.Need-overflow_cast-result invariant-loop decreases-loop
 cast-result c = let a = (entry c).args in omega (arith, answer c, discs_limit a.r a.n a.m)
 
 returns : tie.Need-returns invariant-loop decreases-loop
 returns c = answer c
 
-pub share-of-spec : {M : Type 1} → statement M
-share-of-spec =
+pub share_of_spec : {M : Type 1} → statement M
+share_of_spec =
     tie.close
     (tie.spec invariant-loop decreases-loop loop-holds offset-requires chord-requires
     (λ c. fits (bounds c.before) aside tt) chord-requires-2 (λ c κs. tt) add-covered add-whole
-    (λ c. omega (arith, (inv c).few)) (λ c. omega (arith, (o c).before.loop-test.true)) loop-again mul-result
+    (λ c. omega (arith, (inv c).few)) (λ c. omega (arith, (o c).before.loop-i-test.true)) loop-again mul-result
     div-result cast-result returns)

@@ -6,16 +6,16 @@ use Rattle.obscuration.specs.AnswerLaws.{AnsweredSizes}
 use Rattle.obscuration.proofs.second.of_second.Statement.{statement}
 use Rattle.obscuration.proofs.second.of_second.Tie as tie
 
-share-of-requires : tie.Need-share-of-requires
+share-of-requires : tie.Need-share_of-requires
 share-of-requires c κs =
-    let k = c.before.before in
-    subst AnsweredSizes k.second.given.1 k.before.before.requires
+    let k = c.before in
+    subst AnsweredSizes k.in-Is.is k.requires
 
-returns : tie.Need-returns
-returns c = rw c.before.before.before.second.given.1 (ap O.Is c.share-of.ensures)
+returns : tie.Need-returns-in-Is
+returns c = rw c.in-Is.is (ap O.Is c.share_of.ensures)
 
-returns-2 : tie.Need-returns-2
-returns-2 c = rw c.before.second2.given.1
+returns-2 : tie.Need-returns-in-Refused
+returns-2 c = rw c.in-Refused.is
 
-pub of-second-spec : {M : Type 1} → statement M
-of-second-spec = tie.close (tie.spec (λ c. search rules) share-of-requires (λ c. search rules) returns returns-2)
+pub of_second_spec : {M : Type 1} → statement M
+of_second_spec = tie.close (tie.spec (λ c. search rules) share-of-requires (λ c. search rules) returns returns-2)

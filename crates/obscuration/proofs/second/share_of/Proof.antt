@@ -29,5 +29,5 @@ share-requires c κs = let b = c.before.before.before in sizes-back _ _ _ b.requ
 returns : tie.Need-returns
 returns c = let b = c.before.before.before.before in c.share.ensures ∙ share_back _ _ _ b.requires
 
-pub share-of-spec : {M : Type 1} → statement M
-share-of-spec = tie.close (tie.spec share-requires returns)
+pub share_of_spec : {M : Type 1} → statement M
+share_of_spec = tie.close (tie.spec share-requires returns)

@@ -11,4 +11,4 @@ returns c = c.is_named.ensures ∙ ap (named (letters "instant")) c.said.ensures
 
 pub names_instant_spec : {M : Type 1} → statement M
 names_instant_spec =
-    tie.close (tie.spec (λ c κs. search rules) (λ c. search rules) (λ c κs. search rules) returns)
+    tie.close (tie.spec (λ c κs. search rules) (λ c κs. search rules) returns)

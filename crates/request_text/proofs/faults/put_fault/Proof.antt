@@ -10,7 +10,7 @@ returns c = put-told _ _ _ _ _ _ _ _ c.in-Unknown.is (put-unknown _ _ _ _ _ _ c.
 returns-2 : tie.Need-returns-in-NotNumber
 returns-2 c =
     put-told _ _ _ _ _ _ _ _ c.in-NotNumber.is
-    (put-not-number _ _ _ _ _ _ _ c.Put-of.ensures)
+    (put-not-number _ _ _ _ _ _ _ c.put_of.ensures)
 
 returns-3 : tie.Need-returns-in-NotWhole
 returns-3 c =
@@ -35,9 +35,4 @@ returns-6 c =
 pub put_fault_spec : {M : Type 1} → statement M
 put_fault_spec =
     tie.close
-    (tie.spec (λ c. search rules) (λ c κs. search rules) (λ c. search rules) (λ c. search rules)
-    (λ c κs. search rules) (λ c. search rules) (λ c. search rules) (λ c κs. search rules) (λ c. search rules)
-    (λ c. search rules) (λ c κs. search rules) (λ c. search rules) (λ c. search rules) (λ c κs. search rules)
-    (λ c. search rules) (λ c. search rules) (λ c κs. search rules) (λ c. search rules) returns
-    (λ c. search rules) returns-2 (λ c. search rules) returns-3 (λ c. search rules) returns-4
-    (λ c. search rules) returns-5 (λ c. search rules) returns-6)
+    (tie.spec (λ c. search rules) (λ c κs. search rules) (λ c. search rules) (λ c κs. search rules) (λ c. search rules) (λ c κs. search rules) (λ c. search rules) (λ c κs. search rules) (λ c. search rules) (λ c κs. search rules) (λ c. search rules) (λ c κs. search rules) (λ c. search rules) returns (λ c. search rules) returns-2 (λ c. search rules) returns-3 (λ c. search rules) returns-4 (λ c. search rules) returns-5 (λ c. search rules) returns-6)

@@ -17,12 +17,10 @@ returns c =
     let colon = fault.before.before.before.before.before in
     let number = colon.before.before.before.before.before in
     let start = number.before.before.before.before in
-    put_parts _ _ _ _ _ _ _ _ _ _ _ _ _ _ _ _ _ (short start.before) fault.Line-of.ensures start.put_text-number.ensures number.put_number-colon.ensures colon.put_text-wrong.ensures
+    put_parts _ _ _ _ _ _ _ _ _ _ _ _ _ _ _ _ _ (short start.before) fault.line_of.ensures start.put_text-number.ensures number.put_number-colon.ensures colon.put_text-wrong.ensures
     fault.put_fault-end.ensures c.put_byte.ensures
 
 pub put_message_spec : {M : Type 1} → statement M
 put_message_spec =
     tie.close
-    (tie.spec (λ c. search rules) (λ c κs. search rules) (λ c κs. search rules) (λ c. search rules)
-    (λ c κs. search rules) (λ c κs. search rules) (λ c κs. search rules) (λ c κs. search rules)
-    (λ c. search rules) returns)
+    (tie.spec (λ c κs. search rules) (λ c κs. search rules) (λ c κs. search rules) (λ c κs. search rules) (λ c κs. search rules) (λ c κs. search rules) (λ c. search rules) returns)

@@ -10,17 +10,15 @@ use borrow.Author.Rules.{rules}
 use Rattle.request_text.proofs.faults.put_unknown.Statement.{statement}
 use Rattle.request_text.proofs.faults.put_unknown.Tie as tie
 
-slice-aggregate-put-text-2 : tie.Need-slice-aggregate-put-text-2
+slice-aggregate-put-text-2 : tie.Need-slice_bounds-put_text-end-2
 slice-aggregate-put-text-2 c = sym (length-take-le _ _ c.run-letters.ensures.1)
 
 returns : tie.Need-returns
 returns c =
-    let run = c.before.before.before.before.before in
-    put_then _ _ _ _ _ _ _ _ (omega arith) run.put_text-next.ensures
-    (put_as _ _ _ _ _ _ _ refl (word_cut _ _ _ run.said-said.ensures run.run.ensures.0) c.put_text.ensures)
+    put_then _ _ _ _ _ _ _ _ (omega arith) c.put_text-next.ensures
+    (put_as _ _ _ _ _ _ _ refl (word_cut _ _ _ c.said-said.ensures c.run-letters.ensures.0) c.put_text.ensures)
 
 pub put_unknown_spec : {M : Type 1} → statement M
 put_unknown_spec =
     tie.close
-    (tie.spec (λ c. search rules) (λ c κs. search rules) (λ c κs. search rules) (λ c κs. search rules)
-    slice-aggregate-put-text-2 (λ c κs. search rules) (λ c. search rules) returns)
+    (tie.spec (λ c κs. search rules) (λ c κs. search rules) (λ c κs. search rules) slice-aggregate-put-text-2 (λ c κs. search rules) (λ c. search rules) returns)

@@ -23,5 +23,4 @@ returns-3 c =
 pub in_scale_spec : {M : Type 1} → statement M
 in_scale_spec =
     tie.close
-    (tie.spec (λ c. search rules) (λ c κs. search rules) (λ c κs. search rules) returns (λ c. search rules)
-    (λ c κs. search rules) (λ c κs. search rules) returns-2 returns-3)
+    (tie.spec (λ c κs. search rules) (λ c κs. search rules) returns (λ c κs. search rules) (λ c κs. search rules) returns-2 returns-3)

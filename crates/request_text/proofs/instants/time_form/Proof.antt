@@ -11,5 +11,4 @@ returns c = rw (c.has_form.ensures, c.has_form-tenths.ensures, c.has_form-plain.
 pub time_form_spec : {M : Type 1} → statement M
 time_form_spec =
     tie.close
-    (tie.spec (λ c. search rules) (λ c κs. search rules) (λ c. search rules) (λ c κs. search rules)
-    (λ c. search rules) (λ c κs. search rules) returns)
+    (tie.spec (λ c κs. search rules) (λ c κs. search rules) (λ c κs. search rules) returns)

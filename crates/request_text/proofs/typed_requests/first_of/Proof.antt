@@ -5,7 +5,7 @@ use Rattle.request_text.proofs.typed_requests.first_of.Statement.{statement}
 use Rattle.request_text.proofs.typed_requests.first_of.Tie as tie
 
 returns : tie.Need-returns-then-line-number
-returns c = rw (c.type_inv.given.1, c.in-Refused-told-2.is, lt-ltb _ _ c.if-line-number.true)
+returns c = rw (c.in-Refused.is, c.in-Refused-told-2.is, lt-ltb _ _ c.if-line-number.true)
 
 returns-2 : tie.Need-returns-in-Is
 returns-2 c = rw (c.in-Numbers.is, c.in-Is.is)
@@ -14,10 +14,10 @@ returns-3 : tie.Need-returns-in-Refused-told
 returns-3 c = rw (c.in-Numbers.is, c.in-Refused-told.is)
 
 returns-4 : tie.Need-returns-in-Is-told
-returns-4 c = rw (c.type_inv.given.1, c.in-Is-told.is)
+returns-4 c = rw (c.in-Refused.is, c.in-Is-told.is)
 
 returns-5 : tie.Need-returns-else-line-number
-returns-5 c = rw (c.type_inv.given.1, c.in-Refused-told-2.is, le-ltb _ _ c.if-line-number.false)
+returns-5 c = rw (c.in-Refused.is, c.in-Refused-told-2.is, le-ltb _ _ c.if-line-number.false)
 
 pub first_of_spec : {M : Type 1} → statement M
 first_of_spec =

@@ -28,160 +28,160 @@ use borrow.Author.Rules.{rules}
 use Rattle.sheet_codec.proofs.decoder.extent_of_leading_sheet.Statement.{statement}
 use Rattle.sheet_codec.proofs.decoder.extent_of_leading_sheet.Tie as tie
 
-abbrev invariant-loop : tie.invariant-loop
+abbrev invariant-loop : tie.invariant-loop-code
 invariant-loop s p₀ at₀ n₀ p at n = (at ≤ length s) × (n ≤ at) × Counting (stored_at s) (length s) (read_sheet s) p n at
 
-abbrev decreases-loop : tie.decreases-loop
+abbrev decreases-loop : tie.decreases-loop-code
 decreases-loop s p₀ at₀ n₀ p at n = length s - at
 
 -- places of the code: before the byte, the kind and the body of a record were read
-abbrev turn : tie.After-known-told invariant-loop decreases-loop → tie.At-loop invariant-loop decreases-loop
-turn c = c.before.before.before.before
+abbrev turn : tie.In-Is invariant-loop decreases-loop → tie.At-loop-code invariant-loop decreases-loop
+turn c = c.before.before
 
-abbrev byted : tie.After-known-told2 invariant-loop decreases-loop → tie.After-known-told invariant-loop decreases-loop
-byted c = c.before.before.before.before
+abbrev byted : tie.In-Is-kind_for invariant-loop decreases-loop → tie.In-Is invariant-loop decreases-loop
+byted c = c.before.before
 
-abbrev named : tie.After-known-told3 invariant-loop decreases-loop → tie.After-known-told2 invariant-loop decreases-loop
-named c = c.before.before.before.before
+abbrev named : tie.In-Is-body_at invariant-loop decreases-loop → tie.In-Is-kind_for invariant-loop decreases-loop
+named c = c.before.before
 
-abbrev from : tie.After-known-told3 invariant-loop decreases-loop → tie.At-loop invariant-loop decreases-loop
+abbrev from : tie.In-Is-body_at invariant-loop decreases-loop → tie.At-loop-code invariant-loop decreases-loop
 from c = turn (byted (named c))
 
 -- the input, the kind, the entry, and the place after it
-abbrev input : tie.At-loop invariant-loop decreases-loop → List ℕ
-input c = c.before.before.before.args.s.now
+abbrev input : tie.At-loop-code invariant-loop decreases-loop → List ℕ
+input c = c.args.s.now
 
-abbrev kind : tie.After-known-told2 invariant-loop decreases-loop → Kind
-kind c = c.before.kind.given.0.0
+abbrev kind : tie.In-Is-kind_for invariant-loop decreases-loop → Kind
+kind c = c.in-Is-kind_for.kind
 
-abbrev entry : tie.After-known-told3 invariant-loop decreases-loop → Entry
-entry c = c.before.entry.given.0.0
+abbrev entry : tie.In-Is-body_at invariant-loop decreases-loop → Entry
+entry c = c.in-Is-body_at.entry
 
-abbrev after : tie.After-known-told3 invariant-loop decreases-loop → ℕ
-after c = (from c).loop.at + size_of (kind (named c))
+abbrev after : tie.In-Is-body_at invariant-loop decreases-loop → ℕ
+after c = (from c).loop-code.at + size_of (kind (named c))
 
-loop-holds : tie.Need-loop-init invariant-loop decreases-loop
-loop-holds c = (omega arith, omega arith, record { is = rw c.begun.ensures (extent-start _ _ (read-start _)) })
+loop-holds : tie.Need-loop-code-init invariant-loop decreases-loop
+loop-holds c = (omega arith, omega arith, record { is = rw c.begun-p.ensures (extent-start _ _ (read-start _)) })
 
-returns : tie.Need-returns invariant-loop decreases-loop
-returns c = count-refused c.before.before.before.loop.invariant.2 _ (sym (by_byte _ _ _ (sym c.before.before.byte-at.ensures ∙ c.enum_told.given.1)))
+returns : tie.Need-returns-in_default invariant-loop decreases-loop
+returns c = count-refused c.loop-code.invariant.2 _ (sym (by_byte _ _ _ (sym c.byte_at.ensures ∙ c.in_default.is)))
 
 -- the record that stands there
-is_byte : (c : tie.After-known-told invariant-loop decreases-loop) → byte_at (input (turn c)) (turn c).loop.at ≡ Byte.Is c.before.code.given.0.0
-is_byte c = sym c.before.before.before.byte-at.ensures ∙ c.before.code.given.1
+is_byte : (c : tie.In-Is invariant-loop decreases-loop) → byte_at (input (turn c)) (turn c).loop-code.at ≡ Byte.Is c.in-Is.code
+is_byte c = sym c.byte_at.ensures ∙ c.in-Is.is
 
-is-kind : (c : tie.After-known-told2 invariant-loop decreases-loop) → kind_for (byted c).before.code.given.0.0 ≡ Named.Is (kind c)
-is-kind c = sym c.before.before.before.kind-for.ensures ∙ c.before.kind.given.1
+is-kind : (c : tie.In-Is-kind_for invariant-loop decreases-loop) → kind_for (byted c).in-Is.code ≡ Named.Is (kind c)
+is-kind c = sym c.kind_for.ensures ∙ c.in-Is-kind_for.is
 
-is_body : (c : tie.After-known-told3 invariant-loop decreases-loop) → bodyAt (kind (named c)) (input (from c)) (from c).loop.at ≡ Body.Is (entry c)
-is_body c = sym c.before.before.before.body_at.ensures ∙ c.before.entry.given.1
+is_body : (c : tie.In-Is-body_at invariant-loop decreases-loop) → bodyAt (kind (named c)) (input (from c)) (from c).loop-code.at ≡ Body.Is (entry c)
+is_body c = sym c.body_at.ensures ∙ c.in-Is-body_at.is
 
-there : (c : tie.After-known-told3 invariant-loop decreases-loop) → record_at (input (from c)) (from c).loop.at ≡ Is (entry c) (after c)
+there : (c : tie.In-Is-body_at invariant-loop decreases-loop) → record_at (input (from c)) (from c).loop-code.at ≡ Is (entry c) (after c)
 there c = sym (by-body _ _ _ _ _ (is_byte (byted (named c))) (is-kind (named c)) (is_body c))
 
-same_kind : (c : tie.After-known-told3 invariant-loop decreases-loop) → (entry c).kind ≡ kind (named c)
+same_kind : (c : tie.In-Is-body_at invariant-loop decreases-loop) → (entry c).kind ≡ kind (named c)
 same_kind c = ap (λ e. e.kind) (body-inv _ _ _ _ (is_body c)).1
 
-returns-2 : tie.Need-returns-2 invariant-loop decreases-loop
-returns-2 c = count-refused (turn c.before.before.before).loop.inv.2 _
-    (sym (by_kind _ _ _ _ (is_byte c.before.before.before) (sym c.before.before.kind-for.ensures ∙ c.enum-told2.given.1)))
+returns-2 : tie.Need-returns-in_default-kind_for invariant-loop decreases-loop
+returns-2 c = count-refused (turn c.before.before).loop-code.invariant.2 _
+    (sym (by_kind _ _ _ _ (is_byte c.before.before) (sym c.kind_for.ensures ∙ c.in_default-kind_for.is)))
 
-returns-3 : tie.Need-returns-3 invariant-loop decreases-loop
-returns-3 c = count-refused (turn (byted c.before.before.before)).loop.inv.2 _
-    (sym (by-body _ _ _ _ _ (is_byte (byted c.before.before.before)) (is-kind c.before.before.before)
-    (sym c.before.before.body_at.ensures ∙ c.enum-told3.given.1)))
+returns-3 : tie.Need-returns-in_default-body_at invariant-loop decreases-loop
+returns-3 c = count-refused (turn (byted c.before.before)).loop-code.invariant.2 _
+    (sym (by-body _ _ _ _ _ (is_byte (byted c.before.before)) (is-kind c.before.before)
+    (sym c.body_at.ensures ∙ c.in_default-body_at.is)))
 
 -- what came before the entry
-abbrev before-entry : tie.After-known-told3 invariant-loop decreases-loop → Progress
-before-entry c = (from c).loop.p
+abbrev before-entry : tie.In-Is-body_at invariant-loop decreases-loop → Progress
+before-entry c = (from c).loop-code.p
 
-returns-4 : tie.Need-returns-4 invariant-loop decreases-loop
+returns-4 : tie.Need-returns-in_default-order_of invariant-loop decreases-loop
 returns-4 c =
-    let t = c.before.before.before in
-    count-disorder (from t).loop.invariant.2 _ _ (there t)
-    (sym c.before.before.order-of.ensures ∙ c.enum-told5.given.1)
+    let t = c.before.before in
+    count-disorder (from t).loop-code.invariant.2 _ _ (there t)
+    (sym c.order_of.ensures ∙ c.in_default-order_of.is)
 
 -- the place of the code where the order is kept, and the record there
-abbrev placed : tie.After-enum-told4 invariant-loop decreases-loop → tie.After-known-told3 invariant-loop decreases-loop
-placed c = c.before.before.before
+abbrev placed : tie.In-Kept invariant-loop decreases-loop → tie.In-Is-body_at invariant-loop decreases-loop
+placed c = c.before.before
 
-in-its-place : (c : tie.After-enum-told4 invariant-loop decreases-loop)
+in-its-place : (c : tie.In-Kept invariant-loop decreases-loop)
     → order_of (before-entry (placed c)) (entry (placed c)) ≡ O.Kept
-in-its-place c = sym c.before.before.order-of.ensures ∙ c.enum-told4.given.1
+in-its-place c = sym c.order_of.ensures ∙ c.in-Kept.is
 
 -- what is read is plain
-plain_entry : (c : tie.After-known-told3 invariant-loop decreases-loop) → plain (entry c) ≡ true
+plain_entry : (c : tie.In-Is-body_at invariant-loop decreases-loop) → plain (entry c) ≡ true
 plain_entry c =
-    ap plain (body-inv _ _ _ _ (is_body c)).1 ∙ read_plain (kind (named c)) (input (from c)) ((from c).loop.at + 1)
+    ap plain (body-inv _ _ _ _ (is_body c)).1 ∙ read_plain (kind (named c)) (input (from c)) ((from c).loop-code.at + 1)
 
-fields-asked : (c : tie.After-fields-of invariant-loop decreases-loop) → let t = placed c.before in
-    fields_of (before-entry t) (entry t) ≡ c.fields-of.result
+fields-asked : (c : tie.After-fields_of invariant-loop decreases-loop) → let t = placed c.before in
+    fields_of (before-entry t) (entry t) ≡ c.fields_of.result
 fields-asked c = let t = placed c.before in
-    ap (λ b. fields_as b (before-entry t) (entry t)) (plain_entry t) ∙ sym c.fields-of.ensures
+    ap (λ b. fields_as b (before-entry t) (entry t)) (plain_entry t) ∙ sym c.fields_of.ensures
 
-returns-5 : tie.Need-returns-5 invariant-loop decreases-loop
+returns-5 : tie.Need-returns-in_default-fields_of invariant-loop decreases-loop
 returns-5 c =
-    let k = c.before.before.before in
+    let k = c.before.before in
     let t = placed k in
-    count-unsound (from t).loop.inv.2 _ _ (there t) (in-its-place k)
-    (fields-asked c.before.before ∙ c.enum-told7.given.1)
+    count-unsound (from t).loop-code.invariant.2 _ _ (there t) (in-its-place k)
+    (fields-asked c.before ∙ c.in_default-fields_of.is)
 
 -- the place of the code where the record kept all rules
-abbrev kept : tie.After-enum-told6 invariant-loop decreases-loop → tie.After-enum-told4 invariant-loop decreases-loop
-kept c = c.before.before.before
+abbrev kept : tie.In-Kept-fields_of invariant-loop decreases-loop → tie.In-Kept invariant-loop decreases-loop
+kept c = c.before.before
 
-abbrev read : tie.After-size-for invariant-loop decreases-loop → tie.After-known-told3 invariant-loop decreases-loop
+abbrev read : tie.After-size_for invariant-loop decreases-loop → tie.In-Is-body_at invariant-loop decreases-loop
 read c = placed (kept c.before)
 
-sound : (c : tie.After-size-for invariant-loop decreases-loop) → fields_of (before-entry (read c)) (entry (read c)) ≡ F.Kept
-sound c = fields-asked c.before.before.before ∙ c.before.enum-told6.given.1
+sound : (c : tie.After-size_for invariant-loop decreases-loop) → fields_of (before-entry (read c)) (entry (read c)) ≡ F.Kept
+sound c = fields-asked c.before.before ∙ c.in-Kept-fields_of.is
 
-size-for-requires : tie.Need-size-for-requires invariant-loop decreases-loop
+size-for-requires : tie.Need-size_for-requires invariant-loop decreases-loop
 size-for-requires c κs = kind_inv _ _ (is-kind (named (placed (kept c))))
 
-bounds : (c : tie.After-known-told3 invariant-loop decreases-loop) → ((from c).loop.at < after c) × (after c ≤ length (input (from c)))
+bounds : (c : tie.In-Is-body_at invariant-loop decreases-loop) → ((from c).loop-code.at < after c) × (after c ≤ length (input (from c)))
 bounds c = record-bounds _ _ _ _ (there c)
 
-add-next : tie.Need-overflow-add-next invariant-loop decreases-loop
-add-next c = let b = bounds (read c) in let z = c.size_for_lem.ensures.0 in omega (arith, (from (read c)).before.before.before.good.0.1)
+add-next : tie.Need-overflow_add-next invariant-loop decreases-loop
+add-next c = let b = bounds (read c) in let z = c.size_for.ensures.0 in omega (arith, (from (read c)).before.before.before.well_formed.0.1)
 
-ended : (c : tie.After-is-end invariant-loop decreases-loop) → is_end (entry (read c.before)).kind ≡ c.is-end.result
-ended c = ap is_end (same_kind (read c.before)) ∙ sym c.is-end.ensures
+ended : (c : tie.After-is_end invariant-loop decreases-loop) → is_end (entry (read c.before)).kind ≡ c.is_end.result
+ended c = ap is_end (same_kind (read c.before)) ∙ sym c.is_end.ensures
 
-add-count : tie.Need-overflow-add-count invariant-loop decreases-loop
+add-count : tie.Need-overflow_add-count invariant-loop decreases-loop
 add-count c = let t = read c.before.before in let b = bounds t in
-    omega (arith, (from t).loop.inv.1, (from t).before.before.before.good.0.1)
+    omega (arith, (from t).loop-code.invariant.1, (from t).well_formed.0.1)
 
-returns-6 : tie.Need-returns-6 invariant-loop decreases-loop
+returns-6 : tie.Need-returns-then-is_end invariant-loop decreases-loop
 returns-6 c =
     let k = c.before.before in
     let t = read k in
-    rw k.size_for_lem.ensures.0
-    (count-end (from t).loop.inv.2 _ _ (there t) (in-its-place (kept k.before)) (sound k)
-    (ended c.before ∙ c.if1.true))
+    rw k.size_for.ensures.0
+    (count-end (from t).loop-code.invariant.2 _ _ (there t) (in-its-place (kept k.before)) (sound k)
+    (ended c.before ∙ c.if-is_end.true))
 
-add-n : tie.Need-overflow-add-n invariant-loop decreases-loop
+add-n : tie.Need-overflow_add-n invariant-loop decreases-loop
 add-n c = let t = read c.before.before.before in let b = bounds t in
-    omega (arith, (from t).loop.inv.1, (from t).before.before.before.good.0.1)
+    omega (arith, (from t).loop-code.invariant.1, (from t).well_formed.0.1)
 
-loop-less : tie.Need-loop-smaller invariant-loop decreases-loop
-loop-less c = let b = bounds (read c.before.before.before) in let z = c.before.before.before.size_for_lem.ensures.0 in omega arith
+loop-less : tie.Need-loop-code-smaller invariant-loop decreases-loop
+loop-less c = let b = bounds (read c.before.before.before) in let z = c.size_for.ensures.0 in omega arith
 
-loop-again : tie.Need-loop-preserved invariant-loop decreases-loop
+loop-again : tie.Need-loop-code-preserved invariant-loop decreases-loop
 loop-again c =
     let k = c.before.before.before in
     let t = read k in
     let b = bounds t in
-    let z = k.size_for_lem.ensures.0 in (
+    let z = k.size_for.ensures.0 in (
       omega arith,
-      omega (arith, (from t).loop.inv.1),
-      rw (z, c.after.ensures)
-          (count-more (from t).loop.inv.2 _ _ (there t) (in-its-place (kept k.before)) (sound k)
-          (ended c.before.before ∙ c.before.if1.false) (omega (arith, (from t).loop.inv.1))),
+      omega (arith, (from t).loop-code.invariant.1),
+      rw (z, c.after-p.ensures)
+          (count-more (from t).loop-code.invariant.2 _ _ (there t) (in-its-place (kept k.before)) (sound k)
+          (ended c.before.before ∙ c.if-is_end.false) (omega (arith, (from t).loop-code.invariant.1))),
     )
 
-pub extent-of-leading-sheet-spec : {M : Type 1} → statement M
-extent-of-leading-sheet-spec =
+pub extent_of_leading_sheet_spec : {M : Type 1} → statement M
+extent_of_leading_sheet_spec =
     tie.close
     (tie.spec invariant-loop decreases-loop (λ c κs. search rules) loop-holds (λ c κs. search rules) (λ c. search rules)
     (λ c. search rules) returns (λ c κs. search rules) (λ c. search rules) (λ c. search rules) returns-2

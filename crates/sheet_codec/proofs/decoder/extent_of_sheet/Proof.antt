@@ -10,20 +10,20 @@ use borrow.Author.Rules.{rules}
 use Rattle.sheet_codec.proofs.decoder.extent_of_sheet.Statement.{statement}
 use Rattle.sheet_codec.proofs.decoder.extent_of_sheet.Tie as tie
 
-returns : tie.Need-returns
-returns c = c.enum_told.given.1 ∙ sym (whole_by _ _ (sym c.enum_told.given.1 ∙ c.before.before.extent-of-leading-sheet.ensures))
+returns : tie.Need-returns-in_default
+returns c = c.in_default.is ∙ sym (whole_by _ _ (sym c.in_default.is ∙ c.extent_of_leading_sheet-found.ensures))
 
-found-is : (c : tie.After-known-told) → extent_of (read_whole c.before.before.before.before.before.args.s.now) ≡ alone_x
-    (λ k n. ltb n (length c.before.before.before.before.before.args.s.now))
-    (X.Sheet c.before.found.given.0.0 c.before.found.given.0.1.0)
-found-is c = whole_by _ _ (sym c.before.found.given.1 ∙ c.before.before.before.extent-of-leading-sheet.ensures)
+found-is : (c : tie.In-Sheet) → extent_of (read_whole c.args.s.now) ≡ alone_x
+    (λ k n. ltb n (length c.args.s.now))
+    (X.Sheet c.in-Sheet.entries c.in-Sheet.end)
+found-is c = whole_by _ _ (sym c.in-Sheet.is ∙ c.extent_of_leading_sheet-found.ensures)
 
-returns-2 : tie.Need-returns-2
-returns-2 c = sym (found-is c.before ∙ rw (lt-ltb _ _ c.if1.true))
+returns-2 : tie.Need-returns-then-end-s
+returns-2 c = sym (found-is c.before ∙ rw (lt-ltb _ _ c.if-end-s.true))
 
-returns-3 : tie.Need-returns-3
-returns-3 c = sym (found-is c.before ∙ rw (le-ltb _ _ c.if1.false))
+returns-3 : tie.Need-returns
+returns-3 c = sym (found-is c.before ∙ rw (le-ltb _ _ c.if-end-s.false))
 
-pub extent-of-sheet-spec : {M : Type 1} → statement M
-extent-of-sheet-spec =
+pub extent_of_sheet_spec : {M : Type 1} → statement M
+extent_of_sheet_spec =
     tie.close (tie.spec (λ c κs. search rules) (λ c. search rules) (λ c. search rules) returns returns-2 returns-3)

@@ -15,24 +15,24 @@ use borrow.Author.Rules.{rules}
 use Rattle.sheet_codec.proofs.encoder.extent_of_entries.Statement.{statement}
 use Rattle.sheet_codec.proofs.encoder.extent_of_entries.Tie as tie
 
-returns : tie.Need-returns
-returns c = c.enum_told.given.1 ∙ sym (list_by _ _ (sym c.enum_told.given.1 ∙ c.before.before.extent-of-leading-entries.ensures))
+returns : tie.Need-returns-in_default
+returns c = c.in_default.is ∙ sym (list_by _ _ (sym c.in_default.is ∙ c.extent_of_leading_entries-found.ensures))
 
-found-is : (c : tie.After-known-told) → extent_of (list_whole c.before.before.before.before.before.args.l.now) ≡ alone_x
-    (λ k n. ltb (k * 5) (length c.before.before.before.before.before.args.l.now))
-    (X.Sheet c.before.found.given.0.0 c.before.found.given.0.1.0)
-found-is c = list_by _ _ (sym c.before.found.given.1 ∙ c.before.before.before.extent-of-leading-entries.ensures)
+found-is : (c : tie.In-Sheet) → extent_of (list_whole c.args.l.now) ≡ alone_x
+    (λ k n. ltb (k * 5) (length c.args.l.now))
+    (X.Sheet c.in-Sheet.entries c.in-Sheet.length)
+found-is c = list_by _ _ (sym c.in-Sheet.is ∙ c.extent_of_leading_entries-found.ensures)
 
-returns-2 : tie.Need-returns-2
+returns-2 : tie.Need-returns-then-entries-held
 returns-2 c = sym (found-is c.before ∙ rw
-    (lt-ltb (c.before.before.found.given.0.0 * 5) (length c.before.before.before.before.before.before.args.l.now) (omega arith)))
+    (lt-ltb (c.in-Sheet.entries * 5) (length c.args.l.now) (omega arith)))
 
-returns-3 : tie.Need-returns-3
+returns-3 : tie.Need-returns
 returns-3 c = sym (found-is c.before ∙ rw
-    (le-ltb (c.before.before.found.given.0.0 * 5) (length c.before.before.before.before.before.before.args.l.now) (omega arith)))
+    (le-ltb (c.in-Sheet.entries * 5) (length c.args.l.now) (omega arith)))
 
-pub extent-of-entries-spec : {M : Type 1} → statement M
-extent-of-entries-spec =
+pub extent_of_entries_spec : {M : Type 1} → statement M
+extent_of_entries_spec =
     tie.close
     (tie.spec (λ c κs. search rules) (λ c. search rules) (λ c. search rules) returns (λ c. search rules)
     returns-2 returns-3)

@@ -7,19 +7,19 @@ use borrow.Author.Rules.{rules}
 use Rattle.sheet_codec.proofs.encoder.handed_at.Statement.{statement}
 use Rattle.sheet_codec.proofs.encoder.handed_at.Tie as tie
 
-returns : tie.Need-returns
+returns : tie.Need-returns-then-left-lt5
 returns c = handed-cut _ _ _ (omega arith)
 
-returns-2 : tie.Need-returns-2
-returns-2 c = handed-named _ _ _ _ (omega arith) (sym c.before.before.kind-for.ensures ∙ c.enum_told.given.1)
+returns-2 : tie.Need-returns-in_default
+returns-2 c = handed-named _ _ _ _ (omega arith) (sym c.kind_for.ensures ∙ c.in_default.is)
 
-returns-3 : tie.Need-returns-3
-returns-3 c = rw c.size-of.ensures.0
-    (handed-named _ _ _ _ (omega arith) (sym c.before.before.before.before.before.before.before.before.kind-for.ensures ∙
-    c.before.before.before.before.before.before.kind.given.1))
+returns-3 : tie.Need-returns
+returns-3 c = rw c.size_of.ensures.0
+    (handed-named _ _ _ _ (omega arith) (sym c.kind_for.ensures ∙
+    c.in-Is.is))
 
-pub handed-at-spec : {M : Type 1} → statement M
-handed-at-spec =
+pub handed_at_spec : {M : Type 1} → statement M
+handed_at_spec =
     tie.close
     (tie.spec (λ c. search rules) (λ c. search rules) returns (λ c. search rules) (λ c. search rules)
     (λ c κs. search rules) (λ c. search rules) (λ c. search rules) returns-2 (λ c. search rules)

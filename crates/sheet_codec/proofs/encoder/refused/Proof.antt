@@ -3,11 +3,11 @@ use borrow.Author.Rules.{rules}
 use Rattle.sheet_codec.proofs.encoder.refused.Statement.{statement}
 use Rattle.sheet_codec.proofs.encoder.refused.Tie as tie
 
-returns : tie.Need-returns
-returns c = rw c.before.got.given.1
+returns : tie.Need-returns-in-Is
+returns c = rw c.in-Is.is
 
-returns-2 : tie.Need-returns-2
-returns-2 c = rw c.before.got2.given.1
+returns-2 : tie.Need-returns-in-Refused
+returns-2 c = rw c.in-Refused.is
 
-pub refused-spec : {M : Type 1} → statement M
-refused-spec = tie.close (tie.spec (λ c. search rules) (λ c. search rules) returns returns-2)
+pub refused_spec : {M : Type 1} → statement M
+refused_spec = tie.close (tie.spec (λ c. search rules) (λ c. search rules) returns returns-2)

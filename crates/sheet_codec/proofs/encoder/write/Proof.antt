@@ -12,30 +12,30 @@ use borrow.Author.Rules.{rules}
 use Rattle.sheet_codec.proofs.encoder.write.Statement.{statement}
 use Rattle.sheet_codec.proofs.encoder.write.Tie as tie
 
-found-is : (c : tie.After-known-told) → X.Sheet c.before.found.given.0.0 c.before.found.given.0.1.0 ≡ extent_of
-    (list_whole c.before.before.before.before.before.before.args.l.now)
-found-is c = sym c.before.found.given.1 ∙ c.before.before.before.extent-of-entries.ensures
+found-is : (c : tie.In-Sheet) → X.Sheet c.in-Sheet.entries c.in-Sheet.length ≡ extent_of
+    (list_whole c.args.l.now)
+found-is c = sym c.in-Sheet.is ∙ c.extent_of_entries-found.ensures
 
-returns : tie.Need-returns
-returns c = let told = c.enum_told.given.1 in
-    let x = write-refused (list_whole c.before.before.before.before.before.args.l.now)
-    c.before.before.before.before.before.args.buf.now _ (sym told ∙ c.before.before.extent-of-entries.ensures) in (told ∙ x.0, x.1)
+returns : tie.Need-returns-in_default
+returns c =
+    let x = write-refused (list_whole c.args.l.now)
+    c.args.buf.now _ (sym c.in_default.is ∙ c.extent_of_entries-found.ensures) in (c.in_default.is ∙ x.0, x.1)
 
-returns-2 : tie.Need-returns-2
-returns-2 c = write-short (list_whole c.before.before.before.before.before.before.before.args.l.now) _ _ _ (found-is c.before) c.if1.true
+returns-2 : tie.Need-returns-then-buf-length
+returns-2 c = write-short (list_whole c.args.l.now) _ _ _ (found-is c.before) c.if-buf-length.true
 
-write-records-requires : tie.Need-write-records-requires
+write-records-requires : tie.Need-write_records-requires
 write-records-requires c κs = rw (← list_same _ _ _ (found-is c.before.before))
-    (buffer-for (list_whole c.before.before.before.before.before.before.before.before.args.l.now) _ _ _ (found-is c.before.before)
-    c.before.if1.false)
+    (buffer-for (list_whole c.args.l.now) _ _ _ (found-is c.before.before)
+    c.if-buf-length.false)
 
-returns-3 : tie.Need-returns-3
+returns-3 : tie.Need-returns
 returns-3 c = let q = found-is c.before.before.before.before.before in
-    write-full (list_whole c.before.before.before.before.before.before.before.before.before.before.before.args.l.now)
-    c.before.before.before.before.before.before.before.before.before.before.before.args.buf.now _ _ _ q
-    c.before.before.before.before.if1.false
-    (c.before.before.write-records.ensures ∙ ap
-    (λ w. emitted w c.before.before.before.before.before.before.before.before.before.before.before.args.buf.now)
+    write-full (list_whole c.args.l.now)
+    c.args.buf.now _ _ _ q
+    c.if-buf-length.false
+    (c.write_records.ensures ∙ ap
+    (λ w. emitted w c.args.buf.now)
     (sym (list_same _ _ _ q))) (λ es k. list_length _ es _ (sym (list_same _ _ _ q) ∙ k))
 
 pub write_spec : {M : Type 1} → statement M

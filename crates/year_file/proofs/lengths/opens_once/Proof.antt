@@ -8,32 +8,32 @@ use borrow.Author.Rules.{rules}
 use Rattle.year_file.proofs.lengths.opens_once.Statement.{statement}
 use Rattle.year_file.proofs.lengths.opens_once.Tie as tie
 
-cast-code : tie.Need-overflow-cast-code
-cast-code c = omega (arith, c.shared-slice-known2.given c.before.before.args.at)
+cast-code : tie.Need-overflow_cast-code
+cast-code c = omega (arith, c.shared_slice_known-2-1.given c.args.at)
 
-returns : tie.Need-returns
+returns : tie.Need-returns-in_default
 returns c = λ e. absurd (distinct (sym e))
 
-returns-2 : tie.Need-returns-2
+returns-2 : tie.Need-returns-in_default-kind
 returns-2 c = λ e. absurd (distinct (sym e))
 
-returns-3 : tie.Need-returns-3
+returns-3 : tie.Need-returns-then-file-at
 returns-3 c = λ e. absurd (distinct (sym e))
 
-returns-4 : tie.Need-returns-4
+returns-4 : tie.Need-returns
 returns-4 c =
     let tested = c.before.before in
     let told = tested.before.before.before in
-    let kind = told.before.before.before in λ e.
+    let kind = told.before in λ e.
     record {
-      phase = told.enum-told2.given.0.0;
-      kind = sym kind.before.before.kind-for.ensures ∙ kind.kind.given.1 ∙ ap Named.Is told.enum-told2.given.1;
-      high = tested.if1.false;
+      phase = told.in-Open.field-0;
+      kind = sym kind.kind_for.ensures ∙ kind.in-Is.is ∙ ap Named.Is told.in-Open.is;
+      high = tested.if-file-at.false;
       low = eqb-true _ _ e;
     }
 
-pub opens-once-spec : {M : Type 1} → statement M
-opens-once-spec =
+pub opens_once_spec : {M : Type 1} → statement M
+opens_once_spec =
     tie.close
     (tie.spec (λ c. search rules) cast-code (λ c κs. search rules) (λ c. search rules) (λ c. search rules)
     returns (λ c. search rules) returns-2 (λ c. search rules) (λ c. search rules) (λ c. search rules)

@@ -5,21 +5,21 @@ use borrow.Author.Rules.{rules}
 use Rattle.year_file.proofs.lengths.sheet_at.Statement.{statement}
 use Rattle.year_file.proofs.lengths.sheet_at.Tie as tie
 
-returns : tie.Need-returns
-returns c = sym (c.before.is-again.ensures c.if1.true)
+returns : tie.Need-returns-then-is_again
+returns c = sym (c.is_again.ensures c.if-is_again.true)
 
-returns-2 : tie.Need-returns-2
+returns-2 : tie.Need-returns-in-Sheet
 returns-2 c =
-    let a = c.before.before.before.before.before.before.before.before.args in
-    found-one a.file.now a.at _ _ (sym c.before.found.given.1 ∙ c.before.before.before.extent-of-leading-sheet.ensures)
+    let a = c.args in
+    found-one a.file.now a.at _ _ (sym c.in-Sheet.is ∙ c.extent_of_leading_sheet-found.ensures)
 
-returns-3 : tie.Need-returns-3
+returns-3 : tie.Need-returns-in-Refused
 returns-3 c =
-    let a = c.before.before.before.before.before.before.before.args in
-    found_none a.file.now a.at _ (sym c.enum_told.given.1 ∙ c.before.before.extent-of-leading-sheet.ensures)
+    let a = c.args in
+    found_none a.file.now a.at _ (sym c.in-Refused.is ∙ c.extent_of_leading_sheet-found.ensures)
 
-pub sheet-at-spec : {M : Type 1} → statement M
-sheet-at-spec =
+pub sheet_at_spec : {M : Type 1} → statement M
+sheet_at_spec =
     tie.close
     (tie.spec (λ c κs. search rules) returns (λ c. search rules) (λ c. search rules) (λ c. search rules)
     (λ c κs. search rules) (λ c. search rules) (λ c. search rules) returns-2 returns-3)

@@ -38,38 +38,38 @@ in_table : (s : tie.Start) (e : Code) → T (ok (4295064494990 ∷ 20000 ∷ 99 
     → T (ok (4295064494990 ∷ 20000 ∷ 99 ∷ []) e) → Value (value (given s) e) 4295064826174 (run (given s) e)
 in_table s e t u = record { value = runs (bounds s) e u; size = within (bounds s) e 4295064826174 t }
 
-returns : tie.Need-returns
-returns c = rw (c.before.before.enum_told.given.1, c.enum-told2.given.1) (in_table c.before.before.before.before (arg 0) tt tt)
+returns : tie.Need-returns-in-ET
+returns c = rw (c.in-Ephemeris.is, c.in-ET.is) (in_table c.before.before (arg 0) tt tt)
 
-returns-2 : tie.Need-returns-2
-returns-2 c = rw (c.before.before.enum_told.given.1, c.enum-told3.given.1) (in_table c.before.before.before.before less tt tt)
+returns-2 : tie.Need-returns-in-UT
+returns-2 c = rw (c.in-Ephemeris.is, c.in-UT.is) (in_table c.before.before less tt tt)
 
-returns-3 : tie.Need-returns-3
-returns-3 c = rw (c.before.before.enum_told.given.1, c.enum-told4.given.1) (in_table c.before.before.before.before (utc (arg 0)) tt tt)
+returns-3 : tie.Need-returns-in-UTC
+returns-3 c = rw (c.in-Ephemeris.is, c.in-UTC.is) (in_table c.before.before (utc (arg 0)) tt tt)
 
-returns-4 : tie.Need-returns-4
-returns-4 c = rw (c.before.before.enum-told5.given.1, c.enum-told6.given.1) (in_table c.before.before.before.before more tt tt)
+returns-4 : tie.Need-returns-in-ET-shown
+returns-4 c = rw (c.in-Universal.is, c.in-ET-shown.is) (in_table c.before.before more tt tt)
 
-returns-5 : tie.Need-returns-5
-returns-5 c = rw (c.before.before.enum-told5.given.1, c.enum-told7.given.1) (in_table c.before.before.before.before (arg 0) tt tt)
+returns-5 : tie.Need-returns-in-UT-shown
+returns-5 c = rw (c.in-Universal.is, c.in-UT-shown.is) (in_table c.before.before (arg 0) tt tt)
 
-returns-6 : tie.Need-returns-6
-returns-6 c = rw (c.before.before.enum-told5.given.1, c.enum-told8.given.1) (in_table c.before.before.before.before (utc more) tt tt)
+returns-6 : tie.Need-returns-in-UTC-shown
+returns-6 c = rw (c.in-Universal.is, c.in-UTC-shown.is) (in_table c.before.before (utc more) tt tt)
 
-pub in-scale-spec : {M : Type 1} → statement M
-in-scale-spec =
+pub in_scale_spec : {M : Type 1} → statement M
+in_scale_spec =
     tie.close
     (tie.spec (λ c. search rules) (λ c. search rules) (λ c. search rules)
-    (λ c. fits (bounds c.before.before.before.before) ten tt)
-    (λ c. fits (bounds c.before.before.before.before) less tt) (λ c. search rules)
-    (λ c. fits (bounds c.before.before.before.before) (atomic (arg 0)) tt)
-    (λ c. fits (bounds c.before.before.before.before) seconds tt)
-    (λ c. fits (bounds c.before.before.before.before) (utc (arg 0)) tt) (λ c. search rules)
-    (λ c. search rules) (λ c. fits (bounds c.before.before.before.before) ten tt)
-    (λ c. fits (bounds c.before.before.before.before) more tt) (λ c. search rules) (λ c. search rules)
-    (λ c. fits (bounds c.before.before.before.before) ten tt)
-    (λ c. fits (bounds c.before.before.before.before) more tt)
-    (λ c. fits (bounds c.before.before.before.before) (atomic more) tt)
-    (λ c. fits (bounds c.before.before.before.before) seconds tt)
-    (λ c. fits (bounds c.before.before.before.before) (utc more) tt) returns returns-2 returns-3
+    (λ c. fits (bounds c.before.before) ten tt)
+    (λ c. fits (bounds c.before.before) less tt) (λ c. search rules)
+    (λ c. fits (bounds c.before.before) (atomic (arg 0)) tt)
+    (λ c. fits (bounds c.before.before) seconds tt)
+    (λ c. fits (bounds c.before.before) (utc (arg 0)) tt) (λ c. search rules)
+    (λ c. search rules) (λ c. fits (bounds c.before.before) ten tt)
+    (λ c. fits (bounds c.before.before) more tt) (λ c. search rules) (λ c. search rules)
+    (λ c. fits (bounds c.before.before) ten tt)
+    (λ c. fits (bounds c.before.before) more tt)
+    (λ c. fits (bounds c.before.before) (atomic more) tt)
+    (λ c. fits (bounds c.before.before) seconds tt)
+    (λ c. fits (bounds c.before.before) (utc more) tt) returns returns-2 returns-3
     returns-4 returns-5 returns-6)

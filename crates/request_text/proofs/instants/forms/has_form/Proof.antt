@@ -25,12 +25,12 @@ shared-slice-read-x c = omega (arith, c.loop-i.invariant.same)
 returns-2 : tie.Need-returns-then-not-fits invariant-loop decreases-loop
 returns-2 c =
     let turn = c.before.before.before.before in
-    fitting-not _ _ _ turn.loop-i.invariant turn.loop-i-test.true (sym c.fits2.ensures ∙ c.if-not-fits.true)
+    fitting-not _ _ _ turn.loop-i.invariant turn.loop-i-test.true (sym c.fits.ensures ∙ c.if-not-fits.true)
 
 loop-again : tie.Need-loop-i-preserved invariant-loop decreases-loop
 loop-again c =
     let turn = c.before.before.before.before in
-    fitting-more _ _ _ turn.loop-i.invariant turn.loop-i-test.true (sym c.fits2.ensures ∙ c.if-not-fits.false)
+    fitting-more _ _ _ turn.loop-i.invariant turn.loop-i-test.true (sym c.fits.ensures ∙ c.if-not-fits.false)
 
 returns-3 : tie.Need-returns invariant-loop decreases-loop
 returns-3 c = fitting-all _ _ _ c.loop-i.invariant c.loop-i-test.false

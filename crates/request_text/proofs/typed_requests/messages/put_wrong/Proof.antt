@@ -22,8 +22,4 @@ returns-5 c = put_wrong _ _ _ _ _ _ c.in-NeedsInstant.is c.put_text-in-NeedsInst
 pub put_wrong_spec : {M : Type 1} → statement M
 put_wrong_spec =
     tie.close
-    (tie.spec (λ c. search rules) (λ c. search rules) (λ c κs. search rules) (λ c. search rules)
-    (λ c. search rules) (λ c κs. search rules) (λ c. search rules) (λ c. search rules) (λ c κs. search rules)
-    (λ c. search rules) (λ c. search rules) (λ c κs. search rules) (λ c. search rules) (λ c. search rules)
-    (λ c κs. search rules) (λ c. search rules) returns (λ c. search rules) returns-2 (λ c. search rules)
-    returns-3 (λ c. search rules) returns-4 (λ c. search rules) returns-5)
+    (tie.spec (λ c. search rules) (λ c κs. search rules) (λ c. search rules) (λ c κs. search rules) (λ c. search rules) (λ c κs. search rules) (λ c. search rules) (λ c κs. search rules) (λ c. search rules) (λ c κs. search rules) (λ c. search rules) returns (λ c. search rules) returns-2 (λ c. search rules) returns-3 (λ c. search rules) returns-4 (λ c. search rules) returns-5)

@@ -22,7 +22,7 @@ returns-2 c =
     let r =
     message-kept _ _ start.requires start.args.message.now _ _ _ measured.put_reason-need.ensures.0 measured.put_reason-need.ensures.1
     tested.if-message-need.false _ _ put.put_reason.ensures.0 in
-    (ap Fault c.Line-of.ensures ∙ r.0, r.1)
+    (ap Fault c.line_of-line.ensures ∙ r.0, r.1)
 
 pub explain_spec : {M : Type 1} → statement M
 explain_spec =

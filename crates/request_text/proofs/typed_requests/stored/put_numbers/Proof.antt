@@ -15,21 +15,21 @@ same_length : tie.Need-shape_of-instant
 same_length c = length-sets c.args.instant.now 0 (_ ∷ _ ∷ _ ∷ _ ∷ _ ∷ _ ∷ [])
 
 returns : tie.Need-returns
-returns c = rw c.Numbers-of.ensures (six_stored c.args.reference c.args.instant.now c.requires)
+returns c = rw c.numbers_of-numbers.ensures (six_stored c.args.reference c.args.instant.now c.requires)
 
 pub put_numbers_spec : {M : Type 1} → statement M
 put_numbers_spec =
     tie.close
     (tie.spec (λ c κs. search rules)
-    (λ c. omega (arith, ap length c.Numbers-of.ensures, six_long c.args.reference))
+    (λ c. omega (arith, ap length c.numbers_of-numbers.ensures, six_long c.args.reference))
     (λ c. search rules)
-    (λ c. omega (arith, ap length c.Numbers-of.ensures, six_long c.args.reference))
+    (λ c. omega (arith, ap length c.numbers_of-numbers.ensures, six_long c.args.reference))
     (λ c. simp length-set (omega arith))
-    (λ c. omega (arith, ap length c.Numbers-of.ensures, six_long c.args.reference))
+    (λ c. omega (arith, ap length c.numbers_of-numbers.ensures, six_long c.args.reference))
     (λ c. simp length-set (omega arith))
-    (λ c. omega (arith, ap length c.Numbers-of.ensures, six_long c.args.reference))
+    (λ c. omega (arith, ap length c.numbers_of-numbers.ensures, six_long c.args.reference))
     (λ c. simp length-set (omega arith))
-    (λ c. omega (arith, ap length c.Numbers-of.ensures, six_long c.args.reference))
+    (λ c. omega (arith, ap length c.numbers_of-numbers.ensures, six_long c.args.reference))
     (λ c. simp length-set (omega arith))
-    (λ c. omega (arith, ap length c.Numbers-of.ensures, six_long c.args.reference))
+    (λ c. omega (arith, ap length c.numbers_of-numbers.ensures, six_long c.args.reference))
     (λ c. simp length-set (omega arith)) same_length returns)

@@ -7,7 +7,7 @@ use Rattle.year_file.proofs.kept.notes.put_eight.Tie as tie
 
 returns : tie.Need-returns
 returns c =
-    put_then _ _ _ _ _ _ _ _ (omega arith) c.before.before.before.before.before.before.put_four.ensures c.before.before.put-four2.ensures
+    put_then _ _ _ _ _ _ _ _ (omega arith) c.put_four-next.ensures c.put_four.ensures
 
-pub put-eight-spec : {M : Type 1} → statement M
-put-eight-spec = tie.close (tie.spec (λ c κs. search rules) (λ c κs. search rules) (λ c. search rules) returns)
+pub put_eight_spec : {M : Type 1} → statement M
+put_eight_spec = tie.close (tie.spec (λ c κs. search rules) (λ c κs. search rules) (λ c. search rules) returns)

@@ -7,7 +7,7 @@ use Rattle.year_file.proofs.kept.notes.put_four.Tie as tie
 
 returns : tie.Need-returns
 returns c =
-    put_then _ _ _ _ _ _ _ _ (omega arith) c.before.before.before.before.before.before.put_two.ensures c.before.before.put-two2.ensures
+    put_then _ _ _ _ _ _ _ _ (omega arith) c.put_two-next.ensures c.put_two.ensures
 
-pub put-four-spec : {M : Type 1} → statement M
-put-four-spec = tie.close (tie.spec (λ c κs. search rules) (λ c κs. search rules) (λ c. search rules) returns)
+pub put_four_spec : {M : Type 1} → statement M
+put_four_spec = tie.close (tie.spec (λ c κs. search rules) (λ c κs. search rules) (λ c. search rules) returns)

@@ -7,10 +7,10 @@ use Rattle.year_file.proofs.kept.notes.put_two.Tie as tie
 
 returns : tie.Need-returns
 returns c =
-    put_then _ _ _ _ _ _ _ _ (omega arith) c.before.before.before.before.before.before.put_byte.ensures c.before.before.put-byte2.ensures
+    put_then _ _ _ _ _ _ _ _ (omega arith) c.put_byte-next.ensures c.put_byte.ensures
 
-pub put-two-spec : {M : Type 1} → statement M
-put-two-spec =
+pub put_two_spec : {M : Type 1} → statement M
+put_two_spec =
     tie.close
     (tie.spec (λ c. search rules) (λ c. search rules) (λ c κs. search rules) (λ c κs. search rules)
     (λ c. search rules) returns)
