@@ -7,20 +7,20 @@ use Rattle.listings.proofs.listing.Statement.{statement}
 use Rattle.listings.proofs.listing.Tie as tie
 
 lay-requires : tie.Need-lay-requires
-lay-requires c κs = whole_sheet _ _ _ (sym c.before.enum_told.given.1 ∙ c.before.before.before.extent-of-sheet.ensures)
+lay-requires c κs = whole_sheet _ _ _ (sym c.in-Sheet.is ∙ c.extent_of_sheet-found.ensures)
 
-returns : tie.Need-returns
+returns : tie.Need-returns-in-Refused
 returns c =
-    let a = c.before.before.before.before.before.before.args in
-    whole_refused a.sheet.now _ a.out.now (sym c.before.found.given.1 ∙ c.before.before.before.extent-of-sheet.ensures)
+    let a = c.args in
+    whole_refused a.sheet.now _ a.out.now (sym c.in-Refused.is ∙ c.extent_of_sheet-found.ensures)
 
-returns-2 : tie.Need-returns-2
+returns-2 : tie.Need-returns-in-Sheet
 returns-2 c =
-    whole-told _ _ _ _ _ _ (sym c.before.before.before.before.enum_told.given.1 ∙ c.before.before.before.before.before.before.extent-of-sheet.ensures) c.before.before.lay.ensures.0
-    c.before.before.lay.ensures.1
+    whole-told _ _ _ _ _ _ (sym c.in-Sheet.is ∙ c.extent_of_sheet-found.ensures) c.lay.ensures.0
+    c.lay.ensures.1
 
-pub listing-spec : {M : Type 1} → statement M
-listing-spec =
+pub listing_spec : {M : Type 1} → statement M
+listing_spec =
     tie.close
     (tie.spec (λ c κs. search rules) (λ c. search rules) (λ c. search rules) lay-requires returns
     (λ c. search rules) returns-2)

@@ -9,7 +9,7 @@ use Rattle.listings.proofs.put_listing.Statement.{statement}
 use Rattle.listings.proofs.put_listing.Tie as tie
 
 returns : tie.Need-returns
-returns c = put_as _ _ _ _ _ _ (ap printed (timed-off (pos 0) _)) c.before.before.put-timed-listing.ensures
+returns c = put_as _ _ _ _ _ _ (ap printed (timed-off (pos 0) _)) c.put_timed_listing.ensures
 
-pub put-listing-spec : {M : Type 1} → statement M
-put-listing-spec = tie.close (tie.spec (λ c κs. search rules) (λ c. search rules) returns)
+pub put_listing_spec : {M : Type 1} → statement M
+put_listing_spec = tie.close (tie.spec (λ c κs. search rules) (λ c. search rules) returns)

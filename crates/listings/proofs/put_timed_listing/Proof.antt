@@ -9,25 +9,25 @@ use borrow.Author.Rules.{rules}
 use Rattle.listings.proofs.put_timed_listing.Statement.{statement}
 use Rattle.listings.proofs.put_timed_listing.Tie as tie
 
-put-lines-requires : tie.Need-put-lines-requires
-put-lines-requires c κs = whole_sheet _ _ _ (sym c.before.enum_told.given.1 ∙ c.before.before.before.extent-of-sheet.ensures)
+put-lines-requires : tie.Need-put_lines-lines-requires
+put-lines-requires c κs = whole_sheet _ _ _ (sym c.in-Sheet.is ∙ c.extent_of_sheet-found.ensures)
 
-returns : tie.Need-returns
+returns : tie.Need-returns-in-Refused
 returns c =
-    let f = c.before.before.before.before.before in
-    refused-printed _ _ _ _ _ _ _ _ _ (sym f.found.given.1 ∙ f.before.before.extent-of-sheet.ensures) c.before.before.put_refused.ensures
+    let f = c.before.before.before.before in
+    refused-printed _ _ _ _ _ _ _ _ _ (sym f.in-Refused.is ∙ f.extent_of_sheet-found.ensures) c.put_refused.ensures
 
-returns-2 : tie.Need-returns-2
+returns-2 : tie.Need-returns-in-Sheet
 returns-2 c =
     let notes = c.before.before in
     let lines = notes.before.before.before.before in
     let f = lines.before.before in
-    let a = f.before.before.before.before.before in
-    sheet-printed _ _ _ _ _ _ _ _ _ _ (sym f.enum_told.given.1 ∙ f.before.before.extent-of-sheet.ensures) (omega arith) _ _ _
-    (rw (to_z-of_z w64 a.args.deltat a.ranges.deltat) at lines.put-lines.ensures) notes.put-notes.ensures
+    let a = f.before.before.before.before in
+    sheet-printed _ _ _ _ _ _ _ _ _ _ (sym f.in-Sheet.is ∙ f.extent_of_sheet-found.ensures) (omega arith) _ _ _
+    (rw (to_z-of_z w64 a.args.deltat a.ranges.deltat) at lines.put_lines-lines.ensures) notes.put_notes.ensures
 
-pub put-timed-listing-spec : {M : Type 1} → statement M
-put-timed-listing-spec =
+pub put_timed_listing_spec : {M : Type 1} → statement M
+put_timed_listing_spec =
     tie.close
     (tie.spec (λ c κs. search rules) (λ c. search rules) (λ c κs. search rules) (λ c. search rules)
     put-lines-requires (λ c κs. search rules) (λ c. search rules) returns (λ c. search rules) returns-2)

@@ -82,10 +82,10 @@ between-each-second-requires t c κs =
     ((p.0, p.1, p.2, p.3, p.4, p.6), s.requires.1.1)
 
 between-same-length : (t : ℕ) → between-lts.Need-shape_of-runs-then-h-eq1 (claims t) (between-at t) between.Post
-between-same-length t c = c.each-second.ensures.1
+between-same-length t c = c.each_second.ensures.1
 
 between-returns : (t : ℕ) → between-lts.Need-returns-then-h-eq1 (claims t) (between-at t) between.Post
-between-returns t c = c.each-second.ensures
+between-returns t c = c.each_second.ensures
 
 between-clear-requires : (t : ℕ) → between-lts.Need-clear-shown-requires (claims t) (between-at t) between.Post
 between-clear-requires t c κs =
@@ -145,10 +145,10 @@ between-each-second-requires-2 t c κs =
     ((p.0, p.1, p.2, p.3, p.4, p.6), s.requires.1.1)
 
 between-same-length-3 : (t : ℕ) → between-lts.Need-shape_of-runs-then-h-few (claims t) (between-at t) between.Post
-between-same-length-3 t c = c.each-second2.ensures.1
+between-same-length-3 t c = c.each_second-then-h-few.ensures.1
 
 between-returns-3 : (t : ℕ) → between-lts.Need-returns-then-h-few (claims t) (between-at t) between.Post
-between-returns-3 t c = c.each-second2.ensures
+between-returns-3 t c = c.each_second-then-h-few.ensures
 
 between-cut-at-requires : (t : ℕ) → between-lts.Need-cut_at-m-requires (claims t) (between-at t) between.Post
 between-cut-at-requires t c κs =
@@ -174,7 +174,7 @@ between-nearer-requires t c κs =
     let o = s.args.o in
     let p = s.requires.1.0 in
     let k = c.cut_at-m.result in
-    let x = c.sample-of in
+    let x = c.sample_of-s in
     let z = x.ensures.m.size in (
       s.requires.1.1.1.reached.few,
       read-size x.result.m 1000000000000000000 z tt,
@@ -187,8 +187,8 @@ between-between-requires t c κs =
     let s = c.before.before.before.before.before.before.before.before.before.before.before.before.before.before.before.before.before in
     let o = s.args.o in
     let p = s.requires.1.0 in
-    let cut = c.cut_at in
-    let x = c.sample-of in
+    let cut = c.cut_at-m in
+    let x = c.sample_of-s in
     let a = rw (read_back x.result.m x.ensures.m.size tt) at c.nearer-lower.ensures in (
       omega (arith, s.requires.0, cut.ensures.0, cut.ensures.1),
       (
@@ -201,10 +201,10 @@ between-between-requires-2 : (t : ℕ) → between-lts.Need-between-requires (cl
 between-between-requires-2 t c κs =
     let s = c.before.before.before.before.before.before.before.before.before.before.before.before.before.before.before.before.before.before.before.before.before in
     let p = s.requires.1.0 in
-    let cut = c.cut_at in
+    let cut = c.cut_at-m in
     let e = c.between-half.ensures in (
       omega (arith, s.requires.0, cut.ensures.0, cut.ensures.1),
-      ((p.0, p.1, p.2, cut.ensures.1, p.4, c.sample-of.ensures, p.6), (omega (arith, e.1, s.requires.1.1.0), e.0)),
+      ((p.0, p.1, p.2, cut.ensures.1, p.4, c.sample_of-s.ensures, p.6), (omega (arith, e.1, s.requires.1.1.0), e.0)),
     )
 
 between-same-length-4 : (t : ℕ) → between-lts.Need-shape_of-runs (claims t) (between-at t) between.Post

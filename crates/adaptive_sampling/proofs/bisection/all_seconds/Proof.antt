@@ -34,7 +34,7 @@ returns c =
     let x = c.before.before.before.before.before in
     let o = (start (counted x)).args.o in
     let r = c.few_seconds in
-    (subst (λ (n : ℕ). Kept o (n - 1) r.new.1.1.1.0 r.result) (counted x).second_count-n.ensures r.ensures.0, r.ensures.1)
+    (subst (λ (n : ℕ). Kept o (n - 1) r.new.runs r.result) (counted x).second_count-n.ensures r.ensures.0, r.ensures.1)
 
 nearly-closest-requires : tie.Need-nearly_closest-least-requires
 nearly-closest-requires c κs =
@@ -69,7 +69,7 @@ returns-2 c =
     let x = c.before.before.before.before.before.before.before.before.before in
     let o = (start (counted x)).args.o in
     let r = c.stretches in
-    (subst (λ (n : ℕ). Kept o (n - 1) r.new.1.1.1.1.0 r.result) (counted x).second_count-n.ensures r.ensures.0, r.ensures.1)
+    (subst (λ (n : ℕ). Kept o (n - 1) r.new.runs r.result) (counted x).second_count-n.ensures r.ensures.0, r.ensures.1)
 
 pub all_seconds_spec : {M : Type 1} → statement M
 all_seconds_spec =

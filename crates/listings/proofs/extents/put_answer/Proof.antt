@@ -6,7 +6,7 @@ use Rattle.listings.proofs.extents.put_answer.Statement.{statement}
 use Rattle.listings.proofs.extents.put_answer.Tie as tie
 
 returns : tie.Need-returns
-returns c = joined (omega arith) c.before.before.before.before.before.before.put-text.ensures c.before.before.put-extent.ensures
+returns c = joined (omega arith) c.put_text-next.ensures c.put_extent.ensures
 
-pub put-answer-spec : {M : Type 1} → statement M
-put-answer-spec = tie.close (tie.spec (λ c κs. search rules) (λ c κs. search rules) (λ c. search rules) returns)
+pub put_answer_spec : {M : Type 1} → statement M
+put_answer_spec = tie.close (tie.spec (λ c κs. search rules) (λ c κs. search rules) (λ c. search rules) returns)

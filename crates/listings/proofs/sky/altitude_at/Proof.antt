@@ -16,31 +16,31 @@ read : (c : tie.Start) → to_z w64 (of_z w64 c.args.t) ≡ c.args.t
 read c = to_z-of_z w64 c.args.t c.ranges.t
 
 -- the altitude, read from its bits
-altitude-is : (c : tie.After-struct-told) → to_z w64 (of_z w64 c.before.before.found.given.0.0.altitude) ≡ c.before.before.found.given.0.0.altitude
-altitude-is c = read_result c.before.before.found.given.0.0.altitude c.struct_told.given.0.1
+altitude-is : (c : tie.After-struct_told-1) → to_z w64 (of_z w64 c.in-Is.h.altitude) ≡ c.in-Is.h.altitude
+altitude-is c = read_result c.in-Is.h.altitude c.struct_told-1.given.0.1
 
-altitude-by-requires : tie.Need-altitude-by-requires
+altitude-by-requires : tie.Need-altitude_by-requires
 altitude-by-requires c κs =
-    let f = c.before.before in
-    omega (arith, found_small _ _ _ _ (sym f.found.given.1 ∙ f.before.before.before.horizon-at.ensures.0), ap nat_abs (altitude-is c))
+    let f = c.before in
+    omega (arith, found_small _ _ _ _ (sym f.in-Is.is ∙ f.horizon_at-found.ensures.0), ap nat_abs (altitude-is c))
 
-returns : tie.Need-returns
+returns : tie.Need-returns-in-Is
 returns c =
-    let f = c.before.before.before in
-    let h = f.before.before.before in
+    let f = c.before.before in
+    let h = f.before.before in
     let s = h.before.before in
-    c.altitude-by.ensures ∙ ap altitude_by (altitude-is c.before)
-    ∙ altitude-found _ _ _ s.sines-room.ensures.is _ (sym f.found.given.1 ∙ h.horizon-at.ensures.0)
+    c.altitude_by.ensures ∙ ap altitude_by (altitude-is c.before)
+    ∙ altitude-found _ _ _ s.sines_room-sines.ensures.is _ (sym f.in-Is.is ∙ h.horizon_at-found.ensures.0)
     ∙ ap (altitude_at _) (read s.before)
 
-returns-2 : tie.Need-returns-2
+returns-2 : tie.Need-returns-in-Refused
 returns-2 c =
-    let h = c.before.before.before in
+    let h = c.before.before in
     let s = h.before.before in
-    altitude-found _ _ _ s.sines-room.ensures.is _ (sym c.enum_told.given.1 ∙ h.horizon-at.ensures.0) ∙ ap (altitude_at _) (read s.before)
+    altitude-found _ _ _ s.sines_room-sines.ensures.is _ (sym c.in-Refused.is ∙ h.horizon_at-found.ensures.0) ∙ ap (altitude_at _) (read s.before)
 
-pub altitude-at-spec : {M : Type 1} → statement M
-altitude-at-spec =
+pub altitude_at_spec : {M : Type 1} → statement M
+altitude_at_spec =
     tie.close
     (tie.spec (λ c κs. search rules) (λ c. search rules) (λ c κs. search rules) (λ c. search rules)
     altitude-by-requires (λ c. search rules) returns returns-2)

@@ -18,22 +18,22 @@ bounds c = c.requires ▹ ends
 abbrev opposed : Code
 opposed = sub (lit (pos 0)) (arg 0)
 
-under : (c : tie.Then1) → c.before.args.altitude <ℤ pos 0
-under c = taken-< (bounds c.before) (arg 0) (lit (pos 0)) tt c.if1.true
+under : (c : tie.Then-altitude-lt0) → c.args.altitude <ℤ pos 0
+under c = taken-< (bounds c.before) (arg 0) (lit (pos 0)) tt c.if-altitude-lt0.true
 
-over : (c : tie.Else1) → pos 0 ≤ℤ c.before.args.altitude
-over c = left-< (bounds c.before) (arg 0) (lit (pos 0)) tt c.if1.false
+over : (c : tie.Else-altitude-lt0) → pos 0 ≤ℤ c.args.altitude
+over c = left-< (bounds c.before) (arg 0) (lit (pos 0)) tt c.if-altitude-lt0.false
 
 opposed-above : (z : ℤ) → z <ℤ pos 0 → pos 0 ≤ℤ (pos 0 -ℤ z)
 opposed-above z h = omega (arith, zs, (is_minus (is_self (pos 0)) (is_self z)).is)
 
-returns : tie.Need-returns
+returns : tie.Need-returns-then-altitude-lt0
 returns c =
     let b = bounds c.before in
     below-is _ _ (under c) (sym (nonneg_nat_abs _ (opposed-above _ (under c)) ∙ ap (λ z. pos (nat_abs z)) (sym (runs b opposed tt))))
 
-returns-2 : tie.Need-returns-2
+returns-2 : tie.Need-returns
 returns-2 c = above-is _ _ (over c) (ap nat_abs (runs (bounds c.before) (arg 0) tt))
 
-pub altitude-by-spec : {M : Type 1} → statement M
-altitude-by-spec = tie.close (tie.spec (λ c. fits (bounds c.before) opposed tt) (λ c. unsigned (bounds c.before) opposed tt (opposed-above _ (under c))) returns (λ c. unsigned (bounds c.before) (arg 0) tt (over c)) returns-2)
+pub altitude_by_spec : {M : Type 1} → statement M
+altitude_by_spec = tie.close (tie.spec (λ c. fits (bounds c.before) opposed tt) (λ c. unsigned (bounds c.before) opposed tt (opposed-above _ (under c))) returns (λ c. unsigned (bounds c.before) (arg 0) tt (over c)) returns-2)

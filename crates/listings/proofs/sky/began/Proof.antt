@@ -7,9 +7,9 @@ use Rattle.listings.proofs.sky.began.Statement.{statement}
 use Rattle.listings.proofs.sky.began.Tie as tie
 
 returns : tie.Need-returns
-returns c = c.inside-at.ensures ∙ ap (inside_at _) (read_result _ c.before.struct_told.given.0.1)
+returns c = c.inside_at.ensures ∙ ap (inside_at _) (read_result _ c.struct_told-1.given.0.1)
 
-pub began-spec : {M : Type 1} → statement M
-began-spec =
+pub began_spec : {M : Type 1} → statement M
+began_spec =
     tie.close
     (tie.spec (λ c κs. search rules) returns)

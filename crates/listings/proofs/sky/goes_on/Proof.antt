@@ -7,9 +7,9 @@ use Rattle.listings.proofs.sky.goes_on.Statement.{statement}
 use Rattle.listings.proofs.sky.goes_on.Tie as tie
 
 returns : tie.Need-returns
-returns c = c.inside-at.ensures ∙ ap (inside_at _) (read_result _ c.before.struct_told.given.1.0.1)
+returns c = c.inside_at.ensures ∙ ap (inside_at _) (read_result _ c.struct_told-1.given.1.0.1)
 
-pub goes-on-spec : {M : Type 1} → statement M
-goes-on-spec =
+pub goes_on_spec : {M : Type 1} → statement M
+goes_on_spec =
     tie.close
     (tie.spec (λ c κs. search rules) returns)

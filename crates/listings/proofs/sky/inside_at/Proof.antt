@@ -12,20 +12,20 @@ use Rattle.listings.proofs.sky.inside_at.Tie as tie
 read : (c : tie.Start) → to_z w64 (of_z w64 c.args.t) ≡ c.args.t
 read c = to_z-of_z w64 c.args.t c.ranges.t
 
-returns : tie.Need-returns
+returns : tie.Need-returns-in-Is
 returns c =
-    let h = c.before.before.before.before in
+    let h = c.before.before in
     let s = h.before.before in
-    inside_found _ _ _ s.sines-room.ensures.is _ (sym c.before.found.given.1 ∙ h.second.ensures.0) ∙ ap (inside_at _) (read s.before)
+    inside_found _ _ _ s.sines_room-sines.ensures.is _ (sym c.in-Is.is ∙ h.second-found.ensures.0) ∙ ap (inside_at _) (read s.before)
 
-returns-2 : tie.Need-returns-2
+returns-2 : tie.Need-returns-in-Refused
 returns-2 c =
-    let h = c.before.before.before in
+    let h = c.before.before in
     let s = h.before.before in
-    inside_found _ _ _ s.sines-room.ensures.is _ (sym c.enum_told.given.1 ∙ h.second.ensures.0) ∙ ap (inside_at _) (read s.before)
+    inside_found _ _ _ s.sines_room-sines.ensures.is _ (sym c.in-Refused.is ∙ h.second-found.ensures.0) ∙ ap (inside_at _) (read s.before)
 
-pub inside-at-spec : {M : Type 1} → statement M
-inside-at-spec =
+pub inside_at_spec : {M : Type 1} → statement M
+inside_at_spec =
     tie.close
     (tie.spec (λ c κs. search rules) (λ c. search rules) (λ c κs. search rules) (λ c. search rules)
     (λ c. search rules) returns returns-2)

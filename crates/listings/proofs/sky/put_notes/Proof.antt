@@ -5,14 +5,14 @@ use borrow.Author.Rules.{rules}
 use Rattle.listings.proofs.sky.put_notes.Statement.{statement}
 use Rattle.listings.proofs.sky.put_notes.Tie as tie
 
-returns : tie.Need-returns
-returns c = rw c.enum_told.given.1 (put_nil _ _ (omega arith))
+returns : tie.Need-returns-in-Nothing
+returns c = rw c.in-Nothing.is (put_nil _ _ (omega arith))
 
-returns-2 : tie.Need-returns-2
-returns-2 c = rw c.before.before.before.before.before.sky.given.1 c.before.before.put-notes-of.ensures
+returns-2 : tie.Need-returns-in-Over
+returns-2 c = rw c.in-Over.is c.put_notes_of.ensures
 
-pub put-notes-spec : {M : Type 1} → statement M
-put-notes-spec =
+pub put_notes_spec : {M : Type 1} → statement M
+put_notes_spec =
     tie.close
     (tie.spec (λ c. search rules) (λ c. search rules) (λ c κs. search rules) returns (λ c. search rules)
     returns-2)

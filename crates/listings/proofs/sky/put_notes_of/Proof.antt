@@ -12,12 +12,10 @@ returns c =
     let second = last.before.before.before.before.before.before in
     let first = second.before.before.before.before.before.before in
     let ends = first.before.before.before.before in
-    put_as _ _ _ _ _ _ (notes_are _ _ _ _ _ ends.before.before.is_below.ensures ends.before.began.ensures ends.goes_on.ensures)
-    (joined (omega arith) (joined (omega arith) first.put-note.ensures second.put-note2.ensures) last.put-note3.ensures)
+    put_as _ _ _ _ _ _ (notes_are _ _ _ _ _ ends.is_below-low.ensures ends.began-early.ensures ends.goes_on-late.ensures)
+    (joined (omega arith) (joined (omega arith) first.put_note-before.ensures second.put_note-after.ensures) last.put_note.ensures)
 
-pub put-notes-of-spec : {M : Type 1} → statement M
-put-notes-of-spec =
+pub put_notes_of_spec : {M : Type 1} → statement M
+put_notes_of_spec =
     tie.close
-    (tie.spec (λ c κs. search rules) (λ c κs. search rules) (λ c κs. search rules) (λ c. search rules)
-    (λ c. search rules) (λ c κs. search rules) (λ c. search rules) (λ c. search rules) (λ c κs. search rules)
-    (λ c. search rules) (λ c. search rules) (λ c κs. search rules) (λ c. search rules) returns)
+    (tie.spec (λ c κs. search rules) (λ c κs. search rules) (λ c κs. search rules) (λ c κs. search rules) (λ c κs. search rules) (λ c κs. search rules) (λ c. search rules) returns)

@@ -6,13 +6,13 @@ use borrow.Author.Rules.{rules}
 use Rattle.listings.proofs.sky.view_after.Statement.{statement}
 use Rattle.listings.proofs.sky.view_after.Tie as tie
 
-returns : tie.Need-returns
+returns : tie.Need-returns-then-is_contact
 returns c =
     let t = c.before.before in
-    c.seen-after.ensures ∙ view-contact _ _ _ (sym (ap is_contact t.before.shown-for.ensures) ∙ sym t.is-contact.ensures ∙ c.before.if1.true)
+    c.seen_after.ensures ∙ view-contact _ _ _ (sym (ap is_contact t.shown_for-shown.ensures) ∙ sym t.is_contact.ensures ∙ c.if-is_contact.true)
 
-returns-2 : tie.Need-returns-2
-returns-2 c = view-other _ _ _ (sym (ap is_contact c.before.before.shown-for.ensures) ∙ sym c.before.is-contact.ensures ∙ c.if1.false)
+returns-2 : tie.Need-returns
+returns-2 c = view-other _ _ _ (sym (ap is_contact c.shown_for-shown.ensures) ∙ sym c.is_contact.ensures ∙ c.if-is_contact.false)
 
-pub view-after-spec : {M : Type 1} → statement M
-view-after-spec = tie.close (tie.spec (λ c κs. search rules) (λ c κs. search rules) (λ c κs. search rules) returns returns-2)
+pub view_after_spec : {M : Type 1} → statement M
+view_after_spec = tie.close (tie.spec (λ c κs. search rules) (λ c κs. search rules) (λ c κs. search rules) returns returns-2)
