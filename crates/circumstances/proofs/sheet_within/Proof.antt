@@ -18,36 +18,36 @@ use Rattle.circumstances.proofs.sheet_within.Tie as tie
 room : (o : Occultation) → InLimits o → second_count o.window ≤ length (replicate {A = ℕ} 21601 0)
 room o i = omega (arith, seconds-few o.window i.window, length-replicate {A = ℕ} 21601 0)
 
-fill-requires : tie.Need-fill-requires
+fill-requires : tie.Need-fill-known-requires
 fill-requires c κs =
     let b = c.before.before.before.before.before in
-    (b.requires.0, b.requires.1, c.before.geocentric.ensures, room b.args.o b.requires.1)
+    (b.requires.0, b.requires.1, c.geocentric-place.ensures, room b.args.o b.requires.1)
 
-slice-aggregate-sheet-from : tie.Need-slice-aggregate-sheet-from
+slice-aggregate-sheet-from : tie.Need-slice_bounds-sheet_from-end
 slice-aggregate-sheet-from c =
     let f = c.before.before in
-    sym (length-take-le f.fill.result.count f.fill.new.1.1.1.0 f.fill.ensures.0.count)
+    sym (length-take-le f.fill-known.result.count f.fill-known.new.runs f.fill-known.ensures.0.count)
 
-sheet-from-requires : tie.Need-sheet-from-requires
+sheet-from-requires : tie.Need-sheet_from-requires
 sheet-from-requires c κs =
     let f = c.before.before.before in
     let g = f.before.before in
     let b = g.before.before.before.before in (
-      (b.requires.0, b.requires.1, g.geocentric.ensures, f.fill.ensures.0.closest),
-      f.fill.ensures.0.states,
+      (b.requires.0, b.requires.1, g.geocentric-place.ensures, f.fill-known.ensures.0.closest),
+      f.fill-known.ensures.0.states,
     )
 
-same_length : tie.Need-same-length
+same_length : tie.Need-shape_of-buf
 same_length c =
     let b = c.before.before.before.before.before.before.before.before.before.before.before.before in
-    ap length c.before.before.sheet-from.ensures.1 ∙ buffer-length b.args.o b.args.buf.now
+    ap length c.sheet_from.ensures.1 ∙ buffer-length b.args.o b.args.buf.now
 
 returns : tie.Need-returns
-returns c = (c.before.before.sheet-from.ensures.0, c.before.before.sheet-from.ensures.1)
+returns c = (c.sheet_from.ensures.0, c.sheet_from.ensures.1)
 
-pub sheet-within-spec : {M : Type 1} → statement M
-sheet-within-spec =
+pub sheet_within_spec : {M : Type 1} → statement M
+sheet_within_spec =
     tie.close
     (tie.spec (λ c κs. search rules) (λ c. search rules) fill-requires
-    (λ c. c.before.fill.ensures.0.count) slice-aggregate-sheet-from sheet-from-requires same_length
+    (λ c. c.fill-known.ensures.0.count) slice-aggregate-sheet-from sheet-from-requires same_length
     returns)

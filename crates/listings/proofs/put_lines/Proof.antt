@@ -47,10 +47,8 @@ returns-2 : tie.Need-returns-then-is_end invariant-loop decreases-loop
 returns-2 c =
     let p = c.before.before.before.before in
     let x = seen p in
-    let l = x.before.before.before.before.before in
-    let a = l.before.before.before in
-    rw (to_z-of_z w64 a.args.deltat a.ranges.deltat) at
-    (laying-end _ _ _ _ _ _ _ _ _ _ l.loop-entry.invariant _ _ (took x.before) _ x.altitude_for-altitude.ensures _ _ p.put_entry-at.ensures
+    rw (to_z-of_z w64 x.args.deltat x.ranges.deltat) at
+    (laying-end _ _ _ _ _ _ _ _ _ _ x.loop-entry.invariant _ _ (took x.before) _ x.altitude_for-altitude.ensures _ _ p.put_entry-at.ensures
     _ p.view_after-view.ensures (sym c.is_end.ensures ∙ c.if-is_end.true))
 
 loop-less : tie.Need-loop-entry-smaller invariant-loop decreases-loop

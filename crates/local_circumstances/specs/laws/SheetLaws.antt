@@ -49,6 +49,7 @@ star_in_order = tt
 pub no_star_in_eclipse : Listed Star eclipse → ⊥
 no_star_in_eclipse (inl e) = let z : ◌≡◌ {A = ℕ} 0 1 = cc in omega arith
 no_star_in_eclipse (inr (inl e)) = let z : ◌≡◌ {A = ℕ} 0 1 = cc in omega arith
+no_star_in_eclipse (inr (inr x)) = elim x [ ]
 
 -- the last turn of contacts as a reader keeps it
 abbrev crossing : Turn → Crossing

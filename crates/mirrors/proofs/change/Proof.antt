@@ -15,11 +15,11 @@ returns c =
     let t3 = t4.before.before in
     let t2 = t3.before.before in
     let t1 = t2.before.before in
-    c.turn8.ensures
-    ∙ rw (t7.turn7.ensures, t6.turn6.ensures, t5.turn5.ensures, t4.turn4.ensures, t3.turn3.ensures, t2.turn2.ensures, t1.turn.ensures)
+    c.turn-8.ensures
+    ∙ rw (t7.turn-7.ensures, t6.turn-6.ensures, t5.turn-5.ensures, t4.turn-4.ensures, t3.turn-3.ensures, t2.turn-2.ensures, t1.turn.ensures)
 
-pub change-spec : {M : Type 1} → statement M
-change-spec =
+pub change_spec : {M : Type 1} → statement M
+change_spec =
     tie.close
     (tie.spec (λ c κs. search rules) (λ c κs. search rules) (λ c κs. search rules) (λ c κs. search rules)
     (λ c κs. search rules) (λ c κs. search rules) (λ c κs. search rules) (λ c κs. search rules) returns)

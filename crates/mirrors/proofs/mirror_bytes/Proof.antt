@@ -13,42 +13,42 @@ use Rattle.mirrors.proofs.mirror_bytes.Statement.{statement}
 use Rattle.mirrors.proofs.mirror_bytes.Tie as tie
 
 -- the bytes that are given, and the numbers they have
-bytes : (c : tie.After-enum-told2) → Bytes c.before.before.before.before.before.before.args.request.now
-bytes c = λ i. let b = c.before.before.before.before.before.shared-slice-known.given i in omega arith
+bytes : (c : tie.In_default) → Bytes c.args.request.now
+bytes c = λ i. let b = c.shared_slice_known-1.given i in omega arith
 
-shaped : (c : tie.After-enum-told2) → reading_of c.before.before.before.before.before.before.args.request.now ≡ numbers c.before.before.get.new.1.0
+shaped : (c : tie.In_default) → reading_of c.args.request.now ≡ numbers c.get-got.new.out
 shaped c =
-    let g = c.before.before.get in
-    reading-is _ _ _ (sym g.ensures.0 ∙ c.enum-told2.given.1) g.ensures.1
+    let g = c.get-got in
+    reading-is _ _ _ (sym g.ensures.0 ∙ c.in_default.is) g.ensures.1
 
 -- what is put is the mirror
-abbrev told : (c : tie.After-put) → tie.After-enum-told2
+abbrev told : (c : tie.After-put) → tie.In_default
 told c = c.before.before.before.before.before.before
 
-made-is : (c : tie.After-put) → c.put.new.1.0 ≡ mirror_bytes (request_from (told c).before.before.get.new.1.0)
+made-is : (c : tie.After-put) → c.put.new.out ≡ mirror_bytes (request_from (told c).get-got.new.out)
 made-is c =
     let h = c.before.before.before in
     mirror-put _ (bytes (told c)) _ (shaped (told c)) _ _ _ h.change.ensures c.put.ensures.1
 
-made-length : (c : tie.After-put) → length c.put.new.1.0 ≡ 115
+made-length : (c : tie.After-put) → length c.put.new.out ≡ 115
 made-length c = ap length (made-is c) ∙ mirror-length _ (bytes (told c)) _ (shaped (told c))
 
-returns : tie.Need-returns
-returns c = misshaped_room _ _ (sym c.before.before.get.ensures.0 ∙ c.enum_told.given.1)
+returns : tie.Need-returns-in-Misshaped
+returns c = misshaped_room _ _ (sym c.get-got.ensures.0 ∙ c.in-Misshaped.is)
 
-returns-2 : tie.Need-returns-2
+returns-2 : tie.Need-returns-then-room-lt-LENGTH
 returns-2 c =
     let t = c.before in
-    room-short _ (bytes t) _ (shaped t) _ (omega (arith, c.if1.true))
+    room-short _ (bytes t) _ (shaped t) _ (omega (arith, c.if-room-lt-LENGTH.true))
 
-returns-3 : tie.Need-returns-3
+returns-3 : tie.Need-returns
 returns-3 c =
     let p = c.before.before.before.before.before in
     let t = told p in
-    room-enough _ (bytes t) _ (shaped t) _ (omega (arith, p.before.before.before.before.before.if1.false)) _ _ (made-is p) c.before.before.put-text.ensures.room
+    room-enough _ (bytes t) _ (shaped t) _ (omega (arith, p.if-room-lt-LENGTH.false)) _ _ (made-is p) c.put_text.ensures.room
 
-pub mirror-bytes-spec : {M : Type 1} → statement M
-mirror-bytes-spec =
+pub mirror_bytes_spec : {M : Type 1} → statement M
+mirror_bytes_spec =
     tie.close
     (tie.spec (λ c κs. search rules) (λ c. search rules) returns (λ c. search rules) returns-2
     (λ c κs. search rules) (λ c κs. search rules) (λ c. sym (made-length c.before.before))

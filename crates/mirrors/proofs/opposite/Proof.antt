@@ -43,41 +43,41 @@ module _ (c : tie.Start) where
   bounds : Within (whole most ∷ []) (9223372036854775807 ∷ [])
   bounds = small most c.requires c.ranges.most ▹ ends
 
-sub-if1 : tie.Need-overflow-sub-if1
+sub-if1 : tie.Need-overflow_sub-most
 sub-if1 c = fits (bounds c) (sub (lit (pos 0)) (arg 0)) tt
 
-returns : tie.Need-returns
+returns : tie.Need-returns-then-n-most
 returns c =
     let s = c.before in
-    let l = lt_z_true (n s) (pos 0 -ℤ most s) (rw (to_z-of_z w64 (n s) s.ranges.n, runs (bounds s) (sub (lit (pos 0)) (arg 0)) tt) at c.if1.true) in
+    let l = lt_z_true (n s) (pos 0 -ℤ most s) (rw (to_z-of_z w64 (n s) s.ranges.n, runs (bounds s) (sub (lit (pos 0)) (arg 0)) tt) at c.if-n-most.true) in
     to_z-of_z w64 (n s) s.ranges.n ∙ sym (opposite-keeps (nat_abs (most s)) (n s) (too-low (n s) (most s) s.requires l))
 
-returns-2 : tie.Need-returns-2
+returns-2 : tie.Need-returns-then-most-n
 returns-2 c =
     let s = c.before.before in
-    let l = lt_z_true (most s) (n s) (rw (to_z-of_z w64 (n s) s.ranges.n, to_z-of_z w64 (most s) s.ranges.most) at c.if2.true) in
+    let l = lt_z_true (most s) (n s) (rw (to_z-of_z w64 (n s) s.ranges.n, to_z-of_z w64 (most s) s.ranges.most) at c.if-most-n.true) in
     to_z-of_z w64 (n s) s.ranges.n ∙ sym (opposite-keeps (nat_abs (most s)) (n s) (too-high (n s) (most s) s.requires l))
 
-inside : (c : tie.Else2) → nat_abs (n c.before.before) ≤ nat_abs (most c.before.before)
+inside : (c : tie.Else-most-n) → nat_abs (n c.before.before) ≤ nat_abs (most c.before.before)
 inside c =
     let s = c.before.before in
-    let l = lt_z_false (n s) (pos 0 -ℤ most s) (rw (to_z-of_z w64 (n s) s.ranges.n, runs (bounds s) (sub (lit (pos 0)) (arg 0)) tt) at c.before.if1.false) in
-    let u = lt_z_false (most s) (n s) (rw (to_z-of_z w64 (n s) s.ranges.n, to_z-of_z w64 (most s) s.ranges.most) at c.if2.false) in
+    let l = lt_z_false (n s) (pos 0 -ℤ most s) (rw (to_z-of_z w64 (n s) s.ranges.n, runs (bounds s) (sub (lit (pos 0)) (arg 0)) tt) at c.if-n-most.false) in
+    let u = lt_z_false (most s) (n s) (rw (to_z-of_z w64 (n s) s.ranges.n, to_z-of_z w64 (most s) s.ranges.most) at c.if-most-n.false) in
     between (n s) (most s) s.requires l u
 
-inside-bounds : (c : tie.Else2) → Within (whole (n c.before.before) ∷ []) (9223372036854775807 ∷ [])
+inside-bounds : (c : tie.Else-most-n) → Within (whole (n c.before.before) ∷ []) (9223372036854775807 ∷ [])
 inside-bounds c =
     let s = c.before.before in
     let l : nat_abs (n s) ≤ 9223372036854775807 = omega (arith, inside c, small (most s) s.requires s.ranges.most) in
     l ▹ ends
 
-sub-result : tie.Need-overflow-sub-result
+sub-result : tie.Need-overflow_sub-result
 sub-result c = fits (inside-bounds c) (sub (lit (pos 0)) (arg 0)) tt
 
-returns-3 : tie.Need-returns-3
+returns-3 : tie.Need-returns
 returns-3 c =
     let s = c.before.before in
     runs (inside-bounds c) (sub (lit (pos 0)) (arg 0)) tt ∙ minus (n s) ∙ sym (opposite-is (nat_abs (most s)) (n s) (inside c))
 
-pub opposite-spec : {M : Type 1} → statement M
-opposite-spec = tie.close (tie.spec sub-if1 returns returns-2 sub-result returns-3)
+pub opposite_spec : {M : Type 1} → statement M
+opposite_spec = tie.close (tie.spec sub-if1 returns returns-2 sub-result returns-3)

@@ -11,7 +11,7 @@ use Rattle.mirrors.proofs.turn.Tie as tie
 returns : tie.Need-returns
 returns c =
     let s = c.before.before in
-    let x = c.before.n.given in
+    let x = c.n-1.given in
     rw (opposite_back 2147483647 (lit≤ tt) (get_or s.args.numbers.now s.args.k (pos 0)) c.opposite.result x c.opposite.ensures)
 
 pub turn_spec : {M : Type 1} → statement M

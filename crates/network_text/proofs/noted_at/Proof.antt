@@ -3,11 +3,11 @@ use borrow.Author.Rules.{rules}
 use Rattle.network_text.proofs.noted_at.Statement.{statement}
 use Rattle.network_text.proofs.noted_at.Tie as tie
 
-returns : tie.Need-returns
-returns c = rw c.before.noted.given.1
+returns : tie.Need-returns-in-Refused
+returns c = rw c.in-Refused.is
 
-returns-2 : tie.Need-returns-2
+returns-2 : tie.Need-returns
 returns-2 c = search rules
 
-pub noted-at-spec : {M : Type 1} → statement M
-noted-at-spec = tie.close (tie.spec (λ c. search rules) returns (λ c. search rules) returns-2)
+pub noted_at_spec : {M : Type 1} → statement M
+noted_at_spec = tie.close (tie.spec (λ c. search rules) returns (λ c. search rules) returns-2)

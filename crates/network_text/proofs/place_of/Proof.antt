@@ -5,11 +5,11 @@ use Rattle.network_text.specs.laws.EclipseLaws.{place_low, place_high}
 use Rattle.network_text.proofs.place_of.Statement.{statement}
 use Rattle.network_text.proofs.place_of.Tie as tie
 
-returns : tie.Need-returns
-returns c = (place_low _ c.if1.true, omega arith)
+returns : tie.Need-returns-then-k-lt22
+returns c = (place_low _ c.if-k-lt22.true, omega arith)
 
-returns-2 : tie.Need-returns-2
-returns-2 c = (place_high _ c.if1.false, omega arith)
+returns-2 : tie.Need-returns-else-k-lt22
+returns-2 c = (place_high _ c.if-k-lt22.false, omega arith)
 
-pub place-of-spec : {M : Type 1} → statement M
-place-of-spec = tie.close (tie.spec (λ c. search rules) returns returns-2)
+pub place_of_spec : {M : Type 1} → statement M
+place_of_spec = tie.close (tie.spec (λ c. search rules) returns returns-2)

@@ -9,28 +9,28 @@ use Rattle.network_text.proofs.take.Tie as tie
 abbrev start : tie.After-tell → tie.Start
 start t = t.before.before.before
 
-note-requires : tie.Need-note-requires
+note-requires : tie.Need-note-noted-requires
 note-requires c κs =
-    let r = c.before.before.before in
-    let t = r.before.before in
-    let s = start t in
-    (s.pre.1 ∙ sym s.pre.0, subst (InRoom (length s.args.marks.now)) r.said.given.1 (told-room _ _ _ t.tell.ensures s.pre.0))
+    let r = c.before.before in
+    let t = r in
+    let s = start t.before in
+    (s.requires.1 ∙ sym s.requires.0, subst (InRoom (length s.args.marks.now)) r.in-Request.is (told-room _ _ _ t.tell.ensures s.requires.0))
 
-returns : tie.Need-returns
+returns : tie.Need-returns-in-Request
 returns c =
     let n = c.before.before.before.before in
-    let r = n.before.before.before.before in
-    take-number _ _ r.before.before.tell.ensures _ _ _ _ _ r.said.given.1 _ _ _ n.note.ensures _ c.noted-at.ensures
+    let r = n.before.before.before in
+    take-number _ _ r.tell.ensures _ _ _ _ _ r.in-Request.is _ _ _ n.note-noted.ensures _ c.noted_at-answer.ensures
 
-returns-2 : tie.Need-returns-2
+returns-2 : tie.Need-returns-in-Station
 returns-2 c =
-    let r = c.before.before in
-    take-station _ _ r.before.before.tell.ensures _ _ _ _ _ _ r.node.given.1 c.add.ensures
-
-returns-3 : tie.Need-returns-3
-returns-3 c =
     let r = c.before in
-    take-faulty _ _ r.before.before.tell.ensures _ _ _ _ _ r.fault.given.1
+    take-station _ _ r.tell.ensures _ _ _ _ _ _ r.in-Station.is c.add-held.ensures
+
+returns-3 : tie.Need-returns-in-Faulty
+returns-3 c =
+    let r = c in
+    take-faulty _ _ r.tell.ensures _ _ _ _ _ r.in-Faulty.is
 
 pub take_spec : {M : Type 1} → statement M
 take_spec =

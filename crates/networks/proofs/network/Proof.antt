@@ -10,16 +10,16 @@ use Rattle.networks.specs.AnswerLaws.{by_refused, other-shape, shaped, by-admitt
 use Rattle.networks.proofs.network.Statement.{statement}
 use Rattle.networks.proofs.network.Tie as tie
 
-abbrev start : tie.Else1 → tie.Start
+abbrev start : tie.Else-not-shaped → tie.Start
 start b = b.before.before.before
 
-right : (b : tie.Else1) → let a = (start b).args in (eqb (length a.eclipse.now) 25 && eqb (length a.steps.now) 64) ≡ true
-right b = not-false _ b.if1.false
+right : (b : tie.Else-not-shaped) → let a = (start b).args in (eqb (length a.eclipse.now) 25 && eqb (length a.steps.now) 64) ≡ true
+right b = b.if-not-shaped.false
 
-returns : tie.Need-returns
+returns : tie.Need-returns-then-not-shaped
 returns c =
-    let a = c.before.before.before.args in
-    λ l k. by-admitted a.eclipse.now l a.sines.now a.steps.now _ (other-shape _ l _ _ (not-true _ c.if1.true)) (by_refused _ refl)
+    let a = c.args in
+    λ l k. by-admitted a.eclipse.now l a.sines.now a.steps.now _ (other-shape _ l _ _ c.if-not-shaped.true) (by_refused _ refl)
 
 name-requires : tie.Need-name-requires
 name-requires c κs =
@@ -28,12 +28,12 @@ name-requires c κs =
     let e = both (eqb (length a.eclipse.now) 25) (eqb (length a.steps.now) 64) (right b) in
     (eqb-true _ _ e.0, (start b).requires, eqb-true _ _ e.1)
 
-returns-2 : tie.Need-returns-2
+returns-2 : tie.Need-returns
 returns-2 c =
     let m = c.before.before.before.before in
     let b = m.before.before.before in
     let a = (start b).args in
     λ l k. by-admitted a.eclipse.now l a.sines.now a.steps.now _ (shaped _ l _ _ (right b)) (m.name.ensures l k)
 
-pub network-spec : {M : Type 1} → statement M
-network-spec = tie.close (tie.spec returns name-requires (λ c. search rules) (λ c. search rules) returns-2)
+pub network_spec : {M : Type 1} → statement M
+network_spec = tie.close (tie.spec returns name-requires (λ c. search rules) (λ c. search rules) returns-2)

@@ -9,39 +9,39 @@ use borrow.Author.Rules.{rules}
 use Rattle.request.proofs.respond.Statement.{statement}
 use Rattle.request.proofs.respond.Tie as tie
 
-abbrev start : tie.After-read → tie.Start
-start read = read.before.before.before.before.before
+abbrev start : tie.After-read-answer → tie.Start
+start read = read.before.before.before.before
 
-array-share-prefix-bytes : tie.Need-array-share-prefix-bytes
+array-share-prefix-bytes : tie.Need-slice_bounds-bytes-end
 array-share-prefix-bytes c =
-    let answer = c.before.before in
-    let read = answer.before.before.read in
-    (bytes-first _ _ _ _ _ (sym answer.answer.given.1 ∙ read.ensures.0) read.ensures.1.0).counts.0
+    let answer = c.before in
+    let read = answer.read-answer in
+    (bytes-first _ _ _ _ _ (sym answer.in-Request.is ∙ read.ensures.0) read.ensures.1.0).counts.0
 
-slice-aggregate-put-text : tie.Need-slice-aggregate-put-text
+slice-aggregate-put-text : tie.Need-slice_bounds-put_text-end-in-Request
 slice-aggregate-put-text c =
-    let answer = c.before.before.before in
-    let read = answer.before.before.read in
-    (bytes-first _ _ _ _ _ (sym answer.answer.given.1 ∙ read.ensures.0) read.ensures.1.0).counts.1
+    let answer = c.before.before in
+    let read = answer.read-answer in
+    (bytes-first _ _ _ _ _ (sym answer.in-Request.is ∙ read.ensures.0) read.ensures.1.0).counts.1
 
-returns : tie.Need-returns
+returns : tie.Need-returns-in-Request
 returns c =
-    let answer = c.before.before.before.before in
-    let read = answer.before.before in
-    let e = read.read.ensures in
-    let b = bytes-first _ _ _ _ _ (sym answer.answer.given.1 ∙ e.0) e.1.0 in
-    let w = put_whole _ _ _ _ c.put-text.ensures (omega (arith, request-fits b)) (omega arith) in
+    let answer = c.before.before.before in
+    let read = answer.before in
+    let e = read.read-answer.ensures in
+    let b = bytes-first _ _ _ _ _ (sym answer.in-Request.is ∙ e.0) e.1.0 in
+    let w = put_whole _ _ _ _ c.put_text-stored.ensures (omega (arith, request-fits b)) (omega arith) in
     ((λ s q. request-out _ _ (start read).requires.0 (omega arith) s q b _ w.0), w.1)
 
-returns-2 : tie.Need-returns-2
+returns-2 : tie.Need-returns-in-Refused
 returns-2 c =
-    let read = c.before.before.before in
-    let e = read.read.ensures in
-    let m = message-first _ _ _ _ (sym c.before.answer2.given.1 ∙ e.0) e.1.1 in
+    let read = c.before in
+    let e = read.read-answer.ensures in
+    let m = message-first _ _ _ _ (sym c.in-Refused.is ∙ e.0) e.1.1 in
     ((λ s q. message-out _ _ (start read).requires.0 (omega arith) s q m), m.counts)
 
-pub respond-spec : {M : Type 1} → statement M
-respond-spec =
+pub respond_spec : {M : Type 1} → statement M
+respond_spec =
     tie.close
     (tie.spec (λ c. search rules) (λ c κs. search rules) (λ c. search rules) array-share-prefix-bytes
     slice-aggregate-put-text (λ c κs. search rules) (λ c. search rules) returns returns-2)

@@ -1,9 +1,9 @@
 -- `adaptive_sampling::seeds::closest` meets its contract: whichever it is, it is one of them.
 use Prim.Native.Nat.{◌-◌, ◌≤◌, ◌<◌}
-use mathlib.Core.Logic.{⊎_elim}
 use native.Mathlib.Omega.{arith}
 use borrow.Author.Rules.{rules}
 use Rattle.adaptive_sampling.proofs.seeds.closest.Statement.{statement}
+use Rattle.adaptive_sampling.proofs.seeds.closest.Lts.{then-s-least, else-s-least}
 use Rattle.adaptive_sampling.proofs.seeds.closest.Tie as tie
 
 abbrev invariant-loop : tie.invariant-loop-k
@@ -16,7 +16,7 @@ loop-again : tie.Need-loop-k-preserved invariant-loop decreases-loop
 loop-again c =
     let l = c.before.before.before.before.before in
     let few = c.loop-k-test.true in
-    (omega (arith, few), ⊎_elim (λ w. omega (arith, few, l.loop-k.invariant.1)) (λ w. omega (arith, few, l.loop-k.invariant.1)) c.if-s-least.branch)
+    (omega (arith, few), elim c.if-s-least.branch [ then-s-least w ↦ omega (arith, few, l.loop-k.invariant.1) | else-s-least w ↦ omega (arith, few, l.loop-k.invariant.1) ])
 
 returns : tie.Need-returns invariant-loop decreases-loop
 returns c = c.loop-k.invariant.1

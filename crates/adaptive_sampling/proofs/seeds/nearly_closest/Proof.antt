@@ -2,7 +2,6 @@
 use Prim.Native.Nat.{ℕ, ◌≤◌, ◌<◌}
 use mathlib.Core.Path.{◌≡◌, sym, subst, ◌∙◌}
 use mathlib.Core.List.{List}
-use mathlib.Core.Logic.{⊎_elim}
 use native.Mathlib.Omega.{arith}
 use borrow.Author.Rules.{rules}
 use lib.IntN.{ℤ}
@@ -15,6 +14,7 @@ use Rattle.adaptive_sampling.specs.Reach.{Seen}
 use Rattle.adaptive_sampling.specs.Spread.{stop, blank, Spread}
 use Rattle.adaptive_sampling.specs.laws.SpreadLaws.{spread_sized, stop_seen}
 use Rattle.adaptive_sampling.proofs.seeds.nearly_closest.Statement.{statement}
+use Rattle.adaptive_sampling.proofs.seeds.nearly_closest.Lts.{then-n-i, else-n-i}
 use Rattle.adaptive_sampling.proofs.seeds.nearly_closest.Tie as tie
 
 -- a window has at most 21,601 seconds
@@ -36,7 +36,7 @@ foot-requires c κs =
     let a = c.before.before.before.before in
     let s = c.start-from.ensures in
     let p = a.requires.4 in
-    (a.requires.0, a.requires.1, a.requires.2, a.requires.3, ⊎_elim (λ w. omega arith) (λ w. omega arith) c.if-n-i.branch)
+    (a.requires.0, a.requires.1, a.requires.2, a.requires.3, elim c.if-n-i.branch [ then-n-i w ↦ omega arith | else-n-i w ↦ omega arith ])
 
 stop-requires : tie.Need-stop-best-requires
 stop-requires c κs = let a = c.before.before.before.before.before.before.before.before.before.before in (omega (arith, a.requires.4), few a, omega (arith, c.closest-k.ensures))

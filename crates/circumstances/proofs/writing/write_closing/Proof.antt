@@ -31,15 +31,15 @@ three : (l l1 l2 l3 : List ℕ) (i j k : ℕ) (x y z a b c : Entry) → x ≡ a 
 three l l1 l2 l3 i j k x y z a b c ex ey ez first second third = rw (← ex, ← ey, ← ez, ← first, ← second) third
 
 -- where the records stand
-closest-is : (c : tie.After-closest-for) → size_of c.closest-for.result.kind ≡ size_of K.Closest
-closest-is c = ap (λ (e : Entry). size_of e.kind) c.closest-for.ensures ∙ closest-size (course_of c.before.before.before.args.o)
+closest-is : (c : tie.After-closest_for-last) → size_of c.closest_for-last.result.kind ≡ size_of K.Closest
+closest-is c = ap (λ (e : Entry). size_of e.kind) c.closest_for-last.ensures ∙ closest-size (course_of c.args.o)
 
-after_closest : (c : tie.After-put) → c.put.result ≡ c.before.before.before.before.before.args.start + size_of K.Closest
-after_closest c = omega (arith, c.put.ensures.0, closest-is c.before.before)
+after_closest : (c : tie.After-put-after_closest) → c.put-after_closest.result ≡ c.args.start + size_of K.Closest
+after_closest c = omega (arith, c.put-after_closest.ensures.0, closest-is c.before.before)
 
 -- the buffer's length stays
-kept : (c : tie.After-put) → length c.put.new.0 ≡ length c.before.before.before.before.before.args.buf.now
-kept c = ap length c.put.ensures.1 ∙ length-sets c.before.before.before.before.before.args.buf.now _ (bytes c.before.before.closest-for.result)
+kept : (c : tie.After-put-after_closest) → length c.put-after_closest.new.buf ≡ length c.args.buf.now
+kept c = ap length c.put-after_closest.ensures.1 ∙ length-sets c.args.buf.now _ (bytes c.closest_for-last.result)
 
 -- closest and end fit at least
 least : (b : tie.Start) → b.args.start + size_of K.Closest + size_of K.End ≤ length b.args.buf.now
@@ -49,47 +49,47 @@ least b =
       | false ↦ λ e. omega (arith, plain-length (course_of b.args.o) e, b.requires.1)
     ]) refl
 
-put-requires : tie.Need-put-requires
+put-requires : tie.Need-put-after_closest-requires
 put-requires c κs =
     let d = c.before in
     omega (arith, closest-is d, least d.before.before.before)
 
-share-is : (c : tie.After-share-for) → size_of c.share-for.result.kind ≡ size_of K.Share
-share-is c = ap (λ (e : Entry). size_of e.kind) c.share-for.ensures ∙ share-size (course_of c.before.before.before.before.before.before.before.before.before.before.args.o)
+share-is : (c : tie.After-share_for-share) → size_of c.share_for-share.result.kind ≡ size_of K.Share
+share-is c = ap (λ (e : Entry). size_of e.kind) c.share_for-share.ensures ∙ share-size (course_of c.args.o)
 
 -- with a share
-module _ (c : tie.After-share-for) where
-  abbrev first : tie.After-put
+module _ (c : tie.After-share_for-share) where
+  abbrev first : tie.After-put-after_closest
   first = c.before.before.before.before.before
 
   abbrev base : tie.Start
   base = first.before.before.before.before.before
 
   asked : sharing base.args.o ≡ true
-  asked = sym c.before.before.shares.ensures ∙ c.before.if1.true
+  asked = sym c.shares-shared.ensures ∙ c.if-shared.true
 
   room : base.args.start + (size_of K.Closest + size_of K.Share + size_of K.End) ≤ length base.args.buf.now
-  room = omega (arith, shared-length (course_of base.args.o) asked, base.pre.1)
+  room = omega (arith, shared-length (course_of base.args.o) asked, base.requires.1)
 
-put-requires-2 : tie.Need-put-requires-2
+put-requires-2 : tie.Need-put-after_share-requires
 put-requires-2 c κs = let s = c.before in omega (arith, share-is s, after_closest (first s), kept (first s), room s)
 
-put-requires-3 : tie.Need-put-requires-3
+put-requires-3 : tie.Need-put-requires
 put-requires-3 c κs =
     let p = c.before.before.before in
     let s = p.before.before in
     omega (
       arith,
-      p.put2.ensures.0,
+      p.put-after_share.ensures.0,
       share-is s,
       after_closest (first s),
       kept (first s),
       room s,
-      ap length p.put2.ensures.1,
-      length-sets (first s).put.new.0 (first s).put.result (bytes s.share-for.result),
+      ap length p.put-after_share.ensures.1,
+      length-sets (first s).put-after_closest.new.buf (first s).put-after_closest.result (bytes s.share_for-share.result),
     )
 
-returns : tie.Need-returns
+returns : tie.Need-returns-then-shared
 returns c =
     let r = c.before.before in
     let p = r.before.before.before.before in
@@ -97,36 +97,36 @@ returns c =
     let f = first s in
     let o = (base s).args.o in
     let d = f.before.before in (
-      omega (arith, r.put3.ensures.0, p.put2.ensures.0, share-is s, after_closest f, shared-length (course_of o) (asked s)),
-      three (base s).args.buf.now f.put.last.0 p.put2.new.0 _ _ _ _ _ _ _ (closestEntry (course_of o)) (shareEntry (course_of o)) end
-          d.closest-for.ensures s.share-for.ensures refl f.put.ensures.1 p.put2.ensures.1 r.put3.ensures.1
-          ∙ (stores-shared (course_of o) (asked s) (base s).args.buf.now (base s).args.start f.put.result p.put2.result
+      omega (arith, r.put.ensures.0, p.put-after_share.ensures.0, share-is s, after_closest f, shared-length (course_of o) (asked s)),
+      three (base s).args.buf.now f.put-after_closest.new.buf p.put-after_share.new.buf _ _ _ _ _ _ _ (closestEntry (course_of o)) (shareEntry (course_of o)) end
+          d.closest_for-last.ensures s.share_for-share.ensures refl f.put-after_closest.ensures.1 p.put-after_share.ensures.1 r.put.ensures.1
+          ∙ (stores-shared (course_of o) (asked s) (base s).args.buf.now (base s).args.start f.put-after_closest.result p.put-after_share.result
           (after_closest f ∙ ap (λ (n : ℕ). (base s).args.start + n) (sym (closest-size (course_of o))))
-          (p.put2.ensures.0 ∙ ap (λ (n : ℕ). f.put.result + n) (share-is s ∙ sym (share-size (course_of o))))),
+          (p.put-after_share.ensures.0 ∙ ap (λ (n : ℕ). f.put-after_closest.result + n) (share-is s ∙ sym (share-size (course_of o))))),
     )
 
-put-requires-4 : tie.Need-put-requires-4
+put-requires-4 : tie.Need-put-requires-2
 put-requires-4 c κs =
     let f = c.before.before.before.before.before in
     omega (arith, after_closest f, kept f, least f.before.before.before.before.before)
 
-returns-2 : tie.Need-returns-2
+returns-2 : tie.Need-returns
 returns-2 c =
     let r = c.before.before in
     let i = r.before.before in
     let f = i.before.before.before.before in
-    let plain = sym i.before.shares.ensures ∙ i.if1.false in
+    let plain = sym i.shares-shared.ensures ∙ i.if-shared.false in
     let d = f.before.before in
     let b = d.before.before.before in
     let o = b.args.o in (
-      omega (arith, r.put4.ensures.0, after_closest f, plain-length (course_of o) plain),
-      two b.args.buf.now f.put.new.0 _ _ _ _ _ (closestEntry (course_of o)) end d.closest-for.ensures refl f.put.ensures.1 r.put4.ensures.1
-          ∙ (stores-plain (course_of o) plain b.args.buf.now b.args.start f.put.result
+      omega (arith, r.put-2.ensures.0, after_closest f, plain-length (course_of o) plain),
+      two b.args.buf.now f.put-after_closest.new.buf _ _ _ _ _ (closestEntry (course_of o)) end d.closest_for-last.ensures refl f.put-after_closest.ensures.1 r.put-2.ensures.1
+          ∙ (stores-plain (course_of o) plain b.args.buf.now b.args.start f.put-after_closest.result
           (after_closest f ∙ ap (λ (n : ℕ). b.args.start + n) (sym (closest-size (course_of o))))),
     )
 
-pub write-closing-spec : {M : Type 1} → statement M
-write-closing-spec =
+pub write_closing_spec : {M : Type 1} → statement M
+write_closing_spec =
     tie.close
     (tie.spec (λ c κs. search rules) put-requires (λ c κs. search rules) (λ c κs. search rules) put-requires-2
     put-requires-3 (λ c. search rules) returns put-requires-4 (λ c. search rules) returns-2)

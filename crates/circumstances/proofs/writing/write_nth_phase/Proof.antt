@@ -37,17 +37,17 @@ mapped : (o : Occultation) (φ ψ : Phase) (l : List ℕ) → φ ≡ ψ → l �
 unfolding states_of phaseEntries
 mapped o φ ψ l e f = ap₂ (λ (χ : Phase) (m : List ℕ). map (entry_of (course_of o) χ) (entries m)) e f
 
-abbrev start : tie.After-nth-phase → tie.Start
+abbrev start : tie.After-nth_phase-phase → tie.Start
 start c = c.before.before.before.before
 
-write-phase-requires : tie.Need-write-phase-requires
+write-phase-requires : tie.Need-write_phase-requires
 write-phase-requires c κs =
     let p = c.before in
     let b = start p in
     let o = b.args.o in
     let φ = asked b in (
-      (b.pre.0.0, b.pre.0.1, b.pre.0.2),
-      (b.pre.1.0.0.whole, ap length (states b) ∙ states_length o φ, omega (arith, needed o p.nth-phase.result φ _ p.nth-phase.ensures (states b), b.pre.1.1)),
+      (b.requires.0.0, b.requires.0.1, b.requires.0.2),
+      (b.requires.1.0.0.whole, ap length (states b) ∙ states_length o φ, omega (arith, needed o p.nth_phase-phase.result φ _ p.nth_phase-phase.ensures (states b), b.requires.1.1)),
     )
 
 returns : tie.Need-returns
@@ -57,9 +57,9 @@ returns c =
     let b = start p in
     let o = b.args.o in
     let φ = asked b in (
-      w.write-phase.ensures.0 ∙ ap (λ (n : ℕ). b.args.start + n) (needed o p.nth-phase.result φ _ p.nth-phase.ensures (states b)),
-      w.write-phase.ensures.1 ∙ ap (λ es. sets b.args.buf.now b.args.start (bytes_of es)) (mapped o p.nth-phase.result φ _ p.nth-phase.ensures (states b)),
+      w.write_phase.ensures.0 ∙ ap (λ (n : ℕ). b.args.start + n) (needed o p.nth_phase-phase.result φ _ p.nth_phase-phase.ensures (states b)),
+      w.write_phase.ensures.1 ∙ ap (λ es. sets b.args.buf.now b.args.start (bytes_of es)) (mapped o p.nth_phase-phase.result φ _ p.nth_phase-phase.ensures (states b)),
     )
 
-pub write-nth-phase-spec : {M : Type 1} → statement M
-write-nth-phase-spec = tie.close (tie.spec (λ c κs. search rules) write-phase-requires (λ c. search rules) returns)
+pub write_nth_phase_spec : {M : Type 1} → statement M
+write_nth_phase_spec = tie.close (tie.spec (λ c κs. search rules) write-phase-requires (λ c. search rules) returns)

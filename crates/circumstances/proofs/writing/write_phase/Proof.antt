@@ -20,7 +20,7 @@ use Rattle.local_circumstances.specs.Course.{course_of}
 use Rattle.circumstances.proofs.writing.write_phase.Statement.{statement}
 use Rattle.circumstances.proofs.writing.write_phase.Tie as tie
 
-abbrev invariant-loop : tie.invariant-loop
+abbrev invariant-loop : tie.invariant-loop-entry
 invariant-loop table o place phase runs k buf₀ start seconds at₀ c₀ buf at c =
     let s = decoded k runs in
     At k runs c
@@ -28,105 +28,103 @@ invariant-loop table o place phase runs k buf₀ start seconds at₀ c₀ buf at
     × (at + bytes_needed phase (entries_from s c.at) ≡ start + bytes_needed phase (entries s))
     × (sets buf at (bytes_of (map (entry_of (course_of o) phase) (entries_from s c.at))) ≡ sets buf₀ start (bytes_of (map (entry_of (course_of o) phase) (entries s))))
 
-abbrev decreases-loop : tie.decreases-loop
+abbrev decreases-loop : tie.decreases-loop-entry
 decreases-loop table o place phase runs k buf₀ start seconds at₀ c₀ buf at c = length (decoded k runs) - c.at
 
 -- the places before
-abbrev entered : tie.After-w invariant-loop decreases-loop → tie.Start invariant-loop decreases-loop
+abbrev entered : tie.After-w-1 invariant-loop decreases-loop → tie.Start invariant-loop decreases-loop
 entered c = c.before.before.before.before
 
-abbrev start : tie.At-loop invariant-loop decreases-loop → tie.Start invariant-loop decreases-loop
+abbrev start : tie.At-loop-entry invariant-loop decreases-loop → tie.Start invariant-loop decreases-loop
 start c = entered c.before.before
 
-abbrev looped : tie.After-known-told invariant-loop decreases-loop → tie.At-loop invariant-loop decreases-loop
-looped c = c.before.before.before.before
+abbrev looped : tie.In-Found invariant-loop decreases-loop → tie.At-loop-entry invariant-loop decreases-loop
+looped c = c.before.before
 
 -- the step took the next entry
-onward : (c : tie.After-known-told invariant-loop decreases-loop)
-    → Took (start (looped c)).args.k (start (looped c)).args.runs.now (looped c).loop.c.at
-    c.before.entry.given.0.0 c.before.entry.given.0.1.0
-onward c = took _ _ _ _ _ _ c.before.before.before.step.ensures c.before.entry.given.1
+onward : (c : tie.In-Found invariant-loop decreases-loop)
+    → Took (start (looped c)).args.k (start (looped c)).args.runs.now (looped c).loop-entry.c.at
+    c.in-Found.entry c.in-Found.next
+onward c = took _ _ _ _ _ _ c.step.ensures c.in-Found.is
 
 -- its record's size, and what is left then
-sizes : (c : tie.After-entry-for invariant-loop decreases-loop) →
+sizes : (c : tie.After-entry_for-e invariant-loop decreases-loop) →
     let a = (start (looped c.before)).args in
     let s = decoded a.k a.runs.now in
-    let after = c.before.before.entry.given.0.1.0 in
-    bytes_needed a.phase (entries_from s (looped c.before).loop.c.at)
-    ≡ size_of c.entry-for.result.kind + bytes_needed a.phase (entries_from s after.at)
+    bytes_needed a.phase (entries_from s (looped c.before).loop-entry.c.at)
+    ≡ size_of c.entry_for-e.result.kind + bytes_needed a.phase (entries_from s c.in-Found.next.at)
 sizes c =
     let a = (start (looped c.before)).args in
     let k = c.before in
-    let e = k.before.entry.given.0.0 in
-    let rest = entries_from (decoded a.k a.runs.now) k.before.entry.given.0.1.0.at in
+    let rest = entries_from (decoded a.k a.runs.now) k.in-Found.next.at in
     omega (
       arith,
       ap (bytes_needed a.phase) (onward k).rest,
-      needed_cons a.phase e rest,
-      ap (λ x. size_of x.kind) c.entry-for.ensures,
-      ap size_of (kind-in (course_of a.o) a.phase e),
+      needed_cons a.phase k.in-Found.entry rest,
+      ap (λ x. size_of x.kind) c.entry_for-e.ensures,
+      ap size_of (kind-in (course_of a.o) a.phase k.in-Found.entry),
     )
 
-ended : (c : tie.After-enum-told invariant-loop decreases-loop) →
-    let l = c.before.before.before in
-    entries_from (decoded (start l).args.k (start l).args.runs.now) l.loop.c.at ≡ []
-ended c = none_left _ _ _ _ c.before.before.step.ensures c.enum_told.given.1
+ended : (c : tie.In_default invariant-loop decreases-loop) →
+    let l = c.before.before in
+    entries_from (decoded (start l).args.k (start l).args.runs.now) l.loop-entry.c.at ≡ []
+ended c = none_left _ _ _ _ c.step.ensures c.in_default.is
 
-loop-holds : tie.Need-loop-init invariant-loop decreases-loop
+loop-holds : tie.Need-loop-entry-init invariant-loop decreases-loop
 loop-holds c =
     let b = entered c.before in
     let a = b.args in
     let all = all-at-start (decoded a.k a.runs.now) in
-    (at-start a.k a.runs.now 0 b.pre.1.0, refl, omega (arith, ap (bytes_needed a.phase) all), rw all)
+    (at-start a.k a.runs.now 0 b.requires.1.0, refl, omega (arith, ap (bytes_needed a.phase) all), rw all)
 
 step-requires : tie.Need-step-requires invariant-loop decreases-loop
-step-requires c κs = ((start c).requires.1.1 ∙ sym c.before.second-count.ensures, c.loop.invariant.0)
+step-requires c κs = ((start c).requires.1.1 ∙ sym c.second_count-seconds.ensures, c.loop-entry.invariant.0)
 
-returns : tie.Need-returns invariant-loop decreases-loop
+returns : tie.Need-returns-in_default invariant-loop decreases-loop
 returns c =
-    let a = (start c.before.before.before).args in
-    let l = c.before.before.before.loop in (
+    let a = (start c.before.before).args in
+    let l = c.loop-entry in (
       omega (arith, l.invariant.2, ap (bytes_needed a.phase) (ended c) ∙ needed_nil a.phase),
       sym (stores_none l.buf l.at) ∙ sym (ap (λ es. sets l.buf l.at (bytes_of (map (entry_of (course_of a.o) a.phase) es))) (ended c)) ∙ l.invariant.3,
     )
 
-entry-for-requires : tie.Need-entry-for-requires invariant-loop decreases-loop
+entry-for-requires : tie.Need-entry_for-e-requires invariant-loop decreases-loop
 entry-for-requires c κs =
     let b = start (looped c) in
     let o = onward c in
-    let n = b.pre.1.1 in
-    (b.pre.0.0, b.pre.0.1, b.pre.0.2, omega (arith, o.ordered, o.inside, n), omega (arith, o.inside, n))
+    let n = b.requires.1.1 in
+    (b.requires.0.0, b.requires.0.1, b.requires.0.2, omega (arith, o.ordered, o.inside, n), omega (arith, o.inside, n))
 
-put-requires : tie.Need-put-requires invariant-loop decreases-loop
+put-requires : tie.Need-put-at-requires invariant-loop decreases-loop
 put-requires c κs =
-    let l = (looped c.before.before).loop in
-    omega (arith, sizes c.before, l.inv.2, l.inv.1, (start (looped c.before.before)).pre.1.2)
+    let l = (looped c.before.before).loop-entry in
+    omega (arith, sizes c.before, l.invariant.2, l.invariant.1, (start (looped c.before.before)).requires.1.2)
 
-loop-less : tie.Need-loop-smaller invariant-loop decreases-loop
+loop-less : tie.Need-loop-entry-smaller invariant-loop decreases-loop
 loop-less c = let o = onward c.before.before.before.before.before in omega (arith, o.further, o.within)
 
-loop-again : tie.Need-loop-preserved invariant-loop decreases-loop
+loop-again : tie.Need-loop-entry-preserved invariant-loop decreases-loop
 loop-again c =
     let k = c.before.before.before.before.before in
     let a = (start (looped k)).args in
-    let l = (looped k).loop in
+    let l = (looped k).loop-entry in
     let o = onward k in
-    let p = c.before.before.put.ensures in
-    let r = c.before.before.before.before.entry-for.result in
-    let rest = entries_from (decoded a.k a.runs.now) k.before.entry.given.0.1.0.at in (
+    let p = c.put-at.ensures in
+    let r = c.entry_for-e.result in
+    let rest = entries_from (decoded a.k a.runs.now) k.in-Found.next.at in (
       o.cursor,
-      ap length p.1 ∙ length-sets l.buf l.at (bytes r) ∙ l.inv.1,
-      omega (arith, p.0, sizes c.before.before.before.before, l.inv.2),
+      ap length p.1 ∙ length-sets l.buf l.at (bytes r) ∙ l.invariant.1,
+      omega (arith, p.0, sizes c.before.before.before.before, l.invariant.2),
       rw (p.0, p.1)
           (sym (stores_entry r (map (entry_of (course_of a.o) a.phase) rest) l.buf l.at)
-          ∙ ap (λ x. sets l.buf l.at (bytes_of (x ∷ map (entry_of (course_of a.o) a.phase) rest))) c.before.before.before.before.entry-for.ensures
+          ∙ ap (λ x. sets l.buf l.at (bytes_of (x ∷ map (entry_of (course_of a.o) a.phase) rest))) c.entry_for-e.ensures
           ∙ sym (ap (λ es. sets l.buf l.at (bytes_of (map (entry_of (course_of a.o) a.phase) es))) o.rest)
-          ∙ l.inv.3),
+          ∙ l.invariant.3),
     )
 
-pub write-phase-spec : {M : Type 1} → statement M
-write-phase-spec =
+pub write_phase_spec : {M : Type 1} → statement M
+write_phase_spec =
     tie.close
     (tie.spec invariant-loop decreases-loop (λ c κs. (entered c).requires.0.1.window) loop-holds step-requires
-    (λ c. search rules) (λ c. search rules) (λ c. c.before.before.before.loop.invariant.1) returns
+    (λ c. search rules) (λ c. search rules) (λ c. c.loop-entry.invariant.1) returns
     entry-for-requires put-requires loop-less loop-again)

@@ -33,21 +33,21 @@ unfolding sheet_bytes
 sheet-is o = sheet-length (course_of o)
 
 -- ---- the places after them
-head-is : (c : tie.After-head-for) → size_of c.head-for.result.kind ≡ size_of K.Head
-head-is c = ap (λ (e : Entry). size_of e.kind) c.head-for.ensures ∙ head-size (course_of c.before.before.before.before.args.o)
+head-is : (c : tie.After-head_for-head) → size_of c.head_for-head.result.kind ≡ size_of K.Head
+head-is c = ap (λ (e : Entry). size_of e.kind) c.head_for-head.ensures ∙ head-size (course_of c.args.o)
 
-after_head : (c : tie.After-put) → c.put.result ≡ size_of K.Head
-after_head c = omega (arith, c.put.ensures.0, head-is c.before.before)
+after_head : (c : tie.After-put-after_head) → c.put-after_head.result ≡ size_of K.Head
+after_head c = omega (arith, c.put-after_head.ensures.0, head-is c.before.before)
 
-after-phases : (c : tie.After-write-phases) → c.write-phases.result ≡ size_of K.Head + length (phases c.before.before.before.before.before.before.before.before.before.before.args.o)
-after-phases c = omega (arith, c.write-phases.ensures.0, after_head c.before.before.before.before)
+after-phases : (c : tie.After-write_phases-after_phases) → c.write_phases-after_phases.result ≡ size_of K.Head + length (phases c.args.o)
+after-phases c = omega (arith, c.write_phases-after_phases.ensures.0, after_head c.before.before.before.before)
 
-put-requires : tie.Need-put-requires
+put-requires : tie.Need-put-after_head-requires
 put-requires c κs =
     let b = c.before.before.before.before.before in
     omega (arith, head-is c.before, sheet-is b.args.o, b.requires.1.1)
 
-write-phases-requires : tie.Need-write-phases-requires
+write-phases-requires : tie.Need-write_phases-after_phases-requires
 write-phases-requires c κs =
     let p = c.before.before.before in
     let b = p.before.before.before.before.before.before in (
@@ -59,28 +59,28 @@ write-phases-requires c κs =
           after_head p,
           sheet-is b.args.o,
           b.requires.1.1,
-          ap length p.put.ensures.1,
-          length-sets b.args.buf.now 0 (bytes p.before.before.head-for.result),
+          ap length p.put-after_head.ensures.1,
+          length-sets b.args.buf.now 0 (bytes p.head_for-head.result),
         ),
       ),
     )
 
 -- the buffer's length stays
-kept : (c : tie.After-write-phases) → length c.write-phases.new.1.1.1.1.0 ≡ length c.before.before.before.before.before.before.before.before.before.before.args.buf.now
+kept : (c : tie.After-write_phases-after_phases) → length c.write_phases-after_phases.new.buf ≡ length c.args.buf.now
 kept c =
     let p = c.before.before.before.before in
     let b = p.before.before.before.before.before.before in
-    ap length c.write-phases.ensures.1
-    ∙ length-sets p.put.new.0 p.put.result (phases b.args.o)
-    ∙ ap length p.put.ensures.1
-    ∙ length-sets b.args.buf.now 0 (bytes p.before.before.head-for.result)
+    ap length c.write_phases-after_phases.ensures.1
+    ∙ length-sets p.put-after_head.new.buf p.put-after_head.result (phases b.args.o)
+    ∙ ap length p.put-after_head.ensures.1
+    ∙ length-sets b.args.buf.now 0 (bytes p.head_for-head.result)
 
-write-closing-requires : tie.Need-write-closing-requires
+write-closing-requires : tie.Need-write_closing-requires
 write-closing-requires c κs =
     let w = c.before.before.before in
     let b = w.before.before.before.before.before.before.before.before.before.before in (
       (b.requires.0.0, b.requires.0.1, b.requires.0.2, b.requires.0.3),
-      omega (arith, w.write-phases.ensures.0, after-phases w, kept w, sheet-is b.args.o, b.requires.1.1),
+      omega (arith, w.write_phases-after_phases.ensures.0, after-phases w, kept w, sheet-is b.args.o, b.requires.1.1),
     )
 
 returns : tie.Need-returns
@@ -92,12 +92,12 @@ returns c =
     let h = p.before.before in
     let b = h.before.before.before.before in
     let o = b.args.o in (
-      omega (arith, l.write-closing.ensures.0, after-phases w, sheet-is o),
-      rw (l.write-closing.ensures.1, w.write-phases.ensures.1, p.put.ensures.1, h.head-for.ensures)
-          (stores-sheet (course_of o) b.args.buf.now p.put.result w.write-phases.result
-          (after_head p ∙ sym (head-size (course_of o))) w.write-phases.ensures.0),
+      omega (arith, l.write_closing.ensures.0, after-phases w, sheet-is o),
+      rw (l.write_closing.ensures.1, w.write_phases-after_phases.ensures.1, p.put-after_head.ensures.1, h.head_for-head.ensures)
+          (stores-sheet (course_of o) b.args.buf.now p.put-after_head.result w.write_phases-after_phases.result
+          (after_head p ∙ sym (head-size (course_of o))) w.write_phases-after_phases.ensures.0),
     )
 
-pub write-sheet-spec : {M : Type 1} → statement M
-write-sheet-spec =
+pub write_sheet_spec : {M : Type 1} → statement M
+write_sheet_spec =
     tie.close (tie.spec (λ c κs. search rules) put-requires write-phases-requires write-closing-requires (λ c. search rules) returns)

@@ -13,36 +13,36 @@ use Rattle.float_requests.proofs.instrument.check_finite.Statement.{statement}
 use Rattle.float_requests.proofs.instrument.check_finite.Tie as tie
 
 -- what the search found, of the doubles of the struct
-found : (c : tie.After-first-not-finite) → first_not_finite 0 (fields c.before.before.before.args.d) ≡ c.first-not-finite.result
-found c = sym (c.first-not-finite.ensures ∙ ap (λ (xs : List Float). first_not_finite 0 xs) c.before.before.listed.ensures)
+found : (c : tie.After-first_not_finite-c) → first_not_finite 0 (fields c.args.d) ≡ c.first_not_finite-c.result
+found c = sym (c.first_not_finite-c.ensures ∙ ap (λ (xs : List Float). first_not_finite 0 xs) c.listed-xs.ensures)
 
 -- that of the longitude
-known : (c : tie.After-is-finite) → c.is_finite.result ≡ finite (double_in c.before.before.before.before.before.before.before.args.longitude)
-known c = c.is_finite.ensures ∙ ap finite c.before.double-in.ensures
+known : (c : tie.After-is_finite-known) → c.is_finite-known.result ≡ finite (double_in c.args.longitude)
+known c = c.is_finite-known.ensures ∙ ap finite c.double_in-x.ensures
 
-none : (c : tie.After-enum-told) → first_not_finite 0 (fields c.before.before.before.before.before.args.d) ≡ C.Within
-none c = found c.before.before ∙ c.enum_told.given.1
+none : (c : tie.In_default) → first_not_finite 0 (fields c.args.d) ≡ C.Within
+none c = found c.before ∙ c.in_default.is
 
-returns : tie.Need-returns
+returns : tie.Need-returns-in-Refused
 returns c =
-    let f = c.before.before.before in
+    let f = c.before in
     let t = f.before.before.before in
-    sym (finite-element t.args.d t.args.longitude _ (found f ∙ c.before.c.given.1))
+    sym (finite-element t.args.d t.args.longitude _ (found f ∙ c.in-Refused.is))
 
-returns-2 : tie.Need-returns-2
+returns-2 : tie.Need-returns-then-not-known
 returns-2 c =
     let w = c.before.before.before in
-    let t = w.before.before.before.before.before in
-    sym (finite-longitude t.args.d t.args.longitude (none w) (sym (known c.before) ∙ not-true c.before.is_finite.result c.if1.true))
+    let t = w.before.before.before.before in
+    sym (finite-longitude t.args.d t.args.longitude (none w) (sym (known c.before) ∙ c.if-not-known.true))
 
-returns-3 : tie.Need-returns-3
+returns-3 : tie.Need-returns
 returns-3 c =
     let w = c.before.before.before in
-    let t = w.before.before.before.before.before in
-    sym (finite-all t.args.d t.args.longitude (none w) (sym (known c.before) ∙ not-false c.before.is_finite.result c.if1.false))
+    let t = w.before.before.before.before in
+    sym (finite-all t.args.d t.args.longitude (none w) (sym (known c.before) ∙ c.if-not-known.false))
 
-pub check-finite-spec : {M : Type 1} → statement M
-check-finite-spec =
+pub check_finite_spec : {M : Type 1} → statement M
+check_finite_spec =
     tie.close
     (tie.spec (λ c κs. search rules) (λ c. search rules) (λ c κs. search rules) (λ c. search rules) returns
     (λ c. search rules) (λ c κs. search rules) (λ c κs. search rules) returns-2 returns-3)

@@ -14,11 +14,11 @@ returns : tie.Need-returns
 unfolding held_elements elements_in elements_of
 returns c =
     let units = c.before.before in
-    c.from-numbers.ensures
-    ∙ ap elements_of (units.Units-in.ensures ∙ ap (λ (xs : List Float). map held (units_in scales xs)) units.before.before.listed.ensures)
+    c.from_numbers.ensures
+    ∙ ap elements_of (units.units_in-units.ensures ∙ ap (λ (xs : List Float). map held (units_in scales xs)) units.listed-xs.ensures)
 
-pub elements-in-spec : {M : Type 1} → statement M
-elements-in-spec =
+pub elements_in_spec : {M : Type 1} → statement M
+elements_in_spec =
     tie.close
     (tie.spec (λ c κs. search rules) (λ c. search rules) (λ c κs. search rules) (λ c. search rules)
     (λ c κs. search rules) returns)

@@ -24,27 +24,27 @@ use Rattle.float_requests.proofs.instrument.units_in.Tie as tie
 abbrev at : List Float → ℕ → ℤ
 at xs k = held (units_of (get_or scales k 0) (get_or xs k nan))
 
-abbrev invariant-loop : tie.invariant-loop
+abbrev invariant-loop : tie.invariant-loop-i
 invariant-loop xs scales units₀ i₀ units i = (i ≤ 22) × (length units ≡ 22) × ((k : ℕ) → k < i → get_or units k (pos 0) ≡ at xs k)
 
-abbrev decreases-loop : tie.decreases-loop
+abbrev decreases-loop : tie.decreases-loop-i
 decreases-loop xs scales units₀ i₀ units i = 22 - i
 
-loop-holds : tie.Need-loop-init invariant-loop decreases-loop
+loop-holds : tie.Need-loop-i-init invariant-loop decreases-loop
 loop-holds c = (omega arith, refl, λ k l. absurd (omega arith))
 
-read-requires : tie.Need-read-requires invariant-loop decreases-loop
-read-requires c κs = let i = c.before.before.loop.i in let h : i < 23 = omega arith in scale_in i h
+read-requires : tie.Need-read-reading-requires invariant-loop decreases-loop
+read-requires c κs = let i = c.loop-i.i in let h : i < 23 = omega arith in scale_in i h
 
 -- what was stored
-given : (c : tie.After-unit-of invariant-loop decreases-loop)
-    → to_z w64 (of_z w64 c.unit-of.result) ≡ at c.before.before.before.before.before.before.args.xs.now c.before.before.before.before.loop.i
+given : (c : tie.After-unit_of invariant-loop decreases-loop)
+    → to_z w64 (of_z w64 c.unit_of.result) ≡ at c.args.xs.now c.loop-i.i
 given c =
-    let l = c.before.before.before.before.loop in
-    let xs = c.before.before.before.before.before.before.args.xs.now in
-    read_result c.unit-of.result c.unit-of.type-inv
-    ∙ c.unit-of.ensures
-    ∙ ap stand_in c.before.read.ensures
+    let l = c.loop-i in
+    let xs = c.args.xs.now in
+    read_result c.unit_of.result c.unit_of.type_inv
+    ∙ c.unit_of.ensures
+    ∙ ap stand_in c.read-reading.ensures
     ∙ stand_in_reading (get_or scales l.i 0) (get_or xs l.i nan)
 
 -- one double more
@@ -55,11 +55,11 @@ more xs units i z l this before =
     (λ k h. rw (get_or-set_other units i k z (pos 0) (λ e. omega arith)) (before k h))
     (rw (get_or-set_same units i z (pos 0) l) this)
 
-loop-again : tie.Need-loop-preserved invariant-loop decreases-loop
+loop-again : tie.Need-loop-i-preserved invariant-loop decreases-loop
 loop-again c =
-    let l = c.before.before.before.before.loop in
-    let xs = c.before.before.before.before.before.before.args.xs.now in
-    let z = to_z w64 (of_z w64 c.unit-of.result) in (
+    let l = c.loop-i in
+    let xs = c.args.xs.now in
+    let z = to_z w64 (of_z w64 c.unit_of.result) in (
       omega arith,
       length-set l.units l.i z ∙ l.invariant.1,
       more xs l.units l.i z (omega arith) (given c) l.invariant.2,
@@ -79,12 +79,12 @@ all_are xs units n m h =
 
 returns : tie.Need-returns invariant-loop decreases-loop
 returns c =
-    let l = c.before.loop in
+    let l = c.loop-i in
     let s = c.before.before.before in
     all_are s.args.xs.now l.units s.requires l.invariant.1 (λ k h. l.invariant.2 k (omega arith))
 
-pub units-in-spec : {M : Type 1} → statement M
-units-in-spec =
+pub units_in_spec : {M : Type 1} → statement M
+units_in_spec =
     tie.close
     (tie.spec invariant-loop decreases-loop loop-holds (λ c. search rules) (λ c. search rules) (λ c. search rules)
     (λ c. search rules) read-requires (λ c κs. search rules) (λ c. search rules) (λ c. search rules)

@@ -11,19 +11,19 @@ use Rattle.float_requests.proofs.survey.check.Statement.{statement}
 use Rattle.float_requests.proofs.survey.check.Tie as tie
 
 -- whether the request is refused under 1
-first : (c : tie.After-is-one) → eqb (number_in (checked c.before.before.args.o)) 1 ≡ c.is_one.result
-first c = sym (c.is_one.ensures ∙ ap (λ (x : Checked). eqb (number_in x) 1) c.before.check.ensures)
+first : (c : tie.After-is_one-first) → eqb (number_in (checked c.args.o)) 1 ≡ c.is_one-first.result
+first c = sym (c.is_one-first.ensures ∙ ap (λ (x : Checked). eqb (number_in x) 1) c.check-c.ensures)
 
-returns : tie.Need-returns
+returns : tie.Need-returns-then-first
 returns c =
     let t = c.before.before.before in
-    c.before.before.check.ensures ∙ checked-one t.args.s t.args.o t.requires (first c.before ∙ c.if1.true)
+    c.check-c.ensures ∙ checked-one t.args.s t.args.o t.requires (first c.before ∙ c.if-first.true)
 
-returns-2 : tie.Need-returns-2
+returns-2 : tie.Need-returns
 returns-2 c =
     let e = c.before.before in
     let t = e.before.before.before in
-    c.check-finite.ensures ∙ checked-on t.args.s t.args.o t.requires (first e.before ∙ e.if1.false)
+    c.check_finite.ensures ∙ checked-on t.args.s t.args.o t.requires (first e.before ∙ e.if-first.false)
 
-pub check-spec : {M : Type 1} → statement M
-check-spec = tie.close (tie.spec (λ c κs. search rules) (λ c κs. search rules) returns (λ c κs. search rules) returns-2)
+pub check_spec : {M : Type 1} → statement M
+check_spec = tie.close (tie.spec (λ c κs. search rules) (λ c κs. search rules) returns (λ c κs. search rules) returns-2)

@@ -7,11 +7,11 @@ use Rattle.sheet_types.specs.laws.RefusalLaws.{number_in}
 use Rattle.float_requests.proofs.survey.is_one.Statement.{statement}
 use Rattle.float_requests.proofs.survey.is_one.Tie as tie
 
-returns : tie.Need-returns
-returns c = sym (ap (λ (x : Checked). eqb (number_in x) 1) c.enum_told.given.1)
+returns : tie.Need-returns-in-Within
+returns c = sym (ap (λ (x : Checked). eqb (number_in x) 1) c.in-Within.is)
 
-returns-2 : tie.Need-returns-2
-returns-2 c = sym (ap (λ (x : Checked). eqb (number_in x) 1) c.before.before.c.given.1)
+returns-2 : tie.Need-returns-in-Refused
+returns-2 c = sym (ap (λ (x : Checked). eqb (number_in x) 1) c.in-Refused.is)
 
-pub is-one-spec : {M : Type 1} → statement M
-is-one-spec = tie.close (tie.spec (λ c. search rules) (λ c. search rules) returns returns-2)
+pub is_one_spec : {M : Type 1} → statement M
+is_one_spec = tie.close (tie.spec (λ c. search rules) (λ c. search rules) returns returns-2)

@@ -12,21 +12,21 @@ use Rattle.float_requests.proofs.survey.request_of.Statement.{statement}
 use Rattle.float_requests.proofs.survey.request_of.Tie as tie
 
 -- the longitude that was read
-longitude-is : (c : tie.After-unit-of) → to_z w64 (of_z w64 c.unit-of.result) ≡ held (longitude_of c.before.before.before.before.args.s.longitude)
+longitude-is : (c : tie.After-unit_of-longitude) → to_z w64 (of_z w64 c.unit_of-longitude.result) ≡ held (longitude_of c.args.s.longitude)
 longitude-is c =
-    let l = c.before.before.before.before.args.s.longitude in
-    read_result c.unit-of.result c.unit-of.type-inv
-    ∙ c.unit-of.ensures
-    ∙ ap stand_in c.before.read-longitude.ensures
+    let l = c.args.s.longitude in
+    read_result c.unit_of-longitude.result c.unit_of-longitude.type_inv
+    ∙ c.unit_of-longitude.ensures
+    ∙ ap stand_in c.read_longitude.ensures
     ∙ stand_in_reading (longitude_scale l) (double_in l)
 
 returns : tie.Need-returns
 unfolding held_request request_of
 returns c =
-    let s = c.before.before.before.before.before.before.before.args.s in
-    let told = c.struct-told2.given.1.1 in
+    let s = c.args.s in
+    let told = c.struct_told-2-1.given.1.1 in
     rw (
-      c.before.before.before.before.before.elements-in.ensures,
+      c.elements_in-elements.ensures,
       longitude-is c.before.before.before,
       read_result s.number told.0.1,
       read_result s.latitude told.1.0.1,
@@ -35,5 +35,5 @@ returns c =
       read_result s.guard told.1.1.1.1.1.0.1,
     )
 
-pub request-of-spec : {M : Type 1} → statement M
-request-of-spec = tie.close (tie.spec (λ c κs. search rules) (λ c κs. search rules) (λ c κs. search rules) returns)
+pub request_of_spec : {M : Type 1} → statement M
+request_of_spec = tie.close (tie.spec (λ c κs. search rules) (λ c κs. search rules) (λ c κs. search rules) returns)

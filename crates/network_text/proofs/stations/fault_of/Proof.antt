@@ -3,11 +3,11 @@ use Rattle.network_text.specs.laws.StationLaws.{fault-clock, fault-other}
 use Rattle.network_text.proofs.stations.fault_of.Statement.{statement}
 use Rattle.network_text.proofs.stations.fault_of.Tie as tie
 
-returns : tie.Need-returns
-returns c = fault-clock c.before.args.k c.before.args.fault c.if1.true
+returns : tie.Need-returns-then-k-eq5
+returns c = fault-clock c.args.k c.args.fault c.if-k-eq5.true
 
-returns-2 : tie.Need-returns-2
-returns-2 c = fault-other c.before.args.k c.before.args.fault c.if1.false
+returns-2 : tie.Need-returns
+returns-2 c = fault-other c.args.k c.args.fault c.if-k-eq5.false
 
-pub fault-of-spec : {M : Type 1} → statement M
-fault-of-spec = tie.close (tie.spec returns returns-2)
+pub fault_of_spec : {M : Type 1} → statement M
+fault_of_spec = tie.close (tie.spec returns returns-2)

@@ -12,61 +12,61 @@ use Rattle.network_text.specs.laws.StationLaws.{word_small, Rowed, rowed-start, 
 use Rattle.network_text.proofs.stations.of_station.Statement.{statement}
 use Rattle.network_text.proofs.stations.of_station.Tie as tie
 
-abbrev invariant-loop : tie.invariant-loop
+abbrev invariant-loop : tie.invariant-loop-k
 invariant-loop s row₀ at₀ k₀ row at k = Rowed s row at k
 
-abbrev decreases-loop : tie.decreases-loop
+abbrev decreases-loop : tie.decreases-loop-k
 decreases-loop s row₀ at₀ k₀ row at k = 6 - k
 
 -- the blanks before a word, and the word, end within the line
-gap : (c : tie.After-run invariant-loop decreases-loop) → c.before.before.before.loop.at + c.run.result ≤ length c.before.before.before.before.before.args.s.now
-gap c = gap_within _ _ _ _ c.before.before.before.loop.invariant c.before.before.loop-test.true _ c.run.ensures.0
+gap : (c : tie.After-run-gap invariant-loop decreases-loop) → c.loop-k.at + c.run-gap.result ≤ length c.args.s.now
+gap c = gap_within _ _ _ _ c.loop-k.invariant c.loop-k-test.true _ c.run-gap.ensures.0
 
-word : (c : tie.After-run2 invariant-loop decreases-loop)
-    → c.before.before.before.before.before.loop.at + c.before.before.run.result + c.run2.result
-    ≤ length c.before.before.before.before.before.before.before.args.s.now
+word : (c : tie.After-run-size invariant-loop decreases-loop)
+    → c.loop-k.at + c.run-gap.result + c.run-size.result
+    ≤ length c.args.s.now
 word c =
     let r = c.before.before in
-    word-within _ _ _ _ r.before.before.before.loop.invariant r.before.before.loop-test.true _ r.run.ensures.0 _ c.run2.ensures.0
+    word-within _ _ _ _ r.loop-k.invariant r.loop-k-test.true _ r.run-gap.ensures.0 _ c.run-size.ensures.0
 
-returns : tie.Need-returns invariant-loop decreases-loop
+returns : tie.Need-returns-in-Faulty invariant-loop decreases-loop
 returns c =
-    let w = c.before.before.before in
-    let two = w.before.before in
+    let w = c in
+    let two = w.before in
     let one = two.before.before in
-    rowed-fault _ _ _ _ one.before.before.before.loop.invariant one.before.before.loop-test.true _ one.run.ensures.0 _ two.run2.ensures.0
-    _ w.word_of.ensures _ c.before.word2.given.1
+    rowed-fault _ _ _ _ one.loop-k.invariant one.loop-k-test.true _ one.run-gap.ensures.0 _ two.run-size.ensures.0
+    _ w.word_of-word.ensures _ c.in-Faulty.is
 
-loop-again : tie.Need-loop-preserved invariant-loop decreases-loop
+loop-again : tie.Need-loop-k-preserved invariant-loop decreases-loop
 loop-again c =
-    let w = c.before.before.before in
-    let two = w.before.before in
+    let w = c in
+    let two = w.before in
     let one = two.before.before in
-    let z = c.before.word.given.0.0 in
-    rw (read_back z (word_small _ _ z (sym w.word_of.ensures ∙ c.before.word.given.1)) tt)
-    (rowed-turn _ _ _ _ one.before.before.before.loop.invariant one.before.before.loop-test.true _ one.run.ensures.0 _ two.run2.ensures.0
-    _ w.word_of.ensures z c.before.word.given.1)
+    
+    rw (read_back c.in-Is.value (word_small _ _ c.in-Is.value (sym w.word_of-word.ensures ∙ c.in-Is.is)) tt)
+    (rowed-turn _ _ _ _ one.loop-k.invariant one.loop-k-test.true _ one.run-gap.ensures.0 _ two.run-size.ensures.0
+    _ w.word_of-word.ensures c.in-Is.value c.in-Is.is)
 
-returns-2 : tie.Need-returns-2 invariant-loop decreases-loop
+returns-2 : tie.Need-returns-then-not-bare invariant-loop decreases-loop
 returns-2 c =
     let a = c.before in
     let l = a.before.before in
-    rowed-more _ _ _ _ l.before.loop.invariant l.loop-test.false (sym a.all.ensures ∙ not-true _ c.if1.true)
+    rowed-more _ _ _ _ l.loop-k.invariant l.loop-k-test.false (sym a.all-bare.ensures ∙ c.if-not-bare.true)
 
-returns-3 : tie.Need-returns-3 invariant-loop decreases-loop
+returns-3 : tie.Need-returns invariant-loop decreases-loop
 returns-3 c =
     let a = c.before.before in
     let l = a.before.before in
-    ap T.Station c.node_of.ensures ∙ rowed-all _ _ _ _ l.before.loop.invariant l.loop-test.false (sym a.all.ensures ∙ not-false _ c.before.if1.false)
+    ap T.Station c.node_of.ensures ∙ rowed-all _ _ _ _ l.loop-k.invariant l.loop-k-test.false (sym a.all-bare.ensures ∙ c.if-not-bare.false)
 
-pub of-station-spec : {M : Type 1} → statement M
-of-station-spec =
+pub of_station_spec : {M : Type 1} → statement M
+of_station_spec =
     tie.close
-    (tie.spec invariant-loop decreases-loop (λ c. rowed-start _ _ refl) (λ c. omega (arith, c.before.loop.invariant.place))
-    (λ c. c.before.loop.invariant.place) (λ c. search rules) (λ c κs. search rules)
+    (tie.spec invariant-loop decreases-loop (λ c. rowed-start _ _ refl) (λ c. omega (arith, c.loop-k.invariant.place))
+    (λ c. c.loop-k.invariant.place) (λ c. search rules) (λ c κs. search rules)
     (λ c. let g = gap c in search rules) (λ c. let g = gap c in search rules) (λ c. gap c) (λ c. search rules)
     (λ c κs. search rules) (λ c. let g = word c in search rules) (λ c. search rules) (λ c. search rules)
     (λ c. word c) (λ c κs. search rules) (λ c. search rules) (λ c. search rules) (λ c. search rules)
     (λ c. search rules) returns (λ c. search rules) (λ c. search rules) loop-again
-    (λ c. omega (arith, c.before.loop.invariant.place)) (λ c. c.before.loop.invariant.place) (λ c. search rules)
+    (λ c. omega (arith, c.loop-k.invariant.place)) (λ c. c.loop-k.invariant.place) (λ c. search rules)
     (λ c κs. search rules) returns-2 (λ c κs. search rules) returns-3)

@@ -10,25 +10,25 @@ use Rattle.network_text.proofs.stations.word_of.Statement.{statement}
 use Rattle.network_text.proofs.stations.word_of.Tie as tie
 
 -- the value decides
-told : (c : tie.After-value-of) (l : Line) → c.value_of_lem.result ≡ l
-    → by_value c.before.before.before.args.k l ≡ word_of c.before.before.before.args.k c.before.before.before.args.word.now
-told c l e = word_by _ _ _ l c.before.field_of.ensures.0 (sym e ∙ c.value_of_lem.ensures)
+told : (c : tie.After-value_of-line) (l : Line) → c.value_of-line.result ≡ l
+    → by_value c.args.k l ≡ word_of c.args.k c.args.word.now
+told c l e = word_by _ _ _ l c.field_of-field.ensures.0 (sym e ∙ c.value_of-line.ensures)
 
-returns : tie.Need-returns
+returns : tie.Need-returns-in-Given
 returns c =
-    let v = c.before.before.before in
-    let z = c.before.line.given.0.1.0 in
-    let is = told v _ c.before.line.given.1 in
-    rw (read_back z (word_small _ _ z (sym is)) tt) is
+    let v = c in
+    
+    let is = told v.before _ c.in-Given.is in
+    rw (read_back c.in-Given.value (word_small _ _ c.in-Given.value (sym is)) tt) is
 
-returns-2 : tie.Need-returns-2
-returns-2 c = ap W.Faulty c.fault-of.ensures ∙ told c.before.before.before.before _ c.before.before.line2.given.1
+returns-2 : tie.Need-returns-in-Faulty
+returns-2 c = ap W.Faulty c.fault_of.ensures ∙ told c.before.before _ c.in-Faulty.is
 
-returns-3 : tie.Need-returns-3
-returns-3 c = told c.before.before _ c.enum_told.given.1
+returns-3 : tie.Need-returns-in-Nothing
+returns-3 c = told c.before _ c.in-Nothing.is
 
-pub word-of-spec : {M : Type 1} → statement M
-word-of-spec =
+pub word_of_spec : {M : Type 1} → statement M
+word_of_spec =
     tie.close
     (tie.spec (λ c κs. search rules) (λ c κs. search rules) (λ c. search rules) (λ c. search rules)
     (λ c κs. search rules) (λ c. search rules) returns returns-2 returns-3)

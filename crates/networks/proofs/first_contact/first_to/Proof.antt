@@ -28,41 +28,41 @@ room : (q : Request) → InLimits (of_eclipse q) → second_count q.window ≤ l
 room q i = omega (arith, seconds-few q.window i.window, length-replicate {A = ℕ} 21601 0)
 
 -- the places before
-abbrev start : tie.After-fill → tie.Start
+abbrev start : tie.After-fill-known → tie.Start
 start c = c.before.before.before.before.before.before.before
 
-fill-requires : tie.Need-fill-requires
+fill-requires : tie.Need-fill-known-requires
 fill-requires c κs =
-    let e = c.before.before.before.before.of-eclipse.ensures in
+    let e = c.of_eclipse-o.ensures in
     let b = c.before.before.before.before.before.before in
-    rw e (b.requires.0, b.requires.1, c.before.geocentric.ensures, room b.args.q b.requires.1)
+    rw e (b.requires.0, b.requires.1, c.geocentric-place.ensures, room b.args.q b.requires.1)
 
-slice-aggregate-first-enter : tie.Need-slice-aggregate-first-enter
+slice-aggregate-first-enter : tie.Need-slice_bounds-first_enter-end
 slice-aggregate-first-enter c =
     let f = c.before.before in
-    sym (length-take-le f.fill.result.count f.fill.new.1.1.1.0 f.fill.ensures.0.count)
+    sym (length-take-le f.fill-known.result.count f.fill-known.new.runs f.fill-known.ensures.0.count)
 
 -- the penumbra's states
-states : (f : tie.After-fill) → decoded 0 (take f.fill.result.count f.fill.new.1.1.1.0) ≡ states_of (of_eclipse (start f).args.q) Penumbra
-states f = (rw f.before.before.before.before.before.of-eclipse.ensures at f.fill.ensures.0.states).phase 0 (omega arith)
+states : (f : tie.After-fill-known) → decoded 0 (take f.fill-known.result.count f.fill-known.new.runs) ≡ states_of (of_eclipse (start f).args.q) Penumbra
+states f = (rw f.of_eclipse-o.ensures at f.fill-known.ensures.0.states).phase 0 (omega arith)
 
-first-enter-requires : tie.Need-first-enter-requires
+first-enter-requires : tie.Need-first_enter-requires
 first-enter-requires c κs =
     let f = c.before.before in
     let b = start f in
     let o = of_eclipse b.args.q in
-    (b.pre.1.window, f.fill.ensures.0.states.whole, ap length (states f) ∙ states_length o Penumbra)
+    (b.requires.1.window, f.fill-known.ensures.0.states.whole, ap length (states f) ∙ states_length o Penumbra)
 
 returns : tie.Need-returns
 returns c =
     let f = c.before.before.before in
     let q = (start f).args.q in
-    c.first-enter.ensures
+    c.first_enter.ensures
     ∙ ap (λ l. first_enter (map (shifted (stored q.window.first)) (entries l))) (states f)
     ∙ sym (first-to-is q (start f).requires.1)
 
-pub first-to-spec : {M : Type 1} → statement M
-first-to-spec =
+pub first_to_spec : {M : Type 1} → statement M
+first_to_spec =
     tie.close
     (tie.spec (λ c κs. search rules) (λ c κs. search rules) (λ c. search rules) fill-requires
-    (λ c. c.before.fill.ensures.0.count) slice-aggregate-first-enter first-enter-requires returns)
+    (λ c. c.fill-known.ensures.0.count) slice-aggregate-first-enter first-enter-requires returns)

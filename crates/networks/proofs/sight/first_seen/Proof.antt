@@ -25,62 +25,62 @@ use Rattle.networks.specs.laws.SightLaws.{named-at, named_none}
 use Rattle.networks.proofs.sight.first_seen.Statement.{statement}
 use Rattle.networks.proofs.sight.first_seen.Tie as tie
 
-abbrev start : tie.After-first-tos → tie.Start
+abbrev start : tie.After-first_tos-tos → tie.Start
 start c = c.before.before
 
-abbrev list : tie.After-first-tos → List Node
-list c = let h = (start c).args.t3 in take h.count h.nodes
+abbrev list : tie.After-first_tos-tos → List Node
+list c = let h = (start c).args.h in take h.count h.nodes
 
-list_counted : (c : tie.After-first-tos) → length (list c) ≡ (start c).args.t3.count
-list_counted c = let h = (start c).args.t3 in length-take-le h.count h.nodes (omega (arith, (start c).requires.1, (start c).requires.2))
+list_counted : (c : tie.After-first_tos-tos) → length (list c) ≡ (start c).args.h.count
+list_counted c = let h = (start c).args.h in length-take-le h.count h.nodes (omega (arith, (start c).requires.1, (start c).requires.2))
 
-counted : (c : tie.After-first-tos) → length (take (start c).args.t3.count c.first-tos.result) ≡ (start c).args.t3.count
-counted c = length-take-le (start c).args.t3.count c.first-tos.result (omega (arith, (start c).requires.1, c.first-tos.ensures.0))
+counted : (c : tie.After-first_tos-tos) → length (take (start c).args.h.count c.first_tos-tos.result) ≡ (start c).args.h.count
+counted c = length-take-le (start c).args.h.count c.first_tos-tos.result (omega (arith, (start c).requires.1, c.first_tos-tos.ensures.0))
 
-best-is : (c : tie.After-earliest) → c.earliest.result ≡ earliestOf (tos_of (start c.before.before).args.e (list c.before.before)) never
-best-is c = c.earliest.ensures ∙ ap (λ (ts : List ℕ). earliestOf ts never) c.before.before.first-tos.ensures.1
+best-is : (c : tie.After-earliest-best) → c.earliest-best.result ≡ earliestOf (tos_of (start c.before.before).args.e (list c.before.before)) never
+best-is c = c.earliest-best.ensures ∙ ap (λ (ts : List ℕ). earliestOf ts never) c.first_tos-tos.ensures.1
 
 -- ---- the station found
-module _ (c : tie.After-struct-told) where
-  abbrev test : tie.Then1
+module _ (c : tie.After-struct_told-1) where
+  abbrev test : tie.Then-best-n
   test = c.before.before.before.before
 
-  abbrev best : tie.After-earliest
+  abbrev best : tie.After-earliest-best
   best = test.before
 
-  abbrev found : tie.After-first-tos
+  abbrev found : tie.After-first_tos-tos
   found = best.before.before
 
   abbrev there : Node
-  there = get_or (start found).args.t3.nodes best.earliest.result blank_node
+  there = get_or (start found).args.h.nodes best.earliest-best.result blank_node
 
-  in_list : get_or (list found) best.earliest.result blank_node ≡ there
-  in_list = let h = (start found).args.t3 in get_or-take h.count h.nodes best.earliest.result blank_node test.if1.taken
+  in_list : get_or (list found) best.earliest-best.result blank_node ≡ there
+  in_list = let h = (start found).args.h in get_or-take h.count h.nodes best.earliest-best.result blank_node test.if-best-n.true
 
   fits : SFits w64 there.station.number
-  fits = record { sfits = c.struct_told.given.0.1 }
+  fits = record { sfits = c.struct_told-1.given.0.1 }
 
   within : InLimits (of_eclipse (request_of (start found).args.e there.station))
   within =
       subst (λ (n : Node). InLimits (of_eclipse (request_of (start found).args.e n.station))) in_list
-      ((start found).pre.3 best.earliest.result (omega (arith, test.if1.taken, list_counted found)))
+      ((start found).requires.3 best.earliest-best.result (omega (arith, test.if-best-n.true, list_counted found)))
 
-cast-result : tie.Need-overflow-cast-result
+cast-result : tie.Need-overflow_cast-result
 cast-result c = cast_unsigned (there c).station.number (fits c) (omega (arith, zs, (within c).station.number.0))
 
-returns : tie.Need-returns
+returns : tie.Need-returns-then-best-n
 returns c =
     ap nat_abs (to_z-of_z w64 (there c).station.number (fits c))
     ∙ (ap (λ (n : Node). nat_abs n.station.number) (sym (in_list c)) ∙ sym (named-at (start (found c)).args.e (list (found c)) _ (best-is (best c))))
 
-returns-2 : tie.Need-returns-2
+returns-2 : tie.Need-returns
 returns-2 c =
     let b = c.before in
     let f = b.before.before in
-    sym (named_none (start f).args.e (list f) _ (best-is b) (omega (arith, c.if1.false, list_counted f)))
+    sym (named_none (start f).args.e (list f) _ (best-is b) (omega (arith, c.if-best-n.false, list_counted f)))
 
-pub first-seen-spec : {M : Type 1} → statement M
-first-seen-spec =
+pub first_seen_spec : {M : Type 1} → statement M
+first_seen_spec =
     tie.close
-    (tie.spec (λ c κs. c.before.requires) (λ c. search rules) (λ c. sym (counted c.before))
+    (tie.spec (λ c κs. c.requires) (λ c. search rules) (λ c. sym (counted c.before))
     (λ c κs. search rules) (λ c. search rules) (λ c. search rules) cast-result returns returns-2)

@@ -9,28 +9,28 @@ use Rattle.request_answers.specs.laws.ContactLaws.{asked-same, sines-same}
 use Rattle.request_answers.proofs.one_contact.asked.Statement.{statement}
 use Rattle.request_answers.proofs.one_contact.asked.Tie as tie
 
-returns : tie.Need-returns
+returns : tie.Need-returns-in-Is
 returns c =
-    let given = c.before.before.before.before.before in
-    let start = given.before.before.before.before.before in
-    let s = c.before.before.contact-at.ensures in
-    let input = sym given.given.given.1 ∙ given.before.before.wish.ensures in
+    let given = c.before.before.before.before in
+    let start = given.before.before.before.before in
+    let s = c.contact_at.ensures in
+    let input = sym given.in-Is.is ∙ given.wish-given.ensures in
     let φ = to_z-of_z w64 start.args.phase start.ranges.phase in
     let f = to_z-of_z w64 start.args.from start.ranges.from in
     let t = to_z-of_z w64 start.args.to start.ranges.to in
     (s.0 ∙ asked-same input φ f t start.args.sines.now, s.1 ∙ sines-same input φ f t start.args.sines.now)
 
-returns-2 : tie.Need-returns-2
+returns-2 : tie.Need-returns-in-Refused
 returns-2 c =
-    let given = c.before in
-    let start = given.before.before.before.before.before in
-    let input = sym given.given2.given.1 ∙ given.before.before.wish.ensures in (
+    let given = c in
+    let start = given.before.before.before.before in
+    let input = sym given.in-Refused.is ∙ given.wish-given.ensures in (
       ap (λ i. contact_asked i start.args.phase start.args.from start.args.to start.args.sines.now) input,
       ap (λ i. contact_sines_asked i start.args.phase start.args.from start.args.to start.args.sines.now) input,
     )
 
-pub asked-spec : {M : Type 1} → statement M
-asked-spec =
+pub asked_spec : {M : Type 1} → statement M
+asked_spec =
     tie.close
     (tie.spec (λ c κs. search rules) (λ c. search rules) (λ c κs. search rules) (λ c. search rules)
     (λ c. search rules) returns returns-2)

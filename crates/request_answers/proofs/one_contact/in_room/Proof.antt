@@ -5,14 +5,14 @@ use Rattle.request_answers.specs.laws.ContactLaws.{contact-short, contact-whole}
 use Rattle.request_answers.proofs.one_contact.in_room.Statement.{statement}
 use Rattle.request_answers.proofs.one_contact.in_room.Tie as tie
 
-returns : tie.Need-returns
+returns : tie.Need-returns-in_default
 returns c = search rules
 
-returns-2 : tie.Need-returns-2
-returns-2 c = rw c.before.enum_told.given.1 (sym (contact-short c.before.before.before.args.room _ _ c.if1.true))
+returns-2 : tie.Need-returns-then-room-lt2
+returns-2 c = rw c.in-Is.is (sym (contact-short c.args.room _ _ c.if-room-lt2.true))
 
-returns-3 : tie.Need-returns-3
-returns-3 c = rw c.before.enum_told.given.1 (sym (contact-whole c.before.before.before.args.room _ _ c.if1.false))
+returns-3 : tie.Need-returns
+returns-3 c = rw c.in-Is.is (sym (contact-whole c.args.room _ _ c.if-room-lt2.false))
 
-pub in-room-spec : {M : Type 1} → statement M
-in-room-spec = tie.close (tie.spec (λ c. search rules) (λ c. search rules) returns returns-2 returns-3)
+pub in_room_spec : {M : Type 1} → statement M
+in_room_spec = tie.close (tie.spec (λ c. search rules) (λ c. search rules) returns returns-2 returns-3)

@@ -9,28 +9,28 @@ use Rattle.request_answers.specs.Horizons.{horizon_asked}
 use Rattle.request_answers.proofs.one_horizon.asked.Statement.{statement}
 use Rattle.request_answers.proofs.one_horizon.asked.Tie as tie
 
-returns : tie.Need-returns
+returns : tie.Need-returns-in-Is
 returns c =
-    let given = c.before.before.before.before.before in
-    let start = given.before.before.before.before.before in
-    let s = c.before.before.horizon-at.ensures in
-    let input = sym given.given.given.1 ∙ given.before.before.wish.ensures in
+    let given = c.before.before.before.before in
+    let start = given.before.before.before.before in
+    let s = c.horizon_at.ensures in
+    let input = sym given.in-Is.is ∙ given.wish-given.ensures in
     let t = to_z-of_z w64 start.args.second start.ranges.second in (
       s.0 ∙ ap₂ (λ i τ. horizon_asked i τ start.args.sines.now) input t,
       s.1 ∙ ap₂ (λ i τ. sines_asked i τ start.args.sines.now) input t,
     )
 
-returns-2 : tie.Need-returns-2
+returns-2 : tie.Need-returns-in-Refused
 returns-2 c =
-    let given = c.before in
-    let start = given.before.before.before.before.before in
-    let input = sym given.given2.given.1 ∙ given.before.before.wish.ensures in (
+    let given = c in
+    let start = given.before.before.before.before in
+    let input = sym given.in-Refused.is ∙ given.wish-given.ensures in (
       ap (λ i. horizon_asked i start.args.second start.args.sines.now) input,
       ap (λ i. sines_asked i start.args.second start.args.sines.now) input,
     )
 
-pub asked-spec : {M : Type 1} → statement M
-asked-spec =
+pub asked_spec : {M : Type 1} → statement M
+asked_spec =
     tie.close
     (tie.spec (λ c κs. search rules) (λ c. search rules) (λ c κs. search rules) (λ c. search rules)
     (λ c. search rules) returns returns-2)

@@ -14,8 +14,8 @@ use Rattle.request_answers.proofs.one_horizon.horizon.Statement.{statement}
 use Rattle.request_answers.proofs.one_horizon.horizon.Tie as tie
 
 -- ---- where the buffer was judged
-module _ (c : tie.After-in-room) where
-  abbrev asked : tie.After-asked
+module _ (c : tie.After-in_room-given) where
+  abbrev asked : tie.After-asked-found
   asked = c.before.before.before
 
   abbrev start : tie.Start
@@ -23,49 +23,48 @@ module _ (c : tie.After-in-room) where
 
   -- second is read back from its bits
   second_is : to_z w64 (of_z w64 start.args.second) ≡ start.args.second
-  second_is = to_z-of_z w64 start.args.second start.fits.second
+  second_is = to_z-of_z w64 start.args.second start.ranges.second
 
   -- what is given, by its definition
   abbrev given : OneHorizon
   given = horizon_given start.args.shape start.args.request.now start.args.second start.args.sines.now start.args.room.now
 
-  found-is : asked.asked.result ≡ horizon_asked (wish start.args.shape start.args.request.now) start.args.second start.args.sines.now
-  found-is = asked.asked.ensures.0 ∙ ap (λ τ. horizon_asked (wish start.args.shape start.args.request.now) τ start.args.sines.now) second_is
+  found-is : asked.asked-found.result ≡ horizon_asked (wish start.args.shape start.args.request.now) start.args.second start.args.sines.now
+  found-is = asked.asked-found.ensures.0 ∙ ap (λ τ. horizon_asked (wish start.args.shape start.args.request.now) τ start.args.sines.now) second_is
 
-  given_is : c.in-room.result ≡ given
+  given_is : c.in_room-given.result ≡ given
   unfolding horizon_given
-  given_is = c.in-room.ensures ∙ ap (λ s. horizon_into (length start.args.room.now) s) found-is
+  given_is = c.in_room-given.ensures ∙ ap (λ s. horizon_into (length start.args.room.now) s) found-is
 
   -- the buffer for table S
-  sines-is : asked.asked.last.1.1.1.0 ≡ sines_asked (wish start.args.shape start.args.request.now) start.args.second start.args.sines.now
-  sines-is = asked.asked.ensures.1 ∙ ap (λ τ. sines_asked (wish start.args.shape start.args.request.now) τ start.args.sines.now) second_is
+  sines-is : asked.asked-found.new.sines ≡ sines_asked (wish start.args.shape start.args.request.now) start.args.second start.args.sines.now
+  sines-is = asked.asked-found.ensures.1 ∙ ap (λ τ. sines_asked (wish start.args.shape start.args.request.now) τ start.args.sines.now) second_is
 
-put-horizon-requires : tie.Need-put-horizon-requires
+put-horizon-requires : tie.Need-put_horizon-requires
 unfolding horizon_given
 put-horizon-requires c κs =
-    let got = c.before.before.before.before in
-    let known = c.before.before.given.given in
-    let a = (start got).args in
-    horizon-fits (length a.room.now) known.0.0 (horizon_asked (wish a.shape a.request.now) a.second a.sines.now)
-    (sym (given_is got) ∙ known.1)
-
-returns : tie.Need-returns
-returns c =
-    let got = c.before.before.before.before.before.before in
-    let a = (start got).args in
-    let is = sym c.before.before.before.before.given.given.1 ∙ given_is got in
-    let room = c.before.put-horizon.ensures ∙ ap (λ x. horizon_after x a.room.now) is in
-    (is, (room, sines-is got))
-
-returns-2 : tie.Need-returns-2
-returns-2 c =
     let got = c.before.before in
     let a = (start got).args in
-    let room = ap (λ x. horizon_after x a.room.now) (sym c.enum_told.given.1 ∙ given_is got) in
+    horizon-fits (length a.room.now) c.in-Is.h (horizon_asked (wish a.shape a.request.now) a.second a.sines.now)
+    (sym (given_is got) ∙ c.in-Is.is)
+
+returns : tie.Need-returns-in-Is
+returns c =
+    let got = c.before.before.before.before in
+    let a = (start got).args in
+    let is = sym c.in-Is.is ∙ given_is got in
+    let room = c.put_horizon.ensures ∙ ap (λ x. horizon_after x a.room.now) is in
+    (is, (room, sines-is got))
+
+returns-2 : tie.Need-returns-in_default
+returns-2 c =
+    let got = c.before in
+    let a = (start got).args in
+    let room = ap (λ x. horizon_after x a.room.now) (sym c.in_default.is ∙ given_is got) in
     (given_is got, (room, sines-is got))
 
-pub horizon-spec : {M : Type 1} → statement M
-horizon-spec =
+pub horizon_spec : {M : Type 1} → statement M
+horizon_spec =
     tie.close
     (tie.spec (λ c κs. search rules) (λ c κs. search rules) (λ c. search rules) put-horizon-requires
     (λ c. search rules) (λ c. search rules) (λ c. search rules) returns (λ c. search rules) returns-2)

@@ -11,16 +11,16 @@ use Rattle.request_answers.proofs.one_second.Small.{small}
 use Rattle.request_answers.proofs.one_second.put_eclipse.Statement.{statement}
 use Rattle.request_answers.proofs.one_second.put_eclipse.Tie as tie
 
-same_length : tie.Need-same-length
-same_length c = length-sets c.before.before.before.before.before.before.before.before.before.args.room.now 0 (_ ∷ _ ∷ _ ∷ _ ∷ _ ∷ _ ∷ _ ∷ _ ∷ [])
+same_length : tie.Need-shape_of-room
+same_length c = length-sets c.args.room.now 0 (_ ∷ _ ∷ _ ∷ _ ∷ _ ∷ _ ∷ _ ∷ _ ∷ [])
 
 returns : tie.Need-returns
 returns c =
     let b = c.before.before.before.before.before.before.before.before.before in
     let x = b.args.second in
     let s = x.shadow in
-    let told = c.struct-told4.given in
-    let known = c.before.before.before.before.struct-known4.given in
+    let told = c.struct_told-4-1.given in
+    let known = c.struct_known-4-1.given in
     rw (
       read_result s.u told.0.1,
       read_result s.v told.1.0.1,
@@ -33,8 +33,8 @@ returns c =
     )
     (sets-eq (eight x) b.args.room.now 0 b.requires)
 
-pub put-eclipse-spec : {M : Type 1} → statement M
-put-eclipse-spec =
+pub put_eclipse_spec : {M : Type 1} → statement M
+put_eclipse_spec =
     tie.close
     (tie.spec (λ c. search rules) (λ c. search rules) (λ c. search rules) (λ c. search rules)
     (λ c. search rules) (λ c. simp length-set (omega arith)) (λ c. simp length-set (omega arith))

@@ -13,8 +13,8 @@ use Rattle.request_answers.proofs.one_second.second.Statement.{statement}
 use Rattle.request_answers.proofs.one_second.second.Tie as tie
 
 -- ---- where the buffer was judged
-module _ (c : tie.After-in-room) where
-  abbrev asked : tie.After-asked
+module _ (c : tie.After-in_room-given) where
+  abbrev asked : tie.After-asked-found
   asked = c.before.before.before.before
 
   abbrev start : tie.Start
@@ -22,45 +22,44 @@ module _ (c : tie.After-in-room) where
 
   -- second is read back from its bits
   second_is : to_z w64 (of_z w64 start.args.second) ≡ start.args.second
-  second_is = to_z-of_z w64 start.args.second start.fits.second
+  second_is = to_z-of_z w64 start.args.second start.ranges.second
 
   -- what is given, by its definition
   abbrev given : OneSecond
   given = second_given start.args.shape start.args.request.now start.args.second start.args.sines.now start.args.shadow.now
 
-  found-is : asked.asked.result ≡ second_asked (wish start.args.shape start.args.request.now) start.args.second start.args.sines.now
-  found-is = asked.asked.ensures.0 ∙ ap (λ τ. second_asked (wish start.args.shape start.args.request.now) τ start.args.sines.now) second_is
+  found-is : asked.asked-found.result ≡ second_asked (wish start.args.shape start.args.request.now) start.args.second start.args.sines.now
+  found-is = asked.asked-found.ensures.0 ∙ ap (λ τ. second_asked (wish start.args.shape start.args.request.now) τ start.args.sines.now) second_is
 
-  given_is : c.in-room.result ≡ given
+  given_is : c.in_room-given.result ≡ given
   unfolding second_given
-  given_is = c.in-room.ensures ∙ ap₂ (λ n s. second_into n (length start.args.shadow.now) s) c.before.number-count.ensures found-is
+  given_is = c.in_room-given.ensures ∙ ap₂ (λ n s. second_into n (length start.args.shadow.now) s) c.number_count-count.ensures found-is
 
   -- the buffer for table S
-  sines-is : asked.asked.last.1.1.1.0 ≡ sines_asked (wish start.args.shape start.args.request.now) start.args.second start.args.sines.now
-  sines-is = asked.asked.ensures.1 ∙ ap (λ τ. sines_asked (wish start.args.shape start.args.request.now) τ start.args.sines.now) second_is
+  sines-is : asked.asked-found.new.sines ≡ sines_asked (wish start.args.shape start.args.request.now) start.args.second start.args.sines.now
+  sines-is = asked.asked-found.ensures.1 ∙ ap (λ τ. sines_asked (wish start.args.shape start.args.request.now) τ start.args.sines.now) second_is
 
-put-numbers-requires : tie.Need-put-numbers-requires
+put-numbers-requires : tie.Need-put_numbers-requires
 unfolding second_given
 put-numbers-requires c κs =
-    let got = c.before.before.before.before in
-    let known = c.before.before.given.given in
-    let a = (start got).args in
-    second_fits (number_count a.shape) (length a.shadow.now) known.0.0 (second_asked (wish a.shape a.request.now) a.second a.sines.now)
-    (sym (given_is got) ∙ known.1)
-
-returns : tie.Need-returns
-returns c =
-    let got = c.before.before.before.before.before.before in
-    let a = (start got).args in
-    let is = sym c.before.before.before.before.given.given.1 ∙ given_is got in
-    let room = c.before.put-numbers.ensures ∙ ap (λ x. numbers_after a.shape x a.shadow.now) is in
-    (is, (room, (sines-is got, given_means a.shape a.request.now a.second a.sines.now a.shadow.now _ room)))
-
-returns-2 : tie.Need-returns-2
-returns-2 c =
     let got = c.before.before in
     let a = (start got).args in
-    let room = ap (λ x. numbers_after a.shape x a.shadow.now) (sym c.enum_told.given.1 ∙ given_is got) in
+    second_fits (number_count a.shape) (length a.shadow.now) c.in-Is.numbers (second_asked (wish a.shape a.request.now) a.second a.sines.now)
+    (sym (given_is got) ∙ c.in-Is.is)
+
+returns : tie.Need-returns-in-Is
+returns c =
+    let got = c.before.before.before.before in
+    let a = (start got).args in
+    let is = sym c.in-Is.is ∙ given_is got in
+    let room = c.put_numbers.ensures ∙ ap (λ x. numbers_after a.shape x a.shadow.now) is in
+    (is, (room, (sines-is got, given_means a.shape a.request.now a.second a.sines.now a.shadow.now _ room)))
+
+returns-2 : tie.Need-returns-in_default
+returns-2 c =
+    let got = c.before in
+    let a = (start got).args in
+    let room = ap (λ x. numbers_after a.shape x a.shadow.now) (sym c.in_default.is ∙ given_is got) in
     (given_is got, (room, (sines-is got, given_means a.shape a.request.now a.second a.sines.now a.shadow.now a.shadow.now room)))
 
 pub second_spec : {M : Type 1} → statement M

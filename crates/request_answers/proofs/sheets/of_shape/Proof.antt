@@ -8,7 +8,7 @@ returns : tie.Need-returns
 returns c =
     let made = c.before.before.before.before in
     let asked = made.before.before.before in
-    promised _ _ _ asked.before.before.before.before.args.shape _ _ _ (rw asked.wish.ensures at made.sheet-for.ensures)
+    promised _ _ _ asked.args.shape _ _ _ (rw asked.wish-asked.ensures at made.sheet_for.ensures)
 
-pub of-shape-spec : {M : Type 1} → statement M
-of-shape-spec = tie.close (tie.spec (λ c κs. search rules) (λ c κs. search rules) (λ c. search rules) (λ c. search rules) returns)
+pub of_shape_spec : {M : Type 1} → statement M
+of_shape_spec = tie.close (tie.spec (λ c κs. search rules) (λ c κs. search rules) (λ c. search rules) (λ c. search rules) returns)

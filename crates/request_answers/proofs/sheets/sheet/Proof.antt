@@ -6,7 +6,7 @@ use Rattle.request_answers.proofs.sheets.sheet.Tie as tie
 
 returns : tie.Need-returns
 unfolding answer_to buffer_for sines_for
-returns c = c.before.before.before.before.of-shape.ensures
+returns c = c.of_shape.ensures
 
-pub sheet-spec : {M : Type 1} → statement M
-sheet-spec = tie.close (tie.spec (λ c κs. search rules) (λ c. search rules) (λ c. search rules) returns)
+pub sheet_spec : {M : Type 1} → statement M
+sheet_spec = tie.close (tie.spec (λ c κs. search rules) (λ c. search rules) (λ c. search rules) returns)

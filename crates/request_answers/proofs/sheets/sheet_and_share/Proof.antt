@@ -11,9 +11,9 @@ returns : tie.Need-returns
 returns c =
     let made = c.before.before.before.before in
     let asked = made.before.before.before in
-    let shared = asked.before.with-share.ensures ∙ ap sharing asked.before.before.request.ensures in
-    promised-shared _ _ _ _ _ _ (rw (asked.of-eclipse.ensures ∙ ap eclipse_asked shared) at made.sheet-for.ensures)
+    let shared = asked.with_share.ensures ∙ ap sharing asked.request.ensures in
+    promised-shared _ _ _ _ _ _ (rw (asked.of_eclipse-asked.ensures ∙ ap eclipse_asked shared) at made.sheet_for.ensures)
 
-pub sheet-and-share-spec : {M : Type 1} → statement M
-sheet-and-share-spec =
+pub sheet_and_share_spec : {M : Type 1} → statement M
+sheet_and_share_spec =
     tie.close (tie.spec (λ c κs. search rules) (λ c κs. search rules) (λ c κs. search rules) (λ c κs. search rules) (λ c. search rules) (λ c. search rules) returns)

@@ -6,7 +6,7 @@ use Rattle.request_answers.proofs.sheets.star_sheet.Tie as tie
 
 returns : tie.Need-returns
 unfolding star_answer star_buffer star_sines
-returns c = c.before.before.before.before.of-shape.ensures
+returns c = c.of_shape.ensures
 
-pub star-sheet-spec : {M : Type 1} → statement M
-star-sheet-spec = tie.close (tie.spec (λ c κs. search rules) (λ c. search rules) (λ c. search rules) returns)
+pub star_sheet_spec : {M : Type 1} → statement M
+star_sheet_spec = tie.close (tie.spec (λ c κs. search rules) (λ c. search rules) (λ c. search rules) returns)

@@ -12,14 +12,14 @@ unfolding sheet_bytes
 returns c =
     omega (
       arith,
-      c.before.before.size-of.ensures.0,
-      c.before.phases-length.ensures.0,
-      c.closing-length.ensures.0,
-      sheet-length (course_of c.before.before.before.before.args.o),
+      c.size_of-head.ensures.0,
+      c.phases_length-phases.ensures.0,
+      c.closing_length-closing.ensures.0,
+      sheet-length (course_of c.args.o),
     )
 
-pub sheet-length-spec : {M : Type 1} → statement M
-sheet-length-spec =
+pub sheet_length_spec : {M : Type 1} → statement M
+sheet_length_spec =
     tie.close
     (tie.spec (λ c κs. search rules) (λ c κs. search rules) (λ c κs. search rules) (λ c. search rules)
     (λ c. search rules) returns)

@@ -8,7 +8,7 @@ use Rattle.float_requests.proofs.instrument.writing.check_longitude.Statement.{s
 use Rattle.float_requests.proofs.instrument.writing.check_longitude.Tie as tie
 
 returns : tie.Need-returns
-returns c = c.check.ensures ∙ ap longitude_checked (to_z-of_z w64 c.before.args.longitude c.before.ranges.longitude)
+returns c = c.check.ensures ∙ ap longitude_checked (to_z-of_z w64 c.args.longitude c.ranges.longitude)
 
-pub check-longitude-spec : {M : Type 1} → statement M
-check-longitude-spec = tie.close (tie.spec (λ c κs. search rules) returns)
+pub check_longitude_spec : {M : Type 1} → statement M
+check_longitude_spec = tie.close (tie.spec (λ c κs. search rules) returns)

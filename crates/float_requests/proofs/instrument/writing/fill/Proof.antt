@@ -19,40 +19,40 @@ use Rattle.float_requests.specs.laws.ScaleLaws.{scale_in, doubles_at, doubles_le
 use Rattle.float_requests.proofs.instrument.writing.fill.Statement.{statement}
 use Rattle.float_requests.proofs.instrument.writing.fill.Tie as tie
 
-abbrev invariant-loop : tie.invariant-loop
+abbrev invariant-loop : tie.invariant-loop-i
 invariant-loop units room₀ table i₀ room i = (i ≤ 23) × (length room ≡ length room₀) × (room ≡ paste room₀ 0 (doubles_in scales units) i)
 
-abbrev decreases-loop : tie.decreases-loop
+abbrev decreases-loop : tie.decreases-loop-i
 decreases-loop units room₀ table i₀ room i = 23 - i
 
-shared-slice-copy-out-unit : tie.Need-shared-slice-copy-out-unit invariant-loop decreases-loop
+shared-slice-copy-out-unit : tie.Need-bounds-units-i invariant-loop decreases-loop
 shared-slice-copy-out-unit c = let s = c.before.before.before in omega (arith, s.requires.0.count)
 
-double-of-requires : tie.Need-double-of-requires invariant-loop decreases-loop
+double-of-requires : tie.Need-double_of-requires invariant-loop decreases-loop
 double-of-requires c κs =
     let s = c.before.before.before.before in
-    let i = c.before.before.loop.i in
+    let i = c.loop-i.i in
     let h : i < 23 = omega arith in
     let scale = scale_in i h in
     let size = read-size (get_or s.args.units.now i (pos 0)) 1000000000 (s.requires.0.sizes i h) tt in
     (omega arith, omega arith, scale.1)
 
-slice-write-room : tie.Need-slice-write-room invariant-loop decreases-loop
+slice-write-room : tie.Need-bounds-room-i invariant-loop decreases-loop
 slice-write-room c =
-    let l = c.before.before.before.loop in
+    let l = c.loop-i in
     let s = c.before.before.before.before.before in
     omega (arith, l.invariant.1, s.requires.1)
 
 -- what was stored
-given : (c : tie.After-double-of invariant-loop decreases-loop)
-    → c.double-of.result
-    ≡ get_or (doubles_in scales c.before.before.before.before.before.args.units.now) c.before.before.before.loop.i nan
+given : (c : tie.After-double_of invariant-loop decreases-loop)
+    → c.double_of.result
+    ≡ get_or (doubles_in scales c.args.units.now) c.loop-i.i nan
 given c =
     let s = c.before.before.before.before.before in
     let us = s.args.units.now in
-    let i = c.before.before.before.loop.i in
+    let i = c.loop-i.i in
     let h : i < 23 = omega arith in
-    c.double-of.ensures.0
+    c.double_of.ensures.0
     ∙ ap (λ (z : ℤ). double_of (get_or scales i 0) z) (read_back (get_or us i (pos 0)) (s.requires.0.sizes i h) tt)
     ∙ sym (doubles_at scales us [] i h (omega (arith, s.requires.0.count)))
     ∙ ap (λ (xs : List Float). get_or xs i nan) (append-nil (doubles_in scales us))
@@ -64,20 +64,20 @@ more old all room i x g h e f =
     rw (e, f, add-one)
     (subst (λ (k : ℕ). set (paste old 0 all i) k (get_or all i nan) ≡ paste old 0 all (suc i)) (zero-add i) (paste-suc old 0 all i nan (omega arith) h))
 
-loop-again : tie.Need-loop-preserved invariant-loop decreases-loop
+loop-again : tie.Need-loop-i-preserved invariant-loop decreases-loop
 loop-again c =
-    let l = c.before.before.before.loop in
+    let l = c.loop-i in
     let s = c.before.before.before.before.before in
     let all = doubles_in scales s.args.units.now in (
       omega arith,
-      length-set l.room l.i c.double-of.result ∙ l.invariant.1,
-      more s.args.room.now all l.room l.i c.double-of.result (omega (arith, s.requires.1))
+      length-set l.room l.i c.double_of.result ∙ l.invariant.1,
+      more s.args.room.now all l.room l.i c.double_of.result (omega (arith, s.requires.1))
           (omega (arith, doubles_length scales s.args.units.now s.requires.0.count, s.requires.0.count)) l.invariant.2 (given c),
     )
 
 returns : tie.Need-returns invariant-loop decreases-loop
 returns c =
-    let l = c.before.loop in
+    let l = c.loop-i in
     let s = c.before.before.before in
     let all = doubles_in scales s.args.units.now in
     let e : l.i ≡ 23 = omega arith in
@@ -91,4 +91,4 @@ fill_spec =
     tie.close
     (tie.spec invariant-loop decreases-loop (λ c. (omega arith, refl, refl)) (λ c. search rules) shared-slice-copy-out-unit
     (λ c. search rules) (λ c. search rules) double-of-requires (λ c. search rules) slice-write-room
-    (λ c. search rules) (λ c. search rules) loop-again (λ c. c.before.loop.invariant.1) returns)
+    (λ c. search rules) (λ c. search rules) loop-again (λ c. c.loop-i.invariant.1) returns)

@@ -13,54 +13,54 @@ use Rattle.float_requests.proofs.instrument.writing.judged.Statement.{statement}
 use Rattle.float_requests.proofs.instrument.writing.judged.Tie as tie
 
 -- what the elements' check found
-elements_are : (c : tie.After-check) → elements_checked (elements_of c.before.before.before.args.units.now) ≡ c.check.result
-elements_are c = sym (c.check.ensures ∙ ap elements_checked c.before.from-numbers.ensures)
+elements_are : (c : tie.After-check-of_elements) → elements_checked (elements_of c.args.units.now) ≡ c.check-of_elements.result
+elements_are c = sym (c.check-of_elements.ensures ∙ ap elements_checked c.from_numbers-e.ensures)
 
-within : (c : tie.After-enum-told) → elements_checked (elements_of c.before.before.before.before.before.args.units.now) ≡ C.Within
-within c = elements_are c.before.before ∙ c.enum_told.given.1
+within : (c : tie.In_default) → elements_checked (elements_of c.args.units.now) ≡ C.Within
+within c = elements_are c.before ∙ c.in_default.is
 
-longitude-is : (c : tie.After-check-longitude)
-    → longitude_checked (get_or c.before.before.before.before.before.before.before.args.units.now 22 (pos 0)) ≡ c.check-longitude.result
+longitude-is : (c : tie.After-check_longitude-of_longitude)
+    → longitude_checked (get_or c.args.units.now 22 (pos 0)) ≡ c.check_longitude-of_longitude.result
 longitude-is c =
-    let us = c.before.before.before.before.before.before.before.args.units.now in
-    sym (c.check-longitude.ensures ∙ ap longitude_checked (read_result (get_or us 22 (pos 0)) c.before.longitude.given))
+    let us = c.args.units.now in
+    sym (c.check_longitude-of_longitude.ensures ∙ ap longitude_checked (read_result (get_or us 22 (pos 0)) c.longitude-1.given))
 
-returns : tie.Need-returns
-returns c = sym (answer-shape c.before.args.units.now c.before.args.room c.if1.true)
+returns : tie.Need-returns-then-units-ne23
+returns c = sym (answer-shape c.args.units.now c.args.room c.if-units-ne23.true)
 
-returns-2 : tie.Need-returns-2
+returns-2 : tie.Need-returns-in-Refused
 returns-2 c =
-    let k = c.before.before.before in
+    let k = c.before in
     let e = k.before.before in
     let t = e.before in
-    sym (answer-element t.args.units.now t.args.room e.if1.false _ (elements_are k ∙ c.before.of-elements.given.1))
+    sym (answer-element t.args.units.now t.args.room e.if-units-ne23.false _ (elements_are k ∙ c.in-Refused.is))
 
-returns-3 : tie.Need-returns-3
+returns-3 : tie.Need-returns-in-Refused-of_longitude
 returns-3 c =
-    let l = c.before.before.before in
+    let l = c.before in
     let w = l.before.before in
-    let e = w.before.before.before.before in
+    let e = w.before.before.before in
     let t = e.before in
-    sym (answer-longitude t.args.units.now t.args.room e.if1.false (within w) _ (longitude-is l ∙ c.before.of-longitude.given.1))
+    sym (answer-longitude t.args.units.now t.args.room e.if-units-ne23.false (within w) _ (longitude-is l ∙ c.in-Refused-of_longitude.is))
 
-returns-4 : tie.Need-returns-4
+returns-4 : tie.Need-returns-then-room-lt23
 returns-4 c =
-    let l = c.before.before.before in
+    let l = c.before.before in
     let w = l.before.before in
-    let e = w.before.before.before.before in
+    let e = w.before.before.before in
     let t = e.before in
-    sym (answer-room t.args.units.now t.args.room e.if1.false (within w) (longitude-is l ∙ c.before.enum-told2.given.1) c.if2.true)
+    sym (answer-room t.args.units.now t.args.room e.if-units-ne23.false (within w) (longitude-is l ∙ c.in_default-of_longitude.is) c.if-room-lt23.true)
 
-returns-5 : tie.Need-returns-5
+returns-5 : tie.Need-returns
 returns-5 c =
-    let l = c.before.before.before in
+    let l = c.before.before in
     let w = l.before.before in
-    let e = w.before.before.before.before in
+    let e = w.before.before.before in
     let t = e.before in
-    sym (answer-made t.args.units.now t.args.room e.if1.false (within w) (longitude-is l ∙ c.before.enum-told2.given.1) c.if2.false)
+    sym (answer-made t.args.units.now t.args.room e.if-units-ne23.false (within w) (longitude-is l ∙ c.in_default-of_longitude.is) c.if-room-lt23.false)
 
-pub judged-spec : {M : Type 1} → statement M
-judged-spec =
+pub judged_spec : {M : Type 1} → statement M
+judged_spec =
     tie.close
     (tie.spec returns (λ c κs. search rules) (λ c κs. search rules) (λ c. search rules) returns-2
     (λ c. search rules) (λ c. search rules) (λ c κs. search rules) (λ c. search rules) returns-3

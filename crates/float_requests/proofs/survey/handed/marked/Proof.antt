@@ -3,11 +3,11 @@ use Rattle.float_requests.specs.laws.HandedLaws.{marked_degrees, marked-hours}
 use Rattle.float_requests.proofs.survey.handed.marked.Statement.{statement}
 use Rattle.float_requests.proofs.survey.handed.marked.Tie as tie
 
-returns : tie.Need-returns
-returns c = marked_degrees c.before.args.hours c.before.args.x c.if1.true
+returns : tie.Need-returns-then-hours-eq0
+returns c = marked_degrees c.args.hours c.args.x c.if-hours-eq0.true
 
-returns-2 : tie.Need-returns-2
-returns-2 c = marked-hours c.before.args.hours c.before.args.x c.if1.false
+returns-2 : tie.Need-returns-else-hours-eq0
+returns-2 c = marked-hours c.args.hours c.args.x c.if-hours-eq0.false
 
-pub marked-spec : {M : Type 1} → statement M
-marked-spec = tie.close (tie.spec returns returns-2)
+pub marked_spec : {M : Type 1} → statement M
+marked_spec = tie.close (tie.spec returns returns-2)

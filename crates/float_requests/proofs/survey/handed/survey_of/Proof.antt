@@ -9,15 +9,15 @@ use Rattle.float_requests.proofs.survey.handed.survey_of.Tie as tie
 returns : tie.Need-returns
 returns c =
     let made = c.before.before.before.before.before.before.before in
-    let a = made.before.before.before.args in
+    let a = made.args in
     let rest = a.rest.now in
-    by_parts a.elements.now a.longitude a.hours rest made.before.from-doubles.ensures made.marked.ensures
-    (read_result (number rest 0) c.before.before.before.before.before.before.number.given) (read_result (number rest 1) c.before.before.before.before.before.latitude.given)
-    (read_result (number rest 2) c.before.before.before.before.height.given) (read_result (number rest 3) c.before.before.before.deltat.given)
-    (read_result (number rest 4) c.before.before.first.given) (read_result (number rest 5) c.before.last.given) (read_result (number rest 6) c.guard.given)
+    by_parts a.elements.now a.longitude a.hours rest made.from_doubles-elements.ensures made.marked-longitude.ensures
+    (read_result (number rest 0) c.number-1.given) (read_result (number rest 1) c.latitude-1.given)
+    (read_result (number rest 2) c.height-1.given) (read_result (number rest 3) c.deltat-1.given)
+    (read_result (number rest 4) c.first-1.given) (read_result (number rest 5) c.last-1.given) (read_result (number rest 6) c.guard-1.given)
 
-pub survey-of-spec : {M : Type 1} → statement M
-survey-of-spec =
+pub survey_of_spec : {M : Type 1} → statement M
+survey_of_spec =
     tie.close
     (tie.spec (λ c κs. search rules) (λ c κs. search rules) (λ c. search rules) (λ c. search rules)
     (λ c. search rules) (λ c. search rules) (λ c. search rules) (λ c. search rules) (λ c. search rules)
