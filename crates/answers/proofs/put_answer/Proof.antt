@@ -7,19 +7,19 @@ use borrow.Author.Rules.{rules}
 use Rattle.answers.proofs.put_answer.Statement.{statement}
 use Rattle.answers.proofs.put_answer.Tie as tie
 
-put-text-requires : tie.Need-put-text-requires
+put-text-requires : tie.Need-put_text-requires
 put-text-requires c κs =
     let m = c.before.before.before.before.before.before in
-    let a = m.before.before.before.before.before.before.before.args in
+    let a = m.args in
     fits_by (wish a.shape a.request.now) a.sines.now a.room.now _ m.of-shape.ensures.0 _ (omega arith)
 
 returns : tie.Need-returns
 returns c =
     let m = c.before.before.before.before.before.before.before.before.before in
-    let a = m.before.before.before.before.before.before.before.args in
+    let a = m.args in
     let t = text-is a.shape a.request.now a.sines.now a.room.now _ m.of-shape.ensures.0 _ m.of-shape.ensures.1.0 in
-    (rw (← t) c.before.before.put-text.ensures, (m.of-shape.ensures.1.0, m.of-shape.ensures.1.1.0))
+    (rw (← t) c.put_text.ensures, (m.of-shape.ensures.1.0, m.of-shape.ensures.1.1.0))
 
-pub put-answer-spec : {M : Type 1} → statement M
-put-answer-spec =
+pub put_answer_spec : {M : Type 1} → statement M
+put_answer_spec =
     tie.close (tie.spec (λ c κs. search rules) put-text-requires (λ c. search rules) (λ c. search rules) (λ c. search rules) returns)

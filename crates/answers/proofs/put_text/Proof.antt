@@ -9,22 +9,22 @@ use borrow.Author.Rules.{rules}
 use Rattle.answers.proofs.put_text.Statement.{statement}
 use Rattle.answers.proofs.put_text.Tie as tie
 
-slice-aggregate-put-timed-listing : tie.Need-slice-aggregate-put-timed-listing
+slice-aggregate-put-timed-listing : tie.Need-slice_bounds-put_timed_listing-end
 slice-aggregate-put-timed-listing c =
-    let a = c.before.before.before in
-    sym (length-take-le _ _ (fits_written _ _ _ a.answer.given.1 a.before.before.before.before.requires))
+    let a = c.before in
+    sym (length-take-le _ _ (fits_written _ _ _ a.answer.given.1 a.requires))
 
-returns : tie.Need-returns
+returns : tie.Need-returns-in-Written
 returns c =
-    let a = c.before.before.before.before.before.before in
+    let a = c.before.before.before.before in
     let s = a.before.before.before.before in
-    put_written _ _ _ _ _ _ _ _ _ a.answer.given.1 (rw (to_z-of_z w64 s.args.deltat s.ranges.deltat) at c.before.before.put-timed-listing.ensures)
+    put_written _ _ _ _ _ _ _ _ _ a.answer.given.1 (rw (to_z-of_z w64 s.args.deltat s.ranges.deltat) at c.put_timed_listing.ensures)
 
-returns-2 : tie.Need-returns-2
-returns-2 c = put_refused _ _ _ _ _ _ _ _ _ c.before.before.before.before.before.answer2.given.1 c.before.before.put_refused.ensures
+returns-2 : tie.Need-returns-in-Refused
+returns-2 c = put_refused _ _ _ _ _ _ _ _ _ c.in-Refused.is c.put_refused.ensures
 
-pub put-text-spec : {M : Type 1} → statement M
-put-text-spec =
+pub put_text_spec : {M : Type 1} → statement M
+put_text_spec =
     tie.close
     (tie.spec (λ c. search rules) slice-aggregate-put-timed-listing (λ c κs. search rules) (λ c. search rules)
     (λ c κs. search rules) (λ c. search rules) returns (λ c. search rules) returns-2)

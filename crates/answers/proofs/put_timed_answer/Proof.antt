@@ -9,20 +9,20 @@ use borrow.Author.Rules.{rules}
 use Rattle.answers.proofs.put_timed_answer.Statement.{statement}
 use Rattle.answers.proofs.put_timed_answer.Tie as tie
 
-put-text-requires : tie.Need-put-text-requires
+put-text-requires : tie.Need-put_text-requires
 put-text-requires c κs = let m = c.before.before.before.before.before.before in fits _ _ _ _ m.sheet.ensures.0 _ (omega arith)
 
 returns : tie.Need-returns
 returns c =
     let m = c.before.before.before.before.before.before.before.before.before in
     let y = m.before.before.before in
-    let d = y.before.deltat in
-    let a = y.before.before.before.before.before.before.args in
-    let t = timed-is _ _ _ _ m.sheet.ensures.0 _ m.sheet.ensures.1.0 a.reference _ _ (read_result d.result d.type-inv ∙ d.ensures) y.sky-of.ensures in
-    (rw (← t) c.before.before.put-text.ensures, (m.sheet.ensures.1.0, m.sheet.ensures.1.1.0))
+    let d = y.deltat-deltat in
+    let a = y.args in
+    let t = timed-is _ _ _ _ m.sheet.ensures.0 _ m.sheet.ensures.1.0 a.reference _ _ (read_result d.result d.type_inv ∙ d.ensures) y.sky-of.ensures in
+    (rw (← t) c.put_text.ensures, (m.sheet.ensures.1.0, m.sheet.ensures.1.1.0))
 
-pub put-timed-answer-spec : {M : Type 1} → statement M
-put-timed-answer-spec =
+pub put_timed_answer_spec : {M : Type 1} → statement M
+put_timed_answer_spec =
     tie.close
     (tie.spec (λ c κs. search rules) (λ c κs. search rules) (λ c κs. search rules) put-text-requires
     (λ c. search rules) (λ c. search rules) (λ c. search rules) returns)

@@ -88,25 +88,23 @@ returns-2 c = λ l k.
 tell-steps-requires : tie.Need-tell_steps-requires
 tell-steps-requires c κs =
     let t = told c.before in
-    let s = start t.before.before in
+    let s = start t.before in
     ((few t, s.requires.1, s.requires.2), subst Once (sym (own t)) (once (numbers_of (list t)) (clocks_of (list t)) (accepted-14 (numbers_of (list t)) (clocks_of (list t)) (clocks-accepted _ (list t) (ok t)))))
 
 first-seen-requires : tie.Need-first_seen-station-requires
 first-seen-requires c κs =
     let w = c.before.before.before.before in
     let t = told w in
-    (filled w, few t, (start t.before.before).requires.1, subst (AllWithin (eclipse t.before.before)) (sym (own t)) (all-within _ (list t) (ok t)))
+    (filled w, few t, (start t.before).requires.1, subst (AllWithin (eclipse t.before)) (sym (own t)) (all-within _ (list t) (ok t)))
 
 returns-3 : tie.Need-returns
 returns-3 c = λ l k.
-    let u = c.before.before.before.before in
-    let w = u.before in
-    let f = w.before.before.before.before in
+    let w = c.before.before.before.before.before in
     let t = told w in
     let e = listed (held t) l k (few t) in
-    given t.before.before
-    (by-named _ l _ _ (accepted t l k) (sym f.fill-sines.ensures.0 ∙ w.enum-told2.given.1)
-    (c.first_seen-station.ensures ∙ ap (named _) e) f.fill-sines.ensures.1 (u.tell-steps.ensures ∙ ap (λ (m : List Node). steps_of (numbers_of m) (clocks_of m)) e))
+    given t.before
+    (by-named _ l _ _ (accepted t l k) (sym c.fill_sines-room.ensures.0 ∙ c.in_default-room.is)
+    (c.first_seen-station.ensures ∙ ap (named _) e) c.fill_sines-room.ensures.1 (c.tell_steps.ensures ∙ ap (λ (m : List Node). steps_of (numbers_of m) (clocks_of m)) e))
 
 pub name_spec : {M : Type 1} → statement M
 name_spec =

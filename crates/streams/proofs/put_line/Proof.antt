@@ -10,11 +10,10 @@ returns : tie.Need-returns
 unfolding told_line
 returns c =
     joined (omega arith)
-    (joined (omega arith) (joined (omega arith) c.before.before.before.before.before.before.before.before.before.before.before.before.before.before.before.put-text.ensures c.before.before.before.before.before.before.before.before.before.before.before.put-number.ensures) c.before.before.before.before.before.before.put-text2.ensures)
-    c.before.before.put_refused.ensures
+    (joined (omega arith) (joined (omega arith) c.put_text-word.ensures c.put_number-counted.ensures) c.put_text-next.ensures)
+    c.put_refused.ensures
 
-pub put-line-spec : {M : Type 1} → statement M
-put-line-spec =
+pub put_line_spec : {M : Type 1} → statement M
+put_line_spec =
     tie.close
-    (tie.spec (λ c. search rules) (λ c κs. search rules) (λ c κs. search rules) (λ c. search rules)
-    (λ c κs. search rules) (λ c κs. search rules) (λ c. search rules) returns)
+    (tie.spec (λ c κs. search rules) (λ c κs. search rules) (λ c κs. search rules) (λ c κs. search rules) (λ c. search rules) returns)

@@ -6,16 +6,16 @@ use borrow.Author.Rules.{rules}
 use Rattle.streams.proofs.put_refusal.Statement.{statement}
 use Rattle.streams.proofs.put_refusal.Tie as tie
 
-returns : tie.Need-returns
+returns : tie.Need-returns-then-is_shape
 returns c =
     let t = c.before.before.before.before in
-    told-shape _ _ _ _ _ _ t.before.before.before.before.put_line.ensures (sym t.before.is-shape.ensures ∙ t.if1.true) (omega arith) _ _ c.before.before.put-stop.ensures
+    told-shape _ _ _ _ _ _ t.put_line-end.ensures (sym t.is_shape.ensures ∙ t.if-is_shape.true) (omega arith) _ _ c.put_stop.ensures
 
-returns-2 : tie.Need-returns-2
-returns-2 c = told-other _ _ _ _ _ _ c.before.before.before.before.put_line.ensures (sym c.before.is-shape.ensures ∙ c.if1.false)
+returns-2 : tie.Need-returns
+returns-2 c = told-other _ _ _ _ _ _ c.put_line-end.ensures (sym c.is_shape.ensures ∙ c.if-is_shape.false)
 
-pub put-refusal-spec : {M : Type 1} → statement M
-put-refusal-spec =
+pub put_refusal_spec : {M : Type 1} → statement M
+put_refusal_spec =
     tie.close
     (tie.spec (λ c κs. search rules) (λ c κs. search rules) (λ c κs. search rules) (λ c. search rules) returns
     (λ c. search rules) returns-2)

@@ -9,11 +9,10 @@ use Rattle.streams.proofs.put_stop.Tie as tie
 returns : tie.Need-returns
 unfolding stop_line
 returns c =
-    joined (omega arith) (joined (omega arith) c.before.before.before.before.before.before.before.before.before.before.before.put-text.ensures c.before.before.before.before.before.before.before.put-number.ensures)
-    c.before.before.put-text2.ensures
+    joined (omega arith) (joined (omega arith) c.put_text-word.ensures c.put_number-number.ensures)
+    c.put_text.ensures
 
-pub put-stop-spec : {M : Type 1} → statement M
-put-stop-spec =
+pub put_stop_spec : {M : Type 1} → statement M
+put_stop_spec =
     tie.close
-    (tie.spec (λ c. search rules) (λ c κs. search rules) (λ c κs. search rules) (λ c. search rules)
-    (λ c κs. search rules) (λ c. search rules) returns)
+    (tie.spec (λ c κs. search rules) (λ c κs. search rules) (λ c κs. search rules) (λ c. search rules) returns)

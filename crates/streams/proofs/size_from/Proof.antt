@@ -4,14 +4,14 @@ use Rattle.streams.specs.laws.StreamLaws.{eclipse-size, star-size, no_size}
 use Rattle.streams.proofs.size_from.Statement.{statement}
 use Rattle.streams.proofs.size_from.Tie as tie
 
-returns : tie.Need-returns
-returns c = (eclipse-size _ c.if1.true, (omega arith, omega arith))
+returns : tie.Need-returns-then-first-eq2
+returns c = (eclipse-size _ c.if-first-eq2.true, (omega arith, omega arith))
 
-returns-2 : tie.Need-returns-2
-returns-2 c = (star-size _ c.before.if1.false c.if2.true, (omega arith, omega arith))
+returns-2 : tie.Need-returns-then-first-eq5
+returns-2 c = (star-size _ c.if-first-eq2.false c.if-first-eq5.true, (omega arith, omega arith))
 
-returns-3 : tie.Need-returns-3
-returns-3 c = (no_size _ c.before.if1.false c.if2.false, (omega arith, omega arith))
+returns-3 : tie.Need-returns
+returns-3 c = (no_size _ c.if-first-eq2.false c.if-first-eq5.false, (omega arith, omega arith))
 
-pub size-from-spec : {M : Type 1} → statement M
-size-from-spec = tie.close (tie.spec returns returns-2 returns-3)
+pub size_from_spec : {M : Type 1} → statement M
+size_from_spec = tie.close (tie.spec returns returns-2 returns-3)

@@ -5,17 +5,15 @@ use borrow.Author.Rules.{rules}
 use Rattle.streams.proofs.step.Statement.{statement}
 use Rattle.streams.proofs.step.Tie as tie
 
-returns : tie.Need-returns
+returns : tie.Need-returns-in-Written
 returns c =
-    let k = c.before.answer2.given in
-    let m = c.before.before.before.before.before.before.before.answer in
-    step-written _ _ _ _ _ _ _ _ m.ensures _ k.1 (omega arith) _
+    let m = c.answer-answer in
+    step-written _ _ _ _ _ _ _ _ m.ensures _ c.in-Written.is (omega arith) _
 
-returns-2 : tie.Need-returns-2
+returns-2 : tie.Need-returns-in-Refused
 returns-2 c =
-    let k = c.before.before.before.before.before.before.answer3.given in
-    let m = c.before.before.before.before.before.before.before.before.before.before.before.before.answer in
-    step-refused _ _ _ _ _ _ _ _ m.ensures _ k.1 _ _ _ c.before.before.before.put-refusal.ensures _ c.is-shape.ensures
+    let m = c.answer-answer in
+    step-refused _ _ _ _ _ _ _ _ m.ensures _ c.in-Refused.is _ _ _ c.put_refusal-end.ensures _ c.is_shape-stops.ensures
 
 pub step_spec : {M : Type 1} → statement M
 step_spec =

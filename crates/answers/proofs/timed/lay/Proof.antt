@@ -8,31 +8,31 @@ use borrow.Author.Rules.{rules}
 use Rattle.answers.proofs.timed.lay.Statement.{statement}
 use Rattle.answers.proofs.timed.lay.Tie as tie
 
-returns : tie.Need-returns
+returns : tie.Need-returns-then-out-need
 returns c =
     let made = c.before.before.before.before in
-    let start = made.before.before.before.before in
+    let start = made.before.before.before in
     let a = start.args in
-    laid-short a.reference a.deltat a.sky a.answer a.room.now a.out.now _ made.enum_told.given.1 _ _ _
-    (rw (to_z-of_z w64 a.deltat start.ranges.deltat) at c.before.before.put-text.ensures) (omega arith) c.if1.true
+    laid-short a.reference a.deltat a.sky a.answer a.room.now a.out.now _ made.in-Written.is _ _ _
+    (rw (to_z-of_z w64 a.deltat start.ranges.deltat) at c.put_text-need.ensures) (omega arith) c.if-out-need.true
 
-returns-2 : tie.Need-returns-2
+returns-2 : tie.Need-returns-in-Refused
 returns-2 c =
-    let a = c.before.before.before.before.before.args in
-    laid-refused a.reference a.deltat a.sky a.answer a.room.now a.out.now _ c.before.answer.given.1
+    let a = c.args in
+    laid-refused a.reference a.deltat a.sky a.answer a.room.now a.out.now _ c.in-Refused.is
 
-returns-3 : tie.Need-returns-3
+returns-3 : tie.Need-returns-else-out-need
 returns-3 c =
     let t = c.before.before.before.before in
     let made = t.before.before.before.before in
-    let start = made.before.before.before.before in
+    let start = made.before.before.before in
     let a = start.args in
-    laid-full a.reference a.deltat a.sky a.answer a.room.now a.out.now _ made.enum_told.given.1 _ _ _
-    (rw (to_z-of_z w64 a.deltat start.ranges.deltat) at t.before.before.put-text.ensures) (omega arith) t.if1.false _ _
-    (rw (to_z-of_z w64 a.deltat start.ranges.deltat) at c.before.before.put-text2.ensures)
+    laid-full a.reference a.deltat a.sky a.answer a.room.now a.out.now _ made.in-Written.is _ _ _
+    (rw (to_z-of_z w64 a.deltat start.ranges.deltat) at t.put_text-need.ensures) (omega arith) t.if-out-need.false _ _
+    (rw (to_z-of_z w64 a.deltat start.ranges.deltat) at c.put_text.ensures)
 
-pub lay-spec : {M : Type 1} → statement M
-lay-spec =
+pub lay_spec : {M : Type 1} → statement M
+lay_spec =
     tie.close
     (tie.spec (λ c. search rules) (λ c. search rules) (λ c. search rules) (λ c κs. search rules) returns
     (λ c κs. search rules) returns-2 (λ c. search rules) returns-3)

@@ -16,14 +16,14 @@ returns : tie.Need-returns
 returns c =
     let m = c.before.before.before.before.before.before.before.before.before in
     let y = m.before.before.before in
-    let d = y.before.deltat in
-    let a = y.before.before.before.before.before.before.args in
-    let t = told_is _ _ _ _ _ a.reference _ _ m.sheet.ensures.0 m.sheet.ensures.1.0 (read_result d.result d.type-inv ∙ d.ensures) y.sky-of.ensures in
-    let l = c.before.before.lay.ensures in
+    let d = y.deltat-deltat in
+    let a = y.args in
+    let t = told_is _ _ _ _ _ a.reference _ _ m.sheet.ensures.0 m.sheet.ensures.1.0 (read_result d.result d.type_inv ∙ d.ensures) y.sky-of.ensures in
+    let l = c.lay.ensures in
     (rw (← t) l.0, (rw (← t) l.1, (m.sheet.ensures.1.0, m.sheet.ensures.1.1.0)))
 
-pub of-eclipse-spec : {M : Type 1} → statement M
-of-eclipse-spec =
+pub of_eclipse_spec : {M : Type 1} → statement M
+of_eclipse_spec =
     tie.close
     (tie.spec (λ c κs. search rules) (λ c κs. search rules) (λ c κs. search rules) lay-requires
     (λ c. search rules) (λ c. search rules) (λ c. search rules) returns)
