@@ -9,16 +9,14 @@ use Rattle.answers.proofs.put_answer.Tie as tie
 
 put-text-requires : tie.Need-put_text-requires
 put-text-requires c κs =
-    let m = c.before.before.before.before.before.before in
-    let a = m.args in
-    fits_by (wish a.shape a.request.now) a.sines.now a.room.now _ m.of-shape.ensures.0 _ (omega arith)
+    let a = c.args in
+    fits_by (wish a.shape a.request.now) a.sines.now a.room.now _ c.of_shape-answer.ensures.0 _ (omega arith)
 
 returns : tie.Need-returns
 returns c =
-    let m = c.before.before.before.before.before.before.before.before.before in
-    let a = m.args in
-    let t = text-is a.shape a.request.now a.sines.now a.room.now _ m.of-shape.ensures.0 _ m.of-shape.ensures.1.0 in
-    (rw (← t) c.put_text.ensures, (m.of-shape.ensures.1.0, m.of-shape.ensures.1.1.0))
+    let a = c.args in
+    let t = text-is a.shape a.request.now a.sines.now a.room.now _ c.of_shape-answer.ensures.0 _ c.of_shape-answer.ensures.1.0 in
+    (rw (← t) c.put_text.ensures, (c.of_shape-answer.ensures.1.0, c.of_shape-answer.ensures.1.1.0))
 
 pub put_answer_spec : {M : Type 1} → statement M
 put_answer_spec =

@@ -11,14 +11,11 @@ use Rattle.answers.proofs.put_text.Tie as tie
 
 slice-aggregate-put-timed-listing : tie.Need-slice_bounds-put_timed_listing-end
 slice-aggregate-put-timed-listing c =
-    let a = c.before in
-    sym (length-take-le _ _ (fits_written _ _ _ a.answer.given.1 a.requires))
+    sym (length-take-le _ _ (fits_written _ _ _ c.in-Written.is c.requires))
 
 returns : tie.Need-returns-in-Written
 returns c =
-    let a = c.before.before.before.before in
-    let s = a.before.before.before.before in
-    put_written _ _ _ _ _ _ _ _ _ a.answer.given.1 (rw (to_z-of_z w64 s.args.deltat s.ranges.deltat) at c.put_timed_listing.ensures)
+    put_written _ _ _ _ _ _ _ _ _ c.in-Written.is (rw (to_z-of_z w64 c.args.deltat c.ranges.deltat) at c.put_timed_listing.ensures)
 
 returns-2 : tie.Need-returns-in-Refused
 returns-2 c = put_refused _ _ _ _ _ _ _ _ _ c.in-Refused.is c.put_refused.ensures

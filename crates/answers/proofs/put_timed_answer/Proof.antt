@@ -10,16 +10,14 @@ use Rattle.answers.proofs.put_timed_answer.Statement.{statement}
 use Rattle.answers.proofs.put_timed_answer.Tie as tie
 
 put-text-requires : tie.Need-put_text-requires
-put-text-requires c κs = let m = c.before.before.before.before.before.before in fits _ _ _ _ m.sheet.ensures.0 _ (omega arith)
+put-text-requires c κs = fits _ _ _ _ c.sheet-answer.ensures.0 _ (omega arith)
 
 returns : tie.Need-returns
 returns c =
-    let m = c.before.before.before.before.before.before.before.before.before in
-    let y = m.before.before.before in
-    let d = y.deltat-deltat in
-    let a = y.args in
-    let t = timed-is _ _ _ _ m.sheet.ensures.0 _ m.sheet.ensures.1.0 a.reference _ _ (read_result d.result d.type_inv ∙ d.ensures) y.sky-of.ensures in
-    (rw (← t) c.put_text.ensures, (m.sheet.ensures.1.0, m.sheet.ensures.1.1.0))
+    let d = c.deltat-deltat in
+    let a = c.args in
+    let t = timed-is _ _ _ _ c.sheet-answer.ensures.0 _ c.sheet-answer.ensures.1.0 a.reference _ _ (read_result d.result d.type_inv ∙ d.ensures) c.sky_of-sky.ensures in
+    (rw (← t) c.put_text.ensures, (c.sheet-answer.ensures.1.0, c.sheet-answer.ensures.1.1.0))
 
 pub put_timed_answer_spec : {M : Type 1} → statement M
 put_timed_answer_spec =

@@ -10,17 +10,15 @@ use Rattle.answers.proofs.timed.of_star.Statement.{statement}
 use Rattle.answers.proofs.timed.of_star.Tie as tie
 
 lay-requires : tie.Need-lay-requires
-lay-requires c κs = let m = c.before.before.before.before.before.before in star-fits _ _ _ _ m.star-sheet.ensures.0 _ (omega arith)
+lay-requires c κs = star-fits _ _ _ _ c.star_sheet-answer.ensures.0 _ (omega arith)
 
 returns : tie.Need-returns
 returns c =
-    let m = c.before.before.before.before.before.before.before.before.before in
-    let y = m.before.before.before in
-    let d = y.deltat-deltat in
-    let a = y.args in
-    let t = star-told-is _ _ _ _ _ a.reference _ _ m.star-sheet.ensures.0 m.star-sheet.ensures.1.0 (read_result d.result d.type_inv ∙ d.ensures) y.sky-of.ensures in
+    let d = c.deltat-deltat in
+    let a = c.args in
+    let t = star-told-is _ _ _ _ _ a.reference _ _ c.star_sheet-answer.ensures.0 c.star_sheet-answer.ensures.1.0 (read_result d.result d.type_inv ∙ d.ensures) c.sky_of-sky.ensures in
     let l = c.lay.ensures in
-    (rw (← t) l.0, (rw (← t) l.1, (m.star-sheet.ensures.1.0, m.star-sheet.ensures.1.1.0)))
+    (rw (← t) l.0, (rw (← t) l.1, (c.star_sheet-answer.ensures.1.0, c.star_sheet-answer.ensures.1.1.0)))
 
 pub of_star_spec : {M : Type 1} → statement M
 of_star_spec =
