@@ -8,9 +8,9 @@ use Rattle.ukhtvaresh.proofs.ukhtvaresh_read.Tie as tie
 
 returns : tie.Need-returns
 returns c =
-    let done = c.before.before.before.read in
-    let e = c.read-reply.ensures ∙ ap read_reply done.ensures.0 in
+    let done = c.read-extent in
+    let e = c.read_reply-reply.ensures ∙ ap read_reply done.ensures.0 in
     (ap (λ (x : Reply). x.number) e, (ap (λ (x : Reply). x.value) e, done.ensures.1))
 
-pub ukhtvaresh-read-spec : {M : Type 1} → statement M
-ukhtvaresh-read-spec = tie.close (tie.spec (λ c κs. search rules) (λ c κs. search rules) (λ c. search rules) returns)
+pub ukhtvaresh_read_spec : {M : Type 1} → statement M
+ukhtvaresh_read_spec = tie.close (tie.spec (λ c κs. search rules) (λ c κs. search rules) (λ c. search rules) returns)

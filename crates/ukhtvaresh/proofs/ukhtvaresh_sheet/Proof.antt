@@ -9,9 +9,9 @@ use Rattle.ukhtvaresh.proofs.ukhtvaresh_sheet.Tie as tie
 returns : tie.Need-returns
 returns c =
     let made = c.before.before.before.before.before in
-    let request = made.before.before.before.before.before.before.args.request.now in
-    replied (of_eclipse (request_of request)) c.sheet-reply.ensures made.sheet.ensures
+    let request = made.args.request.now in
+    replied (of_eclipse (request_of request)) c.sheet_reply-reply.ensures made.sheet-answer.ensures
 
-pub ukhtvaresh-sheet-spec : {M : Type 1} → statement M
-ukhtvaresh-sheet-spec =
+pub ukhtvaresh_sheet_spec : {M : Type 1} → statement M
+ukhtvaresh_sheet_spec =
     tie.close (tie.spec (λ c κs. search rules) (λ c κs. search rules) (λ c. search rules) (λ c. search rules) returns)

@@ -8,10 +8,10 @@ use Rattle.ukhtvaresh.proofs.ukhtvaresh_write.Tie as tie
 
 returns : tie.Need-returns
 returns c =
-    let done = c.before.before.before.write in
-    let e = c.write-reply.ensures ∙ ap write_reply done.ensures.0 in
+    let done = c.write-extent in
+    let e = c.write_reply-reply.ensures ∙ ap write_reply done.ensures.0 in
     (ap (λ (x : Reply). x.number) e, (ap (λ (x : Reply). x.value) e, done.ensures.1))
 
-pub ukhtvaresh-write-spec : {M : Type 1} → statement M
-ukhtvaresh-write-spec =
+pub ukhtvaresh_write_spec : {M : Type 1} → statement M
+ukhtvaresh_write_spec =
     tie.close (tie.spec (λ c κs. search rules) (λ c κs. search rules) (λ c. search rules) returns)

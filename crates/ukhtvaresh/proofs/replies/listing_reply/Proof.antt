@@ -3,12 +3,12 @@ use borrow.Author.Rules.{rules}
 use Rattle.ukhtvaresh.proofs.replies.listing_reply.Statement.{statement}
 use Rattle.ukhtvaresh.proofs.replies.listing_reply.Tie as tie
 
-returns : tie.Need-returns
-returns c = rw c.before.text.given.1
+returns : tie.Need-returns-in-Written
+returns c = rw c.in-Written.is
 
-returns-2 : tie.Need-returns-2
-returns-2 c = rw (c.refused.ensures, c.before.before.text2.given.1)
+returns-2 : tie.Need-returns-in-Refused
+returns-2 c = rw (c.refused.ensures, c.in-Refused.is)
 
-pub listing-reply-spec : {M : Type 1} → statement M
-listing-reply-spec =
+pub listing_reply_spec : {M : Type 1} → statement M
+listing_reply_spec =
     tie.close (tie.spec (λ c. search rules) (λ c. search rules) (λ c κs. search rules) returns returns-2)

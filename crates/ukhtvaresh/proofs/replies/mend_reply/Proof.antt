@@ -3,12 +3,12 @@ use borrow.Author.Rules.{rules}
 use Rattle.ukhtvaresh.proofs.replies.mend_reply.Statement.{statement}
 use Rattle.ukhtvaresh.proofs.replies.mend_reply.Tie as tie
 
-returns : tie.Need-returns
-returns c = rw c.before.answer.given.1
+returns : tie.Need-returns-in-Mended
+returns c = rw c.in-Mended.is
 
-returns-2 : tie.Need-returns-2
-returns-2 c = rw (c.refused.ensures, c.before.before.answer2.given.1)
+returns-2 : tie.Need-returns-in-Refused
+returns-2 c = rw (c.refused-reply.ensures, c.in-Refused.is)
 
-pub mend-reply-spec : {M : Type 1} → statement M
-mend-reply-spec =
+pub mend_reply_spec : {M : Type 1} → statement M
+mend_reply_spec =
     tie.close (tie.spec (λ c. search rules) (λ c. search rules) (λ c κs. search rules) returns returns-2)

@@ -3,11 +3,11 @@ use borrow.Author.Rules.{rules}
 use Rattle.ukhtvaresh.proofs.replies.network_reply.Statement.{statement}
 use Rattle.ukhtvaresh.proofs.replies.network_reply.Tie as tie
 
-returns : tie.Need-returns
-returns c = rw c.before.answer.given.1
+returns : tie.Need-returns-in-Named
+returns c = rw c.in-Named.is
 
-returns-2 : tie.Need-returns-2
-returns-2 c = rw (c.refused.ensures, c.before.before.answer2.given.1)
+returns-2 : tie.Need-returns-in-Refused
+returns-2 c = rw (c.refused.ensures, c.in-Refused.is)
 
-pub network-reply-spec : {M : Type 1} → statement M
-network-reply-spec = tie.close (tie.spec (λ c. search rules) (λ c. search rules) (λ c κs. search rules) returns returns-2)
+pub network_reply_spec : {M : Type 1} → statement M
+network_reply_spec = tie.close (tie.spec (λ c. search rules) (λ c. search rules) (λ c κs. search rules) returns returns-2)

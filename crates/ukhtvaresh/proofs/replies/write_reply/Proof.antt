@@ -3,13 +3,13 @@ use borrow.Author.Rules.{rules}
 use Rattle.ukhtvaresh.proofs.replies.write_reply.Statement.{statement}
 use Rattle.ukhtvaresh.proofs.replies.write_reply.Tie as tie
 
-returns : tie.Need-returns
-returns c = rw c.before.extent.given.1
+returns : tie.Need-returns-in-Sheet
+returns c = rw c.in-Sheet.is
 
-returns-2 : tie.Need-returns-2
-returns-2 c = rw (c.refused.ensures, c.before.before.extent2.given.1)
+returns-2 : tie.Need-returns-in-Refused
+returns-2 c = rw (c.refused.ensures, c.in-Refused.is)
 
-pub write-reply-spec : {M : Type 1} → statement M
-write-reply-spec =
+pub write_reply_spec : {M : Type 1} → statement M
+write_reply_spec =
     tie.close
     (tie.spec (λ c. search rules) (λ c. search rules) (λ c κs. search rules) returns returns-2)

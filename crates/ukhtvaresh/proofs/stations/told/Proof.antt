@@ -8,9 +8,9 @@ use Rattle.ukhtvaresh.proofs.stations.told.Tie as tie
 
 returns : tie.Need-returns
 returns c = λ l k.
-    let a = c.before.before.before.before.before.network.ensures l k in
-    let e = c.network-reply.ensures ∙ ap network_reply a.answer in
+    let a = c.network-answer.ensures l k in
+    let e = c.network_reply-reply.ensures ∙ ap network_reply a.answer in
     record { is-number = ap (λ (x : Reply). x.number) e; is_value = ap (λ (x : Reply). x.value) e; is_room = a.room; is_steps = a.told }
 
-pub told-spec : {M : Type 1} → statement M
-told-spec = tie.close (tie.spec (λ c κs. c.before.before.before.before.requires) (λ c κs. search rules) (λ c. search rules) (λ c. search rules) returns)
+pub told_spec : {M : Type 1} → statement M
+told_spec = tie.close (tie.spec (λ c κs. c.requires) (λ c κs. search rules) (λ c. search rules) (λ c. search rules) returns)

@@ -13,8 +13,8 @@ returns c =
     let said = c.before.before.before.before in
     let start = said.before.before.before.before.before in
     let a = start.args in
-    horizon-replied Star a.request.now a.sines.now a.horizon.now (to_z-of_z w64 a.second start.ranges.second) c.horizon-reply.ensures
-    said.horizon.ensures
+    horizon-replied Star a.request.now a.sines.now a.horizon.now (to_z-of_z w64 a.second start.ranges.second) c.horizon_reply-reply.ensures
+    said.horizon-given.ensures
 
-pub ukhtvaresh-star-horizon-spec : {M : Type 1} → statement M
-ukhtvaresh-star-horizon-spec = tie.close (tie.spec (λ c κs. search rules) (λ c κs. search rules) (λ c. search rules) (λ c. search rules) returns)
+pub ukhtvaresh_star_horizon_spec : {M : Type 1} → statement M
+ukhtvaresh_star_horizon_spec = tie.close (tie.spec (λ c κs. search rules) (λ c κs. search rules) (λ c. search rules) (λ c. search rules) returns)

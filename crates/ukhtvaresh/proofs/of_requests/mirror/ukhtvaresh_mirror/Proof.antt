@@ -8,10 +8,10 @@ use Rattle.ukhtvaresh.proofs.of_requests.mirror.ukhtvaresh_mirror.Tie as tie
 
 returns : tie.Need-returns
 returns c =
-    let done = c.before.before.before.mirror-bytes in
-    let e = c.sheet-reply.ensures ∙ ap sheet_reply done.ensures.0 in
+    let done = c.mirror_bytes-answer in
+    let e = c.sheet_reply-reply.ensures ∙ ap sheet_reply done.ensures.0 in
     (ap (λ (x : Reply). x.number) e, (ap (λ (x : Reply). x.value) e, done.ensures.1))
 
-pub ukhtvaresh-mirror-spec : {M : Type 1} → statement M
-ukhtvaresh-mirror-spec =
+pub ukhtvaresh_mirror_spec : {M : Type 1} → statement M
+ukhtvaresh_mirror_spec =
     tie.close (tie.spec (λ c κs. search rules) (λ c κs. search rules) (λ c. search rules) returns)

@@ -8,10 +8,10 @@ use Rattle.ukhtvaresh.proofs.of_requests.positions.ukhtvaresh_doubles.Tie as tie
 
 returns : tie.Need-returns
 returns c =
-    let done = c.before.before.before.write in
-    let e = c.doubles-reply.ensures ∙ ap doubles_reply done.ensures.0 in
+    let done = c.write-answer in
+    let e = c.doubles_reply-reply.ensures ∙ ap doubles_reply done.ensures.0 in
     (ap (λ (x : Reply). x.number) e, (ap (λ (x : Reply). x.value) e, done.ensures.1))
 
-pub ukhtvaresh-doubles-spec : {M : Type 1} → statement M
-ukhtvaresh-doubles-spec =
+pub ukhtvaresh_doubles_spec : {M : Type 1} → statement M
+ukhtvaresh_doubles_spec =
     tie.close (tie.spec (λ c κs. search rules) (λ c κs. search rules) (λ c. search rules) returns)

@@ -11,9 +11,9 @@ use Rattle.ukhtvaresh.proofs.of_requests.positions.ukhtvaresh_sheet_of_doubles.T
 returns : tie.Need-returns
 returns c =
     let made = c.before.before.before.before.before in
-    let a = made.before.before.before.before.before.before.args in
-    replied (of_eclipse (request_of (survey_of a.elements.now a.longitude a.hours a.rest.now))) c.sheet-reply.ensures made.sheet.ensures
+    let a = made.args in
+    replied (of_eclipse (request_of (survey_of a.elements.now a.longitude a.hours a.rest.now))) c.sheet_reply-reply.ensures made.sheet-answer.ensures
 
-pub ukhtvaresh-sheet-of-doubles-spec : {M : Type 1} → statement M
-ukhtvaresh-sheet-of-doubles-spec =
+pub ukhtvaresh_sheet_of_doubles_spec : {M : Type 1} → statement M
+ukhtvaresh_sheet_of_doubles_spec =
     tie.close (tie.spec (λ c κs. search rules) (λ c κs. search rules) (λ c. search rules) (λ c. search rules) returns)

@@ -12,8 +12,8 @@ returns c =
     let said = c.before.before.before.before in
     let start = said.before.before.before.before.before in
     let a = start.args in
-    second-replied Eclipse a.request.now a.sines.now a.shadow.now 8 (to_z-of_z w64 a.second start.ranges.second) c.second-reply.ensures
-    said.second.ensures
+    second-replied Eclipse a.request.now a.sines.now a.shadow.now 8 (to_z-of_z w64 a.second start.ranges.second) c.second_reply-reply.ensures
+    said.second-given.ensures
 
-pub ukhtvaresh-second-spec : {M : Type 1} → statement M
-ukhtvaresh-second-spec = tie.close (tie.spec (λ c κs. search rules) (λ c κs. search rules) (λ c. search rules) (λ c. search rules) returns)
+pub ukhtvaresh_second_spec : {M : Type 1} → statement M
+ukhtvaresh_second_spec = tie.close (tie.spec (λ c κs. search rules) (λ c κs. search rules) (λ c. search rules) (λ c. search rules) returns)

@@ -11,9 +11,9 @@ use Rattle.ukhtvaresh.proofs.of_requests.shares.ukhtvaresh_sheet_and_share.Tie a
 returns : tie.Need-returns
 returns c =
     let made = c.before.before.before.before.before in
-    let request = made.before.before.before.before.before.before.args.request.now in
-    replied (of_eclipse (with_share (request_of request))) c.sheet-reply.ensures made.sheet-and-share.ensures
+    let request = made.args.request.now in
+    replied (of_eclipse (with_share (request_of request))) c.sheet_reply-reply.ensures made.sheet_and_share-answer.ensures
 
-pub ukhtvaresh-sheet-and-share-spec : {M : Type 1} → statement M
-ukhtvaresh-sheet-and-share-spec =
+pub ukhtvaresh_sheet_and_share_spec : {M : Type 1} → statement M
+ukhtvaresh_sheet_and_share_spec =
     tie.close (tie.spec (λ c κs. search rules) (λ c κs. search rules) (λ c. search rules) (λ c. search rules) returns)

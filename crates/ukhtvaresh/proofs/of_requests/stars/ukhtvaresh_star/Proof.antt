@@ -9,9 +9,9 @@ use Rattle.ukhtvaresh.proofs.of_requests.stars.ukhtvaresh_star.Tie as tie
 returns : tie.Need-returns
 returns c =
     let made = c.before.before.before.before.before in
-    let request = made.before.before.before.before.before.before.args.request.now in
-    replied (of_star (star_request_of request)) c.sheet-reply.ensures made.star-sheet.ensures
+    let request = made.args.request.now in
+    replied (of_star (star_request_of request)) c.sheet_reply-reply.ensures made.star_sheet-answer.ensures
 
-pub ukhtvaresh-star-spec : {M : Type 1} → statement M
-ukhtvaresh-star-spec =
+pub ukhtvaresh_star_spec : {M : Type 1} → statement M
+ukhtvaresh_star_spec =
     tie.close (tie.spec (λ c κs. search rules) (λ c κs. search rules) (λ c. search rules) (λ c. search rules) returns)

@@ -8,9 +8,9 @@ use Rattle.ukhtvaresh.proofs.sheets.extent.ukhtvaresh_extent.Tie as tie
 
 returns : tie.Need-returns
 returns c =
-    let done = c.before.extent-of-leading-sheet in
-    let e = c.write-reply.ensures ∙ ap write_reply done.ensures in
+    let done = c.extent_of_leading_sheet-extent in
+    let e = c.write_reply-reply.ensures ∙ ap write_reply done.ensures in
     (ap (λ (x : Reply). x.number) e, ap (λ (x : Reply). x.value) e)
 
-pub ukhtvaresh-extent-spec : {M : Type 1} → statement M
-ukhtvaresh-extent-spec = tie.close (tie.spec (λ c κs. search rules) (λ c κs. search rules) returns)
+pub ukhtvaresh_extent_spec : {M : Type 1} → statement M
+ukhtvaresh_extent_spec = tie.close (tie.spec (λ c κs. search rules) (λ c κs. search rules) returns)

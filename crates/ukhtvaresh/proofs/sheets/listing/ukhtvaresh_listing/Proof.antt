@@ -8,10 +8,10 @@ use Rattle.ukhtvaresh.proofs.sheets.listing.ukhtvaresh_listing.Tie as tie
 
 returns : tie.Need-returns
 returns c =
-    let done = c.before.before.before.listing in
-    let e = c.listing-reply.ensures ∙ ap listing_reply done.ensures.0 in
+    let done = c.listing-answer in
+    let e = c.listing_reply-reply.ensures ∙ ap listing_reply done.ensures.0 in
     (ap (λ (x : Reply). x.number) e, (ap (λ (x : Reply). x.value) e, done.ensures.1))
 
-pub ukhtvaresh-listing-spec : {M : Type 1} → statement M
-ukhtvaresh-listing-spec =
+pub ukhtvaresh_listing_spec : {M : Type 1} → statement M
+ukhtvaresh_listing_spec =
     tie.close (tie.spec (λ c κs. search rules) (λ c κs. search rules) (λ c. search rules) returns)

@@ -10,14 +10,14 @@ use Rattle.ukhtvaresh.proofs.sheets.mend.ukhtvaresh_mend.Tie as tie
 
 returns : tie.Need-returns
 returns c =
-    let done = c.before.before.before.before.before.mend in
-    let a = c.before.before.before.before.before.before.before.before.before.before.before.args in
+    let done = c.mend-answer in
+    let a = c.args in
     let answer = done.ensures.0 in
-    let e = c.mend-reply.ensures ∙ ap mend_reply answer in
+    let e = c.mend_reply-reply.ensures ∙ ap mend_reply answer in
     let sheets = done.ensures.1.0 ∙ ap (λ r. room_after r (kept a.file.now) a.sheets.now) answer in
     let dropped = done.ensures.1.1 ∙ ap (λ r. room_after r (notes a.file.now) a.dropped.now) answer in
     (ap (λ (x : MendReply). x.number) e, (ap (λ (x : MendReply). x.kept) e, (ap (λ (x : MendReply). x.noted) e, (sheets, dropped))))
 
-pub ukhtvaresh-mend-spec : {M : Type 1} → statement M
-ukhtvaresh-mend-spec =
+pub ukhtvaresh_mend_spec : {M : Type 1} → statement M
+ukhtvaresh_mend_spec =
     tie.close (tie.spec (λ c κs. search rules) (λ c κs. search rules) (λ c. search rules) (λ c. search rules) returns)

@@ -8,10 +8,10 @@ use Rattle.ukhtvaresh.proofs.tables.from_tables.ukhtvaresh_from_tables.Tie as ti
 
 returns : tie.Need-returns
 returns c =
-    let done = c.before.before.elements in
-    let e = c.tables-reply.ensures ∙ ap tables_reply done.ensures.0 in
+    let done = c.elements-answer in
+    let e = c.tables_reply-reply.ensures ∙ ap tables_reply done.ensures.0 in
     (ap (λ (x : Reply). x.number) e, (ap (λ (x : Reply). x.value) e, done.ensures.1))
 
-pub ukhtvaresh-from-tables-spec : {M : Type 1} → statement M
-ukhtvaresh-from-tables-spec =
+pub ukhtvaresh_from_tables_spec : {M : Type 1} → statement M
+ukhtvaresh_from_tables_spec =
     tie.close (tie.spec (λ c κs. search rules) (λ c κs. search rules) (λ c. search rules) returns)

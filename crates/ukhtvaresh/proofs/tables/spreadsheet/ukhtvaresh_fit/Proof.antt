@@ -13,9 +13,9 @@ returns : tie.Need-returns
 returns c =
     let start = c.before.before in
     let a = start.args in
-    let given = c.before.fit.ensures ∙ ap (fit_of a.coefficients.now a.tabulated.now) (to_z-of_z w64 a.tolerance start.ranges.tolerance) in
-    let e = c.fit-reply.ensures ∙ ap fit_reply given in
+    let given = c.fit-answer.ensures ∙ ap (fit_of a.coefficients.now a.tabulated.now) (to_z-of_z w64 a.tolerance start.ranges.tolerance) in
+    let e = c.fit_reply-reply.ensures ∙ ap fit_reply given in
     (ap (λ (x : Reply). x.number) e, ap (λ (x : Reply). x.value) e)
 
-pub ukhtvaresh-fit-spec : {M : Type 1} → statement M
-ukhtvaresh-fit-spec = tie.close (tie.spec (λ c κs. search rules) (λ c κs. search rules) returns)
+pub ukhtvaresh_fit_spec : {M : Type 1} → statement M
+ukhtvaresh_fit_spec = tie.close (tie.spec (λ c κs. search rules) (λ c κs. search rules) returns)

@@ -8,12 +8,12 @@ use Rattle.ukhtvaresh.proofs.texts.times.ukhtvaresh_times.Tie as tie
 
 returns : tie.Need-returns
 returns c =
-    let done = c.before.before.before.before.before.before.before.times in
-    let e = c.listing-reply.ensures ∙ ap listing_reply done.ensures.0 in
+    let done = c.times-listed in
+    let e = c.listing_reply-reply.ensures ∙ ap listing_reply done.ensures.0 in
     (ap (λ (x : Reply). x.number) e, (ap (λ (x : Reply). x.value) e, done.ensures.1))
 
-pub ukhtvaresh-times-spec : {M : Type 1} → statement M
-ukhtvaresh-times-spec =
+pub ukhtvaresh_times_spec : {M : Type 1} → statement M
+ukhtvaresh_times_spec =
     tie.close
     (tie.spec (λ c κs. search rules) (λ c κs. search rules) (λ c. search rules) (λ c. search rules)
     (λ c. search rules) returns)

@@ -8,12 +8,12 @@ use Rattle.ukhtvaresh.proofs.texts.typed.ukhtvaresh_typed.Tie as tie
 
 returns : tie.Need-returns
 returns c =
-    let done = c.before.before.before.before.before.before.before.store in
-    let e = c.typed-reply.ensures ∙ ap typed_reply done.ensures.0 in
+    let done = c.store-stored in
+    let e = c.typed_reply-reply.ensures ∙ ap typed_reply done.ensures.0 in
     (ap (λ (x : Reply). x.number) e, (ap (λ (x : Reply). x.value) e, done.ensures.1))
 
-pub ukhtvaresh-typed-spec : {M : Type 1} → statement M
-ukhtvaresh-typed-spec =
+pub ukhtvaresh_typed_spec : {M : Type 1} → statement M
+ukhtvaresh_typed_spec =
     tie.close
     (tie.spec (λ c κs. search rules) (λ c κs. search rules) (λ c. search rules) (λ c. search rules)
     (λ c. search rules) returns)
