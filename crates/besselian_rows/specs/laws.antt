@@ -9,4 +9,3 @@ pub mod Errors
 pub mod WideLaws
 pub mod DistanceLaws
 pub mod ReadLaws
-pub mod TablesLaws

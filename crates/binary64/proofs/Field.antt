@@ -6,7 +6,7 @@ use native.Mathlib.Nat.{mul-one, mul_comm, mul_left_comm, mul_right_comm, mul-ad
 use lib.Pow.{pow-add, pow_pos, pow_mono}
 use Rattle.rounding.specs.Near.{half_up}
 use Rattle.binary64.specs.laws.Fields.{size_of}
-use Rattle.binary64.specs.laws.ReadingLaws.{twice_positive}
+use Rattle.binary64.proofs.laws.ReadingLaws.{twice_positive}
 
 -- where a size is too large; the weight of the leading digit
 abbrev limit : ℕ

@@ -8,7 +8,7 @@ use native.Mathlib.Nat.{mod-eq_of_lt, le_trans}
 use lib.Pow.{pow-add, pow_pos, pow_mono, pow-lt}
 use lib.Dec.{lit<}
 use Rattle.rounding.specs.Near.{half_up}
-use Rattle.binary64.specs.laws.ReadingLaws.{twice_positive}
+use Rattle.binary64.proofs.laws.ReadingLaws.{twice_positive}
 
 -- what 64 bits count; where a size is too large; what q is split by
 abbrev word : ℕ

@@ -11,8 +11,4 @@ pub mod SineChord
 pub mod Values
 -- the shadow
 pub mod Shadows
-pub mod Path
 -- the margins at two ends, and the seconds between
-pub mod MarginLaws
-pub mod Clear
-pub mod Skip

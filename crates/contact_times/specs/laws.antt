@@ -7,4 +7,3 @@ pub mod EdgeSigns
 pub mod BracketLaws
 pub mod EndLaws
 -- the answer of an occultation
-pub mod ContactLaws

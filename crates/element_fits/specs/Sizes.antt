@@ -8,7 +8,7 @@ use Rattle.std.proofs.Math.IntN.{pos}
 use Rattle.std.specs.Int.Signed.{le_z_yes}
 use Rattle.rounding.specs.laws.Order.{nat_abs_sum, nat_abs_minus, nat_abs_product}
 use Rattle.rounding.specs.Near.{near}
-use Rattle.rounding.specs.laws.NearLaws.{near-size}
+use Rattle.rounding.proofs.laws.NearLaws.{near-size}
 use Rattle.elements.specs.declared.Cubic.{Cubic}
 use Rattle.elements.specs.Sizes.{QuadraticSizes}
 use Rattle.element_fits.specs.declared.least_squares.Hourly.{Hourly}

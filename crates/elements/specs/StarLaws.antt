@@ -8,7 +8,7 @@ use Rattle.std.specs.Int.Signed.{le_z_yes}
 use Rattle.rounding.specs.laws.Ring.{num, ◌⊕◌, ◌⊗◌, ring, v0}
 use Rattle.rounding.specs.Units.{hour}
 use Rattle.rounding.specs.Near.{near}
-use Rattle.rounding.specs.laws.NearLaws.{near_zero}
+use Rattle.rounding.proofs.laws.NearLaws.{near_zero}
 use Rattle.rounding.specs.laws.LimitsLaws.{each_in_range}
 use Rattle.rounding.specs.laws.Order.{nat_abs_le}
 use Rattle.sheet_types.specs.declared.refusals.Checked.TheVariants.{Within}

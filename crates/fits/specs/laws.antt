@@ -1,4 +1,3 @@
-pub mod Exactly
 pub mod RangeLaws
 pub mod FitLaws
 pub mod WholeHours

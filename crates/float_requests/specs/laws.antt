@@ -3,5 +3,3 @@ pub mod SearchLaws
 pub mod ReadBackLaws
 pub mod WritingLaws
 pub mod HeldRequest
-pub mod SurveyLaws
-pub mod HandedLaws

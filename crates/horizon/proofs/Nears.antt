@@ -10,7 +10,7 @@ use mir.Val.{to_z, of_z}
 use Rattle.rounding.specs.laws.Code.{read_back}
 use Rattle.rounding.specs.Units.{one}
 use Rattle.rounding.specs.Near.{near}
-use Rattle.rounding.specs.laws.NearLaws.{near-size}
+use Rattle.rounding.proofs.laws.NearLaws.{near-size}
 use Rattle.rounding.specs.Value.{Value}
 use Rattle.sine_table.specs.Table.{S}
 use Rattle.shadow_geometry.specs.Direction.{direction}

@@ -17,41 +17,15 @@ use Rattle.requests.specs.Windows.{in_span}
 use Rattle.requests.specs.WindowLaws.{in-span}
 use Rattle.requests.specs.RequestLaws.{InLimits}
 use Rattle.requests.specs.Admission.{admitted}
-use Rattle.requests.specs.laws.AdmissionLaws.{admitted-within}
+use Rattle.requests.proofs.laws.AdmissionLaws.{admitted-within}
 use Rattle.seconds.specs.declared.OneSecond.{OneSecond}
 use Rattle.seconds.specs.declared.OneSecond.TheVariants as S
 use Rattle.seconds.specs.OneSecond.{second_by, second_checked, second_answer}
-use Rattle.seconds.specs.laws.SecondLaws.{placed, second-outside, second-inside}
-use Rattle.obscuration.specs.laws.CoveredLaws.{share-at, sizes-at, share_means}
+use Rattle.seconds.proofs.laws.SecondLaws.{placed, second-outside, second-inside}
+use Rattle.obscuration.proofs.laws.CoveredLaws.{share-at, sizes-at, share_means}
 use Rattle.obscuration.specs.Answer.{share_by, share_answer, AnswerMeans}
 
 -- the sizes of what is answered; a refusal has none
 abbrev pub AnsweredSizes : OneSecond → Type 0
 AnsweredSizes (S.Is x) = Sizes x.shadow.l1 x.shadow.l2 x.shadow.m
 AnsweredSizes (S.Refused r) = Unit
-
-module _ (q : Request) (τ : ℤ) (sines : List ℕ) where
-  -- what holds of the refusals, and of the second of a request within its limits, holds of the answer
-  either : (P : OneSecond → Type 0) → ((r : Refusal) → P (S.Refused r)) → (InLimits (of_eclipse q) → nat_abs τ ≤ 10800 → P (second_by C.Within (of_eclipse q) τ))
-      → P (second_answer (of_eclipse q) τ sines)
-  unfolding second_answer
-  either P refused within = by_span (in_span τ) refl
-    where
-      by-check : (c : Checked) → admitted (of_eclipse q) sines ≡ c → nat_abs τ ≤ 10800 → P (second_by c (of_eclipse q) τ)
-      by-check (C.Refused r) e h = refused r
-      by-check C.Within e h = within (admitted-within (of_eclipse q) sines e).0 h
-
-      by_span : (b : Bool) → in_span τ ≡ b → P (second_by (second_checked (of_eclipse q) τ sines) (of_eclipse q) τ)
-      by_span true e = rw (second-inside (of_eclipse q) τ sines e) (by-check (admitted (of_eclipse q) sines) refl (in-span τ e))
-      by_span false e = rw (second-outside (of_eclipse q) τ sines e) (refused (refusal 1 0))
-
-  pub answered-sizes : AnsweredSizes (second_answer (of_eclipse q) τ sines)
-  answered-sizes = either AnsweredSizes (λ r. tt) (λ i h. sizes-at q.elements i.body (place_of q.station) (placed (of_eclipse q) i) τ h)
-
-  pub means-answer : AnswerMeans q τ (share_answer q τ sines)
-  unfolding share_answer
-  means-answer =
-      either (λ (x : OneSecond). AnswerMeans q τ (share_by x)) (λ r. tt)
-      (λ i h.
-      let is = share-at q.elements (place_of q.station) τ in
-      (sym is, rw (← is) (share_means q i τ h)))

@@ -2,5 +2,4 @@
 pub mod StripLaws
 pub mod DiscLaws
 pub mod ShareLaws
-pub mod CoveredLaws
 pub mod MirrorLaws

@@ -1,2 +1,1 @@
-pub mod AdmissionLaws
 pub mod MirrorLaws

@@ -5,9 +5,7 @@ pub mod Ring
 pub mod Cert
 pub mod Floor
 pub mod Stores
-pub mod NearLaws
 pub mod RootLaws
-pub mod RoundsLaws
 pub mod Code
 pub mod LimitsLaws
 pub mod Examples

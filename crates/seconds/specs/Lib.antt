@@ -4,8 +4,6 @@ pub mod Seconds
 pub mod Closest
 pub mod OneSecond
 pub mod Exact
-pub mod Errors
-pub mod Guards
 -- laws, for callers
 pub mod AllStates
 pub mod laws

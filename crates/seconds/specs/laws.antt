@@ -1,3 +1,2 @@
 pub mod ClosestLaws
-pub mod SecondLaws
 pub mod MirrorLaws

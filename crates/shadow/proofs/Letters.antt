@@ -17,7 +17,7 @@ use Rattle.elements.specs.Sizes.{ElementSizes}
 use Rattle.station.specs.declared.Place.{Place}
 use Rattle.station.specs.Sizes.{PlaceSizes}
 use Rattle.shadow_geometry.specs.Shadow.{Moment, moment, u, v, L, M}
-use Rattle.shadow_geometry.specs.laws.Sizes.{M_nonneg}
+use Rattle.shadow_geometry.proofs.laws.Sizes.{M_nonneg}
 use Rattle.shadow_geometry.specs.Magnitude.{magnitude}
 use Rattle.shadow_geometry.specs.Direction.{direction}
 use Rattle.shadow.specs.declared.Shadow.{Shadow}

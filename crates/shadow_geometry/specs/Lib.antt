@@ -4,5 +4,4 @@ pub mod Exact
 pub mod Direction
 pub mod Magnitude
 -- the theorems on how far the shadow is from the exact one
-pub mod Thirteen
 pub mod laws

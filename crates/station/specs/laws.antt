@@ -1,4 +1,2 @@
 pub mod StationLaws
-pub mod PlaceLaws
-pub mod MirrorLaws
 pub mod Examples

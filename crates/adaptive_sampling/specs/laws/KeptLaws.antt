@@ -20,7 +20,7 @@ use Rattle.requests.specs.RequestLaws.{InLimits}
 use Rattle.run_length.specs.Runs.{state_in, none}
 use Rattle.run_length.specs.laws.RunsLaws.{decoded-none}
 use Rattle.seconds.specs.Seconds.{state_at}
-use Rattle.seconds.specs.laws.SecondLaws.{placed}
+use Rattle.seconds.proofs.laws.SecondLaws.{placed}
 use Rattle.exclusion_test.specs.Samples.{IsAt, byte_at, square_at, size}
 use Rattle.exclusion_test.specs.laws.Gaps.{Gap, sample_sizes}
 use Rattle.adaptive_sampling.specs.declared.partial.Tally.{Tally}

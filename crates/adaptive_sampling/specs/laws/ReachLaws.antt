@@ -5,7 +5,7 @@ use Rattle.std.proofs.Common.{sym, subst, arith}
 use Rattle.std.specs.Prelude.{ℕ, ◌≤◌, ◌<◌, ℤ, pos, ◌*ℤ◌, ◌≤ℤ◌}
 use Rattle.std.specs.Int.Signed.{le_z_yes}
 use Rattle.rounding.specs.laws.Order.{≤ℤ_trans, le_nat_abs}
-use Rattle.shadow_geometry.specs.laws.Sizes.{M_nonneg}
+use Rattle.shadow_geometry.proofs.laws.Sizes.{M_nonneg}
 use Rattle.shadow.specs.declared.Sample.{Sample}
 use Rattle.requests.specs.declared.Occultation.{Occultation}
 use Rattle.requests.specs.Windows.{nth_second}

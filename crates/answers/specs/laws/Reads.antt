@@ -12,7 +12,7 @@ use Rattle.request_answers.specs.Sheet.{answer_to, buffer_for, sheet_stored}
 use Rattle.decimal_text.specs.Texts.{Put}
 use Rattle.program_io.specs.Inputs.{Read, zeros}
 use Rattle.program_io.specs.laws.OutputLaws.{put-cut}
-use Rattle.program_io.specs.laws.InputLaws.{read_same}
+use Rattle.program_io.proofs.laws.InputLaws.{read_same}
 use Rattle.answers.specs.Answers.{answer_text, printedFor, errorLine}
 
 -- ---- more bytes than a layout has are not of its shape

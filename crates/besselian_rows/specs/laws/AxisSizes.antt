@@ -10,7 +10,7 @@ use Rattle.rounding.specs.Parts.{sum, opposite}
 use Rattle.rounding.specs.laws.Order.{≤-parts, le_nat_abs, neg_nat_abs, nat_abs_sum, nat_abs_minus, square_nat_abs}
 use Rattle.rounding.specs.laws.Ring.{num, ◌⊕◌, ◌⊖◌, ◌⊗◌, opp, ring, v0, v1, v2, v3, v4, v5}
 use Rattle.rounding.specs.laws.Cert.{leq, lit, sq, ◌⊞◌, ◌⊠◌, certify}
-use Rattle.rounding.specs.laws.NearLaws.{near-error, near-size}
+use Rattle.rounding.proofs.laws.NearLaws.{near-error, near-size}
 use Rattle.rounding.specs.Root.{IsRoot}
 use Rattle.rounding.specs.laws.RootLaws.{root_is}
 use Rattle.besselian_rows.specs.declared.besselian.Row.{Row}

@@ -8,7 +8,7 @@ use Rattle.rounding.specs.Parts.{sum, opposite}
 use Rattle.rounding.specs.laws.Order.{zs, nat_abs_by, nat_abs_sum, nat_abs_minus, nat_abs_product, nat_abs_product_le}
 use Rattle.rounding.specs.laws.Ring.{◌⊕◌, ◌⊖◌, ◌⊗◌, ring, v0, v1, v2, v3}
 use Rattle.rounding.specs.Near.{near}
-use Rattle.rounding.specs.laws.NearLaws.{near-size}
+use Rattle.rounding.proofs.laws.NearLaws.{near-size}
 use Rattle.rounding.specs.Root.{IsRoot}
 use Rattle.rounding.specs.laws.RootLaws.{root_is}
 use Rattle.besselian_rows.specs.declared.besselian.Row.{Row}

@@ -8,7 +8,7 @@ use mir.Syntax.{w64}
 use mir.Val.{to_z, of_z}
 use mir.ValLaws.{to_z-of_z}
 use Rattle.binary64.specs.Doubles.{double_of, ReadsBack}
-use Rattle.binary64.specs.laws.ReadBack.{reads_back, in-float}
+use Rattle.binary64.proofs.laws.ReadBack.{reads_back, in-float}
 use Rattle.binary64.proofs.double_of.Statement.{statement}
 use Rattle.binary64.proofs.double_of.Tie as tie
 

@@ -3,7 +3,7 @@ use mathlib.Core.Path.{sym, ap, subst}
 use lib.Dec.{T}
 use lib.Ieee.{binary64, fits}
 use lib.Ieee.Scale.{finite}
-use Rattle.binary64.specs.laws.ReadingLaws.{is-nan, no_nan, finite-fields}
+use Rattle.binary64.proofs.laws.ReadingLaws.{is-nan, no_nan, finite-fields}
 use Rattle.binary64.proofs.is_finite.Statement.{statement}
 use Rattle.binary64.proofs.is_finite.Tie as tie
 

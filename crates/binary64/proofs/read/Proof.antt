@@ -16,7 +16,7 @@ use Rattle.rounding.specs.laws.Code.{Code, arg, lit, sub, Within, raw, ends, ◌
 use Rattle.binary64.specs.declared.Reading.TheVariants.{Units}
 use Rattle.binary64.specs.Doubles.{signed, fitted, reading_of}
 use Rattle.binary64.specs.laws.Fields.{size_of}
-use Rattle.binary64.specs.laws.ReadingLaws.{finite_no_nan, units-fields, fitted_small, fitted_large, reading_none, reading-fits}
+use Rattle.binary64.proofs.laws.ReadingLaws.{finite_no_nan, units-fields, fitted_small, fitted_large, reading_none, reading-fits}
 use Rattle.binary64.proofs.read.Statement.{statement}
 use Rattle.binary64.proofs.read.Tie as tie
 

@@ -15,9 +15,9 @@ use Rattle.sine.specs.Sine.{sine, cosine}
 use Rattle.sine.specs.laws.SineLaws.{sine-size, cosine-size}
 use Rattle.sine_accuracy.specs.Series.{denominator, common, term, sine_series, cosine_series}
 use Rattle.sine_accuracy.specs.laws.Lists.{worth, carry, moved, added, size, worth-added, worth-moved, worth-size}
-use Rattle.sine_accuracy.specs.laws.Coefficients.{part, sines, cosines, sine-worth, cosine-worth}
+use Rattle.sine_accuracy.proofs.laws.Coefficients.{part, sines, cosines, sine-worth, cosine-worth}
 use Rattle.sine_accuracy.specs.TrueSine.{Within}
-use Rattle.sine_accuracy.specs.laws.EveryAngle.{sine-true, cosine-true}
+use Rattle.sine_accuracy.proofs.laws.EveryAngle.{sine-true, cosine-true}
 
 -- 10^19 (p(x+2) - 2 p(x+1) + p(x)) + 3046 p(x+1) as a polynomial in x
 unfoldable pub rest : List ℤ → List ℤ

@@ -14,7 +14,7 @@ use Rattle.rounding.specs.laws.Order.{nat_abs_opposite, nat_abs_product}
 use Rattle.rounding.specs.laws.Ring.{num, ◌⊕◌, ◌⊖◌, ◌⊗◌, opp, ring, v0, v1, v2, v3, v4, v5}
 use Rattle.rounding.specs.Units.{one}
 use Rattle.rounding.specs.Near.{near}
-use Rattle.rounding.specs.laws.NearLaws.{near-error}
+use Rattle.rounding.proofs.laws.NearLaws.{near-error}
 use Rattle.sine.specs.Sine.{sine, cosine}
 use Rattle.sine.specs.laws.SineLaws.{sine-size, cosine-size}
 use Rattle.elements.specs.declared.Axis.{Axis}
@@ -28,7 +28,7 @@ use Rattle.station.specs.Sizes.{PlaceSizes}
 use Rattle.shadow_geometry.specs.Shadow.{Moment, moment_of, H, ξ, η, ζ, u, v, L}
 use Rattle.shadow_geometry.specs.Exact.{exact-cubic, exact_q, exact_ξ, exact_η, exact_ζ}
 use Rattle.shadow_geometry.specs.laws.PolynomialError.{cubic-error}
-use Rattle.shadow_geometry.specs.laws.Errors.{η-error, ζ-error}
+use Rattle.shadow_geometry.proofs.laws.Errors.{η-error, ζ-error}
 use Rattle.chord_bounds.specs.laws.SineSlope.{sine_change, cosine_change}
 use Rattle.chord_bounds.specs.laws.Deviation.{deviation, deviation-sum, deviation-minus, deviation-left, deviation-right, deviation-near, deviation-product}
 use Rattle.chord_bounds.specs.laws.SineChord.{sine-chord, cosine-chord}

@@ -10,7 +10,7 @@ use Rattle.sine.specs.Sine.{sine, cosine}
 use Rattle.chord_bounds.specs.laws.Turns.{cosine_as_sine}
 use Rattle.sine_accuracy.specs.Series.{common}
 use Rattle.sine_accuracy.specs.TrueSine.{true_sine}
-use Rattle.sine_accuracy.specs.laws.EveryAngle.{sine-everywhere}
+use Rattle.sine_accuracy.proofs.laws.EveryAngle.{sine-everywhere}
 use Rattle.chord_bounds.specs.laws.Tangent.{step, tangent}
 use Rattle.chord_bounds.specs.laws.SineSlope.{common_positive, true_bent, true_slope}
 use Rattle.chord_bounds.specs.laws.Deviation.{deviation, deviation-left, deviation-near, deviation-line}

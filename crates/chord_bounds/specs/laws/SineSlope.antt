@@ -12,7 +12,7 @@ use Rattle.sine.specs.Sine.{sine, cosine}
 use Rattle.chord_bounds.specs.laws.Turns.{cosine_as_sine}
 use Rattle.sine_accuracy.specs.Series.{denominator, common}
 use Rattle.sine_accuracy.specs.TrueSine.{true_sine}
-use Rattle.sine_accuracy.specs.laws.EveryAngle.{sine-everywhere}
+use Rattle.sine_accuracy.proofs.laws.EveryAngle.{sine-everywhere}
 use Rattle.chord_bounds.specs.laws.TrueBend.{true-step, true-bend}
 use Rattle.chord_bounds.specs.laws.Tangent.{Bent, step, lipschitz}
 

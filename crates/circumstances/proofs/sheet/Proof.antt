@@ -5,7 +5,7 @@ use mathlib.Core.Path.{◌≡◌, refl, sym, ap, ◌∙◌}
 use borrow.Author.Rules.{rules}
 use Rattle.sheet_types.specs.declared.refusals.Checked.TheVariants as C
 use Rattle.requests.specs.Admission.{admitted, sines_after}
-use Rattle.requests.specs.laws.AdmissionLaws.{admitted-within}
+use Rattle.requests.proofs.laws.AdmissionLaws.{admitted-within}
 use Rattle.circumstances.specs.laws.Claims.{sheet-is}
 use Rattle.circumstances.proofs.sheet.Statement.{statement}
 use Rattle.circumstances.proofs.sheet.Tie as tie

@@ -12,7 +12,7 @@ use Rattle.sheet_types.specs.Refusals.{refusal}
 use Rattle.requests.specs.declared.Occultation.{Occultation}
 use Rattle.requests.specs.RequestLaws.{InLimits}
 use Rattle.requests.specs.Admission.{admitted, sines_after}
-use Rattle.requests.specs.laws.AdmissionLaws.{admitted-within, admitted-four}
+use Rattle.requests.proofs.laws.AdmissionLaws.{admitted-within, admitted-four}
 use Rattle.circumstances.specs.declared.Answer.{Answer}
 use Rattle.circumstances.specs.declared.Answer.TheVariants as A
 use Rattle.circumstances.specs.WrittenSheet.{sheet_bytes}

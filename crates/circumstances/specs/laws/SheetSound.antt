@@ -4,7 +4,7 @@ use Rattle.std.specs.Prelude.{List, ◌++◌, ℕ, ◌≡◌, refl, length}
 use Rattle.requests.specs.declared.Occultation.{Occultation}
 use Rattle.requests.specs.WindowLaws.{in-window-size}
 use Rattle.requests.specs.RequestLaws.{InLimits}
-use Rattle.seconds.specs.laws.SecondLaws.{each-second}
+use Rattle.seconds.proofs.laws.SecondLaws.{each-second}
 use Rattle.sheet_rules.specs.Rules.{start}
 use Rattle.sheet_codec.specs.Sheets.{sheet, read_sheet}
 use Rattle.sheet_codec.specs.laws.WellFormed.{WellFormed}

@@ -11,7 +11,7 @@ use Rattle.requests.specs.Requests.{checked}
 use Rattle.requests.specs.RequestLaws.{not_true, not_false}
 use Rattle.requests.specs.Windows.{window_holds}
 use Rattle.contact_times.specs.Contacts.{phase_checked}
-use Rattle.contact_times.specs.laws.ContactLaws.{contact-window, contact-request, contact-phase, contact-room}
+use Rattle.contact_times.proofs.laws.ContactLaws.{contact-window, contact-request, contact-phase, contact-room}
 use Rattle.contact_times.proofs.check.Statement.{statement}
 use Rattle.contact_times.proofs.check.Tie as tie
 

@@ -9,7 +9,7 @@ use mir.Syntax.{w64}
 use mir.Val.{to_z, of_z}
 use mir.ValLaws.{to_z-of_z}
 use Rattle.rounding.specs.laws.Order.{le_z_true}
-use Rattle.contact_times.specs.laws.ContactLaws.{phase-negative, phase-beyond, phase-within, as_natural}
+use Rattle.contact_times.proofs.laws.ContactLaws.{phase-negative, phase-beyond, phase-within, as_natural}
 use Rattle.contact_times.proofs.check_phase.Statement.{statement}
 use Rattle.contact_times.proofs.check_phase.Tie as tie
 

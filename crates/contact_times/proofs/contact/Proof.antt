@@ -16,7 +16,7 @@ use Rattle.contact_times.specs.Sizes.{CrossingSizes}
 use Rattle.requests.specs.RequestLaws.{InLimits}
 use Rattle.rounding.specs.laws.Order.{nat_abs_between}
 use Rattle.contact_times.specs.Contacts.{used_guard, crossing}
-use Rattle.contact_times.specs.laws.ContactLaws.{crossing_sizes}
+use Rattle.contact_times.proofs.laws.ContactLaws.{crossing_sizes}
 use Rattle.contact_times.proofs.contact.Statement.{statement}
 use Rattle.contact_times.proofs.contact.Tie as tie
 

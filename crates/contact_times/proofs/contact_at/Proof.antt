@@ -18,7 +18,7 @@ use Rattle.requests.specs.declared.Occultation.{Occultation}
 use Rattle.requests.specs.WindowLaws.{window-sizes}
 use Rattle.contact_times.specs.Brackets.{bracket_of}
 use Rattle.contact_times.specs.Contacts.{crossing, phase_at, contact_checked, contact_sines, found}
-use Rattle.contact_times.specs.laws.ContactLaws.{Held, contact-within, contact-is, as_natural}
+use Rattle.contact_times.proofs.laws.ContactLaws.{Held, contact-within, contact-is, as_natural}
 use Rattle.contact_times.proofs.contact_at.Statement.{statement}
 use Rattle.contact_times.proofs.contact_at.Tie as tie
 

@@ -10,7 +10,7 @@ use Rattle.rounding.specs.Parts.{sum, opposite}
 use Rattle.rounding.specs.laws.Order.{zs, +ℤ_nonneg, nat_abs_parts, nat_abs_sum, nat_abs_product_le}
 use Rattle.rounding.specs.Units.{one}
 use Rattle.rounding.specs.Near.{near}
-use Rattle.rounding.specs.laws.NearLaws.{near-size}
+use Rattle.rounding.proofs.laws.NearLaws.{near-size}
 use Rattle.sine.specs.Sine.{sine, cosine}
 use Rattle.sine.specs.laws.SineLaws.{sine-size, cosine-size}
 use Rattle.elements.specs.declared.Axis.{Axis}

@@ -11,7 +11,7 @@ use Rattle.std.specs.Int.Signed.{le_z_yes}
 use Rattle.rounding.specs.laws.Order.{zs, nat_abs_sum, nat_abs_product, nat_abs_product_le}
 use Rattle.rounding.specs.laws.Ring.{num, ◌⊕◌, ◌⊖◌, ◌⊗◌, ring, v0, v1, v2, v3, v4, v5, v6}
 use Rattle.rounding.specs.Near.{near}
-use Rattle.rounding.specs.laws.NearLaws.{near-error, near-size, near_zero}
+use Rattle.rounding.proofs.laws.NearLaws.{near-error, near-size, near_zero}
 use Rattle.rounding.specs.Units.{hour}
 use Rattle.elements.specs.declared.Cubic.{Cubic}
 use Rattle.elements.specs.declared.Quadratic.{Quadratic}

@@ -10,7 +10,7 @@ use Rattle.rounding.specs.laws.Order.{zs, by_contra, nat_abs_product}
 use Rattle.rounding.specs.laws.Ring.{num, ◌⊗◌, ring, v0, v1, v2}
 use Rattle.rounding.specs.laws.Cert.{leq, less, lit, ◌⊞◌, ◌⊠◌, certify, certify-<}
 use Rattle.rounding.specs.Near.{near}
-use Rattle.rounding.specs.laws.NearLaws.{near-is, near_unique}
+use Rattle.rounding.proofs.laws.NearLaws.{near-is, near_unique}
 use Rattle.elements.specs.declared.Cubic.{Cubic}
 use Rattle.elements.specs.declared.Quadratic.{Quadratic}
 use Rattle.elements.specs.declared.Axis.{Axis}

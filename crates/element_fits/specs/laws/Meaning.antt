@@ -28,7 +28,7 @@ use Rattle.fits.specs.laws.WholeHours.{whole-hours, quadratic-hours}
 use Rattle.besselian_rows.specs.declared.tables.Verdict.TheVariants as T
 use Rattle.besselian_rows.specs.Exact.{accepted}
 use Rattle.besselian_rows.specs.Tables.{rowAt, first_refused}
-use Rattle.besselian_rows.specs.laws.TablesLaws.{passed_here, none_left, accepted-at}
+use Rattle.besselian_rows.proofs.laws.TablesLaws.{passed_here, none_left, accepted-at}
 use Rattle.element_fits.specs.declared.least_squares.Hourly.{Hourly}
 use Rattle.element_fits.specs.LeastSquares.{cubic, quadratic}
 use Rattle.element_fits.specs.Exact.{cubic_at_hour}

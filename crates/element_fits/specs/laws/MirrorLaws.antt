@@ -6,7 +6,7 @@ use Rattle.std.proofs.Math.IntN.{pos}
 use Rattle.std.specs.Int.Signed.{le_z_yes}
 use Rattle.rounding.specs.laws.Ring.{num, ◌⊕◌, ◌⊖◌, ◌⊗◌, opp, ring, v0, v1, v2, v3, v4, v5, v6}
 use Rattle.rounding.specs.Near.{near}
-use Rattle.rounding.specs.laws.NearLaws.{near-opposite}
+use Rattle.rounding.proofs.laws.NearLaws.{near-opposite}
 use Rattle.element_fits.specs.declared.least_squares.Hourly.{Hourly}
 use Rattle.element_fits.specs.LeastSquares.{sum, first, second, third, cubic, quadratic}
 

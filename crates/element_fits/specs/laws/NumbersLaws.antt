@@ -24,7 +24,7 @@ use Rattle.besselian_rows.specs.declared.tables.Verdict.{Verdict}
 use Rattle.besselian_rows.specs.declared.tables.Verdict.TheVariants as T
 use Rattle.besselian_rows.specs.Exact.{RadiiInRange}
 use Rattle.besselian_rows.specs.Tables.{number, first_refused}
-use Rattle.besselian_rows.specs.laws.TablesLaws.{accepted-at}
+use Rattle.besselian_rows.proofs.laws.TablesLaws.{accepted-at}
 use Rattle.element_fits.specs.Sizes.{HourlySizes}
 use Rattle.element_fits.specs.declared.Fits.{Fits}
 use Rattle.element_fits.specs.declared.Answer.{Answer}

@@ -7,7 +7,7 @@
 use Rattle.std.specs.Prelude.{◌≡◌, refl, Bool, ℕ, suc, ◌+◌, ◌-◌, ◌*◌, ◌/◌, ◌%◌, ◌≤◌, ◌<◌, min, T, leb, pos, ◌+ℤ◌, ◌≤ℤ◌}
 use Rattle.std.proofs.Common.{sym, ◌∙◌, ap, subst, ⊎_elim, arith, mul-le-mul_left, mul-le-mul_right, eq-or-lt_of_le, leb→le}
 use Rattle.rounding.specs.laws.Order.{zs}
-use Rattle.rounding.specs.laws.NearLaws.{near-pos}
+use Rattle.rounding.proofs.laws.NearLaws.{near-pos}
 use Rattle.sine_table.specs.Table.{S}
 use Rattle.sine_table.specs.laws.TableLaws.{nearest, S-nearest, entry-small}
 use Rattle.sine_table.specs.laws.Rising.{S_rises}

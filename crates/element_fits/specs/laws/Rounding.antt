@@ -10,7 +10,7 @@ use Rattle.std.specs.Int.Signed.{le_z_yes}
 use Rattle.rounding.specs.laws.Order.{zs, nat_abs_sum, nat_abs_product}
 use Rattle.rounding.specs.laws.Ring.{Expr, var, con, num, ◌⊕◌, ◌⊖◌, ◌⊗◌, ring}
 use Rattle.rounding.specs.Near.{near}
-use Rattle.rounding.specs.laws.NearLaws.{near-error}
+use Rattle.rounding.proofs.laws.NearLaws.{near-error}
 use Rattle.elements.specs.declared.Cubic.{Cubic}
 use Rattle.element_fits.specs.declared.least_squares.Hourly.{Hourly}
 use Rattle.element_fits.specs.LeastSquares.{sum, first, second, third, cubic, quadratic}

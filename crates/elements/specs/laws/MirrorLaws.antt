@@ -12,7 +12,7 @@ use Rattle.rounding.specs.Limits.{◌±◌, out_of_range, first_out_of_range}
 use Rattle.rounding.specs.laws.Ring.{◌⊕◌, ◌⊗◌, opp, ring, v0, v1}
 use Rattle.rounding.specs.Units.{hour}
 use Rattle.rounding.specs.Near.{near}
-use Rattle.rounding.specs.laws.NearLaws.{near-opposite}
+use Rattle.rounding.proofs.laws.NearLaws.{near-opposite}
 use Rattle.sheet_types.specs.Refusals.{of_limits, andThen}
 use Rattle.elements.specs.declared.Cubic.{Cubic}
 use Rattle.elements.specs.declared.Quadratic.{Quadratic}

@@ -27,10 +27,10 @@ use Rattle.requests.specs.Windows.{nth_second, second_count}
 use Rattle.requests.specs.WindowLaws.{second-size}
 use Rattle.requests.specs.RequestLaws.{InLimits}
 use Rattle.seconds.specs.Seconds.{state_at}
-use Rattle.seconds.specs.laws.SecondLaws.{placed}
+use Rattle.seconds.proofs.laws.SecondLaws.{placed}
 use Rattle.chord_bounds.specs.Margins.{slack, Spans, OneSign}
-use Rattle.chord_bounds.specs.laws.Skip as Skip
-use Rattle.chord_bounds.specs.laws.Skip.{Spanned, Outward, Inward, Out}
+use Rattle.chord_bounds.proofs.laws.Skip as Skip
+use Rattle.chord_bounds.proofs.laws.Skip.{Spanned, Outward, Inward, Out}
 use Rattle.exclusion_test.specs.Samples.{IsAt, byte_at, square_at, size}
 use Rattle.exclusion_test.specs.Passed.{Bend, Part, Distance, Spanning, In, Shows, PassedFrom, Passed}
 

@@ -16,7 +16,7 @@ use Rattle.requests.specs.declared.Request.{Request}
 use Rattle.requests.specs.declared.Occultation.{Occultation}
 use Rattle.requests.specs.Requests.{of_eclipse, window_checked, guard_checked, checked}
 use Rattle.requests.specs.RequestLaws.{checked-order}
-use Rattle.requests.specs.laws.AdmissionLaws.{admitted-refused}
+use Rattle.requests.proofs.laws.AdmissionLaws.{admitted-refused}
 use Rattle.circumstances.specs.declared.Answer.{Answer}
 use Rattle.circumstances.specs.declared.Answer.TheVariants as A
 use Rattle.circumstances.specs.Sheet.{sheet_answer, sheet_buffer, sheet_sines}

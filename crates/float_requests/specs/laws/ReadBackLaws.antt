@@ -11,7 +11,7 @@ use Rattle.elements.specs.Elements.{elements_of}
 use Rattle.elements.specs.laws.ElementsLaws.{spelled}
 use Rattle.binary64.specs.declared.Longitude.TheVariants.{Degrees}
 use Rattle.binary64.specs.Doubles.{units_of, ReadsBack}
-use Rattle.binary64.specs.laws.ReadBack.{reads_back}
+use Rattle.binary64.proofs.laws.ReadBack.{reads_back}
 use Rattle.float_requests.specs.Instrument.{doubles_of, first_not_finite, scales, elements_in}
 use Rattle.float_requests.specs.Writing.{doubles_in, ReadBack}
 use Rattle.float_requests.specs.laws.ScaleLaws.{scale_in, doubles_at}

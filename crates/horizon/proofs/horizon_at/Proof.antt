@@ -16,9 +16,9 @@ use Rattle.requests.specs.WindowLaws.{in-span}
 use Rattle.requests.specs.declared.Occultation.{Occultation}
 use Rattle.requests.specs.RequestLaws.{not_true, not_false}
 use Rattle.requests.specs.Admission.{admitted, sines_after}
-use Rattle.requests.specs.laws.AdmissionLaws.{admitted-within}
+use Rattle.requests.proofs.laws.AdmissionLaws.{admitted-within}
 use Rattle.seconds.specs.OneSecond.{second_checked, second_sines}
-use Rattle.seconds.specs.laws.SecondLaws.{second-outside, second-inside}
+use Rattle.seconds.proofs.laws.SecondLaws.{second-outside, second-inside}
 use Rattle.horizon.specs.declared.OneHorizon.{OneHorizon}
 use Rattle.horizon.specs.declared.OneHorizon.TheVariants as O
 use Rattle.horizon.specs.Horizon.{horizon_at, horizon_by, horizon_answer, horizon_sines}

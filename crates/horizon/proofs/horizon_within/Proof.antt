@@ -21,7 +21,7 @@ use Rattle.shadow_geometry.specs.Shadow.{Moment, moment_of, H, d}
 use Rattle.shadow.specs.declared.Orientation.{Orientation}
 use Rattle.shadow.specs.Shadow.{IsOrientation, OrientationSizes}
 use Rattle.seconds.specs.Seconds.{moment_at}
-use Rattle.seconds.specs.laws.SecondLaws.{placed}
+use Rattle.seconds.proofs.laws.SecondLaws.{placed}
 use Rattle.horizon.specs.Horizon.{horizon_of, orientation_of, horizon_at}
 use Rattle.horizon.proofs.horizon_within.Statement.{statement}
 use Rattle.horizon.proofs.horizon_within.Tie as tie

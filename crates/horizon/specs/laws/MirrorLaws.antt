@@ -9,7 +9,7 @@ use Rattle.std.specs.Int.Signed.{le_z_yes}
 use Rattle.rounding.specs.laws.Ring.{◌⊕◌, ◌⊖◌, ◌⊗◌, opp, ring, v0, v1, v2, v3}
 use Rattle.rounding.specs.Units.{one}
 use Rattle.rounding.specs.Near.{near}
-use Rattle.rounding.specs.laws.NearLaws.{near-opposite}
+use Rattle.rounding.proofs.laws.NearLaws.{near-opposite}
 use Rattle.sine_table.specs.Table.{S}
 use Rattle.sine_table.specs.laws.TableLaws.{entry_0}
 use Rattle.sine_table.specs.laws.Rising.{S_rises}
@@ -17,9 +17,9 @@ use Rattle.sine.specs.Sine.{sine, cosine}
 use Rattle.sine.specs.laws.OppositeLaws.{sine-opposite, cosine-opposite}
 use Rattle.elements.specs.laws.MirrorLaws.{quadratic-opposite}
 use Rattle.shadow_geometry.specs.Shadow.{Moment, H, d}
-use Rattle.shadow_geometry.specs.laws.MirrorLaws.{mirrored_moment}
+use Rattle.shadow_geometry.proofs.laws.MirrorLaws.{mirrored_moment}
 use Rattle.shadow_geometry.specs.laws.DirectionLaws.{Rising}
-use Rattle.shadow_geometry.specs.laws.DirectionMirror.{Mirrored, direction-mirrored}
+use Rattle.shadow_geometry.proofs.laws.DirectionMirror.{Mirrored, direction-mirrored}
 use Rattle.shadow.specs.declared.Orientation.{Orientation}
 use Rattle.requests.specs.declared.Occultation.{Occultation}
 use Rattle.requests.specs.Mirror.{mirrored_occultation}

@@ -3,7 +3,7 @@ use Rattle.std.specs.Prelude.{ℕ, ◌≤◌, ◌<◌, min, ◌≡◌, refl, Boo
 use Rattle.std.proofs.Common.{ap, ◌∙◌, arith, le-ltb, lt-ltb, leb-true, leb-false, length-take, length-take-le}
 use Rattle.decimal_text.specs.Texts.{letters, Put, Counts}
 use Rattle.program_io.specs.Inputs.{Read}
-use Rattle.program_io.specs.laws.InputLaws.{read_whole, read-full}
+use Rattle.program_io.proofs.laws.InputLaws.{read_whole, read-full}
 use Rattle.program_io.specs.Outputs.{Sent, to_output, to_error}
 use Rattle.program_io.specs.laws.OutputLaws.{put_whole, put-cut}
 use Rattle.listings.specs.Listings.{told, printed}

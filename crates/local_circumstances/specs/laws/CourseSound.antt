@@ -17,8 +17,8 @@ use Rattle.requests.specs.WindowLaws.{in-window-size}
 use Rattle.requests.specs.RequestLaws.{InLimits, guard_size}
 use Rattle.requests.specs.Shares.{sharing_of, sharing}
 use Rattle.seconds.specs.Seconds.{magnitude_of, magnitude_at}
-use Rattle.seconds.specs.laws.SecondLaws.{placed, direction_small, magnitude-small, closest-within}
-use Rattle.obscuration.specs.laws.CoveredLaws.{share-limit}
+use Rattle.seconds.proofs.laws.SecondLaws.{placed, direction_small, magnitude-small, closest-within}
+use Rattle.obscuration.proofs.laws.CoveredLaws.{share-limit}
 use Rattle.local_circumstances.specs.Sound.{InOrder, Sound}
 use Rattle.local_circumstances.specs.laws.SheetLaws.{eclipse_in_order, star_in_order, no_star_in_eclipse}
 use Rattle.local_circumstances.specs.Course.{share_of, course_of}

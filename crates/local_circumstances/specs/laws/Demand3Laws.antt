@@ -19,10 +19,11 @@ use Rattle.contacts.specs.declared.entries.Entry.TheVariants as C
 use Rattle.contacts.specs.Entries.{entries, All}
 use Rattle.contacts.specs.Exact.{Agrees, Change, how_many, ExactEnds, neither, Alternate}
 use Rattle.contacts.specs.laws.ExactLaws.{agrees_by_bytes}
-use Rattle.contacts.specs.laws.Changes.{each_change_in_one}
-use Rattle.contacts.specs.laws.Ends.{each-end-exact}
-use Rattle.contacts.specs.laws.Alternate.{alternate}
-use Rattle.contacts.specs.laws.Shifted.{shifted, how-many-shifted, alternate-shifted, ends-shifted}
+use Rattle.contacts.proofs.laws.Changes.{each_change_in_one}
+use Rattle.contacts.proofs.laws.Ends.{each-end-exact}
+use Rattle.contacts.proofs.laws.Alternate.{alternate}
+use Rattle.contacts.specs.laws.Shifted.{shifted}
+use Rattle.contacts.proofs.laws.Shifted.{how-many-shifted, alternate-shifted, ends-shifted}
 use Rattle.sheet_format.specs.declared.kinds.Entry.{Entry}
 use Rattle.sheet_format.specs.Entries.{end}
 use Rattle.sheet_format.specs.StoredSeconds.{second_of}

@@ -8,7 +8,7 @@ use Rattle.requests.specs.Windows.{nth_second, second_count}
 use Rattle.requests.specs.WindowLaws.{second-size}
 use Rattle.requests.specs.RequestLaws.{InLimits}
 use Rattle.seconds.specs.Seconds.{closestOf}
-use Rattle.seconds.specs.laws.SecondLaws.{closest-within}
+use Rattle.seconds.proofs.laws.SecondLaws.{closest-within}
 use Rattle.local_circumstances.specs.Courses.{second}
 use Rattle.local_circumstances.specs.Course.{course_of}
 

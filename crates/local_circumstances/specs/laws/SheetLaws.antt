@@ -20,8 +20,8 @@ use Rattle.contacts.specs.declared.entries.Entry.TheVariants as K
 use Rattle.contacts.specs.Entries as CE
 use Rattle.contacts.specs.Exact.{Turn, neither, entered, left, Alternate}
 use Rattle.contacts.specs.laws.Ordered.{Ordered, ordered}
-use Rattle.contacts.specs.laws.Alternate.{alternate}
-use Rattle.contacts.specs.laws.WellFormed as CW
+use Rattle.contacts.proofs.laws.Alternate.{alternate}
+use Rattle.contacts.proofs.laws.WellFormed as CW
 use Rattle.sheet_format.specs.declared.kinds.Entry.{Entry}
 use Rattle.sheet_format.specs.declared.kinds.Stage.TheVariants as S
 use Rattle.sheet_format.specs.declared.kinds.Crossing.{Crossing}

@@ -7,7 +7,7 @@ use Rattle.decimal_text.specs.Rows.{rows, part, each_part}
 use Rattle.decimal_text.specs.laws.RowLaws.{put_as}
 use Rattle.listing_lines.specs.Lines.{refusal_line}
 use Rattle.program_io.specs.Inputs.{Read}
-use Rattle.program_io.specs.laws.InputLaws.{read_same}
+use Rattle.program_io.proofs.laws.InputLaws.{read_same}
 use Rattle.program_io.specs.laws.OutputLaws.{put-cut}
 use Rattle.year_file.specs.declared.mending.Answer.{Answer}
 use Rattle.year_file.specs.declared.mending.Answer.TheVariants.{Mended, Refused}

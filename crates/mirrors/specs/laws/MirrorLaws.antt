@@ -10,7 +10,7 @@ use Rattle.elements.specs.declared.Body.TheVariants as B
 use Rattle.elements.specs.Mirror.{mirrored_body}
 use Rattle.station.specs.Place.{place_of}
 use Rattle.station.specs.Mirror.{mirrored_place}
-use Rattle.station.specs.laws.MirrorLaws.{place_mirrored}
+use Rattle.station.proofs.laws.MirrorLaws.{place_mirrored}
 use Rattle.shadow_geometry.specs.Shadow.{phases_of, u, v, M}
 use Rattle.requests.specs.declared.Request.{Request}
 use Rattle.requests.specs.declared.Occultation.{Occultation}
@@ -18,7 +18,7 @@ use Rattle.requests.specs.Requests.{of_eclipse, checked}
 use Rattle.requests.specs.Shares.{sharing_of, sharing}
 use Rattle.requests.specs.RequestLaws.{in-limits}
 use Rattle.requests.specs.Admission.{room_checked}
-use Rattle.requests.specs.laws.AdmissionLaws.{admitted-room}
+use Rattle.requests.proofs.laws.AdmissionLaws.{admitted-room}
 use Rattle.requests.specs.Mirror.{mirror_of, mirrored_occultation, mirror_for}
 use Rattle.requests.specs.laws.MirrorLaws.{checked_mirrored, mirrored_twice, mirrored-is}
 use Rattle.seconds.specs.Seconds.{moment_at, state_at, direction_at, magnitude_at}

@@ -31,7 +31,7 @@ use Rattle.listing_lines.specs.declared.clock.Altitude.{Altitude}
 use Rattle.listing_lines.specs.Lines.{refusal_line}
 use Rattle.program_io.specs.Inputs.{Read, zeros}
 use Rattle.program_io.specs.Outputs.{Sent, to_output, to_error}
-use Rattle.program_io.specs.laws.InputLaws.{read_same}
+use Rattle.program_io.proofs.laws.InputLaws.{read_same}
 use Rattle.program_io.specs.laws.OutputLaws.{put-cut}
 use Rattle.network_text.specs.declared.Fault.{Fault}
 use Rattle.network_text.specs.declared.Typed.TheVariants as T

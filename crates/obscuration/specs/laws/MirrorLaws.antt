@@ -5,7 +5,7 @@ use Rattle.elements.specs.Mirror.{mirrored_elements}
 use Rattle.station.specs.declared.Place.{Place}
 use Rattle.station.specs.Mirror.{mirrored_place}
 use Rattle.shadow_geometry.specs.Shadow.{moment}
-use Rattle.shadow_geometry.specs.laws.MirrorLaws.{L-mirrored, M-mirrored}
+use Rattle.shadow_geometry.proofs.laws.MirrorLaws.{L-mirrored, M-mirrored}
 use Rattle.obscuration.specs.Covered.{share_at}
 
 pub share_mirrored : (e : Elements) (p : Place) (τ : ℤ) → share_at (mirrored_elements neg_ℤ e) (mirrored_place p) τ ≡ share_at e p τ

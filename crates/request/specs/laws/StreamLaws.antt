@@ -9,7 +9,7 @@ use Rattle.request_format.specs.declared.fields.Shape.TheVariants as S
 use Rattle.request_format.specs.Request.{size_for}
 use Rattle.program_io.specs.Inputs.{Read}
 use Rattle.program_io.specs.Outputs.{Sent, to_output, to_error}
-use Rattle.program_io.specs.laws.InputLaws.{read_same}
+use Rattle.program_io.proofs.laws.InputLaws.{read_same}
 use Rattle.request_text.specs.laws.RoomLaws.{Bytes, Message}
 use Rattle.request_text.specs.Meaning.{refused, meaning_of, error_of}
 use Rattle.request.specs.Streams.{output_of}

@@ -10,7 +10,7 @@ use Rattle.seconds.specs.declared.OneSecond.{OneSecond}
 use Rattle.seconds.specs.declared.OneSecond.TheVariants as O
 use Rattle.seconds.specs.OneSecond.{second_answer}
 use Rattle.seconds.specs.Exact.{SecondMeans, AnswerMeans}
-use Rattle.seconds.specs.laws.SecondLaws.{means-answer}
+use Rattle.seconds.proofs.laws.SecondLaws.{means-answer}
 use Rattle.request_format.specs.declared.fields.Shape.{Shape}
 use Rattle.request_format.specs.declared.fields.Shape.TheVariants.{Eclipse, Star}
 use Rattle.request_format.specs.declared.input.Asked.{Asked}

@@ -3,7 +3,8 @@ use Rattle.std.specs.Prelude.{◌≡◌, refl, List, ℕ, ℤ}
 use Rattle.std.proofs.Common.{subst}
 use Rattle.requests.specs.declared.Request.{Request}
 use Rattle.obscuration.specs.Answer.{share_answer, AnswerMeans}
-use Rattle.obscuration.specs.AnswerLaws.{AnsweredSizes, answered-sizes, means-answer}
+use Rattle.obscuration.specs.AnswerLaws.{AnsweredSizes}
+use Rattle.obscuration.proofs.AnswerLaws.{answered-sizes, means-answer}
 use Rattle.request_format.specs.declared.input.Input.{Input}
 use Rattle.request_format.specs.declared.input.Input.TheVariants as I
 use Rattle.request_format.specs.Input.{input_of, request_of, eclipse_asked}

@@ -13,7 +13,7 @@ use Rattle.rounding.specs.Limits.{◌±◌, out_of_range}
 use Rattle.rounding.specs.laws.LimitsLaws.{range_opposite}
 use Rattle.rounding.specs.laws.Order.{nat_abs_opposite}
 use Rattle.elements.specs.laws.MirrorLaws as E
-use Rattle.station.specs.laws.MirrorLaws as S
+use Rattle.station.proofs.laws.MirrorLaws as S
 use Rattle.requests.specs.declared.Request.{Request}
 use Rattle.requests.specs.declared.Occultation.{Occultation}
 use Rattle.requests.specs.Requests.{of_eclipse, checked}

@@ -6,7 +6,7 @@ use native.Mathlib.Omega.{arith}
 use lib.IntN.{ℤ, pos}
 use lib.Signed.{◌≤ℤ◌, ◌<ℤ◌}
 use Rattle.rounding.specs.laws.Order.{zs}
-use Rattle.rounding.specs.laws.NearLaws.{near_above, near_below}
+use Rattle.rounding.proofs.laws.NearLaws.{near_above, near_below}
 use Rattle.rounding.specs.laws.Code.{Code, arg, lit, add, sub, quo, Within, whole, ends, ◌▹◌, fits, runs, above, taken-<, left-<}
 use Rattle.rounding.proofs.near.Statement.{statement}
 use Rattle.rounding.proofs.near.Tie as tie

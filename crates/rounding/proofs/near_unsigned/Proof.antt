@@ -1,7 +1,7 @@
 -- `rounding::near_unsigned` meets its contract: near of naturals is one division of naturals.
 use mathlib.Core.Path.{sym}
 use borrow.Author.Rules.{rules}
-use Rattle.rounding.specs.laws.NearLaws.{near-pos}
+use Rattle.rounding.proofs.laws.NearLaws.{near-pos}
 use Rattle.rounding.proofs.near_unsigned.Statement.{statement}
 use Rattle.rounding.proofs.near_unsigned.Tie as tie
 

@@ -7,7 +7,7 @@ use Rattle.elements.specs.Sizes.{wider_axis}
 use Rattle.elements.specs.StarLaws.{axis_sizes}
 use Rattle.station.specs.Sizes.{PlaceSizes}
 use Rattle.seconds.specs.Seconds.{direction_at}
-use Rattle.seconds.specs.laws.SecondLaws.{placed}
+use Rattle.seconds.proofs.laws.SecondLaws.{placed}
 use Rattle.seconds.proofs.direction_at.Statement.{statement}
 use Rattle.seconds.proofs.direction_at.Tie as tie
 

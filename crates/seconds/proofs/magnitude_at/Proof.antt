@@ -7,7 +7,7 @@ use Rattle.elements.specs.StarLaws.{BodySizes}
 use Rattle.station.specs.Place.{place_of}
 use Rattle.station.specs.Sizes.{PlaceSizes}
 use Rattle.seconds.specs.Seconds.{magnitude_of, magnitude_at}
-use Rattle.seconds.specs.laws.SecondLaws.{placed, guard-read}
+use Rattle.seconds.proofs.laws.SecondLaws.{placed, guard-read}
 use Rattle.seconds.proofs.magnitude_at.Statement.{statement}
 use Rattle.seconds.proofs.magnitude_at.Tie as tie
 

@@ -11,10 +11,10 @@ use Rattle.requests.specs.Windows.{in_span}
 use Rattle.requests.specs.WindowLaws.{in-span}
 use Rattle.requests.specs.RequestLaws.{not_true, not_false}
 use Rattle.requests.specs.Admission.{admitted, sines_after}
-use Rattle.requests.specs.laws.AdmissionLaws.{admitted-within}
+use Rattle.requests.proofs.laws.AdmissionLaws.{admitted-within}
 use Rattle.seconds.specs.declared.OneSecond.TheVariants as O
 use Rattle.seconds.specs.OneSecond.{whole_second}
-use Rattle.seconds.specs.laws.SecondLaws.{second-outside, second-inside, second_is}
+use Rattle.seconds.proofs.laws.SecondLaws.{second-outside, second-inside, second_is}
 use Rattle.seconds.proofs.second.Statement.{statement}
 use Rattle.seconds.proofs.second.Tie as tie
 

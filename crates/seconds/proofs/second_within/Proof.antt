@@ -16,7 +16,7 @@ use Rattle.shadow.specs.Second.{IsSecond}
 use Rattle.requests.specs.declared.Occultation.{Occultation}
 use Rattle.seconds.specs.Seconds.{state_at, direction_at, magnitude_at}
 use Rattle.seconds.specs.OneSecond.{IsStarSecond, whole_second}
-use Rattle.seconds.specs.laws.SecondLaws.{placed, guard-read}
+use Rattle.seconds.proofs.laws.SecondLaws.{placed, guard-read}
 use Rattle.seconds.proofs.second_within.Statement.{statement}
 use Rattle.seconds.proofs.second_within.Tie as tie
 

@@ -10,10 +10,10 @@ use Rattle.elements.specs.declared.Body.TheVariants as B
 use Rattle.elements.specs.Mirror.{mirrored_body}
 use Rattle.station.specs.Place.{place_of}
 use Rattle.station.specs.Mirror.{mirrored_place}
-use Rattle.station.specs.laws.MirrorLaws.{place_mirrored}
+use Rattle.station.proofs.laws.MirrorLaws.{place_mirrored}
 use Rattle.shadow_geometry.specs.Shadow.{Moment, u, v, M}
-use Rattle.shadow_geometry.specs.laws.MirrorLaws as G
-use Rattle.shadow_geometry.specs.laws.MirrorLaws.{mirrored_moment}
+use Rattle.shadow_geometry.proofs.laws.MirrorLaws as G
+use Rattle.shadow_geometry.proofs.laws.MirrorLaws.{mirrored_moment}
 use Rattle.shadow.specs.laws.MirrorLaws as Shadow
 use Rattle.requests.specs.declared.Occultation.{Occultation}
 use Rattle.requests.specs.Windows.{nth_second}

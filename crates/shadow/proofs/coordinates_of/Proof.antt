@@ -11,7 +11,7 @@ use mir.Val.{to_z, of_z}
 use Rattle.rounding.specs.laws.Code.{Code, arg, add, sub, mul, Within, whole, ends, ◌▹◌, fits, runs, within, sized, read_back}
 use Rattle.rounding.specs.Units.{one}
 use Rattle.rounding.specs.Near.{near}
-use Rattle.rounding.specs.laws.NearLaws.{near-size}
+use Rattle.rounding.proofs.laws.NearLaws.{near-size}
 use Rattle.rounding.specs.Value.{Value}
 use Rattle.shadow.proofs.coordinates_of.Statement.{statement}
 use Rattle.shadow.proofs.coordinates_of.Tie as tie

@@ -12,7 +12,7 @@ use Rattle.rounding.specs.laws.Code.{Code, arg, add, sub, Within, whole, ends, â
 use Rattle.rounding.specs.Root.{root}
 use Rattle.rounding.specs.laws.RootLaws.{root_below}
 use Rattle.shadow_geometry.specs.Magnitude.{millionths, is_inside, magnitude}
-use Rattle.shadow_geometry.specs.laws.MagnitudeLaws.{magnitude_inside, magnitude_else, magnitude-limit, sum-positive}
+use Rattle.shadow_geometry.proofs.laws.MagnitudeLaws.{magnitude_inside, magnitude_else, magnitude-limit, sum-positive}
 use Rattle.shadow.proofs.magnitude.Statement.{statement}
 use Rattle.shadow.proofs.magnitude.Tie as tie
 

@@ -10,7 +10,7 @@ use Rattle.rounding.specs.laws.Order.{nat_abs_product_le}
 use Rattle.rounding.specs.laws.Code.{Code, arg, sub, mul, Within, whole, ends, ◌▹◌, fits, runs, within, read_back, read-size}
 use Rattle.rounding.specs.Units.{one}
 use Rattle.rounding.specs.Near.{near}
-use Rattle.rounding.specs.laws.NearLaws.{near-size}
+use Rattle.rounding.proofs.laws.NearLaws.{near-size}
 use Rattle.rounding.specs.Value.{Value}
 use Rattle.elements.specs.Sizes.{wider}
 use Rattle.elements.specs.Elements.{l_at}

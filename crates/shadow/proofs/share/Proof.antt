@@ -7,7 +7,7 @@ use lib.Signed.{◌≤ℤ◌, ◌<ℤ◌, quot_z}
 use Rattle.rounding.specs.laws.Order.{zs}
 use Rattle.rounding.specs.laws.Code.{Code, arg, lit, mul, quo, Within, whole, ends, ◌▹◌, fits, runs, above, unsigned, taken-<, left-<}
 use Rattle.shadow_geometry.specs.Magnitude.{millionths}
-use Rattle.shadow_geometry.specs.laws.MagnitudeLaws.{millionths-neg}
+use Rattle.shadow_geometry.proofs.laws.MagnitudeLaws.{millionths-neg}
 use Rattle.shadow.proofs.share.Statement.{statement}
 use Rattle.shadow.proofs.share.Tie as tie
 

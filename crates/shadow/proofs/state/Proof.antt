@@ -8,7 +8,7 @@ use lib.Signed.{◌≤ℤ◌, ◌<ℤ◌, clash_ℤ}
 use Rattle.sheet_types.specs.States.{inside, outside, unsure, code}
 use Rattle.rounding.specs.laws.Code.{Code, arg, add, sub, mul, Within, whole, ends, ◌▹◌, fits, taken-<, left-<}
 use Rattle.shadow_geometry.specs.Shadow.{◌²}
-use Rattle.shadow_geometry.specs.laws.StateLaws.{state-edge}
+use Rattle.shadow_geometry.proofs.laws.StateLaws.{state-edge}
 use Rattle.shadow.proofs.state.Statement.{statement}
 use Rattle.shadow.proofs.state.Lts.{then-guard-l+else-m-inner, else-guard-l}
 use Rattle.shadow.proofs.state.Tie as tie

@@ -13,7 +13,7 @@ use Rattle.elements.specs.Stars.{axis_of}
 use Rattle.station.specs.declared.Place.{Place}
 use Rattle.station.specs.Mirror.{mirrored_place}
 use Rattle.shadow_geometry.specs.Shadow.{moment_of, moment, cone}
-use Rattle.shadow_geometry.specs.laws.MirrorLaws.{mirrored_moment, L-mirrored, M-mirrored}
+use Rattle.shadow_geometry.proofs.laws.MirrorLaws.{mirrored_moment, L-mirrored, M-mirrored}
 use Rattle.shadow.specs.Second.{state_at, magnitude_at}
 
 -- the moment of the mirrored body at the mirrored place

@@ -31,13 +31,13 @@ use Rattle.station.specs.declared.Place.{Place}
 use Rattle.station.specs.Sizes.{PlaceSizes}
 use Rattle.shadow_geometry.specs.Shadow.{Moment, moment_of, moment, phases_of, cone, u, v, L, M, edge, state}
 use Rattle.shadow_geometry.specs.laws.Ranges.{MomentSizes}
-use Rattle.shadow_geometry.specs.laws.Sizes.{u-size, v-size, M-size, L-size}
-use Rattle.shadow_geometry.specs.laws.StateLaws.{guard-monotone}
-use Rattle.shadow_geometry.specs.laws.States.{StatesMean, penumbra_sign, central_sign, states_mean}
-use Rattle.shadow_geometry.specs.Thirteen.{Thirteen, thirteen}
+use Rattle.shadow_geometry.proofs.laws.Sizes.{u-size, v-size, M-size, L-size}
+use Rattle.shadow_geometry.proofs.laws.StateLaws.{guard-monotone}
+use Rattle.shadow_geometry.proofs.laws.States.{StatesMean, penumbra_sign, central_sign, states_mean}
+use Rattle.shadow_geometry.proofs.Thirteen.{Thirteen, thirteen}
 use Rattle.shadow_geometry.specs.laws.Cylinder.{cylinder_L}
 use Rattle.shadow_geometry.specs.Magnitude.{magnitude}
-use Rattle.shadow_geometry.specs.laws.MagnitudeLaws.{L1-above, L2-narrow, magnitude-within}
+use Rattle.shadow_geometry.proofs.laws.MagnitudeLaws.{L1-above, L2-narrow, magnitude-within}
 use Rattle.shadow_geometry.specs.Direction.{direction}
 use Rattle.shadow_geometry.specs.laws.DirectionLaws.{direction-limit}
 use Rattle.shadow.specs.declared.Shadow.{Shadow}

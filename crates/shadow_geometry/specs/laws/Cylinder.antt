@@ -9,7 +9,7 @@ use Rattle.std.specs.Int.Signed.{le_z_yes}
 use Rattle.rounding.specs.laws.Ring.{num, ◌⊕◌, ◌⊖◌, ◌⊗◌, ring, v0, v1, v2}
 use Rattle.rounding.specs.Units.{one}
 use Rattle.rounding.specs.Near.{near}
-use Rattle.rounding.specs.laws.NearLaws.{near_zero}
+use Rattle.rounding.proofs.laws.NearLaws.{near_zero}
 use Rattle.elements.specs.declared.Star.{Star}
 use Rattle.elements.specs.Stars.{star_axis, cylinder_of}
 use Rattle.elements.specs.StarLaws.{constant-at}

@@ -11,7 +11,7 @@ use Rattle.std.proofs.Common.{◌∙◌, inl, inr, ⊎_elim, arith, mul-le-mul, 
 use Rattle.std.specs.Int.Signed.{le_z_yes}
 use Rattle.rounding.specs.Parts.{same, sum, opposite}
 use Rattle.rounding.specs.Near.{near}
-use Rattle.rounding.specs.laws.NearLaws.{near-pos, near_zero}
+use Rattle.rounding.proofs.laws.NearLaws.{near-pos, near_zero}
 use Rattle.sine_table.specs.Table.{S}
 use Rattle.sine_table.specs.laws.TableLaws.{entry_0, entry_900, entry-small, entry-least}
 use Rattle.sine.specs.FirstQuadrant.{arc, sag, between, capped, first_quadrant}

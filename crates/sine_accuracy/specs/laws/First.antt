@@ -11,7 +11,7 @@ use Rattle.rounding.specs.laws.Order.{parts-≤, nat_abs_le, le_nat_abs, nat_abs
 use Rattle.rounding.specs.laws.Ring.{num, ◌⊖◌, ◌⊗◌, opp, v0, v1, v2}
 use Rattle.rounding.specs.laws.Cert.{fact, leq, less, lit, ◌⊞◌, ◌⊠◌, certify}
 use Rattle.rounding.specs.Near.{near}
-use Rattle.rounding.specs.laws.NearLaws.{near-error}
+use Rattle.rounding.proofs.laws.NearLaws.{near-error}
 use Rattle.sine_table.specs.Table.{S}
 use Rattle.sine.specs.FirstQuadrant.{arc, sag, between, capped, first_quadrant}
 use Rattle.sine_table.specs.laws.Computed.{both, both_left, both_right}

@@ -16,7 +16,7 @@ use Rattle.std.specs.Int.Signed.{le_z_yes}
 use Rattle.rounding.specs.laws.Order.{nat_abs_product, nat_abs_minus}
 use Rattle.rounding.specs.laws.Ring.{◌⊖◌, ◌⊗◌, ring, v0, v1, v2, v3}
 use Rattle.rounding.specs.Near.{near}
-use Rattle.rounding.specs.laws.NearLaws.{near-error}
+use Rattle.rounding.proofs.laws.NearLaws.{near-error}
 use Rattle.sine_table.specs.Table.{factorial, numerator, denominator, common, term, series, HalfUnit, S}
 use Rattle.sine_table.specs.laws.Computed.{both, both_left, both_right, up_to, at_up_to}
 

@@ -17,7 +17,7 @@ use Rattle.contact_times.specs.declared.search.Bracket.TheVariants as B
 use Rattle.contact_times.specs.declared.OneContact.TheVariants as O
 use Rattle.contact_times.specs.Brackets.{state_at, bracket_of}
 use Rattle.contact_times.specs.Contacts.{crossing, phase_at, found, contact_checked, contact_by, contact_answer}
-use Rattle.contact_times.specs.laws.ContactLaws.{contact-within}
+use Rattle.contact_times.proofs.laws.ContactLaws.{contact-within}
 use Rattle.contact_times.specs.laws.EndLaws.{Ends, bracket-ends, bracket-contact, contact-order}
 use Rattle.sky_accuracy.specs.TruePlace.{TrueC}
 use Rattle.sky_accuracy.specs.TrueContacts.{InsideAt, OutsideAt, AnswerTrue}

@@ -10,11 +10,11 @@ use Rattle.rounding.specs.laws.Ring.{num, ◌⊕◌, ◌⊖◌, ◌⊗◌, opp, 
 use Rattle.rounding.specs.laws.Cert.{fact, leq, lit, sq, ◌⊞◌, ◌⊠◌, certify}
 use Rattle.rounding.specs.Units.{one}
 use Rattle.rounding.specs.Near.{near}
-use Rattle.rounding.specs.laws.NearLaws.{near-is, near-low, near-high}
+use Rattle.rounding.proofs.laws.NearLaws.{near-is, near-low, near-high}
 use Rattle.rounding.specs.Root.{root, IsRoot}
 use Rattle.rounding.specs.laws.RootLaws.{root_is, root_below}
 use Rattle.station.specs.Place.{E, under, W, C}
-use Rattle.station.specs.laws.PlaceLaws.{under-nonneg, root-low, C-size}
+use Rattle.station.proofs.laws.PlaceLaws.{under-nonneg, root-low, C-size}
 
 module _ (s c : ℤ) (hs : nat_abs s ≤ 100000000) (hc : nat_abs c ≤ 100000000) (q : 9960000000000000 ≤ nat_abs s * nat_abs s + nat_abs c * nat_abs c)
     (squares : nat_abs (c *ℤ c +ℤ s *ℤ s -ℤ pos 10_000_000_000_000_000) ≤ 800_000_000) where

@@ -11,7 +11,7 @@ use Rattle.rounding.specs.laws.Order.{nat_abs_minus, nat_abs_product}
 use Rattle.rounding.specs.laws.Ring.{var, num, ◌⊕◌, ◌⊖◌, ◌⊗◌, ring, v0, v1, v2, v3, v4, v5, v6, v7, v8, v9}
 use Rattle.rounding.specs.laws.Cert.{leq, lit, sq, ◌⊞◌, ◌⊠◌, certify}
 use Rattle.shadow_geometry.specs.Shadow.{◌²}
-use Rattle.shadow_geometry.specs.Thirteen.{apart_sym}
+use Rattle.shadow_geometry.proofs.Thirteen.{apart_sym}
 use Rattle.shadow_geometry.specs.laws.Triangle.{le_of_squares, squares_of_size, triangle}
 use Rattle.sky_accuracy.specs.laws.Sizes.{by, plus, less, times, self}
 use Rattle.sky_accuracy.specs.laws.Latitude.{down, natural}

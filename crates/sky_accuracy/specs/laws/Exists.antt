@@ -11,7 +11,7 @@ use Rattle.rounding.specs.laws.Cert.{fact, leq, less, lit, sq, ◌⊞◌, ◌⊠
 use Rattle.rounding.specs.Root.{IsRoot}
 use Rattle.sine_accuracy.specs.Series.{common}
 use Rattle.sine_accuracy.specs.TrueSine.{true_sine, true_cosine}
-use Rattle.sine_accuracy.specs.laws.Circle.{circle}
+use Rattle.sine_accuracy.proofs.laws.Circle.{circle}
 use Rattle.sky_accuracy.specs.TruePlace.{under_true, TrueC}
 use Rattle.sky_accuracy.specs.laws.Sizes.{times}
 use Rattle.sky_accuracy.specs.laws.Latitude.{up, down, natural}

@@ -13,10 +13,10 @@ use Rattle.rounding.specs.laws.Cert.{fact, leq, less, lit, sq, ◌⊞◌, ◌⊠
 use Rattle.shadow_geometry.specs.Shadow.{◌², state}
 use Rattle.shadow_geometry.specs.Exact.{AtMost, Less, AtLeast, DiffersAtMost}
 use Rattle.shadow_geometry.specs.laws.ExactLaws.{less_mono, least_not_less}
-use Rattle.shadow_geometry.specs.laws.StateLaws.{state-says}
-use Rattle.shadow_geometry.specs.laws.States.{unsure-near}
-use Rattle.shadow_geometry.specs.Thirteen as Thirteen
-use Rattle.shadow_geometry.specs.Thirteen.{Approximate, some-D}
+use Rattle.shadow_geometry.proofs.laws.StateLaws.{state-says}
+use Rattle.shadow_geometry.proofs.laws.States.{unsure-near}
+use Rattle.shadow_geometry.proofs.Thirteen as Thirteen
+use Rattle.shadow_geometry.proofs.Thirteen.{Approximate, some-D}
 use Rattle.shadow_geometry.specs.laws.Triangle.{le_of_squares, triangle}
 use Rattle.sky_accuracy.specs.laws.Latitude.{natural}
 use Rattle.sky_accuracy.specs.Nineteen.{Nineteen}

@@ -13,15 +13,15 @@ use Rattle.rounding.specs.laws.Order.{≤-parts, le_nat_abs, nat_abs_sum, nat_ab
 use Rattle.rounding.specs.laws.Ring.{num, ◌⊕◌, ◌⊖◌, ◌⊗◌, ring, v0, v1, v2, v3, v4, v5, v6, v7, v8, v9}
 use Rattle.rounding.specs.laws.Cert.{fact, leq, lit, sq, ◌⊞◌, ◌⊠◌, certify}
 use Rattle.rounding.specs.Units.{one}
-use Rattle.rounding.specs.laws.NearLaws.{near-error}
+use Rattle.rounding.proofs.laws.NearLaws.{near-error}
 use Rattle.sine.specs.Sine.{sine, cosine}
 use Rattle.sine.specs.laws.SineLaws.{sine-size, cosine-size}
 use Rattle.sine.specs.laws.SizeLaws.{square-sum}
 use Rattle.station.specs.Place.{equatorial_radius, E, C, Z, h, R, P}
 use Rattle.sine_accuracy.specs.Series.{common}
 use Rattle.sine_accuracy.specs.TrueSine.{true_sine, true_cosine}
-use Rattle.sine_accuracy.specs.laws.EveryAngle.{sine-everywhere, cosine-everywhere}
-use Rattle.sine_accuracy.specs.laws.Circle as True
+use Rattle.sine_accuracy.proofs.laws.EveryAngle.{sine-everywhere, cosine-everywhere}
+use Rattle.sine_accuracy.proofs.laws.Circle as True
 use Rattle.sky_accuracy.specs.TruePlace.{under_true, TrueC, place_common, true_r, true_p, PlaceClose}
 use Rattle.sky_accuracy.specs.laws.Sizes.{Known, OnCircle, by, plus, times, self}
 use Rattle.sky_accuracy.specs.laws.Circle.{squares}

@@ -10,7 +10,7 @@ use Rattle.elements.specs.Stars.{axis_of}
 use Rattle.elements.specs.declared.Body.{Body}
 use Rattle.elements.specs.declared.Body.TheVariants as B
 use Rattle.elements.specs.StarLaws.{BodySizes, axis_sizes}
-use Rattle.station.specs.laws.PlaceLaws.{place_sizes}
+use Rattle.station.proofs.laws.PlaceLaws.{place_sizes}
 use Rattle.station.specs.Place.{place_of}
 use Rattle.shadow_geometry.specs.Shadow.{cone}
 use Rattle.shadow.specs.laws.SecondLaws.{tangent_small}

@@ -15,15 +15,15 @@ use Rattle.rounding.specs.laws.Order.{nat_abs_sum, nat_abs_minus, nat_abs_produc
 use Rattle.rounding.specs.laws.Ring.{num, ◌⊕◌, ◌⊖◌, ◌⊗◌, ring, v0, v1, v2, v3, v4, v5, v6, v7}
 use Rattle.rounding.specs.Units.{one}
 use Rattle.rounding.specs.Near.{near}
-use Rattle.rounding.specs.laws.NearLaws.{near-error}
+use Rattle.rounding.proofs.laws.NearLaws.{near-error}
 use Rattle.elements.specs.declared.Axis.{Axis}
 use Rattle.elements.specs.declared.Cone.{Cone}
 use Rattle.station.specs.declared.Place.{Place}
 use Rattle.shadow_geometry.specs.Shadow.{Moment, moment_of, ◌², H, ξ, η, ζ, u, v, L, edge}
 use Rattle.shadow_geometry.specs.Exact.{◌³, exact_q, exact_ξ, exact_η, exact_ζ, exact_term}
 use Rattle.shadow_geometry.specs.Exact as Exact
-use Rattle.shadow_geometry.specs.laws.Errors.{η-error, ζ-error}
-use Rattle.shadow_geometry.specs.Thirteen.{Approximate, edge_apart}
+use Rattle.shadow_geometry.proofs.laws.Errors.{η-error, ζ-error}
+use Rattle.shadow_geometry.proofs.Thirteen.{Approximate, edge_apart}
 use Rattle.contact_times.specs.Parts.{cubic_by, quadratic_by, cone_by, moment_by, cube, exactQuadratic, exactCubic}
 use Rattle.contact_times.specs.laws.WholeSeconds.{H-second, d-second}
 use Rattle.contact_times.specs.laws.PartErrors.{still_quadratic, still_cubic, quadratic-error, cubic-error}

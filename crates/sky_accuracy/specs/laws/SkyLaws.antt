@@ -11,7 +11,7 @@ use Rattle.rounding.specs.laws.Order.{nat_abs_sum, nat_abs_opposite, nat_abs_pro
 use Rattle.rounding.specs.laws.Ring.{num, ◌⊕◌, ◌⊖◌, ◌⊗◌, opp, ring, v0, v1, v2, v3, v4, v5}
 use Rattle.rounding.specs.laws.Cert.{leq, certify}
 use Rattle.rounding.specs.Near.{near}
-use Rattle.rounding.specs.laws.NearLaws.{near-error}
+use Rattle.rounding.proofs.laws.NearLaws.{near-error}
 use Rattle.sine_table.specs.Table.{factorial, numerator, denominator, common as tableCommon, term, series, S}
 use Rattle.sine.specs.laws.FirstQuadrantLaws.{first-most}
 use Rattle.sine_table.specs.laws.Computed.{up_to, at_up_to}
@@ -24,9 +24,9 @@ use Rattle.station.specs.Sizes.{StationSizes}
 use Rattle.shadow_geometry.specs.Shadow.{H, d}
 use Rattle.sine_accuracy.specs.Series.{common}
 use Rattle.sine_accuracy.specs.TrueSine.{true_sine, true_cosine}
-use Rattle.sine_accuracy.specs.laws.EveryAngle.{sine-everywhere, cosine-everywhere}
-use Rattle.sine_accuracy.specs.laws.AngleLaws.{sine-angle, cosine-angle}
-use Rattle.sine_accuracy.specs.laws.Circle.{circle}
+use Rattle.sine_accuracy.proofs.laws.EveryAngle.{sine-everywhere, cosine-everywhere}
+use Rattle.sine_accuracy.proofs.laws.AngleLaws.{sine-angle, cosine-angle}
+use Rattle.sine_accuracy.proofs.laws.Circle.{circle}
 use Rattle.sky_accuracy.specs.laws.Circle.{squares}
 use Rattle.sky_accuracy.specs.laws.PlaceErrors.{place-close, place_size}
 use Rattle.sky_accuracy.specs.TrueShadow.{Sky, moment_of_sky, fine, d_rest, H_rest, K, sin_H, cos_H, sin_d, cos_d, Q, R, P}

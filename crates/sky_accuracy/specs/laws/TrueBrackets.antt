@@ -17,7 +17,7 @@ use Rattle.requests.specs.RequestLaws.{InLimits}
 use Rattle.contact_times.specs.Parts.{hundredths}
 use Rattle.contact_times.specs.Brackets.{state_at}
 use Rattle.contact_times.specs.Contacts.{used_guard, crossing}
-use Rattle.contact_times.specs.laws.ContactLaws.{used-least}
+use Rattle.contact_times.proofs.laws.ContactLaws.{used-least}
 use Rattle.contact_times.specs.laws.EndLaws.{bracket-ends, bracket-found}
 use Rattle.contact_times.specs.laws.SecondStates.{hundredth-same}
 use Rattle.sky_accuracy.specs.TruePlace.{TrueC}

@@ -16,7 +16,7 @@ use Rattle.contacts.specs.declared.entries.Entry as Contact
 use Rattle.contacts.specs.declared.entries.Entry.TheVariants as C
 use Rattle.contacts.specs.Entries.{sure, state, entries, All}
 use Rattle.contacts.specs.CalledFor.{CalledFor}
-use Rattle.contacts.specs.laws.CalledForLaws.{each_called_for}
+use Rattle.contacts.proofs.laws.CalledForLaws.{each_called_for}
 use Rattle.contacts.specs.laws.Shifted.{shifted}
 use Rattle.requests.specs.declared.Occultation.{Occultation}
 use Rattle.requests.specs.RequestLaws.{InLimits}
@@ -31,7 +31,7 @@ use Rattle.local_circumstances.specs.laws.CourseLaws.{states_length, states-at, 
 use Rattle.local_circumstances.specs.Course.{course_of}
 use Rattle.local_circumstances.specs.laws.CourseSound.{sound}
 use Rattle.sky_accuracy.specs.TruePlace.{TrueC}
-use Rattle.contact_times.specs.laws.ContactLaws.{used-same}
+use Rattle.contact_times.proofs.laws.ContactLaws.{used-same}
 use Rattle.sky_accuracy.specs.laws.TrueBrackets.{state_of, enters, leaves}
 use Rattle.sky_accuracy.specs.TrueContacts.{ContactTrue}
 

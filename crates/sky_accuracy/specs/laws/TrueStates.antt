@@ -22,7 +22,7 @@ use Rattle.station.specs.Place.{place_of}
 use Rattle.station.specs.Sizes.{StationSizes}
 use Rattle.shadow_geometry.specs.Shadow.{◌², H, d, L, M, edge, state}
 use Rattle.shadow_geometry.specs.Exact.{exact_q, exact_ξ, exact_η, exact_ζ, exact_term}
-use Rattle.shadow_geometry.specs.Thirteen.{edge_apart}
+use Rattle.shadow_geometry.proofs.Thirteen.{edge_apart}
 use Rattle.sine_accuracy.specs.Series.{denominator, common}
 use Rattle.sine_accuracy.specs.Angles.{angle_common, rest_common}
 use Rattle.sky_accuracy.specs.TruePlace.{place_common}

@@ -25,7 +25,7 @@ use Rattle.requests.specs.Windows.{InWindow}
 use Rattle.requests.specs.WindowLaws.{in-window-size}
 use Rattle.requests.specs.RequestLaws.{InLimits}
 use Rattle.requests.specs.Admission.{admitted}
-use Rattle.requests.specs.laws.AdmissionLaws.{admitted-within}
+use Rattle.requests.proofs.laws.AdmissionLaws.{admitted-within}
 use Rattle.seconds.specs.Seconds.{state_at}
 use Rattle.contact_times.specs.laws.SecondStates.{second-same}
 use Rattle.local_circumstances.specs.Courses.{sheetOf}

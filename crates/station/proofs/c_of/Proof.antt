@@ -16,7 +16,7 @@ use Rattle.rounding.specs.Units.{one}
 use Rattle.rounding.specs.Near.{near}
 use Rattle.rounding.specs.Root.{root}
 use Rattle.station.specs.Place.{E, under, W, C}
-use Rattle.station.specs.laws.PlaceLaws.{n-size, under-nonneg, root-low, root-high, C-size}
+use Rattle.station.proofs.laws.PlaceLaws.{n-size, under-nonneg, root-low, root-high, C-size}
 use Rattle.station.proofs.c_of.Statement.{statement}
 use Rattle.station.proofs.c_of.Tie as tie
 

@@ -8,7 +8,7 @@ use lib.Signed.{le_z_yes}
 use Rattle.rounding.specs.laws.Code.{Code, arg, lit, sub, mul, Within, whole, ends, ◌▹◌, fits, runs, within}
 use Rattle.rounding.specs.Near.{near}
 use Rattle.station.specs.Place.{turn_in, ephemeris_longitude}
-use Rattle.station.specs.laws.PlaceLaws.{turn-size, longitude_size}
+use Rattle.station.proofs.laws.PlaceLaws.{turn-size, longitude_size}
 use Rattle.station.proofs.ephemeris_longitude.Statement.{statement}
 use Rattle.station.proofs.ephemeris_longitude.Tie as tie
 

@@ -16,7 +16,7 @@ use Rattle.sine.specs.Sine.{sine, cosine, IsReduced}
 use Rattle.sine.specs.laws.SineLaws.{sine_of, cosine_of}
 use Rattle.sine.specs.laws.SizeLaws.{square-sum}
 use Rattle.station.specs.Place.{equatorial_radius, E, C, Z, h, R, P, ephemeris_longitude, place_of}
-use Rattle.station.specs.laws.PlaceLaws.{Z-size, h_size, scaled-size}
+use Rattle.station.proofs.laws.PlaceLaws.{Z-size, h_size, scaled-size}
 use Rattle.station.proofs.geocentric.Statement.{statement}
 use Rattle.station.proofs.geocentric.Tie as tie
 

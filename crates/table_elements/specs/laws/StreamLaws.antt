@@ -3,7 +3,7 @@ use Rattle.std.specs.Prelude.{ℕ, ◌≤◌, min, ◌≡◌, List, length, take
 use Rattle.std.proofs.Common.{ap, ◌∙◌, arith}
 use Rattle.decimal_text.specs.Texts.{letters, Put}
 use Rattle.program_io.specs.Inputs.{Read}
-use Rattle.program_io.specs.laws.InputLaws.{read_same}
+use Rattle.program_io.proofs.laws.InputLaws.{read_same}
 use Rattle.program_io.specs.laws.OutputLaws.{put-cut}
 use Rattle.table_elements.specs.Printed.{told, printed}
 use Rattle.table_elements.specs.PrintedLaws.{long-text}

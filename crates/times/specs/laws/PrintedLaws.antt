@@ -7,7 +7,7 @@ use Rattle.calendar.specs.declared.Reference.{Reference}
 use Rattle.request_format.specs.Request.{bytes_for}
 use Rattle.program_io.specs.Inputs.{Read}
 use Rattle.program_io.specs.Outputs.{Sent, to_output, to_error}
-use Rattle.program_io.specs.laws.InputLaws.{read_same}
+use Rattle.program_io.proofs.laws.InputLaws.{read_same}
 use Rattle.program_io.specs.laws.OutputLaws.{put-cut}
 use Rattle.request_text.specs.Meaning.{refused, meaning_of, error_of}
 use Rattle.request_text.specs.laws.RoomLaws.{Bytes, Message}

@@ -30,7 +30,7 @@ use Rattle.adaptive_sampling.specs.declared.partial.Tally.{Tally}
 use Rattle.adaptive_sampling.specs.Kept.{Approached, Kept}
 use Rattle.adaptive_sampling.specs.laws.ReachLaws.{square_nonneg}
 use Rattle.requests.specs.WindowLaws.{seconds-few}
-use Rattle.seconds.specs.laws.SecondLaws.{guard-read}
+use Rattle.seconds.proofs.laws.SecondLaws.{guard-read}
 use Rattle.exclusion_test.specs.laws.Gaps.{sample_sizes, gap-passed}
 use Rattle.adaptive_sampling.specs.laws.KeptLaws.{square-is, kept_more, kept-nearer}
 

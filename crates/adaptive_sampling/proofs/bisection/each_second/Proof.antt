@@ -10,7 +10,7 @@ use Rattle.requests.specs.Windows.{second_count}
 use Rattle.requests.specs.WindowLaws.{seconds-few}
 use Rattle.requests.specs.RequestLaws.{InLimits}
 use Rattle.shadow.specs.declared.Sample.{Sample}
-use Rattle.seconds.specs.laws.SecondLaws.{guard-read}
+use Rattle.seconds.proofs.laws.SecondLaws.{guard-read}
 use Rattle.adaptive_sampling.specs.declared.partial.Tally.{Tally}
 use Rattle.exclusion_test.specs.Samples.{IsAt}
 use Rattle.adaptive_sampling.specs.Kept.{Kept, Stored}

@@ -1,7 +1,7 @@
 -- `adaptive_sampling::partial::first` meets its contract: the pair of second 0 is a run of one second.
 use mathlib.Core.Path.{refl}
 use Rattle.rounding.specs.laws.Code.{read_back}
-use Rattle.seconds.specs.laws.SecondLaws.{guard-read}
+use Rattle.seconds.proofs.laws.SecondLaws.{guard-read}
 use Rattle.exclusion_test.specs.laws.Gaps.{sample_sizes}
 use Rattle.requests.specs.WindowLaws.{seconds_some}
 use Rattle.adaptive_sampling.specs.laws.KeptLaws.{kept-start}

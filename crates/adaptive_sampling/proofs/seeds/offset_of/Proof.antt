@@ -10,7 +10,7 @@ use Rattle.elements.specs.Sizes.{wider_axis}
 use Rattle.elements.specs.StarLaws.{axis_sizes}
 use Rattle.station.specs.Sizes.{PlaceSizes}
 use Rattle.requests.specs.WindowLaws.{second-size}
-use Rattle.seconds.specs.laws.SecondLaws.{placed}
+use Rattle.seconds.proofs.laws.SecondLaws.{placed}
 use Rattle.adaptive_sampling.proofs.seeds.offset_of.Statement.{statement}
 use Rattle.adaptive_sampling.proofs.seeds.offset_of.Tie as tie
 

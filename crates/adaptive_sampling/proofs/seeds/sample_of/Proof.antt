@@ -6,7 +6,7 @@ use lib.IntN.{nat_abs}
 use Rattle.rounding.specs.laws.Code.{read_back, read-size}
 use Rattle.station.specs.Sizes.{PlaceSizes}
 use Rattle.requests.specs.WindowLaws.{second-size}
-use Rattle.seconds.specs.laws.SecondLaws.{placed}
+use Rattle.seconds.proofs.laws.SecondLaws.{placed}
 use Rattle.adaptive_sampling.proofs.seeds.sample_of.Statement.{statement}
 use Rattle.adaptive_sampling.proofs.seeds.sample_of.Tie as tie
 

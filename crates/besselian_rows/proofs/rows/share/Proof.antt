@@ -10,7 +10,7 @@ use mir.Syntax.{w64}
 use mir.Val.{to_z}
 use Rattle.rounding.specs.laws.Order.{zs, nat_abs_product}
 use Rattle.rounding.specs.Near.{near}
-use Rattle.rounding.specs.laws.NearLaws.{near-size}
+use Rattle.rounding.proofs.laws.NearLaws.{near-size}
 use Rattle.rounding.specs.laws.Code.{Code, arg, lit, mul, Within, whole, ends, ◌▹◌, fits, runs, within, read_back, read-size, count-is, count-size}
 use Rattle.besselian_rows.proofs.rows.share.Statement.{statement}
 use Rattle.besselian_rows.proofs.rows.share.Tie as tie

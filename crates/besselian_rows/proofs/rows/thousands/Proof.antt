@@ -8,7 +8,7 @@ use lib.IntN.{ℤ, pos, nat_abs, ◌-ℤ◌}
 use lib.Signed.{le_z_yes}
 use Rattle.rounding.specs.laws.Order.{nat_abs_minus}
 use Rattle.rounding.specs.Near.{near}
-use Rattle.rounding.specs.laws.NearLaws.{near-size}
+use Rattle.rounding.proofs.laws.NearLaws.{near-size}
 use Rattle.rounding.specs.laws.Code.{Code, arg, sub, Within, whole, ends, ◌▹◌, fits, runs, within, read_back, read-size}
 use Rattle.besselian_rows.proofs.rows.thousands.Statement.{statement}
 use Rattle.besselian_rows.proofs.rows.thousands.Tie as tie

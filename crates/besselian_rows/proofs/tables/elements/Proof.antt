@@ -2,7 +2,7 @@
 use mathlib.Core.Path.{sym, ◌∙◌}
 use borrow.Author.Rules.{rules}
 use lib.ListN.{length}
-use Rattle.besselian_rows.specs.laws.TablesLaws.{made_good, after-made, after-refused}
+use Rattle.besselian_rows.proofs.laws.TablesLaws.{made_good, after-made, after-refused}
 use Rattle.besselian_rows.proofs.tables.elements.Statement.{statement}
 use Rattle.besselian_rows.proofs.tables.elements.Tie as tie
 

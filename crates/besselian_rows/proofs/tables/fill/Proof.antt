@@ -12,7 +12,7 @@ use Rattle.besselian_rows.specs.Exact.{document02, accepted}
 use Rattle.besselian_rows.specs.Rounded.{elements_of}
 use Rattle.besselian_rows.specs.Tables.{rowAt, values_of, eight}
 use Rattle.besselian_rows.specs.laws.Sizes.{ranged}
-use Rattle.besselian_rows.specs.laws.TablesLaws.{accepted-at, one_more}
+use Rattle.besselian_rows.proofs.laws.TablesLaws.{accepted-at, one_more}
 use Rattle.besselian_rows.proofs.tables.fill.Statement.{statement}
 use Rattle.besselian_rows.proofs.tables.fill.Tie as tie
 

@@ -10,7 +10,7 @@ use lib.IntN.{ℤ}
 use mathlib.Core.List.{List}
 use Rattle.besselian_rows.specs.Exact.{accepted}
 use Rattle.besselian_rows.specs.Tables.{first_refused}
-use Rattle.besselian_rows.specs.laws.TablesLaws.{refused-here, passed_here, none_left}
+use Rattle.besselian_rows.proofs.laws.TablesLaws.{refused-here, passed_here, none_left}
 use Rattle.besselian_rows.proofs.tables.first_refused.Statement.{statement}
 use Rattle.besselian_rows.proofs.tables.first_refused.Tie as tie
 

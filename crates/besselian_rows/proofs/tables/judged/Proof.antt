@@ -1,7 +1,7 @@
 -- `besselian_rows::tables::judged` meets its contract, case by case.
 use mathlib.Core.Path.{sym, ◌∙◌}
 use borrow.Author.Rules.{rules}
-use Rattle.besselian_rows.specs.laws.TablesLaws.{answer-shape, answer-row, answer-room, answer-made}
+use Rattle.besselian_rows.proofs.laws.TablesLaws.{answer-shape, answer-row, answer-room, answer-made}
 use Rattle.besselian_rows.proofs.tables.judged.Statement.{statement}
 use Rattle.besselian_rows.proofs.tables.judged.Tie as tie
 

@@ -1,6 +1,6 @@
 -- `besselian_rows::tables::row_at` meets its contract: six numbers from 6i on.
 use borrow.Author.Rules.{rules}
-use Rattle.besselian_rows.specs.laws.TablesLaws.{row_in}
+use Rattle.besselian_rows.proofs.laws.TablesLaws.{row_in}
 use Rattle.besselian_rows.proofs.tables.row_at.Statement.{statement}
 use Rattle.besselian_rows.proofs.tables.row_at.Tie as tie
 

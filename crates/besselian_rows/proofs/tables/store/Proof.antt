@@ -10,7 +10,7 @@ use lib.Seq.{sets}
 use mir.Syntax.{w64}
 use mir.Val.{to_z, of_z}
 use Rattle.rounding.specs.laws.Code.{read_result}
-use Rattle.besselian_rows.specs.laws.TablesLaws.{eight-stored}
+use Rattle.besselian_rows.proofs.laws.TablesLaws.{eight-stored}
 use Rattle.besselian_rows.proofs.tables.store.Statement.{statement}
 use Rattle.besselian_rows.proofs.tables.store.Tie as tie
 

@@ -4,7 +4,7 @@ use borrow.Author.Rules.{rules}
 use mir.Syntax.{w64}
 use mir.ValLaws.{to_z-of_z}
 use lib.ListN.{length-set}
-use Rattle.besselian_rows.specs.laws.TablesLaws.{four_stores}
+use Rattle.besselian_rows.proofs.laws.TablesLaws.{four_stores}
 use Rattle.besselian_rows.proofs.tables.store_four.Statement.{statement}
 use Rattle.besselian_rows.proofs.tables.store_four.Tie as tie
 

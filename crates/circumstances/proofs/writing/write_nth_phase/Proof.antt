@@ -12,7 +12,7 @@ use Rattle.shadow_geometry.specs.Shadow.{phases_of}
 use Rattle.requests.specs.declared.Occultation.{Occultation}
 use Rattle.run_length.specs.Runs.{decoded}
 use Rattle.seconds.specs.Seconds as Seconds
-use Rattle.seconds.specs.laws.SecondLaws.{states_length}
+use Rattle.seconds.proofs.laws.SecondLaws.{states_length}
 use Rattle.contacts.specs.Entries.{entries}
 use Rattle.sheet_format.specs.RecordEntries.{bytes_of}
 use Rattle.local_circumstances.specs.Courses.{states_of, entry_of, phaseEntries}

@@ -3,7 +3,7 @@ use native.Mathlib.Omega.{arith}
 use borrow.Author.Rules.{rules}
 use lib.ListN.{length-set}
 use Rattle.rounding.specs.laws.Code.{read_result}
-use Rattle.besselian_rows.specs.laws.TablesLaws.{four_stores}
+use Rattle.besselian_rows.proofs.laws.TablesLaws.{four_stores}
 use Rattle.element_fits.proofs.numbers.put_cubic.Statement.{statement}
 use Rattle.element_fits.proofs.numbers.put_cubic.Tie as tie
 

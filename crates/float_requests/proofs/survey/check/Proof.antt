@@ -6,7 +6,7 @@ use lib.Dec.{eqb}
 use Rattle.sheet_types.specs.declared.refusals.Checked.{Checked}
 use Rattle.sheet_types.specs.laws.RefusalLaws.{number_in}
 use Rattle.requests.specs.Requests.{checked}
-use Rattle.float_requests.specs.laws.SurveyLaws.{checked-one, checked-on}
+use Rattle.float_requests.proofs.laws.SurveyLaws.{checked-one, checked-on}
 use Rattle.float_requests.proofs.survey.check.Statement.{statement}
 use Rattle.float_requests.proofs.survey.check.Tie as tie
 

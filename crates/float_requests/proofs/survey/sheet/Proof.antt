@@ -5,7 +5,7 @@ use borrow.Author.Rules.{rules}
 use Rattle.requests.specs.Requests.{of_eclipse}
 use Rattle.float_requests.specs.Survey.{request_of}
 use Rattle.float_requests.specs.laws.HeldRequest.{held_request}
-use Rattle.float_requests.specs.laws.SurveyLaws.{of-refusal, of-request}
+use Rattle.float_requests.proofs.laws.SurveyLaws.{of-refusal, of-request}
 use Rattle.float_requests.proofs.survey.sheet.Statement.{statement}
 use Rattle.float_requests.proofs.survey.sheet.Tie as tie
 

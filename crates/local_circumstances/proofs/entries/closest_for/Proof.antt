@@ -3,7 +3,7 @@ use Prim.Native.Nat.{◌≤◌}
 use native.Mathlib.Omega.{arith}
 use lib.IntN.{nat_abs}
 use Rattle.rounding.specs.laws.Code.{read-size}
-use Rattle.seconds.specs.laws.SecondLaws.{closest-within}
+use Rattle.seconds.proofs.laws.SecondLaws.{closest-within}
 use Rattle.local_circumstances.specs.Courses.{closestEntry}
 use Rattle.local_circumstances.specs.laws.NamedSecondLaws.{closest-sized, closest-read}
 use Rattle.local_circumstances.proofs.entries.closest_for.Statement.{statement}

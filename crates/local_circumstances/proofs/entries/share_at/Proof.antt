@@ -5,7 +5,7 @@ use Rattle.rounding.specs.laws.Code.{read_back, read-size}
 use Rattle.elements.specs.declared.Body.{Body}
 use Rattle.elements.specs.StarLaws.{BodySizes}
 use Rattle.station.specs.Sizes.{PlaceSizes}
-use Rattle.seconds.specs.laws.SecondLaws.{placed}
+use Rattle.seconds.proofs.laws.SecondLaws.{placed}
 use Rattle.local_circumstances.specs.Course.{share_of}
 use Rattle.local_circumstances.proofs.entries.share_at.Statement.{statement}
 use Rattle.local_circumstances.proofs.entries.share_at.Tie as tie

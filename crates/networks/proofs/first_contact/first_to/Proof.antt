@@ -14,7 +14,7 @@ use Rattle.requests.specs.WindowLaws.{seconds-few}
 use Rattle.requests.specs.RequestLaws.{InLimits}
 use Rattle.run_length.specs.Runs.{decoded}
 use Rattle.seconds.specs.Seconds.{states_of}
-use Rattle.seconds.specs.laws.SecondLaws.{states_length}
+use Rattle.seconds.proofs.laws.SecondLaws.{states_length}
 use Rattle.contacts.specs.Entries.{entries}
 use Rattle.contacts.specs.laws.Shifted.{shifted}
 use Rattle.sheet_format.specs.StoredSeconds.{stored}

@@ -3,7 +3,7 @@
 use mathlib.Core.Path.{sym, ◌∙◌}
 use Rattle.rounding.specs.laws.Code.{read_back, read-size}
 use Rattle.shadow.specs.Shadow.{IsShadow}
-use Rattle.obscuration.specs.laws.CoveredLaws.{share-at, sizes-at}
+use Rattle.obscuration.proofs.laws.CoveredLaws.{share-at, sizes-at}
 use Rattle.obscuration.proofs.second.share_at.Statement.{statement}
 use Rattle.obscuration.proofs.second.share_at.Tie as tie
 

@@ -2,7 +2,7 @@
 -- answers.
 use mathlib.Core.Path.{sym, ◌∙◌}
 use borrow.Author.Rules.{rules}
-use Rattle.requests.specs.laws.AdmissionLaws.{admitted-refused, admitted-room}
+use Rattle.requests.proofs.laws.AdmissionLaws.{admitted-refused, admitted-room}
 use Rattle.requests.proofs.admission.admit.Statement.{statement}
 use Rattle.requests.proofs.admission.admit.Tie as tie
 

@@ -1,7 +1,7 @@
 -- `requests::admission::fill_sines` meets its contract: a buffer that is shorter is left, a longer one filled.
 use mathlib.Core.Path.{◌∙◌}
 use borrow.Author.Rules.{rules}
-use Rattle.requests.specs.laws.AdmissionLaws.{room-short, room-long}
+use Rattle.requests.proofs.laws.AdmissionLaws.{room-short, room-long}
 use Rattle.requests.proofs.admission.fill_sines.Statement.{statement}
 use Rattle.requests.proofs.admission.fill_sines.Tie as tie
 

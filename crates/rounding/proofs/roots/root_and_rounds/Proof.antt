@@ -5,7 +5,7 @@ use Prim.Native.Nat.{ℕ, ◌+◌, ◌-◌}
 use native.Mathlib.Omega.{arith}
 use lib.Count.{leading_le}
 use Rattle.rounding.specs.Rounds.{Holds}
-use Rattle.rounding.specs.laws.RoundsLaws.{rounds_leading, rounds_few, start, finish}
+use Rattle.rounding.proofs.laws.RoundsLaws.{rounds_leading, rounds_few, start, finish}
 use Rattle.rounding.proofs.roots.root_and_rounds.Statement.{statement}
 use Rattle.rounding.proofs.roots.root_and_rounds.Tie as tie
 

@@ -2,7 +2,7 @@
 -- above the square of the root fits.
 use Prim.Native.Nat.{◌+◌}
 use native.Mathlib.Omega.{arith}
-use Rattle.rounding.specs.laws.RoundsLaws.{Small, small, one_more, no_more}
+use Rattle.rounding.proofs.laws.RoundsLaws.{Small, small, one_more, no_more}
 use Rattle.rounding.proofs.roots.round.Statement.{statement}
 use Rattle.rounding.proofs.roots.round.Tie as tie
 use Rattle.rounding.proofs.roots.round.Lts as lts

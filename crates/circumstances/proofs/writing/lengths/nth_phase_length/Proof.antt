@@ -9,7 +9,7 @@ use Rattle.sheet_types.specs.declared.phases.Phase.{Phase}
 use Rattle.sheet_types.specs.declared.phases.Phase.TheVariants.{Penumbra}
 use Rattle.shadow_geometry.specs.Shadow.{phases_of}
 use Rattle.requests.specs.WindowLaws.{seconds-few}
-use Rattle.seconds.specs.laws.SecondLaws.{states_length}
+use Rattle.seconds.proofs.laws.SecondLaws.{states_length}
 use Rattle.contacts.specs.Entries.{entries}
 use Rattle.local_circumstances.specs.laws.Lengths.{bytes_needed}
 use Rattle.circumstances.proofs.writing.lengths.nth_phase_length.Statement.{statement}

@@ -1,5 +1,5 @@
 -- `float_requests::survey::handed::marked` meets its contract, mark by mark.
-use Rattle.float_requests.specs.laws.HandedLaws.{marked_degrees, marked-hours}
+use Rattle.float_requests.proofs.laws.HandedLaws.{marked_degrees, marked-hours}
 use Rattle.float_requests.proofs.survey.handed.marked.Statement.{statement}
 use Rattle.float_requests.proofs.survey.handed.marked.Tie as tie
 

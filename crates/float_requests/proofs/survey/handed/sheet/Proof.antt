@@ -2,7 +2,7 @@
 -- both buffers alone.
 use mathlib.Core.Path.{sym, ◌∙◌}
 use borrow.Author.Rules.{rules}
-use Rattle.float_requests.specs.laws.HandedLaws.{of-survey, of-refusal}
+use Rattle.float_requests.proofs.laws.HandedLaws.{of-survey, of-refusal}
 use Rattle.float_requests.proofs.survey.handed.sheet.Statement.{statement}
 use Rattle.float_requests.proofs.survey.handed.sheet.Tie as tie
 

@@ -1,7 +1,7 @@
 -- `float_requests::survey::handed::survey` meets its contract: the shape, then the survey.
 use mathlib.Core.Path.{sym, ap, ◌∙◌}
 use Rattle.float_requests.specs.declared.survey.handed.Handed.TheVariants as H
-use Rattle.float_requests.specs.laws.HandedLaws.{not-22, not-7, not-marked, of-shape}
+use Rattle.float_requests.proofs.laws.HandedLaws.{not-22, not-7, not-marked, of-shape}
 use borrow.Author.Rules.{rules}
 use Rattle.float_requests.proofs.survey.handed.survey.Statement.{statement}
 use Rattle.float_requests.proofs.survey.handed.survey.Tie as tie

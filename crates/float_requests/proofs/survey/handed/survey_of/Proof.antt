@@ -1,7 +1,7 @@
 -- `float_requests::survey::handed::survey_of` meets its contract: each number read back from its bits.
 use Rattle.rounding.specs.laws.Code.{read_result}
 use Rattle.float_requests.specs.Handed.{number}
-use Rattle.float_requests.specs.laws.HandedLaws.{by_parts}
+use Rattle.float_requests.proofs.laws.HandedLaws.{by_parts}
 use borrow.Author.Rules.{rules}
 use Rattle.float_requests.proofs.survey.handed.survey_of.Statement.{statement}
 use Rattle.float_requests.proofs.survey.handed.survey_of.Tie as tie

@@ -1,0 +1,3 @@
+pub mod QuotientLaws
+pub mod ReadBack
+pub mod ReadingLaws

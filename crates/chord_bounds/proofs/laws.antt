@@ -1,0 +1,4 @@
+pub mod Clear
+pub mod MarginLaws
+pub mod Path
+pub mod Skip

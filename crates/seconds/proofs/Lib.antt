@@ -1,0 +1,3 @@
+pub mod Errors
+pub mod Guards
+pub mod laws

@@ -1,0 +1,7 @@
+pub mod DirectionMirror
+pub mod Errors
+pub mod MagnitudeLaws
+pub mod MirrorLaws
+pub mod Sizes
+pub mod StateLaws
+pub mod States
