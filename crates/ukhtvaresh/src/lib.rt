@@ -3,12 +3,12 @@
 // none, and puts the length, the count or the refusal's place into `value`.
 #![tactic(auto)]
 
-mod of_requests;
+pub mod of_requests;
 pub mod replies;
-mod sheets;
-mod stations;
-mod tables;
-mod texts;
+pub mod sheets;
+pub mod stations;
+pub mod tables;
+pub mod texts;
 
 ghost use Rattle.std.specs.Prelude.{◌≡◌};
 ghost use Rattle.rounding.specs.Rounds.{Reported};

@@ -1,4 +1,4 @@
 // Values of hourly rows of Sun and Moon, elements made of them, and a cubic judged.
-mod elements;
-mod from_tables;
-mod spreadsheet;
+pub mod from_rows;
+pub mod from_tables;
+pub mod spreadsheet;

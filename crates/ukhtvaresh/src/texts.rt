@@ -1,3 +1,3 @@
 // What a person types, and what a person reads.
-mod times;
-mod typed;
+pub mod times;
+pub mod typed;

@@ -14,7 +14,7 @@ returns c =
     let start = said.before.before.before.before.before in
     let a = start.args in
     contact-replied Star a.request.now a.sines.now a.bracket.now (to_z-of_z w64 a.phase start.ranges.phase)
-    (to_z-of_z w64 a.from start.ranges.from) (to_z-of_z w64 a.to start.ranges.to) c.contact-reply.ensures said.contact.ensures
+    (to_z-of_z w64 a.from start.ranges.from) (to_z-of_z w64 a.to start.ranges.to) c.contact_reply-reply.ensures said.contact-given.ensures
 
-pub ukhtvaresh-star-contact-spec : {M : Type 1} → statement M
-ukhtvaresh-star-contact-spec = tie.close (tie.spec (λ c κs. search rules) (λ c κs. search rules) (λ c. search rules) (λ c. search rules) returns)
+pub ukhtvaresh_star_contact_spec : {M : Type 1} → statement M
+ukhtvaresh_star_contact_spec = tie.close (tie.spec (λ c κs. search rules) (λ c κs. search rules) (λ c. search rules) (λ c. search rules) returns)

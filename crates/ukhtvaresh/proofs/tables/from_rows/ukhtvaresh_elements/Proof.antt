@@ -39,10 +39,10 @@ returns c =
     let start = said.before.before.before.before.before in
     let a = start.args in
     replied a.rows.now a.sidereal.now a.radii.now a.sines.now a.elements.now a.misfits.now
-    (to_z-of_z w64 a.tolerance start.ranges.tolerance) c.elements-reply.ensures said.elements.ensures
+    (to_z-of_z w64 a.tolerance start.ranges.tolerance) c.elements_reply-reply.ensures said.elements-answer.ensures
 
-pub ukhtvaresh-elements-spec : {M : Type 1} → statement M
-ukhtvaresh-elements-spec =
+pub ukhtvaresh_elements_spec : {M : Type 1} → statement M
+ukhtvaresh_elements_spec =
     tie.close
     (tie.spec (λ c κs. search rules) (λ c κs. search rules) (λ c. search rules) (λ c. search rules)
     (λ c. search rules) returns)
