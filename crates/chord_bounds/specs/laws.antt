@@ -11,4 +11,5 @@ pub mod SineChord
 pub mod Values
 -- the shadow
 pub mod Shadows
+
 -- the margins at two ends, and the seconds between

@@ -1,6 +1,5 @@
 pub mod CourseLaws
 pub mod SheetLaws
-pub mod Demand3Laws
 -- how long a sheet is, and how it is written piece by piece
 pub mod Lengths
 pub mod Stores

@@ -12,7 +12,7 @@ use Rattle.sheet_codec.specs.RoundTrip.{read_back}
 use Rattle.local_circumstances.specs.Courses.{sheetOf}
 use Rattle.local_circumstances.specs.Demand3.{EachSecond, Demand3}
 use Rattle.local_circumstances.specs.laws.SheetLaws.{kept-sheet}
-use Rattle.local_circumstances.specs.laws.Demand3Laws.{changes-once, ends-exact, turns-alternate}
+use Rattle.local_circumstances.proofs.laws.Demand3Laws.{changes-once, ends-exact, turns-alternate}
 use Rattle.local_circumstances.specs.Course.{course_of}
 use Rattle.local_circumstances.specs.laws.CourseSound.{sound}
 use Rattle.circumstances.specs.WrittenSheet.{sheet_bytes}

@@ -16,7 +16,7 @@ use Rattle.contacts.specs.Entries.{to, entries}
 use Rattle.contacts.specs.laws.Shifted.{shifted}
 use Rattle.sheet_format.specs.StoredSeconds.{stored}
 use Rattle.local_circumstances.specs.Courses.{states_of}
-use Rattle.local_circumstances.specs.laws.Demand3Laws.{entries-in-sheet}
+use Rattle.local_circumstances.proofs.laws.Demand3Laws.{entries-in-sheet}
 use Rattle.local_circumstances.specs.Course.{course_of}
 use Rattle.local_circumstances.specs.laws.CourseSound.{sound}
 use Rattle.networks.specs.Enters.{is_enter, first_enter, firstTo}

@@ -32,8 +32,8 @@ use Rattle.contact_times.specs.Parts.{cone_by, cube, exactQuadratic, exactCubic}
 use Rattle.sky_accuracy.specs.TrueShadow.{Sky, moment_of_sky, K, sin_H, cos_H, sin_d, cos_d, Q, R, P, T, true_ξ, true_η, true_ζ, true_u, true_v, true_L, true_edge, TrulyInside, TrulyWithinUnits}
 use Rattle.sky_accuracy.specs.laws.ShadowErrors as Errors
 use Rattle.sky_accuracy.specs.laws.ShadowErrors.{D, exact_u, exact_v, exact_L, approximate}
-use Rattle.sky_accuracy.specs.laws.SkyLaws.{known}
-use Rattle.sky_accuracy.specs.laws.Moved.{Moved, inside-true, outside-true, unsure-true}
+use Rattle.sky_accuracy.proofs.laws.SkyLaws.{known}
+use Rattle.sky_accuracy.proofs.laws.Moved.{Moved, inside-true, outside-true, unsure-true}
 
 some_denominator : 1 ≤ denominator
 unfolding denominator

@@ -25,14 +25,14 @@ use Rattle.shadow.specs.Second as Second
 use Rattle.station.specs.Place.{place_of}
 use Rattle.local_circumstances.specs.Courses.{Course, second, states_of, sheetOf}
 use Rattle.local_circumstances.specs.Demand3.{entries_in}
-use Rattle.local_circumstances.specs.laws.Demand3Laws.{entries-in-sheet}
+use Rattle.local_circumstances.proofs.laws.Demand3Laws.{entries-in-sheet}
 use Rattle.local_circumstances.specs.Sound.{Sound}
 use Rattle.local_circumstances.specs.laws.CourseLaws.{states_length, states-at, first, second_at}
 use Rattle.local_circumstances.specs.Course.{course_of}
 use Rattle.local_circumstances.specs.laws.CourseSound.{sound}
 use Rattle.sky_accuracy.specs.TruePlace.{TrueC}
 use Rattle.contact_times.proofs.laws.ContactLaws.{used-same}
-use Rattle.sky_accuracy.specs.laws.TrueBrackets.{state_of, enters, leaves}
+use Rattle.sky_accuracy.proofs.laws.TrueBrackets.{state_of, enters, leaves}
 use Rattle.sky_accuracy.specs.TrueContacts.{ContactTrue}
 
 -- a sure byte says its state

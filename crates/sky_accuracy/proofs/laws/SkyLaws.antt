@@ -28,7 +28,7 @@ use Rattle.sine_accuracy.proofs.laws.EveryAngle.{sine-everywhere, cosine-everywh
 use Rattle.sine_accuracy.proofs.laws.AngleLaws.{sine-angle, cosine-angle}
 use Rattle.sine_accuracy.proofs.laws.Circle.{circle}
 use Rattle.sky_accuracy.specs.laws.Circle.{squares}
-use Rattle.sky_accuracy.specs.laws.PlaceErrors.{place-close, place_size}
+use Rattle.sky_accuracy.proofs.laws.PlaceErrors.{place-close, place_size}
 use Rattle.sky_accuracy.specs.TrueShadow.{Sky, moment_of_sky, fine, d_rest, H_rest, K, sin_H, cos_H, sin_d, cos_d, Q, R, P}
 use Rattle.sky_accuracy.specs.laws.Displacement.{Known}
 use Rattle.contact_times.specs.Parts.{quadratic_by, cube, exactQuadratic}

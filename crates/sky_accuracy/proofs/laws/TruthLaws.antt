@@ -30,7 +30,7 @@ use Rattle.seconds.specs.Seconds.{state_at}
 use Rattle.contact_times.specs.laws.SecondStates.{second-same}
 use Rattle.local_circumstances.specs.Courses.{sheetOf}
 use Rattle.local_circumstances.specs.Demand3.{EachSecond, Demand3}
-use Rattle.local_circumstances.specs.laws.Demand3Laws.{changes-once, ends-exact, turns-alternate}
+use Rattle.local_circumstances.proofs.laws.Demand3Laws.{changes-once, ends-exact, turns-alternate}
 use Rattle.circumstances.specs.declared.Answer.TheVariants as A
 use Rattle.local_circumstances.specs.Course.{course_of}
 use Rattle.circumstances.specs.WrittenSheet.{sheet_bytes}
@@ -42,9 +42,9 @@ use Rattle.sky_accuracy.specs.TrueShadow.{T, true_u, true_v, true_edge, TrulyWit
 use Rattle.sky_accuracy.specs.Nineteen.{Nineteen}
 use Rattle.sky_accuracy.specs.Truth.{sky_at, seconds, true_answers}
 use Rattle.sky_accuracy.specs.laws.ShadowErrors.{u-exact, v-exact, L-exact}
-use Rattle.sky_accuracy.specs.laws.Moved.{nineteen}
-use Rattle.sky_accuracy.specs.laws.TrueStates.{moved_here}
-use Rattle.sky_accuracy.specs.laws.SaidTruly.{inside-by, outside-by, near_by}
+use Rattle.sky_accuracy.proofs.laws.Moved.{nineteen}
+use Rattle.sky_accuracy.proofs.laws.TrueStates.{moved_here}
+use Rattle.sky_accuracy.proofs.laws.SaidTruly.{inside-by, outside-by, near_by}
 
 -- "The true distance less the true L differs from the exact one of demand 3 by less than 19 units": at every second of
 -- an occultation within its limits

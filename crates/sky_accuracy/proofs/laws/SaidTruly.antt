@@ -22,7 +22,7 @@ use Rattle.contact_times.specs.laws.EdgeSigns.{LowFor, edge_sign}
 use Rattle.sky_accuracy.specs.TruePlace.{TrueC}
 use Rattle.sky_accuracy.specs.TrueShadow.{TrulyInside, TrulyWithinUnits}
 use Rattle.sky_accuracy.specs.Truth.{sky_at}
-use Rattle.sky_accuracy.specs.laws.TrueStates.{truly-inside, truly-outside, truly-near}
+use Rattle.sky_accuracy.proofs.laws.TrueStates.{truly-inside, truly-outside, truly-near}
 
 -- within the ranges the penumbra's radius, and the Moon's, is not small
 low : (b : Body) (z : BodySizes b) (φ : Phase) → LowFor (cone b φ) φ

@@ -22,7 +22,7 @@ use Rattle.contact_times.specs.laws.WholeSeconds.{moment-same}
 use Rattle.sky_accuracy.specs.TrueShadow.{Sky, moment_of_sky, fine, d_rest, H_rest, K, sin_H, cos_H, sin_d, cos_d, Q, R, P, true_ξ, true_η, true_ζ, T, true_u, true_v, true_L, true_M, true_edge, TrulyInside}
 use Rattle.sky_accuracy.specs.laws.Latitude.{up}
 use Rattle.sky_accuracy.specs.laws.Scaled.{unscaled-less}
-use Rattle.sky_accuracy.specs.laws.TrueStates.{edge-times}
+use Rattle.sky_accuracy.proofs.laws.TrueStates.{edge-times}
 
 -- the same time, the hour cut c times as finely
 abbrev pub finer : ℕ → Sky → Sky

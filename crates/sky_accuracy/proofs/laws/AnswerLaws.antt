@@ -21,7 +21,7 @@ use Rattle.contact_times.proofs.laws.ContactLaws.{contact-within}
 use Rattle.contact_times.specs.laws.EndLaws.{Ends, bracket-ends, bracket-contact, contact-order}
 use Rattle.sky_accuracy.specs.TruePlace.{TrueC}
 use Rattle.sky_accuracy.specs.TrueContacts.{InsideAt, OutsideAt, AnswerTrue}
-use Rattle.sky_accuracy.specs.laws.TrueBrackets.{inside-at, outside-at, in-span, later}
+use Rattle.sky_accuracy.proofs.laws.TrueBrackets.{inside-at, outside-at, in-span, later}
 
 -- two states of which one is outside and the other inside
 either : (s t : State) → code s + code t ≡ 1 → ((s ≡ outside) × (t ≡ inside)) ⊎ ((s ≡ inside) × (t ≡ outside))

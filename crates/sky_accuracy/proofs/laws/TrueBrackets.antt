@@ -24,7 +24,7 @@ use Rattle.sky_accuracy.specs.TruePlace.{TrueC}
 use Rattle.sky_accuracy.specs.TrueShadow.{TrulyWithinUnits}
 use Rattle.sky_accuracy.specs.Truth.{sky_at}
 use Rattle.sky_accuracy.specs.TrueContacts.{InsideAt, OutsideAt, Bracketed}
-use Rattle.sky_accuracy.specs.laws.SaidTruly.{inside-by, outside-by, near_by}
+use Rattle.sky_accuracy.proofs.laws.SaidTruly.{inside-by, outside-by, near_by}
 
 -- the state at second τ under the larger of the request's guard and 32
 abbrev pub state_of : Occultation → Phase → ℤ → State

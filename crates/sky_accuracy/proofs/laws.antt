@@ -1,0 +1,10 @@
+pub mod AnswerLaws
+pub mod Moved
+pub mod PlaceErrors
+pub mod SaidTruly
+pub mod SkyLaws
+pub mod TrueBrackets
+pub mod TrueContactLaws
+pub mod TrueSeconds
+pub mod TrueStates
+pub mod TruthLaws
