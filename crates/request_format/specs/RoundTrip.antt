@@ -9,7 +9,7 @@ use Rattle.request_format.specs.laws.WidthLaws.{held, held-size, whole_small}
 use Rattle.request_format.specs.declared.bytes.Answer.TheVariants.{Done}
 use Rattle.request_format.specs.Layout.{Piece, kind, number, count_in, fitting, numbers}
 use Rattle.big_endian.specs.Numbers.{Bytes}
-use Rattle.request_format.specs.laws.LayoutLaws as Any
+use Rattle.request_format.specs.laws.LayoutLaws as Layouts
 use Rattle.request_format.specs.Request.{pieces_for, size_for, put_for, bytes_for, reading_for}
 use Rattle.request_format.specs.laws.RowByteLaws.{pieces_count}
 
@@ -28,24 +28,24 @@ fits_small l k [] c e j = omega arith
 fits_small [] k (z ∷ ns) c e j = absurd (omega arith)
 fits_small (kind b ∷ l) k (z ∷ ns) c e j = fits_small l k (z ∷ ns) c e j
 fits_small (number w ∷ l) k (z ∷ ns) c e zero =
-    let h = Any.fits_cases w l k z ns e in omega (arith, whole_small w, held-size w z (held w z h.0))
-fits_small (number w ∷ l) k (z ∷ ns) c e (suc j) = fits_small l (k + 1) ns (omega arith) (Any.fits_cases w l k z ns e).1 j
+    let h = Layouts.fits_cases w l k z ns e in omega (arith, whole_small w, held-size w z (held w z h.0))
+fits_small (number w ∷ l) k (z ∷ ns) c e (suc j) = fits_small l (k + 1) ns (omega arith) (Layouts.fits_cases w l k z ns e).1 j
 
 module _ (shape : Shape) where
   -- as many bytes as it says
   pub bytes-length : (ns : List ℤ) → length ns ≡ countOf shape → length (bytes_for shape ns) ≡ size_for shape
   unfolding bytes_for
-  bytes-length ns c = Any.length-bytes (pieces_for shape) ns (c ∙ pieces_count shape)
+  bytes-length ns c = Layouts.length-bytes (pieces_for shape) ns (c ∙ pieces_count shape)
 
   -- numbers that are put are read back
   pub read_back : (ns : List ℤ) → length ns ≡ countOf shape → put_for shape ns ≡ Done → reading_for shape (bytes_for shape ns) ≡ numbers ns
   unfolding put_for bytes_for reading_for
-  read_back ns c e = Any.read_back (pieces_for shape) 0 ns (c ∙ pieces_count shape) e
+  read_back ns c e = Layouts.read_back (pieces_for shape) 0 ns (c ∙ pieces_count shape) e
 
   module _ (s : List ℕ) (ns : List ℤ) (b : Bytes s) (e : reading_for shape s ≡ numbers ns) where
-    written : Any.Written (pieces_for shape) 0 s ns
+    written : Layouts.Written (pieces_for shape) 0 s ns
     unfolding reading_for
-    written = Any.write_back (pieces_for shape) 0 s ns b e
+    written = Layouts.write_back (pieces_for shape) 0 s ns b e
 
     -- bytes that are read are those of their numbers, which fit
     pub write_back : (length ns ≡ countOf shape) × (put_for shape ns ≡ Done) × (bytes_for shape ns ≡ s)
