@@ -4,4 +4,5 @@ pub mod MagnitudeLaws
 pub mod MirrorLaws
 pub mod Sizes
 pub mod StateLaws
+pub mod StateMeaning
 pub mod States

@@ -1,5 +1,6 @@
 -- polynomials as lists, the series as polynomials, one cell, the first quadrant, the computed tests
 pub mod Lists
+pub mod Coefficients
 pub mod Cell
 pub mod First
 

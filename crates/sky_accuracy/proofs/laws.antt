@@ -7,4 +7,5 @@ pub mod TrueBrackets
 pub mod TrueContactLaws
 pub mod TrueSeconds
 pub mod TrueStates
+pub mod TrulySaid
 pub mod TruthLaws

@@ -12,5 +12,6 @@ pub mod Signs
 pub mod Displacement
 pub mod ShadowErrors
 pub mod Scaled
+
 -- the theorem: a sheet with a guard of 32 or more is true of the sky
 -- the theorems: its contacts lie between two hundredths of a second; whatever is answered of a contact is true

@@ -15,7 +15,8 @@ use Rattle.sine.specs.Sine.{sine, cosine}
 use Rattle.sine.specs.laws.SineLaws.{sine-size, cosine-size}
 use Rattle.sine_accuracy.specs.Series.{denominator, common, term, sine_series, cosine_series}
 use Rattle.sine_accuracy.specs.laws.Lists.{worth, carry, moved, added, size, worth-added, worth-moved, worth-size}
-use Rattle.sine_accuracy.proofs.laws.Coefficients.{part, sines, cosines, sine-worth, cosine-worth}
+use Rattle.sine_accuracy.specs.laws.Coefficients.{part, sines, cosines}
+use Rattle.sine_accuracy.proofs.laws.Coefficients.{sine-worth, cosine-worth}
 use Rattle.sine_accuracy.specs.TrueSine.{Within}
 use Rattle.sine_accuracy.proofs.laws.EveryAngle.{sine-true, cosine-true}
 

@@ -33,7 +33,8 @@ use Rattle.shadow_geometry.specs.Shadow.{Moment, moment_of, moment, phases_of, c
 use Rattle.shadow_geometry.specs.laws.Ranges.{MomentSizes}
 use Rattle.shadow_geometry.proofs.laws.Sizes.{u-size, v-size, M-size, L-size}
 use Rattle.shadow_geometry.proofs.laws.StateLaws.{guard-monotone}
-use Rattle.shadow_geometry.proofs.laws.States.{StatesMean, penumbra_sign, central_sign, states_mean}
+use Rattle.shadow_geometry.proofs.laws.StateMeaning.{penumbra_sign, central_sign, states_mean}
+use Rattle.shadow_geometry.proofs.laws.States.{StatesMean}
 use Rattle.shadow_geometry.proofs.Thirteen.{Thirteen, thirteen}
 use Rattle.shadow_geometry.specs.laws.Cylinder.{cylinder_L}
 use Rattle.shadow_geometry.specs.Magnitude.{magnitude}

@@ -9,7 +9,8 @@ use Rattle.sine.specs.Sine.{reduced}
 use Rattle.sine_accuracy.specs.Series.{common, sine_series, cosine_series}
 use Rattle.sine_accuracy.specs.TrueSine.{sine_quarter, cosine_quarter, true_sine, true_cosine}
 use Rattle.sine_accuracy.specs.laws.Lists.{worth, added, product, worth-added, worth-product, worth-size}
-use Rattle.sine_accuracy.proofs.laws.Coefficients.{sines, cosines, sine-worth, cosine-worth}
+use Rattle.sine_accuracy.specs.laws.Coefficients.{sines, cosines}
+use Rattle.sine_accuracy.proofs.laws.Coefficients.{sine-worth, cosine-worth}
 use Rattle.sine_accuracy.proofs.laws.Tests.{circles, circles_small}
 
 constant-worth : (c x : ℤ) → worth (c ∷ []) x ≡ c

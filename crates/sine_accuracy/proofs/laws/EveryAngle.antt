@@ -19,7 +19,8 @@ use Rattle.sine.specs.laws.SineLaws.{reduced_below, sine-first, cosine-first, si
 use Rattle.sine_accuracy.specs.Series.{common, sine_series, cosine_series}
 use Rattle.sine_accuracy.specs.TrueSine.{sine_quarter, cosine_quarter, true_sine, true_cosine, TwoUnits, Within}
 use Rattle.sine_accuracy.specs.laws.Lists.{worth, size, worth-added, worth-size}
-use Rattle.sine_accuracy.proofs.laws.Coefficients.{sines, complements, sine-worth, complement-worth}
+use Rattle.sine_accuracy.specs.laws.Coefficients.{sines, complements}
+use Rattle.sine_accuracy.proofs.laws.Coefficients.{sine-worth, complement-worth}
 use Rattle.sine_accuracy.specs.laws.First.{first-close}
 use Rattle.sine_accuracy.proofs.laws.Tests.{sine_nodes, gaps, gaps_small}
 

@@ -7,7 +7,7 @@ use Rattle.sine_table.specs.Table.{factorial, numerator, denominator as tableDen
 use Rattle.sine_table.specs.laws.Computed.{up_to, at_up_to}
 use Rattle.sine_accuracy.specs.Series.{denominator, common}
 use Rattle.sine_accuracy.specs.laws.Lists.{carry, moved, turned, added, product, size}
-use Rattle.sine_accuracy.proofs.laws.Coefficients.{sines, cosines, complements}
+use Rattle.sine_accuracy.specs.laws.Coefficients.{sines, cosines, complements}
 use Rattle.sine_accuracy.specs.laws.Cell.{off, tight, low}
 use Rattle.sine_accuracy.specs.laws.First.{node, from}
 

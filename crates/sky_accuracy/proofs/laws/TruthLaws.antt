@@ -44,7 +44,7 @@ use Rattle.sky_accuracy.specs.Truth.{sky_at, seconds, true_answers}
 use Rattle.sky_accuracy.specs.laws.ShadowErrors.{u-exact, v-exact, L-exact}
 use Rattle.sky_accuracy.proofs.laws.Moved.{nineteen}
 use Rattle.sky_accuracy.proofs.laws.TrueStates.{moved_here}
-use Rattle.sky_accuracy.proofs.laws.SaidTruly.{inside-by, outside-by, near_by}
+use Rattle.sky_accuracy.proofs.laws.TrulySaid.{truly-said}
 
 -- "The true distance less the true L differs from the exact one of demand 3 by less than 19 units": at every second of
 -- an occultation within its limits
@@ -61,37 +61,18 @@ true_distance o c i τ w φ =
     let n = nineteen (moved_here y (lit≤ tt) (in-window-size o.window i.window τ w) (axis_sizes o.body i.body) i.station k (tangent_small o.body i.body φ) φ) in
     rw (← u-exact a p τ, ← v-exact a p τ, ← L-exact a p τ k) n
 
--- the guard and 13 units, and 19 more
-same_units : (g : ℤ) → pos 0 ≤ℤ g → g +ℤ pos 32 ≡ pos (nat_abs g + 13) +ℤ pos 19
-same_units g h =
-    let e : nat_abs g + 32 ≡ nat_abs g + 13 + 19 = omega arith in
-    ap (λ (z : ℤ). z +ℤ pos 32) (nonneg_nat_abs g h) ∙ ap pos e
-
 module _ (o : Occultation) (guard : pos 32 ≤ℤ o.guard) (c : TrueC o.station.latitude) where
   module _ (i : InLimits o) where
-    pub truly-said : EachSecond (course_of o) (true_answers o c)
-    unfolding state_at
-    truly-said φ l τ w =
-        let h = in-window-size o.window i.window τ w in
-        let is = second-same o.guard o.body (place_of o.station) φ τ in
-        record {
-          inside_is = λ s. inside-by o c i o.guard guard φ seconds (lit≤ tt) τ h (is ∙ s);
-          outside-is = λ s. outside-by o c i o.guard guard φ seconds (lit≤ tt) τ h (is ∙ s);
-          unsure-is = λ s.
-              subst (λ (u : ℤ). TrulyWithinUnits u φ (sky_at o c seconds τ) (cone o.body φ)) (same_units o.guard (≤ℤ_trans (le_z_yes tt) guard))
-              (near_by o c i o.guard guard φ seconds (lit≤ tt) τ h (is ∙ s));
-        }
-
     true-sheet : (rest : List ℕ) → Demand3 (course_of o) (true_answers o c) (length (sheet_bytes o)) (sheet_bytes o ++ rest)
     true-sheet rest =
         record {
-          seconds = truly-said;
+          seconds = (truly-said o guard c i);
           found = sheetOf (course_of o);
           read = reads_back o i rest;
           made = refl;
-          changes = changes-once (course_of o) (sound o i) (true_answers o c) truly-said;
-          ends = ends-exact (course_of o) (sound o i) (true_answers o c) truly-said;
-          alternate = turns-alternate (course_of o) (sound o i) (true_answers o c) truly-said;
+          changes = changes-once (course_of o) (sound o i) (true_answers o c) (truly-said o guard c i);
+          ends = ends-exact (course_of o) (sound o i) (true_answers o c) (truly-said o guard c i);
+          alternate = turns-alternate (course_of o) (sound o i) (true_answers o c) (truly-said o guard c i);
         }
 
   -- of the sheet that a call wrote, n bytes of its buffer (circumstances, sheet_answer and sheetBuffer: what
