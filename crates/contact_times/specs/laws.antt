@@ -6,4 +6,5 @@ pub mod EdgeSigns
 -- what the search finds
 pub mod BracketLaws
 pub mod EndLaws
+
 -- the answer of an occultation

@@ -97,7 +97,6 @@ returns : tie.Need-returns-in-Refused invariant-loop decreases-loop
 returns c =
     let n = refused c in
     let r = at-run n in
-    
     subst (λ (x : Typed). Read (start (loop r).before).args.text.now x n.take-reading.result.held n.take-reading.new.numbers) (sym c.in-Refused.is)
     (line_refused _ _ _ _ _ _ (walked (loop r).before) _ (loop r).loop-at-test.true (ran r) _ _ (sym c.in-Refused.is ∙ answered n))
 

@@ -42,7 +42,6 @@ loop-again c =
     let w = c in
     let two = w.before in
     let one = two.before.before in
-    
     rw (read_back c.in-Is.value (word_small _ _ c.in-Is.value (sym w.word_of-word.ensures ∙ c.in-Is.is)) tt)
     (rowed-turn _ _ _ _ one.loop-k.invariant one.loop-k-test.true _ one.run-gap.ensures.0 _ two.run-size.ensures.0
     _ w.word_of-word.ensures c.in-Is.value c.in-Is.is)

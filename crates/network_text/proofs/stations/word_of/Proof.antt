@@ -17,7 +17,6 @@ told c l e = word_by _ _ _ l c.field_of-field.ensures.0 (sym e ∙ c.value_of-li
 returns : tie.Need-returns-in-Given
 returns c =
     let v = c in
-    
     let is = told v.before _ c.in-Given.is in
     rw (read_back c.in-Given.value (word_small _ _ c.in-Given.value (sym is)) tt) is
 
