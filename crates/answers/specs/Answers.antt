@@ -27,28 +27,28 @@ unfoldable pub answer_text : Shape → (request sines room : List ℕ) → List 
 answer_text shape request sines room = text_by (answer_by (wish shape request) sines room) (buffer_by (wish shape request) sines room)
 
 -- what a program prints: the answer with 901 numbers for table S and "65,536 bytes for the sheet"
-unfoldable pub printedFor : Shape → List ℕ → List ℕ
-printedFor shape request = answer_text shape request (zeros 901) (zeros 65536)
+unfoldable pub printed_for : Shape → List ℕ → List ℕ
+printed_for shape request = answer_text shape request (zeros 901) (zeros 65536)
 
 -- ---- with clock times
 
 -- the same, with times by the reference and the station's ΔT, altitudes and notes
-abbrev pub timedBy : Reference → ℤ → Sky → Answer → List ℕ → List ℕ
-timedBy k d y (A.Written n) room = printed (timed k d y (take n room))
-timedBy k d y (A.Refused r) room = refusal_line r.number r.place
+abbrev pub timed_by : Reference → ℤ → Sky → Answer → List ℕ → List ℕ
+timed_by k d y (A.Written n) room = printed (timed k d y (take n room))
+timed_by k d y (A.Refused r) room = refusal_line r.number r.place
 
 -- an observer is told of the occultation that is asked for
-abbrev pub skyOf : Asked → Sky
-skyOf (W.Is o) = Sky.Over o
-skyOf (W.Refused r) = Sky.Nothing
+abbrev pub sky_of : Asked → Sky
+sky_of (W.Is o) = Sky.Over o
+sky_of (W.Refused r) = Sky.Nothing
 
 unfoldable pub timed_text : Reference → (request sines room : List ℕ) → List ℕ
 timed_text k request sines room =
-    timedBy k (delta_of request) (skyOf (wish Shape.Eclipse request)) (answer_to request sines room) (buffer_for request sines room)
+    timed_by k (delta_of request) (sky_of (wish Shape.Eclipse request)) (answer_to request sines room) (buffer_for request sines room)
 
-unfoldable pub starTimedText : Reference → (request sines room : List ℕ) → List ℕ
-starTimedText k request sines room =
-    timedBy k (star_delta request) (skyOf (wish Shape.Star request)) (star_answer request sines room) (star_buffer request sines room)
+unfoldable pub star_timed_text : Reference → (request sines room : List ℕ) → List ℕ
+star_timed_text k request sines room =
+    timed_by k (star_delta request) (sky_of (wish Shape.Star request)) (star_answer request sines room) (star_buffer request sines room)
 
 -- ---- beside the sheet as it is stored
 
@@ -57,5 +57,5 @@ abbrev pub error_by : Answer → List ℕ
 error_by (A.Written n) = []
 error_by (A.Refused r) = refusal_line r.number r.place
 
-unfoldable pub errorLine : (request sines room : List ℕ) → List ℕ
-errorLine request sines room = error_by (answer_to request sines room)
+unfoldable pub error_line : (request sines room : List ℕ) → List ℕ
+error_line request sines room = error_by (answer_to request sines room)

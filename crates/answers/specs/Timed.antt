@@ -15,21 +15,21 @@ use Rattle.request_answers.specs.Second.{wish}
 use Rattle.request_answers.specs.Sheet.{answer_to, buffer_for, sines_for, star_answer, star_buffer, star_sines}
 use Rattle.listings.specs.declared.sky.Sky.{Sky}
 use Rattle.listings.specs.Answers.{Told, text, withheld}
-use Rattle.answers.specs.Answers.{timedBy, skyOf}
+use Rattle.answers.specs.Answers.{timed_by, sky_of}
 
 -- the text of a sheet; a refusal is no text
 abbrev pub told_by : Reference → ℤ → Sky → Answer → List ℕ → Told
-told_by k d y (A.Written n) room = text (timedBy k d y (A.Written n) room)
+told_by k d y (A.Written n) room = text (timed_by k d y (A.Written n) room)
 told_by k d y (A.Refused r) room = withheld r
 
 -- of an eclipse's bytes, and of a star's
 unfoldable pub timed_told : Reference → (request sines room : List ℕ) → Told
 timed_told k request sines room =
-    told_by k (delta_of request) (skyOf (wish Shape.Eclipse request)) (answer_to request sines room) (buffer_for request sines room)
+    told_by k (delta_of request) (sky_of (wish Shape.Eclipse request)) (answer_to request sines room) (buffer_for request sines room)
 
 unfoldable pub star_timed_told : Reference → (request sines room : List ℕ) → Told
 star_timed_told k request sines room =
-    told_by k (star_delta request) (skyOf (wish Shape.Star request)) (star_answer request sines room) (star_buffer request sines room)
+    told_by k (star_delta request) (sky_of (wish Shape.Star request)) (star_answer request sines room) (star_buffer request sines room)
 
 -- ---- an instant and a request
 

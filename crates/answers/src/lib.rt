@@ -8,7 +8,7 @@ ghost use Rattle.request_answers.specs.Second.{wish};
 ghost use Rattle.request_answers.specs.Sheet.{buffer_by, sines_by, buffer_for, sines_for, star_buffer, star_sines};
 ghost use Rattle.request_answers.specs.laws.SheetLaws.{Fits};
 ghost use Rattle.decimal_text.specs.Texts.{Put, Copies};
-ghost use Rattle.answers.specs.Answers.{skyOf, timedBy, answer_text, printedFor, timed_text, starTimedText};
+ghost use Rattle.answers.specs.Answers.{sky_of, timed_by, answer_text, printed_for, timed_text, star_timed_text};
 
 use calendar::Reference;
 use circumstances::Answer;
@@ -18,7 +18,7 @@ use request_format::input::Asked;
 
 // What an observer is told of: the occultation that bytes of that shape ask for.
 fn sky_of(shape: Shape, request: &[u8]) -> Sky
-    ensures { result ≡ skyOf (wish shape request.now) }
+    ensures { result ≡ sky_of (wish shape request.now) }
 {
     let asked = request_answers::one_second::wish(shape, request);
     match asked {
@@ -38,7 +38,7 @@ fn put_text(
     sky: Sky,
 ) -> usize
     requires { Fits answer room.now }
-    ensures { Put out.old 0 (timedBy reference deltat sky answer room.now) out.new result }
+    ensures { Put out.old 0 (timed_by reference deltat sky answer room.now) out.new result }
 {
     match answer {
         Answer::Written(written) => listings::put_timed_listing(
@@ -87,7 +87,7 @@ pub fn sines_room() -> [u32; 901]
 // What a program prints for a request of that shape, from the start of `out` on, as far as that goes; the place after
 // it.
 pub fn put_printed(shape: Shape, request: &[u8], out: &mut [u8]) -> usize
-    ensures { Put out.old 0 (printedFor shape request.now) out.new result }
+    ensures { Put out.old 0 (printed_for shape request.now) out.new result }
 {
     let mut sines = sines_room();
     let mut room = sheet_room();
@@ -121,7 +121,7 @@ pub fn put_timed_star_answer(
     room: &mut [u8],
     out: &mut [u8],
 ) -> usize
-    ensures text { Put out.old 0 (starTimedText reference request.now sines.old room.old) out.new result }
+    ensures text { Put out.old 0 (star_timed_text reference request.now sines.old room.old) out.new result }
     ensures sheet { room.new ≡ star_buffer request.now sines.old room.old }
     ensures sines { sines.new ≡ star_sines request.now sines.old }
 {

@@ -2,7 +2,7 @@
 ghost use Rattle.std.specs.Prelude.{◌≡◌, length};
 ghost use Rattle.request_answers.specs.Sheet.{buffer_for, sines_for, star_buffer, star_sines};
 ghost use Rattle.request_answers.specs.laws.SheetLaws.{Fits};
-ghost use Rattle.listings.specs.Answers.{answered, roomWith};
+ghost use Rattle.listings.specs.Answers.{answered, room_with};
 ghost use Rattle.answers.specs.Timed.{told_by, timed_told, star_timed_told, given, instant_given, told_for, sheet_for, table_for};
 ghost use Rattle.answers.specs.laws.TimedLaws.{Laid, Timed};
 
@@ -52,7 +52,7 @@ fn of_eclipse(
     out: &mut [u8],
 ) -> Text
     ensures answer { result ≡ answered (length out.old) (timed_told reference request.now sines.old room.old) }
-    ensures text { out.new ≡ roomWith (timed_told reference request.now sines.old room.old) out.old }
+    ensures text { out.new ≡ room_with (timed_told reference request.now sines.old room.old) out.old }
     ensures sheet { room.new ≡ buffer_for request.now sines.old room.old }
     ensures sines { sines.new ≡ sines_for request.now sines.old }
 {
@@ -71,7 +71,7 @@ fn of_star(
     out: &mut [u8],
 ) -> Text
     ensures answer { result ≡ answered (length out.old) (star_timed_told reference request.now sines.old room.old) }
-    ensures text { out.new ≡ roomWith (star_timed_told reference request.now sines.old room.old) out.old }
+    ensures text { out.new ≡ room_with (star_timed_told reference request.now sines.old room.old) out.old }
     ensures sheet { room.new ≡ star_buffer request.now sines.old room.old }
     ensures sines { sines.new ≡ star_sines request.now sines.old }
 {
@@ -107,7 +107,7 @@ pub fn times(
     out: &mut [u8],
 ) -> Text
     ensures answer { result ≡ answered (length out.old) (told_for (instant_given instant.now) request.now sines.old room.old) }
-    ensures text { out.new ≡ roomWith (told_for (instant_given instant.now) request.now sines.old room.old) out.old }
+    ensures text { out.new ≡ room_with (told_for (instant_given instant.now) request.now sines.old room.old) out.old }
     ensures sheet { room.new ≡ sheet_for (instant_given instant.now) request.now sines.old room.old }
     ensures sines { sines.new ≡ table_for (instant_given instant.now) request.now sines.old }
 {

@@ -38,8 +38,8 @@ abbrev pub raised : Quadratic → Cubic
 raised q = record { c0 = q.c0; c1 = q.c1; c2 = q.c2; c3 = pos 0 }
 
 -- "of x, y, d, l1, l2, μ, in this order"
-unfoldable pub misfitsOf : Columns → Misfits
-misfitsOf c =
+unfoldable pub misfits_of : Columns → Misfits
+misfits_of c =
     let ofCubic : Hourly → ℤ = λ v. pos (misfit (cubic v) v) in
     let ofQuadratic : Hourly → ℤ = λ v. pos (misfit (raised (quadratic v)) v) in
     record {
@@ -71,8 +71,8 @@ missed found c v tolerance place =
     (at (pos 3) v.v6) (place + 6)
 
 -- "ten times the fit (0 to 5 in the order of the misfits)"
-unfoldable pub firstMissed : Columns → (tolerance : ℕ) → Limits
-firstMissed c tolerance =
+unfoldable pub first_missed : Columns → (tolerance : ℕ) → Limits
+first_missed c tolerance =
     let cubicMissed : Limits → Hourly → ℕ → Limits = λ found v place. missed found (cubic v) v tolerance place in
     let quadraticMissed : Limits → Hourly → ℕ → Limits = λ found v place. missed found (raised (quadratic v)) v tolerance place in
     quadraticMissed (quadraticMissed (quadraticMissed (quadraticMissed (cubicMissed (cubicMissed InRange c.x 0) c.y 10) c.d 20)
@@ -81,14 +81,14 @@ firstMissed c tolerance =
 -- ---- the answer
 
 -- "17 with ten times the fit .. plus the first hour"
-abbrev pub ofMissed : Fitting → Limits → Answer
-ofMissed f InRange = Made (record { elements = f.elements; misfits = misfitsOf f.columns })
-ofMissed f (OutOfRange place) = Refused (refusal 17 place)
+abbrev pub of_missed : Fitting → Limits → Answer
+of_missed f InRange = Made (record { elements = f.elements; misfits = misfits_of f.columns })
+of_missed f (OutOfRange place) = Refused (refusal 17 place)
 
 -- "2 with the element out of its range", then 17
-abbrev pub ofChecked : Fitting → Limits → Checked → Answer
-ofChecked f found C.Within = ofMissed f found
-ofChecked f found (C.Refused r) = Refused r
+abbrev pub of_checked : Fitting → Limits → Checked → Answer
+of_checked f found C.Within = of_missed f found
+of_checked f found (C.Refused r) = Refused r
 
 unfoldable pub judged : Fitting → (tolerance : ℕ) → Answer
-judged f tolerance = ofChecked f (firstMissed f.columns tolerance) (elements_checked f.elements)
+judged f tolerance = of_checked f (first_missed f.columns tolerance) (elements_checked f.elements)

@@ -15,7 +15,7 @@ ghost use Rattle.element_fits.specs.LeastSquares.{cubic, quadratic};
 ghost use Rattle.element_fits.specs.Sizes.{HourlySizes, CoefficientSizes};
 ghost use Rattle.elements.specs.Sizes.{QuadraticSizes};
 ghost use Rattle.element_fits.specs.FromTables.{ascension, hour_of, hours_of, each_x, each_y, each_d, each_l1, each_l2, each_ascension, turn, offset, hour_angles, hour_angle, middleOf, columnsOf, fitted, fitting_of};
-ghost use Rattle.element_fits.specs.Answers.{unless, off, close, missed, larger, misfit, raised, firstMissed, misfitsOf, judged};
+ghost use Rattle.element_fits.specs.Answers.{unless, off, close, missed, larger, misfit, raised, first_missed, misfits_of, judged};
 ghost use Rattle.element_fits.specs.laws.Sizes.{AllAccepted, HoursSizes, ColumnsSizes};
 
 use crate::least_squares::Hourly;
@@ -542,7 +542,7 @@ fn quadratic_misfit(v: Hourly) -> i64
 // and mu, 0 to 5, and the hour.
 fn first_missed(c: Columns, tolerance: u64) -> Limits
     requires { ColumnsSizes c }
-    ensures { result ≡ firstMissed c tolerance }
+    ensures { result ≡ first_missed c tolerance }
 {
     let f0 = cubic_missed(Limits::InRange, c.x, tolerance, 0);
     let f1 = cubic_missed(f0, c.y, tolerance, 10);
@@ -565,7 +565,7 @@ pub struct Misfits {
 
 fn misfits_of(c: Columns) -> Misfits
     requires { ColumnsSizes c }
-    ensures { result ≡ misfitsOf c }
+    ensures { result ≡ misfits_of c }
 {
     let x = cubic_misfit(c.x);
     let y = cubic_misfit(c.y);

@@ -18,6 +18,6 @@ answered k (withheld r) = Refused r
 answered k (text t) = cond (leb (length t) k) (Written (length t)) (Refused (refusal 4 (capped (length t))))
 
 -- "After any refusal the buffer holds its old bytes; after success the bytes past the sheet do": past the text
-unfoldable pub roomWith : Told → List ℕ → List ℕ
-roomWith (withheld r) room = room
-roomWith (text t) room = cond (leb (length t) (length room)) (t ++ drop (length t) room) room
+unfoldable pub room_with : Told → List ℕ → List ℕ
+room_with (withheld r) room = room
+room_with (text t) room = cond (leb (length t) (length room)) (t ++ drop (length t) room) room

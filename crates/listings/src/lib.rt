@@ -8,7 +8,7 @@ pub mod sky;
 ghost use Rattle.std.specs.Prelude.{◌≡◌, length};
 ghost use Rattle.sheet_codec.specs.Sheets.{read_sheet};
 ghost use Rattle.decimal_text.specs.Texts.{Put};
-ghost use Rattle.listings.specs.Answers.{answered, roomWith};
+ghost use Rattle.listings.specs.Answers.{answered, room_with};
 ghost use Rattle.listings.specs.Listings.{listing_of, told, timed, printed};
 ghost use Rattle.listings.specs.laws.ListingLaws.{IsSheet, Laid};
 
@@ -67,7 +67,7 @@ fn put_lines(
 fn lay(sheet: &[u8], out: &mut [u8]) -> Text
     requires { IsSheet (read_sheet sheet.now) }
     ensures value { result ≡ answered (length out.old) (listing_of (read_sheet sheet.now)) }
-    ensures out_after { out.new ≡ roomWith (listing_of (read_sheet sheet.now)) out.old }
+    ensures out_after { out.new ≡ room_with (listing_of (read_sheet sheet.now)) out.old }
 {
     let mut none = [0u8; 0];
     let measured = put_lines(sheet, &mut none, 0, Reference::Nothing, 0, Sky::Nothing);
@@ -86,7 +86,7 @@ fn lay(sheet: &[u8], out: &mut [u8]) -> Text
 // as it was.
 pub fn listing(sheet: &[u8], out: &mut [u8]) -> Text
     ensures value { result ≡ answered (length out.old) (told sheet.now) }
-    ensures out_after { out.new ≡ roomWith (told sheet.now) out.old }
+    ensures out_after { out.new ≡ room_with (told sheet.now) out.old }
 {
     let found = sheet_codec::decoder::extent_of_sheet(sheet);
     match found {

@@ -3,7 +3,7 @@
 use Rattle.std.specs.Prelude.{List, ℕ}
 use Rattle.request_answers.specs.Sheet.{sheet_stored}
 use Rattle.program_io.specs.Inputs.{zeros}
-use Rattle.answers.specs.Answers.{errorLine}
+use Rattle.answers.specs.Answers.{error_line}
 
 -- to standard output: the sheet as it is stored, or nothing
 unfoldable pub output : List ℕ → List ℕ
@@ -11,4 +11,4 @@ output input = sheet_stored input (zeros 901) (zeros 65536)
 
 -- to standard error: nothing, or the line of the refusal
 unfoldable pub error : List ℕ → List ℕ
-error input = errorLine input (zeros 901) (zeros 65536)
+error input = error_line input (zeros 901) (zeros 65536)

@@ -2,7 +2,7 @@
 -- "65,536 bytes for the sheet". This is a definition. The answer as text: answers, Answers.
 use Rattle.std.specs.Prelude.{List, ℕ}
 use Rattle.request_format.specs.declared.fields.Shape.TheVariants.{Star}
-use Rattle.answers.specs.Answers.{printedFor}
+use Rattle.answers.specs.Answers.{printed_for}
 
 abbrev pub printed : List ℕ → List ℕ
-printed input = printedFor Star input
+printed input = printed_for Star input

@@ -6,12 +6,12 @@ use Rattle.request_format.specs.Request.{bytes_for}
 use Rattle.calendar.specs.declared.Reference.{Reference}
 use Rattle.program_io.specs.Inputs.{zeros}
 use Rattle.request_text.specs.Meaning.{Meaning, asked, refused, meaning_of}
-use Rattle.answers.specs.Answers.{timed_text, starTimedText}
+use Rattle.answers.specs.Answers.{timed_text, star_timed_text}
 
 -- the answer to a request's bytes with altitudes and notes: 79 are a star's. Times are shown where there is an
 -- instant.
 unfoldable pub text_by : Reference → (request sines room : List ℕ) → List ℕ
-text_by k request sines room = cond (eqb (length request) 79) (starTimedText k request sines room) (timed_text k request sines room)
+text_by k request sines room = cond (eqb (length request) 79) (star_timed_text k request sines room) (timed_text k request sines room)
 
 unfoldable pub answer_text : Reference → (request : List ℕ) → List ℕ
 answer_text k request = text_by k request (zeros 901) (zeros 65536)

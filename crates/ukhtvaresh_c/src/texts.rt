@@ -1,7 +1,7 @@
 // Typed texts and times of day.
 ghost use Rattle.std.specs.Prelude.{◌≡◌, length};
 ghost use Rattle.answers.specs.Timed.{instant_given, told_for, sheet_for, table_for};
-ghost use Rattle.listings.specs.Answers.{roomWith};
+ghost use Rattle.listings.specs.Answers.{room_with};
 ghost use Rattle.request_text.specs.Meaning.{meaning_of};
 ghost use Rattle.request_text.specs.Stored.{request_after, instant_after, fault_after};
 ghost use Rattle.ukhtvaresh.specs.Listing.{listing_reply};
@@ -22,7 +22,7 @@ pub extern "C" fn ukhtvaresh_times(
 ) -> u64
     ensures number { result ≡ (listing_reply (times_given request.now instant.now sines.old sheet.old text.old)).number }
     ensures value { value.new ≡ (listing_reply (times_given request.now instant.now sines.old sheet.old text.old)).value }
-    ensures text { text.new ≡ roomWith (told_for (instant_given instant.now) request.now sines.old sheet.old) text.old }
+    ensures text { text.new ≡ room_with (told_for (instant_given instant.now) request.now sines.old sheet.old) text.old }
     ensures sheet { sheet.new ≡ sheet_for (instant_given instant.now) request.now sines.old sheet.old }
     ensures sines { sines.new ≡ table_for (instant_given instant.now) request.now sines.old }
 {

@@ -13,7 +13,7 @@ use Rattle.decimal_text.specs.Texts.{Put}
 use Rattle.program_io.specs.Inputs.{Read, zeros}
 use Rattle.program_io.specs.laws.OutputLaws.{put-cut}
 use Rattle.program_io.proofs.laws.InputLaws.{read_same}
-use Rattle.answers.specs.Answers.{answer_text, printedFor, errorLine}
+use Rattle.answers.specs.Answers.{answer_text, printed_for, error_line}
 
 -- ---- more bytes than a layout has are not of its shape
 
@@ -51,16 +51,16 @@ module _ (input array : List ℕ) (n : ℕ) (r : Read input array n) (c : n ≤ 
 
     -- of an eclipse, read into 116 bytes
     pub stored-read : length array ≡ 116
-        → (sheet_stored (take n array) sines room ≡ sheet_stored input sines room) × (errorLine (take n array) sines room ≡ errorLine input sines room)
-    unfolding sheet_stored errorLine answer_to buffer_for
+        → (sheet_stored (take n array) sines room ≡ sheet_stored input sines room) × (error_line (take n array) sines room ≡ error_line input sines room)
+    unfolding sheet_stored error_line answer_to buffer_for
     stored-read h = rw (same-wish S.Eclipse (omega arith)) (refl, refl)
 
 -- ---- the text that a program prints is that of its whole input
 pub text_out : (shape : Shape) (array old new : List ℕ) (n end r : ℕ) → n ≤ length array → size_for shape < length array
-    → length old ≡ 400000 → length old < 18446744073709551616 → Put old 0 (printedFor shape (take n array)) new end → r ≡ min end (length new)
-    → (input : List ℕ) → Read input array n → take r new ≡ take 400000 (printedFor shape input)
-unfolding printedFor
+    → length old ≡ 400000 → length old < 18446744073709551616 → Put old 0 (printed_for shape (take n array)) new end → r ≡ min end (length new)
+    → (input : List ℕ) → Read input array n → take r new ≡ take 400000 (printed_for shape input)
+unfolding printed_for
 text_out shape array old new n end r c l k g p e input q =
-    (put-cut (printedFor shape (take n array)) old new end p g r e).0
-    ∙ ap (λ j. take j (printedFor shape (take n array))) k
+    (put-cut (printed_for shape (take n array)) old new end p g r e).0
+    ∙ ap (λ j. take j (printed_for shape (take n array))) k
     ∙ ap (take 400000) (text-read input array n q c (zeros 901) (zeros 65536) shape l)

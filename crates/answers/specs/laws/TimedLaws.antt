@@ -17,17 +17,17 @@ use Rattle.request_answers.specs.Sheet.{answer_to, buffer_for, sines_for, star_a
 use Rattle.listings.specs.declared.Text.{Text}
 use Rattle.listings.specs.declared.Text.TheVariants as T
 use Rattle.listings.specs.declared.sky.Sky.{Sky}
-use Rattle.listings.specs.Answers.{Told, withheld, answered, roomWith}
+use Rattle.listings.specs.Answers.{Told, withheld, answered, room_with}
 use Rattle.listings.specs.laws.AnswerLaws.{text-short, text-full}
-use Rattle.answers.specs.Answers.{timedBy, skyOf}
+use Rattle.answers.specs.Answers.{timed_by, sky_of}
 use Rattle.answers.specs.Timed.{told_by, timed_told, star_timed_told, Given, given, wrong, numbered, instant_given, told_for, sheet_for, table_for}
 
 -- what was laid of a text or a refusal
 abbrev pub Laid : Told → (old : List ℕ) → Text → (new : List ℕ) → Type 0
-Laid t old r new = (r ≡ answered (length old) t) × (new ≡ roomWith t old)
+Laid t old r new = (r ≡ answered (length old) t) × (new ≡ room_with t old)
 
 pub laid_withheld : (x : Refusal) (old : List ℕ) → Laid (withheld x) old (T.Refused x) old
-unfolding answered roomWith
+unfolding answered room_with
 laid_withheld x old = (refl, refl)
 
 -- ---- `lay`
@@ -36,25 +36,25 @@ module _ (k : Reference) (d : ℤ) (y : Sky) (a : Answer) (room old : List ℕ) 
   pub laid-refused : (x : Refusal) → a ≡ A.Refused x → Laid (told_by k d y a room) old (T.Refused x) old
   laid-refused x e = rw e (laid_withheld x old)
 
-  module _ (n : ℕ) (e : a ≡ A.Written n) (none after : List ℕ) (need : ℕ) (m : Put none 0 (timedBy k d y a room) after need)
+  module _ (n : ℕ) (e : a ≡ A.Written n) (none after : List ℕ) (need : ℕ) (m : Put none 0 (timed_by k d y a room) after need)
       (h : length old < 18446744073709551615) where
     pub laid-short : length old < need → Laid (told_by k d y a room) old (T.Refused (refusal 4 need)) old
-    laid-short g = rw e (text-short (timedBy k d y (A.Written n) room) none after old need (rw e at m) h g)
+    laid-short g = rw e (text-short (timed_by k d y (A.Written n) room) none after old need (rw e at m) h g)
 
-    pub laid-full : need ≤ length old → (new : List ℕ) (r : ℕ) → Put old 0 (timedBy k d y a room) new r
+    pub laid-full : need ≤ length old → (new : List ℕ) (r : ℕ) → Put old 0 (timed_by k d y a room) new r
         → Laid (told_by k d y a room) old (T.Written need) new
-    laid-full g new r p = rw e (text-full (timedBy k d y (A.Written n) room) none after old need (rw e at m) h g new r (rw e at p))
+    laid-full g new r p = rw e (text-full (timed_by k d y (A.Written n) room) none after old need (rw e at m) h g new r (rw e at p))
 
 -- ---- over a request's bytes
 
 module _ (request sines room : List ℕ) (a : Answer) (left : List ℕ) (k : Reference) (d : ℤ) (y : Sky) where
   pub told_is : a ≡ answer_to request sines room → left ≡ buffer_for request sines room → d ≡ delta_of request
-      → y ≡ skyOf (wish S.Eclipse request) → told_by k d y a left ≡ timed_told k request sines room
+      → y ≡ sky_of (wish S.Eclipse request) → told_by k d y a left ≡ timed_told k request sines room
   unfolding timed_told
   told_is is by-rule e f = rw (is, by-rule, e, f)
 
   pub star-told-is : a ≡ star_answer request sines room → left ≡ star_buffer request sines room → d ≡ star_delta request
-      → y ≡ skyOf (wish S.Star request) → told_by k d y a left ≡ star_timed_told k request sines room
+      → y ≡ sky_of (wish S.Star request) → told_by k d y a left ≡ star_timed_told k request sines room
   unfolding star_timed_told
   star-told-is is by-rule e f = rw (is, by-rule, e, f)
 
@@ -63,19 +63,19 @@ module _ (request sines room : List ℕ) (a : Answer) (left : List ℕ) (k : Ref
 abbrev pub Timed : Given → (request sines room old : List ℕ) → Text → (new sheet table : List ℕ) → Type 0
 Timed g request sines room old r new sheet table =
     (r ≡ answered (length old) (told_for g request sines room))
-    × ((new ≡ roomWith (told_for g request sines room) old)
+    × ((new ≡ room_with (told_for g request sines room) old)
     × ((sheet ≡ sheet_for g request sines room) × (table ≡ table_for g request sines)))
 
 module _ (request sines room old : List ℕ) where
   module _ (k : Reference) (r : Text) (new sheet table : List ℕ) where
     pub timed-star : length request ≡ 79
-        → (r ≡ answered (length old) (star_timed_told k request sines room)) × ((new ≡ roomWith (star_timed_told k request sines room) old)
+        → (r ≡ answered (length old) (star_timed_told k request sines room)) × ((new ≡ room_with (star_timed_told k request sines room) old)
         × ((sheet ≡ star_buffer request sines room) × (table ≡ star_sines request sines)))
         → Timed (given k) request sines room old r new sheet table
     timed-star e p = rw (eq-eqb (length request) 79 e) p
 
     pub timed-eclipse : (length request ≡ 79 → ⊥)
-        → (r ≡ answered (length old) (timed_told k request sines room)) × ((new ≡ roomWith (timed_told k request sines room) old)
+        → (r ≡ answered (length old) (timed_told k request sines room)) × ((new ≡ room_with (timed_told k request sines room) old)
         × ((sheet ≡ buffer_for request sines room) × (table ≡ sines_for request sines)))
         → Timed (given k) request sines room old r new sheet table
     timed-eclipse e p = rw (ne_eqb (length request) 79 e) p

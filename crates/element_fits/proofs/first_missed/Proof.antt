@@ -4,12 +4,12 @@ use lib.Dec.{lit≤}
 use Rattle.rounding.specs.declared.Limits.{Limits}
 use Rattle.element_fits.specs.LeastSquares.{cubic, quadratic}
 use Rattle.element_fits.specs.Sizes.{wider}
-use Rattle.element_fits.specs.Answers.{missed, raised, firstMissed}
+use Rattle.element_fits.specs.Answers.{missed, raised, first_missed}
 use Rattle.element_fits.proofs.first_missed.Statement.{statement}
 use Rattle.element_fits.proofs.first_missed.Tie as tie
 
 returns : tie.Need-returns
-unfolding firstMissed
+unfolding first_missed
 returns c =
     let f5 = c.before in
     let f4 = f5.before in

@@ -3,12 +3,12 @@ use lib.Dec.{lit≤}
 use Rattle.rounding.specs.laws.Code.{read_back}
 use mathlib.Core.Path.{◌∙◌}
 use Rattle.element_fits.specs.Sizes.{wider}
-use Rattle.element_fits.specs.Answers.{misfitsOf}
+use Rattle.element_fits.specs.Answers.{misfits_of}
 use Rattle.element_fits.proofs.misfits_of.Statement.{statement}
 use Rattle.element_fits.proofs.misfits_of.Tie as tie
 
 returns : tie.Need-returns
-unfolding misfitsOf
+unfolding misfits_of
 returns c =
     let m5 = c.before in
     let m4 = m5.before in

@@ -13,7 +13,7 @@ use Rattle.element_fits.specs.declared.Columns.{Columns}
 use Rattle.element_fits.specs.declared.Hours.{Hours}
 use Rattle.element_fits.specs.declared.Fits.{Fits}
 use Rattle.element_fits.specs.FromTables.{hours_of, each_x, each_y, each_d, each_l1, each_l2, fitting_of}
-use Rattle.element_fits.specs.Answers.{misfit, raised, misfitsOf}
+use Rattle.element_fits.specs.Answers.{misfit, raised, misfits_of}
 use Rattle.element_fits.specs.Numbers.{rows_of, hourly_of, radii_of, tolerance_ranges, given_ranges}
 
 -- ---- when they are made
@@ -39,7 +39,7 @@ pub record Acceptable (n g k : List ℤ) (tolerance : ℤ) (table : List ℕ) (m
   pub sines : 901 ≤ length table
   pub is :
       let made = fitting_of (radii_of k) (rows_of n) (hourly_of g) in
-      f ≡ record { elements = made.elements; misfits = misfitsOf made.columns }
+      f ≡ record { elements = made.elements; misfits = misfits_of made.columns }
   pub within : elements_checked f.elements ≡ C.Within
   pub close : AllClose (fitting_of (radii_of k) (rows_of n) (hourly_of g)).columns (nat_abs tolerance)
   pub room : 22 ≤ most

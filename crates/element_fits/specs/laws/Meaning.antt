@@ -39,7 +39,7 @@ use Rattle.element_fits.specs.declared.Fits.{Fits}
 use Rattle.element_fits.specs.declared.Answer.{Answer}
 use Rattle.element_fits.specs.declared.Answer.TheVariants.{Made, Refused}
 use Rattle.element_fits.specs.FromTables.{hours_of, each_x, each_y, each_d, each_l1, each_l2, each_ascension, turn, offset, hour_angles, hour_angle, middleOf, columnsOf, fitted, fitting_of}
-use Rattle.element_fits.specs.Answers.{off, larger, misfit, raised, misfitsOf, unless, close, missed, firstMissed, ofMissed, ofChecked, judged}
+use Rattle.element_fits.specs.Answers.{off, larger, misfit, raised, misfits_of, unless, close, missed, first_missed, of_missed, of_checked, judged}
 use Rattle.element_fits.specs.Numbers.{rows_of, hourly_of, radii_of, tolerance_ranges, given_ranges, of_rows, given_checked, admitted, fits_asked, in_rooms, of_admitted, answer_to}
 use Rattle.element_fits.specs.laws.Conditions.{AllClose, Acceptable, Within, TurnsApart, WithinTurns, AtHours}
 use Rattle.element_fits.specs.laws.AnswersLaws.{nothing_found, judged-made}
@@ -160,8 +160,8 @@ missed_nothing c v n k e h =
     let s5 = unless_nothing _ s4 (off_close c (pos 2) v.v5 n (omega (arith, d.v5))) in
     unless_nothing _ s5 (off_close c (pos 3) v.v6 n (omega (arith, d.v6)))
 
-all_close : (c : Columns) (n : ℕ) → firstMissed c n ≡ InRange → AllClose c n
-unfolding firstMissed
+all_close : (c : Columns) (n : ℕ) → first_missed c n ≡ InRange → AllClose c n
+unfolding first_missed
 all_close c n e =
     let s5 = nothing_missed _ (raised (quadratic c.mu)) c.mu n 50 e in
     let s4 = nothing_missed _ (raised (quadratic c.l2)) c.l2 n 40 s5.0 in
@@ -171,8 +171,8 @@ all_close c n e =
     let s0 = nothing_missed InRange (cubic c.x) c.x n 0 s1.0 in
     record { x = s0.1; y = s1.1; d = s2.1; l1 = s3.1; l2 = s4.1; mu = s5.1 }
 
-none_missed : (c : Columns) (n : ℕ) → AllClose c n → firstMissed c n ≡ InRange
-unfolding firstMissed
+none_missed : (c : Columns) (n : ℕ) → AllClose c n → first_missed c n ≡ InRange
+unfolding first_missed
 none_missed c n h =
     let s0 = missed_nothing (cubic c.x) c.x n 0 refl h.x in
     let s1 = missed_nothing (cubic c.y) c.y n 10 s0 h.y in
@@ -183,12 +183,12 @@ none_missed c n h =
 
 -- ---- which decides
 
-missed_made : (f : Fitting) (r : Fits) (l : Limits) → ofMissed f l ≡ Made r
-    → (l ≡ InRange) × (r ≡ record { elements = f.elements; misfits = misfitsOf f.columns })
+missed_made : (f : Fitting) (r : Fits) (l : Limits) → of_missed f l ≡ Made r
+    → (l ≡ InRange) × (r ≡ record { elements = f.elements; misfits = misfits_of f.columns })
 missed_made f r InRange h = (refl, cc)
 missed_made f r (OutOfRange i) h = let z : ◌≡◌ {A = ℕ} 0 1 = cc in absurd (omega arith)
 
-checked_made : (f : Fitting) (r : Fits) (l : Limits) (k : Checked) → ofChecked f l k ≡ Made r → (k ≡ C.Within) × (ofMissed f l ≡ Made r)
+checked_made : (f : Fitting) (r : Fits) (l : Limits) (k : Checked) → of_checked f l k ≡ Made r → (k ≡ C.Within) × (of_missed f l ≡ Made r)
 checked_made f r l C.Within h = (refl, h)
 checked_made f r l (C.Refused q) h = let z : ◌≡◌ {A = ℕ} 0 1 = cc in absurd (omega arith)
 
@@ -239,8 +239,8 @@ module _ (n g k : List ℤ) (tolerance : ℤ) (sines : List ℕ) (room second : 
       let s = both-within (of_limits 18 (first_out_of_range 0 (tolerance_ranges tolerance))) _ c in
       let r = both-within (of_limits 21 (first_out_of_range 0 (given_ranges g k))) _ s.1 in
       let j = rooms_made room second f (fits_asked n g k tolerance) a.1 in
-      let m = checked_made fit f (firstMissed fit.columns (nat_abs tolerance)) (elements_checked fit.elements) j in
-      let w = missed_made fit f (firstMissed fit.columns (nat_abs tolerance)) m.1 in
+      let m = checked_made fit f (first_missed fit.columns (nat_abs tolerance)) (elements_checked fit.elements) j in
+      let w = missed_made fit f (first_missed fit.columns (nat_abs tolerance)) m.1 in
       let o = rooms-fit room second f (fits_asked n g k tolerance) a.1 in
       record {
         rows = t.rows;
@@ -384,9 +384,9 @@ module _ (n g k : List ℤ) where
         v6 = turned q middle 6 (pos 3) t.v6 hours.h6.ascension _ refl (up d.v6);
       }
 
-  pub at-hours : (f : Fits) → f ≡ record { elements = (fitting_of (radii_of k) (rows_of n) (hourly_of g)).elements; misfits = misfitsOf (fitting_of (radii_of k) (rows_of n) (hourly_of g)).columns }
+  pub at-hours : (f : Fits) → f ≡ record { elements = (fitting_of (radii_of k) (rows_of n) (hourly_of g)).elements; misfits = misfits_of (fitting_of (radii_of k) (rows_of n) (hourly_of g)).columns }
       → AtHours n g k f
-  unfolding fitting_of fitted columnsOf misfitsOf
+  unfolding fitting_of fitted columnsOf misfits_of
   at-hours f e =
       subst (AtHours n g k) (sym e)
       (record {

@@ -10,7 +10,7 @@ use Rattle.decimal_text.specs.Texts.{capped, Put}
 use Rattle.decimal_text.specs.laws.TextLaws.{Capped, low, high, is-capped}
 use Rattle.listings.specs.declared.Text.{Text}
 use Rattle.listings.specs.declared.Text.TheVariants as T
-use Rattle.listings.specs.Answers.{Told, text, withheld, answered, roomWith}
+use Rattle.listings.specs.Answers.{Told, text, withheld, answered, room_with}
 
 -- measured: the length, as far as 64 bits go
 module _ (t none after old : List ℕ) (need : ℕ) (m : Put none 0 t after need) (h : length old < 18446744073709551615) where
@@ -31,13 +31,13 @@ module _ (t none after old : List ℕ) (need : ℕ) (m : Put none 0 t after need
       by (low l e) = need-is ∙ e
       by (high l e) = absurd (omega (arith, need-is))
 
-  pub text-short : length old < need → (T.Refused (refusal 4 need) ≡ answered (length old) (text t)) × (old ≡ roomWith (text t) old)
-  unfolding answered roomWith
+  pub text-short : length old < need → (T.Refused (refusal 4 need) ≡ answered (length old) (text t)) × (old ≡ room_with (text t) old)
+  unfolding answered room_with
   text-short g = rw (lt-leb (length t) (length old) (is-longer g)) (ap (λ k. T.Refused (refusal 4 k)) need-is, refl)
 
   pub text-full : need ≤ length old → (new : List ℕ) (r : ℕ) → Put old 0 t new r
-      → (T.Written need ≡ answered (length old) (text t)) × (new ≡ roomWith (text t) old)
-  unfolding answered roomWith
+      → (T.Written need ≡ answered (length old) (text t)) × (new ≡ room_with (text t) old)
+  unfolding answered room_with
   text-full g new r p =
       let l : need ≡ length t = is-length g in
       let s : sets old 0 t ≡ t ++ drop (length t) old = sets-eq t old 0 (omega arith) ∙ rw zero-add in

@@ -31,7 +31,7 @@ use Rattle.listings.specs.declared.sky.View.{View}
 use Rattle.listings.specs.declared.sky.View.TheVariants as Seen
 use Rattle.listings.specs.Sky.{altitude_for, view_after, view_of, notes_for}
 use Rattle.listings.specs.laws.SkyLaws.{view_nil, view_cons}
-use Rattle.listings.specs.Answers.{text, answered, roomWith}
+use Rattle.listings.specs.Answers.{text, answered, room_with}
 use Rattle.listings.specs.laws.AnswerLaws.{text-short, text-full}
 use Rattle.listings.specs.Listings.{listing_of, timed_of, told, timed, printed}
 
@@ -132,19 +132,19 @@ plain : (es : List Entry) (old : List ℕ) (at : ℕ) (new : List ℕ) (r : ℕ)
 plain es old at new r p = put_as _ _ old at new r (lines-off (pos 0) (altitude_for Sky.Nothing) (λ e. refl) es) p
 
 module _ (w : Sheet) (none after old : List ℕ) (need : ℕ) (n : View) (m : Laid R.Nothing (pos 0) Sky.Nothing w none 0 after need n) (h : length old < 18446744073709551615) where
-  pub sheet-short : length old < need → (T.Refused (refusal 4 need) ≡ answered (length old) (listing_of w)) × (old ≡ roomWith (listing_of w) old)
+  pub sheet-short : length old < need → (T.Refused (refusal 4 need) ≡ answered (length old) (listing_of w)) × (old ≡ room_with (listing_of w) old)
   sheet-short g = by w m
     where
-      by : (v : Sheet) → Laid R.Nothing (pos 0) Sky.Nothing v none 0 after need n → (T.Refused (refusal 4 need) ≡ answered (length old) (listing_of v)) × (old ≡ roomWith (listing_of v) old)
+      by : (v : Sheet) → Laid R.Nothing (pos 0) Sky.Nothing v none 0 after need n → (T.Refused (refusal 4 need) ≡ answered (length old) (listing_of v)) × (old ≡ room_with (listing_of v) old)
       by (refused r) q = absurd q
       by (sheet es size) q = text-short (lines_of es) none after old need (plain es none 0 after need q.0) h g
 
   pub sheet-full : need ≤ length old → (new : List ℕ) (r : ℕ) (p : View) → Laid R.Nothing (pos 0) Sky.Nothing w old 0 new r p
-      → (T.Written need ≡ answered (length old) (listing_of w)) × (new ≡ roomWith (listing_of w) old)
+      → (T.Written need ≡ answered (length old) (listing_of w)) × (new ≡ room_with (listing_of w) old)
   sheet-full g new r p d = by w m d
     where
       by : (v : Sheet) → Laid R.Nothing (pos 0) Sky.Nothing v none 0 after need n → Laid R.Nothing (pos 0) Sky.Nothing v old 0 new r p
-          → (T.Written need ≡ answered (length old) (listing_of v)) × (new ≡ roomWith (listing_of v) old)
+          → (T.Written need ≡ answered (length old) (listing_of v)) × (new ≡ room_with (listing_of v) old)
       by (refused x) q d = absurd q
       by (sheet es size) q d = text-full (lines_of es) none after old need (plain es none 0 after need q.0) h g new r (plain es old 0 new r d.0)
 
@@ -154,13 +154,13 @@ pub whole_sheet : (s : List ℕ) (m n : ℕ) → X.Sheet m n ≡ extent_of (read
 whole_sheet s m n q = let x = extent_inv (read_whole s) m n q in rw (← whole_same s m n q) (rw x.1 tt)
 
 pub whole_refused : (s : List ℕ) (r : Refusal) (old : List ℕ) → X.Refused r ≡ extent_of (read_whole s)
-    → (T.Refused r ≡ answered (length old) (told s)) × (old ≡ roomWith (told s) old)
-unfolding told answered roomWith
+    → (T.Refused r ≡ answered (length old) (told s)) × (old ≡ room_with (told s) old)
+unfolding told answered room_with
 whole_refused s r old q = rw (extent_refused (read_whole s) r q) (refl, refl)
 
 pub whole-told : (s : List ℕ) (m n : ℕ) (old new : List ℕ) (r : Text) → X.Sheet m n ≡ extent_of (read_whole s)
-    → r ≡ answered (length old) (listing_of (read_sheet s)) → new ≡ roomWith (listing_of (read_sheet s)) old
-    → (r ≡ answered (length old) (told s)) × (new ≡ roomWith (told s) old)
+    → r ≡ answered (length old) (listing_of (read_sheet s)) → new ≡ room_with (listing_of (read_sheet s)) old
+    → (r ≡ answered (length old) (told s)) × (new ≡ room_with (told s) old)
 unfolding told
 whole-told s m n old new r q a b = rw (whole_same s m n q) (a, b)
 

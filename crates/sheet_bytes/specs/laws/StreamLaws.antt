@@ -13,7 +13,7 @@ use Rattle.listing_lines.specs.Lines.{refusal_text, refusal_line}
 use Rattle.program_io.specs.Inputs.{Read}
 use Rattle.program_io.specs.Outputs.{Sent, to_output, to_error}
 use Rattle.program_io.specs.laws.OutputLaws.{put_whole}
-use Rattle.answers.specs.Answers.{error_by, errorLine}
+use Rattle.answers.specs.Answers.{error_by, error_line}
 use Rattle.answers.specs.laws.Reads.{stored-read}
 use Rattle.sheet_bytes.specs.Streams.{output, error}
 
@@ -42,15 +42,15 @@ module _ (array sines room left : List ℕ) (n : ℕ) (a : Answer) (t : Copies 0
   unfolding sheet_stored
   stored-by = rw (is, by-rule)
 
-  error-by : error_by a ≡ errorLine (take n array) sines room
-  unfolding errorLine
+  error-by : error_by a ≡ error_line (take n array) sines room
+  unfolding error_line
   error-by = rw is
 
   output-is : (input : List ℕ) → sheet_stored input sines room ≡ output input
   unfolding output
   output-is input = rw (t.is, b.is)
 
-  line-is : (input : List ℕ) → errorLine input sines room ≡ error input
+  line-is : (input : List ℕ) → error_line input sines room ≡ error input
   unfolding error
   line-is input = rw (t.is, b.is)
 

@@ -11,11 +11,11 @@ use Rattle.program_io.proofs.laws.InputLaws.{read_same}
 use Rattle.program_io.specs.laws.OutputLaws.{put-cut}
 use Rattle.request_text.specs.Meaning.{refused, meaning_of, error_of}
 use Rattle.request_text.specs.laws.RoomLaws.{Bytes, Message}
-use Rattle.answers.specs.Answers.{timed_text, starTimedText}
+use Rattle.answers.specs.Answers.{timed_text, star_timed_text}
 use Rattle.times.specs.Printed.{text_by, answer_text, output_of}
 
 module _ (k : Reference) (request sines room : List ℕ) {old new : List ℕ} {r : ℕ} where
-  pub star-put : length request ≡ 79 → Put old 0 (starTimedText k request sines room) new r → Put old 0 (text_by k request sines room) new r
+  pub star-put : length request ≡ 79 → Put old 0 (star_timed_text k request sines room) new r → Put old 0 (text_by k request sines room) new r
   unfolding text_by
   star-put e p = rw (eq-eqb (length request) 79 e) p
 

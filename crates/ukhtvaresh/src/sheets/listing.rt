@@ -1,6 +1,6 @@
 // The listing of a sheet, for C and Rust.
 ghost use Rattle.std.specs.Prelude.{◌≡◌};
-ghost use Rattle.listings.specs.Answers.{roomWith};
+ghost use Rattle.listings.specs.Answers.{room_with};
 ghost use Rattle.listings.specs.Listings.{told};
 ghost use Rattle.ukhtvaresh.specs.Listing.{listing_given, listing_reply};
 
@@ -9,7 +9,7 @@ ghost use Rattle.ukhtvaresh.specs.Listing.{listing_given, listing_reply};
 pub extern "C" fn ukhtvaresh_listing(sheet: &[u8], text: &mut [u8], value: &mut u64) -> u64
     ensures number { result ≡ (listing_reply (listing_given sheet.now text.old)).number }
     ensures value { value.new ≡ (listing_reply (listing_given sheet.now text.old)).value }
-    ensures room { text.new ≡ roomWith (told sheet.now) text.old }
+    ensures room { text.new ≡ room_with (told sheet.now) text.old }
 {
     let answer = listings::listing(sheet, text);
     let reply = crate::replies::listing_reply(answer);

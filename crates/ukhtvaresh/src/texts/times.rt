@@ -1,6 +1,6 @@
 // The listing of a request with clock times, for C and Rust.
 ghost use Rattle.std.specs.Prelude.{◌≡◌};
-ghost use Rattle.listings.specs.Answers.{roomWith};
+ghost use Rattle.listings.specs.Answers.{room_with};
 ghost use Rattle.answers.specs.Timed.{instant_given, told_for, sheet_for, table_for};
 ghost use Rattle.ukhtvaresh.specs.Listing.{listing_reply};
 ghost use Rattle.ukhtvaresh.specs.Times.{times_given};
@@ -19,7 +19,7 @@ pub extern "C" fn ukhtvaresh_times(
 ) -> u64
     ensures number { result ≡ (listing_reply (times_given request.now instant.now sines.old sheet.old text.old)).number }
     ensures value { value.new ≡ (listing_reply (times_given request.now instant.now sines.old sheet.old text.old)).value }
-    ensures text { text.new ≡ roomWith (told_for (instant_given instant.now) request.now sines.old sheet.old) text.old }
+    ensures text { text.new ≡ room_with (told_for (instant_given instant.now) request.now sines.old sheet.old) text.old }
     ensures sheet { sheet.new ≡ sheet_for (instant_given instant.now) request.now sines.old sheet.old }
     ensures sines { sines.new ≡ table_for (instant_given instant.now) request.now sines.old }
 {
