@@ -6,13 +6,14 @@
 
 An edit's pairs of `old:` and `new:` are one line each and apply in turn. Of an edit that was refused `rt must-fail`
 prints the place of the first error. It is at a promise if it is in `returns`, a goal of a function's proof, and at a
-law if it is in a file under specs/. Exit status 1 if an edit does not fit or was refused elsewhere.
+law if it is in a file under specs/, or in one of proofs/ that is no function's. Exit status 1 if an edit does not fit or was refused elsewhere.
 """
 import re
 import sys
 from pathlib import Path
 
 ROOT = Path(__file__).resolve().parent.parent
+FUNCTION_FILES = ('Proof.antt', 'Invariants.antt', 'Answers.antt')
 SAID = re.compile(r'^(?:rt: )?must-fail (\w+/\w+)\.edit: refused, as it must be(.*)')
 ERROR = re.compile(r'(?:note: )?(?:\./)?((?:proofs|specs|src)/\S*?):\d+:\d+: (?:error: )?(?:`([^`]*)`)?')
 # a goal of a function that needs no proof file
@@ -50,7 +51,8 @@ def refused_at(words):
     if not error:
         return 'elsewhere', '', words.strip(' :') or 'no place was printed'
     file, name = error[1], error[2] or ''
-    return 'law' if file.startswith('specs/') else of_goal(name), file, name
+    is_law = file.startswith('specs/') or file.startswith('proofs/') and file.rsplit('/', 1)[-1] not in FUNCTION_FILES
+    return 'law' if is_law else of_goal(name), file, name
 
 
 def of_goal(name):
