@@ -6,7 +6,8 @@
 
 An edit's pairs of `old:` and `new:` are one line each and apply in turn. Of an edit that was refused `rt must-fail`
 prints the place of the first error. It is at a promise if it is in `returns`, a goal of a function's proof, and at a
-law if it is in a file under specs/, or in one of proofs/ that is no function's. Exit status 1 if an edit does not fit or was refused elsewhere.
+law if it is in a file under specs/, or in one of proofs/ that is no function's. Exit status 1 if an edit does not fit
+or was refused elsewhere.
 """
 import re
 import sys
@@ -73,7 +74,8 @@ def main():
         if found:
             place, file, name = refused_at(found[2])
             count[place] += 1
-            print('%s: refused %s: `%s` of %s' % (found[1], place if place == 'elsewhere' else 'at a ' + place, name, file))
+            where = place if place == 'elsewhere' else 'at a ' + place
+            print('%s: refused %s: `%s` of %s' % (found[1], where, name, file))
     print('%d edits do not fit; refused at a promise %d, at a law %d, elsewhere %d' %
           (misfits, count['promise'], count['law'], count['elsewhere']))
     return 1 if misfits or count['elsewhere'] else 0
