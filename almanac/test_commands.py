@@ -21,7 +21,7 @@ REQUEST = PROGRAMS / "request"
 TIMES = PROGRAMS / "times"
 DALLAS = ("2024-04-08", "32.7767", "-96.7970", "131", "--title", "Dallas")
 needs_swetest = unittest.skipUnless(shutil.which("swetest"), "Debian's package swetest is not installed")
-needs_programs = unittest.skipUnless(TIMES.exists() and REQUEST.exists(), "rt check request times")
+needs_programs = unittest.skipUnless(TIMES.exists() and REQUEST.exists(), "tools/build request times")
 
 
 def run(command, *words, path=None, lib=None):

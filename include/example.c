@@ -1,5 +1,5 @@
 /* Prints the listing of a request's contact sheet.
- * At the repository's top, after `rt staticlib ukhtvaresh`:
+ * At the repository's top, after `tools/build library`:
  *
  *   cc -std=c99 -Wall -Wextra -Iinclude include/example.c target/staticlib/libukhtvaresh.a -o target/example
  *   target/example < examples/moscow1954.bin

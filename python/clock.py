@@ -8,7 +8,7 @@ known. `Instant.read` takes the typed form of an instant, `instant_in` finds bot
     python3 python/clock.py "2017-08-21 18:00:00 ET" < examples/hopkinsville2017.txt
 
 print that listing for a typed request with a line `instant ..`, or with the instant as an argument. They need the
-program `request` (`rt check request`) and the shared library (`rt staticlib ukhtvaresh && python/build`).
+program `request` (`tools/build request`) and the shared library (`tools/build library && python/build`).
 """
 
 import operator

@@ -33,6 +33,6 @@ fn main() {
 
 fn missing(archive: &Path) -> ! {
     eprintln!("There is no {}.", archive.display());
-    eprintln!("Run `rt staticlib ukhtvaresh` at the repository's top, or name its folder in UKHTVARESH_LIB.");
+    eprintln!("Run `tools/build library` at the repository's top, or name its folder in UKHTVARESH_LIB.");
     exit(1)
 }

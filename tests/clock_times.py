@@ -3,7 +3,7 @@
 
     python3 tests/clock_times.py [QUESTIONS] [SEED]         wants node; the library's listings too, if it is built
     python3 tests/clock_times.py program [TEXTS] [SEED]     the program `times` compared with tests/reference and python/clock.py
-                                                            (`rt check times`; cargo built tests/reference)
+                                                            (`tools/build times`; cargo built tests/reference)
 """
 
 import json

@@ -1,7 +1,7 @@
 #!/usr/bin/env python3
 """Contacts to the hundredth of a second, compared with the true ones: tests/contacts.py [SEED [PLACES [BRACKETS]]]
 
-Needs the library for Python (rt staticlib ukhtvaresh && python/build). Each bracket comes from the compiled library. The
+Needs the library for Python (tools/build library && python/build). Each bracket comes from the compiled library. The
 true shadow is computed with 50 digits from Bessel's formulas, with sines by their series; nothing of it is shared with
 the crates, the proofs or tests/reference.
 

@@ -1,7 +1,7 @@
 #!/usr/bin/env python3
 """The covered share against the area of two overlapping discs, by the closed formula in doubles, over whole eclipses.
 
-    rt staticlib ukhtvaresh && python/build
+    tools/build library && python/build
     python3 tests/discs.py
 
 Takes the elements of examples/*.bin, total eclipses, at each one's station and at others, every second from -10,800

@@ -2,7 +2,7 @@
 """The year file mended, by the words of document 02, wish 11, over the reader of stored_sheets.py.
 
     python3 tests/mend.py FOLDER                         makes FOLDER/stdin and stdout, those of crates/mend
-    rt check mend && python3 tests/mend.py [FILES] [SEED]   compares the program with it, standard error too
+    tools/build mend && python3 tests/mend.py [FILES] [SEED]   compares the program with it, standard error too
 """
 
 import random

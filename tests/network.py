@@ -2,7 +2,7 @@
 """Reads a typed list of stations, for the program `network`, a second way; the answers are those of tests/reference.
 
     python3 tests/network.py units < TEXT        whole units: a line of 25 for the eclipse, then a line of six a station
-    rt check network && python3 tests/network.py [TEXTS] [SEED]    compares the program with it
+    tools/build network && python3 tests/network.py [TEXTS] [SEED]    compares the program with it
 
 The second needs `cargo build --offline --release` in tests/reference.
 

@@ -7,7 +7,7 @@ same day, whose first contact lies before the window that the example of 2017 on
 its catalogue. What the program prints is compared with tests/reference and python/clock.py to the byte, and then with
 what it must say.
 
-It needs the program (`rt check times`), the library for the almanac (`rt staticlib ukhtvaresh && python/build`), and
+It needs the program (`tools/build times`), the library for the almanac (`tools/build library && python/build`), and
 cargo, which builds tests/reference.
 """
 

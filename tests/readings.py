@@ -3,7 +3,7 @@
 
 tests/vectors.py puts 1,503 of them into the input and the expected output of the program `rule_vectors`.
 
-    rt check rule_vectors && python3 tests/readings.py [DOUBLES] [SEED]     compares the program with it on others
+    tools/build rule_vectors && python3 tests/readings.py [DOUBLES] [SEED]     compares the program with it on others
 """
 
 import math

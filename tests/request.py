@@ -1,7 +1,7 @@
 #!/usr/bin/env python3
 """Compares the program `request` with a reading of typed requests that shares no code with it.
 
-    rt check request && python3 tests/request.py [TEXTS] [SEED]
+    tools/build request && python3 tests/request.py [TEXTS] [SEED]
 """
 
 import datetime

@@ -3,7 +3,7 @@
 ends itself.
 
     python3 tests/stream.py FOLDER                          makes FOLDER/stdin and stdout, those of crates/stream
-    rt check stream && python3 tests/stream.py [STREAMS] [SEED]   compares the program with it, standard error too
+    tools/build stream && python3 tests/stream.py [STREAMS] [SEED]   compares the program with it, standard error too
 
 Both need `cargo build --offline --release` in tests/reference. With programs `sheet_bytes` and `star_sheet` built,
 each fiftieth stream is also answered by them, request by request.

@@ -2,7 +2,7 @@
 """Typed texts, valid and damaged, through the exports `typed` and `times`: byte for byte what the programs `request`
 and `times` write, and for `typed` what the reading of tests/request.py gives, which shares no code with the library.
 
-    rt check request times && rt staticlib ukhtvaresh && python/build && python3 tests/texts.py [TEXTS] [SEED]
+    tools/build library request times && python/build && python3 tests/texts.py [TEXTS] [SEED]
 """
 
 import ctypes

@@ -1,23 +1,24 @@
 #!/usr/bin/env python3
 """Checks must-fail edits: whether each still fits its file, and where the checker refused it.
 
-    check_edits.py [--check]      prints each edit whose `old:` text is not in the file that it names, and, of the edits
-                                  under crates/ that were tried, each that was refused elsewhere than at a promise or law
-    check_edits.py --logs [DIR]   prints where each of these was refused, in the tree DIR, by default this one
+    check_edits.py [--check]     prints each edit with an `old:` text that does not stand in its file once
+    check_edits.py --said FILE   also prints where each edit was refused, from what `rt must-fail` printed into FILE
 
-`rt must-fail` leaves a log for each edit, target/must-fail/CRATE/LABEL/.log. The first error counts; errors that only
-say that something else was not admitted do not. It is at a promise if it is in `returns`, a need of a function's proof,
-and at a law if it is in a file under specs/. A log that is older than its edit is passed over.
-Exit status 1 if an edit does not fit or was refused elsewhere.
+An edit's pairs of `old:` and `new:` are one line each and apply in turn. Of an edit that was refused `rt must-fail`
+prints the place of the first error. It is at a promise if it is in `returns`, a goal of a function's proof, and at a
+law if it is in a file under specs/, or in one of proofs/ that is no function's. Exit status 1 if an edit does not fit
+or was refused elsewhere.
 """
 import re
 import sys
 from pathlib import Path
 
 ROOT = Path(__file__).resolve().parent.parent
-ERROR = re.compile(r'^\S*?/((?:proofs|specs|src)/\S*?):\d+:\d+: error: (?:`([^`]*)`: )?(.*)')
-# a function that needs no proof file
-UNPROVED = re.compile(r'^fn (\S+): no proof: .*`search` does not close `([^`]*)`')
+FUNCTION_FILES = ('Proof.antt', 'Invariants.antt', 'Answers.antt')
+SAID = re.compile(r'^(?:rt: )?must-fail (\w+/\w+)\.edit: refused, as it must be(.*)')
+ERROR = re.compile(r'(?:note: )?(?:\./)?((?:proofs|specs|src)/\S*?):\d+:\d+: (?:error: )?(?:`([^`]*)`)?')
+# a goal of a function that needs no proof file
+OPEN = re.compile(r'()`([^`]*)` of \S*proofs/')
 
 
 def edits():
@@ -26,63 +27,55 @@ def edits():
 
 
 def faults(path, crate):
-    file, old = None, []
-    for line in path.read_text().splitlines() + ['end:']:
-        if line.startswith('old:'):
-            old.append(line[5:] if line.startswith('old: ') else '')
-            continue
-        if old:
+    texts, file, old = {}, None, None
+    for line in path.read_text().splitlines():
+        if line.startswith('file:'):
+            file, old = line[5:].strip(), None
             target = ROOT / 'crates' / crate / file
             if not target.is_file():
                 yield 'no file %s' % target.relative_to(ROOT)
-            elif '\n'.join(old) not in target.read_text():
-                yield 'not in %s: %s' % (target.relative_to(ROOT), old[0])
-            old = []
-        if line.startswith('file:'):
-            file = line[5:].strip()
+                return
+            texts.setdefault(file, target.read_text())
+        elif line.startswith('old:'):
+            old = line[4:].removeprefix(' ')
+            count = texts[file].count(old) if file and old else 0
+            if count != 1:
+                yield '%d times, not once, in crates/%s/%s: %s' % (count, crate, file, old)
+        elif line.startswith('new:') and file and old is not None:
+            texts[file] = texts[file].replace(old, line[4:].removeprefix(' '))
+            old = None
 
 
-def refused_at(log):
+def refused_at(words):
     """Where the first error is: ('promise' | 'law' | 'elsewhere', file, name)."""
-    unproved = None
-    for line in log.read_text(errors='replace').splitlines():
-        unproved = unproved or UNPROVED.match(line)
-        error = ERROR.match(line)
-        if not error or 'was not admitted' in error[3]:
-            continue
-        file, name = error[1], error[2] or ''
-        return 'law' if file.startswith('specs/') else of_need(name), file, name
-    if unproved:
-        return of_need(unproved[2]), unproved[1], unproved[2]
-    return 'elsewhere', str(log), 'no error of a proof'
+    error = ERROR.search(words) or OPEN.search(words)
+    if not error:
+        return 'elsewhere', '', words.strip(' :') or 'no place was printed'
+    file, name = error[1], error[2] or ''
+    is_law = file.startswith('specs/') or file.startswith('proofs/') and file.rsplit('/', 1)[-1] not in FUNCTION_FILES
+    return 'law' if is_law else of_goal(name), file, name
 
 
-def of_need(name):
-    return 'promise' if re.fullmatch(r'(.*-)?returns(-\d+)?', name) else 'elsewhere'
-
-
-def refusals(tree):
-    for path in sorted(tree.glob('crates/*/must-fail/*.edit')):
-        label = '%s/%s' % (path.parts[-3], path.stem)
-        log = tree / 'target' / 'must-fail' / label / '.log'
-        if log.is_file() and log.stat().st_mtime >= path.stat().st_mtime:
-            yield label, *refused_at(log)
+def of_goal(name):
+    return 'promise' if re.fullmatch(r'(.*-)?returns(-.*)?', name) else 'elsewhere'
 
 
 def main():
     arguments = sys.argv[1:]
-    listing = arguments[:1] == ['--logs']
-    tree = Path(arguments[1]).resolve() if listing and len(arguments) > 1 else ROOT
+    said = Path(arguments[1]).read_text(errors='replace') if arguments[:1] == ['--said'] else ''
     misfits = 0
     for path, crate in edits():
         for fault in faults(path, crate):
             misfits += 1
             print('%s: %s' % (path.relative_to(ROOT), fault))
     count = {'promise': 0, 'law': 0, 'elsewhere': 0}
-    for label, place, file, name in refusals(tree):
-        count[place] += 1
-        if listing or place == 'elsewhere':
-            print('%s: refused %s: `%s` of %s' % (label, place if place == 'elsewhere' else 'at a ' + place, name, file))
+    for line in said.splitlines():
+        found = SAID.match(line)
+        if found:
+            place, file, name = refused_at(found[2])
+            count[place] += 1
+            where = place if place == 'elsewhere' else 'at a ' + place
+            print('%s: refused %s: `%s` of %s' % (found[1], where, name, file))
     print('%d edits do not fit; refused at a promise %d, at a law %d, elsewhere %d' %
           (misfits, count['promise'], count['law'], count['elsewhere']))
     return 1 if misfits or count['elsewhere'] else 0

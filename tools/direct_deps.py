@@ -2,8 +2,9 @@
 """Rewrites crates.txt so that each crate lists the crates that its own files name, and no others.
 
 A crate names another in src/ (`other::f`, `use other::T`) and in src/, specs/ and proofs/
-(`Rattle·other.`), and in the lines that its must-fail edits, here and under tests/edits, put in.
-Comments do not count. Of the kit's libraries (std is given to all) those named in src/ are listed.
+(`Rattle.other.`), and in the lines that its must-fail edits, here and under tests/edits, put in.
+Comments do not count. Of the kit's libraries (std is given to all) those named in src/ are listed; known
+are those that a line of crates.txt lists already, and KIT.
 
 Beside these the kit needs the crate that declares the type of a field which src/ takes (`q.window`), of
 what a pattern binds (`Fault::Typed(wrong)`), and every type inside a value which src/ makes (`Entry {
@@ -22,18 +23,25 @@ import argparse
 import re
 from pathlib import Path
 
-KIT = ('check', 'io', 'libc', 'os')
+from reach import imported
+
+KIT = ('anyhow', 'check', 'thiserror')
 
 
 def read_list(path):
-    """{crate: listed dependencies}, in the order of the file."""
+    """{crate: listed dependencies}, in the order of the file. Other words before the colon, as `staticlib`, stay."""
     listed = {}
     for line in path.read_text().splitlines():
         line = line.split('#')[0]
         if ':' in line:
             name, deps = line.split(':')
-            listed[name.strip()] = deps.split()
+            listed[name.split()[0]] = deps.split()
     return listed
+
+
+def kit_of(listed):
+    """The libraries of the kit: those that are listed and are no crates here, and KIT."""
+    return sorted({d for deps in listed.values() for d in deps if d not in listed} | set(KIT))
 
 
 def code(path):
@@ -46,7 +54,7 @@ def code(path):
     return re.sub(r'(?m)(^|(?<=\s))--(?=\s|$).*$', '', text)
 
 
-def named(root, crate, crates):
+def named(root, crate, crates, kit):
     """The crates and libraries of the kit that a crate's files name."""
     folder = root / 'crates' / crate
     files = [p for part in ('src', 'specs', 'proofs', 'must-fail') for p in folder.glob(part + '/**/*')]
@@ -56,11 +64,11 @@ def named(root, crate, crates):
         if path.suffix not in ('.rt', '.antt', '.edit'):
             continue
         text = code(path)
-        names |= set(re.findall(r'Rattle·(\w+?)(?=[·.])', text))
+        names |= set(re.findall(r'Rattle\.(\w+)(?=\.)', text))
         if path.suffix != '.antt':
             modules = set(re.findall(r'(?m)^\s*(?:pub )?mod (\w+);', text))
             names |= set(re.findall(r'(?<![\w:])([a-z_][a-z0-9_]*)::', text)) - modules
-    return {n for n in names if n in crates or n in KIT} - {crate}
+    return {n for n in names if n in crates or n in kit} - {crate}
 
 
 class Types:
@@ -74,7 +82,7 @@ class Types:
                 self.read(crate, code(path))
 
     def read(self, crate, text):
-        used = {name: other for other, name in re.findall(r'(?m)^\s*(?:pub )?use (\w+)::(?:\w+::)*(\w+);', text)}
+        used = {parts[-1]: parts[0] for parts in imported(text) if len(parts) > 1}
         path = r'(?:\b([a-z]\w*)::(?:[a-z]\w*::)*)?\b([A-Z]\w*)'
 
         def of(other, name):
@@ -147,15 +155,15 @@ def main():
     missing = [p.name for p in (root / 'crates').iterdir() if p.is_dir() and p.name not in listed]
     if missing:
         raise SystemExit('crates.txt does not list ' + ' '.join(sorted(missing)))
-    types = Types(root, listed)
-    found = {crate: named(root, crate, listed) for crate in listed}
+    types, kit = Types(root, listed), kit_of(listed)
+    found = {crate: named(root, crate, listed, kit) for crate in listed}
     only_types = sum(len(types.needed(crate) - found[crate]) for crate in listed)
     found = {crate: found[crate] | types.needed(crate) for crate in listed}
     level = levels_of(found)
-    place = {crate: i for i, crate in enumerate([*listed, *KIT])}
+    place = {crate: i for i, crate in enumerate([*listed, *kit])}
     deps = {crate: sorted(found[crate], key=place.get) for crate in listed}
     wrong = [c for c in listed if listed[c] != deps[c]]
-    early = [(c, d) for c in listed for d in deps[c] if d not in KIT and place[d] > place[c]]
+    early = [(c, d) for c in listed for d in deps[c] if d not in kit and place[d] > place[c]]
     for c, d in early:
         print('%s uses %s, which crates.txt lists later' % (c, d))
     if args.diff or args.check:
@@ -164,8 +172,8 @@ def main():
             print(' '.join([c + ':'] + ['-' + d for d in sorted(gone)] + ['+' + d for d in sorted(come)]))
     if args.write:
         lines = (root / 'crates.txt').read_text().splitlines()
-        names = [line.split(':')[0].strip() if ':' in line.split('#')[0] else '' for line in lines]
-        lines = [' '.join([name + ':'] + deps[name]) if name else line for name, line in zip(names, lines)]
+        heads = [line.split(':')[0].strip() if ':' in line.split('#')[0] else '' for line in lines]
+        lines = [' '.join([head + ':'] + deps[head.split()[0]]) if head else line for head, line in zip(heads, lines)]
         (root / 'crates.txt').write_text('\n'.join(lines) + '\n')
     print('%d crates in %d levels; dependencies listed %d, needed %d (%d for a type alone); lines to change %d' % (
         len(deps), max(level.values()) + 1, sum(map(len, listed.values())), sum(map(len, deps.values())), only_types,

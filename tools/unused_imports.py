@@ -5,20 +5,20 @@
     unused_imports.py --write    remove them, and lines that import nothing more
     unused_imports.py --check    exit status 1 if there is one
 
-An operator such as `_+_` is used where one of its parts stands. A module named by `as` counts as used. A name in a
+An operator such as `◌+◌` is used where one of its parts stands. A module named by `as` counts as used. A name in a
 `ruleset` counts as used by whoever imports the ruleset. Only lines of the form `use PATH.{a, b}` are looked at."""
 import argparse
 import re
 from pathlib import Path
 
 LINE = re.compile(r'^(\s*(?:ghost )?use )([^\s{]+)\.\{(.*)\}(;?)$')
-WORD = re.compile(r"[^\s(){}.,;\"⌜⌝]+")
+WORD = re.compile(r"[^\s(){}.,;\"]+")
 
 
 def used(name, words, text):
     name = name.split(' as ')[-1].strip()
-    if '_' in name:
-        return any(part in words or part in text for part in name.split('_') if part)
+    if '◌' in name:
+        return any(part in words or part in text for part in name.split('◌') if part)
     return name in words
 
 

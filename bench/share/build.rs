@@ -1,5 +1,5 @@
 fn main() {
-    // target/staticlib of the Rattle repository, made by `rt staticlib share_speed`
+    // where bench/share/run builds the crate share_speed
     let dir = std::env::var("RATTLE_STATICLIB").expect("RATTLE_STATICLIB: the folder of libshare_speed.a");
     println!("cargo:rustc-link-search=native={dir}");
     println!("cargo:rustc-link-lib=static=share_speed");

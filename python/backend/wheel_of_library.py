@@ -41,7 +41,7 @@ def library() -> Path:
     default = HERE.parent / "target" / "staticlib"
     path = Path(os.environ.get("UKHTVARESH_LIB") or default).resolve() / "libukhtvaresh.so"
     if not path.is_file():
-        raise SystemExit(f"There is no {path}. Run `rt staticlib ukhtvaresh` and then `python/build`.")
+        raise SystemExit(f"There is no {path}. Run `tools/build library` and then `python/build`.")
     return path
 
 

@@ -725,7 +725,7 @@ def _load() -> ctypes.CDLL:
     if shared is None:
         raise ImportError(
             f"There is no {folders[-1] / 'libukhtvaresh.so'}. "
-            "Run `rt staticlib ukhtvaresh` and then `python/build` at the repository's top."
+            "Run `tools/build library` and then `python/build` at the repository's top."
         )
     library = ctypes.CDLL(str(shared))
     data, length, room = ctypes.c_char_p, ctypes.c_size_t, ctypes.c_void_p

@@ -1,4 +1,4 @@
-//! Links target/staticlib/libukhtvaresh.a of the repository, made by `rt staticlib ukhtvaresh`.
+//! Links target/staticlib/libukhtvaresh.a of the repository, made by `tools/build library`.
 
 use std::path::Path;
 
