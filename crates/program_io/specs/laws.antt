@@ -1,2 +1,3 @@
 pub mod InputLaws
 pub mod OutputLaws
+pub mod StreamLaws
