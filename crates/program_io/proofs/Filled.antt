@@ -1,13 +1,12 @@
 -- What was read of a reader's bytes, and where it stands in the buffer.
-use Rattle.std.specs.Prelude.{◌≡◌, ℕ, ◌+◌, ◌-◌, ◌≤◌, List, [], ◌++◌, None, Some, IfSome, length, take}
-use Rattle.std.proofs.Common.{slice_range, sym, ap, ◌∙◌, subst, le_refl, arith, drop_at, length-take-le, take_all, append-nil}
+use Rattle.std.specs.Prelude.{◌≡◌, ℕ, ◌+◌, ◌-◌, ◌≤◌, List, ◌++◌, length, take}
+use Rattle.std.proofs.Common.{slice_range, sym, ap, ◌∙◌, subst, le_refl, arith, drop_at, length-take-le}
 use Rattle.std.proofs.lemmas.Slice.{take-put_mid_below}
 use Rattle.std.proofs.KnownBytes.{Consumes-trans}
-use Rattle.std.specs.Io.KnownBytes.{Consumes, IsAtEnd}
+use Rattle.std.specs.Io.KnownBytes.{Consumes}
 use Rattle.std.specs.declared.option.Option.{Option}
 use borrow.Rule.Slice.PartMut.{put_mid, post_of}
 use lib.Seq.{take-add, take-append-le}
-use Rattle.program_io.specs.Inputs.{Read}
 
 take_split : (a b : ℕ) (old new : List ℕ) → a ≤ b → take a new ≡ take a old → take a old ++ slice_range new a b ≡ take b new
 take_split a b old new h front =
@@ -27,4 +26,3 @@ consumes_more a b c from k n room part within fits before read =
     let here = slice_range-put_mid from k n room part within fits in
     let joined = take_split from (from + n) room (put_mid from k room part) (omega arith) (take-put_mid_below _ _ _ _ _ (le_refl _) within) in
     subst (Consumes a c) (ap (λ l. take from room ++ l) (sym here) ∙ joined) (Consumes-trans a b c _ _ before read)
-

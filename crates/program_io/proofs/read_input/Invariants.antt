@@ -1,6 +1,5 @@
-use Rattle.std.proofs.Common.{length, ◌-◌, ◌≡◌, ℕ, List, take, IfOk, OnOk, IfSome, ◌+◌, ◌*◌, ◌<◌, ◌≤◌}
-use Rattle.std.specs.Io.KnownBytes.{Appends, Consumes}
-use Rattle.program_io.specs.Inputs.{Read}
+use Rattle.std.proofs.Common.{length, ◌-◌, ◌≡◌, take, ◌≤◌}
+use Rattle.std.specs.Io.KnownBytes.{Consumes}
 use Rattle.program_io.proofs.read_input.Given as goal
 
 abbrev pub invariant-loop-done : goal.invariant-loop-done
