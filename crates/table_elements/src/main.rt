@@ -15,8 +15,8 @@ ghost use Rattle.table_elements.specs.Printed.{printed};
 ghost use Rattle.table_elements.specs.PrintedLaws.{whole_text, rows_after, whole, output_of, error_of};
 
 use crate::typed_rows::{Fault, Line};
-use tokens::Class;
 use std::io::{self, Read, Write};
+use tokens::Class;
 
 // How far a text was read, and how many bytes its tables take.
 #[derive(Clone, Copy)]
@@ -172,11 +172,7 @@ fn lines_room() -> [u8; 160000] {
 }
 
 // Reads the input and writes the text of it, to the output that it goes to.
-fn run<R: Read, O: Write, E: Write>(
-    reader: &mut R,
-    output: &mut O,
-    error: &mut E,
-) -> io::Result<()>
+fn run<R: Read, O: Write, E: Write>(reader: &mut R, output: &mut O, error: &mut E) -> io::Result<()>
     ensures output { OnOk result (IfSome (R.remaining reader.old) (λ s. Appends (O.contents output.old) (O.contents output.new) (take 160000 (printed s).output))) }
     ensures error { OnOk result (IfSome (R.remaining reader.old) (λ s. Appends (E.contents error.old) (E.contents error.new) (take 128 (printed s).error))) }
 {
