@@ -126,11 +126,11 @@ fn respond(
 // Reads the input and writes the text of it, to the output that it goes to.
 fn run<R: Read, O: Write, E: Write>(
     reader: &mut R,
-    output: &mut O,
-    error: &mut E,
+    stdout: &mut O,
+    stderr: &mut E,
 ) -> io::Result<()>
-    ensures output { OnOk result (IfSome (R.remaining reader.old) (λ s. Appends (O.contents output.old) (O.contents output.new) (output 196608 196608 s))) }
-    ensures error { OnOk result (IfSome (R.remaining reader.old) (λ s. Appends (E.contents error.old) (E.contents error.new) (take 196608 (error 196608 196608 s)))) }
+    ensures output { OnOk result (IfSome (R.remaining reader.old) (λ s. Appends (O.contents stdout.old) (O.contents stdout.new) (output 196608 196608 s))) }
+    ensures error { OnOk result (IfSome (R.remaining reader.old) (λ s. Appends (E.contents stderr.old) (E.contents stderr.new) (take 196608 (error 196608 196608 s)))) }
 {
     let mut input = room();
     let length = program_io::read_input(reader, &mut input)?;
@@ -139,8 +139,8 @@ fn run<R: Read, O: Write, E: Write>(
     let streams = respond(&input, length, &mut sheets, &mut text);
     let kept = streams.output;
     let told = streams.error;
-    output.write_all(&sheets[..kept])?;
-    error.write_all(&text[..told])
+    stdout.write_all(&sheets[..kept])?;
+    stderr.write_all(&text[..told])
 }
 
 fn main(rt: HostRuntime) -> io::Result<()> {

@@ -53,17 +53,17 @@ fn written_room() -> [u8; 65623] {
 // Reads the input and writes the text of it, to the output that it goes to.
 fn run<R: Read, O: Write, E: Write>(
     reader: &mut R,
-    output: &mut O,
-    error: &mut E,
+    stdout: &mut O,
+    stderr: &mut E,
 ) -> io::Result<()>
-    ensures output { OnOk result (IfSome (R.remaining reader.old) (λ s. Appends (O.contents output.old) (O.contents output.new) (output_of s))) }
-    ensures error { OnOk result (IfSome (R.remaining reader.old) (λ s. Appends (E.contents error.old) (E.contents error.new) (error_of s))) }
+    ensures output { OnOk result (IfSome (R.remaining reader.old) (λ s. Appends (O.contents stdout.old) (O.contents stdout.new) (output_of s))) }
+    ensures error { OnOk result (IfSome (R.remaining reader.old) (λ s. Appends (E.contents stderr.old) (E.contents stderr.new) (error_of s))) }
 {
     let mut input = text_room();
     let length = program_io::read_input(reader, &mut input)?;
     let mut bytes = written_room();
     let text = respond(&input, length, &mut bytes);
-    program_io::write_text(output, error, text, &bytes)
+    program_io::write_text(stdout, stderr, text, &bytes)
 }
 
 fn main(rt: HostRuntime) -> io::Result<()> {

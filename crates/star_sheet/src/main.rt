@@ -27,14 +27,14 @@ fn text_room() -> [u8; 400000] {
 }
 
 // Reads the input and writes the text of it.
-fn run<R: Read, O: Write>(reader: &mut R, output: &mut O) -> io::Result<()>
-    ensures { OnOk result (IfSome (R.remaining reader.old) (λ s. Appends (O.contents output.old) (O.contents output.new) (take 400000 (printed s)))) }
+fn run<R: Read, O: Write>(reader: &mut R, stdout: &mut O) -> io::Result<()>
+    ensures { OnOk result (IfSome (R.remaining reader.old) (λ s. Appends (O.contents stdout.old) (O.contents stdout.new) (take 400000 (printed s)))) }
 {
     let mut input = [0u8; 80];
     let length = program_io::read_input(reader, &mut input)?;
     let mut text = text_room();
     let end = respond(&input, length, &mut text);
-    output.write_all(&text[..end])
+    stdout.write_all(&text[..end])
 }
 
 fn main(rt: HostRuntime) -> io::Result<()> {

@@ -172,9 +172,9 @@ fn lines_room() -> [u8; 160000] {
 }
 
 // Reads the input and writes the text of it, to the output that it goes to.
-fn run<R: Read, O: Write, E: Write>(reader: &mut R, output: &mut O, error: &mut E) -> io::Result<()>
-    ensures output { OnOk result (IfSome (R.remaining reader.old) (λ s. Appends (O.contents output.old) (O.contents output.new) (take 160000 (printed s).output))) }
-    ensures error { OnOk result (IfSome (R.remaining reader.old) (λ s. Appends (E.contents error.old) (E.contents error.new) (take 128 (printed s).error))) }
+fn run<R: Read, O: Write, E: Write>(reader: &mut R, stdout: &mut O, stderr: &mut E) -> io::Result<()>
+    ensures output { OnOk result (IfSome (R.remaining reader.old) (λ s. Appends (O.contents stdout.old) (O.contents stdout.new) (take 160000 (printed s).output))) }
+    ensures error { OnOk result (IfSome (R.remaining reader.old) (λ s. Appends (E.contents stderr.old) (E.contents stderr.new) (take 128 (printed s).error))) }
 {
     let mut text = text_room();
     let length = program_io::read_input(reader, &mut text)?;
@@ -183,8 +183,8 @@ fn run<R: Read, O: Write, E: Write>(reader: &mut R, output: &mut O, error: &mut 
     let streams = respond(&text, length, &mut lines, &mut message);
     let printed = streams.output;
     let told = streams.error;
-    output.write_all(&lines[..printed])?;
-    error.write_all(&message[..told])
+    stdout.write_all(&lines[..printed])?;
+    stderr.write_all(&message[..told])
 }
 
 fn main(rt: HostRuntime) -> io::Result<()> {
