@@ -2,14 +2,15 @@
 // longer input nothing is printed, and standard error says so.
 #![tactic(auto)]
 
-ghost use Rattle.std.specs.Prelude.{List, ℕ, take};
+ghost use Rattle.std.specs.Prelude.{List, ℕ, take, OnOk, IfSome};
+ghost use Rattle.std.specs.Io.KnownBytes.{Appends};
 ghost use Rattle.decimal_text.specs.Texts.{Counts};
 ghost use Rattle.program_io.specs.Inputs.{Read};
 ghost use Rattle.program_io.specs.Outputs.{Sent};
 ghost use Rattle.listing.specs.Printed.{output, error};
 
-use libc::STDIN_FILENO;
 use program_io::{ERROR, OUTPUT, Text};
+use std::io::{self, Read, Write};
 
 // The text of the program's input, of which `length` bytes were read, and the output that it goes to.
 fn respond(input: &[u8; 327680], length: usize, out: &mut [u8; 2000000]) -> Text
@@ -41,11 +42,22 @@ fn text_room() -> [u8; 2000000] {
     [0; 2000000]
 }
 
-fn main() {
+// Reads the input and writes the text of it, to the output that it goes to.
+fn run<R: Read, O: Write, E: Write>(
+    reader: &mut R,
+    stdout: &mut O,
+    stderr: &mut E,
+) -> io::Result<()>
+    ensures output { OnOk result (IfSome (R.remaining reader.old) (λ s. Appends (O.contents stdout.old) (O.contents stdout.new) (take 2000000 (output s)))) }
+    ensures error { OnOk result (IfSome (R.remaining reader.old) (λ s. Appends (E.contents stderr.old) (E.contents stderr.new) (error s))) }
+{
     let mut input = sheet_room();
-    let length = io::read_full(STDIN_FILENO, &mut input);
+    let length = program_io::read_input(reader, &mut input)?;
     let mut bytes = text_room();
     let text = respond(&input, length, &mut bytes);
-    let end = text.length;
-    io::write_all(text.descriptor, &bytes[..end]);
+    program_io::write_text(stdout, stderr, text, &bytes)
+}
+
+fn main(rt: HostRuntime) -> io::Result<()> {
+    run(&mut rt.stdin(), &mut rt.stdout(), &mut rt.stderr())
 }

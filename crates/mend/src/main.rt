@@ -3,13 +3,15 @@
 // error says so.
 #![tactic(auto)]
 
-ghost use Rattle.std.specs.Prelude.{◌≡◌, List, ℕ, ◌+◌, ◌≤◌, length, take};
+ghost use Rattle.std.specs.Prelude.{◌≡◌, List, ℕ, ◌+◌, ◌≤◌, length, take, OnOk, IfSome};
+ghost use Rattle.std.specs.Io.KnownBytes.{Appends};
 ghost use Rattle.decimal_text.specs.Texts.{Put, Counts};
 ghost use Rattle.decimal_text.specs.Rows.{each_part};
 ghost use Rattle.program_io.specs.Inputs.{Read};
 ghost use Rattle.mend.specs.Printed.{note_line, tooLong, output, error};
 
-use libc::{STDERR_FILENO, STDIN_FILENO, STDOUT_FILENO};
+use std::io::{self, Read, Write};
+
 
 // How many bytes of each buffer go out.
 #[derive(Clone, Copy)]
@@ -121,14 +123,26 @@ fn respond(
     }
 }
 
-fn main() {
+// Reads the input and writes the text of it, to the output that it goes to.
+fn run<R: Read, O: Write, E: Write>(
+    reader: &mut R,
+    stdout: &mut O,
+    stderr: &mut E,
+) -> io::Result<()>
+    ensures output { OnOk result (IfSome (R.remaining reader.old) (λ s. Appends (O.contents stdout.old) (O.contents stdout.new) (output 196608 196608 s))) }
+    ensures error { OnOk result (IfSome (R.remaining reader.old) (λ s. Appends (E.contents stderr.old) (E.contents stderr.new) (take 196608 (error 196608 196608 s)))) }
+{
     let mut input = room();
-    let length = io::read_full(STDIN_FILENO, &mut input);
+    let length = program_io::read_input(reader, &mut input)?;
     let mut sheets = room();
     let mut text = room();
     let streams = respond(&input, length, &mut sheets, &mut text);
-    let output = streams.output;
-    let error = streams.error;
-    io::write_all(STDOUT_FILENO, &sheets[..output]);
-    io::write_all(STDERR_FILENO, &text[..error]);
+    let kept = streams.output;
+    let told = streams.error;
+    stdout.write_all(&sheets[..kept])?;
+    stderr.write_all(&text[..told])
+}
+
+fn main(rt: HostRuntime) -> io::Result<()> {
+    run(&mut rt.stdin(), &mut rt.stdout(), &mut rt.stderr())
 }

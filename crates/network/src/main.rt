@@ -4,7 +4,8 @@
 // prints nothing.
 #![tactic(auto)]
 
-ghost use Rattle.std.specs.Prelude.{◌≡◌, List, ◌++◌, ℕ, ◌≤◌, length, take};
+ghost use Rattle.std.specs.Prelude.{◌≡◌, List, ◌++◌, ℕ, ◌≤◌, length, take, OnOk, IfSome};
+ghost use Rattle.std.specs.Io.KnownBytes.{Appends};
 ghost use Rattle.sine_table.specs.Table.{Sines};
 ghost use Rattle.clock_network.specs.declared.stations.Node.{Node};
 ghost use Rattle.clock_network.specs.Nodes.{Holds};
@@ -17,12 +18,12 @@ ghost use Rattle.network.specs.Printed.{clock_text, fault_text, station_line, st
 
 use clock_network::checks::Eclipse;
 use clock_network::stations::Held;
-use libc::STDIN_FILENO;
 use listing_lines::clock::Altitude;
 use network_text::{Fault, Typed};
 use networks::Answer;
 use program_io::{ERROR, OUTPUT, Text};
 use request_format::fields::Shape;
+use std::io::{self, Read, Write};
 
 // ---- a fault
 
@@ -217,11 +218,22 @@ fn written_room() -> [u8; 65623] {
     [0; 65623]
 }
 
-fn main() {
+// Reads the input and writes the text of it, to the output that it goes to.
+fn run<R: Read, O: Write, E: Write>(
+    reader: &mut R,
+    stdout: &mut O,
+    stderr: &mut E,
+) -> io::Result<()>
+    ensures output { OnOk result (IfSome (R.remaining reader.old) (λ s. Appends (O.contents stdout.old) (O.contents stdout.new) (take 65623 (output s)))) }
+    ensures error { OnOk result (IfSome (R.remaining reader.old) (λ s. Appends (E.contents stderr.old) (E.contents stderr.new) (take 65623 (error s)))) }
+{
     let mut input = text_room();
-    let length = io::read_full(STDIN_FILENO, &mut input);
+    let length = program_io::read_input(reader, &mut input)?;
     let mut bytes = written_room();
     let text = respond(&input, length, &mut bytes);
-    let end = text.length;
-    io::write_all(text.descriptor, &bytes[..end]);
+    program_io::write_text(stdout, stderr, text, &bytes)
+}
+
+fn main(rt: HostRuntime) -> io::Result<()> {
+    run(&mut rt.stdin(), &mut rt.stdout(), &mut rt.stderr())
 }

@@ -1,6 +1,14 @@
-// What a program read, and what it writes: bytes at the start of an array, for one of its two outputs. What holds of
+// What a program reads, and what it writes: bytes at the start of an array, for one of its two outputs. What holds of
 // both is in `specs/`.
 #![tactic(auto)]
+
+ghost use Rattle.std.specs.Prelude.{ℕ, List, take, IfOk, OnOk, IfSome};
+ghost use Rattle.std.specs.Io.KnownBytes.{Appends, Consumes};
+ghost use Rattle.decimal_text.specs.Texts.{Counts};
+ghost use Rattle.program_io.specs.Inputs.{Read};
+ghost use Rattle.program_io.specs.Outputs.{Sent};
+
+use std::io::{self, Read, Write};
 
 // The descriptors of standard output and of standard error.
 pub const OUTPUT: i32 = 1;
@@ -14,4 +22,40 @@ pub struct Text {
     pub descriptor: i32,
     // how many bytes at the array's start
     pub length: usize,
+}
+
+// Reads until the array is full or the input ends; how many bytes now stand at the array's start. Where it is known
+// what the reader has left, these are its first bytes, and the reader has the others left.
+pub fn read_input<R: Read>(reader: &mut R, array: &mut [u8]) -> io::Result<usize>
+    ensures counts { IfOk result (λ n. Counts n array.new) }
+    ensures first { IfOk result (λ n. IfSome (R.remaining reader.old) (λ input. Read input array.new n)) }
+    ensures rest { IfOk result (λ n. Consumes (R.remaining reader.old) (R.remaining reader.new) (take n array.new)) }
+{
+    let mut done = 0;
+    while done < array.len() {
+        let got = reader.read(&mut array[done..])?;
+        if got == 0 {
+            break;
+        }
+        done += got;
+    }
+    Ok(done)
+}
+
+// Writes a text to the output that it goes to, and nothing to the other.
+pub fn write_text<O: Write, E: Write>(
+    output: &mut O,
+    error: &mut E,
+    text: Text,
+    bytes: &[u8],
+) -> io::Result<()>
+    requires { Counts text.length bytes.now }
+    ensures output { OnOk result ((o e : List ℕ) → Sent text.descriptor (take text.length bytes.now) o e → Appends (O.contents output.old) (O.contents output.new) o) }
+    ensures error { OnOk result ((o e : List ℕ) → Sent text.descriptor (take text.length bytes.now) o e → Appends (E.contents error.old) (E.contents error.new) e) }
+{
+    let end = text.length;
+    if text.descriptor == ERROR {
+        return error.write_all(&bytes[..end]);
+    }
+    output.write_all(&bytes[..end])
 }

@@ -3,17 +3,18 @@
 // invalid line on standard error and then writes nothing.
 #![tactic(auto)]
 
-ghost use Rattle.std.specs.Prelude.{List, ℕ, take};
+ghost use Rattle.std.specs.Prelude.{List, ℕ, take, OnOk, IfSome};
+ghost use Rattle.std.specs.Io.KnownBytes.{Appends};
 ghost use Rattle.decimal_text.specs.Texts.{Counts};
 ghost use Rattle.program_io.specs.Inputs.{Read};
 ghost use Rattle.program_io.specs.Outputs.{Sent};
 ghost use Rattle.request_text.specs.Meaning.{error_of};
 ghost use Rattle.request.specs.Streams.{output_of};
 
-use libc::STDIN_FILENO;
 use program_io::{ERROR, OUTPUT, Text};
 use request_format::fields::LENGTH;
 use request_text::typed_requests::Answer;
+use std::io::{self, Read, Write};
 
 // What the program writes of its input, of which `length` bytes were read, and the output that it goes to: the bytes of
 // a typed request, or why there are none. The text's array has a byte more than is taken, so that a longer text is
@@ -49,11 +50,22 @@ fn written_room() -> [u8; 65623] {
     [0; 65623]
 }
 
-fn main() {
+// Reads the input and writes the text of it, to the output that it goes to.
+fn run<R: Read, O: Write, E: Write>(
+    reader: &mut R,
+    stdout: &mut O,
+    stderr: &mut E,
+) -> io::Result<()>
+    ensures output { OnOk result (IfSome (R.remaining reader.old) (λ s. Appends (O.contents stdout.old) (O.contents stdout.new) (output_of s))) }
+    ensures error { OnOk result (IfSome (R.remaining reader.old) (λ s. Appends (E.contents stderr.old) (E.contents stderr.new) (error_of s))) }
+{
     let mut input = text_room();
-    let length = io::read_full(STDIN_FILENO, &mut input);
+    let length = program_io::read_input(reader, &mut input)?;
     let mut bytes = written_room();
     let text = respond(&input, length, &mut bytes);
-    let end = text.length;
-    io::write_all(text.descriptor, &bytes[..end]);
+    program_io::write_text(stdout, stderr, text, &bytes)
+}
+
+fn main(rt: HostRuntime) -> io::Result<()> {
+    run(&mut rt.stdin(), &mut rt.stdout(), &mut rt.stderr())
 }

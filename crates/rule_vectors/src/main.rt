@@ -15,40 +15,40 @@
 // Any other record is `malformed`. States are 0 outside, 1 inside, 2 unsure.
 #![tactic(auto)]
 
-ghost use Rattle.std.specs.Prelude.{◌≡◌, true, ◌+◌, ◌*◌, ◌≤◌, ◌≤ℤ◌, length};
+ghost use Rattle.std.specs.Prelude.{◌≡◌, true, ◌+◌, ◌*◌, ◌≤◌, ◌≤ℤ◌, length, IfOk};
 ghost use Rattle.run_length.specs.Runs.{decoded, Whole};
 ghost use Rattle.station.specs.Sizes.{StationSizes};
 
 use binary64::{Longitude, Reading};
 use contacts::entries::Entry;
 use contacts::{Cursor, Next};
-use libc::{STDIN_FILENO, STDOUT_FILENO};
 use request_format::input::Input;
 use seconds::OneSecond;
 use sheet_types::refusals::{Checked, Refusal};
 use station::Station;
+use std::io;
 
-fn print_text(text: &[u8]) {
-    io::write_all(STDOUT_FILENO, text);
+fn print_text(rt: &impl Print, text: &[u8]) -> io::Result<()> {
+    rt.write_all(text)
 }
 
 // A pattern, filled with the numbers in their order.
-fn print(pattern: &[u8], numbers: &[i64]) {
+fn print(rt: &impl Print, pattern: &[u8], numbers: &[i64]) -> io::Result<()> {
     let mut line = [0u8; 256];
     let end = decimal_text::put_filled(&mut line, 0, pattern, numbers);
     let length = decimal_text::clipped(&line, end);
-    print_text(&line[..length]);
+    print_text(rt, &line[..length])
 }
 
-fn print_refusal(refusal: Refusal) {
+fn print_refusal(rt: &impl Print, refusal: Refusal) -> io::Result<()> {
     let mut line = [0u8; 64];
     let end = listing_lines::lines::put_refused(&mut line, 0, refusal);
     let length = decimal_text::clipped(&line, end);
-    print_text(&line[..length]);
+    print_text(rt, &line[..length])
 }
 
-fn print_malformed() {
-    print_text(b"malformed\n");
+fn print_malformed(rt: &impl Print) -> io::Result<()> {
+    print_text(rt, b"malformed\n")
 }
 
 // The number whose 64 bits are those of x.
@@ -81,9 +81,9 @@ fn clamped(low: i64, x: i64, high: i64) -> i64
     x
 }
 
-fn print_sine(bytes: &[u8]) {
+fn print_sine(rt: &impl Print, bytes: &[u8]) -> io::Result<()> {
     if bytes.len() != 8 {
-        return print_malformed();
+        return print_malformed(rt);
     }
     let angle = clamped(-10_000_000_000, number_at(bytes, 0), 10_000_000_000);
     let mut table = [0u32; 901];
@@ -94,10 +94,10 @@ fn print_sine(bytes: &[u8]) {
     let turned_s = sine::turns::sine(&table, a);
     let turned_c = sine::turns::cosine(&table, a);
     let numbers = [angle, s, c, turned_s, turned_c];
-    print(b"# # # # #\n", &numbers);
+    print(rt, b"# # # # #\n", &numbers)
 }
 
-fn print_place(s: Station)
+fn print_place(rt: &impl Print, s: Station) -> io::Result<()>
     requires { StationSizes s }
 {
     let latitude = s.latitude;
@@ -108,12 +108,12 @@ fn print_place(s: Station)
     let r = place.r;
     let p = place.p;
     let numbers = [latitude, height, r, p];
-    print(b"# # # #\n", &numbers);
+    print(rt, b"# # # #\n", &numbers)
 }
 
-fn print_station(bytes: &[u8]) {
+fn print_station(rt: &impl Print, bytes: &[u8]) -> io::Result<()> {
     if bytes.len() != 16 {
-        return print_malformed();
+        return print_malformed(rt);
     }
     let latitude = number_at(bytes, 0);
     let height = number_at(bytes, 1);
@@ -126,15 +126,15 @@ fn print_station(bytes: &[u8]) {
     };
     let checked = station::check(station);
     match checked {
-        Checked::Within => print_place(station),
+        Checked::Within => print_place(rt, station),
         Checked::Refused(_) => {
             let numbers = [latitude, height];
-            print(b"# # refused\n", &numbers)
+            print(rt, b"# # refused\n", &numbers)
         }
     }
 }
 
-fn print_second(second: shadow::Second) {
+fn print_second(rt: &impl Print, second: shadow::Second) -> io::Result<()> {
     let shadow = second.shadow;
     let penumbra = second.penumbra as i64;
     let central = second.central as i64;
@@ -145,45 +145,45 @@ fn print_second(second: shadow::Second) {
     let l1 = shadow.l1;
     let l2 = shadow.l2;
     let numbers = [u, v, l1, l2, penumbra, central, direction, magnitude];
-    print(b"# # # # # # # #\n", &numbers);
+    print(rt, b"# # # # # # # #\n", &numbers)
 }
 
-fn print_answer(answer: OneSecond) {
+fn print_answer(rt: &impl Print, answer: OneSecond) -> io::Result<()> {
     match answer {
-        OneSecond::Is(second) => print_second(second),
-        OneSecond::Refused(refusal) => print_refusal(refusal),
+        OneSecond::Is(second) => print_second(rt, second),
+        OneSecond::Refused(refusal) => print_refusal(rt, refusal),
     }
 }
 
 // The first second of a request's window.
-fn print_request(bytes: &[u8]) {
+fn print_request(rt: &impl Print, bytes: &[u8]) -> io::Result<()> {
     let asked = request_format::input::request(bytes);
     match asked {
         Input::Is(q) => {
             let w = q.window;
             let o = requests::of_eclipse(q);
             let mut sines = [0u32; 901];
-            print_answer(seconds::second(o, w.first, &mut sines))
+            print_answer(rt, seconds::second(o, w.first, &mut sines))
         }
-        Input::Refused(refusal) => print_refusal(refusal),
+        Input::Refused(refusal) => print_refusal(rt, refusal),
     }
 }
 
-fn print_share(bytes: &[u8]) {
+fn print_share(rt: &impl Print, bytes: &[u8]) -> io::Result<()> {
     if bytes.len() != 24 {
-        return print_malformed();
+        return print_malformed(rt);
     }
     let l1 = clamped(48_860_000, number_at(bytes, 0), 61_140_000);
     let l2 = clamped(-6_140_000, number_at(bytes, 1), 6_140_000);
     let m = clamped(0, number_at(bytes, 2), 1_000_000_000_000_000_000);
     let share = obscuration::area::share(l1, l2, m) as i64;
     let numbers = [l1, l2, m, share];
-    print(b"# # # #\n", &numbers);
+    print(rt, b"# # # #\n", &numbers)
 }
 
-fn print_fit(bytes: &[u8]) {
+fn print_fit(rt: &impl Print, bytes: &[u8]) -> io::Result<()> {
     if bytes.len() != 96 {
-        return print_malformed();
+        return print_malformed(rt);
     }
     let coefficients = [
         number_at(bytes, 0),
@@ -202,8 +202,8 @@ fn print_fit(bytes: &[u8]) {
     ];
     let answer = fits::fit(&coefficients, &tabulated, number_at(bytes, 11));
     match answer {
-        fits::Answer::Accepted => print_text(b"accepted\n"),
-        fits::Answer::Refused(refusal) => print_refusal(refusal),
+        fits::Answer::Accepted => print_text(rt, b"accepted\n"),
+        fits::Answer::Refused(refusal) => print_refusal(rt, refusal),
     }
 }
 
@@ -219,68 +219,68 @@ fn double_of(bits: u64) -> f64 {
     zero / zero
 }
 
-fn print_reading(reading: Reading, end: &[u8]) {
+fn print_reading(rt: &impl Print, reading: Reading, end: &[u8]) -> io::Result<()> {
     match reading {
         Reading::Units(unit) => {
             let numbers = [unit];
-            print(b"#", &numbers)
+            print(rt, b"#", &numbers)?
         }
-        Reading::TooLarge => print_text(b"large"),
-        Reading::NotFinite => print_text(b"none"),
+        Reading::TooLarge => print_text(rt, b"large")?,
+        Reading::NotFinite => print_text(rt, b"none")?,
     }
-    print_text(end);
+    print_text(rt, end)
 }
 
-fn print_double(bytes: &[u8]) {
+fn print_double(rt: &impl Print, bytes: &[u8]) -> io::Result<()> {
     if bytes.len() != 8 {
-        return print_malformed();
+        return print_malformed(rt);
     }
     let x = double_of(big_endian::eight_at(bytes, 0));
-    print_reading(binary64::read_longitude(Longitude::Degrees(x)), b" ");
-    print_reading(binary64::read_longitude(Longitude::Hours(x)), b" ");
-    print_reading(binary64::read(x, binary64::RADIUS), b"\n");
+    print_reading(rt, binary64::read_longitude(Longitude::Degrees(x)), b" ")?;
+    print_reading(rt, binary64::read_longitude(Longitude::Hours(x)), b" ")?;
+    print_reading(rt, binary64::read(x, binary64::RADIUS), b"\n")
 }
 
-fn print_state(state: u8) {
+fn print_state(rt: &impl Print, state: u8) -> io::Result<()> {
     let numbers = [state as i64];
-    print(b"#", &numbers);
+    print(rt, b"#", &numbers)
 }
 
 // Prints the states of a window; whether they are that. As bytes they are runs of one second.
-fn print_states(bytes: &[u8]) -> bool
-    ensures { result ≡ true → Whole bytes.now × (length (decoded 0 bytes.now) ≡ length bytes.now) }
+fn print_states(rt: &impl Print, bytes: &[u8]) -> io::Result<bool>
+    ensures { IfOk result (λ are. are ≡ true → Whole bytes.now × (length (decoded 0 bytes.now) ≡ length bytes.now)) }
 {
     let mut i = 0;
     while i < bytes.len() {
         if 2 < bytes[i] {
-            return false;
+            return Ok(false);
         }
-        print_state(bytes[i]);
+        print_state(rt, bytes[i])?;
         i += 1;
     }
-    true
+    Ok(true)
 }
 
-fn print_span(word: &[u8], from: usize, to: usize) {
+fn print_span(rt: &impl Print, word: &[u8], from: usize, to: usize) -> io::Result<()> {
     let mut text = [0u8; 64];
     let start = decimal_text::put_text(&mut text, 0, word);
     let middle = decimal_text::put_number(&mut text, start, from as u64);
     let next = decimal_text::put_byte(&mut text, middle, b'-');
     let end = decimal_text::put_number(&mut text, next, to as u64);
     let length = decimal_text::clipped(&text, end);
-    print_text(&text[..length]);
+    print_text(rt, &text[..length])
 }
 
-fn print_entry(entry: Entry) {
+fn print_entry(rt: &impl Print, entry: Entry) -> io::Result<()> {
     match entry {
-        Entry::Enter { from, to } => print_span(b" e", from, to),
-        Entry::Leave { from, to } => print_span(b" l", from, to),
-        Entry::Graze { from, to } => print_span(b" g", from, to),
-        Entry::Open { from, to } => print_span(b" o", from, to),
+        Entry::Enter { from, to } => print_span(rt, b" e", from, to),
+        Entry::Leave { from, to } => print_span(rt, b" l", from, to),
+        Entry::Graze { from, to } => print_span(rt, b" g", from, to),
+        Entry::Open { from, to } => print_span(rt, b" o", from, to),
     }
 }
 
-fn print_entries(states: &[u8])
+fn print_entries(rt: &impl Print, states: &[u8]) -> io::Result<()>
     requires { Whole states.now × (length (decoded 0 states.now) ≡ length states.now) }
 {
     let seconds = states.len();
@@ -291,55 +291,56 @@ fn print_entries(states: &[u8])
     };
     loop {
         let Next::Found(found, after) = contacts::step(states, 0, seconds, cursor) else {
-            return;
+            return Ok(());
         };
-        print_entry(found);
+        print_entry(rt, found)?;
         cursor = after;
     }
 }
 
-fn print_window(bytes: &[u8]) {
-    if print_states(bytes) {
-        print_entries(bytes);
-        print_text(b"\n");
+fn print_window(rt: &impl Print, bytes: &[u8]) -> io::Result<()> {
+    if print_states(rt, bytes)? {
+        print_entries(rt, bytes)?;
+        print_text(rt, b"\n")
     } else {
-        print_malformed();
+        print_malformed(rt)
     }
 }
 
-fn print_heading(text: &[u8]) {
-    print_text(text);
-    print_text(b"\n");
+fn print_heading(rt: &impl Print, text: &[u8]) -> io::Result<()> {
+    print_text(rt, text)?;
+    print_text(rt, b"\n")
 }
 
 // What a record gives.
-fn print_record(letter: u8, bytes: &[u8]) {
+fn print_record(rt: &impl Print, letter: u8, bytes: &[u8]) -> io::Result<()> {
     match letter {
-        b'#' => print_heading(bytes),
-        b'a' => print_sine(bytes),
-        b'p' => print_station(bytes),
-        b's' => print_request(bytes),
-        b'o' => print_share(bytes),
-        b'c' => print_window(bytes),
-        b'f' => print_fit(bytes),
-        b'd' => print_double(bytes),
-        _ => print_malformed(),
+        b'#' => print_heading(rt, bytes),
+        b'a' => print_sine(rt, bytes),
+        b'p' => print_station(rt, bytes),
+        b's' => print_request(rt, bytes),
+        b'o' => print_share(rt, bytes),
+        b'c' => print_window(rt, bytes),
+        b'f' => print_fit(rt, bytes),
+        b'd' => print_double(rt, bytes),
+        _ => print_malformed(rt),
     }
 }
 
 // What each record gives, up to one that is cut off.
-fn print_records(input: &[u8]) {
+fn print_records(rt: &impl Print, input: &[u8]) -> io::Result<()> {
     let mut at = 0;
     while 3 <= input.len() - at {
         let size = big_endian::two_at(input, at + 1) as usize;
         let from = at + 3;
         if input.len() - from < size {
-            return;
+            return Ok(());
         }
         let end = from + size;
-        print_record(input[at], &input[from..end]);
+        print_record(rt, input[at], &input[from..end])?;
         at = end;
     }
+    Ok(())
 }
 
 // Room for all records.
@@ -347,8 +348,8 @@ fn input_room() -> [u8; 262_144] {
     [0u8; 262_144]
 }
 
-fn main() {
+fn main(rt: HostRuntime) -> io::Result<()> {
     let mut input = input_room();
-    let length = io::read_full(STDIN_FILENO, &mut input);
-    print_records(&input[..length]);
+    let length = program_io::read_input(&mut rt.stdin(), &mut input)?;
+    print_records(&rt, &input[..length])
 }

@@ -2,7 +2,8 @@
 // A refusal goes to standard error, and nothing goes to standard output.
 #![tactic(auto)]
 
-ghost use Rattle.std.specs.Prelude.{◌≡◌, List, ℕ, take};
+ghost use Rattle.std.specs.Prelude.{◌≡◌, List, ℕ, take, OnOk, IfSome};
+ghost use Rattle.std.specs.Io.KnownBytes.{Appends};
 ghost use Rattle.decimal_text.specs.Texts.{Counts};
 ghost use Rattle.listing_lines.specs.Lines.{refusal_line};
 ghost use Rattle.program_io.specs.Inputs.{Read};
@@ -10,9 +11,9 @@ ghost use Rattle.program_io.specs.Outputs.{Sent};
 ghost use Rattle.sheet_bytes.specs.Streams.{output, error};
 
 use circumstances::Answer;
-use libc::STDIN_FILENO;
 use program_io::{ERROR, OUTPUT, Text};
 use sheet_types::refusals::Refusal;
+use std::io::{self, Read, Write};
 
 // The line of a refusal, at the array's start.
 fn put_refusal(out: &mut [u8; 65536], number: u32, place: usize) -> usize
@@ -51,11 +52,26 @@ fn respond(input: &[u8; 116], length: usize, out: &mut [u8; 65536]) -> Text
     }
 }
 
-fn main() {
+fn bytes_room() -> [u8; 65536] {
+    [0; 65536]
+}
+
+// Reads the input and writes the text of it, to the output that it goes to.
+fn run<R: Read, O: Write, E: Write>(
+    reader: &mut R,
+    stdout: &mut O,
+    stderr: &mut E,
+) -> io::Result<()>
+    ensures output { OnOk result (IfSome (R.remaining reader.old) (λ s. Appends (O.contents stdout.old) (O.contents stdout.new) (output s))) }
+    ensures error { OnOk result (IfSome (R.remaining reader.old) (λ s. Appends (E.contents stderr.old) (E.contents stderr.new) (error s))) }
+{
     let mut input = [0u8; 116];
-    let length = io::read_full(STDIN_FILENO, &mut input);
-    let mut bytes = io::large_buffer();
+    let length = program_io::read_input(reader, &mut input)?;
+    let mut bytes = bytes_room();
     let text = respond(&input, length, &mut bytes);
-    let end = text.length;
-    io::write_all(text.descriptor, &bytes[..end]);
+    program_io::write_text(stdout, stderr, text, &bytes)
+}
+
+fn main(rt: HostRuntime) -> io::Result<()> {
+    run(&mut rt.stdin(), &mut rt.stdout(), &mut rt.stderr())
 }

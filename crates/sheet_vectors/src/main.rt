@@ -18,24 +18,24 @@
 ghost use Rattle.std.specs.Prelude.{◌≡◌, ◌+◌, ◌*◌, ◌/◌, ◌≤◌, length};
 ghost use Rattle.decimal_text.specs.Texts.{Counts};
 
-use libc::{STDIN_FILENO, STDOUT_FILENO};
 use request_format::fields::Shape;
 use sheet_codec::decoder::Extent;
+use std::io;
 
-fn print_text(text: &[u8]) {
-    io::write_all(STDOUT_FILENO, text);
+fn print_text(rt: &impl Print, text: &[u8]) -> io::Result<()> {
+    rt.write_all(text)
 }
 
-fn print_malformed() {
-    print_text(b"malformed\n");
+fn print_malformed(rt: &impl Print) -> io::Result<()> {
+    print_text(rt, b"malformed\n")
 }
 
 // A word, and what a reader or a writer answered.
-fn print_answer(word: &[u8], answer: Extent) {
+fn print_answer(rt: &impl Print, word: &[u8], answer: Extent) -> io::Result<()> {
     let mut text = [0u8; 64];
     let end = listings::extents::put_answer(&mut text, 0, word, answer);
     let length = decimal_text::clipped(&text, end);
-    print_text(&text[..length]);
+    print_text(rt, &text[..length])
 }
 
 // Room for a listing.
@@ -43,21 +43,26 @@ fn listing_room() -> [u8; 262_144] {
     [0u8; 262_144]
 }
 
-fn print_listing(request: &[u8], room: &mut [u8]) {
+fn print_listing(rt: &impl Print, request: &[u8], room: &mut [u8]) -> io::Result<()> {
     let mut sines = [0u32; 901];
     let mut text = listing_room();
     let end = answers::put_answer(Shape::Eclipse, request, &mut sines, room, &mut text);
     let length = decimal_text::clipped(&text, end);
-    print_text(&text[..length]);
+    print_text(rt, &text[..length])
 }
 
-fn print_request(bytes: &[u8]) {
+// As many bytes for a sheet as program `sheet` has.
+fn sheet_room() -> [u8; 65536] {
+    [0; 65536]
+}
+
+fn print_request(rt: &impl Print, bytes: &[u8]) -> io::Result<()> {
     if bytes.len() < 2 {
-        return print_malformed();
+        return print_malformed(rt);
     }
-    let mut room = io::large_buffer();
+    let mut room = sheet_room();
     let size = decimal_text::clipped(&room, big_endian::two_at(bytes, 0) as usize);
-    print_listing(&bytes[2..], &mut room[..size]);
+    print_listing(rt, &bytes[2..], &mut room[..size])
 }
 
 // The count, or how many numbers there are where these are fewer. So `&numbers[..n]` can be taken.
@@ -75,7 +80,7 @@ fn wide(x: u32) -> i64 {
 }
 
 // Entry n.
-fn print_entry(numbers: &[u32], n: usize)
+fn print_entry(rt: &impl Print, numbers: &[u32], n: usize) -> io::Result<()>
     requires { n * 5 + 5 ≤ length numbers.now }
 {
     let i = n * 5;
@@ -88,44 +93,50 @@ fn print_entry(numbers: &[u32], n: usize)
     let mut line = [0u8; 64];
     let end = decimal_text::put_filled(&mut line, 0, b" # # # # #\n", &fields);
     let length = decimal_text::clipped(&line, end);
-    print_text(&line[..length]);
+    print_text(rt, &line[..length])
 }
 
-fn print_entries(numbers: &[u32]) {
+fn print_entries(rt: &impl Print, numbers: &[u32]) -> io::Result<()> {
     let count = numbers.len() / 5;
     for n in 0..count {
-        print_entry(numbers, n);
+        print_entry(rt, numbers, n)?;
     }
+    Ok(())
 }
 
 // Whether the bytes of an answer are a sheet's.
-fn print_same(answer: Extent, written: &[u8], sheet: &[u8]) {
+fn print_same(rt: &impl Print, answer: Extent, written: &[u8], sheet: &[u8]) -> io::Result<()> {
     let Extent::Sheet { entries: _, length } = answer else {
-        return print_text(b"\n");
+        return print_text(rt, b"\n");
     };
     let end = decimal_text::clipped(written, length);
-    if check::same(&written[..end], sheet) {
-        print_text(b" same\n");
+    if &written[..end] == sheet {
+        print_text(rt, b" same\n")
     } else {
-        print_text(b"\n");
+        print_text(rt, b"\n")
     }
 }
 
+// Room for a sheet of up to 64 entries.
+fn short_room() -> [u8; 4096] {
+    [0; 4096]
+}
+
 // The entries, and what the writer makes of them.
-fn print_written(numbers: &[u32], sheet: &[u8]) {
-    print_entries(numbers);
-    let mut space = io::buffer();
+fn print_written(rt: &impl Print, numbers: &[u32], sheet: &[u8]) -> io::Result<()> {
+    print_entries(rt, numbers)?;
+    let mut space = short_room();
     let answer = sheet_codec::encoder::write(numbers, &mut space);
-    print_answer(b" written ", answer);
-    print_same(answer, &space, sheet);
+    print_answer(rt, b" written ", answer)?;
+    print_same(rt, answer, &space, sheet)
 }
 
 // What the reader answers with a buffer for three entries and most of a fourth.
-fn print_short(sheet: &[u8]) {
+fn print_short(rt: &impl Print, sheet: &[u8]) -> io::Result<()> {
     let mut three = [0u32; 19];
     let answer = sheet_codec::decoder::read(sheet, &mut three);
-    print_answer(b" short ", answer);
-    print_text(b"\n");
+    print_answer(rt, b" short ", answer)?;
+    print_text(rt, b"\n")
 }
 
 // Room for 64 entries.
@@ -133,21 +144,21 @@ fn entries_room() -> [u32; 320] {
     [0u32; 320]
 }
 
-fn print_read(sheet: &[u8]) {
+fn print_read(rt: &impl Print, sheet: &[u8]) -> io::Result<()> {
     let mut room = entries_room();
     let begins = sheet_codec::decoder::extent_of_leading_sheet(sheet);
     let is = sheet_codec::decoder::read(sheet, &mut room);
-    print_answer(b"begins ", begins);
-    print_answer(b" is ", is);
-    print_short(sheet);
+    print_answer(rt, b"begins ", begins)?;
+    print_answer(rt, b" is ", is)?;
+    print_short(rt, sheet)?;
     let Extent::Sheet { entries, length: _ } = is else {
-        return;
+        return Ok(());
     };
     if 64 < entries {
-        return print_malformed();
+        return print_malformed(rt);
     }
     let numbers = clipped(&room, entries * 5);
-    print_written(&room[..numbers], sheet);
+    print_written(rt, &room[..numbers], sheet)
 }
 
 fn digit(x: u8) -> u8
@@ -176,23 +187,23 @@ fn put_bytes(line: &mut [u8], bytes: &[u8]) -> usize {
     decimal_text::put_byte(line, at, b'\n')
 }
 
-fn print_bytes(bytes: &[u8]) {
+fn print_bytes(rt: &impl Print, bytes: &[u8]) -> io::Result<()> {
     let mut line = [0u8; 1024];
     let end = put_bytes(&mut line, bytes);
     let length = decimal_text::clipped(&line, end);
-    print_text(&line[..length]);
+    print_text(rt, &line[..length])
 }
 
-fn print_list(list: &[u32]) {
+fn print_list(rt: &impl Print, list: &[u32]) -> io::Result<()> {
     let mut long = [170u8; 256];
     let mut short = [170u8; 20];
     let written = sheet_codec::encoder::write(list, &mut long);
     let cut = sheet_codec::encoder::write(list, &mut short);
-    print_answer(b"written ", written);
-    print_answer(b" short ", cut);
-    print_text(b"\n");
-    print_bytes(&long);
-    print_bytes(&short);
+    print_answer(rt, b"written ", written)?;
+    print_answer(rt, b" short ", cut)?;
+    print_text(rt, b"\n")?;
+    print_bytes(rt, &long)?;
+    print_bytes(rt, &short)
 }
 
 // Stores the numbers of some bytes at the start of the list.
@@ -214,45 +225,46 @@ fn list_room() -> [u32; 1024]
     [0; 1024]
 }
 
-fn print_handed(bytes: &[u8]) {
+fn print_handed(rt: &impl Print, bytes: &[u8]) -> io::Result<()> {
     if 4096 < bytes.len() {
-        return print_malformed();
+        return print_malformed(rt);
     }
     let mut list = list_room();
     take(bytes, &mut list);
     let count = clipped(&list, bytes.len() / 4);
-    print_list(&list[..count]);
+    print_list(rt, &list[..count])
 }
 
-fn print_heading(text: &[u8]) {
-    print_text(text);
-    print_text(b"\n");
+fn print_heading(rt: &impl Print, text: &[u8]) -> io::Result<()> {
+    print_text(rt, text)?;
+    print_text(rt, b"\n")
 }
 
 // What a record gives.
-fn print_record(letter: u8, bytes: &[u8]) {
+fn print_record(rt: &impl Print, letter: u8, bytes: &[u8]) -> io::Result<()> {
     match letter {
-        b'#' => print_heading(bytes),
-        b'q' => print_request(bytes),
-        b'r' => print_read(bytes),
-        b'w' => print_handed(bytes),
-        _ => print_malformed(),
+        b'#' => print_heading(rt, bytes),
+        b'q' => print_request(rt, bytes),
+        b'r' => print_read(rt, bytes),
+        b'w' => print_handed(rt, bytes),
+        _ => print_malformed(rt),
     }
 }
 
 // What each record gives, up to one that is cut off.
-fn print_records(input: &[u8]) {
+fn print_records(rt: &impl Print, input: &[u8]) -> io::Result<()> {
     let mut at = 0;
     while 3 <= input.len() - at {
         let size = big_endian::two_at(input, at + 1) as usize;
         let from = at + 3;
         if input.len() - from < size {
-            return;
+            return Ok(());
         }
         let end = from + size;
-        print_record(input[at], &input[from..end]);
+        print_record(rt, input[at], &input[from..end])?;
         at = end;
     }
+    Ok(())
 }
 
 // Room for all records.
@@ -260,8 +272,8 @@ fn input_room() -> [u8; 262_144] {
     [0u8; 262_144]
 }
 
-fn main() {
+fn main(rt: HostRuntime) -> io::Result<()> {
     let mut input = input_room();
-    let length = io::read_full(STDIN_FILENO, &mut input);
-    print_records(&input[..length]);
+    let length = program_io::read_input(&mut rt.stdin(), &mut input)?;
+    print_records(&rt, &input[..length])
 }

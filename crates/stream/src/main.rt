@@ -5,13 +5,14 @@
 // reads no byte past the request that it answers.
 #![tactic(auto)]
 
-ghost use Rattle.std.specs.Prelude.{◌≡◌, not, ◌+◌, length, take};
+ghost use Rattle.std.specs.Prelude.{◌≡◌, not, ◌+◌, length, take, IfOk};
+ghost use Rattle.std.specs.Io.KnownBytes.{Consumes};
 ghost use Rattle.decimal_text.specs.Texts.{capped, Put, Counts};
 ghost use Rattle.request_answers.specs.Sheet.{Begins};
 ghost use Rattle.streams.specs.Streams.{sheet_for, told_for, stops_for};
 ghost use Rattle.stream.specs.Unwritten.{unwritten_line};
 
-use libc::{STDERR_FILENO, STDIN_FILENO, STDOUT_FILENO};
+use std::io::{self, Read, Write};
 
 // How many requests were answered, in how many bytes; whether to go on.
 #[derive(Clone, Copy)]
@@ -34,17 +35,18 @@ struct Next {
 }
 
 // The next request, at the start of its buffer; how many bytes it has, 0 at the input's end.
-fn read_request(room: &mut [u8]) -> usize
+fn read_request<R: Read>(reader: &mut R, room: &mut [u8]) -> io::Result<usize>
     requires { length room.old ≡ 115 }
-    ensures { Counts result room.new }
+    ensures counts { IfOk result (λ n. Counts n room.new) }
+    ensures rest { IfOk result (λ n. Consumes (R.remaining reader.old) (R.remaining reader.new) (take n room.new)) }
 {
-    let got = io::read_full(STDIN_FILENO, &mut room[..1]);
+    let got = program_io::read_input(reader, &mut room[..1])?;
     if got == 0 {
-        return 0;
+        return Ok(0);
     }
     let size = streams::size_from(room[0]);
-    let more = io::read_full(STDIN_FILENO, &mut room[1..size]);
-    1 + more
+    let more = program_io::read_input(reader, &mut room[1..size])?;
+    Ok(1 + more)
 }
 
 // The next request of a stream, of `size` bytes: its sheet at the start of `room`, or the report of its refusal at the
@@ -106,38 +108,50 @@ fn unwritten(line: &mut [u8; 128], count: usize, at: usize) -> usize
 }
 
 // Answers one request.
-fn answer_next(place: Place, sines: &mut [u32], room: &mut [u8]) -> Place
+fn answer_next<R: Read, O: Write, E: Write>(
+    place: Place,
+    reader: &mut R,
+    output: &mut O,
+    error: &mut E,
+    sines: &mut [u32],
+    room: &mut [u8],
+) -> io::Result<Place>
     requires { (length sines.old ≡ 901) × (length room.old ≡ 65536) }
 {
     let mut request = [0u8; 115];
-    let size = read_request(&mut request);
+    let size = read_request(reader, &mut request)?;
     if size == 0 {
-        return Place {
+        return Ok(Place {
             count: place.count,
             bytes: place.bytes,
             more: false,
-        };
+        });
     }
     let mut line = [0u8; 128];
     let next = turn(place, &request, size, sines, room, &mut line);
-    let output = next.output;
-    let error = next.error;
-    let written = io::write_all(STDOUT_FILENO, &room[..output]);
-    let reported = io::write_all(STDERR_FILENO, &line[..error]);
+    let stored = next.output;
+    let told = next.error;
+    let written = output.write_all(&room[..stored]).is_ok();
+    let reported = error.write_all(&line[..told]).is_ok();
     if !written {
         let end = unwritten(&mut line, next.count, place.bytes);
-        io::write_all(STDERR_FILENO, &line[..end]);
+        error.write_all(&line[..end])?;
     }
-    Place {
+    Ok(Place {
         count: next.count,
         bytes: next.bytes,
         more: written & reported & next.more,
-    }
+    })
 }
 
-// A proved loop has to end, and nothing says that the input does: it counts its turns down, from a number that no run
-// uses up.
-fn answer_all(sines: &mut [u32], room: &mut [u8])
+// A proved loop has to end, and nothing says that the input does: it takes as many turns as no run uses up.
+fn answer_all<R: Read, O: Write, E: Write>(
+    reader: &mut R,
+    output: &mut O,
+    error: &mut E,
+    sines: &mut [u32],
+    room: &mut [u8],
+) -> io::Result<()>
     requires { (length sines.old ≡ 901) × (length room.old ≡ 65536) }
 {
     let mut place = Place {
@@ -145,15 +159,30 @@ fn answer_all(sines: &mut [u32], room: &mut [u8])
         bytes: 0,
         more: true,
     };
-    let mut turns = u64::MAX;
-    while turns > 0 && place.more {
-        place = answer_next(place, sines, room);
-        turns -= 1;
+    for _ in 0..u64::MAX {
+        if !place.more {
+            break;
+        }
+        place = answer_next(place, reader, output, error, sines, room)?;
     }
+    Ok(())
 }
 
-fn main() {
+// As many bytes for a sheet as program `sheet_bytes` has.
+fn sheet_room() -> [u8; 65536]
+    ensures { 65536 ≡ length result }
+{
+    [0; 65536]
+}
+
+fn main(rt: HostRuntime) -> io::Result<()> {
     let mut sines = [0u32; 901];
-    let mut room = io::large_buffer();
-    answer_all(&mut sines, &mut room);
+    let mut room = sheet_room();
+    answer_all(
+        &mut rt.stdin(),
+        &mut rt.stdout(),
+        &mut rt.stderr(),
+        &mut sines,
+        &mut room,
+    )
 }

@@ -7,14 +7,15 @@
 mod text;
 pub mod typed_rows;
 
-ghost use Rattle.std.specs.Prelude.{◌≡◌, List, ℕ, ◌≤◌, length, take};
+ghost use Rattle.std.specs.Prelude.{◌≡◌, List, ℕ, ◌≤◌, length, take, OnOk, IfSome};
+ghost use Rattle.std.specs.Io.KnownBytes.{Appends};
 ghost use Rattle.decimal_text.specs.Texts.{Put, Counts};
 ghost use Rattle.program_io.specs.Inputs.{Read};
 ghost use Rattle.table_elements.specs.Printed.{printed};
 ghost use Rattle.table_elements.specs.PrintedLaws.{whole_text, rows_after, whole, output_of, error_of};
 
 use crate::typed_rows::{Fault, Line};
-use libc::{STDERR_FILENO, STDIN_FILENO, STDOUT_FILENO};
+use std::io::{self, Read, Write};
 use tokens::Class;
 
 // How far a text was read, and how many bytes its tables take.
@@ -170,14 +171,22 @@ fn lines_room() -> [u8; 160000] {
     [0; 160000]
 }
 
-fn main() {
+// Reads the input and writes the text of it, to the output that it goes to.
+fn run<R: Read, O: Write, E: Write>(reader: &mut R, stdout: &mut O, stderr: &mut E) -> io::Result<()>
+    ensures output { OnOk result (IfSome (R.remaining reader.old) (λ s. Appends (O.contents stdout.old) (O.contents stdout.new) (take 160000 (printed s).output))) }
+    ensures error { OnOk result (IfSome (R.remaining reader.old) (λ s. Appends (E.contents stderr.old) (E.contents stderr.new) (take 128 (printed s).error))) }
+{
     let mut text = text_room();
-    let length = io::read_full(STDIN_FILENO, &mut text);
+    let length = program_io::read_input(reader, &mut text)?;
     let mut lines = lines_room();
     let mut message = [0u8; 128];
     let streams = respond(&text, length, &mut lines, &mut message);
-    let output = streams.output;
-    let error = streams.error;
-    io::write_all(STDOUT_FILENO, &lines[..output]);
-    io::write_all(STDERR_FILENO, &message[..error]);
+    let printed = streams.output;
+    let told = streams.error;
+    stdout.write_all(&lines[..printed])?;
+    stderr.write_all(&message[..told])
+}
+
+fn main(rt: HostRuntime) -> io::Result<()> {
+    run(&mut rt.stdin(), &mut rt.stdout(), &mut rt.stderr())
 }

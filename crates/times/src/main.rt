@@ -3,7 +3,8 @@
 // it; the first invalid line is reported on standard error.
 #![tactic(auto)]
 
-ghost use Rattle.std.specs.Prelude.{List, ℕ, take};
+ghost use Rattle.std.specs.Prelude.{List, ℕ, take, OnOk, IfSome};
+ghost use Rattle.std.specs.Io.KnownBytes.{Appends};
 ghost use Rattle.decimal_text.specs.Texts.{Put, Counts, Copies};
 ghost use Rattle.program_io.specs.Inputs.{Read};
 ghost use Rattle.program_io.specs.Outputs.{Sent};
@@ -12,10 +13,10 @@ ghost use Rattle.times.specs.Printed.{text_by, output_of};
 
 use answers::{put_timed_answer, put_timed_star_answer};
 use calendar::Reference;
-use libc::STDIN_FILENO;
 use program_io::{ERROR, OUTPUT, Text};
 use request_format::fields::{LENGTH, STAR_LENGTH};
 use request_text::typed_requests::{Answer, MESSAGE};
+use std::io::{self, Read, Write};
 
 // As many bytes for the sheet as program `sheet` has.
 fn sheet_room() -> [u8; 65536]
@@ -92,11 +93,22 @@ fn lines_room() -> [u8; 2000000] {
     [0; 2000000]
 }
 
-fn main() {
+// Reads the input and writes the text of it, to the output that it goes to.
+fn run<R: Read, O: Write, E: Write>(
+    reader: &mut R,
+    stdout: &mut O,
+    stderr: &mut E,
+) -> io::Result<()>
+    ensures output { OnOk result (IfSome (R.remaining reader.old) (λ s. Appends (O.contents stdout.old) (O.contents stdout.new) (take 2000000 (output_of s)))) }
+    ensures error { OnOk result (IfSome (R.remaining reader.old) (λ s. Appends (E.contents stderr.old) (E.contents stderr.new) (take 2000000 (error_of s)))) }
+{
     let mut input = text_room();
-    let length = io::read_full(STDIN_FILENO, &mut input);
+    let length = program_io::read_input(reader, &mut input)?;
     let mut lines = lines_room();
     let text = respond(&input, length, &mut lines);
-    let end = text.length;
-    io::write_all(text.descriptor, &lines[..end]);
+    program_io::write_text(stdout, stderr, text, &lines)
+}
+
+fn main(rt: HostRuntime) -> io::Result<()> {
+    run(&mut rt.stdin(), &mut rt.stdout(), &mut rt.stderr())
 }
