@@ -5,7 +5,7 @@
 // reads no byte past the request that it answers.
 #![tactic(auto)]
 
-ghost use Rattle.std.specs.Prelude.{◌≡◌, not, ◌+◌, length, take, IfOk};
+ghost use Rattle.std.specs.Prelude.{◌≡◌, not, ◌+◌, length, take, IfOk, OnErr};
 ghost use Rattle.std.specs.Io.KnownBytes.{Consumes};
 ghost use Rattle.decimal_text.specs.Texts.{capped, Put, Counts};
 ghost use Rattle.request_answers.specs.Sheet.{Begins};
@@ -39,6 +39,7 @@ fn read_request<R: Read>(reader: &mut R, room: &mut [u8]) -> io::Result<usize>
     requires { length room.old ≡ 115 }
     ensures counts { IfOk result (λ n. Counts n room.new) }
     ensures rest { IfOk result (λ n. Consumes (R.remaining reader.old) (R.remaining reader.new) (take n room.new)) }
+    ensures failed { OnErr result (length room.new ≡ length room.old) }
 {
     let got = program_io::read_input(reader, &mut room[..1])?;
     if got == 0 {
