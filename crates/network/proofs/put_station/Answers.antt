@@ -10,5 +10,5 @@ use Rattle.network.proofs.put_station.Goals as goal
 pub returns : goal.returns
 unfolding station_line
 returns c =
-    let number = filled_as _ _ _ _ _ _ _ (also (to_z-of_z w64 c.args.number c.ranges.number.sfits) refl) c.put_filled-middle.ensures in
+    let number = filled_as _ _ _ _ _ _ _ (also (to_z-of_z w64 c.args.number c.ranges.number) refl) c.put_filled-middle.ensures in
     joined (omega arith) (joined (omega arith) (put_as _ _ _ _ _ _ (station-filled _) number) c.put_number-end.ensures) c.put_byte.ensures

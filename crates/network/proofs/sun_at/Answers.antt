@@ -13,4 +13,4 @@ unfolding sun_at
 returns c =
     c.altitude_at.ensures
     ∙ ap (λ x. altitude_at x (to_z w64 (of_z w64 c.args.t))) (c.of_eclipse-o.ensures ∙ ap of_eclipse c.request-q.ensures)
-    ∙ ap (altitude_at _) (to_z-of_z w64 c.args.t c.ranges.t.sfits)
+    ∙ ap (altitude_at _) (to_z-of_z w64 c.args.t c.ranges.t)
