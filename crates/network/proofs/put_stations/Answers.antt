@@ -1,24 +1,16 @@
-use Rattle.std.proofs.Common.{rules, ◌≡◌, List, ◌++◌, ℕ, ◌≤◌, length, take, OnOk, IfSome, ◌+◌, ◌-◌, ◌*◌, ◌<◌, ◌/◌, ◌%◌, Bool, true, false, nat_eq, nat_lt, [], ◌∷◌, slice_index_or, slice_set, bit_and, bit_or, Fits, w8, w32, w64, Bor, MutBor, ℤ, pos, ◌+ℤ◌, ◌-ℤ◌, ◌*ℤ◌, ◌≤ℤ◌, ◌<ℤ◌, FitsSigned, to_z, of_z}
-use Rattle.std.specs.Io.KnownBytes.{Appends}
-use Rattle.sine_table.specs.Table.{Sines}
-use Rattle.clock_network.specs.declared.stations.Node.{Node}
-use Rattle.clock_network.specs.Nodes.{Holds}
-use Rattle.clock_network.specs.CheckLaws.{AllWithin}
-use Rattle.networks.specs.Network.{tos_of}
-use Rattle.decimal_text.specs.Texts.{Put, Counts}
-use Rattle.program_io.specs.Inputs.{Read, zeros}
-use Rattle.program_io.specs.Outputs.{Sent}
-use Rattle.network.specs.Printed.{clock_text, fault_text, station_line, station_lines, sun_text, sun_at, to_line, first_line, named_text, answer_text, output, error}
+-- `network::put_stations` meets its contract: a line for each station, one after the other.
+use Rattle.std.proofs.Common.{arith, refl}
+use Rattle.decimal_text.specs.laws.RowLaws.{rows_start, rows-turn, rows_end, put_as}
+use Rattle.network.specs.laws.PrintedLaws.{line_at, line-is, lines-all}
 use Rattle.network.proofs.put_stations.Goals as goal
 
--- src/main.rt:74:5
 pub loop-k-init : goal.loop-k-init
-loop-k-init c = ?
+loop-k-init c = rows_start _ _ _ _ (omega arith) (omega arith)
 
--- src/main.rt:74:5
 pub loop-k-preserved : goal.loop-k-preserved
-loop-k-preserved c = ?
+loop-k-preserved c =
+    rows-turn _ _ _ _ _ _ _ c.loop-k.invariant c.loop-k-test.true _ _
+    (put_as _ _ _ _ _ _ (line-is c.args.h.nodes c.args.h.count c.args.steps.now c.loop-k.k _ _ c.loop-k-test.true refl refl) c.put_station-at.ensures)
 
--- src/main.rt:67:1
 pub returns : goal.returns
-returns c = ?
+returns c = put_as _ _ _ _ _ _ (lines-all c.args.h.nodes c.args.h.count c.args.steps.now (omega arith)) (rows_end _ _ _ _ _ _ _ c.loop-k.invariant c.loop-k-test.false)
