@@ -1,0 +1,16 @@
+-- `network::put_stations` meets its contract: a line for each station, one after the other.
+use Rattle.std.proofs.Common.{arith, refl}
+use Rattle.decimal_text.specs.laws.RowLaws.{rows_start, rows-turn, rows_end, put_as}
+use Rattle.network.specs.laws.PrintedLaws.{line_at, line-is, lines-all}
+use Rattle.network.proofs.put_stations.Goals as goal
+
+pub loop-k-init : goal.loop-k-init
+loop-k-init c = rows_start _ _ _ _ (omega arith) (omega arith)
+
+pub loop-k-preserved : goal.loop-k-preserved
+loop-k-preserved c =
+    rows-turn _ _ _ _ _ _ _ c.loop-k.invariant c.loop-k-test.true _ _
+    (put_as _ _ _ _ _ _ (line-is c.args.h.nodes c.args.h.count c.args.steps.now c.loop-k.k _ _ c.loop-k-test.true refl refl) c.put_station-at.ensures)
+
+pub returns : goal.returns
+returns c = put_as _ _ _ _ _ _ (lines-all c.args.h.nodes c.args.h.count c.args.steps.now (omega arith)) (rows_end _ _ _ _ _ _ _ c.loop-k.invariant c.loop-k-test.false)
