@@ -17,8 +17,7 @@ put_named-requires c =
     let some = some-list h c.requires in
     let answer = c.network-answer.ensures some.0 some.1 in
     let named = sym answer.answer ∙ c.in-Named.is in
-    let few : h.count ≤ 64 = omega (arith, some.1.count, (named-within (zeros 901) (zeros 64) _ _ _ named _ some.0 refl refl).0) in
-    (
+    let few : h.count ≤ 64 = omega (arith, some.1.count, (named-within (zeros 901) (zeros 64) _ _ _ named _ some.0 refl refl).0) in (
       subst Sines (sym answer.room) (named-sines (zeros 901) (zeros 64) _ _ _ named),
       few,
       c.requires,
