@@ -1,4 +1,4 @@
-// The network of clocks.
+// The whole network in one list, for C and Rust.
 ghost use Rattle.std.specs.Prelude.{◌≡◌};
 ghost use Rattle.clock_network.specs.declared.stations.Node.{Node};
 ghost use Rattle.networks.specs.Network.{answer_to, sines_for, steps_for};
