@@ -12,7 +12,6 @@ ghost use Rattle.mend.specs.Printed.{note_line, tooLong, output, error};
 
 use std::io::{self, Read, Write};
 
-
 // How many bytes of each buffer go out.
 #[derive(Clone, Copy)]
 struct Streams {

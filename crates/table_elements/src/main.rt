@@ -172,7 +172,11 @@ fn lines_room() -> [u8; 160000] {
 }
 
 // Reads the input and writes the text of it, to the output that it goes to.
-fn run<R: Read, O: Write, E: Write>(reader: &mut R, stdout: &mut O, stderr: &mut E) -> io::Result<()>
+fn run<R: Read, O: Write, E: Write>(
+    reader: &mut R,
+    stdout: &mut O,
+    stderr: &mut E,
+) -> io::Result<()>
     ensures output { OnOk result (IfSome (R.remaining reader.old) (λ s. Appends (O.contents stdout.old) (O.contents stdout.new) (take 160000 (printed s).output))) }
     ensures error { OnOk result (IfSome (R.remaining reader.old) (λ s. Appends (E.contents stderr.old) (E.contents stderr.new) (take 128 (printed s).error))) }
 {

@@ -1,10 +1,7 @@
 -- `network::put_answer` meets its contract: the library's answer in words. What is asked of `put_named` follows from
 -- the answer to some list that is held.
-use Rattle.std.proofs.Common.{arith, ◌≡◌, ◌≤◌, refl, sym, subst, ◌∙◌, List, take}
+use Rattle.std.proofs.Common.{arith, ◌≤◌, refl, sym, subst, ◌∙◌}
 use Rattle.sine_table.specs.Table.{Sines}
-use Rattle.clock_network.specs.declared.stations.Node.{Node}
-use Rattle.clock_network.specs.declared.stations.Held.{Held}
-use Rattle.clock_network.specs.Nodes.{Holds}
 use Rattle.clock_network.specs.laws.HeldLaws.{some-list, listed}
 use Rattle.decimal_text.specs.laws.RowLaws.{put_as}
 use Rattle.program_io.specs.Inputs.{zeros}
@@ -17,8 +14,7 @@ put_named-requires c =
     let some = some-list h c.requires in
     let answer = c.network-answer.ensures some.0 some.1 in
     let named = sym answer.answer ∙ c.in-Named.is in
-    let few : h.count ≤ 64 = omega (arith, some.1.count, (named-within (zeros 901) (zeros 64) _ _ _ named _ some.0 refl refl).0) in
-    (
+    let few : h.count ≤ 64 = omega (arith, some.1.count, (named-within (zeros 901) (zeros 64) _ _ _ named _ some.0 refl refl).0) in (
       subst Sines (sym answer.room) (named-sines (zeros 901) (zeros 64) _ _ _ named),
       few,
       c.requires,

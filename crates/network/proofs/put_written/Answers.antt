@@ -1,13 +1,12 @@
 -- `network::put_written` meets its contract: the answer and no message, or a message and no answer.
-use Rattle.std.proofs.Common.{◌≡◌, sym, ap, subst, ◌∙◌, List, ℕ, ℤ, pos, replicate}
+use Rattle.std.proofs.Common.{sym, ap, subst, ◌∙◌, List, ℤ, pos, replicate}
 use Rattle.clock_network.specs.declared.stations.Held.{Held}
 use Rattle.clock_network.specs.Nodes.{Holds}
 use Rattle.clock_network.specs.laws.HeldLaws.{held-holds}
 use Rattle.decimal_text.specs.laws.RowLaws.{put_as}
-use Rattle.network_text.specs.declared.Typed.TheVariants as T
 use Rattle.program_io.specs.Inputs.{zeros}
 use Rattle.network.specs.Printed.{answer_text}
-use Rattle.network.specs.laws.PrintedLaws.{long-output, long-error, refused-streams, Given, given-streams, to-error, to-output}
+use Rattle.network.specs.laws.PrintedLaws.{long-output, long-error, refused-streams, given-streams, to-error, to-output}
 use Rattle.network.proofs.put_written.Goals as goal
 
 pub returns-then-text-gt65536-clause-text : goal.returns-then-text-gt65536-clause-text

@@ -1,9 +1,8 @@
 -- `sheet_bytes::respond` meets its contract: the bytes of the sheet for standard output, or the line of the refusal
 -- for standard error.
-use Rattle.std.proofs.Common.{arith, sym, ◌≡◌, ◌≤◌, length, take, length-take-le}
+use Rattle.std.proofs.Common.{arith, sym, ◌≡◌, length, length-take-le}
 use Rattle.request_answers.specs.laws.SheetLaws.{fits_written, fits}
 use Rattle.decimal_text.specs.laws.RowLaws.{copies_length}
-use Rattle.decimal_text.specs.Texts.{Counts}
 use Rattle.program_io.specs.laws.OutputLaws.{put_whole}
 use Rattle.sheet_bytes.specs.laws.StreamLaws.{sheet-out, line_out}
 use Rattle.sheet_bytes.proofs.respond.Goals as goal
@@ -21,7 +20,7 @@ returns-in-Written-clause-text c =
     let same : length c.sheet-answer.new.buf ≡ length c.sheet_room-room.result = omega arith in
     let w = put_whole _ _ _ _ c.put_text-stored.ensures (omega (arith, short, fit, same, copies_length c.sheet_room-room.ensures)) (omega arith) in
     sheet-out _ _ _ _ _ _ c.sines_room-sines.ensures c.sheet_room-room.ensures c.requires.0 (omega arith)
-        c.sheet-answer.ensures.answer c.sheet-answer.ensures.buffer _ c.in-Written.is _ w.0
+    c.sheet-answer.ensures.answer c.sheet-answer.ensures.buffer _ c.in-Written.is _ w.0
 
 pub returns-in-Written-clause-counts : goal.returns-in-Written-clause-counts
 returns-in-Written-clause-counts c =
@@ -33,4 +32,4 @@ returns-in-Written-clause-counts c =
 pub returns-in-Refused-clause-text : goal.returns-in-Refused-clause-text
 returns-in-Refused-clause-text c =
     line_out _ _ _ _ _ _ c.sines_room-sines.ensures c.sheet_room-room.ensures c.requires.0 (omega arith)
-        c.sheet-answer.ensures.answer c.sheet-answer.ensures.buffer _ c.in-Refused.is _ c.put_refusal-line.ensures.line
+    c.sheet-answer.ensures.answer c.sheet-answer.ensures.buffer _ c.in-Refused.is _ c.put_refusal-line.ensures.line
