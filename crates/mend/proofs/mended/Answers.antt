@@ -1,5 +1,5 @@
 -- `mend::mended` meets its contract: too long a file, a mended one, or one whose notes do not fit.
-use Rattle.std.proofs.Common.{arith, refl, sym, ◌∙◌}
+use Rattle.std.proofs.Common.{arith, sym, ◌∙◌}
 use Rattle.decimal_text.specs.laws.RowLaws.{put_as}
 use Rattle.mend.specs.laws.PrintedLaws.{too_long, refused-out, kept-first, notes-first, all_told}
 use Rattle.mend.proofs.mended.Goals as goal

@@ -1,6 +1,6 @@
 -- `mend::put_notes` meets its contract: a line for each note, one after the other.
 use Rattle.std.proofs.Common.{arith}
-use Rattle.decimal_text.specs.laws.RowLaws.{rows_start, rows_end, parts-turn}
+use Rattle.decimal_text.specs.laws.RowLaws.{rows_start, parts-turn}
 use Rattle.mend.specs.Printed.{note_line}
 use Rattle.mend.proofs.put_notes.Goals as goal
 

@@ -1,5 +1,5 @@
 -- the lines of the notes before the k-th are put
-use Rattle.std.proofs.Common.{length, ◌-◌, ◌/◌}
+use Rattle.std.proofs.Common.{length, ◌/◌}
 use Rattle.decimal_text.specs.Rows.{part}
 use Rattle.decimal_text.specs.laws.RowLaws.{Rows}
 use Rattle.mend.specs.Printed.{note_line}

@@ -1,9 +1,8 @@
 -- `sheet_bytes::respond` meets its contract: the bytes of the sheet for standard output, or the line of the refusal
 -- for standard error.
-use Rattle.std.proofs.Common.{arith, sym, ◌≡◌, ◌≤◌, length, take, length-take-le}
+use Rattle.std.proofs.Common.{arith, sym, ◌≡◌, length, length-take-le}
 use Rattle.request_answers.specs.laws.SheetLaws.{fits_written, fits}
 use Rattle.decimal_text.specs.laws.RowLaws.{copies_length}
-use Rattle.decimal_text.specs.Texts.{Counts}
 use Rattle.program_io.specs.laws.OutputLaws.{put_whole}
 use Rattle.sheet_bytes.specs.laws.StreamLaws.{sheet-out, line_out}
 use Rattle.sheet_bytes.proofs.respond.Goals as goal

@@ -1,5 +1,5 @@
 -- `stream::read_request` meets its contract: the request's first byte, and behind it the others.
-use Rattle.std.proofs.Common.{arith, rules, ap, sym, subst, ◌≡◌, ◌∙◌, ℕ, take, drop, length, ◌++◌, le_refl}
+use Rattle.std.proofs.Common.{rules, ap, sym, subst, ◌≡◌, ◌∙◌, take, drop, ◌++◌}
 use Rattle.std.specs.Io.KnownBytes.{Consumes}
 use lib.Seq.{take-append-le}
 use Rattle.program_io.proofs.Filled.{consumes_more}
