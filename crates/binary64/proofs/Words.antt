@@ -22,7 +22,7 @@ part = 2 ^ 26
 
 -- ---- one division, with D for 2^k and W for 2^26
 
--- D divides W: E-as-D is W
+-- D divides W: E·D is W
 low_nat : (a b D E W : ℕ) → 0 < D → E * D ≡ W → half_up (a * W + b) D ≡ a * E + (2 * b + D) / (2 * D)
 low_nat a b D E W p e =
     ap (λ (n : ℕ). n / (2 * D)) (split (a * W) (ap (λ (w : ℕ). a * w) (sym e) ∙ sym (mul_assoc a E D)))
@@ -97,7 +97,7 @@ pow_join i j n e = sym (pow-add 2 i j) ∙ ap (λ (x : ℕ). 2 ^ x) e
 twice_pow : (k : ℕ) → 2 ^ (k + 1) ≡ 2 * 2 ^ k
 twice_pow k = pow-add 2 k 1 ∙ mul_comm (2 ^ k) 2
 
--- ---- with the numbers as variables: E-as-D is 2^26, and L-as-E is 2^63
+-- ---- with the numbers as variables: E·D is 2^26, and L·E is 2^63
 module _ (a b D E L : ℕ) (l : b < part) (d : 0 < D) (e : E * D ≡ part) (m : L * E ≡ limit) where
   low_part : (2 * b + D) / (2 * D) ≤ E
   low_part = let h : (2 * b + D) / (2 * D) < suc E = (div-lt_iff_lt-mul (twice_positive D d)).1 (under (suc E * (2 * D)) (E * D) scale e) in omega arith

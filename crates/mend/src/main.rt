@@ -122,7 +122,7 @@ fn respond(
     }
 }
 
-// Reads the input and writes the text of it, to the output that it goes to.
+// Reads the input and writes the text of it to both outputs.
 fn run<R: Read, O: Write, E: Write>(
     reader: &mut R,
     stdout: &mut O,

@@ -7,7 +7,7 @@ use Rattle.shadow_geometry.specs.Exact.{AtMost, Less, AtLeast}
 
 -- "for every whole t", here in D-ths of a unit: where the exact distance is at most the exact L and t, the true one is
 -- less than the true L and t and 19 units; where it is at least the exact L and t, the true one is at least the true L
--- and t less 19 units. All over D-as-T.
+-- and t less 19 units. All over D·T.
 pub record Nineteen (D T : ℕ) (E N Ke Ut Vt Kt : ℤ) : Type 0 where
   pub at_most : (t : ℤ) → AtMost (E ² +ℤ N ²) (Ke +ℤ t)
       → Less ((Ut ² +ℤ Vt ²) *ℤ (pos D *ℤ pos D)) (Kt *ℤ pos D +ℤ (t +ℤ pos 19 *ℤ pos D) *ℤ pos T)

@@ -19,7 +19,7 @@ pub record TrueC (latitude : ℤ) : Type 0 where
   pub one : 10_000_000_000_000_000 * nat_abs (pos (n * n) *ℤ under_true latitude -ℤ pos (100_000_000 * (m * m) * (common * common)))
       ≤ 100_000_000 * (m * m) * (common * common)
 
--- R = (C + h)·c and P = (C-as-E + h)·s with h = height/6,378,245, in units: whole numbers over `placeCommon`
+-- R = (C + h)·c and P = (C·E + h)·s with h = height/6,378,245, in units: whole numbers over `place_common`
 unfoldable pub place_common : {latitude : ℤ} → TrueC latitude → ℕ
 place_common t = 6_378_245 * t.m * common
 

@@ -79,7 +79,7 @@ R y = true_r y.C y.station.height
 abbrev pub P : Sky → ℤ
 P y = true_p y.C y.station.height
 
--- over Q-as-K²: "ξ = R·sin H", "η = P·cos d - q·sin d" and "ζ = P·sin d + q·cos d" with "q = R·cos H"
+-- over Q·K²: "ξ = R·sin H", "η = P·cos d - q·sin d" and "ζ = P·sin d + q·cos d" with "q = R·cos H"
 unfoldable pub true_ξ : Sky → ℤ
 true_ξ y = R y *ℤ sin_H y *ℤ pos (K y)
 

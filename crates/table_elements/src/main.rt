@@ -171,7 +171,7 @@ fn lines_room() -> [u8; 160000] {
     [0; 160000]
 }
 
-// Reads the input and writes the text of it, to the output that it goes to.
+// Reads the input and writes the text of it to both outputs.
 fn run<R: Read, O: Write, E: Write>(
     reader: &mut R,
     stdout: &mut O,

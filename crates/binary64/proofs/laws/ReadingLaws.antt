@@ -1,4 +1,4 @@
--- Laws of a double's units. They depend on its value alone (`units-value`), which the fields of its bits give
+-- Laws of a double's units. They depend on its value alone (`units_value`), which the fields of its bits give
 -- (`units-fields`); and an exponent field of 2047 is that of what is not finite (`finite-fields`).
 use Rattle.std.specs.Prelude.{◌≡◌, refl, Bool, true, false, not, cond, ℕ, zero, suc, ◌+◌, ◌*◌, ◌/◌, ◌%◌, ◌^◌, ◌≤◌, ◌<◌, T, leb, eqb, pos, neg_ℤ, nat_abs, Float}
 use Rattle.std.proofs.Math.Path.{sym}

@@ -1,5 +1,5 @@
 -- The rule's R is within 5 units of the true one, and P within 5½ (`place-close`), at every latitude and height of a
--- station; and the true place is at most 1.00492 from the Earth's centre (`place-size`). Why: C times the cosine or
+-- station; and the true place is at most 1.00492 from the Earth's centre (`place_size`). Why: C times the cosine or
 -- the sine is 3.994 off (Meridian); R and P, h, and Z for P, are rounded, ½ each.
 use Rattle.std.specs.Prelude.{◌≡◌, [], ◌∷◌, ℕ, ◌+◌, ◌*◌, ◌≤◌, ℤ, ◌+ℤ◌, ◌-ℤ◌, ◌*ℤ◌, ◌≤ℤ◌}
 use Rattle.std.proofs.Math.Path.{ap}

@@ -84,11 +84,11 @@ module _ (y : Sky) where
   abbrev eL : Cone → ℤ
   eL k = exact_L y.n y.axis (place_of y.station) y.τ k
 
-  -- n⁶·10^16, which makes D-as-T of 10^16·Q·K²
+  -- n⁶·10^16, which makes D·T of 10^16·Q·K²
   abbrev h : ℤ
   h = pos 10_000_000_000_000_000 *ℤ (pos X *ℤ pos X)
 
-  -- u, v and L over D-as-T: the exact ones less the true ones
+  -- u, v and L over D·T: the exact ones less the true ones
   u-apart : eu *ℤ pos (T y) -ℤ true_u y *ℤ pos (D y.n) ≡ h *ℤ east (K y) (Q y) sH (sin_H y) r (R y)
   unfolding exact_u exact_ξ true_u true_ξ east
   u-apart =
@@ -119,7 +119,7 @@ module _ (y : Sky) where
       ⊕ v9 ⊗ v3 ⊗ v5) ⊗ (v0 ⊗ v1 ⊗ v1)) ⊗ var 13)) tt
 
   module _ (some : 1 ≤ y.n) (t : nat_abs y.τ ≤ 3 * y.n) (z : AxisSizes 30000000 y.axis) (i : StationSizes y.station) where
-    -- D-as-T is not 0
+    -- D·T is not 0
     some-X : 1 ≤ X
     some-X = mul-pos (mul-pos some some) some
 

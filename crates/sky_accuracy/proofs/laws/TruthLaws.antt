@@ -75,7 +75,7 @@ module _ (o : Occultation) (guard : pos 32 ≤ℤ o.guard) (c : TrueC o.station.
           alternate = turns-alternate (course_of o) (sound o i) (true_answers o c) (truly-said o guard c i);
         }
 
-  -- of the sheet that a call wrote, n bytes of its buffer (circumstances, sheet_answer and sheetBuffer: what
+  -- of the sheet that a call wrote, n bytes of its buffer (circumstances, sheet_answer and sheet_buffer: what
   -- `circumstances::sheet` promises)
   pub truth : (sines old : List ℕ) (n : ℕ) → sheet_answer o sines old ≡ A.Written n → Demand3 (course_of o) (true_answers o c) n (sheet_buffer o sines old)
   unfolding sheet_answer sheet_buffer

@@ -1,5 +1,5 @@
 -- There is a true C at every latitude (`exists`): the root of 10^8·m²·K²/w to the unit, for m = 10^20 and w =
--- `underTrue`.
+-- `under_true`.
 use Rattle.std.specs.Prelude.{◌≡◌, [], ◌∷◌, ℕ, zero, suc, ◌+◌, ◌*◌, ◌/◌, ◌%◌, ◌≤◌, ◌<◌, ℤ, pos, nat_abs, ◌+ℤ◌, ◌-ℤ◌, ◌*ℤ◌, ◌≤ℤ◌, ◌<ℤ◌}
 use Rattle.std.proofs.Common.{subst, ⊎_elim, arith, le_trans, mul-le-mul_left, mul-pos, div-add-mod', mod-lt}
 use Rattle.std.proofs.Math.Dec.{leb→le}
