@@ -2,10 +2,10 @@
 // both is in `specs/`.
 #![tactic(auto)]
 
-ghost use Rattle.std.specs.Prelude.{◌≡◌, ℕ, List, take, length, IfOk, OnOk, OnErr, IfSome};
+ghost use Rattle.std.specs.Prelude.{ℕ, List, take, IfOk, OnOk, OnErr, IfSome};
 ghost use Rattle.std.specs.Io.KnownBytes.{Appends, Consumes};
 ghost use Rattle.decimal_text.specs.Texts.{Counts};
-ghost use Rattle.program_io.specs.Inputs.{Read};
+ghost use Rattle.program_io.specs.Inputs.{NoneLost, Read};
 ghost use Rattle.program_io.specs.Outputs.{Sent};
 
 use std::io::{self, Read, Write};
@@ -25,13 +25,13 @@ pub struct Text {
 }
 
 // Reads until the array is full or the input ends; how many bytes now stand at the array's start. Where it is known
-// what the reader has left, these are its first bytes, and the reader has the others left. After a failed read the array
-// holds what was read before it.
+// what the reader has left, these are its first bytes, and the reader has the others left. A failed read loses none: the
+// array begins with the bytes that the reader has no more.
 pub fn read_input<R: Read>(reader: &mut R, array: &mut [u8]) -> io::Result<usize>
     ensures counts { IfOk result (λ n. Counts n array.new) }
     ensures first { IfOk result (λ n. IfSome (R.remaining reader.old) (λ input. Read input array.new n)) }
     ensures rest { IfOk result (λ n. Consumes (R.remaining reader.old) (R.remaining reader.new) (take n array.new)) }
-    ensures failed { OnErr result (length array.new ≡ length array.old) }
+    ensures failed { OnErr result (NoneLost (R.remaining reader.old) (R.remaining reader.new) array.new) }
 {
     let mut done = 0;
     while done < array.len() {

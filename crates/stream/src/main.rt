@@ -8,6 +8,7 @@
 ghost use Rattle.std.specs.Prelude.{◌≡◌, not, ◌+◌, length, take, IfOk, OnErr};
 ghost use Rattle.std.specs.Io.KnownBytes.{Consumes};
 ghost use Rattle.decimal_text.specs.Texts.{capped, Put, Counts};
+ghost use Rattle.program_io.specs.Inputs.{NoneLost};
 ghost use Rattle.request_answers.specs.Sheet.{Begins};
 ghost use Rattle.streams.specs.Streams.{sheet_for, told_for, stops_for};
 ghost use Rattle.stream.specs.Unwritten.{unwritten_line};
@@ -39,7 +40,7 @@ fn read_request<R: Read>(reader: &mut R, room: &mut [u8]) -> io::Result<usize>
     requires { length room.old ≡ 115 }
     ensures counts { IfOk result (λ n. Counts n room.new) }
     ensures rest { IfOk result (λ n. Consumes (R.remaining reader.old) (R.remaining reader.new) (take n room.new)) }
-    ensures failed { OnErr result (length room.new ≡ length room.old) }
+    ensures failed { OnErr result (NoneLost (R.remaining reader.old) (R.remaining reader.new) room.new) }
 {
     let got = program_io::read_input(reader, &mut room[..1])?;
     if got == 0 {
