@@ -1,5 +1,5 @@
 -- The answer to a request's bytes, given a buffer for table S and one for its sheet: as text, and as it is stored.
--- The answer, and what it leaves in the buffers: request_sheets, Sheet.
+-- The answer, and what it leaves in the buffers: request_answers, Sheet.
 use Rattle.std.specs.Prelude.{List, [], ℕ, ℤ, take}
 use Rattle.circumstances.specs.declared.Answer.{Answer}
 use Rattle.circumstances.specs.declared.Answer.TheVariants as A

@@ -1,5 +1,5 @@
 -- Demand 3 of an occultation, of the Sun or of a star: its course (Sheet), its exact answers (seconds, Exact), and the
--- claim about both (courses, Demand3). Definitions only.
+-- claim about both (local_circumstances, Demand3). Definitions only.
 use Rattle.std.specs.Prelude.{◌≡◌, List, ℕ}
 use Rattle.requests.specs.declared.Occultation.{Occultation}
 use Rattle.seconds.specs.Exact.{ExactlyInside, WithinUnits}

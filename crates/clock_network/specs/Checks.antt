@@ -1,5 +1,5 @@
 -- What a network's list is refused for before the buffer for table S: document 02, wish 10. Definitions only. What
--- its clocks are: chains, Steps.
+-- its clocks are: Steps.
 use Rattle.std.specs.Prelude.{false, cond, ◌&&◌, List, [], ◌∷◌, ℕ, suc, ◌+◌, ◌*◌, ltb, leb, ℤ, pos, length, get_or}
 use Rattle.sheet_types.specs.declared.refusals.Checked.{Checked}
 use Rattle.sheet_types.specs.declared.refusals.Checked.TheVariants as C

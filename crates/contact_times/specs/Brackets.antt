@@ -33,7 +33,7 @@ unfoldable pub side_at : Crossing → (first : ℤ) (start k : ℕ) → ℕ
 side_at c first start k = side_of start (code (state_at c (first +ℤ pos k)))
 
 -- halving: from low, where f holds, and high, where it does not, to one where it holds with the next where it does not
--- (BracketLaws, halved-is). `n` is at least high - low; more rounds change nothing (halved-enough)
+-- (BracketLaws, halved_is). `n` is at least high - low; more rounds change nothing (halved-enough)
 unfoldable pub halved : (n : ℕ) (f : ℕ → Bool) (low high : ℕ) → ℕ
 halved zero f low high = low
 halved (suc n) f low high =

@@ -1,6 +1,6 @@
-// Entries of one phase, from the states of the seconds of a window, which are stored as runs (`runs`). A state is 0
-// outside, 1 inside, any other unsure. Seconds are counted from the window's first, which is 0. What the entries are,
-// and what holds of them, is `contact_entries`. `step` is internal: it names no shadow and no byte of a sheet.
+// Entries of one phase, from the states of the seconds of a window, which are stored as runs (`run_length`). A state
+// is 0 outside, 1 inside, any other unsure. Seconds are counted from the window's first, which is 0. What the entries
+// are, and what holds of them, is in `specs/`. `step` is internal: it names no shadow and no byte of a sheet.
 #![tactic(auto)]
 
 pub mod entries;

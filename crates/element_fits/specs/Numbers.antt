@@ -104,7 +104,7 @@ unfoldable pub answer_to : (rows sidereal radii : List ℤ) (tolerance : ℤ) (s
 answer_to n g k tolerance sines room second = of_admitted (admitted n g k tolerance sines) (in_rooms room second (fits_asked n g k tolerance))
 
 -- ---- the buffers: "22 elements in document 01's order; misfits: .. x, y, d, l1, l2, μ, in this order (6 numbers)". That
--- for table S holds `sinesAfter (admitted ..)`: it "is filled from the check of 2 on"
+-- for table S holds `sines_after (admitted ..)`: it "is filled from the check of 2 on"
 
 abbrev pub six_of : Misfits → List ℤ
 six_of m = m.x ∷ m.y ∷ m.d ∷ m.l1 ∷ m.l2 ∷ m.mu ∷ []

@@ -21,7 +21,7 @@ pub record Acceptable (cs ts : List ℤ) (tolerance : ℤ) : Type 0 where
   -- the seven hours"
   pub close : (i : ℕ) → i < 7 → pos (nat_abs (cubic_at (cubic_from cs 0) (second i) -ℤ get_or ts i (pos 0))) ≤ℤ tolerance
 
--- "Accept a proposed fit exactly if": the law `accepted-exactly-if` of `Exactly`
+-- "Accept a proposed fit exactly if": the law `accepted_exactly_if` of `Exactly`
 abbrev pub AcceptedExactlyIf : Type 0
 AcceptedExactlyIf =
     (cs ts : List ℤ) (tolerance : ℤ)

@@ -178,7 +178,7 @@ fn put_instant_line(out: &mut [u8], at: usize, i: Instant) -> usize
     put_instant(out, next, i)
 }
 
-// What is shown of a kind with its first two fields. A new kind is an arm here and a row of `shownFor`.
+// What is shown of a kind with its first two fields. A new kind is an arm here and a row of `shown_for`.
 pub fn shown_for(kind: Kind, a: u32, b: u32) -> Shown
     ensures { result ≡ shown_for kind a b }
 {

@@ -80,7 +80,7 @@ fn put_share(out: &mut [u8], at: usize, share: u32) -> usize
     decimal_text::put_filled(out, at, b"share #", &numbers)
 }
 
-// The text of an entry's line, without its end. A new kind is an arm here and a row of `textFor`.
+// The text of an entry's line, without its end. A new kind is an arm here and a row of `text_for`.
 pub fn put_entry_text(out: &mut [u8], at: usize, entry: Entry) -> usize
     ensures { Put out.old at (text_of entry) out.new result }
 {

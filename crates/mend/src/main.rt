@@ -136,10 +136,10 @@ fn run<R: Read, O: Write, E: Write>(
     let mut sheets = room();
     let mut text = room();
     let streams = respond(&input, length, &mut sheets, &mut text);
-    let kept = streams.output;
-    let told = streams.error;
-    stdout.write_all(&sheets[..kept])?;
-    stderr.write_all(&text[..told])
+    let written = streams.output;
+    let reported = streams.error;
+    stdout.write_all(&sheets[..written])?;
+    stderr.write_all(&text[..reported])
 }
 
 fn main(rt: HostRuntime) -> io::Result<()> {

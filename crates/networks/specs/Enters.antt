@@ -28,6 +28,6 @@ is_enter (Leave from to) = false
 is_enter (Graze from to) = false
 is_enter (Open from to) = false
 
--- that of the penumbra's entries on the sheet (courses, `sheetOf` and `entriesIn`), as it is stored
+-- that of the penumbra's entries on the sheet (local_circumstances, `sheetOf` and `entries_in`), as it is stored
 unfoldable pub firstTo : Occultation → ℕ
 firstTo o = first_enter (entries_in Penumbra (sheetOf (course_of o)))

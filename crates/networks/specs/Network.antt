@@ -1,5 +1,5 @@
--- The whole network in one list: document 02, wish 10. Definitions only. What its clocks are: chains, Steps; what a
--- list is refused for: network_checks, Checks; a station's first enter: enters, Enters.
+-- The whole network in one list: document 02, wish 10. Definitions only. What its clocks are: clock_network,
+-- Steps; what a list is refused for: clock_network, Checks; a station's first enter: Enters.
 use Rattle.std.specs.Prelude.{cond, ◌&&◌, List, map, ℕ, eqb, ℤ, pos, nat_abs, length, get_or}
 use Rattle.sheet_types.specs.declared.refusals.Checked.{Checked}
 use Rattle.sheet_types.specs.declared.refusals.Checked.TheVariants as C

@@ -9,7 +9,6 @@ use Rattle.sheet_types.specs.declared.refusals.Refusal.{Refusal}
 use Rattle.sheet_types.specs.declared.refusals.Checked.{Checked}
 use Rattle.sheet_types.specs.declared.refusals.Checked.TheVariants as C
 use Rattle.sheet_types.specs.Refusals.{refusal}
-use Rattle.obscuration.specs.Share.{Sizes}
 use Rattle.station.specs.Place.{place_of}
 use Rattle.requests.specs.declared.Request.{Request}
 use Rattle.requests.specs.Requests.{of_eclipse}

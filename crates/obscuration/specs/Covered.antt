@@ -30,6 +30,6 @@ pub record ShareMeans (q : Request) (τ : ℤ) (s : ℕ) : Type 0 where
   -- and it is 0 wherever the penumbra is surely left
   pub none : state_at (of_eclipse q) Penumbra τ ≡ outside → s ≡ 0
 
--- of every second of every request within the limits: CoveredLaws, `all-means`
+-- of every second of every request within the limits: CoveredLaws, `all_means`
 abbrev pub AllMeans : Type 0
 AllMeans = (q : Request) → InLimits (of_eclipse q) → (τ : ℤ) → InWindow q.window τ → ShareMeans q τ (share_of q τ)

@@ -57,7 +57,7 @@ share_of r n m = 1000000 * sum_of (lesser r n m) strips / sum_of (sun r) strips
 unfoldable pub share : (L1 L2 M : ℤ) → ℕ
 share L1 L2 M = share_of (rOf L1 L2) (n_of L1 L2) (m_of M)
 
--- what L1, L2 and M of a request within its limits are (covered, CoveredLaws, sizes-at)
+-- what L1, L2 and M of a request within its limits are (CoveredLaws, sizes-at)
 pub record Sizes (L1 L2 M : ℤ) : Type 0 where
   pub low : pos 48860000 ≤ℤ L1
   pub high : L1 ≤ℤ pos 61140000

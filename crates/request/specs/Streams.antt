@@ -1,4 +1,4 @@
--- What the program writes of a typed request: its bytes. What is wrong with the text: typed_requests, Meaning.
+-- What the program writes of a typed request: its bytes. What is wrong with the text: request_text, Meaning.
 use Rattle.std.specs.Prelude.{List, [], ℕ}
 use Rattle.request_format.specs.Request.{bytes_for}
 use Rattle.request_text.specs.Meaning.{Meaning, asked, refused, meaning_of}

@@ -1,5 +1,5 @@
 -- The programs' input: the request that its bytes hold, an eclipse's or a star's.
--- The bytes of a request: request_bytes, Layout and Request; its numbers: request_fields, Fields.
+-- The bytes of a request: Layout and Request; its numbers: Fields.
 use Rattle.std.specs.Prelude.{false, List, [], ℕ, ◌+◌, ℤ, pos, get_or}
 use Rattle.elements.specs.Elements.{elements_of}
 use Rattle.elements.specs.Stars.{star_of}

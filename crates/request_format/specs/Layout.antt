@@ -19,7 +19,7 @@ complement whole (negsuc n) = whole - suc n
 unfoldable pub signed : ℕ → ℕ → ℤ
 signed half n = cond (ltb n half) (pos n) (pos n -ℤ pos (2 * half))
 
--- "numbers big-endian": a number's bytes, and the number of the bytes at a place (two, four, two_at, fourAt: records)
+-- "numbers big-endian": a number's bytes, and the number of the bytes at a place (two, four, two_at, four_at: records)
 abbrev pub big_endian : Width → ℕ → List ℕ
 big_endian W.Unsigned2 n = two n
 big_endian W.Signed2 n = two n

@@ -1,4 +1,4 @@
-// The bytes of a request: its numbers to bytes, and bytes to its numbers, by the table of `request_fields`.
+// The bytes of a request: its numbers to bytes, and bytes to its numbers, by the table of `fields`.
 ghost use Rattle.std.specs.Prelude.{◌≡◌, true, ◌+◌, ◌≤◌, ◌<◌, nat_abs, length};
 ghost use Rattle.std.proofs.lemmas.List.Edits.{sets};
 ghost use Rattle.request_format.specs.declared.fields.Shape.TheVariants.{Eclipse, Star};

@@ -1,5 +1,5 @@
 -- The names of a request's numbers, and which of them a line says.
--- The numbers: request_fields, Fields.
+-- The numbers: request_format, Fields.
 use Rattle.std.specs.Prelude.{ℕ, ◌+◌, Bool, true, false, cond, ◌&&◌, List, [], ◌∷◌, map, eqb, length}
 use Rattle.request_format.specs.declared.fields.Shape.{Shape}
 use Rattle.request_format.specs.Fields.{Number, layout_of, numbers_of}

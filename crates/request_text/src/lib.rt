@@ -19,7 +19,7 @@ ghost use Rattle.request_text.specs.laws.TypingLaws.{Read};
 use request_format::fields::{COUNT, STAR_COUNT, Shape, Width};
 use tokens::{Class, Units};
 
-// Why a text is refused. A field is counted from 0, in the order of the request's numbers (`request_fields`).
+// Why a text is refused. A field is counted from 0, in the order of the request's numbers (`request_format`).
 #[derive(Clone, Copy)]
 pub enum Fault {
     // a name that no field has

@@ -2,7 +2,7 @@
 use Rattle.std.specs.Prelude.{cond, ℕ, zero, suc, ◌+◌, ◌*◌, ◌/◌, ◌≤◌, ◌<◌, leb}
 
 -- "root(n) is the largest whole number whose square is at most n": r * r is at most n, and the next square is more.
--- `root` below is that number for every n below 2^64, and there is no other: RootLaws, root-is and root_unique.
+-- `root` below is that number for every n below 2^64, and there is no other: RootLaws, root_is and root_unique.
 pub record IsRoot (n r : ℕ) : Type 0 where
   pub low : r * r ≤ n
   pub high : n < (r + 1) * (r + 1)

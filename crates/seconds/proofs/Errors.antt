@@ -1,5 +1,5 @@
 -- How far the shadow at a second is from the exact one: of every second of every occultation within its limits
--- (`errors-proved`).
+-- (`errors_proved`).
 use Rattle.std.specs.Prelude.{◌*◌, ◌≤◌, ℤ, pos, nat_abs, ◌-ℤ◌, ◌*ℤ◌}
 use Rattle.sheet_types.specs.declared.phases.Phase.{Phase}
 use Rattle.station.specs.Place.{place_of}

@@ -12,7 +12,7 @@ use Rattle.seconds.specs.declared.OneSecond.TheVariants.{Is, Refused}
 use Rattle.seconds.specs.Seconds.{moment_at}
 use Rattle.seconds.specs.OneSecond.{first_phase, second_phase}
 
--- "Exactly inside: that distance is less than that L" (geometry, Exact)
+-- "Exactly inside: that distance is less than that L" (shadow_geometry, Exact)
 abbrev pub ExactlyInside : Occultation → Phase → ℤ → Type 0
 ExactlyInside o φ τ = Exact.ExactlyInside φ (moment_at o τ) (cone o.body φ)
 

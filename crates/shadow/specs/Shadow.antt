@@ -35,14 +35,14 @@ pub record AreCoordinates (p : Place) (o : Orientation) (x : Coordinates) : Type
   pub eta : Value (near (p.p *ℤ o.dcosine -ℤ near (p.r *ℤ o.hcosine) one *ℤ o.dsine) one) 202000000 x.eta
   pub zeta : Value (near (p.p *ℤ o.dsine +ℤ near (p.r *ℤ o.hcosine) one *ℤ o.dcosine) one) 202000000 x.zeta
 
--- the axis from the station: each letter is that of document 01's page (geometry, Shadow)
+-- the axis from the station: each letter is that of document 01's page (shadow_geometry, Shadow)
 pub record IsOffset (a : Axis) (p : Place) (τ : ℤ) (r : Offset) : Type 0 where
   pub u : Value (u (moment_of a p τ)) 602170000 r.u
   pub v : Value (v (moment_of a p τ)) 703170000 r.v
   pub zeta : Value (ζ (moment_of a p τ)) 202000000 r.zeta
   pub m : Value (M (moment_of a p τ)) 1000000000000000000 r.m
 
--- L of a cone from ζ: at a moment's ζ it is that moment's L (geometry, Shadow)
+-- L of a cone from ζ: at a moment's ζ it is that moment's L (shadow_geometry, Shadow)
 abbrev pub radius_at : Cone → (ζ τ : ℤ) → ℤ
 radius_at k ζ τ = l_at k τ -ℤ near (ζ *ℤ k.tanf) one
 

@@ -1,5 +1,5 @@
 -- What the program writes of its input, all bytes of it, with 901 numbers for table S and 65,536 bytes for the sheet.
--- These are definitions. The sheet as it is stored: request_sheets, Sheet; the line of a refusal: answers, Answers.
+-- These are definitions. The sheet as it is stored: request_answers, Sheet; the line of a refusal: answers, Answers.
 use Rattle.std.specs.Prelude.{List, ℕ}
 use Rattle.request_answers.specs.Sheet.{sheet_stored}
 use Rattle.program_io.specs.Inputs.{zeros}

@@ -1,4 +1,4 @@
--- The hand_worked sheet of document 01, as entries: well formed, 45 bytes long, and read back from its bytes. It shows
+-- The hand-worked sheet of document 01, as entries: well formed, 45 bytes long, and read back from its bytes. It shows
 -- how the laws build a sheet up.
 use Rattle.std.specs.Prelude.{◌≡◌, refl, List, [], ◌∷◌, length}
 use Rattle.std.proofs.Common.{arith}

@@ -2,10 +2,10 @@
 --   written_then_read    entries that are accepted, written and read back are the same entries, number for number;
 --   read_then_written    a sheet that reads well is written back to the same bytes;
 --   accepted-is_written  the reader accepts exactly what the writer writes for some entries;
---   read-back            the bytes of well_formed entries are read back, whatever stands after them;
+--   read_back            the bytes of well-formed entries are read back, whatever stands after them;
 --   through_buffer, through_room   the first two, of the byte and number buffers that the functions leave.
--- The writer leaves `bytes_of es` at the buffer's start (`bufferAfterList`), the reader `numbersOf es` at the buffer's
--- (`roomAfter`).
+-- The writer leaves `bytes_of es` at the buffer's start (`buffer_after_list`), the reader `numbers_of es` at the
+-- start of its own (`room_after`).
 use Rattle.std.specs.Prelude.{ℕ, suc, ◌+◌, ◌-◌, ◌*◌, ◌/◌, ◌≤◌, ◌≡◌, refl, List, [], ◌∷◌, ◌++◌, ◌↔◌, cond, length, take, drop}
 use Rattle.std.proofs.Common.{sym, ap, ◌∙◌, append-nil, arith, zero-add, le-leb, take_at, length-append, drop_of_length-le}
 use Rattle.sheet_format.specs.declared.kinds.Entry.{Entry}
@@ -31,7 +31,7 @@ Reads s = (es : List Entry) × (n : ℕ) × (read_whole s ≡ sheet es n)
 abbrev pub IsWritten : List ℕ → Type 0
 IsWritten s = (l : List ℕ) × (es : List Entry) × (n : ℕ) × (list_whole l ≡ sheet es n) × (s ≡ bytes_of es)
 
--- ---- well_formed entries are accepted
+-- ---- well-formed entries are accepted
 
 -- an entry has a byte at least
 few : (es : List Entry) → length es ≤ length (bytes_of es)

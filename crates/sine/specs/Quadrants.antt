@@ -40,7 +40,7 @@ pub record ByRow (q : Quadrant) (a : ℕ) : Type 0 where
   pub sine-is : sine (pos a) ≡ (row q).sine (s q a) (c q a)
   pub cosine-is : cosine (pos a) ≡ (row q).cosine (s q a) (c q a)
 
--- "That is proved for every angle, each end in both its quadrants." The proof: QuadrantLaws, `four-quadrants`.
+-- "That is proved for every angle, each end in both its quadrants." The proof: QuadrantLaws, `four_quadrants`.
 pub record FourQuadrants : Type 0 where
   pub holds : (q : Quadrant) (a : ℕ) → In q a → ByRow q a
   pub every : (a : ℕ) → a ≤ 360_000_000 → (q : Quadrant) × In q a

@@ -9,7 +9,7 @@ use Rattle.sine_accuracy.specs.TrueSine.{true_sine, true_cosine}
 unfoldable pub arc_of : ℤ → ℤ
 arc_of w = w *ℤ pos 314_159_265_358_979_323_846
 
--- the two series of so small an angle, of at most 3 millionths, over `restCommon`: sin w = x and cos w = 1 - x²/2. The
+-- the two series of so small an angle, of at most 3 millionths, over `rest_common`: sin w = x and cos w = 1 - x²/2. The
 -- next terms, x³/3! and x⁴/4!, are below 10^-22 and 10^-30, less than what is cut off the series of z
 unfoldable pub rest_common : (f : ℕ) → ℕ
 rest_common f = 2 * (denominator * f) * (denominator * f)
@@ -22,7 +22,7 @@ unfoldable pub cosine_rest : (f : ℕ) → ℤ → ℤ
 unfolding rest_common arc_of
 cosine_rest f w = pos (rest_common f) -ℤ arc_of w *ℤ arc_of w
 
--- the sine and the cosine of the angle, over `angleCommon`
+-- the sine and the cosine of the angle, over `angle_common`
 unfoldable pub angle_common : (f : ℕ) → ℕ
 unfolding common rest_common
 angle_common f = common * rest_common f

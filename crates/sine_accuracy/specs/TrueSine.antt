@@ -1,4 +1,4 @@
--- What is true of a sine: the sine series and the cosine series (sine_series, Series) at any angle of whole millionths
+-- What is true of a sine: the sine series and the cosine series (Series) at any angle of whole millionths
 -- of a degree, and how far a number is from such a fraction. Definitions only.
 use Rattle.std.specs.Prelude.{ℕ, zero, suc, ◌*◌, ◌/◌, ◌%◌, ◌≤◌, ℤ, pos, neg_ℤ, nat_abs, ◌-ℤ◌, ◌*ℤ◌}
 use Rattle.sine.specs.Sine.{reduced}

@@ -4,7 +4,7 @@
 -- "Truly" is by these formulas, with circular limbs, on the spheroid with document 01's E = 99,330,658.
 -- Krasovsky's flattening 1:298.3 itself gives 99,330,657.838, which moves a place by up to 0.094 of a unit; for that E
 -- nothing is proved here.
--- It is demand 3 (courses, Demand3) with the true answers in place of the exact ones. Definitions only.
+-- It is demand 3 (local_circumstances, Demand3) with the true answers in place of the exact ones. Definitions only.
 use Rattle.std.specs.Prelude.{ℕ, ℤ, pos, ◌+ℤ◌}
 use Rattle.elements.specs.Stars.{axis_of}
 use Rattle.shadow_geometry.specs.Shadow.{cone}

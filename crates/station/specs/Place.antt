@@ -16,7 +16,7 @@ abbrev pub E : ℤ
 E = pos 99330658
 
 -- "With s, c the sine and cosine of latitude: W = root(c² + near(s·E/10^8)·s)". What is under the root is not
--- negative: PlaceLaws, under-low.
+-- negative: PlaceLaws, under_low.
 unfoldable pub under : (s c : ℤ) → ℤ
 under s c = c *ℤ c +ℤ near (s *ℤ E) one *ℤ s
 

@@ -27,7 +27,7 @@ station_sizes s w =
       deltat = nat_abs_le s.deltat (≤ℤ_trans (le_z_yes tt) i.1.1.1.1.0.0) i.1.1.1.1.0.1;
     }
 
--- a place on the spheroid, at any height in range, with a margin; PlaceLaws, place-sizes: every station in its ranges
+-- a place on the spheroid, at any height in range, with a margin; PlaceLaws, place_sizes: every station in its ranges
 -- has such a one
 pub record PlaceSizes (place : Place) : Type 0 where
   pub r : nat_abs place.r ≤ 101000000

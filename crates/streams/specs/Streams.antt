@@ -1,5 +1,5 @@
 -- Requests that follow each other: where each ends, the answer to it, and the report on standard error. The answer to
--- a request's bytes, and what it leaves in the buffers: request_sheets, Sheet.
+-- a request's bytes, and what it leaves in the buffers: request_answers, Sheet.
 use Rattle.std.specs.Prelude.{Bool, true, false, cond, List, [], ◌++◌, ℕ, eqb, get_or}
 use Rattle.sheet_types.specs.declared.refusals.Refusal.{Refusal}
 use Rattle.circumstances.specs.declared.Answer.{Answer}

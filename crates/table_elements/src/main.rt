@@ -185,10 +185,10 @@ fn run<R: Read, O: Write, E: Write>(
     let mut lines = lines_room();
     let mut message = [0u8; 128];
     let streams = respond(&text, length, &mut lines, &mut message);
-    let printed = streams.output;
-    let told = streams.error;
-    stdout.write_all(&lines[..printed])?;
-    stderr.write_all(&message[..told])
+    let written = streams.output;
+    let reported = streams.error;
+    stdout.write_all(&lines[..written])?;
+    stderr.write_all(&message[..reported])
 }
 
 fn main(rt: HostRuntime) -> io::Result<()> {

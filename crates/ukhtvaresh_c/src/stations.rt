@@ -1,6 +1,5 @@
 // The whole network in one list, for C and Rust.
 ghost use Rattle.std.specs.Prelude.{◌≡◌};
-ghost use Rattle.clock_network.specs.declared.stations.Node.{Node};
 ghost use Rattle.networks.specs.Network.{answer_to, sines_for, steps_for};
 ghost use Rattle.ukhtvaresh.specs.NetworkReply.{network_reply};
 

@@ -1,5 +1,5 @@
 -- Mending the year file (document 02, wish 11): the answer, and the buffers afterwards. The walk, what is kept and
--- what is noted: `kept_sheets`.
+-- what is noted: Walk.
 use Rattle.std.specs.Prelude.{ℕ, List, ◌++◌, cond, leb, length, drop}
 use Rattle.sheet_types.specs.Refusals.{refusal}
 use Rattle.year_file.specs.Walk.{kept, notes}

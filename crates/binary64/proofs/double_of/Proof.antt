@@ -1,4 +1,4 @@
--- `binary64::double_of` meets its contract: the casts lose nothing, and `reads-back` says how the quotient is read.
+-- `binary64::double_of` meets its contract: the casts lose nothing, and `reads_back` says how the quotient is read.
 use mathlib.Core.Path.{◌≡◌, sym, ap, subst}
 use native.Mathlib.Omega.{arith}
 use lib.Dec.{T}

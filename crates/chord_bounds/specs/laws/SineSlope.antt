@@ -1,6 +1,6 @@
 -- The first differences of the true sine and of the sine rule, at any two whole angles.
---   true_bent        `trueSine` as a function whose second differences are bounded
---   true_slope       10^13 |t(z+1) - t(z)| ≤ 175,200 common, where t is `trueSine`
+--   true_bent        `true_sine` as a function whose second differences are bounded
+--   true_slope       10^13 |t(z+1) - t(z)| ≤ 175,200 common, where t is `true_sine`
 --   sine_change      10^5 |sin x - sin y| ≤ 175,200 |x - y| + 358,000, by the rule; cosine_change the same
 -- Why: the first differences of the series (SeriesBend), and the rule's sine is within 1.79 units of the true one.
 use Rattle.std.specs.Prelude.{◌≡◌, [], ◌∷◌, ◌+◌, ◌*◌, ◌≤◌, ◌<◌, ℤ, pos, nat_abs, ◌+ℤ◌, ◌-ℤ◌, ◌*ℤ◌}

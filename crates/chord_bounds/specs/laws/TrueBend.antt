@@ -1,5 +1,5 @@
 -- The true sine's first and second differences at every whole angle, of either sign and any turns, across the
--- quadrants; t is `trueSine`.
+-- quadrants; t is `true_sine`.
 --   true-step     10^13 |t(z+1) - t(z)| ≤ 174,534 common
 --   true-bend     10^19 |t(z+2) - 2 t(z+1) + t(z)| ≤ 3060 common
 use Rattle.std.specs.Prelude.{◌≡◌, refl, [], ◌∷◌, ℕ, zero, suc, ◌+◌, ◌-◌, ◌*◌, ◌/◌, ◌%◌, ◌≤◌, ◌<◌, ℤ, pos, negsuc, neg_ℤ, nat_abs, ◌+ℤ◌, ◌-ℤ◌, ◌*ℤ◌, ◌≤ℤ◌}

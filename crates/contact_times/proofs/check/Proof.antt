@@ -8,7 +8,6 @@ use mir.ValLaws.{to_z-of_z}
 use Rattle.sheet_types.specs.declared.refusals.Checked.TheVariants as C
 use Rattle.requests.specs.declared.windows.Window.{Window}
 use Rattle.requests.specs.Requests.{checked}
-use Rattle.requests.specs.RequestLaws.{not_true, not_false}
 use Rattle.requests.specs.Windows.{window_holds}
 use Rattle.contact_times.specs.Contacts.{phase_checked}
 use Rattle.contact_times.proofs.laws.ContactLaws.{contact-window, contact-request, contact-phase, contact-room}

@@ -1,4 +1,4 @@
--- A phase of an occultation within its limits has the sizes that the search takes (`crossing-sizes`); the larger of a
+-- A phase of an occultation within its limits has the sizes that the search takes (`crossing_sizes`); the larger of a
 -- guard and 32 (`used-..`); and the ways of an answer (`contact-window`, .. `contact-within`).
 use Rattle.std.specs.Prelude.{◌≡◌, Bool, ◌&&◌, List, ℕ, ◌≤◌, ◌<◌, T, ℤ, pos, nat_abs, ◌≤ℤ◌}
 use Rattle.std.proofs.Math.Path.{refl, subst, ap}

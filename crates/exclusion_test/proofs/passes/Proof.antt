@@ -17,7 +17,6 @@ use Rattle.chord_bounds.specs.Margins.{slack}
 use Rattle.shadow.specs.declared.Sample.{Sample}
 use Rattle.shadow.specs.Second.{radius_in}
 use Rattle.exclusion_test.specs.Passed.{Spanning, Shows, ShowsSizes}
-use Rattle.requests.specs.RequestLaws.{not_false}
 use Rattle.exclusion_test.proofs.passes.Statement.{statement}
 use Rattle.exclusion_test.proofs.passes.Tie as tie
 

@@ -10,7 +10,6 @@ use Rattle.rounding.specs.laws.Code.{Code, arg, sub, Within, whole, ends, ◌▹
 use Rattle.chord_bounds.specs.Margins.{OneSign}
 use Rattle.exclusion_test.specs.Samples.{size}
 use Rattle.exclusion_test.specs.Passed.{Spanning, In}
-use Rattle.requests.specs.RequestLaws.{not_false}
 use Rattle.exclusion_test.proofs.shows.Statement.{statement}
 use Rattle.exclusion_test.proofs.shows.Tie as tie
 

@@ -9,7 +9,7 @@ use lib.Dec.{lit≤}
 use lib.IntN.{ℤ, nat_abs, ◌+ℤ◌}
 use Rattle.rounding.specs.laws.Code.{Code, arg, add, Within, whole, ends, ◌▹◌, fits, runs, within, read_back, read-size}
 use Rattle.rounding.specs.Value.{Value}
-use Rattle.sine.specs.Sine.{sine, cosine, IsReduced}
+use Rattle.sine.specs.Sine.{IsReduced}
 use Rattle.sine.specs.laws.SineLaws.{sine-size, cosine-size, sine_of, cosine_of}
 use Rattle.elements.specs.declared.Axis.{Axis}
 use Rattle.elements.specs.Sizes.{AxisSizes, wider, wider_axis}

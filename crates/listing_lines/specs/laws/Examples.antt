@@ -1,4 +1,4 @@
--- Document 01's hand_worked listing, and a line of each other kind: each is computed.
+-- Document 01's hand-worked listing, and a line of each other kind: each is computed.
 use Rattle.std.specs.Prelude.{◌≡◌, refl, [], ◌∷◌}
 use Rattle.sheet_types.specs.declared.phases.Phase.TheVariants.{Penumbra, Central, Star}
 use Rattle.sheet_format.specs.Entries.{head, enter, leave, graze, opened, closest, share, end}

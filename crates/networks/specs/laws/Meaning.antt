@@ -1,5 +1,5 @@
 -- What holds of a list that is not refused: each station has exactly one number of steps, 1 to 64, and it is the one
--- that comes back; 0 past the list (chains, Meaning). What is named: SightLaws.
+-- that comes back; 0 past the list (clock_network, Meaning). What is named: SightLaws.
 use Rattle.std.specs.Prelude.{◌≡◌, List, ℕ, ◌≤◌, length}
 use Rattle.std.proofs.Common.{sym, subst, arith}
 use Rattle.std.proofs.lemmas.List.{length-map}

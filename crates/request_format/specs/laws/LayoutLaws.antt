@@ -1,5 +1,5 @@
 -- Writing and reading by one layout undo each other: what is written is read back (`read_back`), and what is read is
--- written back (`write-back`).
+-- written back (`write_back`).
 use Rattle.std.specs.Prelude.{◌≡◌, refl, Bool, true, false, cond, List, [], ◌∷◌, ◌++◌, ℕ, suc, ◌+◌, ◌≤◌, eqb, leb, ℤ, length, drop}
 use Rattle.std.proofs.Common.{ap, ◌∙◌, arith, eq-eqb, le-leb, leb-true, eqb-true, length-append, take-append-drop, drop_at}
 use Rattle.request_format.specs.declared.fields.Width.{Width}

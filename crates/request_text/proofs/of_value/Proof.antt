@@ -1,7 +1,6 @@
 -- `request_text::of_value` meets its contract: the word ends where its run does, and blanks alone follow.
 use mathlib.Core.Path.{sym, ◌∙◌}
 use lib.Seq.{length-take-le}
-use borrow.Author.Tests.{not-true, not-false}
 use Rattle.request_text.specs.laws.LineLaws.{value-crowded, value-alone}
 use borrow.Author.Rules.{rules}
 use Rattle.request_text.proofs.of_value.Statement.{statement}

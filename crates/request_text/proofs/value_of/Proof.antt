@@ -1,4 +1,4 @@
--- `request_text::value_of` meets its contract: what the units say (`value-by`).
+-- `request_text::value_of` meets its contract: what the units say (`value_by`).
 use mathlib.Core.Path.{◌≡◌, sym, ap, ◌∙◌}
 use Prim.Native.Nat.{ℕ}
 use Rattle.tokens.specs.declared.Units.{Units}

@@ -6,7 +6,7 @@ use borrow.Author.Rules.{rules}
 use Rattle.rounding.specs.laws.Code.{read_result}
 use Rattle.requests.specs.Windows.{window_holds}
 use Rattle.requests.specs.Requests.{guard_holds}
-use Rattle.requests.specs.RequestLaws.{not_true, not_false, checked-window, checked-guard, checked-element, checked-station}
+use Rattle.requests.specs.RequestLaws.{checked-window, checked-guard, checked-element, checked-station}
 use Rattle.requests.proofs.check.Statement.{statement}
 use Rattle.requests.proofs.check.Tie as tie
 

@@ -6,7 +6,7 @@
 --   near_zero, near_mono   zero, and order
 --   near-pos               of what is not negative, by one division of naturals
 --   near_above, near_below as the machine divides, which is toward zero
--- Example, the error of a product to the nearest unit: near-error (x *ℤ y) (pos 100000000) (leZ-yes tt).
+-- Example, the error of a product to the nearest unit: near-error (x *ℤ y) (pos 100000000) (le_z_yes tt).
 use Rattle.std.specs.Prelude.{◌≡◌, refl, [], ◌∷◌, ℕ, zero, suc, ◌+◌, ◌*◌, ◌/◌, ◌≤◌, ◌<◌, ℤ, pos, negsuc, neg_ℤ, nat_abs, ◌+ℤ◌, ◌-ℤ◌, ◌*ℤ◌, ◌≤ℤ◌, ◌<ℤ◌}
 use Rattle.std.proofs.Common.{sym, ap, ◌∙◌, arith, suc-add, mul-le-mul_left, mod-lt}
 use Rattle.std.proofs.Math.Nat.{lt_of_mul-lt-mul_left, div-add-mod, div-eq_of_lt, mul-add-div, div-div-eq-div-mul}

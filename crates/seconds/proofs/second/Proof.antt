@@ -9,7 +9,6 @@ use Rattle.rounding.specs.laws.Code.{read_back, read-size}
 use Rattle.sheet_types.specs.declared.refusals.Checked.TheVariants as C
 use Rattle.requests.specs.Windows.{in_span}
 use Rattle.requests.specs.WindowLaws.{in-span}
-use Rattle.requests.specs.RequestLaws.{not_true, not_false}
 use Rattle.requests.specs.Admission.{admitted, sines_after}
 use Rattle.requests.proofs.laws.AdmissionLaws.{admitted-within}
 use Rattle.seconds.specs.declared.OneSecond.TheVariants as O

@@ -1,5 +1,5 @@
 -- The closest second.
---   closest-is    what `closestTo` finds is the closest
+--   closest-is    what `closest_to` finds is the closest
 --   closest-one   there is one such second
 use Rattle.std.specs.Prelude.{◌≡◌, refl, Bool, true, false, cond, ℕ, zero, suc, ◌≤◌, ◌<◌, ℤ, ◌≤ℤ◌, ◌<ℤ◌}
 use Rattle.std.proofs.Common.{sym, ⊎_elim, arith, eq-or-lt_of_le}

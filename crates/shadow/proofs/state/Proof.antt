@@ -1,8 +1,7 @@
 -- `shadow::state` meets its contract: at each end of the code the tests that led there are what its state means, and a
--- state is the only one of its meaning (geometry, StateLaws).
+-- state is the only one of its meaning (shadow_geometry, StateLaws).
 use mathlib.Core.Path.{sym, ap}
 use mathlib.Core.List.{[], ◌∷◌}
-use mathlib.Core.Logic.{⊎_elim}
 use lib.IntN.{◌-ℤ◌}
 use lib.Signed.{◌≤ℤ◌, ◌<ℤ◌, clash_ℤ}
 use Rattle.sheet_types.specs.States.{inside, outside, unsure, code}

@@ -1,6 +1,6 @@
 -- What callers use of a second within the ranges.
 --   state-at, magnitude-at, direction-at   the definitions, as equations
---   moment-sizes                           its numbers are within the sizes of geometry's laws (geometry, Sizes)
+--   moment-sizes                           its numbers are within the sizes of shadow_geometry's laws (its page Sizes)
 --   shadow-sizes, L1-over, L2-within       as the code of states, magnitude and direction asks
 --   magnitude-most, direction-near         "It never exceeds 1,300,000"; at most 3599, or 65,535
 --   states-true                            for every guard from 13 on the states are true of the exact values

@@ -1,23 +1,17 @@
 -- What the states of a second mean, in each phase: of any shadow, and within the ranges (States has the three steps).
-use Rattle.std.specs.Prelude.{◌≡◌, [], ◌∷◌, ℕ, ◌≤◌, ℤ, pos, neg_ℤ, nat_abs, ◌+ℤ◌, ◌-ℤ◌, ◌*ℤ◌, ◌≤ℤ◌, ◌<ℤ◌}
-use Rattle.std.proofs.Common.{sym, subst, ⊎_elim, arith}
-use Rattle.std.specs.Int.Signed.{clash_ℤ}
-use Rattle.sheet_types.specs.States.{inside, outside, unsure, SaidRightly}
+use Rattle.std.specs.Prelude.{ℕ, ◌≤◌, ℤ, pos, nat_abs, ◌+ℤ◌, ◌≤ℤ◌}
+use Rattle.std.proofs.Common.{arith}
 use Rattle.rounding.specs.Parts.{sum}
-use Rattle.rounding.specs.laws.Order.{zs, ≤ℤ_total, <ℤ-≤}
-use Rattle.rounding.specs.laws.Ring.{num, ◌⊕◌, ◌⊖◌, ◌⊗◌, opp, ring, v0, v1, v2, v3, v4}
-use Rattle.rounding.specs.laws.Cert.{leq, less, lit, ◌⊞◌, ◌⊠◌, certify, certify-<}
+use Rattle.rounding.specs.laws.Order.{zs}
 use Rattle.sheet_types.specs.declared.phases.Phase.{Phase}
 use Rattle.sheet_types.specs.declared.phases.Phase.TheVariants.{Penumbra, Central}
 use Rattle.elements.specs.declared.Cone.{Cone}
 use Rattle.elements.specs.Sizes.{ConeSizes}
-use Rattle.shadow_geometry.specs.Shadow.{Moment, ◌², L, M, edge, state}
-use Rattle.shadow_geometry.specs.Exact.{Less, AtLeast, DiffersAtMost, ExactlyInside, WithinUnits}
-use Rattle.shadow_geometry.specs.laws.ExactLaws.{less_mono, least_not_less}
+use Rattle.shadow_geometry.specs.Shadow.{Moment, L, edge}
+use Rattle.shadow_geometry.specs.laws.ExactLaws.{least_not_less}
 use Rattle.shadow_geometry.specs.laws.Ranges.{MomentSizes}
 use Rattle.shadow_geometry.proofs.laws.Sizes.{L1-positive}
-use Rattle.shadow_geometry.proofs.laws.StateLaws.{state-says}
-use Rattle.shadow_geometry.proofs.Thirteen.{Approximate, r-low, some-D, below, above, approximate}
+use Rattle.shadow_geometry.proofs.Thirteen.{approximate}
 use Rattle.shadow_geometry.proofs.laws.States.{StatesMean, inside-less, outside-least, unsure-near}
 
 -- ---- of a second

@@ -3,25 +3,20 @@
 -- the most that the distance less L is off (Thirteen), strictly, so a guard of 13 already leaves the right side.
 -- Unsure needs that L and the guard together are not negative: else nothing is inside, and the far side of the cone
 -- would be measured. That is free for central, and within the ranges L1 is above 0 (Sizes, L1-positive).
-use Rattle.std.specs.Prelude.{◌≡◌, [], ◌∷◌, ℕ, ◌≤◌, ℤ, pos, neg_ℤ, nat_abs, ◌+ℤ◌, ◌-ℤ◌, ◌*ℤ◌, ◌≤ℤ◌, ◌<ℤ◌}
+use Rattle.std.specs.Prelude.{◌≡◌, [], ◌∷◌, ℕ, ◌≤◌, ℤ, pos, neg_ℤ, ◌+ℤ◌, ◌-ℤ◌, ◌*ℤ◌, ◌≤ℤ◌, ◌<ℤ◌}
 use Rattle.std.proofs.Common.{sym, subst, ⊎_elim, arith}
 use Rattle.std.specs.Int.Signed.{clash_ℤ}
 use Rattle.sheet_types.specs.States.{inside, outside, unsure, SaidRightly}
-use Rattle.rounding.specs.Parts.{sum}
 use Rattle.rounding.specs.laws.Order.{zs, ≤ℤ_total, <ℤ-≤}
 use Rattle.rounding.specs.laws.Ring.{num, ◌⊕◌, ◌⊖◌, ◌⊗◌, opp, ring, v0, v1, v2, v3, v4}
 use Rattle.rounding.specs.laws.Cert.{leq, less, lit, ◌⊞◌, ◌⊠◌, certify, certify-<}
 use Rattle.sheet_types.specs.declared.phases.Phase.{Phase}
-use Rattle.sheet_types.specs.declared.phases.Phase.TheVariants.{Penumbra, Central}
 use Rattle.elements.specs.declared.Cone.{Cone}
-use Rattle.elements.specs.Sizes.{ConeSizes}
 use Rattle.shadow_geometry.specs.Shadow.{Moment, ◌², L, M, edge, state}
 use Rattle.shadow_geometry.specs.Exact.{Less, AtLeast, DiffersAtMost, ExactlyInside, WithinUnits}
-use Rattle.shadow_geometry.specs.laws.ExactLaws.{less_mono, least_not_less}
-use Rattle.shadow_geometry.specs.laws.Ranges.{MomentSizes}
-use Rattle.shadow_geometry.proofs.laws.Sizes.{L1-positive}
+use Rattle.shadow_geometry.specs.laws.ExactLaws.{less_mono}
 use Rattle.shadow_geometry.proofs.laws.StateLaws.{state-says}
-use Rattle.shadow_geometry.proofs.Thirteen.{Approximate, r-low, some-D, below, above, approximate}
+use Rattle.shadow_geometry.proofs.Thirteen.{Approximate, r-low, some-D, below, above}
 
 -- the meaning of the state at a second, in a phase, under the guard g
 abbrev pub StatesMean : (g : ℤ) (φ : Phase) (m : Moment) (k : Cone) → Type 0

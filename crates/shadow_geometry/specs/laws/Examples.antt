@@ -44,7 +44,7 @@ none_inside : state (pos 16) (pos 16) (pos 0) ≡ unsure
 unfolding state
 none_inside = refl
 
--- ---- the hand_worked sheet: at the pole, at some seconds
+-- ---- the hand-worked sheet: at the pole, at some seconds
 
 -- "x1 = 36,000,000, y0 = 99,664,768, l1 = 54,000,000, l2 = -1,000,000, μ1 = 15,000,000, tan f1 = 460,000, tan f2 =
 -- 458,000, all other elements 0"

@@ -1,5 +1,5 @@
--- What the parts of a reader, and of a writer, answer each other. Callers use `extentOf`, `roomAfter` and
--- `bufferAfterList`.
+-- What the parts of a reader, and of a writer, answer each other. Callers use `extent_of`, `room_after` and
+-- `buffer_after_list`.
 use Rattle.std.specs.Prelude.{ℕ, ◌+◌, ◌*◌, ◌≤◌, List, length}
 use Rattle.std.proofs.lemmas.List.Edits.{sets}
 use Rattle.sheet_types.specs.Refusals.{refusal}

@@ -1,4 +1,4 @@
--- A pass over the records of a sheet that was found well_formed, as reader, writer and listing make one: what is still
+-- A pass over the records of a sheet that was found well-formed, as reader, writer and listing make one: what is still
 -- before it, and one record further.
 use Rattle.std.specs.Prelude.{ℕ, suc, ◌+◌, ◌-◌, ◌<◌, ◌≡◌, List, [], ◌∷◌, true, false}
 use Rattle.std.proofs.Common.{ap, ◌∙◌, arith}

@@ -1,7 +1,7 @@
 -- Sheets of a star. Document 02, wish 7: "Refusals: .. 8 for a sheet with star and eclipse entries, or with a star
 -- entry and kind 31; 7 for a magnitude above 0 after a star entry." The rules go entry by entry; here is what they
 -- make of a whole sheet that a reader accepts.
---   star-alone        where one of its entries is a star's, each may stand beside it (`besideStar`)
+--   star-alone        where one of its entries is a star's, each may stand beside it (`BesideStar`)
 --   read-star-alone   so in a sheet that is read
 use Rattle.std.specs.Prelude.{ℕ, suc, ◌-◌, ◌≡◌, refl, List, [], ◌∷◌, Bool, true, false, cond, ◌&&◌, ◌⊎◌, leb, length}
 use Rattle.std.proofs.Common.{sym, ◌∙◌, inl, inr, arith, leb-true}

@@ -1,5 +1,5 @@
 -- The rules as the code asks them: an entry by the stage of its kind, so that the four kinds of a phase go one way;
--- and that these are the rules. Callers use `Rules`. Those of the fields: field_rules, Fields.
+-- and that these are the rules. Callers use `Rules`. Those of the fields: Fields.
 use Rattle.std.specs.Prelude.{◌≡◌, refl, Bool, true, false}
 use Rattle.std.proofs.Common.{ap, ◌∙◌}
 use Rattle.sheet_types.specs.declared.phases.Phase.{Phase}

@@ -1,4 +1,4 @@
--- `four-quadrants`: the table of the four quadrants holds. A quarter turn is taken off the angle once, twice or three
+-- `four_quadrants`: the table of the four quadrants holds. A quarter turn is taken off the angle once, twice or three
 -- times.
 use Rattle.std.specs.Prelude.{◌≡◌, ℕ, ◌+◌, ◌-◌, ◌≤◌, ◌<◌, pos, neg_ℤ}
 use Rattle.std.proofs.Common.{sym, ◌∙◌, ap, ⊎_elim, arith}

@@ -1,4 +1,4 @@
--- That `sineSeries` is the series of table S, that little is cut off, and that 1.78 is nearly reached.
+-- That `sine_series` is the series of table S, that little is cut off, and that 1.78 is nearly reached.
 --   same-series, same-common   at the tenths of a degree it is the fraction of sine's `Table`
 --   sine-cut, cosine-cut       the first term that is left out, up to 90 degrees: at most 2·10^-10 and 2·10^-9 of a unit
 --   rest-cut                   the same for the rest of an angle (Angles): at most 10^-14 and 10^-22 of a unit

@@ -1,5 +1,5 @@
 -- The two series as polynomials in the angle.
-use Rattle.std.specs.Prelude.{◌≡◌, List, [], ◌∷◌, ℕ, zero, suc, ◌-◌, ◌*◌, ◌/◌, ◌^◌, ◌≤◌, ℤ, neg_ℤ, ◌+ℤ◌, ◌*ℤ◌}
+use Rattle.std.specs.Prelude.{◌≡◌, [], ◌∷◌, ℕ, zero, suc, ◌-◌, ◌*◌, ◌/◌, ◌^◌, ◌≤◌, neg_ℤ, ◌+ℤ◌, ◌*ℤ◌}
 use Rattle.std.proofs.Common.{sym, ◌∙◌, ap₂, pow-suc}
 use Rattle.std.proofs.Math.Path.{ap}
 use native.Mathlib.Omega.{arith}
@@ -10,8 +10,8 @@ use Rattle.rounding.specs.laws.Laws.{one-*ℤ}
 use Rattle.rounding.specs.laws.Ring.{var, num, ◌⊕◌, ◌⊖◌, ◌⊗◌, opp, ring}
 use Rattle.sine_table.specs.Table.{factorial, numerator}
 use Rattle.sine_accuracy.specs.Series.{denominator, term, sine_series, cosine_series}
-use Rattle.sine_accuracy.specs.laws.Lists.{worth, moved, turned, worth-moved, worth-turned, spread, spread-worth}
-use Rattle.sine_accuracy.specs.laws.Coefficients.{part, up, down, sines, cosines, complements}
+use Rattle.sine_accuracy.specs.laws.Lists.{worth, moved, worth-moved, worth-turned, spread, spread-worth}
+use Rattle.sine_accuracy.specs.laws.Coefficients.{part, up, sines, cosines, complements}
 
 -- ---- the series are these polynomials
 

@@ -1,5 +1,5 @@
 -- The rule's sine and cosine lie within 1.79 units of 10^8 times the series, at every angle, so within two
--- (`two-units`).
+-- (`two_units`).
 --   sine-true, cosine-true               from 0 to 90 degrees, both ends included, against the sine series and the cosine series
 --   sine-everywhere, cosine-everywhere   at every angle, by quadrants
 -- Why: the sine is 1.78 off at most (First, Tests); the cosine is the sine of what the angle lacks of 90 degrees,

@@ -1,4 +1,4 @@
--- `sine_table::second_differences` meets its contract: the test of `allRight` is computed over the 901 entries that
+-- `sine_table::second_differences` meets its contract: the test of `all_right` is computed over the 901 entries that
 -- they give.
 use borrow.Author.Rules.{rules}
 use Rattle.sine_table.proofs.Rule.{right, gives_of}

@@ -1,44 +1,24 @@
 -- Each second of a sheet with a guard of 32 or more is said rightly of the true answers.
-use Rattle.std.proofs.Math.Path.{◌≡◌, refl, subst}
+use Rattle.std.proofs.Math.Path.{◌≡◌, subst}
 use Rattle.std.proofs.Common.{ap, ◌∙◌, arith, lit≤}
-use Rattle.std.specs.Prelude.{Bool, true, false, cond, List, ◌++◌, ℕ, ◌+◌, leb, ℤ, pos, nat_abs, ◌+ℤ◌, length, drop, ◌≤ℤ◌}
+use Rattle.std.specs.Prelude.{◌+◌, ℤ, pos, nat_abs, ◌+ℤ◌, ◌≤ℤ◌}
 use Rattle.std.specs.Int.Signed.{le_z_yes}
 use Rattle.rounding.specs.laws.Order.{≤ℤ_trans, nonneg_nat_abs}
-use Rattle.sheet_types.specs.declared.refusals.Refusal.{Refusal}
 use Rattle.sheet_types.specs.declared.refusals.Checked.{Checked}
 use Rattle.sheet_types.specs.declared.refusals.Checked.TheVariants as C
-use Rattle.sheet_types.specs.Refusals.{refusal}
-use Rattle.sheet_types.specs.declared.phases.Phase.{Phase}
-use Rattle.elements.specs.Stars.{axis_of}
-use Rattle.elements.specs.StarLaws.{axis_sizes}
 use Rattle.station.specs.Place.{place_of}
-use Rattle.shadow_geometry.specs.Shadow.{moment_of, cone}
-use Rattle.shadow_geometry.specs.Exact.{D, exact_u, exact_v, exact_edge}
-use Rattle.shadow.specs.laws.SecondLaws.{tangent_small}
+use Rattle.shadow_geometry.specs.Shadow.{cone}
 use Rattle.requests.specs.declared.Occultation.{Occultation}
-use Rattle.requests.specs.Windows.{InWindow}
 use Rattle.requests.specs.WindowLaws.{in-window-size}
 use Rattle.requests.specs.RequestLaws.{InLimits}
-use Rattle.requests.specs.Admission.{admitted}
-use Rattle.requests.proofs.laws.AdmissionLaws.{admitted-within}
 use Rattle.seconds.specs.Seconds.{state_at}
 use Rattle.contact_times.specs.laws.SecondStates.{second-same}
-use Rattle.local_circumstances.specs.Courses.{sheetOf}
-use Rattle.local_circumstances.specs.Demand3.{EachSecond, Demand3}
-use Rattle.local_circumstances.proofs.laws.Demand3Laws.{changes-once, ends-exact, turns-alternate}
+use Rattle.local_circumstances.specs.Demand3.{EachSecond}
 use Rattle.circumstances.specs.declared.Answer.TheVariants as A
 use Rattle.local_circumstances.specs.Course.{course_of}
-use Rattle.circumstances.specs.WrittenSheet.{sheet_bytes}
-use Rattle.circumstances.specs.Sheet.{answer_by, buffer_by, sheet_answer, sheet_buffer}
-use Rattle.local_circumstances.specs.laws.CourseSound.{sound}
-use Rattle.circumstances.specs.laws.SheetSound.{reads_back}
 use Rattle.sky_accuracy.specs.TruePlace.{TrueC}
-use Rattle.sky_accuracy.specs.TrueShadow.{T, true_u, true_v, true_edge, TrulyWithinUnits}
-use Rattle.sky_accuracy.specs.Nineteen.{Nineteen}
+use Rattle.sky_accuracy.specs.TrueShadow.{TrulyWithinUnits}
 use Rattle.sky_accuracy.specs.Truth.{sky_at, seconds, true_answers}
-use Rattle.sky_accuracy.specs.laws.ShadowErrors.{u-exact, v-exact, L-exact}
-use Rattle.sky_accuracy.proofs.laws.Moved.{nineteen}
-use Rattle.sky_accuracy.proofs.laws.TrueStates.{moved_here}
 use Rattle.sky_accuracy.proofs.laws.SaidTruly.{inside-by, outside-by, near_by}
 
 -- the guard and 13 units, and 19 more

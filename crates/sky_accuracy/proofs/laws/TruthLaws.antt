@@ -3,12 +3,10 @@
 --   true_distance   the distance, at every second of every request
 --   truth           the sheet
 -- Why: each second is said rightly of the true answers (`truly-said`), and demand 3 follows from that for any answers
--- (courses, Demand3Laws).
+-- (local_circumstances, Demand3Laws).
 use Rattle.std.proofs.Math.Path.{◌≡◌, refl, subst}
-use Rattle.std.proofs.Common.{ap, ◌∙◌, arith, lit≤}
-use Rattle.std.specs.Prelude.{Bool, true, false, cond, List, ◌++◌, ℕ, ◌+◌, leb, ℤ, pos, nat_abs, ◌+ℤ◌, length, drop, ◌≤ℤ◌}
-use Rattle.std.specs.Int.Signed.{le_z_yes}
-use Rattle.rounding.specs.laws.Order.{≤ℤ_trans, nonneg_nat_abs}
+use Rattle.std.proofs.Common.{arith, lit≤}
+use Rattle.std.specs.Prelude.{Bool, true, false, cond, List, ◌++◌, ℕ, ◌+◌, leb, ℤ, pos, length, drop, ◌≤ℤ◌}
 use Rattle.sheet_types.specs.declared.refusals.Refusal.{Refusal}
 use Rattle.sheet_types.specs.declared.refusals.Checked.{Checked}
 use Rattle.sheet_types.specs.declared.refusals.Checked.TheVariants as C
@@ -26,10 +24,8 @@ use Rattle.requests.specs.WindowLaws.{in-window-size}
 use Rattle.requests.specs.RequestLaws.{InLimits}
 use Rattle.requests.specs.Admission.{admitted}
 use Rattle.requests.proofs.laws.AdmissionLaws.{admitted-within}
-use Rattle.seconds.specs.Seconds.{state_at}
-use Rattle.contact_times.specs.laws.SecondStates.{second-same}
 use Rattle.local_circumstances.specs.Courses.{sheetOf}
-use Rattle.local_circumstances.specs.Demand3.{EachSecond, Demand3}
+use Rattle.local_circumstances.specs.Demand3.{Demand3}
 use Rattle.local_circumstances.proofs.laws.Demand3Laws.{changes-once, ends-exact, turns-alternate}
 use Rattle.circumstances.specs.declared.Answer.TheVariants as A
 use Rattle.local_circumstances.specs.Course.{course_of}
@@ -38,7 +34,7 @@ use Rattle.circumstances.specs.Sheet.{answer_by, buffer_by, sheet_answer, sheet_
 use Rattle.local_circumstances.specs.laws.CourseSound.{sound}
 use Rattle.circumstances.specs.laws.SheetSound.{reads_back}
 use Rattle.sky_accuracy.specs.TruePlace.{TrueC}
-use Rattle.sky_accuracy.specs.TrueShadow.{T, true_u, true_v, true_edge, TrulyWithinUnits}
+use Rattle.sky_accuracy.specs.TrueShadow.{T, true_u, true_v, true_edge}
 use Rattle.sky_accuracy.specs.Nineteen.{Nineteen}
 use Rattle.sky_accuracy.specs.Truth.{sky_at, seconds, true_answers}
 use Rattle.sky_accuracy.specs.laws.ShadowErrors.{u-exact, v-exact, L-exact}

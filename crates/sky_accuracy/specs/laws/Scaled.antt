@@ -1,5 +1,5 @@
 -- A distance and an edge over a common factor: the factor may be left out (`unscaled-less`, `unscaled-least`), and a
--- distance that reaches an edge reaches a smaller one (`least-mono`).
+-- distance that reaches an edge reaches a smaller one (`least_mono`).
 use Rattle.std.proofs.Common.{subst}
 use Rattle.std.specs.Prelude.{[], ◌∷◌, ℤ, pos, ◌*ℤ◌, ◌≤ℤ◌}
 use Rattle.std.specs.Int.Signed.{clash_ℤ}

@@ -1,4 +1,4 @@
--- How large W, C, Z, h, R and P are; `place-sizes`: so every station in its ranges has its place within the sizes that
+-- How large W, C, Z, h, R and P are; `place_sizes`: so every station in its ranges has its place within the sizes that
 -- the shadow asks.
 use Rattle.std.specs.Prelude.{◌≡◌, [], ◌∷◌, ℕ, ◌+◌, ◌*◌, ◌≤◌, ℤ, pos, neg_ℤ, nat_abs, ◌+ℤ◌, ◌*ℤ◌, ◌≤ℤ◌}
 use Rattle.std.proofs.Common.{subst, arith, mul-le-mul, lt_of_not-le}

@@ -3,7 +3,6 @@
 use mathlib.Core.Path.{sym, ◌∙◌}
 use Prim.Native.Nat.{◌-◌}
 use borrow.Author.Rules.{rules}
-use borrow.Author.Tests.{not-true, not-false}
 use lib.ListN.{length}
 use Rattle.tokens.specs.laws.TextLaws.{Ran, ran-none, ran-more, ran_out, ran-all}
 use Rattle.tokens.proofs.run.Statement.{statement}

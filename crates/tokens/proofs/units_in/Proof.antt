@@ -1,7 +1,6 @@
 -- `tokens::units_in` meets its contract: the parts that the slices hold are the word's (`Split`).
 use mathlib.Core.Path.{sym, ◌∙◌}
 use Prim.Native.Nat.{ℕ}
-use borrow.Author.Tests.{not-true, not-false}
 use borrow.Author.Rules.{rules}
 use Rattle.tokens.specs.laws.NumberLaws.{Split, split, split-other, split-empty, split-fraction, split-units}
 use Rattle.tokens.proofs.units_in.Statement.{statement}

@@ -20,7 +20,7 @@ use Rattle.year_file.specs.Walk.{Step, keep, lose, steps, kept_in, kept, stretch
 use Rattle.year_file.specs.Claims.{dropped_at, spanned, joined, AllSheets, Arrives, Met, arrived, inside}
 use Rattle.year_file.specs.laws.StepLaws.{Walked, at-end, kept_one, lost_one, steps-nil, steps_keep, steps_lose}
 
--- ---- the bytes of well_formed entries, one list behind the other
+-- ---- the bytes of well-formed entries, one list behind the other
 
 unfoldable pub Written : List (List ℕ) → Type 0
 Written [] = Unit

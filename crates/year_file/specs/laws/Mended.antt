@@ -67,7 +67,7 @@ mended-again file b =
     let k = kept_written file (steps file) (walked file) b in
     rw k.2 (written_kept k.0 k.1, written_whole k.0 k.1 0)
 
--- a well_formed sheet that stands where the walk arrives is kept whole, and none of its bytes is dropped
+-- a well-formed sheet that stands where the walk arrives is kept whole, and none of its bytes is dropped
 pub arrived_kept : (file : List ℕ) (before : List Step) (a : ℕ) → Arrives file before a
     → (es : List Entry) (n : ℕ) → read_sheet (drop a file) ≡ sheet es n
     → (kept file ≡ kept_in before ++ (take n (drop a file) ++ kept (drop (a + n) file)))

@@ -1,7 +1,6 @@
 -- `calendar::numbers::reference_of` meets its contract, test by test.
 use mathlib.Core.Path.{sym, ◌∙◌}
 use Rattle.calendar.specs.laws.NumberLaws.{no-instant, no-scale, no-day, no-year, no-time, no-offset, an-instant}
-use borrow.Author.Tests.{not-true, not-false}
 use borrow.Author.Rules.{rules}
 use Rattle.calendar.proofs.numbers.reference_of.Statement.{statement}
 use Rattle.calendar.proofs.numbers.reference_of.Tie as tie

@@ -1,5 +1,5 @@
 -- `listing_lines::times_of_day::put_time` meets its contract: what it divides is the thousandths and 100,000 days, a
--- natural number (`time-up`).
+-- natural number (`time_up`).
 use mathlib.Core.Path.{◌≡◌, sym, ap, ◌∙◌}
 use mathlib.Core.List.{[], ◌∷◌, ◌++◌}
 use Prim.Native.Nat.{ℕ, ◌/◌, ◌%◌, ◌≤◌}

@@ -4,7 +4,6 @@ use mathlib.Core.Bool.{true}
 use Prim.Native.Nat.{ℕ, ◌+◌}
 use native.Mathlib.Omega.{arith}
 use borrow.Author.Rules.{rules}
-use borrow.Author.Tests.{not-true, not-false}
 use Rattle.rounding.specs.laws.Code.{read_result}
 use Rattle.request_format.specs.Fields.{bytes_in}
 use Rattle.request_format.specs.laws.RowBytes.{kind_stands}

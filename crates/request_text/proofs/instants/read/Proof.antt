@@ -1,6 +1,5 @@
 -- `request_text::instants::read` meets its contract: the words are cut out one after the other, and tested together.
 use mathlib.Core.Path.{ap, ◌∙◌}
-use borrow.Author.Tests.{not-true, not-false}
 use borrow.Author.Rules.{rules}
 use Rattle.request_text.specs.Instants.{in_scale}
 use Rattle.request_text.specs.laws.InstantLaws.{read-not, read_is}

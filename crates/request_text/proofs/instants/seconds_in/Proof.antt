@@ -1,5 +1,4 @@
 -- `request_text::instants::seconds_in` meets its contract: the word is cut out, and its tests are the definition's.
-use borrow.Author.Tests.{not-true, not-false}
 use Rattle.request_text.specs.laws.InstantLaws.{seconds-none, seconds_some}
 use borrow.Author.Rules.{rules}
 use Rattle.request_text.proofs.instants.seconds_in.Statement.{statement}

@@ -1,5 +1,5 @@
 -- `sheet_codec::decoder::read` meets its contract. Three ways out: refused, a buffer that is too short, and filled;
--- each is `readInto` and `roomAfter` at what was found.
+-- each is `read_into` and `room_after` at what was found.
 use Rattle.sheet_codec.proofs.decoder.Answers.{room_for, read_refused, read_short, read-full}
 use Rattle.sheet_codec.specs.laws.SheetLaws.{whole_same}
 use Rattle.sheet_codec.specs.Sheets.{extent_of, read_whole}

@@ -1,5 +1,5 @@
 -- `sheet_codec::encoder::handed_at` meets its contract. Each sub-answer is its definition's value, so the answer is
--- what `handedAt` computes to.
+-- what `handed_at` computes to.
 use Rattle.sheet_codec.specs.laws.HandedLaws.{handed-cut, handed-named}
 use native.Mathlib.Omega.{arith}
 use mathlib.Core.Path.{sym, ◌∙◌}

@@ -1,5 +1,5 @@
 -- `sheet_codec::encoder::write` meets its contract. Three ways out: refused, a short buffer, and written; each is
--- `writeInto` and `bufferAfterList` at what was found.
+-- `write_into` and `buffer_after_list` at what was found.
 use Rattle.sheet_codec.proofs.decoder.Answers.{buffer-for, write-refused, write-short, write-full}
 use Rattle.sheet_codec.specs.laws.SheetLaws.{list_same}
 use Rattle.sheet_codec.specs.RoundTrip.{list_length}

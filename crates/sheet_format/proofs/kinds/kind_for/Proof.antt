@@ -1,4 +1,4 @@
--- `sheet_format::kinds::kind_for` meets its contract. At a literal `kindFor` computes; a phase's four are its first
+-- `sheet_format::kinds::kind_for` meets its contract. At a literal `kind_for` computes; a phase's four are its first
 -- and what stands behind it; else the number is none of them.
 use Rattle.sheet_format.specs.laws.KindLaws.{no_kind}
 use Rattle.sheet_format.specs.Kinds.{base, kind_for}

@@ -1,5 +1,5 @@
 -- `sheet_rules::rules::phase_in_order` meets its contract. After an entry of the same phase one may come
--- (`within-may`); after another nothing is left of the second test.
+-- (`within_may`); after another nothing is left of the second test.
 use Rattle.sheet_rules.specs.laws.Stages.{within_may}
 use mathlib.Core.Bool.{and-true}
 use mathlib.Core.Path.{sym, ◌∙◌}

@@ -2,7 +2,6 @@
 use Prim.Native.Nat.{◌-◌}
 use mathlib.Core.Path.{sym}
 use native.Mathlib.Omega.{arith}
-use borrow.Author.Tests.{not-false}
 use Rattle.rounding.specs.laws.Tests.{distinct}
 use Rattle.year_file.specs.laws.Repeats.{Again, again_none}
 use borrow.Author.Rules.{rules}

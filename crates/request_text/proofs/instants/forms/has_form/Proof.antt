@@ -4,7 +4,6 @@ use Prim.Native.Nat.{◌-◌}
 use mathlib.Core.Path.{sym, ◌∙◌}
 use native.Mathlib.Omega.{arith}
 use borrow.Author.Rules.{rules}
-use borrow.Author.Tests.{not-true, not-false}
 use lib.ListN.{length}
 use Rattle.request_text.specs.laws.FormLaws.{Fitting, form-short, fitting-start, fitting-not, fitting-more, fitting-all}
 use Rattle.request_text.proofs.instants.forms.has_form.Statement.{statement}

@@ -1,4 +1,4 @@
--- `request_text::typed_requests::messages::put_instant` meets its contract: part after part (`put-parts`).
+-- `request_text::typed_requests::messages::put_instant` meets its contract: part after part (`put_parts`).
 use native.Mathlib.Omega.{arith}
 use Rattle.request_text.specs.laws.TypedMessageLaws.{put_parts}
 use borrow.Author.Rules.{rules}

@@ -1,5 +1,5 @@
 -- `sheet_format::records::bytes::body_at` meets its contract. A body that the input does not hold is cut; of one that
--- it holds the numbers are there as far as its kind goes (`there`), and are the entry's (`entry-made`).
+-- it holds the numbers are there as far as its kind goes (`there`), and are the entry's (`entry_made`).
 use Rattle.sheet_format.specs.laws.RecordLaws.{body-cut, body-whole}
 use Rattle.sheet_format.specs.laws.Bodies.{entry_made}
 use Rattle.sheet_format.specs.declared.records.Body.TheVariants as Body

@@ -1,4 +1,4 @@
--- `sheet_format::records::bytes::is_cut` meets its contract. No kind has more than nine bytes (`size-nine`).
+-- `sheet_format::records::bytes::is_cut` meets its contract. No kind has more than nine bytes (`size_nine`).
 use Rattle.sheet_format.specs.laws.KindLaws.{size_nine}
 use Rattle.sheet_format.specs.Kinds.{size_of}
 use mathlib.Core.Path.{sym}

@@ -1,5 +1,5 @@
 -- `sheet_format::records::bytes::record_at` meets its contract. Each sub-answer is its definition's value, so a
--- refusal, and at the end the record, is what `recordAt` computes to.
+-- refusal, and at the end the record, is what `record_at` computes to.
 use Rattle.sheet_format.specs.laws.RecordLaws.{by_byte, by_kind, by-body, byte-inv, body-inv}
 use Rattle.sheet_format.specs.Records.{byte_at, bodyAt}
 use Rattle.sheet_format.specs.Kinds.{kind_for}
