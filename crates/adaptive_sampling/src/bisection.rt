@@ -43,26 +43,16 @@ fn each_second(
     ensures runs_len_unchanged { length runs.new ≡ length runs.old }
 {
     let mut t = start;
-    let mut k = i + 1;
-    while k < j {
+    for k in i + 1..j {
         let s = crate::seeds::sample_of(table, o, place, k);
         t = crate::partial::keep(o.guard, runs, t, 1, k, s);
-        k += 1;
     }
     crate::partial::keep(o.guard, runs, t, 1, j, b)
 }
 
 // Whether a phase is unsure at both ends of a stretch, by their states.
 fn unsure(p: u8, q: u8) -> bool {
-    if p % 4 == 2 {
-        if q % 4 == 2 {
-            return true;
-        }
-    }
-    if p / 4 == 2 {
-        return q / 4 == 2;
-    }
-    false
+    p % 4 == 2 && q % 4 == 2 || p / 4 == 2 && q / 4 == 2
 }
 
 // How many seconds between the shadows a and b, of the states p and q, are computed one by one: four and fewer. Where a
@@ -195,15 +185,13 @@ fn stretches(
     ensures runs_len_unchanged { length runs.new ≡ length runs.old }
 {
     let mut t = start;
-    let mut k: usize = 0;
-    while k < 4 {
+    for k in 0..4 {
         let next = k + 1;
         let i = crate::seeds::stop(n, k);
         let j = crate::seeds::stop(n, next);
         let a = shadows[k];
         let b = shadows[next];
         t = between(table, o, place, low, 128, runs, t, i, a, j, b);
-        k = next;
     }
     t
 }

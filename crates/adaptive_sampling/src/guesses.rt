@@ -10,10 +10,7 @@ use shadow::Sample;
 fn at_most(x: u64, most: u64) -> u64
     ensures { result ≤ most }
 {
-    if most < x {
-        return most;
-    }
-    x
+    x.min(most)
 }
 
 // The size of x.

@@ -70,12 +70,9 @@ pub fn spread(table: &[u32], o: Occultation, place: Place, n: usize, a: Sample) 
     ensures { Spread o n result }
 {
     let mut shadows = [a; 5];
-    let mut k: usize = 1;
-    while k < 5 {
+    for k in 1..5 {
         let i = stop(n, k);
-        let s = sample_of(table, o, place, i);
-        shadows[k] = s;
-        k += 1;
+        shadows[k] = sample_of(table, o, place, i);
     }
     shadows
 }
@@ -84,17 +81,11 @@ pub fn spread(table: &[u32], o: Occultation, place: Place, n: usize, a: Sample) 
 fn closest(shadows: [Sample; 5]) -> usize
     ensures { result < 5 }
 {
-    let a = shadows[0];
-    let mut least = a.m;
-    let mut found: usize = 0;
-    let mut k: usize = 1;
-    while k < 5 {
-        let s = shadows[k];
-        if s.m < least {
-            least = s.m;
+    let mut found = 0;
+    for k in 1..5 {
+        if shadows[k].m < shadows[found].m {
             found = k;
         }
-        k += 1;
     }
     found
 }

@@ -1,33 +1,35 @@
 -- The answer to a request's bytes and the numbers of an instant: the text that program `times` prints of a sheet, or a
 -- refusal; and the caller's buffers afterwards.
-use Rattle.std.specs.Prelude.{List, cond, ℕ, eqb, ℤ, length, get_or}
+use Rattle.std.specs.Prelude.{List, cond, ℕ, eqb, ℤ, length, get_or, Option, Result, Ok, Err, Option}
+use Rattle.requests.specs.declared.Occultation.{Occultation}
+use Rattle.calendar.specs.declared.Instant.{Instant}
 use Rattle.sheet_types.specs.declared.refusals.Refusal.{Refusal}
 use Rattle.sheet_types.specs.Refusals.{refusal}
-use Rattle.circumstances.specs.declared.Answer.{Answer}
-use Rattle.circumstances.specs.declared.Answer.TheVariants as A
-use Rattle.calendar.specs.declared.Reference.{Reference}
-use Rattle.calendar.specs.declared.numbers.Numbered.{Numbered}
-use Rattle.calendar.specs.declared.numbers.Numbered.TheVariants as N
 use Rattle.calendar.specs.Numbers.{reference_of}
+use Rattle.request_format.specs.declared.fields.Shape.{Shape}
 use Rattle.request_format.specs.declared.fields.Shape.TheVariants as Shape
 use Rattle.request_format.specs.Input.{delta_of, star_delta}
 use Rattle.request_answers.specs.Second.{wish}
-use Rattle.request_answers.specs.Sheet.{answer_to, buffer_for, sines_for, star_answer, star_buffer, star_sines}
-use Rattle.listings.specs.declared.sky.Sky.{Sky}
+use Rattle.request_answers.specs.Sheet.{answer_by, buffer_by, answer_to, buffer_for, sines_for, star_answer, star_buffer, star_sines}
 use Rattle.listings.specs.Answers.{Told, text, withheld}
-use Rattle.answers.specs.Answers.{timed_by, sky_of}
+use Rattle.answers.specs.Answers.{timed_by, delta_by, sky_of}
 
 -- the text of a sheet; a refusal is no text
-abbrev pub told_by : Reference → ℤ → Sky → Answer → List ℕ → Told
-told_by k d y (A.Written n) room = text (timed_by k d y (A.Written n) room)
-told_by k d y (A.Refused r) room = withheld r
+abbrev pub told_by : Option Instant → ℤ → Option Occultation → Result ℕ Refusal → List ℕ → Told
+told_by k d y (Ok n) room = text (timed_by k d y (Ok n) room)
+told_by k d y (Err r) room = withheld r
+
+-- of bytes of that shape
+abbrev pub told_shaped : Shape → Option Instant → (request sines room : List ℕ) → Told
+told_shaped shape k request sines room =
+    told_by k (delta_by shape request) (sky_of (wish shape request)) (answer_by (wish shape request) sines room) (buffer_by (wish shape request) sines room)
 
 -- of an eclipse's bytes, and of a star's
-unfoldable pub timed_told : Reference → (request sines room : List ℕ) → Told
+unfoldable pub timed_told : Option Instant → (request sines room : List ℕ) → Told
 timed_told k request sines room =
     told_by k (delta_of request) (sky_of (wish Shape.Eclipse request)) (answer_to request sines room) (buffer_for request sines room)
 
-unfoldable pub star_timed_told : Reference → (request sines room : List ℕ) → Told
+unfoldable pub star_timed_told : Option Instant → (request sines room : List ℕ) → Told
 star_timed_told k request sines room =
     told_by k (star_delta request) (sky_of (wish Shape.Star request)) (star_answer request sines room) (star_buffer request sines room)
 
@@ -35,13 +37,13 @@ star_timed_told k request sines room =
 
 -- the instant of a caller, or its refusal
 pub data Given : Type 0 where
-  given : Reference → Given
+  given : Option Instant → Given
   wrong : Refusal → Given
 
 -- 23, a refusal of ours, with the place of the first wrong number
-abbrev pub numbered : Numbered → Given
-numbered (N.Is k) = given k
-numbered (N.Wrong i) = wrong (refusal 23 i)
+abbrev pub numbered : Result (Option Instant) ℕ → Given
+numbered (Ok k) = given k
+numbered (Err i) = wrong (refusal 23 i)
 
 -- an instant has six numbers, else "10" with place 0
 unfoldable pub instant_given : List ℕ → Given

@@ -1,3 +1,4 @@
 pub mod AnswerLaws
 pub mod TimedLaws
+pub mod OneShape
 pub mod Reads

@@ -8,40 +8,39 @@ ghost use Rattle.request_answers.specs.Second.{wish};
 ghost use Rattle.request_answers.specs.Sheet.{buffer_by, sines_by, buffer_for, sines_for, star_buffer, star_sines};
 ghost use Rattle.request_answers.specs.laws.SheetLaws.{Fits};
 ghost use Rattle.decimal_text.specs.Texts.{Put, Copies};
-ghost use Rattle.answers.specs.Answers.{sky_of, timed_by, answer_text, printed_for, timed_text, star_timed_text};
+ghost use Rattle.answers.specs.Answers.{sky_of, delta_by, timed_by, timed_shaped, answer_text, printed_for, timed_text, star_timed_text};
 
-use calendar::Reference;
-use circumstances::Answer;
-use listings::sky::Sky;
+use calendar::Instant;
 use request_format::fields::Shape;
-use request_format::input::Asked;
+use requests::Occultation;
+use sheet_types::refusals::Refusal;
 
 // What an observer is told of: the occultation that bytes of that shape ask for.
-fn sky_of(shape: Shape, request: &[u8]) -> Sky
+fn sky_of(shape: Shape, request: &[u8]) -> Option<Occultation>
     ensures { result ≡ sky_of (wish shape request.now) }
 {
     let asked = request_answers::one_second::wish(shape, request);
     match asked {
-        Asked::Is(o) => Sky::Over(o),
-        Asked::Refused(_) => Sky::Nothing,
+        Ok(o) => Some(o),
+        Err(_) => None,
     }
 }
 
 // The text of an answer whose sheet stands at the buffer's start, with times where the reference is an instant, and
 // with altitudes and notes where there is an occultation.
 fn put_text(
-    answer: Answer,
+    answer: Result<usize, Refusal>,
     room: &[u8],
     out: &mut [u8],
-    reference: Reference,
+    reference: Option<Instant>,
     deltat: i64,
-    sky: Sky,
+    sky: Option<Occultation>,
 ) -> usize
     requires { Fits answer room.now }
     ensures { Put out.old 0 (timed_by reference deltat sky answer room.now) out.new result }
 {
     match answer {
-        Answer::Written(written) => listings::put_timed_listing(
+        Ok(written) => listings::put_timed_listing(
             out,
             0,
             &room[..written],
@@ -49,7 +48,7 @@ fn put_text(
             deltat,
             sky,
         ),
-        Answer::Refused(refusal) => listing_lines::lines::put_refused(out, 0, refusal),
+        Err(refusal) => listing_lines::lines::put_refused(out, 0, refusal),
     }
 }
 
@@ -67,7 +66,7 @@ pub fn put_answer(
     ensures sines { sines.new ≡ sines_by (wish shape request.now) sines.old }
 {
     let answer = request_answers::sheets::of_shape(shape, request, sines, room);
-    put_text(answer, room, out, Reference::Nothing, 0, Sky::Nothing)
+    put_text(answer, room, out, None, 0, None)
 }
 
 // "Program `sheet` lends 65,536 bytes for the sheet." The other programs provide as many.
@@ -94,11 +93,40 @@ pub fn put_printed(shape: Shape, request: &[u8], out: &mut [u8]) -> usize
     put_answer(shape, request, &mut sines, &mut room, out)
 }
 
-// The answer to an eclipse's bytes with times by the reference and the ΔT of the request's station, altitudes and
+// The ΔT of the station of a request of that shape, in hundredths of a second; 0 where the bytes are misshaped.
+fn deltat_of(shape: Shape, request: &[u8]) -> i64
+    ensures { result ≡ delta_by shape request.now }
+{
+    match shape {
+        Shape::Eclipse => request_format::input::deltat(request),
+        Shape::Star => request_format::input::stars::deltat(request),
+    }
+}
+
+// The answer to a request of that shape with times by the reference and the ΔT of the request's station, altitudes and
 // notes.
+fn put_timed(
+    shape: Shape,
+    request: &[u8],
+    reference: Option<Instant>,
+    sines: &mut [u32],
+    room: &mut [u8],
+    out: &mut [u8],
+) -> usize
+    ensures text { Put out.old 0 (timed_shaped shape reference request.now sines.old room.old) out.new result }
+    ensures sheet { room.new ≡ buffer_by (wish shape request.now) sines.old room.old }
+    ensures sines { sines.new ≡ sines_by (wish shape request.now) sines.old }
+{
+    let deltat = deltat_of(shape, request);
+    let sky = sky_of(shape, request);
+    let answer = request_answers::sheets::of_shape(shape, request, sines, room);
+    put_text(answer, room, out, reference, deltat, sky)
+}
+
+// The answer to an eclipse's bytes.
 pub fn put_timed_answer(
     request: &[u8],
-    reference: Reference,
+    reference: Option<Instant>,
     sines: &mut [u32],
     room: &mut [u8],
     out: &mut [u8],
@@ -107,16 +135,13 @@ pub fn put_timed_answer(
     ensures sheet { room.new ≡ buffer_for request.now sines.old room.old }
     ensures sines { sines.new ≡ sines_for request.now sines.old }
 {
-    let deltat = request_format::input::deltat(request);
-    let sky = sky_of(Shape::Eclipse, request);
-    let answer = request_answers::sheets::sheet(request, sines, room);
-    put_text(answer, room, out, reference, deltat, sky)
+    put_timed(Shape::Eclipse, request, reference, sines, room, out)
 }
 
 // The same of a star request.
 pub fn put_timed_star_answer(
     request: &[u8],
-    reference: Reference,
+    reference: Option<Instant>,
     sines: &mut [u32],
     room: &mut [u8],
     out: &mut [u8],
@@ -125,8 +150,5 @@ pub fn put_timed_star_answer(
     ensures sheet { room.new ≡ star_buffer request.now sines.old room.old }
     ensures sines { sines.new ≡ star_sines request.now sines.old }
 {
-    let deltat = request_format::input::stars::deltat(request);
-    let sky = sky_of(Shape::Star, request);
-    let answer = request_answers::sheets::star_sheet(request, sines, room);
-    put_text(answer, room, out, reference, deltat, sky)
+    put_timed(Shape::Star, request, reference, sines, room, out)
 }

@@ -19,6 +19,7 @@ fn beyond(x: i64, m: i64) -> bool
 }
 
 // Whether a place is from low to high away. A coordinate beyond high is too far by itself; the squares of others fit.
+// `Row`, of which the definitions speak, has six fields: a struct of x, y, z would be built at each call.
 fn at_distance(x: i64, y: i64, z: i64, low: i64, high: i64) -> bool
     requires { (nat_abs low ≤ 2400000000000) × (nat_abs high ≤ 2400000000000) × (pos 0 ≤ℤ high) }
     ensures { result ≡ between x y z low high }
@@ -79,6 +80,9 @@ pub fn accepted(p: crate::besselian::Row) -> bool
 }
 
 // ---- the axis
+
+// That a row is accepted stays a clause, and is no type: `accepted` speaks of rows that are not, and the clauses of
+// public functions stay.
 
 // The axis in thousands of units, and the squares of its lengths on the equator and whole.
 #[derive(Clone, Copy)]

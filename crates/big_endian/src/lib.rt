@@ -1,5 +1,6 @@
 // Numbers of two, four and eight bytes, the highest first, as sheets, requests and notes have them. These functions
-// are internal and have a `requires`.
+// are internal and have a `requires`. Each is one call of std's for its size, so a const parameter for the size would
+// be no plainer.
 #![tactic(auto)]
 
 ghost use Rattle.std.specs.Prelude.{◌≡◌, ◌+◌, ◌≤◌, ◌<◌, length};
@@ -10,7 +11,7 @@ ghost use Rattle.big_endian.specs.Numbers.{two, four, two_at, four_at, eight_at}
 pub fn wide(x: u8) -> u32
     ensures { (result ≡ x) × (result < 256) }
 {
-    x as u32
+    u32::from(x)
 }
 
 // The number of two bytes at `at`.
@@ -18,9 +19,7 @@ pub fn two_at(s: &[u8], at: usize) -> u32
     requires { at + 2 ≤ length s.now }
     ensures { (result ≡ two_at s.now at) × (result < 65536) }
 {
-    let high = wide(s[at]);
-    let low = wide(s[at + 1]);
-    high * 256 + low
+    u32::from(u16::from_be_bytes([s[at], s[at + 1]]))
 }
 
 // The number of four bytes at `at`.
@@ -28,9 +27,7 @@ pub fn four_at(s: &[u8], at: usize) -> u32
     requires { at + 4 ≤ length s.now }
     ensures { result ≡ four_at s.now at }
 {
-    let high = two_at(s, at);
-    let low = two_at(s, at + 2);
-    high * 65536 + low
+    u32::from_be_bytes([s[at], s[at + 1], s[at + 2], s[at + 3]])
 }
 
 // The number of eight bytes at `at`.
@@ -38,9 +35,16 @@ pub fn eight_at(s: &[u8], at: usize) -> u64
     requires { at + 8 ≤ length s.now }
     ensures { result ≡ eight_at s.now at }
 {
-    let high = four_at(s, at) as u64;
-    let low = four_at(s, at + 4) as u64;
-    high * 4_294_967_296 + low
+    u64::from_be_bytes([
+        s[at],
+        s[at + 1],
+        s[at + 2],
+        s[at + 3],
+        s[at + 4],
+        s[at + 5],
+        s[at + 6],
+        s[at + 7],
+    ])
 }
 
 // A number's lower two bytes at `at`.
@@ -48,10 +52,7 @@ pub fn put_two(buf: &mut [u8], at: usize, v: u32)
     requires { at + 2 ≤ length buf.old }
     ensures { buf.new ≡ sets buf.old at (two v) }
 {
-    let high = v / 256 % 256;
-    let low = v % 256;
-    buf[at] = high as u8;
-    buf[at + 1] = low as u8;
+    buf[at..at + 2].copy_from_slice(&((v % 65536) as u16).to_be_bytes());
 }
 
 // A number's four bytes at `at`.
@@ -59,6 +60,5 @@ pub fn put_four(buf: &mut [u8], at: usize, v: u32)
     requires { at + 4 ≤ length buf.old }
     ensures { buf.new ≡ sets buf.old at (four v) }
 {
-    put_two(buf, at, v / 65536);
-    put_two(buf, at + 2, v);
+    buf[at..at + 4].copy_from_slice(&v.to_be_bytes());
 }

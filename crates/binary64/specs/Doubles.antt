@@ -1,12 +1,11 @@
 -- Document 02, wish 5: a double in whole units, and a whole unit as a double. Definitions only. A double is a `Float`
 -- of lib.Ieee: a NaN, an infinity, or `fin s m e`, the number m·2^e, negative where s is true; 2^e is up e / down e.
-use Rattle.std.specs.Prelude.{◌≡◌, Bool, true, false, cond, ℕ, ◌*◌, ◌^◌, ltb, ℤ, pos, neg_ℤ, nat_abs, Float}
+use Rattle.std.specs.Prelude.{◌≡◌, Bool, true, false, cond, ℕ, ◌*◌, ◌^◌, ltb, ℤ, pos, neg_ℤ, nat_abs, Float, Result, Ok, Err}
 use Rattle.std.specs.Float.{nan, inf, fin, binary64}
 use Rattle.std.specs.Float.Ieee.{up, down, div, of_int}
 use Rattle.std.specs.Float.Ieee.Scale.{finite}
+use Rattle.binary64.specs.declared.NotUnits.{NotUnits}
 use Rattle.rounding.specs.Near.{near}
-use Rattle.binary64.specs.declared.Reading.{Reading}
-use Rattle.binary64.specs.declared.Reading.TheVariants.{Units, TooLarge, NotFinite}
 use Rattle.binary64.specs.declared.Longitude.{Longitude}
 use Rattle.binary64.specs.declared.Longitude.TheVariants.{Degrees, Hours}
 
@@ -39,18 +38,18 @@ longitude_of l = units_of (longitude_scale l) (double_in l)
 -- ---- in 64 bits
 
 -- "one too large for 64 bits": its size is 2^63 or more (and -2^63 itself, which is as far out of every range)
-unfoldable pub fitted : ℤ → Reading
-fitted z = cond (ltb (nat_abs z) (2 ^ 63)) (Units z) TooLarge
+unfoldable pub fitted : ℤ → Result ℤ NotUnits
+fitted z = cond (ltb (nat_abs z) (2 ^ 63)) (Ok z) (Err NotUnits.TooLarge)
 
-unfoldable pub reading_of : (scale : ℕ) → Float → Reading
-reading_of scale x = cond (finite x) (fitted (units_of scale x)) NotFinite
+unfoldable pub reading_of : (scale : ℕ) → Float → Result ℤ NotUnits
+reading_of scale x = cond (finite x) (fitted (units_of scale x)) (Err NotUnits.NotFinite)
 
 -- the number that the code goes on with: one too large "is outside its range", and so is the number used in its place
 -- (HeldLaws)
-abbrev pub stand_in : Reading → ℤ
-stand_in (Units z) = z
-stand_in TooLarge = pos 9223372036854775807
-stand_in NotFinite = pos 0
+abbrev pub stand_in : Result ℤ NotUnits → ℤ
+stand_in (Ok z) = z
+stand_in (Err NotUnits.TooLarge) = pos 9223372036854775807
+stand_in (Err NotUnits.NotFinite) = pos 0
 
 abbrev pub held : ℤ → ℤ
 held z = stand_in (fitted z)

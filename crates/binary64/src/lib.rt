@@ -13,16 +13,6 @@ pub const DEGREE: u64 = 1_000_000;
 // Units to an Earth radius, and to a tangent of 1.
 pub const RADIUS: u64 = 100_000_000;
 
-// What a double is in whole units.
-#[derive(Clone, Copy)]
-pub enum Reading {
-    Units(i64),
-    // 2^63 units or more, either way
-    TooLarge,
-    // an infinity or a NaN
-    NotFinite,
-}
-
 // A longitude as the instrument gives it, EAST positive.
 #[derive(Clone, Copy)]
 pub enum Longitude {
@@ -39,9 +29,6 @@ const SIGN: u64 = 9_223_372_036_854_775_808;
 // The weight of the exponent, and of the leading digit.
 const LEADING: u64 = 4_503_599_627_370_496;
 
-// The exponent field of an infinity or a NaN.
-const NOT_FINITE: u64 = 2047;
-
 // What a number of 53 digits is split by, 2^26: each part times a scale fits in 64 bits.
 const PART: u64 = 67_108_864;
 
@@ -49,11 +36,7 @@ const PART: u64 = 67_108_864;
 pub fn is_finite(x: f64) -> bool
     ensures { result ≡ finite x }
 {
-    if x != x {
-        return false;
-    }
-    let bits = f64::to_bits(x);
-    bits % SIGN / LEADING != NOT_FINITE
+    x.is_finite()
 }
 
 // ---- reading
@@ -96,36 +79,45 @@ fn size(field: u64, digits: u64, scale: u64) -> u64
     }
 }
 
+// Why a double is no whole number of units.
+#[derive(Clone, Copy)]
+pub enum NotUnits {
+    // 2^63 units or more, either way
+    TooLarge,
+    // an infinity or a NaN
+    NotFinite,
+}
+
 // The double times the scale, to the nearest whole number, halves away from zero.
-pub fn read(x: f64, scale: u64) -> Reading
+pub fn read(x: f64, scale: u64) -> Result<i64, NotUnits>
     requires { (2048 ≤ scale) × (scale ≤ 100_000_000) }
     ensures { result ≡ reading_of scale x }
 {
     let known = is_finite(x);
     if !known {
-        return Reading::NotFinite;
+        return Err(NotUnits::NotFinite);
     }
     let bits = f64::to_bits(x);
     let n = size(bits % SIGN / LEADING, bits % LEADING, scale);
     if SIGN <= n {
-        return Reading::TooLarge;
+        return Err(NotUnits::TooLarge);
     }
     if SIGN <= bits {
-        Reading::Units(0 - (n as i64))
+        Ok(0 - (n as i64))
     } else {
-        Reading::Units(n as i64)
+        Ok(n as i64)
     }
 }
 
 // The whole unit that was read. For one too large the largest number, which is out of every range too; for what is not
 // finite, which is refused before anyone asks, 0.
-pub fn unit_of(reading: Reading) -> i64
+pub fn unit_of(reading: Result<i64, NotUnits>) -> i64
     ensures { result ≡ stand_in reading }
 {
     match reading {
-        Reading::Units(unit) => unit,
-        Reading::TooLarge => 9_223_372_036_854_775_807,
-        Reading::NotFinite => 0,
+        Ok(unit) => unit,
+        Err(NotUnits::TooLarge) => 9_223_372_036_854_775_807,
+        Err(NotUnits::NotFinite) => 0,
     }
 }
 
@@ -136,13 +128,12 @@ pub fn double_in(longitude: Longitude) -> f64
     ensures { result ≡ double_in longitude }
 {
     match longitude {
-        Longitude::Degrees(x) => x,
-        Longitude::Hours(x) => x,
+        Longitude::Degrees(x) | Longitude::Hours(x) => x,
     }
 }
 
 // In 10^-6 degree.
-pub fn read_longitude(longitude: Longitude) -> Reading
+pub fn read_longitude(longitude: Longitude) -> Result<i64, NotUnits>
     ensures { result ≡ reading_of (longitude_scale longitude) (double_in longitude) }
 {
     match longitude {

@@ -25,13 +25,6 @@ pub struct Instant {
     pub offset: u64, // TAI less UTC in seconds, 10 to 99; 0 where it was not typed
 }
 
-// The instant of a text or for a listing, if there is one.
-#[derive(Clone, Copy)]
-pub enum Reference {
-    Nothing,
-    At(Instant),
-}
-
 // ---- the Gregorian calendar
 
 fn is_leap(year: u64) -> bool

@@ -2,14 +2,7 @@
 ghost use Rattle.std.specs.Prelude.{◌≡◌};
 ghost use Rattle.calendar.specs.Numbers.{is_offset, scale_of, reference_of};
 
-use crate::{Instant, Reference, Scale};
-
-// The reference that six numbers are, or the place of the first wrong one.
-#[derive(Clone, Copy)]
-pub enum Numbered {
-    Is(Reference),
-    Wrong(usize),
-}
+use crate::{Instant, Scale};
 
 fn is_offset(year: u64, offset: u64) -> bool
     ensures { result ≡ is_offset year offset }
@@ -17,6 +10,7 @@ fn is_offset(year: u64, offset: u64) -> bool
     (offset == 0) | ((10 <= offset) & (offset <= 99) & (1972 <= year))
 }
 
+// Ephemeris time for 1, universal for 2. `TryFrom` would be no plainer: the caller has refused all other numbers.
 fn scale_of(scale: u64) -> Scale
     ensures { result ≡ scale_of scale }
 {
@@ -26,7 +20,9 @@ fn scale_of(scale: u64) -> Scale
     Scale::Universal
 }
 
-// With no scale, 0, there is no instant, and the other numbers are not read.
+// The instant that the six numbers are, or the place of the first wrong one. With no scale, 0, there is no instant,
+// and the other numbers are not read. They are no struct because the C interface gives them one by one
+// (`ukhtvaresh_times`).
 pub fn reference_of(
     scale: u64,
     year: u64,
@@ -34,29 +30,29 @@ pub fn reference_of(
     day: u64,
     hundredths: u64,
     offset: u64,
-) -> Numbered
+) -> Result<Option<Instant>, usize>
     ensures { result ≡ reference_of scale year month day hundredths offset }
 {
     if scale == 0 {
-        return Numbered::Is(Reference::Nothing);
+        return Ok(None);
     }
     if 2 < scale {
-        return Numbered::Wrong(0);
+        return Err(0);
     }
     if !crate::is_day(year, month, day) {
-        return Numbered::Wrong(1);
+        return Err(1);
     }
     if 9999 < year {
-        return Numbered::Wrong(1);
+        return Err(1);
     }
     if 8639999 < hundredths {
-        return Numbered::Wrong(4);
+        return Err(4);
     }
     if !is_offset(year, offset) {
-        return Numbered::Wrong(5);
+        return Err(5);
     }
     let scale = scale_of(scale);
-    Numbered::Is(Reference::At(Instant {
+    Ok(Some(Instant {
         year,
         month,
         day,

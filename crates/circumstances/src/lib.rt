@@ -13,15 +13,8 @@ ghost use Rattle.circumstances.specs.Sheet.{answer_within, buffer_within, sheet_
 ghost use Rattle.circumstances.specs.Demand3.{Claimed};
 
 use requests::Occultation;
-use sheet_types::refusals::{Checked, Refusal};
+use sheet_types::refusals::Refusal;
 use station::Place;
-
-// A sheet of that many bytes was written, or why there is none: 1, 2, 13, 3 or 4.
-#[derive(Clone, Copy)]
-pub enum Answer {
-    Written(usize),
-    Refused(Refusal),
-}
 
 // The sheet within its limits, from the states of its seconds: its length is known before the first byte.
 fn sheet_from(
@@ -31,7 +24,7 @@ fn sheet_from(
     closest: usize,
     runs: &[u8],
     buf: &mut [u8],
-) -> Answer
+) -> Result<usize, Refusal>
     requires sines { (Sines table.now) × (InLimits o) × (place ≡ place_of o.station) × (closest ≡ closestOf o) }
     requires all_states { AllStates o runs.now }
     ensures value { result ≡ answer_within o buf.old }
@@ -39,17 +32,17 @@ fn sheet_from(
 {
     let need = crate::writing::lengths::sheet_length(o, runs);
     if buf.len() < need {
-        return Answer::Refused(Refusal {
+        return Err(Refusal {
             number: 4,
             place: need,
         });
     }
     let length = crate::writing::write_sheet(table, o, place, closest, runs, buf);
-    Answer::Written(length)
+    Ok(length)
 }
 
 // The sheet of an occultation within its limits, from a filled sine table.
-fn sheet_within(table: &[u32], o: Occultation, buf: &mut [u8]) -> Answer
+fn sheet_within(table: &[u32], o: Occultation, buf: &mut [u8]) -> Result<usize, Refusal>
     requires { (Sines table.now) × (InLimits o) }
     ensures value { result ≡ answer_within o buf.old }
     ensures buf_after { buf.new ≡ buffer_within o buf.old }
@@ -64,15 +57,12 @@ fn sheet_within(table: &[u32], o: Occultation, buf: &mut [u8]) -> Answer
 }
 
 // The contact sheet, in the caller's buffer; `sines` is the buffer for table S.
-pub fn sheet(o: Occultation, sines: &mut [u32], buf: &mut [u8]) -> Answer
+pub fn sheet(o: Occultation, sines: &mut [u32], buf: &mut [u8]) -> Result<usize, Refusal>
     ensures answer { result ≡ sheet_answer o sines.old buf.old }
     ensures buffer { buf.new ≡ sheet_buffer o sines.old buf.old }
     ensures sines { sines.new ≡ sheet_sines o sines.old }
     ensures demand3 { Claimed o result buf.new }
 {
-    let c = requests::admission::admit(o, sines);
-    if let Checked::Refused(refusal) = c {
-        return Answer::Refused(refusal);
-    }
+    requests::admission::admit(o, sines)?;
     sheet_within(sines, o, buf)
 }

@@ -49,8 +49,9 @@ fn write_phase(
         run: 0,
         was: 0,
     };
+    // Not a `for`: `contacts::step` gives an entry with the cursor after it.
     loop {
-        let contacts::Next::Found(entry, next) = contacts::step(runs, k, seconds, c) else {
+        let Some((entry, next)) = contacts::step(runs, k, seconds, c) else {
             return at;
         };
         let e = local_circumstances::entries::entry_for(table, o, place, phase, entry);
@@ -98,10 +99,8 @@ fn write_phases(
     let body = o.body;
     let count = shadow::bodies::phase_count(body);
     let mut at = start;
-    let mut k: usize = 0;
-    while k < count {
+    for k in 0..count {
         at = write_nth_phase(table, o, place, runs, k, buf, at);
-        k += 1;
     }
     at
 }

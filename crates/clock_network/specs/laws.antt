@@ -11,3 +11,4 @@ pub mod Bits
 -- what holds of them
 pub mod HeldLaws
 pub mod Copy
+pub mod Walks

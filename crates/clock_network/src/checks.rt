@@ -9,7 +9,7 @@ ghost use Rattle.clock_network.specs.Nodes.{Holds};
 ghost use Rattle.clock_network.specs.Checks.{eclipse_of, request_of, stations_checked, clocks_checked, checked};
 
 use crate::stations::Held;
-use sheet_types::refusals::{Checked, Refusal};
+use sheet_types::refusals::Refusal;
 use station::Station;
 
 // What all stations of the list look at.
@@ -54,7 +54,7 @@ pub fn request(e: Eclipse, s: Station) -> requests::Request
 }
 
 // What the first station's request is refused for.
-fn check_first(e: Eclipse, h: Held) -> Checked
+fn check_first(e: Eclipse, h: Held) -> Result<(), Refusal>
     requires { length h.nodes ≡ 64 }
     ensures { result ≡ Requests.checked (of_eclipse (request_of e (get_or h.nodes 0 blank_node).station)) }
 {
@@ -66,79 +66,67 @@ fn check_first(e: Eclipse, h: Held) -> Checked
 }
 
 // The first station of the list with a number out of its range: 3 with ten times its place and the field.
-fn check_stations(h: Held) -> Checked
+fn check_stations(h: Held) -> Result<(), Refusal>
     requires { (h.count ≤ 64) × (length h.nodes ≡ 64) }
     ensures { result ≡ stations_checked 0 (take h.count h.nodes) }
 {
     let n = h.count;
-    let mut i: usize = 0;
-    while i < n {
-        let x = h.nodes[i];
-        let s = x.station;
-        let c = station::check(s);
-        if let Checked::Refused(refusal) = c {
-            let number = refusal.number;
-            let place = 10 * i + refusal.place;
-            return Checked::Refused(Refusal { number, place });
-        }
-        i += 1;
+    for (i, x) in h.nodes[..n].iter().enumerate() {
+        station::check(x.station).map_err(move |r| Refusal {
+            number: r.number,
+            place: 10 * i + r.place,
+        })?;
     }
-    Checked::Within
+    Ok(())
 }
 
 // The first number already used: 14; the first clock neither 0 nor in the list: 15; the first chain that never reaches
 // the antenna: 16.
-fn check_clocks(numbers: &[i64], clocks: &[i64]) -> Checked
+fn check_clocks(numbers: &[i64], clocks: &[i64]) -> Result<(), Refusal>
     requires { (length clocks.now ≡ length numbers.now) × (length numbers.now ≤ 64) }
     ensures { result ≡ clocks_checked numbers.now clocks.now }
 {
     let n = numbers.len();
     let repeat = crate::strata::first_repeat(numbers);
     if repeat < n {
-        return Checked::Refused(Refusal {
+        return Err(Refusal {
             number: 14,
             place: repeat,
         });
     }
     let stray = crate::strata::first_stray(numbers, clocks);
     if stray < n {
-        return Checked::Refused(Refusal {
+        return Err(Refusal {
             number: 15,
             place: stray,
         });
     }
     let lost = crate::strata::first_lost(numbers, clocks);
     if lost < n {
-        return Checked::Refused(Refusal {
+        return Err(Refusal {
             number: 16,
             place: lost,
         });
     }
-    Checked::Within
+    Ok(())
 }
 
 // All of them. 1 and 2 are those of the first station's request: they are the same for every station, and its 3 has
 // place 0 in the list.
-pub fn check(e: Eclipse, h: Held) -> Checked
+pub fn check(e: Eclipse, h: Held) -> Result<(), Refusal>
     requires { length h.nodes ≡ 64 }
     ensures { (l : List Node) → Holds h l → result ≡ checked e l }
 {
     let n = h.count;
     let sized = (1 <= n) & (n <= 64);
     if !sized {
-        return Checked::Refused(Refusal {
+        return Err(Refusal {
             number: 19,
             place: 0,
         });
     }
-    let c = check_first(e, h);
-    if let Checked::Refused(_) = c {
-        return c;
-    }
-    let d = check_stations(h);
-    if let Checked::Refused(_) = d {
-        return d;
-    }
+    check_first(e, h)?;
+    check_stations(h)?;
     let numbers = crate::stations::numbers(h);
     let clocks = crate::stations::clocks(h);
     check_clocks(&numbers[..n], &clocks[..n])

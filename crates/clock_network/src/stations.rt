@@ -1,6 +1,6 @@
-// The stations of a network in one list, each with the station whose clock it follows. `size`, `taken` and `gathered`
-// take the borrowed list, a slice of structs, and turn it into a value; everything else works on that value.
-ghost use Rattle.std.specs.Prelude.{◌≡◌, ◌<◌, length, get_or};
+// The stations of a network in one list, each with the station whose clock it follows. `gathered` takes
+// the borrowed list, a slice of structs, and turns it into a value; everything else works on that value.
+ghost use Rattle.std.specs.Prelude.{◌≡◌, ◌<◌, length};
 ghost use Rattle.clock_network.specs.Held.{blank_node, empty_of, put_of, least64, held_of};
 ghost use Rattle.clock_network.specs.Nodes.{numbers_of, clocks_of};
 
@@ -30,7 +30,7 @@ fn blank() -> Node
     }
 }
 
-// A list's nodes, as many as fit, with the list's own length.
+// A list's nodes, as many as fit, with the list's own length: an array with its count, since there is no heap.
 #[derive(Clone, Copy)]
 pub struct Held {
     pub nodes: [Node; 64],
@@ -56,44 +56,19 @@ pub fn put(h: Held, i: usize, n: Node) -> Held
     g
 }
 
-// How many nodes of a list of n fit.
-fn least(n: usize) -> usize
-    ensures { result ≡ least64 n }
-{
-    if n < 64 { n } else { 64 }
-}
-
 // ---- the borrowed list
 
-// Its length.
-fn size(l: &[Node]) -> usize
-    ensures { result ≡ length l.now }
-{
-    l.len()
-}
-
-// A node, taken out of the list by value.
-fn taken(l: &[Node], i: usize) -> Node
-    requires { i < length l.now }
-    ensures { result ≡ get_or l.now i blank_node }
-{
-    l[i]
-}
-
-// Its nodes, as many as fit: the only loop over the borrowed list.
+// Its nodes, as many as fit.
 pub fn gathered(l: &[Node]) -> Held
     ensures { result ≡ held_of l.now (least64 (length l.now)) }
 {
-    let n = size(l);
-    let m = least(n);
-    let mut h = empty(n);
-    let mut i: usize = 0;
-    while i < m {
-        let x = taken(l, i);
-        h = put(h, i, x);
-        i += 1;
+    let n = l.len().min(64);
+    let mut nodes = [blank(); 64];
+    nodes[..n].copy_from_slice(&l[..n]);
+    Held {
+        nodes,
+        count: l.len(),
     }
-    h
 }
 
 // ---- the list as a value
@@ -103,16 +78,7 @@ pub fn numbers(h: Held) -> [i64; 64]
     requires { length h.nodes ≡ 64 }
     ensures { result ≡ numbers_of h.nodes }
 {
-    let mut a = [0i64; 64];
-    let mut i: usize = 0;
-    while i < 64 {
-        let n = h.nodes[i];
-        let s = n.station;
-        let k = s.number;
-        a[i] = k;
-        i += 1;
-    }
-    a
+    h.nodes.map(|n| n.station.number)
 }
 
 // The clocks of the nodes.
@@ -120,13 +86,5 @@ pub fn clocks(h: Held) -> [i64; 64]
     requires { length h.nodes ≡ 64 }
     ensures { result ≡ clocks_of h.nodes }
 {
-    let mut a = [0i64; 64];
-    let mut i: usize = 0;
-    while i < 64 {
-        let n = h.nodes[i];
-        let k = n.clock;
-        a[i] = k;
-        i += 1;
-    }
-    a
+    h.nodes.map(|n| n.clock)
 }

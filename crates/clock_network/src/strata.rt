@@ -1,6 +1,6 @@
 // The clocks of a network over its list's numbers and clocks, as plain slices: refusals 14, 15 and 16, the steps from
 // the antenna, and the first of the smallest seconds. These functions are internal; they know no station and no
-// shadow.
+// shadow. Numbers and clocks are two lists, as in the definitions `firstStray` and `steps_of`.
 ghost use Rattle.std.specs.Prelude.{◌≡◌, ◌+◌, ◌<◌, ◌≤◌, length};
 ghost use Rattle.clock_network.specs.laws.First.{First};
 ghost use Rattle.clock_network.specs.Steps.{At, Distinct, StepsAre, Zero};
@@ -11,30 +11,20 @@ ghost use Rattle.clock_network.specs.Defined.{firstRepeat, firstStray, first_los
 fn place(l: &[i64], x: i64) -> usize
     ensures { First (At l.now x) (length l.now) result }
 {
-    let mut i: usize = 0;
-    while i < l.len() {
-        if l[i] == x {
-            return i;
-        }
-        i += 1;
-    }
-    i
+    l.iter().position(|y| *y == x).unwrap_or(l.len())
 }
 
-// The first place whose number stands earlier too, or the length.
+// The first place whose number stands earlier too, or the length. A number and no Option, as the definition
+// (`firstRepeat`) is one; so are the searches below.
 pub fn first_repeat(numbers: &[i64]) -> usize
     ensures { result ≡ firstRepeat numbers.now }
 {
-    let mut i: usize = 0;
-    while i < numbers.len() {
-        let x = numbers[i];
-        let j = place(numbers, x);
-        if j < i {
+    for (i, x) in numbers.iter().enumerate() {
+        if numbers[..i].contains(x) {
             return i;
         }
-        i += 1;
     }
-    i
+    numbers.len()
 }
 
 // The first place whose clock is neither 0 nor a number of the list, or the length.
@@ -42,18 +32,12 @@ pub fn first_stray(numbers: &[i64], clocks: &[i64]) -> usize
     requires { length clocks.now ≡ length numbers.now }
     ensures { result ≡ firstStray numbers.now clocks.now }
 {
-    let mut i: usize = 0;
-    while i < numbers.len() {
-        let x = clocks[i];
-        if x != 0 {
-            let j = place(numbers, x);
-            if j == numbers.len() {
-                return i;
-            }
+    for (i, x) in clocks.iter().enumerate() {
+        if *x != 0 && !numbers.contains(x) {
+            return i;
         }
-        i += 1;
     }
-    i
+    clocks.len()
 }
 
 // The steps of place i, from those of the places that are known so far, or 0 where those do not determine them.
@@ -75,44 +59,33 @@ fn next_steps(numbers: &[i64], clocks: &[i64], steps: &[u8], i: usize) -> u8
     steps[j] + 1
 }
 
-#[derive(Clone, Copy)]
-pub enum Ready {
-    // A place without steps, and what its steps are.
-    Found(usize, u8),
-    // No place can be determined.
-    Quiet,
-}
-
 // The first place whose steps are not known and can be determined.
-fn ready_place(numbers: &[i64], clocks: &[i64], steps: &[u8]) -> Ready
+fn ready_place(numbers: &[i64], clocks: &[i64], steps: &[u8]) -> Option<(usize, u8)>
     requires { (length clocks.now ≡ length numbers.now) × (length numbers.now ≤ length steps.now) × Distinct numbers.now × Small steps.now }
     ensures { ReadyIs numbers.now clocks.now steps.now result }
 {
-    let mut i: usize = 0;
-    while i < numbers.len() {
+    for i in 0..numbers.len() {
         if steps[i] == 0 {
             let s = next_steps(numbers, clocks, steps, i);
             if s != 0 {
-                return Ready::Found(i, s);
+                return Some((i, s));
             }
         }
-        i += 1;
     }
-    Ready::Quiet
+    None
 }
 
-// The steps of every place by one place a turn, 0 where the chain never reaches the antenna, and 0 past the list.
+// The steps of every place by one place a turn, 0 where the chain never reaches the antenna, and 0 past the list. That
+// the turns end is shown by the places without steps: no list counts the turns.
 fn search(numbers: &[i64], clocks: &[i64]) -> [u8; 64]
     requires { (length clocks.now ≡ length numbers.now) × (length numbers.now ≤ 64) × Distinct numbers.now }
     ensures { StepsAre numbers.now clocks.now result }
 {
     let mut steps = [0u8; 64];
-    loop {
-        let Ready::Found(i, s) = ready_place(numbers, clocks, &steps) else {
-            return steps;
-        };
+    while let Some((i, s)) = ready_place(numbers, clocks, &steps) {
         steps[i] = s;
     }
+    steps
 }
 
 // The same steps, for numbers that are used once.
@@ -128,14 +101,7 @@ fn first_zero(steps: &[u8], n: usize) -> usize
     requires { n ≤ length steps.now }
     ensures { First (Zero steps.now) n result }
 {
-    let mut i: usize = 0;
-    while i < n {
-        if steps[i] == 0 {
-            return i;
-        }
-        i += 1;
-    }
-    i
+    steps[..n].iter().position(|s| *s == 0).unwrap_or(n)
 }
 
 // The first place whose chain never reaches the antenna, or the length.
@@ -153,13 +119,11 @@ pub fn earliest(tos: &[u32], never: u32) -> usize
 {
     let mut low = never;
     let mut best = tos.len();
-    let mut i: usize = 0;
-    while i < tos.len() {
-        if tos[i] < low {
-            low = tos[i];
+    for (i, to) in tos.iter().enumerate() {
+        if *to < low {
+            low = *to;
             best = i;
         }
-        i += 1;
     }
     best
 }

@@ -1,5 +1,5 @@
 -- The two hundredths of a second between which a contact lies. A rule of our own (docs/CONTACTS.md). Definitions only.
-use Rattle.std.specs.Prelude.{Bool, cond, ℕ, zero, suc, ◌+◌, ◌-◌, ◌/◌, eqb, ltb, ℤ, pos, nat_abs, ◌+ℤ◌, ◌-ℤ◌, ◌*ℤ◌}
+use Rattle.std.specs.Prelude.{Bool, cond, ℕ, zero, suc, ◌+◌, ◌-◌, ◌/◌, eqb, ltb, ℤ, pos, nat_abs, ◌+ℤ◌, ◌-ℤ◌, ◌*ℤ◌, Option, Some, None}
 use Rattle.sheet_types.specs.declared.phases.Phase.{Phase}
 use Rattle.sheet_types.specs.States.{State, code}
 use Rattle.elements.specs.declared.Body.{Body}
@@ -7,8 +7,6 @@ use Rattle.elements.specs.Stars.{axis_of}
 use Rattle.station.specs.declared.Place.{Place}
 use Rattle.shadow_geometry.specs.Shadow.{cone, L, M, edge, state}
 use Rattle.contact_times.specs.declared.hundredths.Crossing.{Crossing}
-use Rattle.contact_times.specs.declared.search.Bracket.{Bracket}
-use Rattle.contact_times.specs.declared.search.Bracket.TheVariants as B
 use Rattle.contact_times.specs.Parts.{hundredths, moment_by, cone_by}
 
 -- a phase of what the Moon hides, at a place, under a guard
@@ -47,14 +45,14 @@ last_below c first start bound low high = halved (high - low) (λ k. ltb (side_a
 
 -- a hundredth with the first state, next to one without; and from there on one with the other state, next to one
 -- without
-unfoldable pub narrowed : Crossing → (first : ℤ) (start n : ℕ) → Bracket
+unfoldable pub narrowed : Crossing → (first : ℤ) (start n : ℕ) → Option (ℤ × ℤ)
 narrowed c first start n =
     let low = last_below c first start 1 0 n in
-    B.Between (first +ℤ pos low) (first +ℤ pos (last_below c first start 2 low n + 1))
+    Some ((first +ℤ pos low), (first +ℤ pos (last_below c first start 2 low n + 1)))
 
 -- between two seconds of which one is outside (0) and one inside (1)
-unfoldable pub bracket_of : Crossing → (from to : ℤ) → Bracket
+unfoldable pub bracket_of : Crossing → (from to : ℤ) → Option (ℤ × ℤ)
 bracket_of c from to =
     let first = from *ℤ pos 100 in
     let start = code (state_at c first) in
-    cond (eqb (start + code (state_at c (to *ℤ pos 100))) 1) (narrowed c first start (nat_abs (to *ℤ pos 100 -ℤ first))) B.NoContact
+    cond (eqb (start + code (state_at c (to *ℤ pos 100))) 1) (narrowed c first start (nat_abs (to *ℤ pos 100 -ℤ first))) None

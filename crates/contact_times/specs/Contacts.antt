@@ -1,11 +1,10 @@
 -- The contact of a phase of an occultation between two seconds: two hundredths of a second, or the refusal. A rule of
 -- our own (docs/CONTACTS.md). Definitions only.
-use Rattle.std.specs.Prelude.{Bool, cond, ◌&&◌, List, ℕ, ltb, ℤ, pos, nat_abs, length, get_or}
+use Rattle.std.specs.Prelude.{Bool, cond, ◌&&◌, List, ℕ, ltb, ℤ, pos, nat_abs, length, get_or, Result, Ok, Err, Option, Some, None}
 use Rattle.std.specs.Int.Signed.{le_z, lt_z}
+use Rattle.sheet_types.specs.declared.refusals.Refusal.{Refusal}
 use Rattle.sheet_types.specs.declared.phases.Phase.{Phase}
 use Rattle.sheet_types.specs.declared.phases.Phase.TheVariants.{Penumbra}
-use Rattle.sheet_types.specs.declared.refusals.Checked.{Checked}
-use Rattle.sheet_types.specs.declared.refusals.Checked.TheVariants as C
 use Rattle.sheet_types.specs.Refusals.{refusal, andThen}
 use Rattle.elements.specs.declared.Body.{Body}
 use Rattle.station.specs.Place.{place_of}
@@ -15,10 +14,6 @@ use Rattle.requests.specs.Requests.{checked}
 use Rattle.requests.specs.Windows.{window_holds}
 use Rattle.requests.specs.Admission.{room_checked, sines_after}
 use Rattle.contact_times.specs.declared.hundredths.Crossing.{Crossing}
-use Rattle.contact_times.specs.declared.search.Bracket.{Bracket}
-use Rattle.contact_times.specs.declared.search.Bracket.TheVariants as B
-use Rattle.contact_times.specs.declared.OneContact.{OneContact}
-use Rattle.contact_times.specs.declared.OneContact.TheVariants as O
 use Rattle.contact_times.specs.Brackets.{crossing_of, bracket_of}
 
 -- "under the larger of the request's guard and 32"
@@ -37,27 +32,27 @@ abbrev pub phase_at : Body → ℤ → Phase
 phase_at b φ = get_or (phases_of b) (nat_abs φ) Penumbra
 
 -- "22 with place 0 for a phase that is none"
-unfoldable pub phase_checked : Body → ℤ → Checked
-phase_checked b φ = cond (phase_holds b φ) C.Within (C.Refused (refusal 22 0))
+unfoldable pub phase_checked : Body → ℤ → Result Unit Refusal
+phase_checked b φ = cond (phase_holds b φ) (Ok tt) (Err (refusal 22 0))
 
 -- "1 with place 0 for the window, then for two seconds that are no window, then with place 1 for the guard; 2; of a
 -- star 13; 3; 22 with place 0 ..; 4 with place 901". The window and the two seconds have the same refusal, so either
 -- may come first
-unfoldable pub contact_checked : Occultation → (φ from to : ℤ) → List ℕ → Checked
+unfoldable pub contact_checked : Occultation → (φ from to : ℤ) → List ℕ → Result Unit Refusal
 contact_checked o φ from to sines =
     cond (window_holds (record { first = from; last = to })) (andThen (checked o) (andThen (phase_checked o.body φ) (room_checked sines)))
-    (C.Refused (refusal 1 0))
+    (Err (refusal 1 0))
 
 -- "22 with place 1 where the two seconds are not one surely outside and one surely inside"
-abbrev pub found : Bracket → OneContact
-found (B.Between a b) = O.Is a b
-found B.NoContact = O.Refused (refusal 22 1)
+abbrev pub found : Option (ℤ × ℤ) → Result (ℤ × ℤ) Refusal
+found (Some (a, b)) = Ok (a, b)
+found None = Err (refusal 22 1)
 
-abbrev pub contact_by : Checked → Occultation → (φ from to : ℤ) → OneContact
-contact_by (C.Refused r) o φ from to = O.Refused r
-contact_by C.Within o φ from to = found (bracket_of (crossing o (phase_at o.body φ)) from to)
+abbrev pub contact_by : Result Unit Refusal → Occultation → (φ from to : ℤ) → Result (ℤ × ℤ) Refusal
+contact_by (Err r) o φ from to = Err r
+contact_by (Ok tt) o φ from to = found (bracket_of (crossing o (phase_at o.body φ)) from to)
 
-unfoldable pub contact_answer : Occultation → (φ from to : ℤ) → List ℕ → OneContact
+unfoldable pub contact_answer : Occultation → (φ from to : ℤ) → List ℕ → Result (ℤ × ℤ) Refusal
 contact_answer o φ from to sines = contact_by (contact_checked o φ from to sines) o φ from to
 
 -- the buffer for table S afterwards

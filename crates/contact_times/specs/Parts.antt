@@ -3,12 +3,12 @@
 -- document 01's of elements that stand still at these values. Definitions only. At a whole second it is the shadow at
 -- that second (WholeSeconds).
 use Rattle.std.specs.Prelude.{ℕ, ◌*◌, ℤ, pos, ◌+ℤ◌, ◌*ℤ◌}
-use Rattle.rounding.specs.Near.{near}
 use Rattle.elements.specs.declared.Cubic.{Cubic}
 use Rattle.elements.specs.declared.Quadratic.{Quadratic}
 use Rattle.elements.specs.declared.Axis.{Axis}
 use Rattle.elements.specs.declared.Cone.{Cone}
 use Rattle.elements.specs.Stars.{constant}
+unfoldable pub use Rattle.elements.specs.Polynomial.{stepBy, quadratic_by, cubic_by}
 use Rattle.station.specs.declared.Place.{Place}
 use Rattle.shadow_geometry.specs.Shadow.{Moment, moment_of, ◌²}
 use Rattle.shadow_geometry.specs.Exact.{◌³}
@@ -16,17 +16,6 @@ use Rattle.shadow_geometry.specs.Exact.{◌³}
 -- hundredths of a second
 abbrev pub hundredths : ℕ
 hundredths = 360_000
-
--- "Coefficients are per hour. A value at τ starts from the highest coefficient and repeats: multiply by τ, near over
--- 3600, add the next lower.", with n for 3600 and τ in n-ths of an hour
-unfoldable pub stepBy : (n : ℕ) (τ p lower : ℤ) → ℤ
-stepBy n τ p lower = near (p *ℤ τ) (pos n) +ℤ lower
-
-unfoldable pub quadratic_by : (n : ℕ) → Quadratic → (τ : ℤ) → ℤ
-quadratic_by n q τ = stepBy n τ (stepBy n τ q.c2 q.c1) q.c0
-
-unfoldable pub cubic_by : (n : ℕ) → Cubic → (τ : ℤ) → ℤ
-cubic_by n c τ = stepBy n τ (stepBy n τ (stepBy n τ c.c3 c.c2) c.c1) c.c0
 
 -- x or y with no coefficient but the first
 abbrev pub constant_cubic : ℤ → Cubic

@@ -10,22 +10,13 @@ ghost use Rattle.elements.specs.Stars.{cylinder_of};
 ghost use Rattle.shadow_geometry.specs.Shadow.{eclipse_cone, cone};
 ghost use Rattle.requests.specs.RequestLaws.{InLimits};
 ghost use Rattle.contact_times.specs.Brackets.{bracket_of};
-ghost use Rattle.contact_times.specs.Contacts.{used_guard, crossing, phase_checked, contact_checked, found, contact_answer, contact_sines};
+ghost use Rattle.contact_times.specs.Contacts.{used_guard, crossing, phase_checked, contact_checked, contact_answer, contact_sines};
 
 use crate::hundredths::Crossing;
-use crate::search::Bracket;
 use elements::Body;
 use requests::Occultation;
 use sheet_types::phases::Phase;
-use sheet_types::refusals::{Checked, Refusal};
-
-// The contact between two seconds of an occultation, or the refusal.
-#[derive(Clone, Copy)]
-pub enum OneContact {
-    // hundredths of a second from the reference instant, the earlier first, -1,080,000 to 1,080,000
-    Is(i64, i64),
-    Refused(Refusal),
-}
+use sheet_types::refusals::Refusal;
 
 // The cone of a phase of an eclipse.
 fn eclipse_cone(e: elements::Elements, phase: Phase) -> elements::Cone
@@ -63,12 +54,18 @@ fn cone_of(body: Body, phase: Phase) -> elements::Cone
 fn used_guard(guard: i64) -> i64
     ensures { result ≡ used_guard guard }
 {
-    if guard < 32 { 32 } else { guard }
+    guard.max(32)
 }
 
 // The two hundredths between which the contact of a phase between two seconds lies, of an occultation within its
 // limits.
-pub fn contact(table: &[u32], o: Occultation, phase: Phase, from: i64, to: i64) -> Bracket
+pub fn contact(
+    table: &[u32],
+    o: Occultation,
+    phase: Phase,
+    from: i64,
+    to: i64,
+) -> Option<(i64, i64)>
     requires { (Sines table.now) × (InLimits o) × (nat_abs from ≤ 10800) × (nat_abs to ≤ 10800) × (from ≤ℤ to) }
     ensures { result ≡ bracket_of (crossing o phase) from to }
 {
@@ -89,16 +86,16 @@ pub fn contact(table: &[u32], o: Occultation, phase: Phase, from: i64, to: i64) 
 }
 
 // Refusal 22 with place 0 for the number of a phase that the shadow does not have.
-fn check_phase(body: Body, phase: i64) -> Checked
+fn check_phase(body: Body, phase: i64) -> Result<(), Refusal>
     ensures { result ≡ phase_checked body phase }
 {
     let count = shadow::bodies::phase_count(body);
     if 0 <= phase {
         if (phase as usize) < count {
-            return Checked::Within;
+            return Ok(());
         }
     }
-    Checked::Refused(Refusal {
+    Err(Refusal {
         number: 22,
         place: 0,
     })
@@ -106,7 +103,7 @@ fn check_phase(body: Body, phase: i64) -> Checked
 
 // Whether only the two seconds' states can still refuse it, or the first of the refusals before that; `sines` is filled
 // in the first case alone.
-fn check(o: Occultation, phase: i64, from: i64, to: i64, sines: &mut [u32]) -> Checked
+fn check(o: Occultation, phase: i64, from: i64, to: i64, sines: &mut [u32]) -> Result<(), Refusal>
     ensures answer { result ≡ contact_checked o phase from to sines.old }
     ensures sines { sines.new ≡ contact_sines o phase from to sines.old }
 {
@@ -116,48 +113,36 @@ fn check(o: Occultation, phase: i64, from: i64, to: i64, sines: &mut [u32]) -> C
     };
     let holds = requests::windows::window_holds(w);
     if !holds {
-        return Checked::Refused(Refusal {
+        return Err(Refusal {
             number: 1,
             place: 0,
         });
     }
-    let of_request = requests::check(o);
-    if let Checked::Refused(refusal) = of_request {
-        return Checked::Refused(refusal);
-    }
+    requests::check(o)?;
     let body = o.body;
-    let of_phase = check_phase(body, phase);
-    if let Checked::Refused(refusal) = of_phase {
-        return Checked::Refused(refusal);
-    }
+    check_phase(body, phase)?;
     requests::admission::fill_sines(sines)
 }
 
-// The bracket that was found, or refusal 22 with place 1.
-fn found(bracket: Bracket) -> OneContact
-    ensures { result ≡ found bracket }
-{
-    match bracket {
-        Bracket::Between(a, b) => OneContact::Is(a, b),
-        Bracket::NoContact => OneContact::Refused(Refusal {
-            number: 22,
-            place: 1,
-        }),
-    }
-}
-
 // The contact of a phase, given by its number, between two seconds, which may lie outside the occultation's window, or
-// the refusal; `sines` is the buffer for table S.
-pub fn contact_at(o: Occultation, phase: i64, from: i64, to: i64, sines: &mut [u32]) -> OneContact
+// the refusal; `sines` is the buffer for table S. The contact is two hundredths of a second from the reference instant,
+// the earlier first, -1,080,000 to 1,080,000.
+pub fn contact_at(
+    o: Occultation,
+    phase: i64,
+    from: i64,
+    to: i64,
+    sines: &mut [u32],
+) -> Result<(i64, i64), Refusal>
     ensures answer { result ≡ contact_answer o phase from to sines.old }
     ensures sines { sines.new ≡ contact_sines o phase from to sines.old }
 {
-    let c = check(o, phase, from, to, sines);
-    if let Checked::Refused(refusal) = c {
-        return OneContact::Refused(refusal);
-    }
+    check(o, phase, from, to, sines)?;
     let body = o.body;
     let kind = shadow::bodies::nth_phase(body, phase as usize);
-    let b = contact(sines, o, kind, from, to);
-    found(b)
+    // Refusal 22 with place 1 where none is found.
+    contact(sines, o, kind, from, to).ok_or(Refusal {
+        number: 22,
+        place: 1,
+    })
 }

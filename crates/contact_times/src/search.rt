@@ -6,16 +6,8 @@ ghost use Rattle.contact_times.specs.Sizes.{CrossingSizes};
 
 use crate::hundredths::Crossing;
 
-// Where a contact lies.
-#[derive(Clone, Copy)]
-pub enum Bracket {
-    // between these two hundredths of a second from the reference instant, one outside and one inside
-    Between(i64, i64),
-    // the two seconds are not one outside and one inside
-    NoContact,
-}
-
-// From the state that a contact leaves to the one that it comes to: 0 the first, 1 unsure, 2 the other.
+// From the state that a contact leaves to the one that it comes to: 0 the first, 1 unsure, 2 the other. Numbers and no
+// enum: `side_of` and `last_below` of the page `Brackets` are of numbers, and the search asks which are below a bound.
 fn side_of(start: u8, s: u8) -> u8
     ensures { result ≡ side_of start s }
 {
@@ -48,6 +40,7 @@ fn last_below(
     requires { (Sines table.now) × (CrossingSizes c) × (nat_abs first ≤ 1080000) × (to ≤ 2160000) × (nat_abs (first +ℤ pos to) ≤ 1080000) × (from < to) }
     ensures { (result ≡ last_below c first start bound from to) × (result < to) }
 {
+    // Not `partition_point`: no slice holds the sides, and they need not rise.
     let mut low = from;
     let mut high = to;
     while low + 1 < high {
@@ -63,7 +56,7 @@ fn last_below(
 }
 
 // The two hundredths between which the contact lies, among the n after `first`.
-fn narrow(table: &[u32], c: Crossing, first: i64, start: u8, n: usize) -> Bracket
+fn narrow(table: &[u32], c: Crossing, first: i64, start: u8, n: usize) -> Option<(i64, i64)>
     requires { (Sines table.now) × (CrossingSizes c) × (nat_abs first ≤ 1080000) × (n ≤ 2160000) × (nat_abs (first +ℤ pos n) ≤ 1080000) × (0 < n) }
     ensures { result ≡ narrowed c first start n }
 {
@@ -71,11 +64,12 @@ fn narrow(table: &[u32], c: Crossing, first: i64, start: u8, n: usize) -> Bracke
     let high = last_below(table, c, first, start, 2, low, n);
     let a = first + low as i64;
     let b = first + (high + 1) as i64;
-    Bracket::Between(a, b)
+    Some((a, b))
 }
 
-// The two hundredths between which the contact between two seconds lies.
-pub fn contact_bracket(table: &[u32], c: Crossing, from: i64, to: i64) -> Bracket
+// The two hundredths between which the contact between two seconds lies, one outside and one inside, or none where the
+// two seconds are not one outside and one inside.
+pub fn contact_bracket(table: &[u32], c: Crossing, from: i64, to: i64) -> Option<(i64, i64)>
     requires { (Sines table.now) × (CrossingSizes c) × (nat_abs from ≤ 10800) × (nat_abs to ≤ 10800) × (from ≤ℤ to) }
     ensures { result ≡ bracket_of c from to }
 {
@@ -87,5 +81,5 @@ pub fn contact_bracket(table: &[u32], c: Crossing, from: i64, to: i64) -> Bracke
         let n = (last - first) as usize;
         return narrow(table, c, first, start, n);
     }
-    Bracket::NoContact
+    None
 }

@@ -1,4 +1,5 @@
 -- How the walk goes on at a run of seconds, by what its state says; and what a step answers from there.
+use Rattle.std.specs.Prelude.{None, Some}
 use Prim.Native.Nat.{ℕ, zero, suc, ◌+◌, ◌-◌, ◌≤◌, ◌<◌}
 use mathlib.Core.Path.{◌≡◌, refl, sym, ap, ◌∙◌}
 use mathlib.Core.List.{List, [], ◌∷◌, ◌++◌}
@@ -15,7 +16,6 @@ use Rattle.run_length.specs.laws.RunsLaws.{decoded-none}
 use Rattle.contacts.specs.declared.Cursor.{Cursor}
 use Rattle.contacts.specs.declared.entries.Entry.{Entry}
 use Rattle.contacts.specs.declared.entries.Entry.TheVariants.{Enter, Leave, Graze, Open}
-use Rattle.contacts.specs.declared.Next.TheVariants.{Found, Done}
 use Rattle.contacts.specs.Entries.{sure, unsure, Last, last, state, side, if-so, between, some_between}
 use Rattle.contacts.specs.Entries.{at_second, at_end, walk, from, to}
 use Rattle.contacts.specs.laws.BetweenLaws.{between-some, between_none}
@@ -210,11 +210,11 @@ module _ (k : ℕ) (bytes : List ℕ) where
     past-quiet u same = as-walk s i ∙ sure-left (last_before s i) u ∙ rw (quiet s i (side r.state) same)
 
   -- the answers
-  pub done : (at i : ℕ) → entries_from s at ≡ entries_from s i → i ≡ length s → Stepped k bytes at Done
+  pub done : (at i : ℕ) → entries_from s at ≡ entries_from s i → i ≡ length s → Stepped k bytes at None
   done at i l e = record { rest = l ∙ none-at-end s i e; forward = tt }
 
   found : (at : ℕ) (e : Entry) (c : Cursor) → entries_from s at ≡ e ∷ entries_from s c.at → At k bytes c
-      → at < c.at → from e ≤ to e → to e < c.at → Stepped k bytes at (Found e c)
+      → at < c.at → from e ≤ to e → to e < c.at → Stepped k bytes at (Some (e, c))
   found at e c l a h f t = record { rest = l; forward = (h, a, f, omega (arith, a.stands.second)) }
 
   -- at the sure second t, which ends the search from second i on
@@ -224,26 +224,26 @@ module _ (k : ℕ) (bytes : List ℕ) where
     next = record { at = t + r.seconds; run = r.after; was = r.state }
 
     sure-found : (e : Entry) → at_second (last_before s i) (sure (side r.state)) t ≡ e ∷ [] → from e ≤ to e → to e ≡ t
-        → Stepped k bytes at (Found e next)
+        → Stepped k bytes at (Some (e, next))
     sure-found e b f d =
         found at e next (l ∙ sure-left t p here r run (last_before s i) u ∙ rw b) (at_after t p here r run)
         (omega (arith, run.some)) f (omega (arith, run.some))
 
     -- an entry after the sure second i - 1
     pub between-found : (w : ℕ) (e : Entry) → 0 < i → side (get_or s (i - 1) 0) ≡ side w
-        → between (side w) (side r.state) (i - 1) t ≡ e ∷ [] → Stepped k bytes at (Found e next)
+        → between (side w) (side r.state) (i - 1) t ≡ e ∷ [] → Stepped k bytes at (Some (e, next))
     between-found w e h z b =
         let ends = between_ends (side w) (side r.state) (i - 1) t e b in
         sure-found e (rw (last-before s i h, z) b) (omega arith) ends.1
 
     -- the open entry of a spell at the window's start
-    pub open-start : i ≡ 0 → 0 < t → Stepped k bytes at (Found (Open 0 t) next)
+    pub open-start : i ≡ 0 → 0 < t → Stepped k bytes at (Some ((Open 0 t), next))
     open-start z h = sure-found (Open 0 t) (rw (z, lt-ltb 0 t h)) (omega arith) refl
 
   -- at the window's end, in a spell from second i on
   pub open-end : (at i n p : ℕ) → entries_from s at ≡ walk_from s (last_before s i) n → at ≤ i → i < n → Stands k bytes n p
       → 1 < get_or s (n - 1) 0 → n ≡ length s
-      → Stepped k bytes at (Found (Open (i - 1) (n - 1)) (record { at = n; run = p; was = 2 }))
+      → Stepped k bytes at (Some ((Open (i - 1) (n - 1)), (record { at = n; run = p; was = 2 })))
   open-end at i n p l o q here u e =
       found at (Open (i - 1) (n - 1)) (record { at = n; run = p; was = 2 })
       (l ∙ at-end s (last_before s i) n e ∙ rw (open-at-end s i n q, none-at-end s n e))

@@ -1,9 +1,7 @@
 -- The entries one by one: what a step at a cursor promises. Definitions only.
-use Rattle.std.specs.Prelude.{ℕ, zero, suc, ◌-◌, ◌≤◌, ◌<◌, ◌≡◌, List, [], ◌∷◌, length, get_or, drop}
+use Rattle.std.specs.Prelude.{ℕ, zero, suc, ◌-◌, ◌≤◌, ◌<◌, ◌≡◌, List, [], ◌∷◌, length, get_or, drop, Option, None, Some}
 use Rattle.run_length.specs.Runs.{decoded, Whole}
 use Rattle.contacts.specs.declared.Cursor.{Cursor}
-use Rattle.contacts.specs.declared.Next.{Next}
-use Rattle.contacts.specs.declared.Next.TheVariants.{Found, Done}
 use Rattle.contacts.specs.declared.entries.Entry.{Entry}
 use Rattle.contacts.specs.Entries.{Last, none, last, side, walk, from, to}
 
@@ -31,16 +29,16 @@ pub record At (k : ℕ) (bytes : List ℕ) (c : Cursor) : Type 0 where
   pub start : c.at ≡ 0 → c.run ≡ 0
 
 -- an answer as the list that it starts: its entry, and then those that are left at its cursor
-abbrev pub stepped : List ℕ → Next → List Entry
-stepped s Done = []
-stepped s (Found e c) = e ∷ entries_from s c.at
+abbrev pub stepped : List ℕ → Option (Entry × Cursor) → List Entry
+stepped s None = []
+stepped s (Some (e, c)) = e ∷ entries_from s c.at
 
 -- the cursor goes forward, and it and the entry's seconds are of the window
-abbrev pub Forward : ℕ → List ℕ → ℕ → Next → Type 0
-Forward k bytes at Done = Unit
-Forward k bytes at (Found e c) = (at < c.at) × At k bytes c × (from e ≤ to e) × (to e < length (decoded k bytes))
+abbrev pub Forward : ℕ → List ℕ → ℕ → Option (Entry × Cursor) → Type 0
+Forward k bytes at None = Unit
+Forward k bytes at (Some (e, c)) = (at < c.at) × At k bytes c × (from e ≤ to e) × (to e < length (decoded k bytes))
 
 -- what a step of phase k at a cursor answers
-pub record Stepped (k : ℕ) (bytes : List ℕ) (at : ℕ) (r : Next) : Type 0 where
+pub record Stepped (k : ℕ) (bytes : List ℕ) (at : ℕ) (r : Option (Entry × Cursor)) : Type 0 where
   pub rest : entries_from (decoded k bytes) at ≡ stepped (decoded k bytes) r
   pub forward : Forward k bytes at r

@@ -16,14 +16,7 @@ use crate::entries::Entry;
 pub struct Cursor {
     pub at: usize, // the second to look at next, 0 (at the start) to the window's length
     pub run: usize, // the place of its run in the bytes
-    pub was: u8, // the state of the second before it; at the start, any
-}
-
-#[derive(Clone, Copy)]
-pub enum Next {
-    // an entry, and the cursor after it
-    Found(Entry, Cursor),
-    Done,
+    pub was: u8, // the state of the second before it, a number as in the runs; at the start, any
 }
 
 // The side of a sure second, 0 outside or 1 inside; of any other byte, 1.
@@ -57,7 +50,7 @@ fn second_before(second: usize) -> usize
 
 // The next entry at a cursor, with the cursor after it, of the first phase (0) or the second; `seconds` is how many the
 // window has. The first cursor is at 0, 0; any other is one that a step gave.
-pub fn step(runs: &[u8], phase: usize, seconds: usize, c: Cursor) -> Next
+pub fn step(runs: &[u8], phase: usize, seconds: usize, c: Cursor) -> Option<(Entry, Cursor)>
     requires { (length (decoded phase runs.now) ≡ seconds) × At phase runs.now c }
     ensures { Stepped phase runs.now c.at result }
 {
@@ -67,13 +60,14 @@ pub fn step(runs: &[u8], phase: usize, seconds: usize, c: Cursor) -> Next
     // Over the seconds, to the window's last. A stride takes seconds of equal state, a run of the bytes, at once.
     let to = 'seconds: loop {
         if second == seconds {
-            return Next::Done;
+            return None;
         }
         let stride = run_length::run_at(runs, run, phase);
         if 1 < stride.state {
             // An unsure spell, which may begin with the window: the first sure second ends the search at once.
             let mut ahead = second + stride.seconds;
             run = stride.after;
+            // Not a `for`: each step is a stride, as long as its run.
             while ahead < seconds {
                 let next = run_length::run_at(runs, run, phase);
                 if next.state <= 1 {
@@ -84,14 +78,14 @@ pub fn step(runs: &[u8], phase: usize, seconds: usize, c: Cursor) -> Next
             }
             let from = second_before(second);
             let to = seconds - 1;
-            return Next::Found(
+            return Some((
                 Entry::Open { from, to },
                 Cursor {
                     at: seconds,
                     run,
                     was: 2,
                 },
-            );
+            ));
         }
         // A sure second whose side is not that of the second before it.
         if 0 < second && stride.state != was {
@@ -111,9 +105,9 @@ pub fn step(runs: &[u8], phase: usize, seconds: usize, c: Cursor) -> Next
     };
     // The spell began with the window, and no sure second is before it.
     if second == 0 {
-        return Next::Found(Entry::Open { from: 0, to }, after);
+        return Some((Entry::Open { from: 0, to }, after));
     }
     let from = second - 1;
     let found = entry_between(was, last.state, from, to);
-    Next::Found(found, after)
+    Some((found, after))
 }

@@ -4,7 +4,7 @@
 // follow each other, and an empty buffer measures them.
 #![tactic(auto)]
 
-ghost use Rattle.std.specs.Prelude.{◌≡◌, [], ◌∷◌, ◌+◌, ◌<◌, min, pos, nat_abs, length, get_or};
+ghost use Rattle.std.specs.Prelude.{◌≡◌, [], ◌∷◌, ◌+◌, ◌<◌, min, length};
 ghost use Rattle.decimal_text.specs.Decimals.{decimal, signed};
 ghost use Rattle.decimal_text.specs.Texts.{capped, Put, Counts};
 ghost use Rattle.decimal_text.specs.Patterns.{piece, number_after, filled};
@@ -15,12 +15,8 @@ pub fn put_byte(out: &mut [u8], at: usize, x: u8) -> usize
 {
     if at < out.len() {
         out[at] = x;
-        return at + 1;
     }
-    if at < usize::MAX {
-        return at + 1;
-    }
-    at
+    at.saturating_add(1)
 }
 
 // The place `end`, or the end of the buffer where `end` lies past it. So `&out[..n]` is what was put.
@@ -28,20 +24,14 @@ pub fn clipped(out: &[u8], end: usize) -> usize
     ensures value { result ≡ min end (length out.now) }
     ensures counts { Counts result out.now }
 {
-    if end < out.len() {
-        return end;
-    }
-    out.len()
+    end.min(out.len())
 }
 
 // The place n bytes after another, or the greatest place where that lies past it.
 pub fn after(at: usize, n: usize) -> usize
     ensures { result ≡ capped (at + n) }
 {
-    if n <= usize::MAX - at {
-        return at + n;
-    }
-    usize::MAX
+    at.saturating_add(n)
 }
 
 // Bytes as they are.
@@ -49,10 +39,8 @@ pub fn put_text(out: &mut [u8], start: usize, text: &[u8]) -> usize
     ensures { Put out.old start text.now out.new result }
 {
     let mut at = start;
-    let mut i = 0;
-    while i < text.len() {
-        at = put_byte(out, at, text[i]);
-        i += 1;
+    for &x in text {
+        at = put_byte(out, at, x);
     }
     at
 }
@@ -69,23 +57,11 @@ pub fn put_number(out: &mut [u8], at: usize, n: u64) -> usize
     put_number(out, next, n % 10)
 }
 
-// The size of x: its distance from 0.
-fn size(x: i64) -> u64
-    ensures { result ≡ nat_abs x }
-{
-    if x < 0 {
-        let short = -(x + 1);
-        short as u64 + 1
-    } else {
-        x as u64
-    }
-}
-
 // A number in decimal, a minus before one below zero.
 pub fn put_signed(out: &mut [u8], at: usize, x: i64) -> usize
     ensures { Put out.old at (signed x) out.new result }
 {
-    let digits = size(x);
+    let digits = x.unsigned_abs();
     if x < 0 {
         let next = put_byte(out, at, 45);
         return put_number(out, next, digits);
@@ -114,29 +90,16 @@ fn number_after(x: u8, k: usize) -> usize
     k
 }
 
-// The k-th number, 0 where there is none.
-fn number_at(numbers: &[i64], k: usize) -> i64
-    ensures { result ≡ get_or numbers.now k (pos 0) }
-{
-    if k < numbers.len() {
-        return numbers[k];
-    }
-    0
-}
-
-// A pattern, filled with the numbers in their order.
+// A pattern, filled with the numbers in their order, and with 0 where there is none left.
 pub fn put_filled(out: &mut [u8], start: usize, pattern: &[u8], numbers: &[i64]) -> usize
     ensures { Put out.old start (filled numbers.now 0 pattern.now) out.new result }
 {
     let mut at = start;
     let mut k = 0;
-    let mut i = 0;
-    while i < pattern.len() {
-        let x = pattern[i];
-        let v = number_at(numbers, k);
+    for &x in pattern {
+        let v = numbers.get(k).copied().unwrap_or(0);
         at = put_piece(out, at, x, v);
         k = number_after(x, k);
-        i += 1;
     }
     at
 }

@@ -1,10 +1,8 @@
 -- The answer to seven accepted rows: elements in their ranges with their misfits, or the first refusal. Definitions
 -- only.
-use Rattle.std.specs.Prelude.{Bool, cond, ℕ, ◌+◌, leb, ℤ, pos, negsuc, nat_abs, ◌-ℤ◌}
-use Rattle.rounding.specs.declared.Limits.{Limits}
-use Rattle.rounding.specs.declared.Limits.TheVariants.{InRange, OutOfRange}
-use Rattle.sheet_types.specs.declared.refusals.Checked.{Checked}
-use Rattle.sheet_types.specs.declared.refusals.Checked.TheVariants as C
+use Rattle.std.specs.Prelude.{Bool, cond, ℕ, ◌+◌, leb, ℤ, pos, negsuc, nat_abs, ◌-ℤ◌, Option, Some, None, Result, Ok, Err}
+use Rattle.element_fits.specs.declared.Fits.{Fits}
+use Rattle.sheet_types.specs.declared.refusals.Refusal.{Refusal}
 use Rattle.sheet_types.specs.Refusals.{refusal}
 use Rattle.elements.specs.declared.Cubic.{Cubic}
 use Rattle.elements.specs.declared.Quadratic.{Quadratic}
@@ -15,8 +13,6 @@ use Rattle.element_fits.specs.Exact.{cubic_at_hour}
 use Rattle.element_fits.specs.declared.Columns.{Columns}
 use Rattle.element_fits.specs.declared.Fitting.{Fitting}
 use Rattle.element_fits.specs.declared.Misfits.{Misfits}
-use Rattle.element_fits.specs.declared.Answer.{Answer}
-use Rattle.element_fits.specs.declared.Answer.TheVariants.{Made, Refused}
 
 -- ---- how far a fit is from its values
 
@@ -54,16 +50,16 @@ misfits_of c =
 -- ---- the first that misses by more than the tolerance
 
 -- what was found before, or this place where nothing was found and it is not good
-unfoldable pub unless : Limits → Bool → ℕ → Limits
-unless (OutOfRange i) good place = OutOfRange i
-unless InRange good place = cond good InRange (OutOfRange place)
+unfoldable pub unless : Option ℕ → Bool → ℕ → Option ℕ
+unless (Some i) good place = Some i
+unless None good place = cond good None (Some place)
 
 -- whether a cubic's value at an hour is within a tolerance of v
 unfoldable pub close : Cubic → (t v : ℤ) → (tolerance : ℕ) → Bool
 close c t v tolerance = leb (off c t v) tolerance
 
 -- "the first hour, 0 to 6, that misses by more than the tolerance", counted on from `place`
-unfoldable pub missed : Limits → Cubic → Hourly → (tolerance place : ℕ) → Limits
+unfoldable pub missed : Option ℕ → Cubic → Hourly → (tolerance place : ℕ) → Option ℕ
 missed found c v tolerance place =
     let at : ℤ → ℤ → Bool = λ t x. close c t x tolerance in
     unless (unless (unless (unless (unless (unless (unless found (at (negsuc 2) v.v0) place) (at (negsuc 1) v.v1) (place + 1))
@@ -71,24 +67,24 @@ missed found c v tolerance place =
     (at (pos 3) v.v6) (place + 6)
 
 -- "ten times the fit (0 to 5 in the order of the misfits)"
-unfoldable pub first_missed : Columns → (tolerance : ℕ) → Limits
+unfoldable pub first_missed : Columns → (tolerance : ℕ) → Option ℕ
 first_missed c tolerance =
-    let cubicMissed : Limits → Hourly → ℕ → Limits = λ found v place. missed found (cubic v) v tolerance place in
-    let quadraticMissed : Limits → Hourly → ℕ → Limits = λ found v place. missed found (raised (quadratic v)) v tolerance place in
-    quadraticMissed (quadraticMissed (quadraticMissed (quadraticMissed (cubicMissed (cubicMissed InRange c.x 0) c.y 10) c.d 20)
+    let cubicMissed : Option ℕ → Hourly → ℕ → (Option ℕ) = λ found v place. missed found (cubic v) v tolerance place in
+    let quadraticMissed : Option ℕ → Hourly → ℕ → (Option ℕ) = λ found v place. missed found (raised (quadratic v)) v tolerance place in
+    quadraticMissed (quadraticMissed (quadraticMissed (quadraticMissed (cubicMissed (cubicMissed None c.x 0) c.y 10) c.d 20)
     c.l1 30) c.l2 40) c.mu 50
 
 -- ---- the answer
 
 -- "17 with ten times the fit .. plus the first hour"
-abbrev pub of_missed : Fitting → Limits → Answer
-of_missed f InRange = Made (record { elements = f.elements; misfits = misfits_of f.columns })
-of_missed f (OutOfRange place) = Refused (refusal 17 place)
+abbrev pub of_missed : Fitting → Option ℕ → Result Fits Refusal
+of_missed f None = Ok (record { elements = f.elements; misfits = misfits_of f.columns })
+of_missed f (Some place) = Err (refusal 17 place)
 
 -- "2 with the element out of its range", then 17
-abbrev pub of_checked : Fitting → Limits → Checked → Answer
-of_checked f found C.Within = of_missed f found
-of_checked f found (C.Refused r) = Refused r
+abbrev pub of_checked : Fitting → Option ℕ → Result Unit Refusal → Result Fits Refusal
+of_checked f found (Ok tt) = of_missed f found
+of_checked f found (Err r) = Err r
 
-unfoldable pub judged : Fitting → (tolerance : ℕ) → Answer
+unfoldable pub judged : Fitting → (tolerance : ℕ) → Result Fits Refusal
 judged f tolerance = of_checked f (first_missed f.columns tolerance) (elements_checked f.elements)

@@ -1,22 +1,18 @@
 -- From the caller's numbers to the answer, and what the caller's buffers hold afterwards. Definitions only.
-use Rattle.std.specs.Prelude.{cond, ◌&&◌, List, [], ◌∷◌, ◌++◌, ℕ, leb, eqb, ℤ, pos, nat_abs, length, drop}
+use Rattle.std.specs.Prelude.{cond, ◌&&◌, List, [], ◌∷◌, ◌++◌, ℕ, leb, eqb, ℤ, pos, nat_abs, length, drop, Result, Ok, Err}
+use Rattle.element_fits.specs.declared.Fits.{Fits}
+use Rattle.sheet_types.specs.declared.refusals.Refusal.{Refusal}
 use Rattle.rounding.specs.Limits.{Row, row, rows, first_out_of_range}
-use Rattle.sheet_types.specs.declared.refusals.Checked.{Checked}
-use Rattle.sheet_types.specs.declared.refusals.Checked.TheVariants as C
 use Rattle.sheet_types.specs.Refusals.{refusal, of_limits, andThen}
 use Rattle.elements.specs.declared.Cubic.{Cubic}
 use Rattle.elements.specs.declared.Quadratic.{Quadratic}
 use Rattle.elements.specs.Elements.{fields}
 use Rattle.requests.specs.Admission.{room_checked}
 use Rattle.besselian_rows.specs.declared.besselian.Radii.{Radii}
-use Rattle.besselian_rows.specs.declared.tables.Verdict.{Verdict}
-use Rattle.besselian_rows.specs.declared.tables.Verdict.TheVariants as T
 use Rattle.besselian_rows.specs.Tables.{number, rowAt, first_refused}
 use Rattle.element_fits.specs.declared.least_squares.Hourly.{Hourly}
 use Rattle.element_fits.specs.declared.Rows.{Rows}
 use Rattle.element_fits.specs.declared.Misfits.{Misfits}
-use Rattle.element_fits.specs.declared.Answer.{Answer}
-use Rattle.element_fits.specs.declared.Answer.TheVariants.{Made, Refused}
 use Rattle.element_fits.specs.FromTables.{fitting_of}
 use Rattle.element_fits.specs.Answers.{judged}
 
@@ -68,39 +64,39 @@ unfoldable pub given_ranges : (sidereal radii : List ℤ) → List Row
 given_ranges g k = rows (numbers_of g k) lows highs
 
 -- "11 with the row"
-abbrev pub of_rows : Verdict → Checked
-of_rows T.Whole = C.Within
-of_rows (T.Refused i) = C.Refused (refusal 11 i)
+abbrev pub of_rows : Result Unit ℕ → Result Unit Refusal
+of_rows (Ok tt) = Ok tt
+of_rows (Err i) = Err (refusal 11 i)
 
 -- "10 for other lengths than 42, 7, 3; 18 with place 0 for the tolerance; 21 (ours) with place 0 to 2 for a radius, 3 to
 -- 9 for a sidereal angle; 11 with the row"
-unfoldable pub given_checked : (rows sidereal radii : List ℤ) (tolerance : ℤ) → Checked
+unfoldable pub given_checked : (rows sidereal radii : List ℤ) (tolerance : ℤ) → Result Unit Refusal
 given_checked n g k tolerance =
     cond (eqb (length n) 42 && (eqb (length g) 7 && eqb (length k) 3))
     (andThen (of_limits 18 (first_out_of_range 0 (tolerance_ranges tolerance)))
-    (andThen (of_limits 21 (first_out_of_range 0 (given_ranges g k))) (of_rows (first_refused n 0 7)))) (C.Refused (refusal 10 0))
+    (andThen (of_limits 21 (first_out_of_range 0 (given_ranges g k))) (of_rows (first_refused n 0 7)))) (Err (refusal 10 0))
 
 -- "4 with place 901"
-unfoldable pub admitted : (rows sidereal radii : List ℤ) (tolerance : ℤ) (sines : List ℕ) → Checked
+unfoldable pub admitted : (rows sidereal radii : List ℤ) (tolerance : ℤ) (sines : List ℕ) → Result Unit Refusal
 admitted n g k tolerance sines = andThen (given_checked n g k tolerance) (room_checked sines)
 
 -- ---- the answer
 
 -- 2 and 17
-unfoldable pub fits_asked : (rows sidereal radii : List ℤ) (tolerance : ℤ) → Answer
+unfoldable pub fits_asked : (rows sidereal radii : List ℤ) (tolerance : ℤ) → Result Fits Refusal
 fits_asked n g k tolerance = judged (fitting_of (radii_of k) (rows_of n) (hourly_of g)) (nat_abs tolerance)
 
 -- "4 with place 22, then 4 with place 6"
-abbrev pub in_rooms : (room second : ℕ) → Answer → Answer
-in_rooms room second (Made f) = cond (leb 22 room) (cond (leb 6 second) (Made f) (Refused (refusal 4 6))) (Refused (refusal 4 22))
-in_rooms room second (Refused r) = Refused r
+abbrev pub in_rooms : (room second : ℕ) → Result Fits Refusal → Result Fits Refusal
+in_rooms room second (Ok f) = cond (leb 22 room) (cond (leb 6 second) (Ok f) (Err (refusal 4 6))) (Err (refusal 4 22))
+in_rooms room second (Err r) = Err r
 
-abbrev pub of_admitted : Checked → Answer → Answer
-of_admitted C.Within next = next
-of_admitted (C.Refused r) next = Refused r
+abbrev pub of_admitted : Result Unit Refusal → Result Fits Refusal → Result Fits Refusal
+of_admitted (Ok tt) next = next
+of_admitted (Err r) next = Err r
 
 -- buffer and second are the lengths of the buffers for the elements and for the misfits
-unfoldable pub answer_to : (rows sidereal radii : List ℤ) (tolerance : ℤ) (sines : List ℕ) (room second : ℕ) → Answer
+unfoldable pub answer_to : (rows sidereal radii : List ℤ) (tolerance : ℤ) (sines : List ℕ) (room second : ℕ) → Result Fits Refusal
 answer_to n g k tolerance sines room second = of_admitted (admitted n g k tolerance sines) (in_rooms room second (fits_asked n g k tolerance))
 
 -- ---- the buffers: "22 elements in document 01's order; misfits: .. x, y, d, l1, l2, μ, in this order (6 numbers)". That
@@ -115,10 +111,10 @@ four_of c = c.c0 ∷ c.c1 ∷ c.c2 ∷ c.c3 ∷ []
 abbrev pub three_of : Quadratic → List ℤ
 three_of q = q.c0 ∷ q.c1 ∷ q.c2 ∷ []
 
-abbrev pub elements_after : Answer → List ℤ → List ℤ
-elements_after (Made f) old = fields f.elements ++ drop 22 old
-elements_after (Refused r) old = old
+abbrev pub elements_after : Result Fits Refusal → List ℤ → List ℤ
+elements_after (Ok f) old = fields f.elements ++ drop 22 old
+elements_after (Err r) old = old
 
-abbrev pub misfits_after : Answer → List ℤ → List ℤ
-misfits_after (Made f) old = six_of f.misfits ++ drop 6 old
-misfits_after (Refused r) old = old
+abbrev pub misfits_after : Result Fits Refusal → List ℤ → List ℤ
+misfits_after (Ok f) old = six_of f.misfits ++ drop 6 old
+misfits_after (Err r) old = old

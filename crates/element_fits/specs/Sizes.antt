@@ -2,7 +2,7 @@
 --   wider             a larger m will do
 --   cubic-sizes       of values of at most m the cubic has coefficients of at most 8m
 --   quadratic-sizes   of values of at most m the quadratic has coefficients of at most 5m, m and m
-use Rattle.std.specs.Prelude.{ℕ, ◌+◌, ◌*◌, ◌≤◌, nat_abs, ◌+ℤ◌, ◌-ℤ◌, ◌*ℤ◌}
+use Rattle.std.specs.Prelude.{ℕ, ◌*◌, ◌≤◌, nat_abs, ◌+ℤ◌, ◌-ℤ◌, ◌*ℤ◌}
 use native.Mathlib.Omega.{arith}
 use Rattle.std.proofs.Math.IntN.{pos}
 use Rattle.std.specs.Int.Signed.{le_z_yes}

@@ -7,6 +7,7 @@ pub mod ArcsineLaws
 pub mod ArgumentLaws
 pub mod AccuracyLaws
 pub mod Sizes
+pub mod Each
 pub mod Laws
 pub mod AnswersLaws
 pub mod NumbersLaws

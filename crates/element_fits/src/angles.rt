@@ -1,10 +1,13 @@
-// Angles from sines and cosines, by halving over the sine rule with a lent table S. Angles are in units of 10^-6 degree, sines and cosines in
-// units of 10^-8.
+// Angles from sines and cosines, by halving over the sine rule with a lent table S. Angles are in units of 10^-6
+// degree, sines and cosines in units of 10^-8.
 ghost use Rattle.std.specs.Prelude.{◌≡◌, ◌≤◌, ◌<◌, pos, nat_abs};
 ghost use Rattle.rounding.specs.Value.{Value};
 ghost use Rattle.sine_table.specs.Table.{Sines};
 ghost use Rattle.sine.specs.Sine.{sine};
 ghost use Rattle.element_fits.specs.Angles.{arc, arcsine, acute, argument};
+
+// `Sines table.now` stays a clause of each function: `sine::sine` and its callers, public ones too, take table S as a
+// slice, and those clauses stay.
 
 // The sine of an angle from 0 to 45 degrees, which is not negative.
 fn natural_sine(table: &[u32], a: u64) -> u64
@@ -14,8 +17,8 @@ fn natural_sine(table: &[u32], a: u64) -> u64
     sine::sine(table, a) as u64
 }
 
-// The largest angle from 0 to 45 degrees whose sine is at most s. The sine rises there, so it is found by halving: the sine of low is at most s,
-// and that of high and of all above it is more.
+// The largest angle from 0 to 45 degrees whose sine is at most s. The sine rises there, so it is found by halving: the
+// sine of low is at most s, and that of high and of all above it is more.
 fn arc(table: &[u32], s: u64) -> u64
     requires { Sines table.now }
     ensures value { result ≡ arc s }
@@ -23,6 +26,7 @@ fn arc(table: &[u32], s: u64) -> u64
 {
     let mut low: u64 = 0;
     let mut high: u64 = 45_000_001;
+    // A bisection counts no index, and `partition_point` is of slices: this has no list of angles to search.
     while low + 1 < high {
         let a = (low + high) / 2;
         let found = natural_sine(table, a);

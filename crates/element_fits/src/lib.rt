@@ -1,29 +1,29 @@
-// The 22 elements of an eclipse from seven hourly rows of Sun and Moon and the sidereal time at Greenwich at these hours,
-// all in whole numbers. In module `numbers` from and to the caller's numbers.
+// The 22 elements of an eclipse from seven hourly rows of Sun and Moon and the sidereal time at Greenwich at these
+// hours, all in whole numbers. In module `numbers` from and to the caller's numbers.
 #![tactic(auto)]
 
 pub mod angles;
 pub mod least_squares;
 pub mod numbers;
 
-ghost use Rattle.std.specs.Prelude.{◌≡◌, true, ◌≤◌, ◌<◌, pos, nat_abs};
+ghost use Rattle.std.specs.Prelude.{◌≡◌, true, ◌≤◌, ◌<◌, nat_abs};
 ghost use Rattle.rounding.specs.Value.{Value};
 ghost use Rattle.sine_table.specs.Table.{Sines};
 ghost use Rattle.besselian_rows.specs.Exact.{accepted, RadiiInRange};
 ghost use Rattle.besselian_rows.specs.AcceptedLaws.{Accepted};
-ghost use Rattle.element_fits.specs.LeastSquares.{cubic, quadratic};
 ghost use Rattle.element_fits.specs.Sizes.{HourlySizes, CoefficientSizes};
 ghost use Rattle.elements.specs.Sizes.{QuadraticSizes};
-ghost use Rattle.element_fits.specs.FromTables.{ascension, hour_of, hours_of, each_x, each_y, each_d, each_l1, each_l2, each_ascension, turn, offset, hour_angles, hour_angle, middleOf, columnsOf, fitted, fitting_of};
+ghost use Rattle.element_fits.specs.FromTables.{ascension, hour_of, hours_of, turn, offset, hour_angles, hour_angle, middleOf, columnsOf, fitted, fitting_of};
 ghost use Rattle.element_fits.specs.Answers.{unless, off, close, missed, larger, misfit, raised, first_missed, misfits_of, judged};
+ghost use Rattle.element_fits.specs.laws.Each.{AtEach};
 ghost use Rattle.element_fits.specs.laws.Sizes.{AllAccepted, HoursSizes, ColumnsSizes};
 
-use crate::least_squares::Hourly;
+use crate::least_squares::{Hourly, cubic, quadratic};
 use elements::{Cubic, Elements, Quadratic};
-use rounding::Limits;
-use sheet_types::refusals::{Checked, Refusal};
+use sheet_types::refusals::Refusal;
 
-// The rows of the tables, at the hours -3 to 3.
+// The rows of the tables, at the hours -3 to 3. That all are accepted is no part of the type: `rows_of` makes it of any
+// numbers, and its definition stays. Seven fields, here and below, as the definitions name them.
 #[derive(Clone, Copy)]
 pub struct Rows {
     pub r0: besselian_rows::besselian::Row,
@@ -139,135 +139,19 @@ fn hours_of(table: &[u32], t: Rows, k: besselian_rows::besselian::Radii) -> Hour
     }
 }
 
-// x at the seven hours.
-fn each_x(h: Hours) -> Hourly
-    ensures { result ≡ each_x h }
+// One value at the seven hours.
+fn each<F: Fn(Hour) -> i64>(h: Hours, value: F) -> Hourly
+    requires { F.IsAlwaysCallable value }
+    ensures { AtEach (F.post value) h result }
 {
-    let h0 = h.h0;
-    let h1 = h.h1;
-    let h2 = h.h2;
-    let h3 = h.h3;
-    let h4 = h.h4;
-    let h5 = h.h5;
-    let h6 = h.h6;
     Hourly {
-        v0: h0.x,
-        v1: h1.x,
-        v2: h2.x,
-        v3: h3.x,
-        v4: h4.x,
-        v5: h5.x,
-        v6: h6.x,
-    }
-}
-
-// y at the seven hours.
-fn each_y(h: Hours) -> Hourly
-    ensures { result ≡ each_y h }
-{
-    let h0 = h.h0;
-    let h1 = h.h1;
-    let h2 = h.h2;
-    let h3 = h.h3;
-    let h4 = h.h4;
-    let h5 = h.h5;
-    let h6 = h.h6;
-    Hourly {
-        v0: h0.y,
-        v1: h1.y,
-        v2: h2.y,
-        v3: h3.y,
-        v4: h4.y,
-        v5: h5.y,
-        v6: h6.y,
-    }
-}
-
-// d at the seven hours.
-fn each_d(h: Hours) -> Hourly
-    ensures { result ≡ each_d h }
-{
-    let h0 = h.h0;
-    let h1 = h.h1;
-    let h2 = h.h2;
-    let h3 = h.h3;
-    let h4 = h.h4;
-    let h5 = h.h5;
-    let h6 = h.h6;
-    Hourly {
-        v0: h0.d,
-        v1: h1.d,
-        v2: h2.d,
-        v3: h3.d,
-        v4: h4.d,
-        v5: h5.d,
-        v6: h6.d,
-    }
-}
-
-// l1 at the seven hours.
-fn each_l1(h: Hours) -> Hourly
-    ensures { result ≡ each_l1 h }
-{
-    let h0 = h.h0;
-    let h1 = h.h1;
-    let h2 = h.h2;
-    let h3 = h.h3;
-    let h4 = h.h4;
-    let h5 = h.h5;
-    let h6 = h.h6;
-    Hourly {
-        v0: h0.l1,
-        v1: h1.l1,
-        v2: h2.l1,
-        v3: h3.l1,
-        v4: h4.l1,
-        v5: h5.l1,
-        v6: h6.l1,
-    }
-}
-
-// l2 at the seven hours.
-fn each_l2(h: Hours) -> Hourly
-    ensures { result ≡ each_l2 h }
-{
-    let h0 = h.h0;
-    let h1 = h.h1;
-    let h2 = h.h2;
-    let h3 = h.h3;
-    let h4 = h.h4;
-    let h5 = h.h5;
-    let h6 = h.h6;
-    Hourly {
-        v0: h0.l2,
-        v1: h1.l2,
-        v2: h2.l2,
-        v3: h3.l2,
-        v4: h4.l2,
-        v5: h5.l2,
-        v6: h6.l2,
-    }
-}
-
-// The right ascension at the seven hours.
-fn each_ascension(h: Hours) -> Hourly
-    ensures { result ≡ each_ascension h }
-{
-    let h0 = h.h0;
-    let h1 = h.h1;
-    let h2 = h.h2;
-    let h3 = h.h3;
-    let h4 = h.h4;
-    let h5 = h.h5;
-    let h6 = h.h6;
-    Hourly {
-        v0: h0.ascension,
-        v1: h1.ascension,
-        v2: h2.ascension,
-        v3: h3.ascension,
-        v4: h4.ascension,
-        v5: h5.ascension,
-        v6: h6.ascension,
+        v0: value(h.h0),
+        v1: value(h.h1),
+        v2: value(h.h2),
+        v3: value(h.h3),
+        v4: value(h.h4),
+        v5: value(h.h5),
+        v6: value(h.h6),
     }
 }
 
@@ -342,12 +226,12 @@ fn columns_of(h: Hours, g: Hourly, middle: i64) -> Columns
     requires { (HoursSizes h) × (HourlySizes 360_000_000 g) × (nat_abs middle ≤ 765_000_000) }
     ensures { result ≡ columnsOf h g middle }
 {
-    let x = each_x(h);
-    let y = each_y(h);
-    let d = each_d(h);
-    let l1 = each_l1(h);
-    let l2 = each_l2(h);
-    let ascensions = each_ascension(h);
+    let x = each(h, |hour| hour.x);
+    let y = each(h, |hour| hour.y);
+    let d = each(h, |hour| hour.d);
+    let l1 = each(h, |hour| hour.l1);
+    let l2 = each(h, |hour| hour.l2);
+    let ascensions = each(h, |hour| hour.ascension);
     let mu = hour_angles(g, ascensions, middle);
     Columns {
         x,
@@ -364,12 +248,12 @@ fn fitted(c: Columns, middle: i64, tanf1: i64, tanf2: i64) -> Elements
     requires { (ColumnsSizes c) × (nat_abs middle ≤ 765_000_000) × (nat_abs tanf1 ≤ 600_000) × (nat_abs tanf2 ≤ 600_000) }
     ensures { result ≡ fitted c middle tanf1 tanf2 }
 {
-    let x = crate::least_squares::cubic(c.x);
-    let y = crate::least_squares::cubic(c.y);
-    let d = crate::least_squares::quadratic(c.d);
-    let l1 = crate::least_squares::quadratic(c.l1);
-    let l2 = crate::least_squares::quadratic(c.l2);
-    let q = crate::least_squares::quadratic(c.mu);
+    let x = cubic(c.x);
+    let y = cubic(c.y);
+    let d = quadratic(c.d);
+    let l1 = quadratic(c.l1);
+    let l2 = quadratic(c.l2);
+    let q = quadratic(c.mu);
     let mu = hour_angle(q, middle);
     let axis = elements::Axis { x, y, d, mu };
     let penumbra = elements::Cone { l: l1, tanf: tanf1 };
@@ -408,16 +292,16 @@ fn fitting_of(table: &[u32], t: Rows, g: Hourly, k: besselian_rows::besselian::R
 // ---- how far a fit is from its values
 
 // What was found before, or this place where nothing was found and it is not good.
-fn unless(found: Limits, good: bool, place: usize) -> Limits
+fn unless(found: Option<usize>, good: bool, place: usize) -> Option<usize>
     ensures { result ≡ unless found good place }
 {
-    if let Limits::OutOfRange(i) = found {
-        return Limits::OutOfRange(i);
+    if let Some(i) = found {
+        return Some(i);
     }
     if good {
-        return Limits::InRange;
+        return None;
     }
-    Limits::OutOfRange(place)
+    Some(place)
 }
 
 // How far a cubic's value at hour t is from v.
@@ -444,7 +328,7 @@ fn close(c: Cubic, t: i64, v: i64, tolerance: u64) -> bool
 }
 
 // What was found before, or `place` and the first hour, 0 to 6, at which the cubic is not close.
-fn missed(found: Limits, c: Cubic, v: Hourly, tolerance: u64, place: usize) -> Limits
+fn missed(found: Option<usize>, c: Cubic, v: Hourly, tolerance: u64, place: usize) -> Option<usize>
     requires { (CoefficientSizes 1_000_000_000_000 c) × (HourlySizes 100_000_000_000 v) × (place ≤ 50) }
     ensures { result ≡ missed found c v tolerance place }
 {
@@ -503,53 +387,18 @@ fn raised(q: Quadratic) -> Cubic
     Cubic { c0, c1, c2, c3: 0 }
 }
 
-// The same of the cubic of least squares, and of the quadratic.
-fn cubic_missed(found: Limits, v: Hourly, tolerance: u64, place: usize) -> Limits
-    requires { (HourlySizes 100_000_000_000 v) × (place ≤ 50) }
-    ensures { result ≡ missed found (cubic v) v tolerance place }
-{
-    let c = crate::least_squares::cubic(v);
-    missed(found, c, v, tolerance, place)
-}
-
-fn quadratic_missed(found: Limits, v: Hourly, tolerance: u64, place: usize) -> Limits
-    requires { (HourlySizes 100_000_000_000 v) × (place ≤ 50) }
-    ensures { result ≡ missed found (raised (quadratic v)) v tolerance place }
-{
-    let q = crate::least_squares::quadratic(v);
-    let c = raised(q);
-    missed(found, c, v, tolerance, place)
-}
-
-fn cubic_misfit(v: Hourly) -> i64
-    requires { HourlySizes 100_000_000_000 v }
-    ensures { Value (pos (misfit (cubic v) v)) 50_000_000_000_000 result }
-{
-    let c = crate::least_squares::cubic(v);
-    misfit(c, v) as i64
-}
-
-fn quadratic_misfit(v: Hourly) -> i64
-    requires { HourlySizes 100_000_000_000 v }
-    ensures { Value (pos (misfit (raised (quadratic v)) v)) 50_000_000_000_000 result }
-{
-    let q = crate::least_squares::quadratic(v);
-    let c = raised(q);
-    misfit(c, v) as i64
-}
-
 // Whether each fit is close to its values at all hours, or the first that is not: ten times the fit, of x, y, d, l1, l2
 // and mu, 0 to 5, and the hour.
-fn first_missed(c: Columns, tolerance: u64) -> Limits
+fn first_missed(c: Columns, tolerance: u64) -> Option<usize>
     requires { ColumnsSizes c }
     ensures { result ≡ first_missed c tolerance }
 {
-    let f0 = cubic_missed(Limits::InRange, c.x, tolerance, 0);
-    let f1 = cubic_missed(f0, c.y, tolerance, 10);
-    let f2 = quadratic_missed(f1, c.d, tolerance, 20);
-    let f3 = quadratic_missed(f2, c.l1, tolerance, 30);
-    let f4 = quadratic_missed(f3, c.l2, tolerance, 40);
-    quadratic_missed(f4, c.mu, tolerance, 50)
+    let f0 = missed(None, cubic(c.x), c.x, tolerance, 0);
+    let f1 = missed(f0, cubic(c.y), c.y, tolerance, 10);
+    let f2 = missed(f1, raised(quadratic(c.d)), c.d, tolerance, 20);
+    let f3 = missed(f2, raised(quadratic(c.l1)), c.l1, tolerance, 30);
+    let f4 = missed(f3, raised(quadratic(c.l2)), c.l2, tolerance, 40);
+    missed(f4, raised(quadratic(c.mu)), c.mu, tolerance, 50)
 }
 
 // How far each fit is from its values at most, at any of the seven hours.
@@ -567,19 +416,13 @@ fn misfits_of(c: Columns) -> Misfits
     requires { ColumnsSizes c }
     ensures { result ≡ misfits_of c }
 {
-    let x = cubic_misfit(c.x);
-    let y = cubic_misfit(c.y);
-    let d = quadratic_misfit(c.d);
-    let l1 = quadratic_misfit(c.l1);
-    let l2 = quadratic_misfit(c.l2);
-    let mu = quadratic_misfit(c.mu);
     Misfits {
-        x,
-        y,
-        d,
-        l1,
-        l2,
-        mu,
+        x: misfit(cubic(c.x), c.x) as i64,
+        y: misfit(cubic(c.y), c.y) as i64,
+        d: misfit(raised(quadratic(c.d)), c.d) as i64,
+        l1: misfit(raised(quadratic(c.l1)), c.l1) as i64,
+        l2: misfit(raised(quadratic(c.l2)), c.l2) as i64,
+        mu: misfit(raised(quadratic(c.mu)), c.mu) as i64,
     }
 }
 
@@ -592,49 +435,33 @@ pub struct Fits {
     pub misfits: Misfits,
 }
 
-// The elements, or why there are none.
-#[derive(Clone, Copy)]
-pub enum Answer {
-    Made(Fits),
-    // 10: not 42, 7 and 3 numbers 18: the tolerance is not 0 to 1,000, place 0 21: a radius, 0 to 2, or a sidereal
-    // angle, 3 to 9, out of its range 11: the first row, 0 to 6, that is not accepted 4: a buffer shorter than 901
-    // numbers for table S, 22 for the elements, 6 for the misfits 2: the first element out of its range, 0 to 21 17:
-    // ten times the first fit, of x, y, d, l1, l2 and mu, 0 to 5, that misses one of its values by more than the
-    // tolerance, and the first such hour, 0 to 6
-    Refused(Refusal),
-}
-
-// Elements in their ranges whose fits keep within the tolerance, or 2 or 17.
-fn judged(f: Fitting, tolerance: u64) -> Answer
+// Elements in their ranges whose fits keep within the tolerance; or 2 with the first element out of its range, 0 to 21;
+// or 17 with ten times the first fit, of x, y, d, l1, l2 and mu, 0 to 5, that misses one of its values by more than the
+// tolerance, and the first such hour, 0 to 6.
+fn judged(f: Fitting, tolerance: u64) -> Result<Fits, Refusal>
     requires { ColumnsSizes f.columns }
     ensures { result ≡ judged f tolerance }
 {
-    let columns = f.columns;
-    let made = f.elements;
-    let checked = elements::check(made);
-    if let Checked::Refused(refusal) = checked {
-        return Answer::Refused(refusal);
+    elements::check(f.elements)?;
+    // No `?`: a place that was found becomes a refusal, and nothing found goes on.
+    if let Some(place) = first_missed(f.columns, tolerance) {
+        return Err(Refusal { number: 17, place });
     }
-    let missed = first_missed(columns, tolerance);
-    if let Limits::OutOfRange(place) = missed {
-        return Answer::Refused(Refusal { number: 17, place });
-    }
-    let misfits = misfits_of(columns);
-    Answer::Made(Fits {
-        elements: made,
-        misfits,
+    Ok(Fits {
+        elements: f.elements,
+        misfits: misfits_of(f.columns),
     })
 }
 
-// The elements of seven accepted rows, with the sidereal time at Greenwich at their hours and the radii of Sun and Moon;
-// or 2 or 17. `table` is table S.
+// The elements of seven accepted rows, with the sidereal time at Greenwich at their hours and the radii of Sun and
+// Moon; or 2 or 17. `table` is table S.
 fn fits_of(
     table: &[u32],
     t: Rows,
     g: Hourly,
     k: besselian_rows::besselian::Radii,
     tolerance: u64,
-) -> Answer
+) -> Result<Fits, Refusal>
     requires { (Sines table.now) × (AllAccepted t) × (HourlySizes 360_000_000 g) × (RadiiInRange k) }
     ensures { result ≡ judged (fitting_of k t g) tolerance }
 {

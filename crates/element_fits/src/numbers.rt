@@ -3,7 +3,7 @@
 ghost use Rattle.std.specs.Prelude.{◌≡◌, ◌+◌, ◌≤◌, nat_abs, [], ◌∷◌, ◌++◌, length, drop};
 ghost use Rattle.std.proofs.lemmas.List.Edits.{sets};
 ghost use Rattle.rounding.specs.Limits.{first_out_of_range};
-ghost use Rattle.sheet_types.specs.Refusals.{of_limits, andThen};
+ghost use Rattle.sheet_types.specs.Refusals.{of_limits};
 ghost use Rattle.sine_table.specs.Table.{Sines};
 ghost use Rattle.elements.specs.Elements.{fields};
 ghost use Rattle.requests.specs.Admission.{sines_after};
@@ -12,17 +12,17 @@ ghost use Rattle.besselian_rows.specs.Tables.{first_refused};
 ghost use Rattle.element_fits.specs.Numbers.{four_of, three_of, rows_of, hourly_of, radii_of, tolerance_ranges, numbers_of, given_ranges, of_rows, given_checked, admitted, in_rooms, six_of, fits_asked, answer_to, elements_after, misfits_after};
 ghost use Rattle.element_fits.specs.laws.NumbersLaws.{Taken};
 
-use super::{Answer, Misfits, Rows};
+use super::{Misfits, Rows};
+use crate::Fits;
 use crate::least_squares::Hourly;
 use besselian_rows::besselian::Radii;
-use besselian_rows::tables::Verdict;
 use elements::Elements;
-use sheet_types::refusals::{Checked, Refusal};
+use sheet_types::refusals::Refusal;
 
 // ---- what is refused before table S is filled
 
 // Refusal 18 with place 0 for a tolerance that is not 0 to 1,000.
-fn tolerance_checked(tolerance: i64) -> Checked
+fn tolerance_checked(tolerance: i64) -> Result<(), Refusal>
     ensures { result ≡ of_limits 18 (first_out_of_range 0 (tolerance_ranges tolerance)) }
 {
     let values = [tolerance];
@@ -66,7 +66,7 @@ const HIGHS: [i64; 10] = [
 ];
 
 // Refusal 21 with the first radius, 0 to 2, or sidereal angle, 3 to 9, that is out of its range.
-fn ranges_checked(sidereal: &[i64], radii: &[i64]) -> Checked
+fn ranges_checked(sidereal: &[i64], radii: &[i64]) -> Result<(), Refusal>
     requires { (length sidereal.now ≡ 7) × (length radii.now ≡ 3) }
     ensures { result ≡ of_limits 21 (first_out_of_range 0 (given_ranges sidereal.now radii.now)) }
 {
@@ -77,57 +77,41 @@ fn ranges_checked(sidereal: &[i64], radii: &[i64]) -> Checked
 }
 
 // Refusal 11 with the first row, 0 to 6, that is not accepted.
-fn rows_checked(rows: &[i64]) -> Checked
+fn rows_checked(rows: &[i64]) -> Result<(), Refusal>
     requires { length rows.now ≡ 42 }
     ensures { result ≡ of_rows (first_refused rows.now 0 7) }
 {
-    let verdict = besselian_rows::tables::first_refused(rows);
-    match verdict {
-        Verdict::Whole => Checked::Within,
-        Verdict::Refused(i) => Checked::Refused(Refusal {
-            number: 11,
-            place: i,
-        }),
-    }
+    besselian_rows::tables::first_refused(rows).map_err(|i| Refusal {
+        number: 11,
+        place: i,
+    })
 }
 
-// One check, and another where it finds nothing.
-fn and_then(first: Checked, next: Checked) -> Checked
-    ensures { result ≡ andThen first next }
-{
-    match first {
-        Checked::Within => next,
-        Checked::Refused(refusal) => Checked::Refused(refusal),
-    }
-}
-
-// 10, 18, 21, 11, in this order.
-fn given(rows: &[i64], sidereal: &[i64], radii: &[i64], tolerance: i64) -> Checked
+// Refusal 10 for other lengths than 42, 7 and 3, then 18, 21, 11, in this order.
+fn given(rows: &[i64], sidereal: &[i64], radii: &[i64], tolerance: i64) -> Result<(), Refusal>
     ensures { result ≡ given_checked rows.now sidereal.now radii.now tolerance }
 {
     if rows.len() != 42 {
-        return Checked::Refused(Refusal {
+        return Err(Refusal {
             number: 10,
             place: 0,
         });
     }
     if sidereal.len() != 7 {
-        return Checked::Refused(Refusal {
+        return Err(Refusal {
             number: 10,
             place: 0,
         });
     }
     if radii.len() != 3 {
-        return Checked::Refused(Refusal {
+        return Err(Refusal {
             number: 10,
             place: 0,
         });
     }
-    let stated = tolerance_checked(tolerance);
-    let ranged = ranges_checked(sidereal, radii);
-    let accepted = rows_checked(rows);
-    let next = and_then(ranged, accepted);
-    and_then(stated, next)
+    tolerance_checked(tolerance)?;
+    ranges_checked(sidereal, radii)?;
+    rows_checked(rows)
 }
 
 // Those, then 4 with place 901; where nothing is refused, `sines` holds table S.
@@ -137,14 +121,11 @@ fn admit(
     radii: &[i64],
     tolerance: i64,
     sines: &mut [u32],
-) -> Checked
+) -> Result<(), Refusal>
     ensures answer { result ≡ admitted rows.now sidereal.now radii.now tolerance sines.old }
     ensures sines { sines.new ≡ sines_after (admitted rows.now sidereal.now radii.now tolerance sines.old) sines.old }
 {
-    let c = given(rows, sidereal, radii, tolerance);
-    if let Checked::Refused(refusal) = c {
-        return Checked::Refused(refusal);
-    }
+    given(rows, sidereal, radii, tolerance)?;
     requests::admission::fill_sines(sines)
 }
 
@@ -220,7 +201,13 @@ fn radii_at(radii: &[i64]) -> Radii
 }
 
 // The answer to numbers of which nothing was refused so far: 2, 17. `table` is table S.
-fn asked(table: &[u32], rows: &[i64], sidereal: &[i64], radii: &[i64], tolerance: i64) -> Answer
+fn asked(
+    table: &[u32],
+    rows: &[i64],
+    sidereal: &[i64],
+    radii: &[i64],
+    tolerance: i64,
+) -> Result<Fits, Refusal>
     requires { (Sines table.now) × (Taken rows.now sidereal.now radii.now tolerance) }
     ensures { result ≡ fits_asked rows.now sidereal.now radii.now tolerance }
 {
@@ -232,25 +219,23 @@ fn asked(table: &[u32], rows: &[i64], sidereal: &[i64], radii: &[i64], tolerance
 }
 
 // The same answer, or 4 where the caller's buffers hold fewer than 22 and six numbers.
-fn in_rooms(room: usize, second: usize, found: Answer) -> Answer
+fn in_rooms(room: usize, second: usize, found: Result<Fits, Refusal>) -> Result<Fits, Refusal>
     ensures { result ≡ in_rooms room second found }
 {
-    let Answer::Made(_) = found else {
-        return found;
-    };
+    let fits = found?;
     if room < 22 {
-        return Answer::Refused(Refusal {
+        return Err(Refusal {
             number: 4,
             place: 22,
         });
     }
     if second < 6 {
-        return Answer::Refused(Refusal {
+        return Err(Refusal {
             number: 4,
             place: 6,
         });
     }
-    found
+    Ok(fits)
 }
 
 // ---- into the caller's buffers
@@ -260,14 +245,7 @@ fn put_cubic(room: &mut [i64], at: usize, c: elements::Cubic)
     requires { at + 4 ≤ length room.old }
     ensures { room.new ≡ sets room.old at (four_of c) }
 {
-    let c0 = c.c0;
-    let c1 = c.c1;
-    let c2 = c.c2;
-    let c3 = c.c3;
-    room[at] = c0;
-    room[at + 1] = c1;
-    room[at + 2] = c2;
-    room[at + 3] = c3;
+    room[at..at + 4].copy_from_slice(&[c.c0, c.c1, c.c2, c.c3]);
 }
 
 // A quadratic's three.
@@ -275,12 +253,7 @@ fn put_quadratic(room: &mut [i64], at: usize, q: elements::Quadratic)
     requires { at + 3 ≤ length room.old }
     ensures { room.new ≡ sets room.old at (three_of q) }
 {
-    let c0 = q.c0;
-    let c1 = q.c1;
-    let c2 = q.c2;
-    room[at] = c0;
-    room[at + 1] = c1;
-    room[at + 2] = c2;
+    room[at..at + 3].copy_from_slice(&[q.c0, q.c1, q.c2]);
 }
 
 // The two tangents, at their places.
@@ -288,8 +261,7 @@ fn put_tangents(room: &mut [i64], tanf1: i64, tanf2: i64)
     requires { 22 ≤ length room.old }
     ensures { room.new ≡ sets room.old 20 (tanf1 ∷ tanf2 ∷ []) }
 {
-    room[20] = tanf1;
-    room[21] = tanf2;
+    room[20..22].copy_from_slice(&[tanf1, tanf2]);
 }
 
 // The 22 elements in document 01's order at the start of the buffer.
@@ -314,18 +286,7 @@ fn put_misfits(room: &mut [i64], m: Misfits)
     requires { 6 ≤ length room.old }
     ensures { room.new ≡ six_of m ++ drop 6 room.old }
 {
-    let x = m.x;
-    let y = m.y;
-    let d = m.d;
-    let l1 = m.l1;
-    let l2 = m.l2;
-    let mu = m.mu;
-    room[0] = x;
-    room[1] = y;
-    room[2] = d;
-    room[3] = l1;
-    room[4] = l2;
-    room[5] = mu;
+    room[0..6].copy_from_slice(&[m.x, m.y, m.d, m.l1, m.l2, m.mu]);
 }
 
 // The answer, before anything is stored.
@@ -337,21 +298,19 @@ fn answered(
     sines: &mut [u32],
     room: usize,
     second: usize,
-) -> Answer
+) -> Result<Fits, Refusal>
     ensures answer { result ≡ answer_to rows.now sidereal.now radii.now tolerance sines.old room second }
     ensures sines { sines.new ≡ sines_after (admitted rows.now sidereal.now radii.now tolerance sines.old) sines.old }
 {
-    let c = admit(rows, sidereal, radii, tolerance, sines);
-    if let Checked::Refused(refusal) = c {
-        return Answer::Refused(refusal);
-    }
+    admit(rows, sidereal, radii, tolerance, sines)?;
     let found = asked(sines, rows, sidereal, radii, tolerance);
     in_rooms(room, second, found)
 }
 
-// The 22 elements and the six misfits at the start of `elements` and `misfits`, or the first refusal: 10, 18, 21, 11, 4
-// with 901, 2, 17, 4 with 22, 4 with 6. Any numbers. `sines` is the buffer for table S, which is filled from 2 on; after
-// a refusal the other two hold their old numbers.
+// The 22 elements and the six misfits at the start of `elements` and `misfits`, or the first refusal: 10 for other
+// lengths than 42, 7 and 3; 18 for the tolerance; 21 for a radius or a sidereal angle; 11 for a row; 4 with 901 for a
+// short buffer for table S; 2 and 17 as `judged` says; 4 with 22 and 4 with 6 for the other two buffers. Any numbers.
+// `sines` is the buffer for table S, which is filled from 2 on; after a refusal the other two hold their old numbers.
 pub fn elements(
     rows: &[i64],
     sidereal: &[i64],
@@ -360,7 +319,7 @@ pub fn elements(
     sines: &mut [u32],
     elements: &mut [i64],
     misfits: &mut [i64],
-) -> Answer
+) -> Result<Fits, Refusal>
     ensures answer { result ≡ answer_to rows.now sidereal.now radii.now tolerance sines.old (length elements.old) (length misfits.old) }
     ensures sines { sines.new ≡ sines_after (admitted rows.now sidereal.now radii.now tolerance sines.old) sines.old }
     ensures elements { elements.new ≡ elements_after (answer_to rows.now sidereal.now radii.now tolerance sines.old (length elements.old) (length misfits.old)) elements.old }
@@ -368,10 +327,8 @@ pub fn elements(
 {
     let room = elements.len();
     let second = misfits.len();
-    let answer = answered(rows, sidereal, radii, tolerance, sines, room, second);
-    if let Answer::Made(f) = answer {
-        put_elements(elements, f.elements);
-        put_misfits(misfits, f.misfits);
-    }
-    answer
+    let f = answered(rows, sidereal, radii, tolerance, sines, room, second)?;
+    put_elements(elements, f.elements);
+    put_misfits(misfits, f.misfits);
+    Ok(f)
 }

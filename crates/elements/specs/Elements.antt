@@ -1,8 +1,7 @@
 -- The elements in their order, their ranges, and their values at a second.
-use Rattle.std.specs.Prelude.{List, [], ◌∷◌, ◌++◌, ℕ, ◌+◌, ℤ, pos, get_or}
-use Rattle.rounding.specs.declared.Limits.{Limits}
+use Rattle.std.specs.Prelude.{List, [], ◌∷◌, ◌++◌, ℕ, ◌+◌, ℤ, pos, get_or, Option, Result}
+use Rattle.sheet_types.specs.declared.refusals.Refusal.{Refusal}
 use Rattle.rounding.specs.Limits.{Row, row, ◌±◌, first_out_of_range}
-use Rattle.sheet_types.specs.declared.refusals.Checked.{Checked}
 use Rattle.sheet_types.specs.Refusals.{of_limits}
 use Rattle.elements.specs.declared.Cubic.{Cubic}
 use Rattle.elements.specs.declared.Quadratic.{Quadratic}
@@ -69,11 +68,11 @@ ranges e =
     ∷ []
 
 -- "first such field, 0..21"
-unfoldable pub range_of : Elements → Limits
+unfoldable pub range_of : Elements → Option ℕ
 range_of e = first_out_of_range 0 (ranges e)
 
 -- "2 | an element outside its range | first such field, 0..21"
-abbrev pub elements_checked : Elements → Checked
+abbrev pub elements_checked : Elements → Result Unit Refusal
 elements_checked e = of_limits 2 (range_of e)
 
 -- "A value at τ starts from the highest coefficient and repeats": of x, y, d and μ of an axis, and of l of a cone

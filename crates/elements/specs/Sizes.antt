@@ -1,7 +1,6 @@
 -- Elements in their ranges, as sizes: what the shadow's code and its errors lean on.
-use Rattle.std.specs.Prelude.{◌≡◌, ℕ, ◌≤◌, pos, nat_abs, ◌≤ℤ◌}
+use Rattle.std.specs.Prelude.{◌≡◌, ℕ, ◌≤◌, pos, nat_abs, ◌≤ℤ◌, None}
 use Rattle.std.proofs.Common.{arith, lit≤}
-use Rattle.rounding.specs.declared.Limits.TheVariants.{InRange}
 use Rattle.rounding.specs.Limits.{Row, row, ◌±◌}
 use Rattle.rounding.specs.laws.LimitsLaws.{each_in_range}
 use Rattle.rounding.specs.laws.Order.{nat_abs_le, nat_abs_between}
@@ -84,7 +83,7 @@ hour-angle_sizes q w = (
   w.1.1.1,
 )
 
-pub element_sizes : (e : Elements) → range_of e ≡ InRange → ElementSizes e
+pub element_sizes : (e : Elements) → range_of e ≡ None → ElementSizes e
 unfolding range_of ranges
 element_sizes e w =
     let a = e.axis in

@@ -2,7 +2,7 @@
 --   constant-at               what has no other coefficient is the same at every second: a star's declination, a cylinder's radius
 --   star_sizes, body_sizes    numbers that nothing is refused of have these sizes
 --   axis_sizes                so of any axis
-use Rattle.std.specs.Prelude.{◌≡◌, [], ◌∷◌, ℤ, pos, ◌+ℤ◌, ◌≤ℤ◌}
+use Rattle.std.specs.Prelude.{◌≡◌, [], ◌∷◌, ℤ, pos, ◌+ℤ◌, ◌≤ℤ◌, Ok}
 use Rattle.std.proofs.Common.{◌∙◌, ap, lit≤}
 use Rattle.std.specs.Int.Signed.{le_z_yes}
 use Rattle.rounding.specs.laws.Ring.{num, ◌⊕◌, ◌⊗◌, ring, v0}
@@ -11,7 +11,6 @@ use Rattle.rounding.specs.Near.{near}
 use Rattle.rounding.proofs.laws.NearLaws.{near_zero}
 use Rattle.rounding.specs.laws.LimitsLaws.{each_in_range}
 use Rattle.rounding.specs.laws.Order.{nat_abs_le}
-use Rattle.sheet_types.specs.declared.refusals.Checked.TheVariants.{Within}
 use Rattle.sheet_types.specs.Refusals.{of_limits}
 use Rattle.sheet_types.specs.laws.RefusalLaws.{of_limits_within, both-within}
 use Rattle.elements.specs.declared.Star.{Star}
@@ -40,7 +39,7 @@ pub record StarSizes (s : Star) : Type 0 where
   pub low : pos 27200000 ≤ℤ s.radius
   pub high : s.radius ≤ℤ pos 27300000
 
-pub star_sizes : (s : Star) → star_checked s ≡ Within → StarSizes s
+pub star_sizes : (s : Star) → star_checked s ≡ Ok tt → StarSizes s
 unfolding star_range_of star_ranges radius_range_of
 star_sizes s e =
     let both = both-within (of_limits 2 (star_range_of s)) (of_limits 13 (radius_range_of s.radius)) e in
@@ -63,7 +62,7 @@ abbrev pub BodySizes : Body → Type 0
 BodySizes (B.Sun e) = ElementSizes e
 BodySizes (B.Star s) = StarSizes s
 
-pub body_sizes : (b : Body) → body_checked b ≡ Within → BodySizes b
+pub body_sizes : (b : Body) → body_checked b ≡ Ok tt → BodySizes b
 body_sizes (B.Sun e) h = element_sizes e (of_limits_within 2 (range_of e) h)
 body_sizes (B.Star s) h = star_sizes s h
 

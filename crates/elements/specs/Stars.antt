@@ -1,9 +1,8 @@
 -- Document 02, wish 7: the elements of a star's occultation, their ranges, and the axis and the cylinder that they
 -- make.
-use Rattle.std.specs.Prelude.{List, [], ◌∷◌, ◌++◌, ℤ, pos, get_or}
-use Rattle.rounding.specs.declared.Limits.{Limits}
+use Rattle.std.specs.Prelude.{List, [], ◌∷◌, ◌++◌, ℤ, pos, get_or, Option, Result, ℕ}
+use Rattle.sheet_types.specs.declared.refusals.Refusal.{Refusal}
 use Rattle.rounding.specs.Limits.{Row, row, ◌±◌, first_out_of_range}
-use Rattle.sheet_types.specs.declared.refusals.Checked.{Checked}
 use Rattle.sheet_types.specs.Refusals.{of_limits, andThen}
 use Rattle.elements.specs.declared.Quadratic.{Quadratic}
 use Rattle.elements.specs.declared.Axis.{Axis}
@@ -30,19 +29,19 @@ star_of n = record { x = cubic_from n 0; y = cubic_from n 4; d = get_or n 8 (pos
 unfoldable pub star_ranges : Star → List Row
 star_ranges s = position_ranges s.x ++ position_ranges s.y ++ (s.d ± 30000000) ∷ hour_angle_ranges s.mu
 
-unfoldable pub star_range_of : Star → Limits
+unfoldable pub star_range_of : Star → Option ℕ
 star_range_of s = first_out_of_range 0 (star_ranges s)
 
 -- "L a lunar radius given with the request, from 27,200,000 to 27,300,000"
-unfoldable pub radius_range_of : ℤ → Limits
+unfoldable pub radius_range_of : ℤ → Option ℕ
 radius_range_of radius = first_out_of_range 0 (row radius (pos 27200000) (pos 27300000) ∷ [])
 
 -- "13 with place 0 for the radius, after 2"
-abbrev pub star_checked : Star → Checked
+abbrev pub star_checked : Star → Result Unit Refusal
 star_checked s = andThen (of_limits 2 (star_range_of s)) (of_limits 13 (radius_range_of s.radius))
 
 -- the numbers of what the Moon hides, checked
-abbrev pub body_checked : Body → Checked
+abbrev pub body_checked : Body → Result Unit Refusal
 body_checked (B.Sun e) = elements_checked e
 body_checked (B.Star s) = star_checked s
 

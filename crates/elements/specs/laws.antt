@@ -1,3 +1,4 @@
+pub mod PartSizes
 pub mod PolynomialLaws
 pub mod ElementsLaws
 pub mod MirrorLaws

@@ -6,9 +6,11 @@ pub mod stars;
 
 ghost use Rattle.std.specs.Prelude.{◌≡◌, ◌+◌, ◌*◌, ◌≤◌, nat_abs, length};
 ghost use Rattle.rounding.specs.Value.{Value};
-ghost use Rattle.elements.specs.Polynomial.{step, quadratic_at, cubic_at};
+ghost use Rattle.elements.specs.Polynomial.{stepBy, quadratic_by, cubic_by, quadratic_at, cubic_at};
 ghost use Rattle.elements.specs.Elements.{fields, cubic_from, quadratic_from, elements_of, elements_checked};
 ghost use Rattle.elements.specs.Sizes.{CubicSizes, QuadraticSizes};
+
+use sheet_types::refusals::Refusal;
 
 // c0 + c1 t + c2 t^2 + c3 t^3 with t in hours: a length, 10^-8 of the Earth's equatorial radius.
 #[repr(C)]
@@ -228,7 +230,7 @@ pub fn from_numbers(n: &[i64]) -> Elements
 }
 
 // Refusal 2 with the first element that is out of its range, 0 to 21.
-pub fn check(e: Elements) -> sheet_types::refusals::Checked
+pub fn check(e: Elements) -> Result<(), Refusal>
     ensures { result ≡ elements_checked e }
 {
     let values = listed(e);
@@ -237,24 +239,40 @@ pub fn check(e: Elements) -> sheet_types::refusals::Checked
     sheet_types::refusals::of_ranges(2, &values, &lows, &highs)
 }
 
-// One step of a value at t seconds: p times t over an hour to the nearest, and the next lower coefficient.
-fn step(p: i64, a: i64, t: i64) -> i64
-    requires { (nat_abs p ≤ 200000000) × (nat_abs a ≤ 400000000) × (nat_abs t ≤ 10800) }
-    ensures { Value (step t p a) (3 * nat_abs p + nat_abs a) result }
+// One step of a value at t of N parts of an hour: p times t over an hour to the nearest, and the next lower
+// coefficient.
+fn step<const N: u32>(p: i64, a: i64, t: i64) -> i64
+    requires { (1 ≤ N) × (N ≤ 360000) × (nat_abs p ≤ 200000000) × (nat_abs a ≤ 400000000) × (nat_abs t ≤ 3 * N) }
+    ensures { Value (stepBy N t p a) (3 * nat_abs p + nat_abs a) result }
 {
-    rounding::near_hour(p * t) + a
+    rounding::near(p * t, i64::from(N)) + a
 }
 
-// The value at t seconds of d, l or mu: from the highest coefficient, each step to the nearest unit.
+// The value at t of N parts of an hour of d, l or mu: from the highest coefficient, each step to the nearest unit.
+pub fn quadratic_by<const N: u32>(q: Quadratic, t: i64) -> i64
+    requires { (1 ≤ N) × (N ≤ 360000) × (QuadraticSizes 360000000 20000000 10000 q) × (nat_abs t ≤ 3 * N) }
+    ensures { Value (quadratic_by N q t) 500000000 result }
+{
+    let a = step::<N>(q.c2, q.c1, t);
+    step::<N>(a, q.c0, t)
+}
+
+// The same of x or y.
+pub fn cubic_by<const N: u32>(c: Cubic, t: i64) -> i64
+    requires { (1 ≤ N) × (N ≤ 360000) × (CubicSizes c) × (nat_abs t ≤ 3 * N) }
+    ensures { Value (cubic_by N c t) 501170000 result }
+{
+    let a = step::<N>(c.c3, c.c2, t);
+    let b = step::<N>(a, c.c1, t);
+    step::<N>(b, c.c0, t)
+}
+
+// The value at t seconds of d, l or mu.
 pub fn quadratic_at(q: Quadratic, t: i64) -> i64
     requires { (QuadraticSizes 360000000 20000000 10000 q) × (nat_abs t ≤ 10800) }
     ensures { Value (quadratic_at q t) 500000000 result }
 {
-    let c0 = q.c0;
-    let c1 = q.c1;
-    let c2 = q.c2;
-    let a = step(c2, c1, t);
-    step(a, c0, t)
+    quadratic_by::<3600>(q, t)
 }
 
 // The same of x or y.
@@ -262,11 +280,5 @@ pub fn cubic_at(c: Cubic, t: i64) -> i64
     requires { (CubicSizes c) × (nat_abs t ≤ 10800) }
     ensures { Value (cubic_at c t) 501170000 result }
 {
-    let c0 = c.c0;
-    let c1 = c.c1;
-    let c2 = c.c2;
-    let c3 = c.c3;
-    let a = step(c3, c2, t);
-    let b = step(a, c1, t);
-    step(b, c0, t)
+    cubic_by::<3600>(c, t)
 }

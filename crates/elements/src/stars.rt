@@ -4,7 +4,7 @@ ghost use Rattle.sheet_types.specs.Refusals.{of_limits};
 ghost use Rattle.elements.specs.Stars.{star_fields, star_of, star_range_of, radius_range_of, star_checked, constant, star_axis, axis_of, body_checked};
 
 use super::{Axis, Body, Quadratic, Star};
-use sheet_types::refusals::Checked;
+use sheet_types::refusals::Refusal;
 
 // Ranges of the twelve numbers: x, y, d0, mu.
 const LOWS: [i64; 12] = [
@@ -69,7 +69,7 @@ pub fn from_numbers(n: &[i64]) -> Star
 }
 
 // Refusal 2 with the first element that is out of its range, 0 to 11.
-fn check_elements(s: Star) -> Checked
+fn check_elements(s: Star) -> Result<(), Refusal>
     ensures { result ≡ of_limits 2 (star_range_of s) }
 {
     let values = listed(s);
@@ -79,7 +79,7 @@ fn check_elements(s: Star) -> Checked
 }
 
 // Refusal 13 with place 0 for a radius that is out of its range.
-fn check_radius(radius: i64) -> Checked
+fn check_radius(radius: i64) -> Result<(), Refusal>
     ensures { result ≡ of_limits 13 (radius_range_of radius) }
 {
     let values = [radius];
@@ -89,15 +89,11 @@ fn check_radius(radius: i64) -> Checked
 }
 
 // Refusal 2 with the first element that is out of its range, 0 to 11; then 13 with place 0 for the radius.
-fn check(s: Star) -> Checked
+fn check(s: Star) -> Result<(), Refusal>
     ensures { result ≡ star_checked s }
 {
-    let of_elements = check_elements(s);
-    if let Checked::Refused(refusal) = of_elements {
-        return Checked::Refused(refusal);
-    }
-    let radius = s.radius;
-    check_radius(radius)
+    check_elements(s)?;
+    check_radius(s.radius)
 }
 
 // What does not change: no other coefficient.
@@ -132,7 +128,7 @@ pub fn axis_of(body: Body) -> Axis
 }
 
 // Refusal 2 with the first element that is out of its range, and a star's 13.
-pub fn check_body(body: Body) -> Checked
+pub fn check_body(body: Body) -> Result<(), Refusal>
     ensures { result ≡ body_checked body }
 {
     match body {

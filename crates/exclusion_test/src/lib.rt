@@ -32,11 +32,7 @@ fn part(p: i64, n: i64) -> i64
     requires { (nat_abs p ≤ 3000000000000000000) × (nat_abs n ≤ 2000000000) × (pos 0 ≤ℤ p) × (pos 1 ≤ℤ n) }
     ensures { Part p n result }
 {
-    let q = p / n;
-    if 1_000_000_000 < q {
-        return 1_000_000_000;
-    }
-    q
+    (p / n).min(1_000_000_000)
 }
 
 // The root of m, rounded down.

@@ -1,9 +1,8 @@
 -- What is asked of a fit: the conditions under which it is accepted. Sentences are of document 02, wish 14.
-use Rattle.std.specs.Prelude.{◌≡◌, List, ℕ, ◌≤◌, ◌<◌, ℤ, pos, nat_abs, ◌-ℤ◌, ◌≤ℤ◌, length, get_or}
+use Rattle.std.specs.Prelude.{◌≡◌, List, ℕ, ◌≤◌, ◌<◌, ℤ, pos, nat_abs, ◌-ℤ◌, ◌≤ℤ◌, length, get_or, Ok}
 use Rattle.elements.specs.Polynomial.{cubic_at}
 use Rattle.elements.specs.Elements.{cubic_from}
 use Rattle.elements.specs.Sizes.{CubicSizes}
-use Rattle.fits.specs.declared.Answer.TheVariants.{Accepted}
 use Rattle.fits.specs.Fits.{second, fit_of}
 
 -- "a cubic", "its coefficients are in the ranges of x", "seven hourly values", "The tabulated values are ±10^9."
@@ -25,4 +24,4 @@ pub record Acceptable (cs ts : List ℤ) (tolerance : ℤ) : Type 0 where
 abbrev pub AcceptedExactlyIf : Type 0
 AcceptedExactlyIf =
     (cs ts : List ℤ) (tolerance : ℤ)
-    → (fit_of cs ts tolerance ≡ Accepted → Acceptable cs ts tolerance) × (Acceptable cs ts tolerance → fit_of cs ts tolerance ≡ Accepted)
+    → (fit_of cs ts tolerance ≡ Ok tt → Acceptable cs ts tolerance) × (Acceptable cs ts tolerance → fit_of cs ts tolerance ≡ Ok tt)

@@ -1,8 +1,6 @@
 -- Fits from the spreadsheet: the cubic, the seven tabulated values, and what is refused. Sentences are of document 02,
 -- wish 14, but for those named.
-use Rattle.std.specs.Prelude.{cond, ◌&&◌, List, [], ◌∷◌, map, ℕ, eqb, ℤ, pos, neg_ℤ, ◌-ℤ◌, ◌*ℤ◌, length, get_or}
-use Rattle.rounding.specs.declared.Limits.{Limits}
-use Rattle.rounding.specs.declared.Limits.TheVariants as L
+use Rattle.std.specs.Prelude.{cond, ◌&&◌, List, [], ◌∷◌, map, ℕ, eqb, ℤ, pos, neg_ℤ, ◌-ℤ◌, ◌*ℤ◌, length, get_or, Option, Result, None, Some, Err, Ok}
 use Rattle.rounding.specs.Limits.{Row, row, ◌±◌, first_out_of_range}
 use Rattle.rounding.specs.Units.{hour}
 use Rattle.sheet_types.specs.declared.refusals.Refusal.{Refusal}
@@ -10,8 +8,6 @@ use Rattle.sheet_types.specs.Refusals.{refusal}
 use Rattle.elements.specs.declared.Cubic.{Cubic}
 use Rattle.elements.specs.Elements.{cubic_from}
 use Rattle.elements.specs.Polynomial.{cubic_at}
-use Rattle.fits.specs.declared.Answer.{Answer}
-use Rattle.fits.specs.declared.Answer.TheVariants as A
 
 -- "a stated tolerance, 0 to 1,000 units", "The tabulated values are ±10^9."
 unfoldable pub given_ranges : ℤ → List ℤ → List Row
@@ -41,19 +37,19 @@ unfoldable pub hour_ranges : Cubic → List ℤ → ℤ → List Row
 hour_ranges c ts tolerance = map (λ d. row d (neg_ℤ tolerance) tolerance) (differences c ts)
 
 -- the first that is out of its range is refused; else what comes next decides
-abbrev pub unless : Limits → (ℕ → Refusal) → Answer → Answer
-unless L.InRange r next = next
-unless (L.OutOfRange i) r next = A.Refused (r i)
+abbrev pub unless : Option ℕ → (ℕ → Refusal) → Result Unit Refusal → Result Unit Refusal
+unless None r next = next
+unless (Some i) r next = Err (r i)
 
 -- "Refusals: 17 with the first bad hour, 0 to 6, after 2 with place 0 to 3; 18 before 2, place 0 for the tolerance, 1
 -- to 7 for the first tabulated value out of range."
-unfoldable pub judged : Cubic → List ℤ → ℤ → Answer
+unfoldable pub judged : Cubic → List ℤ → ℤ → Result Unit Refusal
 judged c ts tolerance =
     unless (first_out_of_range 0 (given_ranges tolerance ts)) (refusal 18)
     (unless (first_out_of_range 0 (coefficient_ranges c)) (refusal 2)
-    (unless (first_out_of_range 0 (hour_ranges c ts tolerance)) (refusal 17) A.Accepted))
+    (unless (first_out_of_range 0 (hour_ranges c ts tolerance)) (refusal 17) (Ok tt)))
 
 -- four coefficients and seven tabulated values are judged; of other lists document 01 has "10 | program input not of
 -- the shape below | 0"
-unfoldable pub fit_of : List ℤ → List ℤ → ℤ → Answer
-fit_of cs ts tolerance = cond (eqb (length cs) 4 && eqb (length ts) 7) (judged (cubic_from cs 0) ts tolerance) (A.Refused (refusal 10 0))
+unfoldable pub fit_of : List ℤ → List ℤ → ℤ → Result Unit Refusal
+fit_of cs ts tolerance = cond (eqb (length cs) 4 && eqb (length ts) 7) (judged (cubic_from cs 0) ts tolerance) (Err (refusal 10 0))

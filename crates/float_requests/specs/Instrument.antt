@@ -1,10 +1,9 @@
 -- Document 02, wish 5: the 22 elements and a longitude as doubles, in whole units. Definitions only. Of one double:
 -- doubles, Doubles.
-use Rattle.std.specs.Prelude.{cond, List, [], ◌∷◌, ℕ, suc, ℤ, get_or, Float}
+use Rattle.std.specs.Prelude.{cond, List, [], ◌∷◌, ℕ, suc, ℤ, get_or, Float, Result, Ok, Err}
 use Rattle.std.specs.Float.{nan}
 use Rattle.std.specs.Float.Ieee.Scale.{finite}
-use Rattle.sheet_types.specs.declared.refusals.Checked.{Checked}
-use Rattle.sheet_types.specs.declared.refusals.Checked.TheVariants as C
+use Rattle.sheet_types.specs.declared.refusals.Refusal.{Refusal}
 use Rattle.sheet_types.specs.Refusals.{refusal, andThen}
 use Rattle.elements.specs.declared.Elements.{Elements}
 use Rattle.elements.specs.Elements.{elements_of}
@@ -56,12 +55,12 @@ doubles_of xs =
     }
 
 -- "12 for a double that is not finite, with the first such field": from place i on
-unfoldable pub first_not_finite : ℕ → List Float → Checked
-first_not_finite i [] = C.Within
-first_not_finite i (x ∷ xs) = cond (finite x) (first_not_finite (suc i) xs) (C.Refused (refusal 12 i))
+unfoldable pub first_not_finite : ℕ → List Float → Result Unit Refusal
+first_not_finite i [] = Ok tt
+first_not_finite i (x ∷ xs) = cond (finite x) (first_not_finite (suc i) xs) (Err (refusal 12 i))
 
 -- "(longitude 22)"
-abbrev pub finite_checked : ElementDoubles → Longitude → Checked
+abbrev pub finite_checked : ElementDoubles → Longitude → Result Unit Refusal
 finite_checked d l = andThen (first_not_finite 0 (fields d)) (first_not_finite 22 (double_in l ∷ []))
 
 -- units to one: "1,000,000, or .. 10^8 for lengths and tangents". Of x, y, d, l1, l2, μ, tan f, and of a longitude in

@@ -8,7 +8,7 @@ ghost use Rattle.float_requests.specs.Instrument.{fields, doubles_of, first_not_
 ghost use Rattle.float_requests.specs.HeldElements.{held_elements};
 
 use binary64::{DEGREE, Longitude, RADIUS};
-use sheet_types::refusals::{Checked, Refusal};
+use sheet_types::refusals::Refusal;
 
 // The elements of an eclipse as doubles, in document 01's order, coefficients per hour. Their ranges are those of
 // their whole units.
@@ -52,16 +52,18 @@ const SCALES: [u64; 23] = [
 ];
 
 // The 22 doubles as a list.
-fn listed(d: ElementDoubles) -> [f64; 22]
-    ensures { result ≡ fields d }
-{
-    [
-        d.x0, d.x1, d.x2, d.x3, d.y0, d.y1, d.y2, d.y3, d.d0, d.d1, d.d2, d.l10, d.l11, d.l12,
-        d.l20, d.l21, d.l22, d.mu0, d.mu1, d.mu2, d.tanf1, d.tanf2,
-    ]
+impl From<ElementDoubles> for [f64; 22] {
+    ghost from_gives = { λ d xs. xs ≡ fields d };
+
+    fn from(d: ElementDoubles) -> [f64; 22] {
+        [
+            d.x0, d.x1, d.x2, d.x3, d.y0, d.y1, d.y2, d.y3, d.d0, d.d1, d.d2, d.l10, d.l11, d.l12,
+            d.l20, d.l21, d.l22, d.mu0, d.mu1, d.mu2, d.tanf1, d.tanf2,
+        ]
+    }
 }
 
-// The 22 doubles of a list.
+// The 22 doubles of a list. No `From`: a slice has to hold 22 of them, and `from` has no `requires`.
 pub fn from_doubles(xs: &[f64]) -> ElementDoubles
     requires { 22 ≤ length xs.now }
     ensures { result ≡ doubles_of xs.now }
@@ -93,42 +95,35 @@ pub fn from_doubles(xs: &[f64]) -> ElementDoubles
 }
 
 // Refusal 12 with the place of the first double that is not finite.
-fn first_not_finite(xs: &[f64]) -> Checked
+fn first_not_finite(xs: &[f64]) -> Result<(), Refusal>
     ensures { result ≡ first_not_finite 0 xs.now }
 {
-    let mut i = 0;
-    while i < xs.len() {
-        let x = xs[i];
-        let known = binary64::is_finite(x);
-        if !known {
-            return Checked::Refused(Refusal {
+    for (i, &x) in xs.iter().enumerate() {
+        if !binary64::is_finite(x) {
+            return Err(Refusal {
                 number: 12,
                 place: i,
             });
         }
-        i += 1;
     }
-    Checked::Within
+    Ok(())
 }
 
 // Refusal 12 with the first double that is not finite: 0 to 21 for the elements, 22 for the longitude.
-pub fn check_finite(d: ElementDoubles, longitude: Longitude) -> Checked
+pub fn check_finite(d: ElementDoubles, longitude: Longitude) -> Result<(), Refusal>
     ensures { result ≡ finite_checked d longitude }
 {
-    let xs = listed(d);
-    let c = first_not_finite(&xs);
-    if let Checked::Refused(refusal) = c {
-        return Checked::Refused(refusal);
-    }
+    let xs = <[f64; 22]>::from(d);
+    first_not_finite(&xs)?;
     let x = binary64::double_in(longitude);
     let known = binary64::is_finite(x);
     if !known {
-        return Checked::Refused(Refusal {
+        return Err(Refusal {
             number: 12,
             place: 22,
         });
     }
-    Checked::Within
+    Ok(())
 }
 
 // Each of the 22 in whole units; the number used in place of one that is too large is out of every range too.
@@ -137,14 +132,10 @@ fn units_in(xs: &[f64]) -> [i64; 22]
     ensures { result ≡ map held (units_in scales xs.now) }
 {
     let scales = SCALES;
+    // No `zip`: a store through `iter_mut` says nothing of the other places, and both lists are read at the same one.
     let mut units = [0i64; 22];
-    let mut i: usize = 0;
-    while i < 22 {
-        let x = xs[i];
-        let scale = scales[i];
-        let reading = binary64::read(x, scale);
-        units[i] = binary64::unit_of(reading);
-        i += 1;
+    for i in 0..22 {
+        units[i] = binary64::unit_of(binary64::read(xs[i], scales[i]));
     }
     units
 }
@@ -153,7 +144,7 @@ fn units_in(xs: &[f64]) -> [i64; 22]
 pub fn elements_in(d: ElementDoubles) -> elements::Elements
     ensures { result ≡ held_elements (elements_in d) }
 {
-    let xs = listed(d);
+    let xs = <[f64; 22]>::from(d);
     let units = units_in(&xs);
     elements::from_numbers(&units)
 }

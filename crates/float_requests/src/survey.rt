@@ -12,7 +12,7 @@ use crate::instrument::ElementDoubles;
 use binary64::Longitude;
 use requests::windows::Window;
 use requests::{Occultation, Request};
-use sheet_types::refusals::Checked;
+use sheet_types::refusals::Refusal;
 
 // What a sheet is asked for, as it was surveyed.
 #[derive(Clone, Copy)]
@@ -57,19 +57,19 @@ fn request_of(s: Survey) -> Request
     }
 }
 
-// Whether it is refusal 1.
-fn is_one(c: Checked) -> bool
+// Whether it is refusal 1. Only that one is passed on, so `check` has no `?`.
+fn is_one(c: Result<(), Refusal>) -> bool
     ensures { result ≡ eqb (number_in c) 1 }
 {
     match c {
-        Checked::Within => false,
-        Checked::Refused(refusal) => refusal.number == 1,
+        Ok(()) => false,
+        Err(refusal) => refusal.number == 1,
     }
 }
 
 // Refusal 1 of the request, for the window or the guard, or 12 for a double that is not finite: 2 and 3 come after it,
 // with the sheet.
-fn check(s: Survey, o: Occultation) -> Checked
+fn check(s: Survey, o: Occultation) -> Result<(), Refusal>
     requires { o ≡ of_eclipse (held_request (request_of s)) }
     ensures { result ≡ survey_checked s }
 {
@@ -84,16 +84,13 @@ fn check(s: Survey, o: Occultation) -> Checked
 }
 
 // The contact sheet of a survey, in the caller's buffer; `sines` is the buffer for table S.
-pub fn sheet(s: Survey, sines: &mut [u32], buf: &mut [u8]) -> circumstances::Answer
+pub fn sheet(s: Survey, sines: &mut [u32], buf: &mut [u8]) -> Result<usize, Refusal>
     ensures answer { result ≡ survey_answer s sines.old buf.old }
     ensures buffer { buf.new ≡ survey_buffer s sines.old buf.old }
     ensures sines { sines.new ≡ survey_sines s sines.old }
     ensures demand3 { Claimed (of_eclipse (request_of s)) result buf.new }
 {
     let o = requests::of_eclipse(request_of(s));
-    let c = check(s, o);
-    if let Checked::Refused(refusal) = c {
-        return circumstances::Answer::Refused(refusal);
-    }
+    check(s, o)?;
     circumstances::sheet(o, sines, buf)
 }

@@ -1,11 +1,10 @@
 -- The horizon at a second of an occultation: the altitude and the azimuth of the Sun or the star over the plane at
 -- right angles to the spheroid's normal, and the direction of the zenith from it. A rule of our own, beside the
 -- documents: no refraction and no dip. Definitions only.
-use Rattle.std.specs.Prelude.{List, ℕ, ℤ, neg_ℤ, ◌+ℤ◌, ◌-ℤ◌, ◌*ℤ◌}
+use Rattle.std.specs.Prelude.{List, ℕ, ℤ, neg_ℤ, ◌+ℤ◌, ◌-ℤ◌, ◌*ℤ◌, Result, Err, Ok}
+use Rattle.sheet_types.specs.declared.refusals.Refusal.{Refusal}
 use Rattle.rounding.specs.Units.{one}
 use Rattle.rounding.specs.Near.{near}
-use Rattle.sheet_types.specs.declared.refusals.Checked.{Checked}
-use Rattle.sheet_types.specs.declared.refusals.Checked.TheVariants as C
 use Rattle.sine_table.specs.Table.{S}
 use Rattle.sine.specs.Sine.{sine, cosine}
 use Rattle.shadow_geometry.specs.Shadow.{Moment, H, d}
@@ -15,8 +14,6 @@ use Rattle.requests.specs.declared.Occultation.{Occultation}
 use Rattle.seconds.specs.Seconds.{moment_at}
 use Rattle.seconds.specs.OneSecond.{second_checked, second_sines}
 use Rattle.horizon.specs.declared.Horizon.{Horizon}
-use Rattle.horizon.specs.declared.OneHorizon.{OneHorizon}
-use Rattle.horizon.specs.declared.OneHorizon.TheVariants as O
 use Rattle.horizon.specs.Altitude.{kept, altitude}
 
 -- ---- of s and c, the sine and the cosine of the geodetic latitude, and of the sines and cosines of H and d
@@ -65,11 +62,11 @@ unfoldable pub horizon_at : Occultation → ℤ → Horizon
 horizon_at o τ = horizon_of (sine o.station.latitude) (cosine o.station.latitude) (orientation_at o τ)
 
 -- ---- with the refusals, in their order, and the buffer for table S, of one second (seconds, OneSecond)
-abbrev pub horizon_by : Checked → Occultation → ℤ → OneHorizon
-horizon_by (C.Refused r) o τ = O.Refused r
-horizon_by C.Within o τ = O.Is (horizon_at o τ)
+abbrev pub horizon_by : Result Unit Refusal → Occultation → ℤ → Result Horizon Refusal
+horizon_by (Err r) o τ = Err r
+horizon_by (Ok tt) o τ = Ok (horizon_at o τ)
 
-unfoldable pub horizon_answer : Occultation → ℤ → List ℕ → OneHorizon
+unfoldable pub horizon_answer : Occultation → ℤ → List ℕ → Result Horizon Refusal
 horizon_answer o τ sines = horizon_by (second_checked o τ sines) o τ
 
 -- that buffer afterwards: as after one second

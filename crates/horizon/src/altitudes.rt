@@ -3,44 +3,21 @@ ghost use Rattle.std.specs.Prelude.{◌≡◌, ◌≤◌, nat_abs};
 ghost use Rattle.sine_table.specs.Table.{S, Sines};
 ghost use Rattle.horizon.specs.Altitude.{kept, largest_under, altitude};
 
-fn wide(x: u32) -> u64
-    ensures { result ≡ x }
-{
-    x as u64
-}
-
 // A sine kept within ±10^8, which its rounding may pass.
 pub fn kept(a: i64) -> i64
     requires { nat_abs a ≤ 1000000000 }
     ensures { result ≡ kept a }
 {
-    if 100_000_000 < a {
-        return 100_000_000;
-    }
-    if a < -100_000_000 {
-        return -100_000_000;
-    }
-    a
+    a.clamp(-100_000_000, 100_000_000)
 }
 
-// The largest k in 0..900 whose sine is at most a. The table rises, so it is found by halving: low's sine is at most
-// a, and high's and all above are more.
+// The largest k in 0..900 whose sine is at most a. The table rises from 0, so it is as many as there are such sines
+// after the first.
 fn largest_under(table: &[u32], a: u64) -> u64
     requires { Sines table.now }
     ensures { result ≡ largest_under S a 900 }
 {
-    let mut low = 0;
-    let mut high = 901;
-    while low + 1 < high {
-        let k = (low + high) / 2;
-        let sine = wide(sine_table::entry(table, k));
-        if sine <= a {
-            low = k;
-        } else {
-            high = k;
-        }
-    }
-    low as u64
+    table[1..901].partition_point(|sine| u64::from(*sine) <= a) as u64
 }
 
 // The altitude whose sine is a, in tenths of a degree, rounded down.

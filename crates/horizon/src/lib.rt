@@ -16,7 +16,7 @@ ghost use Rattle.horizon.specs.Horizon.{altitude_sine, east, north, zenith_east,
 
 use requests::Occultation;
 use shadow::Orientation;
-use sheet_types::refusals::{Checked, Refusal};
+use sheet_types::refusals::Refusal;
 
 // Where the Sun or the star stands.
 #[derive(Clone, Copy)]
@@ -27,13 +27,6 @@ pub struct Horizon {
     pub azimuth: u16,
     // the direction of the zenith from its centre, likewise
     pub zenith: u16,
-}
-
-// The horizon at one second, or why there is none.
-#[derive(Clone, Copy)]
-pub enum OneHorizon {
-    Is(Horizon),
-    Refused(Refusal),
 }
 
 // The sine of the altitude, not yet kept within ±10^8.
@@ -125,21 +118,19 @@ pub fn horizon_within(table: &[u32], o: Occultation, t: i64) -> Horizon
 }
 
 // The horizon at second t of an occultation, which may lie outside its window; `sines` is the buffer for table S.
-pub fn horizon_at(o: Occultation, t: i64, sines: &mut [u32]) -> OneHorizon
+pub fn horizon_at(o: Occultation, t: i64, sines: &mut [u32]) -> Result<Horizon, Refusal>
     ensures answer { result ≡ horizon_answer o t sines.old }
     ensures sines { sines.new ≡ horizon_sines o t sines.old }
 {
+    // As `seconds::second` begins; a function for both would be no shorter than these two tests.
     let inside = requests::windows::in_span(t);
     if !inside {
-        return OneHorizon::Refused(Refusal {
+        return Err(Refusal {
             number: 1,
             place: 0,
         });
     }
-    let c = requests::admission::admit(o, sines);
-    if let Checked::Refused(refusal) = c {
-        return OneHorizon::Refused(refusal);
-    }
+    requests::admission::admit(o, sines)?;
     let x = horizon_within(sines, o, t);
-    OneHorizon::Is(x)
+    Ok(x)
 }

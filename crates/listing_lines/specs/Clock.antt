@@ -1,6 +1,6 @@
 -- Seconds of a sheet as times of day: docs/CLOCK.md, whose sentences are quoted. How a time is printed: times_of_day,
 -- Times. `Outward` says what they come to: a contact lies between its two printed times.
-use Rattle.std.specs.Prelude.{ℕ, ◌/◌, ◌%◌, Bool, true, cond, ◌&&◌, List, [], ◌∷◌, ◌++◌, leb, ℤ, pos, nat_abs, ◌+ℤ◌, ◌-ℤ◌, ◌*ℤ◌}
+use Rattle.std.specs.Prelude.{ℕ, ◌/◌, ◌%◌, Bool, true, cond, ◌&&◌, List, [], ◌∷◌, ◌++◌, leb, ℤ, pos, nat_abs, ◌+ℤ◌, ◌-ℤ◌, ◌*ℤ◌, Option, None, Some}
 use Rattle.rounding.specs.Near.{floor_z}
 use Rattle.sheet_format.specs.declared.kinds.Kind.{Kind}
 use Rattle.sheet_format.specs.declared.kinds.Kind.TheVariants.{Head, Enter, Leave, Graze, Open, Closest, Share, End}
@@ -15,8 +15,6 @@ use Rattle.decimal_text.specs.Decimals.{digit, decimal}
 use Rattle.decimal_text.specs.Texts.{letters}
 use Rattle.listing_lines.specs.Lines.{text_of, end_for}
 use Rattle.listing_lines.specs.Times.{two, seconds_text, time_text}
-use Rattle.calendar.specs.declared.Reference.{Reference}
-use Rattle.calendar.specs.declared.Reference.TheVariants as R
 use Rattle.listing_lines.specs.declared.clock.Seconds.{Seconds}
 use Rattle.listing_lines.specs.declared.clock.Seconds.TheVariants.{Moment, Contact}
 use Rattle.listing_lines.specs.declared.clock.Altitude.{Altitude}
@@ -139,9 +137,9 @@ unfoldable pub behind : Instant → ℤ → Entry → List ℕ
 behind i d e = shown_text i d (shown_for e.kind e.a e.b)
 
 -- an entry's text; with an instant, what follows it
-unfoldable pub timed_text : Reference → ℤ → Entry → List ℕ
-timed_text R.Nothing d e = text_of e
-timed_text (R.At i) d e = text_of e ++ behind i (known d) e
+unfoldable pub timed_text : Option Instant → ℤ → Entry → List ℕ
+timed_text None d e = text_of e
+timed_text (Some i) d e = text_of e ++ behind i (known d) e
 
 -- ---- the altitude
 
@@ -158,10 +156,10 @@ altitude_text (A.Below n) = letters " alt -" ++ tenths_text n ++ letters " below
 -- ---- the lines
 
 -- an entry's line, with an altitude
-unfoldable pub timed_line : Reference → ℤ → Altitude → Entry → List ℕ
+unfoldable pub timed_line : Option Instant → ℤ → Altitude → Entry → List ℕ
 timed_line k d x e = timed_text k d e ++ altitude_text x ++ end_for e.kind
 
 -- those of some entries, with the altitude x of each
-unfoldable pub timed_lines : Reference → ℤ → (Entry → Altitude) → List Entry → List ℕ
+unfoldable pub timed_lines : Option Instant → ℤ → (Entry → Altitude) → List Entry → List ℕ
 timed_lines k d x [] = []
 timed_lines k d x (e ∷ es) = timed_line k d (x e) e ++ timed_lines k d x es

@@ -11,7 +11,7 @@ ghost use Rattle.listing_lines.specs.Lines.{text_of};
 ghost use Rattle.listing_lines.specs.Times.{time_text};
 ghost use Rattle.listing_lines.specs.Clock.{time_in, known, typed_name, name_of, date_text, instant_text, times_in, scale_text, scales_text, shown_for, behind, timed_text, tenths_text, altitude_text, timed_line};
 
-use calendar::{Instant, Reference, Scale};
+use calendar::{Instant, Scale};
 use sheet_format::kinds::{Entry, Kind};
 
 // The scales in which times are printed.
@@ -31,7 +31,8 @@ pub enum Seconds {
     Contact(u32, u32),
 }
 
-// What is printed of an altitude: nothing; or tenths of a degree above or below the horizon.
+// What is printed of an altitude: nothing; or tenths of a degree above or below the horizon. Three answers to one
+// question: an Option of two would ask twice.
 #[derive(Clone, Copy)]
 pub enum Altitude {
     Nothing,
@@ -39,7 +40,7 @@ pub enum Altitude {
     Below(u64),
 }
 
-// What follows an entry's text: the line of the instant, or times.
+// What follows an entry's text: nothing, the line of the instant, or times. Three answers to one question, as `Altitude`.
 #[derive(Clone, Copy)]
 pub enum Shown {
     Nothing,
@@ -220,12 +221,18 @@ fn put_timed(out: &mut [u8], at: usize, entry: Entry, i: Instant, deltat: i64) -
 }
 
 // An entry's text, with its times where the reference is an instant.
-fn put_times_of(out: &mut [u8], at: usize, entry: Entry, reference: Reference, deltat: i64) -> usize
+fn put_times_of(
+    out: &mut [u8],
+    at: usize,
+    entry: Entry,
+    reference: Option<Instant>,
+    deltat: i64,
+) -> usize
     ensures { Put out.old at (timed_text reference deltat entry) out.new result }
 {
     match reference {
-        Reference::Nothing => crate::lines::put_entry_text(out, at, entry),
-        Reference::At(i) => put_timed(out, at, entry, i, deltat),
+        None => crate::lines::put_entry_text(out, at, entry),
+        Some(i) => put_timed(out, at, entry, i, deltat),
     }
 }
 
@@ -264,7 +271,7 @@ pub fn put_entry(
     out: &mut [u8],
     at: usize,
     entry: Entry,
-    reference: Reference,
+    reference: Option<Instant>,
     deltat: i64,
     altitude: Altitude,
 ) -> usize

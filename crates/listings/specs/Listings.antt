@@ -1,11 +1,11 @@
 -- The listing of a sheet.
-use Rattle.std.specs.Prelude.{ℕ, List, ◌++◌, ℤ}
+use Rattle.std.specs.Prelude.{ℕ, List, ◌++◌, ℤ, Option}
+use Rattle.requests.specs.declared.Occultation.{Occultation}
+use Rattle.calendar.specs.declared.Instant.{Instant}
 use Rattle.sheet_codec.specs.Sheets.{Sheet, sheet, refused, read_whole}
-use Rattle.calendar.specs.declared.Reference.{Reference}
 use Rattle.listing_lines.specs.Clock.{timed_lines}
 use Rattle.listing_lines.specs.Lines.{lines_of, refusal_line}
 use Rattle.listings.specs.Answers.{Told, text, withheld}
-use Rattle.listings.specs.declared.sky.Sky.{Sky}
 use Rattle.listings.specs.declared.sky.View.TheVariants as Seen
 use Rattle.listings.specs.Sky.{altitude_for, view_of, notes_for}
 
@@ -20,11 +20,11 @@ told bytes = listing_of (read_whole bytes)
 
 -- docs/CLOCK.md: with clock times "it is the sheet's own listing", its lines with times by the reference and the
 -- station's ΔT and with the altitude; then the notes
-abbrev pub timed_of : Reference → ℤ → Sky → Sheet → Told
+abbrev pub timed_of : Option Instant → ℤ → Option Occultation → Sheet → Told
 timed_of k d y (sheet es n) = text (timed_lines k d (altitude_for y) es ++ notes_for y (view_of y Seen.Nothing es))
 timed_of k d y (refused r) = withheld r
 
-unfoldable pub timed : Reference → ℤ → Sky → List ℕ → Told
+unfoldable pub timed : Option Instant → ℤ → Option Occultation → List ℕ → Told
 timed k d y bytes = timed_of k d y (read_whole bytes)
 
 -- "A refusal prints `refused`, number, place."

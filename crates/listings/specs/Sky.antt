@@ -1,14 +1,13 @@
 -- What stands beside a sheet's listing for an observer: docs/CLOCK.md, "The altitude and the notes", whose sentences are
 -- quoted. The altitude at a second: horizon, Horizon; the state at one: seconds, OneSecond.
-use Rattle.std.specs.Prelude.{ℕ, suc, Bool, true, false, cond, List, [], ◌∷◌, ◌++◌, eqb, ℤ, pos, negsuc, replicate}
+use Rattle.std.specs.Prelude.{ℕ, suc, Bool, true, false, cond, List, [], ◌∷◌, ◌++◌, eqb, ℤ, pos, negsuc, replicate, Result, Ok, Err, Option, None, Some}
+use Rattle.shadow.specs.declared.Second.{Second}
+use Rattle.horizon.specs.declared.Horizon.{Horizon}
+use Rattle.sheet_types.specs.declared.refusals.Refusal.{Refusal}
 use Rattle.elements.specs.declared.Body.{Body}
 use Rattle.elements.specs.declared.Body.TheVariants as B
 use Rattle.requests.specs.declared.Occultation.{Occultation}
-use Rattle.seconds.specs.declared.OneSecond.{OneSecond}
-use Rattle.seconds.specs.declared.OneSecond.TheVariants as Second
 use Rattle.seconds.specs.OneSecond.{second_answer}
-use Rattle.horizon.specs.declared.OneHorizon.{OneHorizon}
-use Rattle.horizon.specs.declared.OneHorizon.TheVariants as Horizon
 use Rattle.horizon.specs.Horizon.{horizon_answer}
 use Rattle.sheet_format.specs.declared.kinds.Entry.{Entry}
 use Rattle.sheet_format.specs.StoredSeconds.{second_of}
@@ -20,8 +19,6 @@ use Rattle.listing_lines.specs.declared.clock.Seconds.TheVariants.{Moment, Conta
 use Rattle.listing_lines.specs.declared.clock.Shown.{Shown}
 use Rattle.listing_lines.specs.declared.clock.Shown.TheVariants.{Nothing, InstantLine, Times}
 use Rattle.listing_lines.specs.Clock.{shown_for}
-use Rattle.listings.specs.declared.sky.Sky.{Sky}
-use Rattle.listings.specs.declared.sky.Sky.TheVariants as Sky
 use Rattle.listings.specs.declared.sky.View.{View}
 use Rattle.listings.specs.declared.sky.View.TheVariants as Seen
 
@@ -33,9 +30,9 @@ altitude_by (pos n) = A.Above n
 altitude_by (negsuc n) = A.Below (suc n)
 
 -- that of a horizon; none where it is refused, which no second of a sheet is
-abbrev pub altitude_in : OneHorizon → Altitude
-altitude_in (Horizon.Is h) = altitude_by h.altitude
-altitude_in (Horizon.Refused r) = A.Nothing
+abbrev pub altitude_in : Result Horizon Refusal → Altitude
+altitude_in (Ok h) = altitude_by h.altitude
+altitude_in (Err r) = A.Nothing
 
 -- at second τ, with 901 numbers for table S
 unfoldable pub altitude_at : Occultation → ℤ → Altitude
@@ -52,9 +49,9 @@ altitude_shown o InstantLine = A.Nothing
 altitude_shown o (Times s) = altitude_of o s
 
 -- behind an entry
-abbrev pub altitude_for : Sky → Entry → Altitude
-altitude_for Sky.Nothing e = A.Nothing
-altitude_for (Sky.Over o) e = altitude_shown o (shown_for e.kind e.a e.b)
+abbrev pub altitude_for : Option Occultation → Entry → Altitude
+altitude_for None e = A.Nothing
+altitude_for (Some o) e = altitude_shown o (shown_for e.kind e.a e.b)
 
 -- ---- whether it is below the horizon at every contact
 
@@ -77,7 +74,7 @@ unfoldable pub view_after : View → Entry → Altitude → View
 view_after v e x = cond (is_contact (shown_for e.kind e.a e.b)) (seen_after v x) v
 
 -- after some entries
-unfoldable pub view_of : Sky → View → List Entry → View
+unfoldable pub view_of : Option Occultation → View → List Entry → View
 view_of y v [] = v
 view_of y v (e ∷ es) = view_of y (view_after v e (altitude_for y e)) es
 
@@ -89,9 +86,9 @@ is_below Seen.Above = false
 -- ---- the notes
 
 -- inside the penumbra, or the shadow of a star, at second τ: the state that document 01 calls inside
-abbrev pub inside_in : OneSecond → Bool
-inside_in (Second.Is x) = eqb x.penumbra 1
-inside_in (Second.Refused r) = false
+abbrev pub inside_in : Result Second Refusal → Bool
+inside_in (Ok x) = eqb x.penumbra 1
+inside_in (Err r) = false
 
 unfoldable pub inside_at : Occultation → ℤ → Bool
 inside_at o τ = inside_in (second_answer o τ (replicate 901 0))
@@ -112,6 +109,6 @@ notes_of o v =
     ++ cond (inside_at o o.window.last)
     (note_for o.body (letters "note the eclipse ends after the window\n") (letters "note the occultation ends after the window\n")) []
 
-abbrev pub notes_for : Sky → View → List ℕ
-notes_for Sky.Nothing v = []
-notes_for (Sky.Over o) v = notes_of o v
+abbrev pub notes_for : Option Occultation → View → List ℕ
+notes_for None v = []
+notes_for (Some o) v = notes_of o v

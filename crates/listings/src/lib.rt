@@ -12,18 +12,10 @@ ghost use Rattle.listings.specs.Answers.{answered, room_with};
 ghost use Rattle.listings.specs.Listings.{listing_of, told, timed, printed};
 ghost use Rattle.listings.specs.laws.ListingLaws.{IsSheet, Laid};
 
-use crate::sky::{Sky, View};
-use calendar::Reference;
-use sheet_codec::decoder::Extent;
-use sheet_format::records::Record;
+use crate::sky::View;
+use calendar::Instant;
+use requests::Occultation;
 use sheet_types::refusals::Refusal;
-
-// How many bytes a text has that was written, or why none was.
-#[derive(Clone, Copy)]
-pub enum Text {
-    Written(usize),
-    Refused(Refusal),
-}
 
 // The place after the lines of a sheet, and whether the body is below the horizon at every contact.
 #[derive(Clone, Copy)]
@@ -38,9 +30,9 @@ fn put_lines(
     sheet: &[u8],
     out: &mut [u8],
     start: usize,
-    reference: Reference,
+    reference: Option<Instant>,
     deltat: i64,
-    sky: Sky,
+    sky: Option<Occultation>,
 ) -> Lines
     requires { IsSheet (read_sheet sheet.now) }
     ensures { Laid reference deltat sky (read_sheet sheet.now) out.old start out.new result.end result.view }
@@ -48,8 +40,10 @@ fn put_lines(
     let mut from = 0;
     let mut at = start;
     let mut view = View::Nothing;
+    // Not a `for`: a step is as long as the record that was read, and the loop is left from within.
     loop {
-        let Record::Is(entry, next) = sheet_format::records::bytes::record_at(sheet, from) else {
+        // The sheet was read before, so each record is there, and no refusal is to be passed on.
+        let Ok((entry, next)) = sheet_format::records::bytes::record_at(sheet, from) else {
             return Lines { end: at, view };
         };
         let altitude = sky::altitude_for(sky, entry);
@@ -64,38 +58,32 @@ fn put_lines(
 }
 
 // The lines of the sheet that `sheet` begins with, where the buffer holds them.
-fn lay(sheet: &[u8], out: &mut [u8]) -> Text
+fn lay(sheet: &[u8], out: &mut [u8]) -> Result<usize, Refusal>
     requires { IsSheet (read_sheet sheet.now) }
     ensures value { result ≡ answered (length out.old) (listing_of (read_sheet sheet.now)) }
     ensures out_after { out.new ≡ room_with (listing_of (read_sheet sheet.now)) out.old }
 {
     let mut none = [0u8; 0];
-    let measured = put_lines(sheet, &mut none, 0, Reference::Nothing, 0, Sky::Nothing);
+    let measured = put_lines(sheet, &mut none, 0, None, 0, None);
     let need = measured.end;
     if out.len() < need {
-        return Text::Refused(Refusal {
+        return Err(Refusal {
             number: 4,
             place: need,
         });
     }
-    put_lines(sheet, out, 0, Reference::Nothing, 0, Sky::Nothing);
-    Text::Written(need)
+    put_lines(sheet, out, 0, None, 0, None);
+    Ok(need)
 }
 
 // The listing of the sheet that `sheet` is, at the buffer's start, and how long it is; or the refusal, and the buffer
 // as it was.
-pub fn listing(sheet: &[u8], out: &mut [u8]) -> Text
+pub fn listing(sheet: &[u8], out: &mut [u8]) -> Result<usize, Refusal>
     ensures value { result ≡ answered (length out.old) (told sheet.now) }
     ensures out_after { out.new ≡ room_with (told sheet.now) out.old }
 {
-    let found = sheet_codec::decoder::extent_of_sheet(sheet);
-    match found {
-        Extent::Refused(refusal) => Text::Refused(refusal),
-        Extent::Sheet {
-            entries: _,
-            length: _,
-        } => lay(sheet, out),
-    }
+    sheet_codec::decoder::extent_of_sheet(sheet)?;
+    lay(sheet, out)
 }
 
 // What is printed of some bytes: the listing of the sheet that they are, with times where the reference is an
@@ -106,19 +94,16 @@ pub fn put_timed_listing(
     out: &mut [u8],
     at: usize,
     sheet: &[u8],
-    reference: Reference,
+    reference: Option<Instant>,
     deltat: i64,
-    sky: Sky,
+    sky: Option<Occultation>,
 ) -> usize
     ensures { Put out.old at (printed (timed reference deltat sky sheet.now)) out.new result }
 {
     let found = sheet_codec::decoder::extent_of_sheet(sheet);
     match found {
-        Extent::Refused(refusal) => listing_lines::lines::put_refused(out, at, refusal),
-        Extent::Sheet {
-            entries: _,
-            length: _,
-        } => {
+        Err(refusal) => listing_lines::lines::put_refused(out, at, refusal),
+        Ok(_) => {
             let lines = put_lines(sheet, out, at, reference, deltat, sky);
             let end = lines.end;
             let view = lines.view;
@@ -131,5 +116,5 @@ pub fn put_timed_listing(
 pub fn put_listing(out: &mut [u8], at: usize, sheet: &[u8]) -> usize
     ensures { Put out.old at (printed (told sheet.now)) out.new result }
 {
-    put_timed_listing(out, at, sheet, Reference::Nothing, 0, Sky::Nothing)
+    put_timed_listing(out, at, sheet, None, 0, None)
 }

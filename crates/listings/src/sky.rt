@@ -5,21 +5,13 @@ ghost use Rattle.decimal_text.specs.Texts.{Put, Copies};
 ghost use Rattle.listings.specs.Sky.{altitude_by, altitude_at, altitude_of, altitude_shown, altitude_for, seen_after, is_contact, view_after, is_below, inside_at, note_for, notes_of, notes_for};
 
 use elements::Body;
-use horizon::OneHorizon;
 use listing_lines::clock::{Altitude, Seconds, Shown};
 use requests::Occultation;
-use seconds::OneSecond;
 use sheet_format::kinds::Entry;
 
-// What an observer is told of: nothing, or an occultation.
-#[derive(Clone, Copy)]
-pub enum Sky {
-    Nothing,
-    Over(Occultation),
-}
-
-// Whether it is below the horizon at every contact so far: there was none; it was at all; it was not at one.
-#[derive(Clone, Copy)]
+// Whether it is below the horizon at every contact so far: there was none; it was at all; it was not at one. Three
+// answers to one question: an Option of two would ask twice.
+#[derive(Clone, Copy, PartialEq, Eq)]
 pub enum View {
     Nothing,
     Below,
@@ -52,11 +44,11 @@ pub fn altitude_at(o: Occultation, t: i64) -> Altitude
     let mut sines = sines_room();
     let found = horizon::horizon_at(o, t, &mut sines);
     match found {
-        OneHorizon::Is(h) => {
+        Ok(h) => {
             let altitude = h.altitude;
             altitude_by(altitude)
         }
-        OneHorizon::Refused(_) => Altitude::Nothing,
+        Err(_) => Altitude::Nothing,
     }
 }
 
@@ -86,11 +78,11 @@ fn altitude_shown(o: Occultation, shown: Shown) -> Altitude
     }
 }
 
-// The altitude that stands behind an entry.
-pub fn altitude_for(sky: Sky, entry: Entry) -> Altitude
+// The altitude that stands behind an entry; none where the observer is told of no occultation.
+pub fn altitude_for(sky: Option<Occultation>, entry: Entry) -> Altitude
     ensures { result ≡ altitude_for sky entry }
 {
-    let Sky::Over(o) = sky else {
+    let Some(o) = sky else {
         return Altitude::Nothing;
     };
     let kind = entry.kind;
@@ -147,11 +139,7 @@ pub fn view_after(view: View, entry: Entry, altitude: Altitude) -> View
 fn is_below(view: View) -> bool
     ensures { result ≡ is_below view }
 {
-    match view {
-        View::Nothing => false,
-        View::Below => true,
-        View::Above => false,
-    }
+    view == View::Below
 }
 
 // ---- the notes
@@ -163,11 +151,11 @@ fn inside_at(o: Occultation, t: i64) -> bool
     let mut sines = sines_room();
     let found = seconds::second(o, t, &mut sines);
     match found {
-        OneSecond::Is(x) => {
+        Ok(x) => {
             let state = x.penumbra;
             state == 1
         }
-        OneSecond::Refused(_) => false,
+        Err(_) => false,
     }
 }
 
@@ -242,12 +230,12 @@ fn put_notes_of(out: &mut [u8], at: usize, o: Occultation, view: View) -> usize
     )
 }
 
-// The notes after the last line.
-pub fn put_notes(out: &mut [u8], at: usize, sky: Sky, view: View) -> usize
+// The notes after the last line; none where the observer is told of no occultation.
+pub fn put_notes(out: &mut [u8], at: usize, sky: Option<Occultation>, view: View) -> usize
     ensures { Put out.old at (notes_for sky view) out.new result }
 {
     match sky {
-        Sky::Nothing => at,
-        Sky::Over(o) => put_notes_of(out, at, o, view),
+        None => at,
+        Some(o) => put_notes_of(out, at, o, view),
     }
 }

@@ -1,5 +1,6 @@
 // Entries as they stand in a sheet, made from the seconds that they name. These functions are internal and have a
-// `requires`.
+// `requires`. The table, the occultation and the place are no struct with an invariant: `seconds::direction_at` and
+// `seconds::magnitude_at` take the three apart, with the same `requires`, so each function here would take it apart too.
 ghost use Rattle.std.specs.Prelude.{◌≡◌, ◌≤◌, ◌<◌, nat_abs};
 ghost use Rattle.sine_table.specs.Table.{Sines};
 ghost use Rattle.station.specs.Place.{place_of};

@@ -1,10 +1,9 @@
 -- What the program writes: the mended file to standard output, and to standard error a line for each dropped stretch.
-use Rattle.std.specs.Prelude.{ℕ, List, [], ◌∷◌, ◌++◌, cond, ltb, length}
+use Rattle.std.specs.Prelude.{ℕ, List, [], ◌∷◌, ◌++◌, cond, ltb, length, Result, Ok, Err}
+use Rattle.sheet_types.specs.declared.refusals.Refusal.{Refusal}
 use Rattle.decimal_text.specs.Decimals.{decimal}
 use Rattle.decimal_text.specs.Texts.{letters}
 use Rattle.listing_lines.specs.Lines.{refusal_line}
-use Rattle.year_file.specs.declared.mending.Answer.{Answer}
-use Rattle.year_file.specs.declared.mending.Answer.TheVariants.{Mended, Refused}
 use Rattle.year_file.specs.Walk.{Stretch, kept, stretches}
 use Rattle.year_file.specs.Mending.{answer_to}
 use Rattle.big_endian.specs.Numbers.{eight_at}
@@ -26,17 +25,17 @@ unfoldable pub tooLong : ℕ → List ℕ
 tooLong a = letters "file of " ++ decimal a ++ letters " bytes or more\n"
 
 -- to standard output: the mended file, or nothing
-abbrev pub output_by : Answer → List ℕ → List ℕ
-output_by (Mended k n) file = kept file
-output_by (Refused r) file = []
+abbrev pub output_by : Result (ℕ × ℕ) Refusal → List ℕ → List ℕ
+output_by (Ok (k, n)) file = kept file
+output_by (Err r) file = []
 
 unfoldable pub output : ℕ → ℕ → List ℕ → List ℕ
 output a b file = cond (ltb (length file) a) (output_by (answer_to a b file) file) []
 
 -- to standard error: the lines of the stretches, or why nothing was written
-abbrev pub error_by : Answer → List ℕ → List ℕ
-error_by (Mended k n) file = lines_of (stretches file)
-error_by (Refused r) file = refusal_line r.number r.place
+abbrev pub error_by : Result (ℕ × ℕ) Refusal → List ℕ → List ℕ
+error_by (Ok (k, n)) file = lines_of (stretches file)
+error_by (Err r) file = refusal_line r.number r.place
 
 unfoldable pub error : ℕ → ℕ → List ℕ → List ℕ
 error a b file = cond (ltb (length file) a) (error_by (answer_to a b file) file) (tooLong a)

@@ -75,14 +75,14 @@ fn mended(file: &[u8], sheets: &mut [u8], notes: &mut [u8], text: &mut [u8]) -> 
     }
     let answer = year_file::mending::mend(file, sheets, notes);
     match answer {
-        year_file::mending::Answer::Mended { kept, noted } => {
+        Ok((kept, noted)) => {
             let end = put_notes(text, &notes[..noted]);
             Streams {
                 output: kept,
                 error: end,
             }
         }
-        year_file::mending::Answer::Refused(refusal) => {
+        Err(refusal) => {
             let end = listing_lines::lines::put_refused(text, 0, refusal);
             Streams {
                 output: 0,

@@ -1,15 +1,12 @@
 -- The mirror of a request's bytes: the answer, and what the buffer holds afterwards. Definitions only.
-use Rattle.std.specs.Prelude.{cond, List, [], ◌∷◌, ◌++◌, ℕ, leb, ℤ, length, drop}
+use Rattle.std.specs.Prelude.{cond, List, [], ◌∷◌, ◌++◌, ℕ, leb, ℤ, length, drop, Result, Ok, Err}
+use Rattle.sheet_types.specs.declared.refusals.Refusal.{Refusal}
 use Rattle.sheet_types.specs.Refusals.{refusal}
 use Rattle.elements.specs.Elements as E
 use Rattle.station.specs.Station as S
 use Rattle.requests.specs.declared.Request.{Request}
 use Rattle.requests.specs.Mirror.{mirrored_request, opposite}
 use Rattle.request_format.specs.Request.{size, bytes_of}
-use Rattle.circumstances.specs.declared.Answer.{Answer}
-use Rattle.circumstances.specs.declared.Answer.TheVariants.{Written, Refused}
-use Rattle.request_format.specs.declared.input.Input.{Input}
-use Rattle.request_format.specs.declared.input.Input.TheVariants as I
 use Rattle.request_format.specs.Input.{input_of}
 
 -- the numbers of a request, in document 01's order
@@ -24,17 +21,17 @@ unfoldable pub mirror_bytes : Request → List ℕ
 mirror_bytes q = bytes_of (numbers_of (mirror_in_bytes q))
 
 -- refusal 10 of the shape; then "4" with "the length it needs"
-abbrev pub answer_by : Input → ℕ → Answer
-answer_by (I.Is q) room = cond (leb size room) (Written size) (Refused (refusal 4 size))
-answer_by (I.Refused r) room = Refused r
+abbrev pub answer_by : Result Request Refusal → ℕ → Result ℕ Refusal
+answer_by (Ok q) room = cond (leb size room) (Ok size) (Err (refusal 4 size))
+answer_by (Err r) room = Err r
 
-unfoldable pub mirror_answer : List ℕ → List ℕ → Answer
+unfoldable pub mirror_answer : List ℕ → List ℕ → Result ℕ Refusal
 mirror_answer request old = answer_by (input_of request) (length old)
 
 -- "After any refusal the buffer holds its old bytes; after success the bytes past the sheet do": past the mirror here
-abbrev pub buffer_by : Input → List ℕ → List ℕ
-buffer_by (I.Is q) old = cond (leb size (length old)) (mirror_bytes q ++ drop size old) old
-buffer_by (I.Refused r) old = old
+abbrev pub buffer_by : Result Request Refusal → List ℕ → List ℕ
+buffer_by (Ok q) old = cond (leb size (length old)) (mirror_bytes q ++ drop size old) old
+buffer_by (Err r) old = old
 
 unfoldable pub mirror_buffer : List ℕ → List ℕ → List ℕ
 mirror_buffer request old = buffer_by (input_of request) old

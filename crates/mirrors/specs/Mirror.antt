@@ -1,8 +1,7 @@
 -- Document 02, wish 13: the mirror of a request (requests, Mirror), an eclipse's or a star's, second by second and
 -- entry by entry.
-use Rattle.std.specs.Prelude.{◌≡◌, List, ℕ, ℤ, neg_ℤ, length}
+use Rattle.std.specs.Prelude.{◌≡◌, List, ℕ, ℤ, neg_ℤ, length, Ok}
 use Rattle.sheet_types.specs.declared.phases.Phase.{Phase}
-use Rattle.sheet_types.specs.declared.refusals.Checked.TheVariants.{Within}
 use Rattle.shadow_geometry.specs.Shadow.{u, v, M}
 use Rattle.requests.specs.declared.Occultation.{Occultation}
 use Rattle.requests.specs.Requests.{checked}
@@ -17,7 +16,7 @@ use Rattle.circumstances.specs.Sheet.{sheet_answer}
 -- "in a request within the limits, change the sign of all y and d coefficients and of the latitude, and ..
 pub record Mirrored (o : Occultation) : Type 0 where
   -- the mirror is within the limits
-  pub within : checked (mirror_for o) ≡ Within
+  pub within : checked (mirror_for o) ≡ Ok tt
   -- .. every second has the same state, M and magnitude, ..
   pub state : (φ : Phase) (τ : ℤ) → state_at (mirror_for o) φ τ ≡ state_at o φ τ
   pub square : (τ : ℤ) → M (moment_at (mirror_for o) τ) ≡ M (moment_at o τ)

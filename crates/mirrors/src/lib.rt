@@ -7,8 +7,6 @@ ghost use Rattle.request_format.specs.Fields.{count};
 ghost use Rattle.mirrors.specs.Bytes.{mirror_answer, mirror_buffer};
 ghost use Rattle.mirrors.specs.laws.ChangedLaws.{turned, changed};
 
-use circumstances::Answer;
-use request_format::bytes::Got;
 use request_format::fields::{COUNT, LENGTH};
 use sheet_types::refusals::Refusal;
 
@@ -55,27 +53,25 @@ fn change(numbers: &mut [i64; COUNT])
 
 // The mirror of a request's bytes, at the start of the buffer, and its length; or 10, or 4, and the buffer as it was.
 // It takes any bytes and any buffer.
-pub fn mirror_bytes(request: &[u8], room: &mut [u8]) -> Answer
+pub fn mirror_bytes(request: &[u8], room: &mut [u8]) -> Result<usize, Refusal>
     ensures answer { result ≡ mirror_answer request.now room.old }
     ensures room { room.new ≡ mirror_buffer request.now room.old }
 {
     let mut numbers = [0i64; COUNT];
-    let got = request_format::bytes::get(request, &mut numbers);
-    if let Got::Misshaped = got {
-        return Answer::Refused(Refusal {
-            number: 10,
-            place: 0,
-        });
-    }
+    request_format::bytes::get(request, &mut numbers).ok_or(Refusal {
+        number: 10,
+        place: 0,
+    })?;
     if room.len() < LENGTH {
-        return Answer::Refused(Refusal {
+        return Err(Refusal {
             number: 4,
             place: LENGTH,
         });
     }
     change(&mut numbers);
     let mut made = [0u8; LENGTH];
-    request_format::bytes::put(&numbers, &mut made);
+    // every number fits: it came from bytes, or its opposite did
+    let _ = request_format::bytes::put(&numbers, &mut made);
     decimal_text::put_text(room, 0, &made);
-    Answer::Written(LENGTH)
+    Ok(LENGTH)
 }

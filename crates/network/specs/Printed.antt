@@ -1,13 +1,12 @@
 -- What the program writes of its input, all bytes of it, a typed network: with 901 numbers for table S and 64 for the
 -- steps.
-use Rattle.std.specs.Prelude.{ℕ, Bool, cond, List, [], ◌++◌, ltb, ℤ, length, get_or}
+use Rattle.std.specs.Prelude.{ℕ, Bool, cond, List, [], ◌++◌, ltb, ℤ, length, get_or, Result, Ok, Err}
+use Rattle.sheet_types.specs.declared.refusals.Refusal.{Refusal}
 use Rattle.sheet_format.specs.StoredSeconds.{second_of}
 use Rattle.clock_network.specs.Defined.{earliestOf}
 use Rattle.clock_network.specs.declared.stations.Node.{Node}
 use Rattle.clock_network.specs.Held.{blank_node}
 use Rattle.clock_network.specs.Nodes.{number_of}
-use Rattle.networks.specs.declared.Answer.{Answer}
-use Rattle.networks.specs.declared.Answer.TheVariants as A
 use Rattle.clock_network.specs.declared.checks.Eclipse.{Eclipse}
 use Rattle.clock_network.specs.Checks.{eclipse_of, request_of}
 use Rattle.station.specs.declared.Station.{Station}
@@ -61,9 +60,9 @@ unfoldable pub named_text : Eclipse → ℕ → List ℕ → List Node → List 
 named_text e named tos l steps = station_lines l steps ++ first_line e l named tos
 
 -- by the library's answer
-abbrev pub answer_by : Answer → Eclipse → List ℕ → List Node → List ℕ → List ℕ
-answer_by (A.Named n) e tos l steps = named_text e n tos l steps
-answer_by (A.Refused r) e tos l steps = refusal_line r.number r.place
+abbrev pub answer_by : Result ℕ Refusal → Eclipse → List ℕ → List Node → List ℕ → List ℕ
+answer_by (Ok n) e tos l steps = named_text e n tos l steps
+answer_by (Err r) e tos l steps = refusal_line r.number r.place
 
 -- the program provides the buffers for table S and for the steps
 unfoldable pub answer_text : (sines steps : List ℕ) → List ℤ → List Node → List ℕ

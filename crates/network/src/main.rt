@@ -19,8 +19,7 @@ ghost use Rattle.network.specs.Printed.{clock_text, fault_text, station_line, st
 use clock_network::checks::Eclipse;
 use clock_network::stations::Held;
 use listing_lines::clock::Altitude;
-use network_text::{Fault, Typed};
-use networks::Answer;
+use network_text::Fault;
 use program_io::{ERROR, OUTPUT, Text};
 use request_format::fields::Shape;
 use std::io::{self, Read, Write};
@@ -70,14 +69,8 @@ fn put_stations(out: &mut [u8], h: Held, steps: &[u64]) -> usize
 {
     let n = h.count;
     let mut at = 0;
-    let mut k: usize = 0;
-    while k < n {
-        let x = h.nodes[k];
-        let s = x.station;
-        let number = s.number;
-        let step = steps[k];
-        at = put_station(out, at, number, step);
-        k += 1;
+    for (k, node) in h.nodes[..n].iter().enumerate() {
+        at = put_station(out, at, node.station.number, steps[k]);
     }
     at
 }
@@ -152,11 +145,11 @@ fn put_answer(out: &mut [u8], eclipse: &[i64; 25], h: Held) -> usize
     let mut steps = [0u64; 64];
     let answer = networks::network(eclipse, h, &mut sines, &mut steps);
     match answer {
-        Answer::Named(named) => {
+        Ok(named) => {
             let e = clock_network::checks::eclipse_from(eclipse);
             put_named(out, named, e, h, &sines, &steps)
         }
-        Answer::Refused(refusal) => listing_lines::lines::put_refused(out, 0, refusal),
+        Err(refusal) => listing_lines::lines::put_refused(out, 0, refusal),
     }
 }
 
@@ -177,14 +170,14 @@ fn put_written(text: &[u8], out: &mut [u8]) -> Text
     let typed = reading.answer;
     let held = reading.held;
     match typed {
-        Typed::Network => {
+        Ok(()) => {
             let printed = put_answer(out, &eclipse, held);
             Text {
                 descriptor: OUTPUT,
                 length: printed,
             }
         }
-        Typed::Refused(line, fault) => {
+        Err((line, fault)) => {
             let told = put_fault(out, text, line, fault);
             Text {
                 descriptor: ERROR,

@@ -1,19 +1,14 @@
 -- What a station's line gives: six words, `NUMBER LATITUDE LONGITUDE HEIGHT DELTA_T CLOCK`, each in its whole units.
-use Rattle.std.specs.Prelude.{ℕ, zero, suc, ◌+◌, cond, List, [], ◌∷◌, ◌++◌, eqb, ltb, ℤ, pos, get_or}
+use Rattle.std.specs.Prelude.{ℕ, zero, suc, ◌+◌, cond, List, [], ◌∷◌, ◌++◌, eqb, ltb, ℤ, pos, get_or, Result, Ok, Some, Err, None, Option}
+use Rattle.request_text.specs.declared.Fault as request
 use Rattle.clock_network.specs.declared.stations.Node.{Node}
 use Rattle.request_format.specs.declared.fields.Shape.TheVariants as S
 use Rattle.tokens.specs.declared.Class.TheVariants as C
 use Rattle.tokens.specs.Text.{all_of}
-use Rattle.request_text.specs.declared.Fault as R
-use Rattle.request_text.specs.declared.Line.{Line}
-use Rattle.request_text.specs.declared.Line.TheVariants as L
 use Rattle.request_text.specs.Lines.{value_of, word_in, after_word}
 use Rattle.network_text.specs.declared.Fault.{Fault}
 use Rattle.network_text.specs.declared.Fault.TheVariants as F
-use Rattle.network_text.specs.declared.Word.{Word}
-use Rattle.network_text.specs.declared.Word.TheVariants as W
-use Rattle.network_text.specs.declared.Told.{Told}
-use Rattle.network_text.specs.declared.Told.TheVariants as T
+use Rattle.network_text.specs.declared.Said.{Said}
 
 -- word k is typed as that number of a request: the station's five; the clock is "the number of the station whose clock
 -- it follows"
@@ -21,25 +16,25 @@ abbrev pub field_of : ℕ → ℕ
 field_of k = cond (ltb k 5) (22 + k) 22
 
 -- an invalid word k is reported as in a typed request; for the clock, only that it is invalid
-abbrev pub fault_of : ℕ → R.Fault → Fault
+abbrev pub fault_of : ℕ → request.Fault → Fault
 fault_of k f = cond (eqb k 5) F.Clock (F.Typed f)
 
 -- what word k is by its value in a typed request, which says something
-abbrev pub by_value : ℕ → Line → Word
-by_value k (L.Given j z) = W.Is z
-by_value k (L.Faulty f) = W.Faulty (fault_of k f)
-by_value k L.Nothing = W.Faulty F.Clock
+abbrev pub by_value : ℕ → Result (Option (ℕ × ℤ)) request.Fault → Result ℤ Fault
+by_value k (Ok (Some (j, z))) = Ok z
+by_value k (Err f) = Err (fault_of k f)
+by_value k (Ok None) = Err F.Clock
 
-unfoldable pub word_of : ℕ → List ℕ → Word
+unfoldable pub word_of : ℕ → List ℕ → Result ℤ Fault
 word_of k w = by_value k (value_of S.Eclipse (field_of k) w)
 
-abbrev pub amount_of : Word → ℤ
-amount_of (W.Is z) = z
-amount_of (W.Faulty f) = pos 0
+abbrev pub amount_of : Result ℤ Fault → ℤ
+amount_of (Ok z) = z
+amount_of (Err f) = pos 0
 
-abbrev pub onward : Word → Told → Told
-onward (W.Is z) r = r
-onward (W.Faulty f) r = T.Faulty f
+abbrev pub onward : Result ℤ Fault → Result Said Fault → Result Said Fault
+onward (Ok z) r = r
+onward (Err f) r = Err f
 
 abbrev pub node_of : List ℤ → Node
 node_of vs =
@@ -56,12 +51,12 @@ node_of vs =
     }
 
 -- the words from word k on, after those that gave the values vs; nothing but blanks may stand after the last
-unfoldable pub words_from : ℕ → ℕ → List ℤ → List ℕ → Told
-words_from zero k vs s = cond (all_of C.Blank s) (T.Station (node_of vs)) (T.Faulty F.Clock)
+unfoldable pub words_from : ℕ → ℕ → List ℤ → List ℕ → Result Said Fault
+words_from zero k vs s = cond (all_of C.Blank s) (Ok (Said.Station (node_of vs))) (Err F.Clock)
 words_from (suc left) k vs s =
     let word = word_of k (word_in s) in
     onward word (words_from left (k + 1) (vs ++ amount_of word ∷ []) (after_word s))
 
 -- what stands after the name `station`
-unfoldable pub station_of : List ℕ → Told
+unfoldable pub station_of : List ℕ → Result Said Fault
 station_of s = words_from 6 0 [] s

@@ -1,19 +1,14 @@
 -- A typed network: the numbers that its lines give, and its stations in list order.
-use Rattle.std.specs.Prelude.{ℕ, ◌+◌, List, [], ◌∷◌, ◌++◌, ℤ, length, take, drop, replicate}
+use Rattle.std.specs.Prelude.{ℕ, ◌+◌, List, [], ◌∷◌, ◌++◌, ℤ, length, take, drop, replicate, Result, Ok, Err}
+use Rattle.request_text.specs.declared.Fault as request
 use Rattle.clock_network.specs.declared.stations.Node.{Node}
 use Rattle.clock_network.specs.declared.stations.Held.{Held}
 use Rattle.clock_network.specs.Held.{least64, held_of}
 use Rattle.request_format.specs.declared.fields.Shape.TheVariants as S
 use Rattle.tokens.specs.Text.{lines_of}
-use Rattle.request_text.specs.declared.Noted.{Noted}
-use Rattle.request_text.specs.declared.Noted.TheVariants as N
 use Rattle.request_text.specs.Typing as typing
 use Rattle.network_text.specs.declared.Fault.{Fault}
-use Rattle.network_text.specs.declared.Fault.TheVariants as Fault
-use Rattle.network_text.specs.declared.Told.{Told}
-use Rattle.network_text.specs.declared.Told.TheVariants as T
-use Rattle.network_text.specs.declared.Typed.{Typed}
-use Rattle.network_text.specs.declared.Typed.TheVariants as A
+use Rattle.network_text.specs.declared.Said.{Said}
 use Rattle.network_text.specs.Lines.{told_of}
 
 -- whether a line is taken
@@ -22,30 +17,30 @@ pub data Listed : Type 0 where
   faulty : Fault → Listed
 
 -- a number is taken as in a typed request (`request_text`, Typing)
-abbrev pub listed_by : Noted → Listed
-listed_by N.Taken = taken
-listed_by (N.Refused f) = faulty (Fault.Typed f)
+abbrev pub listed_by : Result Unit request.Fault → Listed
+listed_by (Ok tt) = taken
+listed_by (Err f) = faulty (Fault.Typed f)
 
-abbrev pub noted_of : Told → List ℕ → Listed
-noted_of (T.Request line) marks = listed_by (typing.noted_of line marks)
-noted_of (T.Station n) marks = taken
-noted_of (T.Faulty f) marks = faulty f
+abbrev pub noted_of : Result Said Fault → List ℕ → Listed
+noted_of (Ok (Said.Request line)) marks = listed_by (typing.noted_of line marks)
+noted_of (Ok (Said.Station n)) marks = taken
+noted_of (Err f) marks = faulty f
 
-abbrev pub marks_after : Told → List ℕ → List ℕ
-marks_after (T.Request line) marks = typing.marks_after line marks
-marks_after (T.Station n) marks = marks
-marks_after (T.Faulty f) marks = marks
+abbrev pub marks_after : Result Said Fault → List ℕ → List ℕ
+marks_after (Ok (Said.Request line)) marks = typing.marks_after line marks
+marks_after (Ok (Said.Station n)) marks = marks
+marks_after (Err f) marks = marks
 
-abbrev pub numbers_after : Told → List ℕ → List ℤ → List ℤ
-numbers_after (T.Request line) marks ns = typing.numbers_after line marks ns
-numbers_after (T.Station n) marks ns = ns
-numbers_after (T.Faulty f) marks ns = ns
+abbrev pub numbers_after : Result Said Fault → List ℕ → List ℤ → List ℤ
+numbers_after (Ok (Said.Request line)) marks ns = typing.numbers_after line marks ns
+numbers_after (Ok (Said.Station n)) marks ns = ns
+numbers_after (Err f) marks ns = ns
 
 -- "Stations stand in list order"
-abbrev pub nodes_after : Told → List Node → List Node
-nodes_after (T.Request line) l = l
-nodes_after (T.Station n) l = l ++ n ∷ []
-nodes_after (T.Faulty f) l = l
+abbrev pub nodes_after : Result Said Fault → List Node → List Node
+nodes_after (Ok (Said.Request line)) l = l
+nodes_after (Ok (Said.Station n)) l = l ++ n ∷ []
+nodes_after (Err f) l = l
 
 -- what a text is: the numbers and the stations, or the first line that is refused, and why
 pub data Typing : Type 0 where
@@ -70,9 +65,9 @@ marks_before = replicate 22 0 ++ replicate 5 1 ++ replicate 3 0
 unfoldable pub typing_of : List ℕ → Typing
 typing_of text = read_lines (lines_of text) 1 (typing.untyped S.Eclipse) marks_before []
 
-abbrev pub answer_of : Typing → Typed
-answer_of (given ns l) = A.Network
-answer_of (refused i f) = A.Refused i f
+abbrev pub answer_of : Typing → Result Unit (ℕ × Fault)
+answer_of (given ns l) = Ok tt
+answer_of (refused i f) = Err (i, f)
 
 -- a list as a value: 64 of its stations, and how many it has
 abbrev pub held : List Node → Held

@@ -8,12 +8,10 @@ ghost use Rattle.std.specs.Prelude.{◌≡◌, ◌<◌, pos, length, replicate};
 ghost use Rattle.network_text.specs.Lines.{told_of};
 ghost use Rattle.network_text.specs.Typing.{listed_by, marks_after, numbers_after, marks_before, typing_of, eclipse_in, answer_of, held_from, numbers_from};
 ghost use Rattle.network_text.specs.laws.TypingLaws.{add_of, answer_by, taken_of, Read};
-ghost use Rattle.network_text.specs.laws.EclipseLaws.{place_of};
 
 use clock_network::stations::{Held, Node};
 use request_format::fields::{COUNT, Shape};
-use request_text::{Found, Line, Noted};
-use tokens::Class;
+use request_text::lines;
 
 // Why a text is refused.
 #[derive(Clone, Copy)]
@@ -24,34 +22,20 @@ pub enum Fault {
     Clock,
 }
 
-// What a word of a station's line is.
-#[derive(Clone, Copy)]
-pub enum Word {
-    Is(i64),
-    Faulty(Fault),
-}
-
 // What a line says.
 #[derive(Clone, Copy)]
-pub enum Told {
+pub enum Said {
     // what it says in a typed request, of the elements and the window
-    Request(Line),
+    Request(Result<Option<(usize, i64)>, request_text::Fault>),
     // a station and the clock that it follows
     Station(Node),
-    Faulty(Fault),
-}
-
-// All numbers and stations; or the line, counted from 1, and its fault. A missing name has the line after the last.
-#[derive(Clone, Copy)]
-pub enum Typed {
-    Network,
-    Refused(usize, Fault),
 }
 
 // What a text gives, and its stations: the first 64, and how many there are.
 #[derive(Clone, Copy)]
 pub struct Reading {
-    pub answer: Typed,
+    // whether it has no fault; or the line, counted from 1, and its fault: a missing name has the line after the last
+    pub answer: Result<(), (usize, Fault)>,
     pub held: Held,
 }
 
@@ -63,20 +47,20 @@ const ASKED: [u8; COUNT] = [
 // ---- lines
 
 // What a line says: its name decides which.
-fn tell(line: &[u8]) -> Told
+fn tell(line: &[u8]) -> Result<Said, Fault>
     ensures { result ≡ told_of line.now }
 {
     let said = request_text::said(line);
-    let Found::At(field, length) = request_text::find(Shape::Eclipse, said) else {
-        return Told::Request(request_text::meaning(Shape::Eclipse, line));
+    let Some((field, length)) = request_text::find(Shape::Eclipse, said) else {
+        return Ok(Said::Request(request_text::meaning(Shape::Eclipse, line)));
     };
     if field == 22 {
         return stations::of_station(&said[length..]);
     }
     if (22 < field) & (field < 27) {
-        return Told::Faulty(Fault::Typed(request_text::Fault::Unknown));
+        return Err(Fault::Typed(request_text::Fault::Unknown));
     }
-    Told::Request(request_text::meaning(Shape::Eclipse, line))
+    Ok(Said::Request(request_text::meaning(Shape::Eclipse, line)))
 }
 
 // ---- the text
@@ -103,13 +87,10 @@ fn add(h: Held, n: Node) -> Held
 }
 
 // What a number that was noted at line i answers.
-fn noted_at(i: usize, noted: Noted) -> Typed
+fn noted_at(i: usize, noted: Result<(), request_text::Fault>) -> Result<(), (usize, Fault)>
     ensures { result ≡ answer_by (listed_by noted) i }
 {
-    if let Noted::Refused(fault) = noted {
-        return Typed::Refused(i, Fault::Typed(fault));
-    }
-    Typed::Network
+    noted.map_err(|fault| (i, Fault::Typed(fault)))
 }
 
 // Takes line i: a number, if it was not given before, or a station.
@@ -120,20 +101,20 @@ fn take(line: &[u8], i: usize, h: Held, marks: &mut [u8], numbers: &mut [i64]) -
     ensures numbers_after { numbers.new ≡ numbers_after (told_of line.now) marks.old numbers.old }
 {
     match tell(line) {
-        Told::Request(said) => {
+        Ok(Said::Request(said)) => {
             let noted = request_text::note(said, marks, numbers);
             let answer = noted_at(i, noted);
             Reading { answer, held: h }
         }
-        Told::Station(node) => {
+        Ok(Said::Station(node)) => {
             let held = add(h, node);
             Reading {
-                answer: Typed::Network,
+                answer: Ok(()),
                 held,
             }
         }
-        Told::Faulty(fault) => Reading {
-            answer: Typed::Refused(i, fault),
+        Err(fault) => Reading {
+            answer: Err((i, fault)),
             held: h,
         },
     }
@@ -146,18 +127,13 @@ fn read(text: &[u8], marks: &mut [u8], found: &mut [i64]) -> Reading
 {
     found[29] = 16;
     let mut held = clock_network::stations::empty(0);
-    let mut at = 0;
     let mut line = 1;
-    while at < text.len() {
-        let length = tokens::run(&text[at..], Class::Line);
-        let end = at + length;
-        let reading = take(&text[at..end], line, held, marks, found);
-        let answer = reading.answer;
-        if let Typed::Refused(_, _) = answer {
+    for words in lines::of(text) {
+        let reading = take(words, line, held, marks, found);
+        if reading.answer.is_err() {
             return reading;
         }
         held = reading.held;
-        at = end + 1;
         line += 1;
     }
     let all = request_text::complete(&marks[..29]);
@@ -165,27 +141,14 @@ fn read(text: &[u8], marks: &mut [u8], found: &mut [i64]) -> Reading
     Reading { answer, held }
 }
 
-// Where number k of the eclipse stands among those of a request: before the station's five, or after them.
-fn place_of(k: usize) -> usize
-    requires { k < 25 }
-    ensures { (result ≡ place_of k) × (result < 30) }
-{
-    if k < 22 { k } else { k + 5 }
-}
-
-// The elements, the window and the guard of a request's numbers.
+// The elements, the window and the guard of a request's numbers: all but the station's five.
 fn eclipse_in(n: &[i64]) -> [i64; 25]
     requires { length n.now ≡ 30 }
     ensures { result ≡ eclipse_in n.now }
 {
     let mut out = [0i64; 25];
-    let mut k = 0;
-    while k < 25 {
-        let place = place_of(k);
-        let value = n[place];
-        out[k] = value;
-        k += 1;
-    }
+    out[..22].copy_from_slice(&n[..22]);
+    out[22..].copy_from_slice(&n[27..]);
     out
 }
 
@@ -198,12 +161,13 @@ pub fn network(text: &[u8], out: &mut [i64; 25]) -> Reading
     let mut marks = ASKED;
     let mut found = [0i64; COUNT];
     let reading = read(text, &mut marks, &mut found);
-    let answer = reading.answer;
-    if let Typed::Network = answer {
-        let numbers = eclipse_in(&found);
-        *out = numbers;
+    if reading.answer.is_ok() {
+        *out = eclipse_in(&found);
         return reading;
     }
     let held = clock_network::stations::empty(0);
-    Reading { answer, held }
+    Reading {
+        answer: reading.answer,
+        held,
+    }
 }

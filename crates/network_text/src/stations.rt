@@ -2,10 +2,9 @@
 ghost use Rattle.std.specs.Prelude.{◌≡◌, ◌<◌};
 ghost use Rattle.network_text.specs.Stations.{field_of, fault_of, word_of, node_of, station_of};
 
-use super::{Fault, Told, Word};
+use super::{Fault, Said};
 use clock_network::stations::Node;
 use request_format::fields::Shape;
-use request_text::Line;
 use station::Station;
 use tokens::Class;
 
@@ -27,16 +26,14 @@ fn fault_of(k: usize, fault: request_text::Fault) -> Fault
 }
 
 // The value of word k.
-fn word_of(k: usize, word: &[u8]) -> Word
+fn word_of(k: usize, word: &[u8]) -> Result<i64, Fault>
     ensures { result ≡ word_of k word.now }
 {
     let field = field_of(k);
     let line = request_text::value_of(Shape::Eclipse, field, word);
-    match line {
-        Line::Given(_, value) => Word::Is(value),
-        Line::Faulty(fault) => Word::Faulty(fault_of(k, fault)),
-        Line::Nothing => Word::Faulty(Fault::Clock),
-    }
+    let said = line.map_err(|fault| fault_of(k, fault))?;
+    let (_, value) = said.ok_or(Fault::Clock)?;
+    Ok(value)
 }
 
 // The station of its six numbers.
@@ -62,32 +59,22 @@ fn node_of(row: [i64; 6]) -> Node
 }
 
 // The station of six words, a word for each number; or the first fault.
-pub fn of_station(s: &[u8]) -> Told
+pub fn of_station(s: &[u8]) -> Result<Said, Fault>
     ensures { result ≡ station_of s.now }
 {
     let mut row = [0i64; 6];
     let mut at = 0;
-    let mut k = 0;
-    while k < 6 {
+    for k in 0..6 {
         let gap = tokens::run(&s[at..], Class::Blank);
         let from = at + gap;
         let size = tokens::run(&s[from..], Class::Word);
         let end = from + size;
-        let word = word_of(k, &s[from..end]);
-        match word {
-            Word::Is(value) => {
-                row[k] = value;
-            }
-            Word::Faulty(fault) => {
-                return Told::Faulty(fault);
-            }
-        }
+        row[k] = word_of(k, &s[from..end])?;
         at = end;
-        k += 1;
     }
     let bare = tokens::all(&s[at..], Class::Blank);
     if !bare {
-        return Told::Faulty(Fault::Clock);
+        return Err(Fault::Clock);
     }
-    Told::Station(node_of(row))
+    Ok(Said::Station(node_of(row)))
 }

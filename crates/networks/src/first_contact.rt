@@ -16,15 +16,11 @@ ghost use Rattle.networks.specs.Enters.{is_enter, first_enter, firstTo};
 fn is_enter(entry: contacts::entries::Entry) -> bool
     ensures { result ≡ is_enter entry }
 {
-    match entry {
-        contacts::entries::Entry::Enter { from: _, to: _ } => true,
-        contacts::entries::Entry::Leave { from: _, to: _ } => false,
-        contacts::entries::Entry::Graze { from: _, to: _ } => false,
-        contacts::entries::Entry::Open { from: _, to: _ } => false,
-    }
+    matches!(entry, contacts::entries::Entry::Enter { .. })
 }
 
-// The "to" of the first enter of the first phase of a window, as it is stored, or 21,601 where there is none.
+// The "to" of the first enter of the first phase of a window, as it is stored, or 21,601 where there is none. Each
+// step hands on a cursor: an iterator over the entries would hold the same cursor.
 fn first_enter(w: requests::windows::Window, runs: &[u8]) -> u32
     requires { (WindowHolds w) × (Whole runs.now) × (length (decoded 0 runs.now) ≡ second_count w) }
     ensures { result ≡ first_enter (map (shifted (stored w.first)) (entries (decoded 0 runs.now))) }
@@ -35,10 +31,7 @@ fn first_enter(w: requests::windows::Window, runs: &[u8]) -> u32
         run: 0,
         was: 0,
     };
-    loop {
-        let contacts::Next::Found(entry, next) = contacts::step(runs, 0, seconds, c) else {
-            return 21_601;
-        };
+    while let Some((entry, next)) = contacts::step(runs, 0, seconds, c) {
         let enters = is_enter(entry);
         if enters {
             let to = local_circumstances::entries::to_of(entry);
@@ -47,6 +40,7 @@ fn first_enter(w: requests::windows::Window, runs: &[u8]) -> u32
         }
         c = next;
     }
+    21_601
 }
 
 // The "to" of the first enter of the penumbra on the sheet of an eclipse, as it is stored, or 21,601 where the sheet

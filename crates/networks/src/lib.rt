@@ -13,27 +13,7 @@ ghost use Rattle.clock_network.specs.Checks.{eclipse_of};
 ghost use Rattle.networks.specs.AnswerLaws.{Answered, Answers};
 
 use clock_network::stations::Held;
-use sheet_types::refusals::{Checked, Refusal};
-
-// The number of the station whose first enter comes first, 0 for none, or why the list has no answer.
-#[derive(Clone, Copy)]
-pub enum Answer {
-    Named(u64),
-    Refused(Refusal),
-}
-
-// 64 steps, as the caller's numbers.
-fn put_steps(told: &[u8], steps: &mut [u64])
-    requires { (length told.now ≡ 64) × (length steps.old ≡ 64) }
-    ensures { steps.new ≡ told.now }
-{
-    let mut i: usize = 0;
-    while i < 64 {
-        let step = told[i];
-        steps[i] = step as u64;
-        i += 1;
-    }
-}
+use sheet_types::refusals::Refusal;
 
 // The steps of all stations, 64 numbers in list order.
 fn tell_steps(h: Held, steps: &mut [u64])
@@ -45,36 +25,34 @@ fn tell_steps(h: Held, steps: &mut [u64])
     let a = clock_network::stations::numbers(h);
     let b = clock_network::stations::clocks(h);
     let told = clock_network::strata::all_steps(&a[..n], &b[..n]);
-    put_steps(&told, steps);
+    steps.copy_from_slice(&told.map(|steps| u64::from(steps)));
 }
 
 // The answer to numbers and steps of the right lengths.
-fn name(eclipse: &[i64], h: Held, sines: &mut [u32], steps: &mut [u64]) -> Answer
+fn name(eclipse: &[i64], h: Held, sines: &mut [u32], steps: &mut [u64]) -> Result<u64, Refusal>
     requires { (length eclipse.now ≡ 25) × (length h.nodes ≡ 64) × (length steps.old ≡ 64) }
     ensures { (l : List Node) → Holds h l → Answered (eclipse_of eclipse.now) l sines.old steps.old result sines.new steps.new }
 {
     let e = clock_network::checks::eclipse_from(eclipse);
-    let c = clock_network::checks::check(e, h);
-    if let Checked::Refused(refusal) = c {
-        return Answer::Refused(refusal);
-    }
-    let room = requests::admission::fill_sines(sines);
-    if let Checked::Refused(refusal) = room {
-        return Answer::Refused(refusal);
-    }
+    clock_network::checks::check(e, h)?;
+    requests::admission::fill_sines(sines)?;
     tell_steps(h, steps);
-    let station = sight::first_seen(sines, e, h);
-    Answer::Named(station)
+    Ok(sight::first_seen(sines, e, h))
 }
 
 // The answer to a list that is held; `sines` is the buffer for table S, and `steps` has 64 numbers.
-pub fn network(eclipse: &[i64], h: Held, sines: &mut [u32], steps: &mut [u64]) -> Answer
+pub fn network(
+    eclipse: &[i64],
+    h: Held,
+    sines: &mut [u32],
+    steps: &mut [u64],
+) -> Result<u64, Refusal>
     requires { length h.nodes ≡ 64 }
     ensures { (l : List Node) → Holds h l → Answers eclipse.now l sines.old steps.old result sines.new steps.new }
 {
     let shaped = (eclipse.len() == 25) & (steps.len() == 64);
     if !shaped {
-        return Answer::Refused(Refusal {
+        return Err(Refusal {
             number: 10,
             place: 0,
         });

@@ -13,14 +13,9 @@ pub fn first_tos(table: &[u32], e: Eclipse, h: Held, n: usize) -> [u32; 64]
     ensures { (length result ≡ 64) × (take n result ≡ tos_of e (take n h.nodes)) }
 {
     let mut tos = [0u32; 64];
-    let mut i: usize = 0;
-    while i < n {
-        let x = h.nodes[i];
-        let s = x.station;
-        let q = clock_network::checks::request(e, s);
-        let to = crate::first_contact::first_to(table, q);
-        tos[i] = to;
-        i += 1;
+    for (i, x) in h.nodes[..n].iter().enumerate() {
+        let q = clock_network::checks::request(e, x.station);
+        tos[i] = crate::first_contact::first_to(table, q);
     }
     tos
 }

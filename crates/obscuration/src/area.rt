@@ -2,7 +2,7 @@
 ghost use Rattle.std.specs.Prelude.{◌≡◌, ◌≤◌, pos, nat_abs, ◌≤ℤ◌};
 ghost use Rattle.rounding.specs.Root.{root};
 ghost use Rattle.rounding.specs.Value.{Value};
-ghost use Rattle.obscuration.specs.Share.{offset, chord, lesser_of, share_of, share, Sizes};
+ghost use Rattle.obscuration.specs.Share.{offset, chord, share_of, share, Sizes};
 
 // The root of n. A step of Newton's comes from anywhere to the root or above it, and every further one down to it;
 // from a start near the root two or three do.
@@ -11,6 +11,7 @@ fn root_from(start: u64, n: u64) -> u64
     ensures { result ≡ root n }
 {
     let mut y = (start + n / start) / 2;
+    // Newton's steps, as many as it takes: no index is counted.
     while n < y * y {
         y = (y + n / y) / 2;
     }
@@ -42,12 +43,6 @@ fn offset(r: i64, i: u64) -> i64
     -r + k as i64 * r / 1000
 }
 
-fn lesser_of(a: u64, b: u64) -> u64
-    ensures { result ≡ lesser_of a b }
-{
-    if a <= b { a } else { b }
-}
-
 // The share of a Sun of radius r that a Moon of radius n covers, their centres m apart: millionths.
 fn share_of(r: i64, n: i64, m: i64) -> u32
     requires { (nat_abs r ≤ 40000000) × (nat_abs n ≤ 40000000) × (nat_abs m ≤ 1000000000) × (pos 1000 ≤ℤ r) }
@@ -57,14 +52,12 @@ fn share_of(r: i64, n: i64, m: i64) -> u32
     let mut whole: u64 = 0;
     let mut sun: u64 = 0;
     let mut moon: u64 = 0;
-    let mut i: u64 = 0;
-    while i < 1000 {
+    for i in 0..1000 {
         let o = offset(r, i);
         sun = chord(r, o, sun);
         moon = chord(n, o - m, moon);
-        covered += lesser_of(sun, moon);
+        covered += sun.min(moon);
         whole += sun;
-        i += 1;
     }
     (1_000_000 * covered / whole) as u32
 }

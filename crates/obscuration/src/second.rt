@@ -8,16 +8,7 @@ ghost use Rattle.obscuration.specs.Covered.{share_at};
 ghost use Rattle.obscuration.specs.Answer.{share_by};
 ghost use Rattle.obscuration.specs.AnswerLaws.{AnsweredSizes};
 
-use seconds::OneSecond;
 use sheet_types::refusals::Refusal;
-
-// The covered share of the Sun's disc at one second, or why there is none.
-#[derive(Clone, Copy)]
-pub enum OneShare {
-    // millionths, 0 to 1,000,000
-    Is(u32),
-    Refused(Refusal),
-}
 
 // The share of a shadow.
 fn share_of(s: shadow::Shadow) -> u32
@@ -38,15 +29,10 @@ pub fn share_at(table: &[u32], e: elements::Elements, place: station::Place, t: 
 
 // The share of what is answered of a second, or its refusal.
 // It is for crates that have the second, and has a `requires`, so it is none of the public promises.
-pub fn of_second(second: OneSecond) -> OneShare
+pub fn of_second(second: Result<shadow::Second, Refusal>) -> Result<u32, Refusal>
     requires { AnsweredSizes second }
     ensures { result ≡ share_by second }
 {
-    match second {
-        OneSecond::Is(x) => {
-            let shadow = x.shadow;
-            OneShare::Is(share_of(shadow))
-        }
-        OneSecond::Refused(refusal) => OneShare::Refused(refusal),
-    }
+    let x = second?;
+    Ok(share_of(x.shadow))
 }

@@ -1,3 +1,4 @@
 pub mod Inputs
 pub mod Outputs
+pub mod Records
 pub mod laws

@@ -13,7 +13,6 @@ ghost use Rattle.request.specs.Streams.{output_of};
 
 use program_io::{ERROR, OUTPUT, Text};
 use request_format::fields::LENGTH;
-use request_text::typed_requests::Answer;
 use std::io::{self, Read, Write};
 
 // What the program writes of its input, of which `length` bytes were read, and the output that it goes to: the bytes of
@@ -28,14 +27,14 @@ fn respond(text: &[u8; 65537], length: usize, out: &mut [u8; 65623]) -> Text
     let mut bytes = [0u8; LENGTH];
     let answer = request_text::typed_requests::read(&all[..length], &mut bytes, out);
     match answer {
-        Answer::Request(size, _) => {
+        Ok((size, _)) => {
             let stored = decimal_text::put_text(out, 0, &bytes[..size]);
             Text {
                 descriptor: OUTPUT,
                 length: stored,
             }
         }
-        Answer::Refused(size) => Text {
+        Err(size) => Text {
             descriptor: ERROR,
             length: size,
         },

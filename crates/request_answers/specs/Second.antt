@@ -1,6 +1,7 @@
 -- One second of a request's bytes, an eclipse's or a star's: the second and its numbers in the caller's buffer, or
 -- the refusal.
-use Rattle.std.specs.Prelude.{cond, List, [], ◌∷◌, ◌++◌, ℕ, leb, ℤ, pos, nat_abs, length, drop, get_or}
+use Rattle.std.specs.Prelude.{cond, List, [], ◌∷◌, ◌++◌, ℕ, leb, ℤ, pos, nat_abs, length, drop, get_or, Result, Ok, Err}
+use Rattle.sheet_types.specs.declared.refusals.Refusal.{Refusal}
 use Rattle.sheet_types.specs.declared.phases.Phase.{Phase}
 use Rattle.sheet_types.specs.declared.phases.Phase.TheVariants as P
 use Rattle.sheet_types.specs.States.{state_of, SaidRightly}
@@ -10,18 +11,14 @@ use Rattle.requests.specs.declared.Request.{Request}
 use Rattle.requests.specs.declared.StarRequest.{StarRequest}
 use Rattle.requests.specs.declared.Occultation.{Occultation}
 use Rattle.requests.specs.Requests.{of_eclipse, of_star}
-use Rattle.seconds.specs.declared.OneSecond.{OneSecond}
-use Rattle.seconds.specs.declared.OneSecond.TheVariants as O
 use Rattle.seconds.specs.OneSecond.{second_answer, second_sines}
 use Rattle.seconds.specs.Exact.{ExactlyInside, WithinUnits, unsure_units}
 use Rattle.request_format.specs.declared.fields.Shape.{Shape}
 use Rattle.request_format.specs.declared.fields.Shape.TheVariants.{Eclipse, Star}
-use Rattle.request_format.specs.declared.input.Asked.{Asked}
-use Rattle.request_format.specs.declared.input.Asked.TheVariants as W
 use Rattle.request_format.specs.Input.{input_of, request_of, eclipse_asked, star_asked, star_request_of}
 
 -- what bytes of that shape ask for, or 10
-abbrev pub wish : Shape → (request : List ℕ) → Asked
+abbrev pub wish : Shape → (request : List ℕ) → Result Occultation Refusal
 wish Eclipse request = eclipse_asked (input_of request)
 wish Star request = star_asked request
 
@@ -32,14 +29,14 @@ wished Star request = of_star (star_request_of request)
 
 -- "Requests: 10, 1, 2, 3": the shape comes first. Document 02, wish 7: of a star 13 "after 2"; wish 8: then the 4 of
 -- the buffer for table S
-abbrev pub second_asked : Asked → ℤ → (sines : List ℕ) → OneSecond
-second_asked (W.Is o) τ sines = second_answer o τ sines
-second_asked (W.Refused r) τ sines = O.Refused r
+abbrev pub second_asked : Result Occultation Refusal → ℤ → (sines : List ℕ) → Result Second Refusal
+second_asked (Ok o) τ sines = second_answer o τ sines
+second_asked (Err r) τ sines = Err r
 
 -- that buffer afterwards
-abbrev pub sines_asked : Asked → ℤ → (sines : List ℕ) → List ℕ
-sines_asked (W.Is o) τ sines = second_sines o τ sines
-sines_asked (W.Refused r) τ sines = sines
+abbrev pub sines_asked : Result Occultation Refusal → ℤ → (sines : List ℕ) → List ℕ
+sines_asked (Ok o) τ sines = second_sines o τ sines
+sines_asked (Err r) τ sines = sines
 
 -- ---- its numbers
 
@@ -61,17 +58,17 @@ number_count Eclipse = 8
 number_count Star = 5
 
 -- "4" with "the length it needs", after the refusals above
-abbrev pub second_into : (count room : ℕ) → OneSecond → OneSecond
-second_into n k (O.Is x) = cond (leb n k) (O.Is x) (O.Refused (refusal 4 n))
-second_into n k (O.Refused r) = O.Refused r
+abbrev pub second_into : (count room : ℕ) → Result Second Refusal → Result Second Refusal
+second_into n k (Ok x) = cond (leb n k) (Ok x) (Err (refusal 4 n))
+second_into n k (Err r) = Err r
 
-unfoldable pub second_given : Shape → (request : List ℕ) → ℤ → (sines : List ℕ) → List ℤ → OneSecond
+unfoldable pub second_given : Shape → (request : List ℕ) → ℤ → (sines : List ℕ) → List ℤ → Result Second Refusal
 second_given shape request τ sines room = second_into (number_count shape) (length room) (second_asked (wish shape request) τ sines)
 
 -- "After any refusal the buffer holds its old bytes; after success the bytes past the sheet do": so too numbers
-abbrev pub numbers_after : Shape → OneSecond → List ℤ → List ℤ
-numbers_after shape (O.Is x) old = numbers_of shape x ++ drop (number_count shape) old
-numbers_after shape (O.Refused r) old = old
+abbrev pub numbers_after : Shape → Result Second Refusal → List ℤ → List ℤ
+numbers_after shape (Ok x) old = numbers_of shape x ++ drop (number_count shape) old
+numbers_after shape (Err r) old = old
 
 -- ---- what its states mean
 
@@ -94,6 +91,6 @@ abbrev pub NumbersMean : Shape → (request : List ℕ) → ℤ → List ℤ →
 NumbersMean Eclipse request τ room = RoomMeans (request_of request) τ room
 NumbersMean Star request τ room = StarRoomMeans (star_request_of request) τ room
 
-abbrev pub GivenMeans : Shape → (request : List ℕ) → ℤ → OneSecond → List ℤ → Type 0
-GivenMeans shape request τ (O.Is x) room = NumbersMean shape request τ room
-GivenMeans shape request τ (O.Refused r) room = Unit
+abbrev pub GivenMeans : Shape → (request : List ℕ) → ℤ → Result Second Refusal → List ℤ → Type 0
+GivenMeans shape request τ (Ok x) room = NumbersMean shape request τ room
+GivenMeans shape request τ (Err r) room = Unit

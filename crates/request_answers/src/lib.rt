@@ -5,4 +5,5 @@
 pub mod one_contact;
 pub mod one_horizon;
 pub mod one_second;
+mod rooms;
 pub mod sheets;

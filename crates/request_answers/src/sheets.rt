@@ -8,23 +8,29 @@ ghost use Rattle.request_answers.specs.Second.{wish, wished};
 ghost use Rattle.request_answers.specs.Sheet.{answer_by, buffer_by, sines_by, answer_to, buffer_for, sines_for, shared_answer, shared_buffer, shared_sines, star_answer, star_buffer, star_sines};
 ghost use Rattle.request_answers.specs.laws.SheetLaws.{Made};
 
-use circumstances::Answer;
 use request_format::fields::Shape;
-use request_format::input::Asked;
+use requests::Occultation;
+use sheet_types::refusals::Refusal;
 
 // The sheet of what is asked for.
-fn sheet_for(asked: Asked, sines: &mut [u32], buf: &mut [u8]) -> Answer
+fn sheet_for(
+    asked: Result<Occultation, Refusal>,
+    sines: &mut [u32],
+    buf: &mut [u8],
+) -> Result<usize, Refusal>
     ensures { Made asked sines.old buf.old result buf.new sines.new }
 {
-    match asked {
-        Asked::Is(o) => circumstances::sheet(o, sines, buf),
-        Asked::Refused(refusal) => Answer::Refused(refusal),
-    }
+    circumstances::sheet(asked?, sines, buf)
 }
 
 // The contact sheet of a request of that shape, in the caller's buffer; `sines` is the buffer for table S. Any bytes and
 // any buffers.
-pub fn of_shape(shape: Shape, request: &[u8], sines: &mut [u32], buf: &mut [u8]) -> Answer
+pub fn of_shape(
+    shape: Shape,
+    request: &[u8],
+    sines: &mut [u32],
+    buf: &mut [u8],
+) -> Result<usize, Refusal>
     ensures answer { result ≡ answer_by (wish shape request.now) sines.old buf.old }
     ensures buffer { buf.new ≡ buffer_by (wish shape request.now) sines.old buf.old }
     ensures sines { sines.new ≡ sines_by (wish shape request.now) sines.old }
@@ -36,7 +42,7 @@ pub fn of_shape(shape: Shape, request: &[u8], sines: &mut [u32], buf: &mut [u8])
 
 // The contact sheet of the program's input, in the caller's buffer; `sines` is the buffer for table S. It takes any
 // bytes and any buffers.
-pub fn sheet(request: &[u8], sines: &mut [u32], buf: &mut [u8]) -> Answer
+pub fn sheet(request: &[u8], sines: &mut [u32], buf: &mut [u8]) -> Result<usize, Refusal>
     ensures answer { result ≡ answer_to request.now sines.old buf.old }
     ensures buffer { buf.new ≡ buffer_for request.now sines.old buf.old }
     ensures sines { sines.new ≡ sines_for request.now sines.old }
@@ -46,7 +52,7 @@ pub fn sheet(request: &[u8], sines: &mut [u32], buf: &mut [u8]) -> Answer
 }
 
 // The sheet of the same request with the covered share after the closest second.
-pub fn sheet_and_share(request: &[u8], sines: &mut [u32], buf: &mut [u8]) -> Answer
+pub fn sheet_and_share(request: &[u8], sines: &mut [u32], buf: &mut [u8]) -> Result<usize, Refusal>
     ensures answer { result ≡ shared_answer request.now sines.old buf.old }
     ensures buffer { buf.new ≡ shared_buffer request.now sines.old buf.old }
     ensures sines { sines.new ≡ shared_sines request.now sines.old }
@@ -60,7 +66,7 @@ pub fn sheet_and_share(request: &[u8], sines: &mut [u32], buf: &mut [u8]) -> Ans
 
 // The contact sheet of a star, in the caller's buffer; `sines` is the buffer for table S. It takes any bytes and any
 // buffers.
-pub fn star_sheet(request: &[u8], sines: &mut [u32], buf: &mut [u8]) -> Answer
+pub fn star_sheet(request: &[u8], sines: &mut [u32], buf: &mut [u8]) -> Result<usize, Refusal>
     ensures answer { result ≡ star_answer request.now sines.old buf.old }
     ensures buffer { buf.new ≡ star_buffer request.now sines.old buf.old }
     ensures sines { sines.new ≡ star_sines request.now sines.old }

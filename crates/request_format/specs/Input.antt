@@ -1,6 +1,8 @@
 -- The programs' input: the request that its bytes hold, an eclipse's or a star's.
 -- The bytes of a request: Layout and Request; its numbers: Fields.
-use Rattle.std.specs.Prelude.{false, List, [], ℕ, ◌+◌, ℤ, pos, get_or}
+use Rattle.std.specs.Prelude.{false, List, [], ℕ, ◌+◌, ℤ, pos, get_or, Result, Ok, Err}
+use Rattle.requests.specs.declared.Occultation.{Occultation}
+use Rattle.sheet_types.specs.declared.refusals.Refusal.{Refusal}
 use Rattle.elements.specs.Elements.{elements_of}
 use Rattle.elements.specs.Stars.{star_of}
 use Rattle.station.specs.declared.Station.{Station}
@@ -13,10 +15,6 @@ use Rattle.requests.specs.Shares.{with_share}
 use Rattle.request_format.specs.declared.fields.Shape.TheVariants as S
 use Rattle.request_format.specs.Layout.{Reading, numbers, misshaped}
 use Rattle.request_format.specs.Request.{reading_for, reading_of, numbers_after}
-use Rattle.request_format.specs.declared.input.Input.{Input}
-use Rattle.request_format.specs.declared.input.Input.TheVariants as I
-use Rattle.request_format.specs.declared.input.Asked.{Asked}
-use Rattle.request_format.specs.declared.input.Asked.TheVariants as A
 
 -- ---- the request of its numbers, in document 01's order
 
@@ -50,11 +48,11 @@ star_from ns = record { star = star_of ns; station = station_from 13 ns; window 
 -- ---- the request of its bytes
 
 -- "10 | program input not of the shape below | 0"
-abbrev pub input_by : Reading → Input
-input_by (numbers ns) = I.Is (request_from ns)
-input_by misshaped = I.Refused (refusal 10 0)
+abbrev pub input_by : Reading → Result Request Refusal
+input_by (numbers ns) = Ok (request_from ns)
+input_by misshaped = Err (refusal 10 0)
 
-unfoldable pub input_of : List ℕ → Input
+unfoldable pub input_of : List ℕ → Result Request Refusal
 input_of s = input_by (reading_of s)
 
 -- the request that was asked for, where there is one
@@ -63,22 +61,22 @@ request_of s = request_from (numbers_after (reading_of s) [])
 
 -- ---- the same with a share asked for
 
-abbrev pub sharing : Input → Input
-sharing (I.Is q) = I.Is (with_share q)
-sharing (I.Refused r) = I.Refused r
+abbrev pub sharing : Result Request Refusal → Result Request Refusal
+sharing (Ok q) = Ok (with_share q)
+sharing (Err r) = Err r
 
 -- ---- what a sheet is asked for
 
-abbrev pub eclipse_asked : Input → Asked
-eclipse_asked (I.Is q) = A.Is (of_eclipse q)
-eclipse_asked (I.Refused r) = A.Refused r
+abbrev pub eclipse_asked : Result Request Refusal → Result Occultation Refusal
+eclipse_asked (Ok q) = Ok (of_eclipse q)
+eclipse_asked (Err r) = Err r
 
 -- of a star's bytes
-abbrev pub star_by : Reading → Asked
-star_by (numbers ns) = A.Is (of_star (star_from ns))
-star_by misshaped = A.Refused (refusal 10 0)
+abbrev pub star_by : Reading → Result Occultation Refusal
+star_by (numbers ns) = Ok (of_star (star_from ns))
+star_by misshaped = Err (refusal 10 0)
 
-unfoldable pub star_asked : List ℕ → Asked
+unfoldable pub star_asked : List ℕ → Result Occultation Refusal
 star_asked s = star_by (reading_for S.Star s)
 
 -- the request that was asked for, where there is one
@@ -87,9 +85,9 @@ star_request_of s = star_from (numbers_after (reading_for S.Star s) [])
 
 -- ---- the station's ΔT, in hundredths of a second; 0 where nothing is asked for
 
-abbrev pub delta_for : Asked → ℤ
-delta_for (A.Is o) = o.station.deltat
-delta_for (A.Refused r) = pos 0
+abbrev pub delta_for : Result Occultation Refusal → ℤ
+delta_for (Ok o) = o.station.deltat
+delta_for (Err r) = pos 0
 
 unfoldable pub delta_of : List ℕ → ℤ
 delta_of s = delta_for (eclipse_asked (input_of s))

@@ -1,12 +1,10 @@
 -- Numbers in records of bytes, by any layout: how they are written, and how they are read.
 -- LayoutLaws has the law that each undoes the other.
-use Rattle.std.specs.Prelude.{cond, List, [], ◌∷◌, ◌++◌, map, ℕ, suc, ◌+◌, ◌-◌, ◌*◌, ◌/◌, ltb, leb, eqb, ℤ, pos, negsuc, ◌-ℤ◌, length, drop}
+use Rattle.std.specs.Prelude.{cond, List, [], ◌∷◌, ◌++◌, map, ℕ, suc, ◌+◌, ◌-◌, ◌*◌, ◌/◌, ltb, leb, eqb, ℤ, pos, negsuc, ◌-ℤ◌, length, drop, Result, Ok, Err}
 use Rattle.big_endian.specs.Numbers.{two, four, two_at, four_at}
 use Rattle.request_format.specs.declared.fields.Width.{Width}
 use Rattle.request_format.specs.declared.fields.Width.TheVariants as W
 use Rattle.request_format.specs.Fields.{bytes_in, is_signed, whole_of, holds, Number, Record}
-use Rattle.request_format.specs.declared.bytes.Answer.{Answer}
-use Rattle.request_format.specs.declared.bytes.Answer.TheVariants.{Done, Unfit}
 
 -- ---- one number
 
@@ -59,11 +57,11 @@ size_of (kind b ∷ l) = suc (size_of l)
 size_of (number w ∷ l) = bytes_in w + size_of l
 
 -- the first number that its bytes do not hold, from number k on
-unfoldable pub fitting : List Piece → ℕ → List ℤ → Answer
-fitting [] k ns = Done
+unfoldable pub fitting : List Piece → ℕ → List ℤ → Result Unit ℕ
+fitting [] k ns = Ok tt
 fitting (kind b ∷ l) k ns = fitting l k ns
-fitting (number w ∷ l) k [] = Done
-fitting (number w ∷ l) k (z ∷ ns) = cond (holds w z) (fitting l (k + 1) ns) (Unfit k)
+fitting (number w ∷ l) k [] = Ok tt
+fitting (number w ∷ l) k (z ∷ ns) = cond (holds w z) (fitting l (k + 1) ns) (Err k)
 
 -- the bytes of some numbers; those that are not there have none
 unfoldable pub bytes_by : List Piece → List ℤ → List ℕ

@@ -1,12 +1,8 @@
 -- The bytes of a request, an eclipse's or a star's: the layout of its numbers.
-use Rattle.std.specs.Prelude.{List, ℕ, ℤ}
+use Rattle.std.specs.Prelude.{List, ℕ, ℤ, Option, Some, None, Result, Ok, Err}
 use Rattle.request_format.specs.declared.fields.Shape.{Shape}
 use Rattle.request_format.specs.declared.fields.Shape.TheVariants as S
 use Rattle.request_format.specs.Fields.{layout_of}
-use Rattle.request_format.specs.declared.bytes.Answer.{Answer}
-use Rattle.request_format.specs.declared.bytes.Answer.TheVariants.{Done, Unfit}
-use Rattle.request_format.specs.declared.bytes.Got.{Got}
-use Rattle.request_format.specs.declared.bytes.Got.TheVariants as G
 use Rattle.request_format.specs.Layout.{Piece, pieces_of, size_of, fitting, bytes_by, Reading, numbers, misshaped, read_by}
 
 abbrev pub pieces_for : Shape → List Piece
@@ -18,16 +14,16 @@ size_for s = size_of (pieces_for s)
 
 -- ---- numbers to bytes
 
-unfoldable pub put_for : Shape → List ℤ → Answer
+unfoldable pub put_for : Shape → List ℤ → Result Unit ℕ
 put_for s ns = fitting (pieces_for s) 0 ns
 
 unfoldable pub bytes_for : Shape → List ℤ → List ℕ
 bytes_for s ns = bytes_by (pieces_for s) ns
 
 -- "After any refusal the buffer holds its old bytes"
-abbrev pub after_by : Answer → List ℕ → List ℕ → List ℕ
-after_by Done new old = new
-after_by (Unfit k) new old = old
+abbrev pub after_by : Result Unit ℕ → List ℕ → List ℕ → List ℕ
+after_by (Ok tt) new old = new
+after_by (Err k) new old = old
 
 unfoldable pub after_for : Shape → List ℤ → List ℕ → List ℕ
 after_for s ns old = after_by (put_for s ns) (bytes_for s ns) old
@@ -37,9 +33,9 @@ after_for s ns old = after_by (put_for s ns) (bytes_for s ns) old
 unfoldable pub reading_for : Shape → List ℕ → Reading
 reading_for s bytes = read_by (pieces_for s) bytes
 
-abbrev pub got_of : Reading → Got
-got_of (numbers ns) = G.Numbers
-got_of misshaped = G.Misshaped
+abbrev pub got_of : Reading → Option Unit
+got_of (numbers ns) = Some tt
+got_of misshaped = None
 
 abbrev pub numbers_after : Reading → List ℤ → List ℤ
 numbers_after (numbers ns) old = ns
@@ -50,7 +46,7 @@ numbers_after misshaped old = old
 abbrev pub size : ℕ
 size = size_for S.Eclipse
 
-abbrev pub put_of : List ℤ → Answer
+abbrev pub put_of : List ℤ → Result Unit ℕ
 put_of = put_for S.Eclipse
 
 abbrev pub bytes_of : List ℤ → List ℕ

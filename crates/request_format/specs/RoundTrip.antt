@@ -1,12 +1,11 @@
 -- A request's numbers and its bytes, an eclipse's or a star's: each is recovered from the other.
-use Rattle.std.specs.Prelude.{◌≡◌, refl, List, [], ◌∷◌, ℕ, zero, suc, ◌+◌, ◌<◌, ℤ, pos, nat_abs, length, get_or}
+use Rattle.std.specs.Prelude.{◌≡◌, refl, List, [], ◌∷◌, ℕ, zero, suc, ◌+◌, ◌<◌, ℤ, pos, nat_abs, length, get_or, Ok}
 use Rattle.std.proofs.Math.Path.{sym}
 use Rattle.std.proofs.Common.{◌∙◌, arith}
 use Rattle.request_format.specs.declared.fields.Shape.{Shape}
 use Rattle.request_format.specs.declared.fields.Shape.TheVariants as S
 use Rattle.request_format.specs.Fields.{countOf}
 use Rattle.request_format.specs.laws.WidthLaws.{held, held-size, whole_small}
-use Rattle.request_format.specs.declared.bytes.Answer.TheVariants.{Done}
 use Rattle.request_format.specs.Layout.{Piece, kind, number, count_in, fitting, numbers}
 use Rattle.big_endian.specs.Numbers.{Bytes}
 use Rattle.request_format.specs.laws.LayoutLaws as Layouts
@@ -22,7 +21,7 @@ pub star-size-is : size_for S.Star ≡ 79
 star-size-is = refl
 
 -- numbers that fit are small
-fits_small : (l : List Piece) (k : ℕ) (ns : List ℤ) → length ns ≡ count_in l → fitting l k ns ≡ Done → (j : ℕ) → nat_abs (get_or ns j (pos 0)) < 4294967296
+fits_small : (l : List Piece) (k : ℕ) (ns : List ℤ) → length ns ≡ count_in l → fitting l k ns ≡ Ok tt → (j : ℕ) → nat_abs (get_or ns j (pos 0)) < 4294967296
 unfolding fitting
 fits_small l k [] c e j = omega arith
 fits_small [] k (z ∷ ns) c e j = absurd (omega arith)
@@ -38,7 +37,7 @@ module _ (shape : Shape) where
   bytes-length ns c = Layouts.length-bytes (pieces_for shape) ns (c ∙ pieces_count shape)
 
   -- numbers that are put are read back
-  pub read_back : (ns : List ℤ) → length ns ≡ countOf shape → put_for shape ns ≡ Done → reading_for shape (bytes_for shape ns) ≡ numbers ns
+  pub read_back : (ns : List ℤ) → length ns ≡ countOf shape → put_for shape ns ≡ Ok tt → reading_for shape (bytes_for shape ns) ≡ numbers ns
   unfolding put_for bytes_for reading_for
   read_back ns c e = Layouts.read_back (pieces_for shape) 0 ns (c ∙ pieces_count shape) e
 
@@ -48,7 +47,7 @@ module _ (shape : Shape) where
     written = Layouts.write_back (pieces_for shape) 0 s ns b e
 
     -- bytes that are read are those of their numbers, which fit
-    pub write_back : (length ns ≡ countOf shape) × (put_for shape ns ≡ Done) × (bytes_for shape ns ≡ s)
+    pub write_back : (length ns ≡ countOf shape) × (put_for shape ns ≡ Ok tt) × (bytes_for shape ns ≡ s)
     unfolding put_for bytes_for
     write_back = (written.count ∙ sym (pieces_count shape), written.fits, written.bytes)
 

@@ -21,27 +21,6 @@ pub fn length_of(shape: Shape) -> usize
     }
 }
 
-// Whether the numbers were put; or the first that its bytes do not hold, counted from 0.
-#[derive(Clone, Copy)]
-pub enum Answer {
-    Done,
-    Unfit(usize),
-}
-
-// Whether the bytes have the shape of a request's.
-#[derive(Clone, Copy)]
-pub enum Got {
-    Numbers,
-    Misshaped,
-}
-
-// The number of a field, and the place after it.
-#[derive(Clone, Copy)]
-enum Part {
-    Is(i64, usize),
-    Misshaped,
-}
-
 // ---- one number to bytes
 
 // A number in two's complement: below zero it stands for itself and `whole`, as many as its bytes tell apart.
@@ -91,52 +70,53 @@ fn put_field(out: &mut [u8], at: usize, field: Field, n: i64) -> usize
     start + crate::fields::bytes_in(width)
 }
 
-// The bytes of the numbers, as far as these fit.
-fn lay(shape: Shape, numbers: &[i64], out: &mut [u8]) -> Answer
+// The bytes of the numbers, as far as these fit; or the first that its bytes do not hold, counted from 0.
+fn lay(shape: Shape, numbers: &[i64], out: &mut [u8]) -> Result<(), usize>
     requires { (length numbers.now ≡ countOf shape) × (length out.old ≡ size_for shape) }
     ensures { Laid shape numbers.now result out.new }
 {
-    let count = crate::fields::count_of(shape);
     let mut at = 0;
-    let mut k = 0;
-    while k < count {
+    for (k, n) in numbers.iter().enumerate() {
         let field = crate::fields::field_at(shape, k);
-        let width = field.3;
-        let n = numbers[k];
-        let fits = crate::fields::holds(width, n);
-        if !fits {
-            return Answer::Unfit(k);
+        if !crate::fields::holds(field.3, *n) {
+            return Err(k);
         }
-        at = put_field(out, at, field, n);
-        k += 1;
+        at = put_field(out, at, field, *n);
     }
-    Answer::Done
+    Ok(())
 }
 
-// The bytes of an eclipse's numbers; or the first number that does not fit, and the bytes as they were. Any numbers.
-pub fn put(numbers: &[i64; COUNT], out: &mut [u8; LENGTH]) -> Answer
+// The bytes of a shape's numbers; or the first number that its bytes do not hold, and the bytes as they were.
+fn put_as<const N: usize, const BYTES: usize>(
+    shape: Shape,
+    numbers: &[i64; N],
+    out: &mut [u8; BYTES],
+) -> Result<(), usize>
+    requires { (N ≡ countOf shape) × (BYTES ≡ size_for shape) }
+    ensures answer { result ≡ put_for shape numbers.now }
+    ensures bytes { out.new ≡ after_for shape numbers.now out.old }
+{
+    let mut made = [0u8; BYTES];
+    lay(shape, numbers, &mut made)?;
+    *out = made;
+    Ok(())
+}
+
+// The bytes of an eclipse's numbers; or the first number that its bytes do not hold, counted from 0, and the bytes as
+// they were. Any numbers.
+pub fn put(numbers: &[i64; COUNT], out: &mut [u8; LENGTH]) -> Result<(), usize>
     ensures answer { result ≡ put_for Eclipse numbers.now }
     ensures bytes { out.new ≡ after_for Eclipse numbers.now out.old }
 {
-    let mut made = [0u8; LENGTH];
-    let answer = lay(Shape::Eclipse, numbers, &mut made);
-    if let Answer::Done = answer {
-        *out = made;
-    }
-    answer
+    put_as(Shape::Eclipse, numbers, out)
 }
 
 // The same of a star's.
-pub fn put_star(numbers: &[i64; STAR_COUNT], out: &mut [u8; STAR_LENGTH]) -> Answer
+pub fn put_star(numbers: &[i64; STAR_COUNT], out: &mut [u8; STAR_LENGTH]) -> Result<(), usize>
     ensures answer { result ≡ put_for Star numbers.now }
     ensures bytes { out.new ≡ after_for Star numbers.now out.old }
 {
-    let mut made = [0u8; STAR_LENGTH];
-    let answer = lay(Shape::Star, numbers, &mut made);
-    if let Answer::Done = answer {
-        *out = made;
-    }
-    answer
+    put_as(Shape::Star, numbers, out)
 }
 
 // ---- one number from bytes
@@ -185,8 +165,8 @@ fn after_kind(at: usize, kind: u8) -> usize
     if kind == 0 { at } else { at + 1 }
 }
 
-// The field at `at`.
-fn part_at(s: &[u8], at: usize, field: Field) -> Part
+// The number of the field at `at` and the place after it, if the field stands there.
+fn part_at(s: &[u8], at: usize, field: Field) -> Option<(i64, usize)>
     requires { at ≤ length s.now }
     ensures { result ≡ part_of field s.now at }
 {
@@ -194,63 +174,59 @@ fn part_at(s: &[u8], at: usize, field: Field) -> Part
     let width = field.3;
     let stands = kind_stands(s, at, kind);
     if !stands {
-        return Part::Misshaped;
+        return None;
     }
     let start = after_kind(at, kind);
     let next = start + crate::fields::bytes_in(width);
     if s.len() < next {
-        return Part::Misshaped;
+        return None;
     }
     let n = number_at(s, start, width);
-    Part::Is(n, next)
+    Some((n, next))
 }
 
-// The numbers of the bytes, as far as these are of the shape.
-fn read(shape: Shape, bytes: &[u8], found: &mut [i64]) -> Got
+// The numbers of the bytes, as far as these are of the shape; nothing where they are not.
+fn read(shape: Shape, bytes: &[u8], found: &mut [i64]) -> Option<()>
     requires { length found.old ≡ countOf shape }
     ensures { Read shape bytes.now result found.new }
 {
-    let count = crate::fields::count_of(shape);
     let mut at = 0;
-    let mut k = 0;
-    while k < count {
+    for (k, number) in found.iter_mut().enumerate() {
         let field = crate::fields::field_at(shape, k);
-        let part = part_at(bytes, at, field);
-        let Part::Is(n, next) = part else {
-            return Got::Misshaped;
-        };
-        found[k] = n;
+        let (n, next) = part_at(bytes, at, field)?;
+        *number = n;
         at = next;
-        k += 1;
     }
     if at != bytes.len() {
-        return Got::Misshaped;
+        return None;
     }
-    Got::Numbers
+    Some(())
+}
+
+// The numbers of a shape's bytes; or that these are not of the shape, and the numbers as they were.
+fn get_as<const N: usize>(shape: Shape, bytes: &[u8], out: &mut [i64; N]) -> Option<()>
+    requires { N ≡ countOf shape }
+    ensures answer { result ≡ got_of (reading_for shape bytes.now) }
+    ensures numbers { out.new ≡ numbers_after (reading_for shape bytes.now) out.old }
+{
+    let mut found = [0i64; N];
+    read(shape, bytes, &mut found)?;
+    *out = found;
+    Some(())
 }
 
 // The numbers of an eclipse's bytes; or that these are not of the shape, and the numbers as they were. Any bytes.
-pub fn get(bytes: &[u8], out: &mut [i64; COUNT]) -> Got
+pub fn get(bytes: &[u8], out: &mut [i64; COUNT]) -> Option<()>
     ensures answer { result ≡ got_of (reading_for Eclipse bytes.now) }
     ensures numbers { out.new ≡ numbers_after (reading_for Eclipse bytes.now) out.old }
 {
-    let mut found = [0i64; COUNT];
-    let got = read(Shape::Eclipse, bytes, &mut found);
-    if let Got::Numbers = got {
-        *out = found;
-    }
-    got
+    get_as(Shape::Eclipse, bytes, out)
 }
 
 // The same of a star's.
-pub fn get_star(bytes: &[u8], out: &mut [i64; STAR_COUNT]) -> Got
+pub fn get_star(bytes: &[u8], out: &mut [i64; STAR_COUNT]) -> Option<()>
     ensures answer { result ≡ got_of (reading_for Star bytes.now) }
     ensures numbers { out.new ≡ numbers_after (reading_for Star bytes.now) out.old }
 {
-    let mut found = [0i64; STAR_COUNT];
-    let got = read(Shape::Star, bytes, &mut found);
-    if let Got::Numbers = got {
-        *out = found;
-    }
-    got
+    get_as(Shape::Star, bytes, out)
 }

@@ -30,7 +30,8 @@ pub enum Width {
 }
 
 // A number of a request: its name as it is typed, with blanks after it, and how long it is; how many decimals one unit
-// has; its bytes; and the kind of the record that begins with it, or 0 where none does.
+// has; its bytes; and the kind of the record that begins with it, or 0 where none does. Its fields have no names, as
+// the definitions `row_of`, `name_of`, `decimals_of` and `width_of` of specs/Rows.antt read them.
 #[derive(Drop)]
 pub struct Field(pub [u8; 9], pub usize, pub usize, pub Width, pub u8);
 

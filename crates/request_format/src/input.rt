@@ -9,20 +9,6 @@ ghost use Rattle.request_format.specs.declared.fields.Shape.TheVariants.{Eclipse
 use requests::{Occultation, Request};
 use sheet_types::refusals::Refusal;
 
-// What the bytes of an eclipse hold, or the refusal of their shape.
-#[derive(Clone, Copy)]
-pub enum Input {
-    Is(Request),
-    Refused(Refusal),
-}
-
-// What a sheet is asked for, or the refusal of the bytes' shape.
-#[derive(Clone, Copy)]
-pub enum Asked {
-    Is(Occultation),
-    Refused(Refusal),
-}
-
 // ---- the request of its numbers
 
 // The station whose five numbers stand from place `at` on.
@@ -73,47 +59,35 @@ fn request_from(n: &[i64]) -> Request
 }
 
 // The request that the bytes hold, or refusal 10. Any bytes.
-pub fn request(input: &[u8]) -> Input
+pub fn request(input: &[u8]) -> Result<Request, Refusal>
     ensures { result ≡ input_of input.now }
 {
     let mut numbers = [0i64; crate::fields::COUNT];
-    let got = crate::bytes::get(input, &mut numbers);
-    match got {
-        crate::bytes::Got::Numbers => {
-            let q = request_from(&numbers);
-            Input::Is(q)
-        }
-        crate::bytes::Got::Misshaped => Input::Refused(Refusal {
-            number: 10,
-            place: 0,
-        }),
-    }
+    let misshaped = Refusal {
+        number: 10,
+        place: 0,
+    };
+    crate::bytes::get(input, &mut numbers).ok_or(misshaped)?;
+    Ok(request_from(&numbers))
 }
 
 // ---- what it asks for
 
-// What the bytes of an eclipse ask for.
-pub fn of_eclipse(input: Input) -> Asked
+// What the bytes of an eclipse ask for, or the refusal of their shape.
+pub fn of_eclipse(input: Result<Request, Refusal>) -> Result<Occultation, Refusal>
     ensures { result ≡ eclipse_asked input }
 {
-    match input {
-        Input::Is(q) => Asked::Is(requests::of_eclipse(q)),
-        Input::Refused(refusal) => Asked::Refused(refusal),
-    }
+    let q = input?;
+    Ok(requests::of_eclipse(q))
 }
 
 // The same, with a share asked for.
-pub fn with_share(asked: Input) -> Input
+pub fn with_share(asked: Result<Request, Refusal>) -> Result<Request, Refusal>
     ensures { result ≡ sharing asked }
 {
-    match asked {
-        Input::Is(q) => {
-            let mut wish = q;
-            wish.share = true;
-            Input::Is(wish)
-        }
-        Input::Refused(refusal) => Input::Refused(refusal),
-    }
+    let mut wish = asked?;
+    wish.share = true;
+    Ok(wish)
 }
 
 // ---- the station's ΔT, for those who print times
@@ -124,10 +98,10 @@ pub fn deltat(input: &[u8]) -> i64
 {
     let asked = request(input);
     match asked {
-        Input::Is(q) => {
+        Ok(q) => {
             let s = q.station;
             s.deltat
         }
-        Input::Refused(_) => 0,
+        Err(_) => 0,
     }
 }

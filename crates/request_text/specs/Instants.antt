@@ -1,6 +1,6 @@
 -- The instant that is typed: the date and time of second 0, and TAI less UTC. The table of docs/CLOCK.md, "The
 -- instant as it is typed".
-use Rattle.std.specs.Prelude.{ℕ, ◌+◌, ◌*◌, Bool, cond, ◌&&◌, ◌||◌, List, leb}
+use Rattle.std.specs.Prelude.{ℕ, ◌+◌, ◌*◌, Bool, cond, ◌&&◌, ◌||◌, List, leb, Option, Some, None}
 use Rattle.request_format.specs.Rows.{letters}
 use Rattle.tokens.specs.declared.Class.TheVariants as C
 use Rattle.tokens.specs.Text.{all_of}
@@ -9,8 +9,6 @@ use Rattle.calendar.specs.declared.Scale.{Scale}
 use Rattle.calendar.specs.declared.Scale.TheVariants as S
 use Rattle.calendar.specs.declared.Instant.{Instant}
 use Rattle.calendar.specs.Calendar.{is_day}
-use Rattle.request_text.specs.declared.instants.Reading.{Reading}
-use Rattle.request_text.specs.declared.instants.Reading.TheVariants as R
 use Rattle.request_text.specs.Forms.{has_form, two_at}
 
 -- ---- date, time and scale
@@ -41,21 +39,21 @@ instant_at date time scale =
     record { year = year_of date; month = two_at date 5; day = two_at date 8; hundredths = hundredths_of time; scale = scale; offset = 0 }
 
 -- "`ET`, ephemeris time .., or `UT`, universal time"
-unfoldable pub in_scale : List ℕ → List ℕ → List ℕ → Reading
+unfoldable pub in_scale : List ℕ → List ℕ → List ℕ → Option Instant
 in_scale date time w =
-    cond (has_form (letters "ET") w) (R.Is (instant_at date time S.Ephemeris))
-    (cond (has_form (letters "UT") w) (R.Is (instant_at date time S.Universal)) R.Malformed)
+    cond (has_form (letters "ET") w) (Some (instant_at date time S.Ephemeris))
+    (cond (has_form (letters "UT") w) (Some (instant_at date time S.Universal)) None)
 
 -- "blanks alone behind"
-unfoldable pub scaled : List ℕ → List ℕ → List ℕ → Reading
-scaled date time s = cond (all_of C.Blank (after_word s)) (in_scale date time (word_in s)) R.Malformed
+unfoldable pub scaled : List ℕ → List ℕ → List ℕ → Option Instant
+scaled date time s = cond (all_of C.Blank (after_word s)) (in_scale date time (word_in s)) None
 
-unfoldable pub timed : List ℕ → List ℕ → Reading
-timed date s = cond (is_time (word_in s)) (scaled date (word_in s) (after_word s)) R.Malformed
+unfoldable pub timed : List ℕ → List ℕ → Option Instant
+timed date s = cond (is_time (word_in s)) (scaled date (word_in s) (after_word s)) None
 
 -- "after the name and blanks stand, with blanks between them": date, time, scale
-unfoldable pub instant_of : List ℕ → Reading
-instant_of s = cond (is_date (word_in s)) (timed (word_in s) (after_word s)) R.Malformed
+unfoldable pub instant_of : List ℕ → Option Instant
+instant_of s = cond (is_date (word_in s)) (timed (word_in s) (after_word s)) None
 
 -- ---- TAI less UTC
 

@@ -1,4 +1,5 @@
 pub mod Names
+pub mod TextLines
 pub mod Lines
 pub mod Shapes
 pub mod Typing

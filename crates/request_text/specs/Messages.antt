@@ -5,7 +5,6 @@ use Rattle.request_format.specs.Rows.{rowAt, name_of}
 use Rattle.tokens.specs.declared.Class.TheVariants as C
 use Rattle.tokens.specs.Text.{run_of, lines_of}
 use Rattle.request_text.specs.declared.Fault.{Fault}
-use Rattle.request_text.specs.declared.Fault.TheVariants as Fault
 use Rattle.request_text.specs.Lines.{said}
 use Rattle.decimal_text.specs.Decimals.{decimal}
 use Rattle.decimal_text.specs.Texts.{letters}

@@ -1,16 +1,13 @@
 -- What a typed text is for the code that reads it: a request, or the reason why it is none. The message of a reason is
 -- that of `Meaning`.
-use Rattle.std.specs.Prelude.{ℕ, cond, List, ltb}
+use Rattle.std.specs.Prelude.{ℕ, cond, List, ltb, Result, Ok, Err, Option}
+use Rattle.request_text.specs.declared.instants.Wrong.{Wrong}
+use Rattle.calendar.specs.declared.Instant.{Instant}
+use Rattle.request_text.specs.declared.Fault.{Fault}
 use Rattle.request_format.specs.Request.{size_for}
 use Rattle.decimal_text.specs.Texts.{letters}
-use Rattle.request_text.specs.declared.Typed.{Typed}
-use Rattle.request_text.specs.declared.Typed.TheVariants as Typed
-use Rattle.request_text.specs.declared.instants.Told.{Told}
-use Rattle.request_text.specs.declared.instants.Told.TheVariants as T
 use Rattle.request_text.specs.declared.typed_requests.Reason.{Reason}
 use Rattle.request_text.specs.declared.typed_requests.Reason.TheVariants as R
-use Rattle.request_text.specs.declared.typed_requests.Outcome.{Outcome}
-use Rattle.request_text.specs.declared.typed_requests.Outcome.TheVariants as O
 use Rattle.request_text.specs.Shapes.{shape_of}
 use Rattle.request_text.specs.Typing.{typing_of, answer_of}
 use Rattle.request_text.specs.Told.{told_in}
@@ -19,15 +16,15 @@ use Rattle.request_text.specs.TypedMessages.{instant_message}
 use Rattle.request_text.specs.Meaning.{tooLong}
 
 -- by what its lines say of the numbers and of the instant: the first invalid line decides
-abbrev pub first_of : ℕ → Typed → Told → Outcome
-first_of n Typed.Numbers (T.Is x) = O.Request n x
-first_of n Typed.Numbers (T.Refused j wrong) = O.Refused (R.Instant j wrong)
-first_of n (Typed.Refused i fault) (T.Is x) = O.Refused (R.Number i fault)
-first_of n (Typed.Refused i fault) (T.Refused j wrong) = cond (ltb j i) (O.Refused (R.Instant j wrong)) (O.Refused (R.Number i fault))
+abbrev pub first_of : ℕ → Result Unit (ℕ × Fault) → Result (Option Instant) (ℕ × Wrong) → Result (ℕ × Option Instant) Reason
+first_of n (Ok tt) (Ok x) = Ok (n, x)
+first_of n (Ok tt) (Err (j, wrong)) = Err (R.Instant j wrong)
+first_of n (Err (i, fault)) (Ok x) = Err (R.Number i fault)
+first_of n (Err (i, fault)) (Err (j, wrong)) = cond (ltb j i) (Err (R.Instant j wrong)) (Err (R.Number i fault))
 
-unfoldable pub outcome_of : List ℕ → Outcome
+unfoldable pub outcome_of : List ℕ → Result (ℕ × Option Instant) Reason
 outcome_of text =
-    cond (tooLong text) (O.Refused R.TooLong)
+    cond (tooLong text) (Err R.TooLong)
     (first_of (size_for (shape_of text)) (answer_of (typing_of (shape_of text) text)) (told_in text))
 
 -- the line that a reason names

@@ -1,7 +1,9 @@
 pub mod NameLaws
+pub mod TextLineLaws
 pub mod LineLaws
 pub mod ShapeLaws
 pub mod TypingLaws
+pub mod TypingPlaces
 pub mod FitLaws
 pub mod OneShape
 pub mod Beside

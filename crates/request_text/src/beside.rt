@@ -3,7 +3,7 @@
 ghost use Rattle.std.specs.Prelude.{◌≡◌};
 ghost use Rattle.request_text.specs.Lines.{names_instant, names_offset, names_clock, number_in};
 
-use super::Line;
+use crate::Fault;
 use request_format::fields::Shape;
 
 // Whether a line names the instant.
@@ -29,11 +29,11 @@ fn names_clock(line: &[u8]) -> bool
 }
 
 // The number that a line gives, or its fault.
-pub fn number_in(shape: Shape, line: &[u8]) -> Line
+pub fn number_in(shape: Shape, line: &[u8]) -> Result<Option<(usize, i64)>, Fault>
     ensures { result ≡ number_in shape line.now }
 {
     if names_clock(line) {
-        return Line::Nothing;
+        return Ok(None);
     }
     super::meaning(shape, line)
 }

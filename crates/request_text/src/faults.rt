@@ -4,7 +4,7 @@ ghost use Rattle.std.specs.Prelude.{◌≡◌, ◌++◌};
 ghost use Rattle.decimal_text.specs.Texts.{letters, Put};
 ghost use Rattle.request_text.specs.Messages.{line_of, word_of, name_at, fault_text, message_of};
 
-use crate::Fault;
+use crate::{Fault, lines};
 use request_format::fields::Shape;
 use tokens::Class;
 
@@ -34,18 +34,9 @@ fn put_of(out: &mut [u8], at: usize, shape: Shape, field: usize, wrong: &[u8]) -
 fn line_of(text: &[u8], line: usize) -> &[u8]
     ensures { result.now ≡ line_of text.now line }
 {
-    let mut left = line;
-    let mut start = 0;
-    while start < text.len() {
-        let length = tokens::run(&text[start..], Class::Line);
-        let end = start + length;
-        if left <= 1 {
-            return &text[start..end];
-        }
-        left -= 1;
-        start = end + 1;
-    }
-    &text[..0]
+    lines::of(text)
+        .nth(line.saturating_sub(1))
+        .unwrap_or(&text[..0])
 }
 
 // A name that no field has: the first word of a line.

@@ -7,16 +7,8 @@ ghost use Rattle.std.specs.Prelude.{◌≡◌};
 ghost use Rattle.request_text.specs.Lines.{word_in, after_word};
 ghost use Rattle.request_text.specs.Instants.{year_of, is_date, time_form, is_time, hundredths_of, instant_at, in_scale, instant_of, seconds_in};
 
-use calendar::{Instant, Reference, Scale};
+use calendar::{Instant, Scale};
 use tokens::Class;
-
-// What words are read as.
-#[derive(Clone, Copy)]
-pub enum Reading {
-    Is(Instant),
-    // no date and time
-    Malformed,
-}
 
 // Why a line that names the instant or TAI-UTC is refused.
 #[derive(Clone, Copy)]
@@ -31,21 +23,6 @@ pub enum Wrong {
     OffsetTwice,
     // the text has no instant, or one before 1972
     NeedsInstant,
-}
-
-// What a text says of TAI-UTC: nothing; the line, counted from 1, and the seconds; or the first line at fault.
-#[derive(Clone, Copy)]
-pub enum Offset {
-    None,
-    Is(usize, u64),
-    Refused(usize, Wrong),
-}
-
-// What a text says of the instant: one or none; or the first line at fault, counted from 1, and the fault.
-#[derive(Clone, Copy)]
-pub enum Told {
-    Is(Reference),
-    Refused(usize, Wrong),
 }
 
 // ---- date, time and scale
@@ -135,20 +112,20 @@ fn instant_at(date: &[u8], time: &[u8], scale: Scale) -> Instant
 }
 
 // An instant by the word of its scale.
-fn in_scale(date: &[u8], time: &[u8], word: &[u8]) -> Reading
+fn in_scale(date: &[u8], time: &[u8], word: &[u8]) -> Option<Instant>
     ensures { result ≡ in_scale date.now time.now word.now }
 {
     if forms::has_form(word, b"ET") {
-        return Reading::Is(instant_at(date, time, Scale::Ephemeris));
+        return Some(instant_at(date, time, Scale::Ephemeris));
     }
     if forms::has_form(word, b"UT") {
-        return Reading::Is(instant_at(date, time, Scale::Universal));
+        return Some(instant_at(date, time, Scale::Universal));
     }
-    Reading::Malformed
+    None
 }
 
 // The instant that words are: `2017-08-21 18:00:00 ET`, and blanks alone behind.
-pub fn read(s: &[u8]) -> Reading
+pub fn read(s: &[u8]) -> Option<Instant>
     ensures { result ≡ instant_of s.now }
 {
     let date = word_in(s);
@@ -158,7 +135,7 @@ pub fn read(s: &[u8]) -> Reading
     let bare = tokens::all(after_word(scaled), Class::Blank);
     let right = is_date(date) & is_time(time) & bare;
     if !right {
-        return Reading::Malformed;
+        return None;
     }
     in_scale(date, time, word_in(scaled))
 }

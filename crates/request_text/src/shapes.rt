@@ -5,8 +5,8 @@ ghost use Rattle.request_text.specs.Names.{named};
 ghost use Rattle.request_text.specs.Lines.{said};
 ghost use Rattle.request_text.specs.Shapes.{shape_of};
 
+use crate::lines;
 use request_format::fields::Shape;
-use tokens::Class;
 
 // Whether a line names the radius.
 fn names_radius(line: &[u8]) -> bool
@@ -19,14 +19,9 @@ fn names_radius(line: &[u8]) -> bool
 pub fn shape_of(text: &[u8]) -> Shape
     ensures { result ≡ shape_of text.now }
 {
-    let mut at = 0;
-    while at < text.len() {
-        let length = tokens::run(&text[at..], Class::Line);
-        let end = at + length;
-        if names_radius(&text[at..end]) {
-            return Shape::Star;
-        }
-        at = end + 1;
+    if lines::of(text).any(names_radius) {
+        Shape::Star
+    } else {
+        Shape::Eclipse
     }
-    Shape::Eclipse
 }

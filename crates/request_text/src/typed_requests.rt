@@ -9,22 +9,13 @@ ghost use Rattle.request_text.specs.Meaning.{meaning_of, answer_of, bytesAfter, 
 ghost use Rattle.decimal_text.specs.Texts.{Put};
 ghost use Rattle.request_text.specs.Outcomes.{first_of, outcome_of, line_of, reason_text};
 
-use crate::instants::{Told, Wrong};
-use crate::{Fault, Typed};
-use calendar::Reference;
+use crate::Fault;
+use crate::instants::Wrong;
+use calendar::Instant;
 use request_format::fields::LENGTH;
 
 // No message is longer: its word is a part of the text.
 pub const MESSAGE: usize = 65_623;
-
-// What a text is.
-#[derive(Clone, Copy)]
-pub enum Answer {
-    // a request of so many bytes, and its instant, if it has one
-    Request(usize, Reference),
-    // refused, with a message of so many bytes
-    Refused(usize),
-}
 
 // Why a text is no request.
 #[derive(Clone, Copy)]
@@ -37,52 +28,40 @@ pub enum Reason {
     Instant(usize, Wrong),
 }
 
-// What a text is: a request of so many bytes and its instant, if it has one; or the first reason why it is none.
-#[derive(Clone, Copy)]
-pub enum Outcome {
-    Request(usize, Reference),
-    Refused(Reason),
-}
-
 // The outcome for a request of `size` bytes: the first invalid line decides.
-fn first_of(size: usize, typed: Typed, told: Told) -> Outcome
+fn first_of(
+    size: usize,
+    typed: Result<(), (usize, Fault)>,
+    told: Result<Option<Instant>, (usize, Wrong)>,
+) -> Result<(usize, Option<Instant>), Reason>
     ensures { result ≡ first_of size typed told }
 {
-    match typed {
-        Typed::Numbers => match told {
-            Told::Is(reference) => Outcome::Request(size, reference),
-            Told::Refused(line, wrong) => Outcome::Refused(Reason::Instant(line, wrong)),
-        },
-        Typed::Refused(number, fault) => match told {
-            Told::Is(_) => Outcome::Refused(Reason::Number(number, fault)),
-            Told::Refused(line, wrong) => {
-                if line < number {
-                    return Outcome::Refused(Reason::Instant(line, wrong));
-                }
-                Outcome::Refused(Reason::Number(number, fault))
-            }
-        },
+    match (typed, told) {
+        (Ok(()), Ok(reference)) => Ok((size, reference)),
+        (Err((number, fault)), Ok(_)) => Err(Reason::Number(number, fault)),
+        (Err((number, fault)), Err((line, _))) if number <= line => {
+            Err(Reason::Number(number, fault))
+        }
+        (_, Err((line, wrong))) => Err(Reason::Instant(line, wrong)),
     }
 }
 
 // The bytes of the request that a text is, at the start of `out`; or the reason why it is none, and `out` unchanged.
-pub fn ask(text: &[u8], out: &mut [u8; LENGTH]) -> Outcome
+pub fn ask(text: &[u8], out: &mut [u8; LENGTH]) -> Result<(usize, Option<Instant>), Reason>
     ensures outcome { result ≡ outcome_of text.now }
     ensures bytes { out.new ≡ bytesAfter (meaning_of text.now) out.old }
 {
     if 65536 < text.len() {
-        return Outcome::Refused(Reason::TooLong);
+        return Err(Reason::TooLong);
     }
     let shape = crate::shapes::shape_of(text);
     let mut made = *out;
     let typed = encoding::encode(shape, text, &mut made);
     let told = crate::instants::texts::told_in(text);
     let size = request_format::bytes::length_of(shape);
-    let outcome = first_of(size, typed, told);
-    if let Outcome::Request(_, _) = outcome {
-        *out = made;
-    }
-    outcome
+    let request = first_of(size, typed, told)?;
+    *out = made;
+    Ok(request)
 }
 
 // The line that a reason names; 0 for a text that is too long.
@@ -115,17 +94,22 @@ pub fn put_reason(out: &mut [u8], at: usize, text: &[u8], reason: Reason) -> usi
 
 // The bytes of the request that a text is, at the start of `out`, with its instant; or the message of its first fault,
 // at the start of `message`.
-pub fn read(text: &[u8], out: &mut [u8; LENGTH], message: &mut [u8; MESSAGE]) -> Answer
+pub fn read(
+    text: &[u8],
+    out: &mut [u8; LENGTH],
+    message: &mut [u8; MESSAGE],
+) -> Result<(usize, Option<Instant>), usize>
     ensures answer { result ≡ answer_of (meaning_of text.now) }
     ensures bytes { out.new ≡ bytesAfter (meaning_of text.now) out.old }
     ensures message { message.new ≡ message_after (meaning_of text.now) message.old }
 {
     let outcome = ask(text, out);
+    // no `map_err`: what its closure stores in the lent buffer is not known after it
     match outcome {
-        Outcome::Request(size, reference) => Answer::Request(size, reference),
-        Outcome::Refused(reason) => {
+        Ok(request) => Ok(request),
+        Err(reason) => {
             let end = put_reason(message, 0, text, reason);
-            Answer::Refused(end)
+            Err(end)
         }
     }
 }

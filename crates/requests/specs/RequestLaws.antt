@@ -1,21 +1,17 @@
 -- What callers use of a request within its limits.
---   in-limits                what `Within` says of its window, its guard, its elements and its station
+--   in-limits                what `Ok` says of its window, its guard, its elements and its station
 --   guard-is, guard_size     a guard in its range
 --   never-room               the numbers raise no 4
 --   checked-order            a check's parts in their order
 --   checked-window, checked-guard, checked-element, checked-station   the ways of a check
-use Rattle.std.specs.Prelude.{◌≡◌, Bool, true, false, cond, not, ℕ, ◌≤◌, ℤ, pos, nat_abs, ◌≤ℤ◌}
+use Rattle.std.specs.Prelude.{◌≡◌, Bool, true, false, cond, not, ℕ, ◌≤◌, ℤ, pos, nat_abs, ◌≤ℤ◌, Ok, Err, Result, Option, None, Some}
 use Rattle.std.proofs.Math.Path.{refl}
 use Rattle.std.proofs.Common.{sym, arith}
 use Rattle.std.specs.Int.Signed.{le_z, le_z_yes}
 use Rattle.rounding.specs.Parts.{same}
 use Rattle.rounding.specs.laws.Order.{≤-parts, ≤ℤ_trans, le_z_true, nat_abs_parts, nat_abs_between, nonneg}
 use Rattle.rounding.specs.laws.Tests.{both}
-use Rattle.rounding.specs.declared.Limits.{Limits}
-use Rattle.rounding.specs.declared.Limits.TheVariants.{InRange, OutOfRange}
 use Rattle.sheet_types.specs.declared.refusals.Refusal.{Refusal}
-use Rattle.sheet_types.specs.declared.refusals.Checked.{Checked}
-use Rattle.sheet_types.specs.declared.refusals.Checked.TheVariants as C
 use Rattle.sheet_types.specs.Refusals.{refusal, of_limits, andThen}
 use Rattle.sheet_types.specs.laws.RefusalLaws.{not_within, of_limits_within, both-within, number_in, refused_number}
 use Rattle.elements.specs.declared.Body.{Body}
@@ -55,11 +51,11 @@ pub record InLimits (o : Occultation) : Type 0 where
   pub station : StationSizes o.station
 
 -- a test that refuses nothing
-held : (b : Bool) (r : Refusal) → cond b C.Within (C.Refused r) ≡ C.Within → b ≡ true
+held : (b : Bool) (r : Refusal) → ◌≡◌ {A = Result Unit Refusal} (cond b (Ok tt) (Err r)) (Ok tt) → b ≡ true
 held true r e = refl
 held false r e = absurd (not_within e)
 
-pub in-limits : (o : Occultation) → checked o ≡ C.Within → InLimits o
+pub in-limits : (o : Occultation) → checked o ≡ Ok tt → InLimits o
 unfolding checked
 in-limits o e =
     let after-window = both-within (window_checked o.window) _ e in
@@ -73,20 +69,20 @@ in-limits o e =
     }
 
 -- ---- a check that never gives 4
-abbrev NeverFour : Checked → Type 0
+abbrev NeverFour : Result Unit Refusal → Type 0
 NeverFour c = number_in c ≡ 4 → ⊥
 
-both-never : (c d : Checked) → NeverFour c → NeverFour d → NeverFour (andThen c d)
-both-never C.Within d f g = g
-both-never (C.Refused r) d f g = f
+both-never : (c d : Result Unit Refusal) → NeverFour c → NeverFour d → NeverFour (andThen c d)
+both-never (Ok tt) d f g = g
+both-never (Err r) d f g = f
 
-test_never : (b : Bool) (r : Refusal) → (r.number ≡ 4 → ⊥) → NeverFour (cond b C.Within (C.Refused r))
+test_never : (b : Bool) (r : Refusal) → (r.number ≡ 4 → ⊥) → NeverFour (cond b (Ok tt) (Err r))
 test_never true r f = λ h. omega arith
 test_never false r f = f
 
-limits_never : (n : ℕ) (l : Limits) → (n ≡ 4 → ⊥) → NeverFour (of_limits n l)
-limits_never n InRange f = λ h. omega arith
-limits_never n (OutOfRange k) f = f
+limits_never : (n : ℕ) (l : Option ℕ) → (n ≡ 4 → ⊥) → NeverFour (of_limits n l)
+limits_never n None f = λ h. omega arith
+limits_never n (Some k) f = f
 
 body-never : (b : Body) → NeverFour (body_checked b)
 body-never (B.Sun e) = limits_never 2 (E.range_of e) (λ h. omega arith)
@@ -109,26 +105,26 @@ module _ (o : Occultation) where
   unfolding checked
   checked-order = refl
 
-  pub checked-window : window_holds o.window ≡ false → checked o ≡ C.Refused (refusal 1 0)
+  pub checked-window : window_holds o.window ≡ false → checked o ≡ Err (refusal 1 0)
   unfolding checked
   checked-window eb = rw eb
 
   module _ (eb : window_holds o.window ≡ true) where
-    pub checked-guard : guard_holds o.guard ≡ false → checked o ≡ C.Refused (refusal 1 1)
+    pub checked-guard : guard_holds o.guard ≡ false → checked o ≡ Err (refusal 1 1)
     unfolding checked
     checked-guard eg = rw (eb, eg)
 
     module _ (eg : guard_holds o.guard ≡ true) where
-      pub checked-element : {r : Refusal} → body_checked o.body ≡ C.Refused r → checked o ≡ C.Refused r
+      pub checked-element : {r : Refusal} → body_checked o.body ≡ Err r → checked o ≡ Err r
       unfolding checked
       checked-element ex = rw (eb, eg, ex)
 
-      pub checked-station : body_checked o.body ≡ C.Within → checked o ≡ station_checked o.station
+      pub checked-station : body_checked o.body ≡ Ok tt → checked o ≡ station_checked o.station
       unfolding checked
       checked-station ex = rw (eb, eg, ex)
 
   -- the numbers raise 1, 2, 13 or 3, and no 4
-  pub never-room : (r : Refusal) → checked o ≡ C.Refused r → r.number ≡ 4 → ⊥
+  pub never-room : (r : Refusal) → checked o ≡ Err r → r.number ≡ 4 → ⊥
   unfolding checked
   never-room r e four =
       let b = o.body in

@@ -11,7 +11,7 @@ ghost use Rattle.requests.specs.Shares.{sharing};
 
 use crate::windows::Window;
 use elements::Body;
-use sheet_types::refusals::{Checked, Refusal};
+use sheet_types::refusals::Refusal;
 
 // What the sheet of an eclipse is asked for: any numbers.
 #[derive(Clone, Copy)]
@@ -46,6 +46,7 @@ pub struct Occultation {
     pub share: bool,
 }
 
+// A function and no `From`: other crates' definitions and proofs name it, as they name `of_star`.
 pub fn of_eclipse(q: Request) -> Occultation
     ensures { result ≡ of_eclipse q }
 {
@@ -96,13 +97,13 @@ fn guard_holds(g: i64) -> bool
 }
 
 // Whether it is within its limits, or the first of its refusals 1, 2, 13, 3.
-pub fn check(o: Occultation) -> Checked
+pub fn check(o: Occultation) -> Result<(), Refusal>
     ensures { result ≡ checked o }
 {
     let w = o.window;
     let holds = crate::windows::window_holds(w);
     if !holds {
-        return Checked::Refused(Refusal {
+        return Err(Refusal {
             number: 1,
             place: 0,
         });
@@ -110,16 +111,13 @@ pub fn check(o: Occultation) -> Checked
     let g = o.guard;
     let guarded = guard_holds(g);
     if !guarded {
-        return Checked::Refused(Refusal {
+        return Err(Refusal {
             number: 1,
             place: 1,
         });
     }
     let body = o.body;
-    let of_elements = elements::stars::check_body(body);
-    if let Checked::Refused(refusal) = of_elements {
-        return Checked::Refused(refusal);
-    }
+    elements::stars::check_body(body)?;
     let s = o.station;
     station::check(s)
 }

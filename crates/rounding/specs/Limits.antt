@@ -1,8 +1,6 @@
 -- Ranges: the first of several numbers that is out of its own.
-use Rattle.std.specs.Prelude.{Bool, cond, ◌||◌, List, [], ◌∷◌, ℕ, suc, ℤ, pos, neg_ℤ, ◌≤ℤ◌}
+use Rattle.std.specs.Prelude.{Bool, cond, ◌||◌, List, [], ◌∷◌, ℕ, suc, ℤ, pos, neg_ℤ, ◌≤ℤ◌, Option, None, Some}
 use Rattle.std.specs.Int.Signed.{lt_z}
-use Rattle.rounding.specs.declared.Limits.{Limits}
-use Rattle.rounding.specs.declared.Limits.TheVariants.{InRange, OutOfRange}
 
 -- a row of a table of ranges: a number, and the lowest and the highest that it may be
 pub record Row : Type 0 where
@@ -22,10 +20,10 @@ x ± n = row x (neg_ℤ (pos n)) (pos n)
 abbrev pub out_of_range : Row → Bool
 out_of_range r = lt_z r.value r.low || lt_z r.high r.value
 
--- the first row whose number is out of its range, by its place counted from i; `InRange` where there is none
-unfoldable pub first_out_of_range : ℕ → List Row → Limits
-first_out_of_range i [] = InRange
-first_out_of_range i (r ∷ rs) = cond (out_of_range r) (OutOfRange i) (first_out_of_range (suc i) rs)
+-- the first row whose number is out of its range, by its place counted from i; `None` where there is none
+unfoldable pub first_out_of_range : ℕ → List Row → Option ℕ
+first_out_of_range i [] = None
+first_out_of_range i (r ∷ rs) = cond (out_of_range r) (Some i) (first_out_of_range (suc i) rs)
 
 -- each number is in its range
 abbrev pub EachInRange : List Row → Type 0

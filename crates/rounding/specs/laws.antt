@@ -8,4 +8,5 @@ pub mod Stores
 pub mod RootLaws
 pub mod Code
 pub mod LimitsLaws
+pub mod Results
 pub mod Examples

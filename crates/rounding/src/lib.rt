@@ -5,7 +5,7 @@
 pub mod roots;
 
 ghost use Rattle.std.specs.Prelude.{◌≡◌, ◌≤◌, ◌<◌, pos, nat_abs, ◌≤ℤ◌, length};
-ghost use Rattle.rounding.specs.Units.{one, hour};
+ghost use Rattle.rounding.specs.Units.{one};
 ghost use Rattle.rounding.specs.Near.{near};
 ghost use Rattle.rounding.specs.Root.{root};
 ghost use Rattle.rounding.specs.Limits.{first_out_of_range, rows};
@@ -25,7 +25,8 @@ pub fn near(n: i64, k: i64) -> i64
     }
 }
 
-// The same where nothing is negative.
+// The same where nothing is negative. It is no instance of a generic `near`: its one division takes a larger k, and its
+// numbers are of another type.
 pub fn near_unsigned(n: u64, k: u64) -> u64
     requires { (n ≤ 4000000000000000000) × (k ≤ 1000000000000000000) × (0 < k) }
     ensures { pos result ≡ near (pos n) (pos k) }
@@ -35,7 +36,8 @@ pub fn near_unsigned(n: u64, k: u64) -> u64
     a / b
 }
 
-// near over 10^8: a product of two numbers in units, in units again.
+// near over 10^8: a product of two numbers in units, in units again. A const parameter for k would move k, and the
+// limit of n that goes with it, to every caller.
 pub fn near_unit(n: i64) -> i64
     requires { nat_abs n ≤ 1000000000000000000 }
     ensures { result ≡ near n one }
@@ -43,20 +45,11 @@ pub fn near_unit(n: i64) -> i64
     near(n, 100_000_000)
 }
 
-// near over 3600: a number per hour times seconds.
-pub fn near_hour(n: i64) -> i64
-    requires { nat_abs n ≤ 36000000000000000 }
-    ensures { result ≡ near n hour }
-{
-    near(n, 3600)
-}
-
 // The largest whole number whose square is at most n.
 pub fn root(n: u64) -> u64
     ensures { result ≡ root n }
 {
-    let found = roots::root_and_rounds(n);
-    found.root
+    roots::root_and_rounds(n).root
 }
 
 // The size of x: its distance from 0.
@@ -64,33 +57,18 @@ pub fn abs(x: i64) -> i64
     requires { nat_abs x ≤ 9223372036854775807 }
     ensures { result ≡ pos (nat_abs x) }
 {
-    if x < 0 { -x } else { x }
-}
-
-// Whether each of several numbers is in its range, or the place of the first that is not, counted from 0.
-#[derive(Clone, Copy)]
-pub enum Limits {
-    InRange,
-    OutOfRange(usize),
+    x.abs()
 }
 
 // The first of the values that is below its low or above its high.
-pub fn first_out_of_range(values: &[i64], lows: &[i64], highs: &[i64]) -> Limits
+pub fn first_out_of_range(values: &[i64], lows: &[i64], highs: &[i64]) -> Option<usize>
     requires { (length lows.now ≡ length values.now) × (length highs.now ≡ length values.now) }
     ensures { result ≡ first_out_of_range 0 (rows values.now lows.now highs.now) }
 {
-    let mut i = 0;
-    while i < values.len() {
-        let x = values[i];
-        let low = lows[i];
-        let high = highs[i];
-        if x < low {
-            return Limits::OutOfRange(i);
+    for (i, &x) in values.iter().enumerate() {
+        if x < lows[i] || highs[i] < x {
+            return Some(i);
         }
-        if high < x {
-            return Limits::OutOfRange(i);
-        }
-        i += 1;
     }
-    Limits::InRange
+    None
 }

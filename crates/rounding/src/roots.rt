@@ -42,12 +42,12 @@ pub fn root_and_rounds(n: u64) -> Root
     ensures { Reported n result.root result.rounds }
 {
     let rounds = (65 - u64::leading_zeros(n)) / 2;
-    let mut i = rounds;
     let mut held = Held { root: 0, rest: 0 };
-    while 0 < i {
-        i -= 1;
+    for i in (0..rounds).rev() {
         held = round(n, i, held);
     }
-    let root = held.root;
-    Root { root, rounds }
+    Root {
+        root: held.root,
+        rounds,
+    }
 }

@@ -19,12 +19,10 @@ ghost use Rattle.std.specs.Prelude.{◌≡◌, true, ◌+◌, ◌*◌, ◌≤◌
 ghost use Rattle.run_length.specs.Runs.{decoded, Whole};
 ghost use Rattle.station.specs.Sizes.{StationSizes};
 
-use binary64::{Longitude, Reading};
+use binary64::{Longitude, NotUnits};
+use contacts::Cursor;
 use contacts::entries::Entry;
-use contacts::{Cursor, Next};
-use request_format::input::Input;
-use seconds::OneSecond;
-use sheet_types::refusals::{Checked, Refusal};
+use sheet_types::refusals::Refusal;
 use station::Station;
 use std::io;
 
@@ -126,8 +124,8 @@ fn print_station(rt: &impl Print, bytes: &[u8]) -> io::Result<()> {
     };
     let checked = station::check(station);
     match checked {
-        Checked::Within => print_place(rt, station),
-        Checked::Refused(_) => {
+        Ok(()) => print_place(rt, station),
+        Err(_) => {
             let numbers = [latitude, height];
             print(rt, b"# # refused\n", &numbers)
         }
@@ -148,10 +146,10 @@ fn print_second(rt: &impl Print, second: shadow::Second) -> io::Result<()> {
     print(rt, b"# # # # # # # #\n", &numbers)
 }
 
-fn print_answer(rt: &impl Print, answer: OneSecond) -> io::Result<()> {
+fn print_answer(rt: &impl Print, answer: Result<shadow::Second, Refusal>) -> io::Result<()> {
     match answer {
-        OneSecond::Is(second) => print_second(rt, second),
-        OneSecond::Refused(refusal) => print_refusal(rt, refusal),
+        Ok(second) => print_second(rt, second),
+        Err(refusal) => print_refusal(rt, refusal),
     }
 }
 
@@ -159,13 +157,13 @@ fn print_answer(rt: &impl Print, answer: OneSecond) -> io::Result<()> {
 fn print_request(rt: &impl Print, bytes: &[u8]) -> io::Result<()> {
     let asked = request_format::input::request(bytes);
     match asked {
-        Input::Is(q) => {
+        Ok(q) => {
             let w = q.window;
             let o = requests::of_eclipse(q);
             let mut sines = [0u32; 901];
             print_answer(rt, seconds::second(o, w.first, &mut sines))
         }
-        Input::Refused(refusal) => print_refusal(rt, refusal),
+        Err(refusal) => print_refusal(rt, refusal),
     }
 }
 
@@ -202,8 +200,8 @@ fn print_fit(rt: &impl Print, bytes: &[u8]) -> io::Result<()> {
     ];
     let answer = fits::fit(&coefficients, &tabulated, number_at(bytes, 11));
     match answer {
-        fits::Answer::Accepted => print_text(rt, b"accepted\n"),
-        fits::Answer::Refused(refusal) => print_refusal(rt, refusal),
+        Ok(()) => print_text(rt, b"accepted\n"),
+        Err(refusal) => print_refusal(rt, refusal),
     }
 }
 
@@ -219,14 +217,14 @@ fn double_of(bits: u64) -> f64 {
     zero / zero
 }
 
-fn print_reading(rt: &impl Print, reading: Reading, end: &[u8]) -> io::Result<()> {
+fn print_reading(rt: &impl Print, reading: Result<i64, NotUnits>, end: &[u8]) -> io::Result<()> {
     match reading {
-        Reading::Units(unit) => {
+        Ok(unit) => {
             let numbers = [unit];
             print(rt, b"#", &numbers)?
         }
-        Reading::TooLarge => print_text(rt, b"large")?,
-        Reading::NotFinite => print_text(rt, b"none")?,
+        Err(NotUnits::TooLarge) => print_text(rt, b"large")?,
+        Err(NotUnits::NotFinite) => print_text(rt, b"none")?,
     }
     print_text(rt, end)
 }
@@ -250,13 +248,11 @@ fn print_state(rt: &impl Print, state: u8) -> io::Result<()> {
 fn print_states(rt: &impl Print, bytes: &[u8]) -> io::Result<bool>
     ensures { IfOk result (λ are. are ≡ true → Whole bytes.now × (length (decoded 0 bytes.now) ≡ length bytes.now)) }
 {
-    let mut i = 0;
-    while i < bytes.len() {
-        if 2 < bytes[i] {
+    for state in bytes {
+        if 2 < *state {
             return Ok(false);
         }
-        print_state(rt, bytes[i])?;
-        i += 1;
+        print_state(rt, *state)?;
     }
     Ok(true)
 }
@@ -289,8 +285,9 @@ fn print_entries(rt: &impl Print, states: &[u8]) -> io::Result<()>
         run: 0,
         was: 0,
     };
+    // Not a `for`: `contacts::step` gives an entry with the cursor after it.
     loop {
-        let Next::Found(found, after) = contacts::step(states, 0, seconds, cursor) else {
+        let Some((found, after)) = contacts::step(states, 0, seconds, cursor) else {
             return Ok(());
         };
         print_entry(rt, found)?;
@@ -329,16 +326,10 @@ fn print_record(rt: &impl Print, letter: u8, bytes: &[u8]) -> io::Result<()> {
 
 // What each record gives, up to one that is cut off.
 fn print_records(rt: &impl Print, input: &[u8]) -> io::Result<()> {
-    let mut at = 0;
-    while 3 <= input.len() - at {
-        let size = big_endian::two_at(input, at + 1) as usize;
-        let from = at + 3;
-        if input.len() - from < size {
-            return Ok(());
-        }
-        let end = from + size;
-        print_record(rt, input[at], &input[from..end])?;
-        at = end;
+    let mut rest = input;
+    while let Some(record) = program_io::first_record(rest) {
+        print_record(rt, record.letter, record.bytes)?;
+        rest = record.rest;
     }
     Ok(())
 }

@@ -5,7 +5,7 @@
 ghost use Rattle.std.specs.Prelude.{◌≡◌, ◌+◌, ◌≤◌, ◌<◌, length, take, drop};
 ghost use Rattle.run_length.specs.Runs.{state_in, seconds_of, Whole, RunAt, Ends, Written, Pushed};
 
-// A run as one phase sees it.
+// A run as one phase sees it. Its state is a number, as it is kept in two bits of a byte of the caller's buffer.
 #[derive(Clone, Copy)]
 pub struct Run {
     pub state: u8, // 0 outside, 1 inside, any other unsure
@@ -13,7 +13,8 @@ pub struct Run {
     pub after: usize, // the place after it in the bytes
 }
 
-// The runs so far: those that are stored, and the last, which is not stored yet since it may get longer.
+// The runs so far: those that are stored, and the last, which is not stored yet since it may get longer. The count
+// stands beside the caller's bytes because the library has no heap.
 #[derive(Clone, Copy)]
 pub struct Filled {
     pub count: usize, // how many bytes the stored ones take
@@ -36,18 +37,12 @@ fn state_in(first: u8, phase: usize) -> u8
     if phase == 0 { first % 4 } else { first / 4 % 4 }
 }
 
-fn wide(byte: u8) -> usize
-    ensures { result ≡ byte }
-{
-    byte as usize
-}
-
 // The seconds of a run of two bytes, by the upper bits of the first and by the second.
 fn seconds_of(high: u8, low: u8) -> usize
     requires { 0 < high }
     ensures { result ≡ seconds_of high low }
 {
-    (wide(high) - 1) * 256 + wide(low)
+    (usize::from(high) - 1) * 256 + usize::from(low)
 }
 
 // Puts a run of n seconds at a place, in two bytes; the place after it.
@@ -107,6 +102,7 @@ pub fn push_many(runs: &mut [u8], f: Filled, pair: u8, n: usize) -> Filled
 {
     let mut r = f;
     let mut left = n;
+    // a for loop over the full runs would be no plainer: how many there are, and what is left, would be two divisions
     while 3839 < left {
         r = push(runs, r, pair, 3839);
         left -= 3839;

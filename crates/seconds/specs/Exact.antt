@@ -1,14 +1,13 @@
 -- The exact answer at a second of an occultation, "From the same sines, cosines and station place", and what the
 -- states said of it mean. Definitions only.
-use Rattle.std.specs.Prelude.{ℕ, ◌+◌, ℤ, pos, nat_abs}
+use Rattle.std.specs.Prelude.{ℕ, ◌+◌, ℤ, pos, nat_abs, Result, Ok, Err}
+use Rattle.sheet_types.specs.declared.refusals.Refusal.{Refusal}
 use Rattle.sheet_types.specs.declared.phases.Phase.{Phase}
 use Rattle.sheet_types.specs.States.{state_of, SaidRightly}
 use Rattle.shadow_geometry.specs.Shadow.{cone}
 use Rattle.shadow_geometry.specs.Exact as Exact
 use Rattle.shadow.specs.declared.Second.{Second}
 use Rattle.requests.specs.declared.Occultation.{Occultation}
-use Rattle.seconds.specs.declared.OneSecond.{OneSecond}
-use Rattle.seconds.specs.declared.OneSecond.TheVariants.{Is, Refused}
 use Rattle.seconds.specs.Seconds.{moment_at}
 use Rattle.seconds.specs.OneSecond.{first_phase, second_phase}
 
@@ -30,6 +29,6 @@ pub record SecondMeans (o : Occultation) (τ : ℤ) (x : Second) : Type 0 where
   pub penumbra : SaidRightly (state_of x.penumbra) (ExactlyInside o (first_phase o) τ) (WithinUnits o (unsure_units o) (first_phase o) τ)
   pub central : SaidRightly (state_of x.central) (ExactlyInside o (second_phase o) τ) (WithinUnits o (unsure_units o) (second_phase o) τ)
 
-abbrev pub AnswerMeans : Occultation → ℤ → OneSecond → Type 0
-AnswerMeans o τ (Is x) = SecondMeans o τ x
-AnswerMeans o τ (Refused r) = Unit
+abbrev pub AnswerMeans : Occultation → ℤ → Result Second Refusal → Type 0
+AnswerMeans o τ (Ok x) = SecondMeans o τ x
+AnswerMeans o τ (Err r) = Unit

@@ -1,10 +1,9 @@
 -- One second of an occultation: its shadow, states, magnitude and direction, or the refusal. Definitions only.
-use Rattle.std.specs.Prelude.{◌≡◌, cond, List, ℕ, ℤ}
+use Rattle.std.specs.Prelude.{◌≡◌, cond, List, ℕ, ℤ, Result, Err, Ok}
+use Rattle.sheet_types.specs.declared.refusals.Refusal.{Refusal}
 use Rattle.sheet_types.specs.declared.phases.Phase.{Phase}
 use Rattle.sheet_types.specs.declared.phases.Phase.TheVariants as P
 use Rattle.sheet_types.specs.States.{code}
-use Rattle.sheet_types.specs.declared.refusals.Checked.{Checked}
-use Rattle.sheet_types.specs.declared.refusals.Checked.TheVariants as C
 use Rattle.sheet_types.specs.Refusals.{refusal}
 use Rattle.elements.specs.declared.Star.{Star}
 use Rattle.elements.specs.declared.Body.TheVariants as B
@@ -17,8 +16,6 @@ use Rattle.shadow.specs.Second.{phase_in}
 use Rattle.requests.specs.declared.Occultation.{Occultation}
 use Rattle.requests.specs.Windows.{in_span}
 use Rattle.requests.specs.Admission.{admitted, sines_after}
-use Rattle.seconds.specs.declared.OneSecond.{OneSecond}
-use Rattle.seconds.specs.declared.OneSecond.TheVariants as O
 use Rattle.seconds.specs.Seconds.{moment_at, state_at, direction_at, magnitude_at}
 
 -- penumbra and central of an eclipse; a star's one phase stands for both (shadow, Second)
@@ -45,16 +42,16 @@ whole_second o τ =
       direction = direction_at o τ;
     }
 
-abbrev pub second_by : Checked → Occultation → ℤ → OneSecond
-second_by (C.Refused r) o τ = O.Refused r
-second_by C.Within o τ = O.Is (whole_second o τ)
+abbrev pub second_by : Result Unit Refusal → Occultation → ℤ → Result Second Refusal
+second_by (Err r) o τ = Err r
+second_by (Ok tt) o τ = Ok (whole_second o τ)
 
 -- "1 | window outside its range | 0" too for a second outside -10,800..10,800; then the refusals of the request and
 -- of its buffer for table S
-unfoldable pub second_checked : Occultation → ℤ → List ℕ → Checked
-second_checked o τ sines = cond (in_span τ) (admitted o sines) (C.Refused (refusal 1 0))
+unfoldable pub second_checked : Occultation → ℤ → List ℕ → Result Unit Refusal
+second_checked o τ sines = cond (in_span τ) (admitted o sines) (Err (refusal 1 0))
 
-unfoldable pub second_answer : Occultation → ℤ → List ℕ → OneSecond
+unfoldable pub second_answer : Occultation → ℤ → List ℕ → Result Second Refusal
 second_answer o τ sines = second_by (second_checked o τ sines) o τ
 
 -- that buffer afterwards

@@ -13,14 +13,7 @@ ghost use Rattle.seconds.specs.Exact.{AnswerMeans};
 
 use elements::Body;
 use requests::Occultation;
-use sheet_types::refusals::{Checked, Refusal};
-
-// All of one second, or why there is none.
-#[derive(Clone, Copy)]
-pub enum OneSecond {
-    Is(shadow::Second),
-    Refused(Refusal),
-}
+use sheet_types::refusals::Refusal;
 
 // The direction at a second.
 pub fn direction_at(table: &[u32], o: Occultation, place: station::Place, t: i64) -> u32
@@ -94,22 +87,19 @@ fn second_within(table: &[u32], o: Occultation, t: i64) -> shadow::Second
 
 // The shadow, the states, the magnitude and the direction at second t of an occultation, which may lie outside its
 // window; `sines` is the buffer for table S.
-pub fn second(o: Occultation, t: i64, sines: &mut [u32]) -> OneSecond
+pub fn second(o: Occultation, t: i64, sines: &mut [u32]) -> Result<shadow::Second, Refusal>
     ensures answer { result ≡ second_answer o t sines.old }
     ensures sines { sines.new ≡ second_sines o t sines.old }
     ensures means { AnswerMeans o t result }
 {
     let inside = requests::windows::in_span(t);
     if !inside {
-        return OneSecond::Refused(Refusal {
+        return Err(Refusal {
             number: 1,
             place: 0,
         });
     }
-    let c = requests::admission::admit(o, sines);
-    if let Checked::Refused(refusal) = c {
-        return OneSecond::Refused(refusal);
-    }
+    requests::admission::admit(o, sines)?;
     let x = second_within(sines, o, t);
-    OneSecond::Is(x)
+    Ok(x)
 }

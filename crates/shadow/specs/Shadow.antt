@@ -7,11 +7,12 @@ use Rattle.sine.specs.Sine.{sine, cosine}
 use Rattle.elements.specs.declared.Axis.{Axis}
 use Rattle.elements.specs.declared.Cone.{Cone}
 use Rattle.elements.specs.declared.Elements.{Elements}
-use Rattle.elements.specs.Elements.{l_at}
+use Rattle.elements.specs.Elements.{x_at, y_at, d_at, μ_at, l_at}
 use Rattle.station.specs.declared.Place.{Place}
 use Rattle.shadow_geometry.specs.Shadow.{moment_of, moment, u, v, ζ, L, M}
 use Rattle.shadow.specs.declared.Orientation.{Orientation}
 use Rattle.shadow.specs.declared.Coordinates.{Coordinates}
+use Rattle.shadow.specs.declared.AxisAt.{AxisAt}
 use Rattle.shadow.specs.declared.Offset.{Offset}
 use Rattle.shadow.specs.declared.Shadow.{Shadow}
 
@@ -34,6 +35,19 @@ pub record AreCoordinates (p : Place) (o : Orientation) (x : Coordinates) : Type
   pub xi : Value (near (p.r *ℤ o.hsine) one) 101000000 x.xi
   pub eta : Value (near (p.p *ℤ o.dcosine -ℤ near (p.r *ℤ o.hcosine) one *ℤ o.dsine) one) 202000000 x.eta
   pub zeta : Value (near (p.p *ℤ o.dsine +ℤ near (p.r *ℤ o.hcosine) one *ℤ o.dcosine) one) 202000000 x.zeta
+
+-- where an axis stands at a moment, and how large that is
+pub record Stands (a : Axis) (τ : ℤ) (s : AxisAt) : Type 0 where
+  pub x : s.x ≡ x_at a τ
+  pub y : s.y ≡ y_at a τ
+  pub d : s.d ≡ d_at a τ
+  pub mu : s.mu ≡ μ_at a τ
+
+pub record AxisAtSizes (s : AxisAt) : Type 0 where
+  pub x : nat_abs s.x ≤ 501170000
+  pub y : nat_abs s.y ≤ 501170000
+  pub d : nat_abs s.d ≤ 500000000
+  pub mu : nat_abs s.mu ≤ 500000000
 
 -- the axis from the station: each letter is that of document 01's page (shadow_geometry, Shadow)
 pub record IsOffset (a : Axis) (p : Place) (τ : ℤ) (r : Offset) : Type 0 where

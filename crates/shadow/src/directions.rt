@@ -3,12 +3,6 @@ ghost use Rattle.std.specs.Prelude.{◌≡◌, ◌≤◌, pos, nat_abs};
 ghost use Rattle.sine_table.specs.Table.{S, Sines};
 ghost use Rattle.shadow_geometry.specs.Direction.{quarter, direction};
 
-fn wide(x: u32) -> u64
-    ensures { result ≡ x }
-{
-    x as u64
-}
-
 // The direction within a quarter, tenths of a degree, of an axis that lies u across and v along. As k grows the one
 // side rises and the other falls, so the largest k is found by halving: low reaches, and nothing from high to 899
 // does.
@@ -16,12 +10,13 @@ fn quarter(table: &[u32], u: u64, v: u64) -> u16
     requires { (Sines table.now) × (u ≤ 1000000000) × (v ≤ 1000000000) }
     ensures { result ≡ quarter S (pos u) (pos v) }
 {
+    // Not `partition_point`: the test at k reads the table at 900 - k too.
     let mut low = 0;
     let mut high = 900;
     while low + 1 < high {
         let k = (low + high) / 2;
-        let rising = wide(sine_table::entry(table, k));
-        let falling = wide(sine_table::entry(table, 900 - k));
+        let rising = u64::from(sine_table::entry(table, k));
+        let falling = u64::from(sine_table::entry(table, 900 - k));
         if v * rising <= u * falling {
             low = k;
         } else {

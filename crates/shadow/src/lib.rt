@@ -4,15 +4,18 @@
 pub mod bodies;
 pub mod directions;
 
-ghost use Rattle.std.specs.Prelude.{◌≡◌, ◌≤◌, pos, nat_abs, ◌*ℤ◌, ◌≤ℤ◌, ◌<ℤ◌};
+ghost use Rattle.std.specs.Prelude.{◌≡◌, ◌≤◌, ℤ, pos, nat_abs, ◌-ℤ◌, ◌*ℤ◌, ◌≤ℤ◌, ◌<ℤ◌};
 ghost use Rattle.sheet_types.specs.States.{code, state_of};
+ghost use Rattle.rounding.specs.Units.{one};
+ghost use Rattle.rounding.specs.Near.{near};
 ghost use Rattle.rounding.specs.Value.{Value};
 ghost use Rattle.sine_table.specs.Table.{Sines};
+ghost use Rattle.elements.specs.declared.Axis.{Axis};
 ghost use Rattle.elements.specs.Sizes.{AxisSizes, ConeSizes, ElementSizes};
 ghost use Rattle.station.specs.Sizes.{PlaceSizes};
 ghost use Rattle.shadow_geometry.specs.Shadow.{state};
 ghost use Rattle.shadow_geometry.specs.Magnitude.{millionths, magnitude};
-ghost use Rattle.shadow.specs.Shadow.{IsOrientation, OrientationSizes, AreCoordinates, radius_at, IsOffset, IsShadow};
+ghost use Rattle.shadow.specs.Shadow.{IsOrientation, OrientationSizes, AreCoordinates, radius_at, AxisAtSizes, Stands, IsOffset, IsShadow};
 ghost use Rattle.shadow.specs.Second.{ShadowSizes, StatesOf, IsSecond, magnitude_at};
 
 // How the shadow's axis stands to the station's meridian: sines and cosines of H and d, 10^-8, each ±100,000,000.
@@ -37,6 +40,19 @@ pub struct Coordinates {
     pub eta: i64,
     // ζ, toward the Moon, ±202,000,000
     pub zeta: i64,
+}
+
+// The shadow's axis at a moment.
+#[derive(Clone, Copy)]
+pub struct AxisAt {
+    // where it meets the fundamental plane, to the east, 10^-8 of the Earth's equatorial radius, ±501,170,000
+    pub x: i64,
+    // the same to the north
+    pub y: i64,
+    // its declination, 10^-6 degree, ±500,000,000
+    pub d: i64,
+    // its hour angle at Greenwich, likewise
+    pub mu: i64,
 }
 
 // The shadow's axis from the station, the same unit.
@@ -145,38 +161,52 @@ pub fn coordinates_of(place: station::Place, o: Orientation) -> Coordinates
     Coordinates { xi, eta, zeta }
 }
 
-// u, v, ζ and M of any axis at second t.
+// u, v, ζ and M of any axis, from where it stands.
+pub fn offset_of(table: &[u32], axis: AxisAt, place: station::Place) -> Offset
+    requires { (Sines table.now) × (AxisAtSizes axis) × (PlaceSizes place) }
+    ensures { (a : Axis) (τ : ℤ) → Stands a τ axis → IsOffset a place τ result }
+{
+    let o = orientation_of(table, axis.mu + place.longitude, axis.d);
+    let c = coordinates_of(place, o);
+    let u = axis.x - c.xi;
+    let v = axis.y - c.eta;
+    let m = u * u + v * v;
+    Offset {
+        u,
+        v,
+        zeta: c.zeta,
+        m,
+    }
+}
+
+// The same at second t.
 pub fn offset_at(table: &[u32], axis: elements::Axis, place: station::Place, t: i64) -> Offset
     requires { (Sines table.now) × (AxisSizes 90000000 axis) × (PlaceSizes place) × (nat_abs t ≤ 10800) }
     ensures { IsOffset axis place t result }
 {
-    let mu = axis.mu;
-    let declination = axis.d;
-    let x = axis.x;
-    let y = axis.y;
-    let longitude = place.longitude;
-    let h = elements::quadratic_at(mu, t) + longitude;
-    let d = elements::quadratic_at(declination, t);
-    let o = orientation_of(table, h, d);
-    let c = coordinates_of(place, o);
-    let xi = c.xi;
-    let eta = c.eta;
-    let zeta = c.zeta;
-    let u = elements::cubic_at(x, t) - xi;
-    let v = elements::cubic_at(y, t) - eta;
-    let m = u * u + v * v;
-    Offset { u, v, zeta, m }
+    let at = AxisAt {
+        x: elements::cubic_at(axis.x, t),
+        y: elements::cubic_at(axis.y, t),
+        d: elements::quadratic_at(axis.d, t),
+        mu: elements::quadratic_at(axis.mu, t),
+    };
+    offset_of(table, at, place)
 }
 
-// L of a cone at second t, at height ζ: l less the cone's term.
+// L of a cone at height ζ, from its l: less the cone's term.
+pub fn radius_of(l: i64, tanf: i64, zeta: i64) -> i64
+    requires { (nat_abs l ≤ 500000000) × (nat_abs tanf ≤ 500000) × (nat_abs zeta ≤ 202000000) }
+    ensures { Value (l -ℤ near (zeta *ℤ tanf) one) 600000000 result }
+{
+    l - rounding::near_unit(zeta * tanf)
+}
+
+// The same at second t.
 fn radius_at(cone: elements::Cone, zeta: i64, t: i64) -> i64
     requires { (ConeSizes 60000000 cone) × (nat_abs zeta ≤ 202000000) × (nat_abs t ≤ 10800) }
     ensures { Value (radius_at cone zeta t) 600000000 result }
 {
-    let l = cone.l;
-    let tanf = cone.tanf;
-    let term = rounding::near_unit(zeta * tanf);
-    elements::quadratic_at(l, t) - term
+    radius_of(elements::quadratic_at(cone.l, t), cone.tanf, zeta)
 }
 
 // u, v, L1, L2 and M at a place, at second t.
@@ -198,7 +228,7 @@ pub fn shadow_at(table: &[u32], e: elements::Elements, place: station::Place, t:
 }
 
 // 0 outside, 1 inside, 2 unsure: where a distance whose square is m stands to a radius l, under a guard. No root is
-// taken.
+// taken. A byte and no enum: a sheet and the C interface have these bytes, and `run_length` counts them.
 pub fn state(guard: i64, l: i64, m: i64) -> u8
     requires { (nat_abs guard ≤ 1000) × (nat_abs l ≤ 600000000) × (nat_abs m ≤ 1000000000000000000) }
     ensures { result ≡ code (state guard l m) }

@@ -10,7 +10,6 @@ ghost use Rattle.program_io.specs.Inputs.{Read};
 ghost use Rattle.program_io.specs.Outputs.{Sent};
 ghost use Rattle.sheet_bytes.specs.Streams.{output, error};
 
-use circumstances::Answer;
 use program_io::{ERROR, OUTPUT, Text};
 use sheet_types::refusals::Refusal;
 use std::io::{self, Read, Write};
@@ -35,14 +34,14 @@ fn respond(input: &[u8; 116], length: usize, out: &mut [u8; 65536]) -> Text
     let all: &[u8] = input;
     let answer = request_answers::sheets::sheet(&all[..length], &mut sines, &mut room);
     match answer {
-        Answer::Written(written) => {
+        Ok(written) => {
             let stored = decimal_text::put_text(out, 0, &room[..written]);
             Text {
                 descriptor: OUTPUT,
                 length: stored,
             }
         }
-        Answer::Refused(refusal) => {
+        Err(refusal) => {
             let line = put_refusal(out, refusal.number, refusal.place);
             Text {
                 descriptor: ERROR,

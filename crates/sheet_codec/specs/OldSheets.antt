@@ -1,6 +1,6 @@
 -- Document 02, wish 9: "7 in a sheet, so also for a whole old sheet". An old sheet has a head without a guard: its
 -- reader takes the two bytes after it, a kind and the next, for the guard, and no kind after a head is so small.
-use Rattle.std.specs.Prelude.{ℕ, ◌≤◌, ◌≡◌, refl, List, [], ◌∷◌, ◌++◌, true, false, ◌&&◌, leb, length, get_or}
+use Rattle.std.specs.Prelude.{ℕ, ◌≤◌, ◌≡◌, refl, List, [], ◌∷◌, ◌++◌, true, false, ◌&&◌, leb, length, get_or, Ok, Some}
 use Rattle.std.proofs.Common.{sym, ap, ◌∙◌, append-nil, append_assoc, arith, length-append}
 use Rattle.std.proofs.lemmas.Bool.{lt-leb}
 use Rattle.sheet_types.specs.declared.phases.Phase.{Phase}
@@ -13,9 +13,6 @@ use Rattle.sheet_format.specs.declared.kinds.Stage.TheVariants as S
 use Rattle.sheet_format.specs.FieldRules.{guard_holds}
 use Rattle.sheet_format.specs.Kinds.{base, code_of, widths_of, size_of, plain}
 use Rattle.rounding.specs.laws.Tests.{distinct, not_right}
-use Rattle.sheet_format.specs.declared.records.Byte.TheVariants as Byte
-use Rattle.sheet_format.specs.declared.records.Body.TheVariants as Body
-use Rattle.sheet_format.specs.declared.records.Record.TheVariants.{Is}
 use Rattle.big_endian.specs.Numbers.{two}
 use Rattle.sheet_format.specs.RecordEntries.{body, bytes, bytes_of}
 use Rattle.sheet_format.specs.laws.EntryLaws.{length-bytes, bytes_cons}
@@ -37,8 +34,8 @@ guard_broken : (s : List ℕ) → 9 ≤ length s → get_or s 0 0 ≡ 0x01 → 4
 unfolding read_sheet
 guard_broken s long first large =
     let e = entry_at K.Head s 1 in
-    let got : record_at s 0 ≡ Is e 9 =
-    sym (by-body s 0 0x01 K.Head (Body.Is e) (byte-there s 0 (omega arith) ∙ ap Byte.Is first) refl (body-whole s 0 K.Head (omega arith))) in
+    let got : record_at s 0 ≡ Ok (e, 9) =
+    sym (by-body s 0 0x01 K.Head (Some e) (byte-there s 0 (omega arith) ∙ ap Some first) refl (body-whole s 0 K.Head (omega arith))) in
     let d : guard_holds e.d ≡ false = not_right (leb 16 e.d) (lt-leb e.d 1000 (omega arith)) in
     let others = leb 1 e.a && leb e.a 999 && leb e.b e.c && leb e.c 21600 in
     let bad : fields_hold start e ≡ false = not_right (plain e) (not_right others d) in

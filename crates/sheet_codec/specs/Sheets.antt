@@ -1,13 +1,9 @@
 -- A sheet: records one after the other, up to the end record.
-use Rattle.std.specs.Prelude.{ℕ, zero, suc, ◌+◌, ◌/◌, List, [], ◌∷◌, ◌++◌, Bool, cond, leb, ltb, length, drop}
+use Rattle.std.specs.Prelude.{ℕ, zero, suc, ◌+◌, ◌/◌, List, [], ◌∷◌, ◌++◌, Bool, cond, leb, ltb, length, drop, Result, Err, Ok}
 use Rattle.sheet_types.specs.declared.refusals.Refusal.{Refusal}
 use Rattle.sheet_types.specs.Refusals.{refusal}
 use Rattle.sheet_format.specs.declared.kinds.Entry.{Entry}
 use Rattle.sheet_format.specs.declared.kinds.Progress.{Progress}
-use Rattle.sheet_format.specs.declared.records.Record.{Record}
-use Rattle.sheet_format.specs.declared.records.Record.TheVariants.{Is, Refused}
-use Rattle.sheet_codec.specs.declared.decoder.Extent.{Extent}
-use Rattle.sheet_codec.specs.declared.decoder.Extent.TheVariants as X
 use Rattle.sheet_format.specs.Kinds.{is_end}
 use Rattle.sheet_format.specs.RecordEntries.{numbers_of}
 use Rattle.sheet_rules.specs.Rules.{start, after_of, order_of, fields_of, of_fields, of_order}
@@ -25,23 +21,23 @@ more e (refused r) = refused r
 
 -- "in it 5, 6, 8, 7": what was read or handed over at a place is refused (5, 6), or judged by the rules: of order (8),
 -- then of fields (7)
-abbrev pub judged : Progress → ℕ → Record → Record
-judged p at (Refused r) = Refused r
-judged p at (Is e next) = of_order at (of_fields at (Is e next) (fields_of p e)) (order_of p e)
+abbrev pub judged : Progress → ℕ → Result (Entry × ℕ) Refusal → Result (Entry × ℕ) Refusal
+judged p at (Err r) = Err r
+judged p at (Ok (e, next)) = of_order at (of_fields at (Ok (e, next)) (fields_of p e)) (order_of p e)
 
 -- the end record ends the sheet; another is followed by what comes after it
-abbrev pub onward : Record → (Entry → ℕ → Sheet) → Sheet
-onward (Refused r) go = refused r
-onward (Is e next) go = cond (is_end e.kind) (sheet (e ∷ []) next) (more e (go e next))
+abbrev pub onward : Result (Entry × ℕ) Refusal → (Entry → ℕ → Sheet) → Sheet
+onward (Err r) go = refused r
+onward (Ok (e, next)) go = cond (is_end e.kind) (sheet (e ∷ []) next) (more e (go e next))
 
 -- "Sheets: first faulty record": the sheet from the i-th record on, which stands at byte `at`; `given` gives each, and
 -- it is judged by what came before it. `fuel` bounds the records to come.
-unfoldable pub sheet_from : (ℕ → ℕ → Record) → ℕ → Progress → ℕ → ℕ → Sheet
+unfoldable pub sheet_from : (ℕ → ℕ → Result (Entry × ℕ) Refusal) → ℕ → Progress → ℕ → ℕ → Sheet
 sheet_from given zero p i at = refused (refusal 6 at)
 sheet_from given (suc fuel) p i at = onward (judged p at (given i at)) (λ e next. sheet_from given fuel (after_of p e) (i + 1) next)
 
 -- the i-th record of some bytes, which stands at byte `at`
-abbrev pub stored_at : List ℕ → ℕ → ℕ → Record
+abbrev pub stored_at : List ℕ → ℕ → ℕ → Result (Entry × ℕ) Refusal
 stored_at s i at = record_at s at
 
 -- the sheet that some bytes begin with, whatever stands after it. A record has a byte at least, so there are no more
@@ -60,18 +56,18 @@ unfoldable pub read_whole : List ℕ → Sheet
 read_whole s = alone (λ k n. ltb n (length s)) (read_sheet s)
 
 -- how many entries and how many bytes
-abbrev pub extent_of : Sheet → Extent
-extent_of (sheet es n) = X.Sheet (length es) n
-extent_of (refused r) = X.Refused r
+abbrev pub extent_of : Sheet → Result (ℕ × ℕ) Refusal
+extent_of (sheet es n) = Ok (length es, n)
+extent_of (refused r) = Err r
 
 -- "Where a reader is lent room for entries and there are more, it gives 4 with their number, after all others". A
 -- buffer of k numbers holds k / 5 entries.
 abbrev pub holds : List Entry → ℕ → Bool
 holds es k = leb (length es) (k / 5)
 
-abbrev pub read_into : ℕ → Sheet → Extent
-read_into k (refused r) = X.Refused r
-read_into k (sheet es n) = cond (holds es k) (X.Sheet (length es) n) (X.Refused (refusal 4 (length es)))
+abbrev pub read_into : ℕ → Sheet → Result (ℕ × ℕ) Refusal
+read_into k (refused r) = Err r
+read_into k (sheet es n) = cond (holds es k) (Ok (length es, n)) (Err (refusal 4 (length es)))
 
 -- "After any refusal the buffer holds its old bytes; after success the bytes past the sheet do": so too a buffer and
 -- its numbers

@@ -2,82 +2,61 @@
 ghost use Rattle.std.specs.Prelude.{◌≡◌, ◌*◌, ◌≤◌, length};
 ghost use Rattle.sheet_codec.specs.Sheets.{extent_of};
 ghost use Rattle.sheet_codec.specs.Handed.{handed_at, list_sheet, list_whole, write_into, buffer_after_list};
-ghost use Rattle.sheet_codec.specs.laws.Passes.{refused_of, BufferFor, emitted};
+ghost use Rattle.sheet_codec.specs.laws.Passes.{BufferFor, emitted};
 
-use crate::decoder::Extent;
-use sheet_format::kinds::{Entry, Named};
-use sheet_format::records::Record;
+use sheet_format::kinds::Entry;
 use sheet_rules::rules::{FieldRule, OrderRule};
 use sheet_types::refusals::Refusal;
 
-// A record's refusal, passed on.
-fn refused(got: Record) -> Extent
-    ensures { result ≡ refused_of got }
-{
-    match got {
-        Record::Is(_, next) => Extent::Refused(Refusal {
-            number: 6,
-            place: next,
-        }),
-        Record::Refused(refusal) => Extent::Refused(refusal),
-    }
-}
-
 // The n-th entry of a list, whose record stands at `at`, and the place after it; or 5 or 6.
-fn handed_at(l: &[u32], n: usize, at: usize) -> Record
+fn handed_at(l: &[u32], n: usize, at: usize) -> Result<(Entry, usize), Refusal>
     requires { (n * 5 ≤ length l.now) × (at ≤ n * 17) }
     ensures { result ≡ handed_at l.now n at }
 {
     let j = n * 5;
     let left = l.len() - j;
     if left < 5 {
-        return Record::Refused(Refusal {
+        return Err(Refusal {
             number: 6,
             place: at,
         });
     }
     let code = l[j];
-    let Named::Is(kind) = sheet_format::kinds::kind_for(code) else {
-        return Record::Refused(Refusal {
-            number: 5,
-            place: at,
-        });
-    };
+    let kind = sheet_format::kinds::kind_for(code).ok_or(Refusal {
+        number: 5,
+        place: at,
+    })?;
     let a = l[j + 1];
     let b = l[j + 2];
     let c = l[j + 3];
     let d = l[j + 4];
     let next = at + sheet_format::kinds::size_of(kind);
     let entry = Entry { kind, a, b, c, d };
-    Record::Is(entry, next)
+    Ok((entry, next))
 }
 
-// How many entries and bytes the sheet has that the list begins with; or its refusal.
-pub fn extent_of_leading_entries(l: &[u32]) -> Extent
+// How many entries, head and end among them, and how many bytes the sheet has that the list begins with; or its
+// refusal, of 5 to 8.
+pub fn extent_of_leading_entries(l: &[u32]) -> Result<(usize, usize), Refusal>
     ensures { result ≡ extent_of (list_sheet l.now) }
 {
     let mut p = sheet_rules::rules::begun();
     let mut place = 0;
     let mut n = 0;
+    // Not a `for`: a step is as long as the record that was read, and the loop is left from within.
     loop {
-        let given = handed_at(l, n, place);
-        let Record::Is(entry, next) = given else {
-            return refused(given);
-        };
+        let (entry, next) = handed_at(l, n, place)?;
         let OrderRule::Kept = sheet_rules::rules::order_of(p, entry) else {
-            return Extent::Refused(Refusal { number: 8, place });
+            return Err(Refusal { number: 8, place });
         };
         let plain = sheet_format::kinds::is_plain(entry);
         let FieldRule::Kept = sheet_rules::rules::fields_of(p, plain, entry) else {
-            return Extent::Refused(Refusal { number: 7, place });
+            return Err(Refusal { number: 7, place });
         };
         let kind = entry.kind;
         if sheet_format::kinds::is_end(kind) {
             let handed = n + 1;
-            return Extent::Sheet {
-                entries: handed,
-                length: next,
-            };
+            return Ok((handed, next));
         }
         p = sheet_rules::rules::after(p, entry);
         place = next;
@@ -86,21 +65,18 @@ pub fn extent_of_leading_entries(l: &[u32]) -> Extent
 }
 
 // The same for a sheet that is all of the list: 9 where numbers follow it.
-pub fn extent_of_entries(l: &[u32]) -> Extent
+pub fn extent_of_entries(l: &[u32]) -> Result<(usize, usize), Refusal>
     ensures { result ≡ extent_of (list_whole l.now) }
 {
-    let found = extent_of_leading_entries(l);
-    let Extent::Sheet { entries, length } = found else {
-        return found;
-    };
+    let (entries, length) = extent_of_leading_entries(l)?;
     let held = (l.len() + 4) / 5;
     if entries < held {
-        return Extent::Refused(Refusal {
+        return Err(Refusal {
             number: 9,
             place: length,
         });
     }
-    found
+    Ok((entries, length))
 }
 
 // The sheet of the entries that the list begins with, into a buffer that holds it.
@@ -110,8 +86,9 @@ fn write_records(l: &[u32], buf: &mut [u8])
 {
     let mut at = 0;
     let mut n = 0;
+    // Not a `for`: a step is as long as the record that was read, and the loop is left from within.
     loop {
-        let Record::Is(entry, _) = handed_at(l, n, at) else {
+        let Ok((entry, _)) = handed_at(l, n, at) else {
             return;
         };
         at = sheet_format::records::bytes::put(buf, at, entry);
@@ -123,22 +100,19 @@ fn write_records(l: &[u32], buf: &mut [u8])
     }
 }
 
-// Writes the sheet of a list of entries at the buffer's start, and says how long it is; or the refusal, and the buffer
-// as it was.
-pub fn write(l: &[u32], buf: &mut [u8]) -> Extent
+// Writes the sheet of a list of entries at the buffer's start, and says how many entries and bytes it has; or the
+// refusal, and the buffer as it was. It is 4 where the buffer is too short.
+pub fn write(l: &[u32], buf: &mut [u8]) -> Result<(usize, usize), Refusal>
     ensures value { result ≡ write_into (length buf.old) (list_whole l.now) }
     ensures buf_after { buf.new ≡ buffer_after_list (list_whole l.now) buf.old }
 {
-    let found = extent_of_entries(l);
-    let Extent::Sheet { entries: _, length } = found else {
-        return found;
-    };
+    let (entries, length) = extent_of_entries(l)?;
     if buf.len() < length {
-        return Extent::Refused(Refusal {
+        return Err(Refusal {
             number: 4,
             place: length,
         });
     }
     write_records(l, buf);
-    found
+    Ok((entries, length))
 }

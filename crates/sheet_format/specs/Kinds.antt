@@ -1,5 +1,5 @@
 -- The table of kinds of document 01: a row for each kind, and what is read off it.
-use Rattle.std.specs.Prelude.{ℕ, ◌+◌, List, [], ◌∷◌, Bool, true, false, cond, ◌&&◌, eqb}
+use Rattle.std.specs.Prelude.{ℕ, ◌+◌, List, [], ◌∷◌, Bool, true, false, cond, ◌&&◌, eqb, Option, None, Some}
 use Rattle.sheet_types.specs.declared.phases.Phase.{Phase}
 use Rattle.sheet_types.specs.declared.phases.Phase.TheVariants.{Penumbra, Central, Star}
 use Rattle.sheet_format.specs.declared.kinds.Kind.{Kind}
@@ -11,8 +11,6 @@ use Rattle.sheet_format.specs.declared.kinds.Stage.{Stage}
 use Rattle.sheet_format.specs.declared.kinds.Stage.TheVariants as S
 use Rattle.sheet_format.specs.declared.kinds.Progress.{Progress}
 use Rattle.sheet_format.specs.declared.kinds.Entry.{Entry}
-use Rattle.sheet_format.specs.declared.kinds.Named.{Named}
-use Rattle.sheet_format.specs.declared.kinds.Named.TheVariants.{Is, Unknown}
 use Rattle.sheet_format.specs.FieldRules.{head_holds, span_holds, open_holds, is_direction, closest_holds, shareHolds}
 
 -- a row: the byte of the kind, the widths of its fields a, b, c, d, its stage in the order, and the rule of its fields
@@ -62,11 +60,11 @@ abbrev pub widths_of : Kind → Widths
 widths_of k = (table k).widths
 
 -- "kind not in the table": the kind that a number names, the first of some kinds whose byte it is
-abbrev pub among : ℕ → List Kind → Named
-among x [] = Unknown
-among x (k ∷ ks) = cond (eqb x (code_of k)) (Is k) (among x ks)
+abbrev pub among : ℕ → List Kind → Option Kind
+among x [] = None
+among x (k ∷ ks) = cond (eqb x (code_of k)) (Some k) (among x ks)
 
-abbrev pub kind_for : ℕ → Named
+abbrev pub kind_for : ℕ → Option Kind
 kind_for x = among x kinds
 
 -- "one byte of kind, then a body whose length the kind fixes"

@@ -58,13 +58,6 @@ pub struct Widths {
     pub d: Width,
 }
 
-// What a kind's number names.
-#[derive(Clone, Copy)]
-pub enum Named {
-    Is(Kind),
-    Unknown,
-}
-
 // The stages of a sheet in their order: nothing yet, then head, the phases by time, closest, the share if there is
 // one, end. `StarClosest` is closest after an entry of a star, where no share may come.
 #[derive(Clone, Copy)]
@@ -79,7 +72,7 @@ pub enum Stage {
 }
 
 // What an entry says of the shadow's edge: an enter and a leave cross it.
-#[derive(Clone, Copy)]
+#[derive(Clone, Copy, PartialEq, Eq)]
 pub enum Crossing {
     Neither,
     Enter,
@@ -111,7 +104,7 @@ fn base_of(phase: Phase) -> u32
     }
 }
 
-// The byte of a kind.
+// The byte of a kind. Not `From<Kind>`: `code_of` also promises that it is at most 127.
 pub fn code_of(kind: Kind) -> u32
     ensures { (result ≡ code_of kind) × (result ≤ 127) }
 {
@@ -128,32 +121,32 @@ pub fn code_of(kind: Kind) -> u32
 }
 
 // The kind of a phase that stands so far behind its first.
-fn phase_kind(phase: Phase, behind: u32) -> Named
+fn phase_kind(phase: Phase, behind: u32) -> Option<Kind>
     requires { behind ≤ 3 }
     ensures { result ≡ kind_for (base phase + behind) }
 {
     match behind {
-        0 => Named::Is(Kind::Enter(phase)),
-        1 => Named::Is(Kind::Leave(phase)),
-        2 => Named::Is(Kind::Graze(phase)),
-        _ => Named::Is(Kind::Open(phase)),
+        0 => Some(Kind::Enter(phase)),
+        1 => Some(Kind::Leave(phase)),
+        2 => Some(Kind::Graze(phase)),
+        _ => Some(Kind::Open(phase)),
     }
 }
 
 // The kind that a number names. A phase's four are found by one difference, so that which of them comes next costs no
-// branch.
-pub fn kind_for(code: u32) -> Named
+// branch. Not `TryFrom`: why an unknown number is refused, and at which place, is the caller's to say.
+pub fn kind_for(code: u32) -> Option<Kind>
     ensures { result ≡ kind_for code }
 {
     match code {
         0x10..=0x13 => phase_kind(Phase::Penumbra, code - 0x10),
         0x20..=0x23 => phase_kind(Phase::Central, code - 0x20),
         0x40..=0x43 => phase_kind(Phase::Star, code - 0x40),
-        0x01 => Named::Is(Kind::Head),
-        0x30 => Named::Is(Kind::Closest),
-        0x31 => Named::Is(Kind::Share),
-        0x7f => Named::Is(Kind::End),
-        _ => Named::Unknown,
+        0x01 => Some(Kind::Head),
+        0x30 => Some(Kind::Closest),
+        0x31 => Some(Kind::Share),
+        0x7f => Some(Kind::End),
+        _ => None,
     }
 }
 

@@ -1,5 +1,6 @@
 -- What the rules say of an entry, by what came before it. Reader and writer both use these.
-use Rattle.std.specs.Prelude.{ℕ, Bool, cond, ◌&&◌, ◌||◌, not, leb}
+use Rattle.std.specs.Prelude.{ℕ, Bool, cond, ◌&&◌, ◌||◌, not, leb, Result, Err}
+use Rattle.sheet_types.specs.declared.refusals.Refusal.{Refusal}
 use Rattle.sheet_types.specs.declared.phases.Phase.{Phase}
 use Rattle.sheet_types.specs.Refusals.{refusal}
 use Rattle.sheet_format.specs.declared.kinds.Kind.{Kind}
@@ -10,8 +11,6 @@ use Rattle.sheet_format.specs.declared.kinds.Crossing.{Crossing}
 use Rattle.sheet_format.specs.declared.kinds.Crossing.TheVariants as C
 use Rattle.sheet_format.specs.declared.kinds.Progress.{Progress}
 use Rattle.sheet_format.specs.declared.kinds.Entry.{Entry}
-use Rattle.sheet_format.specs.declared.records.Record.{Record}
-use Rattle.sheet_format.specs.declared.records.Record.TheVariants.{Refused}
 use Rattle.sheet_rules.specs.declared.rules.OrderRule.{OrderRule}
 use Rattle.sheet_rules.specs.declared.rules.OrderRule.TheVariants as O
 use Rattle.sheet_rules.specs.declared.rules.FieldRule.{FieldRule}
@@ -91,11 +90,11 @@ abbrev pub fields_of : Progress → Entry → FieldRule
 fields_of p e = fields_as (plain e) p e
 
 -- "7 | a field breaks a reader's rule | as 5": "first byte of that record", which stands at `at`
-abbrev pub of_fields : ℕ → Record → FieldRule → Record
+abbrev pub of_fields : ℕ → Result (Entry × ℕ) Refusal → FieldRule → Result (Entry × ℕ) Refusal
 of_fields at given F.Kept = given
-of_fields at given F.Broken = Refused (refusal 7 at)
+of_fields at given F.Broken = Err (refusal 7 at)
 
 -- "8 | order broken | as 5"
-abbrev pub of_order : ℕ → Record → OrderRule → Record
+abbrev pub of_order : ℕ → Result (Entry × ℕ) Refusal → OrderRule → Result (Entry × ℕ) Refusal
 of_order at given O.Kept = given
-of_order at given O.Broken = Refused (refusal 8 at)
+of_order at given O.Broken = Err (refusal 8 at)

@@ -1,49 +1,21 @@
 // The order of a sheet: what may come after what came last.
 ghost use Rattle.std.specs.Prelude.{◌≡◌};
-ghost use Rattle.sheet_types.specs.Phases.{same};
 ghost use Rattle.sheet_format.specs.FieldRules.{is_within, greatestMagnitude};
 ghost use Rattle.sheet_rules.specs.Order.{phase_follows, may_come, closest_after};
 ghost use Rattle.sheet_rules.specs.Order as Order;
-ghost use Rattle.sheet_rules.specs.laws.OrderLaws.{crossing_number};
 ghost use Rattle.sheet_format.specs.declared.kinds.Stage.TheVariants as S;
 
 use sheet_format::kinds::{Crossing, Stage};
 use sheet_types::phases::Phase;
-
-fn same_phase(last: Phase, phase: Phase) -> bool
-    ensures { result ≡ same last phase }
-{
-    match last {
-        Phase::Penumbra => match phase {
-            Phase::Penumbra => true,
-            Phase::Central => false,
-            Phase::Star => false,
-        },
-        Phase::Central => match phase {
-            Phase::Penumbra => false,
-            Phase::Central => true,
-            Phase::Star => false,
-        },
-        Phase::Star => match phase {
-            Phase::Penumbra => false,
-            Phase::Central => false,
-            Phase::Star => true,
-        },
-    }
-}
 
 // Whether entries of a phase may follow those of another, or its own.
 fn phase_follows(last: Phase, phase: Phase) -> bool
     ensures { result ≡ phase_follows last phase }
 {
     match last {
-        Phase::Penumbra => match phase {
-            Phase::Penumbra => true,
-            Phase::Central => true,
-            Phase::Star => false,
-        },
-        Phase::Central => same_phase(last, phase),
-        Phase::Star => same_phase(last, phase),
+        Phase::Penumbra => phase != Phase::Star,
+        Phase::Central => phase == Phase::Central,
+        Phase::Star => phase == Phase::Star,
     }
 }
 
@@ -54,7 +26,7 @@ pub fn is_within(last: Stage, phase: Phase) -> bool
     match last {
         Stage::Start => false,
         Stage::Head => false,
-        Stage::Phase(of) => same_phase(of, phase),
+        Stage::Phase(of) => of == phase,
         Stage::Closest => false,
         Stage::StarClosest => false,
         Stage::Share => false,
@@ -154,21 +126,9 @@ pub fn greatest_magnitude(last: Stage) -> u32
     }
 }
 
-// A crossing as a number.
-fn number_of(crossing: Crossing) -> u32
-    ensures { result ≡ crossing_number crossing }
-{
-    match crossing {
-        Crossing::Neither => 0,
-        Crossing::Enter => 1,
-        Crossing::Leave => 2,
-    }
-}
-
 // Whether a crossing comes next to one of its own kind.
 pub fn repeats(last: Crossing, crossing: Crossing) -> bool
     ensures { result ≡ Order.repeats last crossing }
 {
-    let n = number_of(crossing);
-    (n == number_of(last)) & !(n == 0)
+    (crossing == last) & (crossing != Crossing::Neither)
 }

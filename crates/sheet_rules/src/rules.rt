@@ -9,14 +9,15 @@ ghost use Rattle.sheet_rules.specs.laws.Stages.{crossing_of, crossing_after};
 use sheet_format::kinds::{Crossing, Entry, Kind, Progress, Stage};
 use sheet_types::phases::Phase;
 
-// Whether an entry keeps the order of a sheet: refusal 8 where it does not.
+// Whether an entry keeps the order of a sheet: refusal 8 where it does not. No `bool` and no Result: the papers' form
+// takes the answer apart by `let .. else` and gives the refusal with the place, which only the caller knows.
 #[derive(Clone, Copy)]
 pub enum OrderRule {
     Kept,
     Broken,
 }
 
-// Whether an entry's fields keep their rules: refusal 7 where they do not.
+// Whether an entry's fields keep their rules: refusal 7 where they do not. In the form of `OrderRule`.
 #[derive(Clone, Copy)]
 pub enum FieldRule {
     Kept,
@@ -175,6 +176,7 @@ pub fn after(p: Progress, entry: Entry) -> Progress
 // ---- the answers
 
 // Whether an entry may come after what came before it.
+#[tactic(auto, unfolding(crate::specs::Rules::order_of))]
 pub fn order_of(p: Progress, entry: Entry) -> OrderRule
     ensures { result ≡ order_of p entry }
 {
@@ -187,6 +189,7 @@ pub fn order_of(p: Progress, entry: Entry) -> OrderRule
 
 // Whether an entry's fields keep the rule of its kind.
 // `plain` is what else is asked of them: that what its kind does not use is 0.
+#[tactic(auto, unfolding(crate::specs::Rules::fields_as))]
 pub fn fields_of(p: Progress, plain: bool, entry: Entry) -> FieldRule
     ensures { result ≡ fields_as plain p entry }
 {

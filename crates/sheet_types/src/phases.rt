@@ -4,7 +4,7 @@ ghost use Rattle.sheet_types.specs.declared.phases.Phase.TheVariants.{Penumbra};
 ghost use Rattle.sheet_types.specs.Phases.{eclipse};
 
 // Penumbra and central are document 01's words.
-#[derive(Clone, Copy)]
+#[derive(Clone, Copy, PartialEq, Eq)]
 pub enum Phase {
     // in the Moon's penumbra: the Sun is covered in part
     Penumbra,

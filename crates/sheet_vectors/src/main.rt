@@ -19,7 +19,7 @@ ghost use Rattle.std.specs.Prelude.{◌≡◌, ◌+◌, ◌*◌, ◌/◌, ◌≤
 ghost use Rattle.decimal_text.specs.Texts.{Counts};
 
 use request_format::fields::Shape;
-use sheet_codec::decoder::Extent;
+use sheet_types::refusals::Refusal;
 use std::io;
 
 fn print_text(rt: &impl Print, text: &[u8]) -> io::Result<()> {
@@ -31,7 +31,11 @@ fn print_malformed(rt: &impl Print) -> io::Result<()> {
 }
 
 // A word, and what a reader or a writer answered.
-fn print_answer(rt: &impl Print, word: &[u8], answer: Extent) -> io::Result<()> {
+fn print_answer(
+    rt: &impl Print,
+    word: &[u8],
+    answer: Result<(usize, usize), Refusal>,
+) -> io::Result<()> {
     let mut text = [0u8; 64];
     let end = listings::extents::put_answer(&mut text, 0, word, answer);
     let length = decimal_text::clipped(&text, end);
@@ -79,16 +83,15 @@ fn wide(x: u32) -> i64 {
     x as i64
 }
 
-// Entry n.
-fn print_entry(rt: &impl Print, numbers: &[u32], n: usize) -> io::Result<()>
-    requires { n * 5 + 5 ≤ length numbers.now }
+// An entry of five numbers.
+fn print_entry(rt: &impl Print, entry: &[u32]) -> io::Result<()>
+    requires { 5 ≤ length entry.now }
 {
-    let i = n * 5;
-    let kind = wide(numbers[i]);
-    let a = wide(numbers[i + 1]);
-    let b = wide(numbers[i + 2]);
-    let c = wide(numbers[i + 3]);
-    let d = wide(numbers[i + 4]);
+    let kind = wide(entry[0]);
+    let a = wide(entry[1]);
+    let b = wide(entry[2]);
+    let c = wide(entry[3]);
+    let d = wide(entry[4]);
     let fields = [kind, a, b, c, d];
     let mut line = [0u8; 64];
     let end = decimal_text::put_filled(&mut line, 0, b" # # # # #\n", &fields);
@@ -97,16 +100,20 @@ fn print_entry(rt: &impl Print, numbers: &[u32], n: usize) -> io::Result<()>
 }
 
 fn print_entries(rt: &impl Print, numbers: &[u32]) -> io::Result<()> {
-    let count = numbers.len() / 5;
-    for n in 0..count {
-        print_entry(rt, numbers, n)?;
+    for entry in numbers.chunks_exact(5) {
+        print_entry(rt, entry)?;
     }
     Ok(())
 }
 
 // Whether the bytes of an answer are a sheet's.
-fn print_same(rt: &impl Print, answer: Extent, written: &[u8], sheet: &[u8]) -> io::Result<()> {
-    let Extent::Sheet { entries: _, length } = answer else {
+fn print_same(
+    rt: &impl Print,
+    answer: Result<(usize, usize), Refusal>,
+    written: &[u8],
+    sheet: &[u8],
+) -> io::Result<()> {
+    let Ok((_, length)) = answer else {
         return print_text(rt, b"\n");
     };
     let end = decimal_text::clipped(written, length);
@@ -151,7 +158,7 @@ fn print_read(rt: &impl Print, sheet: &[u8]) -> io::Result<()> {
     print_answer(rt, b"begins ", begins)?;
     print_answer(rt, b" is ", is)?;
     print_short(rt, sheet)?;
-    let Extent::Sheet { entries, length: _ } = is else {
+    let Ok((entries, _)) = is else {
         return Ok(());
     };
     if 64 < entries {
@@ -179,10 +186,8 @@ fn put_hex(out: &mut [u8], at: usize, x: u8) -> usize {
 // Bytes in hexadecimal, as far as the line goes.
 fn put_bytes(line: &mut [u8], bytes: &[u8]) -> usize {
     let mut at = 0;
-    let mut i = 0;
-    while i < bytes.len() {
-        at = put_hex(line, at, bytes[i]);
-        i += 1;
+    for byte in bytes {
+        at = put_hex(line, at, *byte);
     }
     decimal_text::put_byte(line, at, b'\n')
 }
@@ -206,15 +211,10 @@ fn print_list(rt: &impl Print, list: &[u32]) -> io::Result<()> {
     print_bytes(rt, &short)
 }
 
-// Stores the numbers of some bytes at the start of the list.
-fn take(bytes: &[u8], list: &mut [u32])
-    requires { length bytes.now / 4 ≤ length list.old }
-{
-    let count = bytes.len() / 4;
-    let mut n = 0;
-    while n < count {
-        list[n] = big_endian::four_at(bytes, n * 4);
-        n += 1;
+// Stores the numbers of some bytes at the start of the list, as far as it goes.
+fn take(bytes: &[u8], list: &mut [u32]) {
+    for (number, four) in list.iter_mut().zip(bytes.chunks_exact(4)) {
+        *number = big_endian::four_at(four, 0);
     }
 }
 
@@ -253,16 +253,10 @@ fn print_record(rt: &impl Print, letter: u8, bytes: &[u8]) -> io::Result<()> {
 
 // What each record gives, up to one that is cut off.
 fn print_records(rt: &impl Print, input: &[u8]) -> io::Result<()> {
-    let mut at = 0;
-    while 3 <= input.len() - at {
-        let size = big_endian::two_at(input, at + 1) as usize;
-        let from = at + 3;
-        if input.len() - from < size {
-            return Ok(());
-        }
-        let end = from + size;
-        print_record(rt, input[at], &input[from..end])?;
-        at = end;
+    let mut rest = input;
+    while let Some(record) = program_io::first_record(rest) {
+        print_record(rt, record.letter, record.bytes)?;
+        rest = record.rest;
     }
     Ok(())
 }

@@ -1,7 +1,6 @@
 -- what follows from them
 pub mod FirstQuadrantLaws
 pub mod SineLaws
-pub mod QuadrantLaws
 pub mod OppositeLaws
 pub mod SizeLaws
 pub mod Examples

@@ -1,4 +1,6 @@
-// Sine and cosine as document 01 has them: they call each other, the angle falling by a quarter turn.
+// Sine and cosine as document 01 has them: they call each other, the angle falling by a quarter turn. Both stay two
+// functions, beside `sine::sine` and `sine::cosine`, since this is the form that document 01 names (D8 of
+// docs/DECISIONS.md).
 ghost use Rattle.std.specs.Prelude.{◌≤◌, pos};
 ghost use Rattle.sine_table.specs.Table.{Sines};
 ghost use Rattle.sine.specs.Sine.{IsSine, IsCosine};

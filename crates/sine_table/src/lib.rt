@@ -16,12 +16,6 @@ fn second_differences() -> [i16; 899]
     differences::SECOND_DIFFERENCES
 }
 
-fn wide_signed(x: i16) -> i64
-    ensures { result ≡ x }
-{
-    x as i64
-}
-
 // Entry after entry, from the first two: the step to the next one grows by a second difference.
 fn sum_up(differences: &[i16], room: &mut [u32])
     requires { (Gives 0 (pos 0) (pos 174_533) differences.now) × (901 ≤ length room.old) }
@@ -29,18 +23,17 @@ fn sum_up(differences: &[i16], room: &mut [u32])
 {
     let mut entry = differences::FIRST;
     let mut step = differences::SECOND - differences::FIRST;
-    let mut k: usize = 0;
-    while k < 899 {
+    for (k, &difference) in differences.iter().enumerate() {
         room[k] = entry as u32;
         entry += step;
-        step += wide_signed(differences[k]);
-        k += 1;
+        step += i64::from(difference);
     }
     room[899] = entry as u32;
     room[900] = (entry + step) as u32;
 }
 
-// Table S in the first 901 numbers of the caller's buffer; what lies past them stays.
+// Table S in the first 901 numbers of the caller's buffer; what lies past them stays. A slice with its length in a
+// `requires`, and no `&mut [u32; 901]`: callers lend longer buffers too, and the clause `room` says what is past them.
 pub fn fill(room: &mut [u32])
     requires { 901 ≤ length room.old }
     ensures room { room.new ≡ filled room.old }
@@ -50,7 +43,8 @@ pub fn fill(room: &mut [u32])
     sum_up(&differences, room);
 }
 
-// Entry k of a filled table.
+// Entry k of a filled table. `Sines` stays a `requires`, and the table a slice: `sine::sine` and the other public
+// functions that read it take it so, and a type in its place would ask more of their callers.
 pub fn entry(table: &[u32], k: usize) -> u32
     requires { (Sines table.now) × (k < 901) }
     ensures { Entry k result }

@@ -4,14 +4,13 @@
 --   and the station as they are given; so the true contact lies between them."
 -- Definitions only. The sentence is ours; no document has it. That a contact lies between is by words: the true u, v
 -- and L are continuous in time.
-use Rattle.std.specs.Prelude.{◌≡◌, ◌⊎◌, ℤ, pos, ◌*ℤ◌, ◌≤ℤ◌, ◌<ℤ◌}
+use Rattle.std.specs.Prelude.{◌≡◌, ◌⊎◌, ℤ, pos, ◌*ℤ◌, ◌≤ℤ◌, ◌<ℤ◌, Some}
 use Rattle.sheet_types.specs.declared.phases.Phase.{Phase}
 use Rattle.shadow_geometry.specs.Shadow.{cone}
 use Rattle.requests.specs.declared.Occultation.{Occultation}
 use Rattle.contacts.specs.declared.entries.Entry as Contact
 use Rattle.contacts.specs.declared.entries.Entry.TheVariants as C
 use Rattle.sheet_format.specs.StoredSeconds.{second_of}
-use Rattle.contact_times.specs.declared.search.Bracket.TheVariants as B
 use Rattle.contact_times.specs.Parts.{hundredths}
 use Rattle.contact_times.specs.Brackets.{bracket_of}
 use Rattle.contact_times.specs.Contacts.{crossing}
@@ -30,7 +29,7 @@ OutsideAt o c φ τ = InsideAt o c φ τ → ⊥
 pub record Bracketed (o : Occultation) (φ : Phase) (from to : ℤ) (Before After : ℤ → Type 0) : Type 0 where
   pub a : ℤ
   pub b : ℤ
-  pub found : bracket_of (crossing o φ) from to ≡ B.Between a b
+  pub found : bracket_of (crossing o φ) from to ≡ Some (a, b)
   pub least : (from *ℤ pos 100) ≤ℤ a
   pub order : a <ℤ b
   pub most : b ≤ℤ (to *ℤ pos 100)

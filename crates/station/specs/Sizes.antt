@@ -1,7 +1,6 @@
 -- A station in its ranges, and its place, as sizes: what those who compute on lean on.
-use Rattle.std.specs.Prelude.{◌≡◌, ◌≤◌, pos, nat_abs, ◌≤ℤ◌}
+use Rattle.std.specs.Prelude.{◌≡◌, ◌≤◌, pos, nat_abs, ◌≤ℤ◌, None}
 use Rattle.std.specs.Int.Signed.{le_z_yes}
-use Rattle.rounding.specs.declared.Limits.TheVariants.{InRange}
 use Rattle.rounding.specs.laws.LimitsLaws.{each_in_range}
 use Rattle.rounding.specs.laws.Order.{≤ℤ_trans, nat_abs_le}
 use Rattle.station.specs.declared.Station.{Station}
@@ -15,7 +14,7 @@ pub record StationSizes (s : Station) : Type 0 where
   pub height : nat_abs s.height ≤ 9000
   pub deltat : nat_abs s.deltat ≤ 20000
 
-pub station_sizes : (s : Station) → range_of s ≡ InRange → StationSizes s
+pub station_sizes : (s : Station) → range_of s ≡ None → StationSizes s
 unfolding range_of ranges
 station_sizes s w =
     let i = each_in_range 0 (ranges s) w in

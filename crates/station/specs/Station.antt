@@ -1,8 +1,7 @@
 -- A station's numbers and their ranges.
-use Rattle.std.specs.Prelude.{List, [], ◌∷◌, ℤ, pos, neg_ℤ}
-use Rattle.rounding.specs.declared.Limits.{Limits}
+use Rattle.std.specs.Prelude.{List, [], ◌∷◌, ℤ, pos, neg_ℤ, Option, Result, ℕ}
+use Rattle.sheet_types.specs.declared.refusals.Refusal.{Refusal}
 use Rattle.rounding.specs.Limits.{Row, row, ◌±◌, first_out_of_range}
-use Rattle.sheet_types.specs.declared.refusals.Checked.{Checked}
 use Rattle.sheet_types.specs.Refusals.{of_limits}
 use Rattle.station.specs.declared.Station.{Station}
 
@@ -22,10 +21,10 @@ ranges s =
     ∷ []
 
 -- the first number that is out of its range
-unfoldable pub range_of : Station → Limits
+unfoldable pub range_of : Station → Option ℕ
 range_of s = first_out_of_range 0 (ranges s)
 
 -- "3 | a station value outside its range | first: 0 number, 1 latitude, 2 longitude, 3 height"; document 02,
 -- wish 1: "3 with place 4 for ΔT, after height"
-abbrev pub station_checked : Station → Checked
+abbrev pub station_checked : Station → Result Unit Refusal
 station_checked s = of_limits 3 (range_of s)

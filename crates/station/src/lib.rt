@@ -8,6 +8,8 @@ ghost use Rattle.station.specs.Station.{fields, station_checked};
 ghost use Rattle.station.specs.Sizes.{StationSizes};
 ghost use Rattle.station.specs.Place.{C, ephemeris_longitude, place_of};
 
+use sheet_types::refusals::Refusal;
+
 #[repr(C)]
 #[derive(Clone, Copy)]
 pub struct Station {
@@ -35,6 +37,7 @@ pub struct Place {
     pub longitude: i64,
 }
 
+// Two arrays, as `sheet_types::refusals::of_ranges` takes them.
 const LOWS: [i64; 5] = [1, -90_000_000, -180_000_000, -500, -10_000];
 
 const HIGHS: [i64; 5] = [999, 90_000_000, 180_000_000, 9_000, 20_000];
@@ -52,7 +55,7 @@ fn listed(s: Station) -> [i64; 5]
 }
 
 // Refusal 3 with the first number that is out of its range: 0 number, 1 latitude, 2 longitude, 3 height, 4 ΔT.
-pub fn check(s: Station) -> sheet_types::refusals::Checked
+pub fn check(s: Station) -> Result<(), Refusal>
     ensures { result ≡ station_checked s }
 {
     let values = listed(s);

@@ -30,9 +30,7 @@ struct Next {
     output: usize,
     // bytes of the line's array, to standard error
     error: usize,
-    count: usize,
-    bytes: usize,
-    more: bool,
+    place: Place,
 }
 
 // The next request, at the start of its buffer; how many bytes it has, 0 at the input's end.
@@ -65,9 +63,9 @@ fn turn(
     requires sines_len { (length sines.old ≡ 901) × (length room.old ≡ 65536) }
     ensures output { Begins result.output room.new (sheet_for (take size request.now) sines.old room.old) }
     ensures error { take result.error line.new ≡ take 128 (told_for (capped (place.count + 1)) place.bytes (take size request.now) sines.old room.old) }
-    ensures count { result.count ≡ capped (place.count + 1) }
-    ensures bytes { result.bytes ≡ capped (place.bytes + size) }
-    ensures more { result.more ≡ not (stops_for (take size request.now) sines.old room.old) }
+    ensures count { result.place.count ≡ capped (place.count + 1) }
+    ensures bytes { result.place.bytes ≡ capped (place.bytes + size) }
+    ensures more { result.place.more ≡ not (stops_for (take size request.now) sines.old room.old) }
     ensures counts { Counts result.output room.new × Counts result.error line.new }
 {
     let count = decimal_text::after(place.count, 1);
@@ -85,9 +83,11 @@ fn turn(
     Next {
         output: step.output,
         error,
-        count,
-        bytes,
-        more: !step.stops,
+        place: Place {
+            count,
+            bytes,
+            more: !step.stops,
+        },
     }
 }
 
@@ -124,9 +124,8 @@ fn answer_next<R: Read, O: Write, E: Write>(
     let size = read_request(reader, &mut request)?;
     if size == 0 {
         return Ok(Place {
-            count: place.count,
-            bytes: place.bytes,
             more: false,
+            ..place
         });
     }
     let mut line = [0u8; 128];
@@ -136,13 +135,12 @@ fn answer_next<R: Read, O: Write, E: Write>(
     let written = output.write_all(&room[..stored]).is_ok();
     let reported = error.write_all(&line[..told]).is_ok();
     if !written {
-        let end = unwritten(&mut line, next.count, place.bytes);
+        let end = unwritten(&mut line, next.place.count, place.bytes);
         error.write_all(&line[..end])?;
     }
     Ok(Place {
-        count: next.count,
-        bytes: next.bytes,
-        more: written & reported & next.more,
+        more: written & reported & next.place.more,
+        ..next.place
     })
 }
 

@@ -1,15 +1,12 @@
 -- The stream stops exactly at bytes of wrong shape, whatever the buffers are; so it goes on only behind a whole
 -- request. No other refusal has the number 10: the limits raise 1, 2, 13 and 3, the buffers 4.
-use Rattle.std.specs.Prelude.{◌≡◌, Bool, ℕ, ◌<◌, eqb, leb, ℤ}
+use Rattle.std.specs.Prelude.{◌≡◌, Bool, ℕ, ◌<◌, eqb, leb, ℤ, Result, Ok, Err, Option, None, Some}
 use Rattle.std.proofs.Math.Path.{refl, ap}
 use Rattle.std.proofs.Common.{sym, ◌∙◌, arith, eqb-true}
 use Rattle.std.proofs.Math.Bool.{true, false, cond}
 use mathlib.Core.List.{List}
 use Rattle.std.proofs.Math.ListN.{length, get_or}
-use Rattle.rounding.specs.declared.Limits.{Limits}
-use Rattle.rounding.specs.declared.Limits.TheVariants as L
-use Rattle.sheet_types.specs.declared.refusals.Checked.{Checked}
-use Rattle.sheet_types.specs.declared.refusals.Checked.TheVariants as C
+use Rattle.sheet_types.specs.declared.refusals.Refusal.{Refusal}
 use Rattle.sheet_types.specs.Refusals.{refusal, of_limits, andThen}
 use Rattle.elements.specs.declared.Body.{Body}
 use Rattle.elements.specs.declared.Body.TheVariants as B
@@ -21,7 +18,6 @@ use Rattle.requests.specs.Requests.{of_eclipse, of_star, guard_holds, checked}
 use Rattle.requests.specs.Windows.{window_holds}
 use Rattle.requests.specs.Admission.{room_checked, admitted}
 use Rattle.circumstances.specs.WrittenSheet.{sheet_bytes}
-use Rattle.circumstances.specs.declared.Answer.TheVariants as A
 use Rattle.circumstances.specs.Sheet.{answer_by, sheet_answer}
 use Rattle.request_format.specs.declared.fields.Shape.{Shape}
 use Rattle.request_format.specs.declared.fields.Shape.TheVariants as S
@@ -38,27 +34,27 @@ use Rattle.streams.specs.laws.StreamLaws.{eclipse-size, star-size}
 
 -- ---- a request's numbers are never refused with 10
 
-abbrev ten_by : Checked → Bool
-ten_by C.Within = false
-ten_by (C.Refused r) = is_shape r
+abbrev ten_by : Result Unit Refusal → Bool
+ten_by (Ok tt) = false
+ten_by (Err r) = is_shape r
 
-record Other (c : Checked) : Type 0 where
+record Other (c : Result Unit Refusal) : Type 0 where
   is : ten_by c ≡ false
 
-other_limits : (n : ℕ) (l : Limits) → eqb n 10 ≡ false → Other (of_limits n l)
-other_limits n L.InRange h = record { is = refl }
-other_limits n (L.OutOfRange place) h = record { is = h }
+other_limits : (n : ℕ) (l : Option ℕ) → eqb n 10 ≡ false → Other (of_limits n l)
+other_limits n None h = record { is = refl }
+other_limits n (Some place) h = record { is = h }
 
-other_test : (t : Bool) (n place : ℕ) → eqb n 10 ≡ false → Other (cond t C.Within (C.Refused (refusal n place)))
+other_test : (t : Bool) (n place : ℕ) → eqb n 10 ≡ false → Other (cond t (Ok tt) (Err (refusal n place)))
 other_test true n place h = record { is = refl }
 other_test false n place h = record { is = h }
 
-other_then : {a b : Checked} → Other a → Other b → Other (andThen a b)
+other_then : {a b : Result Unit Refusal} → Other a → Other b → Other (andThen a b)
 other_then {a} {b} h g = by a h
   where
-    by : (c : Checked) → Other c → Other (andThen c b)
-    by C.Within k = g
-    by (C.Refused r) k = k
+    by : (c : Result Unit Refusal) → Other c → Other (andThen c b)
+    by (Ok tt) k = g
+    by (Err r) k = k
 
 other_body : (b : Body) → Other (body_checked b)
 other_body (B.Sun e) = other_limits 2 (range_of e) refl
@@ -76,13 +72,13 @@ never : (o : Occultation) (sines room : List ℕ) → stops_by (sheet_answer o s
 unfolding sheet_answer
 never o sines room = by (admitted o sines) (other_admitted o sines)
   where
-    written : (t : Bool) (n : ℕ) → stops_by (cond t (A.Written n) (A.Refused (refusal 4 n))) ≡ false
+    written : (t : Bool) (n : ℕ) → stops_by (cond t (Ok n) (Err (refusal 4 n))) ≡ false
     written true n = refl
     written false n = refl
 
-    by : (c : Checked) → Other c → stops_by (answer_by c o room) ≡ false
-    by C.Within h = written (leb (length (sheet_bytes o)) (length room)) (length (sheet_bytes o))
-    by (C.Refused r) h = h.is
+    by : (c : Result Unit Refusal) → Other c → stops_by (answer_by c o room) ≡ false
+    by (Ok tt) h = written (leb (length (sheet_bytes o)) (length room)) (length (sheet_bytes o))
+    by (Err r) h = h.is
 
 -- ---- the stream stops exactly at a wrong shape
 

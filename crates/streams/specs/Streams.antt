@@ -1,9 +1,7 @@
 -- Requests that follow each other: where each ends, the answer to it, and the report on standard error. The answer to
 -- a request's bytes, and what it leaves in the buffers: request_answers, Sheet.
-use Rattle.std.specs.Prelude.{Bool, true, false, cond, List, [], ◌++◌, ℕ, eqb, get_or}
+use Rattle.std.specs.Prelude.{Bool, true, false, cond, List, [], ◌++◌, ℕ, eqb, get_or, Result, Ok, Err}
 use Rattle.sheet_types.specs.declared.refusals.Refusal.{Refusal}
-use Rattle.circumstances.specs.declared.Answer.{Answer}
-use Rattle.circumstances.specs.declared.Answer.TheVariants as A
 use Rattle.request_format.specs.Fields.{elements, star_elements}
 use Rattle.request_format.specs.declared.fields.Shape.TheVariants as S
 use Rattle.request_format.specs.Layout.{Reading, numbers, misshaped}
@@ -33,7 +31,7 @@ size_from first = cond (eqb first eclipse_kind) (size_for S.Eclipse) (cond (eqb 
 abbrev pub is_star : List ℕ → Bool
 is_star s = eqb (get_or s 0 0) star_kind
 
-unfoldable pub answer_for : (request sines room : List ℕ) → Answer
+unfoldable pub answer_for : (request sines room : List ℕ) → Result ℕ Refusal
 answer_for s sines room = cond (is_star s) (star_answer s sines room) (answer_to s sines room)
 
 -- the sheet's buffer and that for table S afterwards
@@ -65,17 +63,17 @@ unfoldable pub refusal_told : (count at : ℕ) → Refusal → List ℕ
 refusal_told count at r = cond (is_shape r) (told_line count r ++ stop_line at) (told_line count r)
 
 -- to standard error: nothing, or the refusal, of request `count`, which begins at byte `at`
-abbrev pub told_by : (count at : ℕ) → Answer → List ℕ
-told_by count at (A.Written n) = []
-told_by count at (A.Refused r) = refusal_told count at r
+abbrev pub told_by : (count at : ℕ) → Result ℕ Refusal → List ℕ
+told_by count at (Ok n) = []
+told_by count at (Err r) = refusal_told count at r
 
 unfoldable pub told_for : (count at : ℕ) (request sines room : List ℕ) → List ℕ
 told_for count at s sines room = told_by count at (answer_for s sines room)
 
 -- and whether the stream stops there
-abbrev pub stops_by : Answer → Bool
-stops_by (A.Written n) = false
-stops_by (A.Refused r) = is_shape r
+abbrev pub stops_by : Result ℕ Refusal → Bool
+stops_by (Ok n) = false
+stops_by (Err r) = is_shape r
 
 unfoldable pub stops_for : (request sines room : List ℕ) → Bool
 stops_for s sines room = stops_by (answer_for s sines room)

@@ -7,7 +7,6 @@ ghost use Rattle.decimal_text.specs.Texts.{Put, Counts};
 ghost use Rattle.request_answers.specs.Sheet.{Begins};
 ghost use Rattle.streams.specs.Streams.{size_from, is_star, answer_for, room_for, table_for, sheet_for, told_line, stop_line, is_shape, refusal_told, told_for, stops_for};
 
-use circumstances::Answer;
 use request_format::fields::{LENGTH, STAR_LENGTH};
 use sheet_types::refusals::Refusal;
 
@@ -46,7 +45,7 @@ fn is_star(request: &[u8]) -> bool
 }
 
 // The sheet of a request, by its first byte.
-fn answer(request: &[u8], sines: &mut [u32], room: &mut [u8]) -> Answer
+fn answer(request: &[u8], sines: &mut [u32], room: &mut [u8]) -> Result<usize, Refusal>
     ensures answer { result ≡ answer_for request.now sines.old room.old }
     ensures sheet { room.new ≡ room_for request.now sines.old room.old }
     ensures sines { sines.new ≡ table_for request.now sines.old }
@@ -112,12 +111,12 @@ pub fn step(
 {
     let answer = answer(request, sines, room);
     match answer {
-        Answer::Written(written) => Answered {
+        Ok(written) => Answered {
             output: written,
             error: 0,
             stops: false,
         },
-        Answer::Refused(refusal) => {
+        Err(refusal) => {
             let end = put_refusal(line, count, at, refusal);
             let stops = is_shape(refusal);
             Answered {

@@ -1,5 +1,5 @@
 -- A number read digit by digit, up to 2^63.
-use Rattle.std.specs.Prelude.{ℕ, zero, suc, ◌+◌, ◌-◌, ◌*◌, ◌≤◌, ◌<◌, min, ◌≡◌, Bool, ◌&&◌, eqb, leb, ltb, take, ℤ, pos, nat_abs, ◌-ℤ◌}
+use Rattle.std.specs.Prelude.{ℕ, zero, suc, ◌+◌, ◌-◌, ◌*◌, ◌≤◌, ◌<◌, min, ◌≡◌, Bool, ◌&&◌, eqb, leb, ltb, take, ℤ, pos, nat_abs, ◌-ℤ◌, Err, Ok}
 use Rattle.std.proofs.Math.Path.{refl, sym, ap, ap₂}
 use Rattle.std.proofs.Common.{◌∙◌, add-one}
 use Rattle.std.proofs.Math.Bool.{true, false, cond}
@@ -13,7 +13,6 @@ use Rattle.tokens.specs.declared.Class.TheVariants as C
 use Rattle.tokens.specs.Text.{all_of, start_of}
 use Rattle.tokens.specs.laws.TextLaws.{rest-is}
 use Rattle.table_elements.specs.declared.typed_rows.Fault.TheVariants as F
-use Rattle.table_elements.specs.declared.typed_rows.Number.TheVariants as N
 use Rattle.table_elements.specs.Reading.{appended, digits_of, is_whole, with_sign, number_of}
 
 -- a number, or 2^63 where it is above that
@@ -105,33 +104,33 @@ module _ (w : List ℕ) (minus : ℕ) (m : minus ≡ start_of C.Minus w) where
   same : digits ≡ digits_of w
   same = rest-is w minus ∙ ap (λ k. drop k w) m
 
-  pub number-none : length digits ≡ 0 → N.Faulty F.NotWhole ≡ number_of w
+  pub number-none : length digits ≡ 0 → Err F.NotWhole ≡ number_of w
   unfolding number_of
   number-none h = rw (← same, h)
 
-  pub number-other : all_of C.Digit digits ≡ false → N.Faulty F.NotWhole ≡ number_of w
+  pub number-other : all_of C.Digit digits ≡ false → Err F.NotWhole ≡ number_of w
   unfolding number_of
   number-other h = rw (← same, h) (by (ltb 0 (length digits)))
     where
-      by : (b : Bool) → N.Faulty F.NotWhole ≡ cond (b && false) (cond (ltb 9223372036854775807 (appended 0 digits)) (N.Faulty F.TooLarge)
-          (N.Is (with_sign (start_of C.Minus w) (appended 0 digits)))) (N.Faulty F.NotWhole)
+      by : (b : Bool) → Err F.NotWhole ≡ cond (b && false) (cond (ltb 9223372036854775807 (appended 0 digits)) (Err F.TooLarge)
+          (Ok (with_sign (start_of C.Minus w) (appended 0 digits)))) (Err F.NotWhole)
       by true = refl
       by false = refl
 
   module _ (some : 0 < length digits) (all : all_of C.Digit digits ≡ true) (n : ℕ) (e : n ≡ capped (appended 0 digits)) where
-    pub number-large : 9223372036854775807 < n → N.Faulty F.TooLarge ≡ number_of w
+    pub number-large : 9223372036854775807 < n → Err F.TooLarge ≡ number_of w
     unfolding number_of
     number-large h =
         let large : 9223372036854775807 < appended 0 digits = capped_above (appended 0 digits) (omega arith) in
         rw (← same, lt-ltb 0 (length digits) some, all, lt-ltb 9223372036854775807 (appended 0 digits) large)
 
-    pub number_is : n ≤ 9223372036854775807 → (z : ℤ) → z ≡ with_sign minus n → N.Is z ≡ number_of w
+    pub number_is : n ≤ 9223372036854775807 → (z : ℤ) → z ≡ with_sign minus n → Ok z ≡ number_of w
     unfolding number_of
     number_is h z q =
         let k : n ≡ appended 0 digits = e ∙ capped_below (appended 0 digits) (omega arith) in
         let low : appended 0 digits ≤ 9223372036854775807 = omega arith in
         let v : z ≡ with_sign (start_of C.Minus w) (appended 0 digits) = q ∙ ap₂ with_sign m k in
-        rw (← same, lt-ltb 0 (length digits) some, all, le-ltb 9223372036854775807 (appended 0 digits) low) (ap N.Is v)
+        rw (← same, lt-ltb 0 (length digits) some, all, le-ltb 9223372036854775807 (appended 0 digits) low) (ap Ok v)
 
 -- ---- a number that is taken is one of 64 bits
 
@@ -146,12 +145,12 @@ size-signed minus n = by (eqb minus 1)
     by true = size_minus n
     by false = refl
 
-pub number_size : (w : List ℕ) (z : ℤ) → number_of w ≡ N.Is z → nat_abs z ≤ 9223372036854775807
+pub number_size : (w : List ℕ) (z : ℤ) → number_of w ≡ Ok z → nat_abs z ≤ 9223372036854775807
 unfolding number_of
 number_size w z q = by (appended 0 (digits_of w)) (is_whole w) (ltb 9223372036854775807 (appended 0 (digits_of w))) refl q
   where
     by : (n : ℕ) (a b : Bool) → ltb 9223372036854775807 n ≡ b
-        → cond a (cond b (N.Faulty F.TooLarge) (N.Is (with_sign (start_of C.Minus w) n))) (N.Faulty F.NotWhole) ≡ N.Is z → nat_abs z ≤ 9223372036854775807
+        → cond a (cond b (Err F.TooLarge) (Ok (with_sign (start_of C.Minus w) n))) (Err F.NotWhole) ≡ Ok z → nat_abs z ≤ 9223372036854775807
     by n false b e q = let t : ◌≡◌ {A = ℕ} 0 1 = cc in absurd (omega arith)
     by n true true e q = let t : ◌≡◌ {A = ℕ} 0 1 = cc in absurd (omega arith)
     by n true false e q =

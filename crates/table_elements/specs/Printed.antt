@@ -1,13 +1,12 @@
 -- What the program prints: to standard output the values of each seven rows, or their refusal; to standard error the
 -- first fault.
-use Rattle.std.specs.Prelude.{ℕ, ◌+◌, cond, List, [], ◌∷◌, ◌++◌, eqb, ltb, ℤ, length}
+use Rattle.std.specs.Prelude.{ℕ, ◌+◌, cond, List, [], ◌∷◌, ◌++◌, eqb, ltb, ℤ, length, Result, Ok, Err}
+use Rattle.sheet_types.specs.declared.refusals.Refusal.{Refusal}
 use Rattle.decimal_text.specs.Decimals.{decimal}
 use Rattle.decimal_text.specs.Texts.{letters}
 use Rattle.decimal_text.specs.Patterns.{filled}
 use Rattle.decimal_text.specs.Rows.{rows}
 use Rattle.listing_lines.specs.Lines.{refusal_line}
-use Rattle.besselian_rows.specs.declared.tables.Answer.{Answer}
-use Rattle.besselian_rows.specs.declared.tables.Answer.TheVariants.{Made, Refused}
 use Rattle.besselian_rows.specs.Tables.{answer_to, values_of}
 use Rattle.table_elements.specs.declared.typed_rows.Fault.{Fault}
 use Rattle.table_elements.specs.declared.typed_rows.Fault.TheVariants as F
@@ -17,9 +16,9 @@ use Rattle.table_elements.specs.Reading.{Said, nothing, row, faulty, line_of, li
 unfoldable pub values_text : List ℤ → List ℕ
 values_text values = filled values 0 (rows (λ i. letters "# # # # # # # #\n") 7)
 
-abbrev pub answer_text : Answer → List ℤ → List ℕ
-answer_text Made numbers = values_text (values_of numbers 7)
-answer_text (Refused r) numbers = refusal_line r.number r.place
+abbrev pub answer_text : Result Unit Refusal → List ℤ → List ℕ
+answer_text (Ok tt) numbers = values_text (values_of numbers 7)
+answer_text (Err r) numbers = refusal_line r.number r.place
 
 unfoldable pub table_text : List ℤ → List ℕ
 table_text numbers = answer_text (answer_to numbers 56) numbers

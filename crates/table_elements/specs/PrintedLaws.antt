@@ -1,5 +1,5 @@
 -- The parts of what is printed; and a text read line by line, each line's part put.
-use Rattle.std.specs.Prelude.{ℕ, ◌+◌, ◌-◌, ◌*◌, ◌≤◌, ◌<◌, ◌≡◌, refl, Bool, true, false, cond, eqb, ℤ, length, take}
+use Rattle.std.specs.Prelude.{ℕ, ◌+◌, ◌-◌, ◌*◌, ◌≤◌, ◌<◌, ◌≡◌, refl, Bool, true, false, cond, eqb, ℤ, length, take, Result, Ok, Err}
 use Rattle.std.proofs.Common.{sym, ◌∙◌, arith, le-ltb, lt-ltb, eq-eqb, ne_eqb, eqb-true, length-append, take_all, length-take-le}
 use Rattle.std.proofs.Math.Path.{ap}
 use mathlib.Core.List.{List, [], ◌∷◌, ◌++◌, append-nil}
@@ -11,15 +11,11 @@ use Rattle.decimal_text.specs.Decimals.{decimal}
 use Rattle.decimal_text.specs.laws.TextLaws.{put_nil, Putting, putting_start, putting-turn, putting-end}
 use Rattle.decimal_text.specs.laws.RowLaws.{put_as, joined}
 use Rattle.listing_lines.specs.Lines.{refusal_line}
-use Rattle.besselian_rows.specs.declared.tables.Answer.{Answer}
-use Rattle.besselian_rows.specs.declared.tables.Answer.TheVariants.{Made, Refused}
 use Rattle.besselian_rows.specs.Tables.{answer_to, values_of, values_after}
 use Rattle.table_elements.specs.declared.Extent.{Extent}
 use Rattle.table_elements.specs.declared.Extent.TheVariants as R
 use Rattle.table_elements.specs.declared.typed_rows.Fault.{Fault}
 use Rattle.table_elements.specs.declared.typed_rows.Fault.TheVariants as F
-use Rattle.table_elements.specs.declared.typed_rows.Line.{Line}
-use Rattle.table_elements.specs.declared.typed_rows.Line.TheVariants as L
 use Rattle.table_elements.specs.Reading.{Said, nothing, row, faulty, line_of, lines_of}
 use Rattle.tokens.specs.declared.Class.TheVariants as C
 use Rattle.tokens.specs.Text.{run_of}
@@ -29,15 +25,15 @@ use Rattle.table_elements.specs.laws.LineLaws.{Left, line-within, next-line}
 use Rattle.table_elements.specs.Printed.{values_text, table_text, message_of, fault_line, Streams, told, first, of_line, read_lines, printed}
 
 -- what a line adds to the output, where it is that row, from 0, of its table; and the rows of the table after it
-abbrev pub whole_text : Line → ℕ → List ℤ → List ℕ
-whole_text L.Row k numbers = cond (eqb k 6) (table_text numbers) []
-whole_text L.Nothing k numbers = []
-whole_text (L.Faulty f) k numbers = []
+abbrev pub whole_text : Result Bool Fault → ℕ → List ℤ → List ℕ
+whole_text (Ok true) k numbers = cond (eqb k 6) (table_text numbers) []
+whole_text (Ok false) k numbers = []
+whole_text (Err f) k numbers = []
 
-abbrev pub rows_after : Line → ℕ → ℕ
-rows_after L.Row k = cond (eqb k 6) 0 (k + 1)
-rows_after L.Nothing k = k
-rows_after (L.Faulty f) k = k
+abbrev pub rows_after : Result Bool Fault → ℕ → ℕ
+rows_after (Ok true) k = cond (eqb k 6) 0 (k + 1)
+rows_after (Ok false) k = k
+rows_after (Err f) k = k
 
 -- how many bytes the tables of a text take, and the report of its fault
 abbrev pub output_of : Extent → ℕ
@@ -50,12 +46,12 @@ error_of (R.Faulty o k f) = fault_line k f
 
 -- ---- a table
 
-module _ (numbers : List ℤ) (a : Answer) (k : ℕ) (e : a ≡ answer_to numbers k) (h : k ≡ 56) where
+module _ (numbers : List ℤ) (a : Result Unit Refusal) (k : ℕ) (e : a ≡ answer_to numbers k) (h : k ≡ 56) where
   answered : answer_to numbers 56 ≡ a
   answered = ap (answer_to numbers) (sym h) ∙ sym e
 
   module _ (old : List ℕ) (at : ℕ) (new : List ℕ) (r : ℕ) where
-    pub table-made : a ≡ Made → (before values : List ℤ) → length before ≡ 56 → values ≡ values_after (answer_to numbers k) numbers before
+    pub table-made : a ≡ Ok tt → (before values : List ℤ) → length before ≡ 56 → values ≡ values_after (answer_to numbers k) numbers before
         → Put old at (values_text values) new r → Put old at (table_text numbers) new r
     unfolding table_text
     table-made q before values l v p =
@@ -63,7 +59,7 @@ module _ (numbers : List ℤ) (a : Answer) (k : ℕ) (e : a ≡ answer_to number
         let d : drop 56 before ≡ [] = drop_of_length-le before {i = 56} (omega arith) in
         rw (answered, q) (put_as _ _ old at new r (ap values_text (w ∙ ap (λ l. values_of numbers 7 ++ l) d ∙ append-nil (values_of numbers 7))) p)
 
-    pub table-refused : (x : Refusal) → a ≡ Refused x → Put old at (refusal_line x.number x.place) new r → Put old at (table_text numbers) new r
+    pub table-refused : (x : Refusal) → a ≡ Err x → Put old at (refusal_line x.number x.place) new r → Put old at (table_text numbers) new r
     unfolding table_text
     table-refused x q p = rw (answered, q) p
 
@@ -152,15 +148,15 @@ module _ (text old : List ℕ) where
       opened : read_lines f.ls line (take (6 * k) numbers) ≡ of_line (line_of lent) line (take (6 * k) numbers) (read_lines rest (line + 1))
       opened = ap (λ ls. read_lines ls line (take (6 * k) numbers)) (next-line text from n f.ls f.left h e).1 ∙ lines_cons lent rest line (take (6 * k) numbers)
 
-      module _ (said : Line) (q : said ≡ answer_of (line_of lent)) where
-        pub fault-output : (x : Fault) → said ≡ L.Faulty x → (Put old 0 (whole text).output out at) × ((whole text).error ≡ fault_line line x)
+      module _ (said : Result Bool Fault) (q : said ≡ answer_of (line_of lent)) where
+        pub fault-output : (x : Fault) → said ≡ Err x → (Put old 0 (whole text).output out at) × ((whole text).error ≡ fault_line line x)
         fault-output x b = by (line_of lent) refl
           where
             by : (s : Said) → line_of lent ≡ s → (Put old 0 (whole text).output out at) × ((whole text).error ≡ fault_line line x)
-            by nothing t = let y : L.Faulty x ≡ L.Nothing = sym b ∙ q ∙ ap answer_of t in let z : ◌≡◌ {A = ℕ} 0 1 = cc in absurd (omega arith)
-            by (row ns) t = let y : L.Faulty x ≡ L.Row = sym b ∙ q ∙ ap answer_of t in let z : ◌≡◌ {A = ℕ} 0 1 = cc in absurd (omega arith)
+            by nothing t = let y : Err x ≡ (Ok false) = sym b ∙ q ∙ ap answer_of t in let z : ◌≡◌ {A = ℕ} 0 1 = cc in absurd (omega arith)
+            by (row ns) t = let y : Err x ≡ (Ok true) = sym b ∙ q ∙ ap answer_of t in let z : ◌≡◌ {A = ℕ} 0 1 = cc in absurd (omega arith)
             by (faulty y) t =
-                let g : L.Faulty x ≡ L.Faulty y = sym b ∙ q ∙ ap answer_of t in
+                let g : Err x ≡ Err y = sym b ∙ q ∙ ap answer_of t in
                 let m : y ≡ x = cc in
                 let o : read_lines f.ls line (take (6 * k) numbers) ≡ told (fault_line line y) = opened ∙ ap (λ s. of_line s line (take (6 * k) numbers) (read_lines rest (line + 1))) t in (
                   putting-end old 0 (whole text).output out at (rw (ap (λ s. s.output) o) at f.putting),
@@ -186,7 +182,7 @@ module _ (text old : List ℕ) where
                 error = rw g (sym u ∙ f.error);
               }
 
-          pub reading-turn : ((x : Fault) → said ≡ L.Faulty x → ⊥) → Stored (line_of lent) (6 * k) numbers after → Put out at (whole_text said k after) new r
+          pub reading-turn : ((x : Fault) → said ≡ Err x → ⊥) → Stored (line_of lent) (6 * k) numbers after → Put out at (whole_text said k after) new r
               → j ≡ rows_after said k → Reading text old new r after j (line + 1) (from + n + 1)
           reading-turn good st p i = by (line_of lent) refl
             where
@@ -194,7 +190,7 @@ module _ (text old : List ℕ) where
               six ns t true b =
                   let v = st.some ns t in
                   let w : k ≡ 6 = eqb-true k 6 b in
-                  let m : said ≡ L.Row = q ∙ ap answer_of t in
+                  let m : said ≡ (Ok true) = q ∙ ap answer_of t in
                   let z : j ≡ 0 = i ∙ ap (λ x. rows_after x k) m ∙ rw b in
                   let all : after ≡ take (6 * k) numbers ++ ns = sym (take_all (6 * k + 6) after (omega (arith, f.room))) ∙ v.1 in
                   let c : length (take (6 * k) numbers ++ ns) ≡ 42 = ap length (sym all) ∙ l ∙ f.room in
@@ -205,7 +201,7 @@ module _ (text old : List ℕ) where
               six ns t false b =
                   let v = st.some ns t in
                   let w : k ≡ 6 → ⊥ = eqb-false k 6 b in
-                  let m : said ≡ L.Row = q ∙ ap answer_of t in
+                  let m : said ≡ (Ok true) = q ∙ ap answer_of t in
                   let z : j ≡ k + 1 = i ∙ ap (λ x. rows_after x k) m ∙ rw b in
                   let y : 6 * j ≡ 6 * k + 6 = omega arith in
                   let c : length (take (6 * k) numbers ++ ns) ≡ 6 * k + 6 = length-append (take (6 * k) numbers) ns
@@ -218,7 +214,7 @@ module _ (text old : List ℕ) where
 
               by : (s : Said) → line_of lent ≡ s → Reading text old new r after j (line + 1) (from + n + 1)
               by nothing t =
-                  let m : said ≡ L.Nothing = q ∙ ap answer_of t in
+                  let m : said ≡ (Ok false) = q ∙ ap answer_of t in
                   let z : j ≡ k = i ∙ ap (λ x. rows_after x k) m in
                   let o = opened ∙ ap (λ s. of_line s line (take (6 * k) numbers) (read_lines rest (line + 1))) t in
                   step [] (take (6 * k) numbers) (ap (λ s. s.output) o) (ap (λ s. s.error) o) (ap (λ x. take (6 * x) after) z ∙ st.none t) (omega (arith, f.low))

@@ -1,12 +1,10 @@
 -- Rows as they are typed: six whole numbers a line. Bytes are treated by their class (`words`); `#` starts a comment.
-use Rattle.std.specs.Prelude.{ℕ, zero, suc, ◌+◌, ◌-◌, ◌*◌, Bool, cond, ◌&&◌, List, [], ◌∷◌, ◌++◌, eqb, ltb, ℤ, pos, ◌-ℤ◌, length, take, drop}
+use Rattle.std.specs.Prelude.{ℕ, zero, suc, ◌+◌, ◌-◌, ◌*◌, Bool, cond, ◌&&◌, List, [], ◌∷◌, ◌++◌, eqb, ltb, ℤ, pos, ◌-ℤ◌, length, take, drop, Result, Err, Ok}
 use Rattle.std.proofs.lemmas.List.Edits.{sets}
 use Rattle.tokens.specs.declared.Class.TheVariants as C
 use Rattle.tokens.specs.Text.{is_in, run_of, all_of, start_of, before}
 use Rattle.table_elements.specs.declared.typed_rows.Fault.{Fault}
 use Rattle.table_elements.specs.declared.typed_rows.Fault.TheVariants as F
-use Rattle.table_elements.specs.declared.typed_rows.Number.{Number}
-use Rattle.table_elements.specs.declared.typed_rows.Number.TheVariants as N
 
 -- ---- a number
 
@@ -26,10 +24,10 @@ abbrev pub with_sign : ℕ → ℕ → ℤ
 with_sign minus n = cond (eqb minus 1) (pos 0 -ℤ pos n) (pos n)
 
 -- it is taken up to 2^63 - 1, with either sign
-unfoldable pub number_of : List ℕ → Number
+unfoldable pub number_of : List ℕ → Result ℤ Fault
 number_of w =
     let n = appended 0 (digits_of w) in
-    cond (is_whole w) (cond (ltb 9223372036854775807 n) (N.Faulty F.TooLarge) (N.Is (with_sign (start_of C.Minus w) n))) (N.Faulty F.NotWhole)
+    cond (is_whole w) (cond (ltb 9223372036854775807 n) (Err F.TooLarge) (Ok (with_sign (start_of C.Minus w) n))) (Err F.NotWhole)
 
 -- ---- a line
 
@@ -51,9 +49,9 @@ abbrev pub whole : List ℤ → Said
 whole ns = cond (eqb (length ns) 0) nothing (cond (eqb (length ns) 6) (row ns) (faulty F.Fewer))
 
 -- a further number of a line
-abbrev pub further : Number → List ℤ → (List ℤ → Said) → Said
-further (N.Faulty f) ns go = faulty f
-further (N.Is z) ns go = cond (ltb (length ns) 6) (go (ns ++ (z ∷ []))) (faulty F.More)
+abbrev pub further : Result ℤ Fault → List ℤ → (List ℤ → Said) → Said
+further (Err f) ns go = faulty f
+further (Ok z) ns go = cond (ltb (length ns) 6) (go (ns ++ (z ∷ []))) (faulty F.More)
 
 -- the words of a line after some numbers of it
 unfoldable pub said_by : List ℤ → List (List ℕ) → Said

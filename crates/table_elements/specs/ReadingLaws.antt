@@ -1,6 +1,6 @@
 -- A line read word by word.
 use Prim.Native.Nat.{ℕ, suc, ◌+◌, ◌-◌, ◌≤◌, ◌<◌}
-use Rattle.std.specs.Prelude.{◌≡◌, Bool, true, false, cond, List, [], ◌∷◌, ◌++◌, eqb, ltb, ℤ, pos, length, get_or, take, drop, set}
+use Rattle.std.specs.Prelude.{◌≡◌, Bool, true, false, cond, List, [], ◌∷◌, ◌++◌, eqb, ltb, ℤ, pos, length, get_or, take, drop, set, Result, Ok, Err}
 use Rattle.std.proofs.Math.Path.{refl, ap}
 use Rattle.std.proofs.Common.{sym, ◌∙◌, add-zero, add-one, length-append, length-drop, length-set, take-suc-set, take_all, take_at, length-take-le, drop-cons, drop-drop}
 use native.Mathlib.Omega.{arith}
@@ -11,28 +11,24 @@ use Rattle.tokens.specs.Text.{run_of}
 use Rattle.tokens.specs.laws.TextLaws.{run-le, rest-is}
 use Rattle.table_elements.specs.declared.typed_rows.Fault.{Fault}
 use Rattle.table_elements.specs.declared.typed_rows.Fault.TheVariants as F
-use Rattle.table_elements.specs.declared.typed_rows.Number.{Number}
-use Rattle.table_elements.specs.declared.typed_rows.Number.TheVariants as N
 use Rattle.table_elements.specs.declared.typed_rows.Word.{Word}
-use Rattle.table_elements.specs.declared.typed_rows.Line.{Line}
-use Rattle.table_elements.specs.declared.typed_rows.Line.TheVariants as L
 use Rattle.table_elements.specs.Reading.{Said, nothing, row, faulty}
 use Rattle.table_elements.specs.Reading.{number_of, words_of, whole, said_by, content_of, line_of, numbers_after}
 
 -- what a line says, without its numbers
-abbrev pub answer_of : Said → Line
-answer_of nothing = L.Nothing
-answer_of (row ns) = L.Row
-answer_of (faulty f) = L.Faulty f
+abbrev pub answer_of : Said → Result Bool Fault
+answer_of nothing = Ok false
+answer_of (row ns) = Ok true
+answer_of (faulty f) = Err f
 
 -- the same by how many numbers there are
-abbrev pub line_with : ℕ → Line
-line_with k = cond (eqb k 0) L.Nothing (cond (eqb k 6) L.Row (L.Faulty F.Fewer))
+abbrev pub line_with : ℕ → Result Bool Fault
+line_with k = cond (eqb k 0) (Ok false) (cond (eqb k 6) (Ok true) (Err F.Fewer))
 
 -- a word's fault, passed on
-abbrev pub fault_of : Number → Line
-fault_of (N.Is z) = L.Nothing
-fault_of (N.Faulty f) = L.Faulty f
+abbrev pub fault_of : Result ℤ Fault → Result Bool Fault
+fault_of (Ok z) = Ok false
+fault_of (Err f) = Err f
 
 -- the next word from a place on
 abbrev pub next_word : List ℕ → ℕ → Word
@@ -71,15 +67,15 @@ unfolding said_by
 said-nil ns = refl
 
 module _ (ns : List ℤ) (w : List ℕ) (ws : List (List ℕ)) where
-  said-faulty : (f : Fault) → number_of w ≡ N.Faulty f → said_by ns (w ∷ ws) ≡ faulty f
+  said-faulty : (f : Fault) → number_of w ≡ Err f → said_by ns (w ∷ ws) ≡ faulty f
   unfolding said_by
   said-faulty f e = rw e
 
-  said_more : (z : ℤ) → number_of w ≡ N.Is z → 6 ≤ length ns → said_by ns (w ∷ ws) ≡ faulty F.More
+  said_more : (z : ℤ) → number_of w ≡ Ok z → 6 ≤ length ns → said_by ns (w ∷ ws) ≡ faulty F.More
   unfolding said_by
   said_more z e h = rw (e, le-ltb (length ns) 6 h)
 
-  said-next : (z : ℤ) → number_of w ≡ N.Is z → length ns < 6 → said_by ns (w ∷ ws) ≡ said_by (ns ++ (z ∷ [])) ws
+  said-next : (z : ℤ) → number_of w ≡ Ok z → length ns < 6 → said_by ns (w ∷ ws) ≡ said_by (ns ++ (z ∷ [])) ws
   unfolding said_by
   said-next z e h = rw (e, lt-ltb (length ns) 6 h)
 
@@ -98,7 +94,7 @@ module _ (ns : List ℤ) where
   answer-whole : line_with (length ns) ≡ answer_of (whole ns)
   answer-whole = by (eqb (length ns) 0) (eqb (length ns) 6)
     where
-      by : (a b : Bool) → cond a L.Nothing (cond b L.Row (L.Faulty F.Fewer)) ≡ answer_of (cond a nothing (cond b (row ns) (faulty F.Fewer)))
+      by : (a b : Bool) → cond a (Ok false) (cond b (Ok true) (Err F.Fewer)) ≡ answer_of (cond a nothing (cond b (row ns) (faulty F.Fewer)))
       by true b = refl
       by false true = refl
       by false false = refl
@@ -122,28 +118,28 @@ six_said : (ws : List (List ℕ)) (ns ms : List ℤ) → said_by ns ws ≡ row m
 six_said [] ns ms q = six-whole ns ms (sym (said-nil ns) ∙ q)
 six_said (w ∷ ws) ns ms q = by (number_of w) refl (ltb (length ns) 6) refl (λ longer. six_said ws longer ms)
   where
-    by : (n : Number) → number_of w ≡ n → (b : Bool) → ltb (length ns) 6 ≡ b
+    by : (n : Result ℤ Fault) → number_of w ≡ n → (b : Bool) → ltb (length ns) 6 ≡ b
         → ((longer : List ℤ) → said_by longer ws ≡ row ms → length ms ≡ 6) → length ms ≡ 6
-    by (N.Faulty f) e b t go = let x = said-faulty ns w ws f e in let z : ◌≡◌ {A = ℕ} 0 1 = cc in absurd (omega arith)
-    by (N.Is n) e true t go = go (ns ++ (n ∷ [])) (sym (said-next ns w ws n e (ltb-true (length ns) 6 t)) ∙ q)
-    by (N.Is n) e false t go =
+    by (Err f) e b t go = let x = said-faulty ns w ws f e in let z : ◌≡◌ {A = ℕ} 0 1 = cc in absurd (omega arith)
+    by (Ok n) e true t go = go (ns ++ (n ∷ [])) (sym (said-next ns w ws n e (ltb-true (length ns) 6 t)) ∙ q)
+    by (Ok n) e false t go =
         let x = said_more ns w ws n e (ltb-false (length ns) 6 t) in
         let z : ◌≡◌ {A = ℕ} 0 1 = cc in
         absurd (omega arith)
 
 -- the numbers after a line, by what is answered of it
-pub after_row : (s : Said) (start : ℕ) (old new six : List ℤ) → L.Row ≡ answer_of s → IsRow s six
+pub after_row : (s : Said) (start : ℕ) (old new six : List ℤ) → (Ok true) ≡ answer_of s → IsRow s six
     → new ≡ sets old start six → new ≡ numbers_after s start old
 after_row (row ns) start old new six a i e = e ∙ ap (sets old start) (i ns refl)
 after_row nothing start old new six a i e = let z : ◌≡◌ {A = ℕ} 0 1 = cc in absurd (omega arith)
 after_row (faulty f) start old new six a i e = let z : ◌≡◌ {A = ℕ} 0 1 = cc in absurd (omega arith)
 
-pub after_nothing : (s : Said) (start : ℕ) (old : List ℤ) → L.Nothing ≡ answer_of s → old ≡ numbers_after s start old
+pub after_nothing : (s : Said) (start : ℕ) (old : List ℤ) → (Ok false) ≡ answer_of s → old ≡ numbers_after s start old
 after_nothing (row ns) start old a = let z : ◌≡◌ {A = ℕ} 0 1 = cc in absurd (omega arith)
 after_nothing nothing start old a = refl
 after_nothing (faulty f) start old a = refl
 
-pub after_faulty : (s : Said) (start : ℕ) (old : List ℤ) (x : Fault) → L.Faulty x ≡ answer_of s
+pub after_faulty : (s : Said) (start : ℕ) (old : List ℤ) (x : Fault) → Err x ≡ answer_of s
     → old ≡ numbers_after s start old
 after_faulty (row ns) start old x a = let z : ◌≡◌ {A = ℕ} 0 1 = cc in absurd (omega arith)
 after_faulty nothing start old x a = refl
@@ -252,7 +248,7 @@ module _ (line content : List ℕ) where
           rw (← e) (row-whole f.ns numbers f.same (ap (λ k. take k numbers) f.count ∙ f.stored)),
         )
 
-    module _ (h : w.from ≡ w.end → ⊥) (number : Number) (said : number ≡ number_of (take (w.end - w.from) (drop w.from content))) where
+    module _ (h : w.from ≡ w.end → ⊥) (number : Result ℤ Fault) (said : number ≡ number_of (take (w.end - w.from) (drop w.from content))) where
       some : 0 < size
       some = omega (arith, h, end_is)
 
@@ -262,14 +258,14 @@ module _ (line content : List ℕ) where
       next : words_of f.fuel (drop at content) ≡ take size (drop w.from content) ∷ words_of more (drop size (drop w.from content))
       next = ap (λ k. words_of k (drop at content)) fuelled ∙ words_next more (drop at content) (drop w.from content) size rest size_is some
 
-      pub taking-faulty : (x : Fault) → number ≡ N.Faulty x
+      pub taking-faulty : (x : Fault) → number ≡ Err x
           → (fault_of number ≡ answer_of (line_of line)) × IsRow (line_of line) numbers
       taking-faulty x e =
           let t : line_of line ≡ faulty x = sym f.left ∙ ap (said_by f.ns) next ∙ said-faulty f.ns _ _ x (sym q ∙ e) in
           (ap fault_of e ∙ sym (ap answer_of t), faulty_row t)
 
-      module _ (z : ℤ) (e : number ≡ N.Is z) where
-        pub taking-more : column ≡ 6 → (L.Faulty F.More ≡ answer_of (line_of line)) × IsRow (line_of line) numbers
+      module _ (z : ℤ) (e : number ≡ Ok z) where
+        pub taking-more : column ≡ 6 → (Err F.More ≡ answer_of (line_of line)) × IsRow (line_of line) numbers
         taking-more c =
             let t : line_of line ≡ faulty F.More = sym f.left ∙ ap (said_by f.ns) next ∙ said_more f.ns _ _ z (sym q ∙ e) (omega (arith, f.count)) in
             (sym (ap answer_of t), faulty_row t)

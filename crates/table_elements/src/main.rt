@@ -14,7 +14,7 @@ ghost use Rattle.program_io.specs.Inputs.{Read};
 ghost use Rattle.table_elements.specs.Printed.{printed};
 ghost use Rattle.table_elements.specs.PrintedLaws.{whole_text, rows_after, whole, output_of, error_of};
 
-use crate::typed_rows::{Fault, Line};
+use crate::typed_rows::Fault;
 use std::io::{self, Read, Write};
 use tokens::Class;
 
@@ -47,14 +47,21 @@ fn table() -> [i64; 42]
     [0; 42]
 }
 
-// What a line adds: a table, where it is its seventh row.
-fn put_whole(out: &mut [u8], at: usize, said: Line, row: usize, numbers: &[i64; 42]) -> usize
+// What a line adds: a table, where it is its seventh row. It takes the whole Result, as its clause does, and so does
+// `rows_after`.
+fn put_whole(
+    out: &mut [u8],
+    at: usize,
+    said: Result<bool, Fault>,
+    row: usize,
+    numbers: &[i64; 42],
+) -> usize
     ensures { Put out.old at (whole_text said row numbers.now) out.new result }
 {
     match said {
-        Line::Nothing => at,
-        Line::Faulty(_) => at,
-        Line::Row => {
+        Ok(false) => at,
+        Err(_) => at,
+        Ok(true) => {
             if row == 6 {
                 return text::put_table(out, at, numbers);
             }
@@ -64,14 +71,14 @@ fn put_whole(out: &mut [u8], at: usize, said: Line, row: usize, numbers: &[i64; 
 }
 
 // The rows of this table after a line.
-fn rows_after(said: Line, row: usize) -> usize
+fn rows_after(said: Result<bool, Fault>, row: usize) -> usize
     requires { row ≤ 6 }
     ensures { result ≡ rows_after said row }
 {
     match said {
-        Line::Nothing => row,
-        Line::Faulty(_) => row,
-        Line::Row => {
+        Ok(false) => row,
+        Err(_) => row,
+        Ok(true) => {
             if row == 6 {
                 return 0;
             }
@@ -91,11 +98,13 @@ fn put_tables(text: &[u8], out: &mut [u8]) -> Extent
     let mut row = 0;
     let mut line = 1;
     let mut from = 0;
+    // `tokens::run` cuts a line off: a `split` would take a closure that says once more what the class `Line` is.
     while from <= text.len() {
         let length = tokens::run(&text[from..], Class::Line);
         let end = from + length;
         let said = crate::typed_rows::read_line(&text[from..end], &mut numbers, 6 * row);
-        if let Line::Faulty(fault) = said {
+        // No `?`: an `Extent` has the length of the output on a fault too.
+        if let Err(fault) = said {
             return Extent::Faulty {
                 output,
                 line,
@@ -163,6 +172,7 @@ fn respond(
     }
 }
 
+// Fixed arrays, with how much of them is in use beside them, as programs here use no heap.
 fn text_room() -> [u8; 65537] {
     [0; 65537]
 }

@@ -31,13 +31,12 @@ pub fn put_table(out: &mut [u8], at: usize, numbers: &[i64; 42]) -> usize
     let mut values = room();
     let answer = besselian_rows::tables::elements(numbers, &mut values);
     match answer {
-        besselian_rows::tables::Answer::Made => put_values(out, at, &values),
-        besselian_rows::tables::Answer::Refused(refusal) => listing_lines::lines::put_refused(
-            out, at, refusal,
-        ),
+        Ok(()) => put_values(out, at, &values),
+        Err(refusal) => listing_lines::lines::put_refused(out, at, refusal),
     }
 }
 
+// No `Display`: the clause has the text to the byte, as far as the fixed buffer reaches (`Put`).
 fn put_message(out: &mut [u8], at: usize, fault: Fault) -> usize
     ensures { Put out.old at (message_of fault) out.new result }
 {

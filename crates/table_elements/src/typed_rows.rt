@@ -3,7 +3,7 @@ ghost use Rattle.std.specs.Prelude.{◌≡◌, ◌+◌, ◌-◌, ◌*◌, ◌≤
 ghost use Rattle.std.proofs.lemmas.List.Edits.{sets};
 ghost use Rattle.table_elements.specs.Reading.{appended, with_sign, number_of, line_of, numbers_after};
 ghost use Rattle.table_elements.specs.NumberLaws.{capped};
-ghost use Rattle.table_elements.specs.ReadingLaws.{answer_of, line_with, fault_of, next_word, IsRow};
+ghost use Rattle.table_elements.specs.ReadingLaws.{answer_of, line_with, next_word, IsRow};
 
 use tokens::Class;
 
@@ -18,21 +18,6 @@ pub enum Fault {
     Fewer,
     // of the text: fewer than seven rows in the last table
     Unfinished,
-}
-
-#[derive(Clone, Copy)]
-pub enum Number {
-    Is(i64),
-    Faulty(Fault),
-}
-
-// What a line says.
-#[derive(Clone, Copy)]
-pub enum Line {
-    Nothing,
-    // six numbers
-    Row,
-    Faulty(Fault),
 }
 
 // Where a word begins and ends; the same place where there is none.
@@ -68,10 +53,8 @@ fn size_of(digits: &[u8]) -> u64
     ensures { result ≡ capped (appended 0 digits.now) }
 {
     let mut n = 0;
-    let mut i = 0;
-    while i < digits.len() {
-        n = with_digit(n, digits[i]);
-        i += 1;
+    for &x in digits {
+        n = with_digit(n, x);
     }
     n
 }
@@ -88,45 +71,35 @@ fn with_sign(minus: usize, n: u64) -> i64
 }
 
 // The number that a word is.
-fn number_of(word: &[u8]) -> Number
+fn number_of(word: &[u8]) -> Result<i64, Fault>
     ensures { result ≡ number_of word.now }
 {
     let minus = tokens::start(word, Class::Minus);
     let digits = &word[minus..];
     if digits.len() == 0 {
-        return Number::Faulty(Fault::NotWhole);
+        return Err(Fault::NotWhole);
     }
     if !tokens::all(digits, Class::Digit) {
-        return Number::Faulty(Fault::NotWhole);
+        return Err(Fault::NotWhole);
     }
     let n = size_of(digits);
     if 9_223_372_036_854_775_807 < n {
-        return Number::Faulty(Fault::TooLarge);
+        return Err(Fault::TooLarge);
     }
-    Number::Is(with_sign(minus, n))
+    Ok(with_sign(minus, n))
 }
 
-// What a line with so many numbers is.
-fn line_with(count: usize) -> Line
+// What a line with so many numbers is: nothing, a row, or a fault.
+fn line_with(count: usize) -> Result<bool, Fault>
     ensures { result ≡ line_with count }
 {
     if count == 0 {
-        return Line::Nothing;
+        return Ok(false);
     }
     if count == 6 {
-        return Line::Row;
+        return Ok(true);
     }
-    Line::Faulty(Fault::Fewer)
-}
-
-// A word's fault, passed on.
-fn fault_of(number: Number) -> Line
-    ensures { result ≡ fault_of number }
-{
-    match number {
-        Number::Is(_) => Line::Nothing,
-        Number::Faulty(fault) => Line::Faulty(fault),
-    }
+    Err(Fault::Fewer)
 }
 
 // The next word from a place on.
@@ -139,8 +112,9 @@ fn next_word(content: &[u8], at: usize) -> Word
     Word { from, end }
 }
 
-// What a line says. The numbers before its end or its first fault are at the start of the row.
-fn read_row(line: &[u8], row: &mut [i64]) -> Line
+// What a line says: true for six numbers, false for none, or its first fault. The numbers before its end or its fault
+// are at the start of the row.
+fn read_row(line: &[u8], row: &mut [i64]) -> Result<bool, Fault>
     requires { length row.old ≡ 6 }
     ensures value { result ≡ answer_of (line_of line.now) }
     ensures row { IsRow (line_of line.now) row.new }
@@ -149,6 +123,7 @@ fn read_row(line: &[u8], row: &mut [i64]) -> Line
     let content = &line[..said];
     let mut at = 0;
     let mut column = 0;
+    // The step is a word's length, and two faults and the end of the line leave from within: no iterator is plainer.
     loop {
         let word = next_word(content, at);
         let from = word.from;
@@ -156,12 +131,9 @@ fn read_row(line: &[u8], row: &mut [i64]) -> Line
         if from == end {
             return line_with(column);
         }
-        let number = number_of(&content[from..end]);
-        let Number::Is(value) = number else {
-            return fault_of(number);
-        };
+        let value = number_of(&content[from..end])?;
         if column == 6 {
-            return Line::Faulty(Fault::More);
+            return Err(Fault::More);
         }
         row[column] = value;
         column += 1;
@@ -174,28 +146,20 @@ fn put_row(row: &[i64], numbers: &mut [i64], start: usize)
     requires { start + length row.now ≤ length numbers.old }
     ensures { numbers.new ≡ sets numbers.old start row.now }
 {
-    let mut i = 0;
-    while i < row.len() {
-        numbers[start + i] = row[i];
-        i += 1;
-    }
+    numbers[start..start + row.len()].copy_from_slice(row);
 }
 
-// What a line says. The six numbers of a row are stored from place `start` on. Any other line leaves the buffer as it
-// was.
-pub fn read_line(line: &[u8], numbers: &mut [i64], start: usize) -> Line
+// What a line says, as `read_row` does. The six numbers of a row are stored from place `start` on. Any other line leaves
+// the buffer as it was.
+pub fn read_line(line: &[u8], numbers: &mut [i64], start: usize) -> Result<bool, Fault>
     requires { start + 6 ≤ length numbers.old }
     ensures value { result ≡ answer_of (line_of line.now) }
     ensures numbers_after { numbers.new ≡ numbers_after (line_of line.now) start numbers.old }
 {
     let mut row = [0i64; 6];
-    let said = read_row(line, &mut row);
-    match said {
-        Line::Row => {
-            put_row(&row, numbers, start);
-            Line::Row
-        }
-        Line::Nothing => Line::Nothing,
-        Line::Faulty(fault) => Line::Faulty(fault),
+    let whole = read_row(line, &mut row)?;
+    if whole {
+        put_row(&row, numbers, start);
     }
+    Ok(whole)
 }

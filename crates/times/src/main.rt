@@ -12,10 +12,10 @@ ghost use Rattle.request_text.specs.Meaning.{error_of};
 ghost use Rattle.times.specs.Printed.{text_by, output_of};
 
 use answers::{put_timed_answer, put_timed_star_answer};
-use calendar::Reference;
+use calendar::Instant;
 use program_io::{ERROR, OUTPUT, Text};
 use request_format::fields::{LENGTH, STAR_LENGTH};
-use request_text::typed_requests::{Answer, MESSAGE};
+use request_text::typed_requests::MESSAGE;
 use std::io::{self, Read, Write};
 
 // As many bytes for the sheet as program `sheet` has.
@@ -39,7 +39,7 @@ fn message_room() -> [u8; MESSAGE] {
 // The answer to a request's bytes, a star's by their number. Times are shown where there is an instant.
 fn put_text(
     request: &[u8],
-    reference: Reference,
+    reference: Option<Instant>,
     sines: &mut [u32],
     room: &mut [u8],
     out: &mut [u8],
@@ -68,14 +68,14 @@ fn respond(text: &[u8; 65537], length: usize, out: &mut [u8; 2000000]) -> Text
     let mut message = message_room();
     let answer = request_text::typed_requests::read(&all[..length], &mut bytes, &mut message);
     match answer {
-        Answer::Request(size, reference) => {
+        Ok((size, reference)) => {
             let end = put_text(&bytes[..size], reference, &mut sines, &mut room, out);
             Text {
                 descriptor: OUTPUT,
                 length: decimal_text::clipped(out, end),
             }
         }
-        Answer::Refused(size) => {
+        Err(size) => {
             let told = decimal_text::put_text(out, 0, &message[..size]);
             Text {
                 descriptor: ERROR,

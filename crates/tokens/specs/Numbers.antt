@@ -1,9 +1,8 @@
 -- Decimal numbers, exact in whole units.
-use Rattle.std.specs.Prelude.{ℕ, zero, suc, ◌+◌, ◌-◌, ◌*◌, Bool, cond, ◌&&◌, List, ltb, length, get_or, drop}
+use Rattle.std.specs.Prelude.{ℕ, zero, suc, ◌+◌, ◌-◌, ◌*◌, Bool, cond, ◌&&◌, List, ltb, length, get_or, drop, Result, Ok, Err}
+use Rattle.tokens.specs.declared.NotUnits.{NotUnits}
 use Prim.Native.Char.{code}
 use Rattle.tokens.specs.declared.Class.TheVariants as C
-use Rattle.tokens.specs.declared.Units.{Units}
-use Rattle.tokens.specs.declared.Units.TheVariants as U
 use Rattle.tokens.specs.Text.{run_of, all_of, start_of}
 
 -- a digit written after a number
@@ -43,5 +42,5 @@ amount places w = appended (appended 0 (wholes w) (unsigned w)) places (decimals
 unfoldable pub capped : ℕ → ℕ
 capped n = cond (ltb n 4294967296) n 4294967296
 
-unfoldable pub units_of : ℕ → List ℕ → Units
-units_of places w = cond (is_number w) (cond (is_whole places w) (U.Is (capped (amount places w))) U.NotWhole) U.NotNumber
+unfoldable pub units_of : ℕ → List ℕ → Result ℕ NotUnits
+units_of places w = cond (is_number w) (cond (is_whole places w) (Ok (capped (amount places w))) (Err NotUnits.NotWhole)) (Err NotUnits.NotNumber)

@@ -24,14 +24,6 @@ pub enum Class {
     Point,
 }
 
-// A number of units without its sign, at most 4,294,967,296, which stands for all above; or why it is none.
-#[derive(Clone, Copy)]
-pub enum Units {
-    Is(usize),
-    NotNumber,
-    NotWhole,
-}
-
 // ---- bytes
 
 pub fn is_in(class: Class, x: u8) -> bool
@@ -54,15 +46,12 @@ pub fn is_in(class: Class, x: u8) -> bool
 pub fn run(s: &[u8], class: Class) -> usize
     ensures { (result ≡ run_of class s.now) × (result ≤ length s.now) }
 {
-    let mut n = 0;
-    while n < s.len() {
-        let x = s[n];
+    for (n, &x) in s.iter().enumerate() {
         if !is_in(class, x) {
             return n;
         }
-        n += 1;
     }
-    n
+    s.len()
 }
 
 pub fn all(s: &[u8], class: Class) -> bool
@@ -75,11 +64,10 @@ pub fn all(s: &[u8], class: Class) -> bool
 pub fn start(s: &[u8], class: Class) -> usize
     ensures { (result ≡ start_of class s.now) × (result ≤ length s.now) }
 {
-    if s.len() == 0 {
-        return 0;
+    match s.first() {
+        Some(&x) if is_in(class, x) => 1,
+        _ => 0,
     }
-    let x = s[0];
-    if is_in(class, x) { 1 } else { 0 }
 }
 
 // ---- numbers
@@ -88,15 +76,14 @@ pub fn start(s: &[u8], class: Class) -> usize
 pub fn byte_or_zero(s: &[u8], at: usize) -> u8
     ensures { result ≡ get_or s.now at 48 }
 {
-    if at < s.len() { s[at] } else { b'0' }
+    s.get(at).copied().unwrap_or(b'0')
 }
 
 // The digit that a byte is; of any other byte the number means nothing.
 pub fn digit_of(x: u8) -> usize
     ensures { result ≡ x - 48 }
 {
-    let code = x as usize;
-    if code < 48 { 0 } else { code - 48 }
+    usize::from(x.saturating_sub(b'0'))
 }
 
 // A digit written after a number.
@@ -104,12 +91,7 @@ fn with_digit(n: usize, x: u8) -> usize
     requires { n ≤ 4294967296 }
     ensures { (result ≡ capped (digit_after n x)) × (result ≤ 4294967296) }
 {
-    let longer = 10 * n + digit_of(x);
-    if longer < 4_294_967_296 {
-        longer
-    } else {
-        4_294_967_296
-    }
+    (10 * n + digit_of(x)).min(4_294_967_296)
 }
 
 // The first digits of a text written after a number, 0 for those that it does not have.
@@ -118,11 +100,8 @@ fn append(n: usize, s: &[u8], digits: usize) -> usize
     ensures { (result ≡ capped (appended n digits s.now)) × (result ≤ 4294967296) }
 {
     let mut total = n;
-    let mut k = 0;
-    while k < digits {
-        let x = byte_or_zero(s, k);
-        total = with_digit(total, x);
-        k += 1;
+    for k in 0..digits {
+        total = with_digit(total, byte_or_zero(s, k));
     }
     total
 }
@@ -131,14 +110,21 @@ fn append(n: usize, s: &[u8], digits: usize) -> usize
 fn is_whole(decimals: &[u8], places: usize) -> bool
     ensures { result ≡ all_of Zero (drop places decimals.now) }
 {
-    if decimals.len() <= places {
-        return true;
-    }
-    all(&decimals[places..], Class::Zero)
+    decimals.len() <= places || all(&decimals[places..], Class::Zero)
 }
 
-// The number that a word is, in units of which one is written with that many decimals.
-pub fn units_in(word: &[u8], places: usize) -> Units
+// Why a word is no number of units.
+#[derive(Clone, Copy)]
+pub enum NotUnits {
+    // no decimal number
+    NotNumber,
+    // a decimal number, but no whole number of units
+    NotWhole,
+}
+
+// The number that a word is, without its sign, in units of which one is written with that many decimals. It is at most
+// 4,294,967,296, which stands for all above.
+pub fn units_in(word: &[u8], places: usize) -> Result<usize, NotUnits>
     ensures { result ≡ units_of places word.now }
 {
     let sign = start(word, Class::Sign);
@@ -149,16 +135,16 @@ pub fn units_in(word: &[u8], places: usize) -> Units
     let decimals = &pointed[point..];
     let number = all(decimals, Class::Digit);
     if !number {
-        return Units::NotNumber;
+        return Err(NotUnits::NotNumber);
     }
     if wholes + decimals.len() == 0 {
-        return Units::NotNumber;
+        return Err(NotUnits::NotNumber);
     }
     let whole = is_whole(decimals, places);
     if !whole {
-        return Units::NotWhole;
+        return Err(NotUnits::NotWhole);
     }
     let n = append(0, body, wholes);
     let total = append(n, decimals, places);
-    Units::Is(total)
+    Ok(total)
 }

@@ -1,9 +1,11 @@
 -- A horizon that was given, as numbers.
+use Rattle.std.specs.Prelude.{Result}
 use mathlib.Core.Path.{◌≡◌, subst, ap, ◌∙◌}
 use mathlib.Core.List.{List}
+use Rattle.horizon.specs.declared.Horizon.{Horizon}
+use Rattle.sheet_types.specs.declared.refusals.Refusal.{Refusal}
 use Prim.Native.Nat.{ℕ}
 use lib.IntN.{ℤ}
-use Rattle.horizon.specs.declared.OneHorizon.{OneHorizon}
 use Rattle.request_format.specs.declared.fields.Shape.{Shape}
 use Rattle.request_answers.specs.Second.{wish, sines_asked}
 use Rattle.request_answers.specs.Horizons.{horizon_given, horizon_after}
@@ -16,7 +18,7 @@ module _ (shape : Shape) (request sines : List ℕ) (old : List ℤ) where
   Rooms τ new left = (new ≡ horizon_after (horizon_given shape request τ sines old) old) × (left ≡ sines_asked (wish shape request) τ sines)
 
   -- what an export promises, where the second is read back from its bits
-  pub horizon-replied : {t τ : ℤ} {given : OneHorizon} {reply : Reply} {new : List ℤ} {left : List ℕ} → t ≡ τ → reply ≡ horizon_reply given
+  pub horizon-replied : {t τ : ℤ} {given : Result Horizon Refusal} {reply : Reply} {new : List ℤ} {left : List ℕ} → t ≡ τ → reply ≡ horizon_reply given
       → (given ≡ horizon_given shape request t sines old) × Rooms t new left
       → (reply.number ≡ (horizon_reply (horizon_given shape request τ sines old)).number)
       × ((reply.value ≡ (horizon_reply (horizon_given shape request τ sines old)).value) × Rooms τ new left)

@@ -1,9 +1,11 @@
 -- A second that was given, as numbers.
+use Rattle.std.specs.Prelude.{Result}
 use mathlib.Core.Path.{◌≡◌, subst, ap, ◌∙◌}
 use mathlib.Core.List.{List}
+use Rattle.shadow.specs.declared.Second.{Second}
+use Rattle.sheet_types.specs.declared.refusals.Refusal.{Refusal}
 use Prim.Native.Nat.{ℕ}
 use lib.IntN.{ℤ}
-use Rattle.seconds.specs.declared.OneSecond.{OneSecond}
 use Rattle.request_format.specs.declared.fields.Shape.{Shape}
 use Rattle.request_answers.specs.Second.{wish, sines_asked, second_given, numbers_after, GivenMeans}
 use Rattle.ukhtvaresh.specs.declared.replies.Reply.{Reply}
@@ -17,7 +19,7 @@ module _ (shape : Shape) (request sines : List ℕ) (old : List ℤ) where
       (new ≡ numbers_after shape given old) × ((left ≡ sines_asked (wish shape request) τ sines) × GivenMeans shape request τ given new)
 
   -- what an export promises, where the second is read back from its bits
-  pub second-replied : (count : ℕ) {t τ : ℤ} {given : OneSecond} {reply : Reply} {new : List ℤ} {left : List ℕ} → t ≡ τ → reply ≡ second_reply count given
+  pub second-replied : (count : ℕ) {t τ : ℤ} {given : Result Second Refusal} {reply : Reply} {new : List ℤ} {left : List ℕ} → t ≡ τ → reply ≡ second_reply count given
       → (given ≡ second_given shape request t sines old) × Rooms t new left
       → (reply.number ≡ (second_reply count (second_given shape request τ sines old)).number)
       × ((reply.value ≡ (second_reply count (second_given shape request τ sines old)).value) × Rooms τ new left)

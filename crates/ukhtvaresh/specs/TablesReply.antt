@@ -1,10 +1,10 @@
 -- What a caller from outside gets for tables of Sun and Moon: the number of the refusal, 0 for none; and beside it the
 -- count of the values, or the refusal's place.
-use Rattle.besselian_rows.specs.declared.tables.Answer.{Answer}
-use Rattle.besselian_rows.specs.declared.tables.Answer.TheVariants.{Made, Refused}
+use Rattle.std.specs.Prelude.{Result, Ok, Err}
 use Rattle.ukhtvaresh.specs.declared.replies.Reply.{Reply}
+use Rattle.sheet_types.specs.declared.refusals.Refusal.{Refusal}
 use Rattle.ukhtvaresh.specs.Replies.{refused_reply}
 
-abbrev pub tables_reply : Answer → Reply
-tables_reply Made = record { number = 0; value = 56 }
-tables_reply (Refused r) = refused_reply r
+abbrev pub tables_reply : Result Unit Refusal → Reply
+tables_reply (Ok tt) = record { number = 0; value = 56 }
+tables_reply (Err r) = refused_reply r

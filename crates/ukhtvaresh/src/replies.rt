@@ -15,6 +15,11 @@ ghost use Rattle.ukhtvaresh.specs.Fits.{fit_reply};
 ghost use Rattle.ukhtvaresh.specs.NetworkReply.{network_reply};
 ghost use Rattle.ukhtvaresh.specs.Typed.{typed_reply};
 
+use element_fits::Fits;
+use horizon::Horizon;
+use request_text::typed_requests::stored::NotStored;
+use sheet_types::refusals::Refusal;
+
 // What a caller gets.
 #[derive(Clone, Copy)]
 pub struct Reply {
@@ -45,71 +50,71 @@ pub fn refused(refusal: sheet_types::refusals::Refusal) -> Reply
     Reply { number, value }
 }
 
-pub fn sheet_reply(answer: circumstances::Answer) -> Reply
+pub fn sheet_reply(answer: Result<usize, Refusal>) -> Reply
     ensures { result ≡ sheet_reply answer }
 {
     match answer {
-        circumstances::Answer::Written(length) => {
+        Ok(length) => {
             let value = length as u64;
             Reply { number: 0, value }
         }
-        circumstances::Answer::Refused(refusal) => refused(refusal),
+        Err(refusal) => refused(refusal),
     }
 }
 
-pub fn read_reply(extent: sheet_codec::decoder::Extent) -> Reply
+pub fn read_reply(extent: Result<(usize, usize), Refusal>) -> Reply
     ensures { result ≡ read_reply extent }
 {
     match extent {
-        sheet_codec::decoder::Extent::Sheet { entries, length: _ } => {
+        Ok((entries, _)) => {
             let value = entries as u64;
             Reply { number: 0, value }
         }
-        sheet_codec::decoder::Extent::Refused(refusal) => refused(refusal),
+        Err(refusal) => refused(refusal),
     }
 }
 
-pub fn write_reply(extent: sheet_codec::decoder::Extent) -> Reply
+pub fn write_reply(extent: Result<(usize, usize), Refusal>) -> Reply
     ensures { result ≡ write_reply extent }
 {
     match extent {
-        sheet_codec::decoder::Extent::Sheet { entries: _, length } => {
+        Ok((_, length)) => {
             let value = length as u64;
             Reply { number: 0, value }
         }
-        sheet_codec::decoder::Extent::Refused(refusal) => refused(refusal),
+        Err(refusal) => refused(refusal),
     }
 }
 
-pub fn tables_reply(answer: besselian_rows::tables::Answer) -> Reply
+pub fn tables_reply(answer: Result<(), Refusal>) -> Reply
     ensures { result ≡ tables_reply answer }
 {
     match answer {
-        besselian_rows::tables::Answer::Made => Reply {
+        Ok(()) => Reply {
             number: 0,
             value: 56,
         },
-        besselian_rows::tables::Answer::Refused(refusal) => refused(refusal),
+        Err(refusal) => refused(refusal),
     }
 }
 
-pub fn listing_reply(text: listings::Text) -> Reply
+pub fn listing_reply(text: Result<usize, Refusal>) -> Reply
     ensures { result ≡ listing_reply text }
 {
     match text {
-        listings::Text::Written(length) => {
+        Ok(length) => {
             let value = length as u64;
             Reply { number: 0, value }
         }
-        listings::Text::Refused(refusal) => refused(refusal),
+        Err(refusal) => refused(refusal),
     }
 }
 
-pub fn mend_reply(answer: year_file::mending::Answer) -> MendReply
+pub fn mend_reply(answer: Result<(usize, usize), Refusal>) -> MendReply
     ensures { result ≡ mend_reply answer }
 {
     match answer {
-        year_file::mending::Answer::Mended { kept, noted } => {
+        Ok((kept, noted)) => {
             let bytes = kept as u64;
             let noted_bytes = noted as u64;
             MendReply {
@@ -118,7 +123,7 @@ pub fn mend_reply(answer: year_file::mending::Answer) -> MendReply
                 noted: noted_bytes,
             }
         }
-        year_file::mending::Answer::Refused(refusal) => {
+        Err(refusal) => {
             let reply = refused(refusal);
             MendReply {
                 number: reply.number,
@@ -129,116 +134,116 @@ pub fn mend_reply(answer: year_file::mending::Answer) -> MendReply
     }
 }
 
-pub fn doubles_reply(answer: float_requests::instrument::writing::Answer) -> Reply
+pub fn doubles_reply(answer: Result<(), Refusal>) -> Reply
     ensures { result ≡ doubles_reply answer }
 {
     match answer {
-        float_requests::instrument::writing::Answer::Made => Reply {
+        Ok(()) => Reply {
             number: 0,
             value: 23,
         },
-        float_requests::instrument::writing::Answer::Refused(refusal) => refused(refusal),
+        Err(refusal) => refused(refusal),
     }
 }
 
 // Of a second with so many numbers.
-pub fn second_reply(count: u64, second: seconds::OneSecond) -> Reply
+pub fn second_reply(count: u64, second: Result<shadow::Second, Refusal>) -> Reply
     ensures { result ≡ second_reply count second }
 {
     match second {
-        seconds::OneSecond::Is(_) => Reply {
+        Ok(_) => Reply {
             number: 0,
             value: count,
         },
-        seconds::OneSecond::Refused(refusal) => refused(refusal),
+        Err(refusal) => refused(refusal),
     }
 }
 
-pub fn horizon_reply(found: horizon::OneHorizon) -> Reply
+pub fn horizon_reply(found: Result<Horizon, Refusal>) -> Reply
     ensures { result ≡ horizon_reply found }
 {
     match found {
-        horizon::OneHorizon::Is(_) => Reply {
+        Ok(_) => Reply {
             number: 0,
             value: 3,
         },
-        horizon::OneHorizon::Refused(refusal) => refused(refusal),
+        Err(refusal) => refused(refusal),
     }
 }
 
-pub fn contact_reply(found: contact_times::OneContact) -> Reply
+pub fn contact_reply(found: Result<(i64, i64), Refusal>) -> Reply
     ensures { result ≡ contact_reply found }
 {
     match found {
-        contact_times::OneContact::Is(_, _) => Reply {
+        Ok((_, _)) => Reply {
             number: 0,
             value: 2,
         },
-        contact_times::OneContact::Refused(refusal) => refused(refusal),
+        Err(refusal) => refused(refusal),
     }
 }
 
-pub fn share_reply(share: obscuration::second::OneShare) -> Reply
+pub fn share_reply(share: Result<u32, Refusal>) -> Reply
     ensures { result ≡ share_reply share }
 {
     match share {
-        obscuration::second::OneShare::Is(millionths) => {
+        Ok(millionths) => {
             let value = millionths as u64;
             Reply { number: 0, value }
         }
-        obscuration::second::OneShare::Refused(refusal) => refused(refusal),
+        Err(refusal) => refused(refusal),
     }
 }
 
-pub fn elements_reply(answer: element_fits::Answer) -> Reply
+pub fn elements_reply(answer: Result<Fits, Refusal>) -> Reply
     ensures { result ≡ elements_reply answer }
 {
     match answer {
-        element_fits::Answer::Made(_) => Reply {
+        Ok(_) => Reply {
             number: 0,
             value: 22,
         },
-        element_fits::Answer::Refused(refusal) => refused(refusal),
+        Err(refusal) => refused(refusal),
     }
 }
 
-pub fn fit_reply(answer: fits::Answer) -> Reply
+pub fn fit_reply(answer: Result<(), Refusal>) -> Reply
     ensures { result ≡ fit_reply answer }
 {
     match answer {
-        fits::Answer::Accepted => Reply {
+        Ok(()) => Reply {
             number: 0,
             value: 0,
         },
-        fits::Answer::Refused(refusal) => refused(refusal),
+        Err(refusal) => refused(refusal),
     }
 }
 
-pub fn network_reply(answer: networks::Answer) -> Reply
+pub fn network_reply(answer: Result<u64, Refusal>) -> Reply
     ensures { result ≡ network_reply answer }
 {
     match answer {
-        networks::Answer::Named(station) => Reply {
+        Ok(station) => Reply {
             number: 0,
             value: station,
         },
-        networks::Answer::Refused(refusal) => refused(refusal),
+        Err(refusal) => refused(refusal),
     }
 }
 
-pub fn typed_reply(stored: request_text::typed_requests::stored::Stored) -> Reply
+pub fn typed_reply(stored: Result<usize, NotStored>) -> Reply
     ensures { result ≡ typed_reply stored }
 {
     match stored {
-        request_text::typed_requests::stored::Stored::Request(length) => {
+        Ok(length) => {
             let value = length as u64;
             Reply { number: 0, value }
         }
-        request_text::typed_requests::stored::Stored::Fault(line) => {
+        Err(NotStored::Fault(line)) => {
             let value = line as u64;
             Reply { number: 20, value }
         }
-        request_text::typed_requests::stored::Stored::Short(length) => {
+        Err(NotStored::Short(length)) => {
             let value = length as u64;
             Reply { number: 4, value }
         }

@@ -1,9 +1,3 @@
 pub mod BoundLaws
 pub mod Repeats
-pub mod Mended
 pub mod StepLaws
-pub mod StretchLaws
-pub mod NoteLaws
-pub mod KeptLaws
-pub mod WalkLaws
-pub mod AnswerLaws

@@ -20,6 +20,7 @@ pub fn walk(file: &[u8], sheets: &mut [u8], dropped: &mut [u8]) -> Ends
     let mut lost = 0;
     let mut kept = 0;
     let mut noted = 0;
+    // Not a `for`: a step is a whole sheet or one byte.
     while at < file.len() {
         let length = crate::lengths::sheet_at(file, at, lost);
         if length == 0 {

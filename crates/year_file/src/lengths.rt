@@ -5,25 +5,14 @@ ghost use Rattle.sheet_codec.specs.Sheets.{read_sheet};
 ghost use Rattle.year_file.specs.Leading.{leading, NoneBefore};
 ghost use Rattle.year_file.specs.laws.Repeats.{SameBefore, OpenOnce};
 
-use sheet_codec::decoder::Extent;
-use sheet_format::kinds::{Kind, Named};
+use sheet_format::kinds::Kind;
 
 // Whether the 14 bytes at a place stand 5 bytes before it too.
 fn same_before(file: &[u8], at: usize) -> bool
     requires { (5 ≤ at) × (at + 14 ≤ length file.now) }
     ensures { result ≡ true → SameBefore file.now at }
 {
-    let start = at - 5;
-    let mut i = 0;
-    while i < 14 {
-        let before = file[start + i];
-        let here = file[at + i];
-        if before != here {
-            return false;
-        }
-        i += 1;
-    }
-    true
+    file[at - 5..at + 9] == file[at..at + 14]
 }
 
 // Whether an open entry from and to one second stands at a place.
@@ -32,7 +21,7 @@ fn opens_once(file: &[u8], at: usize) -> bool
     ensures { result ≡ true → OpenOnce file.now at }
 {
     let code = file[at] as u32;
-    let Named::Is(kind) = sheet_format::kinds::kind_for(code) else {
+    let Some(kind) = sheet_format::kinds::kind_for(code) else {
         return false;
     };
     let Kind::Open(_) = kind else {
@@ -77,7 +66,7 @@ pub fn sheet_at(file: &[u8], at: usize, lost: usize) -> usize
     }
     let found = sheet_codec::decoder::extent_of_leading_sheet(&file[at..]);
     match found {
-        Extent::Sheet { entries: _, length } => length,
-        Extent::Refused(_) => 0,
+        Ok((_, length)) => length,
+        Err(_) => 0,
     }
 }

@@ -5,17 +5,10 @@ ghost use Rattle.year_file.specs.Mending.{answer_to, room_after};
 
 use sheet_types::refusals::Refusal;
 
-// How many bytes were written into each buffer, or why none was.
-#[derive(Clone, Copy)]
-pub enum Answer {
-    Mended { kept: usize, noted: usize },
-    Refused(Refusal),
-}
-
 // Mends a file: the sheets that were kept, in order, into the one buffer; into the other each unbroken stretch of
 // dropped bytes, 16 bytes each, its start and its length. How many bytes each buffer has of them; or the refusal, and
 // both buffers as they were.
-pub fn mend(file: &[u8], sheets: &mut [u8], dropped: &mut [u8]) -> Answer
+pub fn mend(file: &[u8], sheets: &mut [u8], dropped: &mut [u8]) -> Result<(usize, usize), Refusal>
     ensures answer { result ≡ answer_to (length sheets.old) (length dropped.old) file.now }
     ensures sheets { sheets.new ≡ room_after result (kept file.now) sheets.old }
     ensures dropped { dropped.new ≡ room_after result (notes file.now) dropped.old }
@@ -26,17 +19,17 @@ pub fn mend(file: &[u8], sheets: &mut [u8], dropped: &mut [u8]) -> Answer
     let kept = need.kept;
     let noted = need.noted;
     if sheets.len() < kept {
-        return Answer::Refused(Refusal {
+        return Err(Refusal {
             number: 4,
             place: kept,
         });
     }
     if dropped.len() < noted {
-        return Answer::Refused(Refusal {
+        return Err(Refusal {
             number: 4,
             place: noted,
         });
     }
     crate::kept::walk(file, sheets, dropped);
-    Answer::Mended { kept, noted }
+    Ok((kept, noted))
 }

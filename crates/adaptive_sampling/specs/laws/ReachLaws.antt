@@ -2,7 +2,7 @@
 --   reached_far           one that second 0 does
 --   seen_nonneg           M of a second that was seen is not negative
 use Rattle.std.proofs.Common.{sym, subst, arith}
-use Rattle.std.specs.Prelude.{ℕ, ◌≤◌, ◌<◌, ℤ, pos, ◌*ℤ◌, ◌≤ℤ◌}
+use Rattle.std.specs.Prelude.{ℕ, ◌<◌, ℤ, pos, ◌*ℤ◌, ◌≤ℤ◌}
 use Rattle.std.specs.Int.Signed.{le_z_yes}
 use Rattle.rounding.specs.laws.Order.{≤ℤ_trans, le_nat_abs}
 use Rattle.shadow_geometry.proofs.laws.Sizes.{M_nonneg}

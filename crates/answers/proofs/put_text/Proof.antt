@@ -11,14 +11,14 @@ use Rattle.answers.proofs.put_text.Tie as tie
 
 slice-aggregate-put-timed-listing : tie.Need-slice_bounds-put_timed_listing-end
 slice-aggregate-put-timed-listing c =
-    sym (length-take-le _ _ (fits_written _ _ _ c.in-Written.is c.requires))
+    sym (length-take-le _ _ (fits_written _ _ _ c.in-Ok.is c.requires))
 
-returns : tie.Need-returns-in-Written
+returns : tie.Need-returns-in-Ok
 returns c =
-    put_written _ _ _ _ _ _ _ _ _ c.in-Written.is (rw (to_z-of_z w64 c.args.deltat c.ranges.deltat) at c.put_timed_listing.ensures)
+    put_written _ _ _ _ _ _ _ _ _ c.in-Ok.is (rw (to_z-of_z w64 c.args.deltat c.ranges.deltat) at c.put_timed_listing.ensures)
 
-returns-2 : tie.Need-returns-in-Refused
-returns-2 c = put_refused _ _ _ _ _ _ _ _ _ c.in-Refused.is c.put_refused.ensures
+returns-2 : tie.Need-returns-in-Err
+returns-2 c = put_refused _ _ _ _ _ _ _ _ _ c.in-Err.is c.put_refused.ensures
 
 pub put_text_spec : {M : Type 1} → statement M
 put_text_spec =

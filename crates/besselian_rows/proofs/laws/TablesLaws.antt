@@ -1,10 +1,13 @@
 -- Laws of the rows: the search for the first refused one step by step, values stored row by row, and what stands in
 -- the buffer at the end.
-use Rattle.std.specs.Prelude.{◌≡◌, refl, Bool, true, false, List, [], ◌∷◌, ◌++◌, ℕ, zero, suc, ◌+◌, ◌-◌, ◌*◌, ◌≤◌, ◌<◌, leb, eqb, ℤ, pos, length, take, drop, set}
+use Rattle.std.specs.Prelude.{◌≡◌, refl, Bool, true, false, List, [], ◌∷◌, ◌++◌, ℕ, zero, suc, ◌+◌, ◌-◌, ◌*◌, ◌≤◌, ◌<◌, leb, eqb, ℤ, pos, length, take, drop, Err, Ok, Result}
 use Rattle.std.proofs.Common.{sym, subst, ◌∙◌, append_assoc, arith, add-zero, zero-add, suc-add, add-one, length-append, get_or-take, get_or-drop}
 use Rattle.std.proofs.Math.Path.{ap}
 use borrow.Author.Tests.{leb-true, leb-false, le-leb, lt-leb, eqb-true, eqb-false, eq-eqb, ne_eqb}
+use Rattle.std.proofs.Math.Seq.{take_all}
 use Rattle.std.proofs.lemmas.List.Edits.{sets, sets-eq}
+use Rattle.std.proofs.lemmas.Slice.{put_mid-paste}
+use borrow.Rule.Slice.PartMut.{put_mid}
 use Rattle.rounding.specs.laws.Stores.{sets_append}
 use Rattle.sheet_types.specs.declared.refusals.Refusal.{Refusal}
 use Rattle.sheet_types.specs.Refusals.{refusal}
@@ -14,10 +17,6 @@ use Rattle.besselian_rows.specs.Rounded.{elements_of}
 use Rattle.besselian_rows.specs.AcceptedLaws.{accepted-is}
 use Rattle.besselian_rows.specs.laws.Sizes.{ranged}
 use Rattle.besselian_rows.specs.laws.Errors.{faithful}
-use Rattle.besselian_rows.specs.declared.tables.Verdict.{Verdict}
-use Rattle.besselian_rows.specs.declared.tables.Verdict.TheVariants as Rows
-use Rattle.besselian_rows.specs.declared.tables.Answer.{Answer}
-use Rattle.besselian_rows.specs.declared.tables.Answer.TheVariants.{Made, Refused}
 use Rattle.besselian_rows.specs.Tables.{number, row_from, rowAt, first_refused, answer_to, eight, values_of, values_after, elements_at, Claimed}
 
 -- ---- a row
@@ -45,7 +44,7 @@ module _ (n : List ℤ) (i : ℕ) where
 -- ---- the first row that is refused
 
 module _ (n : List ℤ) (i k : ℕ) where
-  pub refused-here : accepted (rowAt n i) ≡ false → first_refused n i (suc k) ≡ Rows.Refused i
+  pub refused-here : accepted (rowAt n i) ≡ false → first_refused n i (suc k) ≡ Err i
   unfolding first_refused
   refused-here e = rw e
 
@@ -53,29 +52,29 @@ module _ (n : List ℤ) (i k : ℕ) where
   unfolding first_refused
   passed_here e = rw e
 
-pub none_left : (n : List ℤ) (i : ℕ) → first_refused n i 0 ≡ Rows.Whole
+pub none_left : (n : List ℤ) (i : ℕ) → first_refused n i 0 ≡ Ok tt
 unfolding first_refused
 none_left n i = refl
 
-abbrev is_whole : Verdict → Type 0
-is_whole Rows.Whole = Unit
-is_whole (Rows.Refused i) = ⊥
+abbrev is_whole : Result Unit ℕ → Type 0
+is_whole (Ok tt) = Unit
+is_whole (Err i) = ⊥
 
 -- none is refused: the first is accepted, and none of the others is refused
-whole_parts : (n : List ℤ) (i k : ℕ) → first_refused n i (suc k) ≡ Rows.Whole → (accepted (rowAt n i) ≡ true) × (first_refused n (suc i) k ≡ Rows.Whole)
+whole_parts : (n : List ℤ) (i k : ℕ) → first_refused n i (suc k) ≡ Ok tt → (accepted (rowAt n i) ≡ true) × (first_refused n (suc i) k ≡ Ok tt)
 whole_parts n i k e = go (accepted (rowAt n i)) refl
   where
-    go : (b : Bool) → accepted (rowAt n i) ≡ b → (accepted (rowAt n i) ≡ true) × (first_refused n (suc i) k ≡ Rows.Whole)
+    go : (b : Bool) → accepted (rowAt n i) ≡ b → (accepted (rowAt n i) ≡ true) × (first_refused n (suc i) k ≡ Ok tt)
     go true f = (f, sym (passed_here n i k f) ∙ e)
     go false f = absurd (subst is_whole (sym e ∙ refused-here n i k f) tt)
 
-accepted-from : (n : List ℤ) (i k m : ℕ) → first_refused n i k ≡ Rows.Whole → m < k → accepted (rowAt n (i + m)) ≡ true
+accepted-from : (n : List ℤ) (i k m : ℕ) → first_refused n i k ≡ Ok tt → m < k → accepted (rowAt n (i + m)) ≡ true
 accepted-from n i zero m e h = absurd (omega arith)
 accepted-from n i (suc k) zero e h = ap (λ (j : ℕ). accepted (rowAt n j)) (add-zero i) ∙ (whole_parts n i k e).0
 accepted-from n i (suc k) (suc m) e h =
     ap (λ (j : ℕ). accepted (rowAt n j)) (omega arith) ∙ accepted-from n (suc i) k m (whole_parts n i k e).1 (omega arith)
 
-pub accepted-at : (n : List ℤ) (i : ℕ) → first_refused n 0 7 ≡ Rows.Whole → i < 7 → accepted (rowAt n i) ≡ true
+pub accepted-at : (n : List ℤ) (i : ℕ) → first_refused n 0 7 ≡ Ok tt → i < 7 → accepted (rowAt n i) ≡ true
 accepted-at n i e h = ap (λ (j : ℕ). accepted (rowAt n j)) (sym (zero-add i)) ∙ accepted-from n 0 7 i e h
 
 -- ---- values stored row by row
@@ -85,21 +84,14 @@ unfolding values_of
 length_values n zero = refl
 length_values n (suc k) = omega (arith, length-append (values_of n k) (eight (elements_of document02 (rowAt n k))), length_values n k)
 
--- four stores one after the other
-pub four_stores : (l : List ℤ) (at : ℕ) (a b c d : ℤ)
-    → set (set (set (set l at a) (at + 1) b) (at + 2) c) (at + 3) d ≡ sets l at (a ∷ b ∷ c ∷ d ∷ [])
-four_stores l at a b c d =
-    let e1 : at + 1 ≡ suc at = omega arith in
-    let e2 : at + 2 ≡ suc (suc at) = omega arith in
-    let e3 : at + 3 ≡ suc (suc (suc at)) = omega arith in
-    rw (e1, e2, e3) refl
-
--- and four right behind them
-pub eight-stored : (l four all : List ℤ) (at : ℕ) (b : Besselian) → four ≡ sets l at (b.x ∷ b.y ∷ b.sind ∷ b.cosd ∷ [])
-    → all ≡ sets four (at + 4) (b.tanf1 ∷ b.tanf2 ∷ b.l1 ∷ b.l2 ∷ []) → all ≡ sets l at (eight b)
-eight-stored l four all at b p q =
-    q ∙ ap (λ (m : List ℤ). sets m (at + 4) (b.tanf1 ∷ b.tanf2 ∷ b.l1 ∷ b.l2 ∷ [])) p
-    ∙ sym (sets_append (b.x ∷ b.y ∷ b.sind ∷ b.cosd ∷ []) (b.tanf1 ∷ b.tanf2 ∷ b.l1 ∷ b.l2 ∷ []) l at)
+-- a list put at a place by `copy_from_slice` is stored from there on
+pub pasted : (l part xs : List ℤ) (i m : ℕ) → length xs ≡ m → i + m ≤ length l → part ≡ xs
+    → put_mid i (i + m - i) l part ≡ sets l i xs
+pasted l part xs i m k h e =
+    put_mid-paste i (i + m - i) l part xs m e (omega arith) (sym k)
+    ∙ ap (λ (s : List ℤ). take i l ++ s ++ drop (i + m) l) (take_all m xs (omega (arith, k)))
+    ∙ ap (λ (n : ℕ). take i l ++ xs ++ drop (i + n) l) (sym k)
+    ∙ sym (sets-eq xs l i (omega (arith, k, h)))
 
 values_last : (n : List ℤ) (k : ℕ) → values_of n k ++ eight (elements_of document02 (rowAt n k)) ≡ values_of n (k + 1)
 unfolding values_of
@@ -162,54 +154,63 @@ elements-at n (suc k) i rest h =
     ∙ at_or_before n k i (eight (elements_of document02 (rowAt n k)) ++ rest) (λ (l : i < k). elements-at n k i (eight (elements_of document02 (rowAt n k)) ++ rest) l)
     (λ (e : k ≡ i). elements-first (elements_of document02 (rowAt n k)) rest ∙ ap (λ (j : ℕ). elements_of document02 (rowAt n j)) e) h
 
-pub claimed : (n old : List ℤ) → first_refused n 0 7 ≡ Rows.Whole → Claimed Made n (values_of n 7 ++ drop 56 old)
+pub claimed : (n old : List ℤ) → first_refused n 0 7 ≡ Ok tt → Claimed (Ok tt) n (values_of n 7 ++ drop 56 old)
 claimed n old e i h =
     subst (Faithful document02 (rowAt n i)) (sym (elements-at n 7 i (drop 56 old) h)) (faithful document02 ranged (rowAt n i) (accepted-is (rowAt n i) (accepted-at n i e h)))
 
 -- ---- the answer
 
+abbrev IsMade : Result Unit Refusal → Type 0
+IsMade (Ok tt) = Unit
+IsMade (Err r) = ⊥
+
 module _ (n : List ℤ) (room : ℕ) where
-  pub answer-shape : (length n ≡ 42 → ⊥) → answer_to n room ≡ Refused (refusal 10 0)
+  pub answer-shape : (length n ≡ 42 → ⊥) → answer_to n room ≡ Err (refusal 10 0)
   unfolding answer_to
   answer-shape h = rw (ne_eqb (length n) 42 h)
 
   module _ (c : length n ≡ 42) where
-    pub answer-row : (i : ℕ) → first_refused n 0 7 ≡ Rows.Refused i → answer_to n room ≡ Refused (refusal 11 i)
+    pub answer-row : (i : ℕ) → first_refused n 0 7 ≡ Err i → answer_to n room ≡ Err (refusal 11 i)
     unfolding answer_to
     answer-row i e = rw (eq-eqb (length n) 42 c, e)
 
-    pub answer-room : first_refused n 0 7 ≡ Rows.Whole → room < 56 → answer_to n room ≡ Refused (refusal 4 56)
+    -- the refusal that a row's place is mapped to
+    pub answer-mapped : (m : Result Unit Refusal) (r : Refusal) → ((i : ℕ) → first_refused n 0 7 ≡ Err i → m ≡ Err (refusal 11 i))
+        → (first_refused n 0 7 ≡ Ok tt → m ≡ Ok tt) → m ≡ Err r → answer_to n room ≡ Err r
+    answer-mapped m r refused whole e = go (first_refused n 0 7) refl
+      where
+        go : (v : Result Unit ℕ) → first_refused n 0 7 ≡ v → answer_to n room ≡ Err r
+        go (Err i) f = answer-row i f ∙ sym (refused i f) ∙ e
+        go (Ok tt) f = absurd (subst IsMade (sym (whole f) ∙ e) tt)
+
+    pub answer-room : first_refused n 0 7 ≡ Ok tt → room < 56 → answer_to n room ≡ Err (refusal 4 56)
     unfolding answer_to
     answer-room e h = rw (eq-eqb (length n) 42 c, e, lt-leb 56 room h)
 
-    pub answer-made : first_refused n 0 7 ≡ Rows.Whole → 56 ≤ room → answer_to n room ≡ Made
+    pub answer-made : first_refused n 0 7 ≡ Ok tt → 56 ≤ room → answer_to n room ≡ Ok tt
     unfolding answer_to
     answer-made e h = rw (eq-eqb (length n) 42 c, e, le-leb 56 room h)
 
 -- made: 42 numbers, none refused, and a buffer that is long enough
 pub record Good (n : List ℤ) (room : ℕ) : Type 0 where
   pub count : length n ≡ 42
-  pub whole : first_refused n 0 7 ≡ Rows.Whole
+  pub whole : first_refused n 0 7 ≡ Ok tt
   pub enough : 56 ≤ room
 
-abbrev IsMade : Answer → Type 0
-IsMade Made = Unit
-IsMade (Refused r) = ⊥
-
-pub made_good : (n : List ℤ) (room : ℕ) → answer_to n room ≡ Made → Good n room
+pub made_good : (n : List ℤ) (room : ℕ) → answer_to n room ≡ Ok tt → Good n room
 made_good n room e = shape (eqb (length n) 42) refl
   where
     -- a refusal is no success
-    no : {r : Answer} → answer_to n room ≡ r → IsMade r
+    no : {r : Result Unit Refusal} → answer_to n room ≡ r → IsMade r
     no f = subst IsMade (sym e ∙ f) tt
 
-    fits : length n ≡ 42 → first_refused n 0 7 ≡ Rows.Whole → (b : Bool) → leb 56 room ≡ b → Good n room
+    fits : length n ≡ 42 → first_refused n 0 7 ≡ Ok tt → (b : Bool) → leb 56 room ≡ b → Good n room
     fits c w true h = record { count = c; whole = w; enough = leb-true 56 room h }
     fits c w false h = absurd (no (answer-room n room c w (leb-false 56 room h)))
 
-    rows : length n ≡ 42 → (v : Verdict) → first_refused n 0 7 ≡ v → Good n room
-    rows c Rows.Whole f = fits c f (leb 56 room) refl
-    rows c (Rows.Refused i) f = absurd (no (answer-row n room c i f))
+    rows : length n ≡ 42 → (v : Result Unit ℕ) → first_refused n 0 7 ≡ v → Good n room
+    rows c (Ok tt) f = fits c f (leb 56 room) refl
+    rows c (Err i) f = absurd (no (answer-row n room c i f))
 
     shape : (b : Bool) → eqb (length n) 42 ≡ b → Good n room
     shape true h = rows (eqb-true (length n) 42 h) (first_refused n 0 7) refl
@@ -217,13 +218,13 @@ made_good n room e = shape (eqb (length n) 42) refl
 
 -- what is promised
 module _ (n old : List ℤ) where
-  pub after-refused : {r : Refusal} → answer_to n (length old) ≡ Refused r
+  pub after-refused : {r : Refusal} → answer_to n (length old) ≡ Err r
       → (old ≡ values_after (answer_to n (length old)) n old) × Claimed (answer_to n (length old)) n old
   after-refused e = rw e (refl, tt)
 
-  pub after-made : (out : List ℤ) → answer_to n (length old) ≡ Made → out ≡ sets old 0 (values_of n 7)
+  pub after-made : (out : List ℤ) → answer_to n (length old) ≡ Ok tt → out ≡ sets old 0 (values_of n 7)
       → (out ≡ values_after (answer_to n (length old)) n old) × Claimed (answer_to n (length old)) n out
   after-made out e o =
       let g = made_good n (length old) e in
       let v = o ∙ all-stored n old g.enough in
-      rw e (v, subst (Claimed Made n) (sym v) (claimed n old g.whole))
+      rw e (v, subst (Claimed (Ok tt) n) (sym v) (claimed n old g.whole))

@@ -1,6 +1,6 @@
 -- Laws of a double's units. They depend on its value alone (`units_value`), which the fields of its bits give
 -- (`units-fields`); and an exponent field of 2047 is that of what is not finite (`finite-fields`).
-use Rattle.std.specs.Prelude.{◌≡◌, refl, Bool, true, false, not, cond, ℕ, zero, suc, ◌+◌, ◌*◌, ◌/◌, ◌%◌, ◌^◌, ◌≤◌, ◌<◌, T, leb, eqb, pos, neg_ℤ, nat_abs, Float}
+use Rattle.std.specs.Prelude.{◌≡◌, refl, Bool, true, false, not, cond, ℕ, zero, suc, ◌+◌, ◌*◌, ◌/◌, ◌%◌, ◌^◌, ◌≤◌, ◌<◌, T, leb, eqb, pos, neg_ℤ, nat_abs, Float, Ok, Err}
 use Rattle.std.proofs.Math.Path.{sym}
 use Rattle.std.proofs.Common.{ap, ◌∙◌, subst, arith, add-mul, mul_comm, mul_assoc, mul_left_comm, mul_right_comm, lt-ltb, le-ltb, pow_pos}
 use Rattle.std.specs.Float.{nan, inf, fin}
@@ -11,10 +11,10 @@ use Rattle.std.specs.Float.Ieee.Bits.{of_bits-to_bits}
 use Rattle.std.specs.Float.Ieee.Exact.{HasValue, odd_sign}
 use Rattle.std.specs.Float.Ieee.Nearest.{div_same}
 use Rattle.std.specs.Float.Ieee.Scale.{finite}
+use Rattle.binary64.specs.declared.NotUnits.TheVariants as NotUnits
 use Rattle.rounding.specs.laws.Order.{parts-≤, nat_abs_opposite}
 use Rattle.rounding.specs.Near.{half_up, near}
 use Rattle.rounding.proofs.laws.NearLaws.{near-pos, near-opposite}
-use Rattle.binary64.specs.declared.Reading.TheVariants.{Units, TooLarge, NotFinite}
 use Rattle.binary64.specs.Doubles.{signed, units_of, fitted, reading_of}
 use Rattle.binary64.specs.laws.Fields.{size_of}
 
@@ -27,11 +27,11 @@ pub signed-size : (s : Bool) (n : ℕ) → nat_abs (signed s n) ≡ n
 signed-size false n = refl
 signed-size true n = nat_abs_opposite (pos n)
 
-pub fitted_small : (s : Bool) (n : ℕ) → n < 2 ^ 63 → fitted (signed s n) ≡ Units (signed s n)
+pub fitted_small : (s : Bool) (n : ℕ) → n < 2 ^ 63 → fitted (signed s n) ≡ Ok (signed s n)
 unfolding fitted
 fitted_small s n h = rw (signed-size s n, lt-ltb n (2 ^ 63) h)
 
-pub fitted_large : (s : Bool) (n : ℕ) → 2 ^ 63 ≤ n → fitted (signed s n) ≡ TooLarge
+pub fitted_large : (s : Bool) (n : ℕ) → 2 ^ 63 ≤ n → fitted (signed s n) ≡ Err NotUnits.TooLarge
 unfolding fitted
 fitted_large s n h = rw (signed-size s n, le-ltb n (2 ^ 63) h)
 
@@ -131,7 +131,7 @@ module _ (x : Float) (F : T (fits binary64 x)) where
       turned false e = refl
 
 -- ---- a reading by its ways
-pub reading_none : (scale : ℕ) (x : Float) → finite x ≡ false → reading_of scale x ≡ NotFinite
+pub reading_none : (scale : ℕ) (x : Float) → finite x ≡ false → reading_of scale x ≡ Err NotUnits.NotFinite
 unfolding reading_of
 reading_none scale x h = rw h
 

@@ -1,5 +1,6 @@
 -- `binary64::read` meets its contract: the sign and the size that the fields of the bits give are those of the units
 -- (ReadingLaws).
+use Rattle.std.specs.Prelude.{Ok}
 use mathlib.Core.Path.{◌≡◌, sym, ◌∙◌, ap, subst}
 use mathlib.Core.Bool.{Bool, true, false}
 use mathlib.Core.List.{[], ◌∷◌}
@@ -9,11 +10,10 @@ use borrow.Author.Rules.{rules}
 use borrow.Author.Tests.{le-leb, lt-leb}
 use lib.Dec.{T, leb}
 use lib.IntN.{ℤ, pos, neg_ℤ, ◌-ℤ◌, +ℤ_idl}
-use lib.Ieee.{binary64, fits, to_bits}
+use lib.Ieee.{binary64, to_bits}
 use lib.Ieee.Scale.{finite}
 use Rattle.rounding.specs.laws.Code as code
 use Rattle.rounding.specs.laws.Code.{Code, arg, lit, sub, Within, raw, ends, ◌▹◌, runs, count-is, count-size}
-use Rattle.binary64.specs.declared.Reading.TheVariants.{Units}
 use Rattle.binary64.specs.Doubles.{signed, fitted, reading_of}
 use Rattle.binary64.specs.laws.Fields.{size_of}
 use Rattle.binary64.proofs.laws.ReadingLaws.{finite_no_nan, units-fields, fitted_small, fitted_large, reading_none, reading-fits}
@@ -60,7 +60,7 @@ read c =
 
 -- where the size fits, it is what the call gave
 read_small : (c : tie.After-size-n) (s : Bool) → c.size-n.result < 2 ^ 63 → leb (2 ^ 63) (pattern c) ≡ s
-    → reading_of c.args.scale c.args.x ≡ Units (signed s c.size-n.result)
+    → reading_of c.args.scale c.args.x ≡ Ok (signed s c.size-n.result)
 read_small c s h e =
     read c
     ∙ ap (λ (b : Bool). fitted (signed b (whole c))) e
@@ -87,13 +87,13 @@ returns-3 : tie.Need-returns-then-bits-ge-SIGN
 returns-3 c =
     let t = c.before.before in
     let h = c.if-n-ge-SIGN.false in
-    ap Units (opposite-is t.size-n.result h) ∙ sym (read_small t true h (le-leb (2 ^ 63) (pattern t) c.if-bits-ge-SIGN.true))
+    ap Ok (opposite-is t.size-n.result h) ∙ sym (read_small t true h (le-leb (2 ^ 63) (pattern t) c.if-bits-ge-SIGN.true))
 
 returns-4 : tie.Need-returns-else-bits-ge-SIGN
 returns-4 c =
     let t = c.before.before in
     let h = c.if-n-ge-SIGN.false in
-    ap Units (count-is t.size-n.result (bound t.size-n.result h) tt)
+    ap Ok (count-is t.size-n.result (bound t.size-n.result h) tt)
     ∙ sym (read_small t false h (lt-leb (2 ^ 63) (pattern t) c.if-bits-ge-SIGN.false))
 
 pub read_spec : {M : Type 1} → statement M

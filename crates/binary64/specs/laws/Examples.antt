@@ -1,9 +1,9 @@
 -- Worked examples as theorems, by computation.
-use Rattle.std.specs.Prelude.{◌≡◌, refl, true, false, pos, negsuc}
+use Rattle.std.specs.Prelude.{◌≡◌, refl, true, false, pos, negsuc, Err}
 use Rattle.std.specs.Float.{fin, binary64}
 use Rattle.std.specs.Float.Ieee.{of_bits}
+use Rattle.binary64.specs.declared.NotUnits.TheVariants as NotUnits
 use Rattle.rounding.specs.Near.{near}
-use Rattle.binary64.specs.declared.Reading.TheVariants.{TooLarge, NotFinite}
 use Rattle.binary64.specs.declared.Longitude.TheVariants.{Degrees, Hours}
 use Rattle.binary64.specs.Doubles.{units_of, longitude_of, fitted, reading_of}
 
@@ -35,14 +35,14 @@ unfolding units_of near
 minus_nought = refl
 
 -- the largest double, an infinity and a NaN
-largest : reading_of 1_000_000 (of_bits binary64 0x7fef_ffff_ffff_ffff) ≡ TooLarge
+largest : reading_of 1_000_000 (of_bits binary64 0x7fef_ffff_ffff_ffff) ≡ Err NotUnits.TooLarge
 unfolding reading_of fitted units_of near of_bits
 largest = refl
 
-minus_infinity : reading_of 1_000_000 (of_bits binary64 0xfff0_0000_0000_0000) ≡ NotFinite
+minus_infinity : reading_of 1_000_000 (of_bits binary64 0xfff0_0000_0000_0000) ≡ Err NotUnits.NotFinite
 unfolding reading_of of_bits
 minus_infinity = refl
 
-no_number : reading_of 1_000_000 (of_bits binary64 0x7ff8_0000_0000_0000) ≡ NotFinite
+no_number : reading_of 1_000_000 (of_bits binary64 0x7ff8_0000_0000_0000) ≡ Err NotUnits.NotFinite
 unfolding reading_of of_bits
 no_number = refl

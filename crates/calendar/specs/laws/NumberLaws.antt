@@ -1,10 +1,8 @@
 -- Six numbers of an instant, test by test.
-use Rattle.std.specs.Prelude.{ℕ, ◌≤◌, ◌<◌, ◌≡◌, true, false}
+use Rattle.std.specs.Prelude.{ℕ, ◌≤◌, ◌<◌, ◌≡◌, true, false, Ok, None, Err, Some}
 use borrow.Author.Tests.{eq-eqb, ne_eqb, lt-leb, le-leb}
 use Rattle.calendar.specs.declared.Scale.{Scale}
 use Rattle.calendar.specs.declared.Scale.TheVariants as S
-use Rattle.calendar.specs.declared.Reference.TheVariants as Ref
-use Rattle.calendar.specs.declared.numbers.Numbered.TheVariants as N
 use Rattle.calendar.specs.Calendar.{is_day}
 use Rattle.calendar.specs.Numbers.{is_offset, scale_of, reference_of}
 
@@ -18,36 +16,36 @@ module _ (s : ℕ) where
   universal e = rw (ne_eqb s 1 e)
 
 module _ (s y m d h o : ℕ) where
-  pub no-instant : s ≡ 0 → N.Is Ref.Nothing ≡ reference_of s y m d h o
+  pub no-instant : s ≡ 0 → Ok None ≡ reference_of s y m d h o
   unfolding reference_of
   no-instant e = rw (eq-eqb s 0 e)
 
   module _ (e : s ≡ 0 → ⊥) where
-    pub no-scale : 2 < s → N.Wrong 0 ≡ reference_of s y m d h o
+    pub no-scale : 2 < s → Err 0 ≡ reference_of s y m d h o
     unfolding reference_of
     no-scale g = rw (ne_eqb s 0 e, lt-leb s 2 g)
 
     module _ (g : s ≤ 2) where
-      pub no-day : is_day y m d ≡ false → N.Wrong 1 ≡ reference_of s y m d h o
+      pub no-day : is_day y m d ≡ false → Err 1 ≡ reference_of s y m d h o
       unfolding reference_of
       no-day f = rw (ne_eqb s 0 e, le-leb s 2 g, f)
 
       module _ (f : is_day y m d ≡ true) where
-        pub no-year : 9999 < y → N.Wrong 1 ≡ reference_of s y m d h o
+        pub no-year : 9999 < y → Err 1 ≡ reference_of s y m d h o
         unfolding reference_of
         no-year k = rw (ne_eqb s 0 e, le-leb s 2 g, f, lt-leb y 9999 k)
 
         module _ (k : y ≤ 9999) where
-          pub no-time : 8639999 < h → N.Wrong 4 ≡ reference_of s y m d h o
+          pub no-time : 8639999 < h → Err 4 ≡ reference_of s y m d h o
           unfolding reference_of
           no-time t = rw (ne_eqb s 0 e, le-leb s 2 g, f, le-leb y 9999 k, lt-leb h 8639999 t)
 
           module _ (t : h ≤ 8639999) where
-            pub no-offset : is_offset y o ≡ false → N.Wrong 5 ≡ reference_of s y m d h o
+            pub no-offset : is_offset y o ≡ false → Err 5 ≡ reference_of s y m d h o
             unfolding reference_of
             no-offset w = rw (ne_eqb s 0 e, le-leb s 2 g, f, le-leb y 9999 k, le-leb h 8639999 t, w)
 
             pub an-instant : is_offset y o ≡ true → (x : Scale) → x ≡ scale_of s
-                → N.Is (Ref.At (record { year = y; month = m; day = d; hundredths = h; scale = x; offset = o })) ≡ reference_of s y m d h o
+                → Ok (Some (record { year = y; month = m; day = d; hundredths = h; scale = x; offset = o })) ≡ reference_of s y m d h o
             unfolding reference_of
             an-instant w x i = rw (ne_eqb s 0 e, le-leb s 2 g, f, le-leb y 9999 k, le-leb h 8639999 t, w, i)

@@ -2,7 +2,7 @@
 --   beyond     both ends are out by their margins, one in its own direction and the other in that direction too: so is the one between
 --   within     both ends are inside by their margins: so is the one between
 -- `slack` is the 59 units that every second may be off its chord, with the radius; what grows with the distance of the ends is 7/16 i j.
-use Rattle.std.specs.Prelude.{[], ◌∷◌, ◌+◌, ◌*◌, ℤ, pos, ◌+ℤ◌, ◌-ℤ◌, ◌*ℤ◌, ◌≤ℤ◌, ◌<ℤ◌}
+use Rattle.std.specs.Prelude.{[], ◌∷◌, ◌+◌, ℤ, pos, ◌+ℤ◌, ◌-ℤ◌, ◌*ℤ◌, ◌≤ℤ◌, ◌<ℤ◌}
 use Rattle.std.specs.Int.Signed.{clash_ℤ}
 use Rattle.rounding.specs.laws.Order.{minus_nonneg, +ℤ_nonneg}
 use Rattle.rounding.specs.laws.Ring.{num, ◌⊕◌, ◌⊖◌, ◌⊗◌, v0, v1, v2, v3, v4, v5, v6, v7}

@@ -2,7 +2,7 @@
 -- quadrants; t is `true_sine`.
 --   true-step     10^13 |t(z+1) - t(z)| ≤ 174,534 common
 --   true-bend     10^19 |t(z+2) - 2 t(z+1) + t(z)| ≤ 3060 common
-use Rattle.std.specs.Prelude.{◌≡◌, refl, [], ◌∷◌, ℕ, zero, suc, ◌+◌, ◌-◌, ◌*◌, ◌/◌, ◌%◌, ◌≤◌, ◌<◌, ℤ, pos, negsuc, neg_ℤ, nat_abs, ◌+ℤ◌, ◌-ℤ◌, ◌*ℤ◌, ◌≤ℤ◌}
+use Rattle.std.specs.Prelude.{◌≡◌, refl, [], ◌∷◌, ℕ, zero, suc, ◌+◌, ◌*◌, ◌/◌, ◌%◌, ◌≤◌, ◌<◌, ℤ, pos, negsuc, neg_ℤ, nat_abs, ◌+ℤ◌, ◌-ℤ◌, ◌*ℤ◌, ◌≤ℤ◌}
 use Rattle.std.proofs.Common.{sym, ◌∙◌, ap, ⊎_elim, arith}
 use Rattle.std.proofs.Math.IntN.{+ℤ_assoc, neg_ℤ-neg_ℤ}
 use Rattle.rounding.specs.Parts.{sum}

@@ -40,8 +40,9 @@ fn phase_length(phase: Phase, runs: &[u8], k: usize, seconds: usize) -> usize
         run: 0,
         was: 0,
     };
+    // Not a `for`: `contacts::step` gives an entry with the cursor after it.
     loop {
-        let contacts::Next::Found(entry, after) = contacts::step(runs, k, seconds, c) else {
+        let Some((entry, after)) = contacts::step(runs, k, seconds, c) else {
             return n;
         };
         let kind = kind_in(phase, entry);
@@ -70,10 +71,8 @@ fn phases_length(o: Occultation, runs: &[u8]) -> usize
     let body = o.body;
     let count = shadow::bodies::phase_count(body);
     let mut length: usize = 0;
-    let mut k: usize = 0;
-    while k < count {
+    for k in 0..count {
         length += nth_phase_length(o, runs, k);
-        k += 1;
     }
     length
 }

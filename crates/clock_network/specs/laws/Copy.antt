@@ -1,8 +1,11 @@
 -- Something of each node is copied into an array, place by place.
 use Rattle.std.specs.Prelude.{◌≡◌, refl, ℕ, zero, suc, ◌+◌, ◌<◌, ◌≤◌, List, [], ◌∷◌, ◌++◌, map, length, get_or, take, set}
-use Rattle.std.proofs.Common.{sym, ap, ◌∙◌, add-one, arith, take-suc, take-suc-set, take_all, length-take-le}
+use Rattle.std.proofs.Common.{sym, ap, ◌∙◌, add-one, arith, take-suc, take-suc-set, length-take-le, ext_get_or}
 use Rattle.std.proofs.lemmas.List.{length-map}
 use Rattle.std.proofs.Math.ListN.{get_or-map}
+use denote.Param.Members.{Mut}
+use Rattle.std.specs.Array.{IsMapOf}
+use Rattle.std.specs.Fn.{Called}
 use Rattle.clock_network.specs.declared.stations.Node.{Node}
 use Rattle.clock_network.specs.Held.{blank_node}
 
@@ -26,5 +29,9 @@ module _ {A : Type 0} (f : Node → A) (l : List Node) (a : List A) where
   pub copy_step : (i : ℕ) (v : A) → i < length a → i < length l → v ≡ f (get_or l i blank_node) → take i a ≡ take i (map f l) → take (i + 1) (set a i v) ≡ take (i + 1) (map f l)
   copy_step i v b c e h = grow (map f l) a i v (f blank_node) b (rw length-map c) (e ∙ sym (get_or-map f l i blank_node)) h
 
-  pub copy_done : length a ≡ 64 → length l ≡ 64 → take 64 a ≡ take 64 (map f l) → a ≡ map f l
-  copy_done b c h = sym (take_all 64 a (omega arith)) ∙ (h ∙ take_all 64 (map f l) (rw length-map (omega arith)))
+-- what a closure that gives h of each item made of a list
+pub mapped : {F A B : Type 0} {g : Mut F (A × Unit {0}) B} {f : F} {n : ℕ} (h : A → B) (xs : List A) (ys : List B) (d : A) → IsMapOf g f xs ys n → length xs ≡ n → ((x : A) (y : B) (p q : F) → Called g p (x, tt) y q → y ≡ h x) → ys ≡ map h xs
+mapped {n = n} h xs ys d m e c =
+    let k : length (map h xs) ≡ n = rw length-map e in
+    ext_get_or (h d) ys (map h xs) (m.long ∙ sym k)
+    (λ i l. let b : i < n = rw m.long at l in let w = m.at i d (h d) b in c _ _ w.0 w.1 w.2 ∙ sym (get_or-map h xs i d))

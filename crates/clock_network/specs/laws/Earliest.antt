@@ -1,7 +1,6 @@
 -- The search for the first of the smallest numbers below a bound, place by place.
-use Rattle.std.specs.Prelude.{◌≡◌, refl, ◌⊎◌, ℕ, ◌+◌, ◌<◌, ◌≤◌, List, length, get_or}
-use Rattle.std.proofs.Common.{subst, inl, inr, ⊎_elim, arith}
-use Rattle.std.proofs.Math.Decide.{dec_lt}
+use Rattle.std.specs.Prelude.{◌≡◌, ◌⊎◌, ℕ, ◌<◌, ◌≤◌, List, length, get_or}
+use Rattle.std.proofs.Common.{⊎_elim, arith}
 use Rattle.clock_network.specs.laws.First.{First}
 use Rattle.clock_network.specs.Steps.{Smallest}
 
@@ -14,32 +13,6 @@ pub record SoFar (ts : List ℕ) (never i low best : ℕ) : Type 0 where
   pub bound : low ≤ never
   pub least : (k : ℕ) → k < i → low ≤ get_or ts k 0
   pub stands : Where ts never i low best
-
-pub far_start : (ts : List ℕ) (never : ℕ) → SoFar ts never 0 never (length ts)
-far_start ts never = record { within = omega arith; bound = omega arith; least = λ k l. absurd (omega arith); stands = inl (refl, refl) }
-
-module _ (ts : List ℕ) (never i low best : ℕ) (f : SoFar ts never i low best) (b : i < length ts) where
-  least_more : (m : ℕ) → m ≤ low → m ≤ get_or ts i 0 → (k : ℕ) → k < i + 1 → m ≤ get_or ts k 0
-  least_more m a c k l = elim (dec_lt k i) [
-    | yes h ↦ let g : low ≤ get_or ts k 0 = f.least k h in omega arith
-    | no h ↦ let e : i ≡ k = omega (arith, h) in subst (λ (x : ℕ). m ≤ get_or ts x 0) e c
-  ]
-
-  pub far-smaller : get_or ts i 0 < low → SoFar ts never (i + 1) (get_or ts i 0) i
-  far-smaller h = let g : low ≤ never = f.bound in record {
-    within = omega arith;
-    bound = omega arith;
-    least = least_more (get_or ts i 0) (omega arith) (omega arith);
-    stands = inr (omega arith, (omega arith, (refl, λ k l. omega (arith, f.least k l))));
-  }
-
-  pub far-other : low ≤ get_or ts i 0 → SoFar ts never (i + 1) low best
-  far-other h = record {
-    within = omega arith;
-    bound = f.bound;
-    least = least_more low (omega arith) h;
-    stands = ⊎_elim (λ w. inl w) (λ w. let g : best < i = w.1.0 in inr (w.0, (omega arith, w.1.1))) f.stands;
-  }
 
 pub far-end : (ts : List ℕ) (never i low best : ℕ) → SoFar ts never i low best → length ts ≤ i → First (Smallest ts never) (length ts) best
 far-end ts never i low best f h = ⊎_elim none some f.stands

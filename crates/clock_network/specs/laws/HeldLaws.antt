@@ -2,12 +2,12 @@
 --   held-holds                 what was gathered holds the list
 --   some-list                  every value holds some list
 --   listed, first-node, part   of a list of at most 64: it, its first node, and something of each of its nodes
-use Rattle.std.specs.Prelude.{◌≡◌, refl, ℕ, zero, suc, ◌<◌, ◌≤◌, Bool, true, false, ltb, List, [], ◌∷◌, ◌++◌, map, length, get_or, take, replicate}
-use Rattle.std.proofs.Common.{sym, ap, ◌∙◌, arith, ltb-false, length-set, take_all, take-suc, take-suc-set, get_or-take, length-take-le}
+use Rattle.std.specs.Prelude.{◌≡◌, refl, ℕ, zero, suc, ◌<◌, ◌≤◌, Bool, true, false, ltb, List, [], ◌∷◌, ◌++◌, map, length, get_or, set, take, drop, replicate, min}
+use Rattle.std.proofs.Common.{sym, ap, ◌∙◌, arith, ltb-true, ltb-false, length-set, take_all, take-suc, take-suc-set, get_or-take, length-take-le}
 use Rattle.std.proofs.Math.Decide.{dec_lt}
 use Rattle.std.proofs.lemmas.List.{length-replicate}
 use Rattle.clock_network.specs.declared.stations.Node.{Node}
-use Rattle.clock_network.specs.Held.{blank_node, pick, least64, held_of}
+use Rattle.clock_network.specs.Held.{blank_node, blank_nodes, pick, least64, held_of}
 use Rattle.clock_network.specs.declared.stations.Held.{Held}
 use Rattle.clock_network.specs.Nodes.{Holds}
 use Rattle.clock_network.specs.laws.Copy.{take-map}
@@ -32,6 +32,35 @@ held-take l (suc i) a b =
 least-is : (t : Bool) (n : ℕ) → t ≡ ltb n 64 → n ≤ 64 → pick t n 64 ≡ n
 least-is true n e h = refl
 least-is false n e h = let l : 64 ≤ n = ltb-false n 64 (sym e) in omega arith
+
+-- one node more, in front of what is left of the 64 places
+front : (l b : List Node) (i : ℕ) → i < length l → i < length b → set (take i l ++ drop i b) i (get_or l i blank_node) ≡ take (suc i) l ++ drop (suc i) b
+front [] b i h k = absurd (omega arith)
+front (x ∷ l) [] i h k = absurd (omega arith)
+front (x ∷ l) (y ∷ b) zero h k = refl
+front (x ∷ l) (y ∷ b) (suc i) h k = ap (λ (s : List Node). x ∷ s) (front l b i (omega arith) (omega arith))
+
+held-front : (l : List Node) (i : ℕ) → i ≤ 64 → i ≤ length l → (held_of l i).nodes ≡ take i l ++ drop i blank_nodes
+unfolding held_of
+held-front l zero a b = refl
+held-front l (suc i) a b =
+    ap (λ (s : List Node). set s i (get_or l i blank_node)) (held-front l i (omega arith) (omega arith))
+    ∙ front l blank_nodes i (omega arith) (rw length-replicate (omega arith))
+
+least-min : (t : Bool) (n : ℕ) → t ≡ ltb n 64 → pick t n 64 ≡ min n 64
+least-min true n e = let l : n < 64 = ltb-true n 64 (sym e) in omega arith
+least-min false n e = let l : 64 ≤ n = ltb-false n 64 (sym e) in omega arith
+
+-- as many nodes as fit are copied to the front
+pub gathered-is : (l a : List Node) (n : ℕ) (b : Node) → n ≡ min (length l) 64 → a ≡ take n l → b ≡ blank_node
+    → record { nodes = a ++ drop n (replicate 64 b); count = length l } ≡ held_of l (least64 (length l))
+gathered-is l a n b e f g =
+    let m : n ≡ least64 (length l) = e ∙ sym (least-min (ltb (length l) 64) (length l) refl) in
+    let h : (held_of l n).nodes ≡ take n l ++ drop n blank_nodes = held-front l n (omega arith) (omega arith) in
+    ap (λ (s : List Node). record { nodes = s ++ drop n (replicate 64 b); count = length l }) f
+    ∙ (ap (λ (x : Node). record { nodes = take n l ++ drop n (replicate 64 x); count = length l }) g
+    ∙ (ap (λ (s : List Node). record { nodes = s; count = length l }) (sym h)
+    ∙ (ap (λ (k : ℕ). record { nodes = (held_of l n).nodes; count = k }) (sym (held-count l n)) ∙ ap (held_of l) m)))
 
 held_list : (l : List Node) → length l ≤ 64 → take (length l) (held_of l (least64 (length l))).nodes ≡ l
 held_list l h =

@@ -6,7 +6,7 @@ use Rattle.std.proofs.Math.Decide.{dec_lt, ℕ_discrete}
 use Rattle.std.specs.Int.{w64}
 use Rattle.clock_network.specs.laws.Bits.{read_back}
 use Rattle.clock_network.specs.laws.First.{First, first-same}
-use Rattle.clock_network.specs.Steps.{At, Repeats, Distinct, Stray, Steps, antenna, follows, Lost, StepsAre, Zero}
+use Rattle.clock_network.specs.Steps.{At, Repeats, Distinct, Steps, antenna, follows, Lost, StepsAre, Zero}
 use Rattle.clock_network.specs.laws.Search.{Sound, zeros, Small, Untold, NextIs}
 
 -- ---- numbers that are used once
@@ -84,22 +84,9 @@ small_start k = rw (all_zero 64 k) (omega arith)
 pub placed : (l : List ℤ) (n r : ℕ) (x : ℤ) → SFits w64 x → First (At l (to_z w64 (of_z w64 x))) n r → First (At l x) n r
 placed l n r x f p = subst (λ (z : ℤ). First (At l z) n r) (read_back f) p
 
-module _ (ns : List ℤ) (i j : ℕ) (p : First (At ns (get_or ns i (pos 0))) (length ns) j) where
-  pub repeats-yes : j < i → i < length ns → Repeats ns i
-  repeats-yes l b = (j, (l, p.found (omega arith)))
-
-  pub repeats-no : i ≤ j → Repeats ns i → ⊥
-  repeats-no l r = let h : r.0 < i = r.1.0 in p.before r.0 (omega arith) r.1.1
-
 module _ (ns cs : List ℤ) (i j : ℕ) (p : First (At ns (get_or cs i (pos 0))) (length ns) j) (z : get_or cs i (pos 0) ≡ pos 0 → ⊥) where
-  pub stray-yes : j ≡ length ns → Stray ns cs i
-  stray-yes e = (z, λ k l. p.before k (omega arith))
-
   in_list : (j ≡ length ns → ⊥) → j < length ns
   in_list n = let h : j ≤ length ns = p.within in omega (arith, n)
-
-  pub stray-no : (j ≡ length ns → ⊥) → Stray ns cs i → ⊥
-  stray-no n s = s.1 j (in_list n) (p.found (in_list n))
 
   module _ (st : List ℕ) (small : Small st) where
     zeros-64 : zeros st ≤ 64

@@ -1,7 +1,5 @@
 -- The search for the steps: what is known so far, and what one pass determines.
-use Rattle.std.specs.Prelude.{◌≡◌, ℕ, zero, suc, ◌+◌, ◌<◌, ◌≤◌, List, [], ◌∷◌, length, get_or, ℤ, pos}
-use Rattle.clock_network.specs.declared.strata.Ready.{Ready}
-use Rattle.clock_network.specs.declared.strata.Ready.TheVariants.{Found, Quiet}
+use Rattle.std.specs.Prelude.{◌≡◌, ℕ, zero, suc, ◌+◌, ◌<◌, ◌≤◌, List, [], ◌∷◌, length, get_or, ℤ, pos, Option, Some, None}
 use Rattle.clock_network.specs.Steps.{Steps}
 
 -- what is known is right
@@ -27,6 +25,6 @@ pub record NextIs (ns cs : List ℤ) (st : List ℕ) (i r : ℕ) : Type 0 where
   pub untold : r ≡ 0 → Untold ns cs st i
   pub small : r + zeros st ≤ 65
 
-abbrev pub ReadyIs : List ℤ → List ℤ → List ℕ → Ready → Type 0
-ReadyIs ns cs st (Found i s) = (i < length ns) × ((get_or st i 0 ≡ 0) × ((s ≡ 0 → ⊥) × ((Sound ns cs st → Steps ns cs i s) × (s + zeros st ≤ 65))))
-ReadyIs ns cs st Quiet = (i : ℕ) → i < length ns → get_or st i 0 ≡ 0 → Untold ns cs st i
+abbrev pub ReadyIs : List ℤ → List ℤ → List ℕ → Option (ℕ × ℕ) → Type 0
+ReadyIs ns cs st (Some (i, s)) = (i < length ns) × ((get_or st i 0 ≡ 0) × ((s ≡ 0 → ⊥) × ((Sound ns cs st → Steps ns cs i s) × (s + zeros st ≤ 65))))
+ReadyIs ns cs st None = (i : ℕ) → i < length ns → get_or st i 0 ≡ 0 → Untold ns cs st i

@@ -1,18 +1,17 @@
 -- What is found between two seconds: two hundredths between them, in order, of which the first has the state of the
 -- first second and the last that of the last (`bracket-ends`); and where one second is outside and the other inside
 -- they are found (`bracket-found`).
-use Rattle.std.specs.Prelude.{◌≡◌, Bool, true, false, cond, ℕ, ◌+◌, ◌-◌, ◌≤◌, ◌<◌, eqb, ltb, ℤ, neg_ℤ, nat_abs, ◌+ℤ◌, ◌-ℤ◌, ◌*ℤ◌, ◌≤ℤ◌, ◌<ℤ◌, [], ◌∷◌}
+use Rattle.std.specs.Prelude.{◌≡◌, Bool, true, false, cond, ℕ, ◌+◌, ◌-◌, ◌≤◌, ◌<◌, eqb, ltb, ℤ, neg_ℤ, nat_abs, ◌+ℤ◌, ◌-ℤ◌, ◌*ℤ◌, ◌≤ℤ◌, ◌<ℤ◌, [], ◌∷◌, None, Some}
 use Rattle.std.proofs.Math.Path.{refl, ap}
-use Rattle.std.proofs.Common.{◌∙◌, subst, arith, ⊎_elim}
+use Rattle.std.proofs.Common.{◌∙◌, sym, subst, arith, ⊎_elim}
 use Rattle.std.proofs.Math.IntN.{pos}
 use borrow.Author.Tests.{ltb-true, ltb-false, lt-ltb, le-ltb, eqb-true, eqb-false, eq-eqb, ne_eqb}
 use Rattle.sheet_types.specs.States.{State, inside, outside, unsure, code}
+use Rattle.rounding.specs.laws.Results.{some_parts}
 use Rattle.rounding.specs.Parts.{sum, opposite}
 use Rattle.rounding.specs.laws.Ring.{num, ◌⊕◌, ring, v0}
 use Rattle.rounding.specs.laws.Order.{zs, <ℤ-≤, ≤ℤ_antisym, ≤ℤ_total, nonneg, minus_nonneg, nat_abs_parts}
 use Rattle.contact_times.specs.declared.hundredths.Crossing.{Crossing}
-use Rattle.contact_times.specs.declared.search.Bracket.{Bracket}
-use Rattle.contact_times.specs.declared.search.Bracket.TheVariants as B
 use Rattle.contact_times.specs.Brackets.{state_at, side_of, side_at, last_below, narrowed, bracket_of}
 use Rattle.contact_times.specs.laws.BracketLaws.{code_small, Last, halved_is}
 
@@ -121,11 +120,11 @@ module _ (c : Crossing) (first : ℤ) (start n : ℕ) (some : 0 < n) (k : code (
 
 -- ---- where something is found, one second is outside and the other inside, so they are two
 module _ (c : Crossing) (from to : ℤ) where
-  none : eqb (code (state_at c (from *ℤ pos 100)) + code (state_at c (to *ℤ pos 100))) 1 ≡ false → bracket_of c from to ≡ B.NoContact
+  none : eqb (code (state_at c (from *ℤ pos 100)) + code (state_at c (to *ℤ pos 100))) 1 ≡ false → bracket_of c from to ≡ None
   unfolding bracket_of
   none e = rw e refl
 
-  pub bracket-contact : (p q : ℤ) → bracket_of c from to ≡ B.Between p q → code (state_at c (from *ℤ pos 100)) + code (state_at c (to *ℤ pos 100)) ≡ 1
+  pub bracket-contact : (p q : ℤ) → bracket_of c from to ≡ Some (p, q) → code (state_at c (from *ℤ pos 100)) + code (state_at c (to *ℤ pos 100)) ≡ 1
   bracket-contact p q g = go (eqb (code (state_at c (from *ℤ pos 100)) + code (state_at c (to *ℤ pos 100))) 1) refl
     where
       go : (t : Bool) → eqb (code (state_at c (from *ℤ pos 100)) + code (state_at c (to *ℤ pos 100))) 1 ≡ t
@@ -180,16 +179,15 @@ module _ (c : Crossing) (from to : ℤ) (order : (from *ℤ pos 100) <ℤ (to *�
         }
 
     -- where one second is outside and the other inside, they are found
-    pub bracket-found : bracket_of c from to ≡ B.Between (x +ℤ pos a) (x +ℤ pos (b + 1))
+    pub bracket-found : bracket_of c from to ≡ Some ((x +ℤ pos a), (x +ℤ pos (b + 1)))
     unfolding bracket_of narrowed
     bracket-found = rw (eq-eqb (start + code (state_at c y)) 1 e) refl
 
   -- and what is found are such
-  pub bracket-ends : (p q : ℤ) → bracket_of c from to ≡ B.Between p q → Ends c from to p q
+  pub bracket-ends : (p q : ℤ) → bracket_of c from to ≡ Some (p, q) → Ends c from to p q
   bracket-ends p q g = let s = bracket-contact c from to p q g in by-found (x +ℤ pos (a s)) (x +ℤ pos (b s + 1)) (bracket-found s) (found s)
     where
-      by-found : (u v : ℤ) → bracket_of c from to ≡ B.Between u v → Ends c from to u v → Ends c from to p q
+      by-found : (u v : ℤ) → bracket_of c from to ≡ Some (u, v) → Ends c from to u v → Ends c from to p q
       by-found u v f h =
-          let d : u ≡ p = cc in
-          let k : v ≡ q = cc in
-          subst (λ (z : ℤ). Ends c from to p z) k (subst (λ (z : ℤ). Ends c from to z v) d h)
+          let same = some_parts (sym f ∙ g) in
+          subst (λ (z : ℤ). Ends c from to p z) same.1 (subst (λ (z : ℤ). Ends c from to z v) same.0 h)

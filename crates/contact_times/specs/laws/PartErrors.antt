@@ -1,23 +1,23 @@
--- Values at a part of an hour: what stands still is what it is (`still-..`), how large they are, and how far they are
--- from the exact ones: a step adds half a unit to three times the error before it, so ½, 2, 6½ units after one, two and
+-- Values at a part of an hour: what stands still is what it is (`still-..`), how large they are (PartSizes of elements),
+-- and how far they are from the exact ones: a step adds half a unit to three times the error before it, so ½, 2, 6½ units after one, two and
 -- three steps, whatever the coefficients and whatever n.
-use Rattle.std.specs.Prelude.{◌≡◌, [], ◌∷◌, ℕ, ◌+◌, ◌*◌, ◌≤◌, ℤ, ◌+ℤ◌, ◌-ℤ◌, ◌*ℤ◌, ◌≤ℤ◌}
+use Rattle.std.specs.Prelude.{◌≡◌, [], ◌∷◌, ℕ, ◌+◌, ◌*◌, ◌≤◌, ℤ, ◌+ℤ◌, ◌-ℤ◌, ◌*ℤ◌}
 use Rattle.std.proofs.Common.{◌∙◌, le_refl}
 use Rattle.std.proofs.Math.Path.{ap}
 use native.Mathlib.Omega.{arith}
 use Rattle.std.proofs.Math.Nat.{mul-le-mul, mul-le-mul_left}
 use Rattle.std.proofs.Math.IntN.{pos, nat_abs}
 use Rattle.std.specs.Int.Signed.{le_z_yes}
-use Rattle.rounding.specs.laws.Order.{zs, nat_abs_sum, nat_abs_product, nat_abs_product_le}
+use Rattle.rounding.specs.laws.Order.{nat_abs_sum, nat_abs_product}
 use Rattle.rounding.specs.laws.Ring.{num, ◌⊕◌, ◌⊖◌, ◌⊗◌, ring, v0, v1, v2, v3, v4, v5, v6}
 use Rattle.rounding.specs.Near.{near}
-use Rattle.rounding.proofs.laws.NearLaws.{near-error, near-size, near_zero}
+use Rattle.rounding.proofs.laws.NearLaws.{near-error, near_zero}
 use Rattle.rounding.specs.Units.{hour}
 use Rattle.elements.specs.declared.Cubic.{Cubic}
 use Rattle.elements.specs.declared.Quadratic.{Quadratic}
 use Rattle.elements.specs.Stars.{constant}
 use Rattle.elements.specs.Polynomial.{step, quadratic_at, cubic_at}
-use Rattle.elements.specs.Sizes.{QuadraticSizes, CubicSizes}
+pub use Rattle.elements.specs.laws.PartSizes.{whole, part-size, step-size, quadratic-size, cubic-size}
 use Rattle.contact_times.specs.Parts.{stepBy, quadratic_by, cubic_by, constant_cubic, cube, exactQuadratic, exactCubic}
 
 -- ---- at second 0 a constant is itself
@@ -36,29 +36,6 @@ unfolding cubic_at
 still_cubic c = still_step (step (pos 0) (step (pos 0) (pos 0) (pos 0)) (pos 0)) c
 
 module _ (n : ℕ) (some : 1 ≤ n) where
-  pub whole : pos 1 ≤ℤ pos n
-  whole = omega (arith, zs)
-
-  -- ---- sizes
-  pub part-size : (τ p : ℤ) (A : ℕ) → nat_abs τ ≤ 3 * n → nat_abs p ≤ A → nat_abs (near (p *ℤ τ) (pos n)) ≤ 3 * A
-  part-size τ p A ht hp = near-size (p *ℤ τ) (pos n) (3 * A) whole (omega (arith, nat_abs_product_le p τ A (3 * n) hp ht))
-
-  pub step-size : (τ p a : ℤ) (A B : ℕ) → nat_abs τ ≤ 3 * n → nat_abs p ≤ A → nat_abs a ≤ B → nat_abs (stepBy n τ p a) ≤ 3 * A + B
-  unfolding stepBy
-  step-size τ p a A B ht hp ha = omega (arith, nat_abs_sum (near (p *ℤ τ) (pos n)) a, part-size τ p A ht hp)
-
-  pub quadratic-size : (q : Quadratic) {A B C : ℕ} → QuadraticSizes A B C q → (τ : ℤ) → nat_abs τ ≤ 3 * n → nat_abs (quadratic_by n q τ) ≤ A + 3 * B + 9 * C
-  unfolding quadratic_by
-  quadratic-size q {A} {B} {C} h τ t =
-      omega (arith, step-size τ (stepBy n τ q.c2 q.c1) q.c0 (3 * C + B) A t (step-size τ q.c2 q.c1 C B t h.c2 h.c1) h.c0)
-
-  pub cubic-size : (c : Cubic) → CubicSizes c → (τ : ℤ) → nat_abs τ ≤ 3 * n → nat_abs (cubic_by n c τ) ≤ 501170000
-  unfolding cubic_by
-  cubic-size c h τ t =
-      let s2 = step-size τ c.c3 c.c2 10000 100000 t h.c3 h.c2 in
-      let s1 = step-size τ (stepBy n τ c.c3 c.c2) c.c1 130000 100000000 t (omega (arith, s2)) h.c1 in
-      omega (arith, step-size τ (stepBy n τ (stepBy n τ c.c3 c.c2) c.c1) c.c0 100390000 200000000 t (omega (arith, s1)) h.c0)
-
   -- ---- errors
   -- p is P / S up to E / 2S: one step on
   step-error : (τ p c P : ℤ) (S E : ℕ) → nat_abs τ ≤ 3 * n → 2 * nat_abs (pos S *ℤ p -ℤ P) ≤ E
@@ -74,7 +51,7 @@ module _ (n : ℕ) (some : 1 ≤ n) where
         nat_abs_sum (pos S *ℤ (pos n *ℤ m -ℤ p *ℤ τ)) (τ *ℤ (pos S *ℤ p -ℤ P)),
         nat_abs_product (pos S) (pos n *ℤ m -ℤ p *ℤ τ),
         nat_abs_product τ (pos S *ℤ p -ℤ P),
-        mul-le-mul (le_refl S) (near-error (p *ℤ τ) (pos n) whole),
+        mul-le-mul (le_refl S) (near-error (p *ℤ τ) (pos n) (whole n some)),
         mul-le-mul h k,
       )
 
@@ -86,7 +63,7 @@ module _ (n : ℕ) (some : 1 ≤ n) where
       omega (
         arith,
         ap nat_abs (ring ((p *ℤ τ) ∷ c ∷ m ∷ pos n ∷ []) (v3 ⊗ (v2 ⊕ v1) ⊖ (v0 ⊕ v3 ⊗ v1)) (v3 ⊗ v2 ⊖ v0) tt),
-        near-error (p *ℤ τ) (pos n) whole,
+        near-error (p *ℤ τ) (pos n) (whole n some),
       )
 
   module _ (τ : ℤ) (h : nat_abs τ ≤ 3 * n) where

@@ -1,7 +1,7 @@
 -- The shadow does not depend on how finely the hour is cut: at c·τ of c·n parts it is that at τ of n parts
 -- (`moment-same`, `cone-same`), since near of a fraction does not change with a common factor (`near_same`). And 3,600
 -- parts of an hour are document 01's seconds (`u-second`, .. `L-second`).
-use Rattle.std.specs.Prelude.{◌≡◌, [], ◌∷◌, ℕ, ◌+◌, ◌*◌, ◌≤◌, ◌<◌, ℤ, ◌+ℤ◌, ◌-ℤ◌, ◌*ℤ◌, ◌≤ℤ◌}
+use Rattle.std.specs.Prelude.{◌≡◌, [], ◌∷◌, ℕ, ◌*◌, ◌≤◌, ℤ, ◌+ℤ◌, ◌-ℤ◌, ◌*ℤ◌, ◌≤ℤ◌}
 use Rattle.std.proofs.Math.Path.{refl, ap, ap₂}
 use Rattle.std.proofs.Common.{◌∙◌, arith, mul-le-mul_left}
 use Rattle.std.proofs.Math.IntN.{pos}
@@ -15,7 +15,7 @@ use Rattle.elements.specs.declared.Cubic.{Cubic}
 use Rattle.elements.specs.declared.Quadratic.{Quadratic}
 use Rattle.elements.specs.declared.Axis.{Axis}
 use Rattle.elements.specs.declared.Cone.{Cone}
-use Rattle.elements.specs.Polynomial.{step, quadratic_at, cubic_at}
+use Rattle.elements.specs.laws.PolynomialLaws.{quadratic-second, cubic-second}
 use Rattle.station.specs.declared.Place.{Place}
 use Rattle.shadow_geometry.specs.Shadow.{moment_of, ◌², H, d, q, ξ, η, ζ, u, v, L, M}
 use Rattle.contact_times.specs.Parts.{stepBy, quadratic_by, cubic_by, cone_by, moment_by}
@@ -70,21 +70,13 @@ module _ (c : ℕ) (some : 1 ≤ c) where
 
 -- ---- the seconds are 3,600 parts of an hour
 module _ (τ : ℤ) where
-  quadratic-second : (q : Quadratic) → quadratic_by 3600 q τ ≡ quadratic_at q τ
-  unfolding quadratic_by quadratic_at stepBy step
-  quadratic-second q = refl
-
-  cubic-second : (f : Cubic) → cubic_by 3600 f τ ≡ cubic_at f τ
-  unfolding cubic_by cubic_at stepBy step
-  cubic-second f = refl
-
   module _ (a : Axis) (p : Place) where
     pub H-second : H (moment_by 3600 a p τ) ≡ H (moment_of a p τ)
     unfolding H
-    H-second = ap (λ (z : ℤ). z +ℤ p.longitude) (still_quadratic (quadratic_by 3600 a.mu τ) ∙ quadratic-second a.mu)
+    H-second = ap (λ (z : ℤ). z +ℤ p.longitude) (still_quadratic (quadratic_by 3600 a.mu τ) ∙ quadratic-second τ a.mu)
 
     pub d-second : d (moment_by 3600 a p τ) ≡ d (moment_of a p τ)
-    d-second = still_quadratic (quadratic_by 3600 a.d τ) ∙ quadratic-second a.d
+    d-second = still_quadratic (quadratic_by 3600 a.d τ) ∙ quadratic-second τ a.d
 
     ξ-second : ξ (moment_by 3600 a p τ) ≡ ξ (moment_of a p τ)
     unfolding ξ
@@ -104,11 +96,11 @@ module _ (τ : ℤ) where
 
     pub u-second : u (moment_by 3600 a p τ) ≡ u (moment_of a p τ)
     unfolding u
-    u-second = ap₂ (λ (y z : ℤ). y -ℤ z) (still_cubic (cubic_by 3600 a.x τ) ∙ cubic-second a.x) ξ-second
+    u-second = ap₂ (λ (y z : ℤ). y -ℤ z) (still_cubic (cubic_by 3600 a.x τ) ∙ cubic-second τ a.x) ξ-second
 
     pub v-second : v (moment_by 3600 a p τ) ≡ v (moment_of a p τ)
     unfolding v
-    v-second = ap₂ (λ (y z : ℤ). y -ℤ z) (still_cubic (cubic_by 3600 a.y τ) ∙ cubic-second a.y) η-second
+    v-second = ap₂ (λ (y z : ℤ). y -ℤ z) (still_cubic (cubic_by 3600 a.y τ) ∙ cubic-second τ a.y) η-second
 
     pub M-second : M (moment_by 3600 a p τ) ≡ M (moment_of a p τ)
     M-second = ap₂ (λ (y z : ℤ). y ² +ℤ z ²) u-second v-second
@@ -116,4 +108,4 @@ module _ (τ : ℤ) where
     pub L-second : (k : Cone) → L (moment_by 3600 a p τ) (cone_by 3600 k τ) ≡ L (moment_of a p τ) k
     unfolding L
     L-second k =
-        ap₂ (λ (y z : ℤ). y -ℤ near (z *ℤ k.tanf) (pos 100_000_000)) (still_quadratic (quadratic_by 3600 k.l τ) ∙ quadratic-second k.l) ζ-second
+        ap₂ (λ (y z : ℤ). y -ℤ near (z *ℤ k.tanf) (pos 100_000_000)) (still_quadratic (quadratic_by 3600 k.l τ) ∙ quadratic-second τ k.l) ζ-second

@@ -1,11 +1,9 @@
 -- What a caller's loop over steps uses: all entries are left at the start, each step takes the first, and the last
 -- step finds none left.
-use Rattle.std.specs.Prelude.{ℕ, ◌≤◌, ◌<◌, ◌≡◌, refl, List, [], ◌∷◌, length}
+use Rattle.std.specs.Prelude.{ℕ, ◌≤◌, ◌<◌, ◌≡◌, refl, List, [], ◌∷◌, length, Option, Some, None}
 use Rattle.std.proofs.Common.{ap, ◌∙◌, arith}
 use Rattle.run_length.specs.Runs.{decoded, Whole}
 use Rattle.contacts.specs.declared.Cursor.{Cursor}
-use Rattle.contacts.specs.declared.Next.{Next}
-use Rattle.contacts.specs.declared.Next.TheVariants.{Found, Done}
 use Rattle.contacts.specs.declared.entries.Entry.{Entry}
 use Rattle.contacts.specs.Entries.{entries, from, to}
 use Rattle.contacts.specs.Step.{entries_from, At, stepped, Stepped}
@@ -32,7 +30,7 @@ module _ (k : ℕ) (bytes : List ℕ) where
     pub ordered : from e ≤ to e
     pub inside : to e < length (decoded k bytes)
 
-  pub took : (at : ℕ) (r : Next) (e : Entry) (c : Cursor) → Stepped k bytes at r → r ≡ Found e c → Took at e c
+  pub took : (at : ℕ) (r : Option (Entry × Cursor)) (e : Entry) (c : Cursor) → Stepped k bytes at r → r ≡ Some (e, c) → Took at e c
   took at r e c p q =
       let f = rw q at p.forward in
       record {
@@ -44,5 +42,5 @@ module _ (k : ℕ) (bytes : List ℕ) where
         inside = f.3;
       }
 
-  pub none_left : (at : ℕ) (r : Next) → Stepped k bytes at r → r ≡ Done → entries_from (decoded k bytes) at ≡ []
+  pub none_left : (at : ℕ) (r : Option (Entry × Cursor)) → Stepped k bytes at r → r ≡ None → entries_from (decoded k bytes) at ≡ []
   none_left at r p q = p.rest ∙ ap (stepped (decoded k bytes)) q

@@ -1,4 +1,5 @@
 -- `element_fits::missed` meets its contract: seven tests, one after another.
+use Rattle.std.specs.Prelude.{Option, ℕ}
 use mathlib.Core.Path.{ap, ap₂, ◌∙◌}
 use mathlib.Core.Bool.{Bool}
 use native.Mathlib.Omega.{arith}
@@ -6,7 +7,6 @@ use borrow.Author.Rules.{rules}
 use lib.Dec.{lit≤}
 use lib.IntN.{ℤ, pos, negsuc}
 use Prim.Native.Nat.{◌+◌}
-use Rattle.rounding.specs.declared.Limits.{Limits}
 use Rattle.rounding.specs.laws.Code.{read_back, read-size}
 use Rattle.element_fits.specs.Answers.{unless, close, missed}
 use Rattle.element_fits.proofs.missed.Statement.{statement}
@@ -46,12 +46,12 @@ returns c =
     let s = u1.before.before.before in
     let a = s.args in
     let e1 = u1.unless-f0.ensures ∙ ap (λ (t : Bool). unless a.found t a.place) (u1.close-b0.ensures ∙ ap (λ (x : ℤ). close a.c (negsuc 2) x a.tolerance) (read_back a.v.v0 s.requires.1.v0 tt)) in
-    let e2 = u2.unless-f1.ensures ∙ ap₂ (λ (l : Limits) (t : Bool). unless l t (a.place + 1)) e1 (u2.close-b1.ensures ∙ ap (λ (x : ℤ). close a.c (negsuc 1) x a.tolerance) (read_back a.v.v1 s.requires.1.v1 tt)) in
-    let e3 = u3.unless-f2.ensures ∙ ap₂ (λ (l : Limits) (t : Bool). unless l t (a.place + 2)) e2 (u3.close-b2.ensures ∙ ap (λ (x : ℤ). close a.c (negsuc 0) x a.tolerance) (read_back a.v.v2 s.requires.1.v2 tt)) in
-    let e4 = u4.unless-f3.ensures ∙ ap₂ (λ (l : Limits) (t : Bool). unless l t (a.place + 3)) e3 (u4.close-b3.ensures ∙ ap (λ (x : ℤ). close a.c (pos 0) x a.tolerance) (read_back a.v.v3 s.requires.1.v3 tt)) in
-    let e5 = u5.unless-f4.ensures ∙ ap₂ (λ (l : Limits) (t : Bool). unless l t (a.place + 4)) e4 (u5.close-b4.ensures ∙ ap (λ (x : ℤ). close a.c (pos 1) x a.tolerance) (read_back a.v.v4 s.requires.1.v4 tt)) in
-    let e6 = u6.unless-f5.ensures ∙ ap₂ (λ (l : Limits) (t : Bool). unless l t (a.place + 5)) e5 (u6.close-b5.ensures ∙ ap (λ (x : ℤ). close a.c (pos 2) x a.tolerance) (read_back a.v.v5 s.requires.1.v5 tt)) in
-    u7.unless.ensures ∙ ap₂ (λ (l : Limits) (t : Bool). unless l t (a.place + 6)) e6 (u7.close-b6.ensures ∙ ap (λ (x : ℤ). close a.c (pos 3) x a.tolerance) (read_back a.v.v6 s.requires.1.v6 tt))
+    let e2 = u2.unless-f1.ensures ∙ ap₂ (λ (l : Option ℕ) (t : Bool). unless l t (a.place + 1)) e1 (u2.close-b1.ensures ∙ ap (λ (x : ℤ). close a.c (negsuc 1) x a.tolerance) (read_back a.v.v1 s.requires.1.v1 tt)) in
+    let e3 = u3.unless-f2.ensures ∙ ap₂ (λ (l : Option ℕ) (t : Bool). unless l t (a.place + 2)) e2 (u3.close-b2.ensures ∙ ap (λ (x : ℤ). close a.c (negsuc 0) x a.tolerance) (read_back a.v.v2 s.requires.1.v2 tt)) in
+    let e4 = u4.unless-f3.ensures ∙ ap₂ (λ (l : Option ℕ) (t : Bool). unless l t (a.place + 3)) e3 (u4.close-b3.ensures ∙ ap (λ (x : ℤ). close a.c (pos 0) x a.tolerance) (read_back a.v.v3 s.requires.1.v3 tt)) in
+    let e5 = u5.unless-f4.ensures ∙ ap₂ (λ (l : Option ℕ) (t : Bool). unless l t (a.place + 4)) e4 (u5.close-b4.ensures ∙ ap (λ (x : ℤ). close a.c (pos 1) x a.tolerance) (read_back a.v.v4 s.requires.1.v4 tt)) in
+    let e6 = u6.unless-f5.ensures ∙ ap₂ (λ (l : Option ℕ) (t : Bool). unless l t (a.place + 5)) e5 (u6.close-b5.ensures ∙ ap (λ (x : ℤ). close a.c (pos 2) x a.tolerance) (read_back a.v.v5 s.requires.1.v5 tt)) in
+    u7.unless.ensures ∙ ap₂ (λ (l : Option ℕ) (t : Bool). unless l t (a.place + 6)) e6 (u7.close-b6.ensures ∙ ap (λ (x : ℤ). close a.c (pos 3) x a.tolerance) (read_back a.v.v6 s.requires.1.v6 tt))
 
 pub missed_spec : {M : Type 1} → statement M
 missed_spec =

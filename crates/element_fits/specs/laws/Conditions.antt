@@ -1,7 +1,6 @@
 -- When elements are made, and what they then say at the seven hours. Definitions only; `Meaning` proves both.
-use Rattle.std.specs.Prelude.{◌≡◌, true, List, ℕ, ◌≤◌, ◌<◌, ℤ, pos, nat_abs, ◌-ℤ◌, ◌*ℤ◌, ◌≤ℤ◌, length}
+use Rattle.std.specs.Prelude.{◌≡◌, true, List, ℕ, ◌≤◌, ◌<◌, ℤ, pos, nat_abs, ◌-ℤ◌, ◌*ℤ◌, ◌≤ℤ◌, length, Ok}
 use Rattle.rounding.specs.Limits.{EachInRange}
-use Rattle.sheet_types.specs.declared.refusals.Checked.TheVariants as C
 use Rattle.elements.specs.Elements.{elements_checked}
 use Rattle.elements.specs.Polynomial.{quadratic_at, cubic_at}
 use Rattle.fits.specs.Fits.{second}
@@ -40,7 +39,7 @@ pub record Acceptable (n g k : List ℤ) (tolerance : ℤ) (table : List ℕ) (m
   pub is :
       let made = fitting_of (radii_of k) (rows_of n) (hourly_of g) in
       f ≡ record { elements = made.elements; misfits = misfits_of made.columns }
-  pub within : elements_checked f.elements ≡ C.Within
+  pub within : elements_checked f.elements ≡ Ok tt
   pub close : AllClose (fitting_of (radii_of k) (rows_of n) (hourly_of g)).columns (nat_abs tolerance)
   pub room : 22 ≤ most
   pub second : 6 ≤ least

@@ -1,6 +1,8 @@
 -- Laws of the parts: their sizes.
-use Rattle.std.specs.Prelude.{◌≤◌, ℤ, pos, neg_ℤ, nat_abs, ◌-ℤ◌, ◌+ℤ◌}
-use Rattle.std.proofs.Common.{arith}
+use Rattle.std.specs.Prelude.{◌≡◌, ◌≤◌, ℕ, ℤ, pos, neg_ℤ, nat_abs, ◌-ℤ◌, ◌+ℤ◌}
+use Rattle.std.proofs.Common.{arith, sym, subst, ap, ◌∙◌}
+use Rattle.elements.specs.declared.Cubic.{Cubic}
+use Rattle.elements.specs.declared.Quadratic.{Quadratic}
 use Rattle.rounding.specs.Parts.{sum, opposite}
 use Rattle.rounding.specs.laws.Order.{nat_abs_by, nat_abs_sum, nat_abs_minus}
 use Rattle.sine.specs.Sine.{reduced}
@@ -17,8 +19,9 @@ use Rattle.element_fits.specs.declared.least_squares.Hourly.{Hourly}
 use Rattle.element_fits.specs.LeastSquares.{cubic, quadratic}
 use Rattle.element_fits.specs.Sizes.{HourlySizes, CoefficientSizes, cubic-sizes, quadratic-sizes}
 use Rattle.element_fits.specs.declared.Rows.{Rows}
+use Rattle.element_fits.specs.declared.Hour.{Hour}
 use Rattle.element_fits.specs.declared.Hours.{Hours}
-use Rattle.element_fits.specs.FromTables.{ascension, hour_of, hours_of, each_x, each_y, each_d, each_l1, each_l2, each_ascension, offset, hour_angles, middleOf, columnsOf, fitting_of}
+use Rattle.element_fits.specs.FromTables.{ascension, hour_of, hours_of, each, each_x, each_y, each_d, each_l1, each_l2, each_ascension, offset, hour_angles, middleOf, columnsOf, fitting_of}
 use Rattle.element_fits.specs.Answers.{raised}
 use Rattle.element_fits.specs.laws.Sizes.{AllAccepted, HourSizes, HoursSizes, ColumnsSizes}
 
@@ -67,77 +70,36 @@ unfolding elements_of
 sine-size k p h = row.sin-d-size p h
 
 -- ---- all rows
-pub each_x_sizes : {h : Hours} → HoursSizes h → HourlySizes 100_000_000_000 (each_x h)
-each_x_sizes s =
+-- one value at the seven hours, which the sizes of an hour bound
+pub each_sizes : {m : ℕ} (f : Hour → ℤ) (h : Hours) → ((k : Hour) → HourSizes k → nat_abs (f k) ≤ m) → HoursSizes h → HourlySizes m (each f h)
+each_sizes f h small s =
     record {
-      v0 = omega (arith, s.h0.x);
-      v1 = omega (arith, s.h1.x);
-      v2 = omega (arith, s.h2.x);
-      v3 = omega (arith, s.h3.x);
-      v4 = omega (arith, s.h4.x);
-      v5 = omega (arith, s.h5.x);
-      v6 = omega (arith, s.h6.x);
+      v0 = small h.h0 s.h0;
+      v1 = small h.h1 s.h1;
+      v2 = small h.h2 s.h2;
+      v3 = small h.h3 s.h3;
+      v4 = small h.h4 s.h4;
+      v5 = small h.h5 s.h5;
+      v6 = small h.h6 s.h6;
     }
+
+pub each_x_sizes : {h : Hours} → HoursSizes h → HourlySizes 100_000_000_000 (each_x h)
+each_x_sizes {h} s = each_sizes (λ k. k.x) h (λ k z. z.x) s
 
 pub each_y_sizes : {h : Hours} → HoursSizes h → HourlySizes 100_000_000_000 (each_y h)
-each_y_sizes s =
-    record {
-      v0 = omega (arith, s.h0.y);
-      v1 = omega (arith, s.h1.y);
-      v2 = omega (arith, s.h2.y);
-      v3 = omega (arith, s.h3.y);
-      v4 = omega (arith, s.h4.y);
-      v5 = omega (arith, s.h5.y);
-      v6 = omega (arith, s.h6.y);
-    }
+each_y_sizes {h} s = each_sizes (λ k. k.y) h (λ k z. z.y) s
 
 pub each_d_sizes : {h : Hours} → HoursSizes h → HourlySizes 100_000_000_000 (each_d h)
-each_d_sizes s =
-    record {
-      v0 = omega (arith, s.h0.d);
-      v1 = omega (arith, s.h1.d);
-      v2 = omega (arith, s.h2.d);
-      v3 = omega (arith, s.h3.d);
-      v4 = omega (arith, s.h4.d);
-      v5 = omega (arith, s.h5.d);
-      v6 = omega (arith, s.h6.d);
-    }
+each_d_sizes {h} s = each_sizes (λ k. k.d) h (λ k z. omega (arith, z.d)) s
 
 pub each_l1_sizes : {h : Hours} → HoursSizes h → HourlySizes 100_000_000_000 (each_l1 h)
-each_l1_sizes s =
-    record {
-      v0 = omega (arith, s.h0.l1);
-      v1 = omega (arith, s.h1.l1);
-      v2 = omega (arith, s.h2.l1);
-      v3 = omega (arith, s.h3.l1);
-      v4 = omega (arith, s.h4.l1);
-      v5 = omega (arith, s.h5.l1);
-      v6 = omega (arith, s.h6.l1);
-    }
+each_l1_sizes {h} s = each_sizes (λ k. k.l1) h (λ k z. omega (arith, z.l1)) s
 
 pub each_l2_sizes : {h : Hours} → HoursSizes h → HourlySizes 100_000_000_000 (each_l2 h)
-each_l2_sizes s =
-    record {
-      v0 = omega (arith, s.h0.l2);
-      v1 = omega (arith, s.h1.l2);
-      v2 = omega (arith, s.h2.l2);
-      v3 = omega (arith, s.h3.l2);
-      v4 = omega (arith, s.h4.l2);
-      v5 = omega (arith, s.h5.l2);
-      v6 = omega (arith, s.h6.l2);
-    }
+each_l2_sizes {h} s = each_sizes (λ k. k.l2) h (λ k z. omega (arith, z.l2)) s
 
 pub each-ascension_sizes : {h : Hours} → HoursSizes h → HourlySizes 360_000_000 (each_ascension h)
-each-ascension_sizes s =
-    record {
-      v0 = omega (arith, s.h0.ascension);
-      v1 = omega (arith, s.h1.ascension);
-      v2 = omega (arith, s.h2.ascension);
-      v3 = omega (arith, s.h3.ascension);
-      v4 = omega (arith, s.h4.ascension);
-      v5 = omega (arith, s.h5.ascension);
-      v6 = omega (arith, s.h6.ascension);
-    }
+each-ascension_sizes {h} s = each_sizes (λ k. k.ascension) h (λ k z. z.ascension) s
 
 pub hour_angles_sizes : (g a : Hourly) (middle : ℤ) → HourlySizes 180_000_000 (hour_angles g a middle)
 unfolding hour_angles
@@ -177,11 +139,11 @@ pub columns_sizes : (h : Hours) (g : Hourly) (middle : ℤ) → HoursSizes h →
 unfolding columnsOf
 columns_sizes h g middle s =
     record {
-      x = each_x_sizes s;
-      y = each_y_sizes s;
-      d = each_d_sizes s;
-      l1 = each_l1_sizes s;
-      l2 = each_l2_sizes s;
+      x = each_sizes (λ k. k.x) h (λ k z. z.x) s;
+      y = each_sizes (λ k. k.y) h (λ k z. z.y) s;
+      d = each_sizes (λ k. k.d) h (λ k z. omega (arith, z.d)) s;
+      l1 = each_sizes (λ k. k.l1) h (λ k z. omega (arith, z.l1)) s;
+      l2 = each_sizes (λ k. k.l2) h (λ k z. omega (arith, z.l2)) s;
       mu = hour_angles_sizes g (each_ascension h) middle;
     }
 
@@ -199,3 +161,11 @@ pub quadratic_coefficients : (v : Hourly) → HourlySizes 100_000_000_000 v → 
 quadratic_coefficients v h =
     let s = quadratic-sizes v h in
     record { c0 = omega (arith, s.c0); c1 = omega (arith, s.c1); c2 = omega (arith, s.c2); c3 = omega arith }
+
+-- the same of what is such a fit
+pub cubic_sized : (c : Cubic) (v : Hourly) → c ≡ cubic v → HourlySizes 100_000_000_000 v → CoefficientSizes 1_000_000_000_000 c
+cubic_sized c v e h = subst (CoefficientSizes 1_000_000_000_000) (sym e) (cubic_coefficients v h)
+
+pub raised_sized : (q : Quadratic) (c : Cubic) (v : Hourly) → q ≡ quadratic v → c ≡ raised q → HourlySizes 100_000_000_000 v
+    → CoefficientSizes 1_000_000_000_000 c
+raised_sized q c v e f h = subst (CoefficientSizes 1_000_000_000_000) (sym (f ∙ ap raised e)) (quadratic_coefficients v h)

@@ -1,19 +1,16 @@
 -- Elements are made exactly where nothing is refused (`made-only`, `made-if`), and at each of the seven hours their values
 -- by document 01's rule are within the misfits of the rows' own (`at-hours`). Why the second: at whole hours the rule
 -- rounds nothing (`fits`, WholeHours), and a misfit is the largest of seven differences.
-use Rattle.std.specs.Prelude.{◌≡◌, Bool, true, false, cond, List, [], ◌∷◌, ℕ, ◌+◌, ◌-◌, ◌/◌, ◌%◌, ◌≤◌, ◌<◌, leb, ℤ, negsuc, neg_ℤ, nat_abs, ◌+ℤ◌, ◌-ℤ◌, ◌*ℤ◌, ◌≤ℤ◌, length}
+use Rattle.std.specs.Prelude.{◌≡◌, Bool, true, false, cond, List, [], ◌∷◌, ℕ, ◌+◌, ◌-◌, ◌/◌, ◌%◌, ◌≤◌, ◌<◌, leb, ℤ, negsuc, neg_ℤ, nat_abs, ◌+ℤ◌, ◌-ℤ◌, ◌*ℤ◌, ◌≤ℤ◌, length, Option, None, Ok, Some, Result, Err}
 use Rattle.std.proofs.Math.Path.{refl, sym, ap, subst}
 use Rattle.std.proofs.Common.{◌∙◌, arith, leb-true, leb-false, le-leb}
 use Rattle.std.proofs.Math.IntN.{pos}
-use Rattle.rounding.specs.declared.Limits.{Limits}
-use Rattle.rounding.specs.declared.Limits.TheVariants.{InRange, OutOfRange}
+use Rattle.sheet_types.specs.declared.refusals.Refusal.{Refusal}
 use Rattle.rounding.specs.Limits.{first_out_of_range}
 use Rattle.rounding.specs.Parts.{same, sum, opposite, product}
 use Rattle.rounding.specs.laws.LimitsLaws.{each_in_range}
 use Rattle.rounding.specs.laws.Order.{zs}
 use Rattle.rounding.specs.laws.Ring.{num, ◌⊕◌, ◌⊖◌, ◌⊗◌, ring, v0, v1, v2, v3, v4, v5, v6, v7, v8}
-use Rattle.sheet_types.specs.declared.refusals.Checked.{Checked}
-use Rattle.sheet_types.specs.declared.refusals.Checked.TheVariants as C
 use Rattle.sheet_types.specs.Refusals.{refusal, of_limits, andThen}
 use Rattle.sheet_types.specs.laws.RefusalLaws.{of_limits_within, both-within, then_within}
 use Rattle.sine.specs.Sine.{reduced}
@@ -25,7 +22,6 @@ use Rattle.requests.specs.Admission.{room_checked}
 use Rattle.fits.specs.Fits.{second}
 use Rattle.fits.specs.laws.RangeLaws.{none_out}
 use Rattle.fits.specs.laws.WholeHours.{whole-hours, quadratic-hours}
-use Rattle.besselian_rows.specs.declared.tables.Verdict.TheVariants as T
 use Rattle.besselian_rows.specs.Exact.{accepted}
 use Rattle.besselian_rows.specs.Tables.{rowAt, first_refused}
 use Rattle.besselian_rows.proofs.laws.TablesLaws.{passed_here, none_left, accepted-at}
@@ -36,8 +32,6 @@ use Rattle.element_fits.specs.declared.Columns.{Columns}
 use Rattle.element_fits.specs.declared.Hours.{Hours}
 use Rattle.element_fits.specs.declared.Fitting.{Fitting}
 use Rattle.element_fits.specs.declared.Fits.{Fits}
-use Rattle.element_fits.specs.declared.Answer.{Answer}
-use Rattle.element_fits.specs.declared.Answer.TheVariants.{Made, Refused}
 use Rattle.element_fits.specs.FromTables.{hours_of, each_x, each_y, each_d, each_l1, each_l2, each_ascension, turn, offset, hour_angles, hour_angle, middleOf, columnsOf, fitted, fitting_of}
 use Rattle.element_fits.specs.Answers.{off, larger, misfit, raised, misfits_of, unless, close, missed, first_missed, of_missed, of_checked, judged}
 use Rattle.element_fits.specs.Numbers.{rows_of, hourly_of, radii_of, tolerance_ranges, given_ranges, of_rows, given_checked, admitted, fits_asked, in_rooms, of_admitted, answer_to}
@@ -132,7 +126,7 @@ off_close : (c : Cubic) (t v : ℤ) (n : ℕ) → off c t v ≤ n → close c t 
 unfolding close
 off_close c t v n h = le-leb (off c t v) n h
 
-nothing_missed : (found : Limits) (c : Cubic) (v : Hourly) (n k : ℕ) → missed found c v n k ≡ InRange → (found ≡ InRange) × (misfit c v ≤ n)
+nothing_missed : (found : Option ℕ) (c : Cubic) (v : Hourly) (n k : ℕ) → missed found c v n k ≡ None → (found ≡ None) × (misfit c v ≤ n)
 unfolding missed
 nothing_missed found c v n k e =
     let s6 = nothing_found _ (close c (pos 3) v.v6 n) _ e in
@@ -144,11 +138,11 @@ nothing_missed found c v n k e =
     let s0 = nothing_found found (close c (negsuc 2) v.v0 n) _ s1.0 in
     (s0.0, each_misfit c v (record { v0 = close_off c (negsuc 2) v.v0 n s0.1; v1 = close_off c (negsuc 1) v.v1 n s1.1; v2 = close_off c (negsuc 0) v.v2 n s2.1; v3 = close_off c (pos 0) v.v3 n s3.1; v4 = close_off c (pos 1) v.v4 n s4.1; v5 = close_off c (pos 2) v.v5 n s5.1; v6 = close_off c (pos 3) v.v6 n s6.1 }))
 
-unless_nothing : {l : Limits} {good : Bool} (k : ℕ) → l ≡ InRange → good ≡ true → unless l good k ≡ InRange
+unless_nothing : {l : Option ℕ} {good : Bool} (k : ℕ) → l ≡ None → good ≡ true → unless l good k ≡ None
 unfolding unless
 unless_nothing k e f = rw (e, f)
 
-missed_nothing : {found : Limits} (c : Cubic) (v : Hourly) (n k : ℕ) → found ≡ InRange → misfit c v ≤ n → missed found c v n k ≡ InRange
+missed_nothing : {found : Option ℕ} (c : Cubic) (v : Hourly) (n k : ℕ) → found ≡ None → misfit c v ≤ n → missed found c v n k ≡ None
 unfolding missed
 missed_nothing c v n k e h =
     let d = misfit_each c v in
@@ -160,7 +154,7 @@ missed_nothing c v n k e h =
     let s5 = unless_nothing _ s4 (off_close c (pos 2) v.v5 n (omega (arith, d.v5))) in
     unless_nothing _ s5 (off_close c (pos 3) v.v6 n (omega (arith, d.v6)))
 
-all_close : (c : Columns) (n : ℕ) → first_missed c n ≡ InRange → AllClose c n
+all_close : (c : Columns) (n : ℕ) → first_missed c n ≡ None → AllClose c n
 unfolding first_missed
 all_close c n e =
     let s5 = nothing_missed _ (raised (quadratic c.mu)) c.mu n 50 e in
@@ -168,10 +162,10 @@ all_close c n e =
     let s3 = nothing_missed _ (raised (quadratic c.l1)) c.l1 n 30 s4.0 in
     let s2 = nothing_missed _ (raised (quadratic c.d)) c.d n 20 s3.0 in
     let s1 = nothing_missed _ (cubic c.y) c.y n 10 s2.0 in
-    let s0 = nothing_missed InRange (cubic c.x) c.x n 0 s1.0 in
+    let s0 = nothing_missed None (cubic c.x) c.x n 0 s1.0 in
     record { x = s0.1; y = s1.1; d = s2.1; l1 = s3.1; l2 = s4.1; mu = s5.1 }
 
-none_missed : (c : Columns) (n : ℕ) → AllClose c n → first_missed c n ≡ InRange
+none_missed : (c : Columns) (n : ℕ) → AllClose c n → first_missed c n ≡ None
 unfolding first_missed
 none_missed c n h =
     let s0 = missed_nothing (cubic c.x) c.x n 0 refl h.x in
@@ -183,41 +177,42 @@ none_missed c n h =
 
 -- ---- which decides
 
-missed_made : (f : Fitting) (r : Fits) (l : Limits) → of_missed f l ≡ Made r
-    → (l ≡ InRange) × (r ≡ record { elements = f.elements; misfits = misfits_of f.columns })
-missed_made f r InRange h = (refl, cc)
-missed_made f r (OutOfRange i) h = let z : ◌≡◌ {A = ℕ} 0 1 = cc in absurd (omega arith)
+missed_made : (f : Fitting) (r : Fits) (l : Option ℕ) → of_missed f l ≡ Ok r
+    → (l ≡ None) × (r ≡ record { elements = f.elements; misfits = misfits_of f.columns })
+missed_made f r None h = (refl, cc)
+missed_made f r (Some i) h = let z : ◌≡◌ {A = ℕ} 0 1 = cc in absurd (omega arith)
 
-checked_made : (f : Fitting) (r : Fits) (l : Limits) (k : Checked) → of_checked f l k ≡ Made r → (k ≡ C.Within) × (of_missed f l ≡ Made r)
-checked_made f r l C.Within h = (refl, h)
-checked_made f r l (C.Refused q) h = let z : ◌≡◌ {A = ℕ} 0 1 = cc in absurd (omega arith)
+checked_made : (f : Fitting) (r : Fits) (l : Option ℕ) (k : Result Unit Refusal) → of_checked f l k ≡ Ok r → (k ≡ Ok tt) × (of_missed f l ≡ Ok r)
+checked_made f r l (Ok tt) h = (refl, h)
+checked_made f r l (Err q) h = let z : ◌≡◌ {A = ℕ} 0 1 = cc in absurd (omega arith)
 
-rooms_made : (room second : ℕ) (f : Fits) (a : Answer) → in_rooms room second a ≡ Made f → a ≡ Made f
-rooms_made room second f (Refused r) e = let z : ◌≡◌ {A = ℕ} 0 1 = cc in absurd (omega arith)
-rooms_made room second f (Made g) e = by (leb 22 room) (leb 6 second) e
+rooms_made : (room second : ℕ) (f : Fits) (a : Result Fits Refusal) → in_rooms room second a ≡ Ok f → a ≡ Ok f
+rooms_made room second f (Err r) e = let z : ◌≡◌ {A = ℕ} 0 1 = cc in absurd (omega arith)
+rooms_made room second f (Ok g) e = by (leb 22 room) (leb 6 second) e
   where
-    by : (b c : Bool) → cond b (cond c (Made g) (Refused (refusal 4 6))) (Refused (refusal 4 22)) ≡ Made f → Made g ≡ Made f
+    by : (b c : Bool) → ◌≡◌ {A = Result Fits Refusal} (cond b (cond c (Ok g) (Err (refusal 4 6))) (Err (refusal 4 22))) (Ok f)
+        → ◌≡◌ {A = Result Fits Refusal} (Ok g) (Ok f)
     by true true h = h
     by true false h = let z : ◌≡◌ {A = ℕ} 0 1 = cc in absurd (omega arith)
     by false c h = let z : ◌≡◌ {A = ℕ} 0 1 = cc in absurd (omega arith)
 
-admitted_made : (c : Checked) (a : Answer) (f : Fits) → of_admitted c a ≡ Made f → (c ≡ C.Within) × (a ≡ Made f)
-admitted_made C.Within a f h = (refl, h)
-admitted_made (C.Refused r) a f h = let z : ◌≡◌ {A = ℕ} 0 1 = cc in absurd (omega arith)
+admitted_made : (c : Result Unit Refusal) (a : Result Fits Refusal) (f : Fits) → of_admitted c a ≡ Ok f → (c ≡ Ok tt) × (a ≡ Ok f)
+admitted_made (Ok tt) a f h = (refl, h)
+admitted_made (Err r) a f h = let z : ◌≡◌ {A = ℕ} 0 1 = cc in absurd (omega arith)
 
-sines_enough : (sines : List ℕ) → room_checked sines ≡ C.Within → 901 ≤ length sines
+sines_enough : (sines : List ℕ) → room_checked sines ≡ Ok tt → 901 ≤ length sines
 unfolding room_checked
 sines_enough sines e = go (leb 901 (length sines)) refl e
   where
-    go : (b : Bool) → leb 901 (length sines) ≡ b → cond b C.Within (C.Refused (refusal 4 901)) ≡ C.Within → 901 ≤ length sines
+    go : (b : Bool) → leb 901 (length sines) ≡ b → ◌≡◌ {A = Result Unit Refusal} (cond b (Ok tt) (Err (refusal 4 901))) (Ok tt) → 901 ≤ length sines
     go true h w = leb-true 901 (length sines) h
     go false h w = let z : ◌≡◌ {A = ℕ} 0 1 = cc in absurd (omega arith)
 
-enough_sines : (sines : List ℕ) → 901 ≤ length sines → room_checked sines ≡ C.Within
+enough_sines : (sines : List ℕ) → 901 ≤ length sines → room_checked sines ≡ Ok tt
 unfolding room_checked
 enough_sines sines h = rw (le-leb 901 (length sines) h)
 
-whole : (n : List ℤ) → ((i : ℕ) → i < 7 → accepted (rowAt n i) ≡ true) → first_refused n 0 7 ≡ T.Whole
+whole : (n : List ℤ) → ((i : ℕ) → i < 7 → accepted (rowAt n i) ≡ true) → first_refused n 0 7 ≡ Ok tt
 whole n h =
     passed_here n 0 6 (h 0 (omega arith)) ∙ passed_here n 1 5 (h 1 (omega arith)) ∙ passed_here n 2 4 (h 2 (omega arith))
     ∙ passed_here n 3 3 (h 3 (omega arith)) ∙ passed_here n 4 2 (h 4 (omega arith)) ∙ passed_here n 5 1 (h 5 (omega arith))
@@ -229,7 +224,7 @@ module _ (n g k : List ℤ) (tolerance : ℤ) (sines : List ℕ) (room second : 
   abbrev fit : Fitting
   fit = fitting_of (radii_of k) (rows_of n) (hourly_of g)
 
-  pub made-only : answer_to n g k tolerance sines room second ≡ Made f → Acceptable n g k tolerance sines room second f
+  pub made-only : answer_to n g k tolerance sines room second ≡ Ok f → Acceptable n g k tolerance sines room second f
   unfolding answer_to admitted fits_asked judged
   made-only e =
       let a = admitted_made (andThen (given_checked n g k tolerance) (room_checked sines)) _ f e in
@@ -257,24 +252,24 @@ module _ (n g k : List ℤ) (tolerance : ℤ) (sines : List ℕ) (room second : 
         second = o.1;
       }
 
-  given-if : Acceptable n g k tolerance sines room second f → given_checked n g k tolerance ≡ C.Within
+  given-if : Acceptable n g k tolerance sines room second f → given_checked n g k tolerance ≡ Ok tt
   given-if a =
       given-lengths n g k tolerance a.rows a.sidereal a.radii
       ∙ then_within _ _ (ap (of_limits 18) (none_out 0 (tolerance_ranges tolerance) a.stated))
       ∙ then_within _ _ (ap (of_limits 21) (none_out 0 (given_ranges g k) a.ranged))
       ∙ ap of_rows (whole n a.taken)
 
-  admitted-if : Acceptable n g k tolerance sines room second f → admitted n g k tolerance sines ≡ C.Within
+  admitted-if : Acceptable n g k tolerance sines room second f → admitted n g k tolerance sines ≡ Ok tt
   unfolding admitted
   admitted-if a = then_within (given_checked n g k tolerance) (room_checked sines) (given-if a) ∙ enough_sines sines a.sines
 
-  fits-if : Acceptable n g k tolerance sines room second f → fits_asked n g k tolerance ≡ Made f
+  fits-if : Acceptable n g k tolerance sines room second f → fits_asked n g k tolerance ≡ Ok f
   unfolding fits_asked
   fits-if a =
       judged-made fit (nat_abs tolerance) (ap (λ (x : Fits). elements_checked x.elements) (sym a.is) ∙ a.within)
-      (none_missed fit.columns (nat_abs tolerance) a.close) ∙ ap Made (sym a.is)
+      (none_missed fit.columns (nat_abs tolerance) a.close) ∙ ap Ok (sym a.is)
 
-  pub made-if : Acceptable n g k tolerance sines room second f → answer_to n g k tolerance sines room second ≡ Made f
+  pub made-if : Acceptable n g k tolerance sines room second f → answer_to n g k tolerance sines room second ≡ Ok f
   made-if a =
       answer-asked n g k tolerance sines room second (admitted-if a) ∙ ap (in_rooms room second) (fits-if a)
       ∙ rooms-whole room second f a.room a.second

@@ -1,6 +1,6 @@
 -- Laws of the caller's numbers: what is known where nothing is refused, and which refusal decides.
 use Rattle.std.proofs.Math.Path.{◌≡◌, refl, ap}
-use Rattle.std.proofs.Common.{sym, subst, ◌∙◌, arith}
+use Rattle.std.proofs.Common.{sym, subst, ◌∙◌, arith, Result, Ok, Err}
 use Rattle.std.specs.Prelude.{Bool, ◌&&◌, List, [], ◌∷◌, ◌++◌, ℕ, suc, ◌+◌, ◌≤◌, ◌<◌, leb, ℤ, pos, negsuc, nat_abs, ◌≤ℤ◌, length, set, drop}
 use Rattle.std.proofs.Math.Bool.{true, false, cond}
 use borrow.Author.Tests.{eqb-true, eq-eqb, ne_eqb, leb-true, le-leb, lt-leb}
@@ -11,8 +11,6 @@ use Rattle.rounding.specs.laws.LimitsLaws.{each_in_range}
 use Rattle.rounding.specs.laws.Order.{zs}
 use Rattle.rounding.specs.laws.Tests.{both}
 use Rattle.sheet_types.specs.declared.refusals.Refusal.{Refusal}
-use Rattle.sheet_types.specs.declared.refusals.Checked.{Checked}
-use Rattle.sheet_types.specs.declared.refusals.Checked.TheVariants as C
 use Rattle.sheet_types.specs.Refusals.{refusal, of_limits, andThen}
 use Rattle.sheet_types.specs.laws.RefusalLaws.{not_within, of_limits_within, both-within}
 use Rattle.sine_table.specs.Table.{Sines}
@@ -20,15 +18,11 @@ use Rattle.sine_table.specs.laws.RoomLaws.{filled-sines}
 use Rattle.requests.specs.Admission.{room_checked, sines_after}
 use Rattle.elements.specs.declared.Elements.{Elements}
 use Rattle.elements.specs.Elements.{fields}
-use Rattle.besselian_rows.specs.declared.tables.Verdict.{Verdict}
-use Rattle.besselian_rows.specs.declared.tables.Verdict.TheVariants as T
 use Rattle.besselian_rows.specs.Exact.{RadiiInRange}
 use Rattle.besselian_rows.specs.Tables.{number, first_refused}
 use Rattle.besselian_rows.proofs.laws.TablesLaws.{accepted-at}
 use Rattle.element_fits.specs.Sizes.{HourlySizes}
 use Rattle.element_fits.specs.declared.Fits.{Fits}
-use Rattle.element_fits.specs.declared.Answer.{Answer}
-use Rattle.element_fits.specs.declared.Answer.TheVariants.{Made, Refused}
 use Rattle.element_fits.specs.Numbers.{rows_of, hourly_of, radii_of, tolerance_ranges, numbers_of, given_ranges, of_rows, given_checked, admitted, fits_asked, in_rooms, of_admitted, answer_to, four_of, three_of}
 use Rattle.element_fits.specs.laws.Sizes.{AllAccepted}
 
@@ -77,11 +71,11 @@ angles_ranged g k e =
       v6 = angle (number g 6) f.1.1.1.1.1.1.0;
     }
 
-pub rows-within : (v : Verdict) → of_rows v ≡ C.Within → v ≡ T.Whole
-rows-within T.Whole e = refl
-rows-within (T.Refused i) e = absurd (not_within e)
+pub rows-within : (v : Result Unit ℕ) → of_rows v ≡ Ok tt → v ≡ Ok tt
+rows-within (Ok tt) e = refl
+rows-within (Err i) e = absurd (not_within e)
 
-rows-accepted : (n : List ℤ) → first_refused n 0 7 ≡ T.Whole → AllAccepted (rows_of n)
+rows-accepted : (n : List ℤ) → first_refused n 0 7 ≡ Ok tt → AllAccepted (rows_of n)
 unfolding rows_of
 rows-accepted n e =
     record {
@@ -96,7 +90,7 @@ rows-accepted n e =
 
 module _ (n g k : List ℤ) (tolerance : ℤ) where
   -- what is checked where the lengths are right
-  abbrev pub checks : Checked
+  abbrev pub checks : Result Unit Refusal
   checks =
       andThen (of_limits 18 (first_out_of_range 0 (tolerance_ranges tolerance)))
       (andThen (of_limits 21 (first_out_of_range 0 (given_ranges g k))) (of_rows (first_refused n 0 7)))
@@ -105,23 +99,23 @@ module _ (n g k : List ℤ) (tolerance : ℤ) where
   unfolding given_checked
   given-lengths hn hg hk = rw (eq-eqb (length n) 42 hn, eq-eqb (length g) 7 hg, eq-eqb (length k) 3 hk)
 
-  pub given-rows : (length n ≡ 42 → ⊥) → given_checked n g k tolerance ≡ C.Refused (refusal 10 0)
+  pub given-rows : (length n ≡ 42 → ⊥) → given_checked n g k tolerance ≡ Err (refusal 10 0)
   unfolding given_checked
   given-rows h = rw (ne_eqb (length n) 42 h)
 
-  pub given-sidereal : length n ≡ 42 → (length g ≡ 7 → ⊥) → given_checked n g k tolerance ≡ C.Refused (refusal 10 0)
+  pub given-sidereal : length n ≡ 42 → (length g ≡ 7 → ⊥) → given_checked n g k tolerance ≡ Err (refusal 10 0)
   unfolding given_checked
   given-sidereal e h = rw (eq-eqb (length n) 42 e, ne_eqb (length g) 7 h)
 
-  pub given-radii : length n ≡ 42 → length g ≡ 7 → (length k ≡ 3 → ⊥) → given_checked n g k tolerance ≡ C.Refused (refusal 10 0)
+  pub given-radii : length n ≡ 42 → length g ≡ 7 → (length k ≡ 3 → ⊥) → given_checked n g k tolerance ≡ Err (refusal 10 0)
   unfolding given_checked
   given-radii e f h = rw (eq-eqb (length n) 42 e, eq-eqb (length g) 7 f, ne_eqb (length k) 3 h)
 
-  pub given-within : given_checked n g k tolerance ≡ C.Within → Taken n g k tolerance
+  pub given-within : given_checked n g k tolerance ≡ Ok tt → Taken n g k tolerance
   unfolding given_checked
   given-within e = go (eqb (length n) 42 && (eqb (length g) 7 && eqb (length k) 3)) refl e
     where
-      go : (b : Bool) → (eqb (length n) 42 && (eqb (length g) 7 && eqb (length k) 3)) ≡ b → cond b checks (C.Refused (refusal 10 0)) ≡ C.Within → Taken n g k tolerance
+      go : (b : Bool) → (eqb (length n) 42 && (eqb (length g) 7 && eqb (length k) 3)) ≡ b → cond b checks (Err (refusal 10 0)) ≡ Ok tt → Taken n g k tolerance
       go false h w = absurd (not_within w)
       go true h w =
           let l = both (eqb (length n) 42) (eqb (length g) 7 && eqb (length k) 3) h in
@@ -140,46 +134,46 @@ module _ (n g k : List ℤ) (tolerance : ℤ) where
           }
 
   -- and the other way
-  pub given-checks : given_checked n g k tolerance ≡ C.Within → checks ≡ C.Within
+  pub given-checks : given_checked n g k tolerance ≡ Ok tt → checks ≡ Ok tt
   given-checks e = let t = given-within e in sym (given-lengths t.rows t.sidereal t.radii) ∙ e
 
   module _ (sines : List ℕ) where
-    pub admitted-refused : (r : Refusal) → given_checked n g k tolerance ≡ C.Refused r
-        → (C.Refused r ≡ admitted n g k tolerance sines) × (sines ≡ sines_after (admitted n g k tolerance sines) sines)
+    pub admitted-refused : (r : Refusal) → given_checked n g k tolerance ≡ Err r
+        → (Err r ≡ admitted n g k tolerance sines) × (sines ≡ sines_after (admitted n g k tolerance sines) sines)
     unfolding admitted
     admitted-refused r e = rw e (refl, refl)
 
-    pub admitted-room : given_checked n g k tolerance ≡ C.Within
+    pub admitted-room : given_checked n g k tolerance ≡ Ok tt
         → (room_checked sines ≡ admitted n g k tolerance sines)
         × (sines_after (room_checked sines) sines ≡ sines_after (admitted n g k tolerance sines) sines)
     unfolding admitted
     admitted-room e = rw e (refl, refl)
 
-    given-first : admitted n g k tolerance sines ≡ C.Within → given_checked n g k tolerance ≡ C.Within
+    given-first : admitted n g k tolerance sines ≡ Ok tt → given_checked n g k tolerance ≡ Ok tt
     unfolding admitted
     given-first e = (both-within (given_checked n g k tolerance) (room_checked sines) e).0
 
-    pub admitted-within : admitted n g k tolerance sines ≡ C.Within → Taken n g k tolerance × Sines (sines_after (admitted n g k tolerance sines) sines)
-    admitted-within e = (given-within (given-first e), subst (λ (c : Checked). Sines (sines_after c sines)) (sym e) (filled-sines sines))
+    pub admitted-within : admitted n g k tolerance sines ≡ Ok tt → Taken n g k tolerance × Sines (sines_after (admitted n g k tolerance sines) sines)
+    admitted-within e = (given-within (given-first e), subst (λ (c : Result Unit Refusal). Sines (sines_after c sines)) (sym e) (filled-sines sines))
 
 -- ---- the caller's buffers
 
 module _ (room second : ℕ) (f : Fits) where
-  pub rooms-first : room < 22 → in_rooms room second (Made f) ≡ Refused (refusal 4 22)
+  pub rooms-first : room < 22 → in_rooms room second (Ok f) ≡ Err (refusal 4 22)
   rooms-first h = rw (lt-leb 22 room h)
 
-  pub rooms-second : 22 ≤ room → second < 6 → in_rooms room second (Made f) ≡ Refused (refusal 4 6)
+  pub rooms-second : 22 ≤ room → second < 6 → in_rooms room second (Ok f) ≡ Err (refusal 4 6)
   rooms-second h l = rw (le-leb 22 room h, lt-leb 6 second l)
 
-  pub rooms-whole : 22 ≤ room → 6 ≤ second → in_rooms room second (Made f) ≡ Made f
+  pub rooms-whole : 22 ≤ room → 6 ≤ second → in_rooms room second (Ok f) ≡ Ok f
   rooms-whole h l = rw (le-leb 22 room h, le-leb 6 second l)
 
   -- elements that are made fit their buffers
-  pub rooms-fit : (a : Answer) → in_rooms room second a ≡ Made f → (22 ≤ room) × (6 ≤ second)
-  rooms-fit (Refused r) e = let z : ◌≡◌ {A = ℕ} 0 1 = cc in absurd (omega arith)
-  rooms-fit (Made g) e = by (leb 22 room) (leb 6 second) refl refl e
+  pub rooms-fit : (a : Result Fits Refusal) → in_rooms room second a ≡ Ok f → (22 ≤ room) × (6 ≤ second)
+  rooms-fit (Err r) e = let z : ◌≡◌ {A = ℕ} 0 1 = cc in absurd (omega arith)
+  rooms-fit (Ok g) e = by (leb 22 room) (leb 6 second) refl refl e
     where
-      by : (b c : Bool) → leb 22 room ≡ b → leb 6 second ≡ c → cond b (cond c (Made g) (Refused (refusal 4 6))) (Refused (refusal 4 22)) ≡ Made f
+      by : (b c : Bool) → leb 22 room ≡ b → leb 6 second ≡ c → cond b (cond c (Ok g) (Err (refusal 4 6))) (Err (refusal 4 22)) ≡ Ok f
           → (22 ≤ room) × (6 ≤ second)
       by true true h l e = (leb-true 22 room h, leb-true 6 second l)
       by true false h l e = let z : ◌≡◌ {A = ℕ} 0 1 = cc in absurd (omega arith)
@@ -188,21 +182,21 @@ module _ (room second : ℕ) (f : Fits) where
 -- ---- the whole answer
 
 module _ (n g k : List ℤ) (tolerance : ℤ) (sines : List ℕ) (room second : ℕ) where
-  pub answer-refused : (r : Refusal) → admitted n g k tolerance sines ≡ C.Refused r → answer_to n g k tolerance sines room second ≡ Refused r
+  pub answer-refused : (r : Refusal) → admitted n g k tolerance sines ≡ Err r → answer_to n g k tolerance sines room second ≡ Err r
   unfolding answer_to
-  answer-refused r e = ap (λ (c : Checked). of_admitted c (in_rooms room second (fits_asked n g k tolerance))) e
+  answer-refused r e = ap (λ (c : Result Unit Refusal). of_admitted c (in_rooms room second (fits_asked n g k tolerance))) e
 
-  pub answer-asked : admitted n g k tolerance sines ≡ C.Within → answer_to n g k tolerance sines room second ≡ in_rooms room second (fits_asked n g k tolerance)
+  pub answer-asked : admitted n g k tolerance sines ≡ Ok tt → answer_to n g k tolerance sines room second ≡ in_rooms room second (fits_asked n g k tolerance)
   unfolding answer_to
-  answer-asked e = ap (λ (c : Checked). of_admitted c (in_rooms room second (fits_asked n g k tolerance))) e
+  answer-asked e = ap (λ (c : Result Unit Refusal). of_admitted c (in_rooms room second (fits_asked n g k tolerance))) e
 
-  pub answer-fits : (f : Fits) → answer_to n g k tolerance sines room second ≡ Made f → (22 ≤ room) × (6 ≤ second)
+  pub answer-fits : (f : Fits) → answer_to n g k tolerance sines room second ≡ Ok f → (22 ≤ room) × (6 ≤ second)
   unfolding answer_to
   answer-fits f e = by (admitted n g k tolerance sines) e
     where
-      by : (c : Checked) → of_admitted c (in_rooms room second (fits_asked n g k tolerance)) ≡ Made f → (22 ≤ room) × (6 ≤ second)
-      by C.Within h = rooms-fit room second f (fits_asked n g k tolerance) h
-      by (C.Refused r) h = let z : ◌≡◌ {A = ℕ} 0 1 = cc in absurd (omega arith)
+      by : (c : Result Unit Refusal) → of_admitted c (in_rooms room second (fits_asked n g k tolerance)) ≡ Ok f → (22 ≤ room) × (6 ≤ second)
+      by (Ok tt) h = rooms-fit room second f (fits_asked n g k tolerance) h
+      by (Err r) h = let z : ◌≡◌ {A = ℕ} 0 1 = cc in absurd (omega arith)
 
 -- ---- stores
 

@@ -4,10 +4,9 @@
 --   mirrored_alike, body_alike           in their ranges all ways of changing a sign give the same elements
 --   elements-twice, body_twice           taken twice the mirror gives the first back
 --   axis_mirrored                        the axis of the mirrored body is the mirrored axis
-use Rattle.std.specs.Prelude.{◌≡◌, refl, [], ◌∷◌, ℕ, ◌≤◌, ℤ, neg_ℤ, nat_abs, ◌+ℤ◌, ◌*ℤ◌}
+use Rattle.std.specs.Prelude.{◌≡◌, refl, [], ◌∷◌, ℕ, ◌≤◌, ℤ, neg_ℤ, nat_abs, ◌+ℤ◌, ◌*ℤ◌, Option}
 use Rattle.std.proofs.Common.{ap, ◌∙◌, arith}
 use Rattle.std.specs.Int.Signed.{le_z_yes}
-use Rattle.rounding.specs.declared.Limits.{Limits}
 use Rattle.rounding.specs.Limits.{◌±◌, out_of_range, first_out_of_range}
 use Rattle.rounding.specs.laws.Ring.{◌⊕◌, ◌⊗◌, opp, ring, v0, v1}
 use Rattle.rounding.specs.Units.{hour}
@@ -69,7 +68,7 @@ module _ (f : ℤ → ℤ) (h : (z : ℤ) (n : ℕ) → out_of_range (f z ± n) 
 
   pub mirrored-checked : (b : Body) → body_checked (mirrored_body f b) ≡ body_checked b
   mirrored-checked (B.Sun e) = ap (of_limits 2) (mirrored_range e)
-  mirrored-checked (B.Star s) = ap (λ (l : Limits). andThen (of_limits 2 l) (of_limits 13 (radius_range_of s.radius))) (star-range s)
+  mirrored-checked (B.Star s) = ap (λ (l : Option ℕ). andThen (of_limits 2 l) (of_limits 13 (radius_range_of s.radius))) (star-range s)
 
 -- ---- ways of changing a sign
 module _ (f g : ℤ → ℤ) (h : (z : ℤ) → nat_abs z ≤ 200000000 → f z ≡ g z) where

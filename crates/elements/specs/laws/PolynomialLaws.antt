@@ -1,33 +1,35 @@
--- Sizes of a polynomial's value: within three hours a step is at most three times the higher coefficient, and the next
--- lower.
-use Rattle.std.specs.Prelude.{ℕ, ◌+◌, ◌*◌, ◌≤◌, ℤ, nat_abs, ◌*ℤ◌}
-use Rattle.std.proofs.Common.{arith}
-use Rattle.std.specs.Int.Signed.{le_z_yes}
-use Rattle.rounding.specs.laws.Order.{nat_abs_sum, nat_abs_product_le}
+-- The seconds are 3,600 parts of an hour (`quadratic-second`, `cubic-second`), and sizes of a polynomial's value at one:
+-- within three hours a step is at most three times the higher coefficient, and the next lower.
+use Rattle.std.specs.Prelude.{◌≡◌, ℕ, ◌+◌, ◌*◌, ◌≤◌, ℤ, nat_abs, ◌*ℤ◌}
+use Rattle.std.proofs.Common.{refl, lit≤}
 use Rattle.rounding.specs.Units.{hour}
 use Rattle.rounding.specs.Near.{near}
-use Rattle.rounding.proofs.laws.NearLaws.{near-size}
 use Rattle.elements.specs.declared.Cubic.{Cubic}
 use Rattle.elements.specs.declared.Quadratic.{Quadratic}
-use Rattle.elements.specs.Polynomial.{step, quadratic_at, cubic_at}
+use Rattle.elements.specs.Polynomial.{step, quadratic_at, cubic_at, stepBy, quadratic_by, cubic_by}
 use Rattle.elements.specs.Sizes.{QuadraticSizes, CubicSizes}
+use Rattle.elements.specs.laws.PartSizes as part
+
+pub quadratic-second : (τ : ℤ) (q : Quadratic) → quadratic_by 3600 q τ ≡ quadratic_at q τ
+unfolding quadratic_by quadratic_at stepBy step
+quadratic-second τ q = refl
+
+pub cubic-second : (τ : ℤ) (c : Cubic) → cubic_by 3600 c τ ≡ cubic_at c τ
+unfolding cubic_by cubic_at stepBy step
+cubic-second τ c = refl
 
 -- p per hour, for τ seconds
 pub part-size : (τ p : ℤ) (A : ℕ) → nat_abs τ ≤ 10800 → nat_abs p ≤ A → nat_abs (near (p *ℤ τ) hour) ≤ 3 * A
-part-size τ p A ht hp = near-size (p *ℤ τ) hour (3 * A) (le_z_yes tt) (omega (arith, nat_abs_product_le p τ A 10800 hp ht))
+part-size = part.part-size 3600 (lit≤ tt)
 
 pub step-size : (τ p a : ℤ) (A B : ℕ) → nat_abs τ ≤ 10800 → nat_abs p ≤ A → nat_abs a ≤ B → nat_abs (step τ p a) ≤ 3 * A + B
-unfolding step
-step-size τ p a A B ht hp ha = omega (arith, nat_abs_sum (near (p *ℤ τ) hour) a, part-size τ p A ht hp)
+unfolding step stepBy
+step-size = part.step-size 3600 (lit≤ tt)
 
 pub quadratic-size : (q : Quadratic) {A B C : ℕ} → QuadraticSizes A B C q → (τ : ℤ) → nat_abs τ ≤ 10800 → nat_abs (quadratic_at q τ) ≤ A + 3 * B + 9 * C
-unfolding quadratic_at
-quadratic-size q {A} {B} {C} h τ t =
-    omega (arith, step-size τ (step τ q.c2 q.c1) q.c0 (3 * C + B) A t (step-size τ q.c2 q.c1 C B t h.c2 h.c1) h.c0)
+unfolding quadratic_by quadratic_at stepBy step
+quadratic-size q h τ t = part.quadratic-size 3600 (lit≤ tt) q h τ t
 
 pub cubic-size : (c : Cubic) → CubicSizes c → (τ : ℤ) → nat_abs τ ≤ 10800 → nat_abs (cubic_at c τ) ≤ 501170000
-unfolding cubic_at
-cubic-size c h τ t =
-    let s2 = step-size τ c.c3 c.c2 10000 100000 t h.c3 h.c2 in
-    let s1 = step-size τ (step τ c.c3 c.c2) c.c1 130000 100000000 t (omega (arith, s2)) h.c1 in
-    omega (arith, step-size τ (step τ (step τ c.c3 c.c2) c.c1) c.c0 100390000 200000000 t (omega (arith, s1)) h.c0)
+unfolding cubic_by cubic_at stepBy step
+cubic-size = part.cubic-size 3600 (lit≤ tt)

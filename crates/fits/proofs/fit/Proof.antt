@@ -1,11 +1,11 @@
 -- `fits::fit` meets its contract: each range decides in its turn; where the first two hold, the hours can be asked.
+use Rattle.std.specs.Prelude.{None}
 use mathlib.Core.Path.{◌≡◌, sym, ◌∙◌}
 use mathlib.Core.List.{List}
 use borrow.Author.Rules.{rules}
 use lib.IntN.{ℤ}
 use mir.Syntax.{w64}
 use mir.ValLaws.{to_z-of_z}
-use Rattle.rounding.specs.declared.Limits.TheVariants.{InRange}
 use Rattle.rounding.specs.Limits.{first_out_of_range}
 use Rattle.rounding.specs.laws.Code.{read-size}
 use Rattle.elements.specs.Elements.{cubic_from}
@@ -38,10 +38,10 @@ module _ (c : tie.In_default-proposed) where
   abbrev q : tie.Else-tabulated-ne7
   q = found.before.before
 
-  given-within : first_out_of_range 0 (given_ranges (tolerance q) (ts q)) ≡ InRange
+  given-within : first_out_of_range 0 (given_ranges (tolerance q) (ts q)) ≡ None
   given-within = sym (given_is found.before) ∙ told.in_default.is
 
-  proposed-within : first_out_of_range 0 (coefficient_ranges (cubic_from (cs q) 0)) ≡ InRange
+  proposed-within : first_out_of_range 0 (coefficient_ranges (cubic_from (cs q) 0)) ≡ None
   proposed-within = sym found.coefficients_in_range-proposed.ensures ∙ c.in_default-proposed.is
 
 hours-are : (c : tie.After-hours_in_range-hours) → let p = q c.before in
@@ -58,20 +58,20 @@ returns-2 c =
     let a = c.args in
     sym (fit-not-seven a.coefficients.now a.tabulated.now a.tolerance c.if-coefficients-ne4.false c.if-tabulated-ne7.true)
 
-returns-3 : tie.Need-returns-in-OutOfRange
+returns-3 : tie.Need-returns-in-Some
 returns-3 c =
     let given = c.before.before in
     let q = given.before in
-    let e = sym (given_is given) ∙ c.in-OutOfRange.is in
+    let e = sym (given_is given) ∙ c.in-Some.is in
     sym (fit-given (cs q) (ts q) (tolerance q) q.if-coefficients-ne4.false q.if-tabulated-ne7.false _ e)
 
-returns-4 : tie.Need-returns-in-OutOfRange-proposed
+returns-4 : tie.Need-returns-in-Some-proposed
 returns-4 c =
     let told = c.before in
     let found = told.before in
     let q = found.before.before in
     let within = sym (given_is found.before) ∙ told.in_default.is in
-    let e = sym found.coefficients_in_range-proposed.ensures ∙ c.in-OutOfRange-proposed.is in
+    let e = sym found.coefficients_in_range-proposed.ensures ∙ c.in-Some-proposed.is in
     sym (fit-coefficient (cs q) (ts q) (tolerance q) q.if-coefficients-ne4.false q.if-tabulated-ne7.false within _ e)
 
 hours-in-range-requires : tie.Need-hours_in_range-hours-requires
@@ -81,12 +81,12 @@ hours-in-range-requires c κs =
     let size = tolerance-size (cs (q c)) (ts (q c)) (tolerance (q c)) four seven (given-within c) in
     (in-ranges (cs (q c)) (ts (q c)) (tolerance (q c)) four seven (given-within c) (proposed-within c), read-size (tolerance (q c)) 1000 size tt)
 
-returns-5 : tie.Need-returns-in-OutOfRange-hours
+returns-5 : tie.Need-returns-in-Some-hours
 returns-5 c =
     let asked = c.before in
     let t = asked.before in
     let p = q t in
-    let e = sym (hours-are asked) ∙ c.in-OutOfRange-hours.is in
+    let e = sym (hours-are asked) ∙ c.in-Some-hours.is in
     sym (fit-hour (cs p) (ts p) (tolerance p) p.if-coefficients-ne4.false p.if-tabulated-ne7.false (given-within t) (proposed-within t) _ e)
 
 returns-6 : tie.Need-returns

@@ -1,9 +1,7 @@
--- "Accept a proposed fit exactly if ..": the answer is `Accepted` exactly where every condition holds.
-use Rattle.std.specs.Prelude.{◌≡◌, refl, Bool, true, false, cond, ◌&&◌, List, ℕ, ◌≤◌, ◌<◌, eqb, ℤ, pos, negsuc, neg_ℤ, nat_abs, ◌≤ℤ◌, length, get_or}
+-- "Accept a proposed fit exactly if ..": the answer is `Ok` exactly where every condition holds.
+use Rattle.std.specs.Prelude.{◌≡◌, refl, Bool, true, false, cond, ◌&&◌, List, ℕ, ◌≤◌, ◌<◌, eqb, ℤ, pos, negsuc, neg_ℤ, nat_abs, ◌≤ℤ◌, length, get_or, Option, Result, Ok, None, Some, Err}
 use Rattle.std.proofs.Common.{subst, arith}
 use borrow.Author.Tests.{eqb-true}
-use Rattle.rounding.specs.declared.Limits.{Limits}
-use Rattle.rounding.specs.declared.Limits.TheVariants as L
 use Rattle.rounding.specs.Limits.{first_out_of_range}
 use Rattle.rounding.specs.laws.LimitsLaws.{each_in_range}
 use Rattle.rounding.specs.laws.Order.{≤-parts, nat_abs_le, le_nat_abs, neg_nat_abs}
@@ -11,19 +9,17 @@ use Rattle.sheet_types.specs.declared.refusals.Refusal.{Refusal}
 use Rattle.sheet_types.specs.Refusals.{refusal}
 use Rattle.elements.specs.declared.Cubic.{Cubic}
 use Rattle.elements.specs.Elements.{cubic_from}
-use Rattle.fits.specs.declared.Answer.{Answer}
-use Rattle.fits.specs.declared.Answer.TheVariants as A
 use Rattle.fits.specs.Fits.{given_ranges, coefficient_ranges, difference, differences, hour_ranges, unless, judged, fit_of}
 use Rattle.fits.specs.Conditions.{Acceptable, AcceptedExactlyIf}
 use Rattle.fits.specs.laws.RangeLaws.{none_out, each-alike, alike-each, seven_at}
 use Rattle.fits.specs.laws.FitLaws.{fit-accepted, in-ranges, stated}
 
 -- ---- each decides that comes before the last
-unless-accepted : (l : Limits) (r : ℕ → Refusal) (next : Answer) → unless l r next ≡ A.Accepted → (l ≡ L.InRange) × (next ≡ A.Accepted)
-unless-accepted L.InRange r next e = (refl, e)
-unless-accepted (L.OutOfRange i) r next e = let z : ◌≡◌ {A = ℕ} 0 1 = cc in absurd (omega arith)
+unless-accepted : (l : Option ℕ) (r : ℕ → Refusal) (next : Result Unit Refusal) → unless l r next ≡ Ok tt → (l ≡ None) × (next ≡ Ok tt)
+unless-accepted None r next e = (refl, e)
+unless-accepted (Some i) r next e = let z : ◌≡◌ {A = ℕ} 0 1 = cc in absurd (omega arith)
 
-shape_accepted : (a b : Bool) (x : Answer) → cond (a && b) x (A.Refused (refusal 10 0)) ≡ A.Accepted → (a ≡ true) × (b ≡ true) × (x ≡ A.Accepted)
+shape_accepted : (a b : Bool) (x : Result Unit Refusal) → cond (a && b) x (Err (refusal 10 0)) ≡ Ok tt → (a ≡ true) × (b ≡ true) × (x ≡ Ok tt)
 shape_accepted true true x e = (refl, refl, e)
 shape_accepted true false x e = let z : ◌≡◌ {A = ℕ} 0 1 = cc in absurd (omega arith)
 shape_accepted false b x e = let z : ◌≡◌ {A = ℕ} 0 1 = cc in absurd (omega arith)
@@ -47,7 +43,7 @@ module _ (cs ts : List ℤ) (tolerance : ℤ) where
   abbrev c : Cubic
   c = cubic_from cs 0
 
-  only : fit_of cs ts tolerance ≡ A.Accepted → Acceptable cs ts tolerance
+  only : fit_of cs ts tolerance ≡ Ok tt → Acceptable cs ts tolerance
   unfolding fit_of judged hour_ranges difference
   only e =
       let s = shape_accepted (eqb (length cs) 4) (eqb (length ts) 7) (judged c ts tolerance) e in
@@ -64,7 +60,7 @@ module _ (cs ts : List ℤ) (tolerance : ℤ) where
         close = λ k h. range_size tolerance (difference c ts k) t.0 (subst (In tolerance) (seven_at (difference c ts) k h) (each k h));
       }
 
-  enough : Acceptable cs ts tolerance → fit_of cs ts tolerance ≡ A.Accepted
+  enough : Acceptable cs ts tolerance → fit_of cs ts tolerance ≡ Ok tt
   unfolding given_ranges coefficient_ranges hour_ranges difference
   enough a =
       let r = a.in-ranges in

@@ -1,8 +1,7 @@
 -- Laws of the answer: which list decides, and what the ranges give to those who compute on.
-use Rattle.std.specs.Prelude.{◌≡◌, refl, List, ℕ, ◌≤◌, ◌<◌, ℤ, pos, neg_ℤ, nat_abs, ◌-ℤ◌, ◌≤ℤ◌, length, get_or, take}
+use Rattle.std.specs.Prelude.{◌≡◌, refl, List, ℕ, ◌≤◌, ◌<◌, ℤ, pos, neg_ℤ, nat_abs, ◌-ℤ◌, ◌≤ℤ◌, length, get_or, take, Err, Some, None, Ok}
 use Rattle.std.proofs.Common.{arith}
 use borrow.Author.Tests.{eq-eqb, ne_eqb}
-use Rattle.rounding.specs.declared.Limits.TheVariants as L
 use Rattle.rounding.specs.Parts.{is_self, is_minus}
 use Rattle.rounding.specs.Limits.{first_out_of_range, EachInRange}
 use Rattle.rounding.specs.laws.LimitsLaws.{each_in_range}
@@ -11,7 +10,6 @@ use Rattle.rounding.specs.laws.Order.{nat_abs_by, nat_abs_le, nat_abs_between, n
 use Rattle.sheet_types.specs.Refusals.{refusal}
 use Rattle.elements.specs.declared.Elements.{Elements}
 use Rattle.elements.specs.Elements.{cubic_from, ranges}
-use Rattle.fits.specs.declared.Answer.TheVariants as A
 use Rattle.fits.specs.Fits.{given_ranges, coefficient_ranges, hour_ranges, second, judged, fit_of}
 use Rattle.fits.specs.Conditions.{InRanges}
 use Rattle.fits.specs.laws.RangeLaws.{each-alike}
@@ -22,12 +20,12 @@ unfolding ranges coefficient_ranges
 ranges_of_x e = refl
 
 module _ (cs ts : List ℤ) (tolerance : ℤ) where
-  pub fit-not-four : (length cs ≡ 4 → ⊥) → fit_of cs ts tolerance ≡ A.Refused (refusal 10 0)
+  pub fit-not-four : (length cs ≡ 4 → ⊥) → fit_of cs ts tolerance ≡ Err (refusal 10 0)
   unfolding fit_of
   fit-not-four h = rw (ne_eqb (length cs) 4 h)
 
   module _ (four : length cs ≡ 4) where
-    pub fit-not-seven : (length ts ≡ 7 → ⊥) → fit_of cs ts tolerance ≡ A.Refused (refusal 10 0)
+    pub fit-not-seven : (length ts ≡ 7 → ⊥) → fit_of cs ts tolerance ≡ Err (refusal 10 0)
     unfolding fit_of
     fit-not-seven h = rw (eq-eqb (length cs) 4 four, ne_eqb (length ts) 7 h)
 
@@ -36,11 +34,11 @@ module _ (cs ts : List ℤ) (tolerance : ℤ) where
       unfolding fit_of
       fit-judged = rw (eq-eqb (length cs) 4 four, eq-eqb (length ts) 7 seven)
 
-      pub fit-given : (i : ℕ) → first_out_of_range 0 (given_ranges tolerance ts) ≡ L.OutOfRange i → fit_of cs ts tolerance ≡ A.Refused (refusal 18 i)
+      pub fit-given : (i : ℕ) → first_out_of_range 0 (given_ranges tolerance ts) ≡ Some i → fit_of cs ts tolerance ≡ Err (refusal 18 i)
       unfolding judged
       fit-given i e = rw (fit-judged, e)
 
-      module _ (given : first_out_of_range 0 (given_ranges tolerance ts) ≡ L.InRange) where
+      module _ (given : first_out_of_range 0 (given_ranges tolerance ts) ≡ None) where
         given-in : EachInRange (given_ranges tolerance ts)
         given-in = each_in_range 0 (given_ranges tolerance ts) given
 
@@ -51,18 +49,18 @@ module _ (cs ts : List ℤ) (tolerance : ℤ) where
         pub tolerance-size : nat_abs tolerance ≤ 1000
         tolerance-size = nat_abs_between tolerance 0 stated.0 stated.1
 
-        pub fit-coefficient : (i : ℕ) → first_out_of_range 0 (coefficient_ranges (cubic_from cs 0)) ≡ L.OutOfRange i
-            → fit_of cs ts tolerance ≡ A.Refused (refusal 2 i)
+        pub fit-coefficient : (i : ℕ) → first_out_of_range 0 (coefficient_ranges (cubic_from cs 0)) ≡ Some i
+            → fit_of cs ts tolerance ≡ Err (refusal 2 i)
         unfolding judged
         fit-coefficient i e = rw (fit-judged, given, e)
 
-        module _ (proposed : first_out_of_range 0 (coefficient_ranges (cubic_from cs 0)) ≡ L.InRange) where
-          pub fit-hour : (i : ℕ) → first_out_of_range 0 (hour_ranges (cubic_from cs 0) ts tolerance) ≡ L.OutOfRange i
-              → fit_of cs ts tolerance ≡ A.Refused (refusal 17 i)
+        module _ (proposed : first_out_of_range 0 (coefficient_ranges (cubic_from cs 0)) ≡ None) where
+          pub fit-hour : (i : ℕ) → first_out_of_range 0 (hour_ranges (cubic_from cs 0) ts tolerance) ≡ Some i
+              → fit_of cs ts tolerance ≡ Err (refusal 17 i)
           unfolding judged
           fit-hour i e = rw (fit-judged, given, proposed, e)
 
-          pub fit-accepted : first_out_of_range 0 (hour_ranges (cubic_from cs 0) ts tolerance) ≡ L.InRange → fit_of cs ts tolerance ≡ A.Accepted
+          pub fit-accepted : first_out_of_range 0 (hour_ranges (cubic_from cs 0) ts tolerance) ≡ None → fit_of cs ts tolerance ≡ Ok tt
           unfolding judged
           fit-accepted e = rw (fit-judged, given, proposed, e)
 

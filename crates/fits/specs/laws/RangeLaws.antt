@@ -1,11 +1,9 @@
--- Laws of ranges: the search answers `InRange` where each number is in its range; numbers that share a range, each by
+-- Laws of ranges: the search answers `None` where each number is in its range; numbers that share a range, each by
 -- its place.
-use Rattle.std.specs.Prelude.{◌≡◌, refl, Bool, true, false, cond, List, [], ◌∷◌, map, ℕ, zero, suc, ◌+◌, ◌<◌, ℤ, pos, neg_ℤ, ◌≤ℤ◌, length, get_or, replicate}
+use Rattle.std.specs.Prelude.{◌≡◌, refl, Bool, true, false, cond, List, [], ◌∷◌, map, ℕ, zero, suc, ◌+◌, ◌<◌, ℤ, pos, neg_ℤ, ◌≤ℤ◌, length, get_or, replicate, None, Option, Some}
 use Rattle.std.proofs.Common.{sym, ap, ◌∙◌, arith, add-one, ext_get_or}
 use Rattle.std.specs.Int.Signed.{lt_z, clash_ℤ}
 use Rattle.std.proofs.lemmas.List.{length-map}
-use Rattle.rounding.specs.declared.Limits.{Limits}
-use Rattle.rounding.specs.declared.Limits.TheVariants.{InRange, OutOfRange}
 use Rattle.rounding.specs.Limits.{Row, row, ◌±◌, out_of_range, first_out_of_range, EachInRange, rows}
 use Rattle.rounding.specs.laws.LimitsLaws.{out_within}
 use Rattle.rounding.specs.laws.Order.{lt_z_true}
@@ -19,7 +17,7 @@ not_below x y h = by (lt_z x y) refl
     by false e = refl
 
 -- where each is in its range, none is out of it
-pub none_out : (i : ℕ) (rs : List Row) → EachInRange rs → first_out_of_range i rs ≡ InRange
+pub none_out : (i : ℕ) (rs : List Row) → EachInRange rs → first_out_of_range i rs ≡ None
 unfolding first_out_of_range
 none_out i [] h = refl
 none_out i (r ∷ rs) h = rw (not_below r.value r.low h.0.0, not_below r.high r.value h.0.1) (none_out (suc i) rs h.1)
@@ -41,9 +39,9 @@ module _ (l u : ℤ) where
   alike-each (x ∷ xs) e = (e 0 (omega arith), alike-each xs (λ k h. e (suc k) (omega arith)))
 
 -- a place counted from one less
-abbrev pub further : Limits → Limits
-further InRange = InRange
-further (OutOfRange i) = OutOfRange (i + 1)
+abbrev pub further : Option ℕ → Option ℕ
+further None = None
+further (Some i) = Some (i + 1)
 
 counted_on : (i : ℕ) (rs : List Row) → first_out_of_range (suc i) rs ≡ further (first_out_of_range i rs)
 unfolding first_out_of_range
@@ -51,8 +49,8 @@ counted_on i [] = refl
 counted_on i (r ∷ rs) = by (out_of_range r) (counted_on (suc i) rs)
   where
     by : (b : Bool) → first_out_of_range (suc (suc i)) rs ≡ further (first_out_of_range (suc i) rs)
-        → cond b (OutOfRange (suc i)) (first_out_of_range (suc (suc i)) rs) ≡ further (cond b (OutOfRange i) (first_out_of_range (suc i) rs))
-    by true e = ap OutOfRange (sym (add-one i))
+        → cond b (Some (suc i)) (first_out_of_range (suc (suc i)) rs) ≡ further (cond b (Some i) (first_out_of_range (suc i) rs))
+    by true e = ap Some (sym (add-one i))
     by false e = e
 
 -- the tabulated values alone, as the code has them
@@ -62,19 +60,19 @@ tabulated_ranges ts = rows ts (replicate 7 (neg_ℤ (pos 1000000000))) (replicat
 tabulated_are : (ts : List ℤ) → length ts ≡ 7 → first_out_of_range 0 (tabulated_ranges ts) ≡ first_out_of_range 0 (map (λ t. t ± 1000000000) ts)
 tabulated_are ts seven = ap (first_out_of_range 0) (rows_alike (neg_ℤ (pos 1000000000)) (pos 1000000000) 7 ts seven)
 
-pub place_within : (ts : List ℤ) → length ts ≡ 7 → (r : Limits) → r ≡ first_out_of_range 0 (tabulated_ranges ts) → (k : ℕ) → r ≡ OutOfRange k → k < 7
+pub place_within : (ts : List ℤ) → length ts ≡ 7 → (r : Option ℕ) → r ≡ first_out_of_range 0 (tabulated_ranges ts) → (k : ℕ) → r ≡ Some k → k < 7
 place_within ts seven r e k q =
     let h = out_within 0 (map (λ t. t ± 1000000000) ts) k (sym (e ∙ tabulated_are ts seven) ∙ q) in
     omega (arith, length-map ts (λ t. t ± 1000000000))
 
 -- the tolerance, then the tabulated values
 module _ (tolerance : ℤ) (ts : List ℤ) where
-  pub given-low : lt_z tolerance (pos 0) ≡ true → OutOfRange 0 ≡ first_out_of_range 0 (given_ranges tolerance ts)
+  pub given-low : lt_z tolerance (pos 0) ≡ true → Some 0 ≡ first_out_of_range 0 (given_ranges tolerance ts)
   unfolding given_ranges first_out_of_range
   given-low a = rw a
 
   module _ (a : lt_z tolerance (pos 0) ≡ false) where
-    pub given-high : lt_z (pos 1000) tolerance ≡ true → OutOfRange 0 ≡ first_out_of_range 0 (given_ranges tolerance ts)
+    pub given-high : lt_z (pos 1000) tolerance ≡ true → Some 0 ≡ first_out_of_range 0 (given_ranges tolerance ts)
     unfolding given_ranges first_out_of_range
     given-high b = rw (a, b)
 
@@ -82,7 +80,7 @@ module _ (tolerance : ℤ) (ts : List ℤ) where
     unfolding given_ranges first_out_of_range
     past b = rw (a, b)
 
-    pub given-after : lt_z (pos 1000) tolerance ≡ false → length ts ≡ 7 → (r : Limits) → r ≡ first_out_of_range 0 (tabulated_ranges ts)
+    pub given-after : lt_z (pos 1000) tolerance ≡ false → length ts ≡ 7 → (r : Option ℕ) → r ≡ first_out_of_range 0 (tabulated_ranges ts)
         → further r ≡ first_out_of_range 0 (given_ranges tolerance ts)
     given-after b seven r e =
         ap further (e ∙ tabulated_are ts seven) ∙ sym (counted_on 0 (map (λ t. t ± 1000000000) ts)) ∙ sym (past b)

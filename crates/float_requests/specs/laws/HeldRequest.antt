@@ -1,10 +1,8 @@
 -- The request that the code goes on with, where a unit is too large for 64 bits: its sheet is that of the exact one.
-use Rattle.std.specs.Prelude.{◌≡◌, refl, List, ℕ, pos, neg_ℤ}
+use Rattle.std.specs.Prelude.{◌≡◌, refl, List, ℕ, pos, neg_ℤ, Ok, Result, Err}
 use Rattle.std.proofs.Common.{sym, subst, ◌∙◌, arith}
 use Rattle.rounding.specs.Limits.{row, first_out_of_range}
 use Rattle.sheet_types.specs.declared.refusals.Refusal.{Refusal}
-use Rattle.sheet_types.specs.declared.refusals.Checked.{Checked}
-use Rattle.sheet_types.specs.declared.refusals.Checked.TheVariants as C
 use Rattle.sheet_types.specs.laws.RefusalLaws.{both-within, of_limits_within}
 use Rattle.elements.specs.Elements as E
 use Rattle.elements.specs.Elements.{elements_checked}
@@ -17,8 +15,6 @@ use Rattle.requests.specs.declared.Occultation.{Occultation}
 use Rattle.requests.specs.Requests.{of_eclipse, window_checked, guard_checked, checked}
 use Rattle.requests.specs.RequestLaws.{checked-order}
 use Rattle.requests.proofs.laws.AdmissionLaws.{admitted-refused}
-use Rattle.circumstances.specs.declared.Answer.{Answer}
-use Rattle.circumstances.specs.declared.Answer.TheVariants as A
 use Rattle.circumstances.specs.Sheet.{sheet_answer, sheet_buffer, sheet_sines}
 use Rattle.circumstances.specs.Demand3.{Claimed}
 use Rattle.circumstances.specs.laws.Claims.{sheet-is}
@@ -44,7 +40,7 @@ module _ (q : Request) where
   unfolding held_request
   checked-alike = rw (checked-order (of_eclipse (held_request q)), checked-order (of_eclipse q), checked-held q.elements, station-held q.station)
 
-  pub same-within : checked (of_eclipse q) ≡ C.Within → held_request q ≡ q
+  pub same-within : checked (of_eclipse q) ≡ Ok tt → held_request q ≡ q
   unfolding held_request
   same-within e =
       let after-window = both-within (window_checked q.window) _ (sym (checked-order (of_eclipse q)) ∙ e) in
@@ -54,27 +50,27 @@ module _ (q : Request) where
       rw (same-held q.elements (of_limits_within 2 (E.range_of q.elements) both.0), held_small q.station.longitude (omega (arith, sizes.longitude)))
 
 -- ---- what is promised of a sheet: the answer is r, and these bytes and this buffer are left
-abbrev pub Promised : Occultation → (sines old : List ℕ) → Answer → (new room : List ℕ) → Type 0
+abbrev pub Promised : Occultation → (sines old : List ℕ) → Result ℕ Refusal → (new room : List ℕ) → Type 0
 Promised o sines old r new room = (r ≡ sheet_answer o sines old)
     × ((new ≡ sheet_buffer o sines old) × ((room ≡ sheet_sines o sines) × Claimed o r new))
 
 module _ (sines old : List ℕ) where
-  refused-is : (o : Occultation) (x : Refusal) → checked o ≡ C.Refused x → Promised o sines old (A.Refused x) old sines
-  refused-is o x e = sheet-is o sines old (C.Refused x) (sym (admitted-refused o sines x e).0) (A.Refused x) old sines refl refl refl
+  refused-is : (o : Occultation) (x : Refusal) → checked o ≡ Err x → Promised o sines old (Err x) old sines
+  refused-is o x e = sheet-is o sines old (Err x) (sym (admitted-refused o sines x e).0) (Err x) old sines refl refl refl
 
-  pub sheet-held : (q : Request) (r : Answer) (new room : List ℕ) → Promised (of_eclipse (held_request q)) sines old r new room
+  pub sheet-held : (q : Request) (r : Result ℕ Refusal) (new room : List ℕ) → Promised (of_eclipse (held_request q)) sines old r new room
       → Promised (of_eclipse q) sines old r new room
   sheet-held q r new room p = by (checked (of_eclipse q)) refl
     where
-      by : (c : Checked) → checked (of_eclipse q) ≡ c → Promised (of_eclipse q) sines old r new room
-      by C.Within e = subst (λ (x : Request). Promised (of_eclipse x) sines old r new room) (same-within q e) p
-      by (C.Refused x) e =
+      by : (c : Result Unit Refusal) → checked (of_eclipse q) ≡ c → Promised (of_eclipse q) sines old r new room
+      by (Ok tt) e = subst (λ (x : Request). Promised (of_eclipse x) sines old r new room) (same-within q e) p
+      by (Err x) e =
           let this = refused-is (of_eclipse q) x e in
           let that = refused-is (of_eclipse (held_request q)) x (checked-alike q ∙ e) in
           let answer = p.0 ∙ sym that.0 in (
             answer ∙ this.0,
             (
               p.1.0 ∙ sym that.1.0 ∙ this.1.0,
-              (p.1.1.0 ∙ sym that.1.1.0 ∙ this.1.1.0, subst (λ (y : Answer). Claimed (of_eclipse q) y new) (sym answer) this.1.1.1),
+              (p.1.1.0 ∙ sym that.1.1.0 ∙ this.1.1.0, subst (λ (y : Result ℕ Refusal). Claimed (of_eclipse q) y new) (sym answer) this.1.1.1),
             ),
           )

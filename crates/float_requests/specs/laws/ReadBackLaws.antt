@@ -1,12 +1,11 @@
 -- "reading it back gives the same unit for every value in range": the doubles of 23 units in their ranges are read
 -- back, all of them.
-use Rattle.std.specs.Prelude.{◌≡◌, refl, true, List, [], ◌∷◌, ◌++◌, ℕ, zero, suc, ◌≤◌, ◌<◌, ℤ, pos, nat_abs, length, Float}
+use Rattle.std.specs.Prelude.{◌≡◌, refl, true, List, [], ◌∷◌, ◌++◌, ℕ, zero, suc, ◌≤◌, ◌<◌, ℤ, pos, nat_abs, length, Float, Ok}
 use Rattle.std.proofs.Common.{sym, subst, arith}
 use Rattle.std.proofs.Math.Path.{ap}
 use Rattle.std.proofs.Math.ListN.{get_or}
 use Rattle.std.specs.Float.{nan}
 use Rattle.std.specs.Float.Ieee.Scale.{finite}
-use Rattle.sheet_types.specs.declared.refusals.Checked.TheVariants as C
 use Rattle.elements.specs.Elements.{elements_of}
 use Rattle.elements.specs.laws.ElementsLaws.{spelled}
 use Rattle.binary64.specs.declared.Longitude.TheVariants.{Degrees}
@@ -31,7 +30,7 @@ abbrev spelled_doubles : ℕ → (ℕ → Float) → List Float
 spelled_doubles zero f = []
 spelled_doubles (suc n) f = f 0 ∷ spelled_doubles n (λ k. f (suc k))
 
-none_found : (i n : ℕ) (f : ℕ → Float) → ((k : ℕ) → k < n → finite (f k) ≡ true) → first_not_finite i (spelled_doubles n f) ≡ C.Within
+none_found : (i n : ℕ) (f : ℕ → Float) → ((k : ℕ) → k < n → finite (f k) ≡ true) → first_not_finite i (spelled_doubles n f) ≡ Ok tt
 unfolding first_not_finite
 none_found i zero f h = refl
 none_found i (suc n) f h = rw (h 0 (omega arith)) (none_found (suc i) n (λ k. f (suc k)) (λ k l. h (suc k) (omega arith)))

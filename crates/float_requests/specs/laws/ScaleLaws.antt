@@ -4,7 +4,7 @@ use Rattle.std.specs.Prelude.{◌≡◌, refl, Bool, true, ◌&&◌, List, [], �
 use Rattle.std.proofs.Common.{arith, leb→le}
 use Rattle.std.proofs.Math.Facts.{and_yes}
 use Rattle.std.specs.Float.{nan}
-use Rattle.binary64.specs.Doubles.{units_of, double_of}
+use Rattle.binary64.specs.Doubles.{units_of, double_of, held}
 use Rattle.float_requests.specs.Instrument.{scales, units_in}
 use Rattle.float_requests.specs.Writing.{doubles_in}
 
@@ -27,6 +27,10 @@ pub scale_in : (k : ℕ) → k < 23 → (2048 ≤ get_or scales k 0) × (get_or 
 scale_in k h = scale_at scales tt k h
 
 -- ---- what stands at a place
+-- the units of the double there
+abbrev pub units_held : List Float → ℕ → ℤ
+units_held xs k = held (units_of (get_or scales k 0) (get_or xs k nan))
+
 pub units_at : (ss : List ℕ) (xs : List Float) (k : ℕ) → k < length ss → k < length xs
     → get_or (units_in ss xs) k (pos 0) ≡ units_of (get_or ss k 0) (get_or xs k nan)
 units_at [] xs k g h = absurd (omega arith)

@@ -4,19 +4,10 @@ ghost use Rattle.float_requests.specs.Instrument.{scales};
 ghost use Rattle.float_requests.specs.Writing.{doubles_in, longitude_checked, answer_to, room_after, Claimed};
 ghost use Rattle.float_requests.specs.laws.ReadBackLaws.{InRanges};
 
-use sheet_types::refusals::{Checked, Refusal};
-
-// Whether the doubles were made.
-#[derive(Clone, Copy)]
-pub enum Answer {
-    Made,
-    // 10: not 23 units; 2: the first element out of its range, 0 to 21; 3: the longitude, place 2; 4: a buffer
-    // shorter than 23 doubles, place 23
-    Refused(Refusal),
-}
+use sheet_types::refusals::Refusal;
 
 // Refusal 3 with place 2 for a longitude out of its range: all else of this station is in its own.
-fn check_longitude(longitude: i64) -> Checked
+fn check_longitude(longitude: i64) -> Result<(), Refusal>
     ensures { result ≡ longitude_checked longitude }
 {
     station::check(station::Station {
@@ -28,33 +19,28 @@ fn check_longitude(longitude: i64) -> Checked
     })
 }
 
-// The answer to these units where the buffer holds so many doubles.
-fn judged(units: &[i64], room: usize) -> Answer
+// Whether these units are made doubles where the buffer holds so many; or refusal 10 where they are not 23; 2 with the
+// first element out of its range, 0 to 21; 3 with place 2 for the longitude; 4 with place 23 for a shorter buffer.
+fn judged(units: &[i64], room: usize) -> Result<(), Refusal>
     ensures { result ≡ answer_to units.now room }
 {
     if units.len() != 23 {
-        return Answer::Refused(Refusal {
+        return Err(Refusal {
             number: 10,
             place: 0,
         });
     }
     let e = elements::from_numbers(units);
-    let of_elements = elements::check(e);
-    if let Checked::Refused(refusal) = of_elements {
-        return Answer::Refused(refusal);
-    }
+    elements::check(e)?;
     let longitude = units[22];
-    let of_longitude = check_longitude(longitude);
-    if let Checked::Refused(refusal) = of_longitude {
-        return Answer::Refused(refusal);
-    }
+    check_longitude(longitude)?;
     if room < 23 {
-        return Answer::Refused(Refusal {
+        return Err(Refusal {
             number: 4,
             place: 23,
         });
     }
-    Answer::Made
+    Ok(())
 }
 
 // Each unit as a double.
@@ -63,25 +49,19 @@ fn fill(units: &[i64], room: &mut [f64])
     ensures { room.new ≡ doubles_in scales units.now ++ drop 23 room.old }
 {
     let scales = super::SCALES;
-    let mut i: usize = 0;
-    while i < 23 {
-        let unit = units[i];
-        let scale = scales[i];
-        room[i] = binary64::double_of(unit, scale);
-        i += 1;
+    for i in 0..23 {
+        room[i] = binary64::double_of(units[i], scales[i]);
     }
 }
 
-// The doubles of 23 units, the 22 elements and a longitude, in degrees, at the start of `room`.
-pub fn write(units: &[i64], room: &mut [f64]) -> Answer
+// The doubles of 23 units, the 22 elements and a longitude, in degrees, at the start of `room`; or a refusal of
+// `judged`, which leaves `room` as it was.
+pub fn write(units: &[i64], room: &mut [f64]) -> Result<(), Refusal>
     ensures answer { result ≡ answer_to units.now (length room.old) }
     ensures room { room.new ≡ room_after (answer_to units.now (length room.old)) units.now room.old }
     ensures back { Claimed (answer_to units.now (length room.old)) units.now room.new }
 {
-    let length = room.len();
-    let answer = judged(units, length);
-    if let Answer::Made = answer {
-        fill(units, room);
-    }
-    answer
+    judged(units, room.len())?;
+    fill(units, room);
+    Ok(())
 }

@@ -10,13 +10,6 @@ use binary64::Longitude;
 use requests::windows::Window;
 use sheet_types::refusals::Refusal;
 
-// A survey, or refusal 10.
-#[derive(Clone, Copy)]
-pub enum Handed {
-    Is(Survey),
-    Refused(Refusal),
-}
-
 // The longitude in degrees for 0, in hours of time for 1.
 fn marked(hours: u64, x: f64) -> Longitude
     ensures { result ≡ marked hours x }
@@ -28,10 +21,10 @@ fn marked(hours: u64, x: f64) -> Longitude
     }
 }
 
-fn not_of_shape() -> Handed
+fn not_of_shape() -> Result<Survey, Refusal>
     ensures { result ≡ not_of_shape }
 {
-    Handed::Refused(Refusal {
+    Err(Refusal {
         number: 10,
         place: 0,
     })
@@ -66,7 +59,7 @@ fn survey_of(elements: &[f64], longitude: f64, hours: u64, rest: &[i64]) -> Surv
 }
 
 // The same, where the numbers are of that shape.
-fn survey(elements: &[f64], longitude: f64, hours: u64, rest: &[i64]) -> Handed
+fn survey(elements: &[f64], longitude: f64, hours: u64, rest: &[i64]) -> Result<Survey, Refusal>
     ensures { result ≡ handed_of elements.now longitude hours rest.now }
 {
     if elements.len() != 22 {
@@ -79,7 +72,7 @@ fn survey(elements: &[f64], longitude: f64, hours: u64, rest: &[i64]) -> Handed
         return not_of_shape();
     }
     let s = survey_of(elements, longitude, hours, rest);
-    Handed::Is(s)
+    Ok(s)
 }
 
 // The contact sheet of such a survey, in the caller's buffer; `sines` is the buffer for table S.
@@ -90,15 +83,12 @@ pub fn sheet(
     rest: &[i64],
     sines: &mut [u32],
     buf: &mut [u8],
-) -> circumstances::Answer
+) -> Result<usize, Refusal>
     ensures answer { result ≡ answer_to (handed_of elements.now longitude hours rest.now) sines.old buf.old }
     ensures buffer { buf.new ≡ buffer_for (handed_of elements.now longitude hours rest.now) sines.old buf.old }
     ensures sines { sines.new ≡ sines_for (handed_of elements.now longitude hours rest.now) sines.old }
     ensures demand3 { Claimed (of_eclipse (request_of (survey_of elements.now longitude hours rest.now))) result buf.new }
 {
-    let handed = survey(elements, longitude, hours, rest);
-    match handed {
-        Handed::Is(s) => super::sheet(s, sines, buf),
-        Handed::Refused(refusal) => circumstances::Answer::Refused(refusal),
-    }
+    let s = survey(elements, longitude, hours, rest)?;
+    super::sheet(s, sines, buf)
 }

@@ -1,5 +1,5 @@
 -- What follows an entry, put part by part.
-use Rattle.std.specs.Prelude.{ℕ, ◌≤◌, ◌<◌, ◌≡◌, refl, true, false, List, [], ◌∷◌, ◌++◌, ℤ, pos, negsuc, ◌+ℤ◌, ◌≤ℤ◌, ◌<ℤ◌, length}
+use Rattle.std.specs.Prelude.{ℕ, ◌≤◌, ◌<◌, ◌≡◌, refl, true, false, List, [], ◌∷◌, ◌++◌, ℤ, pos, negsuc, ◌+ℤ◌, ◌≤ℤ◌, ◌<ℤ◌, length, Option, None, Some}
 use Rattle.std.proofs.Common.{ap, ap₂, ◌∙◌, append_assoc, append-nil, le-leb}
 use native.Mathlib.Omega.{arith}
 use Rattle.std.proofs.Math.IntN.{nat_abs}
@@ -16,8 +16,6 @@ use Rattle.decimal_text.specs.Texts.{letters, Put}
 use Rattle.decimal_text.specs.laws.TextLaws.{put_nil}
 use Rattle.decimal_text.specs.laws.RowLaws.{joined}
 use Rattle.listing_lines.specs.Lines.{text_of, end_for, line_of, lines_of}
-use Rattle.calendar.specs.declared.Reference.{Reference}
-use Rattle.calendar.specs.declared.Reference.TheVariants as R
 use Rattle.listing_lines.specs.declared.clock.Seconds.{Seconds}
 use Rattle.listing_lines.specs.declared.clock.Seconds.TheVariants.{Moment, Contact}
 use Rattle.listing_lines.specs.declared.clock.Altitude.{Altitude}
@@ -59,12 +57,12 @@ unfolding behind
 behind-shown i d e x q y w old at new r p = rw (← q, w) p
 
 -- the text by the reference
-module _ (k : Reference) (d : ℤ) (e : Entry) (old : List ℕ) (at : ℕ) (new : List ℕ) (r : ℕ) where
-  pub text-off : k ≡ R.Nothing → Put old at (text_of e) new r → Put old at (timed_text k d e) new r
+module _ (k : Option Instant) (d : ℤ) (e : Entry) (old : List ℕ) (at : ℕ) (new : List ℕ) (r : ℕ) where
+  pub text-off : k ≡ None → Put old at (text_of e) new r → Put old at (timed_text k d e) new r
   unfolding timed_text
   text-off q p = rw q p
 
-  pub text_at : (i : Instant) → k ≡ R.At i → Put old at (text_of e ++ behind i (known d) e) new r → Put old at (timed_text k d e) new r
+  pub text_at : (i : Instant) → k ≡ Some i → Put old at (text_of e ++ behind i (known d) e) new r → Put old at (timed_text k d e) new r
   unfolding timed_text
   text_at i q p = rw q p
 
@@ -84,24 +82,24 @@ module _ (x : Altitude) (old : List ℕ) (at : ℕ) where
   altitude-down n q new r p = rw q p
 
 -- the lines, as a loop puts them
-pub lines-nil : (k : Reference) (d : ℤ) (x : Entry → Altitude) → timed_lines k d x [] ≡ []
+pub lines-nil : (k : Option Instant) (d : ℤ) (x : Entry → Altitude) → timed_lines k d x [] ≡ []
 unfolding timed_lines
 lines-nil k d x = refl
 
-pub lines_cons : (k : Reference) (d : ℤ) (x : Entry → Altitude) (e : Entry) (es : List Entry)
+pub lines_cons : (k : Option Instant) (d : ℤ) (x : Entry → Altitude) (e : Entry) (es : List Entry)
     → timed_lines k d x (e ∷ es) ≡ timed_line k d (x e) e ++ timed_lines k d x es
 unfolding timed_lines
 lines_cons k d x e es = refl
 
 -- with no clock and no altitude they are document 01's
-line-off : (d : ℤ) (e : Entry) → timed_line R.Nothing d A.Nothing e ≡ line_of e
+line-off : (d : ℤ) (e : Entry) → timed_line None d A.Nothing e ≡ line_of e
 unfolding timed_line timed_text altitude_text line_of
 line-off d e = ap (λ t. t ++ end_for e.kind) (append-nil (text_of e))
 
-pub lines-off : (d : ℤ) (x : Entry → Altitude) → ((e : Entry) → x e ≡ A.Nothing) → (es : List Entry) → timed_lines R.Nothing d x es ≡ lines_of es
+pub lines-off : (d : ℤ) (x : Entry → Altitude) → ((e : Entry) → x e ≡ A.Nothing) → (es : List Entry) → timed_lines None d x es ≡ lines_of es
 unfolding timed_lines lines_of
 lines-off d x h [] = refl
-lines-off d x h (e ∷ es) = ap₂ ◌++◌ (ap (λ y. timed_line R.Nothing d y e) (h e) ∙ line-off d e) (lines-off d x h es)
+lines-off d x h (e ∷ es) = ap₂ ◌++◌ (ap (λ y. timed_line None d y e) (h e) ∙ line-off d e) (lines-off d x h es)
 
 -- ---- a ΔT that a request can have
 

@@ -10,20 +10,20 @@ use Rattle.listings.proofs.put_timed_listing.Statement.{statement}
 use Rattle.listings.proofs.put_timed_listing.Tie as tie
 
 put-lines-requires : tie.Need-put_lines-lines-requires
-put-lines-requires c κs = whole_sheet _ _ _ (sym c.in-Sheet.is ∙ c.extent_of_sheet-found.ensures)
+put-lines-requires c κs = whole_sheet _ _ _ (sym c.in-Ok.is ∙ c.extent_of_sheet-found.ensures)
 
-returns : tie.Need-returns-in-Refused
+returns : tie.Need-returns-in-Err
 returns c =
     let f = c.before.before.before.before in
-    refused-printed _ _ _ _ _ _ _ _ _ (sym f.in-Refused.is ∙ f.extent_of_sheet-found.ensures) c.put_refused.ensures
+    refused-printed _ _ _ _ _ _ _ _ _ (sym f.in-Err.is ∙ f.extent_of_sheet-found.ensures) c.put_refused.ensures
 
-returns-2 : tie.Need-returns-in-Sheet
+returns-2 : tie.Need-returns-in-Ok
 returns-2 c =
     let notes = c.before.before in
     let lines = notes.before.before.before.before in
     let f = lines.before.before in
     let a = f.before.before.before.before in
-    sheet-printed _ _ _ _ _ _ _ _ _ _ (sym f.in-Sheet.is ∙ f.extent_of_sheet-found.ensures) (omega arith) _ _ _
+    sheet-printed _ _ _ _ _ _ _ _ _ _ (sym f.in-Ok.is ∙ f.extent_of_sheet-found.ensures) (omega arith) _ _ _
     (rw (to_z-of_z w64 a.args.deltat a.ranges.deltat) at lines.put_lines-lines.ensures) notes.put_notes.ensures
 
 pub put_timed_listing_spec : {M : Type 1} → statement M

@@ -1,32 +1,26 @@
 -- The lines of a sheet being put, one record after the other; and the two passes over a sheet, which measure its lines
 -- and put them.
-use Rattle.std.specs.Prelude.{ℕ, ◌+◌, ◌-◌, ◌≤◌, ◌<◌, ◌≡◌, refl, List, [], ◌++◌, true, false, ℤ, pos, length}
+use Rattle.std.specs.Prelude.{ℕ, ◌+◌, ◌≤◌, ◌<◌, ◌≡◌, refl, List, [], ◌++◌, true, false, ℤ, pos, length, Option, Err, Ok, None, Result}
 use Rattle.std.proofs.Common.{sym, ap, ◌∙◌, append-nil, arith}
+use Rattle.requests.specs.declared.Occultation.{Occultation}
+use Rattle.calendar.specs.declared.Instant.{Instant}
 use Rattle.sheet_types.specs.declared.refusals.Refusal.{Refusal}
 use Rattle.sheet_types.specs.Refusals.{refusal}
 use Rattle.sheet_format.specs.declared.kinds.Entry.{Entry}
-use Rattle.sheet_format.specs.declared.records.Record.TheVariants.{Is, Refused}
 use Rattle.sheet_format.specs.Kinds.{is_end}
 use Rattle.sheet_rules.specs.Rules.{start}
 use Rattle.sheet_format.specs.Records.{record_at}
 use Rattle.sheet_format.specs.laws.RecordLaws.{record-bounds}
-use Rattle.sheet_codec.specs.declared.decoder.Extent.TheVariants as X
 use Rattle.sheet_codec.specs.Sheets.{Sheet, sheet, refused, stored_at, read_sheet, read_whole, extent_of}
 use Rattle.sheet_codec.specs.laws.SheetLaws.{read-start, extent_inv, extent_refused, whole_same}
 use Rattle.sheet_codec.specs.laws.Rests.{Rest, rest-there, behind, rest-split, rest-last, rest_more}
 use Rattle.decimal_text.specs.Texts.{Put}
 use Rattle.decimal_text.specs.laws.RowLaws.{put_as, joined}
 use Rattle.decimal_text.specs.laws.TextLaws.{Putting, putting_start, putting-turn, putting-end}
-use Rattle.listings.specs.declared.Text.{Text}
-use Rattle.listings.specs.declared.Text.TheVariants as T
-use Rattle.calendar.specs.declared.Reference.{Reference}
-use Rattle.calendar.specs.declared.Reference.TheVariants as R
 use Rattle.listing_lines.specs.Clock.{timed_line, timed_lines}
 use Rattle.listing_lines.specs.laws.ClockLaws.{lines-nil, lines_cons, lines-off}
 use Rattle.listing_lines.specs.Lines.{lines_of, refusal_line}
 use Rattle.listing_lines.specs.declared.clock.Altitude.{Altitude}
-use Rattle.listings.specs.declared.sky.Sky.{Sky}
-use Rattle.listings.specs.declared.sky.Sky.TheVariants as Sky
 use Rattle.listings.specs.declared.sky.View.{View}
 use Rattle.listings.specs.declared.sky.View.TheVariants as Seen
 use Rattle.listings.specs.Sky.{altitude_for, view_after, view_of, notes_for}
@@ -40,14 +34,14 @@ IsSheet (refused r) = ⊥
 IsSheet (sheet es n) = Unit
 
 -- its lines by a clock are put at a place, and what is seen at its contacts
-abbrev pub Laid : Reference → ℤ → Sky → Sheet → List ℕ → ℕ → List ℕ → ℕ → View → Type 0
+abbrev pub Laid : Option Instant → ℤ → Option Occultation → Sheet → List ℕ → ℕ → List ℕ → ℕ → View → Type 0
 Laid k d y (refused x) old at new r v = ⊥
 Laid k d y (sheet es n) old at new r v = Put old at (timed_lines k d (altitude_for y) es) new r × (v ≡ view_of y Seen.Nothing es)
 
 -- ---- the loop
 
 -- the lines of the records before `from` are put, up to `at`, and v is what was seen there
-pub record Laying (k : Reference) (d : ℤ) (y : Sky) (s old : List ℕ) (begin : ℕ) (out : List ℕ) (from at : ℕ) (v : View) : Type 0 where
+pub record Laying (k : Option Instant) (d : ℤ) (y : Option Occultation) (s old : List ℕ) (begin : ℕ) (out : List ℕ) (from at : ℕ) (v : View) : Type 0 where
   pub n : ℕ
   pub all : List Entry
   pub size : ℕ
@@ -58,7 +52,7 @@ pub record Laying (k : Reference) (d : ℤ) (y : Sky) (s old : List ℕ) (begin 
   pub putting : Putting old begin (timed_lines k d (altitude_for y) all) out at (timed_lines k d (altitude_for y) rest.es)
   pub seen : view_of y v rest.es ≡ view_of y Seen.Nothing all
 
-pub laying_start : (k : Reference) (d : ℤ) (y : Sky) (s out : List ℕ) (at : ℕ) → at < 18446744073709551616 → length out < 18446744073709551616 → IsSheet (read_sheet s)
+pub laying_start : (k : Option Instant) (d : ℤ) (y : Option Occultation) (s out : List ℕ) (at : ℕ) → at < 18446744073709551616 → length out < 18446744073709551616 → IsSheet (read_sheet s)
     → Laying k d y s out at out 0 at Seen.Nothing
 laying_start k d y s out at f l h = by (read_sheet s) refl h
   where
@@ -77,11 +71,11 @@ laying_start k d y s out at f l h = by (read_sheet s) refl h
           seen = refl;
         }
 
-module _ (k : Reference) (d : ℤ) (y : Sky) (s old : List ℕ) (begin : ℕ) (out : List ℕ) (from at : ℕ) (v : View) (f : Laying k d y s old begin out from at v) where
-  pub laying-never : (r : Refusal) → record_at s from ≡ Refused r → ⊥
+module _ (k : Option Instant) (d : ℤ) (y : Option Occultation) (s old : List ℕ) (begin : ℕ) (out : List ℕ) (from at : ℕ) (v : View) (f : Laying k d y s old begin out from at v) where
+  pub laying-never : (r : Refusal) → record_at s from ≡ Err r → ⊥
   laying-never r q = rest-there f.rest r q
 
-  module _ (e : Entry) (next : ℕ) (q : record_at s from ≡ Is e next) (x : Altitude) (seen_at : x ≡ altitude_for y e) (new : List ℕ) (r : ℕ)
+  module _ (e : Entry) (next : ℕ) (q : record_at s from ≡ Ok (e, next)) (x : Altitude) (seen_at : x ≡ altitude_for y e) (new : List ℕ) (r : ℕ)
       (put-at : Put out at (timed_line k d x e) new r) where
     put : Put out at (timed_line k d (altitude_for y e) e) new r
     put = put_as _ _ out at new r (ap (λ z. timed_line k d z e) seen_at) put-at
@@ -127,38 +121,38 @@ module _ (k : Reference) (d : ℤ) (y : Sky) (s old : List ℕ) (begin : ℕ) (o
 -- ---- measured, then put
 
 -- with no clock and no altitude the lines are the sheet's own
-plain : (es : List Entry) (old : List ℕ) (at : ℕ) (new : List ℕ) (r : ℕ) → Put old at (timed_lines R.Nothing (pos 0) (altitude_for Sky.Nothing) es) new r
+plain : (es : List Entry) (old : List ℕ) (at : ℕ) (new : List ℕ) (r : ℕ) → Put old at (timed_lines None (pos 0) (altitude_for None) es) new r
     → Put old at (lines_of es) new r
-plain es old at new r p = put_as _ _ old at new r (lines-off (pos 0) (altitude_for Sky.Nothing) (λ e. refl) es) p
+plain es old at new r p = put_as _ _ old at new r (lines-off (pos 0) (altitude_for None) (λ e. refl) es) p
 
-module _ (w : Sheet) (none after old : List ℕ) (need : ℕ) (n : View) (m : Laid R.Nothing (pos 0) Sky.Nothing w none 0 after need n) (h : length old < 18446744073709551615) where
-  pub sheet-short : length old < need → (T.Refused (refusal 4 need) ≡ answered (length old) (listing_of w)) × (old ≡ room_with (listing_of w) old)
+module _ (w : Sheet) (none after old : List ℕ) (need : ℕ) (n : View) (m : Laid None (pos 0) None w none 0 after need n) (h : length old < 18446744073709551615) where
+  pub sheet-short : length old < need → (Err (refusal 4 need) ≡ answered (length old) (listing_of w)) × (old ≡ room_with (listing_of w) old)
   sheet-short g = by w m
     where
-      by : (v : Sheet) → Laid R.Nothing (pos 0) Sky.Nothing v none 0 after need n → (T.Refused (refusal 4 need) ≡ answered (length old) (listing_of v)) × (old ≡ room_with (listing_of v) old)
+      by : (v : Sheet) → Laid None (pos 0) None v none 0 after need n → (Err (refusal 4 need) ≡ answered (length old) (listing_of v)) × (old ≡ room_with (listing_of v) old)
       by (refused r) q = absurd q
       by (sheet es size) q = text-short (lines_of es) none after old need (plain es none 0 after need q.0) h g
 
-  pub sheet-full : need ≤ length old → (new : List ℕ) (r : ℕ) (p : View) → Laid R.Nothing (pos 0) Sky.Nothing w old 0 new r p
-      → (T.Written need ≡ answered (length old) (listing_of w)) × (new ≡ room_with (listing_of w) old)
+  pub sheet-full : need ≤ length old → (new : List ℕ) (r : ℕ) (p : View) → Laid None (pos 0) None w old 0 new r p
+      → (Ok need ≡ answered (length old) (listing_of w)) × (new ≡ room_with (listing_of w) old)
   sheet-full g new r p d = by w m d
     where
-      by : (v : Sheet) → Laid R.Nothing (pos 0) Sky.Nothing v none 0 after need n → Laid R.Nothing (pos 0) Sky.Nothing v old 0 new r p
-          → (T.Written need ≡ answered (length old) (listing_of v)) × (new ≡ room_with (listing_of v) old)
+      by : (v : Sheet) → Laid None (pos 0) None v none 0 after need n → Laid None (pos 0) None v old 0 new r p
+          → (Ok need ≡ answered (length old) (listing_of v)) × (new ≡ room_with (listing_of v) old)
       by (refused x) q d = absurd q
       by (sheet es size) q d = text-full (lines_of es) none after old need (plain es none 0 after need q.0) h g new r (plain es old 0 new r d.0)
 
 -- ---- what the reader found
 
-pub whole_sheet : (s : List ℕ) (m n : ℕ) → X.Sheet m n ≡ extent_of (read_whole s) → IsSheet (read_sheet s)
+pub whole_sheet : (s : List ℕ) (m n : ℕ) → Ok (m, n) ≡ extent_of (read_whole s) → IsSheet (read_sheet s)
 whole_sheet s m n q = let x = extent_inv (read_whole s) m n q in rw (← whole_same s m n q) (rw x.1 tt)
 
-pub whole_refused : (s : List ℕ) (r : Refusal) (old : List ℕ) → X.Refused r ≡ extent_of (read_whole s)
-    → (T.Refused r ≡ answered (length old) (told s)) × (old ≡ room_with (told s) old)
+pub whole_refused : (s : List ℕ) (r : Refusal) (old : List ℕ) → Err r ≡ extent_of (read_whole s)
+    → (Err r ≡ answered (length old) (told s)) × (old ≡ room_with (told s) old)
 unfolding told answered room_with
 whole_refused s r old q = rw (extent_refused (read_whole s) r q) (refl, refl)
 
-pub whole-told : (s : List ℕ) (m n : ℕ) (old new : List ℕ) (r : Text) → X.Sheet m n ≡ extent_of (read_whole s)
+pub whole-told : (s : List ℕ) (m n : ℕ) (old new : List ℕ) (r : Result ℕ Refusal) → Ok (m, n) ≡ extent_of (read_whole s)
     → r ≡ answered (length old) (listing_of (read_sheet s)) → new ≡ room_with (listing_of (read_sheet s)) old
     → (r ≡ answered (length old) (told s)) × (new ≡ room_with (told s) old)
 unfolding told
@@ -166,13 +160,13 @@ whole-told s m n old new r q a b = rw (whole_same s m n q) (a, b)
 
 -- ---- what is printed
 
-module _ (k : Reference) (d : ℤ) (y : Sky) (s old : List ℕ) (at : ℕ) (new : List ℕ) (q : ℕ) where
-  pub refused-printed : (r : Refusal) → X.Refused r ≡ extent_of (read_whole s) → Put old at (refusal_line r.number r.place) new q
+module _ (k : Option Instant) (d : ℤ) (y : Option Occultation) (s old : List ℕ) (at : ℕ) (new : List ℕ) (q : ℕ) where
+  pub refused-printed : (r : Refusal) → Err r ≡ extent_of (read_whole s) → Put old at (refusal_line r.number r.place) new q
       → Put old at (printed (timed k d y s)) new q
   unfolding timed
   refused-printed r x p = rw (extent_refused (read_whole s) r x) p
 
-  pub sheet-printed : (m n : ℕ) → X.Sheet m n ≡ extent_of (read_whole s) → length old < 18446744073709551616 → (mid : List ℕ) (r : ℕ) (v : View)
+  pub sheet-printed : (m n : ℕ) → Ok (m, n) ≡ extent_of (read_whole s) → length old < 18446744073709551616 → (mid : List ℕ) (r : ℕ) (v : View)
       → Laid k d y (read_sheet s) old at mid r v → Put mid r (notes_for y v) new q → Put old at (printed (timed k d y s)) new q
   unfolding timed
   sheet-printed m n x l mid r v p w = rw (whole_same s m n x) (by (read_sheet s) p)
@@ -182,11 +176,11 @@ module _ (k : Reference) (d : ℤ) (y : Sky) (s old : List ℕ) (at : ℕ) (new 
       by (sheet es j) p = joined l p.0 (put_as _ _ mid r new q (ap (notes_for y) p.1) w)
 
 -- with no clock and no occultation it is the sheet's own listing
-pub timed-off : (d : ℤ) (s : List ℕ) → timed R.Nothing d Sky.Nothing s ≡ told s
+pub timed-off : (d : ℤ) (s : List ℕ) → timed None d None s ≡ told s
 unfolding timed told
 timed-off d s = by (read_whole s)
   where
-    by : (w : Sheet) → timed_of R.Nothing d Sky.Nothing w ≡ listing_of w
+    by : (w : Sheet) → timed_of None d None w ≡ listing_of w
     by (refused r) = refl
     by (sheet es n) =
-        ap text (append-nil (timed_lines R.Nothing d (altitude_for Sky.Nothing) es) ∙ lines-off d (altitude_for Sky.Nothing) (λ e. refl) es)
+        ap text (append-nil (timed_lines None d (altitude_for None) es) ∙ lines-off d (altitude_for None) (λ e. refl) es)

@@ -1,5 +1,5 @@
 -- The lines of a file's notes are those of its stretches; and what the program's ways leave.
-use Rattle.std.specs.Prelude.{ℕ, zero, suc, ◌+◌, ◌-◌, ◌*◌, ◌/◌, ◌≤◌, ◌<◌, min, ◌≡◌, refl, List, [], ◌∷◌, ◌++◌, length, take, drop}
+use Rattle.std.specs.Prelude.{ℕ, zero, suc, ◌+◌, ◌-◌, ◌*◌, ◌/◌, ◌≤◌, ◌<◌, min, ◌≡◌, refl, List, [], ◌∷◌, ◌++◌, length, take, drop, Err, Ok, Result}
 use Rattle.std.proofs.Common.{sym, ap, ◌∙◌, append_assoc, append-nil, arith, le-ltb, lt-ltb, length-append, length-drop, take_at, drop_at, drop-drop}
 use Rattle.sheet_types.specs.declared.refusals.Refusal.{Refusal}
 use Rattle.decimal_text.specs.Texts.{Put, Counts}
@@ -9,15 +9,13 @@ use Rattle.listing_lines.specs.Lines.{refusal_line}
 use Rattle.program_io.specs.Inputs.{Read}
 use Rattle.program_io.proofs.laws.InputLaws.{read_same}
 use Rattle.program_io.specs.laws.OutputLaws.{put-cut}
-use Rattle.year_file.specs.declared.mending.Answer.{Answer}
-use Rattle.year_file.specs.declared.mending.Answer.TheVariants.{Mended, Refused}
 use Rattle.year_file.specs.Walk.{Stretch, kept, stretches, note_of, notes_of, notes}
 use Rattle.year_file.specs.Mending.{answer_to, room_after}
 use Rattle.big_endian.specs.Numbers.{eight_at}
 use Rattle.year_file.specs.Claims.{Apart}
-use Rattle.year_file.specs.laws.Mended.{in_order}
-use Rattle.year_file.specs.laws.NoteLaws.{length-notes, first_back, second_back}
-use Rattle.year_file.specs.laws.AnswerLaws.{mended_inv}
+use Rattle.year_file.proofs.laws.Mended.{in_order}
+use Rattle.year_file.proofs.laws.NoteLaws.{length-notes, first_back, second_back}
+use Rattle.year_file.proofs.laws.AnswerLaws.{mended_inv}
 use Rattle.mend.specs.Printed.{dropped_line, lines_of, note_line, tooLong, output, error}
 
 -- ---- the line of each note
@@ -69,11 +67,11 @@ module _ (file : List ℕ) (a b : ℕ) where
   too_long h = rw (le-ltb (length file) a h) (refl, refl)
 
   module _ (h : length file < a) where
-    pub refused-out : (r : Refusal) → Refused r ≡ answer_to a b file → ([] ≡ output a b file) × (refusal_line r.number r.place ≡ error a b file)
+    pub refused-out : (r : Refusal) → Err r ≡ answer_to a b file → ([] ≡ output a b file) × (refusal_line r.number r.place ≡ error a b file)
     unfolding output error
     refused-out r e = rw (lt-ltb (length file) a h, ← e) (refl, refl)
 
-    mended-out : (k n : ℕ) → Mended k n ≡ answer_to a b file → (kept file ≡ output a b file) × (lines_of (stretches file) ≡ error a b file)
+    mended-out : (k n : ℕ) → Ok (k, n) ≡ answer_to a b file → (kept file ≡ output a b file) × (lines_of (stretches file) ≡ error a b file)
     unfolding output error
     mended-out k n e = rw (lt-ltb (length file) a h, ← e) (refl, refl)
 
@@ -87,7 +85,7 @@ begins room text new n e h q =
     (t, (omega arith, e ∙ ap length (sym t)))
 
 -- a file that was mended: what its buffers begin with
-module _ (file sheets room sheets' room' : List ℕ) (r : Answer) (q : r ≡ answer_to (length sheets) (length room) file) (k n : ℕ) (m : r ≡ Mended k n)
+module _ (file sheets room sheets' room' : List ℕ) (r : Result (ℕ × ℕ) Refusal) (q : r ≡ answer_to (length sheets) (length room) file) (k n : ℕ) (m : r ≡ Ok (k, n))
     (x : sheets' ≡ room_after r (kept file) sheets) (y : room' ≡ room_after r (notes file) room) where
   facts : (k ≡ length (kept file)) × (n ≡ length (notes file)) × (length (kept file) ≤ length sheets) × (length (notes file) ≤ length room)
   facts = mended_inv (length sheets) (length room) file k n (sym m ∙ q)

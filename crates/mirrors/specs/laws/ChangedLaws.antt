@@ -1,5 +1,5 @@
 -- A request's numbers with the sign of eight of them changed: they are the mirror's, and fit their bytes.
-use Rattle.std.specs.Prelude.{◌≡◌, refl, true, List, [], ◌∷◌, ℕ, zero, suc, ◌+◌, ◌≤◌, ℤ, pos, neg_ℤ, nat_abs, length, get_or, set}
+use Rattle.std.specs.Prelude.{◌≡◌, refl, true, List, [], ◌∷◌, ℕ, zero, suc, ◌+◌, ◌≤◌, ℤ, pos, neg_ℤ, nat_abs, length, get_or, set, Ok}
 use Rattle.std.proofs.Common.{subst, arith}
 use Rattle.std.proofs.Math.Decide.{dec_lt}
 use Rattle.rounding.specs.Parts.{opposite as parts}
@@ -12,7 +12,6 @@ use Rattle.request_format.specs.declared.fields.Width.{Width}
 use Rattle.request_format.specs.declared.fields.Width.TheVariants as W
 use Rattle.request_format.specs.Fields.{layout, count, holds}
 use Rattle.request_format.specs.laws.WidthLaws.{holding}
-use Rattle.request_format.specs.declared.bytes.Answer.TheVariants.{Done}
 use Rattle.request_format.specs.Layout.{Piece, kind, number, pieces_of, fitting}
 use Rattle.request_format.specs.laws.LayoutLaws.{fits_cases}
 use Rattle.request_format.specs.Request.{put_for, put_of}
@@ -67,7 +66,7 @@ width_in (kind b ∷ l) k = width_in l k
 width_in (number w ∷ l) zero = w
 width_in (number w ∷ l) (suc k) = width_in l k
 
-turned-fits : (l : List Piece) (j k : ℕ) (ns : List ℤ) → W.Signed4 ≡ width_in l k → fitting l j ns ≡ Done → fitting l j (turned k ns) ≡ Done
+turned-fits : (l : List Piece) (j k : ℕ) (ns : List ℤ) → W.Signed4 ≡ width_in l k → fitting l j ns ≡ Ok tt → fitting l j (turned k ns) ≡ Ok tt
 unfolding fitting
 turned-fits [] j k ns e f = refl
 turned-fits (kind b ∷ l) j k ns e f = turned-fits l j k ns e f
@@ -79,10 +78,10 @@ turned-fits (number w ∷ l) j zero (z ∷ ns) e f =
 turned-fits (number w ∷ l) j (suc k) (z ∷ ns) e f = let h = fits_cases w l j z ns f in rw h.0 (turned-fits l (j + 1) k ns e h.1)
 
 -- each of the eight has 4 bytes
-pub changed_fit : (ns : List ℤ) → put_of ns ≡ Done → put_of (changed ns) ≡ Done
+pub changed_fit : (ns : List ℤ) → put_of ns ≡ Ok tt → put_of (changed ns) ≡ Ok tt
 unfolding put_for changed
 changed_fit ns e = turn 23 _ refl (turn 10 _ refl (turn 9 _ refl (turn 8 _ refl (turn 7 _ refl (turn 6 _ refl (turn 5 _ refl (turn 4 _ refl e)))))))
   where
-    turn : (k : ℕ) (ms : List ℤ) → W.Signed4 ≡ width_in (pieces_of layout) k → fitting (pieces_of layout) 0 ms ≡ Done
-        → fitting (pieces_of layout) 0 (turned k ms) ≡ Done
+    turn : (k : ℕ) (ms : List ℤ) → W.Signed4 ≡ width_in (pieces_of layout) k → fitting (pieces_of layout) 0 ms ≡ Ok tt
+        → fitting (pieces_of layout) 0 (turned k ms) ≡ Ok tt
     turn k ms w f = turned-fits (pieces_of layout) 0 k ms w f

@@ -1,10 +1,9 @@
 -- Why every request within the limits has its mirror (`Mirrored`).
-use Rattle.std.specs.Prelude.{◌≡◌, List, ℕ, ℤ, length}
+use Rattle.std.specs.Prelude.{◌≡◌, List, ℕ, ℤ, length, Ok, Result, Err}
 use Rattle.std.proofs.Math.Path.{refl, fun_ext}
 use Rattle.std.proofs.Common.{sym, ap, subst, ◌∙◌, lit≤}
 use Rattle.std.proofs.Math.IntN.{neg_ℤ}
-use Rattle.sheet_types.specs.declared.refusals.Checked.{Checked}
-use Rattle.sheet_types.specs.declared.refusals.Checked.TheVariants as C
+use Rattle.sheet_types.specs.declared.refusals.Refusal.{Refusal}
 use Rattle.elements.specs.declared.Body.{Body}
 use Rattle.elements.specs.declared.Body.TheVariants as B
 use Rattle.elements.specs.Mirror.{mirrored_body}
@@ -77,23 +76,23 @@ module _ (o : Occultation) where
   bytes-mirrored = alike-length (sheetOf (course_of o')) (sheetOf (course_of o)) entries-mirrored
 
 -- a sheet as long gets the same answer
-answers_mirrored : (p o : Occultation) → checked p ≡ C.Within → checked o ≡ C.Within → length (sheet_bytes p) ≡ length (sheet_bytes o) → (sines buffer : List ℕ)
+answers_mirrored : (p o : Occultation) → checked p ≡ Ok tt → checked o ≡ Ok tt → length (sheet_bytes p) ≡ length (sheet_bytes o) → (sines buffer : List ℕ)
     → sheet_answer p sines buffer ≡ sheet_answer o sines buffer
 unfolding sheet_answer
 answers_mirrored p o cp co l sines buffer =
-    ap (λ (c : Checked). answer_by c p buffer) (sym (admitted-room p sines cp).0) ∙ by (room_checked sines)
-    ∙ ap (λ (c : Checked). answer_by c o buffer) (admitted-room o sines co).0
+    ap (λ (c : Result Unit Refusal). answer_by c p buffer) (sym (admitted-room p sines cp).0) ∙ by (room_checked sines)
+    ∙ ap (λ (c : Result Unit Refusal). answer_by c o buffer) (admitted-room o sines co).0
   where
-    by : (c : Checked) → answer_by c p buffer ≡ answer_by c o buffer
-    by (C.Refused r) = refl
-    by C.Within = rw l
+    by : (c : Result Unit Refusal) → answer_by c p buffer ≡ answer_by c o buffer
+    by (Err r) = refl
+    by (Ok tt) = rw l
 
 -- ---- the theorem
-pub the_mirror : (o : Occultation) → checked o ≡ C.Within → Mirrored o
+pub the_mirror : (o : Occultation) → checked o ≡ Ok tt → Mirrored o
 the_mirror o w =
     let e : mirror_for o ≡ mirrored_occultation neg_ℤ o = mirrored-is most (lit≤ tt) o (in-limits o w) in
     let l : length (sheet_bytes (mirror_for o)) ≡ length (sheet_bytes o) = ap (λ (x : Occultation). length (sheet_bytes x)) e ∙ bytes-mirrored o in
-    let c : checked (mirror_for o) ≡ C.Within = checked_mirrored most o ∙ w in
+    let c : checked (mirror_for o) ≡ (Ok tt) = checked_mirrored most o ∙ w in
     record {
       within = c;
       state = λ φ τ. ap (λ (x : Occultation). state_at x φ τ) e ∙ state-mirrored o τ φ;

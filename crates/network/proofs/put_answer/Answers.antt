@@ -13,7 +13,7 @@ put_named-requires c =
     let h = c.args.h in
     let some = some-list h c.requires in
     let answer = c.network-answer.ensures some.0 some.1 in
-    let named = sym answer.answer ∙ c.in-Named.is in
+    let named = sym answer.answer ∙ c.in-Ok.is in
     let few : h.count ≤ 64 = omega (arith, some.1.count, (named-within (zeros 901) (zeros 64) _ _ _ named _ some.0 refl refl).0) in (
       subst Sines (sym answer.room) (named-sines (zeros 901) (zeros 64) _ _ _ named),
       few,
@@ -22,16 +22,16 @@ put_named-requires c =
       c.network-answer.auto.steps,
     )
 
-pub returns-in-Named : goal.returns-in-Named
-returns-in-Named c l k =
+pub returns-in-Ok : goal.returns-in-Ok
+returns-in-Ok c l k =
     let h = c.args.h in
     let answer = c.network-answer.ensures l k in
-    let named = sym answer.answer ∙ c.in-Named.is in
+    let named = sym answer.answer ∙ c.in-Ok.is in
     let few : h.count ≤ 64 = omega (arith, k.count, (named-within (zeros 901) (zeros 64) _ _ _ named _ l refl refl).0) in
     put_as _ _ _ _ _ _
     (named-as (zeros 901) (zeros 64) _ l _ named _ _ _ c.eclipse_from-e.ensures (listed h l k few) answer.told)
     c.put_named.ensures
 
-pub returns-in-Refused : goal.returns-in-Refused
-returns-in-Refused c l k =
-    put_as _ _ _ _ _ _ (refused_text (zeros 901) (zeros 64) _ l _ (sym (c.network-answer.ensures l k).answer ∙ c.in-Refused.is)) c.put_refused.ensures
+pub returns-in-Err : goal.returns-in-Err
+returns-in-Err c l k =
+    put_as _ _ _ _ _ _ (refused_text (zeros 901) (zeros 64) _ l _ (sym (c.network-answer.ensures l k).answer ∙ c.in-Err.is)) c.put_refused.ensures

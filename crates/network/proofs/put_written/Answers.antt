@@ -19,25 +19,25 @@ returns-then-text-gt65536-clause-sent c = (to-error _ _ (long-output _ c.if-text
 abbrev old : List ℤ
 old = replicate 25 (pos 0)
 
-pub returns-in-Network-clause-text : goal.returns-in-Network-clause-text
-returns-in-Network-clause-text c =
-    let g = given-streams c.args.text.now c.if-text-gt65536.false old (sym c.in-Network.is ∙ c.network-reading.ensures.answer_value.0) in
+pub returns-in-Ok-clause-text : goal.returns-in-Ok-clause-text
+returns-in-Ok-clause-text c =
+    let g = given-streams c.args.text.now c.if-text-gt65536.false old (sym c.in-Ok.is ∙ c.network-reading.ensures.answer_value.0) in
     let held = subst (λ (h : Held). Holds h g.list) (sym (c.network-reading.ensures.answer_value.1 ∙ g.stations)) (held-holds g.list) in
     let printed = ap (λ ns. answer_text (zeros 901) (zeros 64) ns g.list) c.network-reading.ensures.out_after ∙ g.printed in
     put_as _ _ _ _ _ _ (to-output _ _ printed g.silent).0 (c.put_answer-printed.ensures g.list held)
 
-pub returns-in-Network-clause-sent : goal.returns-in-Network-clause-sent
-returns-in-Network-clause-sent c =
-    let g = given-streams c.args.text.now c.if-text-gt65536.false old (sym c.in-Network.is ∙ c.network-reading.ensures.answer_value.0) in
+pub returns-in-Ok-clause-sent : goal.returns-in-Ok-clause-sent
+returns-in-Ok-clause-sent c =
+    let g = given-streams c.args.text.now c.if-text-gt65536.false old (sym c.in-Ok.is ∙ c.network-reading.ensures.answer_value.0) in
     let printed = ap (λ ns. answer_text (zeros 901) (zeros 64) ns g.list) c.network-reading.ensures.out_after ∙ g.printed in
     (to-output _ _ printed g.silent).1
 
-pub returns-in-Refused-clause-text : goal.returns-in-Refused-clause-text
-returns-in-Refused-clause-text c =
-    let s = refused-streams _ c.if-text-gt65536.false _ _ (sym c.in-Refused.is ∙ c.network-reading.ensures.answer_value.0) in
+pub returns-in-Err-clause-text : goal.returns-in-Err-clause-text
+returns-in-Err-clause-text c =
+    let s = refused-streams _ c.if-text-gt65536.false _ _ (sym c.in-Err.is ∙ c.network-reading.ensures.answer_value.0) in
     put_as _ _ _ _ _ _ (to-error _ _ s.0 s.1).0 c.put_fault-told.ensures
 
-pub returns-in-Refused-clause-sent : goal.returns-in-Refused-clause-sent
-returns-in-Refused-clause-sent c =
-    let s = refused-streams _ c.if-text-gt65536.false _ _ (sym c.in-Refused.is ∙ c.network-reading.ensures.answer_value.0) in
+pub returns-in-Err-clause-sent : goal.returns-in-Err-clause-sent
+returns-in-Err-clause-sent c =
+    let s = refused-streams _ c.if-text-gt65536.false _ _ (sym c.in-Err.is ∙ c.network-reading.ensures.answer_value.0) in
     (to-error _ _ s.0 s.1).1

@@ -1,13 +1,11 @@
 -- What is printed, part by part.
-use Rattle.std.specs.Prelude.{ℕ, ◌≤◌, ◌<◌, min, List, [], ◌∷◌, ◌++◌, ℤ, pos, length, get_or, take}
+use Rattle.std.specs.Prelude.{ℕ, ◌≤◌, ◌<◌, min, List, [], ◌∷◌, ◌++◌, ℤ, pos, length, get_or, take, Result, Ok, Err}
 use Rattle.std.proofs.Math.Path.{◌≡◌, refl, sym, ap, subst}
 use Rattle.std.proofs.Common.{ap₂, ◌∙◌, append-nil, to_z, of_z, arith, lt-ltb, le-ltb, get_or-take, length-take-le}
 use Rattle.std.specs.Int.{w32}
 use Rattle.sine_table.specs.Table.{Sines}
 use Rattle.sine_table.specs.laws.RoomLaws.{filled-sines}
 use Rattle.sheet_types.specs.declared.refusals.Refusal.{Refusal}
-use Rattle.sheet_types.specs.declared.refusals.Checked.{Checked}
-use Rattle.sheet_types.specs.declared.refusals.Checked.TheVariants as C
 use Rattle.sheet_types.specs.Refusals.{andThen}
 use Rattle.requests.specs.Admission.{sines_after}
 use Rattle.sheet_format.specs.StoredSeconds.{second_of}
@@ -17,7 +15,6 @@ use Rattle.clock_network.specs.Held.{blank_node}
 use Rattle.clock_network.specs.Nodes.{number_of}
 use Rattle.clock_network.specs.declared.checks.Eclipse.{Eclipse}
 use Rattle.clock_network.specs.CheckLaws.{AllWithin, at_most, all-within}
-use Rattle.networks.specs.declared.Answer.TheVariants as A
 use Rattle.networks.specs.Network as network
 use Rattle.clock_network.specs.Checks.{eclipse_of, checked}
 use Rattle.networks.specs.Network.{tos_of, shape_checked, admitted, answer_to, steps_for, sines_for}
@@ -34,7 +31,6 @@ use Rattle.program_io.specs.Outputs.{Sent, to_output, to_error}
 use Rattle.program_io.proofs.laws.InputLaws.{read_same}
 use Rattle.program_io.specs.laws.OutputLaws.{put-cut}
 use Rattle.network_text.specs.declared.Fault.{Fault}
-use Rattle.network_text.specs.declared.Typed.TheVariants as T
 use Rattle.network_text.specs.Typing.{Typing, given, refused, typing_of, answer_of, held, held_from, numbers_from}
 use Rattle.network.specs.Printed.{station_line, station_lines, sun_at, sun_text, to_line, to_text, first_line, named_text, answer_by, answer_text, fault_text, output_by, output, error_by, error}
 
@@ -43,11 +39,6 @@ use Rattle.network.specs.Printed.{station_line, station_lines, sun_at, sun_text,
 -- line k of the first n stations that are held
 abbrev pub line_at : List Node → ℕ → List ℕ → ℕ → List ℕ
 line_at nodes n ss k = station_line (number_of (get_or (take n nodes) k blank_node)) (get_or ss k 0)
-
-pub line-is : (nodes : List Node) (n : ℕ) (ss : List ℕ) (k : ℕ) (z : ℤ) (s : ℕ) → k < n → z ≡ number_of (get_or nodes k blank_node) → s ≡ get_or ss k 0
-    → station_line z s ≡ line_at nodes n ss k
-line-is nodes n ss k z s h e q =
-    ap (λ x. station_line x s) (e ∙ ap number_of (sym (get_or-take n nodes k blank_node h))) ∙ ap (station_line (number_of (get_or (take n nodes) k blank_node))) q
 
 pub lines-all : (nodes : List Node) (n : ℕ) (ss : List ℕ) → n ≤ length nodes → rows (line_at nodes n ss) n ≡ station_lines (take n nodes) ss
 unfolding station_lines
@@ -96,21 +87,21 @@ first_as e nodes tos n named ts h q =
 
 -- ---- a list that has an answer
 
-within : (c d : Checked) → andThen c d ≡ C.Within → (c ≡ C.Within) × (d ≡ C.Within)
-within C.Within d e = (refl, e)
-within (C.Refused r) d e = let z : ◌≡◌ {A = ℕ} 0 1 = cc in absurd (omega arith)
+within : (c d : Result Unit Refusal) → andThen c d ≡ Ok tt → (c ≡ Ok tt) × (d ≡ Ok tt)
+within (Ok tt) d e = (refl, e)
+within (Err r) d e = let z : ◌≡◌ {A = ℕ} 0 1 = cc in absurd (omega arith)
 
 module _ (sines steps : List ℕ) (ns : List ℤ) (l : List Node) (n : ℕ) where
-  module _ (e : answer_to ns l sines steps ≡ A.Named n) where
-    admission : admitted ns l sines steps ≡ C.Within
+  module _ (e : answer_to ns l sines steps ≡ Ok n) where
+    admission : admitted ns l sines steps ≡ Ok tt
     unfolding answer_to
     admission = by (admitted ns l sines steps) e
       where
-        by : (c : Checked) → network.answer_by c (eclipse_of ns) l ≡ A.Named n → c ≡ C.Within
-        by C.Within q = refl
-        by (C.Refused r) q = let z : ◌≡◌ {A = ℕ} 0 1 = cc in absurd (omega arith)
+        by : (c : Result Unit Refusal) → network.answer_by c (eclipse_of ns) l ≡ Ok n → c ≡ Ok tt
+        by (Ok tt) q = refl
+        by (Err r) q = let z : ◌≡◌ {A = ℕ} 0 1 = cc in absurd (omega arith)
 
-    named-checked : checked (eclipse_of ns) l ≡ C.Within
+    named-checked : checked (eclipse_of ns) l ≡ Ok tt
     unfolding admitted
     named-checked =
         let a = within (shape_checked ns steps) _ admission in
@@ -118,7 +109,7 @@ module _ (sines steps : List ℕ) (ns : List ℤ) (l : List Node) (n : ℕ) wher
 
     pub named-sines : Sines (sines_for ns l sines steps)
     unfolding sines_for
-    named-sines = subst (λ (c : Checked). Sines (sines_after c sines)) (sym admission) (filled-sines sines)
+    named-sines = subst (λ (c : Result Unit Refusal). Sines (sines_after c sines)) (sym admission) (filled-sines sines)
 
     named-text : named_text (eclipse_of ns) n (tos_of (eclipse_of ns) l) l (steps_for ns l sines steps) ≡ answer_text sines steps ns l
     unfolding answer_text
@@ -132,7 +123,7 @@ module _ (sines steps : List ℕ) (ns : List ℤ) (l : List Node) (n : ℕ) wher
     pub named-within : (x : Eclipse) (m : List Node) → x ≡ eclipse_of ns → m ≡ l → (length m ≤ 64) × AllWithin x m
     named-within x m p q = rw (p, q) (at_most (eclipse_of ns) l named-checked, all-within (eclipse_of ns) l named-checked)
 
-pub refused_text : (sines steps : List ℕ) (ns : List ℤ) (l : List Node) (r : Refusal) → answer_to ns l sines steps ≡ A.Refused r → refusal_line r.number r.place ≡ answer_text sines steps ns l
+pub refused_text : (sines steps : List ℕ) (ns : List ℤ) (l : List Node) (r : Refusal) → answer_to ns l sines steps ≡ Err r → refusal_line r.number r.place ≡ answer_text sines steps ns l
 unfolding answer_text
 refused_text sines steps ns l r e = ap (λ a. answer_by a (eclipse_of ns) (tos_of (eclipse_of ns) l) l (steps_for ns l sines steps)) (sym e)
 
@@ -157,14 +148,15 @@ module _ (text : List ℕ) where
     unfolding error
     error-is = rw (le-ltb 65536 (length text) short)
 
-    pub refused-streams : (i : ℕ) (f : Fault) → T.Refused i f ≡ answer_of (typing_of text) → ([] ≡ output text) × (fault_text text i f ≡ error text)
+    pub refused-streams : (i : ℕ) (f : Fault) → Err (i, f) ≡ answer_of (typing_of text) → ([] ≡ output text) × (fault_text text i f ≡ error text)
     refused-streams i f e = by (typing_of text) refl e
       where
-        by : (x : Typing) → typing_of text ≡ x → T.Refused i f ≡ answer_of x → ([] ≡ output text) × (fault_text text i f ≡ error text)
+        by : (x : Typing) → typing_of text ≡ x → Err (i, f) ≡ answer_of x → ([] ≡ output text) × (fault_text text i f ≡ error text)
         by (given ns l) q a = let z : ◌≡◌ {A = ℕ} 0 1 = cc in absurd (omega arith)
         by (refused j g) q a =
-            let k : i ≡ j = cc in
-            let h : f ≡ g = cc in
+            let p : ◌≡◌ {A = ℕ × Fault} (i, f) (j, g) = cc in
+            let k : i ≡ j = ap (λ (x : ℕ × Fault). x.0) p in
+            let h : f ≡ g = ap (λ (x : ℕ × Fault). x.1) p in
             (sym (output-is ∙ ap output_by q), sym (error-is ∙ ap (error_by text) q ∙ rw (k, h)))
 
     -- the numbers and the stations that it gives
@@ -174,11 +166,11 @@ module _ (text : List ℕ) where
       pub printed : answer_text (zeros 901) (zeros 64) (numbers_from (typing_of text) old) list ≡ output text
       pub silent : [] ≡ error text
 
-    pub given-streams : (old : List ℤ) → T.Network ≡ answer_of (typing_of text) → Given old
+    pub given-streams : (old : List ℤ) → (Ok tt) ≡ answer_of (typing_of text) → Given old
     unfolding held_from
     given-streams old e = by (typing_of text) refl e
       where
-        by : (x : Typing) → typing_of text ≡ x → T.Network ≡ answer_of x → Given old
+        by : (x : Typing) → typing_of text ≡ x → (Ok tt) ≡ answer_of x → Given old
         by (refused j g) q a = let z : ◌≡◌ {A = ℕ} 0 1 = cc in absurd (omega arith)
         by (given ns l) q a =
             record {

@@ -1,15 +1,27 @@
--- The eclipse's numbers taken out of a request's, one after the other.
-use Rattle.std.specs.Prelude.{ℕ, suc, ◌+◌, ◌-◌, ◌≤◌, ◌<◌, ◌≡◌, Bool, cond, List, [], ◌∷◌, ◌++◌, ℤ, pos, take, set}
-use Rattle.std.proofs.Math.Path.{refl, sym, ap}
-use Rattle.std.proofs.Common.{◌∙◌, length-set, take-suc, take-suc-set, take_all, length-take-le}
+-- The eclipse's numbers taken out of a request's: those before the station's five, and those after them.
+use Rattle.std.specs.Prelude.{◌≡◌, List, [], ◌++◌, ℤ, length, take, drop, ℕ, suc, ◌+◌, ◌-◌, ◌≤◌, ◌<◌, Bool, cond, ◌∷◌, pos, set}
+use Rattle.std.proofs.Common.{ap, ap₂, ◌∙◌, arith, drop-drop, drop_of_length-le, length-append, take_at, length-set, take-suc, take-suc-set, take_all, length-take-le}
+use mathlib.Core.List.{append-nil}
+use Rattle.network_text.specs.Typing.{eclipse_in}
+use Rattle.std.proofs.Math.Path.{refl, sym}
 use Rattle.std.proofs.Math.Bool.{true, false}
-use native.Mathlib.Omega.{arith}
 use borrow.Author.Tests.{lt-ltb, le-ltb, ltb-true, ltb-false}
 use Rattle.std.proofs.Math.Dec.{ltb}
-use Rattle.std.proofs.Math.ListN.{length, get_or, drop, length-append, length-drop, get_or-append}
+use Rattle.std.proofs.Math.ListN.{get_or, length-drop, get_or-append}
 use Rattle.std.proofs.Math.Seq.{get_or-take, get_or-drop, get_or-append-add}
-use Rattle.network_text.specs.Typing.{eclipse_in}
 
+-- both parts stored over 25 numbers
+pub eclipse-parts : (ns front back zeros : List ℤ) → length front ≡ 22 → length zeros ≡ 3 → front ≡ take 22 ns → back ≡ drop 27 ns
+    → take 22 (front ++ zeros) ++ (back ++ drop 3 (drop 22 (front ++ zeros))) ≡ eclipse_in ns
+unfolding eclipse_in
+eclipse-parts ns front back zeros a b p q =
+    let none : drop 3 (drop 22 (front ++ zeros)) ≡ [] =
+    drop-drop 3 22 (front ++ zeros) ∙ drop_of_length-le (front ++ zeros) {i = 25} (omega (arith, length-append front zeros, a, b)) in
+    ap₂ ◌++◌ (take_at front zeros 22 a ∙ p) (ap (λ (l : List ℤ). back ++ l) none ∙ append-nil back ∙ q)
+
+-- ---- one number after the other
+
+-- where the k-th of them stands in the request
 abbrev pub place_of : ℕ → ℕ
 place_of k = cond (ltb k 22) k (k + 5)
 

@@ -1,9 +1,8 @@
 -- What holds of a list that is not refused: each station has exactly one number of steps, 1 to 64, and it is the one
 -- that comes back; 0 past the list (clock_network, Meaning). What is named: SightLaws.
-use Rattle.std.specs.Prelude.{◌≡◌, List, ℕ, ◌≤◌, length}
+use Rattle.std.specs.Prelude.{◌≡◌, List, ℕ, ◌≤◌, length, Ok}
 use Rattle.std.proofs.Common.{sym, subst, arith}
 use Rattle.std.proofs.lemmas.List.{length-map}
-use Rattle.sheet_types.specs.declared.refusals.Checked.TheVariants as C
 use Rattle.clock_network.specs.Defined.{first_lost, steps_of}
 use Rattle.clock_network.specs.laws.DefinedLaws.{first-lost}
 use Rattle.clock_network.specs.laws.Meaning.{Accepted, accepted}
@@ -13,7 +12,7 @@ use Rattle.clock_network.specs.declared.checks.Eclipse.{Eclipse}
 use Rattle.clock_network.specs.Checks.{checked}
 use Rattle.clock_network.specs.CheckLaws.{at_most, once, accepted-14, accepted-16, clocks-accepted}
 
-pub steps-accepted : (e : Eclipse) (l : List Node) → checked e l ≡ C.Within → Accepted (numbers_of l) (clocks_of l) (steps_of (numbers_of l) (clocks_of l))
+pub steps-accepted : (e : Eclipse) (l : List Node) → checked e l ≡ Ok tt → Accepted (numbers_of l) (clocks_of l) (steps_of (numbers_of l) (clocks_of l))
 steps-accepted e l ok =
     let ns = numbers_of l in
     let cs = clocks_of l in

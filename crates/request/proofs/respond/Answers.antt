@@ -6,18 +6,18 @@ use Rattle.request_text.specs.laws.RoomLaws.{bytes-first, message-first}
 use Rattle.request.specs.laws.StreamLaws.{request-fits, request-out, message-out}
 use Rattle.request.proofs.respond.Goals as goal
 
-pub returns-in-Request-clause-text : goal.returns-in-Request-clause-text
-returns-in-Request-clause-text c s q =
-    let b = bytes-first _ _ _ _ _ (sym c.in-Request.is ∙ c.read-answer.ensures.answer) c.read-answer.ensures.bytes in
+pub returns-in-Ok-clause-text : goal.returns-in-Ok-clause-text
+returns-in-Ok-clause-text c s q =
+    let b = bytes-first _ _ _ _ _ (sym c.in-Ok.is ∙ c.read-answer.ensures.answer) c.read-answer.ensures.bytes in
     let w = put_whole _ _ _ _ c.put_text-stored.ensures (omega (arith, request-fits b)) (omega arith) in
     request-out _ _ c.requires.0 (omega arith) s q b _ w.0
 
-pub returns-in-Request-clause-counts : goal.returns-in-Request-clause-counts
-returns-in-Request-clause-counts c =
-    let b = bytes-first _ _ _ _ _ (sym c.in-Request.is ∙ c.read-answer.ensures.answer) c.read-answer.ensures.bytes in
+pub returns-in-Ok-clause-counts : goal.returns-in-Ok-clause-counts
+returns-in-Ok-clause-counts c =
+    let b = bytes-first _ _ _ _ _ (sym c.in-Ok.is ∙ c.read-answer.ensures.answer) c.read-answer.ensures.bytes in
     (put_whole _ _ _ _ c.put_text-stored.ensures (omega (arith, request-fits b)) (omega arith)).1
 
-pub returns-in-Refused-clause-text : goal.returns-in-Refused-clause-text
-returns-in-Refused-clause-text c s q =
-    let m = message-first _ _ _ _ (sym c.in-Refused.is ∙ c.read-answer.ensures.answer) c.read-answer.ensures.message in
+pub returns-in-Err-clause-text : goal.returns-in-Err-clause-text
+returns-in-Err-clause-text c s q =
+    let m = message-first _ _ _ _ (sym c.in-Err.is ∙ c.read-answer.ensures.answer) c.read-answer.ensures.message in
     message-out _ _ c.requires.0 (omega arith) s q m

@@ -1,9 +1,9 @@
 -- What is written of the text that was read is what is written of the whole input, and goes to the output that it is
 -- of.
-use Rattle.std.specs.Prelude.{ℕ, ◌≤◌, ◌≡◌, refl, List, pos, length, take}
+use Rattle.std.specs.Prelude.{ℕ, ◌≤◌, ◌≡◌, refl, List, pos, length, take, Option}
 use Rattle.std.proofs.Common.{sym, ◌∙◌, arith, lt-ltb}
+use Rattle.calendar.specs.declared.Instant.{Instant}
 use Rattle.decimal_text.specs.Texts.{letters}
-use Rattle.calendar.specs.declared.Reference.{Reference}
 use Rattle.request_format.specs.declared.fields.Shape.{Shape}
 use Rattle.request_format.specs.declared.fields.Shape.TheVariants as S
 use Rattle.request_format.specs.Request.{size_for}
@@ -19,7 +19,7 @@ size_le : (shape : Shape) → size_for shape ≤ 115
 size_le S.Eclipse = omega arith
 size_le S.Star = omega arith
 
-pub request-fits : {text : List ℕ} {k : ℕ} {x : Reference} {room : List ℕ} → Bytes text k x room
+pub request-fits : {text : List ℕ} {k : ℕ} {x : Option Instant} {room : List ℕ} → Bytes text k x room
     → length (take k room) ≤ 115
 request-fits b = omega (arith, b.counts, b.size, size_le b.shape)
 
@@ -37,7 +37,7 @@ module _ (array : List ℕ) (n : ℕ) (c : n ≤ length array) (l : length array
       (read_same input array n q meaning_of (refused 0 (letters "the text has more than 65,536 bytes\n"))
       (λ s k. long_meaning s (omega arith)) c)
 
-  pub request-out : {k : ℕ} {x : Reference} {room : List ℕ} → Bytes (take n array) k x room → (text : List ℕ)
+  pub request-out : {k : ℕ} {x : Option Instant} {room : List ℕ} → Bytes (take n array) k x room → (text : List ℕ)
       → text ≡ take k room → Sent (pos 1) text (output_of input) (error_of input)
   request-out b text e = rw (same-meaning ∙ b.is) (to_output refl (e ∙ b.bytes) refl)
 

@@ -1,22 +1,21 @@
 -- Writing and reading by one layout undo each other: what is written is read back (`read_back`), and what is read is
 -- written back (`write_back`).
-use Rattle.std.specs.Prelude.{◌≡◌, refl, Bool, true, false, cond, List, [], ◌∷◌, ◌++◌, ℕ, suc, ◌+◌, ◌≤◌, eqb, leb, ℤ, length, drop}
+use Rattle.std.specs.Prelude.{◌≡◌, refl, Bool, true, false, cond, List, [], ◌∷◌, ◌++◌, ℕ, suc, ◌+◌, ◌≤◌, eqb, leb, ℤ, length, drop, Ok, Err}
 use Rattle.std.proofs.Common.{ap, ◌∙◌, arith, eq-eqb, le-leb, leb-true, eqb-true, length-append, take-append-drop, drop_at}
 use Rattle.request_format.specs.declared.fields.Width.{Width}
 use Rattle.request_format.specs.Fields.{bytes_in, holds}
-use Rattle.request_format.specs.declared.bytes.Answer.TheVariants.{Done, Unfit}
 use Rattle.request_format.specs.Layout.{number_bytes, number_at, Piece, kind, number, count_in, size_of, fitting, bytes_by, Reading, numbers, misshaped, before, read_by}
 use Rattle.big_endian.specs.Numbers.{Bytes}
 use Rattle.request_format.specs.laws.NumberLaws.{bytes_after, length-number, number_back, number-again, number-held}
 
 -- ---- numbers that fit
 
-pub fits_cases : (w : Width) (l : List Piece) (k : ℕ) (z : ℤ) (ns : List ℤ) → fitting (number w ∷ l) k (z ∷ ns) ≡ Done → (holds w z ≡ true)
-    × (fitting l (k + 1) ns ≡ Done)
+pub fits_cases : (w : Width) (l : List Piece) (k : ℕ) (z : ℤ) (ns : List ℤ) → fitting (number w ∷ l) k (z ∷ ns) ≡ Ok tt → (holds w z ≡ true)
+    × (fitting l (k + 1) ns ≡ Ok tt)
 unfolding fitting
 fits_cases w l k z ns e = by (holds w z) e
   where
-    by : (b : Bool) → cond b (fitting l (k + 1) ns) (Unfit k) ≡ Done → (b ≡ true) × (fitting l (k + 1) ns ≡ Done)
+    by : (b : Bool) → cond b (fitting l (k + 1) ns) (Err k) ≡ Ok tt → (b ≡ true) × (fitting l (k + 1) ns ≡ Ok tt)
     by true q = (refl, q)
     by false q = let x : ◌≡◌ {A = ℕ} 0 1 = cc in absurd (omega arith)
 
@@ -30,7 +29,7 @@ length-bytes (number w ∷ l) (z ∷ ns) e =
     length-append (number_bytes w z) (bytes_by l ns) ∙ omega (arith, length-number w z, length-bytes l ns (omega arith))
 
 -- numbers that fit, written, are read back
-pub read_back : (l : List Piece) (k : ℕ) (ns : List ℤ) → length ns ≡ count_in l → fitting l k ns ≡ Done → read_by l (bytes_by l ns) ≡ numbers ns
+pub read_back : (l : List Piece) (k : ℕ) (ns : List ℤ) → length ns ≡ count_in l → fitting l k ns ≡ Ok tt → read_by l (bytes_by l ns) ≡ numbers ns
 unfolding bytes_by read_by fitting
 read_back [] k [] c f = refl
 read_back [] k (z ∷ ns) c f = absurd (omega arith)
@@ -52,7 +51,7 @@ read_back (number w ∷ l) k (z ∷ ns) c f =
 -- they are the bytes of their numbers, which are as many as the layout says, and fit
 pub record Written (l : List Piece) (k : ℕ) (s : List ℕ) (ns : List ℤ) : Type 0 where
   pub count : length ns ≡ count_in l
-  pub fits : fitting l k ns ≡ Done
+  pub fits : fitting l k ns ≡ Ok tt
   pub bytes : bytes_by l ns ≡ s
 
 -- the numbers after a first one

@@ -1,5 +1,5 @@
 -- Laws of the numbers put one after the other (`Putting`).
-use Rattle.std.specs.Prelude.{◌≡◌, true, false, ℕ, zero, suc, ◌+◌, ◌≤◌, ◌<◌, ℤ, pos, length, get_or, drop}
+use Rattle.std.specs.Prelude.{◌≡◌, true, false, ℕ, zero, suc, ◌+◌, ◌≤◌, ◌<◌, ℤ, pos, length, get_or, drop, Result, Ok, Err}
 use Rattle.std.proofs.Math.Path.{sym, ap}
 use Rattle.std.proofs.Common.{◌∙◌, arith, length-append, drop_of_length-le}
 use mathlib.Core.List.{List, ◌++◌, append-nil}
@@ -11,8 +11,6 @@ use Rattle.request_format.specs.declared.fields.Field.{Field}
 use Rattle.request_format.specs.declared.fields.Shape.{Shape}
 use Rattle.request_format.specs.Fields.{bytes_in, holds, countOf}
 use Rattle.request_format.specs.Rows.{rowAt}
-use Rattle.request_format.specs.declared.bytes.Answer.{Answer}
-use Rattle.request_format.specs.declared.bytes.Answer.TheVariants.{Done, Unfit}
 use Rattle.request_format.specs.Layout.{number_bytes, Piece, fitting, bytes_by}
 use Rattle.request_format.specs.laws.NumberLaws.{length-number}
 use Rattle.request_format.specs.laws.LayoutLaws.{length-bytes}
@@ -61,9 +59,9 @@ putting_start s ns made e r =
     }
 
 -- the answer, and the bytes where all fit
-pub record Laid (s : Shape) (ns : List ℤ) (r : Answer) (made : List ℕ) : Type 0 where
+pub record Laid (s : Shape) (ns : List ℤ) (r : Result Unit ℕ) (made : List ℕ) : Type 0 where
   pub answer : r ≡ put_for s ns
-  pub bytes : r ≡ Done → made ≡ bytes_for s ns
+  pub bytes : r ≡ Ok tt → made ≡ bytes_for s ns
 
 module _ (s : Shape) (ns : List ℤ) (made : List ℕ) (at k : ℕ) (e : length ns ≡ countOf s) (p : Putting s ns made at k) where
   module _ (h : k < countOf s) where
@@ -80,7 +78,7 @@ module _ (s : Shape) (ns : List ℤ) (made : List ℕ) (at k : ℕ) (e : length 
     pub putting-room : at + length field ≤ length made
     putting-room = omega (arith, p.place, p.room, ap (λ (l : List ℕ). length l) next, length-append field (left s ns (k + 1)))
 
-    pub putting-unfit : holds (rowAt s k).3 z ≡ false → Laid s ns (Unfit k) made
+    pub putting-unfit : holds (rowAt s k).3 z ≡ false → Laid s ns (Err k) made
     putting-unfit t =
         record { answer = sym (p.fits ∙ fits_next s ns k h (omega arith) ∙ rw t); bytes = λ q. let x : ◌≡◌ {A = ℕ} 0 1 = cc in absurd (omega arith) }
 
@@ -96,7 +94,7 @@ module _ (s : Shape) (ns : List ℤ) (made : List ℕ) (at k : ℕ) (e : length 
           fields = omega arith;
         })
 
-  pub putting-end : countOf s ≤ k → Laid s ns Done made
+  pub putting-end : countOf s ≤ k → Laid s ns (Ok tt) made
   unfolding fitting bytes_by
   putting-end h =
       record {
@@ -106,24 +104,24 @@ module _ (s : Shape) (ns : List ℤ) (made : List ℕ) (at k : ℕ) (e : length 
 
 -- ---- what is promised
 
-module _ (s : Shape) (ns : List ℤ) (r : Answer) (made old : List ℕ) (l : Laid s ns r made) where
-  pub put-done : r ≡ Done → (r ≡ put_for s ns) × (made ≡ after_for s ns old)
+module _ (s : Shape) (ns : List ℤ) (r : Result Unit ℕ) (made old : List ℕ) (l : Laid s ns r made) where
+  pub put-done : r ≡ Ok tt → (r ≡ put_for s ns) × (made ≡ after_for s ns old)
   unfolding after_for
-  put-done e = let q : put_for s ns ≡ Done = sym l.answer ∙ e in (l.answer, l.bytes e ∙ rw q)
+  put-done e = let q : put_for s ns ≡ (Ok tt) = sym l.answer ∙ e in (l.answer, l.bytes e ∙ rw q)
 
-  pub put-unfit : (k : ℕ) → r ≡ Unfit k → (r ≡ put_for s ns) × (old ≡ after_for s ns old)
+  pub put-unfit : (k : ℕ) → r ≡ Err k → (r ≡ put_for s ns) × (old ≡ after_for s ns old)
   unfolding after_for
-  put-unfit k e = let q : put_for s ns ≡ Unfit k = sym l.answer ∙ e in (l.answer, rw q)
+  put-unfit k e = let q : put_for s ns ≡ Err k = sym l.answer ∙ e in (l.answer, rw q)
 
 -- numbers that their bytes hold are put
-pub all_put : (s : Shape) (ns : List ℤ) → length ns ≡ countOf s → ((k : ℕ) → k < countOf s → holds (rowAt s k).3 (get_or ns k (pos 0)) ≡ true) → put_for s ns ≡ Done
+pub all_put : (s : Shape) (ns : List ℤ) → length ns ≡ countOf s → ((k : ℕ) → k < countOf s → holds (rowAt s k).3 (get_or ns k (pos 0)) ≡ true) → put_for s ns ≡ Ok tt
 unfolding put_for fitting
 all_put s ns e h = ap (λ (l : List Piece). fitting l 0 ns) (sym (rest_all s)) ∙ from (countOf s) 0 (omega arith)
   where
-    ends : (k : ℕ) → countOf s ≤ k → fitting (rest s k) k (drop k ns) ≡ Done
+    ends : (k : ℕ) → countOf s ≤ k → fitting (rest s k) k (drop k ns) ≡ Ok tt
     ends k l = ap (λ (x : List Piece). fitting x k (drop k ns)) (rest_end s k l)
 
-    from : (others k : ℕ) → countOf s ≤ k + others → fitting (rest s k) k (drop k ns) ≡ Done
+    from : (others k : ℕ) → countOf s ≤ k + others → fitting (rest s k) k (drop k ns) ≡ Ok tt
     from zero k l = ends k (omega arith)
     from (suc n) k l =
         elim (dec_lt k (countOf s)) [

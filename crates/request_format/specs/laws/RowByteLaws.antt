@@ -1,6 +1,6 @@
 -- Laws of the fields one after the other: those from field k on are field k's bytes, or its number, and those from
 -- field k + 1 on.
-use Rattle.std.specs.Prelude.{◌≡◌, Bool, true, false, cond, ◌&&◌, eqb, ℤ, pos, length, get_or, drop}
+use Rattle.std.specs.Prelude.{◌≡◌, Bool, true, false, cond, ◌&&◌, eqb, ℤ, pos, length, get_or, drop, Err, Option, Some, None, ℕ}
 use Rattle.std.proofs.Math.Path.{refl, sym, ap}
 use Rattle.std.proofs.Common.{◌∙◌, arith, add-zero, add-one, lt-ltb, le-ltb, le-leb, length-drop, drop_of_length-le, drop-cons, drop-drop, get_or-drop}
 use mathlib.Core.List.{List, [], ◌∷◌, ◌++◌, append_assoc}
@@ -14,9 +14,6 @@ use Rattle.request_format.specs.declared.fields.Width.TheVariants as W
 use Rattle.request_format.specs.Fields.{bytes_in, holds, countOf}
 use Rattle.request_format.specs.Rows.{rows, rowAt}
 use Rattle.request_format.specs.laws.RowLaws.{rows_next, rows_end}
-use Rattle.request_format.specs.declared.bytes.Answer.TheVariants.{Unfit}
-use Rattle.request_format.specs.declared.bytes.Part.{Part}
-use Rattle.request_format.specs.declared.bytes.Part.TheVariants as P
 use Rattle.request_format.specs.Layout.{number_bytes, number_at, Piece, kind, number, count_in, fitting, bytes_by, Reading, misshaped, before, read_by}
 use Rattle.request_format.specs.Request.{pieces_for}
 use Rattle.request_format.specs.laws.RowBytes.{begun, pieces_in, rest, kind_bytes, field_bytes, kind_stands, part_from, part_of}
@@ -63,7 +60,7 @@ unfolding fitting
 fits-begun zero l k ns = refl
 fits-begun (suc b) l k ns = refl
 
-fits-number : (w : Width) (l : List Piece) (k : ℕ) (z : ℤ) (ns : List ℤ) → fitting (number w ∷ l) k (z ∷ ns) ≡ cond (holds w z) (fitting l (k + 1) ns) (Unfit k)
+fits-number : (w : Width) (l : List Piece) (k : ℕ) (z : ℤ) (ns : List ℤ) → fitting (number w ∷ l) k (z ∷ ns) ≡ cond (holds w z) (fitting l (k + 1) ns) (Err k)
 unfolding fitting
 fits-number w l k z ns = refl
 
@@ -80,7 +77,7 @@ module _ (s : Shape) (ns : List ℤ) (k : ℕ) (h : k < countOf s) (g : k < leng
       (ap (bytes_by (number (rowAt s k).3 ∷ rest s (k + 1))) (numbers_next ns k g) ∙ bytes-number (rowAt s k).3 (rest s (k + 1)) z (drop (k + 1) ns))
       ∙ sym (append_assoc (kind_bytes (rowAt s k).4) (number_bytes (rowAt s k).3 z) (bytes_by (rest s (k + 1)) (drop (k + 1) ns)))
 
-  pub fits_next : fitting (rest s k) k (drop k ns) ≡ cond (holds (rowAt s k).3 z) (fitting (rest s (k + 1)) (k + 1) (drop (k + 1) ns)) (Unfit k)
+  pub fits_next : fitting (rest s k) k (drop k ns) ≡ cond (holds (rowAt s k).3 z) (fitting (rest s (k + 1)) (k + 1) (drop (k + 1) ns)) (Err k)
   fits_next =
       ap (λ (l : List Piece). fitting l k (drop k ns)) (rest-next s k h)
       ∙ fits-begun (rowAt s k).4 (number (rowAt s k).3 ∷ rest s (k + 1)) k (drop k ns)
@@ -125,9 +122,9 @@ module _ (s : List ℕ) (at : ℕ) where
 -- ---- from bytes
 
 -- a number, and what stands after it
-abbrev pub onward : List Piece → List ℕ → Part → Reading
-onward l s (P.Is z next) = before z (read_by l (drop next s))
-onward l s P.Misshaped = misshaped
+abbrev pub onward : List Piece → List ℕ → Option (ℤ × ℕ) → Reading
+onward l s (Some (z, next)) = before z (read_by l (drop next s))
+onward l s None = misshaped
 
 -- a number of the rest of some bytes is one of the bytes
 number-drop : (w : Width) (s : List ℕ) (at : ℕ) → number_at w (drop at s) 0 ≡ number_at w s at
@@ -157,7 +154,7 @@ unfolding read_by
 read_nothing b l = refl
 
 read-begun : (b : ℕ) (w : Width) (l : List Piece) (s : List ℕ) (at : ℕ) → at ≤ length s
-    → read_by (begun b (number w ∷ l)) (drop at s) ≡ onward l s (cond (kind_stands b s at) (part_from w s (at + length (kind_bytes b))) P.Misshaped)
+    → read_by (begun b (number w ∷ l)) (drop at s) ≡ onward l s (cond (kind_stands b s at) (part_from w s (at + length (kind_bytes b))) None)
 unfolding kind_stands
 read-begun zero w l s at h = rw (add-zero at) (read_number w l s at h)
 read-begun (suc b) w l s at h =
@@ -168,7 +165,7 @@ read-begun (suc b) w l s at h =
     ]
   where
     by : (t : Bool) → at < length s → cond t (read_by (number w ∷ l) (drop (at + 1) s)) misshaped
-        ≡ onward l s (cond (true && t) (part_from w s (at + 1)) P.Misshaped)
+        ≡ onward l s (cond (true && t) (part_from w s (at + 1)) None)
     by true g = read_number w l s (at + 1) (omega arith)
     by false g = refl
 

@@ -1,12 +1,10 @@
 -- The fields of the code's table, one after the other: the bytes of each, and what stands at its place.
-use Rattle.std.specs.Prelude.{Bool, true, cond, ◌&&◌, List, [], ◌∷◌, ◌++◌, ℕ, zero, suc, ◌+◌, ltb, leb, eqb, ℤ, length, get_or, drop}
+use Rattle.std.specs.Prelude.{Bool, true, cond, ◌&&◌, List, [], ◌∷◌, ◌++◌, ℕ, zero, suc, ◌+◌, ltb, leb, eqb, ℤ, length, get_or, drop, Option, Some, None}
 use Rattle.request_format.specs.declared.fields.Field.{Field}
 use Rattle.request_format.specs.declared.fields.Shape.{Shape}
 use Rattle.request_format.specs.declared.fields.Width.{Width}
 use Rattle.request_format.specs.Fields.{bytes_in}
 use Rattle.request_format.specs.Rows.{rows}
-use Rattle.request_format.specs.declared.bytes.Part.{Part}
-use Rattle.request_format.specs.declared.bytes.Part.TheVariants as P
 use Rattle.request_format.specs.Layout.{number_bytes, number_at, Piece, kind, number}
 
 -- a field that begins a record has its kind before it
@@ -38,8 +36,8 @@ kind_stands zero s at = true
 kind_stands (suc k) s at = ltb at (length s) && eqb (get_or s at 0) (suc k)
 
 -- the number whose bytes begin at `start`, and the place after it
-abbrev pub part_from : Width → List ℕ → ℕ → Part
-part_from w s start = cond (leb (start + bytes_in w) (length s)) (P.Is (number_at w s start) (start + bytes_in w)) P.Misshaped
+abbrev pub part_from : Width → List ℕ → ℕ → Option (ℤ × ℕ)
+part_from w s start = cond (leb (start + bytes_in w) (length s)) (Some ((number_at w s start), (start + bytes_in w))) None
 
-unfoldable pub part_of : Field → List ℕ → ℕ → Part
-part_of f s at = cond (kind_stands f.4 s at) (part_from f.3 s (at + length (kind_bytes f.4))) P.Misshaped
+unfoldable pub part_of : Field → List ℕ → ℕ → Option (ℤ × ℕ)
+part_of f s at = cond (kind_stands f.4 s at) (part_from f.3 s (at + length (kind_bytes f.4))) None

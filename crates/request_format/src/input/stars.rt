@@ -4,8 +4,7 @@ ghost use Rattle.request_format.specs.declared.fields.Shape.TheVariants.{Star};
 ghost use Rattle.request_format.specs.Input.{star_from, star_asked, star_delta};
 ghost use Rattle.request_format.specs.laws.InputLaws.{Small};
 
-use super::Asked;
-use requests::StarRequest;
+use requests::{Occultation, StarRequest};
 use sheet_types::refusals::Refusal;
 
 // The request of its numbers.
@@ -26,21 +25,17 @@ fn request_from(n: &[i64]) -> StarRequest
 }
 
 // What the bytes ask for, or refusal 10. Any bytes.
-pub fn asked(input: &[u8]) -> Asked
+pub fn asked(input: &[u8]) -> Result<Occultation, Refusal>
     ensures { result ≡ star_asked input.now }
 {
     let mut numbers = [0i64; crate::fields::STAR_COUNT];
-    let got = crate::bytes::get_star(input, &mut numbers);
-    match got {
-        crate::bytes::Got::Numbers => {
-            let q = request_from(&numbers);
-            Asked::Is(requests::of_star(q))
-        }
-        crate::bytes::Got::Misshaped => Asked::Refused(Refusal {
-            number: 10,
-            place: 0,
-        }),
-    }
+    let misshaped = Refusal {
+        number: 10,
+        place: 0,
+    };
+    crate::bytes::get_star(input, &mut numbers).ok_or(misshaped)?;
+    let q = request_from(&numbers);
+    Ok(requests::of_star(q))
 }
 
 // The ΔT of the bytes' station, in hundredths of a second; 0 where they are misshaped. Any bytes.
@@ -49,10 +44,10 @@ pub fn deltat(input: &[u8]) -> i64
 {
     let wish = asked(input);
     match wish {
-        Asked::Is(o) => {
+        Ok(o) => {
             let s = o.station;
             s.deltat
         }
-        Asked::Refused(_) => 0,
+        Err(_) => 0,
     }
 }

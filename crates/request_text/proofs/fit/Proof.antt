@@ -1,4 +1,5 @@
 -- `request_text::fit` meets its contract: the bytes hold the number, or do not.
+use Rattle.std.specs.Prelude.{Ok, Some}
 use mathlib.Core.Path.{◌≡◌, sym, ap, ◌∙◌}
 use mathlib.Core.Bool.{Bool}
 use borrow.Author.Rules.{rules}
@@ -6,7 +7,6 @@ use mir.Syntax.{w64}
 use mir.Val.{to_z, of_z}
 use Rattle.rounding.specs.laws.Code.{read_result}
 use Rattle.request_format.specs.Fields.{holds}
-use Rattle.request_text.specs.declared.Line.TheVariants as L
 use Rattle.request_text.specs.Lines.{with_sign}
 use Rattle.request_text.specs.laws.LineLaws.{fitted-in, fitted-out}
 use Rattle.request_text.proofs.fit.Statement.{statement}
@@ -25,7 +25,7 @@ returns c = fitted-out _ _ _ _ (tested c.before _ c.if-not-holds.true)
 
 returns-2 : tie.Need-returns
 returns-2 c =
-    ap (L.Given c.args.field) (same c.before.before) ∙ fitted-in _ _ _ _ (tested c.before _ c.if-not-holds.false)
+    ap (λ x. Ok (Some (c.args.field, x))) (same c.before.before) ∙ fitted-in _ _ _ _ (tested c.before _ c.if-not-holds.false)
 
 pub fit_spec : {M : Type 1} → statement M
 fit_spec = tie.close (tie.spec (λ c κs. search rules) (λ c κs. search rules) returns returns-2)

@@ -1,14 +1,13 @@
 -- A line that names the instant or TAI-UTC changes no number: a text gives the same ones, and is of the same shape, as with that
 -- line empty.
-use Rattle.std.specs.Prelude.{◌≡◌, Bool, true, false, cond, List, [], ◌∷◌, map, ℕ, ◌+◌, ℤ, replicate}
+use Rattle.std.specs.Prelude.{◌≡◌, Bool, true, false, cond, List, [], ◌∷◌, map, ℕ, ◌+◌, ℤ, replicate, Ok, None, Result, Option}
 use Rattle.std.proofs.Math.Path.{refl}
 use Rattle.std.proofs.Common.{sym, ap, ◌∙◌, arith}
+use Rattle.request_text.specs.declared.Fault.{Fault}
 use Rattle.request_format.specs.declared.fields.Shape.{Shape}
 use Rattle.request_format.specs.Fields.{countOf}
 use Rattle.request_format.specs.Rows.{letters}
 use Rattle.tokens.specs.Text.{run_of, lines_of}
-use Rattle.request_text.specs.declared.Line.{Line}
-use Rattle.request_text.specs.declared.Line.TheVariants as L
 use Rattle.request_text.specs.Names.{named}
 use Rattle.request_text.specs.Lines.{said, meaning_of, names_clock, number_in}
 use Rattle.request_text.specs.laws.LineLaws.{number-none}
@@ -32,7 +31,7 @@ emptied_not l = by (names_clock l) refl
     by false e = e
 
 module _ (shape : Shape) where
-  empty-line : number_in shape [] ≡ L.Nothing
+  empty-line : number_in shape [] ≡ Ok None
   unfolding number_in meaning_of named run_of
   empty-line = refl
 
@@ -48,7 +47,7 @@ module _ (shape : Shape) where
   lines-emptied (l ∷ ls) i ns marks =
       let m = number_in shape l in
       read-line shape (emptied l) (map emptied ls) i ns marks
-      ∙ ap (λ (x : Line). onward (noted_of x marks) i (read_lines shape (map emptied ls) (i + 1) (numbers_after x marks ns) (marks_after x marks))) (line-emptied l)
+      ∙ ap (λ (x : Result (Option (ℕ × ℤ)) Fault). onward (noted_of x marks) i (read_lines shape (map emptied ls) (i + 1) (numbers_after x marks ns) (marks_after x marks))) (line-emptied l)
       ∙ ap (onward (noted_of m marks) i) (lines-emptied ls (i + 1) (numbers_after m marks ns) (marks_after m marks))
       ∙ sym (read-line shape l ls i ns marks)
 

@@ -1,18 +1,15 @@
 -- The numbers of a typed request fit their bytes, so they are put, and read back.
-use Rattle.std.specs.Prelude.{◌≡◌, refl, List, ◌++◌, ℕ, ◌+◌, ◌≤◌, ℤ, length, take, drop}
+use Rattle.std.specs.Prelude.{◌≡◌, refl, List, ◌++◌, ℕ, ◌+◌, ◌≤◌, ℤ, length, take, drop, Ok, Result, Err}
 use Rattle.std.proofs.Common.{sym, ap, ◌∙◌, arith, take_at}
 use Rattle.std.proofs.lemmas.List.Edits.{sets-eq}
 use Rattle.request_format.specs.declared.fields.Shape.{Shape}
 use Rattle.request_format.specs.declared.fields.Shape.TheVariants as S
-use Rattle.request_format.specs.declared.bytes.Answer.TheVariants.{Done}
 use Rattle.request_format.specs.Layout.{numbers}
 use Rattle.request_format.specs.Request.{size_for, put_for, bytes_for, after_for, reading_for}
 use Rattle.request_format.specs.laws.PutLaws.{all_put}
 use Rattle.request_format.specs.RoundTrip.{bytes-length, read_back}
 use Rattle.request_format.specs.Input.{input_by, input_of, star_by, star_asked}
 use Rattle.request_text.specs.declared.Fault.{Fault}
-use Rattle.request_text.specs.declared.Typed.{Typed}
-use Rattle.request_text.specs.declared.Typed.TheVariants as T
 use Rattle.request_text.specs.Typing.{Typing, given, refused, typing_of, answer_of, numbers_from}
 use Rattle.request_text.specs.laws.FitLaws.{Fit, numbers_fit}
 use Rattle.decimal_text.specs.Texts.{Put}
@@ -24,10 +21,10 @@ put_start x old new r h p =
     let z : 0 + length x ≡ length x = omega arith in p.room ∙ sets-eq x old 0 (omega arith) ∙ ap (λ (k : ℕ). x ++ drop k old) z
 
 module _ (shape : Shape) where
-  typed-done : (ns : List ℤ) → Fit shape ns → put_for shape ns ≡ Done
+  typed-done : (ns : List ℤ) → Fit shape ns → put_for shape ns ≡ Ok tt
   typed-done ns f = all_put shape ns f.all f.each
 
-  after-done : (ns : List ℤ) (old : List ℕ) → put_for shape ns ≡ Done → after_for shape ns old ≡ bytes_for shape ns
+  after-done : (ns : List ℤ) (old : List ℕ) → put_for shape ns ≡ Ok tt → after_for shape ns old ≡ bytes_for shape ns
   unfolding after_for
   after-done ns old e = rw e
 
@@ -56,13 +53,13 @@ pub record Made (shape : Shape) (text made : List ℕ) : Type 0 where
   pub bytes : made ≡ bytes_for shape typed
   pub size : length made ≡ size_for shape
 
-module _ (shape : Shape) (text : List ℕ) (r : Typed) (e : r ≡ answer_of (typing_of shape text)) where
+module _ (shape : Shape) (text : List ℕ) (r : Result Unit (ℕ × Fault)) (e : r ≡ answer_of (typing_of shape text)) where
   -- the numbers of a text that is not refused are put
-  pub made-is : (lent ns : List ℤ) (zeros made : List ℕ) → r ≡ T.Numbers → ns ≡ numbers_from (typing_of shape text) lent → made ≡ after_for shape ns zeros
+  pub made-is : (lent ns : List ℤ) (zeros made : List ℕ) → r ≡ Ok tt → ns ≡ numbers_from (typing_of shape text) lent → made ≡ after_for shape ns zeros
       → Made shape text made
   made-is lent ns zeros made q n m = by (typing_of shape text) refl (sym e ∙ q) n
     where
-      by : (x : Typing) → typing_of shape text ≡ x → answer_of x ≡ T.Numbers → ns ≡ numbers_from x lent → Made shape text made
+      by : (x : Typing) → typing_of shape text ≡ x → answer_of x ≡ Ok tt → ns ≡ numbers_from x lent → Made shape text made
       by (given ms) t a b =
           let f = numbers_fit shape text ms t in
           let is : made ≡ bytes_for shape ms = m ∙ ap (λ (l : List ℤ). after_for shape l zeros) b ∙ after-done shape ms zeros (typed-done shape ms f) in
@@ -83,12 +80,12 @@ module _ (shape : Shape) (text : List ℕ) (r : Typed) (e : r ≡ answer_of (typ
         }
 
     -- a refused text leaves the buffer
-    pub refused-kept : (i : ℕ) (f : Fault) → r ≡ T.Refused i f → Encoded shape text old r old
+    pub refused-kept : (i : ℕ) (f : Fault) → r ≡ Err (i, f) → Encoded shape text old r old
     refused-kept i f q = by (typing_of shape text) refl (sym e ∙ q)
       where
-        by : (x : Typing) → typing_of shape text ≡ x → answer_of x ≡ T.Refused i f → Encoded shape text old r old
+        by : (x : Typing) → typing_of shape text ≡ x → answer_of x ≡ Err (i, f) → Encoded shape text old r old
         by (given ns) p a = let z : ◌≡◌ {A = ℕ} 0 1 = cc in absurd (omega arith)
         by (refused j g) p a = record { answer = e; bytes = rw p; read_as = rw p (read_refused shape j g (take (size_for shape) old)) }
 
-pub encoded_as : (shape s : Shape) (text old : List ℕ) (r : Typed) (new : List ℕ) → shape ≡ s → Encoded s text old r new → Encoded shape text old r new
+pub encoded_as : (shape s : Shape) (text old : List ℕ) (r : Result Unit (ℕ × Fault)) (new : List ℕ) → shape ≡ s → Encoded s text old r new → Encoded shape text old r new
 encoded_as shape s text old r new e p = rw e p

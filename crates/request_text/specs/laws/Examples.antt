@@ -1,8 +1,7 @@
 -- Worked examples of lines and of texts: each is computed.
-use Rattle.std.specs.Prelude.{◌≡◌, refl, List, [], ◌∷◌, map, pos, neg_ℤ}
+use Rattle.std.specs.Prelude.{◌≡◌, refl, List, [], ◌∷◌, map, pos, neg_ℤ, Ok, Some, None, Err}
 use Prim.Native.String.{String}
 use Rattle.request_text.specs.declared.Fault.TheVariants as Fault
-use Rattle.request_text.specs.declared.Line.TheVariants as L
 use Rattle.request_format.specs.declared.fields.Shape.TheVariants as S
 use Rattle.request_format.specs.Fields.{holds}
 use Rattle.request_format.specs.Rows.{letters, rows, rowAt}
@@ -18,23 +17,23 @@ lines =
     ∷ "# a comment" ∷ "" ∷ "y0 0.123456789" ∷ "delta t 29.505" ∷ "height 1e3" ∷ "station -1" ∷ "last 32768" ∷ "guard -1" ∷ "guard 100" ∷ "tan f3 0" ∷ "x00 1" ∷ []
 
 pub meanings : map (λ (l : String). meaning_of S.Eclipse (letters l)) lines
-    ≡ L.Given 0 (neg_ℤ (pos 19869267)) ∷ L.Given 23 (pos 55755000) ∷ L.Given 20 (pos 459878) ∷ L.Given 27 (neg_ℤ (pos 3600)) ∷ L.Given 8 (pos 23193285)
-    ∷ L.Given 26 (neg_ℤ (pos 2950)) ∷ L.Nothing ∷ L.Nothing ∷ L.Faulty (Fault.NotWhole 4) ∷ L.Faulty (Fault.NotWhole 26)
-    ∷ L.Faulty (Fault.NotNumber 25) ∷ L.Faulty (Fault.Unfit 22) ∷ L.Faulty (Fault.Unfit 28)
-    ∷ L.Faulty (Fault.Unfit 29) ∷ L.Given 29 (pos 100)
-    ∷ L.Faulty Fault.Unknown ∷ L.Faulty Fault.Unknown ∷ []
+    ≡ Ok (Some (0, (neg_ℤ (pos 19869267)))) ∷ Ok (Some (23, (pos 55755000))) ∷ Ok (Some (20, (pos 459878))) ∷ Ok (Some (27, (neg_ℤ (pos 3600)))) ∷ Ok (Some (8, (pos 23193285)))
+    ∷ Ok (Some (26, (neg_ℤ (pos 2950)))) ∷ (Ok None) ∷ (Ok None) ∷ Err (Fault.NotWhole 4) ∷ Err (Fault.NotWhole 26)
+    ∷ Err (Fault.NotNumber 25) ∷ Err (Fault.Unfit 22) ∷ Err (Fault.Unfit 28)
+    ∷ Err (Fault.Unfit 29) ∷ Ok (Some (29, (pos 100)))
+    ∷ Err Fault.Unknown ∷ Err Fault.Unknown ∷ []
 unfolding holds rows rowAt run_of lines_of appended is_number is_whole amount names named find_in with_sign fitted value_of of_value of_name meaning_of
 meanings = refl
 
 -- a star's own name, and one that it does not have
 pub star_meanings : map (λ (l : String). meaning_of S.Star (letters l)) ("radius 0.272281" ∷ "mu0 359.144993" ∷ "guard 100" ∷ "d1 0" ∷ [])
-    ≡ L.Given 12 (pos 27228100) ∷ L.Given 9 (pos 359144993) ∷ L.Given 20 (pos 100) ∷ L.Faulty Fault.Unknown ∷ []
+    ≡ Ok (Some (12, (pos 27228100))) ∷ Ok (Some (9, (pos 359144993))) ∷ Ok (Some (20, (pos 100))) ∷ Err Fault.Unknown ∷ []
 unfolding holds rows rowAt run_of lines_of appended is_number is_whole amount names named find_in with_sign fitted value_of of_value of_name meaning_of
 star_meanings = refl
 
 -- a line that names the instant gives no number; a name that only begins so is no name
 pub instant-lines : map (λ (l : String). number_in S.Eclipse (letters l)) ("instant 2017-08-21 18:00:00 ET" ∷ "\tinstant# x" ∷ "instants 1" ∷ "x0 1" ∷ [])
-    ≡ L.Nothing ∷ L.Nothing ∷ L.Faulty Fault.Unknown ∷ L.Given 0 (pos 100000000) ∷ []
+    ≡ (Ok None) ∷ (Ok None) ∷ Err Fault.Unknown ∷ Ok (Some (0, (pos 100000000))) ∷ []
 unfolding holds rows rowAt run_of lines_of appended is_number is_whole amount names named find_in with_sign fitted value_of of_value of_name meaning_of number_in
 instant-lines = refl
 

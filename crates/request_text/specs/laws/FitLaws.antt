@@ -1,18 +1,15 @@
 -- The numbers of a typed request fit their bytes.
-use Rattle.std.specs.Prelude.{◌≡◌, refl, Bool, true, false, cond, List, [], ◌∷◌, ℕ, ◌+◌, ◌<◌, eqb, ℤ, pos, length, get_or, set, take, replicate}
+use Rattle.std.specs.Prelude.{◌≡◌, refl, Bool, true, false, cond, List, [], ◌∷◌, ℕ, ◌+◌, ◌<◌, eqb, ℤ, pos, length, get_or, set, take, replicate, Result, Ok, None, Err, Some, Option}
 use Rattle.std.proofs.Common.{sym, subst, ◌∙◌, arith, length-set, get_or-set_same, get_or-set_other}
 use Rattle.std.proofs.Math.Decide.{dec_lt}
 use Rattle.std.proofs.lemmas.List.{length-replicate, get_or-replicate}
+use Rattle.request_text.specs.declared.Fault.{Fault}
 use Rattle.request_format.specs.declared.fields.Shape.{Shape}
 use Rattle.request_format.specs.declared.fields.Shape.TheVariants as S
 use Rattle.request_format.specs.Fields.{holds, countOf}
 use Rattle.request_format.specs.Rows.{rows, rowAt, width_of}
 use Rattle.request_format.specs.laws.WidthLaws.{held_zero}
 use Rattle.tokens.specs.Text.{lines_of}
-use Rattle.request_text.specs.declared.Line.{Line}
-use Rattle.request_text.specs.declared.Line.TheVariants as L
-use Rattle.request_text.specs.declared.Noted.{Noted}
-use Rattle.request_text.specs.declared.Noted.TheVariants as N
 use Rattle.request_text.specs.Lines.{said, number_in}
 use Rattle.request_text.specs.laws.LineLaws.{InFields, number-in}
 use Rattle.request_text.specs.Typing.{noted_of, marks_after, numbers_after, missing, Typing, given, onward, required, untyped, read_lines, typing_of}
@@ -38,19 +35,19 @@ fit_set shape ns k z f l b = record { all = length-set ns k z ∙ f.all; each = 
           ]
         ]
 
-fit_line : (shape : Shape) (s : List ℕ) (line : Line) (marks : List ℕ) (ns : List ℤ) → InFields shape s line → Fit shape ns → Fit shape (numbers_after line marks ns)
-fit_line shape s L.Nothing marks ns i f = f
-fit_line shape s (L.Faulty x) marks ns i f = f
-fit_line shape s (L.Given k z) marks ns i f = by (eqb (get_or marks k 0) 0)
+fit_line : (shape : Shape) (s : List ℕ) (line : Result (Option (ℕ × ℤ)) Fault) (marks : List ℕ) (ns : List ℤ) → InFields shape s line → Fit shape ns → Fit shape (numbers_after line marks ns)
+fit_line shape s (Ok None) marks ns i f = f
+fit_line shape s (Err x) marks ns i f = f
+fit_line shape s (Ok (Some (k, z))) marks ns i f = by (eqb (get_or marks k 0) 0)
   where
     by : (b : Bool) → Fit shape (cond b (set ns k z) ns)
     by true = fit_set shape ns k z f i.0 i.2
     by false = f
 
 -- a reading that gives numbers went on
-pub onward-taken : (m : Noted) (i : ℕ) (r : Typing) (ns : List ℤ) → onward m i r ≡ given ns → r ≡ given ns
-onward-taken N.Taken i r ns e = e
-onward-taken (N.Refused f) i r ns e = let z : ◌≡◌ {A = ℕ} 0 1 = cc in absurd (omega arith)
+pub onward-taken : (m : Result Unit Fault) (i : ℕ) (r : Typing) (ns : List ℤ) → onward m i r ≡ given ns → r ≡ given ns
+onward-taken (Ok tt) i r ns e = e
+onward-taken (Err f) i r ns e = let z : ◌≡◌ {A = ℕ} 0 1 = cc in absurd (omega arith)
 
 same_numbers : (a b : List ℤ) → given a ≡ given b → a ≡ b
 same_numbers a b e = cc

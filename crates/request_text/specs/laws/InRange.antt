@@ -1,7 +1,8 @@
 -- Every instant that is read is a day of the calendar and a time of that day.
-use Rattle.std.specs.Prelude.{◌≡◌, refl, Bool, true, false, cond, ◌&&◌, ◌||◌, List, [], ◌∷◌, ℕ, zero, suc, ◌+◌, ◌≤◌, leb, eqb, ltb, get_or}
+use Rattle.std.specs.Prelude.{◌≡◌, refl, Bool, true, false, cond, ◌&&◌, ◌||◌, List, [], ◌∷◌, ℕ, zero, suc, ◌+◌, ◌≤◌, leb, eqb, ltb, get_or, Option, None, Some, Result, Err, Ok, Option}
 use Rattle.std.proofs.Common.{subst, arith, leb-true, ltb-false}
 use Rattle.std.proofs.lemmas.Bool.{eqb-false}
+use Rattle.request_text.specs.declared.instants.Wrong.{Wrong}
 use Rattle.request_format.specs.Rows.{letters}
 use Rattle.tokens.specs.declared.Class.TheVariants as C
 use Rattle.tokens.specs.Text.{is_in, all_of, lines_of}
@@ -9,19 +10,10 @@ use Rattle.request_text.specs.Lines.{word_in, after_word, names_instant, names_o
 use Rattle.calendar.specs.declared.Scale.{Scale}
 use Rattle.calendar.specs.declared.Scale.TheVariants as S
 use Rattle.calendar.specs.declared.Instant.{Instant}
-use Rattle.request_text.specs.declared.instants.Reading.{Reading}
-use Rattle.request_text.specs.declared.instants.Reading.TheVariants as R
-use Rattle.calendar.specs.declared.Reference.{Reference}
-use Rattle.calendar.specs.declared.Reference.TheVariants as Ref
-use Rattle.request_text.specs.declared.instants.Told.{Told}
-use Rattle.request_text.specs.declared.instants.Told.TheVariants as T
 use Rattle.request_text.specs.Forms.{fits, has_form, digit_at, two_at}
 use Rattle.rounding.specs.laws.Tests.{both}
 use Rattle.calendar.specs.Calendar.{days_in, is_day}
 use Rattle.request_text.specs.Instants.{year_of, is_date, time_form, is_time, hundredths_of, instant_at, in_scale, scaled, timed, instant_of, seconds_in}
-use Rattle.request_text.specs.declared.instants.Offset.{Offset}
-use Rattle.request_text.specs.declared.instants.Offset.TheVariants as O
-use Rattle.request_text.specs.declared.instants.Wrong.TheVariants as Wrong
 use Rattle.request_text.specs.Told.{over_lines, after_name, taken, told_after, instant_in, offset_taken, offset_after, offset_in, with_offset, told_in}
 
 pub record InRange (x : Instant) : Type 0 where
@@ -94,16 +86,16 @@ date_range w time scale d t =
 -- ---- the words, and a text
 
 -- what is read is reported
-abbrev ReadInRange : Reading → Type 0
-ReadInRange R.Malformed = Unit {0}
-ReadInRange (R.Is x) = InRange x
+abbrev ReadInRange : Option Instant → Type 0
+ReadInRange None = Unit {0}
+ReadInRange (Some x) = InRange x
 
-abbrev ToldInRange : Told → Type 0
-ToldInRange (T.Refused i wrong) = Unit {0}
-ToldInRange (T.Is Ref.Nothing) = Unit {0}
-ToldInRange (T.Is (Ref.At x)) = InRange x
+abbrev ToldInRange : Result (Option Instant) (ℕ × Wrong) → Type 0
+ToldInRange (Err (i, wrong)) = Unit {0}
+ToldInRange (Ok None) = Unit {0}
+ToldInRange (Ok (Some x)) = InRange x
 
-either : (b : Bool) (r : Reading) → (b ≡ true → ReadInRange r) → ReadInRange (cond b r R.Malformed)
+either : (b : Bool) (r : Option Instant) → (b ≡ true → ReadInRange r) → ReadInRange (cond b r None)
 either true r h = h refl
 either false r h = tt
 
@@ -112,7 +104,7 @@ unfolding in_scale
 scale_range date time w d t = by (has_form (letters "ET") w) (has_form (letters "UT") w)
   where
     by : (e u : Bool)
-        → ReadInRange (cond e (R.Is (instant_at date time S.Ephemeris)) (cond u (R.Is (instant_at date time S.Universal)) R.Malformed))
+        → ReadInRange (cond e (Some (instant_at date time S.Ephemeris)) (cond u (Some (instant_at date time S.Universal)) None))
     by true u = date_range date time S.Ephemeris d t
     by false true = date_range date time S.Universal d t
     by false false = tt
@@ -126,19 +118,19 @@ words_range s =
     (λ t. either (all_of C.Blank (after_word (after_word r))) (in_scale (word_in s) (word_in r) (word_in (after_word r)))
     (λ b. scale_range (word_in s) (word_in r) (word_in (after_word r)) d t)))
 
-pub read_in_range : (s : List ℕ) (x : Instant) → instant_of s ≡ R.Is x → InRange x
+pub read_in_range : (s : List ℕ) (x : Instant) → instant_of s ≡ Some x → InRange x
 read_in_range s x e = subst ReadInRange e (words_range s)
 
-taken_range : (i : ℕ) (r : Reading) (old : Reference) → ReadInRange r → ToldInRange (taken i r old)
-taken_range i R.Malformed old h = tt
-taken_range i (R.Is x) Ref.Nothing h = h
-taken_range i (R.Is x) (Ref.At y) h = tt
+taken_range : (i : ℕ) (r : Option Instant) (old : Option Instant) → ReadInRange r → ToldInRange (taken i r old)
+taken_range i None old h = tt
+taken_range i (Some x) None h = h
+taken_range i (Some x) (Some y) h = tt
 
-line_range : (i : ℕ) (l : List ℕ) (told : Told) → ToldInRange told → ToldInRange (told_after i l told)
-line_range i l (T.Refused j wrong) h = tt
-line_range i l (T.Is old) h = by (names_instant l)
+line_range : (i : ℕ) (l : List ℕ) (told : Result (Option Instant) (ℕ × Wrong)) → ToldInRange told → ToldInRange (told_after i l told)
+line_range i l (Err (j, wrong)) h = tt
+line_range i l (Ok old) h = by (names_instant l)
   where
-    by : (b : Bool) → ToldInRange (cond b (taken i (instant_of (after_name l)) old) (T.Is old))
+    by : (b : Bool) → ToldInRange (cond b (taken i (instant_of (after_name l)) old) (Ok old))
     by true = taken_range i (instant_of (after_name l)) old (words_range (after_name l))
     by false = h
 
@@ -151,10 +143,10 @@ all_keep A P step keep (l ∷ ls) i told h = all_keep A P step keep ls (i + 1) (
 
 -- ---- TAI less UTC
 
-abbrev OffsetInRange : Offset → Type 0
-OffsetInRange O.None = Unit {0}
-OffsetInRange (O.Is i n) = (10 ≤ n) × (n ≤ 99)
-OffsetInRange (O.Refused i wrong) = Unit {0}
+abbrev OffsetInRange : Result (Option (ℕ × ℕ)) (ℕ × Wrong) → Type 0
+OffsetInRange (Ok None) = Unit {0}
+OffsetInRange (Ok (Some (i, n))) = (10 ≤ n) × (n ≤ 99)
+OffsetInRange (Err (i, wrong)) = Unit {0}
 
 seconds_range : (s : List ℕ) → (seconds_in s ≡ 0 → ⊥) → (10 ≤ seconds_in s) × (seconds_in s ≤ 99)
 unfolding seconds_in
@@ -171,24 +163,24 @@ seconds_range s h = by (all_of C.Blank (after_word s) && has_form (letters "00")
         (leb-true 10 n t.1, two_le (letters "00") (word_in s) 0 f.1 refl refl)
     by false e h = absurd (h refl)
 
-offset-range : (i : ℕ) (l : List ℕ) (old : Offset) → OffsetInRange old → OffsetInRange (offset_after i l old)
+offset-range : (i : ℕ) (l : List ℕ) (old : Result (Option (ℕ × ℕ)) (ℕ × Wrong)) → OffsetInRange old → OffsetInRange (offset_after i l old)
 offset-range i l old h = by (names_offset l)
   where
     n : ℕ
     n = seconds_in (after_name l)
 
-    first : (b : Bool) → eqb n 0 ≡ b → OffsetInRange (cond b (O.Refused i Wrong.NotSeconds) (O.Is i n))
+    first : (b : Bool) → eqb n 0 ≡ b → OffsetInRange (cond b (Err (i, Wrong.NotSeconds)) (Ok (Some (i, n))))
     first true e = tt
     first false e = seconds_range (after_name l) (eqb-false n 0 e)
 
-    second : (b : Bool) → OffsetInRange (cond b (O.Refused i Wrong.NotSeconds) (O.Refused i Wrong.OffsetTwice))
+    second : (b : Bool) → OffsetInRange (cond b (Err (i, Wrong.NotSeconds)) (Err (i, Wrong.OffsetTwice)))
     second true = tt
     second false = tt
 
-    given : (old : Offset) → OffsetInRange (offset_taken i n old)
-    given O.None = first (eqb n 0) refl
-    given (O.Is j m) = second (eqb n 0)
-    given (O.Refused j wrong) = tt
+    given : (old : Result (Option (ℕ × ℕ)) (ℕ × Wrong)) → OffsetInRange (offset_taken i n old)
+    given (Ok None) = first (eqb n 0) refl
+    given (Ok (Some (j, m))) = second (eqb n 0)
+    given (Err (j, wrong)) = tt
 
     by : (b : Bool) → OffsetInRange (cond b (offset_taken i n old) old)
     by true = given old
@@ -196,15 +188,15 @@ offset-range i l old h = by (names_offset l)
 
 -- ---- both
 
-with_range : (told : Told) (offset : Offset) → ToldInRange told → OffsetInRange offset → ToldInRange (with_offset told offset)
-with_range told O.None h g = h
-with_range (T.Is Ref.Nothing) (O.Is i n) h g = tt
-with_range (T.Is (Ref.At x)) (O.Is i n) h g = by (ltb x.year 1972) refl
+with_range : (told : Result (Option Instant) (ℕ × Wrong)) (offset : Result (Option (ℕ × ℕ)) (ℕ × Wrong)) → ToldInRange told → OffsetInRange offset → ToldInRange (with_offset told offset)
+with_range told (Ok None) h g = h
+with_range (Ok None) (Ok (Some (i, n))) h g = tt
+with_range (Ok (Some x)) (Ok (Some (i, n))) h g = by (ltb x.year 1972) refl
   where
     used : Instant
     used = record { year = x.year; month = x.month; day = x.day; hundredths = x.hundredths; scale = x.scale; offset = n }
 
-    by : (b : Bool) → ltb x.year 1972 ≡ b → ToldInRange (cond b (T.Refused i Wrong.NeedsInstant) (T.Is (Ref.At used)))
+    by : (b : Bool) → ltb x.year 1972 ≡ b → ToldInRange (cond b (Err (i, Wrong.NeedsInstant)) (Ok (Some used)))
     by true e = tt
     by false e =
         record {
@@ -214,18 +206,18 @@ with_range (T.Is (Ref.At x)) (O.Is i n) h g = by (ltb x.year 1972) refl
           hundredths = h.hundredths;
           offset = λ k. (g.0, g.1, ltb-false x.year 1972 e);
         }
-with_range (T.Refused j wrong) (O.Is i n) h g = tt
-with_range (T.Is x) (O.Refused i wrong) h g = tt
-with_range (T.Refused j other) (O.Refused i wrong) h g = by (ltb i j)
+with_range (Err (j, wrong)) (Ok (Some (i, n))) h g = tt
+with_range (Ok x) (Err (i, wrong)) h g = tt
+with_range (Err (j, other)) (Err (i, wrong)) h g = by (ltb i j)
   where
-    by : (b : Bool) → ToldInRange (cond b (T.Refused i wrong) (T.Refused j other))
+    by : (b : Bool) → ToldInRange (cond b (Err (i, wrong)) (Err (j, other)))
     by true = tt
     by false = tt
 
-pub told_in_range : (text : List ℕ) (x : Instant) → told_in text ≡ T.Is (Ref.At x) → InRange x
+pub told_in_range : (text : List ℕ) (x : Instant) → told_in text ≡ Ok (Some x) → InRange x
 unfolding told_in
 told_in_range text x e =
     subst ToldInRange e
     (with_range (instant_in text) (offset_in text)
-    (all_keep Told ToldInRange told_after line_range (lines_of text) 1 (T.Is Ref.Nothing) tt)
-    (all_keep Offset OffsetInRange offset_after offset-range (lines_of text) 1 O.None tt))
+    (all_keep (Result (Option Instant) (ℕ × Wrong)) ToldInRange told_after line_range (lines_of text) 1 (Ok None) tt)
+    (all_keep (Result (Option (ℕ × ℕ)) (ℕ × Wrong)) OffsetInRange offset_after offset-range (lines_of text) 1 (Ok None) tt))

@@ -7,7 +7,6 @@ use Rattle.request_format.specs.Fields.{countOf}
 use Rattle.request_format.specs.Rows.{rows, rowAt, name_of, none}
 use Rattle.request_format.specs.laws.RowLaws.{rows-count}
 use Rattle.request_text.specs.declared.Fault.{Fault}
-use Rattle.request_text.specs.declared.Fault.TheVariants as Fault
 use Rattle.decimal_text.specs.Decimals.{decimal}
 use Rattle.decimal_text.specs.Texts.{letters, Put}
 use Rattle.decimal_text.specs.laws.TextLaws.{put_then}

@@ -8,7 +8,6 @@ use Rattle.request_format.specs.Rows.{rows, rowAt, name_of, none}
 use Rattle.tokens.specs.declared.Class.TheVariants as C
 use Rattle.tokens.specs.Text.{run_of, is_in, before, lines_of}
 use Rattle.request_text.specs.declared.Fault.{Fault}
-use Rattle.request_text.specs.declared.Fault.TheVariants as Fault
 use Rattle.request_text.specs.Lines.{content, said}
 use Rattle.decimal_text.specs.Decimals.{decimal}
 use Rattle.decimal_text.specs.laws.DecimalLaws.{decimal_64}

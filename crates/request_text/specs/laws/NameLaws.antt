@@ -1,11 +1,13 @@
 -- Laws of names.
-use Rattle.std.specs.Prelude.{◌≡◌, refl, Bool, true, false, ℕ, suc, ◌+◌, ◌-◌, ◌≤◌, ◌<◌, eqb, length, get_or, drop}
+use Rattle.std.specs.Prelude.{◌≡◌, refl, Bool, true, false, ◌&&◌, ℕ, suc, ◌+◌, ◌-◌, ◌≤◌, ◌<◌, eqb, length, get_or, take, drop, Some, None}
+use lib.Pointwise.{pointwise}
 use Rattle.std.proofs.Common.{sym, ◌∙◌, eq-eqb, ne_eqb}
 use Rattle.std.proofs.Math.Path.{ap}
 use mathlib.Core.List.{List, [], ◌∷◌, map}
 use native.Mathlib.Omega.{arith}
 use Rattle.std.proofs.lemmas.List.{length-map}
 use Rattle.rounding.specs.laws.Tests.{both}
+use Rattle.rounding.specs.laws.Results.{some_parts}
 use Rattle.request_format.specs.declared.fields.Field.{Field}
 use Rattle.request_format.specs.declared.fields.Shape.{Shape}
 use Rattle.request_format.specs.Fields.{Number, layout_of, numbers_of, countOf}
@@ -13,13 +15,45 @@ use Rattle.request_format.specs.Rows.{letters, rows, rowAt, name_of}
 use Rattle.request_format.specs.laws.RowLaws.{rows_next, rows_end, names_are}
 use Rattle.tokens.specs.declared.Class.TheVariants as C
 use Rattle.tokens.specs.Text.{is_in}
-use Rattle.tokens.specs.laws.TextLaws.{from_here, from_end}
-use Rattle.request_text.specs.declared.Found.TheVariants as F
 use Rattle.request_text.specs.Names.{named, names, find_in}
+use Rattle.tokens.specs.laws.TextLaws.{from_here, from_end}
 
 -- ---- one name
 
--- the first i letters are those of the name
+-- a blank or nothing follows
+abbrev pub ended : List ℕ → Bool
+ended [] = true
+ended (x ∷ s) = is_in C.Blank x
+
+pub ended-none : (s : List ℕ) → length s ≡ 0 → true ≡ ended s
+ended-none [] e = refl
+ended-none (x ∷ s) e = absurd (omega arith)
+
+pub ended-some : (s : List ℕ) → 1 ≤ length s → is_in C.Blank (get_or s 0 0) ≡ ended s
+ended-some [] h = absurd (omega arith)
+ended-some (x ∷ s) h = refl
+
+both_by : (a b c : Bool) → (a && (b && c)) ≡ ((a && b) && c)
+both_by true b c = refl
+both_by false b c = refl
+
+-- what is said begins with the name, and a blank or nothing follows
+pub named-by : (name said : List ℕ) → named name said ≡ (pointwise eqb (take (length name) said) name && ended (drop (length name) said))
+unfolding named
+named-by [] [] = refl
+named-by [] (x ∷ s) = refl
+named-by (n ∷ ns) [] = refl
+named-by (n ∷ ns) (x ∷ s) = ap (λ (b : Bool). eqb x n && b) (named-by ns s) ∙ both_by (eqb x n) _ _
+
+module _ (name said : List ℕ) where
+  pub named-other : pointwise eqb (take (length name) said) name ≡ false → false ≡ named name said
+  named-other e = sym (named-by name said ∙ rw e)
+
+  module _ (rest : List ℕ) (e : pointwise eqb (take (length name) said) name ≡ true) (r : rest ≡ drop (length name) said) where
+    pub named-ended : (b : Bool) → b ≡ ended rest → b ≡ named name said
+    named-ended b q = q ∙ ap ended r ∙ sym (named-by name said ∙ rw e)
+
+-- letter by letter: the first i letters are those of the name
 abbrev pub Named : List ℕ → List ℕ → ℕ → Type 0
 Named name said i = (named name said ≡ named (drop i name) (drop i said)) × (i ≤ length name) × (i ≤ length said)
 
@@ -72,7 +106,7 @@ named-length (n ∷ ns) (x ∷ s) e = let h = named-length ns s (both (eqb x n) 
 
 -- ---- a list of names
 
-find_hit : (n : List ℕ) (ns : List (List ℕ)) (k : ℕ) (said : List ℕ) → named n said ≡ true → find_in (n ∷ ns) k said ≡ F.At k (length n)
+find_hit : (n : List ℕ) (ns : List (List ℕ)) (k : ℕ) (said : List ℕ) → named n said ≡ true → find_in (n ∷ ns) k said ≡ Some (k, (length n))
 unfolding find_in
 find_hit n ns k said e = rw e
 
@@ -80,7 +114,7 @@ pub find_miss : (n : List ℕ) (ns : List (List ℕ)) (k : ℕ) (said : List ℕ
 unfolding find_in
 find_miss n ns k said e = rw e
 
-pub find_none : (k : ℕ) (said : List ℕ) → find_in [] k said ≡ F.Nowhere
+pub find_none : (k : ℕ) (said : List ℕ) → find_in [] k said ≡ None
 unfolding find_in
 find_none k said = refl
 
@@ -95,15 +129,15 @@ module _ (shape : Shape) (said : List ℕ) where
   finding-start = record { others = ap (λ (l : List (List ℕ)). find_in l 0 said) (sym (names_are shape)); fields = omega arith }
 
   module _ (k : ℕ) (f : Finding shape said k) where
-    pub finding-none : countOf shape ≤ k → F.Nowhere ≡ find_in (names shape) 0 said
+    pub finding-none : countOf shape ≤ k → None ≡ find_in (names shape) 0 said
     finding-none h = sym (f.others ∙ ap (λ (l : List Field). find_in (map name_of l) k said) (rows_end shape k h) ∙ find_none k said)
 
     module _ (h : k < countOf shape) where
       here : find_in (names shape) 0 said ≡ find_in (name_of (rowAt shape k) ∷ map name_of (drop (k + 1) (rows shape))) k said
       here = f.others ∙ ap (λ (l : List Field). find_in (map name_of l) k said) (rows_next shape k h)
 
-      pub finding-hit : (n : ℕ) → length (name_of (rowAt shape k)) ≡ n → named (name_of (rowAt shape k)) said ≡ true → F.At k n ≡ find_in (names shape) 0 said
-      finding-hit n e y = sym (here ∙ find_hit (name_of (rowAt shape k)) (map name_of (drop (k + 1) (rows shape))) k said y ∙ ap (F.At k) e)
+      pub finding-hit : (n : ℕ) → length (name_of (rowAt shape k)) ≡ n → named (name_of (rowAt shape k)) said ≡ true → Some (k, n) ≡ find_in (names shape) 0 said
+      finding-hit n e y = sym (here ∙ find_hit (name_of (rowAt shape k)) (map name_of (drop (k + 1) (rows shape))) k said y ∙ ap (λ m. Some (k, m)) e)
 
       pub finding-more : named (name_of (rowAt shape k)) said ≡ false → Finding shape said (k + 1)
       finding-more y = record { others = here ∙ find_miss (name_of (rowAt shape k)) (map name_of (drop (k + 1) (rows shape))) k said y; fields = omega arith }
@@ -115,15 +149,15 @@ record Hit (ns : List (List ℕ)) (j : ℕ) (said : List ℕ) (k n : ℕ) : Type
   told : named (get_or ns (k - j) []) said ≡ true
   short : n ≤ length said
 
-find_at : (ns : List (List ℕ)) (j : ℕ) (said : List ℕ) (k n : ℕ) → find_in ns j said ≡ F.At k n → Hit ns j said k n
+find_at : (ns : List (List ℕ)) (j : ℕ) (said : List ℕ) (k n : ℕ) → find_in ns j said ≡ Some (k, n) → Hit ns j said k n
 find_at [] j said k n e = let t = find_none j said in let z : ◌≡◌ {A = ℕ} 0 1 = cc in absurd (omega arith)
 find_at (m ∷ ms) j said k n e = by (named m said) refl (λ q. find_at ms (j + 1) said k n q)
   where
-    by : (b : Bool) → named m said ≡ b → (find_in ms (j + 1) said ≡ F.At k n → Hit ms (j + 1) said k n) → Hit (m ∷ ms) j said k n
+    by : (b : Bool) → named m said ≡ b → (find_in ms (j + 1) said ≡ Some (k, n) → Hit ms (j + 1) said k n) → Hit (m ∷ ms) j said k n
     by true y go =
-        let t = find_hit m ms j said y in
-        let a : k ≡ j = cc in
-        let b : n ≡ length m = cc in
+        let t = some_parts (sym (find_hit m ms j said y) ∙ e) in
+        let a : k ≡ j = sym t.0 in
+        let b : n ≡ length m = sym t.1 in
         let c : k - j ≡ 0 = omega arith in
         record { low = omega arith; high = omega arith; told = rw c y; short = omega (arith, named-length m said y) }
     by false y go =
@@ -131,7 +165,7 @@ find_at (m ∷ ms) j said k n e = by (named m said) refl (λ q. find_at ms (j + 
         let c : k - j ≡ suc (k - (j + 1)) = omega (arith, t.low) in
         record { low = omega (arith, t.low); high = omega (arith, t.high); told = rw c t.told; short = t.short }
 
-pub found_at : (shape : Shape) (said : List ℕ) (k n : ℕ) → find_in (names shape) 0 said ≡ F.At k n
+pub found_at : (shape : Shape) (said : List ℕ) (k n : ℕ) → find_in (names shape) 0 said ≡ Some (k, n)
     → (k < countOf shape) × (n ≤ length said) × (named (get_or (names shape) k []) said ≡ true)
 unfolding names
 found_at shape said k n e =

@@ -1,11 +1,29 @@
 -- Laws of the word that a message names: the line that it stands in, and its place there.
-use Rattle.std.specs.Prelude.{ℕ, suc, ◌+◌, ◌-◌, ◌≤◌, ◌<◌, ◌≡◌, refl, List, [], ◌∷◌, length, get_or, take, drop}
-use Rattle.std.proofs.Common.{ap, ◌∙◌, arith}
+use Rattle.std.specs.Prelude.{ℕ, zero, suc, ◌-◌, ◌≡◌, refl, List, [], ◌∷◌, get_or, take, Option, None, Some, unwrap_or, slice_get, ◌+◌, ◌≤◌, ◌<◌, length, drop}
+use Rattle.std.specs.Option.{option_map}
+use Rattle.std.proofs.Common.{ap, ◌∙◌, Bor, arith}
 use Rattle.tokens.specs.declared.Class.TheVariants as C
 use Rattle.tokens.specs.Text.{run_of, lines_of}
-use Rattle.tokens.specs.laws.TextLaws.{line-next, lines_end, line_at}
 use Rattle.request_text.specs.Lines.{said}
 use Rattle.request_text.specs.Messages.{line_of, word_of}
+use Rattle.tokens.specs.laws.TextLaws.{line-next, lines_end, line_at}
+
+-- ---- a line by its number
+
+nth-get : (ls : List (List ℕ)) (k : ℕ) → unwrap_or (slice_get ls k) [] ≡ get_or ls k []
+nth-get [] k = refl
+nth-get (l ∷ ls) zero = refl
+nth-get (l ∷ ls) (suc k) = nth-get ls k
+
+or-none : (r : Option (Bor (List ℕ))) (d : Bor (List ℕ)) → d.now ≡ [] → (unwrap_or r d).now ≡ unwrap_or (option_map (λ (x : Bor (List ℕ)). x.now) r) []
+or-none None d e = e
+or-none (Some x) d e = refl
+
+-- the line that was found there, and nothing where the text ends before
+pub line-at : (text : List ℕ) (line k : ℕ) (r : Option (Bor (List ℕ))) (d : Bor (List ℕ)) → d.now ≡ [] → k ≡ line - 1
+    → option_map (λ (x : Bor (List ℕ)). x.now) r ≡ slice_get (lines_of text) k → (unwrap_or r d).now ≡ line_of text line
+line-at text line k r d e q g =
+    or-none r d e ∙ ap (λ (o : Option (List ℕ)). unwrap_or o []) g ∙ nth-get (lines_of text) k ∙ ap (λ (j : ℕ). get_or (lines_of text) j []) q
 
 -- ---- the lines passed: what is looked for is a line of the rest
 

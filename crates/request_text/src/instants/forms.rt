@@ -17,19 +17,7 @@ fn fits(p: u8, x: u8) -> bool
 pub fn has_form(word: &[u8], form: &[u8]) -> bool
     ensures { result ≡ has_form form.now word.now }
 {
-    if word.len() != form.len() {
-        return false;
-    }
-    let mut i = 0;
-    while i < form.len() {
-        let p = form[i];
-        let x = word[i];
-        if !fits(p, x) {
-            return false;
-        }
-        i += 1;
-    }
-    true
+    word.len() == form.len() && form.iter().zip(word).all(|(p, x)| fits(*p, *x))
 }
 
 fn digit_at(word: &[u8], k: usize) -> u64

@@ -4,25 +4,27 @@ ghost use Rattle.request_text.specs.Lines.{names_instant, names_offset};
 ghost use Rattle.request_text.specs.Instants.{instant_of, seconds_in};
 ghost use Rattle.request_text.specs.Told.{after_name, taken, told_after, instant_in, offset_taken, offset_after, offset_in, used_with, with_offset, told_in};
 
-use super::{Offset, Reading, Reference, Told, Wrong};
+use super::Wrong;
+use crate::lines;
 use calendar::Instant;
-use tokens::Class;
 
 // What line i gives after what was given before.
-fn taken(i: usize, read: Reading, old: Reference) -> Told
+fn taken(
+    i: usize,
+    read: Option<Instant>,
+    old: Option<Instant>,
+) -> Result<Option<Instant>, (usize, Wrong)>
     ensures { result ≡ taken i read old }
 {
-    match read {
-        Reading::Malformed => Told::Refused(i, Wrong::Malformed),
-        Reading::Is(x) => match old {
-            Reference::Nothing => Told::Is(Reference::At(x)),
-            Reference::At(_) => Told::Refused(i, Wrong::Twice),
-        },
+    let x = read.ok_or((i, Wrong::Malformed))?;
+    if old.is_some() {
+        return Err((i, Wrong::Twice));
     }
+    Ok(Some(x))
 }
 
 // The words after the name, of a line that names the instant.
-fn read_after(line: &[u8]) -> Reading
+fn read_after(line: &[u8]) -> Option<Instant>
     requires { names_instant line.now ≡ true }
     ensures { result ≡ instant_of (after_name line.now) }
 {
@@ -31,32 +33,29 @@ fn read_after(line: &[u8]) -> Reading
 }
 
 // What is told of the instant after line i.
-fn told_after(i: usize, line: &[u8], told: Told) -> Told
+fn told_after(
+    i: usize,
+    line: &[u8],
+    told: Result<Option<Instant>, (usize, Wrong)>,
+) -> Result<Option<Instant>, (usize, Wrong)>
     ensures { result ≡ told_after i line.now told }
 {
-    let Told::Is(old) = told else {
-        return told;
-    };
+    let old = told?;
     if crate::beside::names_instant(line) {
         let read = read_after(line);
         return taken(i, read, old);
     }
-    Told::Is(old)
+    Ok(old)
 }
 
-// What a text says of the instant.
-fn instant_in(text: &[u8]) -> Told
+// What a text says of the instant. The loop of `offset_in` is alike; a function for both would take the step as a
+// closure, and be longer than the two of them.
+fn instant_in(text: &[u8]) -> Result<Option<Instant>, (usize, Wrong)>
     ensures { result ≡ instant_in text.now }
 {
-    let mut told = Told::Is(Reference::Nothing);
-    let mut at = 0;
-    let mut line = 1;
-    while at < text.len() {
-        let length = tokens::run(&text[at..], Class::Line);
-        let end = at + length;
-        told = told_after(line, &text[at..end], told);
-        at = end + 1;
-        line += 1;
+    let mut told = Ok(None);
+    for (i, line) in lines::of(text).enumerate() {
+        told = told_after(i + 1, line, told);
     }
     told
 }
@@ -64,24 +63,21 @@ fn instant_in(text: &[u8]) -> Told
 // ---- TAI less UTC
 
 // What line i gives after what was given before.
-fn offset_taken(i: usize, seconds: u64, old: Offset) -> Offset
+fn offset_taken(
+    i: usize,
+    seconds: u64,
+    old: Result<Option<(usize, u64)>, (usize, Wrong)>,
+) -> Result<Option<(usize, u64)>, (usize, Wrong)>
     ensures { result ≡ offset_taken i seconds old }
 {
-    match old {
-        Offset::None => {
-            if seconds == 0 {
-                return Offset::Refused(i, Wrong::NotSeconds);
-            }
-            Offset::Is(i, seconds)
-        }
-        Offset::Is(_, _) => {
-            if seconds == 0 {
-                return Offset::Refused(i, Wrong::NotSeconds);
-            }
-            Offset::Refused(i, Wrong::OffsetTwice)
-        }
-        Offset::Refused(_, _) => old,
+    let given = old?;
+    if seconds == 0 {
+        return Err((i, Wrong::NotSeconds));
     }
+    if given.is_some() {
+        return Err((i, Wrong::OffsetTwice));
+    }
+    Ok(Some((i, seconds)))
 }
 
 // The words after the name, of a line that names TAI-UTC.
@@ -94,7 +90,11 @@ fn seconds_after(line: &[u8]) -> u64
 }
 
 // What is told of TAI-UTC after line i.
-fn offset_after(i: usize, line: &[u8], old: Offset) -> Offset
+fn offset_after(
+    i: usize,
+    line: &[u8],
+    old: Result<Option<(usize, u64)>, (usize, Wrong)>,
+) -> Result<Option<(usize, u64)>, (usize, Wrong)>
     ensures { result ≡ offset_after i line.now old }
 {
     if crate::beside::names_offset(line) {
@@ -105,18 +105,12 @@ fn offset_after(i: usize, line: &[u8], old: Offset) -> Offset
 }
 
 // What a text says of TAI-UTC.
-fn offset_in(text: &[u8]) -> Offset
+fn offset_in(text: &[u8]) -> Result<Option<(usize, u64)>, (usize, Wrong)>
     ensures { result ≡ offset_in text.now }
 {
-    let mut told = Offset::None;
-    let mut at = 0;
-    let mut line = 1;
-    while at < text.len() {
-        let length = tokens::run(&text[at..], Class::Line);
-        let end = at + length;
-        told = offset_after(line, &text[at..end], told);
-        at = end + 1;
-        line += 1;
+    let mut told = Ok(None);
+    for (i, line) in lines::of(text).enumerate() {
+        told = offset_after(i + 1, line, told);
     }
     told
 }
@@ -124,21 +118,23 @@ fn offset_in(text: &[u8]) -> Offset
 // ---- both
 
 // An instant with the seconds that line i gives.
-fn used_with(i: usize, seconds: u64, reference: Reference) -> Told
+fn used_with(
+    i: usize,
+    seconds: u64,
+    reference: Option<Instant>,
+) -> Result<Option<Instant>, (usize, Wrong)>
     ensures { result ≡ used_with i seconds reference }
 {
-    let Reference::At(x) = reference else {
-        return Told::Refused(i, Wrong::NeedsInstant);
-    };
+    let x = reference.ok_or((i, Wrong::NeedsInstant))?;
     let year = x.year;
     if year < 1972 {
-        return Told::Refused(i, Wrong::NeedsInstant);
+        return Err((i, Wrong::NeedsInstant));
     }
     let month = x.month;
     let day = x.day;
     let hundredths = x.hundredths;
     let scale = x.scale;
-    Told::Is(Reference::At(Instant {
+    Ok(Some(Instant {
         year,
         month,
         day,
@@ -149,29 +145,24 @@ fn used_with(i: usize, seconds: u64, reference: Reference) -> Told
 }
 
 // What is told of both.
-fn with_offset(told: Told, offset: Offset) -> Told
+fn with_offset(
+    told: Result<Option<Instant>, (usize, Wrong)>,
+    offset: Result<Option<(usize, u64)>, (usize, Wrong)>,
+) -> Result<Option<Instant>, (usize, Wrong)>
     ensures { result ≡ with_offset told offset }
 {
     match offset {
-        Offset::None => told,
-        Offset::Is(line, seconds) => match told {
-            Told::Is(reference) => used_with(line, seconds, reference),
-            Told::Refused(_, _) => told,
-        },
-        Offset::Refused(line, wrong) => match told {
-            Told::Is(_) => Told::Refused(line, wrong),
-            Told::Refused(other, _) => {
-                if line < other {
-                    return Told::Refused(line, wrong);
-                }
-                told
-            }
+        Ok(None) => told,
+        Ok(Some((line, seconds))) => used_with(line, seconds, told?),
+        Err((line, wrong)) => match told {
+            Err((other, _)) if other <= line => told,
+            _ => Err((line, wrong)),
         },
     }
 }
 
 // What a text says of the instant and of TAI-UTC.
-pub fn told_in(text: &[u8]) -> Told
+pub fn told_in(text: &[u8]) -> Result<Option<Instant>, (usize, Wrong)>
     ensures { result ≡ told_in text.now }
 {
     let told = instant_in(text);

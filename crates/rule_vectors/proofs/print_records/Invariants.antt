@@ -1,9 +1,6 @@
--- the records passed lie within the input, and each is three bytes long at least
-use Rattle.std.proofs.Common.{length, ◌-◌, ◌≤◌}
+-- each record takes bytes off the rest
+use Rattle.std.proofs.Common.{length}
 use Rattle.rule_vectors.proofs.print_records.Given as goal
 
-abbrev pub invariant-loop-at : goal.invariant-loop-at
-invariant-loop-at g l = l.at ≤ length l.input
-
-abbrev pub decreases-loop-at : goal.decreases-loop-at
-decreases-loop-at g l = length l.input - l.at
+abbrev pub decreases-loop-record : goal.decreases-loop-record
+decreases-loop-record g l = length l.rest

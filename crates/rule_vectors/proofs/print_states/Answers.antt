@@ -8,4 +8,4 @@ single : (s : List ℕ) → ((k : ℕ) → k < length s → slice_index s k ≤ 
 single s h = let runs = singles s (λ k b. omega (arith, h k b)) in (runs.0, ap length runs.1)
 
 pub returns : goal.returns
-returns g c e = single _ (λ k h. c.loop-i.invariant.1 k (omega (arith, h, c.loop-i-test.false)))
+returns g c e = single _ (λ k h. c.loop-state.invariant k (omega (arith, h, c.loop-state-test.false)))

@@ -5,4 +5,4 @@ use Rattle.station.specs.Sizes.{station_sizes}
 use Rattle.rule_vectors.proofs.print_station.Goals as goal
 
 pub print_place-requires : goal.print_place-requires
-print_place-requires g c = station_sizes _ (of_limits_within 3 _ (sym c.check-checked.ensures ∙ c.in-Within.is))
+print_place-requires g c = station_sizes _ (of_limits_within 3 _ (sym c.check-checked.ensures ∙ c.in-Ok.is))

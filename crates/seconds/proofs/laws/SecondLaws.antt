@@ -5,20 +5,20 @@
 --   each-second                                        every second is said rightly
 --   means-answer                                       so is one that was answered
 --   second-outside, second-inside, second_is           the ways of an answer
-use Rattle.std.specs.Prelude.{◌≡◌, ◌⊎◌, Bool, true, false, cond, List, ℕ, ◌≤◌, ◌<◌, ◌+ℤ◌, ◌-ℤ◌, length}
+use Rattle.std.specs.Prelude.{◌≡◌, ◌⊎◌, Bool, true, false, cond, List, ℕ, ◌≤◌, ◌<◌, ◌+ℤ◌, ◌-ℤ◌, length, Err, Result, Ok}
 use Rattle.std.proofs.Math.Path.{refl, sym, subst, ap}
 use Rattle.std.proofs.Common.{◌∙◌, arith, to_z, of_z}
 use Rattle.std.proofs.Math.Dec.{lit≤}
 use Rattle.std.proofs.Math.IntN.{ℤ, pos, nat_abs}
 use Rattle.std.specs.Int.Signed.{le_z_yes}
 use Rattle.std.specs.Int.{w64}
+use Rattle.shadow.specs.declared.Second.{Second}
+use Rattle.sheet_types.specs.declared.refusals.Refusal.{Refusal}
 use Rattle.rounding.specs.laws.Order.{≤ℤ_trans}
 use Rattle.rounding.specs.laws.Code.{read_back, read-size}
 use Rattle.sheet_types.specs.declared.phases.Phase.{Phase}
 use Rattle.sheet_types.specs.States.{state_of, code, SaidRightly}
 use Rattle.sheet_types.specs.laws.PhaseLaws.{state_of_code}
-use Rattle.sheet_types.specs.declared.refusals.Checked.{Checked}
-use Rattle.sheet_types.specs.declared.refusals.Checked.TheVariants as C
 use Rattle.sheet_types.specs.Refusals.{refusal}
 use Rattle.elements.specs.declared.Body.{Body}
 use Rattle.elements.specs.declared.Body.TheVariants as B
@@ -38,7 +38,6 @@ use Rattle.requests.specs.WindowLaws.{in-span, each-length}
 use Rattle.requests.specs.RequestLaws.{InLimits, guard-is, guard_size}
 use Rattle.requests.specs.Admission.{admitted, sines_after}
 use Rattle.requests.proofs.laws.AdmissionLaws.{admitted-within}
-use Rattle.seconds.specs.declared.OneSecond.{OneSecond}
 use Rattle.seconds.specs.Seconds.{moment_at, state_at, direction_at, magnitude_of, magnitude_at, states_of, closestOf}
 use Rattle.seconds.specs.laws.ClosestLaws.{closest-is}
 use Rattle.seconds.specs.OneSecond.{first_phase, second_phase, whole_second, second_by, second_checked, second_answer, second_sines}
@@ -101,7 +100,7 @@ module _ (o : Occultation) (i : InLimits o) (τ : ℤ) (h : nat_abs τ ≤ 10800
   second-means = record { penumbra = said (first_phase o); central = said (second_phase o) }
 
 module _ (o : Occultation) (τ : ℤ) (sines : List ℕ) where
-  pub second-outside : in_span τ ≡ false → second_checked o τ sines ≡ C.Refused (refusal 1 0)
+  pub second-outside : in_span τ ≡ false → second_checked o τ sines ≡ Err (refusal 1 0)
   unfolding second_checked
   second-outside e = rw e
 
@@ -114,18 +113,18 @@ module _ (o : Occultation) (τ : ℤ) (sines : List ℕ) where
   unfolding second_answer second_checked
   means-answer = by_span (in_span τ) refl
     where
-      by-check : (c : Checked) → admitted o sines ≡ c → nat_abs τ ≤ 10800 → AnswerMeans o τ (second_by c o τ)
-      by-check (C.Refused r) e h = tt
-      by-check C.Within e h = second-means o (admitted-within o sines e).0 τ h
+      by-check : (c : Result Unit Refusal) → admitted o sines ≡ c → nat_abs τ ≤ 10800 → AnswerMeans o τ (second_by c o τ)
+      by-check (Err r) e h = tt
+      by-check (Ok tt) e h = second-means o (admitted-within o sines e).0 τ h
 
-      by_span : (b : Bool) → in_span τ ≡ b → AnswerMeans o τ (second_by (cond b (admitted o sines) (C.Refused (refusal 1 0))) o τ)
+      by_span : (b : Bool) → in_span τ ≡ b → AnswerMeans o τ (second_by (cond b (admitted o sines) (Err (refusal 1 0))) o τ)
       by_span true e = by-check (admitted o sines) refl (in-span τ e)
       by_span false e = tt
 
   -- what a check gives: the answer, the buffer, and what the answer means
-  pub second_is : (c : Checked) → second_checked o τ sines ≡ c → (r : OneSecond) (new : List ℕ) → r ≡ second_by c o τ → new ≡ sines_after c sines
+  pub second_is : (c : Result Unit Refusal) → second_checked o τ sines ≡ c → (r : Result Second Refusal) (new : List ℕ) → r ≡ second_by c o τ → new ≡ sines_after c sines
       → (r ≡ second_answer o τ sines) × ((new ≡ second_sines o τ sines) × AnswerMeans o τ r)
   unfolding second_answer second_sines
   second_is c e r new er en =
-      let a : r ≡ second_answer o τ sines = er ∙ ap (λ (k : Checked). second_by k o τ) (sym e) in
-      (a, (en ∙ ap (λ (k : Checked). sines_after k sines) (sym e), subst (AnswerMeans o τ) (sym a) means-answer))
+      let a : r ≡ second_answer o τ sines = er ∙ ap (λ (k : Result Unit Refusal). second_by k o τ) (sym e) in
+      (a, (en ∙ ap (λ (k : Result Unit Refusal). sines_after k sines) (sym e), subst (AnswerMeans o τ) (sym a) means-answer))

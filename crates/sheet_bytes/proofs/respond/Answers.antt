@@ -8,28 +8,28 @@ use Rattle.sheet_bytes.specs.laws.StreamLaws.{sheet-out, line_out}
 use Rattle.sheet_bytes.proofs.respond.Goals as goal
 
 pub slice_bounds-room-end : goal.slice_bounds-room-end
-slice_bounds-room-end c = fits_written _ c.sheet-answer.new.buf _ c.in-Written.is (fits _ _ _ _ c.sheet-answer.ensures.answer c.sheet-answer.new.buf (omega arith))
+slice_bounds-room-end c = fits_written _ c.sheet-answer.new.buf _ c.in-Ok.is (fits _ _ _ _ c.sheet-answer.ensures.answer c.sheet-answer.new.buf (omega arith))
 
-pub slice_bounds-put_text-end-in-Written : goal.slice_bounds-put_text-end-in-Written
-slice_bounds-put_text-end-in-Written c = sym (length-take-le _ _ (fits_written _ c.sheet-answer.new.buf _ c.in-Written.is (fits _ _ _ _ c.sheet-answer.ensures.answer c.sheet-answer.new.buf (omega arith))))
+pub slice_bounds-put_text-end-in-Ok : goal.slice_bounds-put_text-end-in-Ok
+slice_bounds-put_text-end-in-Ok c = sym (length-take-le _ _ (fits_written _ c.sheet-answer.new.buf _ c.in-Ok.is (fits _ _ _ _ c.sheet-answer.ensures.answer c.sheet-answer.new.buf (omega arith))))
 
-pub returns-in-Written-clause-text : goal.returns-in-Written-clause-text
-returns-in-Written-clause-text c =
-    let fit = fits_written _ c.sheet-answer.new.buf _ c.in-Written.is (fits _ _ _ _ c.sheet-answer.ensures.answer c.sheet-answer.new.buf (omega arith)) in
-    let short = length-take-le c.in-Written.written c.sheet-answer.new.buf fit in
+pub returns-in-Ok-clause-text : goal.returns-in-Ok-clause-text
+returns-in-Ok-clause-text c =
+    let fit = fits_written _ c.sheet-answer.new.buf _ c.in-Ok.is (fits _ _ _ _ c.sheet-answer.ensures.answer c.sheet-answer.new.buf (omega arith)) in
+    let short = length-take-le c.in-Ok.written c.sheet-answer.new.buf fit in
     let same : length c.sheet-answer.new.buf ≡ length c.sheet_room-room.result = omega arith in
     let w = put_whole _ _ _ _ c.put_text-stored.ensures (omega (arith, short, fit, same, copies_length c.sheet_room-room.ensures)) (omega arith) in
     sheet-out _ _ _ _ _ _ c.sines_room-sines.ensures c.sheet_room-room.ensures c.requires.0 (omega arith)
-    c.sheet-answer.ensures.answer c.sheet-answer.ensures.buffer _ c.in-Written.is _ w.0
+    c.sheet-answer.ensures.answer c.sheet-answer.ensures.buffer _ c.in-Ok.is _ w.0
 
-pub returns-in-Written-clause-counts : goal.returns-in-Written-clause-counts
-returns-in-Written-clause-counts c =
-    let fit = fits_written _ c.sheet-answer.new.buf _ c.in-Written.is (fits _ _ _ _ c.sheet-answer.ensures.answer c.sheet-answer.new.buf (omega arith)) in
-    let short = length-take-le c.in-Written.written c.sheet-answer.new.buf fit in
+pub returns-in-Ok-clause-counts : goal.returns-in-Ok-clause-counts
+returns-in-Ok-clause-counts c =
+    let fit = fits_written _ c.sheet-answer.new.buf _ c.in-Ok.is (fits _ _ _ _ c.sheet-answer.ensures.answer c.sheet-answer.new.buf (omega arith)) in
+    let short = length-take-le c.in-Ok.written c.sheet-answer.new.buf fit in
     let same : length c.sheet-answer.new.buf ≡ length c.sheet_room-room.result = omega arith in
     (put_whole _ _ _ _ c.put_text-stored.ensures (omega (arith, short, fit, same, copies_length c.sheet_room-room.ensures)) (omega arith)).1
 
-pub returns-in-Refused-clause-text : goal.returns-in-Refused-clause-text
-returns-in-Refused-clause-text c =
+pub returns-in-Err-clause-text : goal.returns-in-Err-clause-text
+returns-in-Err-clause-text c =
     line_out _ _ _ _ _ _ c.sines_room-sines.ensures c.sheet_room-room.ensures c.requires.0 (omega arith)
-    c.sheet-answer.ensures.answer c.sheet-answer.ensures.buffer _ c.in-Refused.is _ c.put_refusal-line.ensures.line
+    c.sheet-answer.ensures.answer c.sheet-answer.ensures.buffer _ c.in-Err.is _ c.put_refusal-line.ensures.line

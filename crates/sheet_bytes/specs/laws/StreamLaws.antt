@@ -1,9 +1,7 @@
 -- The text of an answer stands whole at the array's start, and goes to the output that it is of.
-use Rattle.std.specs.Prelude.{ℕ, ◌≤◌, ◌<◌, ◌≡◌, refl, List, ◌++◌, pos, length, take}
+use Rattle.std.specs.Prelude.{ℕ, ◌≤◌, ◌<◌, ◌≡◌, refl, List, ◌++◌, pos, length, take, Result, Ok, Err}
 use Rattle.std.proofs.Common.{sym, ap, ◌∙◌, arith, length-append}
 use Rattle.sheet_types.specs.declared.refusals.Refusal.{Refusal}
-use Rattle.circumstances.specs.declared.Answer.{Answer}
-use Rattle.circumstances.specs.declared.Answer.TheVariants as A
 use Rattle.request_answers.specs.Sheet.{answer_to, buffer_for, stored_by, sheet_stored}
 use Rattle.decimal_text.specs.Decimals.{decimal}
 use Rattle.decimal_text.specs.laws.DecimalLaws.{decimal_64}
@@ -36,7 +34,7 @@ line-whole x y old new r h g l p = put_whole (refusal_line x y) old new r p (ome
 
 -- ---- the answer to what was read, and the buffer that it left
 
-module _ (array sines room left : List ℕ) (n : ℕ) (a : Answer) (t : Copies 0 901 sines) (b : Copies 0 65536 room) (c : n ≤ length array)
+module _ (array sines room left : List ℕ) (n : ℕ) (a : Result ℕ Refusal) (t : Copies 0 901 sines) (b : Copies 0 65536 room) (c : n ≤ length array)
     (l : length array ≡ 116) (is : a ≡ answer_to (take n array) sines room) (by-rule : left ≡ buffer_for (take n array) sines room) where
   stored-by : stored_by a left ≡ sheet_stored (take n array) sines room
   unfolding sheet_stored
@@ -60,12 +58,12 @@ module _ (array sines room left : List ℕ) (n : ℕ) (a : Answer) (t : Copies 0
   error-is : (input : List ℕ) → Read input array n → error_by a ≡ error input
   error-is input q = error-by ∙ (stored-read input array n q c sines room l).1 ∙ line-is input
 
-  pub sheet-out : (k : ℕ) → a ≡ A.Written k → (text : List ℕ) → text ≡ take k left → (input : List ℕ) → Read input array n
+  pub sheet-out : (k : ℕ) → a ≡ Ok k → (text : List ℕ) → text ≡ take k left → (input : List ℕ) → Read input array n
       → Sent (pos 1) text (output input) (error input)
   sheet-out k e text x input q =
-      to_output refl (x ∙ ap (λ (y : Answer). stored_by y left) (sym e) ∙ stored_is input q) (ap error_by (sym e) ∙ error-is input q)
+      to_output refl (x ∙ ap (λ (y : Result ℕ Refusal). stored_by y left) (sym e) ∙ stored_is input q) (ap error_by (sym e) ∙ error-is input q)
 
-  pub line_out : (x : Refusal) → a ≡ A.Refused x → (text : List ℕ) → text ≡ refusal_line x.number x.place → (input : List ℕ) → Read input array n
+  pub line_out : (x : Refusal) → a ≡ Err x → (text : List ℕ) → text ≡ refusal_line x.number x.place → (input : List ℕ) → Read input array n
       → Sent (pos 2) text (output input) (error input)
   line_out x e text y input q =
-      to_error refl (ap (λ (z : Answer). stored_by z left) (sym e) ∙ stored_is input q) (y ∙ ap error_by (sym e) ∙ error-is input q)
+      to_error refl (ap (λ (z : Result ℕ Refusal). stored_by z left) (sym e) ∙ stored_is input q) (y ∙ ap error_by (sym e) ∙ error-is input q)

@@ -1,4 +1,5 @@
 -- What the two passes of a reader, and of a writer, answer and leave together.
+use Rattle.std.specs.Prelude.{Ok, Err}
 use Prim.Native.Nat.{ℕ, ◌/◌, ◌≤◌, ◌<◌}
 use mathlib.Core.Path.{◌≡◌, refl, sym, ap, ◌∙◌}
 use mathlib.Core.List.{List, ◌++◌}
@@ -11,7 +12,6 @@ use lib.Seq.{sets, sets-eq}
 use Rattle.sheet_types.specs.declared.refusals.Refusal.{Refusal}
 use Rattle.sheet_types.specs.Refusals.{refusal}
 use Rattle.sheet_format.specs.declared.kinds.Entry.{Entry}
-use Rattle.sheet_codec.specs.declared.decoder.Extent.TheVariants as X
 use Rattle.sheet_format.specs.RecordEntries.{numbers, bytes, bytes_of, numbers_of}
 use Rattle.sheet_format.specs.laws.EntryLaws.{bytes-nil, bytes_cons, numbers-nil, numbers_cons, length-numbers}
 use Rattle.sheet_rules.specs.Rules.{start}
@@ -55,21 +55,21 @@ writing-starts l buf h = by (list_sheet l) refl h
         }
 
 module _ (w : Sheet) where
-  pub room_for : (k m n : ℕ) → X.Sheet m n ≡ extent_of w → m ≤ k / 5 → RoomFor w k
+  pub room_for : (k m n : ℕ) → Ok (m, n) ≡ extent_of w → m ≤ k / 5 → RoomFor w k
   room_for k m n q h = let x = extent_inv w m n q in rw x.1 (let z : length x.0 ≡ m = x.2 in omega arith)
 
-  pub read_refused : (room : List ℕ) (r : Refusal) → X.Refused r ≡ extent_of w → (X.Refused r ≡ read_into (length room) w) × (room ≡ room_after w room)
+  pub read_refused : (room : List ℕ) (r : Refusal) → Err r ≡ extent_of w → (Err r ≡ read_into (length room) w) × (room ≡ room_after w room)
   read_refused room r q = rw (extent_refused w r q) (refl, refl)
 
-  pub read_short : (room : List ℕ) (m n : ℕ) → X.Sheet m n ≡ extent_of w → length room / 5 < m
-      → (X.Refused (refusal 4 m) ≡ read_into (length room) w) × (room ≡ room_after w room)
+  pub read_short : (room : List ℕ) (m n : ℕ) → Ok (m, n) ≡ extent_of w → length room / 5 < m
+      → (Err (refusal 4 m) ≡ read_into (length room) w) × (room ≡ room_after w room)
   read_short room m n q h =
       let x = extent_inv w m n q in
       let t : holds x.0 (length room) ≡ false = lt-leb (length x.0) (length room / 5) (let z : length x.0 ≡ m = x.2 in omega arith) in
       rw (x.1, t, x.2) (refl, refl)
 
-  pub read-full : (room new : List ℕ) (m n : ℕ) → X.Sheet m n ≡ extent_of w → m ≤ length room / 5 → new ≡ filled w room
-      → (X.Sheet m n ≡ read_into (length room) w) × (new ≡ room_after w room)
+  pub read-full : (room new : List ℕ) (m n : ℕ) → Ok (m, n) ≡ extent_of w → m ≤ length room / 5 → new ≡ filled w room
+      → (Ok (m, n) ≡ read_into (length room) w) × (new ≡ room_after w room)
   read-full room new m n q h f =
       let x = extent_inv w m n q in
       let z : length x.0 ≡ m = x.2 in
@@ -77,27 +77,27 @@ module _ (w : Sheet) where
       let g : new ≡ sets room 0 (numbers_of x.0) = f ∙ ap (λ v. filled v room) x.1 in
       let s : sets room 0 (numbers_of x.0) ≡ numbers_of x.0 ++ drop (length (numbers_of x.0)) room =
       sets-eq (numbers_of x.0) room 0 (omega (arith, length-numbers x.0)) ∙ rw zero-add in
-      rw (x.1, t) (ap (λ k. X.Sheet k n) (sym x.2), g ∙ s)
+      rw (x.1, t) (ap (λ k. Ok (k, n)) (sym x.2), g ∙ s)
 
-  pub buffer-for : (k m n : ℕ) → X.Sheet m n ≡ extent_of w → n ≤ k → BufferFor w k
+  pub buffer-for : (k m n : ℕ) → Ok (m, n) ≡ extent_of w → n ≤ k → BufferFor w k
   buffer-for k m n q h = let x = extent_inv w m n q in rw x.1 h
 
-  pub write-refused : (buf : List ℕ) (r : Refusal) → X.Refused r ≡ extent_of w → (X.Refused r ≡ write_into (length buf) w) × (buf ≡ buffer_after_list w buf)
+  pub write-refused : (buf : List ℕ) (r : Refusal) → Err r ≡ extent_of w → (Err r ≡ write_into (length buf) w) × (buf ≡ buffer_after_list w buf)
   write-refused buf r q = rw (extent_refused w r q) (refl, refl)
 
-  pub write-short : (buf : List ℕ) (m n : ℕ) → X.Sheet m n ≡ extent_of w → length buf < n
-      → (X.Refused (refusal 4 n) ≡ write_into (length buf) w) × (buf ≡ buffer_after_list w buf)
+  pub write-short : (buf : List ℕ) (m n : ℕ) → Ok (m, n) ≡ extent_of w → length buf < n
+      → (Err (refusal 4 n) ≡ write_into (length buf) w) × (buf ≡ buffer_after_list w buf)
   write-short buf m n q h =
       let x = extent_inv w m n q in
       rw (x.1, lt-leb n (length buf) h) (refl, refl)
 
-  pub write-full : (buf new : List ℕ) (m n : ℕ) → X.Sheet m n ≡ extent_of w → n ≤ length buf → new ≡ emitted w buf
+  pub write-full : (buf new : List ℕ) (m n : ℕ) → Ok (m, n) ≡ extent_of w → n ≤ length buf → new ≡ emitted w buf
       → ((es : List Entry) → w ≡ sheet es n → n ≡ length (bytes_of es))
-      → (X.Sheet m n ≡ write_into (length buf) w) × (new ≡ buffer_after_list w buf)
+      → (Ok (m, n) ≡ write_into (length buf) w) × (new ≡ buffer_after_list w buf)
   write-full buf new m n q h f len =
       let x = extent_inv w m n q in
       let k : n ≡ length (bytes_of x.0) = len x.0 x.1 in
       let g : new ≡ sets buf 0 (bytes_of x.0) = f ∙ ap (λ v. emitted v buf) x.1 in
       let s : sets buf 0 (bytes_of x.0) ≡ bytes_of x.0 ++ drop n buf =
       sets-eq (bytes_of x.0) buf 0 (omega arith) ∙ rw (zero-add, ← k) in
-      rw (x.1, le-leb n (length buf) h) (ap (λ k. X.Sheet k n) (sym x.2), g ∙ s)
+      rw (x.1, le-leb n (length buf) h) (ap (λ k. Ok (k, n)) (sym x.2), g ∙ s)

@@ -1,6 +1,7 @@
 -- The second pass of a reader and of a writer, which puts the part of each entry, its numbers or its bytes, behind the
 -- one before it: what is still to be put, once put, gives what the pass is to leave (`target`). The first pass found a
 -- sheet, so each record is there.
+use Rattle.std.specs.Prelude.{Result, Err, Ok, ℕ}
 use Prim.Native.Nat.{ℕ, ◌+◌, ◌≤◌, ◌<◌}
 use mathlib.Core.Path.{◌≡◌, sym, ap, ◌∙◌}
 use mathlib.Core.List.{List, [], ◌∷◌, ◌++◌}
@@ -11,8 +12,6 @@ use lib.Seq.{sets, length-sets}
 use Rattle.rounding.specs.laws.Stores.{sets_append}
 use Rattle.sheet_types.specs.declared.refusals.Refusal.{Refusal}
 use Rattle.sheet_format.specs.declared.kinds.Entry.{Entry}
-use Rattle.sheet_format.specs.declared.records.Record.{Record}
-use Rattle.sheet_format.specs.declared.records.Record.TheVariants.{Is, Refused}
 use Rattle.sheet_format.specs.Kinds.{is_end}
 use Rattle.sheet_codec.specs.laws.Rests.{Rest, rest-there, behind, rest-split, rest-last, rest_more}
 
@@ -22,17 +21,17 @@ pub record Parts (part : Entry → List ℕ) (parts : List Entry → List ℕ) :
   pub cons : (e : Entry) (es : List Entry) → parts (e ∷ es) ≡ part e ++ parts es
 
 -- the pass is at the n-th record, at byte `at` of the sheet, and puts the next part at `pos`
-pub record Passing (given : ℕ → ℕ → Record) (len : ℕ) (parts : List Entry → List ℕ) (target out : List ℕ) (n at pos : ℕ) : Type 0 where
+pub record Passing (given : ℕ → ℕ → Result (Entry × ℕ) Refusal) (len : ℕ) (parts : List Entry → List ℕ) (target out : List ℕ) (n at pos : ℕ) : Type 0 where
   pub rest : Rest given len n at
   pub fits : pos + length (parts rest.es) ≤ length out
   pub left : sets out pos (parts rest.es) ≡ target
 
-module _ {given : ℕ → ℕ → Record} {len : ℕ} {part : Entry → List ℕ} {parts : List Entry → List ℕ} (ps : Parts part parts)
+module _ {given : ℕ → ℕ → Result (Entry × ℕ) Refusal} {len : ℕ} {part : Entry → List ℕ} {parts : List Entry → List ℕ} (ps : Parts part parts)
     {target out : List ℕ} {n at pos : ℕ} (f : Passing given len parts target out n at pos) where
-  pub pass-never : (r : Refusal) → given n at ≡ Refused r → ⊥
+  pub pass-never : (r : Refusal) → given n at ≡ Err r → ⊥
   pass-never r q = rest-there f.rest r q
 
-  module _ (e : Entry) (next : ℕ) (q : given n at ≡ Is e next) where
+  module _ (e : Entry) (next : ℕ) (q : given n at ≡ Ok (e, next)) where
     split : parts f.rest.es ≡ part e ++ parts (behind f.rest)
     split = ap parts (rest-split f.rest e next q) ∙ ps.cons e (behind f.rest)
 

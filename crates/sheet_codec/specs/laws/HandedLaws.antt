@@ -1,6 +1,6 @@
 -- Entries of a list of numbers: which answer is given when; those of their own numbers stand there, and the numbers of
 -- those that stand are theirs.
-use Rattle.std.specs.Prelude.{ℕ, ◌+◌, ◌*◌, ◌≤◌, ◌<◌, ◌≡◌, refl, true, false, cond, get_or}
+use Rattle.std.specs.Prelude.{ℕ, ◌+◌, ◌*◌, ◌≤◌, ◌<◌, ◌≡◌, refl, true, false, cond, get_or, Err, Option, Some, Ok, None}
 use Rattle.std.proofs.Math.Path.{sym, ap}
 use Rattle.std.proofs.Common.{◌∙◌, add-zero, add_assoc, add-one, le-leb, length-append, get_or-append-add, drop-cons}
 use mathlib.Core.List.{List, [], ◌∷◌, ◌++◌, append_assoc}
@@ -9,13 +9,11 @@ use Rattle.std.proofs.Math.Decide.{dec_le}
 use Rattle.std.proofs.lemmas.Bool.{lt-leb}
 use Rattle.std.proofs.Math.ListN.{length, drop}
 use Rattle.std.proofs.Math.Seq.{get_or-append_seam}
+use Rattle.sheet_format.specs.declared.kinds.Kind.{Kind}
 use Rattle.sheet_types.specs.declared.refusals.Refusal.{Refusal}
 use Rattle.sheet_types.specs.Refusals.{refusal}
 use Rattle.sheet_format.specs.declared.kinds.Entry.{Entry}
-use Rattle.sheet_format.specs.declared.kinds.Named.{Named}
-use Rattle.sheet_format.specs.declared.kinds.Named.TheVariants as Named
 use Rattle.sheet_format.specs.declared.kinds.Progress.{Progress}
-use Rattle.sheet_format.specs.declared.records.Record.TheVariants.{Is, Refused}
 use Rattle.sheet_format.specs.Kinds.{code_of, kind_for, size_of, is_end}
 use Rattle.sheet_format.specs.laws.KindLaws.{kind_code, kind_inv, size_small}
 use Rattle.sheet_format.specs.RecordEntries.{numbers, numbers_of}
@@ -24,43 +22,44 @@ use Rattle.sheet_rules.specs.Rules.{after_of}
 use Rattle.sheet_codec.specs.Handed.{numbered, of_named, handed_at}
 use Rattle.sheet_codec.specs.laws.StandLaws.{Stand, Steady}
 use Rattle.sheet_codec.specs.laws.WellFormed.{WellFormed}
+use Rattle.rounding.specs.laws.Results.{ok_parts}
 
 module _ (l : List ℕ) (i at : ℕ) where
-  pub handed-cut : length l < i * 5 + 5 → Refused (refusal 6 at) ≡ handed_at l i at
+  pub handed-cut : length l < i * 5 + 5 → Err (refusal 6 at) ≡ handed_at l i at
   unfolding handed_at
   handed-cut h = rw (lt-leb (i * 5 + 5) (length l) h)
 
-  pub handed-named : (n : Named) → i * 5 + 5 ≤ length l → kind_for (get_or l (i * 5) 0) ≡ n → of_named l i at n ≡ handed_at l i at
+  pub handed-named : (n : Option Kind) → i * 5 + 5 ≤ length l → kind_for (get_or l (i * 5) 0) ≡ n → of_named l i at n ≡ handed_at l i at
   unfolding handed_at
   handed-named n h q = rw (le-leb (i * 5 + 5) (length l) h, q)
 
   -- what an entry of the list says about its numbers
   pub record HandedThere (e : Entry) (n : ℕ) : Type 0 where
     pub within : i * 5 + 5 ≤ length l
-    pub named : kind_for (get_or l (i * 5) 0) ≡ Named.Is e.kind
+    pub named : kind_for (get_or l (i * 5) 0) ≡ Some e.kind
     pub is : e ≡ numbered l i e.kind
     pub next : n ≡ at + size_of e.kind
 
-  pub handed-inv : (e : Entry) (n : ℕ) → handed_at l i at ≡ Is e n → HandedThere e n
+  pub handed-inv : (e : Entry) (n : ℕ) → handed_at l i at ≡ Ok (e, n) → HandedThere e n
   handed-inv e n q =
       elim (dec_le (i * 5 + 5) (length l)) [
         | yes h ↦ with-kind h (kind_for (get_or l (i * 5) 0)) refl
         | no h ↦ never _ (handed-cut (omega arith))
       ]
     where
-      never : (r : Refusal) → Refused r ≡ handed_at l i at → HandedThere e n
+      never : (r : Refusal) → Err r ≡ handed_at l i at → HandedThere e n
       never r t = let z : ◌≡◌ {A = ℕ} 0 1 = cc in absurd (omega arith)
 
-      with-kind : i * 5 + 5 ≤ length l → (m : Named) → kind_for (get_or l (i * 5) 0) ≡ m → HandedThere e n
-      with-kind h Named.Unknown f = never _ (handed-named Named.Unknown h f)
-      with-kind h (Named.Is k) f =
-          let t = handed-named (Named.Is k) h f in
-          let j : numbered l i k ≡ e = cc in
+      with-kind : i * 5 + 5 ≤ length l → (m : Option Kind) → kind_for (get_or l (i * 5) 0) ≡ m → HandedThere e n
+      with-kind h None f = never _ (handed-named None h f)
+      with-kind h (Some k) f =
+          let t = ok_parts (handed-named (Some k) h f ∙ q) in
+          let j : numbered l i k ≡ e = t.0 in
           let x : k ≡ e.kind = ap (λ y. y.kind) j in
-          let m : n ≡ at + size_of k = cc in
-          record { within = h; named = f ∙ ap Named.Is x; is = sym j ∙ ap (numbered l i) x; next = m ∙ ap (λ y. at + size_of y) x }
+          let m : n ≡ at + size_of k = sym t.1 in
+          record { within = h; named = f ∙ ap Some x; is = sym j ∙ ap (numbered l i) x; next = m ∙ ap (λ y. at + size_of y) x }
 
-pub handed_bounds : (l : List ℕ) (i at : ℕ) (e : Entry) (n : ℕ) → handed_at l i at ≡ Is e n → (i * 5 + 5 ≤ length l) × (n ≡ at + size_of e.kind) ×
+pub handed_bounds : (l : List ℕ) (i at : ℕ) (e : Entry) (n : ℕ) → handed_at l i at ≡ Ok (e, n) → (i * 5 + 5 ≤ length l) × (n ≡ at + size_of e.kind) ×
     (n ≤ at + 17)
 handed_bounds l i at e n q = let t = handed-inv l i at e n q in (t.within, t.next, omega (arith, t.next, size_small e.kind))
 
@@ -78,10 +77,10 @@ module _ (pre rest : List ℕ) (e : Entry) (i : ℕ) (q : length pre ≡ i * 5) 
   same : numbered (pre ++ (numbers e ++ rest)) i e.kind ≡ e
   same = rw (number 1, number 2, number 3, number 4)
 
-  entry-back : (at : ℕ) → handed_at (pre ++ (numbers e ++ rest)) i at ≡ Is e (at + size_of e.kind)
+  entry-back : (at : ℕ) → handed_at (pre ++ (numbers e ++ rest)) i at ≡ Ok (e, at + size_of e.kind)
   entry-back at =
-      sym (handed-named (pre ++ (numbers e ++ rest)) i at (Named.Is e.kind) (omega (arith, length-append pre (numbers e ++ rest)))
-      (ap kind_for kind-number ∙ kind_code e.kind)) ∙ ap (λ x. Is x (at + size_of e.kind)) same
+      sym (handed-named (pre ++ (numbers e ++ rest)) i at (Some e.kind) (omega (arith, length-append pre (numbers e ++ rest)))
+      (ap kind_for kind-number ∙ kind_code e.kind)) ∙ ap (λ x. Ok (x, at + size_of e.kind)) same
 
 pub numbers_stand : (es : List Entry) (p : Progress) → WellFormed p es → (pre rest : List ℕ) (i at : ℕ) → length pre ≡ i * 5
     → Stand (handed_at (pre ++ (numbers_of es ++ rest))) i at es
@@ -91,7 +90,7 @@ numbers_stand (e ∷ es) p w pre rest i at q =
     let s = pre ++ (numbers_of (e ∷ es) ++ rest) in
     let split : s ≡ pre ++ (numbers e ++ (numbers_of es ++ rest)) =
     ap (λ x. pre ++ x) (ap (λ x. x ++ rest) (numbers_cons e es) ∙ append_assoc (numbers e) (numbers_of es) rest) in
-    let there : handed_at s i at ≡ Is e (at + size_of e.kind) =
+    let there : handed_at s i at ≡ Ok (e, at + size_of e.kind) =
     ap (λ x. handed_at x i at) split ∙ entry-back pre (numbers_of es ++ rest) e i q at in (
       there,
       (elim (is_end e.kind) as (λ b. cond b (es ≡ []) (WellFormed (after_of p e) es) → Stand (handed_at s) (i + 1) (at + size_of e.kind) es) [
@@ -116,7 +115,7 @@ module _ (l : List ℕ) where
       ∙ simp add_assoc
 
   -- the numbers of an entry that stands there are the entry's
-  entry-split : (i at : ℕ) (e : Entry) (n : ℕ) → handed_at l i at ≡ Is e n → drop (i * 5) l ≡ numbers e ++ drop ((i + 1) * 5) l
+  entry-split : (i at : ℕ) (e : Entry) (n : ℕ) → handed_at l i at ≡ Ok (e, n) → drop (i * 5) l ≡ numbers e ++ drop ((i + 1) * 5) l
   entry-split i at e n q =
       let t = handed-inv l i at e n q in
       let k : get_or l (i * 5) 0 ≡ code_of e.kind = kind_inv _ e.kind t.named in

@@ -1,12 +1,10 @@
 -- What the parts of a reader, and of a writer, answer each other. Callers use `extent_of`, `room_after` and
 -- `buffer_after_list`.
-use Rattle.std.specs.Prelude.{ℕ, ◌+◌, ◌*◌, ◌≤◌, List, length}
+use Rattle.std.specs.Prelude.{ℕ, ◌+◌, ◌*◌, ◌≤◌, List, length, Result, Ok, Err}
 use Rattle.std.proofs.lemmas.List.Edits.{sets}
+use Rattle.sheet_types.specs.declared.refusals.Refusal.{Refusal}
 use Rattle.sheet_types.specs.Refusals.{refusal}
-use Rattle.sheet_format.specs.declared.records.Record.{Record}
-use Rattle.sheet_format.specs.declared.records.Record.TheVariants.{Is, Refused}
-use Rattle.sheet_codec.specs.declared.decoder.Extent.{Extent}
-use Rattle.sheet_codec.specs.declared.decoder.Extent.TheVariants as X
+use Rattle.sheet_format.specs.declared.kinds.Entry.{Entry}
 use Rattle.sheet_format.specs.RecordEntries.{numbers_of, bytes_of}
 use Rattle.sheet_codec.specs.Sheets.{Sheet, sheet, refused}
 
@@ -29,11 +27,11 @@ emitted (refused r) buf = buf
 emitted (sheet es n) buf = sets buf 0 (bytes_of es)
 
 -- how many entries and bytes, after k entries
-abbrev pub extent : ℕ → Sheet → Extent
-extent k (sheet es n) = X.Sheet (k + length es) n
-extent k (refused r) = X.Refused r
+abbrev pub extent : ℕ → Sheet → Result (ℕ × ℕ) Refusal
+extent k (sheet es n) = Ok (k + length es, n)
+extent k (refused r) = Err r
 
 -- a record's refusal, passed on
-abbrev pub refused_of : Record → Extent
-refused_of (Refused r) = X.Refused r
-refused_of (Is e n) = X.Refused (refusal 6 n)
+abbrev pub refused_of : Result (Entry × ℕ) Refusal → Result (ℕ × ℕ) Refusal
+refused_of (Err r) = Err r
+refused_of (Ok (e, n)) = Err (refusal 6 n)

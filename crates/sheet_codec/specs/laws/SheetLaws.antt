@@ -1,15 +1,14 @@
 -- Laws of a sheet as a whole: its extent, and what may follow it.
-use Rattle.std.specs.Prelude.{ℕ, suc, ◌-◌, ◌*◌, ◌≤◌, ◌≡◌, refl, List, Bool, true, false, cond, ltb, length}
+use Rattle.std.specs.Prelude.{ℕ, suc, ◌-◌, ◌*◌, ◌≤◌, ◌≡◌, refl, List, Bool, true, false, cond, ltb, length, Ok, Err, Result}
 use Rattle.std.proofs.Common.{sym, ap, ◌∙◌, arith, zero-add, le-ltb, ltb-false}
 use Rattle.sheet_types.specs.declared.refusals.Refusal.{Refusal}
 use Rattle.sheet_types.specs.Refusals.{refusal}
 use Rattle.sheet_format.specs.declared.kinds.Entry.{Entry}
-use Rattle.sheet_codec.specs.declared.decoder.Extent.{Extent}
-use Rattle.sheet_codec.specs.declared.decoder.Extent.TheVariants as X
 use Rattle.sheet_rules.specs.Rules.{start}
 use Rattle.sheet_codec.specs.Sheets.{Sheet, sheet, refused, sheet_from, stored_at, alone, read_sheet, read_whole, extent_of}
 use Rattle.sheet_codec.specs.Handed.{handed_at, list_sheet, list_whole}
 use Rattle.sheet_codec.specs.laws.Passes.{extent}
+use Rattle.rounding.specs.laws.Results.{ok_parts}
 
 -- ---- where a loop begins
 
@@ -27,26 +26,26 @@ extent-start w (refused r) q = rw q
 
 -- ---- the entries behind an extent
 
-pub extent_inv : (w : Sheet) (k n : ℕ) → X.Sheet k n ≡ extent_of w → (es : List Entry) × (w ≡ sheet es n) × (length es ≡ k)
+pub extent_inv : (w : Sheet) (k n : ℕ) → Ok (k, n) ≡ extent_of w → (es : List Entry) × (w ≡ sheet es n) × (length es ≡ k)
 extent_inv (refused r) k n q = let z : ◌≡◌ {A = ℕ} 0 1 = cc in absurd (omega arith)
-extent_inv (sheet es m) k n q = (es, ap (sheet es) (let t : m ≡ n = cc in t), cc)
+extent_inv (sheet es m) k n q = let t = ok_parts q in (es, ap (sheet es) (sym t.1), sym t.0)
 
-pub extent_refused : (w : Sheet) (r : Refusal) → X.Refused r ≡ extent_of w → w ≡ refused r
+pub extent_refused : (w : Sheet) (r : Refusal) → Err r ≡ extent_of w → w ≡ refused r
 extent_refused (refused x) r q = ap refused (let t : x ≡ r = cc in t)
 extent_refused (sheet es m) r q = let z : ◌≡◌ {A = ℕ} 0 1 = cc in absurd (omega arith)
 
 -- ---- a sheet that nothing may follow
 
-abbrev pub alone_x : (ℕ → ℕ → Bool) → Extent → Extent
-alone_x over (X.Refused r) = X.Refused r
-alone_x over (X.Sheet k n) = cond (over k n) (X.Refused (refusal 9 n)) (X.Sheet k n)
+abbrev pub alone_x : (ℕ → ℕ → Bool) → Result (ℕ × ℕ) Refusal → Result (ℕ × ℕ) Refusal
+alone_x over (Err r) = Err r
+alone_x over (Ok (k, n)) = cond (over k n) (Err (refusal 9 n)) (Ok (k, n))
 
 module _ (over : ℕ → ℕ → Bool) (w : Sheet) where
-  pub alone-extent : (x : Extent) → x ≡ extent_of w → extent_of (alone over w) ≡ alone_x over x
+  pub alone-extent : (x : Result (ℕ × ℕ) Refusal) → x ≡ extent_of w → extent_of (alone over w) ≡ alone_x over x
   alone-extent x q = by w q
     where
       split : (es : List Entry) (n : ℕ) (b : Bool)
-          → extent_of (cond b (refused (refusal 9 n)) (sheet es n)) ≡ cond b (X.Refused (refusal 9 n)) (X.Sheet (length es) n)
+          → extent_of (cond b (refused (refusal 9 n)) (sheet es n)) ≡ cond b (Err (refusal 9 n)) (Ok (length es, n))
       split es n true = refl
       split es n false = refl
 
@@ -70,15 +69,15 @@ module _ (over : ℕ → ℕ → Bool) (w : Sheet) where
   pub alone-is : (es : List Entry) (n : ℕ) → w ≡ sheet es n → over (length es) n ≡ false → alone over w ≡ sheet es n
   alone-is es n q o = ap (alone over) q ∙ rw o
 
-  pub alone-same : (k n : ℕ) → X.Sheet k n ≡ extent_of (alone over w) → alone over w ≡ w
+  pub alone-same : (k n : ℕ) → Ok (k, n) ≡ extent_of (alone over w) → alone over w ≡ w
   alone-same k n q = let x = extent_inv (alone over w) k n q in x.1 ∙ sym (alone-inv x.0 n x.1).0
 
 -- of bytes, and of a list
-pub whole_by : (s : List ℕ) (x : Extent) → x ≡ extent_of (read_sheet s) → extent_of (read_whole s) ≡ alone_x (λ k n. ltb n (length s)) x
+pub whole_by : (s : List ℕ) (x : Result (ℕ × ℕ) Refusal) → x ≡ extent_of (read_sheet s) → extent_of (read_whole s) ≡ alone_x (λ k n. ltb n (length s)) x
 unfolding read_whole
 whole_by s x q = alone-extent (λ k n. ltb n (length s)) (read_sheet s) x q
 
-pub whole_same : (s : List ℕ) (k n : ℕ) → X.Sheet k n ≡ extent_of (read_whole s) → read_whole s ≡ read_sheet s
+pub whole_same : (s : List ℕ) (k n : ℕ) → Ok (k, n) ≡ extent_of (read_whole s) → read_whole s ≡ read_sheet s
 unfolding read_whole
 whole_same s k n q = alone-same (λ k n. ltb n (length s)) (read_sheet s) k n q
 
@@ -90,11 +89,11 @@ pub whole_is : (s : List ℕ) (es : List Entry) (n : ℕ) → read_sheet s ≡ s
 unfolding read_whole
 whole_is s es n q h = alone-is (λ k n. ltb n (length s)) (read_sheet s) es n q (le-ltb n (length s) h)
 
-pub list_by : (l : List ℕ) (x : Extent) → x ≡ extent_of (list_sheet l) → extent_of (list_whole l) ≡ alone_x (λ k n. ltb (k * 5) (length l)) x
+pub list_by : (l : List ℕ) (x : Result (ℕ × ℕ) Refusal) → x ≡ extent_of (list_sheet l) → extent_of (list_whole l) ≡ alone_x (λ k n. ltb (k * 5) (length l)) x
 unfolding list_whole
 list_by l x q = alone-extent (λ k n. ltb (k * 5) (length l)) (list_sheet l) x q
 
-pub list_same : (l : List ℕ) (k n : ℕ) → X.Sheet k n ≡ extent_of (list_whole l) → list_whole l ≡ list_sheet l
+pub list_same : (l : List ℕ) (k n : ℕ) → Ok (k, n) ≡ extent_of (list_whole l) → list_whole l ≡ list_sheet l
 unfolding list_whole
 list_same l k n q = alone-same (λ k n. ltb (k * 5) (length l)) (list_sheet l) k n q
 

@@ -1,16 +1,15 @@
 -- Entries that stand one after the other in what is given. Well-formed entries that stand so are a sheet
 -- (`from-well`), and the entries of a sheet are well formed and stand so (`well-from`).
 use Prim.Native.Nat.{ℕ, zero, suc, ◌+◌, ◌≤◌}
-use Rattle.std.specs.Prelude.{◌≡◌}
+use Rattle.std.specs.Prelude.{◌≡◌, Result, Ok, ℕ}
 use Rattle.std.proofs.Math.Path.{refl, ap, subst}
 use Rattle.std.proofs.Common.{sym, ◌∙◌, arith}
 use mathlib.Core.List.{List, [], ◌∷◌}
 use Rattle.std.proofs.Math.Bool.{true, false, cond}
 use Rattle.std.proofs.Math.ListN.{length}
+use Rattle.sheet_types.specs.declared.refusals.Refusal.{Refusal}
 use Rattle.sheet_format.specs.declared.kinds.Entry.{Entry}
 use Rattle.sheet_format.specs.declared.kinds.Progress.{Progress}
-use Rattle.sheet_format.specs.declared.records.Record.{Record}
-use Rattle.sheet_format.specs.declared.records.Record.TheVariants.{Is}
 use Rattle.sheet_format.specs.Kinds.{is_end, size_of}
 use Rattle.sheet_format.specs.RecordEntries.{bytes_of}
 use Rattle.sheet_format.specs.laws.EntryLaws.{bytes-nil, length-bytes_cons}
@@ -21,15 +20,15 @@ use Rattle.sheet_codec.specs.laws.GivenLaws.{from_end, from_more, from-inv, from
 use Rattle.sheet_codec.specs.laws.WellFormed.{WellFormed}
 
 -- the i-th and the next are these, each record right behind the one before it
-unfoldable pub Stand : (ℕ → ℕ → Record) → ℕ → ℕ → List Entry → Type 0
+unfoldable pub Stand : (ℕ → ℕ → Result (Entry × ℕ) Refusal) → ℕ → ℕ → List Entry → Type 0
 Stand given i at [] = Unit
-Stand given i at (e ∷ es) = (given i at ≡ Is e (at + size_of e.kind)) × Stand given (i + 1) (at + size_of e.kind) es
+Stand given i at (e ∷ es) = (given i at ≡ Ok (e, at + size_of e.kind)) × Stand given (i + 1) (at + size_of e.kind) es
 
 -- a record that is given stands right before the next
-abbrev pub Steady : (ℕ → ℕ → Record) → Type 0
-Steady given = (i at : ℕ) (e : Entry) (n : ℕ) → given i at ≡ Is e n → n ≡ at + size_of e.kind
+abbrev pub Steady : (ℕ → ℕ → Result (Entry × ℕ) Refusal) → Type 0
+Steady given = (i at : ℕ) (e : Entry) (n : ℕ) → given i at ≡ Ok (e, n) → n ≡ at + size_of e.kind
 
-module _ (given : ℕ → ℕ → Record) where
+module _ (given : ℕ → ℕ → Result (Entry × ℕ) Refusal) where
   pub from-well : (es : List Entry) (p : Progress) → WellFormed p es → (i at fuel : ℕ) → Stand given i at es → length es ≤ fuel
       → sheet_from given fuel p i at ≡ sheet es (at + length (bytes_of es))
   unfolding WellFormed Stand
@@ -60,7 +59,7 @@ module _ (given : ℕ → ℕ → Record) where
       let e = g.e in
       let long = length-bytes_cons e g.tail in
       let n = steady i at e g.n g.got in
-      let here : given i at ≡ Is e (at + size_of e.kind) = g.got ∙ ap (Is e) n in
+      let here : given i at ≡ Ok (e, at + size_of e.kind) = g.got ∙ ap (λ m. Ok (e, m)) n in
       subst (λ x. WellFormed p x × Stand given i at x × (len ≡ at + length (bytes_of x))) (sym g.all)
       ((elim (is_end e.kind) as (λ b. is_end e.kind ≡ b
       → WellFormed p (e ∷ g.tail) × Stand given i at (e ∷ g.tail) × (len ≡ at + length (bytes_of (e ∷ g.tail)))) [

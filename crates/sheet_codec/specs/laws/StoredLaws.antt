@@ -1,5 +1,5 @@
 -- Entries that stand in bytes: those of their own bytes do, and the bytes of those that stand are theirs.
-use Rattle.std.specs.Prelude.{ℕ, ◌+◌, ◌≡◌, true, false, cond}
+use Rattle.std.specs.Prelude.{ℕ, ◌+◌, ◌≡◌, true, false, cond, Ok}
 use Rattle.std.proofs.Math.Path.{sym, ap}
 use Rattle.std.proofs.Common.{◌∙◌, add-zero, length-append, take-append-drop, drop-drop}
 use mathlib.Core.List.{List, [], ◌∷◌, ◌++◌, append_assoc}
@@ -7,7 +7,6 @@ use native.Mathlib.Omega.{arith}
 use Rattle.std.proofs.Math.ListN.{length, drop}
 use Rattle.sheet_format.specs.declared.kinds.Entry.{Entry}
 use Rattle.sheet_format.specs.declared.kinds.Progress.{Progress}
-use Rattle.sheet_format.specs.declared.records.Record.TheVariants.{Is}
 use Rattle.sheet_format.specs.Kinds.{is_end, size_of}
 use Rattle.sheet_format.specs.RecordEntries.{bytes, bytes_of}
 use Rattle.sheet_format.specs.laws.EntryLaws.{length-bytes, bytes-nil, bytes_cons, length-bytes_cons}
@@ -33,7 +32,7 @@ bytes_stand (e ∷ es) p w m pre rest i =
     let s = pre ++ (bytes_of (e ∷ es) ++ rest) in
     let split : s ≡ pre ++ (bytes e ++ (bytes_of es ++ rest)) =
     ap (λ x. pre ++ x) (ap (λ x. x ++ rest) (bytes_cons e es) ∙ append_assoc (bytes e) (bytes_of es) rest) in
-    let there : record_at s (length pre) ≡ Is e (length pre + size_of e.kind) =
+    let there : record_at s (length pre) ≡ Ok (e, length pre + size_of e.kind) =
     ap (λ x. record_at x (length pre)) split ∙ trip e (fields_fit p e m w.1) pre (bytes_of es ++ rest) in (
       there,
       (elim (is_end e.kind) as (λ b. cond b (es ≡ []) (WellFormed (after_of p e) es) → Stand (stored_at s) (i + 1) (length pre + size_of e.kind) es) [
@@ -47,7 +46,7 @@ bytes_stand (e ∷ es) p w m pre rest i =
 
 module _ (s : List ℕ) (b : Bytes s) where
   -- what stands from a record on
-  record-split : (at : ℕ) (e : Entry) (n : ℕ) → record_at s at ≡ Is e n → drop at s ≡ bytes e ++ drop (at + size_of e.kind) s
+  record-split : (at : ℕ) (e : Entry) (n : ℕ) → record_at s at ≡ Ok (e, n) → drop at s ≡ bytes e ++ drop (at + size_of e.kind) s
   record-split at e n q =
       sym (take-append-drop (size_of e.kind) (drop at s)) ∙ ap (λ x. x ++ drop (size_of e.kind) (drop at s)) (back s b at e n q)
       ∙ ap (λ x. bytes e ++ x) (drop-drop (size_of e.kind) at s)

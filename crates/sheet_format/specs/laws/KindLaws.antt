@@ -1,5 +1,5 @@
 -- Laws of the table of kinds.
-use Rattle.std.specs.Prelude.{ℕ, ◌+◌, ◌-◌, ◌*◌, ◌/◌, ◌%◌, ◌≤◌, ◌<◌, ◌≡◌, refl, List, [], ◌∷◌, true, false, cond}
+use Rattle.std.specs.Prelude.{ℕ, ◌+◌, ◌-◌, ◌*◌, ◌/◌, ◌%◌, ◌≤◌, ◌<◌, ◌≡◌, refl, List, [], ◌∷◌, true, false, cond, None, Some}
 use Rattle.std.proofs.Common.{sym, ap, ◌∙◌, arith, eq-eqb, ne_eqb}
 use Rattle.std.proofs.Math.Decide.{ℕ_discrete}
 use Rattle.sheet_types.specs.declared.phases.Phase.{Phase}
@@ -9,13 +9,12 @@ use Rattle.sheet_format.specs.declared.kinds.Kind.TheVariants as K
 use Rattle.sheet_format.specs.declared.kinds.Width.{Width}
 use Rattle.sheet_format.specs.declared.kinds.Width.TheVariants.{Absent, Two, Four}
 use Rattle.sheet_format.specs.declared.kinds.Entry.{Entry}
-use Rattle.sheet_format.specs.declared.kinds.Named.TheVariants.{Is, Unknown}
 use Rattle.rounding.specs.laws.Tests.{both, distinct}
 use Rattle.sheet_format.specs.Kinds.{base, code_of, kinds, among, kind_for, widths_of, bytes_in, size_of, is_end, unused, plain}
 
 -- a number that is no phase's kind and none of the others names none
 pub no_kind : (x : ℕ) → (x ≡ 0x01 → ⊥) → (x ≡ 0x30 → ⊥) → (x ≡ 0x31 → ⊥) → (x ≡ 0x7f → ⊥) → ((φ : Phase) (y : ℕ) → y < 4 → x ≡ base φ + y → ⊥)
-    → kind_for x ≡ Unknown
+    → kind_for x ≡ None
 no_kind x a b c d p =
     rw (
       ne_eqb x 0x01 a,
@@ -37,7 +36,7 @@ no_kind x a b c d p =
     )
 
 -- the byte of a kind names it
-pub kind_code : (k : Kind) → kind_for (code_of k) ≡ Is k
+pub kind_code : (k : Kind) → kind_for (code_of k) ≡ Some k
 kind_code K.Head = refl
 kind_code (K.Enter Penumbra) = refl
 kind_code (K.Enter Central) = refl
@@ -55,17 +54,17 @@ kind_code K.Closest = refl
 kind_code K.Share = refl
 kind_code K.End = refl
 
-among_inv : (ks : List Kind) (x : ℕ) (k : Kind) → among x ks ≡ Is k → x ≡ code_of k
+among_inv : (ks : List Kind) (x : ℕ) (k : Kind) → among x ks ≡ Some k → x ≡ code_of k
 among_inv [] x k q = let z : ◌≡◌ {A = ℕ} 0 1 = cc in absurd (omega arith)
 among_inv (j ∷ ks) x k q =
     elim (ℕ_discrete x (code_of j)) [
-      | yes e ↦ let t : Is j ≡ Is k = sym (ap (λ b. cond b (Is j) (among x ks)) (eq-eqb x (code_of j) e)) ∙ q in
+      | yes e ↦ let t : Some j ≡ Some k = sym (ap (λ b. cond b (Some j) (among x ks)) (eq-eqb x (code_of j) e)) ∙ q in
           let u : j ≡ k = cc in e ∙ ap code_of u
-      | no n ↦ among_inv ks x k (sym (ap (λ b. cond b (Is j) (among x ks)) (ne_eqb x (code_of j) n)) ∙ q)
+      | no n ↦ among_inv ks x k (sym (ap (λ b. cond b (Some j) (among x ks)) (ne_eqb x (code_of j) n)) ∙ q)
     ]
 
 -- a number that names a kind is its byte
-pub kind_inv : (x : ℕ) (k : Kind) → kind_for x ≡ Is k → x ≡ code_of k
+pub kind_inv : (x : ℕ) (k : Kind) → kind_for x ≡ Some k → x ≡ code_of k
 kind_inv x k q = among_inv kinds x k q
 
 pub width_small : (w : Width) → bytes_in w ≤ 4
@@ -123,7 +122,7 @@ size_byte K.End e n m = absurd (distinct e)
 
 -- a kind is the only one of its byte
 size_of_byte : (k j : Kind) → code_of k ≡ code_of j → size_of k ≡ size_of j
-size_of_byte k j e = ap size_of (let h : Is k ≡ Is j = sym (kind_code k) ∙ ap kind_for e ∙ kind_code j in let i : k ≡ j = cc in i)
+size_of_byte k j e = ap size_of (let h : Some k ≡ Some j = sym (kind_code k) ∙ ap kind_for e ∙ kind_code j in let i : k ≡ j = cc in i)
 
 pub size-head : (k : Kind) → code_of k ≡ 0x01 → size_of k ≡ 9
 size-head k e = size_of_byte k K.Head e

@@ -1,13 +1,10 @@
 -- One record, written and read back, and read and written back.
-use Rattle.std.specs.Prelude.{ℕ, ◌+◌, ◌≤◌, ◌≡◌, List, [], ◌∷◌, ◌++◌, length, get_or, drop, take}
+use Rattle.std.specs.Prelude.{ℕ, ◌+◌, ◌≤◌, ◌≡◌, List, [], ◌∷◌, ◌++◌, length, get_or, drop, take, Ok, Some}
 use Rattle.std.proofs.Common.{sym, ap, ◌∙◌, append_assoc, arith, length-append, drop-cons, drop-drop, take-add}
 use Rattle.std.proofs.Math.Seq.{get_or-append_seam}
 use Rattle.sheet_format.specs.declared.kinds.Entry.{Entry}
 use Rattle.sheet_format.specs.declared.kinds.Kind.{Kind}
 use Rattle.sheet_format.specs.declared.kinds.Width.{Width}
-use Rattle.sheet_format.specs.declared.records.Byte.TheVariants as Byte
-use Rattle.sheet_format.specs.declared.records.Body.TheVariants as Body
-use Rattle.sheet_format.specs.declared.records.Record.TheVariants.{Is}
 use Rattle.sheet_format.specs.Kinds.{code_of, widths_of, bytes_in, size_of}
 use Rattle.sheet_format.specs.laws.KindLaws.{kind_code, kind_inv, size_small}
 use Rattle.big_endian.specs.Numbers.{Bytes}
@@ -63,7 +60,7 @@ body_back e f s p rest at q l =
     same-entry e (number_at w.a s at) (number_at w.b s at_b) (number_at w.c s at_c) (number_at w.d s at-d) x.is y.is z.is u.is
 
 -- a record that stands behind p is read back
-pub trip : (e : Entry) → FitsIn e → (p rest : List ℕ) → record_at (p ++ (bytes e ++ rest)) (length p) ≡ Is e (length p + size_of e.kind)
+pub trip : (e : Entry) → FitsIn e → (p rest : List ℕ) → record_at (p ++ (bytes e ++ rest)) (length p) ≡ Ok (e, (length p + size_of e.kind))
 trip e f p rest =
     let s = p ++ (bytes e ++ rest) in
     let k = e.kind in
@@ -72,10 +69,10 @@ trip e f p rest =
     (length-append (bytes e) rest ∙ ap (λ n. n + length rest) (length-bytes e)) in
     let fields : entry_at k s (length p + 1) ≡ e =
     body_back e f s (p ++ (code_of k ∷ [])) rest (length p + 1) (sym (append_assoc p (code_of k ∷ []) in_Body)) (sym (length-append p (code_of k ∷ []))) in
-    sym (by-body s (length p) (code_of k) k (Body.Is e)
-    (byte-there s (length p) (omega (arith, size_small k)) ∙ ap Byte.Is (get_or-append_seam p (code_of k) in_Body 0))
+    sym (by-body s (length p) (code_of k) k (Some e)
+    (byte-there s (length p) (omega (arith, size_small k)) ∙ ap Some (get_or-append_seam p (code_of k) in_Body 0))
     (kind_code k)
-    (body-whole s (length p) k (omega arith) ∙ ap Body.Is fields))
+    (body-whole s (length p) k (omega arith) ∙ ap Some fields))
 
 -- ---- what is read is written back
 
@@ -109,7 +106,7 @@ module _ (s : List ℕ) (b : Bytes s) where
       ∙ ap (λ l. take 1 l ++ body w (entry_at k s (at + 1))) (drop-cons s at 0 (omega arith))
 
   -- a record that was read stands in the bytes as it is written
-  pub back : (at : ℕ) (e : Entry) (n : ℕ) → record_at s at ≡ Is e n → take (size_of e.kind) (drop at s) ≡ bytes e
+  pub back : (at : ℕ) (e : Entry) (n : ℕ) → record_at s at ≡ Ok (e, n) → take (size_of e.kind) (drop at s) ≡ bytes e
   back at e n q =
       let t = record-inv s at e n q in
       let k = e.kind in

@@ -8,21 +8,20 @@ ghost use Rattle.sheet_format.specs.RecordEntries.{bytes};
 ghost use Rattle.sheet_format.specs.laws.Bodies.{field_a, field_b, field_c, field_d};
 ghost use Rattle.sheet_format.specs.Records.{byte_at, bodyAt, record_at};
 
-use super::{Body, Byte, Record};
-use crate::kinds::{Entry, Kind, Named, Width};
+use crate::kinds::{Entry, Kind, Width};
 use sheet_types::refusals::Refusal;
 
 // ---- reading
 
 // The byte at `at`, if the input reaches so far.
-pub fn byte_at(s: &[u8], at: usize) -> Byte
+pub fn byte_at(s: &[u8], at: usize) -> Option<u32>
     ensures { result ≡ byte_at s.now at }
 {
     if at < s.len() {
         let byte = big_endian::wide(s[at]);
-        return Byte::Is(byte);
+        return Some(byte);
     }
-    Byte::Past
+    None
 }
 
 // The number of two bytes at `at` if it is there, else 0.
@@ -108,13 +107,13 @@ fn is_cut(left: usize, kind: Kind) -> bool
 // The entry of that kind whose record is at `at`, if the input does not end inside it. What is read depends on how
 // much is left, and only its meaning on the kind: so kinds in no pattern cost no branch. It is for crates that go
 // along a sheet, and has a `requires`, so it is none of the public promises.
-pub fn body_at(s: &[u8], at: usize, kind: Kind) -> Body
+pub fn body_at(s: &[u8], at: usize, kind: Kind) -> Option<Entry>
     requires { at < length s.now }
     ensures { result ≡ bodyAt kind s.now at }
 {
     let left = s.len() - at;
     if is_cut(left, kind) {
-        return Body::Cut;
+        return None;
     }
     let at_a = at + 1;
     let at_b = at_a + 2;
@@ -128,33 +127,27 @@ pub fn body_at(s: &[u8], at: usize, kind: Kind) -> Body
     let b = field_b(kind, y, y * 65536 + z);
     let c = field_c(kind, z);
     let d = field_d(kind, w);
-    Body::Is(Entry { kind, a, b, c, d })
+    Some(Entry { kind, a, b, c, d })
 }
 
 // The record at `at`: its entry and the place after it; or 5 or 6.
-pub fn record_at(s: &[u8], at: usize) -> Record
+pub fn record_at(s: &[u8], at: usize) -> Result<(Entry, usize), Refusal>
     ensures { result ≡ record_at s.now at }
 {
-    let Byte::Is(code) = byte_at(s, at) else {
-        return Record::Refused(Refusal {
-            number: 6,
-            place: s.len(),
-        });
-    };
-    let Named::Is(kind) = crate::kinds::kind_for(code) else {
-        return Record::Refused(Refusal {
-            number: 5,
-            place: at,
-        });
-    };
-    let Body::Is(entry) = body_at(s, at, kind) else {
-        return Record::Refused(Refusal {
-            number: 6,
-            place: at,
-        });
-    };
+    let code = byte_at(s, at).ok_or(Refusal {
+        number: 6,
+        place: s.len(),
+    })?;
+    let kind = crate::kinds::kind_for(code).ok_or(Refusal {
+        number: 5,
+        place: at,
+    })?;
+    let entry = body_at(s, at, kind).ok_or(Refusal {
+        number: 6,
+        place: at,
+    })?;
     let next = at + crate::kinds::size_of(kind);
-    Record::Is(entry, next)
+    Ok((entry, next))
 }
 
 // ---- writing

@@ -1,20 +1,16 @@
 -- Whatever `contact_times::contact_at` answers is true (`answer-true`), of a request with any guard: the two hundredths
 -- are between its two seconds, in order, and the station is truly outside at the one and truly inside at the other.
 use Rattle.std.proofs.Math.Path.{◌≡◌, refl}
-use Rattle.std.proofs.Common.{◌∙◌, inl, inr, arith}
+use Rattle.std.proofs.Common.{◌∙◌, inl, inr, arith, Some, Ok, Option, None, Result, Err}
 use Rattle.std.specs.Prelude.{List, ◌⊎◌, ℕ, ◌+◌, ◌≤◌, ℤ, pos, nat_abs, ◌*ℤ◌}
+use Rattle.sheet_types.specs.declared.refusals.Refusal.{Refusal}
 use Rattle.sheet_types.specs.declared.phases.Phase.{Phase}
 use Rattle.sheet_types.specs.States.{State, inside, outside, unsure, code}
 use Rattle.rounding.specs.laws.Order.{≤ℤ_trans, <ℤ-≤}
-use Rattle.sheet_types.specs.declared.refusals.Checked.{Checked}
-use Rattle.sheet_types.specs.declared.refusals.Checked.TheVariants as C
 use Rattle.requests.specs.declared.windows.Window.{Window}
 use Rattle.requests.specs.WindowLaws.{WindowHolds, window-sizes}
 use Rattle.requests.specs.declared.Occultation.{Occultation}
 use Rattle.requests.specs.RequestLaws.{InLimits}
-use Rattle.contact_times.specs.declared.search.Bracket.{Bracket}
-use Rattle.contact_times.specs.declared.search.Bracket.TheVariants as B
-use Rattle.contact_times.specs.declared.OneContact.TheVariants as O
 use Rattle.contact_times.specs.Brackets.{state_at, bracket_of}
 use Rattle.contact_times.specs.Contacts.{crossing, phase_at, found, contact_checked, contact_by, contact_answer}
 use Rattle.contact_times.proofs.laws.ContactLaws.{contact-within}
@@ -36,7 +32,7 @@ either unsure inside e = absurd (omega arith)
 either unsure unsure e = absurd (omega arith)
 
 module _ (o : Occultation) (c : TrueC o.station.latitude) (φ : Phase) (from to a b : ℤ) where
-  within : InLimits o → WindowHolds (record { first = from; last = to }) → bracket_of (crossing o φ) from to ≡ B.Between a b → AnswerTrue o c φ from to a b
+  within : InLimits o → WindowHolds (record { first = from; last = to }) → bracket_of (crossing o φ) from to ≡ Some (a, b) → AnswerTrue o c φ from to a b
   within i h g =
       let w : Window = record { first = from; last = to } in
       let z = window-sizes w h in
@@ -60,17 +56,17 @@ module _ (o : Occultation) (c : TrueC o.station.latitude) (φ : Phase) (from to 
 
 -- the phase by its number, as `contact_at` takes it
 module _ (o : Occultation) (c : TrueC o.station.latitude) (φ from to a b : ℤ) where
-  pub answer-true : (sines : List ℕ) → contact_answer o φ from to sines ≡ O.Is a b → AnswerTrue o c (phase_at o.body φ) from to a b
+  pub answer-true : (sines : List ℕ) → contact_answer o φ from to sines ≡ Ok (a, b) → AnswerTrue o c (phase_at o.body φ) from to a b
   unfolding contact_answer
   answer-true sines g = by-check (contact_checked o φ from to sines) refl g
     where
-      by-bracket : (k : Bracket) → bracket_of (crossing o (phase_at o.body φ)) from to ≡ k → found k ≡ O.Is a b
-          → bracket_of (crossing o (phase_at o.body φ)) from to ≡ B.Between a b
-      by-bracket (B.Between p q) e g = cc
-      by-bracket B.NoContact e g = let z : ◌≡◌ {A = ℕ} 0 1 = cc in absurd (omega arith)
+      by-bracket : (k : Option (ℤ × ℤ)) → bracket_of (crossing o (phase_at o.body φ)) from to ≡ k → found k ≡ Ok (a, b)
+          → bracket_of (crossing o (phase_at o.body φ)) from to ≡ Some (a, b)
+      by-bracket (Some (p, q)) e g = cc
+      by-bracket None e g = let z : ◌≡◌ {A = ℕ} 0 1 = cc in absurd (omega arith)
 
-      by-check : (k : Checked) → contact_checked o φ from to sines ≡ k → contact_by k o φ from to ≡ O.Is a b → AnswerTrue o c (phase_at o.body φ) from to a b
-      by-check (C.Refused r) e g = let z : ◌≡◌ {A = ℕ} 0 1 = cc in absurd (omega arith)
-      by-check C.Within e g =
+      by-check : (k : Result Unit Refusal) → contact_checked o φ from to sines ≡ k → contact_by k o φ from to ≡ Ok (a, b) → AnswerTrue o c (phase_at o.body φ) from to a b
+      by-check (Err r) e g = let z : ◌≡◌ {A = ℕ} 0 1 = cc in absurd (omega arith)
+      by-check (Ok tt) e g =
           let h = contact-within o φ from to sines e in
           within o c (phase_at o.body φ) from to a b h.limits h.window (by-bracket (bracket_of (crossing o (phase_at o.body φ)) from to) refl g)

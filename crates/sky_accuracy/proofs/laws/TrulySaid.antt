@@ -4,8 +4,6 @@ use Rattle.std.proofs.Common.{ap, ◌∙◌, arith, lit≤}
 use Rattle.std.specs.Prelude.{◌+◌, ℤ, pos, nat_abs, ◌+ℤ◌, ◌≤ℤ◌}
 use Rattle.std.specs.Int.Signed.{le_z_yes}
 use Rattle.rounding.specs.laws.Order.{≤ℤ_trans, nonneg_nat_abs}
-use Rattle.sheet_types.specs.declared.refusals.Checked.{Checked}
-use Rattle.sheet_types.specs.declared.refusals.Checked.TheVariants as C
 use Rattle.station.specs.Place.{place_of}
 use Rattle.shadow_geometry.specs.Shadow.{cone}
 use Rattle.requests.specs.declared.Occultation.{Occultation}
@@ -14,7 +12,6 @@ use Rattle.requests.specs.RequestLaws.{InLimits}
 use Rattle.seconds.specs.Seconds.{state_at}
 use Rattle.contact_times.specs.laws.SecondStates.{second-same}
 use Rattle.local_circumstances.specs.Demand3.{EachSecond}
-use Rattle.circumstances.specs.declared.Answer.TheVariants as A
 use Rattle.local_circumstances.specs.Course.{course_of}
 use Rattle.sky_accuracy.specs.TruePlace.{TrueC}
 use Rattle.sky_accuracy.specs.TrueShadow.{TrulyWithinUnits}

@@ -5,11 +5,9 @@
 -- Why: each second is said rightly of the true answers (`truly-said`), and demand 3 follows from that for any answers
 -- (local_circumstances, Demand3Laws).
 use Rattle.std.proofs.Math.Path.{◌≡◌, refl, subst}
-use Rattle.std.proofs.Common.{arith, lit≤}
+use Rattle.std.proofs.Common.{arith, lit≤, Ok, Err, Result}
 use Rattle.std.specs.Prelude.{Bool, true, false, cond, List, ◌++◌, ℕ, ◌+◌, leb, ℤ, pos, length, drop, ◌≤ℤ◌}
 use Rattle.sheet_types.specs.declared.refusals.Refusal.{Refusal}
-use Rattle.sheet_types.specs.declared.refusals.Checked.{Checked}
-use Rattle.sheet_types.specs.declared.refusals.Checked.TheVariants as C
 use Rattle.sheet_types.specs.Refusals.{refusal}
 use Rattle.sheet_types.specs.declared.phases.Phase.{Phase}
 use Rattle.elements.specs.Stars.{axis_of}
@@ -27,7 +25,6 @@ use Rattle.requests.proofs.laws.AdmissionLaws.{admitted-within}
 use Rattle.local_circumstances.specs.Courses.{sheetOf}
 use Rattle.local_circumstances.specs.Demand3.{Demand3}
 use Rattle.local_circumstances.proofs.laws.Demand3Laws.{changes-once, ends-exact, turns-alternate}
-use Rattle.circumstances.specs.declared.Answer.TheVariants as A
 use Rattle.local_circumstances.specs.Course.{course_of}
 use Rattle.circumstances.specs.WrittenSheet.{sheet_bytes}
 use Rattle.circumstances.specs.Sheet.{answer_by, buffer_by, sheet_answer, sheet_buffer}
@@ -73,20 +70,20 @@ module _ (o : Occultation) (guard : pos 32 ≤ℤ o.guard) (c : TrueC o.station.
 
   -- of the sheet that a call wrote, n bytes of its buffer (circumstances, sheet_answer and sheet_buffer: what
   -- `circumstances::sheet` promises)
-  pub truth : (sines old : List ℕ) (n : ℕ) → sheet_answer o sines old ≡ A.Written n → Demand3 (course_of o) (true_answers o c) n (sheet_buffer o sines old)
+  pub truth : (sines old : List ℕ) (n : ℕ) → sheet_answer o sines old ≡ Ok n → Demand3 (course_of o) (true_answers o c) n (sheet_buffer o sines old)
   unfolding sheet_answer sheet_buffer
   truth sines old n e = by-check (admitted o sines) refl e
     where
-      never : {B : Type 0} (r : Refusal) → A.Refused r ≡ A.Written n → B
+      never : {B : Type 0} (r : Refusal) → Err r ≡ Ok n → B
       never r e = let z : ◌≡◌ {A = ℕ} 0 1 = cc in absurd (omega arith)
 
-      by-room : (b : Bool) → InLimits o → cond b (A.Written (length (sheet_bytes o))) (A.Refused (refusal 4 (length (sheet_bytes o)))) ≡ A.Written n
+      by-room : (b : Bool) → InLimits o → cond b (Ok (length (sheet_bytes o))) (Err (refusal 4 (length (sheet_bytes o)))) ≡ Ok n
           → Demand3 (course_of o) (true_answers o c) n (cond b (sheet_bytes o ++ drop (length (sheet_bytes o)) old) old)
       by-room true i e =
           let m : length (sheet_bytes o) ≡ n = cc in
           subst (λ (k : ℕ). Demand3 (course_of o) (true_answers o c) k (sheet_bytes o ++ drop (length (sheet_bytes o)) old)) m (true-sheet i (drop (length (sheet_bytes o)) old))
       by-room false i e = never (refusal 4 (length (sheet_bytes o))) e
 
-      by-check : (k : Checked) → admitted o sines ≡ k → answer_by k o old ≡ A.Written n → Demand3 (course_of o) (true_answers o c) n (buffer_by k o old)
-      by-check (C.Refused r) a e = never r e
-      by-check C.Within a e = by-room (leb (length (sheet_bytes o)) (length old)) (admitted-within o sines a).0 e
+      by-check : (k : Result Unit Refusal) → admitted o sines ≡ k → answer_by k o old ≡ Ok n → Demand3 (course_of o) (true_answers o c) n (buffer_by k o old)
+      by-check (Err r) a e = never r e
+      by-check (Ok tt) a e = by-room (leb (length (sheet_bytes o)) (length old)) (admitted-within o sines a).0 e

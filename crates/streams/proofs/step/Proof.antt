@@ -5,15 +5,15 @@ use borrow.Author.Rules.{rules}
 use Rattle.streams.proofs.step.Statement.{statement}
 use Rattle.streams.proofs.step.Tie as tie
 
-returns : tie.Need-returns-in-Written
+returns : tie.Need-returns-in-Ok
 returns c =
     let m = c.answer-answer in
-    step-written _ _ _ _ _ _ _ _ m.ensures _ c.in-Written.is (omega arith) _
+    step-written _ _ _ _ _ _ _ _ m.ensures _ c.in-Ok.is (omega arith) _
 
-returns-2 : tie.Need-returns-in-Refused
+returns-2 : tie.Need-returns-in-Err
 returns-2 c =
     let m = c.answer-answer in
-    step-refused _ _ _ _ _ _ _ _ m.ensures _ c.in-Refused.is _ _ _ c.put_refusal-end.ensures _ c.is_shape-stops.ensures
+    step-refused _ _ _ _ _ _ _ _ m.ensures _ c.in-Err.is _ _ _ c.put_refusal-end.ensures _ c.is_shape-stops.ensures
 
 pub step_spec : {M : Type 1} → statement M
 step_spec =

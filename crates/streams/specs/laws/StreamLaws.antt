@@ -1,12 +1,10 @@
 -- The ways of a step: by the first byte, and by the answer.
-use Rattle.std.specs.Prelude.{◌≡◌, Bool, List, [], ◌∷◌, ℕ, ◌≤◌, ◌<◌, length, take}
+use Rattle.std.specs.Prelude.{◌≡◌, Bool, List, [], ◌∷◌, ℕ, ◌≤◌, ◌<◌, length, take, Result, Ok, Err}
 use Rattle.std.proofs.Math.Path.{refl}
 use Rattle.std.proofs.Common.{sym, ap, ◌∙◌, arith, length-take-le}
 use Rattle.std.proofs.Math.Bool.{true, false}
 use borrow.Author.Tests.{eq-eqb, ne_eqb}
 use Rattle.sheet_types.specs.declared.refusals.Refusal.{Refusal}
-use Rattle.circumstances.specs.declared.Answer.{Answer}
-use Rattle.circumstances.specs.declared.Answer.TheVariants as A
 use Rattle.request_answers.specs.Sheet.{answer_to, buffer_for, sines_for, star_answer, star_buffer, star_sines, Begins, stored_by}
 use Rattle.request_answers.specs.laws.SheetLaws.{Fits, fits_written, fits, star-fits}
 use Rattle.decimal_text.specs.Texts.{Put, Counts}
@@ -37,10 +35,10 @@ none-is-star (x ∷ s) h = absurd (omega arith)
 
 module _ (s sines room : List ℕ) where
   -- what an answer, the sheet's buffer and that for table S are
-  abbrev pub AnswerIs : Answer → List ℕ → List ℕ → Type 0
+  abbrev pub AnswerIs : Result ℕ Refusal → List ℕ → List ℕ → Type 0
   AnswerIs a left table = (a ≡ answer_for s sines room) × ((left ≡ room_for s sines room) × (table ≡ table_for s sines))
 
-  module _ (a : Answer) (left table : List ℕ) where
+  module _ (a : Result ℕ Refusal) (left table : List ℕ) where
     pub star-way : is_star s ≡ true → a ≡ star_answer s sines room → left ≡ star_buffer s sines room → table ≡ star_sines s sines → AnswerIs a left table
     unfolding answer_for room_for table_for
     star-way e p q t = rw e (p, (q, t))
@@ -79,19 +77,19 @@ module _ (s sines room : List ℕ) where
         unfolding stops_for
         stops-is = rw m.0
 
-        pub step-written : (n : ℕ) → a ≡ A.Written n → length left ≡ length room → (line : List ℕ) → Promised n line line 0 false
+        pub step-written : (n : ℕ) → a ≡ Ok n → length left ≡ length room → (line : List ℕ) → Promised n line line 0 false
         step-written n e l line =
             let h : n ≤ length left = fits_written a left n e (any-fits l m) in
-            let t : take n left ≡ sheet_for s sines room = ap (λ (b : Answer). stored_by b left) (sym e) ∙ sheet-is in
+            let t : take n left ≡ sheet_for s sines room = ap (λ (b : Result ℕ Refusal). stored_by b left) (sym e) ∙ sheet-is in
             let u : [] ≡ told_for count at s sines room = ap (told_by count at) (sym e) ∙ told_is in
             let v : false ≡ stops_for s sines room = ap stops_by (sym e) ∙ stops-is in
             let k = sym (length-take-le n left h) in
             (record { count = k ∙ ap length t; bytes = t }, (rw (← u) (put_nil line 0 (omega arith)), (v, (m.1.0, (m.1.1, (h, k))))))
 
-        pub step-refused : (x : Refusal) → a ≡ A.Refused x → (line after : List ℕ) (r : ℕ) → Put line 0 (refusal_told count at x) after r
+        pub step-refused : (x : Refusal) → a ≡ Err x → (line after : List ℕ) (r : ℕ) → Put line 0 (refusal_told count at x) after r
             → (stops : Bool) → stops ≡ is_shape x → Promised 0 line after r stops
         step-refused x e line after r p stops f =
-            let t : [] ≡ sheet_for s sines room = ap (λ (b : Answer). stored_by b left) (sym e) ∙ sheet-is in
+            let t : [] ≡ sheet_for s sines room = ap (λ (b : Result ℕ Refusal). stored_by b left) (sym e) ∙ sheet-is in
             let u : refusal_told count at x ≡ told_for count at s sines room = ap (told_by count at) (sym e) ∙ told_is in
             let v : is_shape x ≡ stops_for s sines room = ap stops_by (sym e) ∙ stops-is in
             (record { count = ap length t; bytes = t }, (rw (← u) p, (f ∙ v, (m.1.0, (m.1.1, (omega arith, refl))))))

@@ -1,9 +1,9 @@
 -- What is written of the text that was read is what is written of the whole input, and goes to the output that it is
 -- of.
-use Rattle.std.specs.Prelude.{ℕ, ◌≤◌, min, ◌≡◌, refl, List, pos, length, take}
+use Rattle.std.specs.Prelude.{ℕ, ◌≤◌, min, ◌≡◌, refl, List, pos, length, take, Option}
 use Rattle.std.proofs.Common.{sym, ap, ◌∙◌, arith, eq-eqb, ne_eqb, lt-ltb}
+use Rattle.calendar.specs.declared.Instant.{Instant}
 use Rattle.decimal_text.specs.Texts.{letters, Put, Copies}
-use Rattle.calendar.specs.declared.Reference.{Reference}
 use Rattle.request_format.specs.Request.{bytes_for}
 use Rattle.program_io.specs.Inputs.{Read}
 use Rattle.program_io.specs.Outputs.{Sent, to_output, to_error}
@@ -14,7 +14,7 @@ use Rattle.request_text.specs.laws.RoomLaws.{Bytes, Message}
 use Rattle.answers.specs.Answers.{timed_text, star_timed_text}
 use Rattle.times.specs.Printed.{text_by, answer_text, output_of}
 
-module _ (k : Reference) (request sines room : List ℕ) {old new : List ℕ} {r : ℕ} where
+module _ (k : Option Instant) (request sines room : List ℕ) {old new : List ℕ} {r : ℕ} where
   pub star-put : length request ≡ 79 → Put old 0 (star_timed_text k request sines room) new r → Put old 0 (text_by k request sines room) new r
   unfolding text_by
   star-put e p = rw (eq-eqb (length request) 79 e) p
@@ -23,7 +23,7 @@ module _ (k : Reference) (request sines room : List ℕ) {old new : List ℕ} {r
   unfolding text_by
   eclipse-put e p = rw (ne_eqb (length request) 79 e) p
 
-module _ (k : Reference) (request sines room : List ℕ) (t : Copies 0 901 sines) (b : Copies 0 65536 room) where
+module _ (k : Option Instant) (request sines room : List ℕ) (t : Copies 0 901 sines) (b : Copies 0 65536 room) where
   answer-is : text_by k request sines room ≡ answer_text k request
   unfolding answer_text
   answer-is = rw (t.is, b.is)
@@ -45,7 +45,7 @@ module _ (array old new : List ℕ) (n end r : ℕ) (c : n ≤ length array) (l 
   cut : (text : List ℕ) → Put old 0 text new end → take r new ≡ take 2000000 text
   cut text p = (put-cut text old new end p (omega arith) r e).0 ∙ ap (λ j. take j text) m
 
-  pub listing-out : {k : ℕ} {x : Reference} {bytes : List ℕ} → Bytes (take n array) k x bytes → (sines room : List ℕ)
+  pub listing-out : {k : ℕ} {x : Option Instant} {bytes : List ℕ} → Bytes (take n array) k x bytes → (sines room : List ℕ)
       → Copies 0 901 sines → Copies 0 65536 room → Put old 0 (text_by x (take k bytes) sines room) new end
       → Sent (pos 1) (take r new) (take 2000000 (output_of input)) (take 2000000 (error_of input))
   listing-out {k} {x} {bytes} b sines room t s p =

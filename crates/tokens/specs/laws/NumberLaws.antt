@@ -1,13 +1,13 @@
 -- Laws of typed numbers.
-use Rattle.std.specs.Prelude.{◌≡◌, refl, Bool, true, false, ℕ, zero, suc, ◌+◌, ◌-◌, ◌≤◌, ◌<◌, get_or, take, drop}
+use Rattle.std.specs.Prelude.{◌≡◌, refl, Bool, true, false, ℕ, zero, suc, ◌+◌, ◌-◌, ◌≤◌, ◌<◌, get_or, take, drop, Err, Ok}
 use Rattle.std.proofs.Common.{sym, ◌∙◌, add-zero, arith, lt-ltb, le-ltb, get_or-drop, drop-drop}
 use Rattle.std.proofs.Math.Path.{ap}
 use mathlib.Core.List.{List}
 use Rattle.std.proofs.Math.Nat.{sub-zero}
 use Rattle.std.proofs.Math.Decide.{dec_lt}
 use Rattle.std.proofs.Math.ListN.{length}
+use Rattle.tokens.specs.declared.NotUnits.TheVariants as NotUnits
 use Rattle.tokens.specs.declared.Class.TheVariants as C
-use Rattle.tokens.specs.declared.Units.TheVariants as U
 use Rattle.tokens.specs.Text.{run_of, all_of, start_of}
 use Rattle.tokens.specs.laws.TextLaws.{rest-is, from_end, run-nil}
 use Rattle.tokens.specs.Numbers.{digit_after, appended, unsigned, wholes, pointed, decimals, is_number, is_whole, amount, capped, units_of}
@@ -121,15 +121,15 @@ split w sign digits point e f g =
       decs = rest-is (part (part w sign) digits) point ∙ ap (drop point) after ∙ ap (λ (i : ℕ). drop i (pointed w)) (g ∙ ap (start_of C.Point) after);
     }
 
-units_no_number : (places : ℕ) (w : List ℕ) → is_number w ≡ false → U.NotNumber ≡ units_of places w
+units_no_number : (places : ℕ) (w : List ℕ) → is_number w ≡ false → (Err NotUnits.NotNumber) ≡ units_of places w
 unfolding units_of
 units_no_number places w e = rw e
 
-units_no_whole : (places : ℕ) (w : List ℕ) → is_number w ≡ true → is_whole places w ≡ false → U.NotWhole ≡ units_of places w
+units_no_whole : (places : ℕ) (w : List ℕ) → is_number w ≡ true → is_whole places w ≡ false → (Err NotUnits.NotWhole) ≡ units_of places w
 unfolding units_of
 units_no_whole places w e f = rw (e, f)
 
-units_are : (places : ℕ) (w : List ℕ) → is_number w ≡ true → is_whole places w ≡ true → U.Is (capped (amount places w)) ≡ units_of places w
+units_are : (places : ℕ) (w : List ℕ) → is_number w ≡ true → is_whole places w ≡ true → Ok (capped (amount places w)) ≡ units_of places w
 unfolding units_of
 units_are places w e f = rw (e, f)
 
@@ -141,14 +141,14 @@ module _ (places : ℕ) (w : List ℕ) (sign digits point : ℕ) (s : Split w si
   unfolding is_number
   no-digits q = rw (← s.decs, q)
 
-  pub split-other : all_of C.Digit found ≡ false → U.NotNumber ≡ units_of places w
+  pub split-other : all_of C.Digit found ≡ false → (Err NotUnits.NotNumber) ≡ units_of places w
   split-other e = units_no_number places w (no-digits e)
 
   no_digit : all_of C.Digit found ≡ true → digits + length found ≡ 0 → is_number w ≡ false
   unfolding is_number
   no_digit q y = rw (← s.decs, q, ← s.whole) (le-ltb 0 (digits + length found) (omega arith))
 
-  pub split-empty : all_of C.Digit found ≡ true → digits + length found ≡ 0 → U.NotNumber ≡ units_of places w
+  pub split-empty : all_of C.Digit found ≡ true → digits + length found ≡ 0 → (Err NotUnits.NotNumber) ≡ units_of places w
   split-empty e z = units_no_number places w (no_digit e z)
 
   is-number : all_of C.Digit found ≡ true → (digits + length found ≡ 0 → ⊥) → is_number w ≡ true
@@ -159,7 +159,7 @@ module _ (places : ℕ) (w : List ℕ) (sign digits point : ℕ) (s : Split w si
   unfolding is_whole
   is-exact b e = rw (← s.decs) e
 
-  pub split-fraction : all_of C.Digit found ≡ true → (digits + length found ≡ 0 → ⊥) → all_of C.Zero (drop places found) ≡ false → U.NotWhole ≡ units_of places w
+  pub split-fraction : all_of C.Digit found ≡ true → (digits + length found ≡ 0 → ⊥) → all_of C.Zero (drop places found) ≡ false → (Err NotUnits.NotWhole) ≡ units_of places w
   split-fraction e z f = units_no_whole places w (is-number e z) (is-exact false f)
 
   amount-is : amount places w ≡ appended (appended 0 digits (part w sign)) places found
@@ -170,9 +170,9 @@ module _ (places : ℕ) (w : List ℕ) (sign digits point : ℕ) (s : Split w si
       ∙ ap (λ (k : ℕ). appended (appended 0 k (part w sign)) places found) (sym s.whole)
 
   pub split-units : (n total : ℕ) → all_of C.Digit found ≡ true → (digits + length found ≡ 0 → ⊥) → all_of C.Zero (drop places found) ≡ true
-      → n ≡ capped (appended 0 digits (part w sign)) → total ≡ capped (appended n places found) → U.Is total ≡ units_of places w
+      → n ≡ capped (appended 0 digits (part w sign)) → total ≡ capped (appended n places found) → Ok total ≡ units_of places w
   split-units n total e z f p q =
-      ap U.Is (q ∙ ap (λ (m : ℕ). capped (appended m places found)) p ∙ capped_on places (appended 0 digits (part w sign)) found ∙ ap capped (sym amount-is))
+      ap Ok (q ∙ ap (λ (m : ℕ). capped (appended m places found)) p ∙ capped_on places (appended 0 digits (part w sign)) found ∙ ap capped (sym amount-is))
       ∙ units_are places w (is-number e z) (is-exact true f)
 
 -- decimals that are not there are 0
@@ -180,7 +180,7 @@ pub whole_short : (places : ℕ) (s : List ℕ) → length s ≤ places → true
 whole_short places s h = rw (from_end s places h, run-nil C.Zero)
 
 -- units are at most the cap
-pub units_small : (places : ℕ) (w : List ℕ) (n : ℕ) → units_of places w ≡ U.Is n → n ≤ 4294967296
+pub units_small : (places : ℕ) (w : List ℕ) (n : ℕ) → units_of places w ≡ Ok n → n ≤ 4294967296
 units_small places w n e = by (is_number w) (is_whole places w) refl refl
   where
     by : (a b : Bool) → is_number w ≡ a → is_whole places w ≡ b → n ≤ 4294967296

@@ -2,7 +2,7 @@
 -- can stand in each two of them, and a read from each head runs on to the same end: a file of n bytes would take n·n
 -- steps. But where the 14 bytes of a head and of such an entry stand 5 bytes before too, what is a sheet here is one
 -- there, with the entry once more. So none begins here if none began there.
-use Rattle.std.specs.Prelude.{ℕ, suc, ◌+◌, ◌-◌, ◌≤◌, ◌<◌, ◌≡◌, refl, ◌&&◌, ◌||◌}
+use Rattle.std.specs.Prelude.{ℕ, suc, ◌+◌, ◌-◌, ◌≤◌, ◌<◌, ◌≡◌, refl, ◌&&◌, ◌||◌, Some, Ok}
 use Rattle.std.proofs.Math.Path.{sym, ap}
 use Rattle.std.proofs.Common.{◌∙◌, arith, add-zero, leb-true, take-append-drop, take_at, drop_at}
 use mathlib.Core.List.{List, [], ◌∷◌, ◌++◌, append_assoc}
@@ -13,14 +13,12 @@ use Rattle.std.proofs.Math.Seq.{drop-drop, get_or-drop, get_or-take, length-take
 use Rattle.sheet_types.specs.declared.phases.Phase.{Phase}
 use Rattle.sheet_format.specs.declared.kinds.Kind.TheVariants as K
 use Rattle.sheet_format.specs.declared.kinds.Entry.{Entry}
-use Rattle.sheet_format.specs.declared.kinds.Named.TheVariants as Named
 use Rattle.sheet_format.specs.declared.kinds.Stage.TheVariants as S
 use Rattle.sheet_format.specs.declared.kinds.Crossing.TheVariants as C
 use Rattle.sheet_format.specs.Entries.{opened}
 use Rattle.sheet_format.specs.FieldRules.{in_window, open_holds}
 use Rattle.rounding.specs.laws.Tests.{both}
 use Rattle.sheet_format.specs.Kinds.{kind_for, size_of, plain}
-use Rattle.sheet_format.specs.declared.records.Record.TheVariants.{Is}
 use Rattle.big_endian.specs.Numbers.{two_at, Bytes}
 use Rattle.sheet_format.specs.RecordEntries.{bytes, bytes_of}
 use Rattle.sheet_format.specs.laws.EntryLaws.{length-bytes, bytes_cons}
@@ -44,7 +42,7 @@ SameBefore file at = (i : ℕ) → i < 14 → get_or file (at - 5 + i) 0 ≡ get
 -- an open entry from and to one second stands at a place
 pub record OpenOnce (file : List ℕ) (at : ℕ) : Type 0 where
   pub phase : Phase
-  pub kind : kind_for (get_or file at 0) ≡ Named.Is (K.Open phase)
+  pub kind : kind_for (get_or file at 0) ≡ Some (K.Open phase)
   pub high : get_or file (at + 1) 0 ≡ get_or file (at + 3) 0
   pub low : get_or file (at + 2) 0 ≡ get_or file (at + 4) 0
 
@@ -114,19 +112,19 @@ module _ (file : List ℕ) (at : ℕ) (b : Bytes file) (g : Again file at) where
   entry : Entry
   entry = opened g.opens.phase second second
 
-  is-head : (h : Entry) (n : ℕ) → record_at here 0 ≡ Is h n → h ≡ head-entry
+  is-head : (h : Entry) (n : ℕ) → record_at here 0 ≡ Ok (h, n) → h ≡ head-entry
   unfolding head-entry
   is-head h n q =
       let t = record-inv here 0 h n q in
-      let e : Named.Is h.kind ≡ Named.Is K.Head = sym t.named ∙ ap kind_for (at_here 0 ∙ ap (λ k. get_or file k 0) (add-zero at) ∙ g.head) in
+      let e : Some h.kind ≡ Some K.Head = sym t.named ∙ ap kind_for (at_here 0 ∙ ap (λ k. get_or file k 0) (add-zero at) ∙ g.head) in
       let k : h.kind ≡ K.Head = cc in
       t.is ∙ ap (λ x. entry_at x here 1) k
 
-  is_open : (x : Entry) (n : ℕ) → record_at here 9 ≡ Is x n → x ≡ entry
+  is_open : (x : Entry) (n : ℕ) → record_at here 9 ≡ Ok (x, n) → x ≡ entry
   unfolding entry second
   is_open x n q =
       let t = record-inv here 9 x n q in
-      let e : Named.Is x.kind ≡ Named.Is (K.Open g.opens.phase) = sym t.named ∙ ap kind_for (at_here 9) ∙ g.opens.kind in
+      let e : Some x.kind ≡ Some (K.Open g.opens.phase) = sym t.named ∙ ap kind_for (at_here 9) ∙ g.opens.kind in
       let k : x.kind ≡ K.Open g.opens.phase = cc in
       let same : (i j : ℕ) → get_or file (at + 9 + i) 0 ≡ get_or file (at + 9 + j) 0 → get_or here (9 + j) 0 ≡ get_or here (9 + i) 0 =
       λ i j h. at_here (9 + j) ∙ sym (rw (add_assoc at 9 i, add_assoc at 9 j) at h) ∙ sym (at_here (9 + i)) in

@@ -1,7 +1,7 @@
 -- `adaptive_sampling::bisection::between` meets its contract: where the test passes, the seconds up to j get its
 -- states; few seconds are computed one by one; else one between is, and both parts are looked at. The measure is
 -- j - i.
-use Prim.Native.Nat.{ℕ, ◌+◌, ◌-◌, ◌<◌}
+use Prim.Native.Nat.{ℕ, ◌-◌, ◌<◌}
 use mathlib.Core.Path.{refl, ◌∙◌}
 use native.Mathlib.Omega.{arith}
 use borrow.Fn.Kinds.{In}

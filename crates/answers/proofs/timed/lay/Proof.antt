@@ -13,13 +13,13 @@ returns c =
     let made = c.before.before.before.before in
     let start = made.before.before.before in
     let a = start.args in
-    laid-short a.reference a.deltat a.sky a.answer a.room.now a.out.now _ made.in-Written.is _ _ _
+    laid-short a.reference a.deltat a.sky a.answer a.room.now a.out.now _ made.in-Ok.is _ _ _
     (rw (to_z-of_z w64 a.deltat start.ranges.deltat) at c.put_text-need.ensures) (omega arith) c.if-out-need.true
 
-returns-2 : tie.Need-returns-in-Refused
+returns-2 : tie.Need-returns-in-Err
 returns-2 c =
     let a = c.args in
-    laid-refused a.reference a.deltat a.sky a.answer a.room.now a.out.now _ c.in-Refused.is
+    laid-refused a.reference a.deltat a.sky a.answer a.room.now a.out.now _ c.in-Err.is
 
 returns-3 : tie.Need-returns-else-out-need
 returns-3 c =
@@ -27,7 +27,7 @@ returns-3 c =
     let made = t.before.before.before.before in
     let start = made.before.before.before in
     let a = start.args in
-    laid-full a.reference a.deltat a.sky a.answer a.room.now a.out.now _ made.in-Written.is _ _ _
+    laid-full a.reference a.deltat a.sky a.answer a.room.now a.out.now _ made.in-Ok.is _ _ _
     (rw (to_z-of_z w64 a.deltat start.ranges.deltat) at t.put_text-need.ensures) (omega arith) t.if-out-need.false _ _
     (rw (to_z-of_z w64 a.deltat start.ranges.deltat) at c.put_text.ensures)
 

@@ -9,22 +9,22 @@ returns c =
     let a = c.args in
     instant-misshaped a.request.now a.sines.now a.room.now a.out.now a.instant.now c.if-instant-ne6.true
 
-returns-2 : tie.Need-returns-in-Wrong
+returns-2 : tie.Need-returns-in-Err
 returns-2 c =
     let found = c in
     let tested = found.before.before.before.before.before.before.before.before in
     let a = tested.args in
     number-wrong a.request.now a.sines.now a.room.now a.out.now a.instant.now tested.if-instant-ne6.false _
-    found.reference_of-numbered.ensures _ found.in-Wrong.is
+    found.reference_of-numbered.ensures _ found.in-Err.is
 
-returns-3 : tie.Need-returns-in-Is
+returns-3 : tie.Need-returns-in-Ok
 returns-3 c =
     let answered = c.before.before.before.before.before.before in
     let found = answered.before.before.before.before in
     let tested = found.before.before.before.before.before.before.before.before in
     let a = tested.args in
     number-right a.request.now a.sines.now a.room.now a.out.now a.instant.now tested.if-instant-ne6.false _
-    found.reference_of-numbered.ensures _ found.in-Is.is _ _ _ _ answered.of_request.ensures
+    found.reference_of-numbered.ensures _ found.in-Ok.is _ _ _ _ answered.of_request.ensures
 
 pub times_spec : {M : Type 1} → statement M
 times_spec =

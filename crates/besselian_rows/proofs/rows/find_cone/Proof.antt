@@ -13,7 +13,7 @@ use Rattle.rounding.specs.Near.{near}
 use Rattle.rounding.specs.Root.{root}
 use Rattle.rounding.specs.laws.Code.{Code, arg, mul, Within, whole, raw, ends, ◌▹◌, fits, runs, within, count-is, count-size}
 use Rattle.besselian_rows.specs.Exact.{one}
-use Rattle.besselian_rows.specs.Rounded.{z, T, tan-f, slope, foot}
+use Rattle.besselian_rows.specs.Rounded.{T, tan-f, slope, foot}
 use Rattle.besselian_rows.specs.laws.ReadLaws.{same_size, back, back_size}
 use Rattle.besselian_rows.specs.laws.AxisSizes
 use Rattle.besselian_rows.specs.laws.Sizes

@@ -9,7 +9,7 @@ use Rattle.rounding.specs.Near.{near}
 use Rattle.rounding.specs.Root.{root}
 use Rattle.rounding.specs.laws.Code.{read_back, count-is}
 use Rattle.besselian_rows.specs.Exact.{one}
-use Rattle.besselian_rows.specs.Rounded.{gx, gy, gz, flat, whole, r, R, cos-a, sin-a, sin_d, cos_d}
+use Rattle.besselian_rows.specs.Rounded.{r, R, cos-a, sin-a, sin_d, cos_d}
 use Rattle.besselian_rows.specs.laws.ReadLaws.{back}
 use Rattle.besselian_rows.specs.laws.AxisSizes
 use Rattle.besselian_rows.proofs.rows.find_directions.Statement.{statement}

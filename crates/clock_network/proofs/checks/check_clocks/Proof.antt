@@ -1,11 +1,11 @@
 -- `clock_network::checks::check_clocks` meets its contract: the ways of 14, 15, 16.
+use Rattle.std.specs.Prelude.{Result, Err}
 use mathlib.Core.Path.{sym, ap, ◌∙◌}
+use Rattle.sheet_types.specs.declared.refusals.Refusal.{Refusal}
 use Prim.Native.Nat.{ℕ, ◌≤◌}
 use native.Mathlib.Omega.{arith}
 use borrow.Author.Rules.{rules}
 use lib.ListN.{length}
-use Rattle.sheet_types.specs.declared.refusals.Checked.{Checked}
-use Rattle.sheet_types.specs.declared.refusals.Checked.TheVariants as C
 use Rattle.sheet_types.specs.Refusals.{refusal}
 use Rattle.clock_network.specs.Defined.{firstRepeat, firstStray}
 use Rattle.clock_network.specs.CheckLaws.{once, clocks-14, clocks-15, clocks-16, clocks-within}
@@ -13,8 +13,8 @@ use Rattle.clock_network.proofs.checks.check_clocks.Statement.{statement}
 use Rattle.clock_network.proofs.checks.check_clocks.Tie as tie
 
 -- a refusal at the place that was found
-abbrev at : ℕ → ℕ → Checked
-at number place = C.Refused (refusal number place)
+abbrev at : ℕ → ℕ → Result Unit Refusal
+at number place = Err (refusal number place)
 
 none-repeats : (c : tie.Else-repeat-n) → let ns = c.args.numbers.now in length ns ≤ firstRepeat ns
 none-repeats c = omega (arith, c.first_repeat-repeat.ensures, c.if-repeat-n.false)

@@ -1,5 +1,6 @@
 -- `contact_times::search::contact_bracket` meets its contract: the two states, and where one is outside and one inside,
 -- the search between them.
+use Rattle.std.specs.Prelude.{None}
 use mathlib.Core.Path.{◌≡◌, refl, ap, ◌∙◌}
 use mathlib.Core.List.{[], ◌∷◌}
 use Prim.Native.Nat.{ℕ, ◌+◌, ◌≤◌, ◌<◌}
@@ -13,7 +14,6 @@ use Rattle.rounding.specs.laws.Ring.{num, ◌⊗◌, v0, v1}
 use Rattle.rounding.specs.laws.Cert.{less, lit as litC, ◌⊞◌, ◌⊠◌, certify-<}
 use Rattle.rounding.specs.laws.Code.{Code, arg, lit, sub, mul, Within, whole, ends, ◌▹◌, fits, run, runs, within, unsigned}
 use Rattle.contact_times.specs.declared.hundredths.Crossing.{Crossing}
-use Rattle.contact_times.specs.declared.search.Bracket.TheVariants as B
 use Rattle.contact_times.specs.Brackets.{state_at, narrowed, bracket_of}
 use Rattle.contact_times.specs.laws.BracketLaws.{code_small}
 use Rattle.contact_times.specs.laws.EndLaws.{apart, reaches, contact-order}
@@ -115,7 +115,7 @@ module _ (c : Crossing) (from to : ℤ) where
   unfolding bracket_of
   contact e = rw (eq-eqb (code (state_at c (from *ℤ pos 100)) + code (state_at c (to *ℤ pos 100))) 1 e) refl
 
-  none : (code (state_at c (from *ℤ pos 100)) + code (state_at c (to *ℤ pos 100)) ≡ 1 → ⊥) → B.NoContact ≡ bracket_of c from to
+  none : (code (state_at c (from *ℤ pos 100)) + code (state_at c (to *ℤ pos 100)) ≡ 1 → ⊥) → None ≡ bracket_of c from to
   unfolding bracket_of
   none n = rw (ne_eqb (code (state_at c (from *ℤ pos 100)) + code (state_at c (to *ℤ pos 100))) 1 n) refl
 

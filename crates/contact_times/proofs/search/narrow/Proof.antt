@@ -1,4 +1,5 @@
 -- `contact_times::search::narrow` meets its contract: two searches, the second from where the first ended.
+use Rattle.std.specs.Prelude.{Some}
 use mathlib.Core.Path.{◌≡◌, ap, ap₂, ◌∙◌}
 use mathlib.Core.List.{[], ◌∷◌}
 use Prim.Native.Nat.{ℕ, ◌+◌, ◌≤◌}
@@ -8,7 +9,6 @@ use mir.Syntax.{w64}
 use mir.Val.{to_z, of_z}
 use Rattle.rounding.specs.laws.Order.{fits64}
 use Rattle.rounding.specs.laws.Code.{Code, arg, add, Within, whole, raw, ends, ◌▹◌, fits, runs, read_back, count-is, count-size}
-use Rattle.contact_times.specs.declared.search.Bracket.TheVariants as B
 use Rattle.contact_times.specs.Brackets.{last_below, narrowed}
 use Rattle.contact_times.proofs.search.narrow.Statement.{statement}
 use Rattle.contact_times.proofs.search.narrow.Tie as tie
@@ -65,7 +65,7 @@ returns : tie.Need-returns
 unfolding narrowed
 returns c =
     let a = (start c.before).args in
-    ap₂ B.Between
+    ap₂ (λ x y. Some (x, y))
     (runs (low-bounds c) sum tt ∙ ap (λ (z : ℤ). a.first +ℤ z) (count-is c.last_below-low.result {m = 2160000} (low-most c.before) tt ∙ ap pos (low-is c.before)))
     (runs (high-bounds c) sum tt ∙ ap (λ (z : ℤ). a.first +ℤ z) (count-is (c.last_below-high.result + 1) {m = 2160000} (high-most c) tt ∙ ap (λ (k : ℕ). pos (k + 1)) (high_is c)))
 

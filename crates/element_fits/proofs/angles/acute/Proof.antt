@@ -3,7 +3,6 @@ use mathlib.Core.Path.{sym, ap, ◌∙◌}
 use Prim.Native.Nat.{ℕ, ◌-◌}
 use native.Mathlib.Omega.{arith}
 use borrow.Author.Rules.{rules}
-use Rattle.element_fits.specs.Angles.{arc, acute}
 use Rattle.element_fits.specs.laws.ArgumentLaws.{acute-flat, acute-steep}
 use Rattle.element_fits.proofs.angles.acute.Statement.{statement}
 use Rattle.element_fits.proofs.angles.acute.Tie as tie

@@ -1,9 +1,10 @@
 -- `float_requests::survey::check` meets its contract: 1 is what the request is refused for first; else the doubles are
 -- looked at.
+use Rattle.std.specs.Prelude.{Result}
 use mathlib.Core.Path.{◌≡◌, sym, ap, ◌∙◌}
+use Rattle.sheet_types.specs.declared.refusals.Refusal.{Refusal}
 use borrow.Author.Rules.{rules}
 use lib.Dec.{eqb}
-use Rattle.sheet_types.specs.declared.refusals.Checked.{Checked}
 use Rattle.sheet_types.specs.laws.RefusalLaws.{number_in}
 use Rattle.requests.specs.Requests.{checked}
 use Rattle.float_requests.proofs.laws.SurveyLaws.{checked-one, checked-on}
@@ -12,7 +13,7 @@ use Rattle.float_requests.proofs.survey.check.Tie as tie
 
 -- whether the request is refused under 1
 first : (c : tie.After-is_one-first) → eqb (number_in (checked c.args.o)) 1 ≡ c.is_one-first.result
-first c = sym (c.is_one-first.ensures ∙ ap (λ (x : Checked). eqb (number_in x) 1) c.check-c.ensures)
+first c = sym (c.is_one-first.ensures ∙ ap (λ (x : Result Unit Refusal). eqb (number_in x) 1) c.check-c.ensures)
 
 returns : tie.Need-returns-then-first
 returns c =

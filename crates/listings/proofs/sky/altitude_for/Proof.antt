@@ -9,7 +9,7 @@ returns : tie.Need-returns-in_default
 returns c = rw c.in_default.is
 
 returns-2 : tie.Need-returns
-returns-2 c = rw c.in-Over.is (c.altitude_shown.ensures ∙ ap (altitude_shown _) c.shown_for-shown.ensures)
+returns-2 c = rw c.in-Some.is (c.altitude_shown.ensures ∙ ap (altitude_shown _) c.shown_for-shown.ensures)
 
 pub altitude_for_spec : {M : Type 1} → statement M
 altitude_for_spec = tie.close (tie.spec (λ c. search rules) (λ c. search rules) returns (λ c κs. search rules) (λ c κs. search rules) returns-2)

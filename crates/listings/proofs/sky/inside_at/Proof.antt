@@ -12,17 +12,17 @@ use Rattle.listings.proofs.sky.inside_at.Tie as tie
 read : (c : tie.Start) → to_z w64 (of_z w64 c.args.t) ≡ c.args.t
 read c = to_z-of_z w64 c.args.t c.ranges.t
 
-returns : tie.Need-returns-in-Is
+returns : tie.Need-returns-in-Ok
 returns c =
     let h = c.before.before in
     let s = h.before.before in
-    inside_found _ _ _ s.sines_room-sines.ensures.is _ (sym c.in-Is.is ∙ h.second-found.ensures.0) ∙ ap (inside_at _) (read s.before)
+    inside_found _ _ _ s.sines_room-sines.ensures.is _ (sym c.in-Ok.is ∙ h.second-found.ensures.0) ∙ ap (inside_at _) (read s.before)
 
-returns-2 : tie.Need-returns-in-Refused
+returns-2 : tie.Need-returns-in-Err
 returns-2 c =
     let h = c.before.before in
     let s = h.before.before in
-    inside_found _ _ _ s.sines_room-sines.ensures.is _ (sym c.in-Refused.is ∙ h.second-found.ensures.0) ∙ ap (inside_at _) (read s.before)
+    inside_found _ _ _ s.sines_room-sines.ensures.is _ (sym c.in-Err.is ∙ h.second-found.ensures.0) ∙ ap (inside_at _) (read s.before)
 
 pub inside_at_spec : {M : Type 1} → statement M
 inside_at_spec =

@@ -5,11 +5,11 @@ use borrow.Author.Rules.{rules}
 use Rattle.listings.proofs.sky.put_notes.Statement.{statement}
 use Rattle.listings.proofs.sky.put_notes.Tie as tie
 
-returns : tie.Need-returns-in-Nothing
-returns c = rw c.in-Nothing.is (put_nil _ _ (omega arith))
+returns : tie.Need-returns-in-None
+returns c = rw c.in-None.is (put_nil _ _ (omega arith))
 
-returns-2 : tie.Need-returns-in-Over
-returns-2 c = rw c.in-Over.is c.put_notes_of.ensures
+returns-2 : tie.Need-returns-in-Some
+returns-2 c = rw c.in-Some.is c.put_notes_of.ensures
 
 pub put_notes_spec : {M : Type 1} → statement M
 put_notes_spec =

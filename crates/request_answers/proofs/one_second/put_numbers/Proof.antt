@@ -1,7 +1,7 @@
 -- `request_answers::one_second::put_numbers` meets its contract, shape by shape.
+use Rattle.std.specs.Prelude.{Ok}
 use mathlib.Core.Path.{sym, ap, ◌∙◌}
 use borrow.Author.Rules.{rules}
-use Rattle.seconds.specs.declared.OneSecond.TheVariants.{Is}
 use Rattle.request_answers.specs.Second.{numbers_after}
 use Rattle.request_answers.proofs.one_second.put_numbers.Statement.{statement}
 use Rattle.request_answers.proofs.one_second.put_numbers.Tie as tie
@@ -15,12 +15,12 @@ put-star-requires c κs = rw c.in-Star.is at c.requires
 returns : tie.Need-returns-in-Eclipse
 returns c =
     let a = c.args in
-    c.put_eclipse.ensures ∙ sym (ap (λ s. numbers_after s (Is a.second) a.room.now) c.in-Eclipse.is)
+    c.put_eclipse.ensures ∙ sym (ap (λ s. numbers_after s (Ok a.second) a.room.now) c.in-Eclipse.is)
 
 returns-2 : tie.Need-returns-in-Star
 returns-2 c =
     let a = c.args in
-    c.put_star.ensures ∙ sym (ap (λ s. numbers_after s (Is a.second) a.room.now) c.in-Star.is)
+    c.put_star.ensures ∙ sym (ap (λ s. numbers_after s (Ok a.second) a.room.now) c.in-Star.is)
 
 pub put_numbers_spec : {M : Type 1} → statement M
 put_numbers_spec =

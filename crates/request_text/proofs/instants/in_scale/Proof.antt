@@ -1,18 +1,18 @@
 -- `request_text::instants::in_scale` meets its contract: by the scale's word.
+use Rattle.std.specs.Prelude.{Some}
 use mathlib.Core.Path.{sym, ap, ◌∙◌}
-use Rattle.request_text.specs.declared.instants.Reading.TheVariants as R
 use Rattle.request_text.specs.laws.InstantLaws.{scale-et, scale-ut, scale-none}
 use borrow.Author.Rules.{rules}
 use Rattle.request_text.proofs.instants.in_scale.Statement.{statement}
 use Rattle.request_text.proofs.instants.in_scale.Tie as tie
 
 returns : tie.Need-returns-then-has_form
-returns c = ap R.Is c.instant_at.ensures ∙ scale-et _ _ _ (sym c.has_form.ensures ∙ c.if-has_form.true)
+returns c = ap Some c.instant_at.ensures ∙ scale-et _ _ _ (sym c.has_form.ensures ∙ c.if-has_form.true)
 
 returns-2 : tie.Need-returns-then-has_form-2
 returns-2 c =
     let first = c.before.before.before.before in
-    ap R.Is c.instant_at-then-has_form-2.ensures
+    ap Some c.instant_at-then-has_form-2.ensures
     ∙ scale-ut _ _ _ (sym first.has_form.ensures ∙ first.if-has_form.false) (sym c.has_form-2.ensures ∙ c.if-has_form-2.true)
 
 returns-3 : tie.Need-returns

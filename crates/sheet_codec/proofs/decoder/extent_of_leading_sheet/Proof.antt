@@ -1,6 +1,7 @@
 -- `sheet_codec::decoder::extent_of_leading_sheet` meets its contract. Byte, kind and body together are the record that
 -- stands there (`there`); order and fields are asked of it as the definition asks them. So each turn of the loop is
 -- one of the sheet (`Counting`).
+use Rattle.std.specs.Prelude.{Some, Ok}
 use Rattle.sheet_codec.proofs.decoder.Counting.{Counting, count-refused, count-disorder, count-unsound, count-end, count-more}
 use Rattle.sheet_codec.specs.Sheets.{stored_at, read_sheet}
 use Rattle.sheet_codec.specs.laws.SheetLaws.{read-start, extent-start}
@@ -12,13 +13,9 @@ use Rattle.sheet_format.specs.Records.{byte_at, bodyAt, record_at}
 use Rattle.sheet_format.specs.Kinds.{kind_for, size_of, is_end, plain}
 use Rattle.sheet_format.specs.declared.kinds.Entry.{Entry}
 use Rattle.sheet_format.specs.declared.kinds.Kind.{Kind}
-use Rattle.sheet_format.specs.declared.records.Record.TheVariants.{Is}
 use Rattle.sheet_rules.specs.declared.rules.OrderRule.TheVariants as O
 use Rattle.sheet_rules.specs.declared.rules.FieldRule.TheVariants as F
 use mathlib.Core.Bool.{true}
-use Rattle.sheet_format.specs.declared.records.Byte.TheVariants as Byte
-use Rattle.sheet_format.specs.declared.kinds.Named.TheVariants as Named
-use Rattle.sheet_format.specs.declared.records.Body.TheVariants as Body
 use lib.ListN.{length}
 use mathlib.Core.List.{List}
 use native.Mathlib.Omega.{arith}
@@ -35,29 +32,29 @@ abbrev decreases-loop : tie.decreases-loop-code
 decreases-loop s p₀ at₀ n₀ p at n = length s - at
 
 -- places of the code: before the byte, the kind and the body of a record were read
-abbrev turn : tie.In-Is invariant-loop decreases-loop → tie.At-loop-code invariant-loop decreases-loop
+abbrev turn : tie.In-Some invariant-loop decreases-loop → tie.At-loop-code invariant-loop decreases-loop
 turn c = c.before.before
 
-abbrev byted : tie.In-Is-kind_for invariant-loop decreases-loop → tie.In-Is invariant-loop decreases-loop
+abbrev byted : tie.In-Some-kind_for invariant-loop decreases-loop → tie.In-Some invariant-loop decreases-loop
 byted c = c.before.before
 
-abbrev named : tie.In-Is-body_at invariant-loop decreases-loop → tie.In-Is-kind_for invariant-loop decreases-loop
+abbrev named : tie.In-Some-body_at invariant-loop decreases-loop → tie.In-Some-kind_for invariant-loop decreases-loop
 named c = c.before.before
 
-abbrev from : tie.In-Is-body_at invariant-loop decreases-loop → tie.At-loop-code invariant-loop decreases-loop
+abbrev from : tie.In-Some-body_at invariant-loop decreases-loop → tie.At-loop-code invariant-loop decreases-loop
 from c = turn (byted (named c))
 
 -- the input, the kind, the entry, and the place after it
 abbrev input : tie.At-loop-code invariant-loop decreases-loop → List ℕ
 input c = c.args.s.now
 
-abbrev kind : tie.In-Is-kind_for invariant-loop decreases-loop → Kind
-kind c = c.in-Is-kind_for.kind
+abbrev kind : tie.In-Some-kind_for invariant-loop decreases-loop → Kind
+kind c = c.in-Some-kind_for.kind
 
-abbrev entry : tie.In-Is-body_at invariant-loop decreases-loop → Entry
-entry c = c.in-Is-body_at.entry
+abbrev entry : tie.In-Some-body_at invariant-loop decreases-loop → Entry
+entry c = c.in-Some-body_at.entry
 
-abbrev after : tie.In-Is-body_at invariant-loop decreases-loop → ℕ
+abbrev after : tie.In-Some-body_at invariant-loop decreases-loop → ℕ
 after c = (from c).loop-code.at + size_of (kind (named c))
 
 loop-holds : tie.Need-loop-code-init invariant-loop decreases-loop
@@ -67,19 +64,19 @@ returns : tie.Need-returns-in_default invariant-loop decreases-loop
 returns c = count-refused c.loop-code.invariant.2 _ (sym (by_byte _ _ _ (sym c.byte_at.ensures ∙ c.in_default.is)))
 
 -- the record that stands there
-is_byte : (c : tie.In-Is invariant-loop decreases-loop) → byte_at (input (turn c)) (turn c).loop-code.at ≡ Byte.Is c.in-Is.code
-is_byte c = sym c.byte_at.ensures ∙ c.in-Is.is
+is_byte : (c : tie.In-Some invariant-loop decreases-loop) → byte_at (input (turn c)) (turn c).loop-code.at ≡ Some c.in-Some.code
+is_byte c = sym c.byte_at.ensures ∙ c.in-Some.is
 
-is-kind : (c : tie.In-Is-kind_for invariant-loop decreases-loop) → kind_for (byted c).in-Is.code ≡ Named.Is (kind c)
-is-kind c = sym c.kind_for.ensures ∙ c.in-Is-kind_for.is
+is-kind : (c : tie.In-Some-kind_for invariant-loop decreases-loop) → kind_for (byted c).in-Some.code ≡ Some (kind c)
+is-kind c = sym c.kind_for.ensures ∙ c.in-Some-kind_for.is
 
-is_body : (c : tie.In-Is-body_at invariant-loop decreases-loop) → bodyAt (kind (named c)) (input (from c)) (from c).loop-code.at ≡ Body.Is (entry c)
-is_body c = sym c.body_at.ensures ∙ c.in-Is-body_at.is
+is_body : (c : tie.In-Some-body_at invariant-loop decreases-loop) → bodyAt (kind (named c)) (input (from c)) (from c).loop-code.at ≡ Some (entry c)
+is_body c = sym c.body_at.ensures ∙ c.in-Some-body_at.is
 
-there : (c : tie.In-Is-body_at invariant-loop decreases-loop) → record_at (input (from c)) (from c).loop-code.at ≡ Is (entry c) (after c)
+there : (c : tie.In-Some-body_at invariant-loop decreases-loop) → record_at (input (from c)) (from c).loop-code.at ≡ Ok (entry c, after c)
 there c = sym (by-body _ _ _ _ _ (is_byte (byted (named c))) (is-kind (named c)) (is_body c))
 
-same_kind : (c : tie.In-Is-body_at invariant-loop decreases-loop) → (entry c).kind ≡ kind (named c)
+same_kind : (c : tie.In-Some-body_at invariant-loop decreases-loop) → (entry c).kind ≡ kind (named c)
 same_kind c = ap (λ e. e.kind) (body-inv _ _ _ _ (is_body c)).1
 
 returns-2 : tie.Need-returns-in_default-kind_for invariant-loop decreases-loop
@@ -92,7 +89,7 @@ returns-3 c = count-refused (turn (byted c.before.before)).loop-code.invariant.2
     (sym c.body_at.ensures ∙ c.in_default-body_at.is)))
 
 -- what came before the entry
-abbrev before-entry : tie.In-Is-body_at invariant-loop decreases-loop → Progress
+abbrev before-entry : tie.In-Some-body_at invariant-loop decreases-loop → Progress
 before-entry c = (from c).loop-code.p
 
 returns-4 : tie.Need-returns-in_default-order_of invariant-loop decreases-loop
@@ -102,7 +99,7 @@ returns-4 c =
     (sym c.order_of.ensures ∙ c.in_default-order_of.is)
 
 -- the place of the code where the order is kept, and the record there
-abbrev placed : tie.In-Kept invariant-loop decreases-loop → tie.In-Is-body_at invariant-loop decreases-loop
+abbrev placed : tie.In-Kept invariant-loop decreases-loop → tie.In-Some-body_at invariant-loop decreases-loop
 placed c = c.before.before
 
 in-its-place : (c : tie.In-Kept invariant-loop decreases-loop)
@@ -110,7 +107,7 @@ in-its-place : (c : tie.In-Kept invariant-loop decreases-loop)
 in-its-place c = sym c.order_of.ensures ∙ c.in-Kept.is
 
 -- what is read is plain
-plain_entry : (c : tie.In-Is-body_at invariant-loop decreases-loop) → plain (entry c) ≡ true
+plain_entry : (c : tie.In-Some-body_at invariant-loop decreases-loop) → plain (entry c) ≡ true
 plain_entry c =
     ap plain (body-inv _ _ _ _ (is_body c)).1 ∙ read_plain (kind (named c)) (input (from c)) ((from c).loop-code.at + 1)
 
@@ -130,7 +127,7 @@ returns-5 c =
 abbrev kept : tie.In-Kept-fields_of invariant-loop decreases-loop → tie.In-Kept invariant-loop decreases-loop
 kept c = c.before.before
 
-abbrev read : tie.After-size_for invariant-loop decreases-loop → tie.In-Is-body_at invariant-loop decreases-loop
+abbrev read : tie.After-size_for invariant-loop decreases-loop → tie.In-Some-body_at invariant-loop decreases-loop
 read c = placed (kept c.before)
 
 sound : (c : tie.After-size_for invariant-loop decreases-loop) → fields_of (before-entry (read c)) (entry (read c)) ≡ F.Kept
@@ -139,7 +136,7 @@ sound c = fields-asked c.before.before ∙ c.in-Kept-fields_of.is
 size-for-requires : tie.Need-size_for-requires invariant-loop decreases-loop
 size-for-requires c κs = kind_inv _ _ (is-kind (named (placed (kept c))))
 
-bounds : (c : tie.In-Is-body_at invariant-loop decreases-loop) → ((from c).loop-code.at < after c) × (after c ≤ length (input (from c)))
+bounds : (c : tie.In-Some-body_at invariant-loop decreases-loop) → ((from c).loop-code.at < after c) × (after c ≤ length (input (from c)))
 bounds c = record-bounds _ _ _ _ (there c)
 
 add-next : tie.Need-overflow_add-next invariant-loop decreases-loop

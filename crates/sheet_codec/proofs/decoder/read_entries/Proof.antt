@@ -1,6 +1,7 @@
 -- `sheet_codec::decoder::read_entries` meets its contract. What is still to be put, once put, gives what the pass is
 -- to leave (`Passing`). The first pass found a sheet, so each record is there, and the numbers that its bytes hold are
 -- its entry's.
+use Rattle.std.specs.Prelude.{Some, Ok}
 use Rattle.sheet_codec.proofs.decoder.Passing.{Passing, pass-never, pass_fits, pass-end, pass-more}
 use Rattle.sheet_codec.proofs.decoder.Answers.{of-numbers, reading-starts}
 use Rattle.sheet_codec.specs.Sheets.{stored_at, read_sheet}
@@ -13,10 +14,6 @@ use Rattle.sheet_format.specs.Records.{byte_at, bodyAt, record_at}
 use Rattle.sheet_format.specs.Kinds.{code_of, kind_for, size_of, is_end}
 use Rattle.sheet_format.specs.declared.kinds.Entry.{Entry}
 use Rattle.sheet_format.specs.declared.kinds.Kind.{Kind}
-use Rattle.sheet_format.specs.declared.records.Record.TheVariants.{Is}
-use Rattle.sheet_format.specs.declared.records.Byte.TheVariants as Byte
-use Rattle.sheet_format.specs.declared.kinds.Named.TheVariants as Named
-use Rattle.sheet_format.specs.declared.records.Body.TheVariants as Body
 use lib.ListN.{length}
 use mathlib.Core.List.{List, [], ◌∷◌}
 use native.Mathlib.Omega.{arith}
@@ -35,29 +32,29 @@ abbrev decreases-loop : tie.decreases-loop-code
 decreases-loop s room₀ at₀ n₀ room at n = length s - at
 
 -- places of the code: before the byte, the kind and the body of a record were read
-abbrev turn : tie.In-Is invariant-loop decreases-loop → tie.At-loop-code invariant-loop decreases-loop
+abbrev turn : tie.In-Some invariant-loop decreases-loop → tie.At-loop-code invariant-loop decreases-loop
 turn c = c.before.before
 
-abbrev byted : tie.In-Is-kind_for invariant-loop decreases-loop → tie.In-Is invariant-loop decreases-loop
+abbrev byted : tie.In-Some-kind_for invariant-loop decreases-loop → tie.In-Some invariant-loop decreases-loop
 byted c = c.before.before
 
-abbrev named : tie.In-Is-body_at invariant-loop decreases-loop → tie.In-Is-kind_for invariant-loop decreases-loop
+abbrev named : tie.In-Some-body_at invariant-loop decreases-loop → tie.In-Some-kind_for invariant-loop decreases-loop
 named c = c.before.before
 
-abbrev from : tie.In-Is-body_at invariant-loop decreases-loop → tie.At-loop-code invariant-loop decreases-loop
+abbrev from : tie.In-Some-body_at invariant-loop decreases-loop → tie.At-loop-code invariant-loop decreases-loop
 from c = turn (byted (named c))
 
 -- the input, the kind, the entry, and the place after it
 abbrev input : tie.At-loop-code invariant-loop decreases-loop → List ℕ
 input c = c.args.s.now
 
-abbrev kind : tie.In-Is-kind_for invariant-loop decreases-loop → Kind
-kind c = c.in-Is-kind_for.kind
+abbrev kind : tie.In-Some-kind_for invariant-loop decreases-loop → Kind
+kind c = c.in-Some-kind_for.kind
 
-abbrev entry : tie.In-Is-body_at invariant-loop decreases-loop → Entry
-entry c = c.in-Is-body_at.entry
+abbrev entry : tie.In-Some-body_at invariant-loop decreases-loop → Entry
+entry c = c.in-Some-body_at.entry
 
-abbrev after : tie.In-Is-body_at invariant-loop decreases-loop → ℕ
+abbrev after : tie.In-Some-body_at invariant-loop decreases-loop → ℕ
 after c = (from c).loop-code.at + size_of (kind (named c))
 
 loop-holds : tie.Need-loop-code-init invariant-loop decreases-loop
@@ -71,19 +68,19 @@ same-length-2 : tie.Need-shape_of-room-in_default-kind_for invariant-loop decrea
 same-length-2 c = (turn c.before.before).loop-code.invariant.2
 
 -- the record that stands there
-is_byte : (c : tie.In-Is invariant-loop decreases-loop) → byte_at (input (turn c)) (turn c).loop-code.at ≡ Byte.Is c.in-Is.code
-is_byte c = sym c.byte_at.ensures ∙ c.in-Is.is
+is_byte : (c : tie.In-Some invariant-loop decreases-loop) → byte_at (input (turn c)) (turn c).loop-code.at ≡ Some c.in-Some.code
+is_byte c = sym c.byte_at.ensures ∙ c.in-Some.is
 
-is-kind : (c : tie.In-Is-kind_for invariant-loop decreases-loop) → kind_for (byted c).in-Is.code ≡ Named.Is (kind c)
-is-kind c = sym c.kind_for.ensures ∙ c.in-Is-kind_for.is
+is-kind : (c : tie.In-Some-kind_for invariant-loop decreases-loop) → kind_for (byted c).in-Some.code ≡ Some (kind c)
+is-kind c = sym c.kind_for.ensures ∙ c.in-Some-kind_for.is
 
-is_body : (c : tie.In-Is-body_at invariant-loop decreases-loop) → bodyAt (kind (named c)) (input (from c)) (from c).loop-code.at ≡ Body.Is (entry c)
-is_body c = sym c.body_at.ensures ∙ c.in-Is-body_at.is
+is_body : (c : tie.In-Some-body_at invariant-loop decreases-loop) → bodyAt (kind (named c)) (input (from c)) (from c).loop-code.at ≡ Some (entry c)
+is_body c = sym c.body_at.ensures ∙ c.in-Some-body_at.is
 
-there : (c : tie.In-Is-body_at invariant-loop decreases-loop) → record_at (input (from c)) (from c).loop-code.at ≡ Is (entry c) (after c)
+there : (c : tie.In-Some-body_at invariant-loop decreases-loop) → record_at (input (from c)) (from c).loop-code.at ≡ Ok (entry c, after c)
 there c = sym (by-body _ _ _ _ _ (is_byte (byted (named c))) (is-kind (named c)) (is_body c))
 
-same_kind : (c : tie.In-Is-body_at invariant-loop decreases-loop) → (entry c).kind ≡ kind (named c)
+same_kind : (c : tie.In-Some-body_at invariant-loop decreases-loop) → (entry c).kind ≡ kind (named c)
 same_kind c = ap (λ e. e.kind) (body-inv _ _ _ _ (is_body c)).1
 
 returns-2 : tie.Need-returns-in_default-kind_for invariant-loop decreases-loop
@@ -98,18 +95,18 @@ returns-3 c = absurd (pass-never of-numbers (turn (byted c.before.before)).loop-
     (sym (by-body _ _ _ _ _ (is_byte (byted c.before.before)) (is-kind c.before.before)
     (sym c.body_at.ensures ∙ c.in_default-body_at.is))))
 
-bounds : (c : tie.In-Is-body_at invariant-loop decreases-loop)
+bounds : (c : tie.In-Some-body_at invariant-loop decreases-loop)
     → ((from c).loop-code.at < after c) × (after c ≤ length (input (from c))) × ((from c).loop-code.n * 5 + 5 ≤ length (from c).loop-code.room)
 bounds c =
     let b = record-bounds _ _ _ _ (there c) in
     (b.0, b.1, pass_fits of-numbers (from c).loop-code.invariant.3 _ _ (there c))
 
 -- the code that was read is the entry's kind's
-code_is : (c : tie.In-Is-body_at invariant-loop decreases-loop) → (byted (named c)).in-Is.code ≡ code_of (entry c).kind
+code_is : (c : tie.In-Some-body_at invariant-loop decreases-loop) → (byted (named c)).in-Some.code ≡ code_of (entry c).kind
 code_is c = kind_inv _ _ (is-kind (named c)) ∙ ap code_of (sym (same_kind c))
 
 -- the buffer with the entry's numbers, as they were put
-abbrev put-room : (c : tie.In-Is-body_at invariant-loop decreases-loop) → ℕ → List ℕ
+abbrev put-room : (c : tie.In-Some-body_at invariant-loop decreases-loop) → ℕ → List ℕ
 put-room c x = sets (from c).loop-code.room ((from c).loop-code.n * 5) (x ∷ (entry c).a ∷ (entry c).b ∷ (entry c).c ∷ (entry c).d ∷ [])
 
 ended : (c : tie.After-is_end invariant-loop decreases-loop) → is_end (entry c.before.before.before.before.before).kind ≡ c.is_end.result

@@ -1,9 +1,10 @@
 -- `table_elements::typed_rows::read_row` meets its contract: the words before byte `at` are taken, and their numbers
 -- stored.
-use Rattle.std.proofs.Common.{sym, ap, ◌∙◌, take, rules}
+use Rattle.std.proofs.Common.{◌≡◌, sym, ap, ◌∙◌, take, rules, Err}
+use Rattle.table_elements.specs.Reading.{line_of}
 use Rattle.rounding.specs.laws.Code.{read_back}
 use Rattle.table_elements.specs.NumberLaws.{number_size}
-use Rattle.table_elements.specs.ReadingLaws.{taking-start, word-within, taking-end, taking-faulty, taking-more, taking-turn}
+use Rattle.table_elements.specs.ReadingLaws.{answer_of, fault_of, taking-start, word-within, taking-end, taking-faulty, taking-more, taking-turn}
 use Rattle.table_elements.proofs.typed_rows.read_row.Goals as goal
 
 pub loop-content-init : goal.loop-content-init
@@ -18,19 +19,24 @@ returns-then-from-end-clause-row c = (taking-end _ _ _ _ _ c.loop-content.invari
 pub slice_bounds-number_of-end : goal.slice_bounds-number_of-end
 slice_bounds-number_of-end c = let w = word-within _ _ _ _ _ c.loop-content.invariant _ c.next_word-word.ensures in search (rules, w)
 
-pub returns-in_default-clause-value : goal.returns-in_default-clause-value
-returns-in_default-clause-value c = c.fault_of.ensures ∙ (taking-faulty _ _ _ _ _ c.loop-content.invariant _ c.next_word-word.ensures c.if-from-end.false _ c.number_of-number.ensures _ c.in_default.is).0
+pub returns-in_err-value-clause-value : goal.returns-in_err-value-clause-value
+returns-in_err-value-clause-value c =
+    let r : Err c.in_err-value.field-0.0 ≡ answer_of (line_of c.args.line.now) =
+    sym (ap fault_of c.in_err-value.was)
+    ∙ (taking-faulty _ _ _ _ _ c.loop-content.invariant _ c.next_word-word.ensures c.if-from-end.false _ c.number_of.ensures _ c.in_err-value.was).0 in
+    search (rules, r)
 
-pub returns-in_default-clause-row : goal.returns-in_default-clause-row
-returns-in_default-clause-row c = (taking-faulty _ _ _ _ _ c.loop-content.invariant _ c.next_word-word.ensures c.if-from-end.false _ c.number_of-number.ensures _ c.in_default.is).1
+pub returns-in_err-value-clause-row : goal.returns-in_err-value-clause-row
+returns-in_err-value-clause-row c =
+    (taking-faulty _ _ _ _ _ c.loop-content.invariant _ c.next_word-word.ensures c.if-from-end.false _ c.number_of.ensures _ c.in_err-value.was).1
 
 pub returns-then-column-eq6-clause-value : goal.returns-then-column-eq6-clause-value
-returns-then-column-eq6-clause-value c = (taking-more _ _ _ _ _ c.loop-content.invariant _ c.next_word-word.ensures c.if-from-end.false _ c.number_of-number.ensures _ c.in-Is.is c.if-column-eq6.true).0
+returns-then-column-eq6-clause-value c = (taking-more _ _ _ _ _ c.loop-content.invariant _ c.next_word-word.ensures c.if-from-end.false _ c.number_of.ensures _ c.in_ok-value.was c.if-column-eq6.true).0
 
 pub returns-then-column-eq6-clause-row : goal.returns-then-column-eq6-clause-row
-returns-then-column-eq6-clause-row c = (taking-more _ _ _ _ _ c.loop-content.invariant _ c.next_word-word.ensures c.if-from-end.false _ c.number_of-number.ensures _ c.in-Is.is c.if-column-eq6.true).1
+returns-then-column-eq6-clause-row c = (taking-more _ _ _ _ _ c.loop-content.invariant _ c.next_word-word.ensures c.if-from-end.false _ c.number_of.ensures _ c.in_ok-value.was c.if-column-eq6.true).1
 
 pub loop-content-preserved : goal.loop-content-preserved
 loop-content-preserved c =
-    rw (read_back c.in-Is.value (number_size _ c.in-Is.value (sym c.number_of-number.ensures ∙ c.in-Is.is)) tt)
-    (taking-turn _ _ _ _ _ c.loop-content.invariant _ c.next_word-word.ensures c.if-from-end.false _ c.number_of-number.ensures c.in-Is.value c.in-Is.is c.if-column-eq6.false)
+    rw (read_back c.in_ok-value.value (number_size _ c.in_ok-value.value (sym c.number_of.ensures ∙ c.in_ok-value.was)) tt)
+    (taking-turn _ _ _ _ _ c.loop-content.invariant _ c.next_word-word.ensures c.if-from-end.false _ c.number_of.ensures c.in_ok-value.value c.in_ok-value.was c.if-column-eq6.false)

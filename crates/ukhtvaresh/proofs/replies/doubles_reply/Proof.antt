@@ -3,11 +3,11 @@ use borrow.Author.Rules.{rules}
 use Rattle.ukhtvaresh.proofs.replies.doubles_reply.Statement.{statement}
 use Rattle.ukhtvaresh.proofs.replies.doubles_reply.Tie as tie
 
-returns : tie.Need-returns-in-Made
-returns c = rw c.in-Made.is
+returns : tie.Need-returns-in-Ok
+returns c = rw c.in-Ok.is
 
-returns-2 : tie.Need-returns-in-Refused
-returns-2 c = rw (c.refused.ensures, c.in-Refused.is)
+returns-2 : tie.Need-returns-in-Err
+returns-2 c = rw (c.refused.ensures, c.in-Err.is)
 
 pub doubles_reply_spec : {M : Type 1} → statement M
 doubles_reply_spec = tie.close (tie.spec (λ c. search rules) (λ c. search rules) (λ c κs. search rules) returns returns-2)

@@ -3,11 +3,11 @@ use borrow.Author.Rules.{rules}
 use Rattle.ukhtvaresh.proofs.replies.listing_reply.Statement.{statement}
 use Rattle.ukhtvaresh.proofs.replies.listing_reply.Tie as tie
 
-returns : tie.Need-returns-in-Written
-returns c = rw c.in-Written.is
+returns : tie.Need-returns-in-Ok
+returns c = rw c.in-Ok.is
 
-returns-2 : tie.Need-returns-in-Refused
-returns-2 c = rw (c.refused.ensures, c.in-Refused.is)
+returns-2 : tie.Need-returns-in-Err
+returns-2 c = rw (c.refused.ensures, c.in-Err.is)
 
 pub listing_reply_spec : {M : Type 1} → statement M
 listing_reply_spec =

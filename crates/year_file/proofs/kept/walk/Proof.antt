@@ -5,7 +5,7 @@ use mathlib.Core.Path.{◌≡◌, sym, ◌∙◌}
 use native.Mathlib.Omega.{arith}
 use lib.ListN.{length}
 use borrow.Author.Rules.{rules}
-use Rattle.year_file.specs.laws.WalkLaws.{Walking, walking_start, walking-lose, walking-bounds, walking-keep, walking-kept, walking-noted}
+use Rattle.year_file.proofs.laws.WalkLaws.{Walking, walking_start, walking-lose, walking-bounds, walking-keep, walking-kept, walking-noted}
 use Rattle.year_file.proofs.kept.walk.Statement.{statement}
 use Rattle.year_file.proofs.kept.walk.Tie as tie
 

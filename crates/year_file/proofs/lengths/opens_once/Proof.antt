@@ -1,8 +1,8 @@
 -- `year_file::lengths::opens_once` meets its contract: what was found makes up `OpenOnce`.
+use Rattle.std.specs.Prelude.{Some}
 use mathlib.Core.Path.{sym, ap, ◌∙◌}
 use native.Mathlib.Omega.{arith}
 use borrow.Author.Tests.{eqb-true}
-use Rattle.sheet_format.specs.declared.kinds.Named.TheVariants as Named
 use Rattle.rounding.specs.laws.Tests.{distinct}
 use borrow.Author.Rules.{rules}
 use Rattle.year_file.proofs.lengths.opens_once.Statement.{statement}
@@ -27,7 +27,7 @@ returns-4 c =
     let kind = told.before in λ e.
     record {
       phase = told.in-Open.field-0;
-      kind = sym kind.kind_for.ensures ∙ kind.in-Is.is ∙ ap Named.Is told.in-Open.is;
+      kind = sym kind.kind_for.ensures ∙ kind.in-Some.is ∙ ap Some told.in-Open.is;
       high = tested.if-file-at.false;
       low = eqb-true _ _ e;
     }

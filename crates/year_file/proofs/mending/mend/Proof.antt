@@ -4,7 +4,7 @@ use mathlib.Core.Path.{refl}
 use native.Mathlib.Omega.{arith}
 use lib.ListN.{length}
 use Rattle.year_file.specs.Walk.{kept, notes}
-use Rattle.year_file.specs.laws.AnswerLaws.{kept-long, notes-long, sheets-short, dropped-short, both_hold, put_whole}
+use Rattle.year_file.proofs.laws.AnswerLaws.{kept-long, notes-long, sheets-short, dropped-short, both_hold, put_whole}
 use borrow.Author.Rules.{rules}
 use Rattle.year_file.proofs.mending.mend.Statement.{statement}
 use Rattle.year_file.proofs.mending.mend.Tie as tie

@@ -1,6 +1,6 @@
 -- `float_requests::survey::handed::survey` meets its contract: the shape, then the survey.
+use Rattle.std.specs.Prelude.{Ok}
 use mathlib.Core.Path.{sym, ap, ◌∙◌}
-use Rattle.float_requests.specs.declared.survey.handed.Handed.TheVariants as H
 use Rattle.float_requests.proofs.laws.HandedLaws.{not-22, not-7, not-marked, of-shape}
 use borrow.Author.Rules.{rules}
 use Rattle.float_requests.proofs.survey.handed.survey.Statement.{statement}
@@ -29,7 +29,7 @@ returns-4 c =
     let f = c.before.before in
     let e = f.before in
     let a = e.args in
-    ap H.Is c.survey_of-s.ensures
+    ap Ok c.survey_of-s.ensures
     ∙ sym (of-shape a.elements.now a.longitude a.hours a.rest.now e.if-elements-ne22.false f.if-rest-ne7.false c.if-hours-gt1.false)
 
 pub survey_spec : {M : Type 1} → statement M

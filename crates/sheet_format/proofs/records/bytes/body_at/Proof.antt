@@ -1,8 +1,8 @@
 -- `sheet_format::records::bytes::body_at` meets its contract. A body that the input does not hold is cut; of one that
 -- it holds the numbers are there as far as its kind goes (`there`), and are the entry's (`entry_made`).
+use Rattle.std.specs.Prelude.{Some}
 use Rattle.sheet_format.specs.laws.RecordLaws.{body-cut, body-whole}
 use Rattle.sheet_format.specs.laws.Bodies.{entry_made}
-use Rattle.sheet_format.specs.declared.records.Body.TheVariants as Body
 use Rattle.sheet_format.specs.Kinds.{size_of}
 use lib.Dec.{leb}
 use lib.ListN.{length}
@@ -52,7 +52,7 @@ returns-2 c =
     let l = left a.s.now a.at in
     let h = ltb-false l (size_of a.kind) (sym x.is_cut.ensures ∙ x.if-is_cut.false) in
     rw (c.field_a-a.ensures, c.field_b-b.ensures, c.field_c-c.ensures, c.field_d-d.ensures)
-    (ap Body.Is (entry_made a.kind a.s.now (a.at + 1) x.two_if-x.result y.two_if-y.result z.two_if-z.result w.two_if-w.result
+    (ap Some (entry_made a.kind a.s.now (a.at + 1) x.two_if-x.result y.two_if-y.result z.two_if-z.result w.two_if-w.result
     (λ k. there 5 l x.two_if-x.result _ x.two_if-x.ensures.0 (omega arith))
     (λ k. there 5 l y.two_if-y.result _ y.two_if-y.ensures.0 (omega arith))
     (λ k. there 7 l z.two_if-z.result _ z.two_if-z.ensures.0 (omega arith))

@@ -1,6 +1,9 @@
 -- `ukhtvaresh::tables::from_rows::ukhtvaresh_elements` meets its contract: the answer of the crate below, as numbers.
+use Rattle.std.specs.Prelude.{Result}
 use mathlib.Core.Path.{◌≡◌, subst, ap, ◌∙◌}
 use mathlib.Core.List.{List}
+use Rattle.element_fits.specs.declared.Fits.{Fits}
+use Rattle.sheet_types.specs.declared.refusals.Refusal.{Refusal}
 use Prim.Native.Nat.{ℕ}
 use borrow.Author.Rules.{rules}
 use lib.IntN.{ℤ}
@@ -8,7 +11,6 @@ use lib.ListN.{length}
 use mir.Syntax.{w64}
 use mir.ValLaws.{to_z-of_z}
 use Rattle.requests.specs.Admission.{sines_after}
-use Rattle.element_fits.specs.declared.Answer.{Answer}
 use Rattle.element_fits.specs.Numbers.{admitted, answer_to, elements_after, misfits_after}
 use Rattle.ukhtvaresh.specs.declared.replies.Reply.{Reply}
 use Rattle.ukhtvaresh.specs.ElementsReply.{elements_reply}
@@ -16,7 +18,7 @@ use Rattle.ukhtvaresh.proofs.tables.from_rows.ukhtvaresh_elements.Statement.{sta
 use Rattle.ukhtvaresh.proofs.tables.from_rows.ukhtvaresh_elements.Tie as tie
 
 module _ (rows sidereal radii : List ℤ) (sines : List ℕ) (old second : List ℤ) where
-  abbrev answer : ℤ → Answer
+  abbrev answer : ℤ → Result Fits Refusal
   answer t = answer_to rows sidereal radii t sines (length old) (length second)
 
   -- what the three buffers hold
@@ -25,7 +27,7 @@ module _ (rows sidereal radii : List ℤ) (sines : List ℕ) (old second : List 
       (filled ≡ sines_after (admitted rows sidereal radii t sines) sines) × ((elements ≡ elements_after (answer t) old) × (misfits ≡ misfits_after (answer t) second))
 
   -- where the tolerance is read back from its bits
-  replied : {t τ : ℤ} {given : Answer} {reply : Reply} {filled : List ℕ} {elements misfits : List ℤ} → t ≡ τ → reply ≡ elements_reply given
+  replied : {t τ : ℤ} {given : Result Fits Refusal} {reply : Reply} {filled : List ℕ} {elements misfits : List ℤ} → t ≡ τ → reply ≡ elements_reply given
       → (given ≡ answer t) × Rooms t filled elements misfits
       → (reply.number ≡ (elements_reply (answer τ)).number) × ((reply.value ≡ (elements_reply (answer τ)).value) × Rooms τ filled elements misfits)
   replied {given = given} {filled = filled} {elements = elements} {misfits = misfits} e is p =

@@ -1,2 +1,0 @@
--- what several proofs use
-pub mod Small
