@@ -40,7 +40,8 @@ pub enum Altitude {
     Below(u64),
 }
 
-// What follows an entry's text: nothing, the line of the instant, or times. Three answers to one question, as `Altitude`.
+// What follows an entry's text: nothing, the line of the instant, or times. Three answers to one question, as of an
+// altitude.
 #[derive(Clone, Copy)]
 pub enum Shown {
     Nothing,

@@ -1,6 +1,6 @@
 // The line of an entry, and of a refusal. A `put_` function stores it at a place of a buffer, as far as the buffer
 // reaches, and gives the place after it (`decimals`). Not `Display`: by `Put`, which each promises, a text may be cut
-// at the end of the buffer and its length is still told.
+// at the end of the buffer and its length is still given.
 ghost use Rattle.decimal_text.specs.Texts.{letters, Put};
 ghost use Rattle.listing_lines.specs.Lines.{name_of, head_line, contact_line, unsure_line, closest_line, share_line, text_of, end_for, line_of, numbered, refusal_text, refusal_line};
 

@@ -78,7 +78,7 @@ fn altitude_shown(o: Occultation, shown: Shown) -> Altitude
     }
 }
 
-// The altitude that stands behind an entry; none where the observer is told of no occultation.
+// The altitude that stands behind an entry; none where no occultation is given.
 pub fn altitude_for(sky: Option<Occultation>, entry: Entry) -> Altitude
     ensures { result ≡ altitude_for sky entry }
 {
@@ -230,7 +230,7 @@ fn put_notes_of(out: &mut [u8], at: usize, o: Occultation, view: View) -> usize
     )
 }
 
-// The notes after the last line; none where the observer is told of no occultation.
+// The notes after the last line; none where no occultation is given.
 pub fn put_notes(out: &mut [u8], at: usize, sky: Option<Occultation>, view: View) -> usize
     ensures { Put out.old at (notes_for sky view) out.new result }
 {

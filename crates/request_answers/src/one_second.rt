@@ -88,7 +88,8 @@ fn put_numbers(shape: Shape, room: &mut [i64], second: shadow::Second)
 }
 
 // One second of a request of that shape, which may lie outside its window, and its numbers at the start of the
-// buffer; or why not, last 4 where the buffer holds fewer numbers than that, and the buffer as it was. `sines` is the buffer for table S.
+// buffer; or the refusal, last 4 where the buffer holds fewer numbers than that, and the buffer as it was. `sines` is
+// the buffer for table S.
 #[tactic(auto, unfolding(crate::specs::Second::second_given))]
 pub fn second(
     shape: Shape,
