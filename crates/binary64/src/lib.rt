@@ -29,14 +29,22 @@ const SIGN: u64 = 9_223_372_036_854_775_808;
 // The weight of the exponent, and of the leading digit.
 const LEADING: u64 = 4_503_599_627_370_496;
 
+// The exponent field of an infinity or a NaN.
+const NOT_FINITE: u64 = 2047;
+
 // What a number of 53 digits is split by, 2^26: each part times a scale fits in 64 bits.
 const PART: u64 = 67_108_864;
 
-// Whether it is neither an infinity nor a NaN.
+// Whether it is neither an infinity nor a NaN: by one comparison and the bits, and not by `f64::is_finite`. That
+// subtracts x from itself, which on an infinity raises a floating-point exception, and a caller may trap it.
 pub fn is_finite(x: f64) -> bool
     ensures { result ≡ finite x }
 {
-    x.is_finite()
+    if x != x {
+        return false;
+    }
+    let bits = f64::to_bits(x);
+    bits % SIGN / LEADING != NOT_FINITE
 }
 
 // ---- reading

@@ -1,6 +1,6 @@
-// The stations of a network in one list, each with the station whose clock it follows. `gathered` takes
-// the borrowed list, a slice of structs, and turns it into a value; everything else works on that value.
-ghost use Rattle.std.specs.Prelude.{◌≡◌, ◌<◌, length};
+// The stations of a network in one list, each with the station whose clock it follows. `size`, `taken` and `gathered`
+// take the borrowed list, a slice of structs, and turn it into a value; everything else works on that value.
+ghost use Rattle.std.specs.Prelude.{◌≡◌, ◌<◌, length, get_or};
 ghost use Rattle.clock_network.specs.Held.{blank_node, empty_of, put_of, least64, held_of};
 ghost use Rattle.clock_network.specs.Nodes.{numbers_of, clocks_of};
 
@@ -58,17 +58,31 @@ pub fn put(h: Held, i: usize, n: Node) -> Held
 
 // ---- the borrowed list
 
-// Its nodes, as many as fit.
+// Its length.
+fn size(l: &[Node]) -> usize
+    ensures { result ≡ length l.now }
+{
+    l.len()
+}
+
+// A node, taken out of the list by value.
+fn taken(l: &[Node], i: usize) -> Node
+    requires { i < length l.now }
+    ensures { result ≡ get_or l.now i blank_node }
+{
+    l[i]
+}
+
+// Its nodes, as many as fit: the only loop over the borrowed list.
 pub fn gathered(l: &[Node]) -> Held
     ensures { result ≡ held_of l.now (least64 (length l.now)) }
 {
-    let n = l.len().min(64);
-    let mut nodes = [blank(); 64];
-    nodes[..n].copy_from_slice(&l[..n]);
-    Held {
-        nodes,
-        count: l.len(),
+    let n = size(l);
+    let mut h = empty(n);
+    for i in 0..n.min(64) {
+        h.nodes[i] = taken(l, i);
     }
+    h
 }
 
 // ---- the list as a value

@@ -2,11 +2,24 @@
 ghost use Rattle.std.specs.Prelude.{◌≡◌, ◌*◌, ◌≤◌, length};
 ghost use Rattle.sheet_codec.specs.Sheets.{extent_of};
 ghost use Rattle.sheet_codec.specs.Handed.{handed_at, list_sheet, list_whole, write_into, buffer_after_list};
-ghost use Rattle.sheet_codec.specs.laws.Passes.{BufferFor, emitted};
+ghost use Rattle.sheet_codec.specs.laws.Passes.{refused_of, BufferFor, emitted};
 
 use sheet_format::kinds::Entry;
 use sheet_rules::rules::{FieldRule, OrderRule};
 use sheet_types::refusals::Refusal;
+
+// A record's refusal, passed on.
+fn refused(given: Result<(Entry, usize), Refusal>) -> Result<(usize, usize), Refusal>
+    ensures { result ≡ refused_of given }
+{
+    match given {
+        Ok((_, next)) => Err(Refusal {
+            number: 6,
+            place: next,
+        }),
+        Err(refusal) => Err(refusal),
+    }
+}
 
 // The n-th entry of a list, whose record stands at `at`, and the place after it; or 5 or 6.
 fn handed_at(l: &[u32], n: usize, at: usize) -> Result<(Entry, usize), Refusal>
@@ -22,10 +35,12 @@ fn handed_at(l: &[u32], n: usize, at: usize) -> Result<(Entry, usize), Refusal>
         });
     }
     let code = l[j];
-    let kind = sheet_format::kinds::kind_for(code).ok_or(Refusal {
-        number: 5,
-        place: at,
-    })?;
+    let Some(kind) = sheet_format::kinds::kind_for(code) else {
+        return Err(Refusal {
+            number: 5,
+            place: at,
+        });
+    };
     let a = l[j + 1];
     let b = l[j + 2];
     let c = l[j + 3];
@@ -45,7 +60,11 @@ pub fn extent_of_leading_entries(l: &[u32]) -> Result<(usize, usize), Refusal>
     let mut n = 0;
     // Not a `for`: a step is as long as the record that was read, and the loop is left from within.
     loop {
-        let (entry, next) = handed_at(l, n, place)?;
+        // Each answer is taken apart by `let .. else`, as in `decoder`.
+        let given = handed_at(l, n, place);
+        let Ok((entry, next)) = given else {
+            return refused(given);
+        };
         let OrderRule::Kept = sheet_rules::rules::order_of(p, entry) else {
             return Err(Refusal { number: 8, place });
         };

@@ -134,18 +134,24 @@ pub fn body_at(s: &[u8], at: usize, kind: Kind) -> Option<Entry>
 pub fn record_at(s: &[u8], at: usize) -> Result<(Entry, usize), Refusal>
     ensures { result ≡ record_at s.now at }
 {
-    let code = byte_at(s, at).ok_or(Refusal {
-        number: 6,
-        place: s.len(),
-    })?;
-    let kind = crate::kinds::kind_for(code).ok_or(Refusal {
-        number: 5,
-        place: at,
-    })?;
-    let entry = body_at(s, at, kind).ok_or(Refusal {
-        number: 6,
-        place: at,
-    })?;
+    let Some(code) = byte_at(s, at) else {
+        return Err(Refusal {
+            number: 6,
+            place: s.len(),
+        });
+    };
+    let Some(kind) = crate::kinds::kind_for(code) else {
+        return Err(Refusal {
+            number: 5,
+            place: at,
+        });
+    };
+    let Some(entry) = body_at(s, at, kind) else {
+        return Err(Refusal {
+            number: 6,
+            place: at,
+        });
+    };
     let next = at + crate::kinds::size_of(kind);
     Ok((entry, next))
 }
