@@ -16,7 +16,7 @@
  * null: neither that of a buffer, also one of length 0, nor `value`, `kept`, `noted` and `rounds`. Each must be
  * aligned for its type: 8 bytes for int64_t, uint64_t, double and ukhtvaresh_node, 4 for uint32_t and
  * ukhtvaresh_entry, 1 for bytes. Functions may run at the same time in several threads, each with buffers of its own.
- * A call takes some 36,000 bytes of stack for a sheet, 47,000 for a network, and less than 4,000 for anything else
+ * A call took at most 47,000 bytes of stack for a sheet, 61,000 for a network, and less than 5,000 for anything else
  * (measured with the x86-64 archive, not proved: bench/calls/run).
  * The floating-point environment matters to ukhtvaresh_doubles alone: see there.
  *

@@ -13,7 +13,11 @@ static uint8_t star[UKHTVARESH_STAR_REQUEST_LENGTH];
 static uint8_t sheet[400000], text[1 << 20], kept[400000], notes[16];
 static uint32_t sines[UKHTVARESH_SINES_LENGTH], entries[400000];
 static int64_t eclipse[UKHTVARESH_ECLIPSE_LENGTH], numbers[64], rows[UKHTVARESH_ROWS_LENGTH], zeros[7];
-static int64_t units[UKHTVARESH_DOUBLES_LENGTH];
+static int64_t units[UKHTVARESH_DOUBLES_LENGTH], bracket[UKHTVARESH_BRACKET_NUMBERS];
+static int64_t sidereal[UKHTVARESH_SIDEREAL_LENGTH], misfits[UKHTVARESH_MISFITS_LENGTH];
+static uint64_t instant[UKHTVARESH_INSTANT_LENGTH] = {2, 1954, 6, 30, 4320000, 0};
+static uint8_t typed[4096];
+static size_t typed_length;
 static ukhtvaresh_node stations[UKHTVARESH_STATIONS];
 static uint64_t steps[UKHTVARESH_STATIONS], value, other, sheet_length, entry_count;
 static double doubles[UKHTVARESH_DOUBLES_LENGTH];
@@ -52,6 +56,22 @@ static uint64_t of_star_second(void)
 {
     return ukhtvaresh_star_second(star, sizeof star, 0, sines, 901, numbers, 5, &value);
 }
+static uint64_t of_horizon(void)
+{
+    return ukhtvaresh_horizon(request, sizeof request, 0, sines, 901, numbers, 3, &value);
+}
+static uint64_t of_star_horizon(void)
+{
+    return ukhtvaresh_star_horizon(star, sizeof star, 0, sines, 901, numbers, 3, &value);
+}
+static uint64_t of_contact(void)
+{
+    return ukhtvaresh_contact(request, sizeof request, 0, -10800, 4000, sines, 901, bracket, 2, &value);
+}
+static uint64_t of_star_contact(void)
+{
+    return ukhtvaresh_star_contact(star, sizeof star, 0, -3000, 20, sines, 901, bracket, 2, &value);
+}
 static uint64_t of_mirror(void)
 {
     return ukhtvaresh_mirror(request, sizeof request, text, sizeof text, &value);
@@ -61,9 +81,24 @@ static uint64_t of_write(void)
 {
     return ukhtvaresh_write(entries, entry_count * 5, text, sizeof text, &value);
 }
+static uint64_t of_extent(void) { return ukhtvaresh_extent(sheet, sheet_length, &value); }
 static uint64_t of_listing(void)
 {
     return ukhtvaresh_listing(sheet, sheet_length, text, sizeof text, &value);
+}
+static uint64_t of_typed(void)
+{
+    return ukhtvaresh_typed(typed, typed_length, kept, sizeof kept, instant, 6, text, sizeof text, &value);
+}
+static uint64_t of_times(void)
+{
+    return ukhtvaresh_times(request, sizeof request, instant, 6, sines, 901, kept, sizeof kept, text, sizeof text,
+                            &value);
+}
+static uint64_t of_elements(void)
+{
+    static const int64_t radii[UKHTVARESH_RADII_LENGTH] = {10904847000, 27227400, 27227400};
+    return ukhtvaresh_elements(rows, 42, sidereal, 7, radii, 3, 1000, sines, 901, numbers, 22, misfits, 6, &value);
 }
 static uint64_t of_fit(void) { return ukhtvaresh_fit(zeros, 4, zeros, 7, 1000, &value); }
 static uint64_t of_tables(void) { return ukhtvaresh_from_tables(rows, 42, numbers, 56, &value); }
@@ -109,6 +144,47 @@ static size_t used(uint64_t (*function)(void))
         clean++;
     free(stack);
     return STACK - clean;
+}
+
+static void put(uint8_t *at, int bytes, int64_t number)
+{
+    while (bytes--)
+        at[bytes] = (uint8_t)number, number >>= 8;
+}
+
+static int64_t drawn(int64_t low, int64_t high)
+{
+    static uint64_t seed = 1;
+    seed = seed * 6364136223846793005u + 1442695040888963407u;
+    return low + (int64_t)((seed >> 33) % (uint64_t)(high - low + 1));
+}
+
+/* Another place, window and guard, in the bytes before a request's end, of an eclipse or of a star. */
+static void draw(uint8_t *end)
+{
+    int64_t first = drawn(-10800, 10800), last = drawn(first, 10800);
+    put(end - 23, 4, drawn(-90000000, 90000000));
+    put(end - 19, 4, drawn(-180000000, 180000000));
+    put(end - 6, 2, first);
+    put(end - 4, 2, last);
+    put(end - 2, 2, drawn(0, 9) ? drawn(16, 1000) : 16);
+}
+
+/* The most that a call takes over drawn requests. */
+static size_t most(uint64_t (*function)(void), size_t thread)
+{
+    size_t bytes = 0;
+    for (int k = 0; k < (function == of_network ? 100 : 2000); k++) {
+        draw(request + sizeof request);
+        draw(star + sizeof star);
+        for (int i = 0; i < 64; i++) {
+            stations[i].latitude = drawn(-90000000, 90000000);
+            stations[i].longitude = drawn(-180000000, 180000000);
+        }
+        size_t now = used(function) - thread;
+        bytes = now > bytes ? now : bytes;
+    }
+    return bytes;
 }
 
 static void rounding(const char *name)
@@ -175,6 +251,9 @@ int main(int count, char **names)
     FILE *file = fopen("examples/potsdam1956.bin", "rb");
     if (refused || !file || fread(star, 1, sizeof star, file) != sizeof star)
         return 1;
+    file = fopen("examples/moscow1954.txt", "rb");
+    if (!file || !(typed_length = fread(typed, 1, sizeof typed, file)))
+        return 1;
     memcpy(still, request, sizeof still);
     for (int k = 0; k < 22; k++) /* an axis that does not leave the station at the pole: every second is computed */
         if (k != 11 && k != 14 && k != 18 && k != 20 && k != 21)
@@ -182,13 +261,22 @@ int main(int count, char **names)
     for (int k = 0; k < 7; k++) {
         int64_t row[6] = {2343918253518, 0, 0, 6000000000, 10000000 * (k - 3), 0};
         memcpy(rows + 6 * k, row, sizeof row);
+        sidereal[k] = 100000000 + 15041067 * k;
     }
     static const struct { const char *name; uint64_t (*function)(void); } calls[] = {
         {"sheet", of_sheet}, {"sheet, axis at rest", of_sheet_still}, {"sheet_and_share", of_share}, {"star", of_star},
-        {"second", of_second}, {"share", of_one_share}, {"star_second", of_star_second}, {"mirror", of_mirror},
-        {"read", of_read}, {"write", of_write},
-        {"listing", of_listing}, {"fit", of_fit}, {"from_tables", of_tables}, {"root", of_root}, {"mend", of_mend},
-        {"sheet_of_doubles", of_sheet_of_doubles}, {"doubles", of_doubles}, {"network", of_network},
+        {"second", of_second}, {"share", of_one_share}, {"star_second", of_star_second}, {"horizon", of_horizon},
+        {"star_horizon", of_star_horizon}, {"contact", of_contact}, {"star_contact", of_star_contact},
+        {"mirror", of_mirror}, {"read", of_read}, {"extent", of_extent}, {"write", of_write}, {"listing", of_listing},
+        {"typed", of_typed}, {"times", of_times}, {"fit", of_fit}, {"from_tables", of_tables},
+        {"elements", of_elements}, {"root", of_root}, {"mend", of_mend}, {"sheet_of_doubles", of_sheet_of_doubles},
+        {"doubles", of_doubles}, {"network", of_network},
+    };
+    static const struct { const char *name; uint64_t (*function)(void); } drawn_calls[] = {
+        {"sheet", of_sheet}, {"sheet_and_share", of_share}, {"star", of_star}, {"times", of_times},
+        {"second", of_second}, {"share", of_one_share}, {"star_second", of_star_second}, {"horizon", of_horizon},
+        {"star_horizon", of_star_horizon}, {"contact", of_contact}, {"star_contact", of_star_contact},
+        {"network", of_network},
     };
     size_t thread = used(nothing);
     printf("\nBytes of stack, less the %zu of a thread without a call; and the number of the refusal\n", thread);
@@ -196,5 +284,8 @@ int main(int count, char **names)
         size_t bytes = used(calls[k].function);
         printf("%-20s %6zu  %llu\n", calls[k].name, bytes > thread ? bytes - thread : 0, (unsigned long long)answer);
     }
+    printf("\nThe most over drawn places, windows and guards: 100 lists of 64 stations for a network, else 2,000\n");
+    for (size_t k = 0; k < sizeof drawn_calls / sizeof *drawn_calls; k++)
+        printf("%-20s %6zu\n", drawn_calls[k].name, most(drawn_calls[k].function, thread));
     return 0;
 }
